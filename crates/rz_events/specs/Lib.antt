@@ -1,0 +1,6 @@
+pub mod Keys
+pub mod Texts
+pub mod Places
+pub mod Volume
+pub mod Nodes
+pub mod Events
