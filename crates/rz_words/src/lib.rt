@@ -1,0 +1,192 @@
+//! A block of 64-bit words in rows.
+//!
+//! Contracts see a block as its number of rows, its number of columns and its words row by row. They
+//! give each call's exact result, and say how the words stand in bytes, the lowest byte of each first.
+//! They say nothing of what the words mean.
+#![tactic(auto)]
+
+ghost use Rattle.std.specs.Prelude.{◌≡◌, ◌≤◌, ◌<◌, ◌*◌, ◌+◌, ◌^◌, ℕ, List, All, length, take, IfOk, vec_len};
+ghost use Rattle.rz_words.specs.Grid.{IsShape, IsGrid, word, with_word, with_words, zero_grid, zero_words, words_from, bytes_from, grid_of, grid_from_bytes};
+
+mod bytes;
+
+use bytes::{load_words, store_words};
+use std::alloc::{AllocError, Global};
+use std::marker::Model;
+use std::mem;
+
+/// A block of `rows` rows of `cols` words: 1 to 16 rows, and 1 to 2048 columns.
+#[derive(Debug, Drop)]
+pub struct Block {
+    rows: usize,
+    cols: usize,
+    words: Vec<u64>,
+}
+
+impl Model for Block {
+    ghost use Rattle.rz_words.specs.Grid.{Grid, IsGrid, grid_of};
+
+    ghost Value = { Grid };
+
+    ghost view = { λ b. grid_of b.rows b.cols b.words.items };
+
+    ghost invariant = { λ b. IsGrid (grid_of b.rows b.cols b.words.items) };
+}
+
+impl Block {
+    /// A block of zeros.
+    pub fn zero(alloc: Global, rows: usize, cols: usize) -> Result<Block, AllocError>
+        requires { IsShape rows cols }
+        ensures { IfOk result (λ b. b ≡ zero_grid rows cols) }
+    {
+        let words = zeros(alloc, rows * cols)?;
+        Ok(Block { rows, cols, words })
+    }
+
+    /// The block of these bytes, which fit it, and zeros after them.
+    pub fn from_bytes(
+        alloc: Global,
+        rows: usize,
+        cols: usize,
+        bytes: &[u8],
+    ) -> Result<Block, AllocError>
+        requires shape { IsShape rows cols }
+        requires fits { length bytes.now ≤ 8 * (rows * cols) }
+        ensures { IfOk result (λ b. b ≡ grid_from_bytes rows cols bytes.now) }
+    {
+        let mut block = Block::zero(alloc, rows, cols)?;
+        block.load(bytes);
+        Ok(block)
+    }
+
+    /// The block of these words, row by row.
+    pub fn from_words(rows: usize, cols: usize, words: Vec<u64>) -> Block
+        requires shape { IsShape rows cols }
+        requires full { vec_len words ≡ rows * cols }
+        ensures { result ≡ grid_of rows cols words.items }
+    {
+        Block { rows, cols, words }
+    }
+
+    /// Replaces all words by those of these bytes, which fit the block, and by zeros after them.
+    pub fn load(&mut self, bytes: &[u8])
+        requires { length bytes.now ≤ 8 * (self.old.rows * self.old.cols) }
+        ensures { self.new ≡ grid_from_bytes self.old.rows self.old.cols bytes.now }
+    {
+        load_words(&mut self.words, bytes);
+    }
+
+    /// Writes the first bytes of the block, as many as `out` has.
+    pub fn to_bytes_into(&self, out: &mut [u8])
+        requires { length out.old ≤ 8 * (self.now.rows * self.now.cols) }
+        ensures bytes { out.new ≡ take (length out.old) (bytes_from self.now.words) }
+
+        // A text that was loaded comes back.
+        ensures loaded { (text : List ℕ) → All (λ b. b < 256) text → length text ≡ length out.old →
+            self.now ≡ grid_from_bytes self.now.rows self.now.cols text → out.new ≡ text }
+    {
+        store_words(&self.words, out);
+    }
+
+    /// How many rows there are.
+    pub fn rows(&self) -> usize
+        ensures value { result ≡ self.now.rows }
+        ensures grid { IsGrid self.now }
+    {
+        self.rows
+    }
+
+    /// How many words a row has.
+    pub fn cols(&self) -> usize
+        ensures value { result ≡ self.now.cols }
+        ensures grid { IsGrid self.now }
+    {
+        self.cols
+    }
+
+    /// The words row by row.
+    pub fn words(&self) -> &[u64]
+        ensures value { result.now ≡ self.now.words }
+        ensures grid { IsGrid self.now }
+    {
+        &self.words
+    }
+
+    /// The word in column `k` of row `l`.
+    pub fn get(&self, k: usize, l: usize) -> u64
+        requires column { k < self.now.cols }
+        requires row { l < self.now.rows }
+        ensures { result ≡ word self.now l k }
+    {
+        self.words[l * self.cols + k]
+    }
+
+    /// Replaces the word in column `k` of row `l`.
+    pub fn set(&mut self, k: usize, l: usize, w: u64)
+        requires column { k < self.old.cols }
+        requires row { l < self.old.rows }
+        ensures { self.new ≡ with_word self.old l k w }
+    {
+        self.words[l * self.cols + k] = w;
+    }
+
+    /// Replaces the words by as many others, and gives the old ones in their place.
+    pub fn swap_words(&mut self, words: &mut Vec<u64>)
+        requires { vec_len words.old ≡ self.old.rows * self.old.cols }
+        ensures block { self.new ≡ with_words self.old words.old.items }
+        ensures rest { words.new.items ≡ self.old.words }
+        ensures len { vec_len words.new ≡ vec_len words.old }
+    {
+        mem::swap(&mut self.words, words);
+    }
+}
+
+/// `count` zeros.
+#[tactic(auto, unfolding(crate::specs::Grid::zero_words))]
+fn zeros(alloc: Global, count: usize) -> Result<Vec<u64>, AllocError>
+    requires { count ≤ 2 ^ 15 }
+    ensures items { IfOk result (λ v. v.items ≡ zero_words count) }
+    ensures len { IfOk result (λ v. vec_len v ≡ count) }
+{
+    vec![in alloc; 0u64; count]
+}
+
+#[cfg(test)]
+mod tests {
+    use super::*;
+    use std::test::Fail;
+
+    #[test]
+    fn bytes_and_words(rt: HostRuntime) -> Result<(), Fail> {
+        let text = b"\x01\x02\x03\x04\x05\x06\x07\x08hello";
+        let mut block = Block::from_bytes(rt.alloc(), 2, 2, text)?;
+        assert_eq!(rt;
+            block.words(),
+            [0x0807_0605_0403_0201u64, 0x6f_6c6c_6568, 0, 0].as_slice()
+        );
+        let mut out = [9u8; 13];
+        block.to_bytes_into(&mut out);
+        assert_eq!(rt; out.as_slice(), text.as_slice());
+        assert_eq!(rt; block.rows(), 2);
+        assert_eq!(rt; block.cols(), 2);
+        block.set(0, 1, 7);
+        assert_eq!(rt; block.get(0, 1), 7);
+        assert_eq!(rt; block.get(1, 0), 0x6f_6c6c_6568);
+        block.load(b"abc");
+        assert_eq!(rt; block.words(), [0x63_6261u64, 0, 0, 0].as_slice());
+        Ok(())
+    }
+
+    #[test]
+    fn other_words(rt: HostRuntime) -> Result<(), Fail> {
+        let mut block = Block::zero(rt.alloc(), 1, 3)?;
+        assert_eq!(rt; block.words(), [0u64, 0, 0].as_slice());
+        let mut words = vec![in rt.alloc(); 1u64, 2, 3]?;
+        block.swap_words(&mut words);
+        assert_eq!(rt; block.words(), [1u64, 2, 3].as_slice());
+        assert_eq!(rt; words.as_slice(), [0u64, 0, 0].as_slice());
+        let other = Block::from_words(3, 1, words);
+        assert_eq!(rt; other.rows(), 3);
+        Ok(())
+    }
+}
