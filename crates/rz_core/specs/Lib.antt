@@ -1,0 +1,9 @@
+pub mod History
+pub mod NodeWord
+pub mod ExportWord
+pub mod Own
+pub mod Outcomes
+pub mod ExportRows
+pub mod NodeRows
+pub mod OwnRows
+pub mod Legal

@@ -1,0 +1,9 @@
+pub mod Firsts
+pub mod Paths
+pub mod Tree
+pub mod Refusals
+pub mod TreeCalls
+pub mod Place
+pub mod Export
+pub mod ExportEvents
+pub mod Codes

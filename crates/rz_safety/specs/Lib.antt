@@ -1,0 +1,4 @@
+pub mod Reads
+pub mod Sound
+pub mod Kept
+pub mod Rebuilt
