@@ -1,0 +1,4 @@
+pub mod Sorted
+pub mod Same
+pub mod Ghost
+pub mod Unseen
