@@ -1,0 +1,4 @@
+pub mod Images
+pub mod Passes
+mod FileCalls
+mod Marks
