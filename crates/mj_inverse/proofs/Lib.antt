@@ -1,0 +1,5 @@
+pub mod Tables
+pub mod Step
+pub mod Swept
+pub mod Order
+pub mod Stored

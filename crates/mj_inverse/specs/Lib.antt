@@ -1,0 +1,4 @@
+pub mod Fits
+pub mod Peeling
+pub mod Sweep
+pub mod Store
