@@ -1,0 +1,4 @@
+pub mod Fields
+pub mod Record
+pub mod Refused
+pub mod Slot
