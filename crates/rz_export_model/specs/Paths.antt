@@ -44,7 +44,8 @@ abbrev pub same_name : Name → Name → Bool
 same_name a b = is_eq (name_cmp a b)
 
 abbrev pub is_root : Path → Bool
-is_root path = length path == 0
+is_root [] = true
+is_root (name ∷ rest) = false
 
 -- the path above, which of the root is the root
 abbrev pub above : Path → Path

@@ -1,0 +1,66 @@
+//! Texts of paths, and what they are read as.
+
+use crate::{Path, PathError};
+use std::test::Fail;
+
+// A text of `count` names of one byte.
+fn text_of(rt: &HostRuntime, count: usize) -> Result<Vec<u8>, Fail> {
+    let mut text = Vec::new(rt.alloc());
+    for _ in 0..count {
+        text.extend_from_slice(b"/n")?;
+    }
+    Ok(text)
+}
+
+// A text of one name of `length` bytes.
+fn text_of_name(rt: &HostRuntime, length: usize) -> Result<Vec<u8>, Fail> {
+    let mut text = Vec::new(rt.alloc());
+    text.push(b'/')?;
+    for _ in 0..length {
+        text.push(b'n')?;
+    }
+    Ok(text)
+}
+
+#[test]
+fn reads_paths(rt: HostRuntime) -> Result<(), Fail> {
+    let cases: [(&[u8], Option<usize>); 14] = [
+        (b"/", Some(0)),
+        (b"/a", Some(1)),
+        (b"/a/bc/d", Some(3)),
+        (b"/...", Some(1)),
+        (b"/.a", Some(1)),
+        (b"", None),
+        (b"a", None),
+        (b"//", None),
+        (b"/a//b", None),
+        (b"/a/", None),
+        (b"/.", None),
+        (b"/a/..", None),
+        (b"/a\0", None),
+        (b"a/b", None),
+    ];
+    for (text, names) in cases {
+        let read = match Path::read(rt.alloc(), text) {
+            Ok(path) => Some(path.names().len()),
+            Err(_) => None,
+        };
+        assert_eq!(rt; read, names, "at {text:?}");
+    }
+    Ok(())
+}
+
+#[test]
+fn reads_at_the_limits(rt: HostRuntime) -> Result<(), Fail> {
+    let path = Path::read(rt.alloc(), text_of(&rt, 64)?.as_slice())?;
+    assert_eq!(rt; path.names().len(), 64);
+    let refused = Path::read(rt.alloc(), text_of(&rt, 65)?.as_slice()).err();
+    assert_eq!(rt; refused, Some(PathError::BadName));
+    let long = Path::long(rt.alloc(), text_of(&rt, 65)?.as_slice())?;
+    assert_eq!(rt; long.names().len(), 65);
+    let named = Path::read(rt.alloc(), text_of_name(&rt, 255)?.as_slice())?;
+    assert_eq!(rt; named.names().len(), 1);
+    let refused = Path::long(rt.alloc(), text_of_name(&rt, 256)?.as_slice()).err();
+    assert_eq!(rt; refused, Some(PathError::BadName));
+    Ok(())
+}
