@@ -1,0 +1,13 @@
+//! The blocks that were begun and published, by key.
+//!
+//! A contract sees `Blocks` as a finite map from keys to the newest stamp begun and to what is
+//! published. Each call is one function on that map. Only a new key takes memory: to begin, publish,
+//! look up or forget a block takes none. Nothing is said of which stamps are drawn, nor of files.
+#![tactic(auto)]
+
+mod blocks;
+
+pub use blocks::Blocks;
+
+#[cfg(test)]
+mod tests;
