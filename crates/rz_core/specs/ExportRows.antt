@@ -102,13 +102,17 @@ HasKept o by n key s p = Has o (e.Did by n (change.Keep key s p)) ⊎ ((held : �
 abbrev pub IsFree : List Event → ℕ → ℕ → Type 0
 IsFree w n s = (by : Actor) (loss fence : ℕ) → Has w (e.Enroll by n loss fence) → fence ≤ s
 
--- the actor's newest write of the key may be published on these positions, as far as enrolments go
-pub record IsPublishable (v : Volume) (f : Facts) (w o : List Event) (by : Actor) (key : Key) (stamp mask : ℕ) : Type 0 where
-  pub live : is_live w key.fid ≡ true
+-- the actor began the write, and a quorum of nodes, at the positions of the mask, have its records
+pub record IsPublishing (v : Volume) (f : Facts) (o : List Event) (by : Actor) (key : Key) (stamp mask : ℕ) : Type 0 where
   pub writer : (b : Begun) × IsWriter f by key stamp b
-  pub newest : latest w key ≤ stamp
   pub quorum : is_mask v.layout mask ≡ true
   pub kept : (p : ℕ) → HasBit mask p → (n : ℕ) × IsPlace f key.fid p n × HasKept o by n key stamp p
+
+-- the write may be published, as far as enrolments go: its file is live, and no later write of the key began
+pub record IsPublishable (v : Volume) (f : Facts) (w o : List Event) (by : Actor) (key : Key) (stamp mask : ℕ) : Type 0 where
+  pub live : is_live w key.fid ≡ true
+  pub newest : latest w key ≤ stamp
+  pub publishing : IsPublishing v f o by key stamp mask
 
 pub record AcceptedRow (v : Volume) (f : Facts) (w o : List Event) (by : Actor) (key : Key) (stamp mask : ℕ) : Type 0 where
   pub publishable : IsPublishable v f w o by key stamp mask

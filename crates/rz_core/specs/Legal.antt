@@ -58,9 +58,9 @@ abbrev pub IsLegal : Volume → List Event → Type 0
 IsLegal v [] = Unit {0}
 IsLegal v (x ∷ h) = IsLegal v h × IsAllowed v h x
 
--- The same of a run that goes on after an earlier history: an operation that was left open there is not taken up.
+-- The same of a run that goes on after an earlier legal history: an operation that was left open there is not taken up.
 abbrev pub IsLegalAfter : Volume → List Event → List Event → Type 0
-IsLegalAfter v old [] = Unit {0}
+IsLegalAfter v old [] = IsLegal v old
 IsLegalAfter v old (x ∷ h) = IsLegalAfter v old h
     × Allowed v (facts (h ++ old)) (of_word (word_of x) (h ++ old)) (of_actor (by_of x) (h ++ old)) (of_actor (by_of x) h) x
 

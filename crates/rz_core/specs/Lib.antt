@@ -7,3 +7,4 @@ pub mod ExportRows
 pub mod NodeRows
 pub mod OwnRows
 pub mod Legal
+pub mod Tied

@@ -63,12 +63,16 @@ HasCell v f w n key = IsHeld (held f w key) ⊎ HasRoom v f w n
 
 -- Keeps.
 
+-- the actor began the write of the key with this stamp, and the node has this position of its file
+pub record IsWriting (f : Facts) (by : Actor) (node : ℕ) (key : Key) (stamp position : ℕ) : Type 0 where
+  pub writer : (b : Begun) × IsWriter f by key stamp b
+  pub place : IsPlace f key.fid position node
+
 -- what a writer's record stands on, whatever is held
 pub record IsKeep (f : Facts) (w : List Event) (by : Actor) (node : ℕ) (key : Key) (stamp position : ℕ) : Type 0 where
   pub up : phase w ≡ Up
-  pub writer : (b : Begun) × IsWriter f by key stamp b
-  pub place : IsPlace f key.fid position node
   pub fenced : fence_of w < stamp
+  pub writing : IsWriting f by node key stamp position
 
 pub record KeepRow (v : Volume) (f : Facts) (w : List Event) (by : Actor) (node : ℕ) (key : Key) (stamp position : ℕ) : Type 0 where
   pub keep : IsKeep f w by node key stamp position
@@ -77,15 +81,19 @@ pub record KeepRow (v : Volume) (f : Facts) (w : List Event) (by : Actor) (node 
 
 -- Refills.
 
--- What a rebuilder's record stands on, whatever is held: under the fence of its own replacement of the node, after which
--- its newest `Next` answered this key with this stamp, and enough distinct positions gave the record since.
-pub record IsRefill (v : Volume) (f : Facts) (w o : List Event) (by : Actor) (node fence : ℕ) (key : Key) (stamp position : ℕ) : Type 0 where
-  pub up : phase w ≡ Up
-  pub fence_is : fence ≡ fence_of w
+-- The actor replaced the node's disk under this fence; its newest `Next` came after that and answered this key with this
+-- stamp; and enough distinct positions gave the record since. The node has this position of the file.
+pub record IsRebuilding (v : Volume) (f : Facts) (o : List Event) (by : Actor) (node fence : ℕ) (key : Key) (stamp position : ℕ) : Type 0 where
   pub replaced : (loss : ℕ) × Has (before is_next o) (e.Replace by node loss fence)
   pub next : (m : ℕ) × (l : Listed) × IsListing o by m key l × (l.published.stamp ≡ stamp)
   pub enough : HasDistinct (inverse_of v.layout) (gave key stamp (since is_next o))
   pub place : IsPlace f key.fid position node
+
+-- what a rebuilder's record stands on, whatever is held: its fence is the node's own
+pub record IsRefill (v : Volume) (f : Facts) (w o : List Event) (by : Actor) (node fence : ℕ) (key : Key) (stamp position : ℕ) : Type 0 where
+  pub up : phase w ≡ Up
+  pub fence_is : fence ≡ fence_of w
+  pub rebuilding : IsRebuilding v f o by node fence key stamp position
 
 pub record RefillRow (v : Volume) (f : Facts) (w o : List Event) (by : Actor) (node fence : ℕ) (key : Key) (stamp position : ℕ) : Type 0 where
   pub refill : IsRefill v f w o by node fence key stamp position

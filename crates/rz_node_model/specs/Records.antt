@@ -1,5 +1,5 @@
 -- The records that a node holds: of each block one or two, the greatest stamp first.
-use Rattle.std.specs.Prelude.{ℕ, ◌==◌, List, [], ◌∷◌, Option, Some, None, cond}
+use Rattle.std.specs.Prelude.{ℕ, ◌≡◌, ◌==◌, List, [], ◌∷◌, Option, Some, None, cond}
 use Rattle.std.specs.FinMap as map
 use Rattle.rz_events.specs.Keys.{key_cmp}
 use Rattle.rz_events.specs.declared.keys.Key.{Key}
@@ -25,6 +25,10 @@ held_of held key = listed (map.get held key)
 abbrev pub with_held : Records → Key → List Held → Records
 with_held held key [] = map.remove held key
 with_held held key (r ∷ more) = map.insert held key (r ∷ more)
+
+-- no key is held with no record
+abbrev pub IsWhole : Records → Type 0
+IsWhole held = (key : Key) → ¬ (map.get held key ≡ Some [])
 
 abbrev pub stamp_of : Held → ℕ
 stamp_of r = r.stamp

@@ -4,3 +4,42 @@
 //! began and when a block is quiet; `Sound` says what each read gives; `Kept` says what the nodes of
 //! a published write hold; `Rebuilt` says what a finished rebuild has done.
 #![tactic(auto)]
+
+ghost use Rattle.std.specs.Prelude.{List};
+ghost use Rattle.rz_events.specs.Volume.{Volume};
+ghost use Rattle.rz_events.specs.declared.events.Event.{Event as AnEvent};
+ghost use Rattle.rz_core.specs.Legal.{IsLegal};
+ghost use Rattle.rz_safety.specs.Kept.{IsKept};
+ghost use Rattle.rz_safety.specs.Rebuilt.{IsComplete, IsFenced};
+ghost use Rattle.rz_safety.specs.Sound.{IsSound, IsAnswering};
+
+/// A legal log is sound: each read gives one write's text, no older than what was acknowledged before
+/// it began, or says why it gives none; and a node of a published write has no record of it only after
+/// it lost its disk.
+pub fn sound()
+    ensures { (v : Volume) (h : List AnEvent) → IsLegal v h → IsSound v h }
+{}
+
+/// Each read of a legal log whose block is quiet answers, unless too many of the write's nodes did not
+/// give its record.
+pub fn answering()
+    ensures { (v : Volume) (h : List AnEvent) → IsLegal v h → IsAnswering v h }
+{}
+
+/// In a legal log each node of a published mask holds the published stamp, or it was lost after it kept
+/// or passed it. Then it is lost or fenced above the stamp, and was enrolled for that loss only after
+/// the publish.
+pub fn kept()
+    ensures { (v : Volume) (h : List AnEvent) → IsLegal v h → IsKept h }
+{}
+
+/// In a legal log each version that a node holds was refilled, or its stamp is above the node's fence.
+pub fn fenced()
+    ensures { (v : Volume) (h : List AnEvent) → IsLegal v h → IsFenced h }
+{}
+
+/// In a legal log a node that was rebuilt, and not lost since, holds the published stamp of each key
+/// of a live file whose published mask names it.
+pub fn complete()
+    ensures { (v : Volume) (h : List AnEvent) → IsLegal v h → IsComplete h }
+{}

@@ -1,0 +1,4 @@
+pub mod Extends
+pub mod Rows
+pub mod Locality
+pub mod Stamps

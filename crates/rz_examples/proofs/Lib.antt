@@ -1,0 +1,5 @@
+pub mod Names
+pub mod Steps
+pub mod Mending
+pub mod Trouble
+pub mod Refusals

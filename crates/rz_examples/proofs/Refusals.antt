@@ -1,0 +1,131 @@
+-- Why each of the mistaken histories is not legal: the row of its newest event says so.
+use Rattle.std.proofs.Common.{ℕ, ◌≡◌, inl, inr, ◌<◌, List, [], ◌∷◌, Option, Some, None, refl, ap, arith, length, ◌∙◌}
+use Rattle.std.specs.List.{AllByRecursion}
+use Rattle.std.specs.Int.Count.{ones}
+use Rattle.rz_events.specs.declared.events.Event.{Event}
+use Rattle.rz_events.specs.declared.events.Event.TheVariants as e
+use Rattle.rz_node_model.specs.Versions.{Stands}
+use Rattle.rz_core.specs.History.{Begun, Has, of_actor}
+use Rattle.rz_core.specs.Own.{HasDistinct, IsFalling}
+use Rattle.rz_core.specs.ExportWord.{stamp_told}
+use Rattle.rz_core.specs.ExportRows.{HasKept}
+use Rattle.rz_core.specs.Legal.{IsLegal}
+use Rattle.rz_examples.specs.Plain.{plain, one, block, hello, world, places}
+use Rattle.rz_examples.specs.Ordinary.{kept_at, with_begin}
+use Rattle.rz_examples.specs.Mistakes.{early, thin, drawn_twice, outrun, enrolled_named, under_fence, smaller, other_text, stale_look, older_stamp, joined, from_lost, unseen_move, idle_miss, late_refill, thin_refill}
+
+-- Writes.
+
+-- position 2 is named, and no node kept it
+pub not_early : ¬ IsLegal plain early
+not_early legal = let k = legal.1.row.publishable.publishing.kept 2 refl in none k.0 k.2
+  where
+    none : (n : ℕ) → HasKept (of_actor one (kept_at 2 1 ∷ kept_at 1 0 ∷ with_begin)) one n block 1 2 → ⊥
+    none n (inl (inl is)) = cc
+    none n (inl (inr (inl is))) = cc
+    none n (inl (inr (inr (inl is)))) = cc
+    none n (inl (inr (inr (inr (inl is))))) = cc
+    none n (inl (inr (inr (inr (inr (inl is)))))) = cc
+    none n (inl (inr (inr (inr (inr (inr (inl is))))))) = cc
+    none n (inl (inr (inr (inr (inr (inr (inr has))))))) = has
+    none n (inr passed) = never passed.0 passed.1
+      where
+        never : (held : ℕ) → Has (of_actor one (kept_at 2 1 ∷ kept_at 1 0 ∷ with_begin)) (e.Passed one n block 1 held) → ⊥
+        never held (inl is) = cc
+        never held (inr (inl is)) = cc
+        never held (inr (inr (inl is))) = cc
+        never held (inr (inr (inr (inl is)))) = cc
+        never held (inr (inr (inr (inr (inl is))))) = cc
+        never held (inr (inr (inr (inr (inr (inl is)))))) = cc
+        never held (inr (inr (inr (inr (inr (inr has)))))) = has
+
+-- two positions are fewer than three
+pub not_thin : ¬ IsLegal plain thin
+unfolding ones
+not_thin legal = let q = legal.1.row.publishable.publishing.quorum in cc
+
+-- the next number is 2
+pub not_drawn_twice : ¬ IsLegal plain drawn_twice
+not_drawn_twice legal = let n = legal.1.row.next in absurd (omega (arith, n))
+
+-- the newest stamp begun is 2
+pub not_outrun : ¬ IsLegal plain outrun
+not_outrun legal = let n = legal.1.row.publishable.newest in absurd (omega (arith, n))
+
+-- the fence of node 1 is 2
+pub not_enrolled_named : ¬ IsLegal plain enrolled_named
+not_enrolled_named legal = let n = legal.1.row.free 0 1 refl (places, refl, refl) _ 1 2 (inl refl) in absurd (omega (arith, n))
+
+pub not_under_fence : ¬ IsLegal plain under_fence
+not_under_fence legal = let n = legal.1.row.keep.fenced in absurd (omega (arith, n))
+
+pub not_smaller : ¬ IsLegal plain smaller
+not_smaller legal = let n = legal.1.row.above.0 in absurd (omega (arith, n))
+
+-- Reads.
+
+-- the stamp that a look was told
+told_by : Option Event → ℕ
+told_by (Some (e.Look by key answer)) = stamp_told answer
+told_by _ = 0
+
+text_in : Option Begun → List ℕ
+text_in None = []
+text_in (Some b) = b.text
+
+first_of : List ℕ → ℕ
+first_of [] = 0
+first_of (b ∷ text) = b
+
+differ : hello ≡ world → ⊥
+unfolding first_of
+differ same = let b : 104 ≡ 119 = ap first_of same in absurd (omega (arith, b))
+
+pub not_other_text : ¬ IsLegal plain other_text
+unfolding text_in
+not_other_text legal = let w = legal.1.row.wrote in differ (ap text_in w.1 ∙ w.2)
+
+-- the stamp that is published is 2
+pub not_stale_look : ¬ IsLegal plain stale_look
+not_stale_look legal = let t : 1 ≡ 2 = ap stamp_told legal.1.row.told in absurd (omega (arith, t))
+
+-- the look was told 2
+pub not_older_stamp : ¬ IsLegal plain older_stamp
+unfolding told_by
+not_older_stamp legal =
+    let l = legal.1.row.looked in let t : 2 ≡ l.0.stamp = ap told_by l.1 in let s = l.2 in absurd (omega (arith, t, s))
+
+-- two distinct positions are not among one
+one_given : (p : ℕ) → HasDistinct 2 (p ∷ []) → ⊥
+one_given p given = go given.0 given.1 given.2 given.3
+  where
+    go : (ps : List ℕ) → IsFalling ps → length ps ≡ 2 → AllByRecursion (λ q. Stands q (p ∷ [])) ps → ⊥
+    go [] falls two all = absurd (omega (arith, two))
+    go (a ∷ []) falls two all = absurd (omega (arith, two))
+    go (a ∷ b ∷ more) falls two all = let less = falls.0.0 in apart less all.0 all.1.0
+      where
+        apart : b < a → Stands a (p ∷ []) → Stands b (p ∷ []) → ⊥
+        apart less (inl x) (inl y) = absurd (omega (arith, less, x, y))
+        apart less (inl x) (inr y) = y
+        apart less (inr x) y = x
+
+-- one node alone gave the record of stamp 2
+pub not_joined : ¬ IsLegal plain joined
+not_joined legal = one_given 0 legal.1.row.enough
+
+pub not_from_lost : ¬ IsLegal plain from_lost
+not_from_lost legal = let u = legal.1.row.up in cc
+
+pub not_unseen_move : ¬ IsLegal plain unseen_move
+not_unseen_move legal = let a = legal.1.row.again.1 in cc
+
+pub not_idle_miss : ¬ IsLegal plain idle_miss
+not_idle_miss legal = let o = legal.1.row in cc
+
+-- Rebuilds.
+
+pub not_late_refill : ¬ IsLegal plain late_refill
+not_late_refill legal = let f = legal.1.row.refill.fence_is in absurd (omega (arith, f))
+
+pub not_thin_refill : ¬ IsLegal plain thin_refill
+not_thin_refill legal = one_given 1 legal.1.row.refill.rebuilding.enough

@@ -1,0 +1,205 @@
+-- The steps of the troubled histories.
+use Rattle.std.proofs.Common.{ℕ, Bool, true, false, ◌≡◌, ◌⊎◌, inl, inr, List, [], ◌∷◌, Some, cond, refl, arith, zero, suc, lit<, lit≤}
+use Rattle.std.proofs.lemmas.Nat.Bits.{bit_at_above}
+use Rattle.std.specs.Int.Count.{ones}
+use Rattle.rz_events.specs.declared.keys.Key.{Key}
+use Rattle.rz_events.specs.declared.keys.Actor.{Actor}
+use Rattle.rz_events.specs.declared.events.Word.TheVariants.{Export}
+use Rattle.rz_events.specs.declared.events.Event.{Event}
+use Rattle.rz_events.specs.declared.events.Event.TheVariants as e
+use Rattle.rz_events.specs.declared.tree.TreeCall.TheVariants as call
+use Rattle.rz_events.specs.Events.{same_key}
+use Rattle.rz_export_model.specs.Export.{is_mask}
+use Rattle.rz_core.specs.History.{facts, of_word, of_actor, Has, IsPlace}
+use Rattle.rz_core.specs.ExportWord.{HasBit}
+use Rattle.rz_core.specs.ExportRows.{IsLess, HasKept, IsFree}
+use Rattle.rz_core.specs.Legal.{IsLegal}
+use Rattle.rz_examples.specs.Plain.{plain, one, block, places, file, path}
+use Rattle.rz_examples.specs.Ordinary.{kept_at, hello_published, with_begin}
+use Rattle.rz_examples.specs.Troubled.{lost_reply, short_write, short_read, unlinked}
+use Rattle.rz_examples.proofs.Names.{open_reply, open_mended, unlink_reply}
+use Rattle.rz_examples.proofs.Steps.{the_write, is_writer, room, legal_file, legal_begin, legal_write}
+use Rattle.rz_examples.proofs.Mending.{legal_disk, not_less}
+
+-- the positions of the mask 14
+bits : (p : ℕ) → HasBit 14 p → (p ≡ 1) ⊎ ((p ≡ 2) ⊎ (p ≡ 3))
+bits zero b = cc
+bits (suc zero) b = inl refl
+bits (suc (suc zero)) b = inr (inl refl)
+bits (suc (suc (suc zero))) b = inr (inr refl)
+bits (suc (suc (suc (suc p)))) b = let z = bit_at_above 14 4 (suc (suc (suc (suc p)))) (omega arith) (omega arith) in cc
+
+-- the first node kept its record, and its reply was lost
+abbrev with_loss : List Event
+with_loss = e.Missed one 1 true ∷ kept_at 1 0 ∷ with_begin
+
+abbrev with_three : List Event
+with_three = kept_at 4 3 ∷ kept_at 3 2 ∷ kept_at 2 1 ∷ with_loss
+
+keeps : (p : ℕ) → HasBit 14 p → (n : ℕ) × IsPlace (facts with_three) 1 p n × HasKept (of_actor one with_three) one n block 1 p
+keeps p b = elim (bits p b) [
+  | inl z ↦ (2, (places, refl, rw z refl), inl (inr (inr (inl (rw z refl)))))
+  | inr rest ↦ elim rest [
+    | inl o ↦ (3, (places, refl, rw o refl), inl (inr (inl (rw o refl))))
+    | inr t ↦ (4, (places, refl, rw t refl), inl (inl (rw t refl)))
+  ]
+]
+
+quorum : is_mask plain.layout 14 ≡ true
+unfolding ones
+quorum = refl
+
+none_enrolled : (n s : ℕ) → IsFree (of_word Export with_three) n s
+none_enrolled n s by loss fence has = absurd (never by loss fence has)
+  where
+    never : (by : Actor) (loss fence : ℕ) → Has (of_word Export with_three) (e.Enroll by n loss fence) → ⊥
+    never by loss fence (inl is) = cc
+    never by loss fence (inr (inl is)) = cc
+    never by loss fence (inr (inr (inl is))) = cc
+    never by loss fence (inr (inr (inr has))) = has
+
+legal_three : IsLegal plain with_three
+legal_three = (
+  (
+    (
+      (
+        (
+          legal_begin,
+          record {
+            room = lit< tt;
+            row = record {
+              keep = record { up = refl; fenced = lit< tt; writing = record { writer = is_writer (facts with_begin) refl; place = (places, refl, refl) } };
+              above = tt;
+              cell = inr (room (facts with_begin) 1 (lit< tt));
+            };
+          },
+        ),
+        record { room = lit< tt; row = refl },
+      ),
+      record {
+        room = lit< tt;
+        row = record {
+          keep = record { up = refl; fenced = lit< tt; writing = record { writer = is_writer (facts with_loss) refl; place = (places, refl, refl) } };
+          above = tt;
+          cell = inr (room (facts with_loss) 2 (lit< tt));
+        };
+      },
+    ),
+    record {
+      room = lit< tt;
+      row = record {
+        keep = record { up = refl; fenced = lit< tt; writing = record { writer = is_writer (facts (kept_at 2 1 ∷ with_loss)) refl; place = (places, refl, refl) } };
+        above = tt;
+        cell = inr (room (facts (kept_at 2 1 ∷ with_loss)) 3 (lit< tt));
+      };
+    },
+  ),
+  record {
+    room = lit< tt;
+    row = record {
+      keep = record { up = refl; fenced = lit< tt; writing = record { writer = is_writer (facts (kept_at 3 2 ∷ kept_at 2 1 ∷ with_loss)) refl; place = (places, refl, refl) } };
+      above = tt;
+      cell = inr (room (facts (kept_at 3 2 ∷ kept_at 2 1 ∷ with_loss)) 4 (lit< tt));
+    };
+  },
+)
+
+pub legal_lost_reply : IsLegal plain lost_reply
+legal_lost_reply = (
+  (
+    legal_three,
+    record {
+      room = lit< tt;
+      row = record {
+        publishable = record { live = refl; newest = lit≤ tt; publishing = record { writer = is_writer (facts with_three) refl; quorum = quorum; kept = keeps } };
+        free = λ p n bit place. none_enrolled n 1;
+      };
+    },
+  ),
+  record { room = lit< tt; row = refl },
+)
+
+pub legal_short_write : IsLegal plain short_write
+legal_short_write = (
+  (
+    (
+      (
+        (
+          (
+            (legal_file, record { room = lit< tt; row = refl }),
+            record { room = lit< tt; row = refl },
+          ),
+          record { room = lit< tt; row = record { told = open_reply } },
+        ),
+        record { room = lit< tt; row = record { live = refl; block = lit< tt; short = lit≤ tt; next = refl; from = refl } },
+      ),
+      record { room = lit< tt; row = (refl, refl) },
+    ),
+    record { room = lit< tt; row = (refl, refl) },
+  ),
+  record { room = lit< tt; row = record { begun = (1, 0, _, places, refl, refl, refl); many = lit< tt } },
+)
+
+pub legal_short_read : IsLegal plain short_read
+legal_short_read = (
+  (
+    (
+      (
+        (
+          (
+            (
+              (
+                (legal_disk, record { room = lit< tt; row = record { there = λ q. cc; next = refl } }),
+                record { room = lit< tt; row = record { told = open_mended } },
+              ),
+              record { room = lit< tt; row = record { live = refl; block = lit< tt; told = refl } },
+            ),
+            record { room = lit< tt; row = record { up = refl; place = (places, refl, refl); told = λ there. there } },
+          ),
+          record { room = lit< tt; row = (refl, refl) },
+        ),
+        record { room = lit< tt; row = record { up = refl; place = (places, refl, refl); told = (inl refl, (the_write, record { found = refl; stamp = refl; length = refl; base = refl })) } },
+      ),
+      record { room = lit< tt; row = record { up = refl; place = (places, refl, refl); told = λ there. there } },
+    ),
+    record { room = lit< tt; row = record { live = refl; looked = inl (Some hello_published, inr (inr (inr (inr (inl refl))))); told = refl } },
+  ),
+  record {
+    room = lit< tt;
+    row = record {
+      looked = (hello_published, refl, record { asked = (places, refl, (refl, (refl, (refl, (refl, tt)))), refl); few = lit< tt }, (Some hello_published, refl, refl));
+    };
+  },
+)
+
+-- no lesser key is held than the first block
+none_less : (t : Bool) (at : Key) → IsLess at block → same_key at block ≡ t → cond {A = List ℕ} t (1 ∷ []) [] ≡ []
+none_less false at less same = refl
+none_less true at less same = absurd (not_less at same less)
+
+pub legal_unlinked : IsLegal plain unlinked
+legal_unlinked = (
+  (
+    (
+      (
+        (
+          (legal_write, record { room = lit< tt; row = record { told = unlink_reply } }),
+          record {
+            room = lit< tt;
+            row = record { up = refl; least = λ at file less. none_less (same_key at block) at less refl; lesser = refl; gone = (call.Unlink path, file 5, inl refl, refl) };
+          },
+        ),
+        record {
+          room = lit< tt;
+          row = record { up = refl; least = λ at file less. none_less (same_key at block) at less refl; lesser = refl; gone = (call.Unlink path, file 5, inr (inl refl), refl) };
+        },
+      ),
+      record { room = lit< tt; row = refl },
+    ),
+    record { room = lit< tt; row = record { up = refl; none = λ at file. refl } },
+  ),
+  record {
+    room = lit< tt;
+    row = inr (1, (refl, (refl, inl (refl, inl (refl, refl, refl)))), refl);
+  },
+)

@@ -1,0 +1,5 @@
+use Rattle.rz_examples.proofs.Refusals.{not_older_stamp}
+use Rattle.rz_examples.proofs.mistaken_reads.older_stamp.Goals as goal
+
+pub returns : goal.returns
+returns c = not_older_stamp

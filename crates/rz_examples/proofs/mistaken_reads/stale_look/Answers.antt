@@ -1,0 +1,5 @@
+use Rattle.rz_examples.proofs.Refusals.{not_stale_look}
+use Rattle.rz_examples.proofs.mistaken_reads.stale_look.Goals as goal
+
+pub returns : goal.returns
+returns c = not_stale_look

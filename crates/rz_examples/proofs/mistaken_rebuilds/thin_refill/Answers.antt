@@ -1,0 +1,5 @@
+use Rattle.rz_examples.proofs.Refusals.{not_thin_refill}
+use Rattle.rz_examples.proofs.mistaken_rebuilds.thin_refill.Goals as goal
+
+pub returns : goal.returns
+returns c = not_thin_refill

@@ -1,0 +1,5 @@
+use Rattle.rz_examples.proofs.Refusals.{not_drawn_twice}
+use Rattle.rz_examples.proofs.mistaken_writes.stamp_twice.Goals as goal
+
+pub returns : goal.returns
+returns c = not_drawn_twice

@@ -1,0 +1,5 @@
+pub mod Plain
+pub mod Ordinary
+pub mod Mended
+pub mod Troubled
+pub mod Mistakes

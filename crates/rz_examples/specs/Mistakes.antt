@@ -1,0 +1,108 @@
+-- Histories that are not legal: each ends with one event that an honest store would not have, after events of the
+-- ordinary and the mended history.
+use Rattle.std.specs.Prelude.{ℕ, false, List, ◌∷◌, Some, None}
+use Rattle.rz_events.specs.declared.files.Published.{Published}
+use Rattle.rz_events.specs.declared.records.Held.{Held}
+use Rattle.rz_events.specs.declared.records.Change.TheVariants as change
+use Rattle.rz_events.specs.declared.ends.ReadEnd.TheVariants as read
+use Rattle.rz_events.specs.declared.events.Event.{Event}
+use Rattle.rz_events.specs.declared.events.Event.TheVariants as e
+use Rattle.rz_examples.specs.Plain.{one, two, mender, block, hello, world}
+use Rattle.rz_examples.specs.Ordinary.{kept_at, accepted_on, looked, fetched_at, found, with_begin, with_keeps, with_write, with_records}
+use Rattle.rz_examples.specs.Mended.{lost, probed, enrolled, replaced, given_at, listed, with_disk}
+
+-- The events of a second write of the block, by another client.
+
+-- it begins when this stamp is published
+abbrev pub begun_later : ℕ → Event
+begun_later base = e.Begin two block 2 base world
+
+abbrev pub kept_later_at : ℕ → ℕ → Event
+kept_later_at node position = e.Did two node (change.Keep block 2 position)
+
+abbrev pub accepted_later : Event
+accepted_later = e.Publish two block 2 7 None
+
+abbrev pub world_published : Published
+world_published = record { stamp = 2; mask = 7; length = 5 }
+
+abbrev pub world_record : Held
+world_record = record { stamp = 2; length = 5; base = 1 }
+
+-- the second write is acknowledged too
+abbrev pub with_both : List Event
+with_both = accepted_later ∷ kept_later_at 3 2 ∷ kept_later_at 2 1 ∷ kept_later_at 1 0 ∷ begun_later 1 ∷ with_write
+
+-- Writes.
+
+-- a write is published after two keeps, on three nodes
+abbrev pub early : List Event
+early = accepted_on 7 ∷ kept_at 2 1 ∷ kept_at 1 0 ∷ with_begin
+
+-- a write is published on two nodes alone
+abbrev pub thin : List Event
+thin = accepted_on 3 ∷ with_keeps
+
+-- a stamp is drawn twice
+abbrev pub drawn_twice : List Event
+drawn_twice = e.Begin two block 1 0 world ∷ with_begin
+
+-- a write is published though a later one of the block began
+abbrev pub outrun : List Event
+outrun = accepted_on 7 ∷ kept_at 3 2 ∷ kept_at 2 1 ∷ kept_at 1 0 ∷ begun_later 0 ∷ with_begin
+
+-- a write is published on a node that was enrolled since it kept the record
+abbrev pub enrolled_named : List Event
+enrolled_named = accepted_on 7 ∷ enrolled ∷ probed ∷ lost ∷ with_keeps
+
+-- a node keeps a record whose stamp is at most its fence
+abbrev pub under_fence : List Event
+under_fence = kept_at 1 0 ∷ replaced ∷ enrolled ∷ probed ∷ lost ∷ with_begin
+
+-- a node keeps a record of a smaller stamp than it holds
+abbrev pub smaller : List Event
+smaller = kept_at 1 0 ∷ kept_later_at 1 0 ∷ begun_later 0 ∷ with_begin
+
+-- Reads.
+
+-- the text that is found is that of no write with this stamp
+abbrev pub other_text : List Event
+other_text = found world ∷ with_records
+
+-- a look is told an older write than the last one that was acknowledged
+abbrev pub stale_look : List Event
+stale_look = looked ∷ with_both
+
+-- a read finds an older write than its look was told
+abbrev pub older_stamp : List Event
+older_stamp =
+    e.Got one 3 block false (read.Found 1 hello)
+    ∷ fetched_at 2 1 ∷ fetched_at 1 0 ∷ e.Look one block (Some world_published) ∷ with_both
+
+-- a read joins records of two writes
+abbrev pub joined : List Event
+joined =
+    e.Got one 3 block false (read.Found 2 world) ∷ fetched_at 2 1 ∷ e.Fetch one 1 block 0 2 (Some world_record)
+    ∷ e.Look one block (Some world_published) ∷ with_both
+
+-- a lost node gives a record
+abbrev pub from_lost : List Event
+from_lost = fetched_at 1 0 ∷ looked ∷ lost ∷ with_write
+
+-- a read says that another write was published, and has not looked again
+abbrev pub unseen_move : List Event
+unseen_move = e.Got one 3 block false (read.Moved 1 2) ∷ with_records
+
+-- a message is lost of an actor that does nothing
+abbrev pub idle_miss : List Event
+idle_miss = e.Missed one 1 false ∷ with_write
+
+-- Rebuilds.
+
+-- a node takes a refill under a fence that is not its own
+abbrev pub late_refill : List Event
+late_refill = e.Did mender 1 (change.Refill 1 block 1 0) ∷ given_at 3 2 ∷ given_at 2 1 ∷ listed ∷ with_disk
+
+-- a node takes a refill of a record that one node alone gave
+abbrev pub thin_refill : List Event
+thin_refill = e.Did mender 1 (change.Refill 2 block 1 0) ∷ given_at 2 1 ∷ listed ∷ with_disk

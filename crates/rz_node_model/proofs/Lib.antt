@@ -1,0 +1,2 @@
+pub mod VersionLaws
+pub mod RecordLaws

@@ -1,0 +1,9 @@
+pub mod Acked
+pub mod ReadLaws
+pub mod Counts
+pub mod EndLaws
+pub mod NodeLaws
+pub mod KeptLaws
+pub mod FenceLaws
+pub mod VersionLaws
+pub mod RebuildLaws

@@ -1,0 +1,5 @@
+use Rattle.rz_safety.proofs.EndLaws as laws
+use Rattle.rz_safety.proofs.answering.Goals as goal
+
+pub returns : goal.returns
+returns c = laws.answering
