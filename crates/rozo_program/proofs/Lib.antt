@@ -1,0 +1,4 @@
+pub mod Streams
+pub mod Texts
+pub mod Lines
+pub mod WordLaws

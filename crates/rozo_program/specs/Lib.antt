@@ -1,0 +1,5 @@
+pub mod Words
+pub mod Input
+pub mod Script
+pub mod Output
+pub mod Replay

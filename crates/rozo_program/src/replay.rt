@@ -1,0 +1,122 @@
+//! The replay of a script.
+
+ghost use Rattle.std.specs.Prelude.{◌≡◌, ◌<◌, ◌≤◌, ◌+◌, ◌-◌, ◌^◌, ◌⊎◌, All, length, map, string_bytes};
+ghost use Rattle.rz_ports.specs.Counts.{Rises};
+ghost use Rattle.rz_replay.specs.Script.{IsLine};
+ghost use Rattle.rozo_program.specs.Input.{limit};
+ghost use Rattle.rozo_program.specs.Replay.{HasStatus, IsReadToEnd, IsStatusOf, IsStatusOr5};
+
+use crate::input::{Taken, take};
+use crate::output::write_all;
+use crate::script::{Cause, Departure, ReadFault, read};
+use crate::show::show;
+use crate::words::are_wanted;
+use rz_events::Event;
+use rz_ports::{Sink, Source};
+use rz_replay::{Driver, Line};
+use std::alloc::{AllocError, Global};
+
+/// What a replay came to: its status, and the log of the play, the oldest event first.
+#[derive(Debug, Drop)]
+pub struct Played {
+    pub status: u8,
+    pub log: Vec<Event>,
+}
+
+/// Nothing was played.
+fn unplayed(alloc: Global, status: u8) -> Played
+    ensures { result.status ≡ status }
+{
+    Played {
+        status,
+        log: Vec::new(alloc),
+    }
+}
+
+/// Writes the line of a refusal.
+fn refuse<O: Sink>(alloc: Global, output: &mut O, status: u8, line: &[u8]) -> Played
+    ensures { IsStatusOr5 status (O.faults output.old) (O.faults output.new) result.status }
+{
+    if write_all(output, line) {
+        unplayed(alloc, status)
+    } else {
+        unplayed(alloc, 5)
+    }
+}
+
+/// The line of a departure.
+fn departure_line(alloc: Global, departure: Departure) -> Result<String, AllocError> {
+    let line = departure.line;
+    match departure.cause {
+        Cause::NotUtf8 => format!(in alloc; "refused script {line} NotUtf8\n"),
+        Cause::NotYet => format!(in alloc; "refused script {line} NotYet\n"),
+    }
+}
+
+/// Plays a script, and writes the text of its log.
+fn play_lines<O: Sink>(alloc: Global, lines: &[Line], output: &mut O) -> Played
+    requires lines { All IsLine lines.now }
+    requires few { length lines.now < 2 ^ 32 }
+    ensures { IsStatusOr5 0 (O.faults output.old) (O.faults output.new) result.status ⊎ (result.status ≡ 70) }
+{
+    let Ok(mut driver) = Driver::new(alloc) else {
+        return unplayed(alloc, 70);
+    };
+    let played = driver.play(alloc, lines);
+    let log = driver.close();
+    if played.is_err() {
+        return Played { status: 70, log };
+    }
+    let Ok(text) = show(alloc, &log) else {
+        return Played { status: 70, log };
+    };
+    let status = if write_all(output, text.as_bytes()) {
+        0
+    } else {
+        5
+    };
+    Played { status, log }
+}
+
+/// Replays the script that a text spells.
+fn replay_text<O: Sink>(alloc: Global, text: &[u8], output: &mut O) -> Played
+    requires { length text.now ≤ limit }
+    ensures { IsStatusOf text.now result.status ⊎ ((result.status ≡ 70) ⊎ ((result.status ≡ 5) × Rises (O.faults output.old) (O.faults output.new))) }
+{
+    match read(alloc, text) {
+        Ok(lines) => play_lines(alloc, &lines, output),
+        Err(ReadFault::NoMemory) => unplayed(alloc, 70),
+        Err(ReadFault::Departs(departure)) => {
+            match departure_line(alloc, departure) {
+                Ok(line) => refuse(alloc, output, 3, line.as_bytes()),
+                Err(_) => unplayed(alloc, 70),
+            }
+        }
+    }
+}
+
+/// Reads a script from the input, plays it over four nodes in memory, and writes the text of its
+/// log to the output. `words` are those of the command line.
+///
+/// The status is 0 where all was played and written, 2 for other words, 3 for a text that is
+/// refused, 4 where the source failed, 5 where the sink did, 7 for a text that is too long, and 70
+/// for want of memory.
+pub fn replay<I: Source, O: Sink>(
+    alloc: Global,
+    words: &[String],
+    input: &mut I,
+    output: &mut O,
+) -> Played
+    ensures status { HasStatus (map string_bytes words.now) (I.left input.old) (Rises (I.faults input.old) (I.faults input.new)) (Rises (O.faults output.old) (O.faults output.new)) result.status }
+    ensures source { IsReadToEnd (I.left input.old) (I.left input.new) result.status }
+{
+    if !are_wanted(words) {
+        return refuse(alloc, output, 2, b"refused usage\n");
+    }
+    match take(alloc, input) {
+        Taken::All(bytes) => replay_text(alloc, &bytes, output),
+        Taken::Long => refuse(alloc, output, 7, b"refused long\n"),
+        Taken::Failed => unplayed(alloc, 4),
+        Taken::NoMemory => unplayed(alloc, 70),
+    }
+}
