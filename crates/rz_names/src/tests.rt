@@ -1,6 +1,6 @@
 //! Texts of paths, and what they are read as.
 
-use crate::{Path, PathError};
+use crate::{NameMap, Path, PathError};
 use std::test::Fail;
 
 // A text of `count` names of one byte.
@@ -62,5 +62,20 @@ fn reads_at_the_limits(rt: HostRuntime) -> Result<(), Fail> {
     assert_eq!(rt; named.names().len(), 1);
     let refused = Path::long(rt.alloc(), text_of_name(&rt, 256)?.as_slice()).err();
     assert_eq!(rt; refused, Some(PathError::BadName));
+    Ok(())
+}
+
+#[test]
+fn a_new_map_has_the_root_alone(rt: HostRuntime) -> Result<(), Fail> {
+    let map = NameMap::new(rt.alloc());
+    let root = Path::read(rt.alloc(), b"/")?;
+    let path = Path::read(rt.alloc(), b"/a/b")?;
+    assert_eq!(rt; map.find(&root, 0), Some(0));
+    assert_eq!(rt; map.find(&path, 0), Some(0));
+    assert!(rt; map.child(&root, None).is_none());
+    assert!(rt; map.after(Some(&root))?.is_none());
+    assert!(rt; map.after(None)?.is_none());
+    let copy = path.copy(rt.alloc())?;
+    assert_eq!(rt; copy.names().len(), 2);
     Ok(())
 }
