@@ -1,0 +1,4 @@
+pub mod Keys
+pub mod Good
+pub mod Plain
+pub mod Sums

@@ -1,0 +1,5 @@
+pub mod Rules
+pub mod Sizes
+pub mod Plain
+pub mod Described
+pub mod Answers
