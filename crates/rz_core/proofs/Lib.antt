@@ -2,3 +2,10 @@ pub mod Extends
 pub mod Rows
 pub mod Locality
 pub mod Stamps
+pub mod NodeLaws
+pub mod NodeSays
+pub mod NodeTies
+pub mod NodeSteps
+pub mod NodeRest
+pub mod ExportSteps
+pub mod EnrollLaws

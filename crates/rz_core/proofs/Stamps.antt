@@ -175,3 +175,13 @@ accepted-more (e.Publish by at stamp mask None ∷ more) h key a k =
     let (d, so, m) = some_more (same_key key at) stamp mask c in
     (d, subst (λ (o : Option (ℕ × ℕ)). cond (same_key key at && is_newer stamp o) (Some (stamp, mask)) o ≡ Some d) (sym is) so, omega arith)
 accepted-more (x ∷ more) h key a k = accepted-more more h key a k
+
+-- each begun stamp is at least 1
+pub positive : (v : Volume) (h : List Event) → IsLegal v h → (s : ℕ) (b : Begun) → wrote h s ≡ Some b → 1 ≤ s
+positive v [] legal s b k = cc
+positive v (e.Begin by at stamp base text ∷ h) legal s b k =
+    elim (wrote-cases (e.Begin by at stamp base text) h s b k) [
+      | inl old ↦ positive v h legal.0 s b old
+      | inr new ↦ (let same = begun_by-is s (e.Begin by at stamp base text) b new in let st : stamp ≡ s = cc in let n = legal.1.row.next in omega arith)
+    ]
+positive v (x ∷ h) legal s b k = elim (wrote-cases x h s b k) [ inl old ↦ positive v h legal.0 s b old | inr new ↦ cc ]

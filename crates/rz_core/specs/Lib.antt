@@ -7,4 +7,5 @@ pub mod ExportRows
 pub mod NodeRows
 pub mod OwnRows
 pub mod Legal
+pub mod Longer
 pub mod Tied

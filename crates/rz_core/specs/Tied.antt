@@ -85,11 +85,14 @@ pub record IsNodeStep (v : Volume) (h : List Event) (n : ℕ) (x : Event) (after
   pub tied : IsNode (facts (x ∷ h)) (of_word (Node n) (x ∷ h)) after
 
 -- A call of a node after a legal log: its event, if it has one, is allowed.
-abbrev pub IsNodeLaw : Volume → Type 0
-IsNodeLaw v = (h : List Event) (by : Actor) (n : ℕ) (s : NodeState) (question : NodeAsk) (given : NodeAnswer) (x : Event)
+abbrev pub IsNodeLawOf : Volume → NodeAsk → Type 0
+IsNodeLawOf v question = (h : List Event) (by : Actor) (n : ℕ) (s : NodeState) (given : NodeAnswer) (x : Event)
     → IsLegal v h → IsNode (facts h) (of_word (Node n) h) s → length (of_word (Node n) h) < 2 ^ 64 - 1
     → IsProperAsk v (facts h) (of_actor by h) by n question → IsNodeAnswer (cells_of v n) s question given → IsOpening given
     → node_event by n question given ≡ Some x → IsNodeStep v h n x (after_answer question given s)
+
+abbrev pub IsNodeLaw : Volume → Type 0
+IsNodeLaw v = (question : NodeAsk) → IsNodeLawOf v question
 
 -- The export.
 
@@ -113,8 +116,11 @@ pub record IsExportStep (v : Volume) (h : List Event) (x : Event) (after : Expor
   pub tied : IsExport v (facts (x ∷ h)) (of_word Export (x ∷ h)) after
 
 -- A call of the export after a legal log: the event of its reply is allowed.
-abbrev pub IsExportLaw : Volume → Type 0
-IsExportLaw v = (h : List Event) (by : Actor) (s : ExportState) (question : Call) (x : Event)
+abbrev pub IsExportLawOf : Volume → Call → Type 0
+IsExportLawOf v question = (h : List Event) (by : Actor) (s : ExportState) (x : Event)
     → IsLegal v h → IsExport v (facts h) (of_word Export h) s → length (of_word Export h) < 2 ^ 64 - 1
     → IsProperCall v (facts h) (of_actor by h) by question → is_proper s question ≡ true
     → export_event by question (export_reply s question) ≡ Some x → IsExportStep v h x (export_after s question)
+
+abbrev pub IsExportLaw : Volume → Type 0
+IsExportLaw v = (question : Call) → IsExportLawOf v question

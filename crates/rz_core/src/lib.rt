@@ -4,20 +4,68 @@
 //! and the permanent facts; `NodeWord` and `ExportWord` say what the events of a node's and of the
 //! export's word leave there; `Own` says what an actor's own events say, and `Outcomes` what came of
 //! each position in a read or a write. `ExportRows`, `NodeRows` and `OwnRows` have one row for each
-//! kind of event: when it is allowed. `Legal` puts them together. `Tied` says when the state of a node
-//! or of the export is the one that the log gives, and what then holds of each of their calls.
+//! kind of event: when it is allowed. `Legal` puts them together. `Longer` says what holds of a log
+//! that goes on after another. `Tied` says when the state of a node or of the export is the one that
+//! the log gives, and what then holds of each of their calls.
 //!
 //! Each row reads three things alone: the events of the event's word, the events by its actor, and
 //! the permanent facts. What a node and the export answer is said by the crates `rz_node_model` and
 //! `rz_export_model`, and nothing here says how they keep their state.
 #![tactic(auto)]
 
+ghost use Rattle.std.specs.Prelude.{ℕ, List};
 ghost use Rattle.rz_events.specs.Volume.{Volume};
+ghost use Rattle.rz_events.specs.declared.keys.Key.{Key as AKey};
+ghost use Rattle.rz_events.specs.declared.records.Head.{Head as AHead};
+ghost use Rattle.rz_events.specs.declared.nodes.NodeAsk.TheVariants as ask;
+ghost use Rattle.rz_events.specs.declared.tree.TreeCall.{TreeCall as ATreeCall};
+ghost use Rattle.rz_events.specs.declared.export.Call.TheVariants as call;
+ghost use Rattle.rz_events.specs.declared.events.Event.{Event as AnEvent};
 ghost use Rattle.rz_core.specs.Legal.{IsLocal};
+ghost use Rattle.rz_core.specs.Longer.{IsPermanent, IsPrefixLegal};
+ghost use Rattle.rz_core.specs.Tied.{IsExportLawOf, IsNodeLaw, IsNodeLawOf};
 
 /// What is allowed stays allowed, whatever others do: a later history of the same facts allows an
 /// event that an earlier one allowed, where what lies between is neither of the event's word nor by
 /// its actor.
 pub fn local()
     ensures { (v : Volume) → IsLocal v }
+{}
+
+/// The beginnings of a legal log are legal.
+pub fn beginnings()
+    ensures { (v : Volume) → IsPrefixLegal v }
+{}
+
+/// A permanent fact that stands in a log stands unchanged in every longer one.
+pub fn permanent()
+    ensures { (h more : List AnEvent) → IsPermanent h more }
+{}
+
+/// A keep by a node after a legal log, by the writer of its record and at the record's place: its event
+/// is allowed, and the node's state after it is the one that the log then gives. So are a refusal, a
+/// record that is passed over, and a disk fault.
+pub fn node_keep()
+    ensures { (v : Volume) (head : AHead) → IsNodeLawOf v (ask.Keep head) }
+{}
+
+/// The same of a refill by the rebuilder of the node.
+pub fn node_refill()
+    ensures { (v : Volume) (fence : ℕ) (head : AHead) → IsNodeLawOf v (ask.Refill fence head) }
+{}
+
+/// The same of a fetch: it tells the record of the very stamp exactly where the log has it.
+pub fn node_fetch()
+    ensures { (v : Volume) (key : AKey) (position stamp : ℕ) → IsNodeLawOf v (ask.Fetch key position stamp) }
+{}
+
+/// Each call of a node after a legal log, by a caller that may make it: its event, if it has one, is
+/// allowed, and the node's state after it is the one that the log then gives.
+pub fn nodes()
+    ensures { (v : Volume) → IsNodeLaw v }
+{}
+
+/// A call on names after a legal log: its event is allowed, and the export is then as the log gives it.
+pub fn export_tree()
+    ensures { (v : Volume) (c : ATreeCall) → IsExportLawOf v (call.Tree c) }
 {}

@@ -18,7 +18,8 @@ use Rattle.rz_core.proofs.Extends.{some_length, extends-more, place-extends}
 use Rattle.rz_core.proofs.Stamps.{export, same_key-true, drawn}
 use Rattle.rz_safety.specs.Reads.{IsLostSince}
 use Rattle.rz_safety.specs.Kept.{before_published, IsLostAfter, IsKept}
-use Rattle.rz_safety.proofs.NodeLaws.{node, holds, at-node, node-row, filter-has, has-filter, did-up}
+use Rattle.rz_core.proofs.EnrollLaws.{enrolled-has, new_cases}
+use Rattle.rz_core.proofs.NodeLaws.{at-own, node, holds, at-node, node-row, filter-has, has-filter, did-up}
 use Rattle.rz_safety.proofs.KeptLaws.{stored-begun, lost-stored, place-unique, place-before, accepted-kept, not_gone}
 
 node_is : (m n : ℕ) → Node m ≡ Node n → m ≡ n
@@ -34,10 +35,6 @@ losses-more v x h legal n =
     at-node x h n (λ w. losses (node n h) ≤ losses w)
     (λ is. losses-word v x (facts h) (node n h) _ _ (node-row v x h n legal is))
     (omega arith)
-
--- the node's own event, where its number is known
-pub at-own : (x : Event) (h : List Event) (n : ℕ) (P : List Event → Type 0) → word_of x ≡ Node n → P (x ∷ node n h) → P (node n (x ∷ h))
-at-own x h n P is p = subst (λ w. P (cond (same_word (Node n) w) (x ∷ node n h) (node n h))) (sym is) (rw (eq-eqb n n refl) p)
 
 -- a probe answers a loss that came
 pub probed-losses : (v : Volume) (h : List Event) → IsLegal v h → (by : Actor) (n loss : ℕ) → Has h (e.Probe by n (Some loss)) → loss ≤ losses (node n h)
@@ -58,23 +55,6 @@ enrolled-losses v (x ∷ h) legal by n loss fence (inl is) =
     let legal' = subst (λ y. IsLegal v (y ∷ h)) is legal in
     let i = probed-losses v h legal.0 by n loss (filter-has (λ y. same_actor by (by_of y)) h (e.Probe by n (Some loss)) legal'.1.row.probed) in
     let m = losses-more v x h legal n in omega (arith, i, m)
-
-enrolled_cases : (t : Bool) (g f : ℕ) (old : Option ℕ) → cond t (Some g) old ≡ Some f → ((t ≡ true) × (g ≡ f)) ⊎ (old ≡ Some f)
-enrolled_cases true g f old k = inl (refl, cc)
-enrolled_cases false g f old k = inr k
-
-enrolled-has : (w : List Event) (n loss f : ℕ) → enrolled w n loss ≡ Some f → (by : Actor) × Has w (e.Enroll by n loss f)
-enrolled-has [] n loss f k = cc
-enrolled-has (e.Enroll by m l g ∷ w) n loss f k =
-    elim (enrolled_cases ((n == m) && (loss == l)) g f (enrolled w n loss) k) [
-      | inl here ↦ (let p = and_parts _ _ here.0 in let en = eqb-true n m p.0 in let el = eqb-true loss l p.1 in let ef = here.1 in (by, inl (cc)))
-      | inr old ↦ (let i = enrolled-has w n loss f old in (i.0, inr i.1))
-    ]
-enrolled-has (x ∷ w) n loss f k = let i = enrolled-has w n loss f k in (i.0, inr i.1)
-
-new_cases : (old : Option ℕ) (last f : ℕ) → f ≡ or_new old last → (old ≡ Some f) ⊎ (f ≡ last + 1)
-new_cases None last f k = inr k
-new_cases (Some g) last f k = inl (ap Some (sym k))
 
 -- a loss that came is at most the last
 pub lost-losses : (v : Volume) (h : List Event) → IsLegal v h → (n : ℕ) (key : Key) (s loss : ℕ) → IsLostSince h n key s loss → loss ≤ losses (node n h)

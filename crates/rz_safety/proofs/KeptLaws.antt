@@ -22,21 +22,12 @@ use Rattle.rz_core.specs.NodeRows.{HasGone}
 use Rattle.rz_core.specs.Legal.{IsLegal, Row}
 use Rattle.rz_core.proofs.Extends.{all-changed, OfChange, IsPlaced, Knows, made-placed, extends-more, place-extends, place-back}
 use Rattle.rz_core.proofs.Locality.{all-filter, legal-knows}
-use Rattle.rz_core.proofs.Stamps.{export, same_key-true, same_key-refl, begun_by-is, wrote-cases, begun-latest, latest-more, accepted_cases}
+use Rattle.rz_core.proofs.Stamps.{export, positive, same_key-true, same_key-refl, begun_by-is, wrote-cases, begun-latest, latest-more, accepted_cases}
 use Rattle.rz_safety.specs.Reads.{IsAcked, IsStored, IsLostSince}
 use Rattle.rz_safety.proofs.Acked.{acked-accepted}
 use Rattle.rz_safety.proofs.EndLaws.{made-more}
-use Rattle.rz_safety.proofs.NodeLaws.{node, holds, at-node, Fits, Told, IsBegun, IsPair, pairs, node-step, holds-step, filter-has, has-filter, begun-more, rebuild-acked}
-
--- each begun stamp is at least 1
-positive : (v : Volume) (h : List Event) → IsLegal v h → (s : ℕ) (b : Begun) → wrote h s ≡ Some b → 1 ≤ s
-positive v [] legal s b k = cc
-positive v (e.Begin by at stamp base text ∷ h) legal s b k =
-    elim (wrote-cases (e.Begin by at stamp base text) h s b k) [
-      | inl old ↦ positive v h legal.0 s b old
-      | inr new ↦ (let same = begun_by-is s (e.Begin by at stamp base text) b new in let st : stamp ≡ s = cc in let n = legal.1.row.next in omega arith)
-    ]
-positive v (x ∷ h) legal s b k = elim (wrote-cases x h s b k) [ inl old ↦ positive v h legal.0 s b old | inr new ↦ cc ]
+use Rattle.rz_core.proofs.NodeLaws.{node, holds, at-node, Fits, IsPair, pairs, filter-has, has-filter}
+use Rattle.rz_safety.proofs.NodeLaws.{Told, IsBegun, node-step, holds-step, begun-more, rebuild-acked}
 
 -- what was acknowledged was begun
 pub acked-begun : (v : Volume) (h : List Event) → IsLegal v h → (key : Key) (t : ℕ) → IsAcked h key t → IsBegun h key t

@@ -7,3 +7,4 @@ pub mod KeptLaws
 pub mod FenceLaws
 pub mod VersionLaws
 pub mod RebuildLaws
+pub mod OrderLaws

@@ -22,9 +22,10 @@ use Rattle.rz_core.proofs.Locality.{all-filter}
 use Rattle.rz_core.proofs.Stamps.{export, same_key-refl, key_ext, accepted_cases}
 use Rattle.rz_safety.specs.Kept.{before_published}
 use Rattle.rz_safety.specs.Rebuilt.{Stage, Ready, Told, Ended, IsRun as IsRunAt, IsComplete}
-use Rattle.rz_safety.proofs.NodeLaws.{node, holds, filter-has, node-step, pairs, IsBegun}
+use Rattle.rz_core.proofs.NodeLaws.{at-own, node, holds, filter-has, pairs}
+use Rattle.rz_safety.proofs.NodeLaws.{node-step, IsBegun}
 use Rattle.rz_safety.proofs.KeptLaws.{accepted-kept, accepted-made, published-stays, held-begun, refilled-new, pass-holds, bases, live-before, place-before, not_gone}
-use Rattle.rz_safety.proofs.FenceLaws.{losses-more, at-own, lost-losses, enrolled-above, barred, published-free}
+use Rattle.rz_safety.proofs.FenceLaws.{losses-more, lost-losses, enrolled-above, barred, published-free}
 
 -- the answer of the last next since the replacement
 abbrev pub listed : List Event → Option Listed

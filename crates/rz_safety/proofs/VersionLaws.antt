@@ -20,20 +20,9 @@ use Rattle.rz_core.proofs.Stamps.{export, same_key-true}
 use Rattle.rz_safety.specs.Reads.{IsLostSince}
 use Rattle.rz_safety.specs.Sound.{IsSoundMiss, IsSound}
 use Rattle.rz_safety.specs.Rebuilt.{IsRefilled, IsFenced}
-use Rattle.rz_safety.proofs.NodeLaws.{node, holds, IsRows, rows, undecided-down, did-up}
+use Rattle.rz_core.proofs.NodeLaws.{lost-empty, node, holds, IsRows, rows, undecided-down, did-up}
 use Rattle.rz_safety.proofs.KeptLaws.{all-stands, accepted-kept, not_gone}
 use Rattle.rz_safety.proofs.EndLaws.{read_sound}
-
--- a lost node holds nothing
-lost-empty : (v : Volume) (f : Facts) (w : List Event) → IsRows v f w → (key : Key) → phase w ≡ Lost → held f w key ≡ []
-lost-empty v f [] r key lost = cc
-lost-empty v f (e.Lose m l ∷ w) r key lost = refl
-lost-empty v f (e.Broke by m c ∷ w) r key lost = cc
-lost-empty v f (e.Stop m ∷ w) r key lost = cc
-lost-empty v f (e.Start m took ∷ w) r key lost = cc
-lost-empty v f (e.Replace by m l g ∷ w) r key lost = cc
-lost-empty v f (e.Did by m c ∷ w) r key lost = let up = did-up v f w r.1.0 by m c r.1.2 in cc
-lost-empty v f (x ∷ w) r key lost = lost-empty v f w r.0 key lost
 
 abbrev pub IsGood : List Event → Key → ℕ → Type 0
 IsGood w key s = (fence_of w < s) ⊎ IsRefilled w key s

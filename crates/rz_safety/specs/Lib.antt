@@ -2,3 +2,4 @@ pub mod Reads
 pub mod Sound
 pub mod Kept
 pub mod Rebuilt
+pub mod Order

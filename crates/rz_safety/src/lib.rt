@@ -2,7 +2,8 @@
 //!
 //! Definitions stand here, in reading order: `Reads` says when a write is acknowledged, when a read
 //! began and when a block is quiet; `Sound` says what each read gives; `Kept` says what the nodes of
-//! a published write hold; `Rebuilt` says what a finished rebuild has done.
+//! a published write hold; `Rebuilt` says what a finished rebuild has done; `Order` says in which order
+//! numbers and calls come.
 #![tactic(auto)]
 
 ghost use Rattle.std.specs.Prelude.{List};
@@ -10,6 +11,7 @@ ghost use Rattle.rz_events.specs.Volume.{Volume};
 ghost use Rattle.rz_events.specs.declared.events.Event.{Event as AnEvent};
 ghost use Rattle.rz_core.specs.Legal.{IsLegal};
 ghost use Rattle.rz_safety.specs.Kept.{IsKept};
+ghost use Rattle.rz_safety.specs.Order.{AreRising, IsMendedInOrder, IsOrdered};
 ghost use Rattle.rz_safety.specs.Rebuilt.{IsComplete, IsFenced};
 ghost use Rattle.rz_safety.specs.Sound.{IsSound, IsAnswering};
 
@@ -42,4 +44,21 @@ pub fn fenced()
 /// of a live file whose published mask names it.
 pub fn complete()
     ensures { (v : Volume) (h : List AnEvent) → IsLegal v h → IsComplete h }
+{}
+
+/// In a legal log each stamp is above all numbers that were drawn before it, and so is each fence that
+/// was not given before.
+pub fn rising()
+    ensures { (v : Volume) (h : List AnEvent) → IsLegal v h → AreRising h }
+{}
+
+/// In a legal log a loss comes before its enrolment, and this before the replacement under its fence.
+pub fn mended()
+    ensures { (v : Volume) (h : List AnEvent) → IsLegal v h → IsMendedInOrder h }
+{}
+
+/// In a legal log a write's base is at least each stamp of the key that was acknowledged when it began,
+/// and the stamps of a key are acknowledged in their order.
+pub fn ordered()
+    ensures { (v : Volume) (h : List AnEvent) → IsLegal v h → IsOrdered h }
 {}

@@ -1,0 +1,5 @@
+use Rattle.rz_core.proofs.NodeSteps as laws
+use Rattle.rz_core.proofs.node_refill.Goals as goal
+
+pub returns : goal.returns
+returns c = laws.node-refill
