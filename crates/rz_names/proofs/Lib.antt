@@ -5,3 +5,4 @@ pub mod Children
 pub mod Blocks
 pub mod Moves
 pub mod Renames
+pub mod Small

@@ -1,5 +1,8 @@
 //! Texts of paths, and what they are read as.
 
+ghost use Rattle.std.specs.Prelude.{◌≡◌, ◌∷◌, [], IfOk, Some};
+ghost use Rattle.rz_export_model.specs.Paths.{path_of};
+
 use crate::{NameMap, Path, PathError};
 use std::test::Fail;
 
@@ -77,5 +80,28 @@ fn a_new_map_has_the_root_alone(rt: HostRuntime) -> Result<(), Fail> {
     assert!(rt; map.after(None)?.is_none());
     let copy = path.copy(rt.alloc())?;
     assert_eq!(rt; copy.names().len(), 2);
+    Ok(())
+}
+
+// The path of one name of one byte.
+fn short_path(rt: &HostRuntime, name: u8) -> Result<Path, Fail>
+    requires { path_of (47 ∷ name ∷ []) ≡ Some ((name ∷ []) ∷ []) }
+    ensures { IfOk result (λ p. p ≡ (name ∷ []) ∷ []) }
+{
+    let text = [b'/', name];
+    let path = Path::read(rt.alloc(), &text)?;
+    Ok(path)
+}
+
+#[test]
+fn adds_and_renames(rt: HostRuntime) -> Result<(), Fail> {
+    let mut map = NameMap::new(rt.alloc());
+    let old = short_path(&rt, b'a')?;
+    let new = short_path(&rt, b'b')?;
+    map.add(&old, 1)?;
+    assert_eq!(rt; map.find(&old, 1), Some(1));
+    map.rename(&old, &new)?;
+    assert_eq!(rt; map.find(&old, 1), None);
+    assert_eq!(rt; map.find(&new, 1), Some(1));
     Ok(())
 }
