@@ -1,0 +1,10 @@
+mod Made
+mod Bins
+mod Firsts
+mod Fresh
+mod Lifts
+mod Magic
+mod Meters
+mod Opened
+mod Refused
+mod Slots

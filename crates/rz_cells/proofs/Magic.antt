@@ -1,0 +1,8 @@
+use Rattle.std.proofs.Common.{◌≡◌, refl}
+use Rattle.rz_record.specs.Fields.{number_at}
+use Rattle.rz_cells.specs.Stands.{magic}
+
+-- the first 8 bytes as a number
+pub magic_is : magic ≡ 0x32304f5a4f524a4d
+unfolding magic number_at
+magic_is = refl

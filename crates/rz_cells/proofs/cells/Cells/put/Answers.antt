@@ -1,0 +1,83 @@
+-- The bytes of a record spell it in the slot.
+use Rattle.std.proofs.Common.{◌≡◌, ◌-◌, ◌%◌, ℕ, Some, List, length, take, set, sym, ◌∙◌, subst, arith}
+use Rattle.std.proofs.lemmas.List.{length-take-le}
+use Rattle.rz_events.specs.declared.records.Head.{Head}
+use Rattle.rz_record.specs.Record.{IsValid, IsRecord, record_bytes}
+use Rattle.rz_record.specs.Slot.{Rec, Spells}
+use Rattle.rz_record.proofs.Laws.{record-spells}
+use Rattle.rz_cells.specs.declared.geometry.Geometry.{Geometry}
+use Rattle.rz_cells.specs.Held.{Goes}
+use Rattle.rz_cells.specs.Shape.{slot_of}
+use Rattle.rz_cells.proofs.Lifts.{fits_slot, some_is, suits_one, stands_either, stands_changed, open_after}
+use Rattle.rz_cells.proofs.cells.Cells.put.Goals as goal
+
+-- the front of the buffer spells the record
+spelled : (g : Geometry) (r : Rec) (size : ℕ) (buffer bytes : List ℕ) → IsValid r.head → r.head.layout ≡ g.layout → size ≡ record_bytes r.head → length buffer ≡ slot_of g → IsRecord (take size buffer) r.head r.bins → bytes ≡ buffer → Spells (slot_of g) (take size bytes) (Some r)
+spelled g r size buffer bytes valid layout is long rec same =
+    let room = fits_slot g r.head valid layout in
+    subst (λ (l : List ℕ). Spells (slot_of g) (take size l) (Some r)) (sym same)
+    (record-spells (slot_of g) (take size buffer) r rec (length-take-le size buffer (omega (arith, room, is, long)) ∙ is) room)
+
+pub spell-size-requires-clause-room : goal.spell-size-requires-clause-room
+spell-size-requires-clause-room g c =
+    let s = c.args.self.now in
+    let room = fits_slot s.geometry c.args.head.now c.requires.valid c.requires.layout in
+    omega (arith, room, s.buffer_fits)
+
+pub returns-in_err-switch-clause-crash_cells : goal.returns-in_err-switch-clause-crash_cells
+returns-in_err-switch-clause-crash_cells g c told =
+    let s = c.args.self.now in
+    let r : Rec = record { head = c.args.head.now; bins = c.args.bins.now } in
+    let spells = spelled s.geometry r c.spell-size.result c.spell-size.new.buffer.items c.deref.result.now c.requires.valid c.requires.layout c.spell-size.ensures.size (c.spell-size.ensures.length ∙ s.buffer_fits) c.spell-size.ensures.record c.deref.ensures.value in
+    c.switch.ensures.crash told s.fence (Some r) spells (suits_one s.geometry r c.requires.layout)
+
+pub returns-in_err-switch-clause-crash : goal.returns-in_err-switch-clause-crash
+returns-in_err-switch-clause-crash g c told =
+    let s = c.args.self.now in
+    let r : Rec = record { head = c.args.head.now; bins = c.args.bins.now } in
+    let spells = spelled s.geometry r c.spell-size.result c.spell-size.new.buffer.items c.deref.result.now c.requires.valid c.requires.layout c.spell-size.ensures.size (c.spell-size.ensures.length ∙ s.buffer_fits) c.spell-size.ensures.record c.deref.ensures.value in
+    stands_either s.geometry s.fence (g.D.Disk.text s.disk) s.heads.items (c.requires.open.holds told) c.args.cell (Some r) c.requires.cell (λ h is. some_is (Goes s.heads.items c.args.cell) c.args.head.now h is c.requires.goes) (g.D.Disk.image c.switch.new.disk)
+    (c.switch.ensures.crash told s.fence (Some r) spells (suits_one s.geometry r c.requires.layout))
+
+pub returns-clause-crash_cells : goal.returns-clause-crash_cells
+returns-clause-crash_cells g c told =
+    let s = c.args.self.now in
+    let r : Rec = record { head = c.args.head.now; bins = c.args.bins.now } in
+    let spells = spelled s.geometry r c.spell-size.result c.spell-size.new.buffer.items c.deref.result.now c.requires.valid c.requires.layout c.spell-size.ensures.size (c.spell-size.ensures.length ∙ s.buffer_fits) c.spell-size.ensures.record c.deref.ensures.value in
+    c.switch.ensures.crash told s.fence (Some r) spells (suits_one s.geometry r c.requires.layout)
+
+pub returns-clause-crash : goal.returns-clause-crash
+returns-clause-crash g c told =
+    let s = c.args.self.now in
+    let r : Rec = record { head = c.args.head.now; bins = c.args.bins.now } in
+    let spells = spelled s.geometry r c.spell-size.result c.spell-size.new.buffer.items c.deref.result.now c.requires.valid c.requires.layout c.spell-size.ensures.size (c.spell-size.ensures.length ∙ s.buffer_fits) c.spell-size.ensures.record c.deref.ensures.value in
+    stands_either s.geometry s.fence (g.D.Disk.text s.disk) s.heads.items (c.requires.open.holds told) c.args.cell (Some r) c.requires.cell (λ h is. some_is (Goes s.heads.items c.args.cell) c.args.head.now h is c.requires.goes) (g.D.Disk.image c.switch.new.disk)
+    (c.switch.ensures.crash told s.fence (Some r) spells (suits_one s.geometry r c.requires.layout))
+
+pub returns-clause-done_cells : goal.returns-clause-done_cells
+returns-clause-done_cells g c told =
+    let s = c.args.self.now in
+    let r : Rec = record { head = c.args.head.now; bins = c.args.bins.now } in
+    let spells = spelled s.geometry r c.spell-size.result c.spell-size.new.buffer.items c.deref.result.now c.requires.valid c.requires.layout c.spell-size.ensures.size (c.spell-size.ensures.length ∙ s.buffer_fits) c.spell-size.ensures.record c.deref.ensures.value in
+    c.in_ok-switch.ensures.done told s.fence (Some r) spells (suits_one s.geometry r c.requires.layout)
+
+pub returns-clause-done : goal.returns-clause-done
+returns-clause-done g c told =
+    let s = c.args.self.now in
+    let r : Rec = record { head = c.args.head.now; bins = c.args.bins.now } in
+    let spells = spelled s.geometry r c.spell-size.result c.spell-size.new.buffer.items c.deref.result.now c.requires.valid c.requires.layout c.spell-size.ensures.size (c.spell-size.ensures.length ∙ s.buffer_fits) c.spell-size.ensures.record c.deref.ensures.value in
+    stands_changed s.geometry s.fence (g.D.Disk.text s.disk) s.heads.items (c.requires.open.holds told) c.args.cell (Some r) c.requires.cell (λ h is. some_is (Goes s.heads.items c.args.cell) c.args.head.now h is c.requires.goes) (g.D.Disk.text c.switch.new.disk)
+    (c.in_ok-switch.ensures.done told s.fence (Some r) spells (suits_one s.geometry r c.requires.layout))
+
+pub returns-clause-open : goal.returns-clause-open
+returns-clause-open g c =
+    let s = c.args.self.now in
+    let r : Rec = record { head = c.args.head.now; bins = c.args.bins.now } in
+    let spells = spelled s.geometry r c.spell-size.result c.spell-size.new.buffer.items c.deref.result.now c.requires.valid c.requires.layout c.spell-size.ensures.size (c.spell-size.ensures.length ∙ s.buffer_fits) c.spell-size.ensures.record c.deref.ensures.value in
+    open_after g.D.Disk.tells (g.D.Disk.text s.disk) (g.D.Disk.text c.switch.new.disk) (g.D.Disk.image s.disk) (g.D.Disk.image c.switch.new.disk) s.geometry s.fence s.gates.items (set s.gates.items c.args.cell (1 - c.index-gate.result.now % 2)) s.heads.items c.args.cell (Some r) c.requires.cell
+    c.requires.open c.in_ok-switch.ensures.settled c.switch.ensures.size
+    (λ h is. some_is (Goes s.heads.items c.args.cell) c.args.head.now h is c.requires.goes)
+    (λ h is. some_is IsValid c.args.head.now h is c.requires.valid)
+    (λ h is. some_is (λ (k : Head). k.layout ≡ s.geometry.layout) c.args.head.now h is c.requires.layout)
+    (λ told. c.in_ok-switch.ensures.done told s.fence (Some r) spells (suits_one s.geometry r c.requires.layout))
+    (λ told. c.in_ok-switch.ensures.gates told s.gates.items s.gates_fit (c.requires.open.known told))

@@ -1,0 +1,23 @@
+-- The bytes that were read are those of the text.
+use Rattle.std.proofs.Common.{rules, IsTrue, arith}
+use Rattle.rz_cells.specs.Opening.{HeaderFault}
+use Rattle.rz_cells.proofs.Opened.{read_front, formatted, header_of, field_fault}
+use Rattle.rz_cells.proofs.reading.read_header.Goals as goal
+
+pub returns-in_err-check_fields-clause-refused : goal.returns-in_err-check_fields-clause-refused
+returns-in_err-check_fields-clause-refused g c =
+    let s = c.args.geometry.now in
+    let text = g.D.Disk.text c.args.disk.now in
+    let header = c.read.new.out in
+    let bad : IsTrue g.D.Disk.tells → HeaderFault s text c.in_err-check_fields.field-0.0 = λ told.
+    let same = read_front 33 header text (c.in-Ok.ensures.gives told) in
+    field_fault s header text same (formatted s header text same (omega arith)) c.in_err-check_fields.field-0.0 c.in_err-check_fields.ensures.err in
+    search rules
+
+pub returns-clause-ok : goal.returns-clause-ok
+returns-clause-ok g c told =
+    let s = c.args.geometry.now in
+    let text = g.D.Disk.text c.args.disk.now in
+    let header = c.read.new.out in
+    let same = read_front 33 header text (c.in-Ok.ensures.gives told) in
+    (header_of s header text same c.u64_at.result c.in_ok-check_fields.ensures.ok c.u64_at.ensures, formatted s header text same (omega arith))

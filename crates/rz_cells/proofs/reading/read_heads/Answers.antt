@@ -1,0 +1,51 @@
+-- Each cell is read and judged before the next.
+use Rattle.std.proofs.Common.{rules, ℕ, ◌+◌, ◌<◌, Option, List, length, length-set, set, refl, IsTrue, ◌∙◌, subst, arith}
+use Rattle.rz_events.specs.declared.records.Head.{Head}
+use Rattle.rz_cells.specs.Shape.{picked}
+use Rattle.rz_cells.specs.Opening.{CellsFault, GoesNext, KnowsFirsts, ReadsHead, Wrong}
+use Rattle.rz_cells.proofs.Meters.{read_then}
+use Rattle.rz_cells.proofs.Firsts.{firsts_start}
+use Rattle.rz_cells.proofs.Opened.{fine_of, fit_more, fit_none, read_more, wrong_fault}
+use Rattle.rz_cells.proofs.reading.read_heads.Goals as goal
+
+pub loop-cell-init : goal.loop-cell-init
+loop-cell-init g c = record {
+  read = record { same = refl; within = λ image left. left; lasts = record { planned = omega arith; own = omega arith } };
+  count = c.requires.heads;
+  firsts = firsts_start c.args.firsts c.args.heads.items c.requires.firsts;
+  room = omega (arith, c.requires.spare);
+  fits = fit_none c.args.geometry.now c.args.heads.items c.requires.empty;
+  reads = λ told d lt. absurd (omega arith);
+}
+
+pub returns-in_err-admit-clause-refused : goal.returns-in_err-admit-clause-refused
+returns-in_err-admit-clause-refused g c =
+    let s = c.args.geometry.now in
+    let text = g.D.Disk.text c.args.disk.now in
+    let i = c.loop-cell.invariant in
+    let bad : IsTrue g.D.Disk.tells → CellsFault s text c.in_err-admit.field-0.0 = λ told.
+    let reads = subst (λ (t : List ℕ). ReadsHead s (picked s t c.loop-cell.cell) c.in_ok-head.head) i.read.same (c.in_ok-head.ensures.reads told) in
+    let w = c.in_err-admit.ensures.wrong in
+    let is = subst (λ (o : Option Head). ReadsHead s (picked s text c.loop-cell.cell) o) w.1 reads in
+    wrong_fault s text c.loop-cell.heads.items c.loop-cell.cell (fine_of s text c.loop-cell.heads.items c.loop-cell.cell i.fits (i.reads told)) (omega arith) w.0 is c.in_err-admit.field-0.0
+    (subst (λ (l : List (Option Head)). Wrong l c.loop-cell.cell w.0 c.in_err-admit.field-0.0) c.deref.ensures.value w.2) in
+    search rules
+
+pub loop-cell-preserved : goal.loop-cell-preserved
+loop-cell-preserved g c =
+    let s = c.args.geometry.now in
+    let text = g.D.Disk.text c.args.disk.now in
+    let i = c.loop-cell.invariant in
+    let heads = c.loop-cell.heads.items in
+    let k = c.loop-cell.cell in
+    let in_range : c.loop-cell.cell < length c.loop-cell.heads.items = omega (arith, i.count) in
+    record {
+      read = read_then text (g.D.Disk.text c.loop-cell.disk) (g.D.Disk.text c.read_head.new.disk) (g.D.Disk.image c.args.disk.now) (g.D.Disk.image c.loop-cell.disk) (g.D.Disk.image c.read_head.new.disk) (g.D.Disk.meter c.args.disk.now) (g.D.Disk.meter c.loop-cell.disk) (g.D.Disk.meter c.read_head.new.disk) i.read c.read_head.ensures.read;
+      count = length-set heads k c.in_ok-head.head ∙ i.count;
+      firsts = subst (λ (l : List (Option Head)). KnowsFirsts c.admit.new.firsts (set l c.loop-cell.cell c.in_ok-head.head) (c.loop-cell.cell + 1)) c.deref.ensures.value c.in_ok-admit.ensures.firsts;
+      room = omega (arith, i.room, c.admit.ensures.spare);
+      fits = fit_more s heads k c.in_ok-head.head in_range i.fits
+          (λ h is. subst (λ (l : List (Option Head)). GoesNext l c.loop-cell.cell h) c.deref.ensures.value (c.in_ok-admit.ensures.ok h is))
+          c.in_ok-head.ensures.valid;
+      reads = λ told. read_more s heads k c.in_ok-head.head in_range text (i.reads told) (subst (λ (t : List ℕ). ReadsHead s (picked s t c.loop-cell.cell) c.in_ok-head.head) i.read.same (c.in_ok-head.ensures.reads told));
+    }

@@ -1,0 +1,240 @@
+//! The cells.
+ghost use Rattle.std.specs.Prelude.{◌≡◌, ◌+◌, ◌*◌, ◌≤◌, length, take, IsTrue, OnOk, OnErr};
+ghost use Rattle.byteorder.specs.Endian.{IsRead, little_number};
+ghost use Rattle.rz_disk.specs.Images.{Within, window};
+ghost use Rattle.rz_disk.specs.Meter.{Passes};
+ghost use Rattle.rz_record.specs.Record.{IsRecord, IsValid, bins_of, record_bytes};
+ghost use Rattle.rz_cells.specs.Shape.{IsGeometry, slot_of};
+
+use crate::Geometry;
+use crate::switching::switch;
+use byteorder::{ByteOrder, LittleEndian};
+use rz_disk::{Disk, Failed};
+use rz_record::{HEAD_BYTES, Head, encode_into};
+
+/// A device call failed.
+#[derive(Clone, Copy, Debug, PartialEq, Eq, Drop)]
+pub struct DiskFault;
+
+impl From<Failed> for DiskFault {
+    fn from(_: Failed) -> Self {
+        DiskFault
+    }
+}
+
+/// The cells of a disk, with the heads of what they hold.
+#[derive(Drop)]
+pub struct Cells<D: Disk> {
+    pub(crate) disk: D,
+    pub(crate) geometry: Geometry,
+    pub(crate) fence: u64,
+    /// The low bit of each is that of the cell's gate.
+    pub(crate) gates: Vec<u8>,
+    pub(crate) heads: Vec<Option<Head>>,
+    /// Room for a record.
+    pub(crate) buffer: Vec<u8>,
+    ghost geometry_ok: { IsGeometry geometry },
+    ghost gates_fit: { length gates.items ≡ 2 * geometry.cells },
+    ghost heads_fit: { length heads.items ≡ 2 * geometry.cells },
+    ghost buffer_fits: { length buffer.items ≡ slot_of geometry },
+}
+
+impl<D: Disk> Cells<D> {
+    ghost use Rattle.std.specs.Prelude.{◌<◌, ℕ, List, Option, Some, None, drop, slice_set, IsErr, IfOk, if◌then◌else◌, IsSome, is_ok};
+    ghost use Rattle.rz_events.specs.declared.records.Head.{Head};
+    ghost use Rattle.rz_disk.specs.Meter.{Took, Lasts, Rises, HasPasses, faults, armed};
+    ghost use Rattle.rz_record.specs.Slot.{Rec};
+    ghost use Rattle.rz_cells.specs.Held.{Goes, in_cell};
+    ghost use Rattle.rz_cells.specs.Stands.{HoldsCells, HoldsChanged, HoldsEither, StandsChanged, StandsEither};
+    ghost use Rattle.rz_cells.specs.Open.{IsOpen};
+
+    /// Keeps a record in a cell, in the place of what the cell holds.
+    pub fn put(&mut self, cell: u32, head: &Head, bins: &[u64]) -> Result<(), DiskFault>
+        requires cell { cell < 2 * self.old.geometry.cells }
+        requires valid { IsValid head.now }
+        requires layout { head.now.layout ≡ self.old.geometry.layout }
+        requires bins { length bins.now ≡ bins_of head.now }
+        requires goes { Goes self.old.heads.items cell head.now }
+        requires open { IsOpen D.tells (D.text self.old.disk) (D.image self.old.disk) self.old.geometry self.old.fence self.old.gates.items self.old.heads.items }
+
+        // On every exit each image stands for the records from before, or with the new one.
+        ensures crash { IsTrue D.tells → StandsEither self.old.geometry self.old.fence (D.text self.old.disk) (D.image self.new.disk)
+            (in_cell self.old.heads.items cell) (Some record { head = head.now; bins = bins.now }) }
+        ensures crash_cells { IsTrue D.tells → HoldsEither self.old.geometry self.old.fence (D.text self.old.disk) (D.image self.new.disk)
+            cell (Some record { head = head.now; bins = bins.now }) }
+
+        // And then the text, which is the one image, stands for them with the new one.
+        ensures done { OnOk result (IsTrue D.tells → StandsChanged self.old.geometry self.old.fence (D.text self.old.disk) (D.text self.new.disk)
+            (in_cell self.old.heads.items cell) (Some record { head = head.now; bins = bins.now })) }
+        ensures done_cells { OnOk result (IsTrue D.tells → HoldsChanged self.old.geometry self.old.fence (D.text self.old.disk) (D.text self.new.disk)
+            cell (Some record { head = head.now; bins = bins.now })) }
+        ensures open { OnOk result (IsOpen D.tells (D.text self.new.disk) (D.image self.new.disk) self.new.geometry self.new.fence self.new.gates.items self.new.heads.items) }
+        ensures heads { self.new.heads.items ≡ (if is_ok result then slice_set self.old.heads.items cell (Some head.now) else self.old.heads.items) }
+        ensures geometry { self.new.geometry ≡ self.old.geometry }
+        ensures fence { self.new.fence ≡ self.old.fence }
+
+        ensures took { Took 4 result (D.meter self.old.disk) (D.meter self.new.disk) }
+        ensures meter { Lasts (D.meter self.old.disk) (D.meter self.new.disk) }
+        ensures risen { IsErr result → Rises (faults (D.meter self.old.disk)) (faults (D.meter self.new.disk)) }
+        ensures own_risen { IsErr result → HasPasses 4 (D.meter self.old.disk) → Rises (D.meter self.old.disk).own (D.meter self.new.disk).own }
+    {
+        let index = cell as usize;
+        let gate = self.gates[index];
+        let size = spell(head, bins, &mut self.buffer);
+        switch(
+            &mut self.disk,
+            &self.geometry,
+            cell,
+            gate,
+            &self.buffer[..size],
+        )?;
+        self.gates[index] = 1 - gate % 2;
+        self.heads[index] = Some(*head);
+        Ok(())
+    }
+
+    /// Empties a cell.
+    pub fn clear(&mut self, cell: u32) -> Result<(), DiskFault>
+        requires cell { cell < 2 * self.old.geometry.cells }
+        requires open { IsOpen D.tells (D.text self.old.disk) (D.image self.old.disk) self.old.geometry self.old.fence self.old.gates.items self.old.heads.items }
+
+        // On every exit each image stands for the records from before, or without this one.
+        ensures crash { IsTrue D.tells → StandsEither self.old.geometry self.old.fence (D.text self.old.disk) (D.image self.new.disk) (in_cell self.old.heads.items cell) None }
+        ensures crash_cells { IsTrue D.tells → HoldsEither self.old.geometry self.old.fence (D.text self.old.disk) (D.image self.new.disk) cell None }
+
+        // And then the text, which is the one image, stands for them without this one.
+        ensures done { OnOk result (IsTrue D.tells → StandsChanged self.old.geometry self.old.fence (D.text self.old.disk) (D.text self.new.disk) (in_cell self.old.heads.items cell) None) }
+        ensures done_cells { OnOk result (IsTrue D.tells → HoldsChanged self.old.geometry self.old.fence (D.text self.old.disk) (D.text self.new.disk) cell None) }
+        ensures open { OnOk result (IsOpen D.tells (D.text self.new.disk) (D.image self.new.disk) self.new.geometry self.new.fence self.new.gates.items self.new.heads.items) }
+        ensures heads { self.new.heads.items ≡ (if is_ok result then slice_set self.old.heads.items cell None else self.old.heads.items) }
+        ensures geometry { self.new.geometry ≡ self.old.geometry }
+        ensures fence { self.new.fence ≡ self.old.fence }
+
+        ensures took { Took 4 result (D.meter self.old.disk) (D.meter self.new.disk) }
+        ensures meter { Lasts (D.meter self.old.disk) (D.meter self.new.disk) }
+        ensures risen { IsErr result → Rises (faults (D.meter self.old.disk)) (faults (D.meter self.new.disk)) }
+        ensures own_risen { IsErr result → HasPasses 4 (D.meter self.old.disk) → Rises (D.meter self.old.disk).own (D.meter self.new.disk).own }
+    {
+        let index = cell as usize;
+        let gate = self.gates[index];
+        switch(&mut self.disk, &self.geometry, cell, gate, &[0; 8])?;
+        self.gates[index] = 1 - gate % 2;
+        self.heads[index] = None;
+        Ok(())
+    }
+
+    /// Reads the bins of a cell's record into the front of `out`, and answers their number.
+    pub fn bins_into(&mut self, cell: u32, out: &mut [u64]) -> Result<usize, DiskFault>
+        requires cell { cell < 2 * self.old.geometry.cells }
+        requires held { (h : Head) → in_cell self.old.heads.items cell ≡ Some h → bins_of h ≤ length out.old }
+        requires some { IsSome (in_cell self.old.heads.items cell) }
+        requires open { IsOpen D.tells (D.text self.old.disk) (D.image self.old.disk) self.old.geometry self.old.fence self.old.gates.items self.old.heads.items }
+        ensures count { IfOk result (λ n. (h : Head) → in_cell self.old.heads.items cell ≡ Some h → n ≡ bins_of h) }
+        ensures bins { IfOk result (λ n. IsTrue D.tells → (cells : List (Option Rec)) (r : Rec) → HoldsCells self.old.geometry self.old.fence (D.text self.old.disk) cells
+            → in_cell cells cell ≡ Some r → take n out.new ≡ r.bins) }
+        ensures rest { IfOk result (λ n. drop n out.new ≡ drop n out.old) }
+        ensures err { OnErr result (out.new ≡ out.old) }
+
+        // The cells and the disk stay as they were.
+        ensures text { D.text self.new.disk ≡ D.text self.old.disk }
+        ensures within { Within (D.image self.old.disk) (D.image self.new.disk) }
+        ensures open { IsOpen D.tells (D.text self.new.disk) (D.image self.new.disk) self.new.geometry self.new.fence self.new.gates.items self.new.heads.items }
+        ensures heads { self.new.heads.items ≡ self.old.heads.items }
+        ensures geometry { self.new.geometry ≡ self.old.geometry }
+        ensures fence { self.new.fence ≡ self.old.fence }
+        ensures meter { Passes result (D.meter self.old.disk) (D.meter self.new.disk) }
+    {
+        let index = cell as usize;
+        let Some(head) = self.heads[index] else {
+            unreachable!()
+        };
+        let count = head.layout.bins_at(head.position);
+        let at = self.geometry.slot_at(cell, self.gates[index] % 2) + HEAD_BYTES as u64;
+        read_bins(&mut self.disk, at, &mut self.buffer, &mut out[..count])?;
+        Ok(count)
+    }
+
+    /// The head of what a cell holds.
+    pub fn head(&self, cell: u32) -> Option<Head>
+        requires { cell < 2 * self.now.geometry.cells }
+        ensures { result ≡ in_cell self.now.heads.items cell }
+    {
+        self.heads[cell as usize]
+    }
+
+    /// The fence that the disk carries.
+    pub fn fence(&self) -> u64
+        ensures { result ≡ self.now.fence }
+    {
+        self.fence
+    }
+
+    /// Arms the disk with `Some` passes, or disarms it with `None`.
+    pub fn arm(&mut self, passes: Option<u64>)
+        ensures text { D.text self.new.disk ≡ D.text self.old.disk }
+        ensures within { Within (D.image self.old.disk) (D.image self.new.disk) }
+        ensures kept { Within (D.image self.new.disk) (D.image self.old.disk) }
+        ensures open { IsOpen D.tells (D.text self.old.disk) (D.image self.old.disk) self.old.geometry self.old.fence self.old.gates.items self.old.heads.items
+            → IsOpen D.tells (D.text self.new.disk) (D.image self.new.disk) self.new.geometry self.new.fence self.new.gates.items self.new.heads.items }
+        ensures meter { D.meter self.new.disk ≡ (if D.has_fuse then armed passes (D.meter self.old.disk) else D.meter self.old.disk) }
+        ensures geometry { self.new.geometry ≡ self.old.geometry }
+        ensures fence { self.new.fence ≡ self.old.fence }
+        ensures gates { self.new.gates.items ≡ self.old.gates.items }
+        ensures heads { self.new.heads.items ≡ self.old.heads.items }
+    {
+        self.disk.arm(passes);
+    }
+
+    /// The disk.
+    pub fn into_disk(self) -> D
+        ensures { result ≡ self.disk }
+    {
+        self.disk
+    }
+}
+
+/// Writes a record into the front of a buffer, and answers its size.
+fn spell(head: &Head, bins: &[u64], buffer: &mut Vec<u8>) -> usize
+    requires valid { IsValid head.now }
+    requires bins { length bins.now ≡ bins_of head.now }
+    requires room { record_bytes head.now ≤ length buffer.old.items }
+    ensures size { result ≡ record_bytes head.now }
+    ensures record { IsRecord (take result buffer.new.items) head.now bins.now }
+    ensures length { length buffer.new.items ≡ length buffer.old.items }
+{
+    spell_into(head, bins, buffer)
+}
+
+fn spell_into(head: &Head, bins: &[u64], out: &mut [u8]) -> usize
+    requires valid { IsValid head.now }
+    requires bins { length bins.now ≡ bins_of head.now }
+    requires room { record_bytes head.now ≤ length out.old }
+    ensures size { result ≡ record_bytes head.now }
+    ensures record { IsRecord (take result out.new) head.now bins.now }
+{
+    let size = HEAD_BYTES + 8 * bins.len();
+    encode_into(head, bins, &mut out[..size]);
+    size
+}
+
+/// Reads so many bins from an address on.
+fn read_bins<D: Disk>(
+    disk: &mut D,
+    at: u64,
+    buffer: &mut Vec<u8>,
+    out: &mut [u64],
+) -> Result<(), Failed>
+    requires range { at + 8 * length out.old ≤ length (D.text disk.old) }
+    requires room { 8 * length out.old ≤ length buffer.old.items }
+    ensures gives { OnOk result (IsTrue D.tells → IsRead little_number 8 (window at (8 * length out.old) (D.text disk.old)) out.new) }
+    ensures err { OnErr result (out.new ≡ out.old) }
+    ensures buffer { length buffer.new.items ≡ length buffer.old.items }
+    ensures text { D.text disk.new ≡ D.text disk.old }
+    ensures within { Within (D.image disk.old) (D.image disk.new) }
+    ensures meter { Passes result (D.meter disk.old) (D.meter disk.new) }
+{
+    let bytes = &mut buffer[..8 * out.len()];
+    disk.read(at, bytes)?;
+    LittleEndian::read_u64_into(bytes, out);
+    Ok(())
+}

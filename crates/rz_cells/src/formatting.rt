@@ -1,0 +1,134 @@
+//! Formatting.
+ghost use Rattle.std.specs.Prelude.{◌≡◌, ◌⊎◌, ◌*◌, ◌%◌, ◌≤◌, ℕ, List, Option, None, length, replicate, slice_index, IsTrue, IsErr, IsErrOf, OnOk, IfOk, IfErr, MatchResult};
+ghost use Rattle.rz_disk.specs.Images.{Only};
+ghost use Rattle.rz_disk.specs.Meter.{Took, Lasts, Rises, HasPasses, faults};
+ghost use Rattle.rz_cells.specs.Held.{in_cell, nothing};
+ghost use Rattle.rz_cells.specs.Shape.{IsGeometry, disk_bytes};
+ghost use Rattle.rz_cells.specs.Stands.{IsFresh, IsShut, ShutOrFresh, StandsFor, IsHeader};
+ghost use Rattle.rz_cells.specs.Open.{IsOpen};
+
+use crate::room::Room;
+use crate::{Cells, Geometry};
+use rz_disk::{Disk, DiskError, Failed, store};
+use rz_record::fields::{put_u16, put_u32, put_u64};
+use std::alloc::Global;
+
+/// The text MJROZO02 as a number.
+pub const MAGIC: u64 = 0x3230_4f5a_4f52_4a4d;
+
+/// Why a disk was not formatted.
+#[derive(Clone, Copy, Debug, PartialEq, Eq, Drop)]
+pub enum FormatFault {
+    NoMemory,
+    DiskFault,
+}
+
+impl<D: Disk> Cells<D> {
+    /// Makes a disk anew, with this fence and nothing in its cells.
+    ///
+    /// Want of memory may come before the disk is reset or from its reset.
+    pub fn format(
+        alloc: Global,
+        geometry: Geometry,
+        fence: u64,
+        disk: D,
+    ) -> Result<Cells<D>, (D, FormatFault)>
+        requires { IsGeometry geometry }
+        ensures open { IfOk result (λ c. IsOpen D.tells (D.text c.disk) (D.image c.disk) c.geometry c.fence c.gates.items c.heads.items) }
+        ensures geometry { IfOk result (λ c. c.geometry ≡ geometry) }
+        ensures fence { IfOk result (λ c. c.fence ≡ fence) }
+        ensures heads { IfOk result (λ c. (cell : ℕ) → in_cell c.heads.items cell ≡ None) }
+        ensures nothing { IfOk result (λ c. IsTrue D.tells → StandsFor geometry fence (D.text c.disk) nothing) }
+
+        // Otherwise each image is one from before, or its header is shut, or it stands for nothing with the new fence.
+        ensures crash { IfErr result (λ e. IsTrue D.tells → (c : List ℕ) → D.image e.0 c → D.image disk c ⊎ IsShut c ⊎ StandsFor geometry fence c nothing) }
+
+        ensures took { MatchResult result (λ c. Took 4 result (D.meter disk) (D.meter c.disk)) (λ e. Took 4 result (D.meter disk) (D.meter e.0)) }
+        ensures meter { MatchResult result (λ c. Lasts (D.meter disk) (D.meter c.disk)) (λ e. Lasts (D.meter disk) (D.meter e.0)) }
+        ensures risen { IfErr result (λ e. e.1 ≡ FormatFault.DiskFault → Rises (faults (D.meter disk)) (faults (D.meter e.0))) }
+        ensures own_risen { IfErr result (λ e. e.1 ≡ FormatFault.DiskFault → HasPasses 4 (D.meter disk) → Rises (D.meter disk).own (D.meter e.0).own) }
+    {
+        let mut disk = disk;
+        let Ok(room) = Room::new(alloc, &geometry) else {
+            return Err((disk, FormatFault::NoMemory));
+        };
+        if let Err(fault) = blank(&mut disk, alloc, &geometry, fence) {
+            return Err((disk, fault));
+        }
+        let Room {
+            gates,
+            heads,
+            buffer,
+        } = room;
+        Ok(Cells {
+            disk,
+            geometry,
+            fence,
+            gates,
+            heads,
+            buffer,
+        })
+    }
+}
+
+/// Makes the disk anew.
+fn blank<D: Disk>(
+    disk: &mut D,
+    alloc: Global,
+    geometry: &Geometry,
+    fence: u64,
+) -> Result<(), FormatFault>
+    requires { IsGeometry geometry.now }
+    ensures crash { IsTrue D.tells → (c : List ℕ) → D.image disk.new c → D.image disk.old c ⊎ ShutOrFresh geometry.now fence c }
+    ensures done { OnOk result (IsTrue D.tells → IsFresh geometry.now fence (D.text disk.new)) }
+    ensures size { OnOk result (length (D.text disk.new) ≡ disk_bytes geometry.now) }
+    ensures only { OnOk result (Only (D.text disk.new) (D.image disk.new)) }
+    ensures took { Took 4 result (D.meter disk.old) (D.meter disk.new) }
+    ensures meter { Lasts (D.meter disk.old) (D.meter disk.new) }
+    ensures risen { IsErrOf result FormatFault.DiskFault → Rises (faults (D.meter disk.old)) (faults (D.meter disk.new)) }
+    ensures own_risen { IsErrOf result FormatFault.DiskFault → HasPasses 4 (D.meter disk.old) → Rises (D.meter disk.old).own (D.meter disk.new).own }
+{
+    match disk.reset(alloc, geometry.disk_bytes()) {
+        Ok(()) => match write_header(disk, geometry, fence) {
+            Ok(()) => Ok(()),
+            Err(Failed) => Err(FormatFault::DiskFault),
+        },
+        Err(DiskError::Failed) => Err(FormatFault::DiskFault),
+        Err(DiskError::NoMemory) => Err(FormatFault::NoMemory),
+    }
+}
+
+/// Writes a header on a disk of zeros, and then opens its gate.
+fn write_header<D: Disk>(disk: &mut D, geometry: &Geometry, fence: u64) -> Result<(), Failed>
+    requires geometry { IsGeometry geometry.now }
+    requires zeros { D.text disk.old ≡ replicate (disk_bytes geometry.now) 0 }
+    requires only { Only (D.text disk.old) (D.image disk.old) }
+    ensures crash { IsTrue D.tells → (c : List ℕ) → D.image disk.new c → ShutOrFresh geometry.now fence c }
+    ensures done { OnOk result (IsTrue D.tells → IsFresh geometry.now fence (D.text disk.new)) }
+    ensures size { length (D.text disk.new) ≡ length (D.text disk.old) }
+    ensures only { OnOk result (Only (D.text disk.new) (D.image disk.new)) }
+    ensures took { Took 4 result (D.meter disk.old) (D.meter disk.new) }
+    ensures meter { Lasts (D.meter disk.old) (D.meter disk.new) }
+    ensures risen { IsErr result → Rises (faults (D.meter disk.old)) (faults (D.meter disk.new)) }
+    ensures own_risen { IsErr result → HasPasses 4 (D.meter disk.old) → Rises (D.meter disk.old).own (D.meter disk.new).own }
+{
+    let mut header = [0u8; 32];
+    spell_header(geometry, fence, &mut header);
+    store(disk, 0, &header)?;
+    store(disk, 32, &[1])?;
+    Ok(())
+}
+
+/// The header without its gate.
+fn spell_header(geometry: &Geometry, fence: u64, out: &mut [u8])
+    requires { length out.old ≡ 32 }
+    ensures { IsHeader geometry.now fence out.new }
+{
+    put_u64(out, 0, MAGIC);
+    out[8] = geometry.layout.number();
+    out[9] = geometry.bsize;
+    put_u16(out, 10, geometry.node);
+    put_u32(out, 12, geometry.cells);
+    put_u64(out, 16, fence);
+    put_u64(out, 24, 0);
+}

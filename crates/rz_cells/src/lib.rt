@@ -1,0 +1,34 @@
+//! Cells on a disk, each of which holds the record of a block or nothing, also over a stop at any
+//! moment.
+//!
+//! A disk has pairs of cells, and a pair has the one or two records of one block. A cell has two slots
+//! and a gate, whose low bit picks a slot. A change goes into the slot that is not picked, is synced,
+//! and then the gate is written and synced.
+//!
+//! The contracts say what the text of a disk stands for: a geometry, a fence and a map from key and
+//! stamp to the record that is held. Each call says on every exit, also where a device call failed,
+//! what the images of the disk stand for. They say nothing of a disk that swaps old contents in, and
+//! nothing of what an untold disk holds.
+//!
+//! A change makes four device calls, and a read of bins one. An opening reads the header, the gates and
+//! 48 bytes of each cell, and looks up each record's key once.
+//!
+//! In reading order: `geometry`, `room`, `switching`, `cells`, `formatting`, `judging`, `reading`,
+//! `opening`.
+#![tactic(auto)]
+
+mod cells;
+mod formatting;
+mod geometry;
+mod judging;
+mod opening;
+mod reading;
+mod room;
+mod switching;
+#[cfg(test)]
+mod tests;
+
+pub use cells::{Cells, DiskFault};
+pub use formatting::FormatFault;
+pub use geometry::Geometry;
+pub use rz_events::{HeaderField, OpenFault};

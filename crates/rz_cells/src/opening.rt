@@ -1,0 +1,131 @@
+//! Opening.
+ghost use Rattle.std.specs.Prelude.{◌≡◌, ◌⊎◌, ◌*◌, ◌≤◌, ◌<◌, ℕ, List, Option, Some, None, length, IsTrue, IsErr, IsErrOf, OnOk, IfOk, IfErr, MatchResult};
+ghost use Rattle.std.specs.HashMap.{IsEmpty, spare};
+ghost use Rattle.rz_events.specs.declared.records.Head.{Head};
+ghost use Rattle.rz_disk.specs.Images.{Only, Within};
+ghost use Rattle.rz_disk.specs.Meter.{Lasts, Rises, faults};
+ghost use Rattle.rz_cells.specs.Held.{Records, in_cell};
+ghost use Rattle.rz_cells.specs.Shape.{IsGeometry, disk_bytes, slot_of};
+ghost use Rattle.rz_cells.specs.Stands.{IsHeader, IsFormatted, StandsFor};
+ghost use Rattle.rz_cells.specs.Open.{IsOpen, Knows};
+ghost use Rattle.rz_cells.specs.Opening.{FitTo, NotSize, OnlyRead, ReadTo, Refuses};
+
+use crate::geometry::HEADER_BYTES;
+use crate::judging::Firsts;
+use crate::reading::{read_header, read_heads};
+use crate::room::Room;
+use crate::{Cells, Geometry};
+use rz_disk::Disk;
+use rz_events::OpenFault;
+use std::alloc::Global;
+use std::collections::HashMap;
+
+impl<D: Disk> Cells<D> {
+    /// Opens a disk that was formatted with this geometry.
+    ///
+    /// All memory is taken before the disk is looked at.
+    pub fn reopen(alloc: Global, geometry: Geometry, disk: D) -> Result<Cells<D>, (D, OpenFault)>
+        requires { IsGeometry geometry }
+        ensures open { IfOk result (λ c. IsOpen D.tells (D.text c.disk) (D.image c.disk) c.geometry c.fence c.gates.items c.heads.items) }
+        ensures geometry { IfOk result (λ c. c.geometry ≡ geometry) }
+
+        // The text stands for some records, with the fence that is found.
+        ensures stands { IfOk result (λ c. IsTrue D.tells → (held : Records) × StandsFor geometry c.fence (D.text c.disk) held) }
+
+        // Each fault is the first that the text has.
+        ensures refused { IfErr result (λ e. IsTrue D.tells → Refuses geometry (D.text disk) e.1) }
+        ensures size { IfErr result (λ e. (have need : ℕ) → e.1 ≡ OpenFault.WrongSize have need → Refuses geometry (D.text disk) (OpenFault.WrongSize have need)) }
+
+        // A text that stands for records is refused by want of memory or a failed device call alone.
+        ensures exact { IfErr result (λ e. IsTrue D.tells → (fence : ℕ) (held : Records) → StandsFor geometry fence (D.text disk) held → (e.1 ≡ OpenFault.NoMemory) ⊎ (e.1 ≡ OpenFault.DiskFault)) }
+
+        // The disk stays as it is.
+        ensures text { MatchResult result (λ c. D.text c.disk ≡ D.text disk) (λ e. D.text e.0 ≡ D.text disk) }
+        ensures crash { MatchResult result (λ c. Within (D.image disk) (D.image c.disk)) (λ e. Within (D.image disk) (D.image e.0)) }
+        ensures meter { MatchResult result (λ c. Lasts (D.meter disk) (D.meter c.disk)) (λ e. Lasts (D.meter disk) (D.meter e.0)) }
+        ensures risen { IfErr result (λ e. e.1 ≡ OpenFault.DiskFault → Rises (faults (D.meter disk)) (faults (D.meter e.0))) }
+    {
+        let mut disk = disk;
+        let Ok(room) = Room::new(alloc, &geometry) else {
+            return Err((disk, OpenFault::NoMemory));
+        };
+        let Ok(firsts) = HashMap::with_capacity(alloc, 2 * geometry.cells as usize) else {
+            return Err((disk, OpenFault::NoMemory));
+        };
+        match read_all(&mut disk, &geometry, room, firsts) {
+            Ok((fence, room)) => {
+                let Room {
+                    gates,
+                    heads,
+                    buffer,
+                } = room;
+                Ok(Cells {
+                    disk,
+                    geometry,
+                    fence,
+                    gates,
+                    heads,
+                    buffer,
+                })
+            }
+            Err(fault) => Err((disk, fault)),
+        }
+    }
+}
+
+/// The fence, and the gates and heads of all cells.
+fn read_all<D: Disk>(
+    disk: &mut D,
+    geometry: &Geometry,
+    room: Room,
+    firsts: Firsts,
+) -> Result<(u64, Room), OpenFault>
+    requires geometry { IsGeometry geometry.now }
+    requires gates { length room.gates.items ≡ 2 * geometry.now.cells }
+    requires heads { length room.heads.items ≡ 2 * geometry.now.cells }
+    requires empty { (c : ℕ) → in_cell room.heads.items c ≡ None }
+    requires buffer { length room.buffer.items ≡ slot_of geometry.now }
+    requires firsts { IsEmpty firsts }
+    requires spare { 2 * geometry.now.cells ≤ spare firsts }
+    ensures header { IfOk result (λ r. IsTrue D.tells → IsHeader geometry.now r.0 (D.text disk.old) × IsFormatted (D.text disk.old)) }
+    ensures known { IfOk result (λ r. IsTrue D.tells → Knows geometry.now r.1.gates.items (D.text disk.old)) }
+    ensures reads { IfOk result (λ r. IsTrue D.tells → ReadTo geometry.now (D.text disk.old) r.1.heads.items (2 * geometry.now.cells)) }
+    ensures fits { IfOk result (λ r. FitTo geometry.now r.1.heads.items (2 * geometry.now.cells)) }
+    ensures gates { IfOk result (λ r. length r.1.gates.items ≡ 2 * geometry.now.cells) }
+    ensures heads { IfOk result (λ r. length r.1.heads.items ≡ 2 * geometry.now.cells) }
+    ensures buffer { IfOk result (λ r. length r.1.buffer.items ≡ slot_of geometry.now) }
+    ensures only { OnOk result (Only (D.text disk.new) (D.image disk.new)) }
+    ensures size { OnOk result (length (D.text disk.old) ≡ disk_bytes geometry.now) }
+    ensures refused { IfErr result (λ e. IsTrue D.tells → Refuses geometry.now (D.text disk.old) e) }
+    ensures wrong_size { IfErr result (λ e. NotSize e ⊎ Refuses geometry.now (D.text disk.old) e) }
+    ensures read { OnlyRead (D.text disk.old) (D.text disk.new) (D.image disk.old) (D.image disk.new) (D.meter disk.old) (D.meter disk.new) }
+    ensures fault { IsErrOf result OpenFault.DiskFault → Rises (faults (D.meter disk.old)) (faults (D.meter disk.new)) }
+{
+    let have = disk.size();
+    let need = geometry.disk_bytes();
+    if have != need {
+        return Err(OpenFault::WrongSize { have, need });
+    }
+    let Ok(()) = disk.sync() else {
+        return Err(OpenFault::DiskFault);
+    };
+    let fence = read_header(disk, geometry)?;
+    let Room {
+        gates,
+        heads,
+        buffer,
+    } = room;
+    let mut gates = gates;
+    let Ok(()) = disk.read(HEADER_BYTES, &mut gates) else {
+        return Err(OpenFault::DiskFault);
+    };
+    let heads = read_heads(disk, geometry, &gates, heads, firsts)?;
+    Ok((
+        fence,
+        Room {
+            gates,
+            heads,
+            buffer,
+        },
+    ))
+}

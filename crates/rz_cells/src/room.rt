@@ -1,0 +1,34 @@
+//! The memory of open cells.
+ghost use Rattle.std.specs.Prelude.{◌≡◌, ◌*◌, ℕ, None, IfOk, length, slice_index};
+ghost use Rattle.rz_cells.specs.Held.{in_cell};
+ghost use Rattle.rz_cells.specs.Shape.{IsGeometry, slot_of};
+
+use crate::Geometry;
+use rz_events::Head;
+use std::alloc::{AllocError, Global};
+
+/// A gate and a head for each cell, and room for one record.
+#[derive(Drop)]
+pub struct Room {
+    pub gates: Vec<u8>,
+    pub heads: Vec<Option<Head>>,
+    pub buffer: Vec<u8>,
+}
+
+impl Room {
+    pub fn new(alloc: Global, geometry: &Geometry) -> Result<Room, AllocError>
+        requires { IsGeometry geometry.now }
+        ensures gates { IfOk result (λ r. length r.gates.items ≡ 2 * geometry.now.cells) }
+        ensures shut { IfOk result (λ r. (c : ℕ) → slice_index r.gates.items c ≡ 0) }
+        ensures heads { IfOk result (λ r. length r.heads.items ≡ 2 * geometry.now.cells) }
+        ensures empty { IfOk result (λ r. (c : ℕ) → in_cell r.heads.items c ≡ None) }
+        ensures buffer { IfOk result (λ r. length r.buffer.items ≡ slot_of geometry.now) }
+    {
+        let cells = 2 * geometry.cells as usize;
+        Ok(Room {
+            gates: Vec::from_elem(alloc, 0, cells)?,
+            heads: Vec::from_elem(alloc, None, cells)?,
+            buffer: Vec::from_elem(alloc, 0, geometry.slot_bytes() as usize)?,
+        })
+    }
+}
