@@ -1,0 +1,152 @@
+//! Entries in the order of their keys, and free cells.
+
+ghost use Rattle.std.specs.Prelude.{◌≡◌, ◌+◌, ◌<◌, ◌≤◌, T, length, slice_set, IfOk, IfErr, IfSome, OnOk, MatchOption};
+ghost use Rattle.std.specs.List.{Contains, remove, range_with_len};
+ghost use Rattle.std.specs.Vec.{vec_len, vec_capacity};
+ghost use Rattle.std.specs.FinMap as maps;
+ghost use Rattle.rz_events.specs.Keys.{key_cmp};
+ghost use Rattle.rz_index.specs.Indexed.{IsSorted, IsHit, IsGap, IsFrom, first_of_file, head_of, erase, taken_out, freed};
+
+use rz_events::Key;
+use rz_versions::Versions;
+use std::alloc::{AllocError, Global};
+use std::marker::Model;
+
+/// A key that is held: the pair of cells that has its records, and their versions.
+#[derive(Clone, Copy, Debug, PartialEq, Eq, Drop)]
+pub struct Entry {
+    pub key: Key,
+    /// The number of the pair.
+    pub cell: u32,
+    pub versions: Versions,
+}
+
+/// The keys that are held, and the free pairs of cells.
+#[derive(Debug, Drop)]
+pub struct Index {
+    entries: Vec<Entry>,
+    free: Vec<u32>,
+}
+
+impl Model for Index {
+    ghost use Rattle.std.specs.Prelude.{};
+    ghost use Rattle.rz_index.specs.Indexed.{Indexed, indexed_code, indexed, IsIndex};
+
+    ghost Value = { Indexed };
+
+    ghost coded = { indexed_code };
+
+    ghost view = { λ i. indexed i.entries.items i.free.items };
+
+    ghost invariant = { λ i. IsIndex i.entries i.free };
+}
+
+impl Index {
+    /// An index with no keys and all of so many cells free, in their order, with room for a key each.
+    pub fn with_room(alloc: Global, cells: u32) -> Result<Index, AllocError>
+        ensures { IfOk result (λ i. i ≡ record { entries = maps.empty; free = range_with_len 0 cells }) }
+    {
+        let entries = Vec::with_capacity(alloc, cells as usize)?;
+        let mut free = Vec::with_capacity(alloc, cells as usize)?;
+        for cell in 0..cells {
+            free.push(cell)?;
+        }
+        Ok(Index { entries, free })
+    }
+
+    /// The entry of a key.
+    pub fn find(&self, key: Key) -> Option<Entry>
+        ensures { result ≡ maps.get self.now.entries key }
+    {
+        match search(&self.entries, key) {
+            Ok(at) => Some(self.entries[at]),
+            Err(_) => None,
+        }
+    }
+
+    /// The entry of the least block of a file.
+    pub fn first_of(&self, fid: u128) -> Option<Entry>
+        ensures { result ≡ first_of_file self.now.entries fid }
+    {
+        let at = start_of(&self.entries, fid);
+        if at == self.entries.len() {
+            return None;
+        }
+        let entry = self.entries[at];
+        if entry.key.fid == fid {
+            Some(entry)
+        } else {
+            None
+        }
+    }
+
+    /// The first of the free cells.
+    pub fn free_cell(&self) -> Option<u32>
+        ensures { result ≡ head_of self.now.free }
+    {
+        self.free.first().copied()
+    }
+
+    /// Sets the entry of a key. A new key takes its cell out of the free ones.
+    pub fn set(&mut self, entry: Entry)
+        requires { MatchOption (maps.get self.old.entries entry.key) (Contains self.old.free entry.cell) (λ e. e.cell ≡ entry.cell) }
+        ensures entries { self.new.entries ≡ maps.insert self.old.entries entry.key entry }
+        ensures free { self.new.free ≡ taken_out self.old entry }
+    {
+        match search(&self.entries, entry.key) {
+            Ok(at) => self.entries[at] = entry,
+            Err(at) => {
+                let place = place_of(&self.free, entry.cell);
+                self.free.remove(place);
+                // Entries and free cells together are as many as there is room for.
+                let _fits = self.entries.insert(at, entry);
+            }
+        }
+    }
+
+    /// Takes a key away, where it is there. Its cell becomes the last of the free ones.
+    pub fn remove(&mut self, key: Key)
+        ensures entries { self.new.entries ≡ maps.remove self.old.entries key }
+        ensures free { self.new.free ≡ freed self.old key }
+    {
+        if let Ok(at) = search(&self.entries, key) {
+            let entry = self.entries.remove(at);
+            // Entries and free cells together are as many as there is room for.
+            let _fits = self.free.push(entry.cell);
+        }
+    }
+}
+
+// Where the entry of a key is, or where it would go.
+fn search(entries: &[Entry], key: Key) -> Result<usize, usize>
+    requires { IsSorted entries.now }
+    ensures found { IfOk result (λ i. (i < length entries.now) × IsHit entries.now i key) }
+    ensures absent { IfErr result (λ i. (i ≤ length entries.now) × IsGap entries.now i key) }
+{
+    entries.binary_search_by_key(&key, |entry| entry.key)
+}
+
+// Where the keys of a file begin, or of a later one.
+fn start_of(entries: &[Entry], fid: u128) -> usize
+    requires { IsSorted entries.now }
+    ensures within { result ≤ length entries.now }
+    ensures from { IsFrom entries.now result fid }
+{
+    match search(entries, Key { fid, block: 0 }) {
+        Ok(at) => at,
+        Err(at) => at,
+    }
+}
+
+// The first place of a cell.
+fn place_of(cells: &[u32], cell: u32) -> usize
+    requires { Contains cells.now cell }
+    ensures within { result < length cells.now }
+    ensures first { erase cell cells.now ≡ remove cells.now result }
+{
+    let mut place = 0;
+    while place < cells.len() && cells[place] != cell {
+        place += 1;
+    }
+    place
+}
