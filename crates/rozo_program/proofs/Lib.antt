@@ -2,3 +2,4 @@ pub mod Streams
 pub mod Texts
 pub mod Lines
 pub mod WordLaws
+pub mod ReplayLaws

@@ -1,38 +1,62 @@
 -- What a replay comes to.
-use Rattle.std.specs.Prelude.{ℕ, true, false, ◌≡◌, ◌≤◌, ◌<◌, ◌⊎◌, List, [], Option, Some, None, IfSome, length}
+use Rattle.std.specs.Prelude.{ℕ, true, false, ◌≡◌, ◌≤◌, ◌<◌, ◌⊎◌, List, [], Option, Some, None, IfSome, codes, length, take}
+use Rattle.std.specs.Io.KnownBytes.{Appends}
 use Rattle.rz_ports.specs.Counts.{Rises}
+use Rattle.rz_events.specs.declared.events.Event.{Event}
 use Rattle.rz_replay.specs.declared.operation.Line.{Line}
+use Rattle.rz_replay.specs.Store.{played}
+use Rattle.rz_replay.specs.Driver.{IsOldest}
 use Rattle.rozo_program.specs.declared.script.Departure.{Departure}
 use Rattle.rozo_program.specs.Words.{is_wanted}
 use Rattle.rozo_program.specs.Input.{limit}
 use Rattle.rozo_program.specs.Script.{IsReadAs, IsRefused}
 
--- the status of a text that was read and of which all was written: 7 where it is longer than the limit, else 3 where it is refused, else 0
-abbrev pub IsStatusOf : List ℕ → ℕ → Type 0
-IsStatusOf text status =
-    ((status ≡ 0) × (length text ≤ limit) × ((lines : List Line) × IsReadAs text lines))
-    ⊎ (((status ≡ 3) × (length text ≤ limit) × ((d : Departure) × IsRefused text d))
-    ⊎ ((status ≡ 7) × (limit < length text)))
+-- what the sink had taken before a call and after it, where that is told, and its faults
+pub record Sunk : Type 0 where
+  pub before : Option (List ℕ)
+  pub after : Option (List ℕ)
+  pub old : ℕ
+  pub new : ℕ
+
+-- a text that was to be written with a status: the sink took all of it, or the status is 5, its faults rose and it took a front
+abbrev pub Ends : Sunk → ℕ → List ℕ → ℕ → Type 0
+Ends sink status text result =
+    ((result ≡ status) × Appends sink.before sink.after text)
+    ⊎ ((result ≡ 5) × Rises sink.old sink.new × ((n : ℕ) × (n ≤ length text) × Appends sink.before sink.after (take n text)))
+
+-- a refusal with nothing played
+abbrev pub Refuses : Sunk → ℕ → List ℕ → ℕ → List Event → Type 0
+Refuses sink status line result log = Ends sink status line result × (log ≡ [])
+
+-- A script was played: the log, the newest event first, is that of all its lines, and its text was to be written; or
+-- memory ran out, nothing was written, and the log has its oldest events.
+abbrev pub Plays : List Line → Sunk → ℕ → List Event → Type 0
+Plays lines sink status log =
+    ((log ≡ played lines) × ((text : List ℕ) × Ends sink 0 text status))
+    ⊎ ((status ≡ 70) × (sink.after ≡ sink.before) × IsOldest log (played lines))
+
+-- the text of an input: too long, or refused at a line, or a script that is played; or memory ran out before the play
+abbrev pub Answers : List ℕ → Sunk → ℕ → List Event → Type 0
+Answers text sink status log =
+    ((limit < length text) × Refuses sink 7 (codes "refused long\n") status log)
+    ⊎ (((length text ≤ limit) × ((d : Departure) × IsRefused text d × ((line : List ℕ) × Refuses sink 3 line status log)))
+    ⊎ (((length text ≤ limit) × ((lines : List Line) × IsReadAs text lines × Plays lines sink status log))
+    ⊎ ((status ≡ 70) × (sink.after ≡ sink.before) × (log ≡ []))))
 
 -- the text is what the source had left, where that is told
 abbrev pub IsLeft : Option (List ℕ) → List ℕ → Type 0
 IsLeft None text = Unit {0}
 IsLeft (Some left) text = text ≡ left
 
--- The status of a replay, of a source that had `before` left. It is 2 where the words are others. Else it is 4 only where
--- the source's faults rose, 70 where memory ran out, and that of the text otherwise. It is 5 only where the sink's faults rose.
-abbrev pub HasStatus : List (List ℕ) → Option (List ℕ) → Type 0 → Type 0 → ℕ → Type 0
-HasStatus words before source_fails sink_fails status =
-    ((status ≡ 2) × (is_wanted words ≡ false))
-    ⊎ (((status ≡ 4) × (is_wanted words ≡ true) × source_fails)
-    ⊎ (((status ≡ 5) × sink_fails)
-    ⊎ (((status ≡ 70) × (is_wanted words ≡ true))
-    ⊎ ((is_wanted words ≡ true) × ((text : List ℕ) × IsLeft before text × IsStatusOf text status)))))
+-- A replay over a source that had `left`: other words are refused; or the source's faults rose and nothing was written; or
+-- memory ran out while it was read; or what it had left is answered.
+abbrev pub Replays : List (List ℕ) → Option (List ℕ) → Type 0 → Sunk → ℕ → List Event → Type 0
+Replays words left source_fails sink status log =
+    ((is_wanted words ≡ false) × Refuses sink 2 (codes "refused usage\n") status log)
+    ⊎ (((is_wanted words ≡ true) × (status ≡ 4) × source_fails × (sink.after ≡ sink.before) × (log ≡ []))
+    ⊎ (((is_wanted words ≡ true) × (status ≡ 70) × (sink.after ≡ sink.before) × (log ≡ []))
+    ⊎ ((is_wanted words ≡ true) × ((text : List ℕ) × IsLeft left text × Answers text sink status log))))
 
 -- at status 0 the source was read to its end, where that is told
 abbrev pub IsReadToEnd : Option (List ℕ) → Option (List ℕ) → ℕ → Type 0
 IsReadToEnd before after status = (status ≡ 0) → IfSome before (λ text. after ≡ Some [])
-
--- the status is this one, or it is 5 and the sink's faults rose
-abbrev pub IsStatusOr5 : ℕ → ℕ → ℕ → ℕ → Type 0
-IsStatusOr5 status old new result = (result ≡ status) ⊎ ((result ≡ 5) × Rises old new)

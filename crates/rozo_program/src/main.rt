@@ -1,8 +1,9 @@
 //! The program `rozo`: it plays a script over a small store in memory, and prints what came of each
 //! operation.
 //!
-//! The contract of `replay` says which status comes when, and that the source was read to its end.
-//! It says nothing of what a real file or a terminal holds, and nothing of memory, whose want is
+//! The contract of `replay` says which status comes when, that the source was read to its end, that
+//! the log is the play of the script, and what the sink took of a refusal. It does not say how the
+//! log is printed, what a real file or a terminal holds, or that memory is there, whose want is
 //! status 70.
 //!
 //! In reading order: `replay`, `words`, `input`, `script`, `show`, `output`.

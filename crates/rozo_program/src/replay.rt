@@ -1,10 +1,10 @@
 //! The replay of a script.
 
-ghost use Rattle.std.specs.Prelude.{◌≡◌, ◌<◌, ◌≤◌, ◌+◌, ◌-◌, ◌^◌, ◌⊎◌, All, length, map, string_bytes};
+ghost use Rattle.std.specs.Prelude.{◌≡◌, ◌<◌, ◌≤◌, ◌+◌, ◌-◌, ◌^◌, All, [], length, map, reverse, string_bytes};
 ghost use Rattle.rz_ports.specs.Counts.{Rises};
 ghost use Rattle.rz_replay.specs.Script.{IsLine};
 ghost use Rattle.rozo_program.specs.Input.{limit};
-ghost use Rattle.rozo_program.specs.Replay.{HasStatus, IsReadToEnd, IsStatusOf, IsStatusOr5};
+ghost use Rattle.rozo_program.specs.Replay.{Answers, Ends, IsReadToEnd, Plays, Replays};
 
 use crate::input::{Taken, take};
 use crate::output::write_all;
@@ -25,7 +25,8 @@ pub struct Played {
 
 /// Nothing was played.
 fn unplayed(alloc: Global, status: u8) -> Played
-    ensures { result.status ≡ status }
+    ensures status { result.status ≡ status }
+    ensures log { result.log.items ≡ [] }
 {
     Played {
         status,
@@ -33,15 +34,20 @@ fn unplayed(alloc: Global, status: u8) -> Played
     }
 }
 
+/// Writes a text, and gives the status with which that ends.
+fn finish<O: Sink>(output: &mut O, status: u8, text: &[u8]) -> u8
+    ensures { Ends (record { before = O.taken output.old; after = O.taken output.new; old = O.faults output.old; new = O.faults output.new }) status text.now result }
+{
+    if write_all(output, text) { status } else { 5 }
+}
+
 /// Writes the line of a refusal.
 fn refuse<O: Sink>(alloc: Global, output: &mut O, status: u8, line: &[u8]) -> Played
-    ensures { IsStatusOr5 status (O.faults output.old) (O.faults output.new) result.status }
+    ensures ended { Ends (record { before = O.taken output.old; after = O.taken output.new; old = O.faults output.old; new = O.faults output.new }) status line.now result.status }
+    ensures log { result.log.items ≡ [] }
 {
-    if write_all(output, line) {
-        unplayed(alloc, status)
-    } else {
-        unplayed(alloc, 5)
-    }
+    let status = finish(output, status, line);
+    unplayed(alloc, status)
 }
 
 /// The line of a departure.
@@ -57,7 +63,7 @@ fn departure_line(alloc: Global, departure: Departure) -> Result<String, AllocEr
 fn play_lines<O: Sink>(alloc: Global, lines: &[Line], output: &mut O) -> Played
     requires lines { All IsLine lines.now }
     requires few { length lines.now < 2 ^ 32 }
-    ensures { IsStatusOr5 0 (O.faults output.old) (O.faults output.new) result.status ⊎ (result.status ≡ 70) }
+    ensures { Plays lines.now (record { before = O.taken output.old; after = O.taken output.new; old = O.faults output.old; new = O.faults output.new }) result.status (reverse result.log.items) }
 {
     let Ok(mut driver) = Driver::new(alloc) else {
         return unplayed(alloc, 70);
@@ -67,31 +73,27 @@ fn play_lines<O: Sink>(alloc: Global, lines: &[Line], output: &mut O) -> Played
     if played.is_err() {
         return Played { status: 70, log };
     }
-    let Ok(text) = show(alloc, &log) else {
-        return Played { status: 70, log };
-    };
-    let status = if write_all(output, text.as_bytes()) {
-        0
-    } else {
-        5
-    };
-    Played { status, log }
+    match show(alloc, &log) {
+        Ok(text) => {
+            let status = finish(output, 0, text.as_bytes());
+            Played { status, log }
+        }
+        Err(_) => Played { status: 70, log },
+    }
 }
 
 /// Replays the script that a text spells.
 fn replay_text<O: Sink>(alloc: Global, text: &[u8], output: &mut O) -> Played
     requires { length text.now ≤ limit }
-    ensures { IsStatusOf text.now result.status ⊎ ((result.status ≡ 70) ⊎ ((result.status ≡ 5) × Rises (O.faults output.old) (O.faults output.new))) }
+    ensures { Answers text.now (record { before = O.taken output.old; after = O.taken output.new; old = O.faults output.old; new = O.faults output.new }) result.status (reverse result.log.items) }
 {
     match read(alloc, text) {
         Ok(lines) => play_lines(alloc, &lines, output),
         Err(ReadFault::NoMemory) => unplayed(alloc, 70),
-        Err(ReadFault::Departs(departure)) => {
-            match departure_line(alloc, departure) {
-                Ok(line) => refuse(alloc, output, 3, line.as_bytes()),
-                Err(_) => unplayed(alloc, 70),
-            }
-        }
+        Err(ReadFault::Departs(departure)) => match departure_line(alloc, departure) {
+            Ok(line) => refuse(alloc, output, 3, line.as_bytes()),
+            Err(_) => unplayed(alloc, 70),
+        },
     }
 }
 
@@ -107,7 +109,7 @@ pub fn replay<I: Source, O: Sink>(
     input: &mut I,
     output: &mut O,
 ) -> Played
-    ensures status { HasStatus (map string_bytes words.now) (I.left input.old) (Rises (I.faults input.old) (I.faults input.new)) (Rises (O.faults output.old) (O.faults output.new)) result.status }
+    ensures replayed { Replays (map string_bytes words.now) (I.left input.old) (Rises (I.faults input.old) (I.faults input.new)) (record { before = O.taken output.old; after = O.taken output.new; old = O.faults output.old; new = O.faults output.new }) result.status (reverse result.log.items) }
     ensures source { IsReadToEnd (I.left input.old) (I.left input.new) result.status }
 {
     if !are_wanted(words) {

@@ -1,0 +1,4 @@
+pub mod BinLaws
+pub mod Fronts
+pub mod Kept
+pub mod Stores

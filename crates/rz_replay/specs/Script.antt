@@ -1,5 +1,5 @@
 -- What the lines of a script may say.
-use Rattle.std.specs.Prelude.{ℕ, ◌<◌, ◌≤◌, length}
+use Rattle.std.specs.Prelude.{◌<◌, ◌≤◌, length}
 use Rattle.rz_replay.specs.declared.operation.Operation.{Operation}
 use Rattle.rz_replay.specs.declared.operation.Operation.TheVariants as op
 use Rattle.rz_replay.specs.declared.operation.Line.{Line}

@@ -1,8 +1,11 @@
 //! The export in memory, for one file.
 
-ghost use Rattle.std.specs.Prelude.{◌≡◌, ◌<◌, ◌+◌, ◌-◌, ◌^◌};
+ghost use Rattle.std.specs.Prelude.{◌≡◌, ◌==◌, ◌<◌, ◌+◌, ◌-◌, ◌^◌, ℕ, max, None, Some, OnOk, if◌then◌else◌};
+ghost use Rattle.std.specs.Ordering.{nat_cmp};
+ghost use Rattle.std.specs.BTreeMap.{get};
+ghost use Rattle.rz_replay.specs.Parts.{base_in};
 
-use rz_events::{Key, Published};
+use rz_events::Published;
 use std::alloc::{AllocError, Global};
 use std::collections::BTreeMap;
 
@@ -11,13 +14,15 @@ use std::collections::BTreeMap;
 pub struct Export {
     pub last: u64,
     pub size: u64,
-    pub published: BTreeMap<Key, Published>,
+    pub published: BTreeMap<u64, Published>,
 }
 
 impl Export {
     /// An export of an empty file.
     pub fn new(alloc: Global) -> Export
-        ensures { result.last ≡ 0 }
+        ensures last { result.last ≡ 0 }
+        ensures size { result.size ≡ 0 }
+        ensures published { (block : ℕ) → get nat_cmp result.published block ≡ None }
     {
         Export {
             last: 0,
@@ -27,16 +32,20 @@ impl Export {
     }
 
     /// What is published of a block.
-    pub fn look(&self, key: Key) -> Option<Published> {
-        self.published.get(&key).copied()
+    pub fn look(&self, block: u64) -> Option<Published>
+        ensures { result ≡ get nat_cmp self.now.published block }
+    {
+        self.published.get(&block).copied()
     }
 
     /// Draws a stamp, and gives it with the one that is published of the block, or 0.
-    pub fn begin(&mut self, key: Key) -> (u64, u64)
+    pub fn begin(&mut self, block: u64) -> (u64, u64)
         requires { self.old.last < 2 ^ 64 - 1 }
-        ensures { self.new.last ≡ self.old.last + 1 }
+        ensures stamp { result.0 ≡ self.old.last + 1 }
+        ensures base { result.1 ≡ base_in (get nat_cmp self.old.published block) }
+        ensures after { self.new ≡ record self.old { last = self.old.last + 1 } }
     {
-        let base = match self.look(key) {
+        let base = match self.look(block) {
             Some(published) => published.stamp,
             None => 0,
         };
@@ -45,10 +54,12 @@ impl Export {
     }
 
     /// Publishes a write of a block, with which the file ends at `end` or later.
-    pub fn publish(&mut self, key: Key, published: Published, end: u64) -> Result<(), AllocError>
-        ensures { self.new.last ≡ self.old.last }
+    pub fn publish(&mut self, block: u64, published: Published, end: u64) -> Result<(), AllocError>
+        ensures last { self.new.last ≡ self.old.last }
+        ensures size { OnOk result (self.new.size ≡ max self.old.size end) }
+        ensures published { OnOk result ((other : ℕ) → get nat_cmp self.new.published other ≡ (if other == block then Some published else get nat_cmp self.old.published other)) }
     {
-        self.published.insert(key, published)?;
+        self.published.insert(block, published)?;
         self.size = self.size.max(end);
         Ok(())
     }

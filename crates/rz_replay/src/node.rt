@@ -1,6 +1,8 @@
-//! A storage node in memory.
+//! A storage node in memory, for one file.
 
-use rz_events::Key;
+ghost use Rattle.std.specs.Prelude.{◌≡◌, ℕ, None, OnOk, option_copied};
+ghost use Rattle.rz_replay.specs.Parts.{Keeps, in_versions, record_at};
+
 use std::alloc::{AllocError, Global};
 use std::collections::BTreeMap;
 
@@ -23,22 +25,39 @@ pub struct Versions {
 /// The versions after a newer record came. Of two that are held the older one gives way, except
 /// where the newer one of them is above the base of the record and the older one is not: then the
 /// newer one does.
-fn with_record(versions: Versions, record: Record) -> Versions {
+fn with_record(versions: Versions, latest: Record) -> Versions
+    ensures { result.newest ≡ latest }
+{
     let Versions { newest, other } = versions;
     match other {
-        Some(other) if other.stamp <= record.base && record.base < newest.stamp => Versions {
-            newest: record,
+        Some(other) if other.stamp <= latest.base && latest.base < newest.stamp => Versions {
+            newest: latest,
             other: Some(other),
         },
         _ => Versions {
-            newest: record,
+            newest: latest,
             other: Some(newest),
         },
     }
 }
 
+/// The versions with a newer record, which may be the first.
+fn versions_with(held: Option<Versions>, latest: Record) -> Versions
+    ensures { result.newest ≡ latest }
+{
+    match held {
+        Some(versions) => with_record(versions, latest),
+        None => Versions {
+            newest: latest,
+            other: None,
+        },
+    }
+}
+
 /// The record of the write with this stamp.
-fn record_of(versions: &Versions, stamp: u64) -> Option<&Record> {
+fn record_of(versions: &Versions, stamp: u64) -> Option<&Record>
+    ensures { option_copied result ≡ in_versions stamp versions.now }
+{
     if versions.newest.stamp == stamp {
         return Some(&versions.newest);
     }
@@ -51,7 +70,7 @@ fn record_of(versions: &Versions, stamp: u64) -> Option<&Record> {
 /// A node: the records that it holds of each block.
 #[derive(Drop)]
 pub struct Node {
-    pub held: BTreeMap<Key, Versions>,
+    pub held: BTreeMap<u64, Versions>,
 }
 
 impl Node {
@@ -63,21 +82,19 @@ impl Node {
     }
 
     /// Keeps a record that is newer than all that is held of the block.
-    pub fn keep(&mut self, key: Key, record: Record) -> Result<(), AllocError> {
-        let versions = match self.held.remove(&key) {
-            Some(versions) => with_record(versions, record),
-            None => Versions {
-                newest: record,
-                other: None,
-            },
-        };
-        self.held.insert(key, versions)?;
+    pub fn keep(&mut self, block: u64, latest: Record) -> Result<(), AllocError>
+        ensures { OnOk result (Keeps self.old self.new block latest) }
+    {
+        let versions = versions_with(self.held.remove(&block), latest);
+        self.held.insert(block, versions)?;
         Ok(())
     }
 
     /// The record of the write with this stamp, where it is held.
-    pub fn fetch(&self, key: Key, stamp: u64) -> Option<&Record> {
-        match self.held.get(&key) {
+    pub fn fetch(&self, block: u64, stamp: u64) -> Option<&Record>
+        ensures { option_copied result ≡ record_at self.now block stamp }
+    {
+        match self.held.get(&block) {
             Some(versions) => record_of(versions, stamp),
             None => None,
         }

@@ -1,69 +1,101 @@
-//! The projections of a block of two rows, and its inversion from the first two of them.
+//! Projections of a text's block, and the text that two of them give back.
 
+ghost use Rattle.std.specs.Prelude.{◌≡◌, ◌<◌, ◌≤◌, ℕ, List, Some, length, IfOk, IfSome, option_map};
+ghost use Rattle.rz_words.specs.Grid.{Grid};
+ghost use Rattle.mj_angles.specs.declared.layout.Layout.TheVariants.{L0 as layout_0};
+ghost use Rattle.mj_angles.specs.Layout.{angle_of};
+ghost use Rattle.mj_forward.specs.Forward.{projection_of};
+ghost use Rattle.rz_replay.specs.Bins.{IsText, IsOf, block_of as block_with, bins_of};
+
+use mj_angles::Layout;
+use mj_forward::project;
+use mj_inverse::Work;
+use rz_words::Block;
 use std::alloc::{AllocError, Global};
 
+/// The rows of a block.
+const ROWS: usize = 2;
+
 /// The words in a row of a block.
-pub const COLS: usize = 256;
+const COLS: usize = 256;
 
 /// The bytes of a block.
 pub const BLOCK_BYTES: usize = 4096;
 
-/// The words of the block with these bytes, which are followed by zeros.
-pub fn words_of(alloc: Global, text: &[u8]) -> Result<Vec<u64>, AllocError> {
-    let mut words = vec![in alloc; 0u64; 2 * COLS]?;
-    for (i, byte) in text.iter().enumerate() {
-        if i < BLOCK_BYTES {
-            words[i / 8] |= u64::from(*byte) << (8 * (i % 8));
-        }
+/// The block with this text, which is followed by zeros.
+pub fn block_of(alloc: Global, text: &[u8]) -> Result<Block, AllocError>
+    requires { length text.now ≤ 4096 }
+    ensures { IfOk result (λ block. block ≡ block_with text.now) }
+{
+    Block::from_bytes(alloc, ROWS, COLS, text)
+}
+
+/// The projection of a block that stands at a position.
+pub fn project_at(alloc: Global, block: &Block, position: u8) -> Result<Vec<u64>, AllocError>
+    requires position { position < 4 }
+    requires rows { block.now.rows ≡ 2 }
+    requires cols { block.now.cols ≡ 256 }
+    ensures { IfOk result (λ bins. bins.items ≡ projection_of block.now (angle_of layout_0 position)) }
+{
+    let mut bins = vec![in alloc; 0u64; Layout::L0.bins_at(position)]?;
+    project(block, Layout::L0.angle(position), &mut bins);
+    Ok(bins)
+}
+
+/// The block whose projections at positions 0 and 1 these are, where there is one.
+fn solved(alloc: Global, first: &[u64], second: &[u64]) -> Result<Option<Block>, AllocError>
+    requires first { length first.now ≡ 258 }
+    requires second { length second.now ≡ 257 }
+    ensures found { IfOk result (λ block. (g : Grid) → IsOf g first.now second.now → block ≡ Some g) }
+    ensures shape { IfOk result (λ block. IfSome block (λ g. (g.rows ≡ 2) × (g.cols ≡ 256))) }
+{
+    let mut work = Work::new(alloc, ROWS, COLS)?;
+    let mut block = Block::zero(alloc, ROWS, COLS)?;
+    work.add(-2, first);
+    work.add(-1, second);
+    match work.solve(&mut block) {
+        Ok(()) => Ok(Some(block)),
+        Err(_) => Ok(None),
     }
-    Ok(words)
 }
 
 /// The first bytes of a block.
-pub fn text_of(alloc: Global, words: &[u64], length: usize) -> Result<Vec<u8>, AllocError> {
-    let mut bytes = Vec::new(alloc);
-    for i in 0..length {
-        let word = words.get(i / 8).copied().unwrap_or(0);
-        bytes.push((word >> (8 * (i % 8)) & 0xff) as u8)?;
-    }
+fn bytes_of(alloc: Global, block: &Block, size: usize) -> Result<Vec<u8>, AllocError>
+    requires rows { block.now.rows ≡ 2 }
+    requires cols { block.now.cols ≡ 256 }
+    requires short { size ≤ 4096 }
+    ensures { IfOk result (λ bytes. (text : List ℕ) → IsText text → length text ≡ size → block.now ≡ block_with text → bytes.items ≡ text) }
+{
+    let mut bytes = vec![in alloc; 0u8; size]?;
+    block.to_bytes_into(&mut bytes);
     Ok(bytes)
 }
 
-/// The word at a place of a row that begins at the bin `start`, or 0 outside the row.
-fn word_at(row: &[u64], start: usize, bin: usize) -> u64 {
-    if bin < start {
-        0
-    } else {
-        row.get(bin - start).copied().unwrap_or(0)
+/// The text of which these are the projections at positions 0 and 1, where there is one of this
+/// size.
+pub fn text_from(
+    alloc: Global,
+    first: &[u64],
+    second: &[u64],
+    size: usize,
+) -> Result<Option<Vec<u8>>, AllocError>
+    ensures { IfOk result (λ found. (text : List ℕ) → IsText text → length text ≡ size → first.now ≡ bins_of 0 text → second.now ≡ bins_of 1 text → option_map (λ v. v.items) found ≡ Some text) }
+{
+    if first.len() != 258 {
+        return Ok(None);
     }
-}
-
-/// The projection of a block at a position's angle, which is the position less 2.
-pub fn project(alloc: Global, words: &[u64], position: u8) -> Result<Vec<u64>, AllocError> {
-    let angle = i32::from(position) - 2;
-    let size = angle.unsigned_abs() as usize;
-    let (first, second) = if angle < 0 { (size, 0) } else { (0, size) };
-    let (upper, lower) = words.split_at(COLS.min(words.len()));
-    (0..COLS + size)
-        .map(|bin| word_at(upper, first, bin) ^ word_at(lower, second, bin))
-        .collect(alloc)
-}
-
-/// The words of the block whose projections at positions 0 and 1 these are.
-pub fn invert(alloc: Global, at_0: &[u64], at_1: &[u64]) -> Result<Vec<u64>, AllocError> {
-    let mut lower: Vec<u64> = Vec::with_capacity(alloc, COLS)?;
-    for k in 0..COLS {
-        let above = if k < 2 {
-            0
-        } else {
-            word_at(at_1, 0, k - 1) ^ word_at(&lower, 0, k - 1)
-        };
-        lower.push(word_at(at_0, 0, k) ^ above)?;
+    if second.len() != 257 {
+        return Ok(None);
     }
-    let mut words: Vec<u64> = Vec::with_capacity(alloc, 2 * COLS)?;
-    for k in 0..COLS {
-        words.push(word_at(at_1, 0, k + 1) ^ word_at(&lower, 0, k + 1))?;
+    if size > BLOCK_BYTES {
+        return Ok(None);
     }
-    words.extend_from_slice(&lower)?;
-    Ok(words)
+    let found = solved(alloc, first, second)?;
+    match found {
+        Some(block) => {
+            let bytes = bytes_of(alloc, &block, size)?;
+            Ok(Some(bytes))
+        }
+        None => Ok(None),
+    }
 }
