@@ -1,0 +1,6 @@
+pub mod Words
+pub mod Outcomes
+pub mod Ends
+pub mod Opened
+pub mod Known
+pub mod Text

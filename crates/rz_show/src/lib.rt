@@ -1,0 +1,19 @@
+//! The printed text of a log.
+//!
+//! The contract of `show` says that the text is exactly the one that `specs/Text.antt` defines: a line
+//! for the end of each operation and of each block that is read or written by itself, a line for each
+//! start of a node, and a last line with the number of events. It says nothing of which logs there
+//! are, nor that there is memory.
+//!
+//! In reading order: `words`, `outcomes`, `ends`, `opened`, `text`.
+#![tactic(auto)]
+
+mod ends;
+mod opened;
+mod outcomes;
+#[cfg(test)]
+mod tests;
+mod text;
+mod words;
+
+pub use text::show;
