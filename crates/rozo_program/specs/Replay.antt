@@ -1,12 +1,16 @@
 -- What a replay comes to.
-use Rattle.std.specs.Prelude.{ℕ, true, false, ◌≡◌, ◌≤◌, ◌<◌, ◌⊎◌, List, [], Option, Some, None, IfSome, codes, length, take}
+use Rattle.std.specs.Prelude.{ℕ, true, false, ◌≡◌, ◌≤◌, ◌<◌, ◌⊎◌, List, [], ◌++◌, Option, Some, None, IfSome, codes, length, reverse, take}
+use Rattle.std.specs.Fmt.{decimal}
 use Rattle.std.specs.Io.KnownBytes.{Appends}
 use Rattle.rz_ports.specs.Counts.{Rises}
 use Rattle.rz_events.specs.declared.events.Event.{Event}
 use Rattle.rz_replay.specs.declared.operation.Line.{Line}
 use Rattle.rz_replay.specs.Store.{played}
 use Rattle.rz_replay.specs.Driver.{IsOldest}
+use Rattle.rz_show.specs.Text.{text_of}
 use Rattle.rozo_program.specs.declared.script.Departure.{Departure}
+use Rattle.rozo_program.specs.declared.script.Cause.{Cause}
+use Rattle.rozo_program.specs.declared.script.Cause.TheVariants.{NotUtf8, NotYet}
 use Rattle.rozo_program.specs.Words.{is_wanted}
 use Rattle.rozo_program.specs.Input.{limit}
 use Rattle.rozo_program.specs.Script.{IsReadAs, IsRefused}
@@ -32,14 +36,23 @@ Refuses sink status line result log = Ends sink status line result × (log ≡ [
 -- memory ran out, nothing was written, and the log has its oldest events.
 abbrev pub Plays : List Line → Sunk → ℕ → List Event → Type 0
 Plays lines sink status log =
-    ((log ≡ played lines) × ((text : List ℕ) × Ends sink 0 text status))
+    ((log ≡ played lines) × Ends sink 0 (text_of (reverse log) true) status)
     ⊎ ((status ≡ 70) × (sink.after ≡ sink.before) × IsOldest log (played lines))
+
+-- why a script is refused, in a word
+abbrev pub cause_name : Cause → List ℕ
+cause_name NotUtf8 = codes "NotUtf8"
+cause_name NotYet = codes "NotYet"
+
+-- the line that says where a script departs from the form, and how
+abbrev pub departure_line : Departure → List ℕ
+departure_line d = codes "refused script " ++ decimal d.line ++ codes " " ++ cause_name d.cause ++ codes "\n"
 
 -- the text of an input: too long, or refused at a line, or a script that is played; or memory ran out before the play
 abbrev pub Answers : List ℕ → Sunk → ℕ → List Event → Type 0
 Answers text sink status log =
     ((limit < length text) × Refuses sink 7 (codes "refused long\n") status log)
-    ⊎ (((length text ≤ limit) × ((d : Departure) × IsRefused text d × ((line : List ℕ) × Refuses sink 3 line status log)))
+    ⊎ (((length text ≤ limit) × ((d : Departure) × IsRefused text d × Refuses sink 3 (departure_line d) status log))
     ⊎ (((length text ≤ limit) × ((lines : List Line) × IsReadAs text lines × Plays lines sink status log))
     ⊎ ((status ≡ 70) × (sink.after ≡ sink.before) × (log ≡ []))))
 

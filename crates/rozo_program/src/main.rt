@@ -2,18 +2,17 @@
 //! operation.
 //!
 //! The contract of `replay` says which status comes when, that the source was read to its end, that
-//! the log is the play of the script, and what the sink took of a refusal. It does not say how the
-//! log is printed, what a real file or a terminal holds, or that memory is there, whose want is
-//! status 70.
+//! the log is the play of the script, and which bytes the sink took: the text of that log, or the one
+//! line of a refusal. It does not say what a real file or a terminal holds, or that memory is there,
+//! whose want is status 70.
 //!
-//! In reading order: `replay`, `words`, `input`, `script`, `show`, `output`.
+//! In reading order: `replay`, `words`, `input`, `script`, `output`.
 #![tactic(auto)]
 
 mod input;
 mod output;
 mod replay;
 mod script;
-mod show;
 #[cfg(test)]
 mod tests;
 mod words;

@@ -1,19 +1,19 @@
 //! The replay of a script.
 
-ghost use Rattle.std.specs.Prelude.{◌≡◌, ◌<◌, ◌≤◌, ◌+◌, ◌-◌, ◌^◌, All, [], length, map, reverse, string_bytes};
+ghost use Rattle.std.specs.Prelude.{◌≡◌, ◌<◌, ◌≤◌, ◌+◌, ◌-◌, ◌^◌, All, IfOk, [], length, map, reverse, string_bytes};
 ghost use Rattle.rz_ports.specs.Counts.{Rises};
 ghost use Rattle.rz_replay.specs.Script.{IsLine};
 ghost use Rattle.rozo_program.specs.Input.{limit};
-ghost use Rattle.rozo_program.specs.Replay.{Answers, Ends, IsReadToEnd, Plays, Replays};
+ghost use Rattle.rozo_program.specs.Replay.{Answers, Ends, IsReadToEnd, Plays, Replays, cause_name, departure_line};
 
 use crate::input::{Taken, take};
 use crate::output::write_all;
 use crate::script::{Cause, Departure, ReadFault, read};
-use crate::show::show;
 use crate::words::are_wanted;
 use rz_events::Event;
 use rz_ports::{Sink, Source};
 use rz_replay::{Driver, Line};
+use rz_show::show;
 use std::alloc::{AllocError, Global};
 
 /// What a replay came to: its status, and the log of the play, the oldest event first.
@@ -50,13 +50,23 @@ fn refuse<O: Sink>(alloc: Global, output: &mut O, status: u8, line: &[u8]) -> Pl
     unplayed(alloc, status)
 }
 
-/// The line of a departure.
-fn departure_line(alloc: Global, departure: Departure) -> Result<String, AllocError> {
-    let line = departure.line;
-    match departure.cause {
-        Cause::NotUtf8 => format!(in alloc; "refused script {line} NotUtf8\n"),
-        Cause::NotYet => format!(in alloc; "refused script {line} NotYet\n"),
+/// Why a script is refused, in a word.
+fn cause_name(cause: Cause) -> &'static str
+    ensures { result.now ≡ cause_name cause }
+{
+    match cause {
+        Cause::NotUtf8 => "NotUtf8",
+        Cause::NotYet => "NotYet",
     }
+}
+
+/// The line of a departure.
+fn departure_line(alloc: Global, departure: Departure) -> Result<String, AllocError>
+    ensures { IfOk result (λ text. string_bytes text ≡ departure_line departure) }
+{
+    let line = departure.line;
+    let cause = cause_name(departure.cause);
+    format!(in alloc; "refused script {line} {cause}\n")
 }
 
 /// Plays a script, and writes the text of its log.
@@ -73,9 +83,9 @@ fn play_lines<O: Sink>(alloc: Global, lines: &[Line], output: &mut O) -> Played
     if played.is_err() {
         return Played { status: 70, log };
     }
-    match show(alloc, &log) {
+    match show(alloc, &log, true) {
         Ok(text) => {
-            let status = finish(output, 0, text.as_bytes());
+            let status = finish(output, 0, &text);
             Played { status, log }
         }
         Err(_) => Played { status: 70, log },
