@@ -69,3 +69,9 @@ pub fn nodes()
 pub fn export_tree()
     ensures { (v : Volume) (c : ATreeCall) → IsExportLawOf v (call.Tree c) }
 {}
+
+/// A begin after a legal log: its event is allowed, be it begun or denied, and the export is then as the
+/// log gives it.
+pub fn export_begin()
+    ensures { (v : Volume) (key : AKey) (text : List ℕ) → IsExportLawOf v (call.Begin key text) }
+{}
