@@ -9,3 +9,4 @@ pub mod NodeSteps
 pub mod NodeRest
 pub mod ExportSteps
 pub mod EnrollLaws
+pub mod ExportCalls

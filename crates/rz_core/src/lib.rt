@@ -69,3 +69,9 @@ pub fn nodes()
 pub fn export_tree()
     ensures { (v : Volume) (c : ATreeCall) → IsExportLawOf v (call.Tree c) }
 {}
+
+/// An enrolment after a legal log, of a loss that the caller was told by a probe of the node: it gives the
+/// fence of the greatest loss, which is drawn where that loss is new, or it says that a greater one is known.
+pub fn export_enroll()
+    ensures { (v : Volume) (node loss : ℕ) → IsExportLawOf v (call.Enroll node loss) }
+{}
