@@ -10,3 +10,7 @@ pub mod NodeRest
 pub mod ExportSteps
 pub mod EnrollLaws
 pub mod ExportCalls
+pub mod NameTies
+pub mod BlockTies
+pub mod ExportLooks
+pub mod Naming
