@@ -90,7 +90,7 @@ greater_first a b p = let l = greater_most a b a (omega arith) p in let m = grea
 greater_second : (a b : ℕ) → a ≤ b → greater a b ≡ b
 greater_second a b p = let l = greater_most a b b p (omega arith) in let m = greater-right a b in omega (arith, l, m)
 
-fence_drawn : (v : Volume) (f : Facts) (w : List Event) → IsRows v f w → (by : Actor) (n l g : ℕ) → Has w (e.Enroll by n l g) → g ≤ last_drawn w
+pub fence_drawn : (v : Volume) (f : Facts) (w : List Event) → IsRows v f w → (by : Actor) (n l g : ℕ) → Has w (e.Enroll by n l g) → g ≤ last_drawn w
 fence_drawn v f [] r by n l g has = absurd has
 fence_drawn v f (e.Begin a key stamp base text ∷ w) r by n l g (inl is) = cc
 fence_drawn v f (e.Begin a key stamp base text ∷ w) r by n l g (inr has) =
@@ -220,7 +220,7 @@ module _ (s : ExportState) (w : List Event) (a : AreEnrolled s w) (by : Actor) (
           → (cond ((n == m) && (q.loss == l)) (Some g) (enrolled w n q.loss) ≡ Some q.fence) × ((b : Actor) (k j : ℕ) → Has (e.Enroll by m l g ∷ w) (e.Enroll b n k j) → k ≤ q.loss)
       some n q is = let i = a.some n q is in (fences n q is i.0 ((n == m) && (q.loss == l)) refl, least n q is i.1)
 
-none_before : (w : List Event) (n l : ℕ) → ((by : Actor) (g : ℕ) → ¬ Has w (e.Enroll by n l g)) → enrolled w n l ≡ None
+pub none_before : (w : List Event) (n l : ℕ) → ((by : Actor) (g : ℕ) → ¬ Has w (e.Enroll by n l g)) → enrolled w n l ≡ None
 none_before w n l never = go (enrolled w n l) refl
   where
     go : (o : Option ℕ) → enrolled w n l ≡ o → o ≡ None

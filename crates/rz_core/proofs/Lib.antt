@@ -11,4 +11,8 @@ pub mod ExportSteps
 pub mod EnrollLaws
 pub mod TreeTies
 pub mod NameTies
+pub mod ExportCalls
+pub mod BlockTies
+pub mod ExportLooks
+pub mod Naming
 pub mod BeginLaws

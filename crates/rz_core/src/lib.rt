@@ -75,3 +75,20 @@ pub fn export_tree()
 pub fn export_begin()
     ensures { (v : Volume) (key : AKey) (text : List ℕ) → IsExportLawOf v (call.Begin key text) }
 {}
+
+/// An enrolment after a legal log, of a loss that the caller was told by a probe of the node: it gives the
+/// fence of the greatest loss, which is drawn where that loss is new, or it says that a greater one is known.
+pub fn export_enroll()
+    ensures { (v : Volume) (node loss : ℕ) → IsExportLawOf v (call.Enroll node loss) }
+{}
+
+/// A look after a legal log: it tells what is published of a block of a live file, or that there is no
+/// such file or block.
+pub fn export_look()
+    ensures { (v : Volume) (key : AKey) → IsExportLawOf v (call.Look key) }
+{}
+
+/// The same of a recheck by an actor that looked the key up, or was told it.
+pub fn export_recheck()
+    ensures { (v : Volume) (key : AKey) → IsExportLawOf v (call.Recheck key) }
+{}
