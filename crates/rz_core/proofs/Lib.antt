@@ -14,3 +14,5 @@ pub mod NameTies
 pub mod BlockTies
 pub mod ExportLooks
 pub mod Naming
+pub mod Fences
+pub mod ExportPublish
