@@ -16,3 +16,5 @@ pub mod BlockTies
 pub mod ExportLooks
 pub mod Naming
 pub mod BeginLaws
+pub mod Fences
+pub mod ExportPublish

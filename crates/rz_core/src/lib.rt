@@ -92,3 +92,10 @@ pub fn export_look()
 pub fn export_recheck()
     ensures { (v : Volume) (key : AKey) → IsExportLawOf v (call.Recheck key) }
 {}
+
+/// A publish after a legal log, by the writer that kept its records at a quorum of nodes: it is accepted
+/// where no later write of the key began and no node of the mask was enrolled above its stamp; else it
+/// says which write or which node stands against it.
+pub fn export_publish()
+    ensures { (v : Volume) (key : AKey) (stamp mask length : ℕ) → IsExportLawOf v (call.Publish key stamp mask length) }
+{}
