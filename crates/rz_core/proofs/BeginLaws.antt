@@ -1,5 +1,5 @@
 -- A begin after a legal log.
-use Rattle.std.proofs.Common.{ℕ, true, ◌≡◌, ◌≤◌, ◌<◌, ◌+◌, List, length, Option, Some, None, refl, sym, ◌∙◌, ap, subst}
+use Rattle.std.proofs.Common.{ℕ, true, ◌≡◌, ◌≤◌, ◌<◌, ◌+◌, List, length, Option, Some, None, sym, ◌∙◌, ap, subst}
 use Rattle.std.specs.Option.{option_map_or, option_or}
 use Rattle.mj_angles.specs.Layout.{block_bytes_of}
 use Rattle.rz_events.specs.Volume.{Volume}
@@ -57,11 +57,11 @@ begin_step v h by s b n key text short x =
     subst (Goes v h by s key text x) (begins-as-look v h s b key)
     (look-cases s key (Goes v h by s key text x)
     (λ none is. subst (λ y. IsExportStep v h y s) (the_some _ x is)
-      (denied v h by s b (asked.Begin key) denial.UnknownFile (not-live (facts h) (export h) s n key.fid none)))
+    (denied v h by s b (asked.Begin key) denial.UnknownFile (not-live (facts h) (export h) s n key.fid none)))
     (λ info there far is. subst (λ y. IsExportStep v h y s) (the_some _ x is)
-      (denied v h by s b (asked.Begin key) denial.BlockTooFar (is-live (facts h) (export h) s n key.fid info there, far)))
+    (denied v h by s b (asked.Begin key) denial.BlockTooFar (is-live (facts h) (export h) s n key.fid info there, far)))
     (λ info there near is. subst (λ y. IsExportStep v h y (after_begin s key)) (the_some _ x is)
-      (begun v h by s b key text short (is-live (facts h) (export h) s n key.fid info there) near)))
+    (begun v h by s b key text short (is-live (facts h) (export h) s n key.fid info there) near)))
 
 pub export-begin : (v : Volume) (key : Key) (text : List ℕ) → IsExportLawOf v (call.Begin key text)
 export-begin v key text h by s x legal tied room proper right is =

@@ -1,6 +1,5 @@
 -- Enrolments: what the export's map of them says, and the last number drawn.
 use Rattle.std.proofs.Common.{ℕ, Bool, true, false, ◌==◌, ◌&&◌, ◌≡◌, ◌⊎◌, inl, inr, ◌≤◌, ◌<◌, ◌+◌, ◌-◌, ◌^◌, nat_lt, nat_le, is_none, List, [], ◌∷◌, length, Option, Some, None, cond, refl, sym, ◌∙◌, ap, subst, arith}
-use Rattle.std.specs.Option.{option_map_or}
 use Rattle.std.specs.List.{AllByRecursion}
 use Rattle.std.specs.FinMap as maps
 use Rattle.std.specs.FinMap.{FinMap}
@@ -9,30 +8,23 @@ use Rattle.std.specs.Cmp.{nat_cmp_total, unsigned_tied}
 use Rattle.std.proofs.lemmas.Bool.{eqb-true, eqb-false, eq-eqb, and_parts, ltb-true, ltb-false, leb-true}
 use Rattle.rz_events.specs.Volume.{Volume}
 use Rattle.rz_events.specs.declared.keys.Actor.{Actor}
-use Rattle.rz_events.specs.declared.export.Asked.TheVariants as asked
-use Rattle.rz_events.specs.declared.export.Call.TheVariants as call
 use Rattle.rz_events.specs.declared.ends.Denial.{Denial}
 use Rattle.rz_events.specs.declared.ends.Denial.TheVariants as denial
-use Rattle.rz_events.specs.declared.export.Reply.{Reply}
-use Rattle.rz_events.specs.declared.export.Reply.TheVariants as reply
 use Rattle.rz_events.specs.declared.events.Word.{Word}
 use Rattle.rz_events.specs.declared.events.Word.TheVariants.{Export, Node, Own}
 use Rattle.rz_events.specs.declared.events.Event.{Event}
 use Rattle.rz_events.specs.declared.events.Event.TheVariants as e
 use Rattle.rz_events.specs.Events.{by_of, word_of, same_word}
-use Rattle.rz_export_model.specs.Export.{Export as ExportState, Enrolled, spent, draws, new_fence, enroll_reply, after_enroll}
-use Rattle.rz_export_model.specs.ExportEvents.{enroll_event}
+use Rattle.rz_export_model.specs.Export.{Export as ExportState, Enrolled, spent, draws, after_enroll}
 use Rattle.rz_core.specs.History.{Facts, facts, of_word, of_actor, Has}
 use Rattle.rz_core.specs.ExportWord.{last_drawn, greater, enrolled, or_new, export_of}
-use Rattle.rz_core.specs.Legal.{IsLegal, Row, IsAllowed}
-use Rattle.rz_core.specs.Tied.{IsExportStep, IsExportLawOf}
-use Rattle.rz_core.proofs.Extends.{Extends, Knows, extends-more}
+use Rattle.rz_core.specs.Legal.{IsLegal, Row}
+use Rattle.rz_core.proofs.Extends.{Knows, extends-more}
 use Rattle.rz_core.proofs.Rows.{row-extends}
 use Rattle.rz_core.proofs.Locality.{legal-knows, all-filter}
 use Rattle.rz_core.proofs.Stamps.{export, greater-left, greater-right}
 use Rattle.rz_core.proofs.NodeLaws.{IsRows, rows-extends}
 use Rattle.rz_core.proofs.NodeSteps.{the_some}
-use Rattle.rz_core.proofs.ExportSteps.{same-export}
 
 enrolled_cases : (t : Bool) (g f : ℕ) (old : Option ℕ) → cond t (Some g) old ≡ Some f → ((t ≡ true) × (g ≡ f)) ⊎ (old ≡ Some f)
 enrolled_cases true g f old k = inl (refl, cc)

@@ -1,5 +1,5 @@
 -- Enrolments and looks after a legal log.
-use Rattle.std.proofs.Common.{ℕ, Bool, true, false, ◌==◌, ◌≡◌, ◌≤◌, ◌<◌, ◌+◌, ◌-◌, ◌^◌, nat_lt, is_none, List, [], ◌∷◌, length, Option, Some, None, cond, refl, sym, ◌∙◌, ap, subst, arith, ◌&&◌}
+use Rattle.std.proofs.Common.{ℕ, Bool, true, false, ◌==◌, ◌≡◌, ◌≤◌, ◌<◌, ◌+◌, ◌-◌, ◌^◌, nat_lt, is_none, List, length, Option, Some, None, cond, refl, sym, ◌∙◌, ap, subst, arith, ◌&&◌}
 use Rattle.std.specs.Option.{option_map_or}
 use Rattle.std.specs.FinMap as maps
 use Rattle.std.proofs.lemmas.Bool.{eqb-true, eqb-false, le-ltb, ltb-true, ltb-false}
@@ -16,7 +16,7 @@ use Rattle.rz_events.specs.declared.events.Event.TheVariants as e
 use Rattle.rz_export_model.specs.Export.{Export as ExportState, Enrolled, spent, draws, new_fence, enroll_reply, after_enroll}
 use Rattle.rz_export_model.specs.ExportEvents.{enroll_event}
 use Rattle.rz_core.specs.History.{facts, of_actor, Has}
-use Rattle.rz_core.specs.ExportWord.{last_drawn, enrolled, or_new, export_of}
+use Rattle.rz_core.specs.ExportWord.{last_drawn, enrolled, or_new}
 use Rattle.rz_core.specs.ExportRows.{DeniedRow, OldLossRow, EnrollRow}
 use Rattle.rz_core.specs.Legal.{IsLegal}
 use Rattle.rz_core.specs.Tied.{IsExport, IsExportStep, IsExportLawOf}
@@ -80,10 +80,10 @@ enroll_step v h by s b node loss probed x is = go (maps.get s.enrolled node) ref
         let fresh = ap (λ (o : Option Denial). enroll_event by (call.Enroll node loss) (option_map_or reply.Denied o (reply.Fence (s.last + 1)))) (left v h s b) in
         subst (λ y. IsExportStep v h y (after_enroll s node loss)) (the_some _ x (sym fresh ∙ is))
         (gave v h by s b node loss (s.last + 1) (record {
-            probed = probed;
-            top = top;
-            fence_is = ap (λ n. n + 1) known.last ∙ sym (ap (λ o. or_new o (last_drawn (export h))) none);
-          }))
+          probed = probed;
+          top = top;
+          fence_is = ap (λ n. n + 1) known.last ∙ sym (ap (λ o. or_new o (last_drawn (export h))) none);
+        }))
 
     by_same : (r : Enrolled) → maps.get s.enrolled node ≡ Some r → r.loss ≤ loss → (t : Bool) → (loss == r.loss) ≡ t
         → enroll_event by (call.Enroll node loss) (cond t (reply.Fence r.fence) (new_fence s)) ≡ Some x → IsExportStep v h x (after_enroll s node loss)
@@ -92,10 +92,10 @@ enroll_step v h by s b node loss probed x is = go (maps.get s.enrolled node) ref
         let at = eqb-true loss r.loss same in
         subst (λ y. IsExportStep v h y (after_enroll s node loss)) (the_some _ x is)
         (gave v h by s b node loss r.fence (record {
-            probed = probed;
-            top = λ a l g has. (let le = i.1 a l g has in omega (arith, le, at));
-            fence_is = sym (ap (λ o. or_new o (last_drawn (export h))) (ap (enrolled (export h) node) at ∙ i.0));
-          }))
+          probed = probed;
+          top = λ a l g has. (let le = i.1 a l g has in omega (arith, le, at));
+          fence_is = sym (ap (λ o. or_new o (last_drawn (export h))) (ap (enrolled (export h) node) at ∙ i.0));
+        }))
     by_same r q low false other is =
         let i = known.some node r q in
         let apart = eqb-false loss r.loss other in

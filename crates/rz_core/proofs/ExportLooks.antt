@@ -1,5 +1,5 @@
 -- Looks after a legal log.
-use Rattle.std.proofs.Common.{ℕ, Bool, true, false, ◌≡◌, ◌≤◌, ◌<◌, ◌-◌, ◌^◌, nat_le, is_some, is_none, List, length, Option, Some, None, cond, refl, sym, ◌∙◌, ap, subst}
+use Rattle.std.proofs.Common.{ℕ, Bool, true, false, ◌≡◌, ◌≤◌, ◌<◌, nat_le, is_some, is_none, List, Option, Some, None, cond, refl, sym, ◌∙◌, ap, subst}
 use Rattle.std.specs.Option.{option_map_or, option_or}
 use Rattle.std.specs.FinMap as maps
 use Rattle.std.proofs.lemmas.Bool.{leb-true, leb-false}
@@ -21,7 +21,7 @@ use Rattle.rz_core.specs.History.{Facts, facts, of_actor}
 use Rattle.rz_core.specs.ExportWord.{is_live, export_of}
 use Rattle.rz_core.specs.ExportRows.{LookRow, HasLooked, RecheckRow}
 use Rattle.rz_core.specs.Legal.{IsLegal}
-use Rattle.rz_core.specs.Tied.{IsExport, IsExportStep, IsExportLawOf}
+use Rattle.rz_core.specs.Tied.{IsExportStep, IsExportLawOf}
 use Rattle.rz_core.proofs.Stamps.{export}
 use Rattle.rz_core.proofs.NodeSteps.{the_some}
 use Rattle.rz_core.proofs.ExportSteps.{same-export}
@@ -81,13 +81,13 @@ look_step : (v : Volume) (h : List Event) (by : Actor) (s : ExportState) → Bef
 look_step v h by s b n key x =
     look-cases s key (λ o. look_event by (call.Look key) (option_map_or reply.Denied o (reply.Looked (published_of s.blocks key))) ≡ Some x → IsExportStep v h x s)
     (λ none is. subst (λ y. IsExportStep v h y s) (the_some _ x is)
-      (denied v h by s b (asked.Look key) denial.UnknownFile (not-live (facts h) (export h) s n key.fid none)))
+    (denied v h by s b (asked.Look key) denial.UnknownFile (not-live (facts h) (export h) s n key.fid none)))
     (λ info there far is. subst (λ y. IsExportStep v h y s) (the_some _ x is)
-      (denied v h by s b (asked.Look key) denial.BlockTooFar (is-live (facts h) (export h) s n key.fid info there, far)))
+    (denied v h by s b (asked.Look key) denial.BlockTooFar (is-live (facts h) (export h) s n key.fid info there, far)))
     (λ info there near is. (
-      let live = is-live (facts h) (export h) s n key.fid info there in
-      subst (λ y. IsExportStep v h y s) (the_some _ x is)
-      (looked v h by s b key (record { live = live; block = near; told = (tied-blocks v h s b key live).told }))))
+    let live = is-live (facts h) (export h) s n key.fid info there in
+    subst (λ y. IsExportStep v h y s) (the_some _ x is)
+    (looked v h by s b key (record { live = live; block = near; told = (tied-blocks v h s b key live).told }))))
 
 pub export-look : (v : Volume) → IsNaming v → (key : Key) → IsExportLawOf v (call.Look key)
 export-look v naming key h by s x legal tied room proper right is =
@@ -106,13 +106,13 @@ recheck_step : (v : Volume) (h : List Event) (by : Actor) (s : ExportState) → 
 recheck_step v h by s b n key has x =
     look-cases s key (λ o. recheck_event by (call.Recheck key) (option_map_or reply.Denied o (reply.Looked (published_of s.blocks key))) ≡ Some x → IsExportStep v h x s)
     (λ none is. subst (λ y. IsExportStep v h y s) (the_some _ x is)
-      (denied v h by s b (asked.Recheck key) denial.UnknownFile (not-live (facts h) (export h) s n key.fid none)))
+    (denied v h by s b (asked.Recheck key) denial.UnknownFile (not-live (facts h) (export h) s n key.fid none)))
     (λ info there far is. subst (λ y. IsExportStep v h y s) (the_some _ x is)
-      (denied v h by s b (asked.Recheck key) denial.BlockTooFar (is-live (facts h) (export h) s n key.fid info there, far)))
+    (denied v h by s b (asked.Recheck key) denial.BlockTooFar (is-live (facts h) (export h) s n key.fid info there, far)))
     (λ info there near is. (
-      let live = is-live (facts h) (export h) s n key.fid info there in
-      subst (λ y. IsExportStep v h y s) (the_some _ x is)
-      (rechecked v h by s b key (record { live = live; looked = has; told = (tied-blocks v h s b key live).told }))))
+    let live = is-live (facts h) (export h) s n key.fid info there in
+    subst (λ y. IsExportStep v h y s) (the_some _ x is)
+    (rechecked v h by s b key (record { live = live; looked = has; told = (tied-blocks v h s b key live).told }))))
 
 pub export-recheck : (v : Volume) → IsNaming v → (key : Key) → IsExportLawOf v (call.Recheck key)
 export-recheck v naming key h by s x legal tied room proper right is =

@@ -2,7 +2,6 @@
 use Rattle.std.proofs.Common.{ℕ, Bool, true, false, ◌≡◌, ◌≤◌, ◌<◌, ◌+◌, nat_lt, is_none, List, ◌∷◌, [], Option, Some, None, cond, refl, sym, ◌∙◌, ap, subst, arith}
 use Rattle.std.specs.Prelude.{slice_get, unwrap_or}
 use Rattle.std.specs.Option.{option_map, option_map_or, option_and_then, option_or}
-use Rattle.std.specs.FinMap as maps
 use Rattle.std.proofs.lemmas.Bool.{ltb-true, ltb-false}
 use Rattle.rz_events.specs.Volume.{Volume}
 use Rattle.rz_events.specs.declared.keys.Key.{Key}
@@ -19,9 +18,9 @@ use Rattle.rz_events.specs.declared.events.Event.TheVariants as e
 use Rattle.rz_export_model.specs.Tree.{file_of}
 use Rattle.rz_export_model.specs.Export.{Export as ExportState, latest_of, fence_of, barred, no_publish, after_publish}
 use Rattle.rz_export_model.specs.ExportEvents.{publish_event}
-use Rattle.rz_core.specs.History.{Begun, facts, of_actor, IsPlace, length_in}
-use Rattle.rz_core.specs.ExportWord.{latest, HasBit, export_of}
-use Rattle.rz_core.specs.ExportRows.{IsFree, IsPublishing, IsPublishable, AcceptedRow, BarredRow, RevokedRow}
+use Rattle.rz_core.specs.History.{facts, of_actor, IsPlace, length_in}
+use Rattle.rz_core.specs.ExportWord.{HasBit, export_of}
+use Rattle.rz_core.specs.ExportRows.{IsFree, IsPublishing, IsPublishable}
 use Rattle.rz_core.specs.Tied.{IsExportStep, IsExportLawOf}
 use Rattle.rz_core.proofs.Extends.{extends-more}
 use Rattle.rz_core.proofs.Stamps.{export}
@@ -51,8 +50,8 @@ publish_cases s key stamp mask P unknown late free = go (file_of s.tree key.fid)
 
     go : (o : Option FileInfo) → file_of s.tree key.fid ≡ o
         → P (option_or (option_map reply.Denied (cond (is_none o) (Some denial.UnknownFile) None))
-          (option_or (cond (nat_lt stamp (latest_of s.blocks key)) (Some (reply.Revoked (latest_of s.blocks key))) None)
-          (option_or (option_and_then (λ (info : FileInfo). barred s mask stamp 0 info.places) o) None)))
+        (option_or (cond (nat_lt stamp (latest_of s.blocks key)) (Some (reply.Revoked (latest_of s.blocks key))) None)
+        (option_or (option_and_then (λ (info : FileInfo). barred s mask stamp 0 info.places) o) None)))
     go None none = unknown none
     go (Some info) is = by_stamp info is (nat_lt stamp (latest_of s.blocks key)) refl
 
@@ -111,8 +110,11 @@ module _ (v : Volume) (h : List Event) (by : Actor) (s : ExportState) (b : Befor
       row = record {
         publishable = publishable info there low;
         named = g.named;
-        barred = (g.node, (info.places, n.places key.fid info there, subst (λ z. slice_get info.places z ≡ Some g.node) here g.at),
-          record { enrolled = fence-has s (export h) (enrolment v h s b) g.node stamp g.above; top = fence-top v (facts h) (export h) (export-rows v h b.legal) s (enrolment v h s b) g.node });
+        barred = (
+          g.node,
+          (info.places, n.places key.fid info there, subst (λ z. slice_get info.places z ≡ Some g.node) here g.at),
+          record { enrolled = fence-has s (export h) (enrolment v h s b) g.node stamp g.above; top = fence-top v (facts h) (export h) (export-rows v h b.legal) s (enrolment v h s b) g.node },
+        );
         above = g.above;
         least = λ p m less bit place. free_of m (g.least p m (omega (arith, less)) (subst (HasBit mask) (first p) bit) (at_place info there p m place));
       };
@@ -141,7 +143,7 @@ module _ (v : Volume) (h : List Event) (by : Actor) (s : ExportState) (b : Befor
   publish_step size long x =
       publish_cases s key stamp mask (IsStep v h by s key stamp mask size x)
       (λ none is. subst (λ y. IsExportStep v h y s) (the_some _ x is)
-        (denied v h by s b (asked.Publish key) denial.UnknownFile (not-live (facts h) (export h) s n key.fid none)))
+      (denied v h by s b (asked.Publish key) denial.UnknownFile (not-live (facts h) (export h) s n key.fid none)))
       (λ info there less is. subst (λ y. IsExportStep v h y s) (the_some _ x is) (revoked info there less))
       (λ info there low. answered info there low (barred s mask stamp 0 info.places) refl)
     where

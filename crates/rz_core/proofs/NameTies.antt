@@ -1,11 +1,10 @@
 -- The names of the export and the log: which files are live, and where they lie.
-use Rattle.std.proofs.Common.{ℕ, Bool, true, false, ◌==◌, ◌&&◌, ◌||◌, not, ◌≡◌, ◌⊎◌, inl, inr, ◌≤◌, ◌<◌, ◌+◌, List, [], ◌∷◌, Option, Some, None, is_some, is_none, cond, refl, sym, ◌∙◌, ap, subst, arith}
+use Rattle.std.proofs.Common.{ℕ, Bool, true, false, ◌==◌, ◌&&◌, ◌||◌, not, ◌≡◌, ◌⊎◌, inl, inr, ◌≤◌, ◌+◌, List, [], ◌∷◌, Option, Some, None, is_some, cond, refl, sym, ◌∙◌, ap, subst, arith}
 use Rattle.std.specs.Option.{option_and_then}
 use Rattle.std.specs.FinMap as maps
-use Rattle.std.specs.FinMap.{FinMap}
 use Rattle.std.specs.Ordering.{nat_cmp, eq_by_cmp}
 use Rattle.std.specs.Cmp.{nat_cmp_total}
-use Rattle.std.proofs.lemmas.Bool.{eqb-true, eq-eqb, or_cases, or_parts, and_right, and_from, true_from_ne_false, false_from_ne_true}
+use Rattle.std.proofs.lemmas.Bool.{eqb-true, eq-eqb, or_cases, or_parts, and_right, false_from_ne_true}
 use Rattle.std.proofs.lemmas.Option.{same_Some}
 use Rattle.rz_events.specs.Volume.{Volume}
 use Rattle.rz_events.specs.declared.keys.Actor.{Actor}
@@ -19,7 +18,6 @@ use Rattle.rz_events.specs.declared.events.Event.TheVariants as e
 use Rattle.rz_events.specs.Events.{word_of, same_word}
 use Rattle.rz_export_model.specs.Firsts.{given_if}
 use Rattle.rz_export_model.specs.Tree.{Tree, Object, empty_tree, new_dir, file_of, file_from, is_file, info_of}
-use Rattle.rz_export_model.specs.TreeCalls.{reply_to, tree_after}
 use Rattle.rz_export_model.specs.Export.{Export as ExportState, new_places, after_tree, after_enroll, draws}
 use Rattle.rz_core.specs.History.{Facts, facts, places_of, placed_by, first_some, Has}
 use Rattle.rz_core.specs.ExportWord.{makes, ends, is_made, is_gone, is_live, export_of}

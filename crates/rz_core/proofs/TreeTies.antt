@@ -1,26 +1,25 @@
 -- What a call on the tree changes of its files: which come, which go, and where they lie.
-use Rattle.std.proofs.Common.{ℕ, Bool, true, false, ◌==◌, ◌&&◌, not, ◌≡◌, ◌⊎◌, inl, inr, ◌≤◌, ◌<◌, ◌+◌, List, [], ◌∷◌, Option, Some, None, is_some, cond, refl, sym, ◌∙◌, ap, subst, arith}
+use Rattle.std.proofs.Common.{ℕ, Bool, true, false, ◌==◌, ◌&&◌, not, ◌≡◌, ◌⊎◌, inl, inr, ◌≤◌, ◌<◌, ◌+◌, List, Option, Some, None, cond, refl, sym, ◌∙◌, ap, subst, arith}
 use Rattle.std.specs.Option.{option_map, option_map_or, option_and_then, option_or}
 use Rattle.std.specs.FinMap as maps
 use Rattle.std.specs.FinMap.{FinMap}
 use Rattle.std.specs.Ordering.{nat_cmp, is_lt, eq_by_cmp}
 use Rattle.std.specs.Cmp.{nat_cmp_total, unsigned_tied}
-use Rattle.std.proofs.lemmas.Bool.{eqb-true, eqb-false, eq-eqb, cases_lt, not-false}
+use Rattle.std.proofs.lemmas.Bool.{eqb-true, cases_lt}
 use Rattle.std.proofs.lemmas.Option.{same_Some}
 use Rattle.rz_events.specs.declared.files.Kind.{Kind}
 use Rattle.rz_events.specs.declared.files.Kind.TheVariants.{File, Dir, Link}
-use Rattle.rz_events.specs.declared.files.FileInfo.{FileInfo}
 use Rattle.rz_events.specs.declared.tree.TreeCall.{TreeCall}
 use Rattle.rz_events.specs.declared.tree.TreeCall.TheVariants as call
 use Rattle.rz_events.specs.declared.tree.TreeReply.{TreeReply}
 use Rattle.rz_events.specs.declared.tree.TreeReply.TheVariants as reply
 use Rattle.rz_events.specs.declared.tree.TreeFault.{TreeFault}
 use Rattle.rz_events.specs.declared.tree.TreeFault.TheVariants as fault
-use Rattle.rz_export_model.specs.Firsts.{first_of, given_if}
+use Rattle.rz_export_model.specs.Firsts.{given_if}
 use Rattle.rz_export_model.specs.Paths.{Path, path_cmp}
-use Rattle.rz_export_model.specs.Tree.{Tree, Object, Found, found_at, fid_at, is_file, is_dir, is_at, links_of, info_of, file_from, file_of, moved, with_object, grown, new_dir, new_file, new_link}
+use Rattle.rz_export_model.specs.Tree.{Tree, Object, Found, found_at, fid_at, is_file, is_dir, is_at, links_of, info_of, moved, with_object, grown, new_dir, new_file, new_link}
 use Rattle.rz_export_model.specs.Refusals.{path_in, refusal, is_same_object, unreadable_or_root, walk, absent, not_dir, not_empty}
-use Rattle.rz_export_model.specs.TreeCalls.{last_name_of, without_name, with_new, changed_by, answer_to, tree_after, reply_to}
+use Rattle.rz_export_model.specs.TreeCalls.{last_name_of, without_name, changed_by, answer_to, tree_after, reply_to}
 use Rattle.rz_core.specs.History.{first_some}
 use Rattle.rz_core.specs.ExportWord.{makes, ends}
 
