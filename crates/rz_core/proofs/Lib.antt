@@ -16,3 +16,5 @@ pub mod ExportLooks
 pub mod Naming
 pub mod Fences
 pub mod ExportPublish
+pub mod Listings
+pub mod ExportNext
