@@ -70,6 +70,12 @@ pub fn export_tree()
     ensures { (v : Volume) (c : ATreeCall) → IsExportLawOf v (call.Tree c) }
 {}
 
+/// A begin after a legal log: its event is allowed, be it begun or denied, and the export is then as the
+/// log gives it.
+pub fn export_begin()
+    ensures { (v : Volume) (key : AKey) (text : List ℕ) → IsExportLawOf v (call.Begin key text) }
+{}
+
 /// An enrolment after a legal log, of a loss that the caller was told by a probe of the node: it gives the
 /// fence of the greatest loss, which is drawn where that loss is new, or it says that a greater one is known.
 pub fn export_enroll()
