@@ -18,3 +18,5 @@ pub mod Naming
 pub mod BeginLaws
 pub mod Fences
 pub mod ExportPublish
+pub mod Listings
+pub mod ExportNext

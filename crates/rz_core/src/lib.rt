@@ -13,7 +13,7 @@
 //! `rz_export_model`, and nothing here says how they keep their state.
 #![tactic(auto)]
 
-ghost use Rattle.std.specs.Prelude.{ℕ, List};
+ghost use Rattle.std.specs.Prelude.{ℕ, List, Option};
 ghost use Rattle.rz_events.specs.Volume.{Volume};
 ghost use Rattle.rz_events.specs.declared.keys.Key.{Key as AKey};
 ghost use Rattle.rz_events.specs.declared.records.Head.{Head as AHead};
@@ -98,4 +98,10 @@ pub fn export_recheck()
 /// says which write or which node stands against it.
 pub fn export_publish()
     ensures { (v : Volume) (key : AKey) (stamp mask length : ℕ) → IsExportLawOf v (call.Publish key stamp mask length) }
+{}
+
+/// A `Next` after a legal log: it tells the least key after the given one whose published mask names the
+/// node, or that there is none.
+pub fn export_next()
+    ensures { (v : Volume) (node : ℕ) (after : Option AKey) → IsExportLawOf v (call.Next node after) }
 {}
