@@ -1,36 +1,32 @@
 -- The blocks that a node has to hold, one by one, after a legal log.
-use Rattle.std.proofs.Common.{ℕ, Bool, true, false, ◌≡◌, ◌+◌, is_some, List, ◌∷◌, Option, Some, None, cond, refl, sym, ◌∙◌, ap, subst, arith}
+use Rattle.std.proofs.Common.{ℕ, Bool, true, false, ◌≡◌, ◌+◌, is_some, List, Option, Some, None, cond, refl, sym, ◌∙◌, ap, subst, arith}
 use Rattle.std.specs.Prelude.{slice_get}
 use Rattle.std.specs.Option.{option_map, option_and_then}
 use Rattle.std.specs.FinMap as maps
 use Rattle.std.specs.FinMap.{get-entries, entries_sorted}
-use Rattle.std.specs.FinMap.Entries.{find}
 use Rattle.std.specs.Ordering.{is_lt}
 use Rattle.rz_events.specs.Volume.{Volume}
-use Rattle.rz_events.specs.Keys.{key_cmp}
 use Rattle.rz_events.specs.declared.keys.Key.{Key}
 use Rattle.rz_events.specs.declared.keys.Actor.{Actor}
 use Rattle.rz_events.specs.declared.files.FileInfo.{FileInfo}
 use Rattle.rz_events.specs.declared.files.Published.{Published}
 use Rattle.rz_events.specs.declared.files.Listed.{Listed}
 use Rattle.rz_events.specs.declared.export.Call.TheVariants as call
-use Rattle.rz_events.specs.declared.export.Reply.TheVariants as reply
 use Rattle.rz_events.specs.declared.events.Event.{Event}
 use Rattle.rz_events.specs.declared.events.Event.TheVariants as e
 use Rattle.rz_export_model.specs.Firsts.{first_given, given_if}
 use Rattle.rz_export_model.specs.Tree.{file_of}
 use Rattle.rz_export_model.specs.Export.{Export as ExportState, Block, is_after, listed_at, is_on, next_on}
-use Rattle.rz_export_model.specs.ExportEvents.{next_event}
 use Rattle.rz_core.specs.History.{facts}
-use Rattle.rz_core.specs.ExportWord.{HasBit, is_live, published, export_of}
-use Rattle.rz_core.specs.ExportRows.{IsListed, IsLess, IsAfter, ListedRow, NextRow}
+use Rattle.rz_core.specs.ExportWord.{HasBit}
+use Rattle.rz_core.specs.ExportRows.{IsListed, IsAfter, ListedRow, NextRow}
 use Rattle.rz_core.specs.Tied.{IsExportStep, IsExportLawOf}
 use Rattle.rz_core.proofs.Stamps.{export}
 use Rattle.rz_core.proofs.NodeSteps.{the_some}
 use Rattle.rz_core.proofs.ExportSteps.{same-export}
 use Rattle.rz_core.proofs.ExportCalls.{Before}
 use Rattle.rz_core.proofs.ExportLooks.{AreNamed, IsNaming, named, tied-blocks, is-live}
-use Rattle.rz_core.proofs.Listings.{less-is, is-less, none-given, IsFirst, first-given, IsNamed, named-at, at-named}
+use Rattle.rz_core.proofs.Listings.{less-is, is-less, none-given, first-given, named-at, at-named}
 
 -- what is listed of a published block
 abbrev listed_as : Key → FileInfo → Published → Listed
@@ -116,15 +112,15 @@ module _ (v : Volume) (h : List Event) (s : ExportState) (b : Before v h s) (n :
       let place : 0 + on.place ≡ on.place = omega arith in
       subst (ListedRow v (facts h) (export h) node after) a.same
       (record {
-          listed = record {
-            live = live;
-            told = sym (ap (λ (o : Option Block). option_and_then (λ (z : Block). z.published) o) here ∙ a.told) ∙ (tied-blocks v h s b f.key live).told;
-            named = (on.place, subst (HasBit a.published.mask) place on.bit, (a.info.places, n.places f.key.fid a.info a.file, on.at));
-          };
-          later = after-is after f.key a.later;
-          least = λ key p later less listed. not_silent key p later listed (λ block there. f.least key block (is-less key f.key less) (sym (get-entries s.blocks key) ∙ there));
-          file = ap (λ (z : ExportState). file_of z.tree f.key.fid) (sym b.tied) ∙ a.file;
-        })
+        listed = record {
+          live = live;
+          told = sym (ap (λ (o : Option Block). option_and_then (λ (z : Block). z.published) o) here ∙ a.told) ∙ (tied-blocks v h s b f.key live).told;
+          named = (on.place, subst (HasBit a.published.mask) place on.bit, (a.info.places, n.places f.key.fid a.info a.file, on.at));
+        };
+        later = after-is after f.key a.later;
+        least = λ key p later less listed. not_silent key p later listed (λ block there. f.least key block (is-less key f.key less) (sym (get-entries s.blocks key) ∙ there));
+        file = ap (λ (z : ExportState). file_of z.tree f.key.fid) (sym b.tied) ∙ a.file;
+      })
 
   next_row : (o : Option Listed) → next_on s node after ≡ o → NextRow v (facts h) (export h) node after o
   next_row None none = λ key p later listed. not_silent key p later listed

@@ -20,3 +20,4 @@ pub mod Fences
 pub mod ExportPublish
 pub mod Listings
 pub mod ExportNext
+pub mod ExportLaws

@@ -23,7 +23,7 @@ ghost use Rattle.rz_events.specs.declared.export.Call.TheVariants as call;
 ghost use Rattle.rz_events.specs.declared.events.Event.{Event as AnEvent};
 ghost use Rattle.rz_core.specs.Legal.{IsLocal};
 ghost use Rattle.rz_core.specs.Longer.{IsPermanent, IsPrefixLegal};
-ghost use Rattle.rz_core.specs.Tied.{IsExportLawOf, IsNodeLaw, IsNodeLawOf};
+ghost use Rattle.rz_core.specs.Tied.{IsExportLaw, IsExportLawOf, IsNodeLaw, IsNodeLawOf};
 
 /// What is allowed stays allowed, whatever others do: a later history of the same facts allows an
 /// event that an earlier one allowed, where what lies between is neither of the event's word nor by
@@ -104,4 +104,10 @@ pub fn export_publish()
 /// node, or that there is none.
 pub fn export_next()
     ensures { (v : Volume) (node : ℕ) (after : Option AKey) → IsExportLawOf v (call.Next node after) }
+{}
+
+/// Each call of the export after a legal log, by a caller that may make it: the event of its reply is
+/// allowed, a denial's as well, and the export's state after it is the one that the log then gives.
+pub fn exports()
+    ensures { (v : Volume) → IsExportLaw v }
 {}
