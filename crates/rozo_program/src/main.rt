@@ -2,9 +2,9 @@
 //! operation.
 //!
 //! The contract of `replay` says which status comes when, that the source was read to its end, that
-//! the log is the play of the script, and what the sink took of a refusal. It does not say how the
-//! log is printed, what a real file or a terminal holds, or that memory is there, whose want is
-//! status 70.
+//! the log is the play of the script, that it is legal and sound, and what the sink took of a
+//! refusal. It does not say how the log is printed, what a real file or a terminal holds, or that
+//! memory is there, whose want is status 70.
 //!
 //! In reading order: `replay`, `words`, `input`, `script`, `show`, `output`.
 #![tactic(auto)]
