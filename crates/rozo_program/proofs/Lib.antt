@@ -3,3 +3,4 @@ pub mod Texts
 pub mod Lines
 pub mod WordLaws
 pub mod ReplayLaws
+pub mod Histories

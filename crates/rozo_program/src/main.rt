@@ -2,9 +2,9 @@
 //! operation.
 //!
 //! The contract of `replay` says which status comes when, that the source was read to its end, that
-//! the log is the play of the script, and which bytes the sink took: the text of that log, or the one
-//! line of a refusal. It does not say what a real file or a terminal holds, or that memory is there,
-//! whose want is status 70.
+//! the log is the play of the script, that it is legal and sound, and which bytes the sink took: the
+//! text of that log, or the one line of a refusal. It does not say what a real file or a terminal
+//! holds, or that memory is there, whose want is status 70.
 //!
 //! In reading order: `replay`, `words`, `input`, `script`, `output`.
 #![tactic(auto)]

@@ -1,8 +1,11 @@
 //! The replay of a script.
 
 ghost use Rattle.std.specs.Prelude.{◌≡◌, ◌<◌, ◌≤◌, ◌+◌, ◌-◌, ◌^◌, All, IfOk, [], length, map, reverse, string_bytes};
+ghost use Rattle.rz_core.specs.Legal.{IsLegal};
+ghost use Rattle.rz_history.specs.Wide.{wide};
 ghost use Rattle.rz_ports.specs.Counts.{Rises};
 ghost use Rattle.rz_replay.specs.Script.{IsLine};
+ghost use Rattle.rz_safety.specs.Sound.{IsAnswering, IsSound};
 ghost use Rattle.rozo_program.specs.Input.{limit};
 ghost use Rattle.rozo_program.specs.Replay.{Answers, Ends, IsReadToEnd, Plays, Replays, cause_name, departure_line};
 
@@ -107,13 +110,8 @@ fn replay_text<O: Sink>(alloc: Global, text: &[u8], output: &mut O) -> Played
     }
 }
 
-/// Reads a script from the input, plays it over four nodes in memory, and writes the text of its
-/// log to the output. `words` are those of the command line.
-///
-/// The status is 0 where all was played and written, 2 for other words, 3 for a text that is
-/// refused, 4 where the source failed, 5 where the sink did, 7 for a text that is too long, and 70
-/// for want of memory.
-pub fn replay<I: Source, O: Sink>(
+/// Reads a script, plays it and writes its text.
+fn read_and_play<I: Source, O: Sink>(
     alloc: Global,
     words: &[String],
     input: &mut I,
@@ -131,4 +129,29 @@ pub fn replay<I: Source, O: Sink>(
         Taken::Failed => unplayed(alloc, 4),
         Taken::NoMemory => unplayed(alloc, 70),
     }
+}
+
+/// Reads a script from the input, plays it over four nodes in memory, and writes the text of its
+/// log to the output. `words` are those of the command line.
+///
+/// The status is 0 where all was played and written, 2 for other words, 3 for a text that is
+/// refused, 4 where the source failed, 5 where the sink did, 7 for a text that is too long, and 70
+/// for want of memory. The log is legal and sound at each status, for a volume of four nodes that are
+/// never full.
+pub fn replay<I: Source, O: Sink>(
+    alloc: Global,
+    words: &[String],
+    input: &mut I,
+    output: &mut O,
+) -> Played
+    ensures replayed { Replays (map string_bytes words.now) (I.left input.old) (Rises (I.faults input.old) (I.faults input.new)) (record { before = O.taken output.old; after = O.taken output.new; old = O.faults output.old; new = O.faults output.new }) result.status (reverse result.log.items) }
+    ensures source { IsReadToEnd (I.left input.old) (I.left input.new) result.status }
+    ensures legal { IsLegal wide (reverse result.log.items) }
+    ensures sound { IsSound wide (reverse result.log.items) }
+    ensures answering { IsAnswering wide (reverse result.log.items) }
+{
+    rz_history::legal();
+    rz_history::sound();
+    rz_history::answering();
+    read_and_play(alloc, words, input, output)
 }

@@ -1,6 +1,5 @@
 -- Enrolments: what the export's map of them says, and the last number drawn.
 use Rattle.std.proofs.Common.{ℕ, Bool, true, false, ◌==◌, ◌&&◌, ◌≡◌, ◌⊎◌, inl, inr, ◌≤◌, ◌<◌, ◌+◌, ◌-◌, ◌^◌, nat_lt, nat_le, is_none, List, [], ◌∷◌, length, Option, Some, None, cond, refl, sym, ◌∙◌, ap, subst, arith}
-use Rattle.std.specs.Option.{option_map_or}
 use Rattle.std.specs.List.{AllByRecursion}
 use Rattle.std.specs.FinMap as maps
 use Rattle.std.specs.FinMap.{FinMap}
@@ -9,30 +8,23 @@ use Rattle.std.specs.Cmp.{nat_cmp_total, unsigned_tied}
 use Rattle.std.proofs.lemmas.Bool.{eqb-true, eqb-false, eq-eqb, and_parts, ltb-true, ltb-false, leb-true}
 use Rattle.rz_events.specs.Volume.{Volume}
 use Rattle.rz_events.specs.declared.keys.Actor.{Actor}
-use Rattle.rz_events.specs.declared.export.Asked.TheVariants as asked
-use Rattle.rz_events.specs.declared.export.Call.TheVariants as call
 use Rattle.rz_events.specs.declared.ends.Denial.{Denial}
 use Rattle.rz_events.specs.declared.ends.Denial.TheVariants as denial
-use Rattle.rz_events.specs.declared.export.Reply.{Reply}
-use Rattle.rz_events.specs.declared.export.Reply.TheVariants as reply
 use Rattle.rz_events.specs.declared.events.Word.{Word}
 use Rattle.rz_events.specs.declared.events.Word.TheVariants.{Export, Node, Own}
 use Rattle.rz_events.specs.declared.events.Event.{Event}
 use Rattle.rz_events.specs.declared.events.Event.TheVariants as e
 use Rattle.rz_events.specs.Events.{by_of, word_of, same_word}
-use Rattle.rz_export_model.specs.Export.{Export as ExportState, Enrolled, spent, draws, new_fence, enroll_reply, after_enroll}
-use Rattle.rz_export_model.specs.ExportEvents.{enroll_event}
+use Rattle.rz_export_model.specs.Export.{Export as ExportState, Enrolled, spent, draws, after_enroll}
 use Rattle.rz_core.specs.History.{Facts, facts, of_word, of_actor, Has}
 use Rattle.rz_core.specs.ExportWord.{last_drawn, greater, enrolled, or_new, export_of}
-use Rattle.rz_core.specs.Legal.{IsLegal, Row, IsAllowed}
-use Rattle.rz_core.specs.Tied.{IsExportStep, IsExportLawOf}
-use Rattle.rz_core.proofs.Extends.{Extends, Knows, extends-more}
+use Rattle.rz_core.specs.Legal.{IsLegal, Row}
+use Rattle.rz_core.proofs.Extends.{Knows, extends-more}
 use Rattle.rz_core.proofs.Rows.{row-extends}
 use Rattle.rz_core.proofs.Locality.{legal-knows, all-filter}
 use Rattle.rz_core.proofs.Stamps.{export, greater-left, greater-right}
 use Rattle.rz_core.proofs.NodeLaws.{IsRows, rows-extends}
 use Rattle.rz_core.proofs.NodeSteps.{the_some}
-use Rattle.rz_core.proofs.ExportSteps.{same-export}
 
 enrolled_cases : (t : Bool) (g f : ℕ) (old : Option ℕ) → cond t (Some g) old ≡ Some f → ((t ≡ true) × (g ≡ f)) ⊎ (old ≡ Some f)
 enrolled_cases true g f old k = inl (refl, cc)
@@ -90,7 +82,7 @@ greater_first a b p = let l = greater_most a b a (omega arith) p in let m = grea
 greater_second : (a b : ℕ) → a ≤ b → greater a b ≡ b
 greater_second a b p = let l = greater_most a b b p (omega arith) in let m = greater-right a b in omega (arith, l, m)
 
-fence_drawn : (v : Volume) (f : Facts) (w : List Event) → IsRows v f w → (by : Actor) (n l g : ℕ) → Has w (e.Enroll by n l g) → g ≤ last_drawn w
+pub fence_drawn : (v : Volume) (f : Facts) (w : List Event) → IsRows v f w → (by : Actor) (n l g : ℕ) → Has w (e.Enroll by n l g) → g ≤ last_drawn w
 fence_drawn v f [] r by n l g has = absurd has
 fence_drawn v f (e.Begin a key stamp base text ∷ w) r by n l g (inl is) = cc
 fence_drawn v f (e.Begin a key stamp base text ∷ w) r by n l g (inr has) =
@@ -220,7 +212,7 @@ module _ (s : ExportState) (w : List Event) (a : AreEnrolled s w) (by : Actor) (
           → (cond ((n == m) && (q.loss == l)) (Some g) (enrolled w n q.loss) ≡ Some q.fence) × ((b : Actor) (k j : ℕ) → Has (e.Enroll by m l g ∷ w) (e.Enroll b n k j) → k ≤ q.loss)
       some n q is = let i = a.some n q is in (fences n q is i.0 ((n == m) && (q.loss == l)) refl, least n q is i.1)
 
-none_before : (w : List Event) (n l : ℕ) → ((by : Actor) (g : ℕ) → ¬ Has w (e.Enroll by n l g)) → enrolled w n l ≡ None
+pub none_before : (w : List Event) (n l : ℕ) → ((by : Actor) (g : ℕ) → ¬ Has w (e.Enroll by n l g)) → enrolled w n l ≡ None
 none_before w n l never = go (enrolled w n l) refl
   where
     go : (o : Option ℕ) → enrolled w n l ≡ o → o ≡ None

@@ -1,5 +1,5 @@
 -- Each call of the export after a legal log.
-use Rattle.std.proofs.Common.{ℕ, ◌≡◌, ◌-◌, ◌^◌, List, ◌∷◌, [], Some, refl, sym, ◌∙◌, ap, subst}
+use Rattle.std.proofs.Common.{◌≡◌, List, ◌∷◌, [], sym, ◌∙◌, ap, subst}
 use Rattle.rz_events.specs.Volume.{Volume}
 use Rattle.rz_events.specs.declared.tree.TreeCall.{TreeCall}
 use Rattle.rz_events.specs.declared.export.Call.TheVariants as call

@@ -9,3 +9,15 @@ pub mod NodeSteps
 pub mod NodeRest
 pub mod ExportSteps
 pub mod EnrollLaws
+pub mod TreeTies
+pub mod NameTies
+pub mod ExportCalls
+pub mod BlockTies
+pub mod ExportLooks
+pub mod Naming
+pub mod BeginLaws
+pub mod Fences
+pub mod ExportPublish
+pub mod Listings
+pub mod ExportNext
+pub mod ExportLaws

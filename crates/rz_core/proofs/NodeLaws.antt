@@ -5,8 +5,6 @@ use Rattle.std.proofs.lemmas.Bool.{eqb-true, eq-eqb, lt-ltb, ltb-true, cases_lt}
 use Rattle.rz_events.specs.Volume.{Volume}
 use Rattle.rz_events.specs.declared.keys.Key.{Key}
 use Rattle.rz_events.specs.declared.keys.Actor.{Actor}
-use Rattle.rz_events.specs.declared.files.Listed.{Listed}
-use Rattle.rz_events.specs.declared.tree.TreeReply.TheVariants as reply
 use Rattle.rz_events.specs.declared.records.Change.{Change}
 use Rattle.rz_events.specs.declared.records.Change.TheVariants as change
 use Rattle.rz_events.specs.declared.nodes.Phase.TheVariants.{Up, Down, Lost}
@@ -14,18 +12,16 @@ use Rattle.rz_events.specs.declared.events.Word.{Word}
 use Rattle.rz_events.specs.declared.events.Word.TheVariants.{Export, Node, Own}
 use Rattle.rz_events.specs.declared.events.Event.{Event}
 use Rattle.rz_events.specs.declared.events.Event.TheVariants as e
-use Rattle.rz_events.specs.Events.{by_of, word_of, same_actor, same_word, same_key}
+use Rattle.rz_events.specs.Events.{by_of, word_of, same_word, same_key}
 use Rattle.rz_node_model.specs.Versions.{kept, refilled, without, greater_goes, IsAbove, Stands, IsPast}
-use Rattle.rz_core.specs.History.{Facts, facts, Begun, wrote, of_word, of_actor, Has}
-use Rattle.rz_core.specs.Own.{is_next}
+use Rattle.rz_core.specs.History.{Facts, facts, of_word, of_actor, Has}
 use Rattle.rz_core.specs.NodeWord.{phase, held, changed, taken, undecided, base_of, itself}
-use Rattle.rz_core.specs.ExportWord.{accepted}
-use Rattle.rz_core.specs.NodeRows.{DidRow, IsRebuilding, HasGone}
+use Rattle.rz_core.specs.NodeRows.{DidRow}
 use Rattle.rz_core.specs.Legal.{IsLegal, Row}
-use Rattle.rz_core.proofs.Extends.{Extends, extends-more, wrote-more, held-extends, Knows, last-has, some_length}
+use Rattle.rz_core.proofs.Extends.{Extends, extends-more, Knows}
 use Rattle.rz_core.proofs.Rows.{row-extends}
-use Rattle.rz_core.proofs.Locality.{all-filter, legal-knows, KnowsBefore, row-knows}
-use Rattle.rz_core.proofs.Stamps.{export, same_key-true}
+use Rattle.rz_core.proofs.Locality.{all-filter, legal-knows}
+use Rattle.rz_core.proofs.Stamps.{same_key-true}
 
 abbrev pub node : ℕ → List Event → List Event
 node n h = of_word (Node n) h

@@ -1,5 +1,5 @@
 -- Drops, probes, stops, starts, losses and replacements of a node after a legal log.
-use Rattle.std.proofs.Common.{ℕ, Bool, true, false, ◌==◌, ◌≡◌, ◌⊎◌, inl, inr, ◌≤◌, ◌<◌, ◌+◌, List, [], ◌∷◌, map, Option, Some, None, IsSome, cond, refl, sym, ◌∙◌, ap, subst, arith}
+use Rattle.std.proofs.Common.{ℕ, Bool, true, false, ◌==◌, ◌≡◌, ◌⊎◌, inl, inr, ◌≤◌, ◌+◌, List, [], ◌∷◌, map, Option, Some, None, IsSome, cond, refl, sym, ◌∙◌, ap, subst, arith}
 use Rattle.std.specs.Option.{option_map}
 use Rattle.std.specs.List.{AllByRecursion}
 use Rattle.std.specs.FinMap as maps
@@ -23,7 +23,6 @@ use Rattle.rz_events.specs.declared.nodes.NodeAsk.TheVariants as ask
 use Rattle.rz_events.specs.declared.nodes.NodeAnswer.TheVariants as answer
 use Rattle.rz_events.specs.declared.events.Event.{Event}
 use Rattle.rz_events.specs.declared.events.Event.TheVariants as e
-use Rattle.rz_node_model.specs.declared.pending.Pending.{Pending}
 use Rattle.rz_node_model.specs.declared.pending.Pending.TheVariants as pending
 use Rattle.rz_node_model.specs.Versions.{IsLesser, IsHeld, lesser_of}
 use Rattle.rz_node_model.specs.Records.{held_of, key_at, first_block, least_block, listed, IsWhole}
@@ -31,17 +30,16 @@ use Rattle.rz_node_model.specs.States.{NodeState, opened}
 use Rattle.rz_node_model.specs.Answers.{drop_answer, IsDropAnswer, probe_in}
 use Rattle.rz_node_model.specs.Afterwards.{with_change, after_fault, after_drop, taken}
 use Rattle.rz_node_model.specs.NodeEvents.{drop_event}
-use Rattle.rz_node_model.proofs.VersionLaws.{lesser_of-map}
 use Rattle.rz_node_model.proofs.RecordLaws.{whole-empty}
 use Rattle.rz_core.specs.History.{Facts, facts, of_actor}
-use Rattle.rz_core.specs.NodeWord.{phase, undecided, held, itself, taken as taken_in}
+use Rattle.rz_core.specs.NodeWord.{phase, undecided, held, taken as taken_in}
 use Rattle.rz_core.specs.ExportRows.{IsLess}
 use Rattle.rz_core.specs.NodeRows.{IsAmong, IsRising, HasGone, DropRow, ProbeRow}
 use Rattle.rz_core.specs.Tied.{record_in, pending_in, IsNode, IsNodeStep, IsNodeLawOf, IsNodeLaw}
 use Rattle.rz_core.proofs.Stamps.{key_ext}
 use Rattle.rz_core.proofs.NodeLaws.{node, rows, undecided-down, lost-empty}
 use Rattle.rz_core.proofs.NodeSays.{Drops, drop-says, replace-says, lose-says, stop-says}
-use Rattle.rz_core.proofs.NodeTies.{IsSilent, step, idle, carried-ties, whole-carried, keys-rise, held-among, among-held}
+use Rattle.rz_core.proofs.NodeTies.{step, idle, carried-ties, whole-carried, keys-rise, held-among, among-held}
 use Rattle.rz_core.proofs.NodeSteps.{Before, the_some, up-there, refused, broke, did, node-keep, node-refill, node-fetch}
 
 -- Drops.

@@ -1,8 +1,6 @@
 -- Each call of a node after a legal log.
-use Rattle.std.proofs.Common.{ℕ, Bool, true, false, ◌≡◌, ◌⊎◌, inl, inr, ◌≤◌, ◌<◌, ◌+◌, ◌-◌, ◌^◌, List, [], ◌∷◌, map, length, Option, Some, None, IsSome, cond, refl, sym, ◌∙◌, ap, subst, arith}
+use Rattle.std.proofs.Common.{ℕ, ◌≡◌, inl, inr, ◌≤◌, ◌<◌, ◌-◌, ◌^◌, List, ◌∷◌, length, Option, Some, None, refl, sym, ◌∙◌, subst, arith}
 use Rattle.std.specs.Option.{option_map}
-use Rattle.std.specs.List.{AllByRecursion}
-use Rattle.std.specs.FinMap as maps
 use Rattle.rz_events.specs.Volume.{Volume}
 use Rattle.rz_events.specs.declared.keys.Key.{Key}
 use Rattle.rz_events.specs.declared.keys.Actor.{Actor}
@@ -12,7 +10,7 @@ use Rattle.rz_events.specs.declared.records.Change.{Change}
 use Rattle.rz_events.specs.declared.records.Change.TheVariants as change
 use Rattle.rz_events.specs.declared.ends.Why.{Why}
 use Rattle.rz_events.specs.declared.ends.Why.TheVariants as why
-use Rattle.rz_events.specs.declared.nodes.Phase.TheVariants.{Up, Down, Lost}
+use Rattle.rz_events.specs.declared.nodes.Phase.TheVariants.{Up}
 use Rattle.rz_events.specs.declared.nodes.KeepAnswer.{KeepAnswer}
 use Rattle.rz_events.specs.declared.nodes.KeepAnswer.TheVariants as keep
 use Rattle.rz_events.specs.declared.nodes.RefillAnswer.{RefillAnswer}
@@ -20,13 +18,11 @@ use Rattle.rz_events.specs.declared.nodes.RefillAnswer.TheVariants as refill
 use Rattle.rz_events.specs.declared.nodes.FetchAnswer.{FetchAnswer}
 use Rattle.rz_events.specs.declared.nodes.FetchAnswer.TheVariants as fetch
 use Rattle.rz_events.specs.declared.nodes.NodeAsk.TheVariants as ask
-use Rattle.rz_events.specs.declared.nodes.NodeAnswer.{NodeAnswer}
 use Rattle.rz_events.specs.declared.nodes.NodeAnswer.TheVariants as answer
 use Rattle.rz_events.specs.declared.events.Word.TheVariants.{Node}
 use Rattle.rz_events.specs.declared.events.Event.{Event}
 use Rattle.rz_events.specs.declared.events.Event.TheVariants as e
 use Rattle.rz_events.specs.Events.{word_of, same_word}
-use Rattle.rz_node_model.specs.declared.pending.Pending.{Pending}
 use Rattle.rz_node_model.specs.declared.pending.Pending.TheVariants as pending
 use Rattle.rz_node_model.specs.Records.{record_of}
 use Rattle.rz_node_model.specs.States.{NodeState}
@@ -34,17 +30,17 @@ use Rattle.rz_node_model.specs.Answers.{keep_answer, IsKeepAnswer, refill_answer
 use Rattle.rz_node_model.specs.Afterwards.{with_change, after_fault, after_keep, after_refill, after_fetch}
 use Rattle.rz_node_model.specs.NodeEvents.{keep_event, refill_event, fetch_event}
 use Rattle.rz_node_model.proofs.VersionLaws.{keep-passed, refill-dated, refill-passed}
-use Rattle.rz_core.specs.History.{Facts, facts, of_actor, IsPlace}
-use Rattle.rz_core.specs.NodeWord.{phase, fence_of, undecided, held}
-use Rattle.rz_core.specs.NodeRows.{cells_of, IsWriting, IsKeep, KeepRow, IsRebuilding, IsRefill, RefillRow, RefusedRow, FetchRow}
+use Rattle.rz_core.specs.History.{facts, of_actor, IsPlace}
+use Rattle.rz_core.specs.NodeWord.{phase, fence_of, held}
+use Rattle.rz_core.specs.NodeRows.{cells_of, IsWriting, KeepRow, IsRebuilding, RefillRow, RefusedRow, FetchRow}
 use Rattle.rz_core.specs.Legal.{IsLegal}
-use Rattle.rz_core.specs.Tied.{record_in, pending_in, IsNode, IsOfWrite, IsNodeStep, IsNodeLawOf}
+use Rattle.rz_core.specs.Tied.{pending_in, IsNode, IsOfWrite, IsNodeStep, IsNodeLawOf}
 use Rattle.rz_core.proofs.Extends.{Knows}
 use Rattle.rz_core.proofs.Locality.{legal-knows, all-filter}
 use Rattle.rz_core.proofs.Stamps.{positive}
 use Rattle.rz_core.proofs.NodeLaws.{node, pairs}
 use Rattle.rz_core.proofs.NodeSays.{Keeps, keep-says, Refills, refill-says, fetch-says}
-use Rattle.rz_core.proofs.NodeTies.{IsSilent, step, idle, same-record, carried-ties, whole-carried, keep-passes, refill-passes, above-all, has-cell, full-cells, answer-some, answer-none}
+use Rattle.rz_core.proofs.NodeTies.{step, idle, same-record, carried-ties, whole-carried, keep-passes, refill-passes, above-all, has-cell, full-cells, answer-some, answer-none}
 
 -- what is so before each call
 pub record Before (v : Volume) (h : List Event) (n : ℕ) (s : NodeState) : Type 0 where

@@ -1,5 +1,5 @@
 -- A node whose state is the one that the log gives: what each says of the other.
-use Rattle.std.proofs.Common.{ℕ, zero, suc, Bool, true, false, not, ◌==◌, ◌&&◌, ◌||◌, ◌≡◌, ◌⊎◌, inl, inr, ◌≤◌, ◌<◌, ◌-◌, ◌^◌, nat_le, T, List, [], ◌∷◌, map, length, take, min, Option, Some, None, IsSome, cond, refl, sym, ◌∙◌, ap, ap₂, subst, arith, is_some}
+use Rattle.std.proofs.Common.{ℕ, zero, suc, Bool, true, false, not, ◌==◌, ◌&&◌, ◌||◌, ◌≡◌, inl, inr, ◌≤◌, ◌<◌, ◌-◌, ◌^◌, nat_le, T, List, [], ◌∷◌, map, length, take, Option, Some, None, cond, refl, sym, ◌∙◌, ap, ap₂, subst, arith, is_some}
 use Rattle.std.specs.Option.{option_map}
 use Rattle.std.specs.List.{AllByRecursion, list_any}
 use Rattle.std.specs.FinMap as maps
@@ -9,7 +9,7 @@ use Rattle.std.specs.declared.cmp.Ordering.{Ordering}
 use Rattle.std.specs.declared.cmp.Ordering.TheVariants.{Less, Equal, Greater}
 use Rattle.std.specs.Cmp.{ranks}
 use Rattle.std.proofs.Math.Path.{fun_ext}
-use Rattle.std.proofs.lemmas.Bool.{eqb-true, eqb-false, eq-eqb, and_parts, leb-true, leb-false}
+use Rattle.std.proofs.lemmas.Bool.{eqb-true, eqb-false, and_parts, leb-true, leb-false}
 use Rattle.std.proofs.lemmas.List.{length-map, length-take-le}
 use Rattle.rz_events.specs.Volume.{Volume}
 use Rattle.rz_events.specs.declared.keys.Key.{Key}
@@ -19,7 +19,6 @@ use Rattle.rz_events.specs.declared.records.Change.{Change}
 use Rattle.rz_events.specs.declared.records.Change.TheVariants as change
 use Rattle.rz_events.specs.declared.events.Word.TheVariants.{Node}
 use Rattle.rz_events.specs.declared.events.Event.{Event}
-use Rattle.rz_events.specs.declared.events.Event.TheVariants as e
 use Rattle.rz_events.specs.Keys.{key_cmp}
 use Rattle.rz_events.specs.Events.{by_of, word_of, same_key}
 use Rattle.rz_node_model.specs.Versions.{kept, refilled, without, IsAbove, Stands, IsHeld, passes_keep, passes_refill}
@@ -28,11 +27,11 @@ use Rattle.rz_node_model.specs.States.{NodeState}
 use Rattle.rz_node_model.specs.Answers.{is_full}
 use Rattle.rz_node_model.proofs.VersionLaws.{kept-map, refilled-map, without-map, passes_keep-map, passes_refill-map, keep-above}
 use Rattle.rz_node_model.proofs.RecordLaws.{tie-same_key, held_of-with_held, whole-with_held}
-use Rattle.rz_core.specs.History.{Facts, Begun, facts, wrote, places_of, begun_by, placed_by, first_some, of_word, of_actor, length_in, base_in}
+use Rattle.rz_core.specs.History.{Facts, facts, wrote, places_of, begun_by, placed_by, first_some, of_word, of_actor, length_in, base_in}
 use Rattle.rz_core.specs.NodeWord.{phase, losses, fence_of, undecided, held, base_of, changed, itself}
 use Rattle.rz_core.specs.ExportRows.{IsLess}
-use Rattle.rz_core.specs.NodeRows.{cells_of, IsAmong, IsRising, HasRoom, IsFull, HasCell, IsRecord, IsAnswer}
-use Rattle.rz_core.specs.Legal.{IsLegal, Row, Allowed}
+use Rattle.rz_core.specs.NodeRows.{cells_of, IsAmong, IsRising, IsFull, HasCell, IsAnswer}
+use Rattle.rz_core.specs.Legal.{Row, Allowed}
 use Rattle.rz_core.specs.Tied.{record_in, pending_in, IsNode, IsOfWrite, IsNodeStep}
 use Rattle.rz_core.proofs.Extends.{IsKnown, Knows, held-known}
 use Rattle.rz_core.proofs.Stamps.{same_key-true, same_key-refl}

@@ -13,7 +13,7 @@
 //! `rz_export_model`, and nothing here says how they keep their state.
 #![tactic(auto)]
 
-ghost use Rattle.std.specs.Prelude.{ℕ, List};
+ghost use Rattle.std.specs.Prelude.{ℕ, List, Option};
 ghost use Rattle.rz_events.specs.Volume.{Volume};
 ghost use Rattle.rz_events.specs.declared.keys.Key.{Key as AKey};
 ghost use Rattle.rz_events.specs.declared.records.Head.{Head as AHead};
@@ -23,7 +23,7 @@ ghost use Rattle.rz_events.specs.declared.export.Call.TheVariants as call;
 ghost use Rattle.rz_events.specs.declared.events.Event.{Event as AnEvent};
 ghost use Rattle.rz_core.specs.Legal.{IsLocal};
 ghost use Rattle.rz_core.specs.Longer.{IsPermanent, IsPrefixLegal};
-ghost use Rattle.rz_core.specs.Tied.{IsExportLawOf, IsNodeLaw, IsNodeLawOf};
+ghost use Rattle.rz_core.specs.Tied.{IsExportLaw, IsExportLawOf, IsNodeLaw, IsNodeLawOf};
 
 /// What is allowed stays allowed, whatever others do: a later history of the same facts allows an
 /// event that an earlier one allowed, where what lies between is neither of the event's word nor by
@@ -68,4 +68,46 @@ pub fn nodes()
 /// A call on names after a legal log: its event is allowed, and the export is then as the log gives it.
 pub fn export_tree()
     ensures { (v : Volume) (c : ATreeCall) → IsExportLawOf v (call.Tree c) }
+{}
+
+/// A begin after a legal log: its event is allowed, be it begun or denied, and the export is then as the
+/// log gives it.
+pub fn export_begin()
+    ensures { (v : Volume) (key : AKey) (text : List ℕ) → IsExportLawOf v (call.Begin key text) }
+{}
+
+/// An enrolment after a legal log, of a loss that the caller was told by a probe of the node: it gives the
+/// fence of the greatest loss, which is drawn where that loss is new, or it says that a greater one is known.
+pub fn export_enroll()
+    ensures { (v : Volume) (node loss : ℕ) → IsExportLawOf v (call.Enroll node loss) }
+{}
+
+/// A look after a legal log: it tells what is published of a block of a live file, or that there is no
+/// such file or block.
+pub fn export_look()
+    ensures { (v : Volume) (key : AKey) → IsExportLawOf v (call.Look key) }
+{}
+
+/// The same of a recheck by an actor that looked the key up, or was told it.
+pub fn export_recheck()
+    ensures { (v : Volume) (key : AKey) → IsExportLawOf v (call.Recheck key) }
+{}
+
+/// A publish after a legal log, by the writer that kept its records at a quorum of nodes: it is accepted
+/// where no later write of the key began and no node of the mask was enrolled above its stamp; else it
+/// says which write or which node stands against it.
+pub fn export_publish()
+    ensures { (v : Volume) (key : AKey) (stamp mask length : ℕ) → IsExportLawOf v (call.Publish key stamp mask length) }
+{}
+
+/// A `Next` after a legal log: it tells the least key after the given one whose published mask names the
+/// node, or that there is none.
+pub fn export_next()
+    ensures { (v : Volume) (node : ℕ) (after : Option AKey) → IsExportLawOf v (call.Next node after) }
+{}
+
+/// Each call of the export after a legal log, by a caller that may make it: the event of its reply is
+/// allowed, a denial's as well, and the export's state after it is the one that the log then gives.
+pub fn exports()
+    ensures { (v : Volume) → IsExportLaw v }
 {}

@@ -1,0 +1,6 @@
+use Rattle.rz_core.proofs.ExportLooks as laws
+use Rattle.rz_core.proofs.Naming.{naming}
+use Rattle.rz_core.proofs.export_recheck.Goals as goal
+
+pub returns : goal.returns
+returns c v key = laws.export-recheck v (naming v) key
