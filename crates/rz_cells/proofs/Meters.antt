@@ -1,6 +1,7 @@
 -- Passes and faults of calls one after another.
-use Rattle.std.proofs.Common.{◌≡◌, ℕ, Result, is_ok, true, List, sym, ◌∙◌, arith}
-use Rattle.rz_disk.specs.Meter.{Meter, Took, Lasts, Rises, faults}
+use Rattle.std.proofs.Common.{◌≡◌, ◌⊎◌, inl, inr, ⊎_elim, ℕ, ◌+◌, ◌-◌, ◌≤◌, Option, Some, None, Result, Ok, is_ok, IsErr, true, List, refl, sym, ◌∙◌, ap, arith}
+use Rattle.rz_disk.specs.Meter.{Meter, Took, Lasts, Rises, HasPasses, faults}
+use Rattle.rz_disk.proofs.Passes.{took_then, took_failed}
 use Rattle.rz_cells.specs.Opening.{OnlyRead}
 
 -- a call before that takes no pass and plans no fault
@@ -25,3 +26,48 @@ read_then t u v i j k a b c one two = record {
   within = λ text left. one.within text (two.within text left);
   lasts = lasts_then a b c one.lasts two.lasts;
 }
+
+-- the result of calls that went well
+abbrev pub went : Result (Unit {0}) (Unit {0})
+went = Ok tt
+
+-- no call
+pub took_nothing : (a : Meter) → Took 0 went a a
+took_nothing a = record {
+  planned_only = λ rose. absurd (omega arith);
+  unarmed = λ none. none;
+  enough = λ n is ok. (omega arith, is ∙ ap (λ (m : ℕ). Some m) (omega arith));
+  left = λ n is. (n, is, omega arith);
+}
+
+-- the passes of calls under another result
+pub took_under : {S T E F : Type 0} (k : ℕ) (first : Result S E) (result : Result T F) (a b : Meter) → (is_ok result ≡ true → is_ok first ≡ true) → Took k first a b → Took k result a b
+took_under k first result a b same took = took_after k first result a a b refl refl same took
+
+-- one more call that went well
+pub took_more : {T E : Type 0} (j : ℕ) (next : Result T E) (a b c : Meter) → is_ok next ≡ true → Took j went a b → Took 1 next b c → Took (j + 1) went a c
+took_more j next a b c ok one two = took_then j 1 went went a b c refl one (took_under 1 next went b c (λ _. ok) two)
+
+-- a call that failed, after calls that went well
+pub took_up_to : {S T E F : Type 0} (j m k : ℕ) (last : Result S E) (result : Result T F) (a b c : Meter) → j + m ≤ k → IsErr result → Took j went a b → Took m last b c → Took k result a c
+took_up_to j m k last result a b c fits failed one two =
+    took_failed (j + m) k last result a c fits failed (took_then j m went last a b c refl one two)
+
+fuse_cases : (o : Option ℕ) → (o ≡ None) ⊎ ((n : ℕ) × (o ≡ Some n))
+fuse_cases None = inl refl
+fuse_cases (Some n) = inr (n, refl)
+
+-- the passes that are left after calls that went well
+pub passes_left : (j m k : ℕ) (a b : Meter) → j + m ≤ k → Took j went a b → HasPasses k a → HasPasses m b
+passes_left j m k a b fits took has n is = ⊎_elim
+    (λ (none : a.fuse ≡ None). let no : None ≡ Some n = sym (took.unarmed none) ∙ is in absurd (cc))
+    (λ (some : (i : ℕ) × (a.fuse ≡ Some i)).
+    let end = took.enough some.0 some.1 refl in
+    let same : some.0 - j ≡ n = cc (end.1, is) in
+    let enough = has some.0 some.1 in
+    omega (arith, same, enough))
+    (fuse_cases a.fuse)
+
+-- own faults that rose later rose from before
+pub own_after : (a b c : Meter) → Lasts a b → Rises b.own c.own → Rises a.own c.own
+own_after a b c lasts rose = omega (arith, lasts.own, rose)

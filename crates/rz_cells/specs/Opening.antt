@@ -1,5 +1,5 @@
 -- What an opening finds wrong.
-use Rattle.std.specs.Prelude.{◌≡◌, ◌≢◌, ◌⊎◌, ◌==◌, ◌&&◌, Bool, ℕ, ◌*◌, ◌/◌, ◌<◌, ◌≤◌, Option, Some, None, List, length, slice_index}
+use Rattle.std.specs.Prelude.{◌≡◌, ◌≢◌, ◌⊎◌, ◌==◌, ◌&&◌, Bool, ℕ, ◌+◌, ◌*◌, ◌/◌, ◌<◌, ◌≤◌, Option, Some, None, List, length, slice_index}
 use Rattle.mj_angles.specs.Layout.{number_of}
 use Rattle.std.specs.HashMap.{HashMap, get}
 use Rattle.rz_events.specs.declared.keys.Key.{Key}
@@ -195,6 +195,10 @@ NotSize Unformatted = Unit {0}
 NotSize (BadHeader field value) = Unit {0}
 NotSize (Damaged cell) = Unit {0}
 NotSize (Twice first second) = Unit {0}
+
+-- the device calls of an opening: a sync, a read of the header, one of the gates, and one for each cell
+abbrev pub opening_calls : Geometry → ℕ
+opening_calls g = 3 + 2 * g.cells
 
 -- a disk that was only read or synced
 pub record OnlyRead (text after : List ℕ) (image image' : List ℕ → Type 0) (old new : Meter) : Type 0 where

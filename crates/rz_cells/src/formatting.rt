@@ -47,6 +47,10 @@ impl<D: Disk> Cells<D> {
         ensures meter { MatchResult result (λ c. Lasts (D.meter disk) (D.meter c.disk)) (λ e. Lasts (D.meter disk) (D.meter e.0)) }
         ensures risen { IfErr result (λ e. e.1 ≡ FormatFault.DiskFault → Rises (faults (D.meter disk)) (faults (D.meter e.0))) }
         ensures own_risen { IfErr result (λ e. e.1 ≡ FormatFault.DiskFault → HasPasses 4 (D.meter disk) → Rises (D.meter disk).own (D.meter e.0).own) }
+
+        // Want of memory takes no pass.
+        ensures unspent { IfErr result (λ e. e.1 ≡ FormatFault.NoMemory → (D.meter e.0).fuse ≡ (D.meter disk).fuse) }
+        ensures unplanned { IfErr result (λ e. e.1 ≡ FormatFault.NoMemory → (D.meter e.0).planned ≡ (D.meter disk).planned) }
     {
         let mut disk = disk;
         let Ok(room) = Room::new(alloc, &geometry) else {
@@ -87,6 +91,8 @@ fn blank<D: Disk>(
     ensures meter { Lasts (D.meter disk.old) (D.meter disk.new) }
     ensures risen { IsErrOf result FormatFault.DiskFault → Rises (faults (D.meter disk.old)) (faults (D.meter disk.new)) }
     ensures own_risen { IsErrOf result FormatFault.DiskFault → HasPasses 4 (D.meter disk.old) → Rises (D.meter disk.old).own (D.meter disk.new).own }
+    ensures unspent { IsErrOf result FormatFault.NoMemory → (D.meter disk.new).fuse ≡ (D.meter disk.old).fuse }
+    ensures unplanned { IsErrOf result FormatFault.NoMemory → (D.meter disk.new).planned ≡ (D.meter disk.old).planned }
 {
     match disk.reset(alloc, geometry.disk_bytes()) {
         Ok(()) => match write_header(disk, geometry, fence) {

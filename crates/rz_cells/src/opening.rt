@@ -3,12 +3,12 @@ ghost use Rattle.std.specs.Prelude.{◌≡◌, ◌⊎◌, ◌*◌, ◌≤◌, �
 ghost use Rattle.std.specs.HashMap.{IsEmpty, spare};
 ghost use Rattle.rz_events.specs.declared.records.Head.{Head};
 ghost use Rattle.rz_disk.specs.Images.{Only, Within};
-ghost use Rattle.rz_disk.specs.Meter.{Lasts, Rises, faults};
+ghost use Rattle.rz_disk.specs.Meter.{Took, Lasts, Rises, HasPasses, faults};
 ghost use Rattle.rz_cells.specs.Held.{Records, in_cell};
 ghost use Rattle.rz_cells.specs.Shape.{IsGeometry, disk_bytes, slot_of};
 ghost use Rattle.rz_cells.specs.Stands.{IsHeader, IsFormatted, StandsFor};
 ghost use Rattle.rz_cells.specs.Open.{IsOpen, Knows};
-ghost use Rattle.rz_cells.specs.Opening.{FitTo, NotSize, OnlyRead, ReadTo, Refuses};
+ghost use Rattle.rz_cells.specs.Opening.{FitTo, NotSize, OnlyRead, ReadTo, Refuses, opening_calls};
 
 use crate::geometry::HEADER_BYTES;
 use crate::judging::Firsts;
@@ -44,6 +44,12 @@ impl<D: Disk> Cells<D> {
         ensures crash { MatchResult result (λ c. Within (D.image disk) (D.image c.disk)) (λ e. Within (D.image disk) (D.image e.0)) }
         ensures meter { MatchResult result (λ c. Lasts (D.meter disk) (D.meter c.disk)) (λ e. Lasts (D.meter disk) (D.meter e.0)) }
         ensures risen { IfErr result (λ e. e.1 ≡ OpenFault.DiskFault → Rises (faults (D.meter disk)) (faults (D.meter e.0))) }
+        ensures own_risen { IfErr result (λ e. e.1 ≡ OpenFault.DiskFault → HasPasses (opening_calls geometry) (D.meter disk) → Rises (D.meter disk).own (D.meter e.0).own) }
+
+        // It takes so many passes where it opens, and none for want of memory or a wrong size.
+        ensures took { MatchResult result (λ c. Took (opening_calls geometry) result (D.meter disk) (D.meter c.disk)) (λ e. Took (opening_calls geometry) result (D.meter disk) (D.meter e.0)) }
+        ensures no_memory { IfErr result (λ e. e.1 ≡ OpenFault.NoMemory → e.0 ≡ disk) }
+        ensures wrong_size { IfErr result (λ e. (have need : ℕ) → e.1 ≡ OpenFault.WrongSize have need → e.0 ≡ disk) }
     {
         let mut disk = disk;
         let Ok(room) = Room::new(alloc, &geometry) else {
@@ -99,7 +105,10 @@ fn read_all<D: Disk>(
     ensures refused { IfErr result (λ e. IsTrue D.tells → Refuses geometry.now (D.text disk.old) e) }
     ensures wrong_size { IfErr result (λ e. NotSize e ⊎ Refuses geometry.now (D.text disk.old) e) }
     ensures read { OnlyRead (D.text disk.old) (D.text disk.new) (D.image disk.old) (D.image disk.new) (D.meter disk.old) (D.meter disk.new) }
+    ensures untouched { IfErr result (λ e. NotSize e ⊎ (disk.new ≡ disk.old)) }
+    ensures took { Took (opening_calls geometry.now) result (D.meter disk.old) (D.meter disk.new) }
     ensures fault { IsErrOf result OpenFault.DiskFault → Rises (faults (D.meter disk.old)) (faults (D.meter disk.new)) }
+    ensures own_fault { IsErrOf result OpenFault.DiskFault → HasPasses (opening_calls geometry.now) (D.meter disk.old) → Rises (D.meter disk.old).own (D.meter disk.new).own }
 {
     let have = disk.size();
     let need = geometry.disk_bytes();

@@ -2,7 +2,7 @@
 ghost use Rattle.std.specs.Prelude.{◌≡◌, ◌≢◌, ◌*◌, ◌%◌, ◌≤◌, ◌<◌, ℕ, List, Option, Some, None, length, slice_index, IsTrue, IsErrOf, OnOk, IfOk, IfErr, IfSome, IfNone};
 ghost use Rattle.std.specs.HashMap.{IsEmpty, spare};
 ghost use Rattle.rz_events.specs.declared.records.Head.{Head};
-ghost use Rattle.rz_disk.specs.Meter.{Rises, faults};
+ghost use Rattle.rz_disk.specs.Meter.{Took, Rises, HasPasses, faults};
 ghost use Rattle.rz_record.specs.Record.{IsValid};
 ghost use Rattle.rz_cells.specs.Held.{in_cell};
 ghost use Rattle.rz_cells.specs.Shape.{IsGeometry, disk_bytes, picked, gate_at};
@@ -25,7 +25,9 @@ pub fn read_header<D: Disk>(disk: &mut D, geometry: &Geometry) -> Result<u64, Op
     ensures refused { IfErr result (λ e. IsTrue D.tells → HeaderFault geometry.now (D.text disk.old) e) }
     ensures not_size { IfErr result NotSize }
     ensures read { OnlyRead (D.text disk.old) (D.text disk.new) (D.image disk.old) (D.image disk.new) (D.meter disk.old) (D.meter disk.new) }
+    ensures took { Took 1 result (D.meter disk.old) (D.meter disk.new) }
     ensures fault { IsErrOf result OpenFault.DiskFault → Rises (faults (D.meter disk.old)) (faults (D.meter disk.new)) }
+    ensures own_fault { IsErrOf result OpenFault.DiskFault → HasPasses 1 (D.meter disk.old) → Rises (D.meter disk.old).own (D.meter disk.new).own }
 {
     let mut header = [0u8; 33];
     let Ok(()) = disk.read(0, &mut header) else {
@@ -99,7 +101,9 @@ pub fn read_heads<D: Disk>(
     ensures refused { IfErr result (λ e. IsTrue D.tells → CellsFault geometry.now (D.text disk.old) e) }
     ensures not_size { IfErr result NotSize }
     ensures read { OnlyRead (D.text disk.old) (D.text disk.new) (D.image disk.old) (D.image disk.new) (D.meter disk.old) (D.meter disk.new) }
+    ensures took { Took (2 * geometry.now.cells) result (D.meter disk.old) (D.meter disk.new) }
     ensures fault { IsErrOf result OpenFault.DiskFault → Rises (faults (D.meter disk.old)) (faults (D.meter disk.new)) }
+    ensures own_fault { IsErrOf result OpenFault.DiskFault → HasPasses (2 * geometry.now.cells) (D.meter disk.old) → Rises (D.meter disk.old).own (D.meter disk.new).own }
 {
     let mut heads = heads;
     let mut firsts = firsts;
@@ -127,7 +131,9 @@ fn read_head<D: Disk>(
     ensures refused { IfErr result (λ e. IsTrue D.tells → CellFault geometry.now (D.text disk.old) cell e) }
     ensures not_size { IfErr result NotSize }
     ensures read { OnlyRead (D.text disk.old) (D.text disk.new) (D.image disk.old) (D.image disk.new) (D.meter disk.old) (D.meter disk.new) }
+    ensures took { Took 1 result (D.meter disk.old) (D.meter disk.new) }
     ensures fault { IsErrOf result OpenFault.DiskFault → Rises (faults (D.meter disk.old)) (faults (D.meter disk.new)) }
+    ensures own_fault { IsErrOf result OpenFault.DiskFault → HasPasses 1 (D.meter disk.old) → Rises (D.meter disk.old).own (D.meter disk.new).own }
 {
     let mut bytes = [0u8; HEAD_BYTES];
     let Ok(()) = disk.read(geometry.slot_at(cell, gate % 2), &mut bytes) else {

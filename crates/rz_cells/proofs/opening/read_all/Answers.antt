@@ -1,11 +1,14 @@
 -- The gates that were read are those of the text.
-use Rattle.std.proofs.Common.{rules, ◌≡◌, ℕ, ◌*◌, IsTrue, List, length, sym, ◌∙◌, ap, subst, arith}
+use Rattle.std.proofs.Common.{rules, ◌≡◌, ℕ, ◌*◌, IsTrue, IsErr, is_ok, List, length, refl, sym, ◌∙◌, ap, subst, arith}
 use Rattle.std.proofs.lemmas.List.{with_items_is}
 use Rattle.rz_disk.specs.Images.{window}
+use Rattle.rz_disk.specs.Meter.{Rises}
+use Rattle.rz_disk.proofs.Passes.{took_one, took_then}
 use Rattle.rz_cells.specs.Open.{Knows}
 use Rattle.rz_cells.specs.Shape.{disk_bytes}
 use Rattle.rz_cells.specs.Stands.{IsHeader, IsFormatted}
-use Rattle.rz_cells.specs.Opening.{CellsFault, Refuses}
+use Rattle.rz_cells.specs.Opening.{CellsFault, Refuses, opening_calls}
+use Rattle.rz_cells.proofs.Meters.{went, lasts_then, took_nothing, took_under, took_more, took_up_to, passes_left, own_after}
 use Rattle.rz_cells.proofs.Opened.{agrees_of, cells_refuse, gates_read}
 use Rattle.rz_cells.proofs.opening.read_all.Goals as goal
 
@@ -42,3 +45,55 @@ returns-clause-known g c told =
     let gives = subst (λ (t : List ℕ). out ≡ window 64 (2 * c.args.geometry.now.cells) t) same (subst (λ (n : ℕ). out ≡ window 64 n (g.D.Disk.text c.read_header.new.disk)) long (c.in-Ok-read.ensures.gives told)) in
     let items = with_items_is c.args.room.gates out (c.read.auto.out ∙ c.deref_mut.ensures.len) in
     subst (λ (l : List ℕ). Knows s l text) (sym items) (gates_read s text out gives)
+
+pub returns-in_default-read-clause-took : goal.returns-in_default-read-clause-took
+returns-in_default-read-clause-took g c =
+    let a = g.D.Disk.meter c.args.disk.now in
+    let b = g.D.Disk.meter c.sync.new.self in
+    let m = g.D.Disk.meter c.read_header.new.disk in
+    let r = g.D.Disk.meter c.read.new.self in
+    let one = took_more 0 c.sync.result a a b (ap is_ok c.in-Ok.is) (took_nothing a) (took_one c.sync.result a b c.sync.ensures.meter) in
+    let two = took_more 1 c.read_header.result a b m (ap is_ok c.in_ok-fence.was) one c.read_header.ensures.took in
+    took_up_to 2 1 (opening_calls c.args.geometry.now) c.read.result _ a m r (omega arith) refl two (took_one c.read.result m r c.read.ensures.meter)
+
+pub returns-in_err-heads-clause-took : goal.returns-in_err-heads-clause-took
+returns-in_err-heads-clause-took g c =
+    let a = g.D.Disk.meter c.args.disk.now in
+    let b = g.D.Disk.meter c.sync.new.self in
+    let m = g.D.Disk.meter c.read_header.new.disk in
+    let r = g.D.Disk.meter c.read.new.self in
+    let one = took_more 0 c.sync.result a a b (ap is_ok c.in-Ok.is) (took_nothing a) (took_one c.sync.result a b c.sync.ensures.meter) in
+    let two = took_more 1 c.read_header.result a b m (ap is_ok c.in_ok-fence.was) one c.read_header.ensures.took in
+    let h = g.D.Disk.meter c.read_heads.new.disk in
+    let three = took_more 2 c.read.result a m r (ap is_ok c.in-Ok-read.is) two (took_one c.read.result m r c.read.ensures.meter) in
+    let failed : IsErr c.from_residual-in_err-heads.result = search rules in
+    took_up_to 3 (2 * c.args.geometry.now.cells) (opening_calls c.args.geometry.now) c.read_heads.result c.from_residual-in_err-heads.result a r h (omega arith) failed three c.read_heads.ensures.took
+
+pub returns-in_err-heads-clause-own_fault : goal.returns-in_err-heads-clause-own_fault
+returns-in_err-heads-clause-own_fault g c fault has =
+    let a = g.D.Disk.meter c.args.disk.now in
+    let b = g.D.Disk.meter c.sync.new.self in
+    let m = g.D.Disk.meter c.read_header.new.disk in
+    let r = g.D.Disk.meter c.read.new.self in
+    let one = took_more 0 c.sync.result a a b (ap is_ok c.in-Ok.is) (took_nothing a) (took_one c.sync.result a b c.sync.ensures.meter) in
+    let two = took_more 1 c.read_header.result a b m (ap is_ok c.in_ok-fence.was) one c.read_header.ensures.took in
+    let h = g.D.Disk.meter c.read_heads.new.disk in
+    let three = took_more 2 c.read.result a m r (ap is_ok c.in-Ok-read.is) two (took_one c.read.result m r c.read.ensures.meter) in
+    let lasts = lasts_then a m r (lasts_then a b m (record { planned = c.sync.ensures.meter.planned; own = c.sync.ensures.meter.own }) c.read_header.ensures.read.lasts)
+    (record { planned = c.read.ensures.meter.planned; own = c.read.ensures.meter.own }) in
+    let left = passes_left 3 (2 * c.args.geometry.now.cells) (opening_calls c.args.geometry.now) a r (omega arith) three has in
+    let rose : Rises r.own h.own = search rules in
+    own_after a r h lasts rose
+
+pub returns-clause-took : goal.returns-clause-took
+returns-clause-took g c =
+    let a = g.D.Disk.meter c.args.disk.now in
+    let b = g.D.Disk.meter c.sync.new.self in
+    let m = g.D.Disk.meter c.read_header.new.disk in
+    let r = g.D.Disk.meter c.read.new.self in
+    let one = took_more 0 c.sync.result a a b (ap is_ok c.in-Ok.is) (took_nothing a) (took_one c.sync.result a b c.sync.ensures.meter) in
+    let two = took_more 1 c.read_header.result a b m (ap is_ok c.in_ok-fence.was) one c.read_header.ensures.took in
+    let h = g.D.Disk.meter c.read_heads.new.disk in
+    let three = took_more 2 c.read.result a m r (ap is_ok c.in-Ok-read.is) two (took_one c.read.result m r c.read.ensures.meter) in
+    took_under (opening_calls c.args.geometry.now) c.read_heads.result _ a h (λ _. ap is_ok c.in_ok-heads.was)
+    (took_then 3 (2 * c.args.geometry.now.cells) went c.read_heads.result a r h refl three c.read_heads.ensures.took)

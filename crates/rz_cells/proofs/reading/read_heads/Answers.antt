@@ -1,9 +1,11 @@
 -- Each cell is read and judged before the next.
-use Rattle.std.proofs.Common.{rules, ℕ, ◌+◌, ◌<◌, Option, List, length, length-set, set, refl, IsTrue, ◌∙◌, subst, arith}
+use Rattle.std.proofs.Common.{rules, ℕ, ◌+◌, ◌*◌, ◌<◌, ◌≡◌, Ok, IsErr, Option, List, length, length-set, set, refl, is_ok, IsTrue, ap, ◌∙◌, subst, arith}
 use Rattle.rz_events.specs.declared.records.Head.{Head}
 use Rattle.rz_cells.specs.Shape.{picked}
 use Rattle.rz_cells.specs.Opening.{CellsFault, GoesNext, KnowsFirsts, ReadsHead, Wrong}
-use Rattle.rz_cells.proofs.Meters.{read_then}
+use Rattle.rz_disk.specs.Meter.{Took}
+use Rattle.rz_disk.proofs.Passes.{took_then}
+use Rattle.rz_cells.proofs.Meters.{read_then, went, took_nothing, took_under, took_up_to}
 use Rattle.rz_cells.proofs.Firsts.{firsts_start}
 use Rattle.rz_cells.proofs.Opened.{fine_of, fit_more, fit_none, read_more, wrong_fault}
 use Rattle.rz_cells.proofs.reading.read_heads.Goals as goal
@@ -11,6 +13,7 @@ use Rattle.rz_cells.proofs.reading.read_heads.Goals as goal
 pub loop-cell-init : goal.loop-cell-init
 loop-cell-init g c = record {
   read = record { same = refl; within = λ image left. left; lasts = record { planned = omega arith; own = omega arith } };
+  took = took_nothing (g.D.Disk.meter c.args.disk.now);
   count = c.requires.heads;
   firsts = firsts_start c.args.firsts c.args.heads.items c.requires.firsts;
   room = omega (arith, c.requires.spare);
@@ -31,6 +34,25 @@ returns-in_err-admit-clause-refused g c =
     (subst (λ (l : List (Option Head)). Wrong l c.loop-cell.cell w.0 c.in_err-admit.field-0.0) c.deref.ensures.value w.2) in
     search rules
 
+pub returns-in_err-head-clause-took : goal.returns-in_err-head-clause-took
+returns-in_err-head-clause-took g c =
+    let failed : IsErr c.from_residual.result = search rules in
+    took_up_to c.loop-cell.cell 1 (2 * c.args.geometry.now.cells) c.read_head.result c.from_residual.result (g.D.Disk.meter c.args.disk.now) (g.D.Disk.meter c.loop-cell.disk) (g.D.Disk.meter c.read_head.new.disk)
+    (omega arith) failed c.loop-cell.invariant.took c.read_head.ensures.took
+
+pub returns-in_err-admit-clause-took : goal.returns-in_err-admit-clause-took
+returns-in_err-admit-clause-took g c =
+    let failed : IsErr c.from_residual-in_err-admit.result = search rules in
+    took_up_to c.loop-cell.cell 1 (2 * c.args.geometry.now.cells) c.read_head.result c.from_residual-in_err-admit.result (g.D.Disk.meter c.args.disk.now) (g.D.Disk.meter c.loop-cell.disk) (g.D.Disk.meter c.read_head.new.disk)
+    (omega arith) failed c.loop-cell.invariant.took c.read_head.ensures.took
+
+pub returns-clause-took : goal.returns-clause-took
+returns-clause-took g c =
+    let a = g.D.Disk.meter c.args.disk.now in
+    let b = g.D.Disk.meter c.loop-cell.disk in
+    let all : c.loop-cell.cell ≡ 2 * c.args.geometry.now.cells = omega arith in
+    took_under (2 * c.args.geometry.now.cells) went (Ok c.loop-cell.heads) a b (λ _. refl) (subst (λ (k : ℕ). Took k went a b) all c.loop-cell.invariant.took)
+
 pub loop-cell-preserved : goal.loop-cell-preserved
 loop-cell-preserved g c =
     let s = c.args.geometry.now in
@@ -41,6 +63,7 @@ loop-cell-preserved g c =
     let in_range : c.loop-cell.cell < length c.loop-cell.heads.items = omega (arith, i.count) in
     record {
       read = read_then text (g.D.Disk.text c.loop-cell.disk) (g.D.Disk.text c.read_head.new.disk) (g.D.Disk.image c.args.disk.now) (g.D.Disk.image c.loop-cell.disk) (g.D.Disk.image c.read_head.new.disk) (g.D.Disk.meter c.args.disk.now) (g.D.Disk.meter c.loop-cell.disk) (g.D.Disk.meter c.read_head.new.disk) i.read c.read_head.ensures.read;
+      took = took_then k 1 went went (g.D.Disk.meter c.args.disk.now) (g.D.Disk.meter c.loop-cell.disk) (g.D.Disk.meter c.read_head.new.disk) refl i.took (took_under 1 c.read_head.result went (g.D.Disk.meter c.loop-cell.disk) (g.D.Disk.meter c.read_head.new.disk) (λ _. ap is_ok c.in_ok-head.was) c.read_head.ensures.took);
       count = length-set heads k c.in_ok-head.head ∙ i.count;
       firsts = subst (λ (l : List (Option Head)). KnowsFirsts c.admit.new.firsts (set l c.loop-cell.cell c.in_ok-head.head) (c.loop-cell.cell + 1)) c.deref.ensures.value c.in_ok-admit.ensures.firsts;
       room = omega (arith, i.room, c.admit.ensures.spare);

@@ -1,11 +1,14 @@
 use Rattle.std.proofs.Common.{◌≡◌, ◌+◌, ◌*◌, ◌≤◌, IsTrue, length}
 use Rattle.std.specs.HashMap.{spare}
+use Rattle.rz_disk.specs.Meter.{Took}
 use Rattle.rz_cells.specs.Opening.{FitTo, KnowsFirsts, OnlyRead, ReadTo}
+use Rattle.rz_cells.proofs.Meters.{went}
 use Rattle.rz_cells.proofs.reading.read_heads.Given as goal
 
 abbrev pub invariant-loop-cell : goal.invariant-loop-cell
 invariant-loop-cell g l = record {
   read : OnlyRead (g.D.Disk.text l.fn.disk) (g.D.Disk.text l.disk) (g.D.Disk.image l.fn.disk) (g.D.Disk.image l.disk) (g.D.Disk.meter l.fn.disk) (g.D.Disk.meter l.disk);
+  took : Took l.cell went (g.D.Disk.meter l.fn.disk) (g.D.Disk.meter l.disk);
   count : length l.heads.items ≡ 2 * l.geometry.cells;
   firsts : KnowsFirsts l.firsts l.heads.items l.cell;
   room : 2 * l.geometry.cells ≤ l.cell + spare l.firsts;
