@@ -1,0 +1,4 @@
+pub mod Masks
+pub mod Tables
+pub mod Course
+pub mod Ends

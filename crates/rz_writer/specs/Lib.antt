@@ -1,0 +1,3 @@
+pub mod Machine
+pub mod Sheets
+pub mod Told
