@@ -1,0 +1,14 @@
+pub mod Changes
+pub mod Clears
+pub mod Drops
+pub mod Found
+pub mod Keeps
+pub mod Places
+pub mod Puts
+pub mod Read
+pub mod Ready
+pub mod Spent
+pub mod Tied
+pub mod Turns
+pub mod Views
+pub mod Ways

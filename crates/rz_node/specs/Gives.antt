@@ -1,0 +1,22 @@
+-- What a fetch gives of the records that a disk stands for.
+use Rattle.std.specs.Prelude.{ℕ, ◌≡◌, ◌++◌, List, drop, length, Some}
+use Rattle.rz_events.specs.declared.keys.Key.{Key}
+use Rattle.rz_events.specs.declared.records.Held.{Held}
+use Rattle.rz_events.specs.declared.nodes.FetchAnswer.{FetchAnswer}
+use Rattle.rz_events.specs.declared.nodes.FetchAnswer.TheVariants as fetch
+use Rattle.rz_node_model.specs.Records.{record_of}
+use Rattle.rz_record.specs.Slot.{Rec}
+use Rattle.rz_cells.specs.declared.geometry.Geometry.{Geometry}
+use Rattle.rz_cells.specs.Held.{Records}
+use Rattle.rz_cells.specs.Stands.{StandsFor}
+
+-- Where the text stands for records, what is told of the record of this key and stamp is true, and its bins stand in
+-- front of what was there.
+abbrev pub Gives : Geometry → ℕ → List ℕ → Key → Held → List ℕ → List ℕ → Type 0
+Gives g fence text key told old new =
+    (records : Records) → StandsFor g fence text records
+    → (r : Rec) × (records key told.stamp ≡ Some r) × (record_of r.head ≡ told) × (new ≡ r.bins ++ drop (length r.bins) old)
+
+abbrev pub IfHeld : FetchAnswer → (Held → Type 0) → Type 0
+IfHeld (fetch.Held told) P = P told
+IfHeld _ P = Unit {0}

@@ -1,0 +1,76 @@
+//! Fetching a record.
+ghost use Rattle.std.specs.Prelude.{◌≡◌, ◌≢◌, ◌≤◌, ℕ, Some, None, true, IsTrue, IfSome, length};
+ghost use Rattle.std.specs.Option.{option_map};
+ghost use Rattle.mj_angles.specs.Layout.{max_bins_of};
+ghost use Rattle.rz_disk.specs.Images.{Within};
+ghost use Rattle.rz_node_model.specs.Answers.{IsNodeAnswer};
+ghost use Rattle.rz_node_model.specs.Afterwards.{after_answer};
+ghost use Rattle.rz_node_model.specs.Records.{record_of, held_of, found};
+ghost use Rattle.rz_node.specs.Gives.{Gives, IfHeld};
+ghost use Rattle.rz_node.specs.Kept.{IsTied, IsThere, held_by};
+ghost use Rattle.rz_node.specs.Spends.{Spends, fetch_used};
+
+use crate::Node;
+use rz_cells::{Cells, DiskFault};
+use rz_disk::Disk;
+use rz_events::{FetchAnswer, Head, Held, Key, NodeAnswer, NodeAsk, Phase};
+use rz_index::Index;
+
+impl<D: Disk> Node<D> {
+    /// Reads the bins of the record of a key with this stamp into the front of `out`.
+    pub fn fetch_into(&mut self, key: Key, stamp: u64, out: &mut [u64]) -> FetchAnswer
+        requires room { max_bins_of self.old.geometry.layout ≤ length out.old }
+        ensures answer { (position : ℕ) → IsNodeAnswer self.old.geometry.cells self.old.state (NodeAsk.Fetch key position stamp) (NodeAnswer.Fetch result) }
+        ensures after { (position : ℕ) → self.new.state ≡ after_answer (NodeAsk.Fetch key position stamp) (NodeAnswer.Fetch result) self.old.state }
+        ensures bins { IfHeld result (λ told. IsTrue D.tells → Gives self.old.geometry self.old.state.fence (D.text self.old.disk) key told out.old out.new) }
+        ensures unread { fetch_used result ≢ Some true → out.new ≡ out.old }
+
+        // The disk keeps what it holds, and is not used where nothing is read.
+        ensures same { fetch_used result ≡ None → self.new ≡ self.old }
+        ensures geometry { self.new.geometry ≡ self.old.geometry }
+        ensures text { D.text self.new.disk ≡ D.text self.old.disk }
+        ensures within { Within (D.image self.old.disk) (D.image self.new.disk) }
+        ensures spends { Spends 1 (fetch_used result) (D.meter self.old.disk) (D.meter self.new.disk) }
+    {
+        match self.phase {
+            Phase::Lost => return FetchAnswer::Lost,
+            Phase::Down => return FetchAnswer::Down,
+            Phase::Up => {}
+        }
+        let Some((cell, head)) = record_at(&self.index, &self.cells, key, stamp) else {
+            return FetchAnswer::Nothing;
+        };
+        let count = head.layout.bins_at(head.position);
+        match self.cells.bins_into(cell, &mut out[..count]) {
+            Ok(_) => FetchAnswer::Held(Held {
+                stamp: head.stamp,
+                length: head.length,
+                base: head.base,
+            }),
+            Err(DiskFault) => {
+                self.phase = Phase::Down;
+                self.undecided = None;
+                FetchAnswer::DiskFault
+            }
+        }
+    }
+}
+
+/// The cell of the record of a key with this stamp, and its head.
+fn record_at<D: Disk>(index: &Index, cells: &Cells<D>, key: Key, stamp: u64) -> Option<(u32, Head)>
+    requires { IsTied cells.now.geometry.cells cells.now.heads.items index.now }
+    ensures found { option_map (λ p. record_of p.1) result ≡ found stamp (held_of (held_by index.now.entries cells.now.heads.items) key) }
+    ensures there { IfSome result (λ p. IsThere cells.now.geometry.cells cells.now.heads.items key p.0 p.1) }
+{
+    let Some(entry) = index.find(key) else {
+        return None;
+    };
+    let Some(side) = entry.versions.side_of(stamp) else {
+        return None;
+    };
+    let cell = 2 * entry.cell + u32::from(side);
+    match cells.head(cell) {
+        Some(head) => Some((cell, head)),
+        None => None,
+    }
+}

@@ -1,0 +1,24 @@
+//! A storage node over a disk: it keeps at most two versions of a block behind fences, answers each
+//! call by what it holds, and stands for what it held before a call or after it when that call stops.
+//!
+//! A contract sees a node as its disk, its geometry and its state: up, down or lost, the fence, how
+//! many disks it lost, the records that it holds and the change that was left undecided. Each call
+//! answers and leaves the state as the model of a node says, and says of the disk on every exit which
+//! images it may have and what its meter counted. The contracts say nothing of how long a call takes.
+//!
+//! The heads of all cells stand in memory, and an index finds the pair of a key in logarithmic time.
+//! Bins are read from the disk each time. Memory is taken when a node is made, and by no later call.
+//!
+//! In reading order: `node`, `fetching`, `keeping`, `dropping`.
+#![tactic(auto)]
+
+mod dropping;
+mod fetching;
+mod keeping;
+mod node;
+#[cfg(test)]
+mod tests;
+
+pub use node::Node;
+pub use rz_cells::{FormatFault, Geometry};
+pub use rz_events::{DropAnswer, FetchAnswer, Head, Held, KeepAnswer, Key, RefillAnswer};

@@ -1,0 +1,146 @@
+//! A node and the calls that use no disk.
+ghost use Rattle.std.specs.Prelude.{◌≡◌, ◌⊎◌, ◌*◌, ℕ, Some, None, List, IsTrue, IfOk, IfErr, MatchResult, if◌then◌else◌};
+ghost use Rattle.rz_disk.specs.Images.{Only, Within};
+ghost use Rattle.rz_disk.specs.Meter.{Took, Lasts, Rises, HasPasses, faults, armed};
+ghost use Rattle.rz_cells.specs.Held.{nothing};
+ghost use Rattle.rz_cells.specs.Shape.{IsGeometry};
+ghost use Rattle.rz_cells.specs.Stands.{IsShut, StandsFor};
+ghost use Rattle.rz_node_model.specs.Answers.{IsNodeAnswer};
+ghost use Rattle.rz_node_model.specs.Afterwards.{after_answer};
+ghost use Rattle.rz_node_model.specs.States.{fresh};
+
+use rz_cells::{Cells, FormatFault, Geometry};
+use rz_disk::Disk;
+use rz_events::{NodeAnswer, NodeAsk, Phase};
+use rz_index::Index;
+use rz_node_model::Pending;
+use std::alloc::Global;
+use std::marker::Model;
+
+/// A storage node.
+#[derive(Drop)]
+pub struct Node<D: Disk> {
+    pub(crate) phase: Phase,
+    /// How many disks it lost.
+    pub(crate) losses: u64,
+    /// The change that a disk fault left undecided.
+    pub(crate) undecided: Option<Pending>,
+    pub(crate) cells: Cells<D>,
+    pub(crate) index: Index,
+}
+
+impl<D: Disk> Model for Node<D> {
+    ghost use Rattle.rz_node.specs.Seen.{NodeView, IsNode, state_of, view_code};
+
+    ghost Value = { NodeView D };
+
+    ghost coded = { view_code D.code };
+
+    ghost view = { λ n. record {
+      disk = n.cells.disk;
+      geometry = n.cells.geometry;
+      state = state_of n.phase n.losses n.undecided n.cells.fence n.index.entries n.cells.heads.items;
+    } };
+
+    ghost invariant = { λ n. IsNode D.tells (D.text n.cells.disk) (D.image n.cells.disk) n.phase n.cells.geometry n.cells.fence n.cells.gates.items n.cells.heads.items n.index };
+}
+
+impl<D: Disk> Node<D> {
+    /// Makes a disk anew, and a node on it that holds nothing.
+    ///
+    /// Want of memory may come before the disk is reset or from its reset.
+    pub fn format(alloc: Global, geometry: Geometry, disk: D) -> Result<Node<D>, (D, FormatFault)>
+        requires { IsGeometry geometry }
+        ensures state { IfOk result (λ n. n.state ≡ fresh) }
+        ensures geometry { IfOk result (λ n. n.geometry ≡ geometry) }
+        ensures nothing { IfOk result (λ n. IsTrue D.tells → StandsFor geometry 0 (D.text n.disk) nothing) }
+        ensures settled { IfOk result (λ n. Only (D.text n.disk) (D.image n.disk)) }
+
+        // Otherwise each image is one from before, or its header is shut, or it stands for nothing.
+        ensures crash { IfErr result (λ e. IsTrue D.tells → (c : List ℕ) → D.image e.0 c → D.image disk c ⊎ IsShut c ⊎ StandsFor geometry 0 c nothing) }
+
+        ensures took { MatchResult result (λ n. Took 4 result (D.meter disk) (D.meter n.disk)) (λ e. Took 4 result (D.meter disk) (D.meter e.0)) }
+        ensures meter { MatchResult result (λ n. Lasts (D.meter disk) (D.meter n.disk)) (λ e. Lasts (D.meter disk) (D.meter e.0)) }
+        ensures risen { IfErr result (λ e. e.1 ≡ FormatFault.DiskFault → Rises (faults (D.meter disk)) (faults (D.meter e.0))) }
+        ensures own_risen { IfErr result (λ e. e.1 ≡ FormatFault.DiskFault → HasPasses 4 (D.meter disk) → Rises (D.meter disk).own (D.meter e.0).own) }
+
+        // Want of memory takes no pass.
+        ensures unspent { IfErr result (λ e. e.1 ≡ FormatFault.NoMemory → (D.meter e.0).fuse ≡ (D.meter disk).fuse) }
+        ensures unplanned { IfErr result (λ e. e.1 ≡ FormatFault.NoMemory → (D.meter e.0).planned ≡ (D.meter disk).planned) }
+    {
+        let Ok(index) = Index::with_room(alloc, geometry.cells) else {
+            return Err((disk, FormatFault::NoMemory));
+        };
+        match Cells::format(alloc, geometry, 0, disk) {
+            Ok(cells) => Ok(Node {
+                phase: Phase::Up,
+                losses: 0,
+                undecided: None,
+                cells,
+                index,
+            }),
+            Err(fault) => Err(fault),
+        }
+    }
+
+    /// How many disks it lost, where it is lost.
+    pub fn probe(&self) -> Option<u64>
+        ensures { IsNodeAnswer self.now.geometry.cells self.now.state NodeAsk.Probe (NodeAnswer.Probe result) }
+    {
+        match self.phase {
+            Phase::Lost => Some(self.losses),
+            Phase::Up | Phase::Down => None,
+        }
+    }
+
+    /// Makes an up node down, and answers whether it was up.
+    pub fn stop(&mut self) -> bool
+        ensures answer { IsNodeAnswer self.old.geometry.cells self.old.state NodeAsk.Stop (NodeAnswer.Stop result) }
+        ensures after { self.new ≡ record self.old { state = after_answer NodeAsk.Stop (NodeAnswer.Stop result) self.old.state } }
+    {
+        match self.phase {
+            Phase::Up => {
+                self.phase = Phase::Down;
+                true
+            }
+            Phase::Down | Phase::Lost => false,
+        }
+    }
+
+    /// Loses the disk, and answers how many disks were lost by now. It answers None, and changes
+    /// nothing, where the node is lost already or the count cannot rise.
+    pub fn lose(&mut self) -> Option<u64>
+        ensures answer { IsNodeAnswer self.old.geometry.cells self.old.state NodeAsk.Lose (NodeAnswer.Lose result) }
+        ensures after { self.new ≡ record self.old { state = after_answer NodeAsk.Lose (NodeAnswer.Lose result) self.old.state } }
+    {
+        match self.phase {
+            Phase::Lost => None,
+            Phase::Up | Phase::Down => {
+                let losses = self.losses.checked_add(1)?;
+                self.phase = Phase::Lost;
+                self.losses = losses;
+                self.undecided = None;
+                Some(losses)
+            }
+        }
+    }
+
+    /// Arms the disk with `Some` passes, or disarms it with `None`.
+    pub fn arm(&mut self, passes: Option<u64>)
+        ensures state { self.new.state ≡ self.old.state }
+        ensures geometry { self.new.geometry ≡ self.old.geometry }
+        ensures text { D.text self.new.disk ≡ D.text self.old.disk }
+        ensures within { Within (D.image self.old.disk) (D.image self.new.disk) }
+        ensures kept { Within (D.image self.new.disk) (D.image self.old.disk) }
+        ensures meter { D.meter self.new.disk ≡ (if D.has_fuse then armed passes (D.meter self.old.disk) else D.meter self.old.disk) }
+    {
+        self.cells.arm(passes);
+    }
+
+    /// The disk.
+    pub fn into_disk(self) -> D
+        ensures { result ≡ self.disk }
+    {
+        self.cells.into_disk()
+    }
+}
