@@ -1,9 +1,10 @@
 //! Paths, and how they are read from their text.
 
 ghost use Rattle.std.specs.Prelude.{◌≡◌, ◌++◌, drop, IfOk, OnOk};
-ghost use Rattle.rz_export_model.specs.Paths.{path_of, long_path_of, is_name, is_dots, parts_of, all_names};
+ghost use Rattle.rz_export_model.specs.Paths.{path_of, long_path_of, is_name, is_dots, parts_of, all_names, begins_with};
 ghost use Rattle.rz_names.specs.Reads.{Reads};
 
+use crate::order;
 use rz_events::Text;
 use std::alloc::{AllocError, Global};
 use std::marker::Model;
@@ -77,6 +78,13 @@ impl Path {
         ensures { result.now ≡ self.now }
     {
         self.names.as_slice()
+    }
+
+    /// Whether it begins with all names of another.
+    pub fn starts_with(&self, front: &Path) -> bool
+        ensures { result ≡ begins_with front.now self.now }
+    {
+        order::starts_with(front.names(), self.names())
     }
 
     /// A path of the same names.

@@ -1,0 +1,72 @@
+-- The kept objects, and the objects that they stand for.
+use Rattle.std.specs.Prelude.{ℕ, ◌-◌, ◌==◌, cond, List, map, Option, None}
+use Rattle.std.specs.Option.{option_map_or}
+use Rattle.std.specs.Ordering.{nat_cmp, is_lt}
+use Rattle.std.specs.FinMap as maps
+use Rattle.std.specs.FinMap.{FinMap}
+use Rattle.rz_events.specs.declared.files.Attr.{Attr}
+use Rattle.rz_events.specs.declared.files.FileInfo.{FileInfo}
+use Rattle.rz_export_model.specs.Firsts.{first_given}
+use Rattle.rz_export_model.specs.Tree.{Object, Found, file_from}
+use Rattle.rz_tree.specs.declared.inodes.Inode.{Inode}
+
+-- what a call sees of a kept object: all but the count of its paths
+abbrev pub object_of : Inode → Object
+object_of i = record {
+  kind = i.kind;
+  mode = i.mode;
+  mtime = i.mtime;
+  target = i.target;
+  size = i.size;
+  cid = i.cid;
+  places = i.places;
+}
+
+-- a kept object with its number, as a call sees it
+abbrev pub found_of : ℕ → Inode → Found
+found_of fid i = record { fid = fid; object = object_of i }
+
+-- the attributes of a kept object
+abbrev pub attr_kept : ℕ → Inode → Attr
+attr_kept fid i = record { fid = fid; kind = i.kind; mode = i.mode; mtime = i.mtime; links = i.links; size = i.size }
+
+-- kept objects by their numbers
+abbrev pub Table : Type 0
+Table = FinMap nat_cmp Inode
+
+-- entries as a call sees them
+abbrev pub seen_entries : List (ℕ × Inode) → List (ℕ × Object)
+seen_entries es = map (λ e. (e.0, object_of e.1)) es
+
+-- the objects as a call sees them
+abbrev pub objects_of : Table → FinMap nat_cmp Object
+objects_of table = maps.from_entries (seen_entries (maps.entries table))
+
+abbrev pub with_attributes : ℕ → ℕ → Inode → Inode
+with_attributes mode mtime i = record i { mode = mode; mtime = mtime }
+
+-- the greater of two sizes
+abbrev pub greater_of : ℕ → ℕ → ℕ
+greater_of had size = cond (is_lt (nat_cmp had size)) size had
+
+abbrev pub with_size_of : ℕ → Inode → Inode
+with_size_of size i = record i { size = greater_of i.size size }
+
+abbrev pub with_links : ℕ → Inode → Inode
+with_links links i = record i { links = links }
+
+-- the object of this number is changed so, where there is one
+abbrev pub changed_at : Table → ℕ → (Inode → Inode) → Table
+changed_at table fid change = option_map_or (λ i. maps.insert table fid (change i)) (maps.get table fid) table
+
+-- one path less leads to the object of this number; with the last one it goes
+abbrev pub released : Table → ℕ → Table
+released table fid =
+    option_map_or
+    (λ i. cond (i.links == 1) (maps.remove table fid) (maps.insert table fid (with_links (i.links - 1) i)))
+    (maps.get table fid)
+    table
+
+-- the file with the least number above this one
+abbrev pub file_past : Table → ℕ → Option FileInfo
+file_past table fid = first_given (λ e. cond (is_lt (nat_cmp fid e.0)) (file_from e.0 (object_of e.1)) None) (maps.entries table)

@@ -1,0 +1,3 @@
+pub mod Inodes
+pub mod Trees
+pub mod Calls

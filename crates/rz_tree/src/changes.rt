@@ -1,0 +1,152 @@
+//! Calls that change attributes, or add or take away a name.
+
+ghost use Rattle.std.specs.Prelude.{◌≡◌, ◌∷◌, false, [], None, IfOk, OnOk, OnErr, IsSome, IsTrue};
+ghost use Rattle.rz_export_model.specs.Firsts.{first_of};
+ghost use Rattle.rz_export_model.specs.Paths.{is_root};
+ghost use Rattle.rz_export_model.specs.Refusals.{walk, absent, present, dir, too_many_links};
+ghost use Rattle.rz_export_model.specs.Tree.{names_under, found_at, is_at, is_dir};
+ghost use Rattle.rz_export_model.specs.TreeCalls.{reply_to, tree_after, without_name, last_name_of};
+ghost use Rattle.rz_events.specs.declared.tree.TreeCall.{TreeCall};
+ghost use Rattle.rz_tree.specs.Calls.{proper_path_of, with_name_of, with_attributes_at};
+
+use crate::looks::read;
+use crate::tree::Tree;
+use rz_events::{FileInfo, Kind, Text, TreeFault, TreeReply};
+use rz_names::Path;
+use std::alloc::{AllocError, Global};
+
+impl Tree {
+    /// Sets the mode and the time of the object at a path.
+    pub fn set_attributes(
+        &mut self,
+        text: &Text,
+        mode: u16,
+        mtime: u64,
+    ) -> Result<TreeReply, AllocError>
+        ensures reply { IfOk result (λ r. r ≡ reply_to self.old 0 [] (TreeCall.Setattr text.now mode mtime)) }
+        ensures ok { OnOk result (self.new ≡ tree_after self.old 0 [] (TreeCall.Setattr text.now mode mtime)) }
+        ensures err { OnErr result (self.new ≡ self.old) }
+    {
+        let Some(path) = read(self.alloc, text)? else {
+            return Ok(TreeReply::Refused(TreeFault::BadName));
+        };
+        if let Some(fault) = self.missing(&path) {
+            return Ok(TreeReply::Refused(fault));
+        }
+        self.change_attributes(&path, mode, mtime);
+        Ok(TreeReply::Plain)
+    }
+
+    /// Gives the object at a path one more path.
+    pub fn link(&mut self, text: &Text, to: &Text) -> Result<TreeReply, AllocError>
+        ensures reply { IfOk result (λ r. r ≡ reply_to self.old 0 [] (TreeCall.Link text.now to.now)) }
+        ensures ok { OnOk result (self.new ≡ tree_after self.old 0 [] (TreeCall.Link text.now to.now)) }
+        ensures err { OnErr result (self.new ≡ self.old) }
+    {
+        let Some(path) = read_below(self.alloc, text)? else {
+            return Ok(TreeReply::Refused(TreeFault::BadName));
+        };
+        let Some(to) = read_below(self.alloc, to)? else {
+            return Ok(TreeReply::Refused(TreeFault::BadName));
+        };
+        if let Some(fault) = self.no_link(&path, &to) {
+            return Ok(TreeReply::Refused(fault));
+        }
+        self.add_name(&path, &to)?;
+        Ok(TreeReply::Plain)
+    }
+
+    /// Takes a path to a file or a symbolic link away.
+    pub fn unlink(&mut self, text: &Text) -> Result<TreeReply, AllocError>
+        ensures reply { IfOk result (λ r. r ≡ reply_to self.old 0 [] (TreeCall.Unlink text.now)) }
+        ensures ok { OnOk result (self.new ≡ tree_after self.old 0 [] (TreeCall.Unlink text.now)) }
+        ensures err { OnErr result (self.new ≡ self.old) }
+    {
+        let Some(path) = read_below(self.alloc, text)? else {
+            return Ok(TreeReply::Refused(TreeFault::BadName));
+        };
+        if let Some(fault) = self.no_leaf(&path) {
+            return Ok(TreeReply::Refused(fault));
+        }
+        let gone = self.last_name(&path);
+        self.take_name(&path);
+        Ok(TreeReply::Gone(gone))
+    }
+
+    /// Takes an empty directory away.
+    pub fn remove_directory(&mut self, text: &Text) -> Result<TreeReply, AllocError>
+        ensures reply { IfOk result (λ r. r ≡ reply_to self.old 0 [] (TreeCall.Rmdir text.now)) }
+        ensures ok { OnOk result (self.new ≡ tree_after self.old 0 [] (TreeCall.Rmdir text.now)) }
+        ensures err { OnErr result (self.new ≡ self.old) }
+    {
+        let Some(path) = read_below(self.alloc, text)? else {
+            return Ok(TreeReply::Refused(TreeFault::BadName));
+        };
+        if let Some(fault) = self.no_removal(&path) {
+            return Ok(TreeReply::Refused(fault));
+        }
+        self.take_name(&path);
+        Ok(TreeReply::Plain)
+    }
+
+    // Sets the mode and the time of the object at a path.
+    fn change_attributes(&mut self, path: &Path, mode: u16, mtime: u64)
+        ensures { self.new ≡ with_attributes_at self.old path.now mode mtime }
+    {
+        if let Some(fid) = self.names.find(path, path.names().len()) {
+            self.inodes.set_attributes(fid, mode, mtime);
+        }
+    }
+
+    // Adds a path to the object at another one, where nothing forbids it.
+    fn add_name(&mut self, path: &Path, to: &Path) -> Result<(), AllocError>
+        requires free { first_of (walk self.old path.now ∷ absent self.old path.now ∷ dir self.old path.now ∷ walk self.old to.now ∷ present self.old to.now ∷ too_many_links self.old path.now ∷ []) ≡ None }
+        requires below { is_root to.now ≡ false }
+        ensures ok { OnOk result (self.new ≡ with_name_of self.old path.now to.now) }
+        ensures err { OnErr result (self.new ≡ self.old) }
+    {
+        let Some(fid) = self.names.find(path, path.names().len()) else {
+            return Ok(());
+        };
+        let Some(links) = self.inodes.links(fid) else {
+            return Ok(());
+        };
+        self.names.add(to, fid)?;
+        self.inodes.set_links(fid, links + 1);
+        Ok(())
+    }
+
+    // Takes away a path that is no full directory's, and with its last path the object.
+    fn take_name(&mut self, path: &Path)
+        requires there { IsSome (found_at self.old path.now) }
+        requires below { is_root path.now ≡ false }
+        requires last { IsTrue (is_at self.old path.now is_dir) → names_under self.old.names path.now ≡ [] }
+        ensures { self.new ≡ without_name self.old path.now }
+    {
+        if let Some(fid) = self.names.find(path, path.names().len()) {
+            self.names.remove(path);
+            self.inodes.release(fid);
+        }
+    }
+
+    // The file at a path, where no other path leads to it.
+    pub(crate) fn last_name(&self, path: &Path) -> Option<FileInfo>
+        ensures { result ≡ last_name_of self.now path.now }
+    {
+        let (fid, inode) = self.found(path)?;
+        match inode.kind {
+            Kind::File if inode.links == 1 => Some(inode.info(fid)),
+            _ => None,
+        }
+    }
+}
+
+/// The path of a call that is not the root's, where its text spells one.
+pub fn read_below(alloc: Global, text: &Text) -> Result<Option<Path>, AllocError>
+    ensures { IfOk result (λ path. path ≡ proper_path_of text.now) }
+{
+    match read(alloc, text)? {
+        Some(path) if !path.names().is_empty() => Ok(Some(path)),
+        _ => Ok(None),
+    }
+}

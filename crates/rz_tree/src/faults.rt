@@ -1,0 +1,200 @@
+//! Why calls are refused, in the order in which the reasons count.
+
+ghost use Rattle.std.specs.Prelude.{◌≡◌, ◌-◌, ◌^◌, ◌≤◌, ◌||◌, ◌∷◌, [], nat_lt, nat_le, length, take};
+ghost use Rattle.std.specs.FinMap as maps;
+ghost use Rattle.rz_export_model.specs.Firsts.{first_of, given_if};
+ghost use Rattle.rz_export_model.specs.Refusals.{walk, absent, present, no_directory, not_dir, dir, link, not_link, not_empty, too_many_links, can_not_make};
+
+use crate::tree::Tree;
+use rz_events::{Kind, TreeFault};
+use rz_names::Path;
+
+/// The most objects besides the root.
+const MOST_OBJECTS: usize = 65536;
+
+/// The most paths that lead to one object.
+const MOST_LINKS: u32 = 65535;
+
+impl Tree {
+    // Along the names before the last, the first that is absent or no directory.
+    pub(crate) fn walk(&self, path: &Path) -> Option<TreeFault>
+        ensures { result ≡ walk self.now path.now }
+    {
+        for count in 1..path.names().len() {
+            if let Some(fault) = self.no_directory(path, count) {
+                return Some(fault);
+            }
+        }
+        None
+    }
+
+    // Why the first `count` names of a path are no directory's.
+    fn no_directory(&self, path: &Path, count: usize) -> Option<TreeFault>
+        requires { count ≤ length path.now }
+        ensures { result ≡ no_directory self.now (take count path.now) }
+    {
+        match self.found_front(path, count) {
+            None => Some(TreeFault::NoEntry),
+            Some((_, inode)) => match inode.kind {
+                Kind::Dir => None,
+                _ => Some(TreeFault::NotDir),
+            },
+        }
+    }
+
+    // Why there is no object at a path.
+    pub(crate) fn missing(&self, path: &Path) -> Option<TreeFault>
+        ensures { result ≡ first_of (walk self.now path.now ∷ absent self.now path.now ∷ []) }
+    {
+        if let Some(fault) = self.walk(path) {
+            return Some(fault);
+        }
+        match self.found(path) {
+            None => Some(TreeFault::NoEntry),
+            Some(_) => None,
+        }
+    }
+
+    // Why there is no directory at a path.
+    pub(crate) fn no_list(&self, path: &Path) -> Option<TreeFault>
+        ensures { result ≡ first_of (walk self.now path.now ∷ absent self.now path.now ∷ not_dir self.now path.now ∷ []) }
+    {
+        if let Some(fault) = self.missing(path) {
+            return Some(fault);
+        }
+        match self.kind_at(path) {
+            Some(Kind::Dir) => None,
+            _ => Some(TreeFault::NotDir),
+        }
+    }
+
+    // Why there is no symbolic link at a path.
+    pub(crate) fn no_target(&self, path: &Path) -> Option<TreeFault>
+        ensures { result ≡ first_of (walk self.now path.now ∷ absent self.now path.now ∷ not_link self.now path.now ∷ []) }
+    {
+        if let Some(fault) = self.missing(path) {
+            return Some(fault);
+        }
+        match self.kind_at(path) {
+            Some(Kind::Link) => None,
+            _ => Some(TreeFault::NotLink),
+        }
+    }
+
+    // Why there is no file at a path.
+    pub(crate) fn no_file(&self, path: &Path) -> Option<TreeFault>
+        ensures { result ≡ first_of (walk self.now path.now ∷ absent self.now path.now ∷ dir self.now path.now ∷ link self.now path.now ∷ []) }
+    {
+        if let Some(fault) = self.missing(path) {
+            return Some(fault);
+        }
+        match self.kind_at(path) {
+            Some(Kind::Dir) => Some(TreeFault::IsDir),
+            Some(Kind::Link) => Some(TreeFault::IsLink),
+            _ => None,
+        }
+    }
+
+    // Why no object can be made at a path.
+    pub(crate) fn no_place(&self, path: &Path) -> Option<TreeFault>
+        ensures { result ≡ first_of (can_not_make self.now path.now) }
+    {
+        if path.names().is_empty() {
+            return Some(TreeFault::Exists);
+        }
+        if let Some(fault) = self.walk(path) {
+            return Some(fault);
+        }
+        if self.found(path).is_some() {
+            return Some(TreeFault::Exists);
+        }
+        if self.is_full() {
+            return Some(TreeFault::TooManyFiles);
+        }
+        None
+    }
+
+    // Whether no further object can be made.
+    fn is_full(&self) -> bool
+        ensures { result ≡ (nat_lt 65536 (maps.len self.now.objects) || nat_le (2 ^ 128 - 1) self.now.made) }
+    {
+        self.inodes.len() > MOST_OBJECTS || is_last(self.made)
+    }
+
+    // Why there is no file and no symbolic link at a path.
+    pub(crate) fn no_leaf(&self, path: &Path) -> Option<TreeFault>
+        ensures { result ≡ first_of (walk self.now path.now ∷ absent self.now path.now ∷ dir self.now path.now ∷ []) }
+    {
+        if let Some(fault) = self.missing(path) {
+            return Some(fault);
+        }
+        match self.kind_at(path) {
+            Some(Kind::Dir) => Some(TreeFault::IsDir),
+            _ => None,
+        }
+    }
+
+    // Why the object at a path can't get another one.
+    pub(crate) fn no_link(&self, path: &Path, to: &Path) -> Option<TreeFault>
+        ensures { result ≡ first_of (walk self.now path.now ∷ absent self.now path.now ∷ dir self.now path.now ∷ walk self.now to.now ∷ present self.now to.now ∷ too_many_links self.now path.now ∷ []) }
+    {
+        if let Some(fault) = self.no_leaf(path) {
+            return Some(fault);
+        }
+        if let Some(fault) = self.walk(to) {
+            return Some(fault);
+        }
+        if self.found(to).is_some() {
+            return Some(TreeFault::Exists);
+        }
+        self.too_many_links(path)
+    }
+
+    // Whether the object at a path has as many paths as an object may have.
+    fn too_many_links(&self, path: &Path) -> Option<TreeFault>
+        ensures { result ≡ too_many_links self.now path.now }
+    {
+        let fid = self.names.find(path, path.names().len())?;
+        match self.inodes.links(fid) {
+            Some(links) => too_many(links),
+            None => None,
+        }
+    }
+
+    // Why there is no empty directory at a path.
+    pub(crate) fn no_removal(&self, path: &Path) -> Option<TreeFault>
+        ensures { result ≡ first_of (walk self.now path.now ∷ absent self.now path.now ∷ not_dir self.now path.now ∷ not_empty self.now path.now ∷ []) }
+    {
+        if let Some(fault) = self.no_list(path) {
+            return Some(fault);
+        }
+        self.not_empty(path)
+    }
+
+    // Whether there are names right under a path.
+    pub(crate) fn not_empty(&self, path: &Path) -> Option<TreeFault>
+        ensures { result ≡ not_empty self.now path.now }
+    {
+        match self.names.child(path, None) {
+            Some(_) => Some(TreeFault::NotEmpty),
+            None => None,
+        }
+    }
+}
+
+// Whether no number follows.
+fn is_last(number: u128) -> bool
+    ensures { result ≡ nat_le (2 ^ 128 - 1) number }
+{
+    number >= u128::MAX
+}
+
+// Whether an object may have no more paths.
+fn too_many(links: u32) -> Option<TreeFault>
+    ensures { result ≡ given_if (nat_le 65535 links) TreeFault.TooManyLinks }
+{
+    if links >= MOST_LINKS {
+        return Some(TreeFault::TooManyLinks);
+    }
+    None
+}

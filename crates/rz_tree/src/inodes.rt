@@ -1,0 +1,183 @@
+//! Objects by their numbers, each with the count of the paths that lead to it.
+
+ghost use Rattle.std.specs.Prelude.{◌≡◌, None, OnOk, OnErr};
+ghost use Rattle.std.specs.Option.{option_copied, option_map};
+ghost use Rattle.std.specs.FinMap as maps;
+ghost use Rattle.rz_export_model.specs.Tree.{info_of};
+ghost use Rattle.rz_tree.specs.Inodes.{found_of, attr_kept, with_attributes, with_size_of, greater_of, with_links, changed_at, released, file_past};
+
+use rz_events::{Attr, FileInfo, Kind, Places, Text};
+use std::alloc::{AllocError, Global};
+use std::collections::BTreeMap;
+use std::marker::Model;
+use std::ops::Bound;
+
+/// A file, a directory or a symbolic link, with the count of the paths that lead to it.
+#[derive(Debug, Drop)]
+pub struct Inode {
+    pub kind: Kind,
+    pub mode: u16,
+    pub mtime: u64,
+    pub target: Text,
+    pub size: u64,
+    pub cid: u16,
+    pub places: Places,
+    pub links: u32,
+}
+
+impl Inode {
+    /// What a client learns of the file of this number.
+    pub fn info(&self, fid: u128) -> FileInfo
+        ensures { result ≡ info_of (found_of fid self.now) }
+    {
+        FileInfo {
+            fid,
+            cid: self.cid,
+            places: self.places,
+            size: self.size,
+        }
+    }
+
+    /// The attributes of the object of this number.
+    pub fn attributes(&self, fid: u128) -> Attr
+        ensures { result ≡ attr_kept fid self.now }
+    {
+        Attr {
+            fid,
+            kind: self.kind,
+            mode: self.mode,
+            mtime: self.mtime,
+            links: self.links,
+            size: self.size,
+        }
+    }
+}
+
+/// The objects of a tree, by their numbers.
+#[derive(Debug, Drop)]
+pub struct Inodes {
+    entries: BTreeMap<u128, Inode>,
+}
+
+impl Model for Inodes {
+    ghost use Rattle.std.specs.FinMap as maps;
+    ghost use Rattle.std.specs.Ordering.{nat_cmp};
+    ghost use Rattle.std.specs.Coded.{coded_ℕ};
+    ghost use Rattle.rz_tree.specs.declared.inodes.Inode.{Inode};
+    ghost use Rattle.rz_tree.specs.contracts.inodes.Inode as inode;
+
+    ghost Value = { maps.FinMap nat_cmp Inode };
+
+    ghost coded = { maps.code coded_ℕ inode.the_row.coded };
+
+    ghost view = { λ o. maps.from_entries o.entries.entries };
+}
+
+impl Inodes {
+    /// No objects.
+    pub fn new(alloc: Global) -> Inodes
+        ensures { result ≡ maps.empty }
+    {
+        Inodes {
+            entries: BTreeMap::new(alloc),
+        }
+    }
+
+    /// How many objects there are.
+    pub fn len(&self) -> usize
+        ensures { result ≡ maps.len self.now }
+    {
+        self.entries.len()
+    }
+
+    /// The object of a number.
+    pub fn get(&self, fid: u128) -> Option<&Inode>
+        ensures { option_copied result ≡ maps.get self.now fid }
+    {
+        self.entries.get(&fid)
+    }
+
+    /// The file with the least greater number.
+    pub fn file_past(&self, fid: u128) -> Option<FileInfo>
+        ensures { result ≡ file_past self.now fid }
+    {
+        let past = (Bound::Excluded(fid), Bound::Unbounded);
+        for (fid, inode) in self.entries.range(past) {
+            if let Kind::File = inode.kind {
+                return Some(inode.info(*fid));
+            }
+        }
+        None
+    }
+
+    /// Adds an object under a number that has none.
+    pub fn add(&mut self, fid: u128, inode: Inode) -> Result<(), AllocError>
+        requires { maps.get self.old fid ≡ None }
+        ensures ok { OnOk result (self.new ≡ maps.insert self.old fid inode) }
+        ensures err { OnErr result (self.new ≡ self.old) }
+    {
+        self.entries.insert(fid, inode)?;
+        Ok(())
+    }
+
+    /// Takes the object of a number away, where it has one.
+    pub fn remove(&mut self, fid: u128)
+        ensures { self.new ≡ maps.remove self.old fid }
+    {
+        self.entries.remove(&fid);
+    }
+
+    /// Sets the mode and the time of an object.
+    pub fn set_attributes(&mut self, fid: u128, mode: u16, mtime: u64)
+        ensures { self.new ≡ changed_at self.old fid (with_attributes mode mtime) }
+    {
+        if let Some(inode) = self.entries.get_mut(&fid) {
+            inode.mode = mode;
+            inode.mtime = mtime;
+        }
+    }
+
+    /// Raises the size of an object, where the new one is greater.
+    pub fn raise_size(&mut self, fid: u128, size: u64)
+        ensures { self.new ≡ changed_at self.old fid (with_size_of size) }
+    {
+        if let Some(inode) = self.entries.get_mut(&fid) {
+            inode.size = greater(inode.size, size);
+        }
+    }
+
+    /// How many paths lead to an object.
+    pub fn links(&self, fid: u128) -> Option<u32>
+        ensures { result ≡ option_map (λ i. i.links) (maps.get self.now fid) }
+    {
+        let inode = self.get(fid)?;
+        Some(inode.links)
+    }
+
+    /// One path less leads to an object; with the last one it goes.
+    pub fn release(&mut self, fid: u128)
+        ensures { self.new ≡ released self.old fid }
+    {
+        match self.links(fid) {
+            None => {}
+            Some(1) => self.remove(fid),
+            Some(links) => self.set_links(fid, links.saturating_sub(1)),
+        }
+    }
+
+    /// Sets how many paths lead to an object.
+    pub fn set_links(&mut self, fid: u128, links: u32)
+        ensures { self.new ≡ changed_at self.old fid (with_links links) }
+    {
+        if let Some(inode) = self.entries.get_mut(&fid) {
+            inode.links = links;
+        }
+    }
+}
+
+// The greater of two sizes.
+fn greater(had: u64, size: u64) -> u64
+    ensures { result ≡ greater_of had size }
+{
+    if had < size { size } else { had }
+}
