@@ -197,8 +197,8 @@ fn outcomes(rt: HostRuntime) -> Result<(), Fail> {
         stamp: 7,
         length: 2049,
     };
-    let few = too_few([Seen::Nothing, Seen::Lost, Seen::DiskFault, Seen::Nothing]);
-    let late = too_few([Seen::Held, Seen::Missed, Seen::Down, Seen::Missed]);
+    let few = too_few([Seen::Nothing, Seen::Lost, Seen::Held, Seen::Nothing]);
+    let late = too_few([Seen::Held, Seen::Missed, Seen::Down, Seen::DiskFault]);
     let spare = [
         (fetch(0), held(7)),
         (fetch(1), nothing),
@@ -213,7 +213,7 @@ fn outcomes(rt: HostRuntime) -> Result<(), Fail> {
     let same = [
         (fetch(0), nothing),
         (fetch(1), lost),
-        (fetch(2), fault),
+        (fetch(2), held(7)),
         (fetch(3), nothing),
         (again, looked(7, 0b0111)),
     ];
@@ -235,7 +235,7 @@ fn outcomes(rt: HostRuntime) -> Result<(), Fail> {
         (fetch(0), held(7)),
         (fetch(1), missed),
         (fetch(2), down),
-        (fetch(3), missed),
+        (fetch(3), fault),
         (again, looked(7, 0b0111)),
     ];
     let table: [(u16, &[(ReaderAsk, ReaderAnswer)], ReadMark); 6] = [
