@@ -1,0 +1,13 @@
+pub mod Pieces
+pub mod Numbers
+pub mod Loop
+pub mod Heads
+pub mod Sums
+pub mod Bytes
+pub mod Cut_words
+pub mod Found
+pub mod Whole
+pub mod Again
+pub mod Printed_volume
+pub mod Described_volume
+pub mod Script_again

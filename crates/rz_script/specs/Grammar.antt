@@ -1,0 +1,478 @@
+-- The grammar of a script: what a text means under a form of reading, or its first fault.
+use Rattle.std.specs.Prelude.{ℕ, ◌+◌, ◌^◌, Bool, true, false, not, nat_lt, nat_le, ◌==◌, ◌&&◌, if◌then◌else◌, List, [], ◌∷◌, length, filter, codes, bytes_eq, slice_index, Option, Some, None, Result, Ok, Err}
+use Rattle.std.specs.List.{slice_split, after_first, cons_option}
+use Rattle.std.specs.Str.{all_ascii_digits, is_utf8}
+use Rattle.std.specs.Str.Parse.{digits_value}
+use Rattle.hex.specs.Hex.{decode_of}
+use Rattle.hex.specs.declared.error.FromHexError.{FromHexError}
+use Rattle.mj_angles.specs.Layout.{block_bytes_of}
+use Rattle.rz_events.specs.declared.keys.Actor.{Actor}
+use Rattle.rz_events.specs.declared.keys.Actor.TheVariants.{Client, Rebuilder, Admin}
+use Rattle.rz_events.specs.declared.tree.TreeCall.{TreeCall}
+use Rattle.rz_events.specs.declared.tree.TreeCall.TheVariants as tree
+use Rattle.rz_events.specs.Volume.{Volume}
+use Rattle.rz_config.specs.declared.fault.VolumeFault.{VolumeFault}
+use Rattle.rz_config.specs.Described.{volume_of_text}
+use Rattle.rz_config.specs.Plain.{plain_volume}
+use Rattle.rz_script.specs.declared.line.Datum.{Datum}
+use Rattle.rz_script.specs.declared.line.Datum.TheVariants.{Bytes, Made}
+use Rattle.rz_script.specs.declared.line.Operation.{Operation}
+use Rattle.rz_script.specs.declared.line.Operation.TheVariants.{Tree, Put, Get, Write, Read, Rebuild, Update, View}
+use Rattle.rz_script.specs.declared.line.Line.{Line}
+use Rattle.rz_script.specs.declared.line.Line.TheVariants.{Op, Turn, Rounds, Rest, Stop, Start, Lose, Break, Miss}
+use Rattle.rz_script.specs.declared.form.Form.{Form}
+use Rattle.rz_script.specs.declared.form.Form.TheVariants as forms
+use Rattle.rz_script.specs.declared.keywords.PathVerb.{PathVerb}
+use Rattle.rz_script.specs.declared.keywords.PathVerb.TheVariants as path_verbs
+use Rattle.rz_script.specs.declared.keywords.PairVerb.{PairVerb}
+use Rattle.rz_script.specs.declared.keywords.PairVerb.TheVariants as pair_verbs
+use Rattle.rz_script.specs.declared.keywords.Verb.{Verb}
+use Rattle.rz_script.specs.declared.keywords.Verb.TheVariants as verbs
+use Rattle.rz_script.specs.declared.keywords.Keyword.{Keyword}
+use Rattle.rz_script.specs.declared.keywords.Keyword.TheVariants as keys
+use Rattle.rz_script.specs.declared.reading.Head.{Head}
+use Rattle.rz_script.specs.declared.reading.Head.TheVariants as heads
+use Rattle.rz_script.specs.declared.fault.ScriptError.{ScriptError}
+use Rattle.rz_script.specs.declared.fault.ScriptError.TheVariants as errors
+use Rattle.rz_script.specs.declared.fault.ScriptCause.{ScriptCause}
+use Rattle.rz_script.specs.declared.fault.ScriptCause.TheVariants.{NotUtf8, UnknownLine, MissingWord, ExtraWord, BadNumber, OutOfRange, BadActor, BadNode, BadDatum, BadOperation, LateVolume, NotForRun}
+use Rattle.rz_script.specs.Lines.{has_node, datum_length, most_bytes, last_byte}
+use Rattle.rz_script.specs.Scripts.{Script, no_lines}
+
+abbrev pub Word : Type 0
+Word = List ℕ
+
+-- the words of a line: what stands between spaces
+abbrev pub words : List ℕ → List Word
+words line = filter (λ w. not (length w == 0)) (slice_split (λ b. b == 32) line)
+
+-- what stands after the first word and the space that ends it
+abbrev pub after_word : List ℕ → List ℕ
+after_word [] = []
+after_word (b ∷ bs) = if b == 32 then after_word bs else after_first (λ c. c == 32) (b ∷ bs)
+
+-- the lines of a text: what stands between line feeds
+abbrev pub lines : List ℕ → List (List ℕ)
+lines text = slice_split (λ b. b == 10) text
+
+-- A judge tells what one word means. A reader tells what the words of a line mean from some word on.
+abbrev pub Judge : Type 0 → Type 0
+Judge A = Word → Result A ScriptCause
+
+abbrev pub Reader : Type 0 → Type 0
+Reader A = List Word → Result A ScriptCause
+
+abbrev pub and_then : {A B : Type 0} → Result A ScriptCause → (A → Result B ScriptCause) → Result B ScriptCause
+and_then (Ok x) f = f x
+and_then (Err e) f = Err e
+
+-- the next word by this judge, and then the others
+infixl 10 ◌>>=◌
+abbrev pub ◌>>=◌ : {A B : Type 0} → Judge A → (A → Reader B) → Reader B
+(judge >>= next) [] = Err MissingWord
+(judge >>= next) (w ∷ ws) = and_then (judge w) (λ x. next x ws)
+
+-- no other words
+abbrev pub done : {A : Type 0} → A → Reader A
+done x [] = Ok x
+done x (w ∷ ws) = Err ExtraWord
+
+-- ---- words
+
+-- PATH and TARGET: any word
+abbrev pub any : Judge (List ℕ)
+any w = Ok w
+
+-- a number: decimal digits, at most a u64
+unfoldable pub number : Judge ℕ
+number w = if all_ascii_digits w && not (length w == 0) && nat_lt (digits_value 10 w) (2 ^ 64) then Ok (digits_value 10 w) else Err BadNumber
+
+-- a number from low to high
+unfoldable pub number_in : ℕ → ℕ → Judge ℕ
+number_in low high w = and_then (number w) (λ n. if nat_le low n && nat_le n high then Ok n else Err OutOfRange)
+
+-- an actor of a kind by its number
+abbrev pub numbered : (ℕ → Actor) → Result ℕ ScriptCause → Result Actor ScriptCause
+numbered kind (Ok n) = Ok (kind n)
+numbered kind (Err e) = Err BadActor
+
+-- ACTOR: `c1` to `c64` or `r1` to `r16`
+unfoldable pub actor : Judge Actor
+actor [] = Err BadActor
+actor (b ∷ digits) =
+    if b == 99 then numbered Client (number_in 1 64 digits)
+    else if b == 114 then numbered Rebuilder (number_in 1 16 digits)
+    else Err BadActor
+
+-- a number, where a node of the volume has it
+abbrev pub of_volume : Volume → Result ℕ ScriptCause → Result ℕ ScriptCause
+of_volume v (Ok sid) = if has_node v sid then Ok sid else Err BadNode
+of_volume v (Err e) = Err BadNode
+
+-- NODE: `n` and the number of a node of the volume
+unfoldable pub node : Volume → Judge ℕ
+node v [] = Err BadNode
+node v (b ∷ digits) = if b == 110 then of_volume v (number_in 1 65535 digits) else Err BadNode
+
+-- the bytes of a datum, of which there may be so many
+abbrev pub at_most : ℕ → List ℕ → Result Datum ScriptCause
+at_most limit bytes = if nat_le (length bytes) limit then Ok (Bytes bytes) else Err OutOfRange
+
+-- what stands between the colons of `g:LENGTH:SEED`
+abbrev pub made : ℕ → List Word → Result Datum ScriptCause
+made limit [] = Err BadDatum
+made limit (len ∷ []) = Err BadDatum
+made limit (len ∷ seed ∷ []) = and_then (number_in 0 limit len) (λ n. and_then (number_in 0 255 seed) (λ s. Ok (Made n s)))
+made limit (len ∷ seed ∷ more ∷ parts) = Err BadDatum
+
+-- the bytes of pairs of hex digits
+abbrev pub hex : ℕ → Result (List ℕ) FromHexError → Result Datum ScriptCause
+hex limit (Ok bytes) = at_most limit bytes
+hex limit (Err e) = Err BadDatum
+
+-- DATUM: `t:` and bytes, `x:` and hex digits, or `g:LENGTH:SEED`
+unfoldable pub datum : ℕ → Judge Datum
+datum limit [] = Err BadDatum
+datum limit (kind ∷ []) = Err BadDatum
+datum limit (kind ∷ colon ∷ rest) =
+    if not (colon == 58) then Err BadDatum
+    else if kind == 116 then at_most limit rest
+    else if kind == 120 then hex limit (decode_of rest)
+    else if kind == 103 then made limit (slice_split (λ b. b == 58) rest)
+    else Err BadDatum
+
+-- DATUM of bytes from an offset on
+unfoldable pub datum_from : ℕ → Judge Datum
+datum_from offset w = and_then (datum most_bytes w) (λ d. if nat_le (offset + datum_length d) last_byte then Ok d else Err OutOfRange)
+
+-- LENGTH of bytes from an offset on
+unfoldable pub length_from : ℕ → Judge ℕ
+length_from offset w = and_then (number_in 0 most_bytes w) (λ n. if nat_le (offset + n) last_byte then Ok n else Err OutOfRange)
+
+-- what is lost of a message: the reply, or the request itself
+unfoldable pub way : Judge Bool
+way w =
+    if bytes_eq w (codes "request") then Ok false
+    else if bytes_eq w (codes "reply") then Ok true
+    else Err UnknownLine
+
+-- ---- operations
+
+-- the operation that a word names
+unfoldable pub verb_named : Word → Option Verb
+verb_named w =
+    if bytes_eq w (codes "mkdir") then Some (verbs.OnPath path_verbs.Mkdir)
+    else if bytes_eq w (codes "rmdir") then Some (verbs.OnPath path_verbs.Rmdir)
+    else if bytes_eq w (codes "create") then Some (verbs.OnPath path_verbs.Create)
+    else if bytes_eq w (codes "unlink") then Some (verbs.OnPath path_verbs.Unlink)
+    else if bytes_eq w (codes "rename") then Some (verbs.OnPair pair_verbs.Rename)
+    else if bytes_eq w (codes "link") then Some (verbs.OnPair pair_verbs.Link)
+    else if bytes_eq w (codes "symlink") then Some (verbs.OnPair pair_verbs.Symlink)
+    else if bytes_eq w (codes "readlink") then Some (verbs.OnPath path_verbs.Readlink)
+    else if bytes_eq w (codes "readdir") then Some (verbs.OnPath path_verbs.Readdir)
+    else if bytes_eq w (codes "lookup") then Some (verbs.OnPath path_verbs.Lookup)
+    else if bytes_eq w (codes "getattr") then Some (verbs.OnPath path_verbs.Getattr)
+    else if bytes_eq w (codes "setattr") then Some verbs.Setattr
+    else if bytes_eq w (codes "put") then Some verbs.Put
+    else if bytes_eq w (codes "get") then Some verbs.Get
+    else if bytes_eq w (codes "write") then Some verbs.Write
+    else if bytes_eq w (codes "read") then Some verbs.Read
+    else if bytes_eq w (codes "update") then Some verbs.Update
+    else if bytes_eq w (codes "view") then Some verbs.View
+    else if bytes_eq w (codes "rebuild") then Some verbs.Rebuild
+    else None
+
+-- an operation that locks a range is not for many threads
+abbrev pub unless_run : {A : Type 0} → Form → A → Result A ScriptCause
+unless_run forms.Replay x = Ok x
+unless_run forms.Run x = Err NotForRun
+unless_run forms.Migrate x = Ok x
+
+-- whether an actor may do it: a rebuilder rebuilds, and a client does all else
+abbrev pub judged : Form → Actor → Verb → Result Verb ScriptCause
+judged form (Client n) verbs.Rebuild = Err BadOperation
+judged form (Client n) verbs.Update = unless_run form verbs.Update
+judged form (Client n) verbs.View = unless_run form verbs.View
+judged form (Client n) v = Ok v
+judged form (Rebuilder n) verbs.Rebuild = Ok verbs.Rebuild
+judged form (Rebuilder n) v = Err BadOperation
+judged form Admin v = Err BadOperation
+
+abbrev pub judged_if : Form → Actor → Option Verb → Result Verb ScriptCause
+judged_if form by None = Err BadOperation
+judged_if form by (Some v) = judged form by v
+
+-- the first word of OPERATION
+unfoldable pub verb : Form → Actor → Judge Verb
+verb form by w = judged_if form by (verb_named w)
+
+-- the call of a verb on one path
+abbrev pub path_call : PathVerb → List ℕ → TreeCall
+path_call path_verbs.Lookup path = tree.Lookup path
+path_call path_verbs.Getattr path = tree.Getattr path
+path_call path_verbs.Rmdir path = tree.Rmdir path
+path_call path_verbs.Mkdir path = tree.Mkdir path
+path_call path_verbs.Create path = tree.Create path
+path_call path_verbs.Unlink path = tree.Unlink path
+path_call path_verbs.Readlink path = tree.Readlink path
+path_call path_verbs.Readdir path = tree.Readdir path
+
+-- the call of a verb on two words
+abbrev pub pair_call : PairVerb → List ℕ → List ℕ → TreeCall
+pair_call pair_verbs.Rename path to = tree.Rename path to
+pair_call pair_verbs.Link path to = tree.Link path to
+pair_call pair_verbs.Symlink target path = tree.Symlink target path
+
+-- mkdir PATH, rmdir PATH, create PATH, unlink PATH, readlink PATH, readdir PATH, lookup PATH, getattr PATH
+unfoldable pub on_path : PathVerb → Reader Operation
+on_path v = do
+  path ← any
+  done (Tree (path_call v path))
+
+-- rename PATH PATH, link PATH PATH, symlink TARGET PATH
+unfoldable pub on_pair : PairVerb → Reader Operation
+on_pair v = do
+  first ← any
+  second ← any
+  done (Tree (pair_call v first second))
+
+-- setattr PATH MODE MTIME
+unfoldable pub setattr : Reader Operation
+setattr = do
+  path ← any
+  mode ← number_in 0 4095
+  mtime ← number
+  done (Tree (tree.Setattr path mode mtime))
+
+-- put PATH BLOCK DATUM
+unfoldable pub put : Volume → Reader Operation
+put v = do
+  path ← any
+  block ← number
+  bytes ← datum (block_bytes_of v.layout)
+  done (Put path block bytes)
+
+-- get PATH BLOCK
+unfoldable pub get : Reader Operation
+get = do
+  path ← any
+  block ← number
+  done (Get path block)
+
+-- write PATH OFFSET DATUM
+unfoldable pub write : Reader Operation
+write = do
+  path ← any
+  offset ← number
+  bytes ← datum_from offset
+  done (Write path offset bytes)
+
+-- read PATH OFFSET LENGTH
+unfoldable pub read : Reader Operation
+read = do
+  path ← any
+  offset ← number
+  len ← length_from offset
+  done (Read path offset len)
+
+-- update PATH OFFSET DATUM
+unfoldable pub update : Reader Operation
+update = do
+  path ← any
+  offset ← number
+  bytes ← datum_from offset
+  done (Update path offset bytes)
+
+-- view PATH OFFSET LENGTH
+unfoldable pub view : Reader Operation
+view = do
+  path ← any
+  offset ← number
+  len ← length_from offset
+  done (View path offset len)
+
+-- rebuild NODE
+unfoldable pub rebuild : Volume → Reader Operation
+rebuild v = do
+  sid ← node v
+  done (Rebuild sid)
+
+-- the words after the first word of OPERATION
+unfoldable pub operands : Volume → Verb → Reader Operation
+operands v (verbs.OnPath verb) = on_path verb
+operands v (verbs.OnPair verb) = on_pair verb
+operands v verbs.Setattr = setattr
+operands v verbs.Put = put v
+operands v verbs.Get = get
+operands v verbs.Write = write
+operands v verbs.Read = read
+operands v verbs.Update = update
+operands v verbs.View = view
+operands v verbs.Rebuild = rebuild v
+
+-- ---- lines
+
+abbrev pub by_actor : Actor → Reader Operation → Reader Line
+by_actor by reader ws = and_then (reader ws) (λ operation. Ok (Op by operation))
+
+-- op ACTOR OPERATION
+unfoldable pub op : Form → Volume → Reader Line
+op form v = do
+  by ← actor
+  name ← verb form by
+  by_actor by (operands v name)
+
+-- turn ACTOR K
+unfoldable pub turn : Reader Line
+turn = do
+  by ← actor
+  k ← number_in 1 1000000
+  done (Turn by k)
+
+-- rounds K
+unfoldable pub rounds : Reader Line
+rounds = do
+  k ← number_in 1 1000000
+  done (Rounds k)
+
+-- rest
+unfoldable pub rest : Reader Line
+rest = done Rest
+
+-- stop NODE, start NODE and lose NODE
+unfoldable pub on_node : Volume → (ℕ → Line) → Reader Line
+on_node v act = do
+  sid ← node v
+  done (act sid)
+
+-- break NODE K P
+unfoldable pub break_node : Volume → Reader Line
+break_node v = do
+  sid ← node v
+  k ← number_in 0 1000000
+  pick ← number
+  done (Break sid k pick)
+
+-- miss ACTOR request and miss ACTOR reply
+unfoldable pub miss : Reader Line
+miss = do
+  by ← actor
+  reply ← way
+  done (Miss by reply)
+
+-- the line that a word begins
+unfoldable pub keyword_named : Word → Option Keyword
+keyword_named w =
+    if bytes_eq w (codes "volume") then Some keys.Volume
+    else if bytes_eq w (codes "op") then Some keys.Op
+    else if bytes_eq w (codes "turn") then Some keys.Turn
+    else if bytes_eq w (codes "rounds") then Some keys.Rounds
+    else if bytes_eq w (codes "rest") then Some keys.Rest
+    else if bytes_eq w (codes "stop") then Some keys.Stop
+    else if bytes_eq w (codes "start") then Some keys.Start
+    else if bytes_eq w (codes "lose") then Some keys.Lose
+    else if bytes_eq w (codes "break") then Some keys.Break
+    else if bytes_eq w (codes "miss") then Some keys.Miss
+    else None
+
+-- whether a line may stand after the volume's, by its first word: under `Migrate` none may, and under
+-- `Run` none that speaks of turns or of lost messages
+abbrev pub standing : Form → Keyword → Result Keyword ScriptCause
+standing form keys.Volume = Err LateVolume
+standing forms.Migrate k = Err UnknownLine
+standing forms.Run keys.Turn = Err NotForRun
+standing forms.Run keys.Rounds = Err NotForRun
+standing forms.Run keys.Rest = Err NotForRun
+standing forms.Run keys.Miss = Err NotForRun
+standing form k = Ok k
+
+abbrev pub standing_if : Form → Option Keyword → Result Keyword ScriptCause
+standing_if form None = Err UnknownLine
+standing_if form (Some k) = standing form k
+
+unfoldable pub keyword : Form → Judge Keyword
+keyword form w = standing_if form (keyword_named w)
+
+-- the words after the first word of a line
+unfoldable pub after_keyword : Form → Volume → Keyword → Reader Line
+after_keyword form v keys.Volume = λ ws. Err LateVolume
+after_keyword form v keys.Op = op form v
+after_keyword form v keys.Turn = turn
+after_keyword form v keys.Rounds = rounds
+after_keyword form v keys.Rest = rest
+after_keyword form v keys.Stop = on_node v Stop
+after_keyword form v keys.Start = on_node v Start
+after_keyword form v keys.Lose = on_node v Lose
+after_keyword form v keys.Break = break_node v
+after_keyword form v keys.Miss = miss
+
+-- a line that counts, by its first word
+unfoldable pub counted : Form → Volume → Word → Reader Line
+counted form v w ws = and_then (keyword form w) (λ k. after_keyword form v k ws)
+
+abbrev pub some : {A : Type 0} → Result A ScriptCause → Result (Option A) ScriptCause
+some (Ok x) = Ok (Some x)
+some (Err e) = Err e
+
+-- a line: nothing where it is passed over, since it has no word or its first word begins with `#`
+unfoldable pub line : Form → Volume → List Word → Result (Option Line) ScriptCause
+line form v [] = Ok None
+line form v (w ∷ ws) = if slice_index w 0 == 35 then Ok None else some (counted form v w ws)
+
+-- ---- texts
+
+abbrev pub join : Result (Option Line) ScriptError → Result (List Line) ScriptError → Result (List Line) ScriptError
+join (Err e) others = Err e
+join (Ok o) (Err e) = Err e
+join (Ok o) (Ok ls) = Ok (cons_option o ls)
+
+abbrev pub at_line : ℕ → Result (Option Line) ScriptCause → Result (Option Line) ScriptError
+at_line n (Ok o) = Ok o
+at_line n (Err cause) = Err (errors.Script n cause)
+
+-- the lines from number n on, under a volume
+unfoldable pub lines_from : Form → Volume → ℕ → List (List ℕ) → Result (List Line) ScriptError
+lines_from form v n [] = Ok []
+lines_from form v n (text ∷ texts) = join (at_line n (line form v (words text))) (lines_from form v (n + 1) texts)
+
+abbrev pub with_lines : Volume → Result (List Line) ScriptError → Result Script ScriptError
+with_lines v (Ok ls) = Ok (record { volume = v; lines = ls })
+with_lines v (Err e) = Err e
+
+abbrev pub with_volume : Result Volume VolumeFault → (Volume → Result (List Line) ScriptError) → Result Script ScriptError
+with_volume (Ok v) others = with_lines v (others v)
+with_volume (Err fault) others = Err (errors.Volume fault)
+
+-- the volume that a `volume` line describes, and the lines after it
+abbrev pub described : ℕ → List ℕ → List Word → (Volume → Result (List Line) ScriptError) → Result Script ScriptError
+described n json [] others = Err (errors.Script n MissingWord)
+described n json (w ∷ ws) others = with_volume (volume_of_text json) others
+
+unfoldable pub given : ℕ → List ℕ → (Volume → Result (List Line) ScriptError) → Result Script ScriptError
+given n json others = described n json (words json) others
+
+-- whether a line is passed over, gives the volume, or is another
+unfoldable pub head : List Word → Head
+head [] = heads.Passed
+head (w ∷ ws) =
+    if slice_index w 0 == 35 then heads.Passed
+    else if bytes_eq w (codes "volume") then heads.Volume
+    else heads.Other
+
+abbrev pub by_head : {A : Type 0} → Head → A → A → A → A
+by_head heads.Passed passed volume other = passed
+by_head heads.Volume passed volume other = volume
+by_head heads.Other passed volume other = other
+
+-- the lines from number n on, where a `volume` line may still come; without one the volume is the plain one
+unfoldable pub headed : Form → ℕ → List (List ℕ) → Result Script ScriptError
+headed form n [] = Ok (no_lines plain_volume)
+headed form n (text ∷ texts) =
+    by_head (head (words text))
+    (headed form (n + 1) texts)
+    (given n (after_word text) (λ v. lines_from form v (n + 1) texts))
+    (with_lines plain_volume (lines_from form plain_volume n (text ∷ texts)))
+
+-- the script that a text means, or its first fault
+unfoldable pub script : Form → List ℕ → Result Script ScriptError
+script form bytes = if is_utf8 bytes then headed form 1 (lines bytes) else Err (errors.Script 1 NotUtf8)

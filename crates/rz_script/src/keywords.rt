@@ -1,0 +1,196 @@
+//! The first words of lines and of operations.
+
+ghost use Rattle.std.specs.Prelude.{◌≡◌};
+ghost use Rattle.rz_script.specs.Grammar.{verb_named, judged, verb, path_call, pair_call, keyword_named, standing, keyword};
+
+use crate::{Form, ScriptCause};
+use rz_events::{Actor, Text, TreeCall};
+
+/// The calls on the tree with one path.
+#[derive(Clone, Copy, Debug, PartialEq, Eq, Drop)]
+pub enum PathVerb {
+    Lookup,
+    Getattr,
+    Rmdir,
+    Mkdir,
+    Create,
+    Unlink,
+    Readlink,
+    Readdir,
+}
+
+/// The calls on the tree with two words.
+#[derive(Clone, Copy, Debug, PartialEq, Eq, Drop)]
+pub enum PairVerb {
+    Rename,
+    Link,
+    Symlink,
+}
+
+/// What an operation does.
+#[derive(Clone, Copy, Debug, PartialEq, Eq, Drop)]
+pub enum Verb {
+    OnPath(PathVerb),
+    OnPair(PairVerb),
+    Setattr,
+    Put,
+    Get,
+    Write,
+    Read,
+    Rebuild,
+    Update,
+    View,
+}
+
+/// What a line is.
+#[derive(Clone, Copy, Debug, PartialEq, Eq, Drop)]
+pub enum Keyword {
+    Volume,
+    Op,
+    Turn,
+    Rounds,
+    Rest,
+    Stop,
+    Start,
+    Lose,
+    Break,
+    Miss,
+}
+
+/// The operation that a word names.
+#[tactic(auto, unfolding(crate::specs::Grammar::verb_named))]
+fn verb_named(word: &str) -> Option<Verb>
+    ensures { result ≡ verb_named word.now }
+{
+    Some(match word {
+        "mkdir" => Verb::OnPath(PathVerb::Mkdir),
+        "rmdir" => Verb::OnPath(PathVerb::Rmdir),
+        "create" => Verb::OnPath(PathVerb::Create),
+        "unlink" => Verb::OnPath(PathVerb::Unlink),
+        "rename" => Verb::OnPair(PairVerb::Rename),
+        "link" => Verb::OnPair(PairVerb::Link),
+        "symlink" => Verb::OnPair(PairVerb::Symlink),
+        "readlink" => Verb::OnPath(PathVerb::Readlink),
+        "readdir" => Verb::OnPath(PathVerb::Readdir),
+        "lookup" => Verb::OnPath(PathVerb::Lookup),
+        "getattr" => Verb::OnPath(PathVerb::Getattr),
+        "setattr" => Verb::Setattr,
+        "put" => Verb::Put,
+        "get" => Verb::Get,
+        "write" => Verb::Write,
+        "read" => Verb::Read,
+        "update" => Verb::Update,
+        "view" => Verb::View,
+        "rebuild" => Verb::Rebuild,
+        _ => return None,
+    })
+}
+
+/// The verb, where an actor may do it under a form of reading.
+fn judge_verb(form: Form, by: Actor, verb: Verb) -> Result<Verb, ScriptCause>
+    ensures { result ≡ judged form by verb }
+{
+    match (by, verb) {
+        (Actor::Rebuilder(_), Verb::Rebuild) => Ok(verb),
+        (Actor::Rebuilder(_), _) => Err(ScriptCause::BadOperation),
+        (Actor::Admin, _) => Err(ScriptCause::BadOperation),
+        (Actor::Client(_), Verb::Rebuild) => Err(ScriptCause::BadOperation),
+        (Actor::Client(_), Verb::Update | Verb::View) => match form {
+            Form::Run => Err(ScriptCause::NotForRun),
+            Form::Replay | Form::Migrate => Ok(verb),
+        },
+        (Actor::Client(_), _) => Ok(verb),
+    }
+}
+
+/// What the first word of an operation says.
+#[tactic(auto, unfolding(crate::specs::Grammar::verb))]
+pub fn read_verb(form: Form, by: Actor, word: &str) -> Result<Verb, ScriptCause>
+    ensures { result ≡ verb form by word.now }
+{
+    match verb_named(word) {
+        Some(verb) => judge_verb(form, by, verb),
+        None => Err(ScriptCause::BadOperation),
+    }
+}
+
+/// The call of a verb on one path.
+pub fn path_call(verb: PathVerb, path: Text) -> TreeCall
+    ensures { result ≡ path_call verb path }
+{
+    match verb {
+        PathVerb::Lookup => TreeCall::Lookup { path },
+        PathVerb::Getattr => TreeCall::Getattr { path },
+        PathVerb::Rmdir => TreeCall::Rmdir { path },
+        PathVerb::Mkdir => TreeCall::Mkdir { path },
+        PathVerb::Create => TreeCall::Create { path },
+        PathVerb::Unlink => TreeCall::Unlink { path },
+        PathVerb::Readlink => TreeCall::Readlink { path },
+        PathVerb::Readdir => TreeCall::Readdir { path },
+    }
+}
+
+/// The call of a verb on two words.
+pub fn pair_call(verb: PairVerb, first: Text, second: Text) -> TreeCall
+    ensures { result ≡ pair_call verb first second }
+{
+    match verb {
+        PairVerb::Rename => TreeCall::Rename {
+            path: first,
+            to: second,
+        },
+        PairVerb::Link => TreeCall::Link {
+            path: first,
+            to: second,
+        },
+        PairVerb::Symlink => TreeCall::Symlink {
+            target: first,
+            path: second,
+        },
+    }
+}
+
+/// The line that a word begins.
+#[tactic(auto, unfolding(crate::specs::Grammar::keyword_named))]
+fn keyword_named(word: &str) -> Option<Keyword>
+    ensures { result ≡ keyword_named word.now }
+{
+    Some(match word {
+        "volume" => Keyword::Volume,
+        "op" => Keyword::Op,
+        "turn" => Keyword::Turn,
+        "rounds" => Keyword::Rounds,
+        "rest" => Keyword::Rest,
+        "stop" => Keyword::Stop,
+        "start" => Keyword::Start,
+        "lose" => Keyword::Lose,
+        "break" => Keyword::Break,
+        "miss" => Keyword::Miss,
+        _ => return None,
+    })
+}
+
+/// The keyword, where its line may stand after the volume's under a form of reading.
+fn judge_keyword(form: Form, keyword: Keyword) -> Result<Keyword, ScriptCause>
+    ensures { result ≡ standing form keyword }
+{
+    match (form, keyword) {
+        (_, Keyword::Volume) => Err(ScriptCause::LateVolume),
+        (Form::Migrate, _) => Err(ScriptCause::UnknownLine),
+        (Form::Run, Keyword::Turn | Keyword::Rounds | Keyword::Rest | Keyword::Miss) => {
+            Err(ScriptCause::NotForRun)
+        }
+        _ => Ok(keyword),
+    }
+}
+
+/// What the first word of a line says.
+#[tactic(auto, unfolding(crate::specs::Grammar::keyword))]
+pub fn read_keyword(form: Form, word: &str) -> Result<Keyword, ScriptCause>
+    ensures { result ≡ keyword form word.now }
+{
+    match keyword_named(word) {
+        Some(keyword) => judge_keyword(form, keyword),
+        None => Err(ScriptCause::UnknownLine),
+    }
+}

@@ -1,0 +1,149 @@
+//! The lines of a script, word by word.
+
+ghost use Rattle.std.specs.Prelude.{◌≡◌};
+ghost use Rattle.rz_script.specs.declared.line.Line.TheVariants as line_kinds;
+ghost use Rattle.rz_script.specs.Given.{Gives};
+ghost use Rattle.rz_script.specs.Grammar.{turn, rounds, rest, on_node, break_node, miss, after_keyword, counted, line, words};
+
+use crate::fault::LineError;
+use crate::judges::{read_actor, read_node, read_number, read_number_in, read_way};
+use crate::keywords::{Keyword, read_keyword};
+use crate::operations::read_op;
+use crate::words::Words;
+use crate::{Form, Line, ScriptCause, Volume};
+use std::alloc::Global;
+
+#[tactic(auto, unfolding(crate::specs::Grammar::turn))]
+fn read_turn(words: &mut Words) -> Result<Line, ScriptCause>
+    ensures { result ≡ turn words.old }
+{
+    let by = read_actor(words.next()?)?;
+    let k = read_number_in(words.next()?, 1, 1_000_000)? as u32;
+    words.end()?;
+    Ok(Line::Turn { by, k })
+}
+
+#[tactic(auto, unfolding(crate::specs::Grammar::rounds))]
+fn read_rounds(words: &mut Words) -> Result<Line, ScriptCause>
+    ensures { result ≡ rounds words.old }
+{
+    let k = read_number_in(words.next()?, 1, 1_000_000)? as u32;
+    words.end()?;
+    Ok(Line::Rounds { k })
+}
+
+#[tactic(auto, unfolding(crate::specs::Grammar::rest))]
+fn read_rest(words: &mut Words) -> Result<Line, ScriptCause>
+    ensures { result ≡ rest words.old }
+{
+    words.end()?;
+    Ok(Line::Rest)
+}
+
+#[tactic(auto, unfolding(crate::specs::Grammar::on_node))]
+fn read_stop(volume: &Volume, words: &mut Words) -> Result<Line, ScriptCause>
+    ensures { result ≡ on_node volume.now line_kinds.Stop words.old }
+{
+    let node = read_node(volume, words.next()?)?;
+    words.end()?;
+    Ok(Line::Stop { node })
+}
+
+#[tactic(auto, unfolding(crate::specs::Grammar::on_node))]
+fn read_start(volume: &Volume, words: &mut Words) -> Result<Line, ScriptCause>
+    ensures { result ≡ on_node volume.now line_kinds.Start words.old }
+{
+    let node = read_node(volume, words.next()?)?;
+    words.end()?;
+    Ok(Line::Start { node })
+}
+
+#[tactic(auto, unfolding(crate::specs::Grammar::on_node))]
+fn read_lose(volume: &Volume, words: &mut Words) -> Result<Line, ScriptCause>
+    ensures { result ≡ on_node volume.now line_kinds.Lose words.old }
+{
+    let node = read_node(volume, words.next()?)?;
+    words.end()?;
+    Ok(Line::Lose { node })
+}
+
+#[tactic(auto, unfolding(crate::specs::Grammar::break_node))]
+fn read_break(volume: &Volume, words: &mut Words) -> Result<Line, ScriptCause>
+    ensures { result ≡ break_node volume.now words.old }
+{
+    let node = read_node(volume, words.next()?)?;
+    let k = read_number_in(words.next()?, 0, 1_000_000)?;
+    let pick = read_number(words.next()?)?;
+    words.end()?;
+    Ok(Line::Break { node, k, pick })
+}
+
+#[tactic(auto, unfolding(crate::specs::Grammar::miss))]
+fn read_miss(words: &mut Words) -> Result<Line, ScriptCause>
+    ensures { result ≡ miss words.old }
+{
+    let by = read_actor(words.next()?)?;
+    let reply = read_way(words.next()?)?;
+    words.end()?;
+    Ok(Line::Miss { by, reply })
+}
+
+/// The words after the first word of a line.
+#[tactic(auto, unfolding(crate::specs::Grammar::after_keyword))]
+fn read_after_keyword(
+    alloc: Global,
+    form: Form,
+    volume: &Volume,
+    keyword: Keyword,
+    words: &mut Words,
+) -> Result<Line, LineError>
+    ensures { Gives result (after_keyword form volume.now keyword words.old) }
+{
+    match keyword {
+        Keyword::Volume => Err(LineError::Cause(ScriptCause::LateVolume)),
+        Keyword::Op => read_op(alloc, form, volume, words),
+        Keyword::Turn => Ok(read_turn(words)?),
+        Keyword::Rounds => Ok(read_rounds(words)?),
+        Keyword::Rest => Ok(read_rest(words)?),
+        Keyword::Stop => Ok(read_stop(volume, words)?),
+        Keyword::Start => Ok(read_start(volume, words)?),
+        Keyword::Lose => Ok(read_lose(volume, words)?),
+        Keyword::Break => Ok(read_break(volume, words)?),
+        Keyword::Miss => Ok(read_miss(words)?),
+    }
+}
+
+/// A line that counts.
+#[tactic(auto, unfolding(crate::specs::Grammar::counted))]
+fn read_counted(
+    alloc: Global,
+    form: Form,
+    volume: &Volume,
+    first: &str,
+    words: &mut Words,
+) -> Result<Line, LineError>
+    ensures { Gives result (counted form volume.now first.now words.old) }
+{
+    let keyword = read_keyword(form, first)?;
+    read_after_keyword(alloc, form, volume, keyword, words)
+}
+
+/// The line of a text, or nothing where it is passed over.
+#[tactic(auto, unfolding(crate::specs::Grammar::line))]
+pub fn read_line(
+    alloc: Global,
+    form: Form,
+    volume: &Volume,
+    text: &str,
+) -> Result<Option<Line>, LineError>
+    ensures { Gives result (line form volume.now (words text.now)) }
+{
+    let mut words = Words::of(text);
+    let Ok(first) = words.next() else {
+        return Ok(None);
+    };
+    if first.starts_with('#') {
+        return Ok(None);
+    }
+    Ok(Some(read_counted(alloc, form, volume, first, &mut words)?))
+}

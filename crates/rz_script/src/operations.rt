@@ -1,0 +1,179 @@
+//! The operations of actors, word by word.
+
+ghost use Rattle.std.specs.Prelude.{◌≡◌};
+ghost use Rattle.rz_script.specs.Given.{Gives};
+ghost use Rattle.rz_script.specs.Grammar.{on_path, on_pair, setattr, put, get, write, read, update, view, rebuild, operands, op};
+
+use crate::fault::LineError;
+use crate::judges::{
+    read_actor, read_datum, read_datum_from, read_length_from, read_node, read_number,
+    read_number_in,
+};
+use crate::keywords::{PairVerb, PathVerb, Verb, pair_call, path_call, read_verb};
+use crate::words::Words;
+use crate::{Form, Line, Operation, Volume};
+use rz_events::{Text, TreeCall};
+use std::alloc::Global;
+
+/// A call on one path.
+#[tactic(auto, unfolding(crate::specs::Grammar::on_path))]
+fn read_on_path(alloc: Global, verb: PathVerb, words: &mut Words) -> Result<Operation, LineError>
+    ensures { Gives result (on_path verb words.old) }
+{
+    let path = Text::from_bytes(alloc, words.next()?.as_bytes())?;
+    words.end()?;
+    Ok(Operation::Tree(path_call(verb, path)))
+}
+
+/// A call on two words.
+#[tactic(auto, unfolding(crate::specs::Grammar::on_pair))]
+fn read_on_pair(alloc: Global, verb: PairVerb, words: &mut Words) -> Result<Operation, LineError>
+    ensures { Gives result (on_pair verb words.old) }
+{
+    let first = Text::from_bytes(alloc, words.next()?.as_bytes())?;
+    let second = Text::from_bytes(alloc, words.next()?.as_bytes())?;
+    words.end()?;
+    Ok(Operation::Tree(pair_call(verb, first, second)))
+}
+
+#[tactic(auto, unfolding(crate::specs::Grammar::setattr))]
+fn read_setattr(alloc: Global, words: &mut Words) -> Result<Operation, LineError>
+    ensures { Gives result (setattr words.old) }
+{
+    let path = Text::from_bytes(alloc, words.next()?.as_bytes())?;
+    let mode = read_number_in(words.next()?, 0, 4095)? as u16;
+    let mtime = read_number(words.next()?)?;
+    words.end()?;
+    Ok(Operation::Tree(TreeCall::Setattr { path, mode, mtime }))
+}
+
+#[tactic(auto, unfolding(crate::specs::Grammar::put))]
+fn read_put(alloc: Global, volume: &Volume, words: &mut Words) -> Result<Operation, LineError>
+    ensures { Gives result (put volume.now words.old) }
+{
+    let path = Text::from_bytes(alloc, words.next()?.as_bytes())?;
+    let block = read_number(words.next()?)?;
+    let limit = volume.layout.block_bytes() as u64;
+    let datum = read_datum(alloc, limit, words.next()?)?;
+    words.end()?;
+    Ok(Operation::Put { path, block, datum })
+}
+
+#[tactic(auto, unfolding(crate::specs::Grammar::get))]
+fn read_get(alloc: Global, words: &mut Words) -> Result<Operation, LineError>
+    ensures { Gives result (get words.old) }
+{
+    let path = Text::from_bytes(alloc, words.next()?.as_bytes())?;
+    let block = read_number(words.next()?)?;
+    words.end()?;
+    Ok(Operation::Get { path, block })
+}
+
+#[tactic(auto, unfolding(crate::specs::Grammar::write))]
+fn read_write(alloc: Global, words: &mut Words) -> Result<Operation, LineError>
+    ensures { Gives result (write words.old) }
+{
+    let path = Text::from_bytes(alloc, words.next()?.as_bytes())?;
+    let offset = read_number(words.next()?)?;
+    let datum = read_datum_from(alloc, offset, words.next()?)?;
+    words.end()?;
+    Ok(Operation::Write {
+        path,
+        offset,
+        datum,
+    })
+}
+
+#[tactic(auto, unfolding(crate::specs::Grammar::read))]
+fn read_read(alloc: Global, words: &mut Words) -> Result<Operation, LineError>
+    ensures { Gives result (read words.old) }
+{
+    let path = Text::from_bytes(alloc, words.next()?.as_bytes())?;
+    let offset = read_number(words.next()?)?;
+    let length = read_length_from(offset, words.next()?)?;
+    words.end()?;
+    Ok(Operation::Read {
+        path,
+        offset,
+        length,
+    })
+}
+
+#[tactic(auto, unfolding(crate::specs::Grammar::update))]
+fn read_update(alloc: Global, words: &mut Words) -> Result<Operation, LineError>
+    ensures { Gives result (update words.old) }
+{
+    let path = Text::from_bytes(alloc, words.next()?.as_bytes())?;
+    let offset = read_number(words.next()?)?;
+    let datum = read_datum_from(alloc, offset, words.next()?)?;
+    words.end()?;
+    Ok(Operation::Update {
+        path,
+        offset,
+        datum,
+    })
+}
+
+#[tactic(auto, unfolding(crate::specs::Grammar::view))]
+fn read_view(alloc: Global, words: &mut Words) -> Result<Operation, LineError>
+    ensures { Gives result (view words.old) }
+{
+    let path = Text::from_bytes(alloc, words.next()?.as_bytes())?;
+    let offset = read_number(words.next()?)?;
+    let length = read_length_from(offset, words.next()?)?;
+    words.end()?;
+    Ok(Operation::View {
+        path,
+        offset,
+        length,
+    })
+}
+
+#[tactic(auto, unfolding(crate::specs::Grammar::rebuild))]
+fn read_rebuild(volume: &Volume, words: &mut Words) -> Result<Operation, LineError>
+    ensures { Gives result (rebuild volume.now words.old) }
+{
+    let node = read_node(volume, words.next()?)?;
+    words.end()?;
+    Ok(Operation::Rebuild { node })
+}
+
+/// The words after the first word of an operation.
+#[tactic(auto, unfolding(crate::specs::Grammar::operands))]
+fn read_operands(
+    alloc: Global,
+    volume: &Volume,
+    verb: Verb,
+    words: &mut Words,
+) -> Result<Operation, LineError>
+    ensures { Gives result (operands volume.now verb words.old) }
+{
+    match verb {
+        Verb::OnPath(verb) => read_on_path(alloc, verb, words),
+        Verb::OnPair(verb) => read_on_pair(alloc, verb, words),
+        Verb::Setattr => read_setattr(alloc, words),
+        Verb::Put => read_put(alloc, volume, words),
+        Verb::Get => read_get(alloc, words),
+        Verb::Write => read_write(alloc, words),
+        Verb::Read => read_read(alloc, words),
+        Verb::Update => read_update(alloc, words),
+        Verb::View => read_view(alloc, words),
+        Verb::Rebuild => read_rebuild(volume, words),
+    }
+}
+
+/// An operation of an actor.
+#[tactic(auto, unfolding(crate::specs::Grammar::op))]
+pub fn read_op(
+    alloc: Global,
+    form: Form,
+    volume: &Volume,
+    words: &mut Words,
+) -> Result<Line, LineError>
+    ensures { Gives result (op form volume.now words.old) }
+{
+    let by = read_actor(words.next()?)?;
+    let verb = read_verb(form, by, words.next()?)?;
+    let op = read_operands(alloc, volume, verb, words)?;
+    Ok(Line::Op { by, op })
+}
