@@ -182,15 +182,15 @@ impl Blocks {
         let _there = self.entries.insert(key, entry);
     }
 
-    // Takes the entry of a key away.
-    fn take_out(&mut self, key: Key)
+    /// Takes the entry of a key away.
+    pub fn take_out(&mut self, key: Key)
         ensures { self.new ≡ maps.remove self.old key }
     {
         self.entries.remove(&key);
     }
 
-    // The least key of a file.
-    fn first_of(&self, fid: u128) -> Option<Key>
+    /// The least key of a file.
+    pub fn first_of(&self, fid: u128) -> Option<Key>
         ensures { result ≡ first_given (λ e. given_if (e.0.fid == fid) e.0) (maps.entries self.now) }
     {
         let start = start_of(None, fid);

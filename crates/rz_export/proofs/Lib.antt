@@ -1,0 +1,10 @@
+pub mod Files
+pub mod Counts
+pub mod Used
+pub mod Enrolled
+pub mod States
+pub mod Firsts
+pub mod Replies
+pub mod Forgets
+pub mod Released
+pub mod TreeStates

@@ -1,0 +1,41 @@
+use Rattle.std.proofs.Common.{◌≡◌, ◌+◌, ◌==◌, true, None, List, map, sym, ap, ◌∙◌, subst}
+use Rattle.std.specs.List.{list_any}
+use Rattle.std.specs.FinMap.{FinMap}
+use Rattle.std.specs.Ordering.{nat_cmp}
+use Rattle.std.proofs.lemmas.List.{with_items_is}
+use Rattle.rz_events.specs.declared.files.NodeSpec.{NodeSpec}
+use Rattle.rz_export_model.specs.Export.{Export, Enrolled, spent, is_node}
+use Rattle.rz_export.specs.declared.nodes.Enrolment.{Enrolment}
+use Rattle.rz_export.specs.declared.nodes.KeptNode.{KeptNode}
+use Rattle.rz_export.specs.Nodes.{with_enrolment}
+use Rattle.rz_export.specs.Kept.{export_of, with_fence, IsKept}
+use Rattle.rz_export.proofs.Enrolled.{any-map, enrolments-set}
+use Rattle.rz_export.proofs.Replies.{fence-drawn}
+use Rattle.rz_export.proofs.States.{kept-draw}
+use Rattle.rz_export.proofs.export.Export.draw.Goals as goal
+
+pub invariant_of-self : goal.invariant_of-self
+invariant_of-self c =
+    let s = c.self.inside in
+    let e : Enrolment = record { loss = c.args.loss; fence = s.last + 1 } in
+    let items = with_items_is s.nodes c.enroll.new.nodes (c.enroll.auto.nodes ∙ c.as_mut_slice.ensures.len) in
+    let all : c.enroll.new.nodes ≡ map (with_enrolment c.args.node e) s.nodes.items = c.enroll.ensures ∙ ap (map (with_enrolment c.args.node e)) c.as_mut_slice.ensures.value in
+    subst (λ (ns : List KeptNode). IsKept s.volume s.tree s.blocks ns (s.last + 1)) (sym (items ∙ all))
+    (kept-draw s.volume s.tree s.blocks s.nodes.items s.last c.self.invariant c.args.node e)
+
+pub returns-clause-state : goal.returns-clause-state
+returns-clause-state c =
+    let s = c.self.inside in
+    let node = c.args.node in
+    let e : Enrolment = record { loss = c.args.loss; fence = s.last + 1 } in
+    let items = with_items_is s.nodes c.enroll.new.nodes (c.enroll.auto.nodes ∙ c.as_mut_slice.ensures.len) in
+    let all : c.enroll.new.nodes ≡ map (with_enrolment node e) s.nodes.items = c.enroll.ensures ∙ ap (map (with_enrolment node e)) c.as_mut_slice.ensures.value in
+    let any : list_any (λ (k : KeptNode). k.spec.sid == node) s.nodes.items ≡ true =
+    sym (any-map (λ (n : NodeSpec). n.sid == node) (λ (k : KeptNode). k.spec) s.nodes.items)
+    ∙ ap (list_any (λ (n : NodeSpec). n.sid == node)) c.self.invariant.all_nodes
+    ∙ ap (λ (x : Export). is_node x node) c.self.view_is ∙ c.requires in
+    let none : spent (export_of s.volume s.tree s.blocks s.nodes.items s.last) ≡ None = ap spent c.self.view_is ∙ sym c.spent.ensures ∙ c.in_default.is in
+    ap (λ (ns : List KeptNode). export_of s.volume s.tree s.blocks ns (s.last + 1)) (items ∙ all)
+    ∙ ap (λ (m : FinMap nat_cmp Enrolled). (let x : Export = record { volume = s.volume; tree = s.tree; blocks = s.blocks; enrolled = m; last = s.last + 1 } in x)) (enrolments-set node e s.nodes.items any)
+    ∙ fence-drawn (export_of s.volume s.tree s.blocks s.nodes.items s.last) node c.args.loss none
+    ∙ ap (λ (x : Export). with_fence x node c.args.loss) c.self.view_is

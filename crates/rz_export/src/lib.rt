@@ -1,0 +1,20 @@
+//! The metadata server of a volume: names, published blocks, leases and fences.
+//!
+//! A contract sees an `Export` as the model of the same name: the volume, the tree of names and
+//! objects, the map from keys to what is begun and published of them, the last enrolment of each node,
+//! and the last number drawn. Each call has the one reply of the model for that state, and leaves the
+//! model's next state. Only want of memory is an answer beside it, and then nothing changes. What a
+//! caller did at the nodes before is not asked here.
+//!
+//! In reading order: `nodes`, `export`, `refusals`, `blocks`, `listings`, `releases`, `calls`.
+#![tactic(auto)]
+
+mod blocks;
+mod calls;
+mod export;
+mod listings;
+mod nodes;
+mod refusals;
+mod releases;
+
+pub use export::Export;
