@@ -18,3 +18,6 @@ mod refusals;
 mod releases;
 
 pub use export::Export;
+
+#[cfg(test)]
+mod tests;
