@@ -53,7 +53,10 @@ impl Inode {
     }
 }
 
-/// The objects of a tree, by their numbers, and the numbers of the files among them.
+/// The objects of a tree, by their numbers.
+///
+/// The numbers of the files stand in a set of their own too, so that the next file is found without
+/// passing over the directories and links between.
 #[derive(Debug, Drop)]
 pub struct Inodes {
     entries: BTreeMap<u128, Inode>,
