@@ -9,14 +9,14 @@ use Rattle.rz_events.specs.declared.files.Kind.{Kind}
 use Rattle.rz_events.specs.declared.files.Kind.TheVariants.{File}
 use Rattle.rz_export_model.specs.Firsts.{given_if}
 use Rattle.rz_export_model.specs.Paths.{Path, path_cmp}
-use Rattle.rz_export_model.specs.Tree.{Tree, Object, Found, found_at, file_of, file_from, with_object, info_of, is_dir, links_of, paths_to}
+use Rattle.rz_export_model.specs.Tree.{Tree, Object, Found, found_at, file_of, file_from, with_object, info_of, is_dir, is_file, links_of, paths_to}
 use Rattle.rz_tree.specs.declared.inodes.Inode.{Inode}
 use Rattle.rz_tree.specs.Inodes.{Table, object_of, found_of, attr_kept, objects_of, changed_at}
 use Rattle.rz_events.specs.declared.files.Attr.{Attr}
 use Rattle.rz_export_model.specs.TreeCalls.{attr_of}
 use Rattle.rz_tree.specs.Trees.{tree_of, IsKept}
 use Rattle.rz_tree.proofs.Tables.{get-objects, objects-changed}
-use Rattle.rz_tree.proofs.Past.{no-file, own-file}
+use Rattle.rz_tree.proofs.Files.{other-kind}
 
 module _ (names : FinMap path_cmp ℕ) (table : Table) (made : ℕ) where
   map-then : (fid : ℕ) (o : Option Inode) → option_and_then (file_from fid) (option_map object_of o) ≡ option_and_then (λ i. file_from fid (object_of i)) o
@@ -27,10 +27,10 @@ module _ (names : FinMap path_cmp ℕ) (table : Table) (made : ℕ) where
   file-kept fid o is = sym (ap (option_and_then (file_from fid)) (get-objects table fid ∙ ap (option_map object_of) (sym is)) ∙ map-then fid o)
 
   pub no-file-kept : (fid : ℕ) (i : Inode) → Some i ≡ maps.get table fid → (i.kind ≡ File → ⊥) → None ≡ file_of (tree_of names table made) fid
-  no-file-kept fid i is other = sym (no-file fid i other) ∙ file-kept fid (Some i) is
+  no-file-kept fid i is other = sym (ap (λ b. given_if b (info_of (found_of fid i))) (other-kind i.kind other)) ∙ file-kept fid (Some i) is
 
   pub own-file-kept : (fid : ℕ) (i : Inode) → Some i ≡ maps.get table fid → i.kind ≡ File → Some (info_of (found_of fid i)) ≡ file_of (tree_of names table made) fid
-  own-file-kept fid i is same = sym (own-file fid i same) ∙ file-kept fid (Some i) is
+  own-file-kept fid i is same = sym (ap (λ k. given_if (is_file k) (info_of (found_of fid i))) same) ∙ file-kept fid (Some i) is
 
   map-map : (fid : ℕ) (o : Option Inode) → option_map (λ x. record { fid = fid; object = x }) (option_map object_of o) ≡ option_map (found_of fid) o
   map-map fid None = refl

@@ -4,7 +4,7 @@ mod Keys
 mod Counts
 mod Fronts
 mod Moves
-mod Past
+mod Files
 mod Found
 mod Rules
 mod Listings

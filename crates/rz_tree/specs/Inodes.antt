@@ -1,5 +1,6 @@
 -- The kept objects, and the objects that they stand for.
-use Rattle.std.specs.Prelude.{ℕ, ◌-◌, ◌==◌, cond, List, map, Option, None}
+use Rattle.std.specs.Prelude.{ℕ, ◌≡◌, ◌-◌, ◌==◌, Bool, false, cond, List, map, Option, None}
+use Rattle.std.specs.BTreeSet.{BTreeSet, contains}
 use Rattle.std.specs.Option.{option_map_or}
 use Rattle.std.specs.Ordering.{nat_cmp, is_lt}
 use Rattle.std.specs.FinMap as maps
@@ -7,7 +8,7 @@ use Rattle.std.specs.FinMap.{FinMap}
 use Rattle.rz_events.specs.declared.files.Attr.{Attr}
 use Rattle.rz_events.specs.declared.files.FileInfo.{FileInfo}
 use Rattle.rz_export_model.specs.Firsts.{first_given}
-use Rattle.rz_export_model.specs.Tree.{Object, Found, file_from}
+use Rattle.rz_export_model.specs.Tree.{Object, Found, file_from, is_file}
 use Rattle.rz_tree.specs.declared.inodes.Inode.{Inode}
 
 -- what a call sees of a kept object: all but the count of its paths
@@ -41,6 +42,14 @@ seen_entries es = map (λ e. (e.0, object_of e.1)) es
 -- the objects as a call sees them
 abbrev pub objects_of : Table → FinMap nat_cmp Object
 objects_of table = maps.from_entries (seen_entries (maps.entries table))
+
+-- whether a file has this number
+abbrev pub is_file_at : Table → ℕ → Bool
+is_file_at table fid = option_map_or (λ i. is_file i.kind) (maps.get table fid) false
+
+-- these are the numbers of the files
+abbrev pub AreFilesOf : Table → BTreeSet ℕ → Type 0
+AreFilesOf table files = (fid : ℕ) → contains nat_cmp files fid ≡ is_file_at table fid
 
 abbrev pub with_attributes : ℕ → ℕ → Inode → Inode
 with_attributes mode mtime i = record i { mode = mode; mtime = mtime }

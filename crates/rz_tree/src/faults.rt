@@ -37,7 +37,7 @@ impl Tree {
             None => Some(TreeFault::NoEntry),
             Some((_, inode)) => match inode.kind {
                 Kind::Dir => None,
-                _ => Some(TreeFault::NotDir),
+                Kind::File | Kind::Link => Some(TreeFault::NotDir),
             },
         }
     }

@@ -8,7 +8,7 @@ ghost use Rattle.rz_tree.specs.Inodes.{found_of, attr_kept, with_attributes, wit
 
 use rz_events::{Attr, FileInfo, Kind, Places, Text};
 use std::alloc::{AllocError, Global};
-use std::collections::BTreeMap;
+use std::collections::{BTreeMap, BTreeSet};
 use std::marker::Model;
 use std::ops::Bound;
 
@@ -54,9 +54,13 @@ impl Inode {
 }
 
 /// The objects of a tree, by their numbers.
+///
+/// The numbers of the files stand in a set of their own too, so that the next file is found without
+/// passing over the directories and links between.
 #[derive(Debug, Drop)]
 pub struct Inodes {
     entries: BTreeMap<u128, Inode>,
+    files: BTreeSet<u128>,
 }
 
 impl Model for Inodes {
@@ -70,7 +74,11 @@ impl Model for Inodes {
 
     ghost coded = { maps.code coded_ℕ inode.the_row.coded };
 
+    ghost use Rattle.rz_tree.specs.Inodes.{AreFilesOf};
+
     ghost view = { λ o. maps.from_entries o.entries.entries };
+
+    ghost invariant = { λ o. AreFilesOf (maps.from_entries o.entries.entries) o.files };
 }
 
 impl Inodes {
@@ -80,6 +88,7 @@ impl Inodes {
     {
         Inodes {
             entries: BTreeMap::new(alloc),
+            files: BTreeSet::new(alloc),
         }
     }
 
@@ -102,12 +111,9 @@ impl Inodes {
         ensures { result ≡ file_past self.now fid }
     {
         let past = (Bound::Excluded(fid), Bound::Unbounded);
-        for (fid, inode) in self.entries.range(past) {
-            if let Kind::File = inode.kind {
-                return Some(inode.info(*fid));
-            }
-        }
-        None
+        let number = *self.files.range(past).next()?;
+        let inode = self.get(number)?;
+        Some(inode.info(number))
     }
 
     /// Adds an object under a number that has none.
@@ -116,8 +122,18 @@ impl Inodes {
         ensures ok { OnOk result (self.new ≡ maps.insert self.old fid inode) }
         ensures err { OnErr result (self.new ≡ self.old) }
     {
+        let kind = inode.kind;
         self.entries.insert(fid, inode)?;
-        Ok(())
+        let Kind::File = kind else {
+            return Ok(());
+        };
+        match self.files.insert(fid) {
+            Ok(_) => Ok(()),
+            Err(error) => {
+                self.entries.remove(&fid);
+                Err(AllocError::from(error))
+            }
+        }
     }
 
     /// Takes the object of a number away, where it has one.
@@ -125,6 +141,7 @@ impl Inodes {
         ensures { self.new ≡ maps.remove self.old fid }
     {
         self.entries.remove(&fid);
+        self.files.remove(&fid);
     }
 
     /// Sets the mode and the time of an object.

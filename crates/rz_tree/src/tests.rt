@@ -206,6 +206,43 @@ const ROWS: Rows = &[
     (Op::Rename, b"/e/g", b"/e/h", "gone"),
     (Op::Readdir, b"/e", b"", "names b g h"),
     (Op::Rmdir, b"/e/b", b"", "done"),
+    (Op::Mkdir, b"/k", b"", "made 10"),
+    (Op::Rename, b"/k", b"/e/g", "NotDir"),
+    (Op::Rename, b"/e/g", b"/k", "IsDir"),
+    (Op::Rename, b"/e/g", b"/d/l/x", "NotDir"),
+    (Op::Rename, b"/k", b"/e/g/x", "NotDir"),
+    (Op::Readdir, b"/", b"", "names d e k"),
+];
+
+// A file with as many paths as an object may have: `/f`, and `/n00001` to `/n65534`.
+const FULL_FILE: Rows = &[
+    (Op::Getattr, b"/f", b"", "File 1 644 0 65535 0"),
+    (Op::Link, b"/f", b"/z", "TooManyLinks"),
+    (Op::Link, b"/n00001", b"/n00002", "Exists"),
+    (Op::Link, b"/f", b"/z/z", "NoEntry"),
+    (Op::Rename, b"/f", b"/z", "gone"),
+    (Op::Link, b"/z", b"/f", "TooManyLinks"),
+    (Op::Unlink, b"/n65534", b"", "gone"),
+    (Op::Link, b"/z", b"/n65534", "done"),
+    (Op::Link, b"/z", b"/f", "TooManyLinks"),
+];
+
+// As many objects as a tree may have: `/f`, and `/n00001` to `/n65535`.
+const FULL_TREE: Rows = &[
+    (Op::Create, b"/z", b"", "TooManyFiles"),
+    (Op::Mkdir, b"/z", b"", "TooManyFiles"),
+    (Op::Symlink, b"t", b"/z", "TooManyFiles"),
+    (Op::Create, b"/f", b"", "Exists"),
+    (Op::Mkdir, b"/n65535", b"", "Exists"),
+    (Op::Symlink, b"t", b"/", "Exists"),
+    (Op::Create, b"/f/z", b"", "NotDir"),
+    (Op::Mkdir, b"/y/z", b"", "NoEntry"),
+    (Op::Symlink, b"", b"/z", "BadName"),
+    (Op::Link, b"/f", b"/z", "done"),
+    (Op::Unlink, b"/z", b"", "gone"),
+    (Op::Unlink, b"/n65535", b"", "gone"),
+    (Op::Create, b"/z", b"", "file 65537 in 5 at 1 size 0"),
+    (Op::Mkdir, b"/y", b"", "TooManyFiles"),
 ];
 
 // Makes the calls and compares the replies.
@@ -246,6 +283,51 @@ fn calls_at_the_limits(rt: HostRuntime) -> Result<(), Fail> {
         (Op::Lookup, &deep_64, b"", "NoEntry"),
         (Op::Mkdir, &name_256, b"", "BadName"),
         (Op::Mkdir, &name_255, b"", "made 2"),
+    ];
+    ask(&rt, alloc, &mut tree, &rows)
+}
+
+// Makes a file `/f`, and then one call for each of so many more paths, in their order.
+fn full(alloc: Global, op: Op, paths: u32) -> Result<Tree, AllocError> {
+    let mut tree = Tree::new(alloc)?;
+    tree.answer(&call_of(alloc, Op::Create, b"/f", b"")?, 5, &Places::none())?;
+    for number in 1..=paths {
+        let to = format!(in alloc; "/n{number:05}")?;
+        let call = call_of(alloc, op, b"/f", to.as_bytes())?;
+        tree.answer(&call, 5, &Places::none())?;
+    }
+    Ok(tree)
+}
+
+#[test]
+fn as_many_links_as_may_be(rt: HostRuntime) -> Result<(), Fail> {
+    let mut tree = full(rt.alloc(), Op::Link, 65534)?;
+    ask(&rt, rt.alloc(), &mut tree, FULL_FILE)
+}
+
+#[test]
+fn as_many_objects_as_may_be(rt: HostRuntime) -> Result<(), Fail> {
+    let mut tree = full(rt.alloc(), Op::Symlink, 65535)?;
+    assert_eq!(rt; tree.made(), 65536);
+    ask(&rt, rt.alloc(), &mut tree, FULL_TREE)
+}
+
+#[test]
+fn as_many_names_as_may_be(rt: HostRuntime) -> Result<(), Fail> {
+    let alloc = rt.alloc();
+    let mut tree = Tree::new(alloc)?;
+    for names in 1..64 {
+        let path = deep_text(alloc, names)?;
+        let call = call_of(alloc, Op::Mkdir, &path, b"")?;
+        tree.answer(&call, 5, &Places::none())?;
+    }
+    let deep_64 = deep_text(alloc, 64)?;
+    let deep_65 = deep_text(alloc, 65)?;
+    let rows: [(Op, &[u8], &[u8], &str); 4] = [
+        (Op::Mkdir, &deep_64, b"", "made 64"),
+        (Op::Lookup, &deep_64, b"", "Dir 64"),
+        (Op::Mkdir, &deep_65, b"", "BadName"),
+        (Op::Readdir, &deep_64, b"", "names"),
     ];
     ask(&rt, alloc, &mut tree, &rows)
 }

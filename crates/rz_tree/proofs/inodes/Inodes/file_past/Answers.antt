@@ -1,17 +1,29 @@
-use Rattle.std.proofs.Common.{Some, ap, ◌∙◌}
-use Rattle.rz_export_model.specs.Firsts.{first_given}
-use Rattle.rz_tree.proofs.Past.{file_in, range-past, skips, hits, ends, no-file, own-file}
+use Rattle.std.proofs.Common.{◌≡◌, Some, None, ap, ◌∙◌, sym}
+use Rattle.std.specs.FinMap as maps
+use Rattle.std.specs.Option.{option_copied}
+use Rattle.rz_tree.specs.Inodes.{Table, file_past}
+use Rattle.rz_tree.proofs.Files.{past-none, past-first, past-there}
+use Rattle.rz_tree.proofs.Rows.{table_of}
 use Rattle.rz_tree.proofs.inodes.Inodes.file_past.Goals as goal
 
-pub returns-in-File : goal.returns-in-File
-returns-in-File c =
-    ap Some c.info.ensures
-    ∙ hits c.loop-fid.fid-iterator c.next.new.self (c.in-Some.fid.now, c.in-Some.inode.now) _ c.in-Some.ensures.steps (own-file c.in-Some.fid.now c.in-Some.inode.now c.in-File.is)
-    ∙ c.loop-fid.invariant ∙ ap (first_given file_in) c.into_iter-fid-iterator.ensures.into_iter_gives
-    ∙ range-past c.args.fid c.self.inside.entries.entries c.range-fid-items.result c.args.self.now c.range-fid-items.ensures.ordered c.self.view_is (c.range-fid-items.ensures.between tt)
+pub returns-in_err-number : goal.returns-in_err-number
+returns-in_err-number c =
+    c.from_residual.ensures
+    ∙ past-none (table_of c.self.inside.entries.entries) c.self.inside.files c.self.invariant c.args.fid c.range.result (c.range.ensures.in_range tt) c.in_err-number.ensures.steps.0
+    ∙ ap (λ m. file_past m c.args.fid) c.self.view_is
+
+pub returns-in_err-inode : goal.returns-in_err-inode
+returns-in_err-inode c =
+    let table : Table = table_of c.self.inside.entries.entries in
+    let none : maps.get table c.in_ok-number.field-0.now ≡ None =
+    ap (λ m. maps.get m c.in_ok-number.field-0.now) c.self.view_is ∙ sym c.get.ensures ∙ ap option_copied c.in_err-inode.was in
+    absurd (past-there table c.self.inside.files c.self.invariant c.args.fid c.range.result (c.range.ensures.in_range tt) c.in_ok-number.field-0.now c.next.new.self c.in_ok-number.ensures.steps none)
 
 pub returns : goal.returns
 returns c =
-    ends c.loop-fid.fid-iterator c.in-None.ensures.steps.0
-    ∙ c.loop-fid.invariant ∙ ap (first_given file_in) c.into_iter-fid-iterator.ensures.into_iter_gives
-    ∙ range-past c.args.fid c.self.inside.entries.entries c.range-fid-items.result c.args.self.now c.range-fid-items.ensures.ordered c.self.view_is (c.range-fid-items.ensures.between tt)
+    let table : Table = table_of c.self.inside.entries.entries in
+    let at : maps.get table c.in_ok-number.field-0.now ≡ Some c.in_ok-inode.inode.now =
+    ap (λ m. maps.get m c.in_ok-number.field-0.now) c.self.view_is ∙ sym c.get.ensures ∙ ap option_copied c.in_ok-inode.was in
+    ap Some c.info.ensures
+    ∙ past-first table c.self.inside.files c.self.invariant c.args.fid c.range.result (c.range.ensures.in_range tt) c.in_ok-number.field-0.now c.next.new.self c.in_ok-number.ensures.steps c.in_ok-inode.inode.now at
+    ∙ ap (λ m. file_past m c.args.fid) c.self.view_is
