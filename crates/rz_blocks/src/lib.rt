@@ -6,6 +6,8 @@
 #![tactic(auto)]
 
 mod blocks;
+mod row;
+mod rows;
 
 pub use blocks::Blocks;
 
