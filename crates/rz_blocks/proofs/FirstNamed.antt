@@ -1,12 +1,9 @@
 -- The rows of a file that are left, and the first key in them that names a position.
 use Rattle.std.proofs.Common.{◌≡◌, ℕ, ◌/◌, ◌*◌, ◌+◌, ◌%◌, ◌<◌, ◌≤◌, ◌^◌, Bool, true, false, cond, not, ◌&&◌, T, List, [], ◌∷◌, Option, Some, None, is_some, sym, ap, ◌∙◌, subst, refl, arith}
 use Rattle.std.specs.Prelude.{slice_index, All}
-use Rattle.std.specs.Option.{option_map_or}
 use Rattle.std.proofs.lemmas.Bool.Decides.{nat_tests}
 use Rattle.std.proofs.lemmas.List.Elements.{All-tail, All-weaker}
-use Rattle.std.specs.Ordering.{is_eq, is_gt, is_le, nat_cmp, ordering_then}
-use Rattle.std.specs.Cmp.{tied_itself}
-use Rattle.std.specs.declared.cmp.Ordering.{Ordering}
+use Rattle.std.specs.Ordering.{is_gt, is_le, nat_cmp, ordering_then}
 use Rattle.std.specs.declared.cmp.Ordering.TheVariants.{Less}
 use Rattle.std.specs.declared.ops.Bound.{Bound}
 use Rattle.std.specs.declared.ops.Bound.TheVariants.{Included}
@@ -23,7 +20,7 @@ use Rattle.rz_blocks.specs.Rows.{row_key, row_of, is_named}
 use Rattle.rz_blocks.specs.Shown.{IsEndOf}
 use Rattle.rz_blocks.proofs.Keys.{same-cmp}
 use Rattle.rz_blocks.proofs.Sorted.{tied, other, sorted-of, above-first}
-use Rattle.rz_blocks.proofs.Marks.{row_at, read, bit_in, row-fid, row-block}
+use Rattle.rz_blocks.proofs.Marks.{row_at, read, row-block}
 
 -- the word of a position
 abbrev pub word_of : ℕ → Row → ℕ

@@ -10,3 +10,4 @@ pub mod Marks
 pub mod FirstNamed
 pub mod Marked
 pub mod Named
+pub mod Prepared

@@ -1,6 +1,5 @@
 -- Rows say what the entries do, before and after a key is written.
 use Rattle.std.proofs.Common.{◌≡◌, ℕ, ◌<◌, ◌^◌, Bool, true, false, cond, List, Option, Some, None, is_some, unwrap_or, sym, ap, ◌∙◌, refl, subst}
-use Rattle.std.specs.Prelude.{IsSome}
 use Rattle.std.specs.BTreeMap.{is_at}
 use Rattle.rz_events.specs.Keys.{key_cmp, exact_keys}
 use Rattle.rz_events.specs.declared.keys.Key.{Key}

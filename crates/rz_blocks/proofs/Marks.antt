@@ -1,5 +1,5 @@
 -- What rows say once the row of a key is written.
-use Rattle.std.proofs.Common.{◌≡◌, ℕ, ◌/◌, ◌*◌, ◌+◌, ◌%◌, ◌<◌, ◌≤◌, Bool, true, false, cond, List, Option, Some, None, is_some, sym, ap, ◌∙◌, refl, arith, eqb-true, unwrap_or}
+use Rattle.std.proofs.Common.{◌≡◌, ℕ, ◌/◌, ◌%◌, ◌<◌, Bool, true, false, cond, List, Option, Some, None, is_some, sym, ap, ◌∙◌, refl, arith, eqb-true, unwrap_or}
 use Rattle.std.specs.Prelude.{◌==◌, slice_index}
 use Rattle.std.specs.Option.{option_map_or}
 use Rattle.std.specs.Ordering.{is_eq, nat_cmp, ordering_then}

@@ -1,5 +1,5 @@
 -- The first key that names a position is the first that the entries give.
-use Rattle.std.proofs.Common.{◌≡◌, ℕ, ◌<◌, ◌≤◌, ◌^◌, Bool, true, false, cond, ◌&&◌, List, Option, Some, None, is_some, sym, ap, ◌∙◌, subst, refl, arith, eqb-true}
+use Rattle.std.proofs.Common.{◌≡◌, ℕ, ◌<◌, ◌≤◌, ◌^◌, Bool, true, false, cond, ◌&&◌, List, Option, Some, None, is_some, sym, ap, ◌∙◌, refl, arith, eqb-true}
 use Rattle.std.specs.Prelude.{◌==◌, nat_le}
 use Rattle.std.proofs.lemmas.Bool.Decides.{nat_tests}
 use Rattle.std.specs.Option.{option_map, option_and_then}
@@ -10,7 +10,7 @@ use Rattle.std.specs.FinMap.Entries.{find}
 use Rattle.rz_events.specs.Keys.{key_cmp}
 use Rattle.rz_events.specs.declared.keys.Key.{Key}
 use Rattle.rz_events.specs.declared.files.Published.{Published}
-use Rattle.rz_export_model.specs.Firsts.{first_given, given_if}
+use Rattle.rz_export_model.specs.Firsts.{given_if}
 use Rattle.rz_export_model.specs.Export.{Block, Blocks, is_after, has_bit, published_of}
 use Rattle.rz_blocks.specs.declared.blocks.Entry.{Entry}
 use Rattle.rz_blocks.specs.declared.row.Row.{Row}
@@ -20,7 +20,6 @@ use Rattle.rz_blocks.specs.Rows.{is_named, kept_at, mask_of, mask_at, IsMarked}
 use Rattle.rz_blocks.proofs.Bits.{no-bit}
 use Rattle.rz_blocks.proofs.Shows.{Kept, map_of, get-shown}
 use Rattle.rz_blocks.proofs.Sorted.{first-none, first-some}
-use Rattle.rz_blocks.proofs.Marks.{none-from}
 use Rattle.rz_blocks.proofs.FirstNamed.{before}
 
 -- what a published block gives, where its mask names the position

@@ -27,7 +27,7 @@ pub struct Entry {
 #[derive(Debug, Drop)]
 pub struct Blocks {
     entries: BTreeMap<Key, Entry>,
-    // What the entries name, by the position.
+    // For each position, which entries name it.
     rows: Rows,
 }
 
@@ -164,9 +164,8 @@ impl Blocks {
         None
     }
 
-    /// The least published key of a file above `after`, of those whose mask names the position. It
-    /// goes over no block that does not: over one row of 64 blocks after another, of which a file has
-    /// 16,384 at most.
+    /// The least published key of a file above `after`, of those whose mask names the position, which
+    /// counts from 0. Blocks that do not name it are passed over 64 at a time.
     pub fn next_at(
         &self,
         after: Option<Key>,

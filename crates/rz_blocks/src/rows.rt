@@ -1,4 +1,4 @@
-//! The rows of all files.
+//! The rows of all files: which keys are there, and which positions each of them names.
 
 ghost use Rattle.std.specs.Prelude.{ℕ, ◌≡◌, ◌<◌, ◌≤◌, ◌/◌, ◌%◌, ◌*◌, ◌+◌, ◌^◌, true, false, cond, is_some, unwrap_or, [], OnOk, IsSome, MatchOption};
 ghost use Rattle.std.specs.BTreeMap.{is_at};

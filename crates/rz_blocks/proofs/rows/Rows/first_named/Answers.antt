@@ -1,5 +1,5 @@
-use Rattle.std.proofs.Common.{◌∷◌, sym, ap, ◌∙◌, subst, arith}
-use Rattle.rz_blocks.proofs.FirstNamed.{IsLeft, range-left, row-from, row-less, key-small, key-found}
+use Rattle.std.proofs.Common.{◌∷◌, sym, subst, arith}
+use Rattle.rz_blocks.proofs.FirstNamed.{IsLeft, range-left, row-less, key-small, key-found}
 use Rattle.rz_blocks.proofs.rows.Rows.first_named.Goals as goal
 
 pub loop-key-init : goal.loop-key-init

@@ -1,8 +1,7 @@
-use Rattle.std.proofs.Common.{◌≡◌, ℕ, cond, List, Some, None, is_some, slice_index, sym, ap, ◌∙◌, false}
+use Rattle.std.proofs.Common.{◌≡◌, cond, Some, None, is_some, slice_index, sym, ap, ◌∙◌, false}
 use Rattle.std.specs.BTreeMap.{is_at}
 use Rattle.rz_events.specs.Keys.{key_cmp}
-use Rattle.rz_events.specs.declared.keys.Key.{Key}
-use Rattle.rz_blocks.specs.Rows.{row_key, row_of}
+use Rattle.rz_blocks.specs.Rows.{row_of}
 use Rattle.rz_blocks.proofs.Marks.{row_at, fresh, none-from}
 use Rattle.rz_blocks.proofs.rows.Rows.make.Goals as goal
 

@@ -1,5 +1,4 @@
 use Rattle.std.proofs.Common.{◌≡◌, Some, is_some, unwrap_or, slice_index, sym, ap, ◌∙◌}
-use Rattle.std.specs.Option.{option_map}
 use Rattle.rz_export_model.specs.Export.{has_bit}
 use Rattle.rz_blocks.proofs.Inserts.{went-in, on-ok}
 use Rattle.rz_blocks.proofs.Marks.{row_at, row-written, row-gone-there, row-gone-named}
