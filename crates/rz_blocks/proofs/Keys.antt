@@ -14,7 +14,7 @@ use Rattle.rz_events.specs.declared.keys.Key.{Key}
 less-cmp : (a b : ℕ) → a < b → nat_cmp a b ≡ Less
 less-cmp a b h = grind (arith, nat_tests)
 
-same-cmp : (a b : ℕ) → a ≡ b → nat_cmp a b ≡ Equal
+pub same-cmp : (a b : ℕ) → a ≡ b → nat_cmp a b ≡ Equal
 same-cmp a b h = grind (arith, nat_tests)
 
 more-cmp : (a b : ℕ) → b < a → nat_cmp a b ≡ Greater

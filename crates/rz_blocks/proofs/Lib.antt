@@ -3,3 +3,11 @@ pub mod Shows
 pub mod Ranges
 pub mod Forgets
 pub mod Found
+pub mod Sorted
+pub mod Bits
+pub mod Inserts
+pub mod Marks
+pub mod FirstNamed
+pub mod Marked
+pub mod Named
+pub mod Prepared

@@ -5,7 +5,7 @@ use Rattle.std.specs.Option.{option_map}
 use Rattle.std.specs.Ordering.{is_lt, eq_by_cmp}
 use Rattle.std.specs.Cmp.{eq_by_cmp_equiv}
 use Rattle.std.specs.BTreeMap.{is_at}
-use Rattle.std.specs.Map.{lookup, keys_of}
+use Rattle.std.specs.Map.{keys_of}
 use Rattle.std.specs.List.{AllByRecursion}
 use Rattle.std.specs.List.Sorted.{IsStrictlySortedBy}
 use Rattle.std.proofs.lemmas.Map.Keys.{sorted_head, sorted_tail}
@@ -17,15 +17,13 @@ use Rattle.rz_events.specs.declared.keys.Key.{Key}
 use Rattle.rz_export_model.specs.Export.{Blocks}
 use Rattle.rz_blocks.specs.declared.blocks.Entry.{Entry}
 use Rattle.rz_blocks.specs.Shown.{shown, shown_entries}
+use Rattle.rz_blocks.specs.Rows.{kept_at}
 
 abbrev pub Kept : Type 0
 Kept = List (Key × Entry)
 
 abbrev pub map_of : Kept → Blocks
 map_of es = maps.from_entries (shown_entries es)
-
-abbrev pub kept_at : Kept → Key → Option Entry
-kept_at es q = lookup (is_at (key_cmp q)) es
 
 find-shown : (es : Kept) (q : Key) → find key_cmp q (shown_entries es) ≡ option_map shown (kept_at es q)
 find-shown [] q = refl

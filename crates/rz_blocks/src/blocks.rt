@@ -1,12 +1,15 @@
 //! The map from keys to what is begun and published of them.
 
-ghost use Rattle.std.specs.Prelude.{◌≡◌, ◌<◌, ◌≤◌, ◌==◌, None, OnOk, OnErr, IsSome, IfSome, IsSomeAnd, MatchBool};
+ghost use Rattle.std.specs.Prelude.{ℕ, ◌≡◌, ◌<◌, ◌≤◌, ◌^◌, ◌==◌, nat_le, false, None, OnOk, OnErr, IsSome, IfSome, IsSomeAnd, MatchBool, MatchOption};
 ghost use Rattle.std.specs.Option.{option_map};
 ghost use Rattle.std.specs.FinMap as maps;
 ghost use Rattle.rz_export_model.specs.Firsts.{given_if, first_given};
-ghost use Rattle.rz_export_model.specs.Export.{prepared, begun, latest_of, with_published, published_of, next_of_file, without_file, newer_of};
+ghost use Rattle.rz_export_model.specs.Export.{prepared, begun, latest_of, with_published, published_of, next_of_file, without_file, newer_of, is_after};
 ghost use Rattle.rz_blocks.specs.Shown.{added, shown, entry_above, IsStartAbove, IsStartOf, IsEndOf, IsWithin, IsPast};
+ghost use Rattle.rz_blocks.specs.Positions.{next_at_position};
+ghost use Rattle.rz_blocks.specs.Rows.{mask_of};
 
+use crate::rows::Rows;
 use rz_events::{Key, Published};
 use std::alloc::{AllocError, Global};
 use std::collections::BTreeMap;
@@ -24,6 +27,8 @@ pub struct Entry {
 #[derive(Debug, Drop)]
 pub struct Blocks {
     entries: BTreeMap<Key, Entry>,
+    // For each position, which entries name it.
+    rows: Rows,
 }
 
 impl Model for Blocks {
@@ -32,12 +37,15 @@ impl Model for Blocks {
     ghost use Rattle.rz_export_model.specs.Export.{Block};
     ghost use Rattle.rz_export_model.specs.Codes.{block_code};
     ghost use Rattle.rz_blocks.specs.Shown.{shown_entries};
+    ghost use Rattle.rz_blocks.specs.Rows.{IsMarked};
 
     ghost Value = { maps.FinMap key_cmp Block };
 
     ghost coded = { maps.code coded_key block_code };
 
     ghost view = { λ b. maps.from_entries (shown_entries b.entries.entries) };
+
+    ghost invariant = { λ b. IsMarked b.entries.entries b.rows.by_key.entries };
 }
 
 impl Blocks {
@@ -47,6 +55,7 @@ impl Blocks {
     {
         Blocks {
             entries: BTreeMap::new(alloc),
+            rows: Rows::new(alloc),
         }
     }
 
@@ -72,8 +81,17 @@ impl Blocks {
         ensures ok { OnOk result (self.new ≡ added self.old key latest published) }
         ensures err { OnErr result (self.new ≡ self.old) }
     {
-        self.entries.insert(key, Entry { latest, published })?;
-        Ok(())
+        self.rows.make(key)?;
+        match self.entries.insert(key, Entry { latest, published }) {
+            Err(_) => {
+                self.rows.mark(key, None);
+                Err(AllocError)
+            }
+            Ok(_) => {
+                self.rows.mark(key, Some(mask_of(published)));
+                Ok(())
+            }
+        }
     }
 
     /// Notes that a write of the block began with this stamp.
@@ -146,6 +164,24 @@ impl Blocks {
         None
     }
 
+    /// The least published key of a file above `after`, of those whose mask names the position, which
+    /// counts from 0. Blocks that do not name it are passed over 64 at a time.
+    pub fn next_at(
+        &self,
+        after: Option<Key>,
+        file: u128,
+        position: usize,
+    ) -> Option<(Key, Published)>
+        requires { position < 16 }
+        ensures { result ≡ next_at_position self.now after file position }
+    {
+        let rows = &self.rows;
+        let first = first_key(after, file)?;
+        let key = rows.first_named(first, position)?;
+        let published = self.look(key)?;
+        Some((key, published))
+    }
+
     /// The least entry above a key, or the first one.
     pub fn after(&self, key: Option<Key>) -> Option<(Key, u64, Option<Published>)>
         ensures { result ≡ entry_above self.now key }
@@ -180,6 +216,7 @@ impl Blocks {
     {
         // A key that is there needs no room.
         let _there = self.entries.insert(key, entry);
+        self.rows.mark(key, Some(mask_of(entry.published)));
     }
 
     /// Takes the entry of a key away.
@@ -187,6 +224,7 @@ impl Blocks {
         ensures { self.new ≡ maps.remove self.old key }
     {
         self.entries.remove(&key);
+        self.rows.mark(key, None);
     }
 
     /// The least key of a file.
@@ -210,6 +248,30 @@ fn start_above(after: Option<Key>) -> Bound<Key>
     match after {
         None => Bound::Unbounded,
         Some(key) => Bound::Excluded(key),
+    }
+}
+
+// The first key of a file above `after`, where one can be.
+fn first_key(after: Option<Key>, file: u128) -> Option<Key>
+    ensures { MatchOption result
+        ((q : Key) → q.fid ≡ file → q.block < 2 ^ 64 → is_after after q ≡ false)
+        (λ k. (k.fid ≡ file) × ((q : Key) → q.fid ≡ file → is_after after q ≡ nat_le k.block q.block)) }
+{
+    let block = match after {
+        Some(key) if key.fid > file => return None,
+        Some(key) if key.fid == file => key.block.checked_add(1)?,
+        _ => 0,
+    };
+    Some(Key { fid: file, block })
+}
+
+// The positions that are named, of none where nothing is published.
+fn mask_of(published: Option<Published>) -> u16
+    ensures { result ≡ mask_of published }
+{
+    match published {
+        None => 0,
+        Some(published) => published.mask,
     }
 }
 
@@ -238,8 +300,8 @@ fn start_of(after: Option<Key>, file: u128) -> Bound<Key>
     }
 }
 
-// The second bound of a file's keys.
-fn end_of(file: u128) -> Bound<Key>
+/// The second bound of a file's keys.
+pub fn end_of(file: u128) -> Bound<Key>
     ensures end { IsEndOf result file }
     ensures past { IsPast result file }
 {

@@ -1,7 +1,10 @@
-//! Keys of a few files, prepared, looked up, gone through and forgotten.
+//! Keys of a few files, prepared, published, looked up, gone through and forgotten.
+
+ghost use Rattle.std.specs.Prelude.{◌<◌};
 
 use crate::Blocks;
-use rz_events::Key;
+use rz_events::{Key, Published};
+use std::alloc::AllocError;
 use std::test::Fail;
 
 #[test]
@@ -38,5 +41,58 @@ fn prepares_and_forgets(rt: HostRuntime) -> Result<(), Fail> {
         }
     }
     assert_eq!(rt; left.as_slice(), [(2, 0), (2, 7)].as_slice());
+    Ok(())
+}
+
+fn publish(
+    blocks: &mut Blocks,
+    fid: u128,
+    block: u64,
+    stamp: u64,
+    mask: u16,
+) -> Result<(), AllocError> {
+    let key = Key { fid, block };
+    blocks.prepare(key)?;
+    blocks.publish(
+        key,
+        Published {
+            stamp,
+            mask,
+            length: 4,
+        },
+    );
+    Ok(())
+}
+
+// The blocks of a file that name a position, up to four.
+fn named(blocks: &Blocks, fid: u128, position: usize) -> [u64; 4]
+    requires { position < 16 }
+{
+    let mut found = [0; 4];
+    let mut after = None;
+    for i in 0..4 {
+        if let Some((key, _)) = blocks.next_at(after, fid, position) {
+            found[i] = key.block;
+            after = Some(key);
+        }
+    }
+    found
+}
+
+#[test]
+fn goes_by_positions(rt: HostRuntime) -> Result<(), Fail> {
+    let mut blocks = Blocks::new(rt.alloc());
+    publish(&mut blocks, 1, 63, 1, 0b011)?;
+    publish(&mut blocks, 1, 64, 2, 0b110)?;
+    publish(&mut blocks, 1, 700, 3, 0b101)?;
+    publish(&mut blocks, 2, 5, 4, 0b111)?;
+    assert_eq!(rt; named(&blocks, 1, 0), [63, 700, 0, 0]);
+    assert_eq!(rt; named(&blocks, 1, 1), [63, 64, 0, 0]);
+    publish(&mut blocks, 1, 63, 5, 0b100)?;
+    assert_eq!(rt; named(&blocks, 1, 1), [64, 0, 0, 0]);
+    assert_eq!(rt; named(&blocks, 1, 2), [63, 64, 700, 0]);
+    blocks.forget(1);
+    assert_eq!(rt; named(&blocks, 1, 2), [0; 4]);
+    assert_eq!(rt; named(&blocks, 2, 2), [5, 0, 0, 0]);
     Ok(())
 }
