@@ -3,8 +3,6 @@ use Rattle.std.specs.Prelude.{ℕ, zero, suc, ◌≡◌, ◌+◌, ◌<◌, ◌�
 use Rattle.std.specs.Option.{option_map}
 use Rattle.std.specs.Coded.{Coded, code_by, coded×, coded_ℕ, coded_list}
 use Rattle.std.specs.List as lists
-use Rattle.std.specs.Global.{Vec}
-use Rattle.std.specs.Vec.{vec_len, vec_capacity}
 use Rattle.std.specs.FinMap as maps
 use Rattle.std.specs.FinMap.Entries.{is_sorted}
 use Rattle.std.specs.declared.cmp.Ordering.TheVariants.{Less, Greater}
@@ -34,11 +32,11 @@ indexed es free = record { entries = maps.from_sorted (pairs_of es); free = free
 abbrev pub IsSorted : List Entry → Type 0
 IsSorted es = T (is_sorted key_cmp (pairs_of es))
 
--- the keys rise, and there is room for all cells in both rows
-pub record IsIndex (entries : Vec Entry) (free : Vec ℕ) : Type 0 where
-  pub sorted : IsSorted entries.items
-  pub room : vec_len entries + vec_len free ≤ vec_capacity entries
-  pub free_room : vec_len entries + vec_len free ≤ vec_capacity free
+-- the keys rise, and both rows have room for all cells
+pub record IsIndex (entries : List Entry) (keys key_room free free_room : ℕ) : Type 0 where
+  pub sorted : IsSorted entries
+  pub room : keys + free ≤ key_room
+  pub room_free : keys + free ≤ free_room
 
 -- the key stands at place i, and smaller keys before it
 abbrev pub IsHit : List Entry → ℕ → Key → Type 0

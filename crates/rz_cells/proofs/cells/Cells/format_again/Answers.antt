@@ -1,5 +1,5 @@
 -- A disk that was formatted holds nothing.
-use Rattle.std.proofs.Common.{rules, ◌≡◌, ◌⊎◌, inl, inr, ⊎_elim, ℕ, IsTrue, List, Option, Some, None}
+use Rattle.std.proofs.Common.{rules, ◌⊎◌, ℕ, IsTrue, List}
 use Rattle.rz_cells.specs.Held.{nothing}
 use Rattle.rz_cells.specs.Stands.{IsShut, StandsFor}
 use Rattle.rz_cells.proofs.Fresh.{stands_for_nothing, shut_or_nothing, open_fresh}

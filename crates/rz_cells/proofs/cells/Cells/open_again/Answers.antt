@@ -1,5 +1,5 @@
 -- What was read makes open cells, and a refusal before the first device call leaves all as it was.
-use Rattle.std.proofs.Common.{rules, ◌≡◌, ℕ, ◌*◌, List, Option, Result, Err, IfErr, length, sym, subst}
+use Rattle.std.proofs.Common.{rules, ◌≡◌, ℕ, ◌*◌, List, Result, Err, IfErr, length, sym, subst}
 use Rattle.std.proofs.Math.Nat.{ℕ_set}
 use Rattle.rz_cells.specs.declared.cells.Cells.{Cells}
 use Rattle.rz_cells.specs.Shape.{IsGeometry, slot_of}

@@ -1,5 +1,5 @@
 -- What was read makes open cells.
-use Rattle.std.proofs.Common.{ℕ, List, Option, subst}
+use Rattle.std.proofs.Common.{ℕ, List, subst}
 use Rattle.rz_cells.specs.Open.{Finds}
 use Rattle.rz_cells.proofs.Refused.{finds_of, only_faults, stands_of}
 use Rattle.rz_cells.proofs.cells.Cells.reopen.Goals as goal
