@@ -1,9 +1,9 @@
 -- A disk that was formatted holds nothing.
-use Rattle.std.proofs.Common.{zero, suc, ◌≡◌, inl, inr, ⊎_elim, ℕ, ◌+◌, ◌*◌, ◌%◌, ◌<◌, ◌≤◌, min, Option, Some, None, List, [], ◌∷◌, length, take, drop, replicate, get_or, refl, sym, ◌∙◌, ap, subst, arith, length-take}
+use Rattle.std.proofs.Common.{zero, suc, ◌≡◌, ◌⊎◌, Bool, IsTrue, inl, inr, ⊎_elim, ℕ, ◌+◌, ◌*◌, ◌%◌, ◌<◌, ◌≤◌, min, Option, Some, None, List, [], ◌∷◌, length, take, drop, replicate, get_or, refl, sym, ◌∙◌, ap, subst, arith, length-take}
 use Rattle.std.proofs.lemmas.Bool.{cases_lt}
 use Rattle.std.proofs.lemmas.List.{ext_get_or, get_or-take, get_or-drop, get_or-replicate, get_or_past, length-replicate, length-map, take_all}
 use Rattle.byteorder.specs.Endian.{little_from}
-use Rattle.rz_disk.specs.Images.{window, Torn, Written}
+use Rattle.rz_disk.specs.Images.{window, Only, Torn, Written}
 use Rattle.rz_disk.proofs.Images.{window-byte}
 use Rattle.rz_events.specs.declared.records.Head.{Head}
 use Rattle.rz_record.specs.Fields.{number_at}
@@ -12,7 +12,7 @@ use Rattle.rz_cells.specs.declared.geometry.Geometry.{Geometry}
 use Rattle.rz_cells.specs.Held.{in_cell, heads_of, head_in, nothing}
 use Rattle.rz_cells.specs.Shape.{picked, slot_at, slot_of, disk_bytes, gate_at}
 use Rattle.rz_cells.specs.Stands.{IsHeader, IsShut, IsFresh, ShutOrFresh, HoldsCells, StandsFor}
-use Rattle.rz_cells.specs.Open.{Knows, HoldsHeads}
+use Rattle.rz_cells.specs.Open.{IsOpen, Knows, HoldsHeads}
 use Rattle.rz_cells.proofs.Made.{made_nothing, head_in-cell}
 use Rattle.rz_cells.proofs.Slots.{header-same}
 
@@ -101,3 +101,27 @@ module _ (g : Geometry) (fence : ℕ) (text : List ℕ) (fresh : IsFresh g fence
 
   pub fresh_gates : (gates : List ℕ) → ((c : ℕ) → get_or gates c 0 ≡ 0) → Knows g gates text
   fresh_gates gates shut c lt = ap (λ (b : ℕ). b % 2) (shut c ∙ sym (fresh.zeros (gate_at c) (omega arith)))
+
+-- an image from before, or one of a disk that is being formatted
+pub shut_or_nothing : (g : Geometry) (fence : ℕ) (image : List ℕ) (Was : Type 0) → Was ⊎ ShutOrFresh g fence image → Was ⊎ IsShut image ⊎ StandsFor g fence image nothing
+shut_or_nothing g fence image Was left = ⊎_elim
+    (λ (was : Was). inl was)
+    (λ (new : ShutOrFresh g fence image). inr (⊎_elim
+    (λ (shut : IsShut image). inl shut)
+    (λ (fresh : IsFresh g fence image). inr (stands_for_nothing g fence image fresh))
+    new))
+    left
+
+-- a disk that was formatted makes open cells
+pub open_fresh : (tells : Bool) (text : List ℕ) (image : List ℕ → Type 0) (g : Geometry) (fence : ℕ) (gates : List ℕ) (heads : List (Option Head)) → length text ≡ disk_bytes g → Only text image → (IsTrue tells → IsFresh g fence text)
+    → ((c : ℕ) → get_or gates c 0 ≡ 0) → length heads ≡ 2 * g.cells → ((c : ℕ) → in_cell heads c ≡ None) → IsOpen tells text image g fence gates heads
+open_fresh tells text image g fence gates heads size settled fresh shut count empty = record {
+  size = size;
+  settled = settled;
+  count = count;
+  apart = λ a b h k ne is is'. let none : None ≡ Some h = sym (empty a) ∙ is in absurd (cc);
+  valid = λ a h is. let none : None ≡ Some h = sym (empty a) ∙ is in absurd (cc);
+  layout = λ a h is. let none : None ≡ Some h = sym (empty a) ∙ is in absurd (cc);
+  known = λ told. fresh_gates g fence text (fresh told) gates shut;
+  holds = λ told. fresh_heads g fence text (fresh told) heads count empty;
+}

@@ -14,11 +14,12 @@ use Rattle.rz_record.specs.Slot.{Rec, Reads}
 use Rattle.rz_record.proofs.Laws.{numbers_behind, record-of_head, one_head}
 use Rattle.rz_cells.specs.declared.geometry.Geometry.{Geometry}
 use Rattle.rz_cells.specs.Held.{Records, Together, Apart, Made, in_cell, heads_of, head_in, names}
-use Rattle.rz_cells.specs.Shape.{picked, disk_bytes}
+use Rattle.std.proofs.Props.{props}
+use Rattle.rz_cells.specs.Shape.{IsGeometry, picked, disk_bytes}
 use Rattle.rz_cells.specs.Stands.{IsHeader, IsFormatted, HoldsCells, StandsFor}
-use Rattle.rz_cells.specs.Open.{IsOpen, HoldsHeads, Knows}
+use Rattle.rz_cells.specs.Open.{Finds, IsOpen, HoldsHeads, Knows}
 use Rattle.rz_cells.specs.Opening.{CellRefused, FineTo, FitTo, GoesNext, ReadTo, ReadsHead, Refuses, Unreadable}
-use Rattle.rz_cells.proofs.Lifts.{fits_slot}
+use Rattle.rz_cells.proofs.Lifts.{fits_slot, same_cells}
 use Rattle.rz_cells.proofs.Made.{head_in-cell, head_some, has_head, named, names_own, bool_cases, chosen, passed}
 use Rattle.rz_cells.proofs.Opened.{agrees_of, slot_room}
 
@@ -235,6 +236,13 @@ module _ (g : Geometry) (fence : ℕ) (text : List ℕ) (held : Records) (stands
       bad.3)
   only_faults (Twice first second) bad = absurd (not_cell second (Twice first second) bad.3)
 
+-- the fence and the heads that a text holds are found in it alone
+pub finds_of : (g : Geometry) (text : List ℕ) (fence : ℕ) (heads : List (Option Head)) → HoldsHeads g fence text heads → Finds g text fence heads
+finds_of g text fence heads known its cells holds = (
+  sym known.1.header.fence_is ∙ holds.header.fence_is,
+  sym (ap heads_of (same_cells g its fence text cells known.0 holds known.1) ∙ known.2),
+)
+
 -- what was read of a disk makes open cells
 pub open_of : (tells : Bool) (text : List ℕ) (image : List ℕ → Type 0) (g : Geometry) (fence : ℕ) (gates : List ℕ) (heads : List (Option Head)) → length text ≡ disk_bytes g → Only text image → length heads ≡ 2 * g.cells → FitTo g heads (2 * g.cells)
     → (IsTrue tells → IsHeader g fence text × IsFormatted text) → (IsTrue tells → Knows g gates text) → (IsTrue tells → ReadTo g text heads (2 * g.cells)) → IsOpen tells text image g fence gates heads
@@ -248,3 +256,7 @@ open_of tells text image g fence gates heads size settled count fits header know
   known = known;
   holds = λ told. holds_heads g fence text heads size (header told).0 (header told).1 count (reads told);
 }
+
+-- that a geometry is one that a disk may have is shown in one way
+pub geometry_prop : (g : Geometry) → IsProp (IsGeometry g)
+geometry_prop g = hlevel props

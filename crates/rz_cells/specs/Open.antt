@@ -17,6 +17,10 @@ Knows g gates text = (c : ℕ) → c < 2 * g.cells → slice_index gates c % 2 �
 abbrev pub HoldsHeads : Geometry → ℕ → List ℕ → List (Option Head) → Type 0
 HoldsHeads g fence text heads = (cells : List (Option Rec)) × HoldsCells g fence text cells × (heads_of cells ≡ heads)
 
+-- the fence and the heads are those of any cells that the text holds
+abbrev pub Finds : Geometry → List ℕ → ℕ → List (Option Head) → Type 0
+Finds g text fence heads = (its : ℕ) (cells : List (Option Rec)) → HoldsCells g its text cells → (fence ≡ its) × (heads ≡ heads_of cells)
+
 -- What the disk reads is all on it, and it holds records with these heads.
 pub record IsOpen (tells : Bool) (text : List ℕ) (image : List ℕ → Type 0) (g : Geometry) (fence : ℕ) (gates : List ℕ) (heads : List (Option Head)) : Type 0 where
   pub size : length text ≡ disk_bytes g

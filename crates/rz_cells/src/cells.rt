@@ -42,6 +42,7 @@ pub struct Cells<D: Disk> {
 impl<D: Disk> Cells<D> {
     ghost use Rattle.std.specs.Prelude.{◌<◌, ℕ, List, Option, Some, None, drop, slice_set, IsErr, IfOk, if◌then◌else◌, IsSome, is_ok};
     ghost use Rattle.rz_events.specs.declared.records.Head.{Head};
+    ghost use Rattle.rz_disk.specs.Images.{Only};
     ghost use Rattle.rz_disk.specs.Meter.{Took, Lasts, Rises, HasPasses, faults, armed};
     ghost use Rattle.rz_record.specs.Slot.{Rec};
     ghost use Rattle.rz_cells.specs.Held.{Goes, in_cell};
@@ -183,6 +184,20 @@ impl<D: Disk> Cells<D> {
         ensures heads { self.new.heads.items ≡ self.old.heads.items }
     {
         self.disk.arm(passes);
+    }
+
+    /// Loses what a loss of power may lose of the disk, and keeps all else. `pick` says which image
+    /// is left, in the disk's own way.
+    pub fn crash(&mut self, pick: u64)
+        ensures left { IsTrue D.tells → D.image self.old.disk (D.text self.new.disk) }
+        ensures only { Only (D.text self.new.disk) (D.image self.new.disk) }
+        ensures meter { D.meter self.new.disk ≡ D.meter self.old.disk }
+        ensures geometry { self.new.geometry ≡ self.old.geometry }
+        ensures fence { self.new.fence ≡ self.old.fence }
+        ensures gates { self.new.gates.items ≡ self.old.gates.items }
+        ensures heads { self.new.heads.items ≡ self.old.heads.items }
+    {
+        self.disk.crash(pick);
     }
 
     /// The disk.

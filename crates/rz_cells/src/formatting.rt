@@ -1,5 +1,5 @@
 //! Formatting.
-ghost use Rattle.std.specs.Prelude.{◌≡◌, ◌⊎◌, ◌*◌, ◌%◌, ◌≤◌, ℕ, List, Option, None, length, replicate, slice_index, IsTrue, IsErr, IsErrOf, OnOk, IfOk, IfErr, MatchResult};
+ghost use Rattle.std.specs.Prelude.{◌≡◌, ◌⊎◌, ◌*◌, ◌%◌, ◌≤◌, ℕ, List, Option, None, length, replicate, slice_index, IsTrue, IsErr, IsErrOf, OnOk, OnErr, IfOk, IfErr, MatchResult};
 ghost use Rattle.rz_disk.specs.Images.{Only};
 ghost use Rattle.rz_disk.specs.Meter.{Took, Lasts, Rises, HasPasses, faults};
 ghost use Rattle.rz_cells.specs.Held.{in_cell, nothing};
@@ -7,7 +7,7 @@ ghost use Rattle.rz_cells.specs.Shape.{IsGeometry, disk_bytes};
 ghost use Rattle.rz_cells.specs.Stands.{IsFresh, IsShut, ShutOrFresh, StandsFor, IsHeader};
 ghost use Rattle.rz_cells.specs.Open.{IsOpen};
 
-use crate::room::Room;
+use crate::room::{Room, empty};
 use crate::{Cells, Geometry};
 use rz_disk::{Disk, DiskError, Failed, store};
 use rz_record::fields::{put_u16, put_u32, put_u64};
@@ -72,6 +72,39 @@ impl<D: Disk> Cells<D> {
             heads,
             buffer,
         })
+    }
+
+    /// Makes the disk anew where it is, with this fence and nothing in its cells.
+    ///
+    /// It takes no memory but that of the disk's reset.
+    pub fn format_again(&mut self, alloc: Global, fence: u64) -> Result<(), FormatFault>
+        ensures open { OnOk result (IsOpen D.tells (D.text self.new.disk) (D.image self.new.disk) self.new.geometry self.new.fence self.new.gates.items self.new.heads.items) }
+        ensures geometry { self.new.geometry ≡ self.old.geometry }
+        ensures fence { OnOk result (self.new.fence ≡ fence) }
+        ensures heads { OnOk result ((cell : ℕ) → in_cell self.new.heads.items cell ≡ None) }
+        ensures nothing { OnOk result (IsTrue D.tells → StandsFor self.old.geometry fence (D.text self.new.disk) nothing) }
+
+        // Otherwise each image is one from before, or its header is shut, or it stands for nothing with the new fence.
+        ensures crash { OnErr result (IsTrue D.tells → (c : List ℕ) → D.image self.new.disk c → D.image self.old.disk c ⊎ IsShut c ⊎ StandsFor self.old.geometry fence c nothing) }
+
+        // And what is known of the cells stays.
+        ensures kept_fence { OnErr result (self.new.fence ≡ self.old.fence) }
+        ensures kept_gates { OnErr result (self.new.gates.items ≡ self.old.gates.items) }
+        ensures kept_heads { OnErr result (self.new.heads.items ≡ self.old.heads.items) }
+
+        ensures took { Took 4 result (D.meter self.old.disk) (D.meter self.new.disk) }
+        ensures meter { Lasts (D.meter self.old.disk) (D.meter self.new.disk) }
+        ensures risen { IsErrOf result FormatFault.DiskFault → Rises (faults (D.meter self.old.disk)) (faults (D.meter self.new.disk)) }
+        ensures own_risen { IsErrOf result FormatFault.DiskFault → HasPasses 4 (D.meter self.old.disk) → Rises (D.meter self.old.disk).own (D.meter self.new.disk).own }
+
+        // Want of memory takes no pass.
+        ensures unspent { IsErrOf result FormatFault.NoMemory → (D.meter self.new.disk).fuse ≡ (D.meter self.old.disk).fuse }
+        ensures unplanned { IsErrOf result FormatFault.NoMemory → (D.meter self.new.disk).planned ≡ (D.meter self.old.disk).planned }
+    {
+        blank(&mut self.disk, alloc, &self.geometry, fence)?;
+        self.fence = fence;
+        empty(&mut self.gates, &mut self.heads);
+        Ok(())
     }
 }
 

@@ -11,7 +11,8 @@
 //! nothing of what an untold disk holds.
 //!
 //! A change makes four device calls, and a read of bins one. An opening reads the header, the gates and
-//! 48 bytes of each cell, and looks up each record's key once.
+//! 48 bytes of each cell, and looks up each record's key once. Open cells can crash their disk, read it
+//! anew and make it anew, and keep what they know where that fails.
 //!
 //! In reading order: `geometry`, `room`, `switching`, `cells`, `formatting`, `judging`, `reading`,
 //! `opening`.

@@ -1,14 +1,14 @@
 //! Opening.
-ghost use Rattle.std.specs.Prelude.{◌≡◌, ◌⊎◌, ◌*◌, ◌≤◌, ◌<◌, ℕ, List, Option, Some, None, length, IsTrue, IsErr, IsErrOf, OnOk, IfOk, IfErr, MatchResult};
+ghost use Rattle.std.specs.Prelude.{◌≡◌, ◌⊎◌, ◌*◌, ◌≤◌, ◌<◌, ℕ, List, Option, Some, None, length, IsTrue, IsErr, IsErrOf, OnOk, OnErr, IfOk, IfErr, MatchResult};
 ghost use Rattle.std.specs.HashMap.{IsEmpty, spare};
 ghost use Rattle.rz_events.specs.declared.records.Head.{Head};
-ghost use Rattle.rz_disk.specs.Images.{Only, Within};
+ghost use Rattle.rz_disk.specs.Images.{Within};
 ghost use Rattle.rz_disk.specs.Meter.{Took, Lasts, Rises, HasPasses, faults};
 ghost use Rattle.rz_cells.specs.Held.{Records, in_cell};
-ghost use Rattle.rz_cells.specs.Shape.{IsGeometry, disk_bytes, slot_of};
-ghost use Rattle.rz_cells.specs.Stands.{IsHeader, IsFormatted, StandsFor};
-ghost use Rattle.rz_cells.specs.Open.{IsOpen, Knows};
-ghost use Rattle.rz_cells.specs.Opening.{FitTo, NotSize, OnlyRead, ReadTo, Refuses, opening_calls};
+ghost use Rattle.rz_cells.specs.Shape.{IsGeometry, slot_of};
+ghost use Rattle.rz_cells.specs.Stands.{StandsFor};
+ghost use Rattle.rz_cells.specs.Open.{Finds, IsOpen};
+ghost use Rattle.rz_cells.specs.Opening.{NotSize, OnlyRead, Refuses, opening_calls};
 
 use crate::geometry::HEADER_BYTES;
 use crate::judging::Firsts;
@@ -32,6 +32,9 @@ impl<D: Disk> Cells<D> {
         // The text stands for some records, with the fence that is found.
         ensures stands { IfOk result (λ c. IsTrue D.tells → (held : Records) × StandsFor geometry c.fence (D.text c.disk) held) }
 
+        // The fence and the heads are those of the text.
+        ensures found { IfOk result (λ c. IsTrue D.tells → Finds geometry (D.text disk) c.fence c.heads.items) }
+
         // Each fault is the first that the text has.
         ensures refused { IfErr result (λ e. IsTrue D.tells → Refuses geometry (D.text disk) e.1) }
         ensures size { IfErr result (λ e. (have need : ℕ) → e.1 ≡ OpenFault.WrongSize have need → Refuses geometry (D.text disk) (OpenFault.WrongSize have need)) }
@@ -52,13 +55,7 @@ impl<D: Disk> Cells<D> {
         ensures wrong_size { IfErr result (λ e. (have need : ℕ) → e.1 ≡ OpenFault.WrongSize have need → e.0 ≡ disk) }
     {
         let mut disk = disk;
-        let Ok(room) = Room::new(alloc, &geometry) else {
-            return Err((disk, OpenFault::NoMemory));
-        };
-        let Ok(firsts) = HashMap::with_capacity(alloc, 2 * geometry.cells as usize) else {
-            return Err((disk, OpenFault::NoMemory));
-        };
-        match read_all(&mut disk, &geometry, room, firsts) {
+        match read_disk(&mut disk, alloc, &geometry) {
             Ok((fence, room)) => {
                 let Room {
                     gates,
@@ -77,6 +74,84 @@ impl<D: Disk> Cells<D> {
             Err(fault) => Err((disk, fault)),
         }
     }
+
+    /// Reads the disk anew where it is, as an opening does.
+    ///
+    /// All memory is taken before the disk is looked at.
+    pub fn open_again(&mut self, alloc: Global) -> Result<(), OpenFault>
+        ensures open { OnOk result (IsOpen D.tells (D.text self.new.disk) (D.image self.new.disk) self.new.geometry self.new.fence self.new.gates.items self.new.heads.items) }
+        ensures geometry { self.new.geometry ≡ self.old.geometry }
+
+        // The text stands for some records, with the fence that is found.
+        ensures stands { OnOk result (IsTrue D.tells → (held : Records) × StandsFor self.old.geometry self.new.fence (D.text self.new.disk) held) }
+
+        // The fence and the heads are those of the text.
+        ensures found { OnOk result (IsTrue D.tells → Finds self.old.geometry (D.text self.old.disk) self.new.fence self.new.heads.items) }
+
+        // Otherwise what is known of the cells stays.
+        ensures kept_fence { OnErr result (self.new.fence ≡ self.old.fence) }
+        ensures kept_gates { OnErr result (self.new.gates.items ≡ self.old.gates.items) }
+        ensures kept_heads { OnErr result (self.new.heads.items ≡ self.old.heads.items) }
+
+        // Each fault is the first that the text has.
+        ensures refused { IfErr result (λ e. IsTrue D.tells → Refuses self.old.geometry (D.text self.old.disk) e) }
+        ensures size { IfErr result (λ e. (have need : ℕ) → e ≡ OpenFault.WrongSize have need → Refuses self.old.geometry (D.text self.old.disk) (OpenFault.WrongSize have need)) }
+
+        // A text that stands for records is refused by want of memory or a failed device call alone.
+        ensures exact { IfErr result (λ e. IsTrue D.tells → (fence : ℕ) (held : Records) → StandsFor self.old.geometry fence (D.text self.old.disk) held → (e ≡ OpenFault.NoMemory) ⊎ (e ≡ OpenFault.DiskFault)) }
+
+        // The disk stays as it is.
+        ensures text { D.text self.new.disk ≡ D.text self.old.disk }
+        ensures crash { Within (D.image self.old.disk) (D.image self.new.disk) }
+        ensures meter { Lasts (D.meter self.old.disk) (D.meter self.new.disk) }
+        ensures risen { IsErrOf result OpenFault.DiskFault → Rises (faults (D.meter self.old.disk)) (faults (D.meter self.new.disk)) }
+        ensures own_risen { IsErrOf result OpenFault.DiskFault → HasPasses (opening_calls self.old.geometry) (D.meter self.old.disk) → Rises (D.meter self.old.disk).own (D.meter self.new.disk).own }
+
+        // It takes so many passes where it opens, and none for want of memory or a wrong size.
+        ensures took { Took (opening_calls self.old.geometry) result (D.meter self.old.disk) (D.meter self.new.disk) }
+        ensures no_memory { IsErrOf result OpenFault.NoMemory → self.new ≡ self.old }
+        ensures wrong_size { IfErr result (λ e. (have need : ℕ) → e ≡ OpenFault.WrongSize have need → self.new ≡ self.old) }
+    {
+        let (fence, room) = read_disk(&mut self.disk, alloc, &self.geometry)?;
+        let Room {
+            gates,
+            heads,
+            buffer,
+        } = room;
+        self.fence = fence;
+        self.gates = gates;
+        self.heads = heads;
+        self.buffer = buffer;
+        Ok(())
+    }
+}
+
+/// The fence, and the gates and heads of all cells in new memory.
+fn read_disk<D: Disk>(
+    disk: &mut D,
+    alloc: Global,
+    geometry: &Geometry,
+) -> Result<(u64, Room), OpenFault>
+    requires { IsGeometry geometry.now }
+    ensures open { IfOk result (λ r. IsOpen D.tells (D.text disk.new) (D.image disk.new) geometry.now r.0 r.1.gates.items r.1.heads.items) }
+    ensures gates { IfOk result (λ r. length r.1.gates.items ≡ 2 * geometry.now.cells) }
+    ensures heads { IfOk result (λ r. length r.1.heads.items ≡ 2 * geometry.now.cells) }
+    ensures buffer { IfOk result (λ r. length r.1.buffer.items ≡ slot_of geometry.now) }
+    ensures refused { IfErr result (λ e. IsTrue D.tells → Refuses geometry.now (D.text disk.old) e) }
+    ensures wrong_size { IfErr result (λ e. NotSize e ⊎ Refuses geometry.now (D.text disk.old) e) }
+    ensures read { OnlyRead (D.text disk.old) (D.text disk.new) (D.image disk.old) (D.image disk.new) (D.meter disk.old) (D.meter disk.new) }
+    ensures untouched { IfErr result (λ e. NotSize e ⊎ (disk.new ≡ disk.old)) }
+    ensures took { Took (opening_calls geometry.now) result (D.meter disk.old) (D.meter disk.new) }
+    ensures fault { IsErrOf result OpenFault.DiskFault → Rises (faults (D.meter disk.old)) (faults (D.meter disk.new)) }
+    ensures own_fault { IsErrOf result OpenFault.DiskFault → HasPasses (opening_calls geometry.now) (D.meter disk.old) → Rises (D.meter disk.old).own (D.meter disk.new).own }
+{
+    let Ok(room) = Room::new(alloc, geometry) else {
+        return Err(OpenFault::NoMemory);
+    };
+    let Ok(firsts) = HashMap::with_capacity(alloc, 2 * geometry.cells as usize) else {
+        return Err(OpenFault::NoMemory);
+    };
+    read_all(disk, geometry, room, firsts)
 }
 
 /// The fence, and the gates and heads of all cells.
@@ -93,15 +168,10 @@ fn read_all<D: Disk>(
     requires buffer { length room.buffer.items ≡ slot_of geometry.now }
     requires firsts { IsEmpty firsts }
     requires spare { 2 * geometry.now.cells ≤ spare firsts }
-    ensures header { IfOk result (λ r. IsTrue D.tells → IsHeader geometry.now r.0 (D.text disk.old) × IsFormatted (D.text disk.old)) }
-    ensures known { IfOk result (λ r. IsTrue D.tells → Knows geometry.now r.1.gates.items (D.text disk.old)) }
-    ensures reads { IfOk result (λ r. IsTrue D.tells → ReadTo geometry.now (D.text disk.old) r.1.heads.items (2 * geometry.now.cells)) }
-    ensures fits { IfOk result (λ r. FitTo geometry.now r.1.heads.items (2 * geometry.now.cells)) }
+    ensures open { IfOk result (λ r. IsOpen D.tells (D.text disk.new) (D.image disk.new) geometry.now r.0 r.1.gates.items r.1.heads.items) }
     ensures gates { IfOk result (λ r. length r.1.gates.items ≡ 2 * geometry.now.cells) }
     ensures heads { IfOk result (λ r. length r.1.heads.items ≡ 2 * geometry.now.cells) }
     ensures buffer { IfOk result (λ r. length r.1.buffer.items ≡ slot_of geometry.now) }
-    ensures only { OnOk result (Only (D.text disk.new) (D.image disk.new)) }
-    ensures size { OnOk result (length (D.text disk.old) ≡ disk_bytes geometry.now) }
     ensures refused { IfErr result (λ e. IsTrue D.tells → Refuses geometry.now (D.text disk.old) e) }
     ensures wrong_size { IfErr result (λ e. NotSize e ⊎ Refuses geometry.now (D.text disk.old) e) }
     ensures read { OnlyRead (D.text disk.old) (D.text disk.new) (D.image disk.old) (D.image disk.new) (D.meter disk.old) (D.meter disk.new) }

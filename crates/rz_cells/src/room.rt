@@ -32,3 +32,14 @@ impl Room {
         })
     }
 }
+
+/// Shuts all gates and forgets all heads, as in a new room.
+pub fn empty(gates: &mut Vec<u8>, heads: &mut Vec<Option<Head>>)
+    ensures gates { length gates.new.items ≡ length gates.old.items }
+    ensures shut { (c : ℕ) → slice_index gates.new.items c ≡ 0 }
+    ensures heads { length heads.new.items ≡ length heads.old.items }
+    ensures empty { (c : ℕ) → in_cell heads.new.items c ≡ None }
+{
+    gates.fill(0);
+    heads.fill(None);
+}

@@ -1,4 +1,4 @@
-//! Damaged disks, and stops at each device call.
+//! Damaged disks, stops at each device call, and disks that stay in their cells.
 ghost use Rattle.std.specs.Prelude.{◌≡◌, IfOk, vec_len};
 
 use crate::{Cells, Geometry, HeaderField, OpenFault};
@@ -190,6 +190,40 @@ fn reads_the_bins(rt: HostRuntime) -> Result<(), Fail> {
     assert_eq!(rt; count, 258);
     for (at, word) in [(0, 9), (257, 9), (258, 7)] {
         assert_eq!(rt; out.get(at).copied(), Some(word), "at {at}");
+    }
+    Ok(())
+}
+
+/// What the cells find on a disk that stops while a cell is emptied, and then on one made anew.
+#[tactic(auto, using(crate::proofs::Made::goes_alone), unfolding(rz_record::specs::Record::bins_of))]
+fn read_and_made(alloc: Global, pick: u64) -> Result<[(u64, Found, Found); 2], Fail> {
+    let Ok(mut cells) = Cells::format(alloc, ONE, 7, Fused::new(PlainDisk::new(alloc))) else {
+        return Err("not formatted")?;
+    };
+    let bins = words(alloc, 258, 9)?;
+    cells.put(0, &FIRST, &bins)?;
+    cells.arm(Some(2));
+    if cells.clear(0).is_ok() {
+        return Err("cleared")?;
+    }
+    cells.arm(None);
+    cells.crash(pick);
+    if cells.open_again(alloc).is_err() {
+        return Err("not opened again")?;
+    }
+    let read = (cells.fence(), found(cells.head(0)), found(cells.head(1)));
+    if cells.format_again(alloc, 8).is_err() {
+        return Err("not formatted again")?;
+    }
+    let made = (cells.fence(), found(cells.head(0)), found(cells.head(1)));
+    Ok([read, made])
+}
+
+#[test]
+fn a_disk_stays_in_its_cells(rt: HostRuntime) -> Result<(), Fail> {
+    for (pick, left) in [(0, Some((5, 1, 2))), (1, None)] {
+        let states = read_and_made(rt.alloc(), pick)?;
+        assert_eq!(rt; states, [(7, left, None), (8, None, None)], "{pick}");
     }
     Ok(())
 }

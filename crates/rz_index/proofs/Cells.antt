@@ -1,5 +1,5 @@
 -- Free cells, given out and taken back.
-use Rattle.std.proofs.Common.{◌≡◌, ℕ, zero, suc, ◌+◌, ◌<◌, ◌≤◌, Bool, true, false, cond, List, [], ◌∷◌, ◌++◌, length, get_or, sym, ap, ◌∙◌, refl, arith, eqb-true, eq-eqb}
+use Rattle.std.proofs.Common.{◌≡◌, ℕ, zero, suc, ◌+◌, ◌<◌, ◌≤◌, Bool, true, false, cond, List, [], ◌∷◌, ◌++◌, length, get_or, Option, Some, OnSome, subst, sym, ap, ◌∙◌, refl, arith, eqb-true, eq-eqb}
 use Rattle.std.specs.Prelude.{◌==◌}
 use Rattle.std.specs.List.{remove, Contains, range_with_len}
 use Rattle.std.proofs.lemmas.List.{get_or_default}
@@ -24,6 +24,10 @@ erase-first (x ∷ xs) c (suc i) lt is none =
 
 pub must-stand : (xs : List ℕ) (c i : ℕ) → Contains xs c → length xs ≤ i → NoneBefore xs c i → ⊥
 must-stand xs c i there past none = none there.0 (omega (arith, there.1)) (sym (get_or_default xs there.0 c 0 there.1) ∙ there.2)
+
+-- what is true where something was taken out
+pub taken_out : (o : Option ℕ) (x : ℕ) {P : Type 0} → o ≡ Some x → OnSome o P → P
+taken_out o x {P} is holds = subst (λ (p : Option ℕ). OnSome p P) is holds
 
 pub at_most : (b : Bool) (n m : ℕ) → m ≡ cond b (n + 1) n → m ≤ n + 1
 at_most true n m is = omega arith

@@ -1,3 +1,4 @@
 pub mod Row
 pub mod Cells
 pub mod Files
+pub mod Many

@@ -1,10 +1,8 @@
 -- What contracts see of an index, and how it is kept.
-use Rattle.std.specs.Prelude.{ℕ, zero, suc, ◌≡◌, ◌+◌, ◌<◌, ◌≤◌, ◌==◌, T, cond, List, [], ◌∷◌, ◌++◌, map, Option, Some, None, refl}
+use Rattle.std.specs.Prelude.{ℕ, zero, suc, ◌≡◌, ◌+◌, ◌<◌, ◌≤◌, ◌==◌, Bool, not, T, cond, List, [], ◌∷◌, ◌++◌, map, Option, Some, None, refl}
 use Rattle.std.specs.Option.{option_map}
 use Rattle.std.specs.Coded.{Coded, code_by, coded×, coded_ℕ, coded_list}
 use Rattle.std.specs.List as lists
-use Rattle.std.specs.Global.{Vec}
-use Rattle.std.specs.Vec.{vec_len, vec_capacity}
 use Rattle.std.specs.FinMap as maps
 use Rattle.std.specs.FinMap.Entries.{is_sorted}
 use Rattle.std.specs.declared.cmp.Ordering.TheVariants.{Less, Greater}
@@ -34,11 +32,11 @@ indexed es free = record { entries = maps.from_sorted (pairs_of es); free = free
 abbrev pub IsSorted : List Entry → Type 0
 IsSorted es = T (is_sorted key_cmp (pairs_of es))
 
--- the keys rise, and there is room for all cells in both rows
-pub record IsIndex (entries : Vec Entry) (free : Vec ℕ) : Type 0 where
-  pub sorted : IsSorted entries.items
-  pub room : vec_len entries + vec_len free ≤ vec_capacity entries
-  pub free_room : vec_len entries + vec_len free ≤ vec_capacity free
+-- the keys rise, and both rows have room for all cells
+pub record IsIndex (entries : List Entry) (keys key_room free free_room : ℕ) : Type 0 where
+  pub sorted : IsSorted entries
+  pub room : keys + free ≤ key_room
+  pub room_free : keys + free ≤ free_room
 
 -- the key stands at place i, and smaller keys before it
 abbrev pub IsHit : List Entry → ℕ → Key → Type 0
@@ -65,6 +63,14 @@ first_of_file entries fid = option_map (λ p. p.1) (lists.find (λ p. p.0.fid ==
 abbrev pub head_of : List ℕ → Option ℕ
 head_of [] = None
 head_of (cell ∷ cells) = Some cell
+
+-- an entry has this cell
+abbrev pub has_cell : List Entry → ℕ → Bool
+has_cell es cell = lists.list_any (λ (e : Entry). e.cell == cell) es
+
+-- the cells below a number that no entry has, in their order
+abbrev pub unused : ℕ → List Entry → List ℕ
+unused cells es = lists.filter (λ cell. not (has_cell es cell)) (lists.range_with_len 0 cells)
 
 -- the cells without the first that is this one
 abbrev pub erase : ℕ → List ℕ → List ℕ

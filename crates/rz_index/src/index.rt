@@ -1,15 +1,18 @@
 //! Entries in the order of their keys, and free cells.
 
-ghost use Rattle.std.specs.Prelude.{◌≡◌, ◌+◌, ◌<◌, ◌≤◌, T, length, slice_set, IfOk, IfErr, IfSome, OnOk, MatchOption};
-ghost use Rattle.std.specs.List.{Contains, remove, range_with_len};
+ghost use Rattle.std.specs.Prelude.{◌≡◌, ◌≢◌, ◌+◌, ◌<◌, ◌≤◌, T, All, length, slice_set, IfOk, IfErr, IfSome, OnOk, MatchOption};
+ghost use Rattle.std.specs.List.{AllPairs, Contains, remove, range_with_len};
 ghost use Rattle.std.specs.Vec.{vec_len, vec_capacity};
+ghost use Rattle.std.specs.VecDeque.{deque_len};
 ghost use Rattle.std.specs.FinMap as maps;
 ghost use Rattle.rz_events.specs.Keys.{key_cmp};
-ghost use Rattle.rz_index.specs.Indexed.{IsSorted, IsHit, IsGap, IsFrom, first_of_file, head_of, erase, taken_out, freed};
+ghost use Rattle.rz_index.specs.Indexed.{IsSorted, IsHit, IsGap, IsFrom, first_of_file, head_of, erase, taken_out, freed, pairs_of, unused};
 
+use crate::building::{sort, unused_cells};
 use rz_events::Key;
 use rz_versions::Versions;
 use std::alloc::{AllocError, Global};
+use std::collections::VecDeque;
 use std::marker::Model;
 
 /// A key that is held: the pair of cells that has its records, and their versions.
@@ -25,11 +28,13 @@ pub struct Entry {
 #[derive(Debug, Drop)]
 pub struct Index {
     entries: Vec<Entry>,
-    free: Vec<u32>,
+    free: VecDeque<u32>,
 }
 
 impl Model for Index {
     ghost use Rattle.std.specs.Prelude.{};
+    ghost use Rattle.std.specs.Vec.{vec_len, vec_capacity};
+    ghost use Rattle.std.specs.VecDeque.{deque_len, deque_capacity};
     ghost use Rattle.rz_index.specs.Indexed.{Indexed, indexed_code, indexed, IsIndex};
 
     ghost Value = { Indexed };
@@ -38,7 +43,7 @@ impl Model for Index {
 
     ghost view = { λ i. indexed i.entries.items i.free.items };
 
-    ghost invariant = { λ i. IsIndex i.entries i.free };
+    ghost invariant = { λ i. IsIndex i.entries.items (vec_len i.entries) (vec_capacity i.entries) (deque_len i.free) (deque_capacity i.free) };
 }
 
 impl Index {
@@ -46,11 +51,23 @@ impl Index {
     pub fn with_room(alloc: Global, cells: u32) -> Result<Index, AllocError>
         ensures { IfOk result (λ i. i ≡ record { entries = maps.empty; free = range_with_len 0 cells }) }
     {
-        let entries = Vec::with_capacity(alloc, cells as usize)?;
-        let mut free = Vec::with_capacity(alloc, cells as usize)?;
-        for cell in 0..cells {
-            free.push(cell)?;
-        }
+        Index::of_entries(alloc, cells, Vec::new(alloc))
+    }
+
+    /// The index of these entries. The cells that none of them has are free, in their order.
+    ///
+    /// It takes the time of a sort.
+    pub fn of_entries(alloc: Global, cells: u32, entries: Vec<Entry>) -> Result<Index, AllocError>
+        requires keys { AllPairs (λ (a b : Entry). a.key ≢ b.key) entries.items }
+        requires within { All (λ (e : Entry). e.cell < cells) entries.items }
+        ensures entries { IfOk result (λ i. i.entries ≡ maps.from_entries (pairs_of entries.items)) }
+        ensures free { IfOk result (λ i. i.free ≡ unused cells entries.items) }
+    {
+        let mut free = unused_cells(alloc, cells, &entries)?;
+        let mut entries = entries;
+        free.reserve_exact(entries.len())?;
+        entries.reserve_exact(free.len())?;
+        sort(&mut entries);
         Ok(Index { entries, free })
     }
 
@@ -84,7 +101,7 @@ impl Index {
     pub fn free_cell(&self) -> Option<u32>
         ensures { result ≡ head_of self.now.free }
     {
-        self.free.first().copied()
+        self.free.front().copied()
     }
 
     /// Sets the entry of a key. A new key takes its cell out of the free ones.
@@ -97,7 +114,7 @@ impl Index {
             Ok(at) => self.entries[at] = entry,
             Err(at) => {
                 let place = place_of(&self.free, entry.cell);
-                self.free.remove(place);
+                let _cell = self.free.remove(place);
                 // Entries and free cells together are as many as there is room for.
                 let _fits = self.entries.insert(at, entry);
             }
@@ -112,7 +129,7 @@ impl Index {
         if let Ok(at) = search(&self.entries, key) {
             let entry = self.entries.remove(at);
             // Entries and free cells together are as many as there is room for.
-            let _fits = self.free.push(entry.cell);
+            let _fits = self.free.push_back(entry.cell);
         }
     }
 }
@@ -139,10 +156,10 @@ fn start_of(entries: &[Entry], fid: u128) -> usize
 }
 
 // The first place of a cell.
-fn place_of(cells: &[u32], cell: u32) -> usize
-    requires { Contains cells.now cell }
-    ensures within { result < length cells.now }
-    ensures first { erase cell cells.now ≡ remove cells.now result }
+fn place_of(cells: &VecDeque<u32>, cell: u32) -> usize
+    requires { Contains cells.now.items cell }
+    ensures within { result < deque_len cells.now }
+    ensures first { erase cell cells.now.items ≡ remove cells.now.items result }
 {
     let mut place = 0;
     while place < cells.len() && cells[place] != cell {

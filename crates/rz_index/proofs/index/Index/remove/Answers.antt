@@ -1,5 +1,5 @@
 use Rattle.std.proofs.Common.{◌<◌, ◌≤◌, List, [], ◌∷◌, ◌++◌, length, cond, is_ok, sym, ap, ◌∙◌, subst, arith}
-use Rattle.std.specs.Vec.{vec_len}
+use Rattle.std.specs.VecDeque.{deque_len}
 use Rattle.std.specs.FinMap as maps
 use Rattle.rz_index.specs.declared.index.Entry.{Entry}
 use Rattle.rz_index.specs.Indexed.{Indexed, IsSorted, IsHit, IsGap, freed_by}
@@ -10,11 +10,11 @@ use Rattle.rz_index.proofs.index.Index.remove.Goals as goal
 pub invariant_of-self : goal.invariant_of-self
 invariant_of-self c =
     let hit = subst (λ (es : List Entry). (c.in-Ok.at < length es) × IsHit es c.in-Ok.at c.args.key) c.deref.ensures.value c.in-Ok.ensures.found in
-    let more = at_most (is_ok c.push-fits.result) (vec_len c.self.inside.free) (vec_len c.push-fits.new.self) c.push-fits.ensures.len in
+    let more = at_most (is_ok c.push_back-fits.result) (deque_len c.self.inside.free) (deque_len c.push_back-fits.new.self) c.push_back-fits.ensures.len in
     record {
       sorted = subst IsSorted (sym c.remove-entry.ensures.items) (remove-sorted c.args.key c.self.inside.entries.items c.in-Ok.at c.self.invariant.sorted hit.1);
       room = omega (arith, c.remove-entry.ensures.len, c.remove-entry.ensures.capacity, more, c.self.invariant.room);
-      free_room = omega (arith, c.remove-entry.ensures.len, c.push-fits.ensures.capacity, more, c.self.invariant.free_room);
+      room_free = omega (arith, c.remove-entry.ensures.len, c.push_back-fits.ensures.capacity, more, c.self.invariant.room_free);
     }
 
 pub returns-in-Ok-clause-entries : goal.returns-in-Ok-clause-entries
@@ -29,8 +29,8 @@ returns-in-Ok-clause-free c =
     let key = c.args.key in
     let free = c.self.inside.free.items in
     let hit = subst (λ (es : List Entry). (c.in-Ok.at < length es) × IsHit es c.in-Ok.at key) c.deref.ensures.value c.in-Ok.ensures.found in
-    let fits = c.push-fits.ensures.succeeds (omega (arith, c.remove-entry.ensures.len, c.self.invariant.free_room)) in
-    c.push-fits.ensures.items
+    let fits = c.push_back-fits.ensures.succeeds (omega (arith, c.remove-entry.ensures.len, c.self.invariant.room_free)) in
+    c.push_back-fits.ensures.items
     ∙ ap (λ b. cond b (free ++ c.remove-entry.result.cell ∷ []) free) fits
     ∙ sym (ap (λ (s : Indexed). freed_by (maps.get s.entries key) s.free) (sym c.self.view_is)
     ∙ ap (λ o. freed_by o free) (get-made c.self.inside.entries.items key c.self.invariant.sorted ∙ find-hit key c.self.inside.entries.items c.in-Ok.at c.remove-entry.result hit.1)
