@@ -4,6 +4,7 @@ pub mod Used
 pub mod Enrolled
 pub mod States
 pub mod Firsts
+pub mod Leasts
 pub mod Replies
 pub mod Forgets
 pub mod Released

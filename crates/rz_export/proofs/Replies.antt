@@ -8,7 +8,6 @@ use Rattle.std.proofs.lemmas.Bool.{and_parts, leb-true, leb-false, lt-ltb, le-lt
 use Rattle.mj_angles.specs.Layout.{block_bytes_of}
 use Rattle.rz_events.specs.declared.keys.Key.{Key}
 use Rattle.rz_events.specs.declared.files.FileInfo.{FileInfo}
-use Rattle.rz_events.specs.declared.files.Listed.{Listed}
 use Rattle.rz_events.specs.declared.files.Published.{Published}
 use Rattle.rz_events.specs.declared.ends.Denial.TheVariants as denial
 use Rattle.rz_events.specs.declared.export.Call.TheVariants as call
@@ -18,18 +17,16 @@ use Rattle.rz_export_model.specs.Firsts.{first_of, given_if}
 use Rattle.rz_export_model.specs.Tree.{file_of}
 use Rattle.rz_export_model.specs.Export.{Export, Block, is_after, latest_of, no_begin, unknown_file, too_far, spent, no_publish, barred, is_proper, is_mask, is_drawn, is_ready}
 use Rattle.rz_blocks.specs.Shown.{entry_above}
-use Rattle.rz_export.specs.Kept.{listed_of, begun_after, with_fence}
+use Rattle.rz_export.specs.Kept.{file_begun_after, with_fence}
 
--- the least begun block, as the blocks tell it
-pub begun-entry : (s : Export) (after : Option Key) (o : Option (Key × ℕ × Option Published)) → o ≡ entry_above s.blocks after
-    → option_map (λ (x : Key × ℕ × Option Published). (let p : Key × Option Listed = (x.0, listed_of s.tree x.0 x.2) in p)) o ≡ begun_after s after
-begun-entry s after o is =
-    ap (option_map (λ (x : Key × ℕ × Option Published). (let p : Key × Option Listed = (x.0, listed_of s.tree x.0 x.2) in p))) is
-    ∙ go (lists.find (λ e. is_after after e.0) (maps.entries s.blocks))
+-- the file of the least begun block, as the blocks tell it
+pub begun-file : (s : Export) (after : Option Key) (o : Option (Key × ℕ × Option Published)) → o ≡ entry_above s.blocks after
+    → option_map (λ (x : Key × ℕ × Option Published). x.0.fid) o ≡ file_begun_after s after
+begun-file s after o is =
+    ap (option_map (λ (x : Key × ℕ × Option Published). x.0.fid)) is ∙ go (lists.find (λ e. is_after after e.0) (maps.entries s.blocks))
   where
     go : (f : Option (Key × Block))
-        → option_map (λ (x : Key × ℕ × Option Published). (let p : Key × Option Listed = (x.0, listed_of s.tree x.0 x.2) in p)) (option_map (λ (e : Key × Block). (e.0, e.1.latest, e.1.published)) f)
-        ≡ option_map (λ (e : Key × Block). (let p : Key × Option Listed = (e.0, listed_of s.tree e.0 e.1.published) in p)) f
+        → option_map (λ (x : Key × ℕ × Option Published). x.0.fid) (option_map (λ (e : Key × Block). (e.0, e.1.latest, e.1.published)) f) ≡ option_map (λ (e : Key × Block). e.0.fid) f
     go None = refl
     go (Some e) = refl
 

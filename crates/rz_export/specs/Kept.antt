@@ -1,8 +1,10 @@
 -- The export that kept things stand for, and the rules that these keep.
-use Rattle.std.specs.Prelude.{ℕ, ◌≡◌, ◌+◌, ◌<◌, ◌≤◌, Bool, true, false, cond, is_none, List, map, count_by, Option, Some, None, IsSome, All}
+use Rattle.std.specs.Prelude.{ℕ, ◌≡◌, ◌+◌, ◌-◌, ◌^◌, ◌<◌, ◌≤◌, ◌==◌, ◌&&◌, Bool, true, false, cond, is_none, List, map, count_by, Option, Some, None, IsSome, All}
 use Rattle.std.specs.List as lists
 use Rattle.std.specs.Option.{option_map, option_map_or, option_and_then}
+use Rattle.std.specs.Ordering.{is_lt}
 use Rattle.std.specs.FinMap as maps
+use Rattle.rz_events.specs.Keys.{key_cmp}
 use Rattle.rz_events.specs.Volume.{Volume}
 use Rattle.rz_events.specs.declared.keys.Key.{Key}
 use Rattle.rz_events.specs.declared.files.FileInfo.{FileInfo}
@@ -10,10 +12,10 @@ use Rattle.rz_events.specs.declared.files.Listed.{Listed}
 use Rattle.rz_events.specs.declared.files.Published.{Published}
 use Rattle.rz_events.specs.declared.tree.TreeReply.{TreeReply}
 use Rattle.rz_events.specs.declared.tree.TreeReply.TheVariants as told
-use Rattle.rz_export_model.specs.Firsts.{given_if}
+use Rattle.rz_export_model.specs.Firsts.{first_given, given_if}
 use Rattle.rz_export_model.specs.Place.{nodes_of}
 use Rattle.rz_export_model.specs.Tree.{Tree, file_of}
-use Rattle.rz_export_model.specs.Export.{Export, Block, Blocks, is_on, is_after, listed_at, spent}
+use Rattle.rz_export_model.specs.Export.{Export, Block, Blocks, is_on, is_after, names_node, listed_at, spent}
 use Rattle.rz_export.specs.declared.nodes.KeptNode.{KeptNode}
 use Rattle.rz_export.specs.Nodes.{enrolments_of}
 
@@ -47,23 +49,47 @@ pub record IsKept (volume : Volume) (t : Tree) (blocks : Blocks) (nodes : List K
   -- each begin drew a number
   pub few : maps.len blocks ≤ last
 
--- what is published of a block, where its file is live
-abbrev pub listed_of : Tree → Key → Option Published → Option Listed
-listed_of t key published =
-    option_and_then (λ info. option_map (λ p. record { key = key; info = info; published = p }) published) (file_of t key.fid)
-
--- the least begun key above `after`, and what is published of it
-abbrev pub begun_after : Export → Option Key → Option (Key × Option Listed)
-begun_after s after = option_map (λ e. (e.0, listed_at s.tree e.0 e.1)) (lists.find (λ e. is_after after e.0) (maps.entries s.blocks))
-
 -- whether a listed block is asked for: one that names the node, or each one
 abbrev pub is_asked : Option ℕ → Listed → Bool
 is_asked None l = true
 is_asked (Some node) l = is_on node l
 
--- a listed block, where it is asked for
-abbrev pub asked_of : Option ℕ → Option Listed → Option Listed
-asked_of node o = option_and_then (λ l. given_if (is_asked node l) l) o
+-- whether a publish of a file with these places is asked for: one that names the node, or each one
+abbrev pub is_wanted : Option ℕ → List ℕ → Published → Bool
+is_wanted None places p = true
+is_wanted (Some node) places p = names_node node p.mask 0 places
+
+-- the file of the least begun key above `after`
+abbrev pub file_begun_after : Export → Option Key → Option ℕ
+file_begun_after s after = option_map (λ e. e.0.fid) (lists.find (λ e. is_after after e.0) (maps.entries s.blocks))
+
+-- the key of the greatest number in a file
+abbrev pub end_of_file : ℕ → Key
+end_of_file fid = record { fid = fid; block = 2 ^ 64 - 1 }
+
+-- each begun block stands below block 1,048,576
+abbrev pub AreNear : Blocks → Type 0
+AreNear blocks = (key : Key) (b : Block) → maps.get blocks key ≡ Some b → key.block < 1048576
+
+-- the least published key of a file above `after` that passes the test
+abbrev pub next_where : Blocks → Option Key → ℕ → (Published → Bool) → Option (Key × Published)
+next_where blocks after fid test =
+    first_given
+    (λ e. cond (is_after after e.0 && (e.0.fid == fid)) (option_and_then (λ p. given_if (test p) (e.0, p)) e.1.published) None)
+    (maps.entries blocks)
+
+-- the least published block of a live file above `after` that passes the test
+abbrev pub first_in : Export → Option Key → ℕ → (Listed → Bool) → Option Listed
+first_in s after fid test =
+    first_given
+    (λ e. cond (is_after after e.0 && (e.0.fid == fid)) (option_and_then (λ l. given_if (test l) l) (listed_at s.tree e.0 e.1)) None)
+    (maps.entries s.blocks)
+
+-- of two keys with what is published of them the lesser one
+abbrev pub lesser : Option (Key × Published) → Option (Key × Published) → Option (Key × Published)
+lesser None b = b
+lesser (Some a) None = Some a
+lesser (Some a) (Some b) = cond (is_lt (key_cmp b.0 a.0)) (Some b) (Some a)
 
 -- the export after a new fence for a loss of the node, where a number is left
 abbrev pub with_fence : Export → ℕ → ℕ → Export

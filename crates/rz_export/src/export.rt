@@ -8,13 +8,12 @@ ghost use Rattle.rz_export_model.specs.Place.{nodes_of};
 ghost use Rattle.rz_export_model.specs.Tree.{file_of};
 ghost use Rattle.rz_export_model.specs.Export.{new_export, latest_of, published_of, is_node, fence_of, is_ready};
 ghost use Rattle.rz_export.specs.Nodes.{enrolled_of, new_node};
-ghost use Rattle.rz_export.specs.Kept.{listed_of, begun_after};
 
 use crate::nodes::{Enrolment, KeptNode, is_among, kept_nodes, last_enrolment};
 use mj_angles::Layout;
 use rz_blocks::Blocks;
 use rz_config::Volume;
-use rz_events::{FileInfo, Key, Listed, Published};
+use rz_events::{FileInfo, Key, Published};
 use rz_tree::Tree;
 use std::alloc::{AllocError, Global};
 use std::marker::Model;
@@ -126,33 +125,6 @@ impl Export {
         ensures { result ≡ is_some (maps.get self.now.blocks key) }
     {
         0 < self.blocks.latest(key)
-    }
-
-    // A published block, where its file is live.
-    pub(crate) fn listed(&self, key: Key, published: Option<Published>) -> Option<Listed>
-        ensures { result ≡ listed_of self.now.tree key published }
-    {
-        let Some(info) = self.file(key.fid) else {
-            return None;
-        };
-        let Some(published) = published else {
-            return None;
-        };
-        Some(Listed {
-            key,
-            info,
-            published,
-        })
-    }
-
-    // The least begun block above `after`, with what is published of it.
-    pub(crate) fn begun_after(&self, after: Option<Key>) -> Option<(Key, Option<Listed>)>
-        ensures { result ≡ begun_after self.now after }
-    {
-        match self.blocks.after(after) {
-            None => None,
-            Some((key, _, published)) => Some((key, self.listed(key, published))),
-        }
     }
 }
 
