@@ -3,8 +3,9 @@
 //!
 //! A contract sees a finite map from keys to entries and a list of free cells, and says exactly what
 //! each call answers and leaves. Room for as many keys as there are cells is taken at once, and no
-//! later call takes memory. An index of many entries at once takes the time of a sort. A key is found in logarithmic time. The entries stand in one sorted row, so
-//! a new key, or one that goes, moves those behind it.
+//! later call takes memory. An index of many entries at once takes the time of a sort. A key is found
+//! in logarithmic time. The entries stand in one sorted row, so a new key, or one that goes, moves
+//! those behind it.
 #![tactic(auto)]
 
 mod building;

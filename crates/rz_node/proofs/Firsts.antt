@@ -1,11 +1,10 @@
 -- The entry of a pair, and what an index has of a change.
-use Rattle.std.proofs.Common.{◌≡◌, ◌≢◌, ⊎_elim, ℕ, ◌+◌, ◌*◌, ◌/◌, ◌<◌, Bool, true, false, cond, not, List, [], ◌∷◌, Option, Some, None, refl, sym, ◌∙◌, ap, subst, arith}
+use Rattle.std.proofs.Common.{◌≡◌, ◌≢◌, ⊎_elim, ℕ, ◌+◌, ◌*◌, ◌<◌, Bool, true, false, List, [], Option, Some, None, refl, sym, ◌∙◌, ap, subst, arith}
 use Rattle.std.specs.Prelude.{◌||◌, is_some}
 use Rattle.std.specs.Option.{option_map}
 use Rattle.std.specs.FinMap as maps
 use Rattle.rz_events.specs.declared.keys.Key.{Key}
 use Rattle.rz_events.specs.declared.records.Head.{Head}
-use Rattle.rz_events.specs.declared.records.Held.{Held}
 use Rattle.rz_node_model.specs.Records.{record_of, stamp_of, held_of}
 use Rattle.rz_node_model.specs.Versions.{has_stamp}
 use Rattle.rz_versions.specs.declared.versions.Version.{Version}
@@ -17,7 +16,6 @@ use Rattle.rz_cells.specs.Held.{Apart, in_cell}
 use Rattle.rz_node.specs.Kept.{sides_in, records_in, held_by, version_of, versions_of, IsShown, IsFree, IsTied}
 use Rattle.rz_node.proofs.Tied.{held-shown, held-not}
 use Rattle.rz_node.proofs.Places.{two-cells}
-use Rattle.rz_node.proofs.Changes.{some-left, some-right}
 use Rattle.rz_node.proofs.Ways.{has-sides}
 use Rattle.rz_node.proofs.Found.{side-versions, chosen}
 

@@ -1,5 +1,5 @@
 -- The rows of an index, from the heads of cells.
-use Rattle.std.proofs.Common.{◌≡◌, ◌≢◌, ◌⊎◌, inl, inr, ⊎_elim, ℕ, suc, ◌+◌, ◌*◌, ◌/◌, ◌<◌, ◌≤◌, Bool, true, false, cond, List, [], ◌∷◌, ◌++◌, length, get_or, map, Option, Some, None, refl, sym, ◌∙◌, ap, subst, arith}
+use Rattle.std.proofs.Common.{◌≡◌, ◌≢◌, ◌⊎◌, ⊎_elim, ℕ, suc, ◌+◌, ◌*◌, ◌/◌, ◌<◌, ◌≤◌, false, List, [], ◌∷◌, ◌++◌, length, get_or, map, Option, Some, None, refl, sym, ◌∙◌, ap, subst, arith}
 use Rattle.std.specs.Prelude.{◌||◌}
 use Rattle.std.specs.Option.{option_map}
 use Rattle.std.specs.List.{AllByRecursion, Contains, IsDistinct, list_any}
@@ -14,7 +14,6 @@ use Rattle.std.proofs.lemmas.Map.Keys.{IsDistinct-push}
 use Rattle.rz_events.specs.Keys.{key_cmp, keys_total, exact_keys}
 use Rattle.rz_events.specs.declared.keys.Key.{Key}
 use Rattle.rz_events.specs.declared.records.Head.{Head}
-use Rattle.rz_events.specs.declared.records.Held.{Held}
 use Rattle.rz_index.specs.declared.index.Entry.{Entry}
 use Rattle.rz_index.specs.Indexed.{Indexed}
 use Rattle.rz_cells.specs.Held.{Apart, in_cell}
@@ -23,7 +22,7 @@ use Rattle.rz_node.specs.Rows.{IsRows}
 use Rattle.rz_node.proofs.Tied.{get-held}
 use Rattle.rz_node.proofs.Places.{some-head, no-head}
 use Rattle.rz_node.proofs.Clears.{all-push, distinct-push, length-push}
-use Rattle.rz_node.proofs.Changes.{key-cases, not-key}
+use Rattle.rz_node.proofs.Changes.{key-cases}
 
 -- ---- two indexes of the same heads show the same records
 

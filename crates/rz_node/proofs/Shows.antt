@@ -1,22 +1,21 @@
 -- What an index shows is what the text stands for.
-use Rattle.std.proofs.Common.{◌≡◌, ◌≢◌, ◌⊎◌, inl, inr, ⊎_elim, ℕ, ◌+◌, ◌*◌, ◌/◌, ◌<◌, ◌≤◌, Bool, true, false, cond, List, [], ◌∷◌, length, Option, Some, None, refl, sym, ◌∙◌, ap, subst, arith, eq-eqb}
+use Rattle.std.proofs.Common.{◌≡◌, ◌≢◌, ◌⊎◌, ⊎_elim, ℕ, ◌+◌, ◌*◌, ◌/◌, ◌<◌, ◌≤◌, Bool, true, false, cond, List, [], ◌∷◌, length, Option, Some, None, refl, sym, ◌∙◌, ap, subst, arith, eq-eqb}
 use Rattle.std.specs.Prelude.{◌==◌, nat_lt}
 use Rattle.std.specs.Option.{option_map}
 use Rattle.std.specs.FinMap as maps
 use Rattle.std.proofs.lemmas.List.{get_or-map, get_or_past, length-map}
 use Rattle.std.proofs.lemmas.Bool.{cases_lt}
 use Rattle.std.proofs.lemmas.Bool.Decides.{nat_tests}
-use Rattle.rz_events.specs.Keys.{key_cmp}
 use Rattle.rz_events.specs.declared.keys.Key.{Key}
 use Rattle.rz_events.specs.declared.records.Head.{Head}
 use Rattle.rz_events.specs.declared.records.Held.{Held}
 use Rattle.rz_record.specs.Slot.{Rec}
 use Rattle.rz_node_model.specs.Records.{IsWhole, record_of, held_of, stamp_of, found}
-use Rattle.rz_versions.specs.Sides.{Sides, ordered, in_order, has, Differ}
+use Rattle.rz_versions.specs.Sides.{ordered, has, Differ}
 use Rattle.rz_index.specs.declared.index.Entry.{Entry}
 use Rattle.rz_index.specs.Indexed.{Indexed}
 use Rattle.rz_cells.specs.declared.geometry.Geometry.{Geometry}
-use Rattle.rz_cells.specs.Held.{Apart, Records, Made, in_cell, heads_of, head_in}
+use Rattle.rz_cells.specs.Held.{Records, Made, in_cell, heads_of, head_in}
 use Rattle.rz_cells.specs.Stands.{StandsFor}
 use Rattle.rz_cells.specs.Open.{Finds}
 use Rattle.rz_node.specs.Kept.{sides_in, records_in, held_by, IsShown, IsTied}

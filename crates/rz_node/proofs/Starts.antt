@@ -9,7 +9,7 @@ use Rattle.rz_events.specs.declared.nodes.Phase.TheVariants.{Up, Down, Lost}
 use Rattle.rz_events.specs.declared.nodes.StartAnswer.TheVariants as start
 use Rattle.rz_node_model.specs.declared.pending.Pending.{Pending}
 use Rattle.rz_node_model.specs.Afterwards.{taken, after_start}
-use Rattle.rz_node_model.specs.Records.{Records, carried}
+use Rattle.rz_node_model.specs.Records.{Records}
 use Rattle.rz_node_model.specs.States.{NodeState}
 use Rattle.rz_index.specs.declared.index.Entry.{Entry}
 use Rattle.rz_index.specs.Indexed.{Indexed}

@@ -1,23 +1,20 @@
 -- What the images of a disk hold while a change is undecided.
 use Rattle.std.proofs.Common.{◌≡◌, ◌≢◌, ◌⊎◌, inl, inr, ⊎_elim, ℕ, ◌+◌, ◌*◌, ◌<◌, Bool, true, false, cond, not, List, [], ◌∷◌, length, set, Option, Some, None, refl, sym, ◌∙◌, ap, subst, arith, eq-eqb}
 use Rattle.std.specs.Prelude.{◌==◌, ◌||◌, nat_lt, nat_le, IsTrue}
-use Rattle.std.specs.Option.{option_map}
 use Rattle.std.specs.FinMap as maps
 use Rattle.std.proofs.lemmas.Bool.{cases_eq}
 use Rattle.std.proofs.lemmas.List.{map-set, get_or-set_same, get_or-set_other}
 use Rattle.std.proofs.lemmas.Bool.Decides.{nat_tests}
-use Rattle.rz_events.specs.Keys.{key_cmp}
 use Rattle.rz_events.specs.declared.keys.Key.{Key}
 use Rattle.rz_events.specs.declared.records.Head.{Head}
 use Rattle.rz_events.specs.declared.records.Held.{Held}
 use Rattle.rz_events.specs.declared.nodes.Phase.{Phase}
 use Rattle.rz_events.specs.declared.nodes.Phase.TheVariants.{Up, Down, Lost}
 use Rattle.rz_record.specs.Slot.{Rec}
-use Rattle.rz_disk.specs.Images.{Only, Within}
+use Rattle.rz_disk.specs.Images.{Within}
 use Rattle.rz_node_model.specs.declared.pending.Pending.{Pending}
 use Rattle.rz_node_model.specs.declared.pending.Pending.TheVariants as pending
-use Rattle.rz_node_model.specs.Afterwards.{taken}
-use Rattle.rz_node_model.specs.Records.{Records, listed, record_of, held_of, stamp_of, base_of, with_held, carried}
+use Rattle.rz_node_model.specs.Records.{Records, listed, record_of, held_of, stamp_of, base_of, with_held}
 use Rattle.rz_node_model.specs.Versions.{has_stamp, kept, refilled, without, passes_keep, passes_refill, greater_goes}
 use Rattle.rz_versions.specs.declared.versions.Version.{Version}
 use Rattle.rz_versions.specs.Sides.{Sides, ordered, in_order, put_at}
@@ -25,12 +22,12 @@ use Rattle.rz_versions.specs.Sides as sides
 use Rattle.rz_index.specs.declared.index.Entry.{Entry}
 use Rattle.rz_index.specs.Indexed.{Indexed, taken_in, freed_by}
 use Rattle.rz_cells.specs.declared.geometry.Geometry.{Geometry}
-use Rattle.rz_cells.specs.Held.{Apart, Goes, Together, in_cell, heads_of, head_in}
+use Rattle.rz_cells.specs.Held.{Apart, Goes, Together, in_cell, head_in}
 use Rattle.rz_cells.specs.Stands.{HoldsCells, HoldsEither}
 use Rattle.rz_cells.specs.Open.{IsOpen, HoldsHeads}
 use Rattle.rz_node.specs.Kept.{held_by, sides_in, records_in, version_of, IsTied}
 use Rattle.rz_node.specs.Seen.{IsReady}
-use Rattle.rz_node.specs.Waiting.{Shown, HoldsHeld, HoldsEitherHeld, has_change, CanTell, IsDown}
+use Rattle.rz_node.specs.Waiting.{Shown, HoldsEitherHeld, CanTell, IsDown}
 use Rattle.rz_node.proofs.Places.{Placed}
 use Rattle.rz_node.proofs.Puts.{tied-put, held-put}
 use Rattle.rz_node.proofs.Puts as puts

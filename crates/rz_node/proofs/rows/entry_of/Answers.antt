@@ -1,6 +1,5 @@
 -- The heads of a pair are of one key, and their stamps differ.
-use Rattle.std.proofs.Common.{◌≡◌, Option, Some, refl, sym, ◌∙◌, ap, subst}
-use Rattle.rz_events.specs.declared.records.Head.{Head}
+use Rattle.std.proofs.Common.{Option, Some, refl, sym, ◌∙◌, ap, subst}
 use Rattle.rz_node_model.specs.Records.{record_of}
 use Rattle.rz_versions.specs.declared.versions.Version.{Version}
 use Rattle.rz_versions.specs.Sides.{Sides, Differ}

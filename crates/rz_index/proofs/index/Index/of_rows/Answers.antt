@@ -1,10 +1,6 @@
 -- The sorted entries are those that came.
-use Rattle.std.proofs.Common.{◌≡◌, List, length, sym, ap, subst, ◌∙◌, arith, rules}
-use Rattle.std.specs.List.{Contains}
-use Rattle.std.specs.List.Sorted.{IsSortedByKey}
-use Rattle.std.specs.Vec.{vec_len}
+use Rattle.std.proofs.Common.{◌∙◌, arith, rules}
 use Rattle.std.proofs.lemmas.List.Sorted.{answers_always, Contains-permutation, IsPermutation-sym, length_permutation}
-use Rattle.rz_events.specs.Keys.{key_cmp}
 use Rattle.rz_index.specs.declared.index.Entry.{Entry}
 use Rattle.rz_index.specs.Indexed.{IsSorted}
 use Rattle.rz_index.proofs.Sorting.{sorted-rows, made-has, made-only, made-count}

@@ -1,10 +1,10 @@
 use Rattle.std.proofs.Common.{ℕ, ◌≡◌, ◌<◌, ◌≤◌, List, length, cond, is_ok, sym, ap, ◌∙◌, subst, arith}
 use Rattle.std.specs.Prelude.{MatchOption}
 use Rattle.std.specs.Vec.{vec_len}
-use Rattle.std.specs.List.{Contains, insert, remove}
+use Rattle.std.specs.List.{Contains, insert}
 use Rattle.std.specs.FinMap as maps
 use Rattle.rz_index.specs.declared.index.Entry.{Entry}
-use Rattle.rz_index.specs.Indexed.{Indexed, IsSorted, IsHit, IsGap, taken_in, erase}
+use Rattle.rz_index.specs.Indexed.{Indexed, IsSorted, IsHit, IsGap, taken_in}
 use Rattle.rz_index.proofs.Row.{made, get-made, find-hit, find-gap, set-sorted, set-made, insert-sorted, insert-made}
 use Rattle.rz_index.proofs.Cells.{at_most, taken_out}
 use Rattle.rz_index.proofs.index.Index.set.Goals as goal

@@ -1,9 +1,9 @@
 -- No entries take no cells.
-use Rattle.std.proofs.Common.{rules, ◌≡◌, ℕ, List, sym, ap, ◌∙◌, subst}
+use Rattle.std.proofs.Common.{rules, List, ap, ◌∙◌}
 use Rattle.std.specs.FinMap as maps
 use Rattle.rz_events.specs.Keys.{key_cmp}
 use Rattle.rz_index.specs.declared.index.Entry.{Entry}
-use Rattle.rz_index.specs.Indexed.{Indexed, pairs_of, unused}
+use Rattle.rz_index.specs.Indexed.{pairs_of, unused}
 use Rattle.rz_index.proofs.Many.{unused-all}
 use Rattle.rz_index.proofs.index.Index.with_room.Goals as goal
 

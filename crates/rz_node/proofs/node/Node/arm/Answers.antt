@@ -1,8 +1,5 @@
 -- An arming changes no image.
-use Rattle.std.proofs.Common.{List, Option, sym, subst}
-use Rattle.rz_events.specs.declared.records.Head.{Head}
-use Rattle.rz_cells.specs.declared.geometry.Geometry.{Geometry}
-use Rattle.rz_node.specs.Kept.{held_by, IsTied}
+use Rattle.rz_node.specs.Kept.{held_by}
 use Rattle.rz_node.specs.Waiting.{IsDown}
 use Rattle.rz_node.proofs.Waits.{ready-again, tied-moved, down-moved}
 use Rattle.rz_node.proofs.node.Node.arm.Goals as goal

@@ -1,9 +1,6 @@
 -- What is left is one of the images.
-use Rattle.std.proofs.Common.{◌≡◌, List, sym, ◌∙◌, ap, subst}
+use Rattle.std.proofs.Common.{sym, ◌∙◌, ap, subst}
 use Rattle.rz_node_model.specs.States.{NodeState}
-use Rattle.rz_node.specs.Kept.{held_by}
-use Rattle.rz_node.specs.Seen.{IsReady}
-use Rattle.rz_node.specs.Waiting.{IsDown}
 use Rattle.rz_node.proofs.Starts.{ready-down, down-ready}
 use Rattle.rz_node.proofs.Views.{state-same}
 use Rattle.rz_node.proofs.Waits.{tied-moved, down-moved}

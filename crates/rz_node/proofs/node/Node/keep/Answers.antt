@@ -9,7 +9,7 @@ use Rattle.rz_node_model.specs.Records.{record_of, stamp_of, with_held}
 use Rattle.rz_node_model.specs.Versions.{greater_goes, kept, passes_keep}
 use Rattle.rz_versions.specs.declared.versions.Version.{Version}
 use Rattle.rz_versions.specs.declared.versions.Room.TheVariants.{Put, Passed}
-use Rattle.rz_versions.specs.Sides.{in_order, put_at, side_for, never, room}
+use Rattle.rz_versions.specs.Sides.{in_order, put_at, side_for, room}
 use Rattle.rz_versions.specs.Sides as sides
 use Rattle.rz_node.specs.Kept.{held_by, sides_in, records_in}
 use Rattle.rz_node.proofs.Places.{placed}

@@ -1,5 +1,5 @@
 -- What is held is what the text stands for.
-use Rattle.std.proofs.Common.{◌≡◌, ◌≤◌, ℕ, List, None, refl, sym, ◌∙◌, ap, subst}
+use Rattle.std.proofs.Common.{ℕ, List, refl, sym, subst}
 use Rattle.rz_cells.specs.declared.geometry.Geometry.{Geometry}
 use Rattle.rz_cells.specs.Open.{Finds}
 use Rattle.rz_node.specs.Kept.{IsTied}

@@ -1,6 +1,5 @@
 -- The disk has what was held, or that with the undecided change.
-use Rattle.std.proofs.Common.{◌≡◌, ⊎_elim, ℕ, true, List, Option, Err, Some, None, refl, sym, ◌∙◌, ap, subst, arith}
-use Rattle.rz_events.specs.declared.records.Head.{Head}
+use Rattle.std.proofs.Common.{◌≡◌, ⊎_elim, ℕ, List, Err, refl, sym, ◌∙◌, ap, subst}
 use Rattle.rz_events.specs.declared.nodes.OpenFault.TheVariants as fault
 use Rattle.rz_events.specs.declared.nodes.StartAnswer.TheVariants as start
 use Rattle.std.specs.Prelude.{IsSome}

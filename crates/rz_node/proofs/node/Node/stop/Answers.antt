@@ -1,6 +1,5 @@
 -- An up node's disk has what is held.
 use Rattle.std.proofs.Common.{refl}
-use Rattle.rz_events.specs.declared.nodes.Phase.TheVariants.{Up, Down}
 use Rattle.rz_node.proofs.Ready.{ready-up}
 use Rattle.rz_node.proofs.Waits.{down-open, up-decided}
 use Rattle.rz_node.proofs.node.Node.stop.Goals as goal

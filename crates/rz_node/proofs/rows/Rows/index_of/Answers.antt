@@ -1,5 +1,5 @@
 -- All pairs are read.
-use Rattle.std.proofs.Common.{◌≡◌, ℕ, List, [], refl, sym, ◌∙◌, ap, subst, arith}
+use Rattle.std.proofs.Common.{◌≡◌, ℕ, List, [], sym, ap, subst, arith}
 use Rattle.rz_index.specs.declared.index.Entry.{Entry}
 use Rattle.rz_cells.specs.declared.geometry.Geometry.{Geometry}
 use Rattle.rz_node.specs.Rows.{IsRows}
