@@ -163,6 +163,13 @@ impl<D: Disk> Cells<D> {
         self.heads[cell as usize]
     }
 
+    /// How the disk is laid out.
+    pub fn geometry(&self) -> Geometry
+        ensures { result ≡ self.now.geometry }
+    {
+        self.geometry
+    }
+
     /// The fence that the disk carries.
     pub fn fence(&self) -> u64
         ensures { result ≡ self.now.fence }

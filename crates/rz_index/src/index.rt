@@ -1,11 +1,13 @@
 //! Entries in the order of their keys, and free cells.
 
-ghost use Rattle.std.specs.Prelude.{◌≡◌, ◌≢◌, ◌+◌, ◌<◌, ◌≤◌, T, All, length, slice_set, IfOk, IfErr, IfSome, OnOk, MatchOption};
-ghost use Rattle.std.specs.List.{AllPairs, Contains, remove, range_with_len};
+ghost use Rattle.std.specs.Prelude.{◌≡◌, ◌≢◌, ◌+◌, ◌<◌, ◌≤◌, T, Some, All, length, map, slice_set, IfOk, IfErr, IfSome, OnOk, MatchOption};
+ghost use Rattle.std.specs.List.{AllPairs, Contains, IsDistinct, remove, range_with_len};
+ghost use Rattle.std.specs.Ordering.{eq_by_cmp};
 ghost use Rattle.std.specs.Vec.{vec_len, vec_capacity};
-ghost use Rattle.std.specs.VecDeque.{deque_len};
+ghost use Rattle.std.specs.VecDeque.{deque_len, deque_capacity};
 ghost use Rattle.std.specs.FinMap as maps;
 ghost use Rattle.rz_events.specs.Keys.{key_cmp};
+ghost use Rattle.rz_events.specs.declared.keys.Key.{Key};
 ghost use Rattle.rz_index.specs.Indexed.{IsSorted, IsHit, IsGap, IsFrom, first_of_file, head_of, erase, taken_out, freed, pairs_of, unused};
 
 use crate::building::{sort, unused_cells};
@@ -69,6 +71,23 @@ impl Index {
         entries.reserve_exact(free.len())?;
         sort(&mut entries);
         Ok(Index { entries, free })
+    }
+
+    /// An index of these entries, which come in any order, and these free cells. It takes no memory.
+    pub fn of_rows(entries: Vec<Entry>, free: VecDeque<u32>) -> Index
+        requires keys { IsDistinct (eq_by_cmp key_cmp) (map (λ (e : Entry). e.key) entries.items) }
+        requires room { vec_len entries + deque_len free ≤ vec_capacity entries }
+        requires room_free { vec_len entries + deque_len free ≤ deque_capacity free }
+
+        // It has these entries, each under its key, and no other.
+        ensures has { (e : Entry) → Contains entries.items e → maps.get result.entries e.key ≡ Some e }
+        ensures only { (key : Key) (e : Entry) → maps.get result.entries key ≡ Some e → Contains entries.items e × (e.key ≡ key) }
+        ensures count { maps.len result.entries ≡ vec_len entries }
+        ensures free { result.free ≡ free.items }
+    {
+        let mut entries = entries;
+        entries.sort_unstable_by_key(|entry| entry.key);
+        Index { entries, free }
     }
 
     /// The entry of a key.

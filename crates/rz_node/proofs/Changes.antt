@@ -69,11 +69,11 @@ some-two : (a b : Held) (lt : Bool) → cond lt (b ∷ a ∷ []) (a ∷ b ∷ []
 some-two a b true is = absurd (cc)
 some-two a b false is = absurd (cc)
 
-some-left : (a : Held) (o : Option Held) → ordered stamp_of (Some a) o ≢ []
+pub some-left : (a : Held) (o : Option Held) → ordered stamp_of (Some a) o ≢ []
 some-left a None is = absurd (cc)
 some-left a (Some b) is = some-two a b (nat_lt a.stamp b.stamp) is
 
-some-right : (o : Option Held) (b : Held) → ordered stamp_of o (Some b) ≢ []
+pub some-right : (o : Option Held) (b : Held) → ordered stamp_of o (Some b) ≢ []
 some-right None b is = absurd (cc)
 some-right (Some a) b is = some-two a b (nat_lt a.stamp b.stamp) is
 

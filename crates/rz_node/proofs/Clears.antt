@@ -24,15 +24,15 @@ use Rattle.rz_node.proofs.Turns.{order-map}
 use Rattle.rz_node.proofs.Places.{Placed, two-cells}
 use Rattle.rz_node.proofs.Changes.{key-cases, not-key, get-own, get-other, gone-own, gone-other, put-versions, own, other, sides-other, sides-own, shown-other, free-other}
 
-all-push : (P : ℕ → Type 0) (ps : List ℕ) (p : ℕ) → AllByRecursion P ps → P p → AllByRecursion P (ps ++ p ∷ [])
+pub all-push : (P : ℕ → Type 0) (ps : List ℕ) (p : ℕ) → AllByRecursion P ps → P p → AllByRecursion P (ps ++ p ∷ [])
 all-push P [] p all last = (last, tt)
 all-push P (q ∷ ps) p all last = (all.0, all-push P ps p all.1 last)
 
-distinct-push : (ps : List ℕ) (p : ℕ) → Distinct ps → AllByRecursion (λ q. q ≢ p) ps → Distinct (ps ++ p ∷ [])
+pub distinct-push : (ps : List ℕ) (p : ℕ) → Distinct ps → AllByRecursion (λ q. q ≢ p) ps → Distinct (ps ++ p ∷ [])
 distinct-push [] p all ne = (tt, tt)
 distinct-push (q ∷ ps) p all ne = (all-push (λ r. r ≢ q) ps p all.0 (λ same. ne.0 (sym same)), distinct-push ps p all.1 ne.1)
 
-length-push : (ps : List ℕ) (p : ℕ) → length (ps ++ p ∷ []) ≡ length ps + 1
+pub length-push : (ps : List ℕ) (p : ℕ) → length (ps ++ p ∷ []) ≡ length ps + 1
 length-push [] p = omega arith
 length-push (q ∷ ps) p = let more = length-push ps p in omega arith
 

@@ -1,6 +1,6 @@
 -- The least block of a file, and its lesser version.
 use Rattle.std.proofs.Common.{◌≡◌, ◌≢◌, ⊎_elim, ℕ, ◌<◌, Bool, true, false, cond, List, [], ◌∷◌, map, Option, Some, None, refl, sym, ◌∙◌, ap, subst, arith, eq-eqb}
-use Rattle.std.specs.Prelude.{◌==◌, nat_lt, is_some}
+use Rattle.std.specs.Prelude.{◌==◌, ◌||◌, nat_lt, is_some}
 use Rattle.std.specs.Option.{option_map}
 use Rattle.std.specs.List as lists
 use Rattle.std.specs.Ordering.{eq_by_cmp, is_eq}
@@ -14,7 +14,7 @@ use Rattle.rz_events.specs.declared.records.Head.{Head}
 use Rattle.rz_events.specs.declared.records.Held.{Held}
 use Rattle.rz_node_model.specs.declared.pending.Pending.TheVariants as pending
 use Rattle.rz_node_model.specs.Records.{held_of, stamp_of, key_at, first_block, least_block, with_held, carried}
-use Rattle.rz_node_model.specs.Versions.{lesser_of, without}
+use Rattle.rz_node_model.specs.Versions.{has_stamp, lesser_of, without}
 use Rattle.rz_versions.specs.declared.versions.Version.{Version}
 use Rattle.rz_versions.specs.Sides.{Sides, ordered, in_order, put_at, has, side_with, Differ}
 use Rattle.rz_versions.specs.Sides as sides
@@ -27,6 +27,7 @@ use Rattle.rz_node.proofs.Changes.{key-cases}
 use Rattle.rz_node.proofs.Places.{Placed, held-key}
 use Rattle.rz_node.proofs.Keeps.{sides-differ}
 use Rattle.rz_node.proofs.Turns.{order-map}
+use Rattle.rz_node.proofs.Ways.{has-sides}
 
 -- ---- the least block
 
@@ -248,6 +249,40 @@ lesser-stands s r lesser is = go s.zero s.one lesser (is ∙ (λ i. chosen (has-
     go None (Some b) lesser is = not-second false (b.stamp == r.stamp) is (is-own b (the-held b r lesser))
     go (Some a) (Some b) lesser is = both a b (nat_lt a.stamp b.stamp) lesser is
 
+-- ---- the stamp is there, and then it is not
+
+not-right : (r : Held) (o : Option Held) → Differ stamp_of (Some r) o → has stamp_of o r.stamp ≡ false
+not-right r None differ = refl
+not-right r (Some b) differ = other-stamp b.stamp r.stamp (λ same. differ (sym same))
+
+not-left : (r : Held) (o : Option Held) → Differ stamp_of o (Some r) → has stamp_of o r.stamp ≡ false
+not-left r None differ = refl
+not-left r (Some a) differ = other-stamp a.stamp r.stamp differ
+
+or-true : (b : Bool) → b || true ≡ true
+or-true true = refl
+or-true false = refl
+
+or-none : (b : Bool) → b ≡ false → b || false ≡ false
+or-none b is = ap (λ x. x || false) is
+
+at-sides : (a b : Option Held) (r : Held) (first : Bool) → Differ stamp_of a b → cond first a b ≡ Some r
+    → (has stamp_of a r.stamp || has stamp_of b r.stamp ≡ true) × (has stamp_of (cond first None a) r.stamp || has stamp_of (cond first b None) r.stamp ≡ false)
+at-sides a b r true differ is = (
+  ap (λ (o : Option Held). has stamp_of o r.stamp || has stamp_of b r.stamp) is ∙ ap (λ x. x || has stamp_of b r.stamp) (same-stamp r.stamp),
+  not-right r b (subst (λ (o : Option Held). Differ stamp_of o b) is differ),
+)
+at-sides a b r false differ is = (
+  ap (λ (o : Option Held). has stamp_of a r.stamp || has stamp_of o r.stamp) is ∙ ap (λ x. has stamp_of a r.stamp || x) (same-stamp r.stamp) ∙ or-true (has stamp_of a r.stamp),
+  or-none (has stamp_of a r.stamp) (not-left r a (subst (λ (o : Option Held). Differ stamp_of a o) is differ)),
+)
+
+stamp-goes : (s : Sides Held) (r : Held) (side : ℕ) → Differ stamp_of s.zero s.one → sides.at s side ≡ Some r
+    → (has_stamp stamp_of r.stamp (in_order stamp_of s) ≡ true) × (has_stamp stamp_of r.stamp (in_order stamp_of (put_at s side None)) ≡ false)
+stamp-goes s r side differ is =
+    let both = at-sides s.zero s.one r (side == 0) differ is in
+    (has-sides r.stamp s ∙ both.0, has-sides r.stamp (put_at s side None) ∙ both.1)
+
 -- ---- together
 
 -- what a drop takes: the record r of the file's least block
@@ -261,6 +296,8 @@ pub record Dropping (heads : List (Option Head)) (index : Indexed) (fid : ℕ) (
   pub lesser : lesser_of (held_of (held_by index.entries heads) (key_at fid e.key.block)) ≡ Some gone
   pub before : held_of (held_by index.entries heads) (key_at fid e.key.block) ≡ records_in heads e.cell
   pub leaves : in_order stamp_of (put_at (sides_in heads e.cell) side None) ≡ without stamp_of v.stamp (records_in heads e.cell)
+  pub had : has_stamp stamp_of v.stamp (records_in heads e.cell) ≡ true
+  pub lost : has_stamp stamp_of v.stamp (in_order stamp_of (put_at (sides_in heads e.cell) side None)) ≡ false
 
 module _ (pairs : ℕ) (heads : List (Option Head)) (index : Indexed) (tied : IsTied pairs heads index) (fid : ℕ) (e : Entry) (is : Some e ≡ first_of_file index.entries fid) where
   abbrev first : (maps.get index.entries e.key ≡ Some e) × (key_at fid e.key.block ≡ e.key) × (least_block (held_by index.entries heads) fid ≡ Some e.key.block)
@@ -287,7 +324,9 @@ module _ (pairs : ℕ) (heads : List (Option Head)) (index : Indexed) (tied : Is
   pub dropping : Apart heads → (v : Version) → Some v ≡ lesser_of (in_order sides.stamp_of e.versions) → (side : ℕ) → Some side ≡ side_with sides.stamp_of e.versions v.stamp → Dropping heads index fid e v side
   dropping apart v lesser side at =
       let r = lesser-record (sides_in heads e.cell) v (shows (Some v) lesser) in
-      let shown = lesser-side (sides_in heads e.cell) r.0 side (sides-differ pairs heads index e.key e place apart) r.1 (at ∙ (λ i. side_with sides.stamp_of (place.versions i) (sym r.2 i))) in
+      let differ = sides-differ pairs heads index e.key e place apart in
+      let shown = lesser-side (sides_in heads e.cell) r.0 side differ r.1 (at ∙ (λ i. side_with sides.stamp_of (place.versions i) (sym r.2 i))) in
+      let goes = stamp-goes (sides_in heads e.cell) r.0 side differ shown.at in
       record {
         there = first.0;
         key_is = first.1;
@@ -298,6 +337,8 @@ module _ (pairs : ℕ) (heads : List (Option Head)) (index : Indexed) (tied : Is
         lesser = ap lesser_of held-before ∙ r.1;
         before = held-before;
         leaves = shown.without_is ∙ ap (λ (t : ℕ). without stamp_of t (records_in heads e.cell)) r.2;
+        had = ap (λ (t : ℕ). has_stamp stamp_of t (records_in heads e.cell)) (sym r.2) ∙ goes.0;
+        lost = ap (λ (t : ℕ). has_stamp stamp_of t (in_order stamp_of (put_at (sides_in heads e.cell) side None))) (sym r.2) ∙ goes.1;
       }
 
 -- what is held after a drop, as the model says it

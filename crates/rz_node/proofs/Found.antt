@@ -31,7 +31,7 @@ found-two : (a b : Held) (t : ℕ) (lt : Bool) → nat_lt a.stamp b.stamp ≡ lt
 found-two a b t true is = either_first (a.stamp == t) (b.stamp == t) (Some a) (Some b) (not_both a.stamp b.stamp t is)
 found-two a b t false is = refl
 
-found-ordered : (t : ℕ) (a b : Option Held) → found t (ordered stamp_of a b) ≡ cond (has stamp_of a t) a (cond (has stamp_of b t) b None)
+pub found-ordered : (t : ℕ) (a b : Option Held) → found t (ordered stamp_of a b) ≡ cond (has stamp_of a t) a (cond (has stamp_of b t) b None)
 found-ordered t None None = refl
 found-ordered t (Some a) None = refl
 found-ordered t None (Some b) = refl
@@ -42,10 +42,10 @@ has-version None t = refl
 has-version (Some r) t = refl
 
 -- the first of two sides of which the test holds
-abbrev chosen : Bool → Bool → Option ℕ
+abbrev pub chosen : Bool → Bool → Option ℕ
 chosen x y = cond x (Some 0) (cond y (Some 1) None)
 
-side-versions : (s : Sides Held) (t : ℕ) → side_with sides.stamp_of (versions_of s) t ≡ chosen (has stamp_of s.zero t) (has stamp_of s.one t)
+pub side-versions : (s : Sides Held) (t : ℕ) → side_with sides.stamp_of (versions_of s) t ≡ chosen (has stamp_of s.zero t) (has stamp_of s.one t)
 side-versions s t = λ i. chosen (has-version s.zero t i) (has-version s.one t i)
 
 no-side : (x y : Bool) (a b : Option Held) → chosen x y ≡ None → cond x a (cond y b None) ≡ None

@@ -7,8 +7,14 @@ pub mod Places
 pub mod Puts
 pub mod Read
 pub mod Ready
+pub mod Listed
+pub mod Shows
 pub mod Spent
+pub mod Starts
 pub mod Tied
 pub mod Turns
 pub mod Views
+pub mod Waits
 pub mod Ways
+pub mod Firsts
+pub mod Maps

@@ -21,8 +21,8 @@ use Rattle.rz_node_model.specs.Records.{record_of, held_of, found}
 use Rattle.rz_node.specs.Kept.{held_by}
 use Rattle.rz_node.specs.Seen.{IsReady, state_of}
 
-pub ready-up : (phase : Phase) (P : Type 0) → phase ≡ Up → IsReady phase P → P
-ready-up phase P is ready = subst (λ (p : Phase). IsReady p P) is ready
+pub ready-up : (phase : Phase) (P Q : Type 0) → phase ≡ Up → IsReady phase P Q → P
+ready-up phase P Q is ready = subst (λ (p : Phase). IsReady p P Q) is ready
 
 pub bins-fit : (y z : Layout) (count room : ℕ) → count ≤ max_bins_of y → y ≡ z → max_bins_of z ≤ room → count ≤ room
 bins-fit y z count room le same fits = let le' : count ≤ max_bins_of z = subst (λ (x : Layout). count ≤ max_bins_of x) same le in omega (arith, le', fits)

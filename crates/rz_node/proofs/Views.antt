@@ -7,6 +7,7 @@ use Rattle.rz_events.specs.Keys.{key_cmp}
 use Rattle.rz_events.specs.declared.keys.Key.{Key}
 use Rattle.rz_events.specs.declared.records.Head.{Head}
 use Rattle.rz_events.specs.declared.records.Held.{Held}
+use Rattle.rz_events.specs.declared.nodes.OpenFault.{OpenFault}
 use Rattle.rz_events.specs.declared.nodes.Phase.{Phase}
 use Rattle.rz_events.specs.declared.nodes.Phase.TheVariants.{Up}
 use Rattle.rz_events.specs.declared.nodes.KeepAnswer.TheVariants as keep
@@ -26,6 +27,8 @@ use Rattle.rz_cells.specs.Stands.{StandsFor}
 use Rattle.rz_node.specs.Around.{Around}
 use Rattle.rz_node.specs.Kept.{held_by}
 use Rattle.rz_node.specs.Seen.{NodeView, held_in, state_of}
+use Rattle.rz_cells.specs.Opening.{opening_calls}
+use Rattle.rz_node.specs.Opens.{Stopped}
 use Rattle.rz_node.specs.Spends.{Passed, Failed}
 use Rattle.rz_node.proofs.Keeps.{keep-answers, refill-answers}
 
@@ -42,6 +45,13 @@ passed-along {D} meter v w k new same p = subst (λ (x : NodeView D). Passed k (
 
 pub failed-along : {D : Type 0} (meter : D → Meter) (v w : NodeView D) (k : ℕ) (new : Meter) → v ≡ w → Failed k (meter v.disk) new → Failed k (meter w.disk) new
 failed-along {D} meter v w k new same p = subst (λ (x : NodeView D). Failed k (meter x.disk) new) same p
+
+-- an opening's calls, by the geometry
+pub opened-along : {D : Type 0} (meter : D → Meter) (v w : NodeView D) (new : Meter) → v ≡ w → Passed (opening_calls v.geometry) (meter v.disk) new → Passed (opening_calls w.geometry) (meter w.disk) new
+opened-along {D} meter v w new same p = subst (λ (x : NodeView D). Passed (opening_calls x.geometry) (meter x.disk) new) same p
+
+pub stopped-along : {D : Type 0} (meter : D → Meter) (v w : NodeView D) (cause : OpenFault) (new : Meter) → v ≡ w → Stopped (opening_calls v.geometry) cause (meter v.disk) new → Stopped (opening_calls w.geometry) cause (meter w.disk) new
+stopped-along {D} meter v w cause new same p = subst (λ (x : NodeView D). Stopped (opening_calls x.geometry) cause (meter x.disk) new) same p
 
 pub stands-along : {D : Type 0} (text : D → List ℕ) (v w : NodeView D) (records : Records) → v ≡ w → StandsFor w.geometry w.state.fence (text w.disk) records → StandsFor v.geometry v.state.fence (text v.disk) records
 stands-along {D} text v w records same p = subst (λ (x : NodeView D). StandsFor x.geometry x.state.fence (text x.disk) records) (sym same) p

@@ -1,5 +1,9 @@
 pub mod Around
 pub mod Gives
 pub mod Kept
+pub mod Opens
+pub mod Rows
 pub mod Seen
+pub mod Shows
 pub mod Spends
+pub mod Waiting

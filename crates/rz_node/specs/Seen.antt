@@ -1,5 +1,5 @@
 -- What contracts see of a node, and how it is kept.
-use Rattle.std.specs.Prelude.{ℕ, Bool, List, Option, refl}
+use Rattle.std.specs.Prelude.{ℕ, ◌≡◌, ◌≢◌, Bool, List, Option, None, refl}
 use Rattle.std.specs.Coded.{Coded, code_by, coded×}
 use Rattle.std.specs.FinMap as maps
 use Rattle.rz_events.specs.Keys.{key_cmp}
@@ -15,6 +15,7 @@ use Rattle.rz_cells.specs.declared.geometry.Geometry.{Geometry}
 use Rattle.rz_cells.specs.contracts.geometry.Geometry as geometries
 use Rattle.rz_cells.specs.Open.{IsOpen}
 use Rattle.rz_node.specs.Kept.{held_by, IsTied}
+use Rattle.rz_node.specs.Waiting.{IsDown}
 
 -- a node: its disk, how that is laid out, and its state
 pub record NodeView (D : Type 0) : Type 0 where
@@ -37,13 +38,14 @@ abbrev pub state_of : Phase → ℕ → Option Pending → ℕ → maps.FinMap k
 state_of phase losses undecided fence entries heads =
     record { phase = phase; fence = fence; losses = losses; held = held_in phase entries heads; undecided = undecided }
 
--- while a node is up its cells are open
-abbrev pub IsReady : Phase → Type 0 → Type 0
-IsReady Up is_open = is_open
-IsReady Down is_open = Unit {0}
-IsReady Lost is_open = Unit {0}
+-- The cells of an up node are open. Of a down node's disk it is known what a start may find, and of a lost one nothing.
+abbrev pub IsReady : Phase → Type 0 → Type 0 → Type 0
+IsReady Up is_open is_down = is_open
+IsReady Down is_open is_down = is_down
+IsReady Lost is_open is_down = Unit {0}
 
--- The index is of the cells' heads, and the cells are open while the node is up.
-pub record IsNode (tells : Bool) (text : List ℕ) (image : List ℕ → Type 0) (phase : Phase) (g : Geometry) (fence : ℕ) (gates : List ℕ) (heads : List (Option Head)) (index : Indexed) : Type 0 where
+-- The index is of the cells' heads, only a down node has an undecided change, and the disk is as the phase says.
+pub record IsNode (tells : Bool) (text : List ℕ) (image : List ℕ → Type 0) (phase : Phase) (undecided : Option Pending) (g : Geometry) (fence : ℕ) (gates : List ℕ) (heads : List (Option Head)) (index : Indexed) : Type 0 where
   pub tied : IsTied g.cells heads index
-  pub ready : IsReady phase (IsOpen tells text image g fence gates heads)
+  pub decided : phase ≢ Down → undecided ≡ None
+  pub ready : IsReady phase (IsOpen tells text image g fence gates heads) (IsDown tells image g fence undecided (held_by index.entries heads))

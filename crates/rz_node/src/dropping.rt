@@ -13,6 +13,7 @@ ghost use Rattle.rz_node_model.specs.Versions.{without};
 ghost use Rattle.rz_node.specs.Around.{Around};
 ghost use Rattle.rz_node.specs.Kept.{IsTied, held_by, sides_in, records_in};
 ghost use Rattle.rz_node.specs.Spends.{Spends, IfDropped, drop_used};
+ghost use Rattle.rz_node.specs.Waiting.{HoldsEitherHeld};
 
 use crate::Node;
 use rz_cells::{Cells, DiskFault};
@@ -85,6 +86,8 @@ fn clear_in<D: Disk>(
     ensures tied { IsTied cells.new.geometry.cells cells.new.heads.items index.new }
     ensures held { OnOk result (held_by index.new.entries cells.new.heads.items
         ≡ with_held (held_by index.old.entries cells.old.heads.items) entry.key (in_order stamp_of (put_at (sides_in cells.old.heads.items entry.cell) side None))) }
+    ensures waits { OnErr result (IsTrue D.tells → HoldsEitherHeld cells.new.geometry cells.new.fence (D.image cells.new.disk) (held_by index.new.entries cells.new.heads.items)
+        (with_held (held_by index.new.entries cells.new.heads.items) entry.key (in_order stamp_of (put_at (sides_in cells.old.heads.items entry.cell) side None)))) }
     ensures heads { OnErr result (cells.new.heads.items ≡ cells.old.heads.items) }
     ensures index { OnErr result (index.new ≡ index.old) }
     ensures geometry { cells.new.geometry ≡ cells.old.geometry }

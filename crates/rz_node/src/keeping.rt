@@ -11,6 +11,7 @@ ghost use Rattle.rz_node_model.specs.Versions.{kept, refilled};
 ghost use Rattle.rz_node.specs.Around.{Around};
 ghost use Rattle.rz_node.specs.Kept.{IsTied, held_by, place_in, sides_in, records_in, version_of};
 ghost use Rattle.rz_node.specs.Spends.{Spends, keep_used, refill_used};
+ghost use Rattle.rz_node.specs.Waiting.{HoldsEitherHeld};
 
 use crate::Node;
 use rz_cells::{Cells, DiskFault};
@@ -124,7 +125,7 @@ pub(crate) fn told(head: &Head) -> Held
 }
 
 /// The version of a head.
-fn version(head: &Head) -> Version
+pub(crate) fn version(head: &Head) -> Version
     ensures { result ≡ version_of (record_of head.now) }
 {
     Version {
@@ -173,6 +174,8 @@ fn put_in<D: Disk>(
     ensures tied { IsTied cells.new.geometry.cells cells.new.heads.items index.new }
     ensures held { OnOk result (held_by index.new.entries cells.new.heads.items
         ≡ with_held (held_by index.old.entries cells.old.heads.items) head.now.key (in_order stamp_of (put_at (sides_in cells.old.heads.items entry.cell) side (Some (record_of head.now))))) }
+    ensures waits { OnErr result (IsTrue D.tells → HoldsEitherHeld cells.new.geometry cells.new.fence (D.image cells.new.disk) (held_by index.new.entries cells.new.heads.items)
+        (with_held (held_by index.new.entries cells.new.heads.items) head.now.key (in_order stamp_of (put_at (sides_in cells.old.heads.items entry.cell) side (Some (record_of head.now)))))) }
     ensures heads { OnErr result (cells.new.heads.items ≡ cells.old.heads.items) }
     ensures index { OnErr result (index.new ≡ index.old) }
     ensures geometry { cells.new.geometry ≡ cells.old.geometry }

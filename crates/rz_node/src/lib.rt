@@ -7,18 +7,25 @@
 //! images it may have and what its meter counted. The contracts say nothing of how long a call takes.
 //!
 //! The heads of all cells stand in memory, and an index finds the pair of a key in logarithmic time.
-//! Bins are read from the disk each time. Memory is taken when a node is made, and by no later call.
+//! Bins are read from the disk each time. Memory is taken where a node is made, started or replaced, and by
+//! no other call.
 //!
-//! In reading order: `node`, `fetching`, `keeping`, `dropping`.
+//! In reading order: `node`, `fetching`, `keeping`, `dropping`, `rows`, `opening`, `replacing`.
 #![tactic(auto)]
 
 mod dropping;
 mod fetching;
 mod keeping;
 mod node;
+mod opening;
+mod replacing;
+mod rows;
 #[cfg(test)]
 mod tests;
 
 pub use node::Node;
 pub use rz_cells::{FormatFault, Geometry};
-pub use rz_events::{DropAnswer, FetchAnswer, Head, Held, KeepAnswer, Key, RefillAnswer};
+pub use rz_events::{
+    DropAnswer, FetchAnswer, Head, Held, KeepAnswer, Key, OpenFault, RefillAnswer, ReplaceAnswer,
+    StartAnswer,
+};

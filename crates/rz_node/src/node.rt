@@ -42,7 +42,7 @@ impl<D: Disk> Model for Node<D> {
       state = state_of n.phase n.losses n.undecided n.cells.fence n.index.entries n.cells.heads.items;
     } };
 
-    ghost invariant = { λ n. IsNode D.tells (D.text n.cells.disk) (D.image n.cells.disk) n.phase n.cells.geometry n.cells.fence n.cells.gates.items n.cells.heads.items n.index };
+    ghost invariant = { λ n. IsNode D.tells (D.text n.cells.disk) (D.image n.cells.disk) n.phase n.undecided n.cells.geometry n.cells.fence n.cells.gates.items n.cells.heads.items n.index };
 }
 
 impl<D: Disk> Node<D> {
@@ -123,6 +123,19 @@ impl<D: Disk> Node<D> {
                 Some(losses)
             }
         }
+    }
+
+    /// Loses what a loss of power may lose of the disk of a down node. `pick` says which image is left, in
+    /// the disk's own way.
+    pub fn crash(&mut self, pick: u64)
+        requires down { self.old.state.phase ≡ Phase.Down }
+        ensures state { self.new.state ≡ self.old.state }
+        ensures geometry { self.new.geometry ≡ self.old.geometry }
+        ensures left { IsTrue D.tells → D.image self.old.disk (D.text self.new.disk) }
+        ensures only { Only (D.text self.new.disk) (D.image self.new.disk) }
+        ensures meter { D.meter self.new.disk ≡ D.meter self.old.disk }
+    {
+        self.cells.crash(pick);
     }
 
     /// Arms the disk with `Some` passes, or disarms it with `None`.

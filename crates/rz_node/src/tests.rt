@@ -1,7 +1,10 @@
-//! Keeps, fetches and refills on small disks.
+//! Keeps, fetches, drops, stops, starts and replacements on small disks.
 ghost use Rattle.std.specs.Prelude.{◌≡◌, IfOk, vec_len};
 
-use crate::{DropAnswer, FetchAnswer, Geometry, Head, Held, KeepAnswer, Key, Node, RefillAnswer};
+use crate::{
+    DropAnswer, FetchAnswer, Geometry, Head, Held, KeepAnswer, Key, Node, RefillAnswer,
+    ReplaceAnswer, StartAnswer,
+};
 use rz_disk::{Disk, Fused, PlainDisk, RotDisk};
 use rz_events::Layout;
 use std::alloc::{AllocError, Global};
@@ -148,5 +151,75 @@ fn stops_at_each_call(rt: HostRuntime) -> Result<(), Fail> {
         whole,
         (KeepAnswer::Kept, KeepAnswer::Passed { held: 1 }, true)
     );
+    Ok(())
+}
+
+/// Starts a node again after a keep that stopped after `passes` device calls, and a crash.
+#[tactic(auto, unfolding(rz_record::specs::Record::bins_of))]
+fn started(alloc: Global, passes: u64, pick: u64) -> Result<StartAnswer, Fail> {
+    let mut node = formatted(alloc, Fused::new(PlainDisk::new(alloc)))?;
+    let bins = words(alloc, 258, 9)?;
+    node.arm(Some(passes));
+    match node.keep(&FIRST, &bins) {
+        KeepAnswer::DiskFault => {
+            node.crash(pick);
+            node.arm(None);
+            Ok(node.start(alloc))
+        }
+        _ => Err("kept")?,
+    }
+}
+
+#[test]
+fn starts_with_either_half(rt: HostRuntime) -> Result<(), Fail> {
+    for passes in 0..4 {
+        for pick in 0..2 {
+            let took = passes >= 2 && pick == 1;
+            let answer = started(rt.alloc(), passes, pick)?;
+            assert_eq!(rt; answer, StartAnswer::Started { took }, "{passes} {pick}");
+        }
+    }
+    Ok(())
+}
+
+#[test]
+#[tactic(auto, unfolding(rz_record::specs::Record::bins_of))]
+fn replaces_a_lost_disk(rt: HostRuntime) -> Result<(), Fail> {
+    let mut node = formatted(rt.alloc(), PlainDisk::new(rt.alloc()))?;
+    let bins = words(rt.alloc(), 258, 9)?;
+    assert_eq!(rt; node.replace(rt.alloc(), 1, 7), ReplaceAnswer::NotLost);
+    assert_eq!(rt; node.lose(), Some(1));
+    let other = ReplaceAnswer::OtherLoss { loss: 1 };
+    assert_eq!(rt; node.replace(rt.alloc(), 2, 7), other);
+    assert_eq!(rt; node.replace(rt.alloc(), 1, 7), ReplaceAnswer::Replaced);
+    assert_eq!(rt; node.keep(&OTHER, &bins), KeepAnswer::Fenced { fence: 7 });
+    let fence = RefillAnswer::OtherFence { fence: 7 };
+    assert_eq!(rt; node.refill(0, &FIRST, &bins), fence);
+    assert_eq!(rt; node.refill(7, &FIRST, &bins), RefillAnswer::Kept);
+    Ok(())
+}
+
+/// Keeps a record, and opens the disk again for a node that lost three disks.
+#[tactic(auto, unfolding(rz_record::specs::Record::bins_of))]
+fn reopened(alloc: Global) -> Result<Node<PlainDisk>, Fail>
+    ensures { IfOk result (λ n. n.geometry ≡ ONE) }
+{
+    let mut node = formatted(alloc, PlainDisk::new(alloc))?;
+    let bins = words(alloc, 258, 9)?;
+    let _kept = node.keep(&FIRST, &bins);
+    match Node::reopen(alloc, ONE, 3, node.into_disk()) {
+        Ok(node) => Ok(node),
+        Err(_) => Err("not opened")?,
+    }
+}
+
+#[test]
+#[tactic(auto, unfolding(rz_record::specs::Record::bins_of))]
+fn opens_what_it_kept(rt: HostRuntime) -> Result<(), Fail> {
+    let mut node = reopened(rt.alloc())?;
+    let bins = words(rt.alloc(), 258, 9)?;
+    assert_eq!(rt; node.keep(&FIRST, &bins), KeepAnswer::Passed { held: 1 });
+    assert_eq!(rt; node.start(rt.alloc()), StartAnswer::NotDown);
+    assert_eq!(rt; node.lose(), Some(4));
     Ok(())
 }

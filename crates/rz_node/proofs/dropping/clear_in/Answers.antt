@@ -1,15 +1,17 @@
 -- A record leaves its cell, and its version the index.
 use Rattle.std.proofs.Common.{◌+◌, ◌*◌, ℕ, List, Option, None, refl, sym, ◌∙◌, ap, subst, arith}
 use Rattle.rz_events.specs.declared.records.Head.{Head}
-use Rattle.rz_node_model.specs.Records.{with_held}
+use Rattle.rz_node_model.specs.Records.{stamp_of, with_held}
+use Rattle.rz_versions.specs.Sides.{in_order, put_at}
 use Rattle.rz_cells.specs.declared.geometry.Geometry.{Geometry}
 use Rattle.rz_cells.specs.Held.{in_cell}
 use Rattle.rz_cells.specs.Stands.{StandsEither, StandsChanged}
-use Rattle.rz_node.specs.Kept.{held_by, IsTied}
+use Rattle.rz_node.specs.Kept.{held_by, sides_in, IsTied}
 use Rattle.rz_node.proofs.Places.{held-key}
 use Rattle.rz_node.proofs.Clears.{cleared, records-after}
 use Rattle.rz_node.proofs.Keeps.{gives-way}
 use Rattle.rz_node.proofs.Spent.{took-as}
+use Rattle.rz_node.proofs.Waits.{either-held, either-moved, apart-cleared, shown-cleared}
 use Rattle.rz_node.proofs.dropping.clear_in.Goals as goal
 
 pub overflow_mul-cell : goal.overflow_mul-cell
@@ -91,6 +93,20 @@ returns-in-Ok-clause-held g c =
     let both = cleared s.geometry.cells s.heads.items c.args.index.now c.requires.tied e.key e c.requires.there p c.args.side (2 * e.cell + c.from.result) c.requires.side (omega (arith, c.from.ensures)) s.heads_fit c.note.new.index c.without-versions.result c.without-versions.ensures.sides c.note.ensures.left c.note.ensures.left_free c.note.ensures.gone c.note.ensures.gone_free in
     ap (λ (hs : List (Option Head)). held_by c.note.new.index.entries hs) c.in-Ok.ensures.heads ∙ both.1
     ∙ ap (with_held (held_by c.args.index.now.entries s.heads.items) e.key) (records-after s.geometry.cells s.heads.items c.args.index.now c.requires.tied e.key e c.requires.there p c.args.side (2 * e.cell + c.from.result) c.requires.side (omega (arith, c.from.ensures)) s.heads_fit)
+
+pub returns-in-Err-clause-waits : goal.returns-in-Err-clause-waits
+returns-in-Err-clause-waits g c told =
+    let s = c.args.cells.now in
+    let i = c.args.index.now in
+    let e = c.args.entry in
+    let p = held-key s.geometry.cells s.heads.items i c.requires.tied e.key e c.requires.there in
+    let rs = in_order stamp_of (put_at (sides_in s.heads.items e.cell) c.args.side None) in
+    either-moved s.geometry c.clear.new.self.geometry s.fence c.clear.new.self.fence (g.D.Disk.image c.clear.new.self.disk) i i s.heads.items c.clear.new.self.heads.items e.key rs
+    c.clear.ensures.geometry c.clear.ensures.fence refl c.in-Err.ensures.heads
+    (either-held s.geometry s.fence (g.D.Disk.text s.disk) (g.D.Disk.image c.clear.new.self.disk) s.heads.items (2 * e.cell + c.from.result) None i (with_held (held_by i.entries s.heads.items) e.key rs)
+    c.requires.tied c.requires.open.apart (apart-cleared s.heads.items (2 * e.cell + c.from.result) (omega (arith, p.within, c.requires.side, c.from.ensures, s.heads_fit)) c.requires.open.apart)
+    (c.requires.open.holds told) (c.clear.ensures.crash_cells told)
+    (shown-cleared s.geometry.cells s.heads.items i c.requires.tied e.key e c.requires.there p c.args.side (2 * e.cell + c.from.result) c.requires.side (omega (arith, c.from.ensures)) s.heads_fit))
 
 pub returns-in-Ok-clause-spends : goal.returns-in-Ok-clause-spends
 returns-in-Ok-clause-spends g c = record {

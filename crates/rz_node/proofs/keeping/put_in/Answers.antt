@@ -3,18 +3,19 @@ use Rattle.std.proofs.Common.{◌+◌, ◌*◌, ℕ, List, Option, Some, refl, s
 use Rattle.std.specs.FinMap as maps
 use Rattle.rz_events.specs.declared.records.Head.{Head}
 use Rattle.rz_record.specs.Slot.{Rec}
-use Rattle.rz_node_model.specs.Records.{with_held}
+use Rattle.rz_node_model.specs.Records.{record_of, stamp_of, with_held}
 use Rattle.rz_versions.specs.declared.versions.Version.{Version}
-use Rattle.rz_versions.specs.Sides.{Sides, put_at, Differ}
+use Rattle.rz_versions.specs.Sides.{Sides, in_order, put_at, Differ}
 use Rattle.rz_versions.specs.Sides as sides
 use Rattle.rz_cells.specs.declared.geometry.Geometry.{Geometry}
 use Rattle.rz_cells.specs.Held.{in_cell}
 use Rattle.rz_cells.specs.Stands.{StandsEither, StandsChanged}
-use Rattle.rz_node.specs.Kept.{held_by, IsTied}
+use Rattle.rz_node.specs.Kept.{held_by, sides_in, IsTied}
 use Rattle.rz_node.proofs.Places.{placed}
 use Rattle.rz_node.proofs.Puts.{tied-put, held-put, records-after, goes-put}
 use Rattle.rz_node.proofs.Keeps.{gives-way}
 use Rattle.rz_node.proofs.Spent.{took-as}
+use Rattle.rz_node.proofs.Waits.{either-held, either-moved, apart-put, shown-put}
 use Rattle.rz_node.proofs.keeping.put_in.Goals as goal
 
 pub overflow_mul-cell : goal.overflow_mul-cell
@@ -108,6 +109,23 @@ returns-in-Ok-clause-held g c =
     ap (λ (hs : List (Option Head)). held_by c.set.new.self.entries hs) c.in-Ok.ensures.heads
     ∙ held-put s.geometry.cells s.heads.items i c.requires.tied h c.args.entry p c.args.side (2 * c.args.entry.cell + c.from.result) c.requires.side (omega (arith, c.from.ensures)) s.heads_fit c.set.new.self.entries entries
     ∙ ap (with_held (held_by i.entries s.heads.items) h.key) (records-after s.geometry.cells s.heads.items i c.requires.tied h c.args.entry p c.args.side (2 * c.args.entry.cell + c.from.result) c.requires.side (omega (arith, c.from.ensures)) s.heads_fit)
+
+pub returns-in-Err-clause-waits : goal.returns-in-Err-clause-waits
+returns-in-Err-clause-waits g c told =
+    let s = c.args.cells.now in
+    let i = c.args.index.now in
+    let h = c.args.head.now in
+    let p = placed s.geometry.cells s.heads.items i c.requires.tied h.key c.args.entry c.requires.place in
+    let r : Rec = record { head = h; bins = c.args.bins.now } in
+    let rs = in_order stamp_of (put_at (sides_in s.heads.items c.args.entry.cell) c.args.side (Some (record_of h))) in
+    either-moved s.geometry c.put.new.self.geometry s.fence c.put.new.self.fence (g.D.Disk.image c.put.new.self.disk) i i s.heads.items c.put.new.self.heads.items h.key rs
+    c.put.ensures.geometry c.put.ensures.fence refl c.in-Err.ensures.heads
+    (either-held s.geometry s.fence (g.D.Disk.text s.disk) (g.D.Disk.image c.put.new.self.disk) s.heads.items (2 * c.args.entry.cell + c.from.result) (Some r) i (with_held (held_by i.entries s.heads.items) h.key rs)
+    c.requires.tied c.requires.open.apart
+    (apart-put s.heads.items (2 * c.args.entry.cell + c.from.result) (omega (arith, p.within, c.requires.side, c.from.ensures, s.heads_fit)) c.requires.open.apart h
+    (goes-put s.geometry.cells s.heads.items i c.requires.tied h c.args.entry p c.args.side (2 * c.args.entry.cell + c.from.result) c.requires.side (omega (arith, c.from.ensures)) s.heads_fit c.requires.differ))
+    (c.requires.open.holds told) (c.put.ensures.crash_cells told)
+    (shown-put s.geometry.cells s.heads.items i c.requires.tied h c.args.entry p c.args.side (2 * c.args.entry.cell + c.from.result) c.requires.side (omega (arith, c.from.ensures)) s.heads_fit))
 
 pub returns-in-Ok-clause-spends : goal.returns-in-Ok-clause-spends
 returns-in-Ok-clause-spends g c = record {

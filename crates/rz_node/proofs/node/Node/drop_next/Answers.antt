@@ -1,19 +1,21 @@
 -- The lesser version of the least block goes.
-use Rattle.std.proofs.Common.{ℕ, true, false, Some, None, sym, ◌∙◌, ap, subst}
+use Rattle.std.proofs.Common.{ℕ, true, false, Some, None, refl, sym, ◌∙◌, ap, subst}
 use Rattle.std.specs.Prelude.{is_some}
 use Rattle.rz_events.specs.declared.keys.Key.{Key}
 use Rattle.rz_events.specs.declared.nodes.DropAnswer.TheVariants as drop
 use Rattle.rz_node_model.specs.declared.pending.Pending.TheVariants as pending
 use Rattle.rz_node_model.specs.Afterwards.{with_change}
 use Rattle.rz_node_model.specs.Answers.{drop_answer}
-use Rattle.rz_node_model.specs.Records.{Records, stamp_of, key_at, least_block, carried}
-use Rattle.rz_node_model.specs.Versions.{without}
+use Rattle.rz_node_model.specs.Records.{Records, stamp_of, key_at, least_block, carried, with_held}
+use Rattle.rz_node_model.specs.Versions.{has_stamp, without}
 use Rattle.rz_versions.specs.Sides.{in_order, put_at}
 use Rattle.rz_node.specs.Around.{Around}
 use Rattle.rz_node.specs.Kept.{held_by, sides_in, records_in}
 use Rattle.rz_node.proofs.Drops.{first-none, first-some, nothing-lesser, side-stands, dropping, held-dropped}
 use Rattle.rz_node.proofs.Ready.{ready-up}
 use Rattle.rz_node.proofs.Views.{state-same, around-along, held-up, drop-none, drop-empty, drop-some, changed-up}
+use Rattle.rz_node.specs.Waiting.{HoldsEitherHeld}
+use Rattle.rz_node.proofs.Waits.{down-drop}
 use Rattle.rz_node.proofs.node.Node.drop_next.Goals as goal
 
 pub returns-in_default-clause-answer : goal.returns-in_default-clause-answer
@@ -35,7 +37,7 @@ returns-in_default-side_of-clause-answer g c =
 pub clear_in-requires-clause-there : goal.clear_in-requires-clause-there
 clear_in-requires-clause-there g c =
     let s = c.self.inside in
-    let is_open = ready-up s.phase _ c.in-Up.is c.self.invariant.ready in
+    let is_open = ready-up s.phase _ _ c.in-Up.is c.self.invariant.ready in
     let e = c.in-Some.entry in
     let v = c.in-Some-lesser.version in
     let d = dropping s.cells.geometry.cells s.cells.heads.items s.index c.self.invariant.tied c.args.fid e c.in-Some.ensures is_open.apart v c.in-Some-lesser.ensures c.in-Some-side_of.side c.in-Some-side_of.ensures in
@@ -44,7 +46,7 @@ clear_in-requires-clause-there g c =
 pub clear_in-requires-clause-side : goal.clear_in-requires-clause-side
 clear_in-requires-clause-side g c =
     let s = c.self.inside in
-    let is_open = ready-up s.phase _ c.in-Up.is c.self.invariant.ready in
+    let is_open = ready-up s.phase _ _ c.in-Up.is c.self.invariant.ready in
     let e = c.in-Some.entry in
     let v = c.in-Some-lesser.version in
     let d = dropping s.cells.geometry.cells s.cells.heads.items s.index c.self.invariant.tied c.args.fid e c.in-Some.ensures is_open.apart v c.in-Some-lesser.ensures c.in-Some-side_of.side c.in-Some-side_of.ensures in
@@ -53,7 +55,7 @@ clear_in-requires-clause-side g c =
 pub returns-in-Ok-clause-answer : goal.returns-in-Ok-clause-answer
 returns-in-Ok-clause-answer g c =
     let s = c.self.inside in
-    let is_open = ready-up s.phase _ c.in-Up.is c.self.invariant.ready in
+    let is_open = ready-up s.phase _ _ c.in-Up.is c.self.invariant.ready in
     let e = c.in-Some.entry in
     let v = c.in-Some-lesser.version in
     let d = dropping s.cells.geometry.cells s.cells.heads.items s.index c.self.invariant.tied c.args.fid e c.in-Some.ensures is_open.apart v c.in-Some-lesser.ensures c.in-Some-side_of.side c.in-Some-side_of.ensures in
@@ -67,7 +69,7 @@ returns-in-Ok-clause-answer g c =
 pub returns-in-Ok-clause-after : goal.returns-in-Ok-clause-after
 returns-in-Ok-clause-after g c =
     let s = c.self.inside in
-    let is_open = ready-up s.phase _ c.in-Up.is c.self.invariant.ready in
+    let is_open = ready-up s.phase _ _ c.in-Up.is c.self.invariant.ready in
     let e = c.in-Some.entry in
     let v = c.in-Some-lesser.version in
     let d = dropping s.cells.geometry.cells s.cells.heads.items s.index c.self.invariant.tied c.args.fid e c.in-Some.ensures is_open.apart v c.in-Some-lesser.ensures c.in-Some-side_of.side c.in-Some-side_of.ensures in
@@ -78,7 +80,7 @@ returns-in-Ok-clause-after g c =
 pub returns-in-Err-clause-answer : goal.returns-in-Err-clause-answer
 returns-in-Err-clause-answer g c =
     let s = c.self.inside in
-    let is_open = ready-up s.phase _ c.in-Up.is c.self.invariant.ready in
+    let is_open = ready-up s.phase _ _ c.in-Up.is c.self.invariant.ready in
     let e = c.in-Some.entry in
     let v = c.in-Some-lesser.version in
     let d = dropping s.cells.geometry.cells s.cells.heads.items s.index c.self.invariant.tied c.args.fid e c.in-Some.ensures is_open.apart v c.in-Some-lesser.ensures c.in-Some-side_of.side c.in-Some-side_of.ensures in (
@@ -90,7 +92,7 @@ returns-in-Err-clause-answer g c =
 pub returns-in-Ok-clause-stands : goal.returns-in-Ok-clause-stands
 returns-in-Ok-clause-stands g c told =
     let s = c.self.inside in
-    let is_open = ready-up s.phase _ c.in-Up.is c.self.invariant.ready in
+    let is_open = ready-up s.phase _ _ c.in-Up.is c.self.invariant.ready in
     let e = c.in-Some.entry in
     let v = c.in-Some-lesser.version in
     let d = dropping s.cells.geometry.cells s.cells.heads.items s.index c.self.invariant.tied c.args.fid e c.in-Some.ensures is_open.apart v c.in-Some-lesser.ensures c.in-Some-side_of.side c.in-Some-side_of.ensures in
@@ -102,7 +104,7 @@ returns-in-Ok-clause-stands g c told =
 pub returns-in-Err-clause-stands : goal.returns-in-Err-clause-stands
 returns-in-Err-clause-stands g c told =
     let s = c.self.inside in
-    let is_open = ready-up s.phase _ c.in-Up.is c.self.invariant.ready in
+    let is_open = ready-up s.phase _ _ c.in-Up.is c.self.invariant.ready in
     let e = c.in-Some.entry in
     let v = c.in-Some-lesser.version in
     let d = dropping s.cells.geometry.cells s.cells.heads.items s.index c.self.invariant.tied c.args.fid e c.in-Some.ensures is_open.apart v c.in-Some-lesser.ensures c.in-Some-side_of.side c.in-Some-side_of.ensures in
@@ -110,3 +112,21 @@ returns-in-Err-clause-stands g c told =
     (records_in s.cells.heads.items e.cell) (in_order stamp_of (put_at (sides_in s.cells.heads.items e.cell) c.in-Some-side_of.side None)) None
     c.self.view_is (held-up s.phase s.index.entries s.cells.heads.items (key_at c.args.fid e.key.block) c.in-Up.is ∙ d.before) d.leaves
     (subst (λ (k : Key). Around s.cells.geometry s.cells.fence (g.D.Disk.text s.cells.disk) (g.D.Disk.text c.clear_in.new.cells.disk) (g.D.Disk.image c.clear_in.new.cells.disk) (Some false) k (records_in s.cells.heads.items e.cell) (in_order stamp_of (put_at (sides_in s.cells.heads.items e.cell) c.in-Some-side_of.side None)) None) (sym d.key_is) (c.in-Err.ensures.stands told))
+
+pub invariant_of-self-in-Err : goal.invariant_of-self-in-Err
+invariant_of-self-in-Err g c =
+    let s = c.self.inside in
+    let is_open = ready-up s.phase _ _ c.in-Up.is c.self.invariant.ready in
+    let e = c.in-Some.entry in
+    let v = c.in-Some-lesser.version in
+    let d = dropping s.cells.geometry.cells s.cells.heads.items s.index c.self.invariant.tied c.args.fid e c.in-Some.ensures is_open.apart v c.in-Some-lesser.ensures c.in-Some-side_of.side c.in-Some-side_of.ensures in
+    let rs = in_order stamp_of (put_at (sides_in s.cells.heads.items e.cell) c.in-Some-side_of.side None) in
+    let H = held_by c.clear_in.new.index.entries c.clear_in.new.cells.heads.items in
+    record {
+      tied = c.clear_in.ensures.tied;
+      decided = λ down. absurd (down refl);
+      ready = down-drop g.D.Disk.tells (g.D.Disk.image c.clear_in.new.cells.disk) c.clear_in.new.cells.geometry c.clear_in.new.cells.fence (held_by s.index.entries s.cells.heads.items) H
+          (λ i. held_by (c.in-Err.ensures.index i).entries (c.in-Err.ensures.heads i)) (key_at c.args.fid e.key.block) rs
+          (λ told. subst (λ (k : Key). HoldsEitherHeld c.clear_in.new.cells.geometry c.clear_in.new.cells.fence (g.D.Disk.image c.clear_in.new.cells.disk) H (with_held H k rs)) (sym d.key_is) (c.in-Err.ensures.waits told))
+          v.stamp (ap (has_stamp stamp_of v.stamp) d.before ∙ d.had) d.lost (d.leaves ∙ ap (without stamp_of v.stamp) (sym d.before));
+    }

@@ -1,7 +1,8 @@
 -- The head's cell has the bins.
-use Rattle.std.proofs.Common.{◌≡◌, ◌≤◌, length, Some, sym, ◌∙◌, ap, subst, arith}
+use Rattle.std.proofs.Common.{◌≡◌, ◌≤◌, List, length, Option, Some, None, refl, sym, ◌∙◌, ap, subst, arith}
 use Rattle.std.proofs.lemmas.List.{length-take-le}
 use Rattle.rz_events.specs.declared.keys.Key.{Key}
+use Rattle.rz_events.specs.declared.records.Head.{Head}
 use Rattle.rz_events.specs.declared.records.Held.{Held}
 use Rattle.rz_record.specs.Record.{bins_of}
 use Rattle.rz_node_model.specs.Records.{record_of}
@@ -13,24 +14,26 @@ use Rattle.rz_node.proofs.Views.{state-same, geometry-same, passed-along, failed
 use Rattle.rz_node.proofs.Ready.{ready-up, bins-fit, fetch-holds, gives-bins, count-is}
 use Rattle.rz_node.proofs.Read.{one-record}
 use Rattle.rz_node.proofs.Spent.{passed-one, failed-one}
+use Rattle.rz_node.specs.Kept.{IsTied}
+use Rattle.rz_node.proofs.Waits.{down-open}
 use Rattle.rz_node.proofs.node.Node.fetch_into.Goals as goal
 
 pub slice_bounds-bins_into-end : goal.slice_bounds-bins_into-end
 slice_bounds-bins_into-end g c =
-    let is_open = ready-up c.self.inside.phase _ c.in-Up.is c.self.invariant.ready in
+    let is_open = ready-up c.self.inside.phase _ _ c.in-Up.is c.self.invariant.ready in
     bins-fit c.in-Some.head.layout c.args.self.now.geometry.layout c.bins_at-count.result (length c.args.out.now) c.bins_at-count.ensures.within
     (is_open.layout c.in-Some.cell c.in-Some.head c.in-Some.ensures.there.is ∙ ap (λ (y : Geometry). y.layout) (geometry-same _ _ c.self.view_is)) c.requires.room
 
 pub slice_bounds-bins_into-end-2 : goal.slice_bounds-bins_into-end-2
 slice_bounds-bins_into-end-2 g c =
-    let is_open = ready-up c.self.inside.phase _ c.in-Up.is c.self.invariant.ready in
+    let is_open = ready-up c.self.inside.phase _ _ c.in-Up.is c.self.invariant.ready in
     let room : c.bins_at-count.result ≤ length c.args.out.now = bins-fit c.in-Some.head.layout c.args.self.now.geometry.layout c.bins_at-count.result (length c.args.out.now) c.bins_at-count.ensures.within
     (is_open.layout c.in-Some.cell c.in-Some.head c.in-Some.ensures.there.is ∙ ap (λ (y : Geometry). y.layout) (geometry-same _ _ c.self.view_is)) c.requires.room in
     sym (length-take-le c.bins_at-count.result c.args.out.now room)
 
 pub bins_into-requires-clause-held : goal.bins_into-requires-clause-held
 bins_into-requires-clause-held g c h is =
-    let is_open = ready-up c.self.inside.phase _ c.in-Up.is c.self.invariant.ready in
+    let is_open = ready-up c.self.inside.phase _ _ c.in-Up.is c.self.invariant.ready in
     let room : c.bins_at-count.result ≤ length c.args.out.now = bins-fit c.in-Some.head.layout c.args.self.now.geometry.layout c.bins_at-count.result (length c.args.out.now) c.bins_at-count.ensures.within
     (is_open.layout c.in-Some.cell c.in-Some.head c.in-Some.ensures.there.is ∙ ap (λ (y : Geometry). y.layout) (geometry-same _ _ c.self.view_is)) c.requires.room in
     let long = length-take-le c.bins_at-count.result c.args.out.now room in
@@ -43,7 +46,7 @@ bins_into-requires-clause-held g c h is =
 pub returns-in-Ok-clause-bins : goal.returns-in-Ok-clause-bins
 returns-in-Ok-clause-bins g c told records stands =
     let s = c.self.inside in
-    let is_open = ready-up s.phase _ c.in-Up.is c.self.invariant.ready in
+    let is_open = ready-up s.phase _ _ c.in-Up.is c.self.invariant.ready in
     let room : c.bins_at-count.result ≤ length c.args.out.now = bins-fit c.in-Some.head.layout c.args.self.now.geometry.layout c.bins_at-count.result (length c.args.out.now) c.bins_at-count.ensures.within
     (is_open.layout c.in-Some.cell c.in-Some.head c.in-Some.ensures.there.is ∙ ap (λ (y : Geometry). y.layout) (geometry-same _ _ c.self.view_is)) c.requires.room in
     let stood = stands-along g.D.Disk.text _ _ records c.self.view_is stands in
@@ -69,3 +72,13 @@ pub returns-in-Err-clause-spends : goal.returns-in-Err-clause-spends
 returns-in-Err-clause-spends g c =
     failed-along g.D.Disk.meter _ _ 1 (g.D.Disk.meter c.bins_into.new.self.disk) c.self.view_is
     (failed-one c.in-Err.field-0 (g.D.Disk.meter c.self.inside.cells.disk) (g.D.Disk.meter c.bins_into.new.self.disk) c.in-Err.ensures.meter)
+
+pub invariant_of-self-in-Err : goal.invariant_of-self-in-Err
+invariant_of-self-in-Err g c =
+    let n = c.bins_into.new.self in
+    let tied = subst (λ (y : Geometry). IsTied y.cells n.heads.items c.self.inside.index) (sym c.bins_into.ensures.geometry) (subst (λ (hs : List (Option Head)). IsTied c.self.inside.cells.geometry.cells hs c.self.inside.index) (sym c.bins_into.ensures.heads) c.self.invariant.tied) in
+    record {
+      tied = tied;
+      decided = λ down. absurd (down refl);
+      ready = down-open g.D.Disk.tells (g.D.Disk.text n.disk) (g.D.Disk.image n.disk) n.geometry n.fence n.gates.items n.heads.items c.self.inside.index None tied c.bins_into.ensures.open refl;
+    }

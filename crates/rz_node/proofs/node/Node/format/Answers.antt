@@ -1,5 +1,5 @@
 -- A new disk holds nothing.
-use Rattle.std.proofs.Common.{◌≡◌, None, sym, ◌∙◌, ap, subst}
+use Rattle.std.proofs.Common.{◌≡◌, None, refl, sym, ◌∙◌, ap, subst}
 use Rattle.std.specs.FinMap as maps
 use Rattle.rz_events.specs.declared.nodes.Phase.TheVariants as phase
 use Rattle.rz_index.specs.Indexed.{Indexed}
@@ -11,6 +11,7 @@ use Rattle.rz_node.proofs.node.Node.format.Goals as goal
 pub invariant_of-result : goal.invariant_of-result
 invariant_of-result g c = record {
   tied = subst (λ (y : Geometry). IsTied y.cells c.in-Ok-format.cells.heads.items c.in-Ok.index) (sym c.in-Ok-format.ensures.geometry) (tied-fresh c.args.geometry.cells c.in-Ok-format.cells.heads.items c.in-Ok-format.ensures.heads c.in-Ok.index c.in-Ok.ensures);
+  decided = λ down. refl;
   ready = c.in-Ok-format.ensures.open;
 }
 

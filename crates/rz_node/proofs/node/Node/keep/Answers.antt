@@ -1,5 +1,5 @@
 -- What is put is what the rule puts.
-use Rattle.std.proofs.Common.{◌≡◌, true, false, List, Some, None, sym, ◌∙◌, ap, subst, arith}
+use Rattle.std.proofs.Common.{◌≡◌, true, false, List, Some, None, refl, sym, ◌∙◌, ap, subst, arith}
 use Rattle.rz_events.specs.declared.records.Held.{Held}
 use Rattle.rz_record.specs.Slot.{Rec}
 use Rattle.rz_node_model.specs.declared.pending.Pending.TheVariants as pending
@@ -9,12 +9,13 @@ use Rattle.rz_node_model.specs.Records.{record_of, stamp_of, with_held}
 use Rattle.rz_node_model.specs.Versions.{greater_goes, kept, passes_keep}
 use Rattle.rz_versions.specs.declared.versions.Version.{Version}
 use Rattle.rz_versions.specs.declared.versions.Room.TheVariants.{Put, Passed}
-use Rattle.rz_versions.specs.Sides.{in_order, put_at, side_for, never, room}
+use Rattle.rz_versions.specs.Sides.{in_order, put_at, side_for, room}
 use Rattle.rz_versions.specs.Sides as sides
 use Rattle.rz_node.specs.Kept.{held_by, sides_in, records_in}
 use Rattle.rz_node.proofs.Places.{placed}
 use Rattle.rz_node.proofs.Keeps.{keep-put, keep-passed, not-full, full, nothing-held}
 use Rattle.rz_node.proofs.Views.{state-same, geometry-same, around-along, held-up, le-not, keep-up, changed-up}
+use Rattle.rz_node.proofs.Waits.{down-keep}
 use Rattle.rz_node.proofs.node.Node.keep.Goals as goal
 
 pub returns-in_default-clause-answer : goal.returns-in_default-clause-answer
@@ -83,3 +84,16 @@ returns-in-Err-clause-stands g c ne told =
     around-along g.D.Disk.text _ _ (g.D.Disk.text c.put_in.new.cells.disk) (g.D.Disk.image c.put_in.new.cells.disk) (Some false) c.args.head.now.key (kept stamp_of c.args.head.now.base (record_of c.args.head.now))
     (records_in s.cells.heads.items c.in-Some.entry.cell) (in_order stamp_of (put_at (sides_in s.cells.heads.items c.in-Some.entry.cell) c.in-Put.side (Some (record_of c.args.head.now)))) (Some r)
     c.self.view_is (held-up s.phase s.index.entries s.cells.heads.items c.args.head.now.key c.in-Up.is ∙ p.held) (put.1 ∙ ap (kept stamp_of c.args.head.now.base (record_of c.args.head.now)) p.held) (c.in-Err.ensures.stands told)
+
+pub invariant_of-self-in-Err : goal.invariant_of-self-in-Err
+invariant_of-self-in-Err g c =
+    let s = c.self.inside in
+    let p = placed s.cells.geometry.cells s.cells.heads.items s.index c.self.invariant.tied c.args.head.now.key c.in-Some.entry (sym c.in-Some.ensures) in
+    let put = keep-put s.cells.geometry.cells s.cells.heads.items s.index c.args.head.now c.in-Some.entry p c.in-Put.side (subst (λ (v : Version). Put c.in-Put.side ≡ room (passes_keep sides.stamp_of v.stamp (in_order sides.stamp_of c.in-Some.entry.versions)) (side_for sides.stamp_of (greater_goes v.base) c.in-Some.entry.versions)) c.version.ensures c.in-Put.ensures.room) in
+    record {
+      tied = c.put_in.ensures.tied;
+      decided = λ down. absurd (down refl);
+      ready = down-keep g.D.Disk.tells (g.D.Disk.image c.put_in.new.cells.disk) c.put_in.new.cells.geometry c.put_in.new.cells.fence (held_by s.index.entries s.cells.heads.items) (held_by c.put_in.new.index.entries c.put_in.new.cells.heads.items)
+          (λ i. held_by (c.in-Err.ensures.index i).entries (c.in-Err.ensures.heads i)) c.args.head.now.key (in_order stamp_of (put_at (sides_in s.cells.heads.items c.in-Some.entry.cell) c.in-Put.side (Some (record_of c.args.head.now)))) c.in-Err.ensures.waits
+          (record_of c.args.head.now) c.told.result (sides_in s.cells.heads.items c.in-Some.entry.cell) c.told.ensures p.held put.0 put.1;
+    }
