@@ -1,6 +1,6 @@
 //! An export with files in directories of 256 names, and published blocks spread over the files.
 
-ghost use Rattle.std.specs.Prelude.{◌≡◌, ◌<◌, ◌≤◌};
+ghost use Rattle.std.specs.Prelude.{◌≡◌, ◌-◌, ◌<◌, ◌≤◌, IfOk, length, vec_len};
 
 use crate::tally::{Tally, spread};
 use rz_config::{Volume, VolumeError};
@@ -8,7 +8,8 @@ use rz_events::{Call, Key, Published, Reply, Text, TreeCall, TreeReply};
 use rz_export::Export;
 use std::alloc::{AllocError, Global};
 
-/// Sixteen nodes of one cluster, so that each block is on three of them.
+/// The nodes of one cluster. Each block is on three of the first sixteen, since the last has too few
+/// cells to be chosen.
 const VOLUME: &str = r#"{"layout": 0, "bsize": 4096, "clusters": [{"cid": 1, "nodes": [
 {"sid": 1, "cells": 1048576}, {"sid": 2, "cells": 1048576},
 {"sid": 3, "cells": 1048576}, {"sid": 4, "cells": 1048576},
@@ -17,7 +18,8 @@ const VOLUME: &str = r#"{"layout": 0, "bsize": 4096, "clusters": [{"cid": 1, "no
 {"sid": 9, "cells": 1048576}, {"sid": 10, "cells": 1048576},
 {"sid": 11, "cells": 1048576}, {"sid": 12, "cells": 1048576},
 {"sid": 13, "cells": 1048576}, {"sid": 14, "cells": 1048576},
-{"sid": 15, "cells": 1048576}, {"sid": 16, "cells": 1048576}]}]}"#;
+{"sid": 15, "cells": 1048576}, {"sid": 16, "cells": 1048576},
+{"sid": 17, "cells": 1}]}]}"#;
 
 /// The names in a directory.
 const NAMES: u32 = 256;
@@ -28,8 +30,11 @@ const BLOCK: u32 = 4096;
 /// The positions that have a write's records: three of the four, in turn.
 const MASKS: [u16; 4] = [7, 11, 13, 14];
 
-/// The node of which the next block is asked.
-const NODE: u16 = 1;
+/// A node that has its share of the blocks.
+const USED: u16 = 1;
+
+/// The node that has no block.
+const UNUSED: u16 = 17;
 
 /// An export. Block `n` of all blocks stands in file `n % files`.
 #[derive(Drop)]
@@ -180,9 +185,12 @@ impl FilledExport {
     }
 
     /// Makes the files, and publishes the first block of each, so that they spread over the nodes.
-    pub fn create(&mut self) -> Result<Tally, AllocError> {
+    pub fn create(&mut self) -> Result<Tally, AllocError>
+        ensures { IfOk result (λ t. t.calls ≡ self.old.files) }
+    {
+        let files = self.files;
         let mut tally = Tally::none();
-        for file in 0..self.files {
+        for file in 0..files {
             if file % NAMES == 0 {
                 self.make_directory(file)?;
             }
@@ -194,9 +202,13 @@ impl FilledExport {
     }
 
     /// Publishes all other blocks.
-    pub fn fill(&mut self) -> Result<Tally, AllocError> {
+    pub fn fill(&mut self) -> Result<Tally, AllocError>
+        ensures { IfOk result (λ t. t.calls ≡ self.old.blocks - self.old.files) }
+    {
+        let files = self.files;
+        let blocks = self.blocks;
         let mut tally = Tally::none();
-        for number in self.files..self.blocks {
+        for number in files..blocks {
             let accepted = self.publish(number)?;
             tally.note(accepted);
         }
@@ -204,7 +216,9 @@ impl FilledExport {
     }
 
     /// Publishes new versions of blocks.
-    pub fn renew(&mut self, calls: u32) -> Result<Tally, AllocError> {
+    pub fn renew(&mut self, calls: u32) -> Result<Tally, AllocError>
+        ensures { IfOk result (λ t. t.calls ≡ calls) }
+    {
         let mut tally = Tally::none();
         for call in 0..calls {
             let accepted = self.publish(spread(call, self.blocks))?;
@@ -214,7 +228,9 @@ impl FilledExport {
     }
 
     /// Looks at blocks.
-    pub fn look(&self, calls: u32) -> Tally {
+    pub fn look(&self, calls: u32) -> Tally
+        ensures { result.calls ≡ calls }
+    {
         let mut tally = Tally::none();
         for call in 0..calls {
             let reply = self.export.look(self.key_of(spread(call, self.blocks)));
@@ -224,7 +240,9 @@ impl FilledExport {
     }
 
     /// Looks at blocks as a reader does that met too few records.
-    pub fn recheck(&self, calls: u32) -> Tally {
+    pub fn recheck(&self, calls: u32) -> Tally
+        ensures { result.calls ≡ calls }
+    {
         let mut tally = Tally::none();
         for call in 0..calls {
             let reply = self.export.recheck(self.key_of(spread(call, self.blocks)));
@@ -234,18 +252,35 @@ impl FilledExport {
     }
 
     /// Asks for the next block of one node above blocks.
-    pub fn next(&self, calls: u32) -> Tally {
+    pub fn next(&self, calls: u32) -> Tally
+        ensures { result.calls ≡ calls }
+    {
         let mut tally = Tally::none();
         for call in 0..calls {
             let key = self.key_of(spread(call, self.blocks));
-            let reply = self.export.next(NODE, Some(key));
+            let reply = self.export.next(USED, Some(key));
             tally.note(is_above(&reply, key));
         }
         tally
     }
 
+    /// Asks for the next block of a node that has none above blocks.
+    pub fn next_of_none(&self, calls: u32) -> Tally
+        ensures { result.calls ≡ calls }
+    {
+        let mut tally = Tally::none();
+        for call in 0..calls {
+            let key = self.key_of(spread(call, self.blocks));
+            let reply = self.export.next(UNUSED, Some(key));
+            tally.note(matches!(reply, Reply::Listed(None)));
+        }
+        tally
+    }
+
     /// Asks for the published block above all that are below a block, which is this one.
-    pub fn published(&self, calls: u32) -> Tally {
+    pub fn published(&self, calls: u32) -> Tally
+        ensures { result.calls ≡ calls }
+    {
         let mut tally = Tally::none();
         for call in 0..calls {
             let key = self.key_of(spread(call, self.blocks));
@@ -259,7 +294,9 @@ impl FilledExport {
     }
 
     /// Calls that look up the paths of files.
-    pub fn lookups(&self, calls: u32) -> Result<Vec<TreeCall>, AllocError> {
+    pub fn lookups(&self, calls: u32) -> Result<Vec<TreeCall>, AllocError>
+        ensures { IfOk result (λ v. vec_len v ≡ calls) }
+    {
         let mut lookups = Vec::new(self.alloc);
         for call in 0..calls {
             let path = path_of(self.alloc, spread(call, self.files))?;
@@ -269,7 +306,9 @@ impl FilledExport {
     }
 
     /// Makes calls that look up paths.
-    pub fn look_up(&mut self, lookups: &[TreeCall]) -> Result<Tally, AllocError> {
+    pub fn look_up(&mut self, lookups: &[TreeCall]) -> Result<Tally, AllocError>
+        ensures { IfOk result (λ t. t.calls ≡ length lookups.now) }
+    {
         let mut tally = Tally::none();
         for lookup in lookups {
             let reply = self.export.name(lookup)?;
@@ -279,7 +318,9 @@ impl FilledExport {
     }
 
     /// Calls that make one more file in the directories of files, and take it away again.
-    pub fn rounds(&self, calls: u32) -> Result<Vec<Round>, AllocError> {
+    pub fn rounds(&self, calls: u32) -> Result<Vec<Round>, AllocError>
+        ensures { IfOk result (λ v. vec_len v ≡ calls) }
+    {
         let mut rounds = Vec::new(self.alloc);
         for call in 0..calls {
             let file = spread(call, self.files);
@@ -295,7 +336,9 @@ impl FilledExport {
     }
 
     /// Makes files and takes them away again.
-    pub fn come_and_go(&mut self, rounds: &[Round]) -> Result<Tally, AllocError> {
+    pub fn come_and_go(&mut self, rounds: &[Round]) -> Result<Tally, AllocError>
+        ensures { IfOk result (λ t. t.calls ≡ length rounds.now) }
+    {
         let mut tally = Tally::none();
         for round in rounds {
             let made = self.export.name(&round.create)?;

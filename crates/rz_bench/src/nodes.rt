@@ -82,9 +82,12 @@ impl FullNode {
     }
 
     /// Keeps a record of a new key on each pair.
-    pub fn fill(&mut self) -> Tally {
+    pub fn fill(&mut self) -> Tally
+        ensures { result.calls ≡ self.old.pairs }
+    {
+        let pairs = self.pairs;
         let mut tally = Tally::none();
-        for number in 0..self.pairs {
+        for number in 0..pairs {
             let answer = self.keep(number, FIRST);
             tally.note(matches!(answer, KeepAnswer::Kept));
         }
@@ -92,17 +95,21 @@ impl FullNode {
     }
 
     /// Keeps records of keys for which no pair is left.
-    pub fn overfill(&mut self, calls: u32) -> Tally {
+    pub fn overfill(&mut self, calls: u32) -> Tally
+        ensures { result.calls ≡ calls }
+    {
         let mut tally = Tally::none();
-        for _ in 0..calls {
-            let answer = self.keep(self.pairs, FIRST);
+        for call in 0..calls {
+            let answer = self.keep(self.pairs.saturating_add(call), FIRST);
             tally.note(matches!(answer, KeepAnswer::Full));
         }
         tally
     }
 
     /// Drops the one record of a key, and keeps it anew.
-    pub fn drop_and_keep(&mut self, calls: u32) -> Tally {
+    pub fn drop_and_keep(&mut self, calls: u32) -> Tally
+        ensures { result.calls ≡ calls }
+    {
         let mut tally = Tally::none();
         for call in 0..calls {
             let number = spread(call, self.pairs);
@@ -117,7 +124,9 @@ impl FullNode {
     }
 
     /// Fetches records with their first stamp.
-    pub fn fetch(&mut self, calls: u32) -> Tally {
+    pub fn fetch(&mut self, calls: u32) -> Tally
+        ensures { result.calls ≡ calls }
+    {
         let mut tally = Tally::none();
         let mut bins = BINS;
         for call in 0..calls {
@@ -129,7 +138,9 @@ impl FullNode {
     }
 
     /// Refills records that are held.
-    pub fn refill(&mut self, calls: u32) -> Tally {
+    pub fn refill(&mut self, calls: u32) -> Tally
+        ensures { result.calls ≡ calls }
+    {
         let mut tally = Tally::none();
         for call in 0..calls {
             let head = head_of(spread(call, self.pairs), FIRST);
@@ -140,7 +151,9 @@ impl FullNode {
     }
 
     /// Keeps newer records of keys that are held, each with a stamp of its own.
-    pub fn renew(&mut self, calls: u32) -> Tally {
+    pub fn renew(&mut self, calls: u32) -> Tally
+        ensures { result.calls ≡ calls }
+    {
         let mut tally = Tally::none();
         for call in 0..calls {
             let number = spread(call, self.pairs);
