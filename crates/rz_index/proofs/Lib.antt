@@ -1,5 +1,4 @@
 pub mod Row
 pub mod Cells
 pub mod Files
-pub mod Many
 pub mod Sorting

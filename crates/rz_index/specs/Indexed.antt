@@ -1,5 +1,5 @@
 -- What contracts see of an index, and how it is kept.
-use Rattle.std.specs.Prelude.{ℕ, zero, suc, ◌≡◌, ◌+◌, ◌<◌, ◌≤◌, ◌==◌, Bool, not, T, cond, List, [], ◌∷◌, ◌++◌, map, Option, Some, None, refl}
+use Rattle.std.specs.Prelude.{ℕ, zero, suc, ◌≡◌, ◌+◌, ◌<◌, ◌≤◌, ◌==◌, T, cond, List, [], ◌∷◌, ◌++◌, map, Option, Some, None, refl}
 use Rattle.std.specs.Option.{option_map}
 use Rattle.std.specs.Coded.{Coded, code_by, coded×, coded_ℕ, coded_list}
 use Rattle.std.specs.List as lists
@@ -63,14 +63,6 @@ first_of_file entries fid = option_map (λ p. p.1) (lists.find (λ p. p.0.fid ==
 abbrev pub head_of : List ℕ → Option ℕ
 head_of [] = None
 head_of (cell ∷ cells) = Some cell
-
--- an entry has this cell
-abbrev pub has_cell : List Entry → ℕ → Bool
-has_cell es cell = lists.list_any (λ (e : Entry). e.cell == cell) es
-
--- the cells below a number that no entry has, in their order
-abbrev pub unused : ℕ → List Entry → List ℕ
-unused cells es = lists.filter (λ cell. not (has_cell es cell)) (lists.range_with_len 0 cells)
 
 -- the cells without the first that is this one
 abbrev pub erase : ℕ → List ℕ → List ℕ

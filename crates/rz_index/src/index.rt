@@ -1,16 +1,15 @@
 //! Entries in the order of their keys, and free cells.
 
-ghost use Rattle.std.specs.Prelude.{◌≡◌, ◌≢◌, ◌+◌, ◌<◌, ◌≤◌, T, Some, All, length, map, slice_set, IfOk, IfErr, IfSome, OnOk, MatchOption};
-ghost use Rattle.std.specs.List.{AllPairs, Contains, IsDistinct, remove, range_with_len};
+ghost use Rattle.std.specs.Prelude.{◌≡◌, ◌+◌, ◌<◌, ◌≤◌, T, Some, length, map, slice_set, IfOk, IfErr, IfSome, OnOk, MatchOption};
+ghost use Rattle.std.specs.List.{Contains, IsDistinct, remove, range_with_len};
 ghost use Rattle.std.specs.Ordering.{eq_by_cmp};
 ghost use Rattle.std.specs.Vec.{vec_len, vec_capacity};
 ghost use Rattle.std.specs.VecDeque.{deque_len, deque_capacity};
 ghost use Rattle.std.specs.FinMap as maps;
 ghost use Rattle.rz_events.specs.Keys.{key_cmp};
 ghost use Rattle.rz_events.specs.declared.keys.Key.{Key};
-ghost use Rattle.rz_index.specs.Indexed.{IsSorted, IsHit, IsGap, IsFrom, first_of_file, head_of, erase, taken_out, freed, pairs_of, unused};
+ghost use Rattle.rz_index.specs.Indexed.{IsSorted, IsHit, IsGap, IsFrom, first_of_file, head_of, erase, taken_out, freed};
 
-use crate::building::{sort, unused_cells};
 use rz_events::Key;
 use rz_versions::Versions;
 use std::alloc::{AllocError, Global};
@@ -53,23 +52,11 @@ impl Index {
     pub fn with_room(alloc: Global, cells: u32) -> Result<Index, AllocError>
         ensures { IfOk result (λ i. i ≡ record { entries = maps.empty; free = range_with_len 0 cells }) }
     {
-        Index::of_entries(alloc, cells, Vec::new(alloc))
-    }
-
-    /// The index of these entries. The cells that none of them has are free, in their order.
-    ///
-    /// It takes the time of a sort.
-    pub fn of_entries(alloc: Global, cells: u32, entries: Vec<Entry>) -> Result<Index, AllocError>
-        requires keys { AllPairs (λ (a b : Entry). a.key ≢ b.key) entries.items }
-        requires within { All (λ (e : Entry). e.cell < cells) entries.items }
-        ensures entries { IfOk result (λ i. i.entries ≡ maps.from_entries (pairs_of entries.items)) }
-        ensures free { IfOk result (λ i. i.free ≡ unused cells entries.items) }
-    {
-        let mut free = unused_cells(alloc, cells, &entries)?;
-        let mut entries = entries;
-        free.reserve_exact(entries.len())?;
-        entries.reserve_exact(free.len())?;
-        sort(&mut entries);
+        let entries = Vec::with_capacity(alloc, cells as usize)?;
+        let mut free = VecDeque::with_capacity(alloc, cells as usize)?;
+        for cell in 0..cells {
+            free.push_back(cell)?;
+        }
         Ok(Index { entries, free })
     }
 

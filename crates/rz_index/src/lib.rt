@@ -8,7 +8,6 @@
 //! many entries at once takes the time of a sort.
 #![tactic(auto)]
 
-mod building;
 mod index;
 #[cfg(test)]
 mod tests;

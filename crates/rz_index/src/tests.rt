@@ -1,11 +1,10 @@
 //! Keys that come and go, and the cells that they take and give back.
 
-ghost use Rattle.std.specs.Prelude.{◌≡◌, ◌≢◌, ◌<◌, None};
+ghost use Rattle.std.specs.Prelude.{◌≡◌, None};
 
 use crate::{Entry, Index};
 use rz_events::Key;
 use rz_versions::Versions;
-use std::alloc::{AllocError, Global};
 use std::test::Fail;
 
 #[test]
@@ -25,25 +24,6 @@ fn a_key_takes_a_cell_and_gives_it_back(rt: HostRuntime) -> Result<(), Fail> {
     index.remove(key(7, 5));
     assert_eq!(rt; (index.find(key(7, 5)), index.free_cell()), (None, Some(1)));
     Ok(())
-}
-
-#[test]
-fn two_keys_at_once(rt: HostRuntime) -> Result<(), Fail> {
-    let index = of_two(rt.alloc(), entry(7, 5, 2), entry(7, 4, 0))?;
-    assert_eq!(rt;
-        (index.first_of(7), index.find(key(7, 5))),
-        (Some(entry(7, 4, 0)), Some(entry(7, 5, 2)))
-    );
-    assert_eq!(rt; index.free_cell(), Some(1));
-    Ok(())
-}
-
-/// The index of two entries, with three cells.
-fn of_two(alloc: Global, a: Entry, b: Entry) -> Result<Index, AllocError>
-    requires keys { a.key ≢ b.key }
-    requires cells { (a.cell < 3) × (b.cell < 3) }
-{
-    Index::of_entries(alloc, 3, vec![in alloc; a, b]?)
 }
 
 fn key(fid: u128, block: u64) -> Key

@@ -1,14 +1,23 @@
--- No entries take no cells.
-use Rattle.std.proofs.Common.{rules, List, ap, ◌∙◌}
+use Rattle.std.proofs.Common.{ℕ, ◌≡◌, List, [], ◌∷◌, ◌++◌, sym, ap, ◌∙◌, arith}
+use Rattle.std.specs.List.{range_with_len}
 use Rattle.std.specs.FinMap as maps
 use Rattle.rz_events.specs.Keys.{key_cmp}
 use Rattle.rz_index.specs.declared.index.Entry.{Entry}
-use Rattle.rz_index.specs.Indexed.{pairs_of, unused}
-use Rattle.rz_index.proofs.Many.{unused-all}
+use Rattle.rz_index.specs.Indexed.{Indexed, indexed}
+use Rattle.rz_index.proofs.Row.{made-nothing}
+use Rattle.rz_index.proofs.Cells.{one-cell-more}
 use Rattle.rz_index.proofs.index.Index.with_room.Goals as goal
+
+pub loop-cell-preserved : goal.loop-cell-preserved
+loop-cell-preserved c = record {
+  cells = c.in_ok-push_back.ensures.items ∙ ap (λ (xs : List ℕ). xs ++ c.loop-cell.cell ∷ []) c.loop-cell.invariant.cells ∙ sym (one-cell-more c.loop-cell.cell);
+  count = omega (arith, c.in_ok-push_back.ensures.len, c.loop-cell.invariant.count);
+  room = omega (arith, c.in_ok-push_back.ensures.capacity, c.loop-cell.invariant.room);
+}
 
 pub returns : goal.returns
 returns c =
-    let entries = ap (λ (es : List Entry). maps.from_entries {R = key_cmp} (pairs_of es)) c.new.ensures.items in
-    let free = ap (unused c.args.cells) c.new.ensures.items ∙ unused-all c.args.cells in
-    search (rules, entries, free)
+    let all : c.loop-cell.cell ≡ c.args.cells = omega (arith, c.loop-cell-test.false, c.loop-cell.auto.cell-end) in
+    ap (λ (xs : List Entry). indexed xs c.loop-cell.free.items) c.in_ok-entries.ensures.items
+    ∙ ap (λ (m : maps.FinMap key_cmp Entry). (let s : Indexed = record { entries = m; free = c.loop-cell.free.items } in s)) made-nothing
+    ∙ ap (λ (xs : List ℕ). (let s : Indexed = record { entries = maps.empty; free = xs } in s)) (c.loop-cell.invariant.cells ∙ ap (range_with_len 0) all)
