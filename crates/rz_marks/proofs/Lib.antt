@@ -1,0 +1,9 @@
+pub mod Bits
+pub mod Lists
+pub mod Order
+pub mod Rising
+pub mod Found
+pub mod Written
+pub mod MarkedRows
+pub mod Next
+pub mod Forget
