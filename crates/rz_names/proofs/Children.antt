@@ -1,5 +1,5 @@
 -- The least name right under a path, and the least path above one, among entries in order.
-use Rattle.std.proofs.Common.{◌≡◌, ℕ, zero, suc, ◌<◌, ◌≤◌, Bool, true, false, cond, not, ◌&&◌, T, List, [], ◌∷◌, ◌++◌, length, get_or, drop, map, Option, Some, None, is_some, slice_get, Ordering, sym, ap, ◌∙◌, subst, refl, arith}
+use Rattle.std.proofs.Common.{◌≡◌, ℕ, zero, suc, Bool, true, false, cond, not, ◌&&◌, T, List, [], ◌∷◌, ◌++◌, length, drop, map, Option, Some, None, is_some, slice_get, Ordering, sym, ap, ◌∙◌, subst, refl}
 use Rattle.std.specs.declared.cmp.Ordering.TheVariants.{Less, Equal, Greater}
 use Rattle.std.specs.List as lists
 use Rattle.std.specs.List.{filter_map, cons_option}
@@ -13,6 +13,7 @@ use Rattle.rz_names.specs.Entries.{run}
 use Rattle.rz_names.specs.Names.{with_root, IsNameMap, is_after, is_up_to, by_order, next_name, entry_after}
 use Rattle.rz_names.proofs.Sorted.{so, left, right, unfound, is_less}
 use Rattle.rz_names.proofs.PathOrder.{eq_true, begins-front, between}
+use Rattle.rz_names.proofs.Places.{drop-past, drop-here}
 use Rattle.rz_names.proofs.Names.{Entries, sorted-kept, take-front, right_under-append, find-kept}
 
 -- the name right under a path, where it is after `after`
@@ -124,17 +125,6 @@ append-longer : (p : Path) (n : Name) (rest : Path) → is_root (p ++ n ∷ rest
 append-longer [] n rest = refl
 append-longer (m ∷ p) n rest = refl
 
-drop-past : (es : Entries) (n : ℕ) → length es ≤ n → drop n es ≡ []
-drop-past [] zero le = refl
-drop-past [] (suc n) le = refl
-drop-past (e ∷ es) zero le = absurd (omega arith)
-drop-past (e ∷ es) (suc n) le = drop-past es n (omega arith)
-
-drop-here : (es : Entries) (n : ℕ) (e : Path × ℕ) → n < length es → e ≡ get_or es n e → drop n es ≡ e ∷ drop (suc n) es
-drop-here [] n e lt is = absurd (omega arith)
-drop-here (x ∷ es) zero e lt is = ap (λ y. y ∷ es) (sym is)
-drop-here (x ∷ es) (suc n) e lt is = drop-here es n e (omega arith) is
-
 append-not_root : (p : Path) (n : Name) → is_root (p ++ n ∷ []) ≡ false
 append-not_root [] n = refl
 append-not_root (m ∷ p) n = refl
@@ -238,14 +228,14 @@ module _ (es : Entries) (h : IsNameMap es) (path : Path) (after : Option Name) w
       ∙ sym (ap (λ k. slice_get k (length path)) is ∙ get-front path n rest)
 
   -- by the place of the first entry past `after`
-  pub next-at_end : (at : ℕ) → at ≡ run (is_up_to path after) es → length es ≤ at → next_name (maps.from_sorted (with_root es)) path after ≡ None
-  next-at_end at is le = next-kept ∙ ap (next_in path after) (drop-past es _ (omega (arith, is)))
+  pub next-at_end : (at : ℕ) → at ≡ run (is_up_to path after) es → slice_get es at ≡ None → next_name (maps.from_sorted (with_root es)) path after ≡ None
+  next-at_end at is none = next-kept ∙ ap (λ n. next_in path after (drop n es)) (sym is) ∙ ap (next_in path after) (drop-past es at none)
 
-  pub next-at_other : (at : ℕ) (e : Path × ℕ) → at ≡ run (is_up_to path after) es → at < length es → e ≡ get_or es at e → begins_with path e.0 ≡ false → next_name (maps.from_sorted (with_root es)) path after ≡ None
-  next-at_other at e is lt here other = next-other e (drop (suc at) es) (ap (λ n. drop n es) (sym is) ∙ drop-here es at e lt here) other
+  pub next-at_other : (at : ℕ) (e : Path × ℕ) → at ≡ run (is_up_to path after) es → slice_get es at ≡ Some e → begins_with path e.0 ≡ false → next_name (maps.from_sorted (with_root es)) path after ≡ None
+  next-at_other at e is here other = next-other e (drop (suc at) es) (ap (λ n. drop n es) (sym is) ∙ drop-here es at e here) other
 
-  pub next-at_child : (at : ℕ) (e : Path × ℕ) → at ≡ run (is_up_to path after) es → at < length es → e ≡ get_or es at e → begins_with path e.0 ≡ true → next_name (maps.from_sorted (with_root es)) path after ≡ slice_get e.0 (length path)
-  next-at_child at e is lt here begins = next-child_by e (drop (suc at) es) (ap (λ n. drop n es) (sym is) ∙ drop-here es at e lt here) (drop (length path) e.0) (begins-front path e.0 begins)
+  pub next-at_child : (at : ℕ) (e : Path × ℕ) → at ≡ run (is_up_to path after) es → slice_get es at ≡ Some e → begins_with path e.0 ≡ true → next_name (maps.from_sorted (with_root es)) path after ≡ slice_get e.0 (length path)
+  next-at_child at e is here begins = next-child_by e (drop (suc at) es) (ap (λ n. drop n es) (sym is) ∙ drop-here es at e here) (drop (length path) e.0) (begins-front path e.0 begins)
 
 -- ---- the least path above one
 
@@ -270,11 +260,11 @@ module _ (es : Entries) (h : IsNameMap es) (path : Path) where
   above-kept = ap (lists.find (λ e. is_above e.0)) (entries-from_sorted path_cmp (with_root es) (so _ h.sorted))
       ∙ ap (λ b. cond b (Some ([], 0)) (lists.find (λ e. is_above e.0) es)) (no_less-root path) ∙ above-run is_above es
 
-  pub above-at_end : (at : ℕ) → at ≡ run (λ k. not (is_above k)) es → length es ≤ at → entry_after (maps.from_sorted (with_root es)) path ≡ None
-  above-at_end at is le = above-kept ∙ ap (lists.find (λ e. is_above e.0)) (drop-past es _ (omega (arith, is)))
+  pub above-at_end : (at : ℕ) → at ≡ run (λ k. not (is_above k)) es → slice_get es at ≡ None → entry_after (maps.from_sorted (with_root es)) path ≡ None
+  above-at_end at is none = above-kept ∙ ap (λ n. lists.find (λ e. is_above e.0) (drop n es)) (sym is) ∙ ap (lists.find (λ e. is_above e.0)) (drop-past es at none)
 
-  pub above-at : (at : ℕ) (e : Path × ℕ) → at ≡ run (λ k. not (is_above k)) es → at < length es → e ≡ get_or es at e → entry_after (maps.from_sorted (with_root es)) path ≡ Some e
-  above-at at e is lt here =
-      let starts : drop (run (λ k. not (is_above k)) es) es ≡ e ∷ drop (suc at) es = ap (λ n. drop n es) (sym is) ∙ drop-here es at e lt here in
+  pub above-at : (at : ℕ) (e : Path × ℕ) → at ≡ run (λ k. not (is_above k)) es → slice_get es at ≡ Some e → entry_after (maps.from_sorted (with_root es)) path ≡ Some e
+  above-at at e is here =
+      let starts : drop (run (λ k. not (is_above k)) es) es ≡ e ∷ drop (suc at) es = ap (λ n. drop n es) (sym is) ∙ drop-here es at e here in
       above-kept ∙ ap (lists.find (λ x. is_above x.0)) starts
       ∙ ap (λ b. cond b (Some e) (lists.find (λ x. is_above x.0) (drop (suc at) es))) (not_false _ (run-stops (λ k. not (is_above k)) es e _ starts))

@@ -1,3 +1,4 @@
+pub mod Places
 pub mod Sorted
 pub mod PathOrder
 pub mod Names

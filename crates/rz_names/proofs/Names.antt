@@ -234,8 +234,8 @@ module _ (q : Path) where
 
 -- ---- what the calls on kept entries leave
 
-pub placed : (at : ℕ) (names q : Path) (l es : Entries) → at ≡ place names l → names ≡ q → l ≡ es → at ≡ place q es
-placed at names q l es is same kept = is ∙ ap (λ x. place x l) same ∙ ap (place q) kept
+pub placed : (at : ℕ) (names q : Path) (es : Entries) → at ≡ place names es → names ≡ q → at ≡ place q es
+placed at names q es is same = is ∙ ap (λ x. place x es) same
 
 module _ (es : Entries) (q : Path) (f : ℕ) (h : IsNameMap es) (absent : maps.get (maps.from_sorted {R = path_cmp} (with_root es)) q ≡ None) where
   pub added-closed : is_some (maps.get (maps.from_sorted {R = path_cmp} (with_root es)) (above q)) ≡ true → IsClosed (with_root (insert es (place q es) (q, f)))

@@ -5,7 +5,11 @@ use Rattle.std.specs.Ordering.{is_eq, is_gt, is_lt, ordering_then}
 use Rattle.std.specs.Cmp.{tied_itself, alike_right}
 use Rattle.rz_export_model.specs.Paths.{Name, Path, name_cmp, path_cmp, same_name, names_total, paths_total, exact_names, begins_with}
 use Rattle.rz_names.specs.Names.{is_after, is_up_to, is_within, by_order}
-use Rattle.rz_names.proofs.Sorted.{Falls, flipped, unflipped}
+use Rattle.std.specs.Option.{option_copied}
+use Rattle.rz_names.specs.Cuts.{passes}
+use Rattle.rz_names.specs.declared.cuts.Cut.{Cut}
+use Rattle.rz_names.specs.declared.cuts.Cut.TheVariants.{Before, Reached, Within, UpTo}
+use Rattle.rz_names.proofs.Sorted.{Falls, flipped, unflipped, before-falls}
 
 pub then_less : (r s : Ordering) → ordering_then r s ≡ Less → (r ≡ Less) ⊎ ((r ≡ Equal) × (s ≡ Less))
 then_less Less s h = inl refl
@@ -164,3 +168,10 @@ up_to-falls (p ∷ path) after (m ∷ a) (n ∷ b) ab h =
 
 pub not_less-falls : (path : Path) → Falls path_cmp (λ k. not (is_lt (path_cmp path k)))
 not_less-falls path a b ab h = at_most path a b ab (not_less _ h)
+
+-- what stands before a cut falls along paths in order
+pub passes-falls : (cut : Cut) → Falls path_cmp (passes cut)
+passes-falls (Before names) = before-falls paths_total names.now
+passes-falls (Reached names after) = up_to-falls names.now (option_copied after)
+passes-falls (Within names) = within-falls names.now
+passes-falls (UpTo names) = not_less-falls names.now

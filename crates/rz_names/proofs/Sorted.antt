@@ -1,8 +1,7 @@
 -- Entries in the order of their keys: what a search by a test finds, and what an edit there does.
-use Rattle.std.proofs.Common.{◌≡◌, ℕ, zero, suc, ◌<◌, ◌≤◌, Bool, true, false, cond, not, ◌&&◌, T, List, [], ◌∷◌, length, get_or, drop, Some, None, is_some, Ordering, sym, ap, ◌∙◌, subst, refl, arith}
+use Rattle.std.proofs.Common.{◌≡◌, ℕ, suc, ◌+◌, ◌-◌, ◌≤◌, Bool, true, false, cond, not, ◌&&◌, T, List, [], ◌∷◌, ◌++◌, length, drop, Some, None, is_some, IsTrue, Ordering, sym, ap, ◌∙◌, subst, refl, arith, length-append}
 use Rattle.std.specs.declared.cmp.Ordering.TheVariants.{Less, Equal, Greater}
-use Rattle.std.specs.List.{insert, remove, AllWithin}
-use Rattle.std.specs.List.Sorted.{IsPartitionedBy, IsPartitionPoint}
+use Rattle.std.specs.List.{insert, remove}
 use Rattle.std.specs.Ordering.{is_eq, is_gt, is_lt, eq_by_cmp, ordering_reverse}
 use Rattle.std.specs.Cmp.{IsTotalOrder}
 use Rattle.rz_names.specs.Entries.{run, value_at}
@@ -42,33 +41,72 @@ tied Equal h = refl
 tied Greater h = absurd h
 
 module _ {K X : Type 0} where
-  below_at : (R : K → K → Ordering) (x : K) (es : List (K × X)) → T (below_all R x es) → (j : ℕ) (d : K × X) → j < length es → R x (get_or es j d).0 ≡ Less
-  below_at R x [] h j d lt = absurd (omega arith)
-  below_at R x (e ∷ es) h zero d lt = is_less _ (left _ _ h)
-  below_at R x (e ∷ es) h (suc j) d lt = below_at R x es (right _ _ h) j d (omega arith)
+  below_here : (R : K → K → Ordering) (x : K) (l : List (K × X)) (e : K × X) (r : List (K × X)) → T (below_all R x (l ++ e ∷ r)) → R x e.0 ≡ Less
+  below_here R x [] e r h = is_less _ (left _ _ h)
+  below_here R x (y ∷ l) e r h = below_here R x l e r (right _ _ h)
 
-  -- a test that falls parts a sorted list
-  pub parted : (R : K → K → Ordering) (p : K → Bool) → Falls R p → (es : List (K × X)) → T (is_sorted R es) → IsPartitionedBy (λ e. p e.0) es
-  parted R p falls [] h i j d le lt is = absurd (omega arith)
-  parted R p falls (e ∷ es) h zero zero d le lt is = is
-  parted R p falls (e ∷ es) h zero (suc j) d le lt is = falls e.0 _ (below_at R e.0 es (left _ _ h) j d (omega arith)) is
-  parted R p falls (e ∷ es) h (suc i) zero d le lt is = absurd (omega arith)
-  parted R p falls (e ∷ es) h (suc i) (suc j) d le lt is = parted R p falls es (right _ _ h) i j d (omega arith) (omega arith) is
+  below_front : (R : K → K → Ordering) (x : K) (l r : List (K × X)) → T (below_all R x (l ++ r)) → T (below_all R x l)
+  below_front R x [] r h = tt
+  below_front R x (y ∷ l) r h = both _ _ (left _ _ h) (below_front R x l r (right _ _ h))
 
-  run_at : (p : K → Bool) (es : List (K × X)) (i : ℕ) → i ≤ length es → AllWithin (λ e. p e.0 ≡ true) es 0 i → AllWithin (λ e. p e.0 ≡ false) es i (length es) → i ≡ run p es
-  run_at p [] i le passes fails = omega arith
-  run_at p (e ∷ es) zero le passes fails = ap (λ b. cond b (suc (run p es)) 0) (sym (fails 0 e (omega arith) (omega arith)))
-  run_at p (e ∷ es) (suc i) le passes fails =
-      ap suc (run_at p es i (omega arith) (λ k d lo hi. passes (suc k) d (omega arith) (omega arith)) (λ k d lo hi. fails (suc k) d (omega arith) (omega arith)))
-      ∙ ap (λ b. cond b (suc (run p es)) 0) (sym (passes 0 e (omega arith) (omega arith)))
+  -- the parts of a sorted list are sorted
+  pub sorted-front : (R : K → K → Ordering) (l r : List (K × X)) → T (is_sorted R (l ++ r)) → T (is_sorted R l)
+  sorted-front R [] r h = tt
+  sorted-front R (x ∷ l) r h = both _ _ (below_front R x.0 l r (left _ _ h)) (sorted-front R l r (right _ _ h))
 
-  -- the place that parts a list by a test is the length of the run that passes it
-  pub run-from_point : (p : K → Bool) (es : List (K × X)) (i : ℕ) → i ≤ length es → IsPartitionPoint (λ e. p e.0 ≡ true) (λ e. p e.0 ≡ false) es i → i ≡ run p es
-  run-from_point p es i le point = run_at p es i le point.0 point.1
+  pub sorted-back : (R : K → K → Ordering) (l : List (K × X)) (e : K × X) (r : List (K × X)) → T (is_sorted R (l ++ e ∷ r)) → T (is_sorted R r)
+  sorted-back R [] e r h = right _ _ h
+  sorted-back R (x ∷ l) e r h = sorted-back R l e r (right _ _ h)
+
+  -- where a test that falls passes at an entry, it passes at all before it
+  pub run-passed : (R : K → K → Ordering) (p : K → Bool) → Falls R p → (l : List (K × X)) (e : K × X) (r : List (K × X)) → T (is_sorted R (l ++ e ∷ r)) → p e.0 ≡ true → run p (l ++ e ∷ r) ≡ length l + suc (run p r)
+  run-passed R p falls [] e r h is =
+      let here : run p (e ∷ r) ≡ suc (run p r) = ap (λ b. cond b (suc (run p r)) 0) is in omega (arith, here)
+  run-passed R p falls (x ∷ l) e r h is =
+      let first : run p (x ∷ l ++ e ∷ r) ≡ suc (run p (l ++ e ∷ r)) = ap (λ b. cond b (suc (run p (l ++ e ∷ r))) 0) (falls x.0 e.0 (below_here R x.0 l e r (left _ _ h)) is) in
+      omega (arith, first, run-passed R p falls l e r (right _ _ h) is)
+
+  -- where it does not pass at an entry, it ends before it
+  pub run-stopped : (p : K → Bool) (l : List (K × X)) (e : K × X) (r : List (K × X)) → p e.0 ≡ false → run p (l ++ e ∷ r) ≡ run p l
+  run-stopped p [] e r is = ap (λ b. cond b (suc (run p r)) 0) is
+  run-stopped p (x ∷ l) e r is = ap (λ n. cond (p x.0) (suc n) 0) (run-stopped p l e r is)
 
   pub run_le : (p : K → Bool) (es : List (K × X)) → run p es ≤ length es
   run_le p [] = omega arith
   run_le p (e ∷ es) = elim (p e.0) as (λ b. cond b (suc (run p es)) 0 ≤ suc (length es)) [ true ↦ omega (arith, run_le p es) | false ↦ omega arith ]
+
+-- a search for the run of a test: the run's end is in the rest of the list, which ends at `end`
+pub record Search {K X : Type 0} (R : K → K → Ordering) (p : K → Bool) (all rest : List (K × X)) (end : ℕ) : Type 0 where
+  pub sorted : IsTrue (is_sorted R rest)
+  pub within : length rest ≤ end
+  pub place : run p all + length rest ≡ end + run p rest
+
+module _ {K X : Type 0} (R : K → K → Ordering) (p : K → Bool) (all rest l : List (K × X)) (e : K × X) (r : List (K × X)) (end : ℕ) (search_is : Search R p all rest end) (parts : rest ≡ l ++ e ∷ r) where
+  sorted_parts : T (is_sorted R (l ++ e ∷ r))
+  sorted_parts = so _ (ap (is_sorted R) (sym parts) ∙ search_is.sorted)
+
+  sizes : length rest ≡ length l + suc (length r)
+  sizes = ap length parts ∙ length-append l (e ∷ r)
+
+  -- where the test passes at an entry, the end is behind it
+  pub search-right : Falls R p → p e.0 ≡ true → Search R p all r end
+  search-right falls is =
+      let passed : run p rest ≡ length l + suc (run p r) = ap (run p) parts ∙ run-passed R p falls l e r sorted_parts is in
+      record {
+        sorted = unso _ (sorted-back R l e r sorted_parts);
+        within = omega (arith, sizes, search_is.within);
+        place = omega (arith, sizes, passed, search_is.place);
+      }
+
+  -- where it does not, the end is before it
+  pub search-left : (n : ℕ) → n ≡ length r → p e.0 ≡ false → Search R p all l (end - (n + 1))
+  search-left n size is =
+      let stopped : run p rest ≡ run p l = ap (run p) parts ∙ run-stopped p l e r is in
+      record {
+        sorted = unso _ (sorted-front R l (e ∷ r) sorted_parts);
+        within = omega (arith, size, sizes, search_is.within);
+        place = omega (arith, size, sizes, stopped, search_is.within, search_is.place);
+      }
 
 is_greater : (r : Ordering) → is_gt r ≡ true → r ≡ Greater
 is_greater Less h = cc

@@ -1,3 +1,4 @@
 pub mod Reads
 pub mod Entries
 pub mod Names
+pub mod Cuts

@@ -4,9 +4,14 @@
 //! numbers that holds the root with number 0. Each call is one function on that map: what it finds, or
 //! which map it leaves. Nothing is said of the kinds of objects, nor of what a number stands for.
 //!
-//! In reading order: `path`, `order`, `entries`, `map`.
+//! The entries stand in the order of their paths in a balanced tree. To find a name, to add one or to
+//! take one away takes logarithmic time in how many there are, and a rename as much for each path that
+//! it moves. No clause tells it.
+//!
+//! In reading order: `path`, `order`, `cuts`, `entries`, `map`.
 #![tactic(auto)]
 
+mod cuts;
 mod entries;
 mod map;
 mod order;

@@ -9,11 +9,12 @@ ghost use Rattle.rz_names.specs.Names.{root_alone, next_name, entry_after};
 
 use crate::Path;
 use crate::entries::{
-    Entry, block_of, moved_entries, number_at, place_above, place_after, place_of, put_block,
-    remove_block, remove_one,
+    Entry, moved_entries, number_at, place_above, place_after, place_of, put_block, remove_block,
+    remove_one,
 };
 use crate::order::starts_with;
 use rz_events::Text;
+use rz_sequence::Sequence;
 use std::alloc::{AllocError, Global};
 use std::marker::Model;
 
@@ -22,12 +23,12 @@ const ROOT: u128 = 0;
 
 /// A map from paths to numbers of objects, which always holds the root with number 0.
 ///
-/// The entries but the root's are kept in one vector in the order of their paths, so that all paths
-/// below a directory stand together.
+/// The entries but the root's are kept in one sequence in the order of their paths, so that all paths
+/// below a directory stand together, and a search goes down the sequence's tree.
 #[derive(Debug, Drop)]
 pub struct NameMap {
     alloc: Global,
-    entries: Vec<Entry>,
+    entries: Sequence<Entry>,
 }
 
 impl Model for NameMap {
@@ -41,9 +42,9 @@ impl Model for NameMap {
 
     ghost coded = { maps.code coded_path coded_ℕ };
 
-    ghost view = { λ m. maps.from_sorted (with_root m.entries.items) };
+    ghost view = { λ m. maps.from_sorted (with_root m.entries) };
 
-    ghost invariant = { λ m. IsNameMap m.entries.items };
+    ghost invariant = { λ m. IsNameMap m.entries };
 }
 
 impl NameMap {
@@ -53,7 +54,7 @@ impl NameMap {
     {
         NameMap {
             alloc,
-            entries: Vec::new(alloc),
+            entries: Sequence::new(),
         }
     }
 
@@ -62,7 +63,7 @@ impl NameMap {
         requires { count ≤ length path.now }
         ensures { result ≡ maps.get self.now (take count path.now) }
     {
-        let entries = self.entries.as_slice();
+        let entries = &self.entries;
         if count == 0 {
             return Some(ROOT);
         }
@@ -74,14 +75,15 @@ impl NameMap {
         ensures { option_copied result ≡ next_name self.now path.now (option_copied after.entry) }
     {
         let at = place_after(&self.entries, path.names(), after);
-        if at >= self.entries.len() {
-            return None;
+        match self.entries.get(at) {
+            None => None,
+            Some(found) => {
+                if !starts_with(path.names(), found.names()) {
+                    return None;
+                }
+                found.names().get(path.names().len())
+            }
         }
-        let (found, _) = &self.entries[at];
-        if !starts_with(path.names(), found.names()) {
-            return None;
-        }
-        found.names().get(path.names().len())
     }
 
     /// Adds a path with its number.
@@ -93,7 +95,7 @@ impl NameMap {
     {
         let at = place_of(&self.entries, path.names());
         let path = path.copy(self.alloc)?;
-        self.entries.insert(at, (path, fid))?;
+        self.entries.insert(self.alloc, at, Entry::new(path, fid))?;
         Ok(())
     }
 
@@ -117,8 +119,8 @@ impl NameMap {
         ensures ok { OnOk result (self.new ≡ moved path.now to.now (maps.remove self.old to.now)) }
         ensures err { OnErr result (self.new ≡ self.old) }
     {
-        let block = block_of(&self.entries, path.names());
-        let moved = moved_entries(self.alloc, block, path.names().len(), to.names())?;
+        // all memory is taken here, before anything changes
+        let moved = moved_entries(self.alloc, &self.entries, path.names(), to.names())?;
         remove_block(&mut self.entries, path.names());
         remove_one(&mut self.entries, to.names());
         let at = place_of(&self.entries, to.names());
@@ -131,11 +133,10 @@ impl NameMap {
         ensures { IfOk result (λ found. found ≡ entry_after self.now (unwrap_or (option_copied path.entry) [])) }
     {
         let at = place_above(&self.entries, names_of(path));
-        if at >= self.entries.len() {
-            return Ok(None);
+        match self.entries.get(at) {
+            None => Ok(None),
+            Some(found) => Ok(Some((found.path().copy(self.alloc)?, found.fid()))),
         }
-        let (path, fid) = &self.entries[at];
-        Ok(Some((path.copy(self.alloc)?, *fid)))
     }
 }
 

@@ -1,9 +1,9 @@
-use Rattle.std.proofs.Common.{◌≡◌, ℕ, true, false, Option, Some, None, is_some, not, length, vec_len, sym, ap, ◌∙◌, arith, refl}
-use Rattle.std.specs.FinMap.{find}
-use Rattle.rz_export_model.specs.Paths.{Path, path_cmp, paths_total}
+use Rattle.std.proofs.Common.{◌≡◌, ℕ, false, ◌<◌, Option, Some, None, is_some, not, length, sym, ap, ◌∙◌, refl, arith}
+use Rattle.rz_export_model.specs.Paths.{paths_total}
+use Rattle.rz_names.proofs.Places.{remove-parts}
 use Rattle.rz_names.proofs.Sorted.{so, remove-run}
 use Rattle.rz_names.proofs.Blocks.{where_absent}
-use Rattle.rz_names.proofs.Names.{Entries, place, find-place}
+use Rattle.rz_names.proofs.Names.{find-place}
 use Rattle.std.specs.List.{remove}
 use Rattle.rz_names.proofs.entries.remove_one.Goals as goal
 
@@ -13,25 +13,16 @@ none_of (Some x) h = cc
 
 pub returns-then-is_none-clause-items : goal.returns-then-is_none-clause-items
 returns-then-is_none-clause-items c =
-    let none : find path_cmp c.args.names.now c.args.entries.now.items ≡ None =
-    ap (find path_cmp c.args.names.now) (sym c.deref.ensures.value) ∙ sym c.number_at.ensures ∙ none_of _ (c.is_none.ensures ∙ ap not c.if-is_none.true) in
-    sym (where_absent c.args.names.now c.args.entries.now.items none)
-
--- the entry that was found stands at the place of its path
-there : (o : Option ℕ) (q : Path) (l es : Entries) → is_some o ≡ true → o ≡ find path_cmp q l → l ≡ es → is_some (find path_cmp q es) ≡ true
-there o q l es is found same = ap (λ x. is_some (find path_cmp q x)) (sym same) ∙ ap is_some (sym found) ∙ is
+    sym (where_absent c.args.names.now c.args.entries.now (sym c.number_at.ensures ∙ none_of _ (c.is_none.ensures ∙ ap not c.if-is_none.true)))
 
 pub remove-requires : goal.remove-requires
 remove-requires c =
-    let es : Entries = c.args.entries.now.items in
-    let found = there _ c.args.names.now _ es (c.is_none.ensures ∙ ap not c.if-is_none.false) c.number_at.ensures c.deref.ensures.value in
-    let at : c.place_of-at.result ≡ place c.args.names.now es = c.place_of-at.ensures ∙ ap (place c.args.names.now) c.deref-2.ensures.value in
-    let size : length es ≡ vec_len c.args.entries.now = ap length (sym c.deref.ensures.value) ∙ c.deref.ensures.len in
-    omega (arith, at, size, find-place c.args.names.now es (so _ c.requires) found)
+    let found = ap is_some (sym c.number_at.ensures) ∙ c.is_none.ensures ∙ ap not c.if-is_none.false in
+    record { place = omega (arith, c.place_of-at.ensures.place, find-place c.args.names.now c.args.entries.now (so _ c.requires) found) }
 
 pub returns-clause-items : goal.returns-clause-items
 returns-clause-items c =
-    let es : Entries = c.args.entries.now.items in
-    let found = there _ c.args.names.now _ es (c.is_none.ensures ∙ ap not c.if-is_none.false) c.number_at.ensures c.deref.ensures.value in
-    let at : c.place_of-at.result ≡ place c.args.names.now es = c.place_of-at.ensures ∙ ap (place c.args.names.now) c.deref-2.ensures.value in
-    c.remove.ensures.items ∙ ap (remove es) at ∙ remove-run paths_total c.args.names.now es (so _ c.requires) (so _ found)
+    let found = ap is_some (sym c.number_at.ensures) ∙ c.is_none.ensures ∙ ap not c.if-is_none.false in
+    let within : c.place_of-at.result < length c.args.entries.now = omega (arith, c.place_of-at.ensures.place, find-place c.args.names.now c.args.entries.now (so _ c.requires) found) in
+    c.remove.ensures ∙ remove-parts c.args.entries.now c.place_of-at.result within ∙ ap (remove c.args.entries.now) c.place_of-at.ensures.place
+    ∙ remove-run paths_total c.args.names.now c.args.entries.now (so _ c.requires) (so _ found)

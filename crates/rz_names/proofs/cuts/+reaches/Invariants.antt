@@ -1,5 +1,5 @@
 use Rattle.std.proofs.Common.{length}
-use Rattle.rz_names.proofs.entries.+reaches.Given as goal
+use Rattle.rz_names.proofs.cuts.+reaches.Given as goal
 
 -- the names that are left
 abbrev pub decreases-reaches : goal.decreases-reaches
