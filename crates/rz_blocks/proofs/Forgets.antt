@@ -1,7 +1,7 @@
 -- Keys of a file that are taken out one by one.
 use Rattle.std.proofs.Common.{◌≡◌, ℕ, ◌-◌, ◌<◌, Bool, true, false, cond, not, List, [], ◌∷◌, length, Option, Some, None, is_some, sym, ap, ◌∙◌, refl, arith}
 use Rattle.std.specs.Prelude.{◌==◌}
-use Rattle.std.specs.Option.{option_or}
+use Rattle.std.specs.Option.{option_map, option_or}
 use Rattle.std.specs.Ordering.{is_eq, eq_by_cmp}
 use Rattle.std.specs.declared.cmp.Ordering.{Ordering}
 use Rattle.std.specs.declared.cmp.Ordering.TheVariants.{Less, Equal, Greater}
@@ -13,6 +13,10 @@ use Rattle.rz_events.specs.Keys.{key_cmp, keys_total, exact_keys}
 use Rattle.rz_events.specs.declared.keys.Key.{Key}
 use Rattle.rz_export_model.specs.Firsts.{first_given, given_if}
 use Rattle.rz_export_model.specs.Export.{Block, Blocks, without_file}
+use Rattle.rz_blocks.specs.declared.blocks.Entry.{Entry}
+use Rattle.rz_blocks.specs.Shown.{shown}
+use Rattle.rz_blocks.specs.Marked.{kept_at}
+use Rattle.rz_blocks.proofs.Shows.{Kept, map_of, get-shown}
 
 -- the least key of a file
 abbrev pub first_of_file : ℕ → List (Key × Block) → Option Key
@@ -83,6 +87,14 @@ forget-end m fid h = same_map keys_total exact_keys _ _ (λ q. kept q (q.fid == 
     kept : (q : Key) (b : Bool) → (q.fid == fid) ≡ b → maps.get m q ≡ cond (not (q.fid == fid)) (maps.get m q) None
     kept q true own = get-entries m q ∙ none-own fid (maps.entries m) h q own ∙ sym (ap (λ b. cond (not b) (maps.get m q) None) own)
     kept q false other = sym (ap (λ b. cond (not b) (maps.get m q) None) other)
+
+-- without a key of the file no entry of it is kept
+pub none-kept : (es : Kept) (m : Blocks) → map_of es ≡ m → (fid : ℕ) → first_of_file fid (maps.entries m) ≡ None → (q : Key) → (q.fid == fid) ≡ true → kept_at es q ≡ None
+none-kept es m view fid h q own = not-shown (kept_at es q) (sym (get-shown es q) ∙ ap (λ x. maps.get x q) view ∙ get-entries m q ∙ none-own fid (maps.entries m) h q own)
+  where
+    not-shown : (o : Option Entry) → option_map shown o ≡ None → o ≡ None
+    not-shown None h = refl
+    not-shown (Some e) h = cc
 
 -- a key is one less
 pub forget-smaller : (m : Blocks) (fid : ℕ) (k : Key) → first_of_file fid (maps.entries m) ≡ Some k → maps.len (maps.remove m k) < maps.len m

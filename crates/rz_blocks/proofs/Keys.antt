@@ -1,7 +1,7 @@
 -- Keys against the bounds of a file.
-use Rattle.std.proofs.Common.{◌≡◌, ℕ, ◌<◌, true, ap, ◌∙◌, arith}
-use Rattle.std.specs.declared.cmp.Ordering.TheVariants.{Less, Equal, Greater}
-use Rattle.std.specs.Ordering.{nat_cmp, ordering_then, is_le, is_gt}
+use Rattle.std.proofs.Common.{◌≡◌, ℕ, ◌<◌, ap, arith}
+use Rattle.std.specs.declared.cmp.Ordering.TheVariants.{Less}
+use Rattle.std.specs.Ordering.{nat_cmp, ordering_then, is_gt}
 use Rattle.std.proofs.lemmas.Bool.Decides.{nat_tests}
 use Rattle.std.specs.declared.ops.Bound.{Bound}
 use Rattle.std.specs.declared.ops.Bound.TheVariants.{Included, Excluded, Unbounded}
@@ -14,25 +14,9 @@ use Rattle.rz_events.specs.declared.keys.Key.{Key}
 less-cmp : (a b : ℕ) → a < b → nat_cmp a b ≡ Less
 less-cmp a b h = grind (arith, nat_tests)
 
-pub same-cmp : (a b : ℕ) → a ≡ b → nat_cmp a b ≡ Equal
-same-cmp a b h = grind (arith, nat_tests)
-
-more-cmp : (a b : ℕ) → b < a → nat_cmp a b ≡ Greater
-more-cmp a b h = grind (arith, nat_tests)
-
 -- keys of a lesser file stand before those of a greater one
 pub lesser-file : (a b : Key) → a.fid < b.fid → key_cmp a b ≡ Less
 lesser-file a b h = ap (λ r. ordering_then r (nat_cmp a.block b.block)) (less-cmp a.fid b.fid h)
-
-pub greater-file : (a b : Key) → b.fid < a.fid → key_cmp a b ≡ Greater
-greater-file a b h = ap (λ r. ordering_then r (nat_cmp a.block b.block)) (more-cmp a.fid b.fid h)
-
--- the first block of a file is at most each of its keys
-pub first-block : (a b : Key) → a.fid ≡ b.fid → a.block ≡ 0 → is_le (key_cmp a b) ≡ true
-first-block a b same zero_block = ap (λ r. is_le (ordering_then r (nat_cmp a.block b.block))) (same-cmp a.fid b.fid same) ∙ low (a.block) (b.block) zero_block
-  where
-    low : (m n : ℕ) → m ≡ 0 → is_le (nat_cmp m n) ≡ true
-    low m n h = grind (arith, nat_tests)
 
 -- from a bound at a key of a file to one past the file it goes forward
 pub forward : (lo hi : Bound Key) (file : ℕ) → IsWithin lo file → IsPast hi file → IsForward (IsLeBy key_cmp) (IsLtBy key_cmp) lo hi

@@ -4,10 +4,7 @@ pub mod Ranges
 pub mod Forgets
 pub mod Found
 pub mod Sorted
-pub mod Bits
 pub mod Inserts
-pub mod Marks
-pub mod FirstNamed
 pub mod Marked
-pub mod Named
+pub mod Nexts
 pub mod Prepared

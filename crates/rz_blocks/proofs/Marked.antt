@@ -1,72 +1,91 @@
--- Rows say what the entries do, before and after a key is written.
-use Rattle.std.proofs.Common.{◌≡◌, ℕ, ◌<◌, ◌^◌, Bool, true, false, cond, List, Option, Some, None, is_some, unwrap_or, sym, ap, ◌∙◌, refl, subst}
+-- The marks say what the entries do, before and after a key is written.
+use Rattle.std.proofs.Common.{◌≡◌, ℕ, ◌/◌, ◌<◌, ◌^◌, Bool, true, false, cond, not, ◌&&◌, List, Option, Some, None, is_some, sym, ap, ◌∙◌, refl, subst, arith}
+use Rattle.std.specs.Prelude.{◌==◌, ◌||◌}
+use Rattle.std.proofs.lemmas.Bool.Decides.{nat_tests}
 use Rattle.std.specs.BTreeMap.{is_at}
 use Rattle.rz_events.specs.Keys.{key_cmp, exact_keys}
 use Rattle.rz_events.specs.declared.keys.Key.{Key}
-use Rattle.rz_export_model.specs.Export.{has_bit}
+use Rattle.rz_marks.specs.declared.row.Row.{Row}
+use Rattle.rz_marks.specs.Marks.{is_marked, has_room, is_same, is_beside}
 use Rattle.rz_blocks.specs.declared.blocks.Entry.{Entry}
-use Rattle.rz_blocks.specs.declared.row.Row.{Row}
-use Rattle.rz_blocks.specs.Rows.{row_of, is_there, is_named, kept_at, mask_at, IsMarked}
+use Rattle.rz_blocks.specs.Marked.{kept_at, is_public, AreMarked}
 use Rattle.rz_blocks.proofs.Sorted.{tied}
-use Rattle.rz_blocks.proofs.Bits.{no-bit}
 use Rattle.rz_blocks.proofs.Shows.{Kept}
-use Rattle.rz_blocks.proofs.Marks.{none-from, read}
 
 into : {A B : Type 0} (f : A → B) (b : Bool) (x y : A) → f (cond b x y) ≡ cond b (f x) (f y)
 into f true x y = refl
 into f false x y = refl
 
--- where no key is there, none names a position
-pub only-there : (es : Kept) (rows : List (Key × Row)) → IsMarked es rows → (q : Key) (i : ℕ) → i < 16 → is_there rows q ≡ false → is_named rows i q ≡ false
-only-there es rows m q i few h =
-    m.named q i few ∙ ap (λ o. has_bit (mask_at o) i) (none-from (kept_at es q) (sym (m.there q) ∙ h)) ∙ no-bit i
+same-eq : (m n : ℕ) → m ≡ n → (m == n) ≡ true
+same-eq m n h = grind (arith, nat_tests)
 
-row-there : (o : Option Row) (q : Key) → read (λ r. r.there) q o ≡ true → is_some o ≡ true
-row-there None q h = cc
-row-there (Some r) q h = refl
+either-true : (a b : Bool) → a ≡ true → (a || b) ≡ true
+either-true true b h = refl
+either-true false b h = cc
 
--- a key that is there has a row
-pub has-row : (es : Kept) (rows : List (Key × Row)) → IsMarked es rows → (q : Key) → is_some (kept_at es q) ≡ true → is_some (row_of rows q) ≡ true
-has-row es rows m q h = row-there (row_of rows q) q (m.there q ∙ h)
+or-true : (a b : Bool) → b ≡ true → (a || b) ≡ true
+or-true true b h = refl
+or-true false b h = h
 
--- a key that names a position is a number of 64 bits
-pub small-named : (es : Kept) (rows : List (Key × Row)) → IsMarked es rows → (i : ℕ) → i < 16 → (q : Key) → is_named rows i q ≡ true → q.block < 2 ^ 64
-small-named es rows m i few q h = m.small q (some (kept_at es q) (sym (m.named q i few) ∙ h))
-  where
-    some : (o : Option Entry) → has_bit (mask_at o) i ≡ true → is_some o ≡ true
-    some None is = let never : true ≡ false = sym is ∙ no-bit i in cc
-    some (Some e) is = refl
+public-there : (o : Option Entry) → is_public o ≡ true → is_some o ≡ true
+public-there None h = cc
+public-there (Some e) h = refl
 
--- with the same marks
-pub remade : (es : Kept) (rows new : List (Key × Row)) → IsMarked es rows → ((q : Key) → is_there new q ≡ is_there rows q) → ((q : Key) (i : ℕ) → i < 16 → is_named new i q ≡ is_named rows i q) → IsMarked es new
-remade es rows new m there named = record {
-  there = λ q. there q ∙ m.there q;
-  named = λ q i few. named q i few ∙ m.named q i few;
+-- a marked key has a number of 64 bits
+pub small-marked : (es : Kept) (marks : List Row) → AreMarked es marks → (q : Key) → is_marked marks 0 q ≡ true → q.block < 2 ^ 64
+small-marked es marks m q h = m.small q (public-there (kept_at es q) (sym (m.marked q) ∙ h))
+
+-- with more room
+pub roomier : (es : Kept) (marks new : List Row) (key : Key) → AreMarked es marks → ((l : ℕ) (q : Key) → is_marked new l q ≡ is_marked marks l q)
+    → ((l : ℕ) (q : Key) → has_room new l q ≡ (has_room marks l q || is_beside 0 key l q)) → AreMarked es new
+roomier es marks new key m marked room = record {
+  marked = λ q. marked 0 q ∙ m.marked q;
+  room = λ q h. room 0 q ∙ either-true (has_room marks 0 q) (is_beside 0 key 0 q) (m.room q h);
   small = m.small;
 }
 
--- a key is written or taken out
-pub rewritten : (es fs : Kept) (rows new : List (Key × Row)) (key : Key) (o : Option Entry) (mask : Option ℕ) → IsMarked es rows
-    → ((q : Key) → kept_at fs q ≡ cond (is_at (key_cmp key) q) o (kept_at es q))
-    → ((q : Key) → is_there new q ≡ cond (is_at (key_cmp key) q) (is_some mask) (is_there rows q))
-    → ((q : Key) (i : ℕ) → i < 16 → is_named new i q ≡ cond (is_at (key_cmp key) q) (has_bit (unwrap_or mask 0) i) (is_named rows i q))
-    → is_some mask ≡ is_some o → unwrap_or mask 0 ≡ mask_at o → (is_some o ≡ true → key.block < 2 ^ 64) → IsMarked fs new
-rewritten es fs rows new key o mask m now there named some same small = record {
-  there = λ q. there q ∙ ap (cond (is_at (key_cmp key) q) (is_some mask)) (m.there q) ∙ ap (λ b. cond (is_at (key_cmp key) q) b (is_some (kept_at es q))) some
-      ∙ sym (ap is_some (now q) ∙ into is_some (is_at (key_cmp key) q) o (kept_at es q));
-  named = λ q i few. let bit : Option Entry → Bool = λ e. has_bit (mask_at e) i in
-      named q i few ∙ ap (cond (is_at (key_cmp key) q) (has_bit (unwrap_or mask 0) i)) (m.named q i few) ∙ ap (λ n. cond (is_at (key_cmp key) q) (has_bit n i) (bit (kept_at es q))) same
-      ∙ sym (ap bit (now q) ∙ into bit (is_at (key_cmp key) q) o (kept_at es q));
-  small = λ q h. bound q (is_at (key_cmp key) q) refl (ap is_some (sym (now q)) ∙ h);
-}
-  where
-    bound : (q : Key) (b : Bool) → is_at (key_cmp key) q ≡ b → is_some (cond b o (kept_at es q)) ≡ true → q.block < 2 ^ 64
-    bound q true is h = subst (λ (k : Key). k.block < 2 ^ 64) (exact_keys key q (tied _ is)) (small h)
-    bound q false is h = m.small q h
+-- a key for which room was made has it
+pub room-made : (marks new : List Row) (key : Key) → ((l : ℕ) (q : Key) → has_room new l q ≡ (has_room marks l q || is_beside 0 key l q)) → has_room new 0 key ≡ true
+room-made marks new key room =
+    room 0 key
+    ∙ or-true (has_room marks 0 key) (is_beside 0 key 0 key)
+    (ap (λ b. b && (key.block / 64 == key.block / 64)) (same-eq key.fid key.fid refl) ∙ same-eq (key.block / 64) (key.block / 64) refl)
 
--- to take out a key that is not there changes nothing
-pub none-out : (es : Kept) (key : Key) → kept_at es key ≡ None → (q : Key) → kept_at es q ≡ cond (is_at (key_cmp key) q) None (kept_at es q)
-none-out es key none q = elim (is_at (key_cmp key) q) as (λ b. is_at (key_cmp key) q ≡ b → kept_at es q ≡ cond b None (kept_at es q)) [
-  | true ↦ λ is. ap (kept_at es) (sym (exact_keys key q (tied _ is))) ∙ none
-  | false ↦ λ _. refl
-] refl
+-- a key is written or taken out
+module _ (es fs : Kept) (marks new : List Row) (key : Key) (o : Option Entry) (x : Bool) where
+  pub rewritten : AreMarked es marks → ((q : Key) → kept_at fs q ≡ cond (is_at (key_cmp key) q) o (kept_at es q))
+      → ((l : ℕ) (q : Key) → is_marked new l q ≡ cond (is_same 0 key l q) x (is_marked marks l q)) → ((l : ℕ) (q : Key) → has_room new l q ≡ has_room marks l q)
+      → x ≡ is_public o → (is_some o ≡ true → has_room marks 0 key ≡ true) → (is_some o ≡ true → key.block < 2 ^ 64) → AreMarked fs new
+  rewritten m now marked room same roomy small = record {
+    marked = λ q. marked 0 q ∙ ap (cond (is_at (key_cmp key) q) x) (m.marked q) ∙ ap (λ b. cond (is_at (key_cmp key) q) b (is_public (kept_at es q))) same
+        ∙ sym (ap is_public (now q) ∙ into is_public (is_at (key_cmp key) q) o (kept_at es q));
+    room = λ q h. room 0 q ∙ roomed q (is_at (key_cmp key) q) refl (ap is_some (sym (now q)) ∙ h);
+    small = λ q h. bound q (is_at (key_cmp key) q) refl (ap is_some (sym (now q)) ∙ h);
+  }
+    where
+      roomed : (q : Key) (b : Bool) → is_at (key_cmp key) q ≡ b → is_some (cond b o (kept_at es q)) ≡ true → has_room marks 0 q ≡ true
+      roomed q true is h = ap (has_room marks 0) (sym (exact_keys key q (tied _ is))) ∙ roomy h
+      roomed q false is h = m.room q h
+
+      bound : (q : Key) (b : Bool) → is_at (key_cmp key) q ≡ b → is_some (cond b o (kept_at es q)) ≡ true → q.block < 2 ^ 64
+      bound q true is h = subst (λ (k : Key). k.block < 2 ^ 64) (exact_keys key q (tied _ is)) (small h)
+      bound q false is h = m.small q h
+
+-- the marks of a file without entries go, and the room for them
+module _ (es : Kept) (marks new : List Row) (fid : ℕ) where
+  pub forgotten : AreMarked es marks → ((q : Key) → (q.fid == fid) ≡ true → kept_at es q ≡ None)
+      → ((l : ℕ) (q : Key) → is_marked new l q ≡ (not ((l == 0) && (q.fid == fid)) && is_marked marks l q))
+      → ((l : ℕ) (q : Key) → has_room new l q ≡ (not ((l == 0) && (q.fid == fid)) && has_room marks l q)) → AreMarked es new
+  forgotten m none marked room = record {
+    marked = λ q. marked 0 q ∙ said q (q.fid == fid) refl;
+    room = λ q h. room 0 q ∙ roomed q h (q.fid == fid) refl;
+    small = m.small;
+  }
+    where
+      said : (q : Key) (b : Bool) → (q.fid == fid) ≡ b → (not b && is_marked marks 0 q) ≡ is_public (kept_at es q)
+      said q true own = sym (ap is_public (none q own))
+      said q false other = m.marked q
+
+      roomed : (q : Key) → is_some (kept_at es q) ≡ true → (b : Bool) → (q.fid == fid) ≡ b → (not b && has_room marks 0 q) ≡ true
+      roomed q h true own = let never : true ≡ false = sym h ∙ ap is_some (none q own) in cc
+      roomed q h false other = m.room q h

@@ -10,68 +10,32 @@ use Rattle.std.specs.declared.ops.Bound.TheVariants.{Unbounded}
 use Rattle.std.specs.BTreeMap.Range.{range_contains, is_past_end, entries_between}
 use Rattle.rz_events.specs.Keys.{key_cmp}
 use Rattle.rz_events.specs.declared.keys.Key.{Key}
-use Rattle.rz_events.specs.declared.files.Published.{Published}
 use Rattle.rz_export_model.specs.Firsts.{first_given, given_if}
 use Rattle.rz_export_model.specs.Export.{Block, is_after}
 use Rattle.rz_blocks.specs.declared.blocks.Entry.{Entry}
 use Rattle.rz_blocks.specs.Shown.{shown, shown_entries, IsStartAbove, IsStartOf, IsEndOf}
 use Rattle.rz_blocks.proofs.Shows.{Kept}
 
--- what an entry of a file gives, where it is published
-abbrev pub published_in : ℕ → Key × Entry → Option (Key × Published)
-published_in file e = cond (e.0.fid == file) (option_map (λ p. (e.0, p)) e.1.published) None
-
 -- the key of an entry of a file
 abbrev pub key_in : ℕ → Key × Entry → Option Key
 key_in file e = given_if (e.0.fid == file) e.0
 
-module _ {A : Type 0} (lo hi : Bound Key) (after : Option Key) (file : ℕ) (start : IsStartOf lo after file) (end : IsEndOf hi file) (give : Key × Entry → Option A) where
+module _ (lo hi : Bound Key) (file : ℕ) (start : IsStartOf lo file) (end : IsEndOf hi file) where
   abbrev inside : Key → Bool
   inside k = range_contains key_cmp lo hi k
 
-  -- what an entry of the file gives
-  abbrev own : Key × Entry → Option A
-  own e = cond (e.0.fid == file) (give e) None
+  inside-own : (k : Key) → k.fid ≡ file → inside k ≡ true
+  inside-own k same = ap (λ b. b && not (is_past_end key_cmp hi k)) (start k same) ∙ ap not (end k same)
 
-  -- what an entry of the file above `after` gives
-  abbrev above : Key × Entry → Option A
-  above e = cond (is_after after e.0 && (e.0.fid == file)) (give e) None
-
-  inside-own : (k : Key) → k.fid ≡ file → inside k ≡ is_after after k
-  inside-own k same = ap (λ b. b && not (is_past_end key_cmp hi k)) (start k same) ∙ ap (λ b. is_after after k && not b) (end k same) ∙ and-true (is_after after k)
-    where
-      and-true : (b : Bool) → (b && true) ≡ b
-      and-true true = refl
-      and-true false = refl
-
-  step : (e : Key × Entry) (rest : Kept) (b : Bool) → (e.0.fid == file) ≡ b → (i : Bool) → inside e.0 ≡ i → first_given own (filter (λ x. inside x.0) rest) ≡ first_given above rest
-      → first_given own (cond i (e ∷ filter (λ x. inside x.0) rest) (filter (λ x. inside x.0) rest)) ≡ option_or (above e) (first_given above rest)
-  step e rest true same true is more =
-      let same_file : e.0.fid ≡ file = eqb-true e.0.fid file same in
-      let is_above : is_after after e.0 ≡ true = sym (inside-own e.0 same_file) ∙ is in
-      ap (λ b. option_or (cond b (give e) None) (first_given own (filter (λ x. inside x.0) rest))) same
-      ∙ ap (option_or (give e)) more
-      ∙ sym (ap (λ b. option_or (cond (b && (e.0.fid == file)) (give e) None) (first_given above rest)) is_above ∙ ap (λ b. option_or (cond b (give e) None) (first_given above rest)) same)
-  step e rest true same false is more =
-      let same_file : e.0.fid ≡ file = eqb-true e.0.fid file same in
-      let not_above : is_after after e.0 ≡ false = sym (inside-own e.0 same_file) ∙ is in
-      more ∙ sym (ap (λ b. option_or (cond (b && (e.0.fid == file)) (give e) None) (first_given above rest)) not_above)
-  step e rest false other true is more =
-      ap (λ b. option_or (cond b (give e) None) (first_given own (filter (λ x. inside x.0) rest))) other ∙ more
-      ∙ sym (ap (λ b. option_or (cond (is_after after e.0 && b) (give e) None) (first_given above rest)) other ∙ ap (λ b. option_or (cond b (give e) None) (first_given above rest)) (and-false (is_after after e.0)))
-    where
-      and-false : (b : Bool) → (b && false) ≡ false
-      and-false true = refl
-      and-false false = refl
-  step e rest false other false is more =
-      more ∙ sym (ap (λ b. option_or (cond (is_after after e.0 && b) (give e) None) (first_given above rest)) other ∙ ap (λ b. option_or (cond b (give e) None) (first_given above rest)) (and-false (is_after after e.0)))
-    where
-      and-false : (b : Bool) → (b && false) ≡ false
-      and-false true = refl
-      and-false false = refl
+  step : (e : Key × Entry) (rest : Kept) (b : Bool) → (e.0.fid == file) ≡ b → (i : Bool) → inside e.0 ≡ i
+      → first_given (key_in file) (filter (λ x. inside x.0) rest) ≡ first_given (key_in file) rest
+      → first_given (key_in file) (cond i (e ∷ filter (λ x. inside x.0) rest) (filter (λ x. inside x.0) rest)) ≡ option_or (key_in file e) (first_given (key_in file) rest)
+  step e rest b own true is more = ap (option_or (key_in file e)) more
+  step e rest true own false is more = let never : true ≡ false = sym (inside-own e.0 (eqb-true e.0.fid file own)) ∙ is in cc
+  step e rest false other false is more = more ∙ sym (ap (λ b. option_or (given_if b e.0) (first_given (key_in file) rest)) other)
 
   -- the first that the range gives is the first that all entries give
-  pub first-range : (es : Kept) → first_given own (entries_between key_cmp lo hi es) ≡ first_given above es
+  pub first-range : (es : Kept) → first_given (key_in file) (entries_between key_cmp lo hi es) ≡ first_given (key_in file) es
   first-range [] = refl
   first-range (e ∷ es) = step e es (e.0.fid == file) refl (inside e.0) refl (first-range es)
 
@@ -121,17 +85,3 @@ no-key file k v h = ap (λ b. given_if b k) h
 
 pub own-key : (file : ℕ) (k : Key) (v : Entry) → (k.fid == file) ≡ true → key_in file (k, v) ≡ Some k
 own-key file k v h = ap (λ b. given_if b k) h
-
--- an entry of another file, or one that is not published, gives nothing
-pub not-published : (file : ℕ) (k : Key) (v : Entry) → v.published ≡ None → published_in file (k, v) ≡ None
-not-published file k v h = ap (λ o. cond (k.fid == file) (option_map (λ p. (k, p)) o) None) h ∙ nothing (k.fid == file)
-  where
-    nothing : (b : Bool) → cond b None None ≡ let o : Option (Key × Published) = None in o
-    nothing true = refl
-    nothing false = refl
-
-pub not-own : (file : ℕ) (k : Key) (v : Entry) → (k.fid == file) ≡ false → published_in file (k, v) ≡ None
-not-own file k v h = ap (λ b. cond b (option_map (λ p. (k, p)) v.published) None) h
-
-pub is-published : (file : ℕ) (k : Key) (v : Entry) (p : Published) → (k.fid == file) ≡ true → v.published ≡ Some p → published_in file (k, v) ≡ Some (k, p)
-is-published file k v p own h = ap (λ b. cond b (option_map (λ p. (k, p)) v.published) None) own ∙ ap (option_map (λ p. (k, p))) h

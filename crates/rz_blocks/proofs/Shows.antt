@@ -1,5 +1,5 @@
 -- The map that kept entries stand for.
-use Rattle.std.proofs.Common.{◌≡◌, Bool, true, false, cond, ◌&&◌, T, List, [], ◌∷◌, Option, Some, None, sym, ap, ◌∙◌, subst, refl}
+use Rattle.std.proofs.Common.{◌≡◌, Bool, true, false, cond, ◌&&◌, T, List, [], ◌∷◌, Option, Some, None, is_some, sym, ap, ◌∙◌, subst, refl}
 use Rattle.std.specs.declared.cmp.Ordering.TheVariants.{Less}
 use Rattle.std.specs.Option.{option_map}
 use Rattle.std.specs.Ordering.{is_lt, eq_by_cmp}
@@ -17,7 +17,7 @@ use Rattle.rz_events.specs.declared.keys.Key.{Key}
 use Rattle.rz_export_model.specs.Export.{Blocks}
 use Rattle.rz_blocks.specs.declared.blocks.Entry.{Entry}
 use Rattle.rz_blocks.specs.Shown.{shown, shown_entries}
-use Rattle.rz_blocks.specs.Rows.{kept_at}
+use Rattle.rz_blocks.specs.Marked.{kept_at}
 
 abbrev pub Kept : Type 0
 Kept = List (Key × Entry)
@@ -34,6 +34,14 @@ find-shown (e ∷ es) q = elim (is_at (key_cmp q) e.0) as (λ b. cond b (Some (s
 
 pub get-shown : (es : Kept) (q : Key) → maps.get (map_of es) q ≡ option_map shown (kept_at es q)
 get-shown es q = get-from_entries keys_total (shown_entries es) q ∙ find-shown es q
+
+-- a key that is there has an entry
+pub there-kept : (es : Kept) (m : Blocks) → map_of es ≡ m → (q : Key) → is_some (maps.get m q) ≡ true → is_some (kept_at es q) ≡ true
+there-kept es m view q h = sym (some-shown (kept_at es q)) ∙ ap is_some (sym (get-shown es q)) ∙ ap (λ x. is_some (maps.get x q)) view ∙ h
+  where
+    some-shown : (o : Option Entry) → is_some (option_map shown o) ≡ is_some o
+    some-shown None = refl
+    some-shown (Some e) = refl
 
 map-cond : (b : Bool) (o p : Option Entry) → option_map shown (cond b o p) ≡ cond b (option_map shown o) (option_map shown p)
 map-cond true o p = refl

@@ -1,28 +1,20 @@
 -- What is found among entries in the order of their keys.
-use Rattle.std.proofs.Common.{◌≡◌, Bool, true, false, cond, ◌&&◌, T, List, [], ◌∷◌, Option, Some, None, sym, ap, ◌∙◌, subst, refl}
+use Rattle.std.proofs.Common.{◌≡◌, Bool, true, false, cond, ◌&&◌, T, List, [], ◌∷◌, Option, Some, None, sym, ap, ◌∙◌, refl}
 use Rattle.std.specs.declared.cmp.Ordering.{Ordering}
 use Rattle.std.specs.declared.cmp.Ordering.TheVariants.{Less, Equal, Greater}
 use Rattle.std.specs.Option.{option_or}
 use Rattle.std.specs.Ordering.{is_lt, is_eq, eq_by_cmp, ordering_reverse}
 use Rattle.std.specs.Cmp.{tied_itself}
-use Rattle.std.specs.Map.{keys_of}
-use Rattle.std.specs.List.{AllByRecursion}
-use Rattle.std.specs.List.Sorted.{IsStrictlySortedBy}
-use Rattle.std.proofs.lemmas.Map.Keys.{sorted_head, sorted_tail}
 use Rattle.std.specs.FinMap.Entries.{find, is_sorted, below_all}
 use Rattle.rz_events.specs.Keys.{key_cmp, keys_total, exact_keys}
 use Rattle.rz_events.specs.declared.keys.Key.{Key}
 use Rattle.rz_export_model.specs.Firsts.{first_given}
 
-both : (a b : Bool) → T a → T b → T (a && b)
-both true b p q = q
-both false b p q = absurd p
-
 one : (a b : Bool) → T (a && b) → T a
 one true b p = tt
 one false b p = p
 
-pub other : (a b : Bool) → T (a && b) → T b
+other : (a b : Bool) → T (a && b) → T b
 other true b p = p
 other false b p = absurd p
 
@@ -37,14 +29,6 @@ tied Equal h = refl
 tied Greater h = cc
 
 module _ {X : Type 0} where
-  below-of : (k : Key) (es : List (Key × X)) → AllByRecursion (λ y. key_cmp k y ≡ Less) (keys_of es) → T (below_all key_cmp k es)
-  below-of k [] h = tt
-  below-of k (e ∷ es) h = both _ _ (subst (λ r. T (is_lt r)) (sym h.0) tt) (below-of k es h.1)
-
-  pub sorted-of : (es : List (Key × X)) → IsStrictlySortedBy key_cmp (keys_of es) → T (is_sorted key_cmp es)
-  sorted-of [] h = tt
-  sorted-of (e ∷ es) h = both _ _ (below-of e.0 es (sorted_head key_cmp e.0 (keys_of es) h)) (sorted-of es (sorted_tail key_cmp e.0 (keys_of es) h))
-
   below-found : (k : Key) (es : List (Key × X)) (q : Key) (v : X) → T (below_all key_cmp k es) → find key_cmp q es ≡ Some v → key_cmp k q ≡ Less
   below-found k [] q v h is = cc
   below-found k (e ∷ es) q v h is = elim (eq_by_cmp key_cmp q e.0) as (λ b. eq_by_cmp key_cmp q e.0 ≡ b → cond b (Some e.1) (find key_cmp q es) ≡ Some v → key_cmp k q ≡ Less) [
@@ -53,7 +37,7 @@ module _ {X : Type 0} where
   ] refl is
 
   -- what is found behind the first entry stands above it
-  pub above-first : (e : Key × X) (es : List (Key × X)) (q : Key) (v : X) → T (is_sorted key_cmp (e ∷ es)) → find key_cmp q es ≡ Some v → key_cmp e.0 q ≡ Less
+  above-first : (e : Key × X) (es : List (Key × X)) (q : Key) (v : X) → T (is_sorted key_cmp (e ∷ es)) → find key_cmp q es ≡ Some v → key_cmp e.0 q ≡ Less
   above-first e es q v h is = below-found e.0 es q v (one _ _ h) is
 
   pub found-first : (e : Key × X) (es : List (Key × X)) → find key_cmp e.0 (e ∷ es) ≡ Some e.1

@@ -1,3 +1,2 @@
 pub mod Shown
-pub mod Positions
-pub mod Rows
+pub mod Marked

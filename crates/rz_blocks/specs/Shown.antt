@@ -1,5 +1,5 @@
 -- What the kept entries of blocks stand for.
-use Rattle.std.specs.Prelude.{ℕ, ◌≡◌, ◌<◌, false, List, map, Option}
+use Rattle.std.specs.Prelude.{ℕ, ◌≡◌, ◌<◌, true, false, cond, List, map, Option, None}
 use Rattle.std.specs.List as lists
 use Rattle.std.specs.Option.{option_map}
 use Rattle.std.specs.declared.ops.Bound.{Bound}
@@ -10,6 +10,7 @@ use Rattle.rz_events.specs.Keys.{key_cmp}
 use Rattle.rz_events.specs.declared.keys.Key.{Key}
 use Rattle.rz_events.specs.declared.files.Published.{Published}
 use Rattle.rz_blocks.specs.declared.blocks.Entry.{Entry}
+use Rattle.rz_export_model.specs.Firsts.{first_given}
 use Rattle.rz_export_model.specs.Export.{Block, Blocks, is_after}
 
 -- an entry, as the map has it
@@ -23,6 +24,11 @@ shown_entries entries = map (λ e. (e.0, shown e.1)) entries
 abbrev pub added : Blocks → Key → ℕ → Option Published → Blocks
 added blocks key latest published = maps.insert blocks key (record { latest = latest; published = published })
 
+-- the least published key above `after`
+abbrev pub first_published : Blocks → Option Key → Option (Key × Published)
+first_published blocks after =
+    first_given (λ e. cond (is_after after e.0) (option_map (λ p. (e.0, p)) e.1.published) None) (maps.entries blocks)
+
 -- the least entry above a key, where this is given
 abbrev pub entry_above : Blocks → Option Key → Option (Key × ℕ × Option Published)
 entry_above blocks key =
@@ -32,9 +38,9 @@ entry_above blocks key =
 abbrev pub IsStartAbove : Bound Key → Option Key → Type 0
 IsStartAbove start after = (key : Key) → is_from_start key_cmp start key ≡ is_after after key
 
--- a bound from which on the keys of a file stand that are above `after`
-abbrev pub IsStartOf : Bound Key → Option Key → ℕ → Type 0
-IsStartOf start after file = (key : Key) → key.fid ≡ file → is_from_start key_cmp start key ≡ is_after after key
+-- a bound from which on the keys of a file stand
+abbrev pub IsStartOf : Bound Key → ℕ → Type 0
+IsStartOf start file = (key : Key) → key.fid ≡ file → is_from_start key_cmp start key ≡ true
 
 -- a bound that is past the keys of a file
 abbrev pub IsEndOf : Bound Key → ℕ → Type 0

@@ -1,20 +1,21 @@
 //! The map from keys to what is begun and published of them.
 
-ghost use Rattle.std.specs.Prelude.{ℕ, ◌≡◌, ◌<◌, ◌≤◌, ◌^◌, ◌==◌, nat_le, false, None, OnOk, OnErr, IsSome, IfSome, IsSomeAnd, MatchBool, MatchOption};
+ghost use Rattle.std.specs.Prelude.{ℕ, ◌≡◌, ◌<◌, ◌^◌, ◌==◌, ◌&&◌, nat_le, None, OnOk, OnErr, IsSome};
 ghost use Rattle.std.specs.Option.{option_map};
 ghost use Rattle.std.specs.FinMap as maps;
 ghost use Rattle.rz_export_model.specs.Firsts.{given_if, first_given};
 ghost use Rattle.rz_export_model.specs.Export.{prepared, begun, latest_of, with_published, published_of, next_of_file, without_file, newer_of, is_after};
-ghost use Rattle.rz_blocks.specs.Shown.{added, shown, entry_above, IsStartAbove, IsStartOf, IsEndOf, IsWithin, IsPast};
-ghost use Rattle.rz_blocks.specs.Positions.{next_at_position};
-ghost use Rattle.rz_blocks.specs.Rows.{mask_of};
+ghost use Rattle.rz_blocks.specs.Shown.{added, shown, first_published, entry_above, IsStartAbove, IsStartOf, IsEndOf, IsWithin, IsPast};
 
-use crate::rows::Rows;
 use rz_events::{Key, Published};
+use rz_marks::Marks;
 use std::alloc::{AllocError, Global};
 use std::collections::BTreeMap;
 use std::marker::Model;
 use std::ops::Bound;
+
+// The list of marks that has the published blocks.
+const PUBLISHED: u16 = 0;
 
 /// What is known of a block: the newest stamp begun, or 0, and what is published.
 #[derive(Clone, Copy, Debug, PartialEq, Eq, Drop)]
@@ -27,8 +28,8 @@ pub struct Entry {
 #[derive(Debug, Drop)]
 pub struct Blocks {
     entries: BTreeMap<Key, Entry>,
-    // For each position, which entries name it.
-    rows: Rows,
+    // The published blocks are marked, and there is room for the mark of each entry.
+    published: Marks,
 }
 
 impl Model for Blocks {
@@ -37,7 +38,7 @@ impl Model for Blocks {
     ghost use Rattle.rz_export_model.specs.Export.{Block};
     ghost use Rattle.rz_export_model.specs.Codes.{block_code};
     ghost use Rattle.rz_blocks.specs.Shown.{shown_entries};
-    ghost use Rattle.rz_blocks.specs.Rows.{IsMarked};
+    ghost use Rattle.rz_blocks.specs.Marked.{AreMarked};
 
     ghost Value = { maps.FinMap key_cmp Block };
 
@@ -45,7 +46,7 @@ impl Model for Blocks {
 
     ghost view = { λ b. maps.from_entries (shown_entries b.entries.entries) };
 
-    ghost invariant = { λ b. IsMarked b.entries.entries b.rows.by_key.entries };
+    ghost invariant = { λ b. AreMarked b.entries.entries b.published };
 }
 
 impl Blocks {
@@ -55,7 +56,7 @@ impl Blocks {
     {
         Blocks {
             entries: BTreeMap::new(alloc),
-            rows: Rows::new(alloc),
+            published: Marks::new(alloc),
         }
     }
 
@@ -81,17 +82,11 @@ impl Blocks {
         ensures ok { OnOk result (self.new ≡ added self.old key latest published) }
         ensures err { OnErr result (self.new ≡ self.old) }
     {
-        self.rows.make(key)?;
-        match self.entries.insert(key, Entry { latest, published }) {
-            Err(_) => {
-                self.rows.mark(key, None);
-                Err(AllocError)
-            }
-            Ok(_) => {
-                self.rows.mark(key, Some(mask_of(published)));
-                Ok(())
-            }
-        }
+        // Room that is made for an entry that finds no memory stays, and shows nowhere.
+        self.published.make_room(PUBLISHED, key)?;
+        self.entries.insert(key, Entry { latest, published })?;
+        self.published.set(PUBLISHED, key, published.is_some());
+        Ok(())
     }
 
     /// Notes that a write of the block began with this stamp.
@@ -146,38 +141,24 @@ impl Blocks {
         }
     }
 
-    /// The least published key of a file above `after`.
+    /// The least published key of a file above `after`. Blocks that are begun and not published are
+    /// passed over in logarithmic time.
     pub fn next(&self, after: Option<Key>, file: u128) -> Option<(Key, Published)>
         ensures { result ≡ next_of_file self.now after file }
     {
-        if is_past(after, file) {
+        let key = self.published.next(PUBLISHED, last_before(after, file))?;
+        if key.fid != file {
             return None;
         }
-        let start = start_of(after, file);
-        for (key, entry) in self.entries.range((start, end_of(file))) {
-            if key.fid == file
-                && let Some(published) = entry.published
-            {
-                return Some((*key, published));
-            }
-        }
-        None
+        let published = self.look(key)?;
+        Some((key, published))
     }
 
-    /// The least published key of a file above `after`, of those whose mask names the position, which
-    /// counts from 0. Blocks that do not name it are passed over 64 at a time.
-    pub fn next_at(
-        &self,
-        after: Option<Key>,
-        file: u128,
-        position: usize,
-    ) -> Option<(Key, Published)>
-        requires { position < 16 }
-        ensures { result ≡ next_at_position self.now after file position }
+    /// The least published key above `after`, found in logarithmic time.
+    pub fn next_published(&self, after: Option<Key>) -> Option<(Key, Published)>
+        ensures { result ≡ first_published self.now after }
     {
-        let rows = &self.rows;
-        let first = first_key(after, file)?;
-        let key = rows.first_named(first, position)?;
+        let key = self.published.next(PUBLISHED, after)?;
         let published = self.look(key)?;
         Some((key, published))
     }
@@ -200,6 +181,7 @@ impl Blocks {
         while let Some(key) = self.first_of(fid) {
             self.take_out(key);
         }
+        self.published.forget(PUBLISHED, fid);
     }
 
     // The entry of a key.
@@ -216,7 +198,8 @@ impl Blocks {
     {
         // A key that is there needs no room.
         let _there = self.entries.insert(key, entry);
-        self.rows.mark(key, Some(mask_of(entry.published)));
+        self.published
+            .set(PUBLISHED, key, entry.published.is_some());
     }
 
     /// Takes the entry of a key away.
@@ -224,15 +207,14 @@ impl Blocks {
         ensures { self.new ≡ maps.remove self.old key }
     {
         self.entries.remove(&key);
-        self.rows.mark(key, None);
+        self.published.set(PUBLISHED, key, false);
     }
 
     /// The least key of a file.
     pub fn first_of(&self, fid: u128) -> Option<Key>
         ensures { result ≡ first_given (λ e. given_if (e.0.fid == fid) e.0) (maps.entries self.now) }
     {
-        let start = start_of(None, fid);
-        for (key, _) in self.entries.range((start, end_of(fid))) {
+        for (key, _) in self.entries.range((start_of(fid), end_of(fid))) {
             if key.fid == fid {
                 return Some(*key);
             }
@@ -251,57 +233,32 @@ fn start_above(after: Option<Key>) -> Bound<Key>
     }
 }
 
-// The first key of a file above `after`, where one can be.
-fn first_key(after: Option<Key>, file: u128) -> Option<Key>
-    ensures { MatchOption result
-        ((q : Key) → q.fid ≡ file → q.block < 2 ^ 64 → is_after after q ≡ false)
-        (λ k. (k.fid ≡ file) × ((q : Key) → q.fid ≡ file → is_after after q ≡ nat_le k.block q.block)) }
-{
-    let block = match after {
-        Some(key) if key.fid > file => return None,
-        Some(key) if key.fid == file => key.block.checked_add(1)?,
-        _ => 0,
-    };
-    Some(Key { fid: file, block })
-}
-
-// The positions that are named, of none where nothing is published.
-fn mask_of(published: Option<Published>) -> u16
-    ensures { result ≡ mask_of published }
-{
-    match published {
-        None => 0,
-        Some(published) => published.mask,
-    }
-}
-
-// Whether `after` is a key of a later file.
-fn is_past(after: Option<Key>, file: u128) -> bool
-    ensures { MatchBool result (IsSomeAnd after (λ key. file < key.fid)) (IfSome after (λ key. key.fid ≤ file)) }
+// The greatest key below all those that are above `after` and of the file or a later one.
+fn last_before(after: Option<Key>, file: u128) -> Option<Key>
+    ensures { (q : Key) → q.block < 2 ^ 64 → is_after result q ≡ (is_after after q && nat_le file q.fid) }
 {
     match after {
-        None => false,
-        Some(key) => key.fid > file,
-    }
-}
-
-// The first bound of a file's keys above `after`.
-fn start_of(after: Option<Key>, file: u128) -> Bound<Key>
-    requires { IfSome after (λ key. key.fid ≤ file) }
-    ensures start { IsStartOf result after file }
-    ensures within { IsWithin result file }
-{
-    match after {
-        Some(key) if key.fid == file => Bound::Excluded(key),
-        _ => Bound::Included(Key {
-            fid: file,
-            block: 0,
+        Some(key) if key.fid >= file => after,
+        _ => Some(Key {
+            fid: file.checked_sub(1)?,
+            block: u64::MAX,
         }),
     }
 }
 
-/// The second bound of a file's keys.
-pub fn end_of(file: u128) -> Bound<Key>
+// The first bound of a file's keys.
+fn start_of(file: u128) -> Bound<Key>
+    ensures start { IsStartOf result file }
+    ensures within { IsWithin result file }
+{
+    Bound::Included(Key {
+        fid: file,
+        block: 0,
+    })
+}
+
+// The second bound of a file's keys.
+fn end_of(file: u128) -> Bound<Key>
     ensures end { IsEndOf result file }
     ensures past { IsPast result file }
 {

@@ -1,7 +1,5 @@
 //! Keys of a few files, prepared, published, looked up, gone through and forgotten.
 
-ghost use Rattle.std.specs.Prelude.{◌<◌};
-
 use crate::Blocks;
 use rz_events::{Key, Published};
 use std::alloc::AllocError;
@@ -44,35 +42,40 @@ fn prepares_and_forgets(rt: HostRuntime) -> Result<(), Fail> {
     Ok(())
 }
 
-fn publish(
-    blocks: &mut Blocks,
-    fid: u128,
-    block: u64,
-    stamp: u64,
-    mask: u16,
-) -> Result<(), AllocError> {
+// Begins a write of a block with this stamp.
+fn begin(blocks: &mut Blocks, key: Key, stamp: u64) -> Result<(), AllocError> {
+    blocks.prepare(key)?;
+    if blocks.latest(key) < stamp {
+        blocks.begin(key, stamp);
+    }
+    Ok(())
+}
+
+fn publish(blocks: &mut Blocks, fid: u128, block: u64, stamp: u64) -> Result<(), AllocError> {
     let key = Key { fid, block };
     blocks.prepare(key)?;
     blocks.publish(
         key,
         Published {
             stamp,
-            mask,
+            mask: 0b11,
             length: 4,
         },
     );
     Ok(())
 }
 
-// The blocks of a file that name a position, up to four.
-fn named(blocks: &Blocks, fid: u128, position: usize) -> [u64; 4]
-    requires { position < 16 }
-{
-    let mut found = [0; 4];
+// The stamps of the published blocks of a file, or of all files, up to three.
+fn stamps(blocks: &Blocks, file: Option<u128>) -> [u64; 3] {
+    let mut found = [0; 3];
     let mut after = None;
-    for i in 0..4 {
-        if let Some((key, _)) = blocks.next_at(after, fid, position) {
-            found[i] = key.block;
+    for i in 0..3 {
+        let next = match file {
+            None => blocks.next_published(after),
+            Some(file) => blocks.next(after, file),
+        };
+        if let Some((key, published)) = next {
+            found[i] = published.stamp;
             after = Some(key);
         }
     }
@@ -80,19 +83,23 @@ fn named(blocks: &Blocks, fid: u128, position: usize) -> [u64; 4]
 }
 
 #[test]
-fn goes_by_positions(rt: HostRuntime) -> Result<(), Fail> {
+fn passes_over_what_is_only_begun(rt: HostRuntime) -> Result<(), Fail> {
     let mut blocks = Blocks::new(rt.alloc());
-    publish(&mut blocks, 1, 63, 1, 0b011)?;
-    publish(&mut blocks, 1, 64, 2, 0b110)?;
-    publish(&mut blocks, 1, 700, 3, 0b101)?;
-    publish(&mut blocks, 2, 5, 4, 0b111)?;
-    assert_eq!(rt; named(&blocks, 1, 0), [63, 700, 0, 0]);
-    assert_eq!(rt; named(&blocks, 1, 1), [63, 64, 0, 0]);
-    publish(&mut blocks, 1, 63, 5, 0b100)?;
-    assert_eq!(rt; named(&blocks, 1, 1), [64, 0, 0, 0]);
-    assert_eq!(rt; named(&blocks, 1, 2), [63, 64, 700, 0]);
+    for (fid, block) in [(0, 5), (1, 0), (1, 63), (1, 65), (2, 0), (3, 64)] {
+        begin(&mut blocks, Key { fid, block }, 5)?;
+    }
+    publish(&mut blocks, 1, 64, 6)?;
+    publish(&mut blocks, 1, 700, 7)?;
+    publish(&mut blocks, 3, 63, 8)?;
+    assert_eq!(rt; stamps(&blocks, None), [6, 7, 8]);
+    assert_eq!(rt; stamps(&blocks, Some(0)), [0; 3]);
+    assert_eq!(rt; stamps(&blocks, Some(1)), [6, 7, 0]);
+    assert_eq!(rt; stamps(&blocks, Some(2)), [0; 3]);
+    blocks.take_out(Key { fid: 1, block: 64 });
+    assert_eq!(rt; stamps(&blocks, Some(1)), [7, 0, 0]);
     blocks.forget(1);
-    assert_eq!(rt; named(&blocks, 1, 2), [0; 4]);
-    assert_eq!(rt; named(&blocks, 2, 2), [5, 0, 0, 0]);
+    assert_eq!(rt; stamps(&blocks, None), [8, 0, 0]);
+    publish(&mut blocks, 1, 700, 9)?;
+    assert_eq!(rt; stamps(&blocks, None), [9, 8, 0]);
     Ok(())
 }

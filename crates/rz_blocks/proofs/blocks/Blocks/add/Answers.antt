@@ -1,19 +1,20 @@
-use Rattle.std.proofs.Common.{Some, ap, ◌∙◌, refl, arith}
+use Rattle.std.proofs.Common.{Some, ap, ◌∙◌, arith}
 use Rattle.std.specs.FinMap as maps
 use Rattle.rz_blocks.specs.declared.blocks.Entry.{Entry}
 use Rattle.rz_blocks.specs.Shown.{shown}
 use Rattle.rz_blocks.proofs.Shows.{one-set}
-use Rattle.rz_blocks.proofs.Marked.{remade, rewritten}
+use Rattle.rz_blocks.proofs.Marked.{roomier, room-made, rewritten}
 use Rattle.rz_blocks.proofs.blocks.Blocks.add.Goals as goal
 
-pub invariant_of-self-in-Ok : goal.invariant_of-self-in-Ok
-invariant_of-self-in-Ok c =
+pub invariant_of-self-2 : goal.invariant_of-self-2
+invariant_of-self-2 c =
     let e : Entry = record { latest = c.args.latest; published = c.args.published } in
-    rewritten c.self.inside.entries.entries c.insert.new.self.entries c.make.new.self.by_key.entries c.mark-in-Ok.new.self.by_key.entries c.args.key (Some e) (Some c.mask_of.result)
-    (remade c.self.inside.entries.entries c.self.inside.rows.by_key.entries c.make.new.self.by_key.entries c.self.invariant c.make.ensures.there c.make.ensures.named)
-    (c.in-Ok.ensures.updates.0) c.mark-in-Ok.ensures.there c.mark-in-Ok.ensures.named refl c.mask_of.ensures (λ _. omega arith)
+    rewritten c.self.inside.entries.entries c.insert.new.self.entries c.make_room.new.self c.set.new.self c.args.key (Some e) c.is_some.result
+    (roomier c.self.inside.entries.entries c.self.inside.published c.make_room.new.self c.args.key c.self.invariant c.make_room.ensures.marks c.in_ok-make_room.ensures.room)
+    c.in_ok-insert.ensures.updates.0 c.set.ensures.marks c.set.ensures.room c.is_some.ensures
+    (λ _. room-made c.self.inside.published c.make_room.new.self c.args.key c.in_ok-make_room.ensures.room) (λ _. omega arith)
 
-pub returns-in-Ok-clause-ok : goal.returns-in-Ok-clause-ok
-returns-in-Ok-clause-ok c =
+pub returns-clause-ok : goal.returns-clause-ok
+returns-clause-ok c =
     let e : Entry = record { latest = c.args.latest; published = c.args.published } in
-    one-set c.self.inside.entries.entries c.insert.new.self.entries c.args.key e c.in-Ok.ensures.updates.0 ∙ ap (λ m. maps.insert m c.args.key (shown e)) c.self.view_is
+    one-set c.self.inside.entries.entries c.insert.new.self.entries c.args.key e c.in_ok-insert.ensures.updates.0 ∙ ap (λ m. maps.insert m c.args.key (shown e)) c.self.view_is

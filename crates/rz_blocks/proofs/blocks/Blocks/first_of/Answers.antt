@@ -7,7 +7,7 @@ use Rattle.rz_blocks.proofs.Ranges.{key_in}
 use Rattle.rz_blocks.proofs.blocks.Blocks.first_of.Goals as goal
 
 pub range-key-items-requires : goal.range-key-items-requires
-range-key-items-requires c = forward c.start_of-start.result c.end_of.result c.args.fid c.start_of-start.ensures.within c.end_of.ensures.past
+range-key-items-requires c = forward c.start_of.result c.end_of.result c.args.fid c.start_of.ensures.within c.end_of.ensures.past
 
 pub loop-key-preserved : goal.loop-key-preserved
 loop-key-preserved c =
@@ -19,12 +19,12 @@ returns-then-key-fid c =
     hits (key_in c.args.fid) c.loop-key.key-iterator c.next.new.self (c.in-Some.key.now, c.in-Some.field-0-1.now) c.in-Some.key.now c.in-Some.ensures.steps
     (own-key c.args.fid c.in-Some.key.now c.in-Some.field-0-1.now (same-fid c.in-Some.key.now.fid c.args.fid c.if-key-fid.true))
     ∙ c.loop-key.invariant ∙ ap (first_given (key_in c.args.fid)) c.into_iter-key-iterator.ensures.into_iter_gives
-    ∙ first-key c.self.inside.entries.entries c.range-key-items.ensures.ordered c.args.self.now c.self.view_is c.range-key-items.result c.start_of-start.result c.end_of.result c.args.fid
-    c.start_of-start.ensures.start c.end_of.ensures.end (c.range-key-items.ensures.between tt)
+    ∙ first-key c.self.inside.entries.entries c.range-key-items.ensures.ordered c.args.self.now c.self.view_is c.range-key-items.result c.start_of.result c.end_of.result c.args.fid
+    c.start_of.ensures.start c.end_of.ensures.end (c.range-key-items.ensures.between tt)
 
 pub returns : goal.returns
 returns c =
     ends (key_in c.args.fid) c.loop-key.key-iterator c.in-None.ensures.steps.0
     ∙ c.loop-key.invariant ∙ ap (first_given (key_in c.args.fid)) c.into_iter-key-iterator.ensures.into_iter_gives
-    ∙ first-key c.self.inside.entries.entries c.range-key-items.ensures.ordered c.args.self.now c.self.view_is c.range-key-items.result c.start_of-start.result c.end_of.result c.args.fid
-    c.start_of-start.ensures.start c.end_of.ensures.end (c.range-key-items.ensures.between tt)
+    ∙ first-key c.self.inside.entries.entries c.range-key-items.ensures.ordered c.args.self.now c.self.view_is c.range-key-items.result c.start_of.result c.end_of.result c.args.fid
+    c.start_of.ensures.start c.end_of.ensures.end (c.range-key-items.ensures.between tt)
