@@ -3,6 +3,7 @@ use Rattle.std.proofs.Common.{◌≡◌, ℕ, ◌+◌, ◌≤◌, Bool, true, fa
 use Rattle.std.specs.Prelude.{count_by}
 use Rattle.std.proofs.lemmas.List.Sums.{sum_by-cons, count_by-le-length}
 use Rattle.std.specs.declared.cmp.Ordering.TheVariants.{Less, Equal, Greater}
+use Rattle.std.specs.Option.{option_map_or}
 use Rattle.std.specs.Ordering.{is_eq, is_lt, eq_by_cmp}
 use Rattle.std.specs.Cmp.{tied_itself}
 use Rattle.std.specs.FinMap as maps
@@ -20,8 +21,7 @@ one_if b = cond b 1 0
 
 -- whether the test passes of what stands at a key
 abbrev pub at_key : (Key × Block → Bool) → Key → Option Block → Bool
-at_key p k None = false
-at_key p k (Some b) = p (k, b)
+at_key p k o = option_map_or (λ b. p (k, b)) o false
 
 pub eq_true : (r : Ordering) → is_eq r ≡ true → r ≡ Equal
 eq_true Less h = cc

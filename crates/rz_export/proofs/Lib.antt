@@ -2,10 +2,11 @@ pub mod Files
 pub mod Counts
 pub mod Used
 pub mod Enrolled
+pub mod Forgets
+pub mod Marked
+pub mod Steps
 pub mod States
 pub mod Firsts
-pub mod Leasts
 pub mod Replies
-pub mod Forgets
 pub mod Released
 pub mod TreeStates

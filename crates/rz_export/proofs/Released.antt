@@ -14,10 +14,10 @@ use Rattle.rz_export_model.specs.Tree.{Tree}
 use Rattle.rz_export_model.specs.Export.{Block, Blocks, published_of, without_file, blocks_after}
 use Rattle.rz_export.specs.declared.nodes.KeptNode.{KeptNode}
 use Rattle.rz_export.specs.Nodes.{is_named, moved, recounted}
-use Rattle.rz_export.specs.Kept.{used_in, AreCounted, lies_at, gone_in}
+use Rattle.rz_export.specs.Kept.{lies_on, used_in, AreCounted, lies_at, gone_in}
 use Rattle.rz_export.proofs.Files.{view}
 use Rattle.rz_export.proofs.Counts.{one_if, count-remove}
-use Rattle.rz_export.proofs.Used.{counts, counts_at, counts-view, file-view}
+use Rattle.rz_export.proofs.Used.{counts_at, counts-view, file-view}
 use Rattle.rz_export.proofs.Forgets.{first_of_file, first-own, first-found}
 
 moved-down : (was : Bool) (old new : ℕ) → new + one_if was ≡ old → moved was false old ≡ new
@@ -44,10 +44,10 @@ counted-out t m ns info k first lies all =
         let b = held (maps.get m k) (first-there m info.fid k first) in
         let own : k.fid ≡ info.fid = eqb-true k.fid info.fid (first-own info.fid (maps.entries m) k first) in
         let there : view t.objects k.fid ≡ Some info.places = ap (view t.objects) own ∙ sym (file-view t info.fid) ∙ lies in
-        let told : counts t node (k, b.0) ≡ is_named node info.places (published_of m k)
+        let told : lies_on t node (k, b.0) ≡ is_named node info.places (published_of m k)
         = counts-view t node k b.0 ∙ ap (λ o. counts_at node o b.0.published) there ∙ ap (is_named node info.places) (sym (ap (option_and_then (λ (x : Block). x.published)) b.1)) in
         moved-down (is_named node info.places (published_of m k)) old (used_in t (maps.remove m k) node)
-        (ap (λ (x : Bool). used_in t (maps.remove m k) node + one_if x) (sym told) ∙ count-remove (counts t node) m k b.0 b.1 ∙ sym is)
+        (ap (λ (x : Bool). used_in t (maps.remove m k) node + one_if x) (sym told) ∙ count-remove (lies_on t node) m k b.0 b.1 ∙ sym is)
 
 -- a block less is not more
 pub fewer-left : (m : Blocks) (k : Key) → maps.len (maps.remove m k) ≤ maps.len m

@@ -1,7 +1,6 @@
 -- What calls answer, by the first reason that applies.
 use Rattle.std.proofs.Common.{◌≡◌, ℕ, ◌+◌, ◌-◌, ◌^◌, ◌<◌, ◌≤◌, Bool, true, false, cond, ◌&&◌, ◌||◌, [], ◌∷◌, Option, Some, None, is_some, sym, ap, ◌∙◌, refl}
 use Rattle.std.specs.Prelude.{nat_lt, nat_le, is_none}
-use Rattle.std.specs.List as lists
 use Rattle.std.specs.Option.{option_map, option_and_then, option_or}
 use Rattle.std.specs.FinMap as maps
 use Rattle.std.proofs.lemmas.Bool.{and_parts, leb-true, leb-false, lt-ltb, le-ltb}
@@ -15,20 +14,8 @@ use Rattle.rz_events.specs.declared.export.Reply.{Reply}
 use Rattle.rz_events.specs.declared.export.Reply.TheVariants as reply
 use Rattle.rz_export_model.specs.Firsts.{first_of, given_if}
 use Rattle.rz_export_model.specs.Tree.{file_of}
-use Rattle.rz_export_model.specs.Export.{Export, Block, is_after, latest_of, no_begin, unknown_file, too_far, spent, no_publish, barred, is_proper, is_mask, is_drawn, is_ready}
-use Rattle.rz_blocks.specs.Shown.{entry_above}
-use Rattle.rz_export.specs.Kept.{file_begun_after, with_fence}
-
--- the file of the least begun block, as the blocks tell it
-pub begun-file : (s : Export) (after : Option Key) (o : Option (Key × ℕ × Option Published)) → o ≡ entry_above s.blocks after
-    → option_map (λ (x : Key × ℕ × Option Published). x.0.fid) o ≡ file_begun_after s after
-begun-file s after o is =
-    ap (option_map (λ (x : Key × ℕ × Option Published). x.0.fid)) is ∙ go (lists.find (λ e. is_after after e.0) (maps.entries s.blocks))
-  where
-    go : (f : Option (Key × Block))
-        → option_map (λ (x : Key × ℕ × Option Published). x.0.fid) (option_map (λ (e : Key × Block). (e.0, e.1.latest, e.1.published)) f) ≡ option_map (λ (e : Key × Block). e.0.fid) f
-    go None = refl
-    go (Some e) = refl
+use Rattle.rz_export_model.specs.Export.{Export, latest_of, no_begin, unknown_file, too_far, spent, no_publish, barred, is_proper, is_mask, is_drawn, is_ready}
+use Rattle.rz_export.specs.Kept.{with_fence}
 
 -- ---- a publish
 
@@ -93,6 +80,10 @@ not_given false x k = refl
 not_none : (o : Option FileInfo) → is_none o ≡ false → is_some o ≡ true
 not_none None k = cc
 not_none (Some i) k = refl
+
+-- a file that is not live
+pub unknown-begin : (s : Export) (key : Key) → file_of s.tree key.fid ≡ None → Some denial.UnknownFile ≡ no_begin s key
+unknown-begin s key is = sym (ap (λ (o : Option FileInfo). option_or (given_if (is_none o) denial.UnknownFile) (option_or (too_far key) (option_or (spent s) None))) is)
 
 -- where nothing forbids it
 pub may-begin : (s : Export) (key : Key) → no_begin s key ≡ None → MayBegin s key

@@ -19,9 +19,10 @@ use Rattle.rz_export_model.specs.TreeCalls.{reply_to, tree_after}
 use Rattle.rz_export_model.specs.Export.{Export, Block, Blocks, new_places, blocks_after}
 use Rattle.rz_export.specs.declared.nodes.KeptNode.{KeptNode}
 use Rattle.rz_export.specs.Calls.{placed_for}
-use Rattle.rz_export.specs.Kept.{used_in, AreCounted, IsKept, lies_at, LayThere}
+use Rattle.rz_export.specs.Kept.{used_in, AreCounted, AreMarked, HaveRoom, IsKept, lies_at, LayThere}
 use Rattle.rz_export.proofs.Files.{seen, view, makes, ends, made_at, IsBlank, IsStep}
 use Rattle.rz_export.proofs.Used.{file-view, live-view, used-alike}
+use Rattle.rz_export.proofs.Marked.{Marks, marked-alike, room-alike}
 use Rattle.rz_export.proofs.States.{same-block}
 use Rattle.rz_export.proofs.Forgets.{get-without}
 
@@ -73,13 +74,15 @@ stays m (told.Gone (Some info)) k b at = go (k.fid == info.fid) refl (sym (get-w
 stays m (_) k b at = (at, refl)
 
 -- after a call on names
-pub kept-name : (v : Volume) (t u : Tree) (m after : Blocks) (r : TreeReply) (ns new : List KeptNode) (last : ℕ) → IsKept v t m ns last → IsStep t u r
+pub kept-name : (v : Volume) (t u : Tree) (m after : Blocks) (r : TreeReply) (ns new : List KeptNode) (rs marks : Marks) (last : ℕ) → IsKept v t m ns rs last → IsStep t u r
     → after ≡ blocks_after m r → maps.len after ≤ maps.len m → map (λ (n : KeptNode). n.spec) new ≡ map (λ (n : KeptNode). n.spec) ns → AreCounted t after new
-    → IsKept v u after new last
-kept-name v t u m after r ns new last h s is few specs counted = record {
+    → AreMarked t after marks → HaveRoom t after marks → IsKept v u after new marks last
+kept-name v t u m after r ns new rs marks last h s is few specs counted marked room = record {
   all_nodes = specs ∙ h.all_nodes;
   counted = All-weaker (λ (n : KeptNode). n.used ≡ used_in t after n.spec.sid) (λ (n : KeptNode). n.used ≡ used_in u after n.spec.sid)
-      (λ n e. e ∙ sym (used-alike t u after n.spec.sid (λ k b at. lies k b at))) new counted;
+      (λ n e. e ∙ sym (used-alike t u after n.spec.sid lies)) new counted;
+  marked = marked-alike t u after marks lies marked;
+  room = room-alike t u after marks lies room;
   made = s.blank;
   each_block = λ k b at. same-block t u last k b (lies k b at) (h.each_block k b (stays m r k b (ap (λ x. maps.get x k) (sym is) ∙ at)).0);
   few = (let low = h.few in omega (arith, low, few));

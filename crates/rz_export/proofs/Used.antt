@@ -8,17 +8,13 @@ use Rattle.rz_events.specs.declared.files.Listed.{Listed}
 use Rattle.rz_events.specs.declared.files.Published.{Published}
 use Rattle.rz_export_model.specs.Firsts.{given_if}
 use Rattle.rz_export_model.specs.Tree.{Tree, Object, file_of, file_from, info_of, is_file}
-use Rattle.rz_export_model.specs.Export.{Block, Blocks, is_on, listed_at}
+use Rattle.rz_export_model.specs.Export.{Block, Blocks, is_on}
 use Rattle.rz_export.specs.Nodes.{is_named, moved}
-use Rattle.rz_export.specs.Kept.{used_in}
+use Rattle.rz_export.specs.Kept.{lies_on, used_in}
 use Rattle.rz_export.proofs.Files.{seen, view}
 use Rattle.rz_export.proofs.Counts.{one_if, at_key, alike}
 
--- whether a published block of a live file names the node
-abbrev pub counts : Tree → ℕ → Key × Block → Bool
-counts t node e = option_map_or (is_on node) (listed_at t e.0 e.1) false
-
--- the same by where the file lies
+-- whether a block lies on the node, by where its file lies and what is published
 abbrev pub counts_at : ℕ → Option (List ℕ) → Option Published → Bool
 counts_at node None published = false
 counts_at node (Some places) published = is_named node places published
@@ -28,7 +24,7 @@ listed_counts : (node : ℕ) (key : Key) (info : FileInfo) (o : Option Published
 listed_counts node key info None = refl
 listed_counts node key info (Some p) = refl
 
-pub counts-view : (t : Tree) (node : ℕ) (k : Key) (b : Block) → counts t node (k, b) ≡ counts_at node (view t.objects k.fid) b.published
+pub counts-view : (t : Tree) (node : ℕ) (k : Key) (b : Block) → lies_on t node (k, b) ≡ counts_at node (view t.objects k.fid) b.published
 counts-view t node k b = go (maps.get t.objects k.fid)
   where
     kind : (o : Object) (f : Bool)
@@ -63,14 +59,14 @@ pub live-view : (t : Tree) (fid : ℕ) → is_some (file_of t fid) ≡ is_some (
 live-view t fid = sym (some_map (file_of t fid)) ∙ ap is_some (file-view t fid)
 
 -- a block of a file that lies there
-pub counts-live : (t : Tree) (node : ℕ) (k : Key) (b : Block) (info : FileInfo) → file_of t k.fid ≡ Some info → counts t node (k, b) ≡ is_named node info.places b.published
+pub counts-live : (t : Tree) (node : ℕ) (k : Key) (b : Block) (info : FileInfo) → file_of t k.fid ≡ Some info → lies_on t node (k, b) ≡ is_named node info.places b.published
 counts-live t node k b info is =
     counts-view t node k b
     ∙ ap (λ o. counts_at node o b.published) (sym (file-view t k.fid) ∙ ap (option_map (λ (i : FileInfo). i.places)) is)
 
 -- only what is published of a block counts
 pub counts-published : (t : Tree) (node : ℕ) (k : Key) (o : Option Block) (n : ℕ)
-    → at_key (counts t node) k o ≡ counts t node (k, record { latest = n; published = option_and_then (λ b. b.published) o })
+    → at_key (lies_on t node) k o ≡ lies_on t node (k, record { latest = n; published = option_and_then (λ b. b.published) o })
 counts-published t node k None n = sym (counts-view t node k (record { latest = n; published = None }) ∙ go (view t.objects k.fid))
   where
     go : (o : Option (List ℕ)) → counts_at node o None ≡ false
@@ -80,7 +76,7 @@ counts-published t node k (Some b) n = refl
 
 -- where the files of the blocks lie as before, the nodes use as many cells
 pub used-alike : (t u : Tree) (m : Blocks) (node : ℕ) → ((k : Key) (b : Block) → maps.get m k ≡ Some b → view u.objects k.fid ≡ view t.objects k.fid) → used_in u m node ≡ used_in t m node
-used-alike t u m node same = alike (counts u node) (counts t node) m (λ k b at.
+used-alike t u m node same = alike (lies_on u node) (lies_on t node) m (λ k b at.
     counts-view u node k b ∙ ap (λ o. counts_at node o b.published) (same k b at) ∙ sym (counts-view t node k b))
 
 -- a count that is moved is the new count

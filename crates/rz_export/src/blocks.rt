@@ -9,6 +9,7 @@ ghost use Rattle.rz_export_model.specs.Export.{no_begin, no_publish, export_repl
 ghost use Rattle.rz_export.specs.Kept.{with_fence};
 
 use crate::export::Export;
+use crate::lists::{make_room, mark};
 use crate::nodes::{Enrolment, enroll, recount};
 use rz_events::{Denial, FileInfo, Key, Published, Reply};
 use std::alloc::AllocError;
@@ -20,11 +21,14 @@ impl Export {
         ensures ok { OnOk result (self.new ≡ export_after self.old (Call.Begin key [])) }
         ensures err { OnErr result (self.new ≡ self.old) }
     {
+        let Some(info) = self.file(key.fid) else {
+            return Ok(Reply::Denied(Denial::UnknownFile));
+        };
         if let Some(why) = self.no_begin(key) {
             return Ok(Reply::Denied(why));
         }
         let base = self.base(key);
-        let stamp = self.start(key)?;
+        let stamp = self.start(key, &info)?;
         Ok(Reply::Begun { stamp, base })
     }
 
@@ -84,13 +88,16 @@ impl Export {
         }
     }
 
-    // Draws a stamp for a block, and makes it the newest begun.
-    fn start(&mut self, key: Key) -> Result<u64, AllocError>
-        requires { no_begin self.old key ≡ None }
+    // Draws a stamp for a block of a live file, and makes it the newest begun. The memory that a
+    // publish will need is taken here.
+    fn start(&mut self, key: Key, info: &FileInfo) -> Result<u64, AllocError>
+        requires live { file_of self.old.tree key.fid ≡ Some info.now }
+        requires may { no_begin self.old key ≡ None }
         ensures number { IfOk result (λ stamp. stamp ≡ self.old.last + 1) }
         ensures ok { OnOk result (self.new ≡ after_begin self.old key) }
         ensures err { OnErr result (self.new ≡ self.old) }
     {
+        make_room(&mut self.listed, info.places.list(), key)?;
         self.blocks.prepare(key)?;
         self.last += 1;
         self.blocks.begin(key, self.last);
@@ -123,6 +130,7 @@ impl Export {
         let after = self.blocks.look(key);
         let places = info.places.list();
         recount(self.nodes.as_mut_slice(), places, before, after);
+        mark(&mut self.listed, places, key, after);
     }
 
     // The size of a file that ends with so many bytes of this block.

@@ -57,7 +57,12 @@ impl Export {
     {
         let (cid, places) = self.places_for(call)?;
         let reply = self.tree.answer(call, cid, &places)?;
-        settle(self.nodes.as_mut_slice(), &mut self.blocks, &reply);
+        settle(
+            self.nodes.as_mut_slice(),
+            &mut self.blocks,
+            &mut self.listed,
+            &reply,
+        );
         Ok(reply)
     }
 

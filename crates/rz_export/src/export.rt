@@ -14,6 +14,7 @@ use mj_angles::Layout;
 use rz_blocks::Blocks;
 use rz_config::Volume;
 use rz_events::{FileInfo, Key, Published};
+use rz_marks::Marks;
 use rz_tree::Tree;
 use std::alloc::{AllocError, Global};
 use std::marker::Model;
@@ -26,6 +27,8 @@ pub struct Export {
     pub(crate) tree: Tree,
     pub(crate) blocks: Blocks,
     pub(crate) nodes: Vec<KeptNode>,
+    // In the list of each node the published blocks that lie on it.
+    pub(crate) listed: Marks,
     pub(crate) last: u64,
 }
 
@@ -40,7 +43,7 @@ impl Model for Export {
 
     ghost view = { λ e. export_of e.volume e.tree e.blocks e.nodes.items e.last };
 
-    ghost invariant = { λ e. IsKept e.volume e.tree e.blocks e.nodes.items e.last };
+    ghost invariant = { λ e. IsKept e.volume e.tree e.blocks e.nodes.items e.listed e.last };
 }
 
 impl Export {
@@ -51,12 +54,14 @@ impl Export {
         let tree = Tree::new(alloc)?;
         let nodes = nodes_in(alloc, &volume)?;
         let blocks = Blocks::new(alloc);
+        let listed = Marks::new(alloc);
         Ok(Export {
             alloc,
             volume,
             tree,
             blocks,
             nodes,
+            listed,
             last,
         })
     }

@@ -1,17 +1,19 @@
-//! The blocks of a file that goes.
+//! The blocks of a file that goes, with what is counted and marked of them.
 
 ghost use Rattle.std.specs.Prelude.{◌≡◌, ◌≤◌, map, Some};
 ghost use Rattle.std.specs.FinMap as maps;
 ghost use Rattle.rz_export_model.specs.Tree.{Tree};
 ghost use Rattle.rz_export_model.specs.Export.{without_file, blocks_after};
 ghost use Rattle.rz_export.specs.Nodes.{enrolments_of};
-ghost use Rattle.rz_export.specs.Kept.{AreCounted, lies_at, gone_in, LayThere};
+ghost use Rattle.rz_export.specs.Kept.{AreCounted, AreMarked, HaveRoom, lies_at, gone_in, LayThere};
 
+use crate::lists::clear;
 use crate::nodes::{KeptNode, recount};
 use rz_blocks::Blocks;
 use rz_events::{FileInfo, TreeReply};
+use rz_marks::Marks;
 
-/// Takes all blocks of a file away, and counts them out.
+/// Takes all blocks of a file away, and counts them out one by one.
 fn release(nodes: &mut [KeptNode], blocks: &mut Blocks, info: &FileInfo)
     ensures blocks { blocks.new ≡ without_file blocks.old info.now.fid }
     ensures few { maps.len blocks.new ≤ maps.len blocks.old }
@@ -24,20 +26,25 @@ fn release(nodes: &mut [KeptNode], blocks: &mut Blocks, info: &FileInfo)
         recount(nodes, info.places.list(), before, None);
         blocks.take_out(key);
     }
+    // No block is left; the room for their marks goes.
+    blocks.forget(info.fid);
 }
 
-/// Takes the blocks of the file away that a reply says to be gone.
-pub fn settle(nodes: &mut [KeptNode], blocks: &mut Blocks, reply: &TreeReply)
+/// Takes the blocks of the file away that a reply says to be gone, and its marks.
+pub fn settle(nodes: &mut [KeptNode], blocks: &mut Blocks, listed: &mut Marks, reply: &TreeReply)
     ensures blocks { blocks.new ≡ blocks_after blocks.old reply.now }
     ensures few { maps.len blocks.new ≤ maps.len blocks.old }
     ensures specs { map (λ n. n.spec) nodes.new ≡ map (λ n. n.spec) nodes.old }
     ensures enrolled { enrolments_of nodes.new ≡ enrolments_of nodes.old }
     ensures counted { (t : Tree) → LayThere t reply.now → AreCounted t blocks.old nodes.old → AreCounted t blocks.new nodes.new }
+    ensures marked { (t : Tree) → LayThere t reply.now → AreMarked t blocks.old listed.old → AreMarked t blocks.new listed.new }
+    ensures room { (t : Tree) → HaveRoom t blocks.old listed.old → HaveRoom t blocks.new listed.new }
 {
     let Some(info) = gone_of(reply) else {
         return;
     };
     release(nodes, blocks, &info);
+    clear(listed, info.places.list(), info.fid);
 }
 
 /// The file that a reply says to be gone.

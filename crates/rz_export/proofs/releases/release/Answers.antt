@@ -1,4 +1,4 @@
-use Rattle.std.proofs.Common.{◌≡◌, ◌<◌, None, List, map, sym, ap, ◌∙◌, subst, refl, arith}
+use Rattle.std.proofs.Common.{◌≡◌, ◌<◌, ◌≤◌, None, List, map, sym, ap, ◌∙◌, subst, refl, arith}
 use Rattle.std.specs.FinMap as maps
 use Rattle.rz_export_model.specs.Export.{Blocks, without_file, published_of}
 use Rattle.rz_export.specs.declared.nodes.KeptNode.{KeptNode}
@@ -36,11 +36,13 @@ loop-key-preserved c =
 
 pub returns : goal.returns
 returns c =
-    let done = forget-end c.loop-key.blocks c.args.info.now.fid (sym c.first_of.ensures ∙ c.in_default.is) in
+    let left = c.loop-key.blocks in
+    let done = forget-end left c.args.info.now.fid (sym c.first_of.ensures ∙ c.in_default.is) in
+    let same : c.forget.new.self ≡ left = c.forget.ensures ∙ sym done in
     record {
-      blocks = done ∙ c.loop-key.invariant.rest;
-      few = c.loop-key.invariant.few;
+      blocks = c.forget.ensures ∙ c.loop-key.invariant.rest;
+      few = subst (λ (x : Blocks). maps.len x ≤ maps.len c.args.blocks.now) (sym same) c.loop-key.invariant.few;
       specs = c.loop-key.invariant.specs;
       enrolled = c.loop-key.invariant.enrolled;
-      counted = c.loop-key.invariant.counted;
+      counted = λ t lies all. subst (λ (x : Blocks). AreCounted t x c.loop-key.nodes) (sym same) (c.loop-key.invariant.counted t lies all);
     }

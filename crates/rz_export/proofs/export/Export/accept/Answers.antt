@@ -1,18 +1,32 @@
-use Rattle.std.proofs.Common.{◌≡◌, ℕ, ◌+◌, ◌*◌, ◌^◌, ◌<◌, List, map, Option, Some, is_some, ap, sym, subst, ◌∙◌, arith, refl}
+use Rattle.std.proofs.Common.{◌≡◌, ℕ, ◌+◌, ◌*◌, ◌^◌, ◌<◌, ◌&&◌, cond, List, map, Option, Some, is_some, ap, sym, subst, ◌∙◌, arith, refl}
 use Rattle.std.specs.FinMap as maps
 use Rattle.std.specs.FinMap.{FinMap}
-use Rattle.std.specs.Ordering.{nat_cmp}
+use Rattle.std.specs.Option.{option_map}
+use Rattle.std.specs.Ordering.{nat_cmp, is_eq}
 use Rattle.std.proofs.lemmas.List.{with_items_is}
 use Rattle.mj_angles.specs.Layout.{block_bytes_of}
+use Rattle.rz_events.specs.Keys.{key_cmp}
+use Rattle.rz_events.specs.declared.files.FileInfo.{FileInfo}
 use Rattle.rz_events.specs.declared.files.Published.{Published}
+use Rattle.rz_marks.specs.Marks.{is_marked}
 use Rattle.rz_export_model.specs.Tree.{Tree, file_of, grown}
 use Rattle.rz_export_model.specs.Export.{Export, Blocks, Enrolled, published_of, with_published, after_publish}
 use Rattle.rz_export.specs.declared.nodes.KeptNode.{KeptNode}
-use Rattle.rz_export.specs.Nodes.{recounted}
-use Rattle.rz_export.specs.Kept.{export_of, IsKept}
+use Rattle.rz_export.specs.Nodes.{is_named, recounted}
+use Rattle.rz_export.specs.Kept.{export_of, is_place, AreRoomy, IsKept}
 use Rattle.rz_export.proofs.Enrolled.{enrolments-same}
-use Rattle.rz_export.proofs.States.{kept-publish, held-block}
+use Rattle.rz_export.proofs.States.{IsRemarked, kept-publish, held-block}
 use Rattle.rz_export.proofs.export.Export.accept.Goals as goal
+
+pub mark-requires-clause-room : goal.mark-requires-clause-room
+mark-requires-clause-room c =
+    let s = c.self.inside in
+    let key = c.args.key in
+    let info = c.args.info.now in
+    let live : file_of s.tree key.fid ≡ Some info = ap (λ (x : Export). file_of x.tree key.fid) c.self.view_is ∙ c.requires.live in
+    let b = held-block (maps.get s.blocks key) (ap (λ (x : Export). is_some (maps.get x.blocks key)) c.self.view_is ∙ c.requires.begun) in
+    subst (λ (ps : List ℕ). AreRoomy s.listed ps key) (sym c.list-places.ensures.value)
+    (c.self.invariant.room key b.0 info.places b.1 (ap (option_map (λ (i : FileInfo). i.places)) live))
 
 pub invariant_of-self : goal.invariant_of-self
 invariant_of-self c =
@@ -34,10 +48,18 @@ invariant_of-self c =
     let live : file_of s.tree key.fid ≡ Some info = ap (λ (x : Export). file_of x.tree key.fid) c.self.view_is ∙ c.requires.live in
     let b = held-block (maps.get s.blocks key) (ap (λ (x : Export). is_some (maps.get x.blocks key)) c.self.view_is ∙ c.requires.begun) in
     let word : s.last < 2 ^ 64 = omega arith in
-    subst (λ (ns : List KeptNode). IsKept s.volume c.grow.new.self c.publish.new.self ns s.last) (sym (items ∙ nodes))
-    (subst (λ (t : Tree). IsKept s.volume t c.publish.new.self (map f s.nodes.items) s.last) (sym c.grow.ensures)
-    (subst (λ (m : Blocks). IsKept s.volume (grown s.tree key.fid size) m (map f s.nodes.items) s.last) (sym c.publish.ensures)
-    (kept-publish s.volume s.tree s.blocks s.nodes.items s.last c.self.invariant key info p size live b.0 b.1 word)))
+    let marks = c.mark.new.listed in
+    let remarked : IsRemarked s.listed marks key info.places new = record {
+      marks = λ l q.
+          c.mark.ensures.marks l q
+          ∙ ap (λ (ps : List ℕ). cond (is_place l ps && is_eq (key_cmp key q)) (is_named l ps c.look-after.result) (is_marked s.listed l q)) c.list-places.ensures.value
+          ∙ ap (λ (o : Option Published). cond (is_place l info.places && is_eq (key_cmp key q)) (is_named l info.places o) (is_marked s.listed l q)) (c.look-after.ensures ∙ ap (λ (m : Blocks). published_of m key) c.publish.ensures);
+      room = c.mark.ensures.room;
+    } in
+    subst (λ (ns : List KeptNode). IsKept s.volume c.grow.new.self c.publish.new.self ns marks s.last) (sym (items ∙ nodes))
+    (subst (λ (t : Tree). IsKept s.volume t c.publish.new.self (map f s.nodes.items) marks s.last) (sym c.grow.ensures)
+    (subst (λ (m : Blocks). IsKept s.volume (grown s.tree key.fid size) m (map f s.nodes.items) marks s.last) (sym c.publish.ensures)
+    (kept-publish s.volume s.tree s.blocks s.nodes.items s.listed s.last c.self.invariant key info p size live b.0 b.1 word marks remarked)))
 
 pub returns : goal.returns
 returns c =

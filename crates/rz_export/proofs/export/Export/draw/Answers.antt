@@ -20,8 +20,8 @@ invariant_of-self c =
     let e : Enrolment = record { loss = c.args.loss; fence = s.last + 1 } in
     let items = with_items_is s.nodes c.enroll.new.nodes (c.enroll.auto.nodes ∙ c.as_mut_slice.ensures.len) in
     let all : c.enroll.new.nodes ≡ map (with_enrolment c.args.node e) s.nodes.items = c.enroll.ensures ∙ ap (map (with_enrolment c.args.node e)) c.as_mut_slice.ensures.value in
-    subst (λ (ns : List KeptNode). IsKept s.volume s.tree s.blocks ns (s.last + 1)) (sym (items ∙ all))
-    (kept-draw s.volume s.tree s.blocks s.nodes.items s.last c.self.invariant c.args.node e)
+    subst (λ (ns : List KeptNode). IsKept s.volume s.tree s.blocks ns s.listed (s.last + 1)) (sym (items ∙ all))
+    (kept-draw s.volume s.tree s.blocks s.nodes.items s.listed s.last c.self.invariant c.args.node e)
 
 pub returns-clause-state : goal.returns-clause-state
 returns-clause-state c =

@@ -8,5 +8,5 @@ use Rattle.rz_export.proofs.export.Export.is_begun.Goals as goal
 pub returns : goal.returns
 returns c =
     let s = c.self.inside in
-    ap (nat_lt 0) c.latest.ensures ∙ begun-test s.volume s.tree s.blocks s.nodes.items s.last c.self.invariant c.args.key
+    ap (nat_lt 0) c.latest.ensures ∙ begun-test s.volume s.tree s.blocks s.nodes.items s.listed s.last c.self.invariant c.args.key
     ∙ ap (λ (s : Export). is_some (maps.get s.blocks c.args.key)) c.self.view_is

@@ -17,7 +17,7 @@ use Rattle.rz_export.proofs.export.Export.name.Goals as goal
 pub invariant_of-self : goal.invariant_of-self
 invariant_of-self c =
     let s = c.self.inside in
-    subst (λ (t : Tree). IsKept s.volume t s.blocks s.nodes.items s.last) (sym c.in_err-reply.ensures.err) c.self.invariant
+    subst (λ (t : Tree). IsKept s.volume t s.blocks s.nodes.items s.listed s.last) (sym c.in_err-reply.ensures.err) c.self.invariant
 
 pub invariant_of-self-2 : goal.invariant_of-self-2
 invariant_of-self-2 c =
@@ -29,12 +29,14 @@ invariant_of-self-2 c =
     let stepped : IsStep s.tree u r =
     subst (λ (z : Tree). IsStep s.tree z r) (sym c.in_ok-reply.ensures.ok)
     (subst (λ (z : TreeReply). IsStep s.tree after z) (sym c.in_ok-reply.ensures.reply) (step s.tree c.in_ok-cid.cid c.in_ok-cid.places call c.self.invariant.made)) in
-    let counted = c.settle.ensures.counted s.tree (lay-there s.tree u r stepped)
+    let there = lay-there s.tree u r stepped in
+    let counted = c.settle.ensures.counted s.tree there
     (subst (λ (ns : List KeptNode). AreCounted s.tree s.blocks ns) (sym c.as_mut_slice.ensures.value) c.self.invariant.counted) in
     let specs = c.settle.ensures.specs ∙ ap (map (λ (n : KeptNode). n.spec)) c.as_mut_slice.ensures.value in
     let items = with_items_is s.nodes c.settle.new.nodes (c.settle.auto.nodes ∙ c.as_mut_slice.ensures.len) in
-    subst (λ (ns : List KeptNode). IsKept s.volume u c.settle.new.blocks ns s.last) (sym items)
-    (kept-name s.volume s.tree u s.blocks c.settle.new.blocks r s.nodes.items c.settle.new.nodes s.last c.self.invariant stepped c.settle.ensures.blocks c.settle.ensures.few specs counted)
+    subst (λ (ns : List KeptNode). IsKept s.volume u c.settle.new.blocks ns c.settle.new.listed s.last) (sym items)
+    (kept-name s.volume s.tree u s.blocks c.settle.new.blocks r s.nodes.items c.settle.new.nodes s.listed c.settle.new.listed s.last c.self.invariant stepped c.settle.ensures.blocks c.settle.ensures.few specs counted
+    (c.settle.ensures.marked s.tree there c.self.invariant.marked) (c.settle.ensures.room s.tree c.self.invariant.room))
 
 pub returns-clause-reply : goal.returns-clause-reply
 returns-clause-reply c =

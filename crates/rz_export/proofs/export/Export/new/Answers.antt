@@ -12,9 +12,9 @@ use Rattle.rz_export.proofs.export.Export.new.Goals as goal
 pub invariant_of-result : goal.invariant_of-result
 invariant_of-result c =
     let v = c.args.volume in
-    subst (λ (t : Tree). IsKept v t c.new-blocks.result c.in_ok-nodes.nodes.items c.args.last) (sym c.in_ok-tree.ensures)
-    (subst (λ (m : Blocks). IsKept v empty_tree m c.in_ok-nodes.nodes.items c.args.last) (sym c.new-blocks.ensures)
-    (subst (λ ns. IsKept v empty_tree maps.empty ns c.args.last) (sym c.in_ok-nodes.ensures) (kept-new v c.args.last)))
+    subst (λ (t : Tree). IsKept v t c.new-blocks.result c.in_ok-nodes.nodes.items c.new-listed.result c.args.last) (sym c.in_ok-tree.ensures)
+    (subst (λ (m : Blocks). IsKept v empty_tree m c.in_ok-nodes.nodes.items c.new-listed.result c.args.last) (sym c.new-blocks.ensures)
+    (subst (λ ns. IsKept v empty_tree maps.empty ns c.new-listed.result c.args.last) (sym c.in_ok-nodes.ensures) (kept-new v c.new-listed.result c.args.last c.new-listed.ensures.marks)))
 
 pub returns : goal.returns
 returns c =
