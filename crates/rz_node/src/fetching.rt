@@ -1,5 +1,5 @@
 //! Fetching a record.
-ghost use Rattle.std.specs.Prelude.{◌≡◌, ◌≢◌, ◌≤◌, ℕ, Some, None, true, IsTrue, IfSome, length};
+ghost use Rattle.std.specs.Prelude.{◌≡◌, ◌≢◌, ◌≤◌, ℕ, Some, None, true, IsTrue, IfSome, length, drop};
 ghost use Rattle.std.specs.Option.{option_map};
 ghost use Rattle.mj_angles.specs.Layout.{max_bins_of};
 ghost use Rattle.rz_disk.specs.Images.{Within};
@@ -24,6 +24,9 @@ impl<D: Disk> Node<D> {
         ensures after { (position : ℕ) → self.new.state ≡ after_answer (NodeAsk.Fetch key position stamp) (NodeAnswer.Fetch result) self.old.state }
         ensures bins { IfHeld result (λ told. IsTrue D.tells → Gives self.old.geometry self.old.state.fence (D.text self.old.disk) key told out.old out.new) }
         ensures unread { fetch_used result ≢ Some true → out.new ≡ out.old }
+
+        // Behind the most bins that a record has nothing is written, also where the disk does not tell what it holds.
+        ensures rest { drop (max_bins_of self.old.geometry.layout) out.new ≡ drop (max_bins_of self.old.geometry.layout) out.old }
 
         // The disk keeps what it holds, and is not used where nothing is read.
         ensures same { fetch_used result ≡ None → self.new ≡ self.old }

@@ -99,6 +99,9 @@ impl<D: Disk> Node<D> {
         // A disk that tells is refused by a failed device call alone.
         ensures exact { IfUnopened result (λ cause. IsTrue D.tells → cause ≡ OpenFault.DiskFault) }
 
+        // A wrong size is true also of a disk that does not tell what it holds.
+        ensures size { IfUnopened result (λ cause. (have need : ℕ) → cause ≡ OpenFault.WrongSize have need → Refuses self.old.geometry (D.text self.old.disk) (OpenFault.WrongSize have need)) }
+
         // What is held is what the text stands for.
         ensures stands { IfStarted result (IsTrue D.tells → (records : Records) × StandsFor self.new.geometry self.new.state.fence (D.text self.new.disk) records) }
         ensures shows { IfStarted result (IsTrue D.tells → (records : Records) → StandsFor self.new.geometry self.new.state.fence (D.text self.new.disk) records → Shows self.new.state.held records) }
@@ -110,9 +113,10 @@ impl<D: Disk> Node<D> {
         ensures geometry { self.new.geometry ≡ self.old.geometry }
         ensures opens { Opens (opening_calls self.old.geometry) result (D.meter self.old.disk) (D.meter self.new.disk) }
 
-        // It is not looked at where the node is not down or memory is wanting.
+        // It is not looked at where the node is not down, memory is wanting or its size is wrong.
         ensures not_down { result ≡ StartAnswer.NotDown → self.new ≡ self.old }
         ensures no_memory { result ≡ StartAnswer.NoMemory → self.new ≡ self.old }
+        ensures wrong_size { IfUnopened result (λ cause. (have need : ℕ) → cause ≡ OpenFault.WrongSize have need → self.new ≡ self.old) }
     {
         match self.phase {
             Phase::Up | Phase::Lost => return StartAnswer::NotDown,

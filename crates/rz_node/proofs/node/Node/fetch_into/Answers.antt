@@ -1,6 +1,9 @@
 -- The head's cell has the bins.
 use Rattle.std.proofs.Common.{◌≡◌, ◌≤◌, List, length, Option, Some, None, refl, sym, ◌∙◌, ap, subst, arith}
 use Rattle.std.proofs.lemmas.List.{length-take-le}
+use Rattle.std.proofs.lemmas.Slice.{drop-append-drop}
+use Rattle.mj_angles.specs.declared.layout.Layout.{Layout}
+use Rattle.mj_angles.specs.Layout.{max_bins_of}
 use Rattle.rz_events.specs.declared.keys.Key.{Key}
 use Rattle.rz_events.specs.declared.records.Head.{Head}
 use Rattle.rz_events.specs.declared.records.Held.{Held}
@@ -54,6 +57,14 @@ returns-in-Ok-clause-bins g c told records stands =
     gives-bins records c.args.key c.in-Some.head r.0 c.in-Ok.field-0 c.bins_at-count.result c.args.out.now c.bins_into.new.out room c.bins_into.auto.out c.bins_at-count.ensures.value
     (c.in-Ok.ensures.count c.in-Some.head c.in-Some.ensures.there.is) c.in-Some.ensures.there.named
     (ap (λ (k : Key). records k c.in-Some.head.stamp) (sym r.2) ∙ ap (records r.0.head.key) (ap (λ (t : Held). t.stamp) (sym r.3)) ∙ stood.2.only c.in-Some.cell r.0 r.1) r.3 (c.in-Ok.ensures.bins told stood.0 r.0 stood.1 r.1)
+
+pub returns-in-Ok-clause-rest : goal.returns-in-Ok-clause-rest
+returns-in-Ok-clause-rest g c =
+    let is_open = ready-up c.self.inside.phase _ _ c.in-Up.is c.self.invariant.ready in
+    let layout : c.in-Some.head.layout ≡ c.args.self.now.geometry.layout = is_open.layout c.in-Some.cell c.in-Some.head c.in-Some.ensures.there.is ∙ ap (λ (y : Geometry). y.layout) (geometry-same _ _ c.self.view_is) in
+    let most : c.bins_at-count.result ≤ max_bins_of c.args.self.now.geometry.layout = subst (λ (y : Layout). c.bins_at-count.result ≤ max_bins_of y) layout c.bins_at-count.ensures.within in
+    let room : c.bins_at-count.result ≤ length c.args.out.now = bins-fit c.in-Some.head.layout c.args.self.now.geometry.layout c.bins_at-count.result (length c.args.out.now) c.bins_at-count.ensures.within layout c.requires.room in
+    drop-append-drop c.bins_at-count.result c.args.out.now c.bins_into.new.out (max_bins_of c.args.self.now.geometry.layout) most (c.bins_into.auto.out ∙ length-take-le c.bins_at-count.result c.args.out.now room)
 
 pub returns-in-Ok-clause-spends : goal.returns-in-Ok-clause-spends
 returns-in-Ok-clause-spends g c =
