@@ -102,14 +102,8 @@ fn run_blocks<R: Print + Clock + Drop>(
     teller.tell("write", "accepted", start, export.renew(calls)?)?;
     let start = teller.now()?;
     teller.tell("next", "listed", start, export.next(calls))?;
-    // Such a call may go over all blocks.
     let start = teller.now()?;
-    teller.tell(
-        "next-of-none",
-        "listed",
-        start,
-        export.next_of_none(calls.min(10)),
-    )?;
+    teller.tell("next-of-none", "listed", start, export.next_of_none(calls))?;
     let start = teller.now()?;
     teller.tell("published", "listed", start, export.published(calls))
 }
