@@ -6,6 +6,7 @@ use Rattle.mj_angles.specs.declared.layout.Layout.{Layout}
 use Rattle.mj_angles.specs.Layout.{inverse_of, safe_of, block_bytes_of}
 use Rattle.rz_events.specs.declared.keys.Key.{Key}
 use Rattle.rz_events.specs.declared.files.Published.{Published}
+use Rattle.rz_events.specs.Masks.{stamp_told}
 use Rattle.rz_events.specs.declared.records.Held.{Held}
 use Rattle.rz_events.specs.declared.ends.Seen.{Seen}
 use Rattle.rz_events.specs.declared.ends.Seen.TheVariants as seen
@@ -100,15 +101,10 @@ after_fetch layout fits t (fetch.Held r) =
     cond (r.stamp == t.stamp) (unless_enough layout fits (with_record t r.length)) (Fetching (with_seen t seen.Held))
 after_fetch layout fits t answer = Fetching (with_seen t (seen_of answer))
 
--- the stamp of what is published, or 0
-abbrev pub stamp_of : Option Published → ℕ
-stamp_of None = 0
-stamp_of (Some p) = p.stamp
-
 -- too few records are left of the stamp that is still published; otherwise another one was published since
 abbrev pub after_recheck : Fetches → Option Published → ReadStage
 after_recheck t p =
-    Ended (cond (stamp_of p == t.stamp) (mark.TooFew t.seen) (mark.Moved t.stamp (stamp_of p)))
+    Ended (cond (stamp_told p == t.stamp) (mark.TooFew t.seen) (mark.Moved t.stamp (stamp_told p)))
 
 abbrev pub after_answer : Layout → Bool → ReadStage → ReaderAnswer → ReadStage
 after_answer layout fits Looking (told.Looked p) = after_look layout p

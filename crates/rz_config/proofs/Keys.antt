@@ -6,8 +6,7 @@ use Rattle.serde_json.specs.View.{members_view, items_view}
 use Rattle.serde_json.specs.declared.value.Value.{Value}
 use Rattle.rz_config.specs.declared.parts.Kind.{Kind}
 use Rattle.rz_events.specs.declared.files.NodeSpec.{NodeSpec}
-use Rattle.rz_events.specs.Volume.{Cluster}
-use Rattle.rz_export_model.specs.Place.{nodes_of}
+use Rattle.rz_events.specs.Volume.{Cluster, nodes_of}
 use Rattle.rz_config.specs.Described.{unknown_key, is_key, at_key, item_count, has_sid}
 
 abbrev pub unknown_name : Kind → List (String Global) → Option (List ℕ)

@@ -4,7 +4,7 @@ use Rattle.std.specs.Prelude.{All}
 use Rattle.std.specs.List.{IsDistinct}
 use Rattle.std.proofs.lemmas.List.Elements.{All-nil, All-cons}
 use Rattle.rz_events.specs.declared.files.NodeSpec.{NodeSpec}
-use Rattle.rz_config.specs.Rules.{IsNode, IsCluster, IsVolume}
+use Rattle.rz_events.specs.Volume.{IsVolume, IsCluster, IsNode}
 use Rattle.rz_config.specs.Plain.{plain_node, plain_volume}
 
 more : (sid : ℕ) (nodes : List NodeSpec) → IsNode (plain_node sid) → All IsNode nodes → All IsNode (plain_node sid ∷ nodes)

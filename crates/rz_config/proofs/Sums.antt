@@ -8,9 +8,7 @@ use Rattle.mj_angles.specs.declared.layout.Layout.{Layout}
 use Rattle.mj_angles.specs.declared.layout.Layout.TheVariants.{L0, L1, L2, L0B1, L0B2, L0B3, L1B1, L1B2, L1B3, L2B1, L2B2, L2B3}
 use Rattle.mj_angles.specs.Layout.{max_bins_of, safe_of}
 use Rattle.rz_events.specs.declared.files.NodeSpec.{NodeSpec}
-use Rattle.rz_events.specs.Volume.{Volume, Cluster}
-use Rattle.rz_export_model.specs.Place.{nodes_of}
-use Rattle.rz_config.specs.Rules.{IsNode, IsCluster, IsVolume}
+use Rattle.rz_events.specs.Volume.{Volume, Cluster, nodes_of, IsNode, IsCluster, IsVolume}
 use Rattle.rz_config.specs.Sizes.{slot_bytes_of, disk_bytes_of, cluster_bytes_of, all_disk_bytes}
 
 pub nodes_of_length : (cs : List Cluster) → length (nodes_of cs) ≡ sum_by (λ c. length c.nodes) cs

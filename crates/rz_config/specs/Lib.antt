@@ -1,4 +1,3 @@
-pub mod Rules
 pub mod Sizes
 pub mod Plain
 pub mod Described

@@ -4,7 +4,7 @@ ghost use Rattle.std.specs.Prelude.{◌≡◌, ◌≤◌, [], ◌<◌, ◌++◌,
 ghost use Rattle.std.specs.List.{list_any};
 ghost use Rattle.serde_json.specs.View.{view, items_view};
 ghost use Rattle.mj_angles.specs.Layout.{number_of, block_bytes_of, safe_of};
-ghost use Rattle.rz_export_model.specs.Place.{nodes_of};
+ghost use Rattle.rz_events.specs.Volume.{nodes_of};
 ghost use Rattle.rz_config.specs.Answers.{Gives};
 ghost use Rattle.rz_config.specs.Described.{layout_of, layouts, has_sid, has_cid, described_node, nodes_from, described_cid, described_nodes, described_cluster, clusters_from, described_layout, described_clusters, described_volume, volume_of_text};
 

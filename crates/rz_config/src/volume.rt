@@ -1,9 +1,8 @@
 //! Volumes and the sizes of their disks.
 
 ghost use Rattle.std.specs.Prelude.{◌≡◌, ◌<◌, ◌^◌, length, IfOk};
-ghost use Rattle.rz_export_model.specs.Place.{nodes_of};
+ghost use Rattle.rz_events.specs.Volume.{nodes_of, IsVolume};
 ghost use Rattle.rz_config.specs.Plain.{plain_volume};
-ghost use Rattle.rz_config.specs.Rules.{IsVolume};
 ghost use Rattle.rz_config.specs.Sizes.{disk_bytes_of, cluster_bytes_of, all_disk_bytes};
 
 use crate::{Layout, NodeSpec};
@@ -18,7 +17,7 @@ pub struct ClusterSpec {
 }
 
 impl Model for ClusterSpec {
-    ghost use Rattle.rz_events.specs.Volume.{Cluster};
+    ghost use Rattle.rz_events.specs.Volume.{Cluster, IsVolume};
 
     ghost Value = { Cluster };
 
@@ -38,7 +37,6 @@ impl Model for Volume {
     ghost use Rattle.std.specs.Prelude.{◌≡◌};
     ghost use Rattle.mj_angles.specs.Layout.{bsize_of};
     ghost use Rattle.rz_events.specs.Volume as model;
-    ghost use Rattle.rz_config.specs.Rules.{IsVolume};
 
     ghost Value = { model.Volume };
 

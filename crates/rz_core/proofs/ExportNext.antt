@@ -18,7 +18,7 @@ use Rattle.rz_export_model.specs.Firsts.{first_given, given_if}
 use Rattle.rz_export_model.specs.Tree.{file_of}
 use Rattle.rz_export_model.specs.Export.{Export as ExportState, Block, is_after, listed_at, is_on, next_on}
 use Rattle.rz_core.specs.History.{facts}
-use Rattle.rz_core.specs.ExportWord.{HasBit}
+use Rattle.rz_events.specs.Masks.{HasBit}
 use Rattle.rz_core.specs.ExportRows.{IsListed, IsAfter, ListedRow, NextRow}
 use Rattle.rz_core.specs.Tied.{IsExportStep, IsExportLawOf}
 use Rattle.rz_core.proofs.Stamps.{export}

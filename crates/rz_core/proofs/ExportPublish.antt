@@ -19,7 +19,8 @@ use Rattle.rz_export_model.specs.Tree.{file_of}
 use Rattle.rz_export_model.specs.Export.{Export as ExportState, latest_of, fence_of, barred, no_publish, after_publish}
 use Rattle.rz_export_model.specs.ExportEvents.{publish_event}
 use Rattle.rz_core.specs.History.{facts, of_actor, IsPlace, length_in}
-use Rattle.rz_core.specs.ExportWord.{HasBit, export_of}
+use Rattle.rz_core.specs.ExportWord.{export_of}
+use Rattle.rz_events.specs.Masks.{HasBit}
 use Rattle.rz_core.specs.ExportRows.{IsFree, IsPublishing, IsPublishable}
 use Rattle.rz_core.specs.Tied.{IsExportStep, IsExportLawOf}
 use Rattle.rz_core.proofs.Extends.{extends-more}

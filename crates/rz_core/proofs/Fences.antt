@@ -11,9 +11,10 @@ use Rattle.rz_events.specs.declared.export.Reply.{Reply}
 use Rattle.rz_events.specs.declared.export.Reply.TheVariants as reply
 use Rattle.rz_events.specs.declared.events.Event.{Event}
 use Rattle.rz_events.specs.declared.events.Event.TheVariants as e
-use Rattle.rz_export_model.specs.Export.{Export as ExportState, Enrolled, has_bit, fence_of, barred}
+use Rattle.rz_export_model.specs.Export.{Export as ExportState, Enrolled, fence_of, barred}
+use Rattle.rz_events.specs.Masks.{has_bit, HasBit}
 use Rattle.rz_core.specs.History.{Facts, Has}
-use Rattle.rz_core.specs.ExportWord.{last_drawn, enrolled, or_new, HasBit}
+use Rattle.rz_core.specs.ExportWord.{last_drawn, enrolled, or_new}
 use Rattle.rz_core.specs.ExportRows.{IsFree}
 use Rattle.rz_core.proofs.NodeLaws.{IsRows}
 use Rattle.rz_core.proofs.NodeSteps.{the_some}

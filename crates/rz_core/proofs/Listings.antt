@@ -13,8 +13,8 @@ use Rattle.std.proofs.lemmas.Bool.Decides.{nat_tests}
 use Rattle.rz_events.specs.Keys.{key_cmp, keys_total, exact_keys}
 use Rattle.rz_events.specs.declared.keys.Key.{Key}
 use Rattle.rz_export_model.specs.Firsts.{first_given}
-use Rattle.rz_export_model.specs.Export.{Block, has_bit, names_node}
-use Rattle.rz_core.specs.ExportWord.{HasBit}
+use Rattle.rz_export_model.specs.Export.{Block, names_node}
+use Rattle.rz_events.specs.Masks.{has_bit, HasBit}
 use Rattle.rz_core.specs.ExportRows.{IsLess}
 
 -- The order of keys.

@@ -20,7 +20,8 @@ use Rattle.rz_export_model.specs.Tree.{file_of}
 use Rattle.rz_export_model.specs.TreeCalls.{reply_to}
 use Rattle.rz_export_model.specs.Export.{Export, new_places, is_mask}
 use Rattle.rz_core.specs.History.{Facts, Begun, Has, IsPlace, IsWriter}
-use Rattle.rz_core.specs.ExportWord.{is_live, last_drawn, latest, accepted, stamp_in, published, enrolled, or_new, HasBit, export_of}
+use Rattle.rz_core.specs.ExportWord.{is_live, last_drawn, latest, accepted, stamp_in, published, enrolled, or_new, export_of}
+use Rattle.rz_events.specs.Masks.{HasBit}
 
 -- a file has 1,048,576 blocks
 abbrev pub IsInFile : Key → Type 0

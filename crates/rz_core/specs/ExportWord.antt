@@ -1,6 +1,5 @@
 -- What the events of the export's word leave at it.
 use Rattle.std.specs.Prelude.{ℕ, Bool, true, false, not, ◌==◌, ◌≡◌, ◌&&◌, ◌||◌, ◌+◌, nat_lt, List, [], ◌∷◌, Option, Some, None, cond}
-use Rattle.std.specs.Int.{bit_at}
 use Rattle.rz_events.specs.declared.keys.Key.{Key}
 use Rattle.rz_events.specs.declared.files.Published.{Published}
 use Rattle.rz_events.specs.declared.tree.TreeReply.{TreeReply}
@@ -88,15 +87,6 @@ with_length f (Some a) = Some (record { stamp = a.0; mask = a.1; length = length
 -- what is published of a key
 abbrev pub published : Facts → List Event → Key → Option Published
 published f w key = with_length f (accepted w key)
-
--- the stamp that was told as published, or 0
-abbrev pub stamp_told : Option Published → ℕ
-stamp_told None = 0
-stamp_told (Some p) = p.stamp
-
--- the position is in the mask
-abbrev pub HasBit : ℕ → ℕ → Type 0
-HasBit mask p = bit_at mask p ≡ 1
 
 -- The export as it stands after the events of its word: at first the root alone, and then each event's change. The
 -- names and the sizes of files, and with them the replies to calls on names, are read of it.

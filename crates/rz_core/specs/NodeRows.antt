@@ -3,7 +3,7 @@
 use Rattle.std.specs.Prelude.{ℕ, Bool, true, ◌≡◌, ◌⊎◌, ◌<◌, ◌≤◌, ◌+◌, ◌==◌, List, [], ◌∷◌, Option, Some, None, cond, length}
 use Rattle.std.specs.List.{AllByRecursion}
 use Rattle.mj_angles.specs.Layout.{inverse_of}
-use Rattle.rz_events.specs.Volume.{Volume}
+use Rattle.rz_events.specs.Volume.{Volume, nodes_of}
 use Rattle.rz_events.specs.declared.keys.Key.{Key}
 use Rattle.rz_events.specs.declared.keys.Actor.{Actor}
 use Rattle.rz_events.specs.declared.files.NodeSpec.{NodeSpec}
@@ -20,7 +20,6 @@ use Rattle.rz_events.specs.declared.ends.Why.TheVariants as why
 use Rattle.rz_events.specs.declared.events.Event.{Event}
 use Rattle.rz_events.specs.declared.events.Event.TheVariants as e
 use Rattle.rz_node_model.specs.Versions.{IsAbove, Stands, IsPast, IsLesser, greatest, IsHeld}
-use Rattle.rz_export_model.specs.Place.{nodes_of}
 use Rattle.rz_core.specs.History.{Facts, Begun, Has, IsPlace, IsWriter}
 use Rattle.rz_core.specs.NodeWord.{phase, losses, fence_of, undecided, held, base_of}
 use Rattle.rz_core.specs.ExportRows.{IsLess}

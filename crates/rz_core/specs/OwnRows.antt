@@ -28,7 +28,7 @@ use Rattle.rz_events.specs.declared.events.Event.{Event}
 use Rattle.rz_events.specs.declared.events.Event.TheVariants as e
 use Rattle.rz_events.specs.Events.{word_of}
 use Rattle.rz_core.specs.History.{Facts, Begun}
-use Rattle.rz_core.specs.ExportWord.{stamp_told}
+use Rattle.rz_events.specs.Masks.{stamp_told}
 use Rattle.rz_core.specs.Own.{last, since, newest, is_begin, is_publish, is_look, is_next, is_export, gave, HasDistinct, IsListing, IsBetween}
 use Rattle.rz_core.specs.Outcomes.{IsShort, whys, is_failure}
 

@@ -10,8 +10,9 @@ pub struct Key {
     pub block: u64,
 }
 
-/// Who acts: a client (1 to 64), a rebuilder (1 to 16), or the administrator.
-#[derive(Clone, Copy, Debug, PartialEq, Eq, Drop)]
+/// Who acts: a client (1 to 64), a rebuilder (1 to 16), or the administrator. Clients come before
+/// rebuilders, and each kind is ordered by its number.
+#[derive(Clone, Copy, Debug, PartialEq, Eq, PartialOrd, Ord, Drop)]
 pub enum Actor {
     Client(u8),
     Rebuilder(u8),

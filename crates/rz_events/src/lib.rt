@@ -7,7 +7,7 @@
 //! This crate says who did an event and whose word it moves.
 //!
 //! In reading order: `keys`, `texts`, `files`, `records`, `nodes`, `tree`, `export`, `ends`,
-//! `machines`, `events`.
+//! `machines`, `operations`, `events`.
 #![tactic(auto)]
 
 pub use mj_angles::Layout;
@@ -19,6 +19,7 @@ mod files;
 mod keys;
 mod machines;
 mod nodes;
+mod operations;
 mod records;
 mod texts;
 mod tree;
@@ -36,6 +37,7 @@ pub use nodes::{
     DropAnswer, FetchAnswer, HeaderField, KeepAnswer, NodeAnswer, NodeAsk, OpenFault, Phase,
     RefillAnswer, ReplaceAnswer, StartAnswer,
 };
+pub use operations::{Datum, Operation};
 pub use records::{Change, Head, Held};
 pub use texts::{Listing, Text};
 pub use tree::{TreeCall, TreeFault, TreeReply};

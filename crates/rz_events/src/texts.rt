@@ -43,6 +43,13 @@ impl Text {
         self.bytes.as_slice()
     }
 
+    /// Its bytes as a vector, which takes no memory.
+    pub fn into_vec(self) -> Vec<u8>
+        ensures { result.items ≡ self }
+    {
+        self.bytes
+    }
+
     /// A text with the same bytes.
     pub fn copy(&self, alloc: Global) -> Result<Text, AllocError>
         ensures { IfOk result (λ t. t ≡ self.now) }
@@ -83,5 +90,16 @@ impl Listing {
         ensures order { IsInByteOrder self.now }
     {
         self.names.as_slice()
+    }
+
+    /// A listing of the same names.
+    pub fn copy(&self, alloc: Global) -> Result<Listing, AllocError>
+        ensures { IfOk result (λ l. l ≡ self.now) }
+    {
+        let mut names = Vec::new(alloc);
+        for name in self.names.as_slice() {
+            names.push(name.copy(alloc)?)?;
+        }
+        Ok(Listing { names })
     }
 }

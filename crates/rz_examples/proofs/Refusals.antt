@@ -7,7 +7,7 @@ use Rattle.rz_events.specs.declared.events.Event.TheVariants as e
 use Rattle.rz_node_model.specs.Versions.{Stands}
 use Rattle.rz_core.specs.History.{Begun, Has, of_actor}
 use Rattle.rz_core.specs.Own.{HasDistinct, IsFalling}
-use Rattle.rz_core.specs.ExportWord.{stamp_told}
+use Rattle.rz_events.specs.Masks.{stamp_told}
 use Rattle.rz_core.specs.ExportRows.{HasKept}
 use Rattle.rz_core.specs.Legal.{IsLegal}
 use Rattle.rz_examples.specs.Plain.{plain, one, block, hello, world, places}

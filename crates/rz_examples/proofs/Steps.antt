@@ -7,7 +7,7 @@ use Rattle.rz_events.specs.declared.events.Event.TheVariants as e
 use Rattle.std.specs.Int.Count.{ones}
 use Rattle.rz_export_model.specs.Export.{is_mask}
 use Rattle.rz_core.specs.History.{Facts, Begun, facts, of_word, of_actor, Has, IsPlace, IsWriter}
-use Rattle.rz_core.specs.ExportWord.{HasBit}
+use Rattle.rz_events.specs.Masks.{HasBit}
 use Rattle.rz_core.specs.ExportRows.{HasKept, IsFree}
 use Rattle.rz_core.specs.NodeRows.{HasRoom, cells_of}
 use Rattle.rz_core.specs.Legal.{IsLegal}

@@ -11,7 +11,7 @@ use Rattle.rz_events.specs.declared.tree.TreeCall.TheVariants as call
 use Rattle.rz_events.specs.Events.{same_key}
 use Rattle.rz_export_model.specs.Export.{is_mask}
 use Rattle.rz_core.specs.History.{facts, of_word, of_actor, Has, IsPlace}
-use Rattle.rz_core.specs.ExportWord.{HasBit}
+use Rattle.rz_events.specs.Masks.{HasBit}
 use Rattle.rz_core.specs.ExportRows.{IsLess, HasKept, IsFree}
 use Rattle.rz_core.specs.Legal.{IsLegal}
 use Rattle.rz_examples.specs.Plain.{plain, one, block, places, file, path}

@@ -13,7 +13,8 @@ use Rattle.rz_events.specs.declared.files.Published.{Published}
 use Rattle.rz_marks.specs.declared.row.Row.{Row}
 use Rattle.rz_marks.specs.Marks.{is_marked, has_room}
 use Rattle.rz_export_model.specs.Tree.{Tree}
-use Rattle.rz_export_model.specs.Export.{Block, Blocks, published_of, begun, without_file, has_bit, names_node}
+use Rattle.rz_export_model.specs.Export.{Block, Blocks, published_of, begun, without_file, names_node}
+use Rattle.rz_events.specs.Masks.{has_bit}
 use Rattle.rz_export.specs.Nodes.{is_named}
 use Rattle.rz_export.specs.Kept.{lies_on, lies_at, is_place, AreMarked, AreRoomy, HaveRoom}
 use Rattle.rz_export.proofs.Files.{view}

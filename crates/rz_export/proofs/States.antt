@@ -9,14 +9,13 @@ use Rattle.std.specs.FinMap.{FinMap, same_map, get-insert, get-empty, len-insert
 use Rattle.std.proofs.lemmas.List.Elements.{All-map, All-weaker}
 use Rattle.std.proofs.lemmas.Option.{same_Some}
 use Rattle.std.proofs.lemmas.Bool.{lt-ltb}
-use Rattle.rz_events.specs.Volume.{Volume}
+use Rattle.rz_events.specs.Volume.{Volume, nodes_of}
 use Rattle.rz_events.specs.Keys.{key_cmp, keys_total, exact_keys}
 use Rattle.rz_events.specs.declared.keys.Key.{Key}
 use Rattle.rz_events.specs.declared.files.FileInfo.{FileInfo}
 use Rattle.rz_events.specs.declared.files.NodeSpec.{NodeSpec}
 use Rattle.rz_events.specs.declared.files.Published.{Published}
 use Rattle.rz_marks.specs.Marks.{is_marked, has_room}
-use Rattle.rz_export_model.specs.Place.{nodes_of}
 use Rattle.rz_export_model.specs.Tree.{Tree, Object, file_of, empty_tree, new_dir, grown}
 use Rattle.rz_export_model.specs.Export.{Block, Blocks, latest_of, published_of, prepared, begun, with_published, newer_of}
 use Rattle.rz_export.specs.declared.nodes.Enrolment.{Enrolment}

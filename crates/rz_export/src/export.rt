@@ -4,7 +4,7 @@ ghost use Rattle.std.specs.Prelude.{◌≡◌, ◌≤◌, ◌^◌, ◌<◌, IfOk
 ghost use Rattle.std.specs.Option.{option_map};
 ghost use Rattle.std.specs.FinMap as maps;
 ghost use Rattle.mj_angles.specs.Layout.{block_bytes_of};
-ghost use Rattle.rz_export_model.specs.Place.{nodes_of};
+ghost use Rattle.rz_events.specs.Volume.{nodes_of};
 ghost use Rattle.rz_export_model.specs.Tree.{file_of};
 ghost use Rattle.rz_export_model.specs.Export.{new_export, latest_of, published_of, is_node, fence_of, is_ready};
 ghost use Rattle.rz_export.specs.Nodes.{enrolled_of, new_node};

@@ -4,8 +4,9 @@ ghost use Rattle.std.specs.Prelude.{◌≡◌, ◌<◌, ◌≤◌, ◌-◌, ◌+
 ghost use Rattle.std.specs.List.{list_any};
 ghost use Rattle.std.specs.Option.{option_map};
 ghost use Rattle.std.specs.FinMap as maps;
-ghost use Rattle.rz_export_model.specs.Place.{nodes_of};
-ghost use Rattle.rz_export_model.specs.Export.{has_bit, names_node};
+ghost use Rattle.rz_events.specs.Volume.{nodes_of};
+ghost use Rattle.rz_export_model.specs.Export.{names_node};
+ghost use Rattle.rz_events.specs.Masks.{has_bit};
 ghost use Rattle.rz_export.specs.Nodes.{enrolled_of, enrolments_of, is_named, moved, recounted, with_enrolment, new_node};
 
 use rz_config::ClusterSpec;

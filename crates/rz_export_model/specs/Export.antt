@@ -1,7 +1,6 @@
 -- The whole export: its state, its reply to each call, and its state after the call.
 use Rattle.std.specs.Prelude.{ℕ, ◌+◌, ◌-◌, ◌*◌, ◌^◌, Bool, true, false, ◌&&◌, ◌||◌, ◌==◌, not, nat_lt, nat_le, cond, List, [], ◌∷◌, length, count_by, count_ones, map, Option, Some, None, is_some, is_none, unwrap_or}
 use Rattle.std.specs.List.{list_any}
-use Rattle.std.specs.Int.{bit_at}
 use Rattle.std.specs.Option.{option_map_or, option_and_then, option_map}
 use Rattle.std.specs.Ordering.{nat_cmp, is_lt}
 use Rattle.std.specs.FinMap as maps
@@ -9,7 +8,8 @@ use Rattle.std.specs.FinMap.{FinMap}
 use Rattle.mj_angles.specs.declared.layout.Layout.{Layout}
 use Rattle.mj_angles.specs.Layout.{block_bytes_of, forward_of, safe_of}
 use Rattle.rz_events.specs.Keys.{key_cmp}
-use Rattle.rz_events.specs.Volume.{Volume}
+use Rattle.rz_events.specs.Masks.{has_bit}
+use Rattle.rz_events.specs.Volume.{Volume, nodes_of}
 use Rattle.rz_events.specs.declared.keys.Key.{Key}
 use Rattle.rz_events.specs.declared.files.Published.{Published}
 use Rattle.rz_events.specs.declared.files.Listed.{Listed}
@@ -25,7 +25,7 @@ use Rattle.rz_events.specs.declared.tree.TreeReply.TheVariants as told
 use Rattle.rz_export_model.specs.Firsts.{first_of, first_given, given_if}
 use Rattle.rz_export_model.specs.Tree.{Tree, empty_tree, file_of, grown}
 use Rattle.rz_export_model.specs.TreeCalls.{reply_to, tree_after}
-use Rattle.rz_export_model.specs.Place.{Placed, place, nodes_of}
+use Rattle.rz_export_model.specs.Place.{Placed, place}
 
 -- what is known of a block that was begun: the newest stamp begun, and what is published
 pub record Block : Type 0 where
@@ -110,9 +110,6 @@ listed_at t key b =
     option_and_then
     (λ info. option_map (λ p. record { key = key; info = info; published = p }) b.published)
     (file_of t key.fid)
-
-abbrev pub has_bit : ℕ → ℕ → Bool
-has_bit mask i = bit_at mask i == 1
 
 -- whether the mask names the node; `i` is the position of the first of these places
 abbrev pub names_node : ℕ → ℕ → ℕ → List ℕ → Bool

@@ -19,11 +19,6 @@ pub record Placed : Type 0 where
   pub cid : ℕ
   pub places : List ℕ
 
--- all nodes of a volume, in the order of the description
-abbrev pub nodes_of : List Cluster → List NodeSpec
-nodes_of [] = []
-nodes_of (c ∷ cs) = c.nodes ++ nodes_of cs
-
 -- the nodes with their free cells, one number per node
 abbrev pub rooms_of : List NodeSpec → List ℕ → List Room
 rooms_of [] free = []

@@ -4,7 +4,7 @@ use Rattle.std.specs.Prelude.{All, nat_eq}
 use Rattle.std.specs.List.{IsDistinct, AllByRecursion, list_all, range_with_len}
 use Rattle.std.proofs.lemmas.Bool.{leb-true, and_parts, not-true}
 use Rattle.std.proofs.lemmas.List.Elements.{All-nil, All-cons}
-use Rattle.rz_config.specs.Rules.{IsNode, IsCluster, IsVolume}
+use Rattle.rz_events.specs.Volume.{IsVolume, IsCluster, IsNode}
 use Rattle.rz_generate.specs.Workload.{node_of, cluster_of, volume}
 
 -- whether no number equals one after it

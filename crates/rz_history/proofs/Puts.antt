@@ -10,7 +10,8 @@ use Rattle.rz_events.specs.declared.events.Event.{Event}
 use Rattle.rz_events.specs.declared.events.Event.TheVariants as e
 use Rattle.rz_export_model.specs.Export.{is_mask}
 use Rattle.rz_core.specs.History.{Begun, facts, first_some, wrote, of_actor, Has, IsPlace, IsWriter}
-use Rattle.rz_core.specs.ExportWord.{HasBit, export_of, stamp_in as stamp_told, latest}
+use Rattle.rz_core.specs.ExportWord.{export_of, stamp_in as stamp_told, latest}
+use Rattle.rz_events.specs.Masks.{HasBit}
 use Rattle.rz_core.specs.ExportRows.{HasKept}
 use Rattle.rz_core.specs.Legal.{IsLegal}
 use Rattle.rz_replay.specs.Store.{Store, after, events_of, last_write, client, key_of, opened, three}

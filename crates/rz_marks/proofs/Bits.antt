@@ -7,7 +7,7 @@ use Rattle.std.proofs.lemmas.Bool.Decides.{nat_tests}
 use Rattle.std.proofs.lemmas.Bool.{cases_lt}
 use Rattle.std.proofs.lemmas.Nat.{and_le_l}
 use Rattle.std.proofs.lemmas.Nat.Bits.{bit_at-zero, bit_at_set_same, bit_at_set_other, bit_at_clear_same, bit_at_clear_other, bit_at_and, bit_at-lt, bit_at_mask_inside, bit_at_mask_below, bit_at-trailing_zeros, ones_shl}
-use Rattle.rz_export_model.specs.Export.{has_bit}
+use Rattle.rz_events.specs.Masks.{has_bit}
 use Rattle.rz_marks.specs.Rows.{IsClear}
 
 pub no-bit : (b : ℕ) → has_bit 0 b ≡ false

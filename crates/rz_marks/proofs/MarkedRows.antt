@@ -5,7 +5,7 @@ use Rattle.std.specs.Int.Count.{count_trailing_zeros}
 use Rattle.std.proofs.lemmas.Bool.{cases_order, eq-eqb}
 use Rattle.std.proofs.lemmas.Nat.Bits.{bit_at-trailing_zeros}
 use Rattle.rz_events.specs.declared.keys.Key.{Key}
-use Rattle.rz_export_model.specs.Export.{has_bit}
+use Rattle.rz_events.specs.Masks.{has_bit}
 use Rattle.rz_marks.specs.declared.row.Row.{Row}
 use Rattle.rz_marks.specs.Rows.{rank, rank_of, is_upto, is_marked_in, IsSmall}
 use Rattle.rz_marks.proofs.Order.{upto-lesser, upto-same, is-own}

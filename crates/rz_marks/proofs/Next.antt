@@ -6,7 +6,8 @@ use Rattle.std.specs.Option.{option_map}
 use Rattle.std.specs.Ordering.{is_lt}
 use Rattle.rz_events.specs.Keys.{key_cmp}
 use Rattle.rz_events.specs.declared.keys.Key.{Key}
-use Rattle.rz_export_model.specs.Export.{has_bit, is_after}
+use Rattle.rz_export_model.specs.Export.{is_after}
+use Rattle.rz_events.specs.Masks.{has_bit}
 use Rattle.rz_marks.specs.declared.row.Row.{Row}
 use Rattle.rz_marks.specs.Marks.{is_row_of, is_marked}
 use Rattle.rz_marks.specs.Rows.{rank, rank_of, top, rows_before, is_upto, is_marked_in, IsSmall, IsRising}

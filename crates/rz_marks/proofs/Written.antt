@@ -10,7 +10,7 @@ use Rattle.std.proofs.lemmas.Bool.Decides.{nat_tests}
 use Rattle.std.proofs.lemmas.Map.Lookups.{exact_unsigned}
 use Rattle.rz_events.specs.Keys.{key_cmp, exact_keys}
 use Rattle.rz_events.specs.declared.keys.Key.{Key}
-use Rattle.rz_export_model.specs.Export.{has_bit}
+use Rattle.rz_events.specs.Masks.{has_bit}
 use Rattle.rz_marks.specs.declared.row.Row.{Row}
 use Rattle.rz_marks.specs.Marks.{is_row_of, is_marked, has_room, is_same, is_beside}
 use Rattle.rz_marks.specs.Rows.{rank, rank_of, top, is_marked_in, IsSmall, IsRising, IsGap, IsThere}

@@ -4,7 +4,7 @@ use Rattle.std.specs.List.{list_any}
 use Rattle.std.specs.Ordering.{is_eq}
 use Rattle.rz_events.specs.Keys.{key_cmp}
 use Rattle.rz_events.specs.declared.keys.Key.{Key}
-use Rattle.rz_export_model.specs.Export.{has_bit}
+use Rattle.rz_events.specs.Masks.{has_bit}
 use Rattle.rz_marks.specs.declared.row.Row.{Row}
 
 -- whether the row is the one that a block stands in

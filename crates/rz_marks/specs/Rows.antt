@@ -3,7 +3,7 @@ use Rattle.std.specs.Prelude.{ℕ, suc, ◌≡◌, ◌+◌, ◌*◌, ◌/◌, �
 use Rattle.std.specs.Ordering.{is_le}
 use Rattle.rz_events.specs.Keys.{key_cmp}
 use Rattle.rz_events.specs.declared.keys.Key.{Key}
-use Rattle.rz_export_model.specs.Export.{has_bit}
+use Rattle.rz_events.specs.Masks.{has_bit}
 use Rattle.rz_marks.specs.declared.row.Row.{Row}
 use Rattle.rz_marks.specs.Marks.{is_row_of}
 

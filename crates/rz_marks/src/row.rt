@@ -4,7 +4,7 @@ ghost use Rattle.std.specs.Prelude.{ℕ, ◌≡◌, ◌<◌, ◌≤◌, ◌/◌,
 ghost use Rattle.std.specs.Ordering.{is_lt};
 ghost use Rattle.rz_events.specs.Keys.{key_cmp};
 ghost use Rattle.rz_events.specs.declared.keys.Key.{Key};
-ghost use Rattle.rz_export_model.specs.Export.{has_bit};
+ghost use Rattle.rz_events.specs.Masks.{has_bit};
 ghost use Rattle.rz_marks.specs.Rows.{rank, rank_of, is_upto, is_marked_in, IsClear, IsSmall};
 
 use rz_events::Key;

@@ -1,7 +1,8 @@
 //! The cluster with the most free cells.
 
 ghost use Rattle.std.specs.Prelude.{◌≡◌, ◌≤◌, ◌+◌, ℕ, cond, length, drop, sum, All};
-ghost use Rattle.rz_export_model.specs.Place.{is_better, free_cells, best_of, clusters_of, nodes_of};
+ghost use Rattle.rz_export_model.specs.Place.{is_better, free_cells, best_of, clusters_of};
+ghost use Rattle.rz_events.specs.Volume.{nodes_of};
 ghost use Rattle.rz_place.specs.Rooms.{rooms_in};
 
 use rz_config::ClusterSpec;

@@ -7,7 +7,8 @@
 
 ghost use Rattle.std.specs.Prelude.{◌≡◌, ◌≤◌, ◌<◌, length};
 ghost use Rattle.mj_angles.specs.Layout.{safe_of};
-ghost use Rattle.rz_export_model.specs.Place.{place, placed_in, nodes_of};
+ghost use Rattle.rz_export_model.specs.Place.{place, placed_in};
+ghost use Rattle.rz_events.specs.Volume.{nodes_of};
 ghost use Rattle.rz_place.specs.Rooms.{rooms_in};
 
 use rz_config::{ClusterSpec, Volume};

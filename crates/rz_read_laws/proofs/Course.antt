@@ -22,7 +22,8 @@ use Rattle.rz_client_model.specs.declared.reading.ReaderState.{ReaderState}
 use Rattle.rz_client_model.specs.declared.reading.ReadStage.{ReadStage}
 use Rattle.rz_client_model.specs.declared.reading.ReadStage.TheVariants.{Looking, Fetching, Ended}
 use Rattle.rz_client_model.specs.declared.reading.Fetches.{Fetches}
-use Rattle.rz_client_model.specs.Read.{reader_start, reader_ask, reader_told, reader_end, ask_at, end_at, none_fetched, next_position, with_seen, with_record, unless_enough, after_answer, stamp_of, IsAnswer, IsLookAnswer, IsFetchAnswer}
+use Rattle.rz_client_model.specs.Read.{reader_start, reader_ask, reader_told, reader_end, ask_at, end_at, none_fetched, next_position, with_seen, with_record, unless_enough, after_answer, IsAnswer, IsLookAnswer, IsFetchAnswer}
+use Rattle.rz_events.specs.Masks.{stamp_told}
 use Rattle.rz_read_laws.specs.Told.{after, AreAnswers, looked, mask_of, stamp_in, asked_in, lengths, given_in, length_in, order, next_in, table, end_of_fetches, end_of_recheck, end_after, unless_ended, next_ask, ask_after, AsksInOrder, EndsExactly}
 use Rattle.rz_read_laws.proofs.Positions.{pending, pending-all, pending-none, pending-next, length-order, safe-most, in-below, left-some, left-first}
 
@@ -193,7 +194,7 @@ fetch-course layout fits answers t (told.Denied denial) h some asked = absurd as
 
 -- the second look
 recheck-end : (layout : Layout) (fits : List ReaderAnswer → Bool) (answers : List ReaderAnswer) (p : Option Published) → 0 < length answers →
-    end_after layout fits (told.Looked p ∷ answers) ≡ Some (end_of_recheck (stamp_of p) (stamp_in answers) (table layout answers))
+    end_after layout fits (told.Looked p ∷ answers) ≡ Some (end_of_recheck (stamp_told p) (stamp_in answers) (table layout answers))
 recheck-end layout fits [] p some = absurd (omega (arith, some))
 recheck-end layout fits (x ∷ xs) p some = refl
 
@@ -201,8 +202,8 @@ recheck-course : (layout : Layout) (fits : List ReaderAnswer → Bool) (answers 
     IsLookAnswer layout answer → IsCourse layout fits (answer ∷ answers) (after_answer layout (fits (answer ∷ answers)) (Fetching t) answer)
 recheck-course layout fits answers t (told.Looked p) h asked =
     recheck-end layout fits answers p h.begun
-    ∙ ap (λ s. Some (end_of_recheck (stamp_of p) s (table layout answers))) (sym h.stamp_is)
-    ∙ ap (λ w. Some (end_of_recheck (stamp_of p) t.stamp w)) (sym h.seen_is)
+    ∙ ap (λ s. Some (end_of_recheck (stamp_told p) s (table layout answers))) (sym h.stamp_is)
+    ∙ ap (λ w. Some (end_of_recheck (stamp_told p) t.stamp w)) (sym h.seen_is)
 recheck-course layout fits answers t (told.Denied denial) h asked = refl
 recheck-course layout fits answers t (told.Fetched a) h asked = absurd asked
 recheck-course layout fits answers t told.Missed h asked = absurd asked

@@ -15,7 +15,8 @@ use Rattle.std.proofs.lemmas.List.FromFn.{length-range_with_len}
 use Rattle.std.proofs.Math.ListN.{length-append}
 use Rattle.mj_angles.specs.declared.layout.Layout.{Layout}
 use Rattle.mj_angles.specs.Layout.{safe_of}
-use Rattle.rz_read_laws.specs.Told.{in_mask, order}
+use Rattle.rz_read_laws.specs.Told.{order}
+use Rattle.rz_events.specs.Masks.{has_bit}
 
 -- Filters of a range.
 
@@ -57,7 +58,7 @@ kept-first test test' a (suc n) p low high is least gone others = elim (cases_lt
 -- Those of the positions that are left that pass a test.
 
 abbrev pub part : ℕ → (ℕ → Bool) → ℕ → List ℕ
-part left test n = filter (λ q. in_mask left q && test q) (range_with_len 0 n)
+part left test n = filter (λ q. has_bit left q && test q) (range_with_len 0 n)
 
 and-false : (b : Bool) → (b && false) ≡ false
 and-false true = refl
@@ -68,54 +69,54 @@ and-same true x x' h = ap (λ y. y && true) (h refl)
 and-same false x x' h = and-false x ∙ sym (and-false x')
 
 -- a position that was not asked stays left where another is asked
-still : (left p q : ℕ) → q ≢ p → in_mask left q ≡ in_mask (bit_xor left (2 ^ p)) q
+still : (left p q : ℕ) → q ≢ p → has_bit left q ≡ has_bit (bit_xor left (2 ^ p)) q
 still left p q apart =
     let e : bit_at left q ≡ bit_at (bit_xor left (2 ^ p)) q = omega (arith, bit_at_xor left (2 ^ p) q, bit_at-pow_other p q apart, bit_at-lt left q) in
     ap (λ x. eqb x 1) e
 
-gone : (left p : ℕ) → bit_at left p ≡ 1 → in_mask (bit_xor left (2 ^ p)) p ≡ false
+gone : (left p : ℕ) → bit_at left p ≡ 1 → has_bit (bit_xor left (2 ^ p)) p ≡ false
 gone left p h =
     let e : bit_at (bit_xor left (2 ^ p)) p ≡ 0 = omega (arith, bit_at_xor left (2 ^ p) p, bit_at-pow_same p, h) in
     ap (λ x. eqb x 1) e
 
-part-first : (left : ℕ) (test : ℕ → Bool) (n p : ℕ) → p < n → bit_at left p ≡ 1 → test p ≡ true → ((q : ℕ) → q < p → (in_mask left q && test q) ≡ false) →
+part-first : (left : ℕ) (test : ℕ → Bool) (n p : ℕ) → p < n → bit_at left p ≡ 1 → test p ≡ true → ((q : ℕ) → q < p → (has_bit left q && test q) ≡ false) →
     part left test n ≡ p ∷ part (bit_xor left (2 ^ p)) test n
 part-first left test n p within h passes least =
-    kept-first (λ q. in_mask left q && test q) (λ q. in_mask (bit_xor left (2 ^ p)) q && test q) 0 n p (omega arith) (omega (arith, within))
+    kept-first (λ q. has_bit left q && test q) (λ q. has_bit (bit_xor left (2 ^ p)) q && test q) 0 n p (omega arith) (omega (arith, within))
     (ap (λ x. eqb x 1 && test p) h ∙ passes) least (ap (λ b. b && test p) (gone left p h))
     (λ q apart. ap (λ b. b && test q) (still left p q apart))
 
 part-same : (left : ℕ) (test : ℕ → Bool) (n p : ℕ) → test p ≡ false → part left test n ≡ part (bit_xor left (2 ^ p)) test n
 part-same left test n p fails =
-    kept-same (λ q. in_mask left q && test q) (λ q. in_mask (bit_xor left (2 ^ p)) q && test q) 0 n
-    (λ q low high. and-same (test q) (in_mask left q) (in_mask (bit_xor left (2 ^ p)) q)
+    kept-same (λ q. has_bit left q && test q) (λ q. has_bit (bit_xor left (2 ^ p)) q && test q) 0 n
+    (λ q low high. and-same (test q) (has_bit left q) (has_bit (bit_xor left (2 ^ p)) q)
     (λ is. still left p q (λ e. (let z : false ≡ true = sym fails ∙ ap test (sym e) ∙ is in cc))))
 
 -- All positions that are left, in the order in which they are asked.
 
 abbrev pub pending : ℕ → ℕ → ℕ → List ℕ
-pending left mask n = part left (in_mask mask) n ++ part left (λ q. not (in_mask mask q)) n
+pending left mask n = part left (has_bit mask) n ++ part left (λ q. not (has_bit mask q)) n
 
 pub pending-none : (mask n : ℕ) → pending 0 mask n ≡ []
 pending-none mask n =
-    ap (λ (xs : List ℕ). xs ++ part 0 (λ q. not (in_mask mask q)) n)
-    (kept-none (λ q. in_mask 0 q && in_mask mask q) 0 n (λ p. ap (λ x. eqb x 1 && in_mask mask p) (bit_at-zero p)))
-    ∙ kept-none (λ q. in_mask 0 q && not (in_mask mask q)) 0 n (λ p. ap (λ x. eqb x 1 && not (in_mask mask p)) (bit_at-zero p))
+    ap (λ (xs : List ℕ). xs ++ part 0 (λ q. not (has_bit mask q)) n)
+    (kept-none (λ q. has_bit 0 q && has_bit mask q) 0 n (λ p. ap (λ x. eqb x 1 && has_bit mask p) (bit_at-zero p)))
+    ∙ kept-none (λ q. has_bit 0 q && not (has_bit mask q)) 0 n (λ p. ap (λ x. eqb x 1 && not (has_bit mask p)) (bit_at-zero p))
 
 all-left : (test : ℕ → Bool) (n : ℕ) → part (2 ^ n - 1) test n ≡ filter test (range_with_len 0 n)
 all-left test n =
-    kept-same (λ q. in_mask (2 ^ n - 1) q && test q) test 0 n (λ p low high. ap (λ x. eqb x 1 && test p) (bit_at_ones n p (omega (arith, high))))
+    kept-same (λ q. has_bit (2 ^ n - 1) q && test q) test 0 n (λ p low high. ap (λ x. eqb x 1 && test p) (bit_at_ones n p (omega (arith, high))))
 
 pub pending-all : (layout : Layout) (mask : ℕ) → pending (2 ^ safe_of layout - 1) mask (safe_of layout) ≡ order layout mask
 pending-all layout mask =
-    ap (λ (xs : List ℕ). xs ++ part (2 ^ safe_of layout - 1) (λ q. not (in_mask mask q)) (safe_of layout)) (all-left (in_mask mask) (safe_of layout))
-    ∙ ap (λ (xs : List ℕ). filter (in_mask mask) (range_with_len 0 (safe_of layout)) ++ xs) (all-left (λ q. not (in_mask mask q)) (safe_of layout))
+    ap (λ (xs : List ℕ). xs ++ part (2 ^ safe_of layout - 1) (λ q. not (has_bit mask q)) (safe_of layout)) (all-left (has_bit mask) (safe_of layout))
+    ∙ ap (λ (xs : List ℕ). filter (has_bit mask) (range_with_len 0 (safe_of layout)) ++ xs) (all-left (λ q. not (has_bit mask q)) (safe_of layout))
 
 pub length-order : (layout : Layout) (mask : ℕ) → length (order layout mask) ≡ safe_of layout
 length-order layout mask =
     let xs = range_with_len 0 (safe_of layout) in
-    length-append (filter (in_mask mask) xs) (filter (λ q. not (in_mask mask q)) xs)
-    ∙ length-filter_both (in_mask mask) (λ q. not (in_mask mask q)) (λ q. refl) xs
+    length-append (filter (has_bit mask) xs) (filter (λ q. not (has_bit mask q)) xs)
+    ∙ length-filter_both (has_bit mask) (λ q. not (has_bit mask q)) (λ q. refl) xs
     ∙ length-range_with_len 0 (safe_of layout)
 
 pub safe-most : (layout : Layout) → safe_of layout ≤ 16
@@ -145,13 +146,13 @@ module _ (left mask n : ℕ) (some : 0 < left) (few : left < 2 ^ n) (most : n �
       let least = bit_at-trailing_zeros w16 (bit_and left mask) has (omega (arith, and_le_l left mask, small)) in
       let here : bit_at left p ≡ 1 = omega (arith, bit_at_and left mask p, least.1, bit_at-lt left p, bit_at-lt mask p) in
       let named : bit_at mask p ≡ 1 = omega (arith, bit_at_and left mask p, least.1, bit_at-lt left p, bit_at-lt mask p) in
-      let passes : in_mask mask p ≡ true = ap (λ x. eqb x 1) named in (
+      let passes : has_bit mask p ≡ true = ap (λ x. eqb x 1) named in (
         here,
-        ap (λ (xs : List ℕ). xs ++ part left (λ q. not (in_mask mask q)) n)
-            (part-first left (in_mask mask) n p (in-below left n p few here) here passes
+        ap (λ (xs : List ℕ). xs ++ part left (λ q. not (has_bit mask q)) n)
+            (part-first left (has_bit mask) n p (in-below left n p few here) here passes
             (λ q below. both-not (bit_at left q) (bit_at mask q) (sym (bit_at_and left mask q) ∙ least.2 q below)))
-            ∙ ap (λ (xs : List ℕ). p ∷ part (bit_xor left (2 ^ p)) (in_mask mask) n ++ xs)
-            (part-same left (λ q. not (in_mask mask q)) n p (ap not passes)),
+            ∙ ap (λ (xs : List ℕ). p ∷ part (bit_xor left (2 ^ p)) (has_bit mask) n ++ xs)
+            (part-same left (λ q. not (has_bit mask q)) n p (ap not passes)),
       )
 
   -- no published position is left
@@ -162,14 +163,14 @@ module _ (left mask n : ℕ) (some : 0 < left) (few : left < 2 ^ n) (most : n �
       let least = bit_at-trailing_zeros w16 left some small in
       let apart : (q : ℕ) → min (bit_at left q) (bit_at mask q) ≡ 0 = λ q. sym (bit_at_and left mask q) ∙ ap (λ m. bit_at m q) none ∙ bit_at-zero q in
       let out : bit_at mask p ≡ 0 = omega (arith, apart p, least.1) in
-      let fails : in_mask mask p ≡ false = ap (λ x. eqb x 1) out in
-      let empty : part left (in_mask mask) n ≡ [] = kept-none (λ q. in_mask left q && in_mask mask q) 0 n (λ q. both-not (bit_at left q) (bit_at mask q) (apart q)) in
-      let empty' : part (bit_xor left (2 ^ p)) (in_mask mask) n ≡ [] = sym (part-same left (in_mask mask) n p fails) ∙ empty in (
+      let fails : has_bit mask p ≡ false = ap (λ x. eqb x 1) out in
+      let empty : part left (has_bit mask) n ≡ [] = kept-none (λ q. has_bit left q && has_bit mask q) 0 n (λ q. both-not (bit_at left q) (bit_at mask q) (apart q)) in
+      let empty' : part (bit_xor left (2 ^ p)) (has_bit mask) n ≡ [] = sym (part-same left (has_bit mask) n p fails) ∙ empty in (
         least.1,
-        ap (λ (xs : List ℕ). xs ++ part left (λ q. not (in_mask mask q)) n) empty
-            ∙ part-first left (λ q. not (in_mask mask q)) n p (in-below left n p few least.1) least.1 (ap not fails)
-            (λ q below. ap (λ x. eqb x 1 && not (in_mask mask q)) (least.2 q below))
-            ∙ ap (λ (xs : List ℕ). p ∷ xs ++ part (bit_xor left (2 ^ p)) (λ q. not (in_mask mask q)) n) (sym empty'),
+        ap (λ (xs : List ℕ). xs ++ part left (λ q. not (has_bit mask q)) n) empty
+            ∙ part-first left (λ q. not (has_bit mask q)) n p (in-below left n p few least.1) least.1 (ap not fails)
+            (λ q below. ap (λ x. eqb x 1 && not (has_bit mask q)) (least.2 q below))
+            ∙ ap (λ (xs : List ℕ). p ∷ xs ++ part (bit_xor left (2 ^ p)) (λ q. not (has_bit mask q)) n) (sym empty'),
       )
 
   next-at : (b : Bool) → eqb (bit_and left mask) 0 ≡ b → (let p = count_trailing_zeros 16 (cond b left (bit_and left mask)) in

@@ -1,7 +1,6 @@
 -- What a read asks and how it ends, by the answers that it was told. The answers stand newest first.
 use Rattle.std.specs.Prelude.{ℕ, Bool, ◌≡◌, ◌+◌, ◌==◌, nat_lt, cond, not, List, [], ◌∷◌, ◌++◌, length, replicate, filter, slice_index, slice_set, Option, Some, None}
 use Rattle.std.specs.List.{range_with_len}
-use Rattle.std.specs.Int.{bit_at}
 use Rattle.mj_angles.specs.declared.layout.Layout.{Layout}
 use Rattle.mj_angles.specs.Layout.{inverse_of, safe_of}
 use Rattle.rz_events.specs.declared.keys.Key.{Key}
@@ -16,7 +15,8 @@ use Rattle.rz_events.specs.declared.machines.ReaderAsk.TheVariants as ask
 use Rattle.rz_events.specs.declared.machines.ReaderAnswer.{ReaderAnswer}
 use Rattle.rz_events.specs.declared.machines.ReaderAnswer.TheVariants as told
 use Rattle.rz_client_model.specs.declared.reading.ReaderState.{ReaderState}
-use Rattle.rz_client_model.specs.Read.{reader_start, reader_ask, reader_told, reader_end, seen_of, stamp_of, IsAnswer}
+use Rattle.rz_client_model.specs.Read.{reader_start, reader_ask, reader_told, reader_end, seen_of, IsAnswer}
+use Rattle.rz_events.specs.Masks.{stamp_told, has_bit}
 
 -- The answers of a read.
 
@@ -45,7 +45,7 @@ mask_of (Some p) = p.mask
 
 -- the published stamp, or 0
 abbrev pub stamp_in : List ReaderAnswer → ℕ
-stamp_in answers = stamp_of (looked answers)
+stamp_in answers = stamp_told (looked answers)
 
 -- so many positions were asked
 abbrev pub asked_in : List ReaderAnswer → ℕ
@@ -71,13 +71,10 @@ length_in answers = slice_index (lengths (stamp_in answers) answers) 0
 
 -- In which order positions are asked.
 
-abbrev pub in_mask : ℕ → ℕ → Bool
-in_mask mask position = bit_at mask position == 1
-
 -- the positions of the mask, ascending, and then the others, ascending
 abbrev pub order : Layout → ℕ → List ℕ
 order layout mask =
-    filter (in_mask mask) (range_with_len 0 (safe_of layout)) ++ filter (λ position. not (in_mask mask position)) (range_with_len 0 (safe_of layout))
+    filter (has_bit mask) (range_with_len 0 (safe_of layout)) ++ filter (λ position. not (has_bit mask position)) (range_with_len 0 (safe_of layout))
 
 -- the position that is asked after these answers to fetches
 abbrev pub next_in : Layout → List ReaderAnswer → ℕ
@@ -111,7 +108,7 @@ abbrev pub end_after : Layout → (List ReaderAnswer → Bool) → List ReaderAn
 end_after layout fits [] = None
 end_after layout fits (told.Denied denial ∷ earlier) = Some (mark.Denied denial)
 end_after layout fits (told.Looked p ∷ []) = end_of_look p
-end_after layout fits (told.Looked p ∷ earlier) = Some (end_of_recheck (stamp_of p) (stamp_in earlier) (table layout earlier))
+end_after layout fits (told.Looked p ∷ earlier) = Some (end_of_recheck (stamp_told p) (stamp_in earlier) (table layout earlier))
 end_after layout fits (answer ∷ earlier) = end_of_fetches layout (fits (answer ∷ earlier)) (answer ∷ earlier)
 
 -- What a read asks after its answers.

@@ -16,7 +16,8 @@ use Rattle.rz_client_model.specs.declared.reading.ReaderState.{ReaderState}
 use Rattle.rz_client_model.specs.declared.reading.ReadStage.{ReadStage}
 use Rattle.rz_client_model.specs.declared.reading.ReadStage.TheVariants.{Looking, Fetching, Ended}
 use Rattle.rz_client_model.specs.declared.reading.Fetches.{Fetches}
-use Rattle.rz_client_model.specs.Read.{after_answer, after_recheck, stamp_of, ask_at, IsAnswer, unless_enough, with_record, with_seen, reader_told}
+use Rattle.rz_client_model.specs.Read.{after_answer, after_recheck, ask_at, IsAnswer, unless_enough, with_record, with_seen, reader_told}
+use Rattle.rz_events.specs.Masks.{stamp_told}
 use Rattle.rz_reader.specs.declared.steps.Record.{Record}
 use Rattle.rz_reader.specs.Fetched.{record_in}
 use Rattle.rz_reader.specs.Machine.{Machine, pairs_at, block_at, pairs_with, pairs_if, pairs_after, AreFitting, IsStageAfter, IsStateAfter, IsBlockOf}
@@ -82,7 +83,7 @@ after-block layout at pairs g state Looking (told.Denied denial) asked h = refl
 after-block layout at pairs g state Looking (told.Fetched a) asked h = refl
 after-block layout at pairs g state Looking told.Missed asked h = refl
 after-block layout at pairs g state (Fetching t) (told.Looked p) asked h =
-    recheck-block layout pairs g (eqb (stamp_of p) t.stamp) (mark.TooFew t.seen) (mark.Moved t.stamp (stamp_of p)) refl refl
+    recheck-block layout pairs g (eqb (stamp_told p) t.stamp) (mark.TooFew t.seen) (mark.Moved t.stamp (stamp_told p)) refl refl
 after-block layout at pairs g state (Fetching t) (told.Denied denial) asked h = refl
 after-block layout at pairs g state (Fetching t) told.Missed asked h = refl
 after-block layout at pairs g state (Fetching t) (told.Fetched fetch.Nothing) asked h = refl

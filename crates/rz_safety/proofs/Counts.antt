@@ -14,7 +14,8 @@ use Rattle.rz_events.specs.declared.keys.Key.{Key}
 use Rattle.rz_events.specs.declared.ends.Seen.{Seen}
 use Rattle.rz_events.specs.declared.ends.Seen.TheVariants as seen
 use Rattle.rz_events.specs.declared.events.Event.{Event}
-use Rattle.rz_export_model.specs.Export.{is_mask, has_bit}
+use Rattle.rz_export_model.specs.Export.{is_mask}
+use Rattle.rz_events.specs.Masks.{has_bit}
 use Rattle.rz_core.specs.Outcomes.{seens, is_held}
 use Rattle.rz_safety.specs.Sound.{not_held}
 

@@ -18,7 +18,8 @@ use Rattle.rz_events.specs.declared.events.Event.{Event}
 use Rattle.rz_events.specs.declared.events.Event.TheVariants as e
 use Rattle.rz_events.specs.Events.{by_of, same_actor}
 use Rattle.rz_core.specs.History.{facts, of_actor}
-use Rattle.rz_core.specs.ExportWord.{latest, accepted, with_length, is_live, is_made, is_gone, makes, ends, stamp_told}
+use Rattle.rz_core.specs.ExportWord.{latest, accepted, with_length, is_live, is_made, is_gone, makes, ends}
+use Rattle.rz_events.specs.Masks.{stamp_told}
 use Rattle.rz_core.specs.ExportRows.{IsInFile, DeniedRow}
 use Rattle.rz_core.specs.Own.{last, since, before, is_look, is_export}
 use Rattle.rz_core.specs.OwnRows.{TooFewRow, GotRow}

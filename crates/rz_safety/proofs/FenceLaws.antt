@@ -12,7 +12,8 @@ use Rattle.rz_events.specs.Events.{by_of, word_of, same_actor, same_word, same_k
 use Rattle.rz_node_model.specs.Versions.{Stands}
 use Rattle.rz_core.specs.History.{Facts, facts, of_actor, Has, IsPlace}
 use Rattle.rz_core.specs.NodeWord.{phase, losses, fence_of}
-use Rattle.rz_core.specs.ExportWord.{last_drawn, accepted, is_newer, enrolled, or_new, HasBit}
+use Rattle.rz_core.specs.ExportWord.{last_drawn, accepted, is_newer, enrolled, or_new}
+use Rattle.rz_events.specs.Masks.{HasBit}
 use Rattle.rz_core.specs.Legal.{IsLegal, Row}
 use Rattle.rz_core.proofs.Extends.{some_length, extends-more, place-extends}
 use Rattle.rz_core.proofs.Stamps.{export, same_key-true, drawn}

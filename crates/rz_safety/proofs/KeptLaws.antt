@@ -17,7 +17,8 @@ use Rattle.rz_events.specs.Events.{by_of, word_of, same_actor, same_word, same_k
 use Rattle.rz_node_model.specs.Versions.{kept, refilled, without, IsAbove, Stands, IsPast, greatest}
 use Rattle.rz_core.specs.History.{Facts, facts, Begun, wrote, of_word, of_actor, Has, IsPlace}
 use Rattle.rz_core.specs.NodeWord.{fence_of, held, changed, base_of, itself}
-use Rattle.rz_core.specs.ExportWord.{latest, accepted, stamp_in, is_newer, is_gone, is_made, is_live, ends, HasBit}
+use Rattle.rz_core.specs.ExportWord.{latest, accepted, stamp_in, is_newer, is_gone, is_made, is_live, ends}
+use Rattle.rz_events.specs.Masks.{HasBit}
 use Rattle.rz_core.specs.NodeRows.{HasGone}
 use Rattle.rz_core.specs.Legal.{IsLegal, Row}
 use Rattle.rz_core.proofs.Extends.{all-changed, OfChange, IsPlaced, Knows, made-placed, extends-more, place-extends, place-back}

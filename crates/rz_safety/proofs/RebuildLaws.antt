@@ -14,7 +14,8 @@ use Rattle.rz_events.specs.Events.{by_of, same_actor, same_key}
 use Rattle.rz_node_model.specs.Versions.{Stands, IsPast}
 use Rattle.rz_core.specs.History.{facts, wrote, of_actor, Has, IsPlace, base_in, length_in}
 use Rattle.rz_core.specs.NodeWord.{losses, held, base_of}
-use Rattle.rz_core.specs.ExportWord.{accepted, is_newer, is_gone, is_made, HasBit}
+use Rattle.rz_core.specs.ExportWord.{accepted, is_newer, is_gone, is_made}
+use Rattle.rz_events.specs.Masks.{HasBit}
 use Rattle.rz_core.specs.ExportRows.{IsLess, IsAfter, IsListed}
 use Rattle.rz_core.specs.Legal.{IsLegal}
 use Rattle.rz_core.proofs.Extends.{some_length}

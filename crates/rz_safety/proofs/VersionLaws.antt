@@ -12,7 +12,8 @@ use Rattle.rz_events.specs.declared.events.Event.TheVariants as e
 use Rattle.rz_node_model.specs.Versions.{Stands}
 use Rattle.rz_core.specs.History.{Facts, facts}
 use Rattle.rz_core.specs.NodeWord.{phase, fence_of, held, undecided}
-use Rattle.rz_core.specs.ExportWord.{accepted, HasBit}
+use Rattle.rz_core.specs.ExportWord.{accepted}
+use Rattle.rz_events.specs.Masks.{HasBit}
 use Rattle.rz_core.specs.NodeRows.{DidRow}
 use Rattle.rz_core.specs.Legal.{IsLegal}
 use Rattle.rz_core.proofs.Extends.{all-changed, all-taken, OfChange, some_length}

@@ -11,7 +11,8 @@ use Rattle.rz_events.specs.Events.{same_key}
 use Rattle.rz_node_model.specs.Versions.{Stands}
 use Rattle.rz_core.specs.History.{Has, of_word, facts, IsPlace}
 use Rattle.rz_core.specs.NodeWord.{phase, held, fence_of}
-use Rattle.rz_core.specs.ExportWord.{is_live, published, accepted, is_newer, HasBit}
+use Rattle.rz_core.specs.ExportWord.{is_live, published, accepted, is_newer}
+use Rattle.rz_events.specs.Masks.{HasBit}
 use Rattle.rz_safety.specs.Reads.{IsLostSince}
 
 -- the history before the accepted publish that counts now

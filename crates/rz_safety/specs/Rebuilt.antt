@@ -12,7 +12,8 @@ use Rattle.rz_events.specs.declared.events.Event.TheVariants as e
 use Rattle.rz_node_model.specs.Versions.{Stands}
 use Rattle.rz_core.specs.History.{of_word, of_actor, facts, IsPlace}
 use Rattle.rz_core.specs.NodeWord.{losses, held, fence_of}
-use Rattle.rz_core.specs.ExportWord.{is_live, published, stamp_told, HasBit}
+use Rattle.rz_core.specs.ExportWord.{is_live, published}
+use Rattle.rz_events.specs.Masks.{stamp_told, HasBit}
 
 -- Where a rebuild stands: ready for a `Next` after this key; a `Next` after the first key was told the second, with that
 -- stamp, and nothing came of it yet; or a `Next` was told that no key is left.

@@ -11,9 +11,9 @@ use Rattle.rz_events.specs.declared.ends.ReadEnd.TheVariants as read
 use Rattle.rz_events.specs.declared.events.Word.TheVariants.{Export}
 use Rattle.rz_events.specs.declared.events.Event.{Event}
 use Rattle.rz_events.specs.declared.events.Event.TheVariants as e
-use Rattle.rz_export_model.specs.Export.{has_bit}
+use Rattle.rz_events.specs.Masks.{has_bit, HasBit}
 use Rattle.rz_core.specs.History.{Has, of_word, facts, IsPlace}
-use Rattle.rz_core.specs.ExportWord.{is_live, latest, published, HasBit}
+use Rattle.rz_core.specs.ExportWord.{is_live, latest, published}
 use Rattle.rz_core.specs.Outcomes.{is_held}
 use Rattle.rz_safety.specs.Reads.{IsAcked, before_read, IsLookOf, IsLostSince}
 

@@ -23,8 +23,7 @@ use Rattle.mj_angles.specs.declared.layout.Layout.{Layout}
 use Rattle.mj_angles.specs.declared.layout.Layout.TheVariants.{L0, L1, L2, L0B1, L0B2, L0B3, L1B1, L1B2, L1B3, L2B1, L2B2, L2B3}
 use Rattle.mj_angles.specs.Layout.{number_of, block_bytes_of, safe_of}
 use Rattle.rz_events.specs.declared.files.NodeSpec.{NodeSpec}
-use Rattle.rz_events.specs.Volume.{Volume, Cluster}
-use Rattle.rz_config.specs.Rules.{IsNode, IsCluster, IsVolume}
+use Rattle.rz_events.specs.Volume.{Volume, Cluster, IsNode, IsCluster, IsVolume}
 use Rattle.rz_config.specs.Plain.{plain_volume}
 use Rattle.rz_config.specs.Described.{volume_of_value, volume_of_text}
 use Rattle.rz_script.specs.declared.fault.ScriptError.{ScriptError}

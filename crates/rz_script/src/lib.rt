@@ -27,7 +27,7 @@ mod words;
 
 pub use fault::{ScriptCause, ScriptError};
 pub use form::Form;
-pub use line::{Datum, Line, Operation};
+pub use line::Line;
 pub use rz_config::{Volume, VolumeFault};
-pub use rz_events::{Actor, Text, TreeCall};
+pub use rz_events::{Actor, Datum, Operation, Text, TreeCall};
 pub use script::Script;

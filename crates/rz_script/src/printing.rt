@@ -4,7 +4,7 @@ ghost use Rattle.std.specs.Prelude.{◌≡◌, ◌≤◌, ◌++◌, ◌∷◌, t
 ghost use Rattle.std.specs.List.{flat_map, join_by, join_with_byte, list_all};
 ghost use Rattle.std.specs.Fmt.{decimal};
 ghost use Rattle.rz_script.specs.Spelling.{actor_word, node_word, datum_word, call_word, call_operands, verb_word, operands_of, way_word, line_words, line_text, lines_text, node_text, cluster_text, description_text, volume_text, script_text, AreShortNodes, AreShortClusters};
-ghost use Rattle.rz_config.specs.Rules.{IsVolume};
+ghost use Rattle.rz_events.specs.Volume.{IsVolume};
 ghost use Rattle.rz_script.specs.Grammar.{script};
 ghost use Rattle.rz_script.specs.Lines.{AreLines, allows};
 

@@ -2,8 +2,7 @@ use Rattle.std.proofs.Common.{◌≡◌, ℕ, ◌≤◌, ◌∙◌, sym, List, �
 use Rattle.std.specs.Prelude.{All}
 use Rattle.std.proofs.lemmas.List.Elements.{All-weaker, All-head, All-tail, All-same}
 use Rattle.mj_angles.specs.Layout.{safe_of}
-use Rattle.rz_events.specs.Volume.{Cluster}
-use Rattle.rz_config.specs.Rules.{IsCluster}
+use Rattle.rz_events.specs.Volume.{Cluster, IsCluster}
 use Rattle.rz_place.proofs.place.Goals as goal
 
 clusters_good : (safe : ℕ) (all : List Cluster) (first : Cluster) (others : List Cluster) → All (IsCluster safe) all → all ≡ first ∷ others → All (IsCluster safe) (first ∷ others)

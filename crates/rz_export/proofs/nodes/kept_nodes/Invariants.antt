@@ -1,5 +1,5 @@
 use Rattle.std.proofs.Common.{◌≡◌, ◌++◌, map, drop}
-use Rattle.rz_export_model.specs.Place.{nodes_of}
+use Rattle.rz_events.specs.Volume.{nodes_of}
 use Rattle.rz_export.specs.Nodes.{new_node}
 use Rattle.rz_export.proofs.nodes.kept_nodes.Given as goal
 

@@ -1,7 +1,6 @@
 use Rattle.std.proofs.Common.{◌≡◌, List, [], ◌∷◌, sym, ap, subst, ◌∙◌}
 use Rattle.mj_angles.specs.declared.layout.Layout.TheVariants.{L1}
-use Rattle.rz_events.specs.Volume.{Cluster}
-use Rattle.rz_config.specs.Rules.{IsVolume}
+use Rattle.rz_events.specs.Volume.{Cluster, IsVolume}
 use Rattle.rz_generate.specs.Workload.{cluster_of, volume}
 use Rattle.rz_generate.proofs.Volumes.{volume_ok}
 use Rattle.rz_generate.proofs.volume.workload_volume.Goals as goal

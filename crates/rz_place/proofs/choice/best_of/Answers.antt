@@ -1,7 +1,6 @@
 use Rattle.std.proofs.Common.{◌≡◌, ℕ, suc, ◌≤◌, length, subst, sym, add-one, drop}
-use Rattle.rz_events.specs.Volume.{Cluster}
+use Rattle.rz_events.specs.Volume.{Cluster, nodes_of}
 use Rattle.rz_place.proofs.Placing.{rest_at, fewer_left}
-use Rattle.rz_export_model.specs.Place.{nodes_of}
 use Rattle.rz_place.proofs.choice.best_of.Goals as goal
 
 pub loop-cluster-preserved : goal.loop-cluster-preserved

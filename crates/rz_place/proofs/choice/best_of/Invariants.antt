@@ -1,6 +1,7 @@
 use Rattle.std.proofs.Common.{◌≡◌, ℕ, ◌≤◌, length, take, drop}
 use Rattle.std.specs.Prelude.{All}
-use Rattle.rz_export_model.specs.Place.{best_of, clusters_of, nodes_of}
+use Rattle.rz_export_model.specs.Place.{best_of, clusters_of}
+use Rattle.rz_events.specs.Volume.{nodes_of}
 use Rattle.rz_place.specs.Rooms.{rooms_in}
 use Rattle.rz_place.proofs.choice.best_of.Given as goal
 

@@ -1,6 +1,6 @@
 use Rattle.std.proofs.Common.{ap, sym, subst, ◌∙◌, List}
 use Rattle.std.specs.FinMap as maps
-use Rattle.rz_export_model.specs.Place.{nodes_of}
+use Rattle.rz_events.specs.Volume.{nodes_of}
 use Rattle.rz_export_model.specs.Tree.{Tree, empty_tree}
 use Rattle.rz_export_model.specs.Export.{Export, Blocks}
 use Rattle.rz_export.specs.declared.nodes.KeptNode.{KeptNode}

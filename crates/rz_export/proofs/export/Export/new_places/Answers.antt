@@ -1,7 +1,8 @@
 use Rattle.std.proofs.Common.{◌≡◌, ◌-◌, List, ℕ, length, map, ap, ◌∙◌}
 use Rattle.std.proofs.lemmas.List.{length-map}
 use Rattle.rz_events.specs.declared.files.NodeSpec.{NodeSpec}
-use Rattle.rz_export_model.specs.Place.{place, nodes_of}
+use Rattle.rz_export_model.specs.Place.{place}
+use Rattle.rz_events.specs.Volume.{nodes_of}
 use Rattle.rz_export_model.specs.Export.{Export, new_places}
 use Rattle.rz_export.specs.declared.nodes.KeptNode.{KeptNode}
 use Rattle.rz_export.specs.Kept.{used_in}

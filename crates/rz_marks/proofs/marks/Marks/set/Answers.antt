@@ -1,7 +1,7 @@
 use Rattle.std.proofs.Common.{◌≡◌, ℕ, true, cond, ap, ◌∙◌, subst}
 use Rattle.std.specs.Prelude.{◌==◌}
 use Rattle.rz_events.specs.declared.keys.Key.{Key}
-use Rattle.rz_export_model.specs.Export.{has_bit}
+use Rattle.rz_events.specs.Masks.{has_bit}
 use Rattle.rz_marks.specs.Marks.{is_row_of, is_marked, has_room, is_same}
 use Rattle.rz_marks.specs.Rows.{rank, IsGap, IsThere}
 use Rattle.rz_marks.proofs.Written.{gap-of, there-of, row-own, small-at, unset, set-marks, kept-marks, set-rising}
