@@ -17,7 +17,7 @@ pub struct ClusterSpec {
 }
 
 impl Model for ClusterSpec {
-    ghost use Rattle.rz_events.specs.Volume.{Cluster, IsVolume};
+    ghost use Rattle.rz_events.specs.Volume.{Cluster};
 
     ghost Value = { Cluster };
 
@@ -37,6 +37,7 @@ impl Model for Volume {
     ghost use Rattle.std.specs.Prelude.{◌≡◌};
     ghost use Rattle.mj_angles.specs.Layout.{bsize_of};
     ghost use Rattle.rz_events.specs.Volume as model;
+    ghost use Rattle.rz_events.specs.Volume.{IsVolume};
 
     ghost Value = { model.Volume };
 
