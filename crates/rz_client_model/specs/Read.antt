@@ -1,13 +1,12 @@
 -- The read of a block. Records of the published stamp alone are wanted: from the published positions first, ascending,
 -- and then from the others, ascending.
-use Rattle.std.specs.Prelude.{ℕ, Bool, true, false, ◌+◌, ◌-◌, ◌^◌, ◌==◌, ◌<◌, ◌≤◌, ◌≡◌, nat_lt, cond, List, length, replicate, slice_index, slice_set, bit_and, bit_xor, Option, Some, None}
+use Rattle.std.specs.Prelude.{ℕ, Bool, ◌+◌, ◌-◌, ◌^◌, ◌==◌, ◌<◌, ◌≤◌, nat_lt, cond, List, length, replicate, slice_index, slice_set, bit_and, bit_xor, Option, Some, None}
 use Rattle.std.specs.Int.Count.{count_trailing_zeros}
 use Rattle.mj_angles.specs.declared.layout.Layout.{Layout}
 use Rattle.mj_angles.specs.Layout.{inverse_of, safe_of, block_bytes_of}
 use Rattle.rz_events.specs.declared.keys.Key.{Key}
 use Rattle.rz_events.specs.declared.files.Published.{Published}
 use Rattle.rz_events.specs.Masks.{stamp_told}
-use Rattle.rz_events.specs.declared.records.Held.{Held}
 use Rattle.rz_events.specs.declared.ends.Seen.{Seen}
 use Rattle.rz_events.specs.declared.ends.Seen.TheVariants as seen
 use Rattle.rz_events.specs.declared.ends.ReadMark.{ReadMark}
@@ -149,8 +148,8 @@ IsFetchAnswer layout (told.Fetched answer) = IsFetched layout answer
 IsFetchAnswer layout told.Missed = Unit {0}
 IsFetchAnswer layout _ = ⊥
 
-abbrev pub IsAnswer : Layout → ReaderAsk → ReaderAnswer → Type 0
-IsAnswer layout ask.Look answer = IsLookAnswer layout answer
-IsAnswer layout (ask.Fetch position node stamp) answer = IsFetchAnswer layout answer
-IsAnswer layout ask.Recheck answer = IsLookAnswer layout answer
-IsAnswer layout ask.End answer = ⊥
+abbrev pub IsReaderAnswer : Layout → ReaderAsk → ReaderAnswer → Type 0
+IsReaderAnswer layout ask.Look answer = IsLookAnswer layout answer
+IsReaderAnswer layout (ask.Fetch position node stamp) answer = IsFetchAnswer layout answer
+IsReaderAnswer layout ask.Recheck answer = IsLookAnswer layout answer
+IsReaderAnswer layout ask.End answer = ⊥

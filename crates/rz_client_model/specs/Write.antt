@@ -133,17 +133,18 @@ IsPublishAnswer mask (told.Denied denial) = Unit {0}
 IsPublishAnswer mask (told.Revoked later) = Unit {0}
 IsPublishAnswer mask _ = ⊥
 
-abbrev pub IsAnswer : WriterAsk → WriterAnswer → Type 0
-IsAnswer (ask.Begin length) answer = IsBeginAnswer answer
-IsAnswer (ask.Keep position node stamp base) answer = IsKeepAnswer answer
-IsAnswer (ask.Publish stamp mask) answer = IsPublishAnswer mask answer
-IsAnswer ask.End answer = ⊥
+abbrev pub IsWriterAnswer : WriterAsk → WriterAnswer → Type 0
+IsWriterAnswer (ask.Begin length) answer = IsBeginAnswer answer
+IsWriterAnswer (ask.Keep position node stamp base) answer = IsKeepAnswer answer
+IsWriterAnswer (ask.Publish stamp mask) answer = IsPublishAnswer mask answer
+IsWriterAnswer ask.End answer = ⊥
 
 -- What holds of every write between its answers.
 
--- no more nodes have the record than are wanted, and no more positions have failed than there are spare ones
+-- no more nodes have the record than are wanted, no more positions have failed than there are spare ones, and the base is
+-- below the stamp
 abbrev pub IsWithin : Layout → WriteStage → Type 0
-IsWithin layout (Sending t) = (t.kept ≤ forward_of layout) × (t.failed + forward_of layout ≤ safe_of layout)
+IsWithin layout (Sending t) = (t.kept ≤ forward_of layout) × (t.failed + forward_of layout ≤ safe_of layout) × (t.base < t.stamp)
 IsWithin layout _ = Unit {0}
 
 pub record IsWrite (s : WriterState) : Type 0 where

@@ -22,7 +22,7 @@ use Rattle.rz_client_model.specs.declared.reading.ReaderState.{ReaderState}
 use Rattle.rz_client_model.specs.declared.reading.ReadStage.{ReadStage}
 use Rattle.rz_client_model.specs.declared.reading.ReadStage.TheVariants.{Looking, Fetching, Ended}
 use Rattle.rz_client_model.specs.declared.reading.Fetches.{Fetches}
-use Rattle.rz_client_model.specs.Read.{reader_start, reader_ask, reader_told, reader_end, ask_at, end_at, none_fetched, next_position, with_seen, with_record, unless_enough, after_answer, IsAnswer, IsLookAnswer, IsFetchAnswer}
+use Rattle.rz_client_model.specs.Read.{reader_start, reader_ask, reader_told, reader_end, ask_at, end_at, none_fetched, next_position, with_seen, with_record, unless_enough, after_answer, IsReaderAnswer, IsLookAnswer, IsFetchAnswer}
 use Rattle.rz_events.specs.Masks.{stamp_told}
 use Rattle.rz_read_laws.specs.Told.{after, AreAnswers, looked, mask_of, stamp_in, asked_in, lengths, given_in, length_in, order, next_in, table, end_of_fetches, end_of_recheck, end_after, unless_ended, next_ask, ask_after, AsksInOrder, EndsExactly}
 use Rattle.rz_read_laws.proofs.Positions.{pending, pending-all, pending-none, pending-next, length-order, safe-most, in-below, left-some, left-first}
@@ -209,7 +209,7 @@ recheck-course layout fits answers t (told.Fetched a) h asked = absurd asked
 recheck-course layout fits answers t told.Missed h asked = absurd asked
 
 fetching-course : (layout : Layout) (fits : List ReaderAnswer → Bool) (answers : List ReaderAnswer) (t : Fetches) (answer : ReaderAnswer) (position node : ℕ) → IsFetching layout fits answers t → (b : Bool) →
-    eqb t.left 0 ≡ b → IsAnswer layout (cond b ask.Recheck (ask.Fetch position node t.stamp)) answer →
+    eqb t.left 0 ≡ b → IsReaderAnswer layout (cond b ask.Recheck (ask.Fetch position node t.stamp)) answer →
     IsCourse layout fits (answer ∷ answers) (after_answer layout (fits (answer ∷ answers)) (Fetching t) answer)
 fetching-course layout fits answers t answer position node h true test asked = recheck-course layout fits answers t answer h asked
 fetching-course layout fits answers t answer position node h false test asked =
@@ -242,7 +242,7 @@ look-course layout fits (x ∷ xs) answer e asked = absurd (let z : x ∷ xs ≡
 
 -- one more answer
 step : (layout : Layout) (key : Key) (places : List ℕ) (fits : List ReaderAnswer → Bool) (answers : List ReaderAnswer) (answer : ReaderAnswer) (stage : ReadStage) →
-    IsCourse layout fits answers stage → IsAnswer layout (ask_at (state_at layout key places stage) stage) answer →
+    IsCourse layout fits answers stage → IsReaderAnswer layout (ask_at (state_at layout key places stage) stage) answer →
     IsCourse layout fits (answer ∷ answers) (after_answer layout (fits (answer ∷ answers)) stage answer)
 step layout key places fits answers answer Looking h asked = look-course layout fits answers answer h asked
 step layout key places fits answers answer (Fetching t) h asked =
@@ -253,8 +253,8 @@ pub course : (layout : Layout) (key : Key) (places : List ℕ) (fits : List Read
     AreAnswers fits (reader_start layout key places) answers → IsCourse layout fits answers (stage_after layout fits answers)
 course layout key places fits [] h = refl
 course layout key places fits (answer ∷ earlier) h =
-    let asked : IsAnswer layout (reader_ask (state_at layout key places (stage_after layout fits earlier))) answer =
-    subst (λ (s : ReaderState). IsAnswer layout (reader_ask s) answer) (after-is layout key places fits earlier) h.1 in
+    let asked : IsReaderAnswer layout (reader_ask (state_at layout key places (stage_after layout fits earlier))) answer =
+    subst (λ (s : ReaderState). IsReaderAnswer layout (reader_ask s) answer) (after-is layout key places fits earlier) h.1 in
     step layout key places fits earlier answer (stage_after layout fits earlier) (course layout key places fits earlier h.0) asked
 
 -- How it ends.

@@ -15,7 +15,7 @@ use Rattle.rz_events.specs.declared.machines.ReaderAsk.TheVariants as ask
 use Rattle.rz_events.specs.declared.machines.ReaderAnswer.{ReaderAnswer}
 use Rattle.rz_events.specs.declared.machines.ReaderAnswer.TheVariants as told
 use Rattle.rz_client_model.specs.declared.reading.ReaderState.{ReaderState}
-use Rattle.rz_client_model.specs.Read.{reader_start, reader_ask, reader_told, reader_end, seen_of, IsAnswer}
+use Rattle.rz_client_model.specs.Read.{reader_start, reader_ask, reader_told, reader_end, seen_of, IsReaderAnswer}
 use Rattle.rz_events.specs.Masks.{stamp_told, has_bit}
 
 -- The answers of a read.
@@ -28,7 +28,7 @@ after fits s (answer ∷ earlier) = reader_told (fits (answer ∷ earlier)) (aft
 -- each answer belongs to what was asked when it was told
 abbrev pub AreAnswers : (List ReaderAnswer → Bool) → ReaderState → List ReaderAnswer → Type 0
 AreAnswers fits s [] = Unit {0}
-AreAnswers fits s (answer ∷ earlier) = AreAnswers fits s earlier × IsAnswer s.layout (reader_ask (after fits s earlier)) answer
+AreAnswers fits s (answer ∷ earlier) = AreAnswers fits s earlier × IsReaderAnswer s.layout (reader_ask (after fits s earlier)) answer
 
 -- What they say.
 

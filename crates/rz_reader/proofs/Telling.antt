@@ -16,7 +16,7 @@ use Rattle.rz_client_model.specs.declared.reading.ReaderState.{ReaderState}
 use Rattle.rz_client_model.specs.declared.reading.ReadStage.{ReadStage}
 use Rattle.rz_client_model.specs.declared.reading.ReadStage.TheVariants.{Looking, Fetching, Ended}
 use Rattle.rz_client_model.specs.declared.reading.Fetches.{Fetches}
-use Rattle.rz_client_model.specs.Read.{after_answer, after_recheck, ask_at, IsAnswer, unless_enough, with_record, with_seen, reader_told}
+use Rattle.rz_client_model.specs.Read.{after_answer, after_recheck, ask_at, IsReaderAnswer, unless_enough, with_record, with_seen, reader_told}
 use Rattle.rz_events.specs.Masks.{stamp_told}
 use Rattle.rz_reader.specs.declared.steps.Record.{Record}
 use Rattle.rz_reader.specs.Fetched.{record_in}
@@ -75,7 +75,7 @@ held-block : (layout : Layout) (pairs : List Pair) (g : Grid) (r : Record) (b : 
 held-block layout pairs g r true enough t h = cc
 held-block layout pairs g r false enough t h = refl
 
-after-block : (layout at : Layout) (pairs : List Pair) (g : Grid) (state : ReaderState) (stage : ReadStage) (answer : ReaderAnswer) → IsAnswer at (ask_at state stage) answer →
+after-block : (layout at : Layout) (pairs : List Pair) (g : Grid) (state : ReaderState) (stage : ReadStage) (answer : ReaderAnswer) → IsReaderAnswer at (ask_at state stage) answer →
     record_in stage answer ≡ None → IsBlockOf layout pairs (after_answer at true stage answer) (block_at (after_answer at true stage answer) g)
 after-block layout at pairs g state Looking (told.Looked None) asked h = refl
 after-block layout at pairs g state Looking (told.Looked (Some p)) asked h = refl
@@ -96,10 +96,10 @@ after-block layout at pairs g state (Fetching t) (told.Fetched (fetch.Held held)
 after-block layout at pairs g state (Ended e) answer asked h = absurd asked
 
 pub told-other : (state : ReaderState) (search : Search) (block : Grid) (m : Machine) (answer : ReaderAnswer) (pairs : List Pair) (stage : ReadStage) →
-    machine_of state search block ≡ m → IsAnswer m.state.layout (ask_at m.state m.state.stage) answer → record_in state.stage answer ≡ None →
+    machine_of state search block ≡ m → IsReaderAnswer m.state.layout (ask_at m.state m.state.stage) answer → record_in state.stage answer ≡ None →
     stage ≡ after_answer state.layout true state.stage answer → IsBlockOf m.state.layout pairs stage (block_at stage block)
 told-other state search block m answer pairs stage view asked none is =
-    let here : IsAnswer state.layout (ask_at state state.stage) answer =
-    subst (λ (x : Machine). IsAnswer x.state.layout (ask_at x.state x.state.stage) answer) (sym view) asked in
+    let here : IsReaderAnswer state.layout (ask_at state state.stage) answer =
+    subst (λ (x : Machine). IsReaderAnswer x.state.layout (ask_at x.state x.state.stage) answer) (sym view) asked in
     subst (λ (s : ReadStage). IsBlockOf m.state.layout pairs s (block_at s block)) (sym is)
     (after-block m.state.layout state.layout pairs block state state.stage answer here none)

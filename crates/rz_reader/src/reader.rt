@@ -3,7 +3,7 @@
 ghost use Rattle.std.specs.Prelude.{◌≡◌, ◌≤◌, ◌<◌, ◌*◌, ℕ, List, Some, All, IfOk, IsSomeAnd, length, take};
 ghost use Rattle.mj_angles.specs.Layout.{safe_of, inverse_of, cols_of, block_bytes_of, bins_at_of};
 ghost use Rattle.rz_words.specs.Grid.{bytes_from, grid_from_bytes};
-ghost use Rattle.rz_client_model.specs.Read.{IsAnswer, reader_ask, reader_end, reader_start, next_position};
+ghost use Rattle.rz_client_model.specs.Read.{IsReaderAnswer, reader_ask, reader_end, reader_start, next_position};
 ghost use Rattle.rz_reader.specs.Machine.{machine_for, pairs_at, block_at, pairs_with, pairs_after, IsStageAfter, IsStateAfter, IsBlockOf, IsAskOf, HasBins, HasFound};
 ghost use Rattle.rz_reader.specs.Inside.{IsFetching, IsStage};
 
@@ -68,7 +68,7 @@ impl Reader {
 
     /// Takes the answer to what was asked, and with a record the bins of its position.
     pub fn tell(&mut self, answer: ReaderAnswer, bins: &[u64])
-        requires asked { IsAnswer self.old.state.layout (reader_ask self.old.state) answer }
+        requires asked { IsReaderAnswer self.old.state.layout (reader_ask self.old.state) answer }
         requires bins { HasBins self.old.state.layout (reader_ask self.old.state) answer bins.now }
         ensures state { IsStateAfter self.old answer bins.now self.new.state }
         ensures pairs { self.new.pairs ≡ pairs_at self.new.state.stage (pairs_after self.old answer bins.now) }

@@ -2,7 +2,7 @@
 
 ghost use Rattle.std.specs.Prelude.{◌≡◌, ◌≤◌, ◌<◌, ◌^◌, Bool, List, [], None, length};
 ghost use Rattle.mj_angles.specs.Layout.{safe_of, inverse_of, block_bytes_of};
-ghost use Rattle.rz_client_model.specs.Read.{IsAnswer, reader_ask, ask_at, after_answer, after_look, after_recheck};
+ghost use Rattle.rz_client_model.specs.Read.{IsReaderAnswer, reader_ask, ask_at, after_answer, after_look, after_recheck};
 ghost use Rattle.rz_client_model.specs.declared.reading.ReadStage.TheVariants.{Looking};
 ghost use Rattle.mj_inverse.specs.Fits.{Pair};
 ghost use Rattle.rz_reader.specs.Fetched.{record_in};
@@ -75,7 +75,7 @@ pub fn record_of(stage: &ReadStage, answer: ReaderAnswer) -> Option<Record>
 /// How far the read has come after an answer that is no record of the published stamp.
 pub fn after_other(state: &ReaderState, answer: ReaderAnswer) -> ReadStage
     requires few { HasFewLeft state.now.layout state.now.stage }
-    requires asked { IsAnswer state.now.layout (reader_ask state.now) answer }
+    requires asked { IsReaderAnswer state.now.layout (reader_ask state.now) answer }
     requires other { record_in state.now.stage answer ≡ None }
     ensures value { (fits : Bool) → result ≡ after_answer state.now.layout fits state.now.stage answer }
     ensures kept { (pairs : List Pair) → IsStage state.now.layout pairs state.now.stage → IsStage state.now.layout pairs result }
@@ -106,7 +106,7 @@ fn after_looking(layout: Layout, answer: ReaderAnswer) -> ReadStage
 /// to the recheck.
 fn after_fetching(state: &ReaderState, fetches: Fetches, answer: ReaderAnswer) -> ReadStage
     requires few { fetches.left < 2 ^ safe_of state.now.layout }
-    requires asked { IsAnswer state.now.layout (ask_at state.now (ReadStage.Fetching fetches)) answer }
+    requires asked { IsReaderAnswer state.now.layout (ask_at state.now (ReadStage.Fetching fetches)) answer }
     requires other { record_in (ReadStage.Fetching fetches) answer ≡ None }
     ensures value { (fits : Bool) → result ≡ after_answer state.now.layout fits (ReadStage.Fetching fetches) answer }
     ensures kept { (pairs : List Pair) → IsFetching state.now.layout pairs fetches → IsStage state.now.layout pairs result }

@@ -4,7 +4,7 @@ ghost use Rattle.std.specs.Prelude.{◌≡◌, ◌≤◌, ◌<◌, IsTrue, lengt
 ghost use Rattle.mj_angles.specs.Layout.{safe_of};
 ghost use Rattle.mj_angles.specs.declared.layout.Layout.TheVariants.{L0};
 ghost use Rattle.rz_events.specs.declared.machines.ReaderAnswer.{ReaderAnswer as AnAnswer};
-ghost use Rattle.rz_client_model.specs.Read.{IsAnswer, IsTold};
+ghost use Rattle.rz_client_model.specs.Read.{IsReaderAnswer, IsTold};
 ghost use Rattle.rz_reader.specs.Machine.{HasBins};
 
 use crate::Reader;
@@ -33,7 +33,7 @@ fn can_be_told(layout: Layout, published: Option<Published>) -> bool
 
 /// Whether the answer belongs to what was asked.
 fn belongs(layout: Layout, ask: ReaderAsk, answer: ReaderAnswer) -> bool
-    ensures { IsTrue result → IsAnswer layout ask answer }
+    ensures { IsTrue result → IsReaderAnswer layout ask answer }
 {
     match (ask, answer) {
         (ReaderAsk::Look, ReaderAnswer::Looked(published)) => can_be_told(layout, published),

@@ -18,7 +18,7 @@ use Rattle.rz_client_model.specs.declared.writing.WriterState.{WriterState}
 use Rattle.rz_client_model.specs.declared.writing.WriteStage.{WriteStage}
 use Rattle.rz_client_model.specs.declared.writing.WriteStage.TheVariants.{Beginning, Sending, Ended}
 use Rattle.rz_client_model.specs.declared.writing.Sent.{Sent}
-use Rattle.rz_client_model.specs.Write.{why_of, is_kept, mask_of, none_sent, ask_at, writer_start, writer_ask, writer_told, after_answer, after_enrolled, unless_too_few, IsAnswer, IsKeepAnswer, IsPublishAnswer}
+use Rattle.rz_client_model.specs.Write.{why_of, is_kept, mask_of, none_sent, ask_at, writer_start, writer_ask, writer_told, after_answer, after_enrolled, unless_too_few, IsWriterAnswer, IsKeepAnswer, IsPublishAnswer}
 use Rattle.rz_writer.specs.Told.{after, AreAnswers, stamp_in, base_in, outcomes, table, kept_in, failed_in, IsNewest, IsAskAfter, IsEndAfter, AsksInOrder}
 use Rattle.rz_writer.proofs.Tables.{set-append-replicate, bit_at-mask_of, mask_of-append, one-if, one-true, within, count-push, count-set}
 
@@ -205,13 +205,13 @@ publish-course layout answers t told.Missed h asked = absurd asked
 
 sending-course : (layout : Layout) (answers : List WriterAnswer) (t : Sent) (answer : WriterAnswer) (position node : ℕ) → IsSending layout answers t → (b : Bool) →
     nat_lt t.kept (forward_of layout) ≡ b →
-    IsAnswer (cond b (ask.Keep position node t.stamp t.base) (ask.Publish t.stamp (mask_of t.why))) answer →
+    IsWriterAnswer (cond b (ask.Keep position node t.stamp t.base) (ask.Publish t.stamp (mask_of t.why))) answer →
     IsCourse layout (answer ∷ answers) (after_answer layout (Sending t) answer)
 sending-course layout answers t answer position node h true test asked =
     keep-course layout answers t answer h (search (rules, nat_tests)) asked
 sending-course layout answers t answer position node h false test asked = publish-course layout answers t answer h asked
 
-begun-course : (layout : Layout) (answers : List WriterAnswer) (answer : WriterAnswer) (size : ℕ) → answers ≡ [] → IsAnswer (ask.Begin size) answer →
+begun-course : (layout : Layout) (answers : List WriterAnswer) (answer : WriterAnswer) (size : ℕ) → answers ≡ [] → IsWriterAnswer (ask.Begin size) answer →
     IsCourse layout (answer ∷ answers) (after_answer layout Beginning answer)
 begun-course layout answers (told.Begun stamp base) size e asked = begin-course layout answers stamp base e
 begun-course layout answers (told.Denied denial) size e asked = deny-course layout answers denial e
@@ -223,7 +223,7 @@ begun-course layout answers (told.Revoked later) size e asked = absurd asked
 
 -- one more answer
 step : (layout : Layout) (key : Key) (places : List ℕ) (size : ℕ) (answers : List WriterAnswer) (answer : WriterAnswer) (stage : WriteStage) →
-    IsCourse layout answers stage → IsAnswer (ask_at (state_at layout key places size stage) stage) answer →
+    IsCourse layout answers stage → IsWriterAnswer (ask_at (state_at layout key places size stage) stage) answer →
     IsCourse layout (answer ∷ answers) (after_answer layout stage answer)
 step layout key places size answers answer Beginning h asked = begun-course layout answers answer size h asked
 step layout key places size answers answer (Sending t) h asked =
@@ -236,8 +236,8 @@ pub course : (layout : Layout) (key : Key) (places : List ℕ) (size : ℕ) (ans
 course layout key places size [] h = refl
 course layout key places size (answer ∷ earlier) h =
     let state = state_at layout key places size (stage_after layout earlier) in
-    let asked : IsAnswer (writer_ask state) answer =
-    subst (λ (s : WriterState). IsAnswer (writer_ask s) answer) (after-is layout key places size earlier) h.1 in
+    let asked : IsWriterAnswer (writer_ask state) answer =
+    subst (λ (s : WriterState). IsWriterAnswer (writer_ask s) answer) (after-is layout key places size earlier) h.1 in
     step layout key places size earlier answer (stage_after layout earlier) (course layout key places size earlier h.0) asked
 
 -- What is asked.

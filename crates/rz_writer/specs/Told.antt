@@ -13,7 +13,7 @@ use Rattle.rz_events.specs.declared.machines.WriterAsk.TheVariants as ask
 use Rattle.rz_events.specs.declared.machines.WriterAnswer.{WriterAnswer}
 use Rattle.rz_events.specs.declared.machines.WriterAnswer.TheVariants as told
 use Rattle.rz_client_model.specs.declared.writing.WriterState.{WriterState}
-use Rattle.rz_client_model.specs.Write.{why_of, is_kept, mask_of, writer_start, writer_ask, writer_told, writer_end, IsAnswer}
+use Rattle.rz_client_model.specs.Write.{why_of, is_kept, mask_of, writer_start, writer_ask, writer_told, writer_end, IsWriterAnswer}
 
 -- The answers of a write.
 
@@ -25,7 +25,7 @@ after s (answer ∷ earlier) = writer_told (after s earlier) answer
 -- each answer belongs to what was asked when it was told
 abbrev pub AreAnswers : WriterState → List WriterAnswer → Type 0
 AreAnswers s [] = Unit {0}
-AreAnswers s (answer ∷ earlier) = AreAnswers s earlier × IsAnswer (writer_ask (after s earlier)) answer
+AreAnswers s (answer ∷ earlier) = AreAnswers s earlier × IsWriterAnswer (writer_ask (after s earlier)) answer
 
 -- What they say.
 

@@ -2,7 +2,7 @@
 
 ghost use Rattle.std.specs.Prelude.{◌≡◌, ◌≤◌, ◌<◌, ◌+◌, length};
 ghost use Rattle.mj_angles.specs.Layout.{forward_of, safe_of};
-ghost use Rattle.rz_client_model.specs.Write.{IsWrite, IsWithin, IsAnswer, IsBeginAnswer, writer_ask, ask_at, after_answer, after_keep, after_enrolled, unless_too_few, none_sent};
+ghost use Rattle.rz_client_model.specs.Write.{IsWrite, IsWithin, IsWriterAnswer, IsBeginAnswer, writer_ask, ask_at, after_answer, after_keep, after_enrolled, unless_too_few, none_sent};
 ghost use Rattle.rz_client_model.specs.declared.writing.WriteStage.TheVariants.{Beginning};
 ghost use Rattle.rz_writer.specs.Machine.{IsAskOf};
 
@@ -52,7 +52,7 @@ fn ask_of(state: &WriterState, sent: &Sent) -> WriterAsk
 /// How far the write has come after an answer to what it asked.
 pub fn after_answer(state: &WriterState, answer: WriterAnswer) -> WriteStage
     requires write { IsWrite state.now }
-    requires asked { IsAnswer (writer_ask state.now) answer }
+    requires asked { IsWriterAnswer (writer_ask state.now) answer }
     ensures value { result ≡ after_answer state.now.layout state.now.stage answer }
     ensures within { IsWithin state.now.layout result }
 {
@@ -91,7 +91,7 @@ fn none_sent(stamp: u64, base: u64) -> Sent
 /// How far the write has come after the answer to a keep or a publish.
 fn after_sent(state: &WriterState, sent: Sent, answer: WriterAnswer) -> WriteStage
     requires within { IsWithin state.now.layout (WriteStage.Sending sent) }
-    requires asked { IsAnswer (ask_at state.now (WriteStage.Sending sent)) answer }
+    requires asked { IsWriterAnswer (ask_at state.now (WriteStage.Sending sent)) answer }
     ensures value { result ≡ after_answer state.now.layout (WriteStage.Sending sent) answer }
     ensures within { IsWithin state.now.layout result }
 {

@@ -2,7 +2,7 @@
 
 ghost use Rattle.std.specs.Prelude.{◌≡◌, ◌≤◌, ◌<◌, ◌+◌, ◌*◌, IsTrue, IsSome, IfOk, length, vec_len};
 ghost use Rattle.std.specs.Int.{bit_at};
-ghost use Rattle.rz_client_model.specs.Write.{IsAnswer};
+ghost use Rattle.rz_client_model.specs.Write.{IsWriterAnswer};
 ghost use Rattle.rz_writer.specs.Machine.{HasPlaces};
 
 use crate::Writer;
@@ -14,7 +14,7 @@ use std::test::Fail;
 
 /// Whether the answer belongs to what was asked.
 fn belongs(ask: WriterAsk, answer: WriterAnswer) -> bool
-    ensures { IsTrue result → IsAnswer ask answer }
+    ensures { IsTrue result → IsWriterAnswer ask answer }
 {
     match (ask, answer) {
         (WriterAsk::Begin { .. }, WriterAnswer::Begun { stamp, base }) => base < stamp,

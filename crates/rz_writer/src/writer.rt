@@ -2,7 +2,7 @@
 
 ghost use Rattle.std.specs.Prelude.{◌≡◌, ◌≤◌, ◌<◌, IfOk, IfSome, IsSome, length};
 ghost use Rattle.mj_angles.specs.Layout.{block_bytes_of};
-ghost use Rattle.rz_client_model.specs.Write.{IsWrite, IsAnswer, writer_ask, writer_told, writer_end, writer_start};
+ghost use Rattle.rz_client_model.specs.Write.{IsWrite, IsWriterAnswer, writer_ask, writer_told, writer_end, writer_start};
 ghost use Rattle.rz_writer.specs.Machine.{machine_with, bare_machine, key_in, block_of, HasPlaces, IsAskOf, HasBins, AreBins};
 
 use crate::sheet::{Sheet, prepare, reload};
@@ -93,7 +93,7 @@ impl Writer {
 
     /// Takes the answer to what was asked.
     pub fn tell(&mut self, answer: WriterAnswer)
-        requires { IsAnswer (writer_ask self.old.state) answer }
+        requires { IsWriterAnswer (writer_ask self.old.state) answer }
         ensures { self.new ≡ record self.old { state = writer_told self.old.state answer } }
     {
         let stage = steps::after_answer(&self.state, answer);
