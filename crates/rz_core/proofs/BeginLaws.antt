@@ -12,7 +12,7 @@ use Rattle.rz_events.specs.declared.export.Call.TheVariants as call
 use Rattle.rz_events.specs.declared.export.Reply.TheVariants as reply
 use Rattle.rz_events.specs.declared.events.Event.{Event}
 use Rattle.rz_events.specs.declared.events.Event.TheVariants as e
-use Rattle.rz_export_model.specs.Export.{Export as ExportState, unknown_file, too_far, no_look, no_begin, base_of, after_begin}
+use Rattle.rz_export_model.specs.Export.{Export as ExportState, unknown_file, too_far, no_look, no_begin, published_stamp, after_begin}
 use Rattle.rz_export_model.specs.ExportEvents.{begin_event}
 use Rattle.rz_core.specs.History.{facts}
 use Rattle.rz_core.specs.ExportWord.{is_live}
@@ -26,10 +26,11 @@ use Rattle.rz_core.proofs.ExportLooks.{AreNamed, named, tied-blocks, not-live, i
 use Rattle.rz_core.proofs.Naming.{naming}
 
 begun : (v : Volume) (h : List Event) (by : Actor) (s : ExportState) → Before v h s → (key : Key) (text : List ℕ) → length text ≤ block_bytes_of v.layout
-    → is_live (export h) key.fid ≡ true → key.block < 1048576 → IsExportStep v h (e.Begin by key (s.last + 1) (base_of s.blocks key) text) (after_begin s key)
+    → is_live (export h) key.fid ≡ true → key.block < 1048576 → IsExportStep v h (e.Begin by key (s.last + 1) (published_stamp s.blocks key) text) (after_begin s key)
 begun v h by s b key text short live near = record {
-  allowed = record {
+  allowed = λ run. record {
     room = b.room;
+    word = tt;
     row = record {
       live = live;
       block = near;
@@ -38,7 +39,7 @@ begun v h by s b key text short live near = record {
       from = base-is (facts h) (export h) key s.blocks (tied-blocks v h s b key live);
     };
   };
-  tied = ap (λ (z : ExportState). after_begin z key) (b.tied ∙ sym (same-export v (e.Begin by key (s.last + 1) (base_of s.blocks key) text) h b.legal));
+  tied = ap (λ (z : ExportState). after_begin z key) (b.tied ∙ sym (same-export v (e.Begin by key (s.last + 1) (published_stamp s.blocks key) text) h b.legal));
 }
 
 -- a begin is denied as a look is, since a number is left
@@ -48,7 +49,7 @@ begins-as-look v h s b key = ap (λ (o : Option Denial). option_or (unknown_file
 -- what a begin comes to, where it is denied so
 abbrev Goes : Volume → List Event → Actor → ExportState → Key → List ℕ → Event → Option Denial → Type 0
 Goes v h by s key text x o =
-    begin_event by (call.Begin key text) (option_map_or reply.Denied o (reply.Begun (s.last + 1) (base_of s.blocks key))) ≡ Some x
+    begin_event by (call.Begin key text) (option_map_or reply.Denied o (reply.Begun (s.last + 1) (published_stamp s.blocks key))) ≡ Some x
     → IsExportStep v h x (option_map_or (λ why. s) o (after_begin s key))
 
 begin_step : (v : Volume) (h : List Event) (by : Actor) (s : ExportState) → Before v h s → AreNamed (facts h) (export h) s → (key : Key) (text : List ℕ) → length text ≤ block_bytes_of v.layout → (x : Event)
@@ -64,6 +65,6 @@ begin_step v h by s b n key text short x =
     (begun v h by s b key text short (is-live (facts h) (export h) s n key.fid info there) near)))
 
 pub export-begin : (v : Volume) (key : Key) (text : List ℕ) → IsExportLawOf v (call.Begin key text)
-export-begin v key text h by s x legal tied room proper right is =
+export-begin v key text h by s x legal tied room proper is =
     let b : Before v h s = record { legal = legal; tied = tied; room = room } in
     begin_step v h by s b (named v (naming v) h s b) key text proper x is

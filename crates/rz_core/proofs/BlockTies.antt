@@ -18,7 +18,7 @@ use Rattle.rz_events.specs.declared.tree.TreeReply.TheVariants as told
 use Rattle.rz_events.specs.declared.events.Event.{Event}
 use Rattle.rz_events.specs.declared.events.Event.TheVariants as e
 use Rattle.rz_events.specs.Events.{same_key}
-use Rattle.rz_export_model.specs.Export.{Export as ExportState, Block, Blocks, latest_of, published_of, base_of, newer_of, without_file, blocks_after, draws, after_enroll}
+use Rattle.rz_export_model.specs.Export.{Export as ExportState, Block, Blocks, latest_of, published_of, published_stamp, newer_of, without_file, blocks_after, draws, after_enroll}
 use Rattle.rz_core.specs.History.{Facts, length_in}
 use Rattle.rz_core.specs.ExportWord.{makes, ends, is_made, is_gone, is_live, latest, accepted, is_newer, with_length, published, stamp_in, export_of}
 use Rattle.rz_core.specs.ExportRows.{MetaRow}
@@ -230,7 +230,7 @@ ties v f (x ∷ w) r few key live =
     let i = ties v f w r.0 (omega (arith, few)) key live in record { begun = i.begun; told = i.told }
 
 -- the base of a write that begins now
-pub base-is : (f : Facts) (w : List Event) (key : Key) (blocks : Blocks) → Ties f w key (maps.get blocks key) → base_of blocks key ≡ stamp_in (accepted w key)
+pub base-is : (f : Facts) (w : List Event) (key : Key) (blocks : Blocks) → Ties f w key (maps.get blocks key) → published_stamp blocks key ≡ stamp_in (accepted w key)
 base-is f w key blocks i = ap (λ (o : Option Published). option_map_or (λ (p : Published). p.stamp) o 0) i.told ∙ go (accepted w key)
   where
     go : (a : Option (ℕ × ℕ)) → option_map_or (λ (p : Published). p.stamp) (with_length f a) 0 ≡ stamp_in a

@@ -18,7 +18,7 @@ use Rattle.rz_events.specs.Events.{by_of, word_of, same_word}
 use Rattle.rz_export_model.specs.Export.{Export as ExportState, Enrolled, spent, draws, after_enroll}
 use Rattle.rz_core.specs.History.{Facts, facts, of_word, of_actor, Has}
 use Rattle.rz_core.specs.ExportWord.{last_drawn, greater, enrolled, or_new, export_of}
-use Rattle.rz_core.specs.Legal.{IsLegal, Row}
+use Rattle.rz_core.specs.Legal.{IsLegalInRuns, Row}
 use Rattle.rz_core.proofs.Extends.{Knows, extends-more}
 use Rattle.rz_core.proofs.Rows.{row-extends}
 use Rattle.rz_core.proofs.Locality.{legal-knows, all-filter}
@@ -49,7 +49,7 @@ same_export_word Export q = refl
 same_export_word (Node m) q = cc
 same_export_word (Own a) q = cc
 
-pub export-rows : (v : Volume) (h : List Event) → IsLegal v h → IsRows v (facts h) (export h)
+pub export-rows : (v : Volume) (h : List Event) → IsLegalInRuns v h → IsRows v (facts h) (export h)
 export-rows v [] legal = tt
 export-rows v (x ∷ h) legal =
     let ext = extends-more (x ∷ []) h in
@@ -61,9 +61,9 @@ export-rows v (x ∷ h) legal =
       ih,
       (
         of_actor (by_of x) h,
-        of_actor (by_of x) h,
+        legal.1.run,
         row-extends v (facts h) (facts (x ∷ h)) (extends-more (x ∷ []) h) (export h) _ _ x k
-            (subst (λ w. Row v (facts h) (of_word w h) (of_actor (by_of x) h) (of_actor (by_of x) h) x) (same_export_word (word_of x) is) legal.1.row),
+            (subst (λ w. Row v (facts h) (of_word w h) (of_actor (by_of x) h) legal.1.run x) (same_export_word (word_of x) is) legal.1.row),
       ),
     )
     go k ih false is = ih

@@ -18,7 +18,7 @@ use Rattle.rz_export_model.specs.ExportEvents.{enroll_event}
 use Rattle.rz_core.specs.History.{facts, of_actor, Has}
 use Rattle.rz_core.specs.ExportWord.{last_drawn, enrolled, or_new}
 use Rattle.rz_core.specs.ExportRows.{DeniedRow, OldLossRow, EnrollRow}
-use Rattle.rz_core.specs.Legal.{IsLegal}
+use Rattle.rz_core.specs.Legal.{IsLegalInRuns}
 use Rattle.rz_core.specs.Tied.{IsExport, IsExportStep, IsExportLawOf}
 use Rattle.rz_core.proofs.Stamps.{export}
 use Rattle.rz_core.proofs.NodeSteps.{the_some}
@@ -27,7 +27,7 @@ use Rattle.rz_core.proofs.EnrollLaws.{AreEnrolled, enrols, export-rows, drawn-ro
 
 -- what is so before each call
 pub record Before (v : Volume) (h : List Event) (s : ExportState) : Type 0 where
-  pub legal : IsLegal v h
+  pub legal : IsLegalInRuns v h
   pub tied : IsExport v (facts h) (export h) s
   pub room : length (export h) < 2 ^ 64 - 1
 
@@ -35,7 +35,7 @@ pub record Before (v : Volume) (h : List Event) (s : ExportState) : Type 0 where
 pub denied : (v : Volume) (h : List Event) (by : Actor) (s : ExportState) → Before v h s → (question : Asked) (cause : Denial)
     → DeniedRow (export h) question cause → IsExportStep v h (e.Denied by question cause) s
 denied v h by s b question cause row = record {
-  allowed = record { room = b.room; row = row };
+  allowed = λ run. record { room = b.room; word = tt; row = row };
   tied = b.tied ∙ sym (same-export v (e.Denied by question cause) h b.legal);
 }
 
@@ -56,7 +56,7 @@ left v h s b =
 gave : (v : Volume) (h : List Event) (by : Actor) (s : ExportState) → Before v h s → (node loss fence : ℕ)
     → EnrollRow (export h) (of_actor by h) by node loss fence → IsExportStep v h (e.Enroll by node loss fence) (after_enroll s node loss)
 gave v h by s b node loss fence row = record {
-  allowed = record { room = b.room; row = row };
+  allowed = λ run. record { room = b.room; word = tt; row = row };
   tied = ap (λ (z : ExportState). after_enroll z node loss) (b.tied ∙ sym (same-export v (e.Enroll by node loss fence) h b.legal));
 }
 
@@ -120,4 +120,4 @@ enroll_step v h by s b node loss probed x is = go (maps.get s.enrolled node) ref
     go (Some r) q is = by_less r q (nat_lt loss r.loss) refl is
 
 pub export-enroll : (v : Volume) (node loss : ℕ) → IsExportLawOf v (call.Enroll node loss)
-export-enroll v node loss h by s x legal tied room proper right is = enroll_step v h by s (record { legal = legal; tied = tied; room = room }) node loss proper x is
+export-enroll v node loss h by s x legal tied room proper is = enroll_step v h by s (record { legal = legal; tied = tied; room = room }) node loss proper x is

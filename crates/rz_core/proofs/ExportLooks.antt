@@ -20,7 +20,7 @@ use Rattle.rz_export_model.specs.ExportEvents.{look_event, recheck_event}
 use Rattle.rz_core.specs.History.{Facts, facts, of_actor}
 use Rattle.rz_core.specs.ExportWord.{is_live, export_of}
 use Rattle.rz_core.specs.ExportRows.{LookRow, HasLooked, RecheckRow}
-use Rattle.rz_core.specs.Legal.{IsLegal}
+use Rattle.rz_core.specs.Legal.{IsLegalInRuns}
 use Rattle.rz_core.specs.Tied.{IsExportStep, IsExportLawOf}
 use Rattle.rz_core.proofs.Stamps.{export}
 use Rattle.rz_core.proofs.NodeSteps.{the_some}
@@ -36,7 +36,7 @@ pub record AreNamed (f : Facts) (w : List Event) (s : ExportState) : Type 0 wher
 
 -- so it is of every legal log
 abbrev pub IsNaming : Volume → Type 0
-IsNaming v = (h : List Event) → IsLegal v h → AreNamed (facts h) (export h) (export_of v (facts h) (export h))
+IsNaming v = (h : List Event) → IsLegalInRuns v h → AreNamed (facts h) (export h) (export_of v (facts h) (export h))
 
 pub named : (v : Volume) → IsNaming v → (h : List Event) (s : ExportState) → Before v h s → AreNamed (facts h) (export h) s
 named v naming h s b = subst (AreNamed (facts h) (export h)) (sym b.tied) (naming h b.legal)
@@ -72,7 +72,7 @@ look-cases s key P unknown far near = go (file_of s.tree key.fid) refl
 looked : (v : Volume) (h : List Event) (by : Actor) (s : ExportState) → Before v h s → (key : Key) → LookRow (facts h) (export h) key (published_of s.blocks key)
     → IsExportStep v h (e.Look by key (published_of s.blocks key)) s
 looked v h by s b key row = record {
-  allowed = record { room = b.room; row = row };
+  allowed = λ run. record { room = b.room; word = tt; row = row };
   tied = b.tied ∙ sym (same-export v (e.Look by key (published_of s.blocks key)) h b.legal);
 }
 
@@ -90,14 +90,14 @@ look_step v h by s b n key x =
     (looked v h by s b key (record { live = live; block = near; told = (tied-blocks v h s b key live).told }))))
 
 pub export-look : (v : Volume) → IsNaming v → (key : Key) → IsExportLawOf v (call.Look key)
-export-look v naming key h by s x legal tied room proper right is =
+export-look v naming key h by s x legal tied room proper is =
     let b : Before v h s = record { legal = legal; tied = tied; room = room } in
     look_step v h by s b (named v naming h s b) key x is
 
 rechecked : (v : Volume) (h : List Event) (by : Actor) (s : ExportState) → Before v h s → (key : Key)
     → RecheckRow (facts h) (export h) (of_actor by h) by key (published_of s.blocks key) → IsExportStep v h (e.Recheck by key (published_of s.blocks key)) s
 rechecked v h by s b key row = record {
-  allowed = record { room = b.room; row = row };
+  allowed = λ run. record { room = b.room; word = tt; row = row };
   tied = b.tied ∙ sym (same-export v (e.Recheck by key (published_of s.blocks key)) h b.legal);
 }
 
@@ -115,6 +115,6 @@ recheck_step v h by s b n key has x =
     (rechecked v h by s b key (record { live = live; looked = has; told = (tied-blocks v h s b key live).told }))))
 
 pub export-recheck : (v : Volume) → IsNaming v → (key : Key) → IsExportLawOf v (call.Recheck key)
-export-recheck v naming key h by s x legal tied room proper right is =
+export-recheck v naming key h by s x legal tied room proper is =
     let b : Before v h s = record { legal = legal; tied = tied; room = room } in
     recheck_step v h by s b (named v naming h s b) key proper x is

@@ -26,7 +26,8 @@ use Rattle.rz_core.proofs.NodeSteps.{the_some}
 use Rattle.rz_core.proofs.ExportSteps.{same-export}
 use Rattle.rz_core.proofs.ExportCalls.{Before}
 use Rattle.rz_core.proofs.ExportLooks.{AreNamed, IsNaming, named, tied-blocks, is-live}
-use Rattle.rz_core.proofs.Listings.{less-is, is-less, none-given, first-given, named-at, at-named}
+use Rattle.rz_core.proofs.Keys.{less-is}
+use Rattle.rz_core.proofs.Listings.{none-given, first-given, named-at, at-named}
 
 -- what is listed of a published block
 abbrev listed_as : Key → FileInfo → Published → Listed
@@ -42,7 +43,7 @@ after-is (Some a) key is = less-is a key is
 
 is-after : (after : Option Key) (key : Key) → IsAfter after key → is_after after key ≡ true
 is-after None key is = refl
-is-after (Some a) key is = ap is_lt (is-less a key is)
+is-after (Some a) key is = ap is_lt is
 
 -- what an entry says that gives something
 record Says (s : ExportState) (node : ℕ) (after : Option Key) (key : Key) (block : Block) (l : Listed) : Type 0 where
@@ -118,7 +119,7 @@ module _ (v : Volume) (h : List Event) (s : ExportState) (b : Before v h s) (n :
           named = (on.place, subst (HasBit a.published.mask) place on.bit, (a.info.places, n.places f.key.fid a.info a.file, on.at));
         };
         later = after-is after f.key a.later;
-        least = λ key p later less listed. not_silent key p later listed (λ block there. f.least key block (is-less key f.key less) (sym (get-entries s.blocks key) ∙ there));
+        least = λ key p later less listed. not_silent key p later listed (λ block there. f.least key block less (sym (get-entries s.blocks key) ∙ there));
         file = ap (λ (z : ExportState). file_of z.tree f.key.fid) (sym b.tied) ∙ a.file;
       })
 
@@ -129,11 +130,11 @@ module _ (v : Volume) (h : List Event) (s : ExportState) (b : Before v h s) (n :
 
   listing : (by : Actor) → IsExportStep v h (e.Next by node after (next_on s node after)) s
   listing by = record {
-    allowed = record { room = b.room; row = next_row (next_on s node after) refl };
+    allowed = λ run. record { room = b.room; word = tt; row = next_row (next_on s node after) refl };
     tied = b.tied ∙ sym (same-export v (e.Next by node after (next_on s node after)) h b.legal);
   }
 
 pub export-next : (v : Volume) → IsNaming v → (node : ℕ) (after : Option Key) → IsExportLawOf v (call.Next node after)
-export-next v naming node after h by s x legal tied room proper right is =
+export-next v naming node after h by s x legal tied room proper is =
     let b : Before v h s = record { legal = legal; tied = tied; room = room } in
     subst (λ y. IsExportStep v h y s) (the_some _ x is) (listing v h s b (named v naming h s b) node after by)

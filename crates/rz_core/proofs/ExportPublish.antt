@@ -37,7 +37,7 @@ or_none : (o : Option Reply) → option_or o None ≡ o
 or_none None = refl
 or_none (Some r) = refl
 
-publish_cases : (s : ExportState) (key : Key) (stamp mask : ℕ) (P : Option Reply → Type 0)
+pub publish_cases : (s : ExportState) (key : Key) (stamp mask : ℕ) (P : Option Reply → Type 0)
     → (file_of s.tree key.fid ≡ None → P (Some (reply.Denied denial.UnknownFile)))
     → ((info : FileInfo) → file_of s.tree key.fid ≡ Some info → stamp < latest_of s.blocks key → P (Some (reply.Revoked (latest_of s.blocks key))))
     → ((info : FileInfo) → file_of s.tree key.fid ≡ Some info → latest_of s.blocks key ≤ stamp → P (barred s mask stamp 0 info.places))
@@ -92,8 +92,9 @@ module _ (v : Volume) (h : List Event) (by : Actor) (s : ExportState) (b : Befor
       let writer = publishing.writer in
       let still : (facts (x ∷ h)).wrote stamp ≡ (facts h).wrote stamp = (extends-more (x ∷ []) h).wrote stamp writer.0 writer.1.found ∙ sym writer.1.found in
       record {
-        allowed = record {
+        allowed = λ run. record {
           room = b.room;
+          word = tt;
           row = record { publishable = publishable info there low; free = λ p m bit place. free_of m (none p m (first p bit) (at_place info there p m place)) };
         };
         tied = ap (λ (z : ExportState). after_publish z key (of_length stamp mask size)) (b.tied ∙ sym (same-export v x h b.legal))
@@ -106,8 +107,9 @@ module _ (v : Volume) (h : List Event) (by : Actor) (s : ExportState) (b : Befor
   refused : (info : FileInfo) → file_of s.tree key.fid ≡ Some info → latest_of s.blocks key ≤ stamp → (r : Reply) → (g : Bars s mask stamp 0 info.places r)
       → IsExportStep v h (e.Publish by key stamp mask (Some (0 + g.place, fence_of s g.node))) s
   refused info there low r g = record {
-    allowed = record {
+    allowed = λ run. record {
       room = b.room;
+      word = tt;
       row = record {
         publishable = publishable info there low;
         named = g.named;
@@ -134,7 +136,7 @@ module _ (v : Volume) (h : List Event) (by : Actor) (s : ExportState) (b : Befor
       let live = is-live (facts h) (export h) s n key.fid info there in
       let same = (tied-blocks v h s b key live).begun in
       record {
-        allowed = record { room = b.room; row = record { live = live; writer = publishing.writer; later_is = same; above = less } };
+        allowed = λ run. record { room = b.room; word = tt; row = record { live = live; writer = publishing.writer; later_is = same; above = less } };
         tied = b.tied ∙ sym (same-export v (e.Revoked by key stamp (latest_of s.blocks key)) h b.legal);
       }
 
@@ -159,6 +161,6 @@ module _ (v : Volume) (h : List Event) (by : Actor) (s : ExportState) (b : Befor
           (refused info there low r g)
 
 pub export-publish : (v : Volume) → IsNaming v → (key : Key) (stamp mask size : ℕ) → IsExportLawOf v (call.Publish key stamp mask size)
-export-publish v naming key stamp mask size h by s x legal tied room proper right is =
+export-publish v naming key stamp mask size h by s x legal tied room proper is =
     let b : Before v h s = record { legal = legal; tied = tied; room = room } in
     publish_step v h by s b (named v naming h s b) key stamp mask proper.0 size proper.1 x is

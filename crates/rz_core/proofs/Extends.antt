@@ -15,7 +15,7 @@ use Rattle.rz_events.specs.Events.{same_key}
 use Rattle.rz_node_model.specs.Versions.{kept, refilled, without, greater_goes, IsPast}
 use Rattle.rz_export_model.specs.Export.{Export, after_tree, after_begin, after_publish, after_enroll}
 use Rattle.rz_core.specs.History.{Facts, Begun, wrote, places_of, facts, IsPlace, Has, base_in, length_in}
-use Rattle.rz_core.specs.NodeWord.{held, base_of, changed, undecided, taken, itself}
+use Rattle.rz_core.specs.NodeWord.{held, base_begun, changed, undecided, settled, itself}
 use Rattle.rz_core.specs.ExportWord.{makes, is_made, is_live, is_newer, accepted, with_length, published, export_of}
 use Rattle.rz_core.specs.Own.{last}
 
@@ -118,7 +118,7 @@ undecided-known f (e.Start node took ∷ w) k c u = cc
 undecided-known f (e.Lose node loss ∷ w) k c u = cc
 undecided-known f (_ ∷ w) k c u = undecided-known f w k.1 c u
 
-taken-extends : (f g : Facts) → Extends f g → (key : Key) (u : Option Change) (now : List ℕ) → ((c : Change) → u ≡ Some c → KnowsChange f c) → taken g key u now ≡ taken f key u now
+taken-extends : (f g : Facts) → Extends f g → (key : Key) (u : Option Change) (now : List ℕ) → ((c : Change) → u ≡ Some c → KnowsChange f c) → settled g key u now ≡ settled f key u now
 taken-extends f g ext key None now k = refl
 taken-extends f g ext key (Some c) now k = changed-extends f g ext key c now (k c refl)
 
@@ -127,7 +127,7 @@ held-extends f g ext [] key k = refl
 held-extends f g ext (e.Did by node c ∷ w) key k =
     ap (changed g key c) (held-extends f g ext w key k.1) ∙ changed-extends f g ext key c (held f w key) k.0
 held-extends f g ext (e.Start node true ∷ w) key k =
-    ap (taken g key (undecided w)) (held-extends f g ext w key k.1) ∙ taken-extends f g ext key (undecided w) (held f w key) (undecided-known f w k.1)
+    ap (settled g key (undecided w)) (held-extends f g ext w key k.1) ∙ taken-extends f g ext key (undecided w) (held f w key) (undecided-known f w k.1)
 held-extends f g ext (e.Start node false ∷ w) key k = held-extends f g ext w key k.1
 held-extends f g ext (e.Lose node loss ∷ w) key k = refl
 held-extends f g ext (_ ∷ w) key k = held-extends f g ext w key k.1
@@ -159,11 +159,11 @@ OfChange P key (change.Refill fence at s position) = same_key key at ≡ true �
 OfChange P key (change.Drop at s) = Unit {0}
 
 pub all-changed : (P : ℕ → Type 0) (f : Facts) (key : Key) (c : Change) (now : List ℕ) → OfChange P key c → AllByRecursion P now → AllByRecursion P (changed f key c now)
-all-changed P f key (change.Keep at s position) now p all = all_cond P (same_key key at) _ now (λ t. all-kept P (base_of f s) s now (p t) all) all
+all-changed P f key (change.Keep at s position) now p all = all_cond P (same_key key at) _ now (λ t. all-kept P (base_begun f s) s now (p t) all) all
 all-changed P f key (change.Refill fence at s position) now p all = all_cond P (same_key key at) _ now (λ t. all-refilled P s now (p t) all) all
 all-changed P f key (change.Drop at s) now p all = all_cond P (same_key key at) _ now (λ t. all-without P s now all) all
 
-pub all-taken : (P : ℕ → Type 0) (f : Facts) (key : Key) (u : Option Change) (now : List ℕ) → ((c : Change) → u ≡ Some c → OfChange P key c) → AllByRecursion P now → AllByRecursion P (taken f key u now)
+pub all-taken : (P : ℕ → Type 0) (f : Facts) (key : Key) (u : Option Change) (now : List ℕ) → ((c : Change) → u ≡ Some c → OfChange P key c) → AllByRecursion P now → AllByRecursion P (settled f key u now)
 all-taken P f key None now p all = all
 all-taken P f key (Some c) now p all = all-changed P f key c now (p c refl) all
 
@@ -181,14 +181,14 @@ held-known f (e.Start node false ∷ w) key k = held-known f w key k.1
 held-known f (e.Lose node loss ∷ w) key k = tt
 held-known f (_ ∷ w) key k = held-known f w key k.1
 
-pub past-back : (f g : Facts) → Extends f g → (s : ℕ) (now : List ℕ) → AllByRecursion (IsKnown f) now → IsPast (base_of g) s now → IsPast (base_of f) s now
+pub past-back : (f g : Facts) → Extends f g → (s : ℕ) (now : List ℕ) → AllByRecursion (IsKnown f) now → IsPast (base_begun g) s now → IsPast (base_begun f) s now
 past-back f g ext s [] k p = absurd p
 past-back f g ext s (a ∷ []) k p = absurd p
 past-back f g ext s (a ∷ b ∷ more) k p =
     let same : g.wrote a ≡ f.wrote a = ext.wrote a k.0.0 k.0.1 ∙ sym k.0.1 in
     (p.0, p.1, subst (λ z. b ≤ base_in z) same p.2)
 
-pub past-extends : (f g : Facts) → Extends f g → (s : ℕ) (now : List ℕ) → AllByRecursion (IsKnown f) now → IsPast (base_of f) s now → IsPast (base_of g) s now
+pub past-extends : (f g : Facts) → Extends f g → (s : ℕ) (now : List ℕ) → AllByRecursion (IsKnown f) now → IsPast (base_begun f) s now → IsPast (base_begun g) s now
 past-extends f g ext s [] k p = absurd p
 past-extends f g ext s (a ∷ []) k p = absurd p
 past-extends f g ext s (a ∷ b ∷ more) k p =

@@ -1,3 +1,4 @@
+pub mod Keys
 pub mod Extends
 pub mod Rows
 pub mod Locality

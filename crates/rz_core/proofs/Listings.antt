@@ -1,48 +1,19 @@
 -- The first entry of a map that gives something, and the nodes that a mask names.
-use Rattle.std.proofs.Common.{ℕ, zero, suc, Bool, true, false, ◌==◌, ◌&&◌, ◌≡◌, ◌⊎◌, inl, inr, ◌<◌, ◌+◌, T, List, [], ◌∷◌, Option, Some, None, cond, refl, sym, ◌∙◌, ap, subst, arith}
+use Rattle.std.proofs.Common.{ℕ, zero, suc, Bool, true, false, ◌==◌, ◌&&◌, ◌≡◌, ◌⊎◌, inl, inr, ◌+◌, T, List, [], ◌∷◌, Option, Some, None, cond, refl, sym, ◌∙◌, ap, subst, arith}
 use Rattle.std.specs.Prelude.{slice_get}
 use Rattle.std.specs.Int.{bit_at}
 use Rattle.std.specs.Option.{option_or}
 use Rattle.std.specs.declared.cmp.Ordering.{Ordering}
 use Rattle.std.specs.declared.cmp.Ordering.TheVariants.{Less, Equal, Greater}
-use Rattle.std.specs.Ordering.{nat_cmp, ordering_then, is_lt, is_eq, eq_by_cmp}
-use Rattle.std.specs.Cmp.{ranked, tied_itself}
+use Rattle.std.specs.Ordering.{is_lt, is_eq, eq_by_cmp}
+use Rattle.std.specs.Cmp.{tied_itself}
 use Rattle.std.specs.FinMap.Entries.{find, is_sorted, below_all}
 use Rattle.std.proofs.lemmas.Bool.{eqb-true, eq-eqb, and_parts, and_from, or_cases, or_left, or_right}
-use Rattle.std.proofs.lemmas.Bool.Decides.{nat_tests}
 use Rattle.rz_events.specs.Keys.{key_cmp, keys_total, exact_keys}
 use Rattle.rz_events.specs.declared.keys.Key.{Key}
 use Rattle.rz_export_model.specs.Firsts.{first_given}
 use Rattle.rz_export_model.specs.Export.{Block, names_node}
 use Rattle.rz_events.specs.Masks.{has_bit, HasBit}
-use Rattle.rz_core.specs.ExportRows.{IsLess}
-
--- The order of keys.
-
-is_less_of : (r : Ordering) → is_lt r ≡ true → r ≡ Less
-is_less_of Less is = refl
-is_less_of Equal is = cc
-is_less_of Greater is = cc
-
-pub less-is : (a b : Key) → is_lt (key_cmp a b) ≡ true → IsLess a b
-less-is a b is = go (nat_cmp a.fid b.fid) refl (nat_cmp a.block b.block) refl is
-  where
-    go : (r : Ordering) → r ≡ nat_cmp a.fid b.fid → (t : Ordering) → t ≡ nat_cmp a.block b.block → is_lt (ordering_then r t) ≡ true → IsLess a b
-    go Less p t q is = inl (ranked a.fid b.fid Less p)
-    go Equal p Less q is = inr (ranked a.fid b.fid Equal p, ranked a.block b.block Less q)
-    go Equal p Equal q is = cc
-    go Equal p Greater q is = cc
-    go Greater p t q is = cc
-
-less_cmp : (a b : ℕ) → a < b → nat_cmp a b ≡ Less
-less_cmp a b h = grind (arith, nat_tests)
-
-same_cmp : (a b : ℕ) → a ≡ b → nat_cmp a b ≡ Equal
-same_cmp a b h = grind (arith, nat_tests)
-
-pub is-less : (a b : Key) → IsLess a b → key_cmp a b ≡ Less
-is-less a b (inl fid) = ap (λ r. ordering_then r (nat_cmp a.block b.block)) (less_cmp a.fid b.fid fid)
-is-less a b (inr block) = ap (λ r. ordering_then r (nat_cmp a.block b.block)) (same_cmp a.fid b.fid block.0) ∙ less_cmp a.block b.block block.1
 
 -- What the entries give.
 

@@ -1,5 +1,5 @@
 -- What is allowed stays allowed, whatever others do.
-use Rattle.std.proofs.Common.{ℕ, Bool, true, false, ◌==◌, ◌≡◌, List, [], ◌∷◌, ◌++◌, Option, Some, None, cond, refl, sym, ◌∙◌, ap}
+use Rattle.std.proofs.Common.{ℕ, Bool, true, false, ◌==◌, ◌≡◌, List, [], ◌∷◌, ◌++◌, Option, Some, None, cond, refl, sym, ◌∙◌, ap, subst}
 use Rattle.std.specs.List.{filter, AllByRecursion}
 use Rattle.rz_events.specs.Volume.{Volume}
 use Rattle.rz_events.specs.declared.keys.Actor.{Actor}
@@ -7,18 +7,20 @@ use Rattle.rz_events.specs.declared.files.Listed.{Listed}
 use Rattle.rz_events.specs.declared.records.Change.{Change}
 use Rattle.rz_events.specs.declared.records.Change.TheVariants as change
 use Rattle.std.proofs.lemmas.Bool.{eq-eqb}
+use Rattle.std.proofs.lemmas.List.{append-nil}
+use Rattle.std.proofs.lemmas.List.Elements.{filter-append}
 use Rattle.rz_events.specs.declared.tree.TreeCall.{TreeCall}
 use Rattle.rz_events.specs.declared.tree.TreeReply.{TreeReply}
 use Rattle.rz_events.specs.declared.tree.TreeReply.TheVariants as reply
 use Rattle.rz_events.specs.declared.events.Event.{Event}
 use Rattle.rz_events.specs.declared.events.Event.TheVariants as e
 use Rattle.rz_events.specs.Events.{by_of, word_of, same_actor, same_word}
-use Rattle.rz_core.specs.History.{Facts, facts, first_some, places_of}
+use Rattle.rz_core.specs.History.{Facts, facts, of_word, of_actor, first_some, places_of}
 use Rattle.rz_core.specs.ExportWord.{accepted}
 use Rattle.rz_core.specs.ExportRows.{IsListed}
 use Rattle.rz_core.specs.NodeRows.{DidRow}
 use Rattle.rz_core.specs.Own.{is_next}
-use Rattle.rz_core.specs.Legal.{Row, IsLegal, IsForeign, IsLocal}
+use Rattle.rz_core.specs.Legal.{Row, IsLegal, IsLegalInRuns, IsLegalAfter, IsAllowedIn, IsForeign, IsLocal, IsLocalInRuns}
 use Rattle.rz_core.proofs.Extends.{Extends, Knows, KnowsChange, KnowsReply, IsKnown, has-all, last-has, extends-more, accepted-known, some_length}
 use Rattle.rz_core.proofs.Rows.{row-extends}
 
@@ -112,7 +114,7 @@ all-filter P p [] a = tt
 all-filter P p (x ∷ xs) a =
     elim (p x) as (λ v. AllByRecursion P (cond v (x ∷ filter p xs) (filter p xs))) [ true ↦ (a.0, all-filter P p xs a.1) | false ↦ all-filter P p xs a.1 ]
 
-pub legal-knows : (v : Volume) (h : List Event) → IsLegal v h → AllByRecursion (Knows (facts h)) h
+pub legal-knows : (v : Volume) (h : List Event) → IsLegalInRuns v h → AllByRecursion (Knows (facts h)) h
 legal-knows v [] legal = tt
 legal-knows v (x ∷ h) legal =
     let ext = extends-more (x ∷ []) h in
@@ -123,13 +125,61 @@ legal-knows v (x ∷ h) legal =
       all-knows-extends (facts h) (facts (x ∷ h)) ext h all,
     )
 
-pub legal-rest : (v : Volume) (more h : List Event) → IsLegal v (more ++ h) → IsLegal v h
+pub legal-rest : (v : Volume) (more h : List Event) → IsLegalInRuns v (more ++ h) → IsLegalInRuns v h
 legal-rest v [] h l = l
 legal-rest v (x ∷ more) h l = legal-rest v more h l.0
 
-pub local : (v : Volume) → IsLocal v
-local v h more x legal foreign allowed =
+-- a legal history is one of a single run
+pub one-run : (v : Volume) (h : List Event) → IsLegal v h → IsLegalInRuns v h
+one-run v [] legal = tt
+one-run v (x ∷ h) legal = (
+  one-run v h legal.0,
+  record {
+    run = of_actor (by_of x) h;
+    newest = ([], append-nil (of_actor (by_of x) h));
+    room = legal.1.room;
+    word = legal.1.word;
+    row = legal.1.row;
+  },
+)
+
+-- a run goes on after any number of runs
+pub next-run : (v : Volume) (old h : List Event) → IsLegalAfter v old h → IsLegalInRuns v (h ++ old)
+next-run v old [] legal = legal
+next-run v old (x ∷ h) legal = (
+  next-run v old h legal.0,
+  record {
+    run = of_actor (by_of x) h;
+    newest = (of_actor (by_of x) old, sym (filter-append (λ y. same_actor (by_of x) (by_of y)) h old));
+    room = legal.1.room;
+    word = legal.1.word;
+    row = legal.1.row;
+  },
+)
+
+-- the events of a word and of an actor are the same after others have acted
+abbrev pub SameParts : List Event → List Event → Event → Type 0
+SameParts h k x = (of_word (word_of x) k ≡ of_word (word_of x) h) × (of_actor (by_of x) k ≡ of_actor (by_of x) h)
+
+foreign-parts : (more h : List Event) (x : Event) → AllByRecursion (IsForeign x) more → SameParts h (more ++ h) x
+foreign-parts more h x foreign = (
+  filter-none (λ y. same_word (word_of x) (word_of y)) more h (foreign_word x more foreign),
+  filter-none (λ y. same_actor (by_of x) (by_of y)) more h (foreign_actor x more foreign),
+)
+
+pub local-in-runs : (v : Volume) → IsLocalInRuns v
+local-in-runs v h more run x legal foreign allowed =
     let ext = extends-more more h in
     let knows = all-filter (Knows (facts h)) (λ y. same_word (word_of x) (word_of y)) h (legal-knows v h (legal-rest v more h legal)) in
-    let row = row-extends v (facts h) (facts (more ++ h)) ext _ _ _ x knows allowed.row in
-    rw (filter-none (λ y. same_word (word_of x) (word_of y)) more h (foreign_word x more foreign), filter-none (λ y. same_actor (by_of x) (by_of y)) more h (foreign_actor x more foreign)) (record { room = allowed.room; row = row })
+    let row = row-extends v (facts h) (facts (more ++ h)) ext _ _ run x knows allowed.row in
+    let same = foreign-parts more h x foreign in
+    rw (same.0, same.1) (record { room = allowed.room; word = allowed.word; row = row })
+
+pub local : (v : Volume) → IsLocal v
+local v h more x legal foreign allowed =
+    subst (λ run. IsAllowedIn v (more ++ h) run x) (sym (foreign-parts more h x foreign).1)
+    (local-in-runs v h more (of_actor (by_of x) h) x (one-run v (more ++ h) legal) foreign allowed)
+
+pub prefix : (v : Volume) (more h : List Event) → IsLegal v (more ++ h) → IsLegal v h
+prefix v [] h l = l
+prefix v (x ∷ more) h l = prefix v more h l.0

@@ -22,7 +22,7 @@ use Rattle.rz_export_model.specs.Export.{Export as ExportState, new_places, afte
 use Rattle.rz_core.specs.History.{Facts, facts, places_of, placed_by, first_some, Has}
 use Rattle.rz_core.specs.ExportWord.{makes, ends, is_made, is_gone, is_live, export_of}
 use Rattle.rz_core.specs.ExportRows.{names_reply}
-use Rattle.rz_core.specs.Legal.{IsLegal}
+use Rattle.rz_core.specs.Legal.{IsLegalInRuns}
 use Rattle.rz_core.proofs.NodeLaws.{IsRows, filter-has}
 use Rattle.rz_core.proofs.Stamps.{export}
 use Rattle.rz_core.proofs.EnrollLaws.{export-rows}
@@ -201,7 +201,7 @@ unplaced (e.Meta by c r ∷ h) fid k =
 unplaced (x ∷ h) fid k = ap (λ o. first_some o None) (unplaced h fid k)
 
 -- where a file lies is what the event says that makes it
-new-places : (v : Volume) (h : List Event) (by : Actor) (c : TreeCall) (info : FileInfo) → IsLegal v (e.Meta by c (reply.MadeFile info) ∷ h)
+new-places : (v : Volume) (h : List Event) (by : Actor) (c : TreeCall) (info : FileInfo) → IsLegalInRuns v (e.Meta by c (reply.MadeFile info) ∷ h)
     → places_of (e.Meta by c (reply.MadeFile info) ∷ h) info.fid ≡ Some info.places
 new-places v h by c info legal =
     let s = export_of v (facts h) (export h) in
@@ -212,14 +212,14 @@ new-places v h by c info legal =
     let never = false_from_ne_true (is_made (export h) info.fid) (λ m. (let low = n.made_low info.fid m in omega (arith, up, low))) in
     ap (λ o. first_some o (cond (info.fid == info.fid) (Some info.places) None)) (unplaced h info.fid never) ∙ ap (λ b. cond b (Some info.places) None) here
 
-made-places : (v : Volume) (h : List Event) → IsLegal v h → (by : Actor) (c : TreeCall) (info : FileInfo) → Has h (e.Meta by c (reply.MadeFile info)) → places_of h info.fid ≡ Some info.places
+made-places : (v : Volume) (h : List Event) → IsLegalInRuns v h → (by : Actor) (c : TreeCall) (info : FileInfo) → Has h (e.Meta by c (reply.MadeFile info)) → places_of h info.fid ≡ Some info.places
 made-places v [] legal by c info has = absurd has
 made-places v (x ∷ h) legal by c info (inl is) =
-    subst (λ z. IsLegal v (z ∷ h) → places_of (z ∷ h) info.fid ≡ Some info.places) (sym is) (λ l. new-places v h by c info l) legal
+    subst (λ z. IsLegalInRuns v (z ∷ h) → places_of (z ∷ h) info.fid ≡ Some info.places) (sym is) (λ l. new-places v h by c info l) legal
 made-places v (x ∷ h) legal by c info (inr has) = ap (λ o. first_some o (placed_by info.fid x)) (made-places v h legal.0 by c info has)
 
 -- a file lies where the log says
-pub file-places : (v : Volume) (h : List Event) → IsLegal v h → (fid : ℕ) (info : FileInfo)
+pub file-places : (v : Volume) (h : List Event) → IsLegalInRuns v h → (fid : ℕ) (info : FileInfo)
     → file_of (export_of v (facts h) (export h)).tree fid ≡ Some info → (facts h).places fid ≡ Some info.places
 file-places v h legal fid info is = go (n.placed fid info.places (file-info (export_of v (facts h) (export h)).tree fid info is).1)
   where

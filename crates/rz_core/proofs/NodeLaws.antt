@@ -15,9 +15,9 @@ use Rattle.rz_events.specs.declared.events.Event.TheVariants as e
 use Rattle.rz_events.specs.Events.{by_of, word_of, same_word, same_key}
 use Rattle.rz_node_model.specs.Versions.{kept, refilled, without, greater_goes, IsAbove, Stands, IsPast}
 use Rattle.rz_core.specs.History.{Facts, facts, of_word, of_actor, Has}
-use Rattle.rz_core.specs.NodeWord.{phase, held, changed, taken, undecided, base_of, itself}
+use Rattle.rz_core.specs.NodeWord.{phase, held, changed, settled, undecided, base_begun, itself}
 use Rattle.rz_core.specs.NodeRows.{DidRow}
-use Rattle.rz_core.specs.Legal.{IsLegal, Row}
+use Rattle.rz_core.specs.Legal.{IsLegalInRuns, Row}
 use Rattle.rz_core.proofs.Extends.{Extends, extends-more, Knows}
 use Rattle.rz_core.proofs.Rows.{row-extends}
 use Rattle.rz_core.proofs.Locality.{all-filter, legal-knows}
@@ -43,8 +43,8 @@ at-node x h n P here there = go (same_word (Node n) (word_of x)) refl
     go true q = here (same_word-true n (word_of x) q)
     go false q = there
 
-pub node-row : (v : Volume) (x : Event) (h : List Event) (n : ℕ) → IsLegal v (x ∷ h) → word_of x ≡ Node n → Row v (facts h) (node n h) (of_actor (by_of x) h) (of_actor (by_of x) h) x
-node-row v x h n legal is = subst (λ w. Row v (facts h) (of_word w h) (of_actor (by_of x) h) (of_actor (by_of x) h) x) is legal.1.row
+pub node-row : (v : Volume) (x : Event) (h : List Event) (n : ℕ) (legal : IsLegalInRuns v (x ∷ h)) → word_of x ≡ Node n → Row v (facts h) (node n h) (of_actor (by_of x) h) legal.1.run x
+node-row v x h n legal is = subst (λ w. Row v (facts h) (of_word w h) (of_actor (by_of x) h) legal.1.run x) is legal.1.row
 
 -- the rows of a word, under some facts
 abbrev pub IsRows : Volume → Facts → List Event → Type 0
@@ -55,27 +55,27 @@ pub rows-extends : (v : Volume) (f g : Facts) → Extends f g → (w : List Even
 rows-extends v f g ext [] k r = tt
 rows-extends v f g ext (x ∷ w) k r = (rows-extends v f g ext w k.1 r.0, (r.1.0, r.1.1, row-extends v f g ext w r.1.0 r.1.1 x k.1 r.1.2))
 
-pub rows : (v : Volume) (h : List Event) → IsLegal v h → (n : ℕ) → IsRows v (facts h) (node n h)
+pub rows : (v : Volume) (h : List Event) → IsLegalInRuns v h → (n : ℕ) → IsRows v (facts h) (node n h)
 rows v [] legal n = tt
 rows v (x ∷ h) legal n =
     let ext = extends-more (x ∷ []) h in
     let k = all-filter (Knows (facts h)) (λ y. same_word (Node n) (word_of y)) h (legal-knows v h legal.0) in
     let ih = rows-extends v (facts h) (facts (x ∷ h)) ext (node n h) k (rows v h legal.0 n) in
     at-node x h n (IsRows v (facts (x ∷ h)))
-    (λ is. (ih, (of_actor (by_of x) h, of_actor (by_of x) h, row-extends v (facts h) (facts (x ∷ h)) ext (node n h) _ _ x k (node-row v x h n legal is))))
+    (λ is. (ih, (of_actor (by_of x) h, legal.1.run, row-extends v (facts h) (facts (x ∷ h)) ext (node n h) _ _ x k (node-row v x h n legal is))))
     ih
 
 -- what a change needs of the stamps held
 abbrev pub Fits : Facts → Key → Change → List ℕ → Type 0
 Fits f key (change.Keep at s position) now = same_key key at ≡ true → IsAbove s now
-Fits f key (change.Refill fence at s position) now = same_key key at ≡ true → (¬ Stands s now) × (¬ IsPast (base_of f) s now)
+Fits f key (change.Refill fence at s position) now = same_key key at ≡ true → (¬ Stands s now) × (¬ IsPast (base_begun f) s now)
 Fits f key (change.Drop at s) now = Unit {0}
 
 pub did-fits : (v : Volume) (f : Facts) (w o : List Event) (by : Actor) (n : ℕ) (key : Key) (c : Change) → DidRow v f w o by n c → Fits f key c (held f w key)
 did-fits v f w o by n key (change.Keep at s position) r = λ t. subst (λ q. IsAbove s (held f w q)) (sym (same_key-true key at t)) r.above
 did-fits v f w o by n key (change.Refill fence at s position) r = λ t.
     let same = sym (same_key-true key at t) in
-    (subst (λ q. ¬ Stands s (held f w q)) same r.absent, subst (λ q. ¬ IsPast (base_of f) s (held f w q)) same r.dated)
+    (subst (λ q. ¬ Stands s (held f w q)) same r.absent, subst (λ q. ¬ IsPast (base_begun f) s (held f w q)) same r.dated)
 did-fits v f w o by n key (change.Drop at s) r = tt
 
 pub did-up : (v : Volume) (f : Facts) (w o : List Event) (by : Actor) (n : ℕ) (c : Change) → DidRow v f w o by n c → phase w ≡ Up
@@ -148,8 +148,8 @@ without-pair s (a ∷ b ∷ c ∷ more) p = absurd p
 pub change-pair : (f : Facts) (key : Key) (c : Change) (now : List ℕ) → Fits f key c now → IsPair now → IsPair (changed f key c now)
 change-pair f key (change.Keep at s position) now fits p = go (same_key key at) refl
   where
-    go : (t : Bool) → same_key key at ≡ t → IsPair (cond t (kept itself (base_of f s) s now) now)
-    go true q = kept-pair (base_of f s) s now p (fits q)
+    go : (t : Bool) → same_key key at ≡ t → IsPair (cond t (kept itself (base_begun f s) s now) now)
+    go true q = kept-pair (base_begun f s) s now p (fits q)
     go false q = p
 change-pair f key (change.Refill fence at s position) now fits p = go (same_key key at) refl
   where
@@ -162,7 +162,7 @@ change-pair f key (change.Drop at s) now fits p = go (same_key key at)
     go true = without-pair s now p
     go false = p
 
-taken-pair : (f : Facts) (key : Key) (u : Option Change) (now : List ℕ) → ((c : Change) → u ≡ Some c → Fits f key c now) → IsPair now → IsPair (taken f key u now)
+taken-pair : (f : Facts) (key : Key) (u : Option Change) (now : List ℕ) → ((c : Change) → u ≡ Some c → Fits f key c now) → IsPair now → IsPair (settled f key u now)
 taken-pair f key None now fits p = p
 taken-pair f key (Some c) now fits p = change-pair f key c now (fits c refl) p
 
@@ -174,7 +174,7 @@ word-pair v f (e.Start m false ∷ w) r key = word-pair v f w r.0 key
 word-pair v f (e.Lose m loss ∷ w) r key = tt
 word-pair v f (x ∷ w) r key = word-pair v f w r.0 key
 
-pub pairs : (v : Volume) (h : List Event) → IsLegal v h → (n : ℕ) (key : Key) → IsPair (holds n h key)
+pub pairs : (v : Volume) (h : List Event) → IsLegalInRuns v h → (n : ℕ) (key : Key) → IsPair (holds n h key)
 pairs v h legal n key = word-pair v (facts h) (node n h) (rows v h legal n) key
 
 -- a filter takes no event that is not there, and each one that passes

@@ -32,11 +32,12 @@ use Rattle.rz_node_model.specs.Afterwards.{with_change, after_fault, after_drop,
 use Rattle.rz_node_model.specs.NodeEvents.{drop_event}
 use Rattle.rz_node_model.proofs.RecordLaws.{whole-empty}
 use Rattle.rz_core.specs.History.{Facts, facts, of_actor}
-use Rattle.rz_core.specs.NodeWord.{phase, undecided, held, taken as taken_in}
+use Rattle.rz_core.specs.NodeWord.{phase, undecided, held, settled}
 use Rattle.rz_core.specs.ExportRows.{IsLess}
 use Rattle.rz_core.specs.NodeRows.{IsAmong, IsRising, HasGone, DropRow, ProbeRow}
 use Rattle.rz_core.specs.Tied.{record_in, pending_in, IsNode, IsNodeStep, IsNodeLawOf, IsNodeLaw}
 use Rattle.rz_core.proofs.Stamps.{key_ext}
+use Rattle.rz_core.proofs.Keys.{less-parts}
 use Rattle.rz_core.proofs.NodeLaws.{node, rows, undecided-down, lost-empty}
 use Rattle.rz_core.proofs.NodeSays.{Drops, drop-says, replace-says, lose-says, stop-says}
 use Rattle.rz_core.proofs.NodeTies.{step, idle, carried-ties, whole-carried, keys-rise, held-among, among-held}
@@ -57,8 +58,7 @@ first_least fid (k ∷ ks) block q rise at among same = go (λ q a. first_least 
     below (j ∷ js) all (inr a) = below js all.1 a
 
     low : (k.fid ≡ fid) → k.block ≡ block → IsLess k at → block ≤ at.block
-    low own is (inl l) = absurd (omega (arith, l, own, same))
-    low own is (inr l) = let m = l.1 in omega (arith, m, is)
+    low own is less = elim (less-parts k at less) [ inl l ↦ absurd (omega (arith, l, own, same)) | inr l ↦ (let m = l.1 in omega (arith, m, is)) ]
 
     go : (first_block fid ks ≡ Some block → IsAmong at ks → block ≤ at.block) → (t : Bool) → (k.fid == fid) ≡ t
         → cond t (Some k.block) (first_block fid ks) ≡ Some block → IsAmong at (k ∷ ks) → block ≤ at.block
@@ -111,8 +111,7 @@ drop_row v h by n s b fid block stamp gone k = record {
 }
   where
     never : (at : Key) → at.fid ≡ fid → IsLess at (key_at fid block) → block ≤ at.block → ⊥
-    never at same (inl l) le = omega (arith, l, same)
-    never at same (inr l) le = let m = l.1 in omega (arith, m, le)
+    never at same less le = elim (less-parts at (key_at fid block) less) [ inl l ↦ omega (arith, l, same) | inr l ↦ (let m = l.1 in omega (arith, m, le)) ]
 
 drop_step : (v : Volume) (h : List Event) (by : Actor) (n : ℕ) (s : NodeState) → Before v h n s → (fid : ℕ)
     → HasGone (of_actor by h) by fid → (given : DropAnswer) → IsDropAnswer (drop_answer s fid) given
@@ -120,16 +119,16 @@ drop_step : (v : Volume) (h : List Event) (by : Actor) (n : ℕ) (s : NodeState)
 drop_step v h by n s b fid gone (drop.Dropped block stamp more) is =
     let k = drop-says s fid (drop.Dropped block stamp more) is in
     let c = change.Drop (key_at fid block) stamp in
-    step v h n (e.Did by n c) (with_change s (pending.Drop (key_at fid block) stamp)) refl (record { begins = λ z. refl; makes = λ z. refl }) b.room
+    step v h n (e.Did by n c) (with_change s (pending.Drop (key_at fid block) stamp)) refl (record { begins = λ z. refl; makes = λ z. refl }) b.there b.room
     (drop_row v h by n s b fid block stamp gone k) (did v h by n s b c)
 drop_step v h by n s b fid gone (drop.DiskFault block stamp) is =
     let k = drop-says s fid (drop.DiskFault block stamp) is in
     let c = change.Drop (key_at fid block) stamp in
-    step v h n (e.Broke by n (Some c)) (after_fault s (Some (pending.Drop (key_at fid block) stamp))) refl (record { begins = λ z. refl; makes = λ z. refl }) b.room
+    step v h n (e.Broke by n (Some c)) (after_fault s (Some (pending.Drop (key_at fid block) stamp))) refl (record { begins = λ z. refl; makes = λ z. refl }) b.there b.room
     (drop_row v h by n s b fid block stamp gone k) (broke v h by n s b (Some c))
 drop_step v h by n s b fid gone drop.Nothing is =
     let k = drop-says s fid drop.Nothing is in
-    step v h n (e.Void by n fid) s refl (record { begins = λ z. refl; makes = λ z. refl }) b.room
+    step v h n (e.Void by n fid) s refl (record { begins = λ z. refl; makes = λ z. refl }) b.there b.room
     (record { up = up-there v h n s b k.0; none = λ key same. empty_or (held (facts h) (node n h) key) (λ some. never key same some k.1) })
     (idle (facts h) (node n h) (e.Void by n fid ∷ node n h) s refl refl refl (λ key. refl) refl b.tied)
   where
@@ -143,10 +142,10 @@ drop_step v h by n s b fid gone drop.Lost is = let k = drop-says s fid drop.Lost
 drop_step v h by n s b fid gone drop.Down is = let k = drop-says s fid drop.Down is in refused v h by n s b why.Down 0 (sym b.tied.phase_is ∙ k, refl)
 
 pub node-drop : (v : Volume) (fid : ℕ) → IsNodeLawOf v (ask.Drop fid)
-node-drop v fid h by n s (answer.Drop given) x legal tied room proper answered opening is =
+node-drop v fid h by n s (answer.Drop given) x legal there tied room proper answered opening is =
     subst (λ y. IsNodeStep v h n y (after_drop given s fid)) (the_some _ x is)
-    (drop_step v h by n s (record { legal = legal; tied = tied; room = room }) fid proper given answered)
-node-drop v fid h by n s given x legal tied room proper answered opening is = absurd answered
+    (drop_step v h by n s (record { legal = legal; there = there; tied = tied; room = room }) fid proper given answered)
+node-drop v fid h by n s given x legal there tied room proper answered opening is = absurd answered
 
 -- Probes.
 
@@ -156,23 +155,23 @@ probe_row f w s t Down q = λ lost. (let there = t.phase_is in cc)
 probe_row f w s t Up q = λ lost. (let there = t.phase_is in cc)
 
 pub node-probe : (v : Volume) → IsNodeLawOf v ask.Probe
-node-probe v h by n s (answer.Probe given) x legal tied room proper answered opening is =
+node-probe v h by n s (answer.Probe given) x legal there tied room proper answered opening is =
     subst (λ y. IsNodeStep v h n y s) (the_some _ x is)
-    (step v h n (e.Probe by n given) s refl (record { begins = λ z. refl; makes = λ z. refl }) room
+    (step v h n (e.Probe by n given) s refl (record { begins = λ z. refl; makes = λ z. refl }) there room
     (subst (ProbeRow (node n h)) (sym answered) (probe_row (facts h) (node n h) s tied s.phase refl))
     (idle (facts h) (node n h) (e.Probe by n given ∷ node n h) s refl refl refl (λ key. refl) refl tied))
-node-probe v h by n s given x legal tied room proper answered opening is = absurd answered
+node-probe v h by n s given x legal there tied room proper answered opening is = absurd answered
 
 -- Stops.
 
 pub node-stop : (v : Volume) → IsNodeLawOf v ask.Stop
-node-stop v h by n s (answer.Stop true) x legal tied room proper answered opening is =
+node-stop v h by n s (answer.Stop true) x legal there tied room proper answered opening is =
     subst (λ y. IsNodeStep v h n y (record s { phase = Down })) (the_some _ x is)
-    (step v h n (e.Stop n) (record s { phase = Down }) refl (record { begins = λ z. refl; makes = λ z. refl }) room
+    (step v h n (e.Stop n) (record s { phase = Down }) refl (record { begins = λ z. refl; makes = λ z. refl }) there room
     (sym tied.phase_is ∙ stop-says s.phase answered)
     (record { phase_is = refl; fence_is = tied.fence_is; losses_is = tied.losses_is; held_is = tied.held_is; whole = tied.whole; undecided_is = tied.undecided_is }))
-node-stop v h by n s (answer.Stop false) x legal tied room proper answered opening is = cc
-node-stop v h by n s given x legal tied room proper answered opening is = absurd answered
+node-stop v h by n s (answer.Stop false) x legal there tied room proper answered opening is = cc
+node-stop v h by n s given x legal there tied room proper answered opening is = absurd answered
 
 -- Starts.
 
@@ -195,45 +194,45 @@ started f w s n t = record {
 }
   where
     go : (q : Key) (u : Option Change) → s.undecided ≡ option_map (pending_in f) u
-        → held_of (taken s.undecided s.held) q ≡ map (record_in f) (taken_in f q u (held f w q))
+        → held_of (taken s.undecided s.held) q ≡ map (record_in f) (settled f q u (held f w q))
     go q None is = subst (λ z. held_of (taken z s.held) q ≡ map (record_in f) (held f w q)) (sym is) (t.held_is q)
-    go q (Some c) is = subst (λ z. held_of (taken z s.held) q ≡ map (record_in f) (taken_in f q (Some c) (held f w q))) (sym is) (carried-ties f w s t c q)
+    go q (Some c) is = subst (λ z. held_of (taken z s.held) q ≡ map (record_in f) (settled f q (Some c) (held f w q))) (sym is) (carried-ties f w s t c q)
 
     all : (u : Option Change) → s.undecided ≡ option_map (pending_in f) u → IsWhole (taken s.undecided s.held)
     all None is = subst (λ z. IsWhole (taken z s.held)) (sym is) t.whole
     all (Some c) is = subst (λ z. IsWhole (taken z s.held)) (sym is) (whole-carried f c s.held t.whole)
 
 pub node-start : (v : Volume) → IsNodeLawOf v ask.Start
-node-start v h by n s (answer.Start (start.Started true)) x legal tied room proper answered opening is =
+node-start v h by n s (answer.Start (start.Started true)) x legal there tied room proper answered opening is =
     subst (λ y. IsNodeStep v h n y (record s { phase = Up; held = taken s.undecided s.held; undecided = None })) (the_some _ x is)
-    (step v h n (e.Start n true) (record s { phase = Up; held = taken s.undecided s.held; undecided = None }) refl (record { begins = λ z. refl; makes = λ z. refl }) room
+    (step v h n (e.Start n true) (record s { phase = Up; held = taken s.undecided s.held; undecided = None }) refl (record { begins = λ z. refl; makes = λ z. refl }) there room
     (record { down = sym tied.phase_is ∙ answered.0; pending = λ took. pending_there (facts h) (node n h) s tied (answered.1 took) })
     (started (facts h) (node n h) s n tied))
-node-start v h by n s (answer.Start (start.Started false)) x legal tied room proper answered opening is =
+node-start v h by n s (answer.Start (start.Started false)) x legal there tied room proper answered opening is =
     subst (λ y. IsNodeStep v h n y (record s { phase = Up; undecided = None })) (the_some _ x is)
-    (step v h n (e.Start n false) (record s { phase = Up; undecided = None }) refl (record { begins = λ z. refl; makes = λ z. refl }) room
+    (step v h n (e.Start n false) (record s { phase = Up; undecided = None }) refl (record { begins = λ z. refl; makes = λ z. refl }) there room
     (record { down = sym tied.phase_is ∙ answered.0; pending = λ took. cc })
     (record { phase_is = refl; fence_is = tied.fence_is; losses_is = tied.losses_is; held_is = tied.held_is; whole = tied.whole; undecided_is = refl }))
-node-start v h by n s (answer.Start start.NotDown) x legal tied room proper answered opening is = cc
-node-start v h by n s (answer.Start start.NoMemory) x legal tied room proper answered opening is = cc
-node-start v h by n s (answer.Start (start.Unopened cause)) x legal tied room proper answered opening is =
+node-start v h by n s (answer.Start start.NotDown) x legal there tied room proper answered opening is = cc
+node-start v h by n s (answer.Start start.NoMemory) x legal there tied room proper answered opening is = cc
+node-start v h by n s (answer.Start (start.Unopened cause)) x legal there tied room proper answered opening is =
     subst (λ y. IsNodeStep v h n y s) (the_some _ x is)
-    (step v h n (e.Unopened n (number_of cause)) s refl (record { begins = λ z. refl; makes = λ z. refl }) room
+    (step v h n (e.Unopened n (number_of cause)) s refl (record { begins = λ z. refl; makes = λ z. refl }) there room
     (record { down = sym tied.phase_is ∙ answered.0; cause_is = ap number_of opening })
     (idle (facts h) (node n h) (e.Unopened n (number_of cause) ∷ node n h) s refl refl refl (λ key. refl) refl tied))
-node-start v h by n s given x legal tied room proper answered opening is = absurd answered
+node-start v h by n s given x legal there tied room proper answered opening is = absurd answered
 
 -- Losses.
 
 pub node-lose : (v : Volume) → IsNodeLawOf v ask.Lose
-node-lose v h by n s (answer.Lose None) x legal tied room proper answered opening is = cc
-node-lose v h by n s (answer.Lose (Some loss)) x legal tied room proper answered opening is =
+node-lose v h by n s (answer.Lose None) x legal there tied room proper answered opening is = cc
+node-lose v h by n s (answer.Lose (Some loss)) x legal there tied room proper answered opening is =
     let k = lose-says s.phase s.losses loss answered in
     subst (λ y. IsNodeStep v h n y (record s { phase = Lost; losses = loss; held = maps.empty; undecided = None })) (the_some _ x is)
-    (step v h n (e.Lose n loss) (record s { phase = Lost; losses = loss; held = maps.empty; undecided = None }) refl (record { begins = λ z. refl; makes = λ z. refl }) room
+    (step v h n (e.Lose n loss) (record s { phase = Lost; losses = loss; held = maps.empty; undecided = None }) refl (record { begins = λ z. refl; makes = λ z. refl }) there room
     (record { there = λ lost. k.0 (tied.phase_is ∙ lost); next = k.1 ∙ ap (λ z. z + 1) tied.losses_is })
     (record { phase_is = refl; fence_is = tied.fence_is; losses_is = refl; held_is = λ q. ap listed (maps.get-empty {X = List Held} key_cmp q); whole = whole-empty; undecided_is = refl }))
-node-lose v h by n s given x legal tied room proper answered opening is = absurd answered
+node-lose v h by n s given x legal there tied room proper answered opening is = absurd answered
 
 -- Replacements.
 
@@ -256,27 +255,27 @@ replaced v h by n s b lost loss fence = record {
 }
 
 pub node-replace : (v : Volume) (loss fence : ℕ) → IsNodeLawOf v (ask.Replace loss fence)
-node-replace v loss fence h by n s (answer.Replace replace.Replaced) x legal tied room proper answered opening is =
+node-replace v loss fence h by n s (answer.Replace replace.Replaced) x legal there tied room proper answered opening is =
     let k = replace-says s loss replace.Replaced answered in
     let lost = sym tied.phase_is ∙ k.0 in
     subst (λ y. IsNodeStep v h n y (opened s.losses fence maps.empty)) (the_some _ x is)
-    (step v h n (e.Replace by n loss fence) (opened s.losses fence maps.empty) refl (record { begins = λ z. refl; makes = λ z. refl }) room
+    (step v h n (e.Replace by n loss fence) (opened s.losses fence maps.empty) refl (record { begins = λ z. refl; makes = λ z. refl }) there room
     (record { lost = lost; loss_is = k.1 ∙ tied.losses_is; enrolled = proper })
-    (replaced v h by n s (record { legal = legal; tied = tied; room = room }) lost loss fence))
-node-replace v loss fence h by n s (answer.Replace replace.NotLost) x legal tied room proper answered opening is =
+    (replaced v h by n s (record { legal = legal; there = there; tied = tied; room = room }) lost loss fence))
+node-replace v loss fence h by n s (answer.Replace replace.NotLost) x legal there tied room proper answered opening is =
     let k = replace-says s loss replace.NotLost answered in
     subst (λ y. IsNodeStep v h n y s) (the_some _ x is)
-    (refused v h by n s (record { legal = legal; tied = tied; room = room }) why.NotLost 0 (λ lost. k (tied.phase_is ∙ lost), refl))
-node-replace v loss fence h by n s (answer.Replace (replace.OtherLoss now)) x legal tied room proper answered opening is =
+    (refused v h by n s (record { legal = legal; there = there; tied = tied; room = room }) why.NotLost 0 (λ lost. k (tied.phase_is ∙ lost), refl))
+node-replace v loss fence h by n s (answer.Replace (replace.OtherLoss now)) x legal there tied room proper answered opening is =
     let k = replace-says s loss (replace.OtherLoss now) answered in
     subst (λ y. IsNodeStep v h n y s) (the_some _ x is)
-    (refused v h by n s (record { legal = legal; tied = tied; room = room }) why.OtherLoss now (sym tied.phase_is ∙ k.0, k.1 ∙ tied.losses_is))
-node-replace v loss fence h by n s (answer.Replace replace.DiskFault) x legal tied room proper answered opening is =
+    (refused v h by n s (record { legal = legal; there = there; tied = tied; room = room }) why.OtherLoss now (sym tied.phase_is ∙ k.0, k.1 ∙ tied.losses_is))
+node-replace v loss fence h by n s (answer.Replace replace.DiskFault) x legal there tied room proper answered opening is =
     let k = replace-says s loss replace.DiskFault answered in
     subst (λ y. IsNodeStep v h n y s) (the_some _ x is)
-    (refused v h by n s (record { legal = legal; tied = tied; room = room }) why.DiskFault 0 (sym tied.phase_is ∙ k.0, refl))
-node-replace v loss fence h by n s (answer.Replace replace.NoMemory) x legal tied room proper answered opening is = cc
-node-replace v loss fence h by n s given x legal tied room proper answered opening is = absurd answered
+    (refused v h by n s (record { legal = legal; there = there; tied = tied; room = room }) why.DiskFault 0 (sym tied.phase_is ∙ k.0, refl))
+node-replace v loss fence h by n s (answer.Replace replace.NoMemory) x legal there tied room proper answered opening is = cc
+node-replace v loss fence h by n s given x legal there tied room proper answered opening is = absurd answered
 
 -- Each call.
 pub node-law : (v : Volume) → IsNodeLaw v

@@ -31,9 +31,9 @@ use Rattle.rz_node_model.specs.Afterwards.{with_change, after_fault, after_keep,
 use Rattle.rz_node_model.specs.NodeEvents.{keep_event, refill_event, fetch_event}
 use Rattle.rz_node_model.proofs.VersionLaws.{keep-passed, refill-dated, refill-passed}
 use Rattle.rz_core.specs.History.{facts, of_actor, IsPlace}
-use Rattle.rz_core.specs.NodeWord.{phase, fence_of, held}
-use Rattle.rz_core.specs.NodeRows.{cells_of, IsWriting, KeepRow, IsRebuilding, RefillRow, RefusedRow, FetchRow}
-use Rattle.rz_core.specs.Legal.{IsLegal}
+use Rattle.rz_core.specs.NodeWord.{phase, last_fence, held}
+use Rattle.rz_core.specs.NodeRows.{cells_of, IsNodeOf, IsWriting, KeepRow, IsRebuilding, RefillRow, RefusedRow, FetchRow}
+use Rattle.rz_core.specs.Legal.{IsLegalInRuns}
 use Rattle.rz_core.specs.Tied.{pending_in, IsNode, IsOfWrite, IsNodeStep, IsNodeLawOf}
 use Rattle.rz_core.proofs.Extends.{Knows}
 use Rattle.rz_core.proofs.Locality.{legal-knows, all-filter}
@@ -44,7 +44,8 @@ use Rattle.rz_core.proofs.NodeTies.{step, idle, same-record, carried-ties, whole
 
 -- what is so before each call
 pub record Before (v : Volume) (h : List Event) (n : ℕ) (s : NodeState) : Type 0 where
-  pub legal : IsLegal v h
+  pub legal : IsLegalInRuns v h
+  pub there : IsNodeOf v n
   pub tied : IsNode (facts h) (node n h) s
   pub room : length (node n h) < 2 ^ 64 - 1
 
@@ -58,7 +59,7 @@ up-there v h n s b up = sym b.tied.phase_is ∙ up
 pub refused : (v : Volume) (h : List Event) (by : Actor) (n : ℕ) (s : NodeState) → Before v h n s → (cause : Why) (told : ℕ)
     → RefusedRow v (facts h) (node n h) n cause told → IsNodeStep v h n (e.Refused by n cause told) s
 refused v h by n s b cause told row =
-    step v h n (e.Refused by n cause told) s refl (record { begins = λ z. refl; makes = λ z. refl }) b.room row
+    step v h n (e.Refused by n cause told) s refl (record { begins = λ z. refl; makes = λ z. refl }) b.there b.room row
     (idle (facts h) (node n h) (e.Refused by n cause told ∷ node n h) s refl refl refl (λ key. refl) refl b.tied)
 
 -- a disk fault leaves the change undecided
@@ -105,14 +106,14 @@ keep_step : (v : Volume) (h : List Event) (by : Actor) (n : ℕ) (s : NodeState)
 keep_step v h by n s b head writing written keep.Kept is =
     let k = keep-says (cells_of v n) s head.key head.stamp keep.Kept is in
     let x = e.Did by n (change.Keep head.key head.stamp head.position) in
-    step v h n x (with_change s (pending.Keep head.key (record_of head))) refl (record { begins = λ z. refl; makes = λ z. refl }) b.room
+    step v h n x (with_change s (pending.Keep head.key (record_of head))) refl (record { begins = λ z. refl; makes = λ z. refl }) b.there b.room
     (keep_row v h by n s b head.key head.stamp head.position writing k)
     (subst (λ r. IsNode (facts h) (x ∷ node n h) (with_change s (pending.Keep head.key r))) (sym (same-record (facts h) head written))
     (did v h by n s b (change.Keep head.key head.stamp head.position)))
 keep_step v h by n s b head writing written keep.DiskFault is =
     let k = keep-says (cells_of v n) s head.key head.stamp keep.DiskFault is in
     let c = change.Keep head.key head.stamp head.position in
-    step v h n (e.Broke by n (Some c)) (after_fault s (Some (pending.Keep head.key (record_of head)))) refl (record { begins = λ z. refl; makes = λ z. refl }) b.room
+    step v h n (e.Broke by n (Some c)) (after_fault s (Some (pending.Keep head.key (record_of head)))) refl (record { begins = λ z. refl; makes = λ z. refl }) b.there b.room
     (keep_row v h by n s b head.key head.stamp head.position writing k)
     (subst (λ r. IsNode (facts h) (e.Broke by n (Some c) ∷ node n h) (after_fault s (Some (pending.Keep head.key r)))) (sym (same-record (facts h) head written))
     (broke v h by n s b (Some c)))
@@ -120,7 +121,7 @@ keep_step v h by n s b head writing written (keep.Passed now) is =
     let k = keep-says (cells_of v n) s head.key head.stamp (keep.Passed now) is in
     let p = keep-passed head.stamp now (held (facts h) (node n h) head.key) (sym (keep-passes (facts h) (node n h) s b.tied head.key head.stamp) ∙ k.2) in
     let x = e.Passed by n head.key head.stamp now in
-    step v h n x s refl (record { begins = λ z. refl; makes = λ z. refl }) b.room
+    step v h n x s refl (record { begins = λ z. refl; makes = λ z. refl }) b.there b.room
     (inl (record {
       keep = (head.position, record { up = up-there v h n s b k.0; fenced = subst (λ z. z < head.stamp) b.tied.fence_is k.1; writing = writing });
       now_is = p.0;
@@ -137,16 +138,16 @@ keep_step v h by n s b head writing written (keep.Fenced told) is =
     let k = keep-says (cells_of v n) s head.key head.stamp (keep.Fenced told) is in
     let one = positive v h b.legal head.stamp writing.writer.0 writing.writer.1.found in
     refused v h by n s b why.Fenced told
-    (up-there v h n s b k.0, not_zero head.stamp (fence_of (node n h)) one (subst (λ z. head.stamp ≤ z) b.tied.fence_is k.1), k.2 ∙ b.tied.fence_is)
+    (up-there v h n s b k.0, not_zero head.stamp (last_fence (node n h)) one (subst (λ z. head.stamp ≤ z) b.tied.fence_is k.1), k.2 ∙ b.tied.fence_is)
 keep_step v h by n s b head writing written keep.Full is =
     let k = keep-says (cells_of v n) s head.key head.stamp keep.Full is in
     refused v h by n s b why.Full 0 (up-there v h n s b k.0, full-cells v (facts h) (node n h) n s b.tied head.key k.1, refl)
 
 pub node-keep : (v : Volume) (head : Head) → IsNodeLawOf v (ask.Keep head)
-node-keep v head h by n s (answer.Keep given) x legal tied room proper answered opening is =
+node-keep v head h by n s (answer.Keep given) x legal there tied room proper answered opening is =
     subst (λ y. IsNodeStep v h n y (after_keep given s head.key (record_of head))) (the_some _ x is)
-    (keep_step v h by n s (record { legal = legal; tied = tied; room = room }) head proper.0 proper.1 given answered)
-node-keep v head h by n s given x legal tied room proper answered opening is = absurd answered
+    (keep_step v h by n s (record { legal = legal; there = there; tied = tied; room = room }) head proper.0 proper.1 given answered)
+node-keep v head h by n s given x legal there tied room proper answered opening is = absurd answered
 
 -- Refills.
 
@@ -168,13 +169,13 @@ refill_step : (v : Volume) (h : List Event) (by : Actor) (n : ℕ) (s : NodeStat
 refill_step v h by n s b fence head rebuilding written refill.Kept is =
     let k = refill-says (cells_of v n) s fence head.key head.stamp refill.Kept is in
     let c = change.Refill fence head.key head.stamp head.position in
-    step v h n (e.Did by n c) (with_change s (pending.Refill head.key (record_of head))) refl (record { begins = λ z. refl; makes = λ z. refl }) b.room
+    step v h n (e.Did by n c) (with_change s (pending.Refill head.key (record_of head))) refl (record { begins = λ z. refl; makes = λ z. refl }) b.there b.room
     (refill_row v h by n s b fence head.key head.stamp head.position rebuilding k)
     (subst (λ r. IsNode (facts h) (e.Did by n c ∷ node n h) (with_change s (pending.Refill head.key r))) (sym (same-record (facts h) head written)) (did v h by n s b c))
 refill_step v h by n s b fence head rebuilding written refill.DiskFault is =
     let k = refill-says (cells_of v n) s fence head.key head.stamp refill.DiskFault is in
     let c = change.Refill fence head.key head.stamp head.position in
-    step v h n (e.Broke by n (Some c)) (after_fault s (Some (pending.Refill head.key (record_of head)))) refl (record { begins = λ z. refl; makes = λ z. refl }) b.room
+    step v h n (e.Broke by n (Some c)) (after_fault s (Some (pending.Refill head.key (record_of head)))) refl (record { begins = λ z. refl; makes = λ z. refl }) b.there b.room
     (refill_row v h by n s b fence head.key head.stamp head.position rebuilding k)
     (subst (λ r. IsNode (facts h) (e.Broke by n (Some c) ∷ node n h) (after_fault s (Some (pending.Refill head.key r)))) (sym (same-record (facts h) head written)) (broke v h by n s b (Some c)))
 refill_step v h by n s b fence head rebuilding written (refill.Passed now) is =
@@ -182,7 +183,7 @@ refill_step v h by n s b fence head rebuilding written (refill.Passed now) is =
     let p = refill-passed _ head.stamp now (held (facts h) (node n h) head.key) (sym (refill-passes (facts h) (node n h) s b.tied head.key head.stamp) ∙ k.2) in
     let x = e.Passed by n head.key head.stamp now in
     let own = k.1 ∙ b.tied.fence_is in
-    step v h n x s refl (record { begins = λ z. refl; makes = λ z. refl }) b.room
+    step v h n x s refl (record { begins = λ z. refl; makes = λ z. refl }) b.there b.room
     (inr (record {
       refill = (head.position, record { up = up-there v h n s b k.0; fence_is = refl; rebuilding = subst (λ z. IsRebuilding v (facts h) (of_actor by h) by n z head.key head.stamp head.position) own rebuilding });
       now_is = p.0;
@@ -203,10 +204,10 @@ refill_step v h by n s b fence head rebuilding written refill.Full is =
     refused v h by n s b why.Full 0 (up-there v h n s b k.0, full-cells v (facts h) (node n h) n s b.tied head.key k.1, refl)
 
 pub node-refill : (v : Volume) (fence : ℕ) (head : Head) → IsNodeLawOf v (ask.Refill fence head)
-node-refill v fence head h by n s (answer.Refill given) x legal tied room proper answered opening is =
+node-refill v fence head h by n s (answer.Refill given) x legal there tied room proper answered opening is =
     subst (λ y. IsNodeStep v h n y (after_refill given s head.key (record_of head))) (the_some _ x is)
-    (refill_step v h by n s (record { legal = legal; tied = tied; room = room }) fence head proper.0 proper.1 given answered)
-node-refill v fence head h by n s given x legal tied room proper answered opening is = absurd answered
+    (refill_step v h by n s (record { legal = legal; there = there; tied = tied; room = room }) fence head proper.0 proper.1 given answered)
+node-refill v fence head h by n s given x legal there tied room proper answered opening is = absurd answered
 
 -- Fetches.
 
@@ -214,7 +215,7 @@ fetched : (v : Volume) (h : List Event) (by : Actor) (n : ℕ) (s : NodeState) �
     → FetchRow (facts h) (node n h) n key position stamp told → IsNodeStep v h n (e.Fetch by n key position stamp told) s
 fetched v h by n s b key position stamp told row =
     let x = e.Fetch by n key position stamp told in
-    step v h n x s refl (record { begins = λ z. refl; makes = λ z. refl }) b.room row
+    step v h n x s refl (record { begins = λ z. refl; makes = λ z. refl }) b.there b.room row
     (idle (facts h) (node n h) (x ∷ node n h) s refl refl refl (λ key. refl) refl b.tied)
 
 fetch_step : (v : Volume) (h : List Event) (by : Actor) (n : ℕ) (s : NodeState) → Before v h n s → (key : Key) (position stamp : ℕ)
@@ -237,10 +238,10 @@ fetch_step v h by n s b key position stamp place fetch.Down is =
     refused v h by n s b why.Down 0 (sym b.tied.phase_is ∙ k, refl)
 fetch_step v h by n s b key position stamp place fetch.DiskFault is =
     let k = fetch-says s key stamp fetch.DiskFault is in
-    step v h n (e.Broke by n None) (after_fault s None) refl (record { begins = λ z. refl; makes = λ z. refl }) b.room (up-there v h n s b k) (broke v h by n s b None)
+    step v h n (e.Broke by n None) (after_fault s None) refl (record { begins = λ z. refl; makes = λ z. refl }) b.there b.room (up-there v h n s b k) (broke v h by n s b None)
 
 pub node-fetch : (v : Volume) (key : Key) (position stamp : ℕ) → IsNodeLawOf v (ask.Fetch key position stamp)
-node-fetch v key position stamp h by n s (answer.Fetch given) x legal tied room proper answered opening is =
+node-fetch v key position stamp h by n s (answer.Fetch given) x legal there tied room proper answered opening is =
     subst (λ y. IsNodeStep v h n y (after_fetch given s)) (the_some _ x is)
-    (fetch_step v h by n s (record { legal = legal; tied = tied; room = room }) key position stamp proper given answered)
-node-fetch v key position stamp h by n s given x legal tied room proper answered opening is = absurd answered
+    (fetch_step v h by n s (record { legal = legal; there = there; tied = tied; room = room }) key position stamp proper given answered)
+node-fetch v key position stamp h by n s given x legal there tied room proper answered opening is = absurd answered

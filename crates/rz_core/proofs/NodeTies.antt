@@ -4,10 +4,7 @@ use Rattle.std.specs.Option.{option_map}
 use Rattle.std.specs.List.{AllByRecursion, list_any}
 use Rattle.std.specs.FinMap as maps
 use Rattle.std.specs.FinMap.Entries.{below_all, is_sorted}
-use Rattle.std.specs.Ordering.{nat_cmp, ordering_then, is_lt, eq_by_cmp, MatchOrdering}
-use Rattle.std.specs.declared.cmp.Ordering.{Ordering}
-use Rattle.std.specs.declared.cmp.Ordering.TheVariants.{Less, Equal, Greater}
-use Rattle.std.specs.Cmp.{ranks}
+use Rattle.std.specs.Ordering.{eq_by_cmp}
 use Rattle.std.proofs.Math.Path.{fun_ext}
 use Rattle.std.proofs.lemmas.Bool.{eqb-true, eqb-false, and_parts, leb-true, leb-false}
 use Rattle.std.proofs.lemmas.List.{length-map, length-take-le}
@@ -19,23 +16,25 @@ use Rattle.rz_events.specs.declared.records.Change.{Change}
 use Rattle.rz_events.specs.declared.records.Change.TheVariants as change
 use Rattle.rz_events.specs.declared.events.Word.TheVariants.{Node}
 use Rattle.rz_events.specs.declared.events.Event.{Event}
+use Rattle.rz_events.specs.declared.events.Event.TheVariants as e
 use Rattle.rz_events.specs.Keys.{key_cmp}
 use Rattle.rz_events.specs.Events.{by_of, word_of, same_key}
 use Rattle.rz_node_model.specs.Versions.{kept, refilled, without, IsAbove, Stands, IsHeld, passes_keep, passes_refill}
-use Rattle.rz_node_model.specs.Records.{Records, listed, held_of, with_held, IsWhole, stamp_of, base_of as base_in_record, found, record_of, carried}
+use Rattle.rz_node_model.specs.Records.{Records, listed, held_of, with_held, IsWhole, stamp_of, base_of, found, record_of, carried}
 use Rattle.rz_node_model.specs.States.{NodeState}
 use Rattle.rz_node_model.specs.Answers.{is_full}
 use Rattle.rz_node_model.proofs.VersionLaws.{kept-map, refilled-map, without-map, passes_keep-map, passes_refill-map, keep-above}
 use Rattle.rz_node_model.proofs.RecordLaws.{tie-same_key, held_of-with_held, whole-with_held}
 use Rattle.rz_core.specs.History.{Facts, facts, wrote, places_of, begun_by, placed_by, first_some, of_word, of_actor, length_in, base_in}
-use Rattle.rz_core.specs.NodeWord.{phase, losses, fence_of, undecided, held, base_of, changed, itself}
+use Rattle.rz_core.specs.NodeWord.{phase, losses, last_fence, undecided, held, base_begun, changed, itself}
 use Rattle.rz_core.specs.ExportRows.{IsLess}
-use Rattle.rz_core.specs.NodeRows.{cells_of, IsAmong, IsRising, IsFull, HasCell, IsAnswer}
-use Rattle.rz_core.specs.Legal.{Row, Allowed}
+use Rattle.rz_core.specs.NodeRows.{cells_of, IsNodeOf, IsAmong, IsRising, IsFull, HasCell, IsRecordTold}
+use Rattle.rz_core.specs.Legal.{Row, HasWord}
 use Rattle.rz_core.specs.Tied.{record_in, pending_in, IsNode, IsOfWrite, IsNodeStep}
 use Rattle.rz_core.proofs.Extends.{IsKnown, Knows, held-known}
 use Rattle.rz_core.proofs.Stamps.{same_key-true, same_key-refl}
 use Rattle.rz_core.proofs.NodeLaws.{node, IsPair, at-own}
+use Rattle.rz_core.proofs.Keys.{less-is}
 
 -- an event that begins no write and makes no file
 pub record IsSilent (x : Event) : Type 0 where
@@ -52,16 +51,28 @@ same-facts x h q =
     let p : places_of (x ∷ h) ≡ places_of h = fun_ext (λ fid. ap (first_some (places_of h fid)) (q.makes fid) ∙ first_none (places_of h fid)) in
     ap₂ (λ a b. let f : Facts = record { wrote = a; places = b } in f) w p
 
--- an allowed event of a node, and the state after it
-pub step : (v : Volume) (h : List Event) (n : ℕ) (x : Event) (after : NodeState) → word_of x ≡ Node n → IsSilent x → length (node n h) < 2 ^ 64 - 1
-    → Row v (facts h) (node n h) (of_actor (by_of x) h) (of_actor (by_of x) h) x → IsNode (facts h) (x ∷ node n h) after → IsNodeStep v h n x after
-step v h n x after is silent room row tied = record {
-  allowed = subst (λ w. Allowed v (facts h) (of_word w h) (of_actor (by_of x) h) (of_actor (by_of x) h) x) (sym is) (record { room = room; row = row });
+-- no row of a node's word looks at the run
+any_run : (v : Volume) (f : Facts) (w o run : List Event) (n : ℕ) (x : Event) → word_of x ≡ Node n → Row v f w o [] x → Row v f w o run x
+any_run v f w o run n (e.Missed by m reply) is r = cc
+any_run v f w o run n (e.Got by number key part end) is r = cc
+any_run v f w o run n (e.Gave by number key part end) is r = cc
+any_run v f w o run n (e.Done by number answer) is r = cc
+any_run v f w o run n _ is r = r
+
+-- an allowed event of a node of the volume, and the state after it
+pub step : (v : Volume) (h : List Event) (n : ℕ) (x : Event) (after : NodeState) → word_of x ≡ Node n → IsSilent x → IsNodeOf v n → length (node n h) < 2 ^ 64 - 1
+    → Row v (facts h) (node n h) (of_actor (by_of x) h) [] x → IsNode (facts h) (x ∷ node n h) after → IsNodeStep v h n x after
+step v h n x after is silent there room row tied = record {
+  allowed = λ run. record {
+    room = subst (λ w. length (of_word w h) < 2 ^ 64 - 1) (sym is) room;
+    word = subst (HasWord v) (sym is) there;
+    row = subst (λ w. Row v (facts h) (of_word w h) (of_actor (by_of x) h) run x) (sym is) (any_run v (facts h) (node n h) (of_actor (by_of x) h) run n x is row);
+  };
   tied = subst (λ f. IsNode f (node n (x ∷ h)) after) (sym (same-facts x h silent)) (at-own x h n (λ w. IsNode (facts h) w after) is tied);
 }
 
 -- an event that leaves all as it was
-pub idle : (f : Facts) (w w2 : List Event) (s : NodeState) → phase w2 ≡ phase w → fence_of w2 ≡ fence_of w → losses w2 ≡ losses w
+pub idle : (f : Facts) (w w2 : List Event) (s : NodeState) → phase w2 ≡ phase w → last_fence w2 ≡ last_fence w → losses w2 ≡ losses w
     → ((key : Key) → held f w2 key ≡ held f w key) → undecided w2 ≡ undecided w → IsNode f w s → IsNode f w2 s
 idle f w w2 s p g l k u t = record {
   phase_is = t.phase_is ∙ sym p;
@@ -93,8 +104,8 @@ with_key f w s t key rs new are q = held_of-with_held s.held key rs q ∙ go (sa
 pub carried-ties : (f : Facts) (w : List Event) (s : NodeState) → IsNode f w s → (c : Change) (q : Key)
     → held_of (carried (pending_in f c) s.held) q ≡ map (record_in f) (changed f q c (held f w q))
 carried-ties f w s t (change.Keep key stamp position) q =
-    with_key f w s t key (kept stamp_of (base_of f stamp) (record_in f stamp) (held_of s.held key)) (kept itself (base_of f stamp) stamp)
-    (ap (kept stamp_of (base_of f stamp) (record_in f stamp)) (t.held_is key) ∙ kept-map (record_in f) itself stamp_of (λ a. refl) (base_of f stamp) stamp (held f w key)) q
+    with_key f w s t key (kept stamp_of (base_begun f stamp) (record_in f stamp) (held_of s.held key)) (kept itself (base_begun f stamp) stamp)
+    (ap (kept stamp_of (base_begun f stamp) (record_in f stamp)) (t.held_is key) ∙ kept-map (record_in f) itself stamp_of (λ a. refl) (base_begun f stamp) stamp (held f w key)) q
 carried-ties f w s t (change.Refill fence key stamp position) q =
     with_key f w s t key (refilled stamp_of (record_in f stamp) (held_of s.held key)) (refilled itself stamp)
     (ap (refilled stamp_of (record_in f stamp)) (t.held_is key) ∙ refilled-map (record_in f) itself stamp_of (λ a. refl) stamp (held f w key)) q
@@ -114,10 +125,10 @@ keep-passes f w s t key stamp =
     ap (passes_keep stamp_of stamp) (t.held_is key) ∙ passes_keep-map (record_in f) itself stamp_of (λ a. refl) stamp (held f w key)
 
 pub refill-passes : (f : Facts) (w : List Event) (s : NodeState) → IsNode f w s → (key : Key) (stamp : ℕ)
-    → passes_refill stamp_of base_in_record stamp (held_of s.held key) ≡ passes_refill itself (base_of f) stamp (held f w key)
+    → passes_refill stamp_of base_of stamp (held_of s.held key) ≡ passes_refill itself (base_begun f) stamp (held f w key)
 refill-passes f w s t key stamp =
-    ap (passes_refill stamp_of base_in_record stamp) (t.held_is key)
-    ∙ passes_refill-map (record_in f) itself stamp_of (λ a. refl) (base_of f) base_in_record (λ a. refl) stamp (held f w key)
+    ap (passes_refill stamp_of base_of stamp) (t.held_is key)
+    ∙ passes_refill-map (record_in f) itself stamp_of (λ a. refl) (base_begun f) base_of (λ a. refl) stamp (held f w key)
 
 pub above-all : (stamp : ℕ) (now : List ℕ) → IsPair now → passes_keep itself stamp now ≡ None → IsAbove stamp now
 above-all stamp [] p q = tt
@@ -177,24 +188,13 @@ has-cell v f w n s t key not_full = go (maps.contains_key s.held key) refl (nat_
     go false c true l q = cc
 
 -- they rise
-less_is : (a b : Key) → is_lt (key_cmp a b) ≡ true → IsLess a b
-less_is a b = go (nat_cmp a.fid b.fid) (nat_cmp a.block b.block) (ranks a.fid b.fid) (ranks a.block b.block)
-  where
-    go : (p q : Ordering) → MatchOrdering p (a.fid < b.fid) (a.fid ≡ b.fid) (b.fid < a.fid) → MatchOrdering q (a.block < b.block) (a.block ≡ b.block) (b.block < a.block)
-        → is_lt (ordering_then p q) ≡ true → IsLess a b
-    go Less q m n l = inl m
-    go Equal Less m n l = inr (m, n)
-    go Equal Equal m n l = cc
-    go Equal Greater m n l = cc
-    go Greater q m n l = cc
-
 T_true : (b : Bool) → T b → b ≡ true
 T_true true h = refl
 T_true false h = absurd h
 
 below_keys : {X : Type 0} (a : Key) (es : List (Key × X)) → below_all key_cmp a es ≡ true → AllByRecursion (λ b. IsLess a b) (map (λ x. x.0) es)
 below_keys a [] h = tt
-below_keys a (x ∷ es) h = let p = and_parts _ _ h in (less_is a x.0 p.0, below_keys a es p.1)
+below_keys a (x ∷ es) h = let p = and_parts _ _ h in (less-is a x.0 p.0, below_keys a es p.1)
 
 sorted_keys : {X : Type 0} (es : List (Key × X)) → is_sorted key_cmp es ≡ true → IsRising (map (λ x. x.0) es)
 sorted_keys [] h = tt
@@ -271,7 +271,7 @@ known_stands f stamp (a ∷ now) k (inl here) = subst (IsKnown f) here k.0
 known_stands f stamp (a ∷ now) k (inr there) = known_stands f stamp now k.1 there
 
 pub answer-some : (f : Facts) (w : List Event) (s : NodeState) → IsNode f w s → AllByRecursion (Knows f) w → (key : Key) (stamp : ℕ) (r : Held)
-    → found stamp (held_of s.held key) ≡ Some r → IsAnswer f stamp (held f w key) (Some r)
+    → found stamp (held_of s.held key) ≡ Some r → IsRecordTold f stamp (held f w key) (Some r)
 answer-some f w s t k key stamp r q =
     let i = record_found f stamp (held f w key) r (ap (found stamp) (sym (t.held_is key)) ∙ q) in
     let b = known_stands f stamp (held f w key) (held-known f w key k) i.0 in (
@@ -288,5 +288,5 @@ answer-some f w s t k key stamp r q =
     )
 
 pub answer-none : (f : Facts) (w : List Event) (s : NodeState) → IsNode f w s → (key : Key) (stamp : ℕ)
-    → found stamp (held_of s.held key) ≡ None → IsAnswer f stamp (held f w key) None
+    → found stamp (held_of s.held key) ≡ None → IsRecordTold f stamp (held f w key) None
 answer-none f w s t key stamp q = none_found f stamp (held f w key) (ap (found stamp) (sym (t.held_is key)) ∙ q)

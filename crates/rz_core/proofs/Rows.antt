@@ -25,17 +25,17 @@ use Rattle.rz_export_model.specs.Export.{Export}
 use Rattle.rz_export_model.specs.Tree.{file_of}
 use Rattle.rz_core.specs.History.{Facts, Begun, IsWriter}
 use Rattle.rz_core.specs.NodeWord.{held}
-use Rattle.rz_core.specs.Outcomes.{IsShort}
+use Rattle.rz_core.specs.Outcomes.{IsShort, IsEnough}
 use Rattle.rz_core.specs.ExportRows.{names_reply, IsPublishing, IsPublishable, PublishRow, IsListed, NextRow}
-use Rattle.rz_core.specs.NodeRows.{HasRoom, IsFull, HasCell, IsWriting, IsKeep, IsRefill, DidRow, PassedRow, RefusedRow, IsAnswer}
-use Rattle.rz_core.specs.OwnRows.{GotRow, GaveRow, LeftRow}
+use Rattle.rz_core.specs.NodeRows.{HasRoom, IsFull, HasCell, IsWriting, IsKeep, IsRefill, DidRow, PassedRow, RefusedRow, IsRecordTold}
+use Rattle.rz_core.specs.OwnRows.{GotRow, GaveRow, IsShortCopy, IsRefilling, LeftRefusedRow, LeftRow}
 use Rattle.rz_core.specs.Legal.{Row}
 use Rattle.rz_core.proofs.Extends.{Extends, Knows, place-extends, place-back, live-placed, held-extends, held-known, past-back, past-extends, published-extends, export-extends}
 
 writer-extends : (f g : Facts) → Extends f g → (by : Actor) (key : Key) (s : ℕ) → (b : Begun) × IsWriter f by key s b → (b : Begun) × IsWriter g by key s b
 writer-extends f g ext by key s (b, i) = (b, record { found = ext.wrote s b i.found; by_is = i.by_is; key_is = i.key_is })
 
-answer-extends : (f g : Facts) → Extends f g → (s : ℕ) (now : List ℕ) (answer : Option Held) → IsAnswer f s now answer → IsAnswer g s now answer
+answer-extends : (f g : Facts) → Extends f g → (s : ℕ) (now : List ℕ) (answer : Option Held) → IsRecordTold f s now answer → IsRecordTold g s now answer
 answer-extends f g ext s now None a = a
 answer-extends f g ext s now (Some r) a =
     (a.0, (a.1.0, record { found = ext.wrote s a.1.0 a.1.1.found; stamp = a.1.1.stamp; length = a.1.1.length; base = a.1.1.base }))
@@ -166,14 +166,29 @@ next-extends v f g ext w n after (Some l) k r = record {
 
 -- ends
 short-extends : (v : Volume) (f g : Facts) → Extends f g → (start : Event → Bool) (o : List Event) (key : Key) (s : ℕ) (told : List Seen) → IsShort v f start o key s told → IsShort v g start o key s told
-short-extends v f g ext start o key s told r =
-    record { asked = (r.asked.0, ext.places key.fid r.asked.0 r.asked.1, r.asked.2, r.asked.3); few = r.few }
+short-extends v f g ext start o key s told r = record {
+  places = r.places;
+  placed = ext.places key.fid r.places r.placed;
+  asked = r.asked;
+  told_is = r.told_is;
+  few = r.few;
+  ended = r.ended;
+}
+
+enough-extends : (v : Volume) (f g : Facts) → Extends f g → (start : Event → Bool) (o : List Event) (key : Key) (s : ℕ) → IsEnough v f start o key s → IsEnough v g start o key s
+enough-extends v f g ext start o key s r = record { places = r.places; placed = ext.places key.fid r.places r.placed; many = r.many }
 
 got-extends : (v : Volume) (f g : Facts) → Extends f g → (o : List Event) (by : Actor) (key : Key) (end : ReadEnd) → GotRow v f o by key end → GotRow v g o by key end
 got-extends v f g ext o by key (read.Found stamp text) r =
     record { looked = r.looked; enough = r.enough; wrote = (r.wrote.0, ext.wrote _ _ r.wrote.1, r.wrote.2) }
-got-extends v f g ext o by key (read.TooFew seen) r =
-    record { looked = (r.looked.0, r.looked.1, short-extends v f g ext _ o key _ seen r.looked.2, r.looked.3) }
+got-extends v f g ext o by key (read.TooFew seen) r = record {
+  published = r.published;
+  looked = r.looked;
+  short = short-extends v f g ext _ o key _ seen r.short;
+  now = r.now;
+  again = r.again;
+  same = r.same;
+}
 got-extends v f g ext o by key (read.Moved was now) r =
     record { looked = r.looked; short = (r.short.0, short-extends v f g ext _ o key was r.short.0 r.short.1); again = r.again; moved = r.moved }
 got-extends v f g ext o by key read.Hole r = r
@@ -182,20 +197,49 @@ got-extends v f g ext o by key (read.Denied cause) r = r
 
 gave-extends : (v : Volume) (f g : Facts) → Extends f g → (o : List Event) (by : Actor) (key : Key) (end : WriteEnd) → GaveRow v f o by key end → GaveRow v g o by key end
 gave-extends v f g ext o by key (write.Acked stamp mask) r = r
-gave-extends v f g ext o by key (write.TooFew causes) r =
-    let (stamp, base, text, places, is, at, are) = r.begun in
-    record { begun = (stamp, base, text, places, is, ext.places key.fid places at, are); many = r.many }
+gave-extends v f g ext o by key (write.TooFew causes) r = record {
+  stamp = r.stamp;
+  base = r.base;
+  text = r.text;
+  begun = r.begun;
+  places = r.places;
+  placed = ext.places key.fid r.places r.placed;
+  causes_are = r.causes_are;
+  many = r.many;
+}
 gave-extends v f g ext o by key (write.Denied cause) r = r
 gave-extends v f g ext o by key (write.Revoked later) r = r
 
+copy-extends : (v : Volume) (f g : Facts) → Extends f g → (o : List Event) (by : Actor) (key : Key) → IsShortCopy v f o by key → IsShortCopy v g o by key
+copy-extends v f g ext o by key r =
+    record { node = r.node; told = r.told; listed = r.listed; seen = r.seen; short = short-extends v f g ext _ o key _ r.seen r.short }
+
+refilling-extends : (v : Volume) (f g : Facts) → Extends f g → (o : List Event) (by : Actor) (node : ℕ) (key : Key) (l : Listed) → IsRefilling v f o by node key l → IsRefilling v g o by node key l
+refilling-extends v f g ext o by node key l r = record { listed = r.listed; enough = enough-extends v f g ext _ o key _ r.enough }
+
+left_refused-extends : (v : Volume) (f g : Facts) → Extends f g → (o : List Event) (by : Actor) (key : Key) (cause : Why) → LeftRefusedRow v f o by key cause → LeftRefusedRow v g o by key cause
+left_refused-extends v f g ext o by key cause r =
+    record { node = r.node; told = r.told; refused = r.refused; refilling = refilling-extends v f g ext _ by r.node key r.told r.refilling }
+
 left-extends : (v : Volume) (f g : Facts) → Extends f g → (o : List Event) (by : Actor) (key : Key) (cause : LeftWhy) → LeftRow v f o by key cause → LeftRow v g o by key cause
+unfolding copy-extends
 left-extends v f g ext o by key left.TooFew r =
-    let (m, l, is, short, again) = r.listed in
-    record { listed = (m, l, is, (short.0, short-extends v f g ext _ o key _ short.0 short.1), again) }
+    record { copy = copy-extends v f g ext o by key r.copy; now = r.now; again = r.again; same = r.same }
 left-extends v f g ext o by key (left.Denied cause) r =
-    let (m, l, is, short) = r.listed in
-    record { listed = (m, l, is, (short.0, short-extends v f g ext _ o key _ short.0 short.1)); denied = r.denied }
-left-extends v f g ext o by key _ r = r
+    record { copy = copy-extends v f g ext o by key r.copy; denied = r.denied }
+left-extends v f g ext o by key left.Missed r =
+    record { node = r.node; told = r.told; lost = r.lost; missed = r.missed; refilling = refilling-extends v f g ext _ by r.node key r.told r.refilling }
+left-extends v f g ext o by key left.Down r = left_refused-extends v f g ext o by key why.Down r
+left-extends v f g ext o by key left.Full r = left_refused-extends v f g ext o by key why.Full r
+left-extends v f g ext o by key left.DiskFault r = record {
+  node = r.node;
+  told = r.told;
+  fence = r.fence;
+  position = r.position;
+  broke = r.broke;
+  refilling = refilling-extends v f g ext _ by r.node key r.told r.refilling;
+}
+left-extends v f g ext o by key left.Inconsistent r = absurd r
 
 -- any row
 pub row-extends : (v : Volume) (f g : Facts) → Extends f g → (w o run : List Event) (x : Event) → AllByRecursion (Knows f) w → Row v f w o run x → Row v g w o run x
@@ -225,6 +269,6 @@ row-extends v f g ext w o run (e.Void by node fid) k r =
 row-extends v f g ext w o run (e.Broke by node None) k r = r
 row-extends v f g ext w o run (e.Broke by node (Some c)) k r = did-extends v f g ext w o by node c k r
 row-extends v f g ext w o run (e.Left by key cause) k r = left-extends v f g ext o by key cause r
-row-extends v f g ext w o run (e.Got by number key part end) k r = got-extends v f g ext o by key end r
-row-extends v f g ext w o run (e.Gave by number key part end) k r = gave-extends v f g ext o by key end r
+row-extends v f g ext w o run (e.Got by number key part end) k r = (got-extends v f g ext o by key end r.0, r.1)
+row-extends v f g ext w o run (e.Gave by number key part end) k r = (gave-extends v f g ext o by key end r.0, r.1)
 row-extends v f g ext w o run _ k r = r

@@ -11,7 +11,7 @@ use Rattle.rz_events.specs.Events.{same_key}
 use Rattle.rz_export_model.specs.Export.{is_mask}
 use Rattle.rz_core.specs.History.{Begun, wrote, begun_by, first_some, of_word, Has}
 use Rattle.rz_core.specs.ExportWord.{last_drawn, latest, accepted, is_newer, greater}
-use Rattle.rz_core.specs.Legal.{IsLegal}
+use Rattle.rz_core.specs.Legal.{IsLegalInRuns}
 use Rattle.rz_core.proofs.Extends.{wrote-more}
 
 -- the events of the export
@@ -66,13 +66,13 @@ greater-right a b = go (nat_lt a b) refl
     go false q = elim (cases_le a b) [ inl l ↦ l | inr l ↦ (let w = lt-ltb a b l in cc) ]
 
 -- the greatest number drawn rises
-pub last_drawn-more : (v : Volume) (x : Event) (h : List Event) → IsLegal v (x ∷ h) → last_drawn (export h) ≤ last_drawn (export (x ∷ h))
+pub last_drawn-more : (v : Volume) (x : Event) (h : List Event) → IsLegalInRuns v (x ∷ h) → last_drawn (export h) ≤ last_drawn (export (x ∷ h))
 last_drawn-more v (e.Begin by key stamp base text) h legal = let n = legal.1.row.next in omega arith
 last_drawn-more v (e.Enroll by node loss fence) h legal = greater-right fence (last_drawn (export h))
 last_drawn-more v (_) h legal = omega arith
 
 -- each begun stamp was drawn
-pub drawn : (v : Volume) (h : List Event) → IsLegal v h → (s : ℕ) (b : Begun) → wrote h s ≡ Some b → s ≤ last_drawn (export h)
+pub drawn : (v : Volume) (h : List Event) → IsLegalInRuns v h → (s : ℕ) (b : Begun) → wrote h s ≡ Some b → s ≤ last_drawn (export h)
 drawn v [] legal s b k = cc
 drawn v (x ∷ h) legal s b k =
     elim (wrote-cases x h s b k) [
@@ -89,7 +89,7 @@ latest_rises true old stamp l = l
 latest_rises false old stamp l = omega arith
 
 -- the newest stamp begun on a key was drawn
-pub latest-drawn : (v : Volume) (h : List Event) → IsLegal v h → (key : Key) → latest (export h) key ≤ last_drawn (export h)
+pub latest-drawn : (v : Volume) (h : List Event) → IsLegalInRuns v h → (key : Key) → latest (export h) key ≤ last_drawn (export h)
 latest-drawn v [] legal key = omega arith
 latest-drawn v (e.Begin by at stamp base text ∷ h) legal key =
     let n = legal.1.row.next in
@@ -101,7 +101,7 @@ latest-drawn v (e.Enroll by node loss fence ∷ h) legal key =
 latest-drawn v (x ∷ h) legal key = latest-drawn v h legal.0 key
 
 -- the newest stamp of a key rises
-pub latest-more : (v : Volume) (x : Event) (h : List Event) → IsLegal v (x ∷ h) → (key : Key) → latest (export h) key ≤ latest (export (x ∷ h)) key
+pub latest-more : (v : Volume) (x : Event) (h : List Event) → IsLegalInRuns v (x ∷ h) → (key : Key) → latest (export h) key ≤ latest (export (x ∷ h)) key
 latest-more v (e.Begin by at stamp base text) h legal key =
     let n = legal.1.row.next in
     let i = latest-drawn v h legal.0 key in
@@ -109,7 +109,7 @@ latest-more v (e.Begin by at stamp base text) h legal key =
 latest-more v (_) h legal key = omega arith
 
 -- each write of a key is at most the newest
-pub begun-latest : (v : Volume) (h : List Event) → IsLegal v h → (s : ℕ) (b : Begun) → wrote h s ≡ Some b → s ≤ latest (export h) b.key
+pub begun-latest : (v : Volume) (h : List Event) → IsLegalInRuns v h → (s : ℕ) (b : Begun) → wrote h s ≡ Some b → s ≤ latest (export h) b.key
 begun-latest v [] legal s b k = cc
 begun-latest v (x ∷ h) legal s b k =
     elim (wrote-cases x h s b k) [
@@ -122,7 +122,7 @@ pub accepted_cases : (t : Bool) (s m : ℕ) (old : Option (ℕ × ℕ)) (a : ℕ
 accepted_cases true s m old a k = inl (refl, cc, cc)
 accepted_cases false s m old a k = inr (refl, k)
 
-pub accepted-begun : (v : Volume) (h : List Event) → IsLegal v h → (key : Key) (a : ℕ × ℕ) → accepted (export h) key ≡ Some a
+pub accepted-begun : (v : Volume) (h : List Event) → IsLegalInRuns v h → (key : Key) (a : ℕ × ℕ) → accepted (export h) key ≡ Some a
     → (b : Begun) × (wrote h a.0 ≡ Some b) × (b.key ≡ key)
 accepted-begun v [] legal key a k = cc
 accepted-begun v (e.Publish by at stamp mask None ∷ h) legal key a k =
@@ -135,7 +135,7 @@ accepted-begun v (x ∷ h) legal key a k =
     let i = accepted-begun v h legal.0 key a k in (i.0, wrote-more (x ∷ []) h a.0 i.0 i.1, i.2)
 
 -- its stamp is at most the newest begun
-pub accepted-latest : (v : Volume) (h : List Event) → IsLegal v h → (key : Key) (a : ℕ × ℕ) → accepted (export h) key ≡ Some a → a.0 ≤ latest (export h) key
+pub accepted-latest : (v : Volume) (h : List Event) → IsLegalInRuns v h → (key : Key) (a : ℕ × ℕ) → accepted (export h) key ≡ Some a → a.0 ≤ latest (export h) key
 accepted-latest v h legal key a k =
     let b = accepted-begun v h legal key a k in
     let l = begun-latest v h legal a.0 b.0 b.1 in
@@ -148,7 +148,7 @@ wrote-has (x ∷ h) s b k =
     elim (wrote-cases x h s b k) [ inl old ↦ inr (wrote-has h s b old) | inr new ↦ inl (begun_by-is s x b new) ]
 
 -- the mask that counts names a quorum
-pub accepted-mask : (v : Volume) (h : List Event) → IsLegal v h → (key : Key) (a : ℕ × ℕ) → accepted (export h) key ≡ Some a → is_mask v.layout a.1 ≡ true
+pub accepted-mask : (v : Volume) (h : List Event) → IsLegalInRuns v h → (key : Key) (a : ℕ × ℕ) → accepted (export h) key ≡ Some a → is_mask v.layout a.1 ≡ true
 accepted-mask v [] legal key a k = cc
 accepted-mask v (e.Publish by at stamp mask None ∷ h) legal key a k =
     elim (accepted_cases (same_key key at && is_newer stamp (accepted (export h) key)) stamp mask (accepted (export h) key) a k) [
@@ -177,7 +177,7 @@ accepted-more (e.Publish by at stamp mask None ∷ more) h key a k =
 accepted-more (x ∷ more) h key a k = accepted-more more h key a k
 
 -- each begun stamp is at least 1
-pub positive : (v : Volume) (h : List Event) → IsLegal v h → (s : ℕ) (b : Begun) → wrote h s ≡ Some b → 1 ≤ s
+pub positive : (v : Volume) (h : List Event) → IsLegalInRuns v h → (s : ℕ) (b : Begun) → wrote h s ≡ Some b → 1 ≤ s
 positive v [] legal s b k = cc
 positive v (e.Begin by at stamp base text ∷ h) legal s b k =
     elim (wrote-cases (e.Begin by at stamp base text) h s b k) [

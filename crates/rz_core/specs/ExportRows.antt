@@ -18,14 +18,16 @@ use Rattle.rz_events.specs.declared.events.Event.{Event}
 use Rattle.rz_events.specs.declared.events.Event.TheVariants as e
 use Rattle.rz_export_model.specs.Tree.{file_of}
 use Rattle.rz_export_model.specs.TreeCalls.{reply_to}
-use Rattle.rz_export_model.specs.Export.{Export, new_places, is_mask}
+use Rattle.rz_export_model.specs.Export.{Export, file_blocks, new_places, is_mask}
 use Rattle.rz_core.specs.History.{Facts, Begun, Has, IsPlace, IsWriter}
 use Rattle.rz_core.specs.ExportWord.{is_live, last_drawn, latest, accepted, stamp_in, published, enrolled, or_new, export_of}
 use Rattle.rz_events.specs.Masks.{HasBit}
+use Rattle.rz_events.specs.Keys.{key_cmp}
+use Rattle.std.specs.declared.cmp.Ordering.TheVariants.{Less}
 
--- a file has 1,048,576 blocks
+-- a file may have this block
 abbrev pub IsInFile : Key → Type 0
-IsInFile key = key.block < 1048576
+IsInFile key = key.block < file_blocks
 
 -- the reply of an export to a call on names: a new file gets the places that are free at that time
 abbrev pub names_reply : Export → TreeCall → TreeReply
@@ -53,7 +55,7 @@ UnknownRow w (asked.Enroll node loss) = ⊥
 
 -- the block is past the end of a live file
 abbrev pub IsTooFar : List Event → Key → Type 0
-IsTooFar w key = (is_live w key.fid ≡ true) × (1048576 ≤ key.block)
+IsTooFar w key = (is_live w key.fid ≡ true) × (file_blocks ≤ key.block)
 
 abbrev pub TooFarRow : List Event → Asked → Type 0
 TooFarRow w (asked.Begin key) = IsTooFar w key
@@ -175,7 +177,7 @@ pub record IsListed (f : Facts) (w : List Event) (n : ℕ) (key : Key) (p : Publ
 
 -- the order of keys
 abbrev pub IsLess : Key → Key → Type 0
-IsLess a b = (a.fid < b.fid) ⊎ ((a.fid ≡ b.fid) × (a.block < b.block))
+IsLess a b = key_cmp a b ≡ Less
 
 abbrev pub IsAfter : Option Key → Key → Type 0
 IsAfter None key = Unit {0}

@@ -1,5 +1,5 @@
 -- What the events of the export's word leave at it.
-use Rattle.std.specs.Prelude.{ℕ, Bool, true, false, not, ◌==◌, ◌≡◌, ◌&&◌, ◌||◌, ◌+◌, nat_lt, List, [], ◌∷◌, Option, Some, None, cond}
+use Rattle.std.specs.Prelude.{ℕ, Bool, true, false, not, ◌==◌, ◌&&◌, ◌||◌, ◌+◌, nat_lt, List, [], ◌∷◌, Option, Some, None, cond}
 use Rattle.rz_events.specs.declared.keys.Key.{Key}
 use Rattle.rz_events.specs.declared.files.Published.{Published}
 use Rattle.rz_events.specs.declared.tree.TreeReply.{TreeReply}

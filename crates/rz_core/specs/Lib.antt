@@ -5,7 +5,9 @@ pub mod Own
 pub mod Outcomes
 pub mod ExportRows
 pub mod NodeRows
+pub mod Courses
 pub mod OwnRows
+pub mod HeldRecords
 pub mod Legal
 pub mod Longer
 pub mod Tied

@@ -3,11 +3,22 @@ use Rattle.std.specs.Prelude.{ℕ, ◌≡◌, List, ◌++◌, Some}
 use Rattle.rz_events.specs.Volume.{Volume}
 use Rattle.rz_events.specs.declared.events.Event.{Event}
 use Rattle.rz_core.specs.History.{Begun, facts}
-use Rattle.rz_core.specs.Legal.{IsLegal}
+use Rattle.rz_core.specs.Legal.{IsLegal, IsLegalInRuns, IsLegalAfter}
 
 -- The beginnings of a legal log are legal.
 abbrev pub IsPrefixLegal : Volume → Type 0
 IsPrefixLegal v = (h more : List Event) → IsLegal v (more ++ h) → IsLegal v h
+
+-- The same of a log of several runs.
+abbrev pub IsPrefixLegalInRuns : Volume → Type 0
+IsPrefixLegalInRuns v = (h more : List Event) → IsLegalInRuns v (more ++ h) → IsLegalInRuns v h
+
+-- A legal log is the log of one run, and a run may go on after the log of any number of runs.
+abbrev pub IsRun : Volume → Type 0
+IsRun v = (h : List Event) → IsLegal v h → IsLegalInRuns v h
+
+abbrev pub IsNextRun : Volume → Type 0
+IsNextRun v = (old h : List Event) → IsLegalAfter v old h → IsLegalInRuns v (h ++ old)
 
 -- What a write began with stands unchanged in each longer log, and so does where a file lies.
 pub record IsPermanent (h more : List Event) : Type 0 where

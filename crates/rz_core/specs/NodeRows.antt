@@ -1,6 +1,6 @@
 -- When an event of a node's word is allowed. `w` has the events of that word, `o` those by the actor, `f` the permanent
 -- facts, and `v` is the volume. No row reads another word.
-use Rattle.std.specs.Prelude.{ℕ, Bool, true, ◌≡◌, ◌⊎◌, ◌<◌, ◌≤◌, ◌+◌, ◌==◌, List, [], ◌∷◌, Option, Some, None, cond, length}
+use Rattle.std.specs.Prelude.{ℕ, Bool, true, ◌≡◌, ◌⊎◌, ◌<◌, ◌≤◌, ◌+◌, ◌==◌, List, [], ◌∷◌, Option, Some, None, cond, length, map}
 use Rattle.std.specs.List.{AllByRecursion}
 use Rattle.mj_angles.specs.Layout.{inverse_of}
 use Rattle.rz_events.specs.Volume.{Volume, nodes_of}
@@ -21,7 +21,7 @@ use Rattle.rz_events.specs.declared.events.Event.{Event}
 use Rattle.rz_events.specs.declared.events.Event.TheVariants as e
 use Rattle.rz_node_model.specs.Versions.{IsAbove, Stands, IsPast, IsLesser, greatest, IsHeld}
 use Rattle.rz_core.specs.History.{Facts, Begun, Has, IsPlace, IsWriter}
-use Rattle.rz_core.specs.NodeWord.{phase, losses, fence_of, undecided, held, base_of}
+use Rattle.rz_core.specs.NodeWord.{phase, losses, last_fence, undecided, held, base_begun}
 use Rattle.rz_core.specs.ExportRows.{IsLess}
 use Rattle.rz_core.specs.Own.{since, before, is_next, gave, HasDistinct, IsListing}
 
@@ -32,6 +32,10 @@ cells_among (spec ∷ specs) n = cond (spec.sid == n) spec.cells (cells_among sp
 
 abbrev pub cells_of : Volume → ℕ → ℕ
 cells_of v n = cells_among (nodes_of v.clusters) n
+
+-- the volume has a node of this number
+abbrev pub IsNodeOf : Volume → ℕ → Type 0
+IsNodeOf v n = Stands n (map (λ (spec : NodeSpec). spec.sid) (nodes_of v.clusters))
 
 -- the key is one of these
 abbrev pub IsAmong : Key → List Key → Type 0
@@ -70,7 +74,7 @@ pub record IsWriting (f : Facts) (by : Actor) (node : ℕ) (key : Key) (stamp po
 -- what a writer's record stands on, whatever is held
 pub record IsKeep (f : Facts) (w : List Event) (by : Actor) (node : ℕ) (key : Key) (stamp position : ℕ) : Type 0 where
   pub up : phase w ≡ Up
-  pub fenced : fence_of w < stamp
+  pub fenced : last_fence w < stamp
   pub writing : IsWriting f by node key stamp position
 
 pub record KeepRow (v : Volume) (f : Facts) (w : List Event) (by : Actor) (node : ℕ) (key : Key) (stamp position : ℕ) : Type 0 where
@@ -91,13 +95,13 @@ pub record IsRebuilding (v : Volume) (f : Facts) (o : List Event) (by : Actor) (
 -- what a rebuilder's record stands on, whatever is held: its fence is the node's own
 pub record IsRefill (v : Volume) (f : Facts) (w o : List Event) (by : Actor) (node fence : ℕ) (key : Key) (stamp position : ℕ) : Type 0 where
   pub up : phase w ≡ Up
-  pub fence_is : fence ≡ fence_of w
+  pub fence_is : fence ≡ last_fence w
   pub rebuilding : IsRebuilding v f o by node fence key stamp position
 
 pub record RefillRow (v : Volume) (f : Facts) (w o : List Event) (by : Actor) (node fence : ℕ) (key : Key) (stamp position : ℕ) : Type 0 where
   pub refill : IsRefill v f w o by node fence key stamp position
   pub absent : ¬ Stands stamp (held f w key)
-  pub dated : ¬ IsPast (base_of f) stamp (held f w key)
+  pub dated : ¬ IsPast (base_begun f) stamp (held f w key)
   pub cell : HasCell v f w node key
 
 -- Drops.
@@ -131,9 +135,9 @@ pub record PassedKeepRow (f : Facts) (w : List Event) (by : Actor) (node : ℕ) 
   pub above : stamp ≤ now
 
 pub record PassedRefillRow (v : Volume) (f : Facts) (w o : List Event) (by : Actor) (node : ℕ) (key : Key) (stamp now : ℕ) : Type 0 where
-  pub refill : (position : ℕ) × IsRefill v f w o by node (fence_of w) key stamp position
+  pub refill : (position : ℕ) × IsRefill v f w o by node (last_fence w) key stamp position
   pub now_is : now ≡ greatest (held f w key)
-  pub past : Stands stamp (held f w key) ⊎ IsPast (base_of f) stamp (held f w key)
+  pub past : Stands stamp (held f w key) ⊎ IsPast (base_begun f) stamp (held f w key)
 
 abbrev pub PassedRow : Volume → Facts → List Event → List Event → Actor → ℕ → Key → ℕ → ℕ → Type 0
 PassedRow v f w o by node key stamp now =
@@ -143,8 +147,8 @@ PassedRow v f w o by node key stamp now =
 abbrev pub RefusedRow : Volume → Facts → List Event → ℕ → Why → ℕ → Type 0
 RefusedRow v f w node why.Lost told = (phase w ≡ Lost) × (told ≡ 0)
 RefusedRow v f w node why.Down told = (phase w ≡ Down) × (told ≡ 0)
-RefusedRow v f w node why.Fenced told = (phase w ≡ Up) × ¬ (fence_of w ≡ 0) × (told ≡ fence_of w)
-RefusedRow v f w node why.OtherFence told = (phase w ≡ Up) × (told ≡ fence_of w)
+RefusedRow v f w node why.Fenced told = (phase w ≡ Up) × ¬ (last_fence w ≡ 0) × (told ≡ last_fence w)
+RefusedRow v f w node why.OtherFence told = (phase w ≡ Up) × (told ≡ last_fence w)
 RefusedRow v f w node why.Full told = (phase w ≡ Up) × IsFull v f w node × (told ≡ 0)
 RefusedRow v f w node why.NotLost told = ¬ (phase w ≡ Lost) × (told ≡ 0)
 RefusedRow v f w node why.OtherLoss told = (phase w ≡ Lost) × (told ≡ losses w)
@@ -165,14 +169,14 @@ pub record IsRecord (f : Facts) (s : ℕ) (r : Held) (b : Begun) : Type 0 where
   pub base : r.base ≡ b.base
 
 -- the record of this very stamp is told exactly where it is held
-abbrev pub IsAnswer : Facts → ℕ → List ℕ → Option Held → Type 0
-IsAnswer f s stamps None = ¬ Stands s stamps
-IsAnswer f s stamps (Some r) = Stands s stamps × ((b : Begun) × IsRecord f s r b)
+abbrev pub IsRecordTold : Facts → ℕ → List ℕ → Option Held → Type 0
+IsRecordTold f s stamps None = ¬ Stands s stamps
+IsRecordTold f s stamps (Some r) = Stands s stamps × ((b : Begun) × IsRecord f s r b)
 
 pub record FetchRow (f : Facts) (w : List Event) (node : ℕ) (key : Key) (position s : ℕ) (answer : Option Held) : Type 0 where
   pub up : phase w ≡ Up
   pub place : IsPlace f key.fid position node
-  pub told : IsAnswer f s (held f w key) answer
+  pub told : IsRecordTold f s (held f w key) answer
 
 -- nothing of the file is held
 pub record VoidRow (f : Facts) (w : List Event) (fid : ℕ) : Type 0 where

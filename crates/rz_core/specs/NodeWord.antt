@@ -28,10 +28,10 @@ losses (e.Lose node loss ∷ w) = loss
 losses (_ ∷ w) = losses w
 
 -- the fence of the last replacement, or 0
-abbrev pub fence_of : List Event → ℕ
-fence_of [] = 0
-fence_of (e.Replace by node loss fence ∷ w) = fence
-fence_of (_ ∷ w) = fence_of w
+abbrev pub last_fence : List Event → ℕ
+last_fence [] = 0
+last_fence (e.Replace by node loss fence ∷ w) = fence
+last_fence (_ ∷ w) = last_fence w
 
 -- the change of the last disk fault, where no start and no loss came after it: the disk may have it or not
 abbrev pub undecided : List Event → Option Change
@@ -45,25 +45,26 @@ undecided (_ ∷ w) = undecided w
 abbrev pub itself : ℕ → ℕ
 itself s = s
 
-abbrev pub base_of : Facts → ℕ → ℕ
-base_of f s = base_in (f.wrote s)
+-- the base of the write with stamp s
+abbrev pub base_begun : Facts → ℕ → ℕ
+base_begun f s = base_in (f.wrote s)
 
 -- the stamps of a key after a change
 abbrev pub changed : Facts → Key → Change → List ℕ → List ℕ
-changed f key (change.Keep at s position) held = cond (same_key key at) (kept itself (base_of f s) s held) held
+changed f key (change.Keep at s position) held = cond (same_key key at) (kept itself (base_begun f s) s held) held
 changed f key (change.Refill fence at s position) held = cond (same_key key at) (refilled itself s held) held
 changed f key (change.Drop at s) held = cond (same_key key at) (without itself s held) held
 
--- the stamps of a key after a change, where there is one
-abbrev pub taken : Facts → Key → Option Change → List ℕ → List ℕ
-taken f key None held = held
-taken f key (Some c) held = changed f key c held
+-- the stamps of a key after an undecided change, where there is one that was done
+abbrev pub settled : Facts → Key → Option Change → List ℕ → List ℕ
+settled f key None held = held
+settled f key (Some c) held = changed f key c held
 
 -- The stamps that the node holds of a key, the greatest first: what the changes leave that were done since its last
 -- loss. A change is done at its `Did`, or at a start that found it on the disk.
 abbrev pub held : Facts → List Event → Key → List ℕ
 held f [] key = []
 held f (e.Did by node change ∷ w) key = changed f key change (held f w key)
-held f (e.Start node true ∷ w) key = taken f key (undecided w) (held f w key)
+held f (e.Start node true ∷ w) key = settled f key (undecided w) (held f w key)
 held f (e.Lose node loss ∷ w) key = []
 held f (_ ∷ w) key = held f w key

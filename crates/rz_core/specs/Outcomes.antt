@@ -1,6 +1,6 @@
 -- What came of each position in a read or a write, by the actor's own events since it began. The events at a position's
 -- node tell it, and the newest counts: so a lost message hides the answer that came before it.
-use Rattle.std.specs.Prelude.{ℕ, Bool, true, false, ◌==◌, ◌&&◌, ◌≡◌, ◌<◌, ◌+◌, ◌-◌, List, [], ◌∷◌, Option, Some, None, cond, count_by, replicate}
+use Rattle.std.specs.Prelude.{ℕ, Bool, true, false, ◌==◌, ◌&&◌, ◌≡◌, ◌<◌, ◌≤◌, ◌+◌, ◌-◌, List, [], ◌∷◌, Option, Some, None, cond, count_by, replicate}
 use Rattle.std.specs.List.{AllByRecursion}
 use Rattle.mj_angles.specs.Layout.{inverse_of}
 use Rattle.rz_events.specs.Volume.{Volume}
@@ -16,7 +16,7 @@ use Rattle.rz_events.specs.declared.events.Event.{Event}
 use Rattle.rz_events.specs.declared.events.Event.TheVariants as e
 use Rattle.rz_events.specs.Events.{same_key}
 use Rattle.rz_core.specs.History.{Facts}
-use Rattle.rz_core.specs.Own.{since, before, is_export}
+use Rattle.rz_core.specs.Own.{since, is_recheck}
 
 -- A read.
 
@@ -60,13 +60,22 @@ abbrev pub is_asked : Seen → Bool
 is_asked seen.NotAsked = false
 is_asked _ = true
 
--- The read that began at the newest event that passes the test `start` came to too few records, before the newest event
--- of the export's word: each position was asked, `told` has all outcomes, and fewer records came than give the block.
+-- The read that began at the newest event that passes the test `start` came to too few records: each position was asked
+-- since then, `told` has all outcomes, fewer records came than give the block, and no outcome is newer than the newest
+-- recheck.
 pub record IsShort (v : Volume) (f : Facts) (start : Event → Bool) (o : List Event) (key : Key) (s : ℕ) (told : List Seen) : Type 0 where
-  pub asked : (places : List ℕ) × (f.places key.fid ≡ Some places)
-      × AllByRecursion (λ n. is_asked (seen_at key s n (since start (before is_export o))) ≡ true) places
-      × (told ≡ seens key s (since start (before is_export o)) 0 places)
+  pub places : List ℕ
+  pub placed : f.places key.fid ≡ Some places
+  pub asked : AllByRecursion (λ n. is_asked (seen_at key s n (since start o)) ≡ true) places
+  pub told_is : told ≡ seens key s (since start o) 0 places
   pub few : count_by is_held told < inverse_of v.layout
+  pub ended : AllByRecursion (λ n. is_asked (seen_at key s n (since is_recheck o)) ≡ false) places
+
+-- The read that began there came to enough records.
+pub record IsEnough (v : Volume) (f : Facts) (start : Event → Bool) (o : List Event) (key : Key) (s : ℕ) : Type 0 where
+  pub places : List ℕ
+  pub placed : f.places key.fid ≡ Some places
+  pub many : inverse_of v.layout ≤ count_by is_held (seens key s (since start o) 0 places)
 
 -- A write.
 

@@ -4,6 +4,7 @@ use Rattle.std.specs.List.{AllByRecursion}
 use Rattle.rz_events.specs.declared.keys.Key.{Key}
 use Rattle.rz_events.specs.declared.keys.Actor.{Actor}
 use Rattle.rz_events.specs.declared.files.Listed.{Listed}
+use Rattle.rz_events.specs.declared.export.Asked.TheVariants as asked
 use Rattle.rz_events.specs.declared.events.Word.TheVariants.{Export}
 use Rattle.rz_events.specs.declared.events.Event.{Event}
 use Rattle.rz_events.specs.declared.events.Event.TheVariants as e
@@ -45,6 +46,12 @@ is_look _ = false
 abbrev pub is_next : Event → Bool
 is_next (e.Next by node after answer) = true
 is_next _ = false
+
+-- a recheck, or the denial of one
+abbrev pub is_recheck : Event → Bool
+is_recheck (e.Recheck by key answer) = true
+is_recheck (e.Denied by (asked.Recheck key) why) = true
+is_recheck _ = false
 
 -- an event of the export's word
 abbrev pub is_export : Event → Bool

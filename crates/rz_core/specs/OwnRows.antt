@@ -1,15 +1,14 @@
--- When an event of an actor's own word is allowed. `o` has the events by the actor, `run` those of this run of the
--- program, `f` the permanent facts, and `v` is the volume. No row reads another word.
-use Rattle.std.specs.Prelude.{ℕ, Bool, true, false, ◌≡◌, ◌⊎◌, ◌<◌, ◌-◌, List, [], ◌∷◌, Option, Some, None, count_by}
+-- When an event of an actor's own word is allowed, as far as the actor's own events and the permanent facts go. `o` has
+-- the events by the actor, `f` the permanent facts, and `v` is the volume. No row reads another word.
+use Rattle.std.specs.Prelude.{ℕ, Bool, true, false, ◌≡◌, ◌⊎◌, ◌<◌, ◌-◌, List, Option, Some, None, count_by, drop}
 use Rattle.mj_angles.specs.Layout.{inverse_of, forward_of, safe_of}
 use Rattle.rz_events.specs.Volume.{Volume}
+use Rattle.rz_events.specs.Masks.{stamp_told}
 use Rattle.rz_events.specs.declared.keys.Key.{Key}
 use Rattle.rz_events.specs.declared.keys.Actor.{Actor}
 use Rattle.rz_events.specs.declared.files.Published.{Published}
 use Rattle.rz_events.specs.declared.files.Listed.{Listed}
 use Rattle.rz_events.specs.declared.records.Change.TheVariants as change
-use Rattle.rz_events.specs.declared.tree.TreeReply.{TreeReply}
-use Rattle.rz_events.specs.declared.tree.TreeReply.TheVariants as reply
 use Rattle.rz_events.specs.declared.ends.Denial.{Denial}
 use Rattle.rz_events.specs.declared.ends.Seen.{Seen}
 use Rattle.rz_events.specs.declared.ends.Why.{Why}
@@ -21,16 +20,11 @@ use Rattle.rz_events.specs.declared.ends.WriteEnd.TheVariants as write
 use Rattle.rz_events.specs.declared.ends.LeftWhy.{LeftWhy}
 use Rattle.rz_events.specs.declared.ends.LeftWhy.TheVariants as left
 use Rattle.rz_events.specs.declared.export.Asked.TheVariants as asked
-use Rattle.rz_events.specs.declared.events.Answer.{Answer}
-use Rattle.rz_events.specs.declared.events.Answer.TheVariants as answers
-use Rattle.rz_events.specs.declared.events.Word.TheVariants.{Node}
 use Rattle.rz_events.specs.declared.events.Event.{Event}
 use Rattle.rz_events.specs.declared.events.Event.TheVariants as e
-use Rattle.rz_events.specs.Events.{word_of}
 use Rattle.rz_core.specs.History.{Facts, Begun}
-use Rattle.rz_events.specs.Masks.{stamp_told}
-use Rattle.rz_core.specs.Own.{last, since, newest, is_begin, is_publish, is_look, is_next, is_export, gave, HasDistinct, IsListing, IsBetween}
-use Rattle.rz_core.specs.Outcomes.{IsShort, whys, is_failure}
+use Rattle.rz_core.specs.Own.{last, since, newest, is_begin, is_publish, is_look, is_next, is_recheck, is_export, gave, HasDistinct, IsListing}
+use Rattle.rz_core.specs.Outcomes.{IsShort, IsEnough, whys, is_failure}
 
 -- Reads.
 
@@ -43,14 +37,18 @@ pub record FoundRow (v : Volume) (f : Facts) (o : List Event) (by : Actor) (key 
 
 -- too few records came, and the export still told the stamp that the look was told
 pub record TooFewRow (v : Volume) (f : Facts) (o : List Event) (by : Actor) (key : Key) (seen : List Seen) : Type 0 where
-  pub looked : (p : Published) × (last is_look o ≡ Some (e.Look by key (Some p))) × IsShort v f is_look o key p.stamp seen
-      × ((now : Option Published) × (last is_export o ≡ Some (e.Recheck by key now)) × (stamp_told now ≡ p.stamp))
+  pub published : Published
+  pub looked : last is_look o ≡ Some (e.Look by key (Some published))
+  pub short : IsShort v f is_look o key published.stamp seen
+  pub now : Option Published
+  pub again : last is_recheck (since is_look o) ≡ Some (e.Recheck by key now)
+  pub same : stamp_told now ≡ published.stamp
 
 -- too few records came, and the export told another stamp
 pub record MovedRow (v : Volume) (f : Facts) (o : List Event) (by : Actor) (key : Key) (was now : ℕ) : Type 0 where
   pub looked : (p : Published) × (last is_look o ≡ Some (e.Look by key (Some p))) × (p.stamp ≡ was)
   pub short : (seen : List Seen) × IsShort v f is_look o key was seen
-  pub again : (told : Option Published) × (last is_export o ≡ Some (e.Recheck by key told)) × (stamp_told told ≡ now)
+  pub again : (told : Option Published) × (last is_recheck (since is_look o) ≡ Some (e.Recheck by key told)) × (stamp_told told ≡ now)
   pub moved : ¬ (now ≡ was)
 
 -- the look was denied, or the recheck of a look
@@ -72,8 +70,13 @@ GotRow v f o by key read.Inconsistent = ⊥
 
 -- more positions failed than the layout has to spare
 pub record WriteFewRow (v : Volume) (f : Facts) (o : List Event) (by : Actor) (key : Key) (causes : List Why) : Type 0 where
-  pub begun : (stamp base : ℕ) × (text : List ℕ) × (places : List ℕ) × (last is_begin o ≡ Some (e.Begin by key stamp base text))
-      × (f.places key.fid ≡ Some places) × (causes ≡ whys key stamp (since is_begin o) 0 places)
+  pub stamp : ℕ
+  pub base : ℕ
+  pub text : List ℕ
+  pub begun : last is_begin o ≡ Some (e.Begin by key stamp base text)
+  pub places : List ℕ
+  pub placed : f.places key.fid ≡ Some places
+  pub causes_are : causes ≡ whys key stamp (since is_begin o) 0 places
   pub many : safe_of v.layout - forward_of v.layout < count_by is_failure causes
 
 -- the begin was denied, or the publish
@@ -89,80 +92,66 @@ GaveRow v f o by key (write.Revoked later) = (stamp : ℕ) × (last is_export o 
 
 -- Blocks that a rebuild leaves.
 
--- too few records came of the listed stamp, and the export still told it
+-- the newest `Next` told this block, and too few records of the listed stamp came since
+pub record IsShortCopy (v : Volume) (f : Facts) (o : List Event) (by : Actor) (key : Key) : Type 0 where
+  pub node : ℕ
+  pub told : Listed
+  pub listed : IsListing o by node key told
+  pub seen : List Seen
+  pub short : IsShort v f is_next o key told.published.stamp seen
+
+-- and the export still told that stamp
 pub record LeftFewRow (v : Volume) (f : Facts) (o : List Event) (by : Actor) (key : Key) : Type 0 where
-  pub listed : (m : ℕ) × (l : Listed) × IsListing o by m key l × ((seen : List Seen) × IsShort v f is_next o key l.published.stamp seen)
-      × ((now : Option Published) × (last is_export o ≡ Some (e.Recheck by key now)) × (stamp_told now ≡ l.published.stamp))
+  pub copy : IsShortCopy v f o by key
+  pub now : Option Published
+  pub again : last is_recheck (since is_next o) ≡ Some (e.Recheck by key now)
+  pub same : stamp_told now ≡ copy.told.published.stamp
 
--- too few records came of the listed stamp, and the recheck was denied
+-- or the recheck was denied
 pub record LeftDeniedRow (v : Volume) (f : Facts) (o : List Event) (by : Actor) (key : Key) (cause : Denial) : Type 0 where
-  pub listed : (m : ℕ) × (l : Listed) × IsListing o by m key l × ((seen : List Seen) × IsShort v f is_next o key l.published.stamp seen)
-  pub denied : last is_export o ≡ Some (e.Denied by (asked.Recheck key) cause)
+  pub copy : IsShortCopy v f o by key
+  pub denied : last is_recheck (since is_next o) ≡ Some (e.Denied by (asked.Recheck key) cause)
 
--- enough records came of the listed stamp, so that the actor's newest call of a node is the refill of node m
-pub record IsRefilling (v : Volume) (o : List Event) (by : Actor) (m : ℕ) (key : Key) (l : Listed) : Type 0 where
-  pub listed : IsListing o by m key l
-  pub enough : HasDistinct (inverse_of v.layout) (gave key l.published.stamp (since is_next o))
+-- The newest `Next` told this block, and by these events enough records of the listed stamp came since, so that the
+-- actor's next call of a node is the refill of this one.
+pub record IsRefilling (v : Volume) (f : Facts) (o : List Event) (by : Actor) (node : ℕ) (key : Key) (told : Listed) : Type 0 where
+  pub listed : IsListing o by node key told
+  pub enough : IsEnough v f is_next o key told.published.stamp
+
+-- a lost message is one event, and two where the answer was lost after the node gave it
+abbrev pub lost_events : Bool → ℕ
+lost_events true = 2
+lost_events false = 1
+
+-- The refill's own events are the newest: a lost message, ..
+pub record LeftMissedRow (v : Volume) (f : Facts) (o : List Event) (by : Actor) (key : Key) : Type 0 where
+  pub node : ℕ
+  pub told : Listed
+  pub lost : Bool
+  pub missed : newest o ≡ Some (e.Missed by node lost)
+  pub refilling : IsRefilling v f (drop (lost_events lost) o) by node key told
+
+-- .. a refusal with this cause, ..
+pub record LeftRefusedRow (v : Volume) (f : Facts) (o : List Event) (by : Actor) (key : Key) (cause : Why) : Type 0 where
+  pub node : ℕ
+  pub told : Listed
+  pub refused : newest o ≡ Some (e.Refused by node cause 0)
+  pub refilling : IsRefilling v f (drop 1 o) by node key told
+
+-- .. or a disk fault.
+pub record LeftFaultRow (v : Volume) (f : Facts) (o : List Event) (by : Actor) (key : Key) : Type 0 where
+  pub node : ℕ
+  pub told : Listed
+  pub fence : ℕ
+  pub position : ℕ
+  pub broke : newest o ≡ Some (e.Broke by node (Some (change.Refill fence key told.published.stamp position)))
+  pub refilling : IsRefilling v f (drop 1 o) by node key told
 
 abbrev pub LeftRow : Volume → Facts → List Event → Actor → Key → LeftWhy → Type 0
 LeftRow v f o by key left.TooFew = LeftFewRow v f o by key
 LeftRow v f o by key (left.Denied cause) = LeftDeniedRow v f o by key cause
-LeftRow v f o by key left.Missed =
-    (m : ℕ) × (l : Listed) × IsRefilling v o by m key l × ((lost : Bool) × (newest o ≡ Some (e.Missed by m lost)))
-LeftRow v f o by key left.Down =
-    (m : ℕ) × (l : Listed) × IsRefilling v o by m key l × ((told : ℕ) × (newest o ≡ Some (e.Refused by m why.Down told)))
-LeftRow v f o by key left.Full =
-    (m : ℕ) × (l : Listed) × IsRefilling v o by m key l × ((told : ℕ) × (newest o ≡ Some (e.Refused by m why.Full told)))
-LeftRow v f o by key left.DiskFault =
-    (m : ℕ) × (l : Listed) × IsRefilling v o by m key l
-    × ((fence p : ℕ) × (newest o ≡ Some (e.Broke by m (Some (change.Refill fence key l.published.stamp p)))))
+LeftRow v f o by key left.Missed = LeftMissedRow v f o by key
+LeftRow v f o by key left.Down = LeftRefusedRow v f o by key why.Down
+LeftRow v f o by key left.Full = LeftRefusedRow v f o by key why.Full
+LeftRow v f o by key left.DiskFault = LeftFaultRow v f o by key
 LeftRow v f o by key left.Inconsistent = ⊥
-
--- Operations on names. Their ends are the only ones in this table: no `Done` of a range that was read or written, or of
--- a rebuild, is allowed by it.
-
--- the answer that a reply ends an operation with; none where records are still to be dropped, or where a file was opened
-abbrev pub answer_in : TreeReply → Option Answer
-answer_in (reply.Made fid) = Some (answers.Created fid)
-answer_in (reply.MadeFile info) = Some (answers.Created info.fid)
-answer_in (reply.Found fid kind) = Some (answers.Found kind fid)
-answer_in (reply.Attr attr) = Some (answers.Attr attr)
-answer_in reply.Plain = Some answers.Plain
-answer_in (reply.Gone None) = Some answers.Plain
-answer_in (reply.Gone (Some info)) = None
-answer_in (reply.Names names) = Some (answers.Names names)
-answer_in (reply.Target target) = Some (answers.Target target)
-answer_in (reply.File info) = None
-answer_in (reply.Refused fault) = Some (answers.Refused fault)
-
--- one call on names began the operation, and its reply is the end; so it is, too, where a file was not opened
-abbrev pub IsNamesDone : List Event → Answer → Type 0
-IsNamesDone (e.Meta by call reply ∷ run) answer = IsBetween run × (answer_in reply ≡ Some answer)
-IsNamesDone _ answer = ⊥
-
--- the newest event is one of node m
-abbrev pub IsAtNode : ℕ → List Event → Type 0
-IsAtNode m [] = ⊥
-IsAtNode m (x ∷ run) = word_of x ≡ Node m
-
-abbrev pub IsFirst : ℕ → List ℕ → Type 0
-IsFirst m [] = ⊥
-IsFirst m (n ∷ todo) = n ≡ m
-
--- A file's last name went, and its records are being dropped: at its nodes by position, at each of them until it has no
--- more, did not answer, or a message was lost. `todo` has the nodes that are left. After a drop, the node may have more.
-abbrev pub IsDropping : ℕ → List Event → List ℕ → Type 0
-IsDropping fid [] todo = ⊥
-IsDropping fid (e.Meta by call (reply.Gone (Some info)) ∷ run) todo = IsBetween run × (info.fid ≡ fid) × (info.places ≡ todo)
-IsDropping fid (e.Did by m (change.Drop key s) ∷ run) todo =
-    (key.fid ≡ fid) × (IsDropping fid run (m ∷ todo) ⊎ (IsFirst m todo × IsDropping fid run todo))
-IsDropping fid (e.Void by m gone ∷ run) todo = (gone ≡ fid) × IsDropping fid run (m ∷ todo)
-IsDropping fid (e.Refused by m cause told ∷ run) todo = IsDropping fid run (m ∷ todo)
-IsDropping fid (e.Broke by m (Some (change.Drop key s)) ∷ run) todo = (key.fid ≡ fid) × IsDropping fid run (m ∷ todo)
-IsDropping fid (e.Missed by m false ∷ run) todo = IsDropping fid run (m ∷ todo)
-IsDropping fid (e.Missed by m true ∷ run) todo =
-    IsAtNode m run × (IsDropping fid run (m ∷ todo) ⊎ IsDropping fid run todo)
-IsDropping fid (_ ∷ run) todo = ⊥
-
-abbrev pub DoneRow : List Event → Answer → Type 0
-DoneRow run answer = IsNamesDone run answer ⊎ ((fid : ℕ) × IsDropping fid run [] × (answer ≡ answers.Plain))

@@ -1,5 +1,5 @@
 -- How the states of nodes and of the export are tied to the log, and what the log then says of each of their calls.
-use Rattle.std.specs.Prelude.{ℕ, true, ◌≡◌, ◌<◌, ◌≤◌, ◌-◌, ◌^◌, List, ◌∷◌, map, Some, length}
+use Rattle.std.specs.Prelude.{ℕ, ◌≡◌, ◌<◌, ◌≤◌, ◌-◌, ◌^◌, List, ◌∷◌, map, Some, length}
 use Rattle.std.specs.Option.{option_map}
 use Rattle.mj_angles.specs.Layout.{block_bytes_of}
 use Rattle.rz_events.specs.Volume.{Volume}
@@ -27,20 +27,20 @@ use Rattle.rz_node_model.specs.States.{NodeState}
 use Rattle.rz_node_model.specs.Answers.{IsNodeAnswer}
 use Rattle.rz_node_model.specs.Afterwards.{after_answer}
 use Rattle.rz_node_model.specs.NodeEvents.{node_event}
-use Rattle.rz_export_model.specs.Export.{Export as ExportState, is_proper, export_reply, export_after}
+use Rattle.rz_export_model.specs.Export.{Export as ExportState, export_reply, export_after}
 use Rattle.rz_export_model.specs.ExportEvents.{export_event}
 use Rattle.rz_core.specs.History.{Facts, facts, of_word, of_actor, Has, IsPlace, length_in}
-use Rattle.rz_core.specs.NodeWord.{phase, losses, fence_of, undecided, held, base_of}
+use Rattle.rz_core.specs.NodeWord.{phase, losses, last_fence, undecided, held, base_begun}
 use Rattle.rz_core.specs.ExportWord.{export_of}
 use Rattle.rz_core.specs.ExportRows.{IsPublishing, HasLooked}
-use Rattle.rz_core.specs.NodeRows.{cells_of, IsWriting, IsRebuilding, HasGone}
-use Rattle.rz_core.specs.Legal.{IsLegal, IsAllowed}
+use Rattle.rz_core.specs.NodeRows.{cells_of, IsNodeOf, IsWriting, IsRebuilding, HasGone}
+use Rattle.rz_core.specs.Legal.{IsLegalInRuns, IsAllowedIn}
 
 -- Nodes.
 
 -- the record of the write with stamp s
 abbrev pub record_in : Facts → ℕ → Held
-record_in f s = record { stamp = s; length = length_in (f.wrote s); base = base_of f s }
+record_in f s = record { stamp = s; length = length_in (f.wrote s); base = base_begun f s }
 
 -- a change as a node remembers it
 abbrev pub pending_in : Facts → Change → Pending
@@ -51,7 +51,7 @@ pending_in f (change.Drop key s) = pending.Drop key s
 -- The state of a node is the one that the events of its word give.
 pub record IsNode (f : Facts) (w : List Event) (s : NodeState) : Type 0 where
   pub phase_is : s.phase ≡ phase w
-  pub fence_is : s.fence ≡ fence_of w
+  pub fence_is : s.fence ≡ last_fence w
   pub losses_is : s.losses ≡ losses w
   pub held_is : (key : Key) → held_of s.held key ≡ map (record_in f) (held f w key)
   pub whole : IsWhole s.held
@@ -59,7 +59,7 @@ pub record IsNode (f : Facts) (w : List Event) (s : NodeState) : Type 0 where
 
 -- the head is that of the record of its write
 abbrev pub IsOfWrite : Facts → Head → Type 0
-IsOfWrite f head = (head.length ≡ length_in (f.wrote head.stamp)) × (head.base ≡ base_of f head.stamp)
+IsOfWrite f head = (head.length ≡ length_in (f.wrote head.stamp)) × (head.base ≡ base_begun f head.stamp)
 
 -- What a caller of node n must have done before: `o` has its own events.
 abbrev pub IsProperAsk : Volume → Facts → List Event → Actor → ℕ → NodeAsk → Type 0
@@ -79,15 +79,15 @@ abbrev pub IsOpening : NodeAnswer → Type 0
 IsOpening (answer.Start (start.Unopened cause)) = cause ≡ fault.DiskFault
 IsOpening _ = Unit {0}
 
--- the event is allowed, and the state afterwards is the one that the log with it gives
+-- the event is allowed in any run, and the state afterwards is the one that the log with it gives
 pub record IsNodeStep (v : Volume) (h : List Event) (n : ℕ) (x : Event) (after : NodeState) : Type 0 where
-  pub allowed : IsAllowed v h x
+  pub allowed : (run : List Event) → IsAllowedIn v h run x
   pub tied : IsNode (facts (x ∷ h)) (of_word (Node n) (x ∷ h)) after
 
--- A call of a node after a legal log: its event, if it has one, is allowed.
+-- A call of a node of the volume after a legal log: its event, if it has one, is allowed.
 abbrev pub IsNodeLawOf : Volume → NodeAsk → Type 0
 IsNodeLawOf v question = (h : List Event) (by : Actor) (n : ℕ) (s : NodeState) (given : NodeAnswer) (x : Event)
-    → IsLegal v h → IsNode (facts h) (of_word (Node n) h) s → length (of_word (Node n) h) < 2 ^ 64 - 1
+    → IsLegalInRuns v h → IsNodeOf v n → IsNode (facts h) (of_word (Node n) h) s → length (of_word (Node n) h) < 2 ^ 64 - 1
     → IsProperAsk v (facts h) (of_actor by h) by n question → IsNodeAnswer (cells_of v n) s question given → IsOpening given
     → node_event by n question given ≡ Some x → IsNodeStep v h n x (after_answer question given s)
 
@@ -112,14 +112,14 @@ IsProperCall v f o by (call.Next node after) = Unit {0}
 IsProperCall v f o by (call.Recheck key) = HasLooked o by key
 
 pub record IsExportStep (v : Volume) (h : List Event) (x : Event) (after : ExportState) : Type 0 where
-  pub allowed : IsAllowed v h x
+  pub allowed : (run : List Event) → IsAllowedIn v h run x
   pub tied : IsExport v (facts (x ∷ h)) (of_word Export (x ∷ h)) after
 
 -- A call of the export after a legal log: the event of its reply is allowed.
 abbrev pub IsExportLawOf : Volume → Call → Type 0
 IsExportLawOf v question = (h : List Event) (by : Actor) (s : ExportState) (x : Event)
-    → IsLegal v h → IsExport v (facts h) (of_word Export h) s → length (of_word Export h) < 2 ^ 64 - 1
-    → IsProperCall v (facts h) (of_actor by h) by question → is_proper s question ≡ true
+    → IsLegalInRuns v h → IsExport v (facts h) (of_word Export h) s → length (of_word Export h) < 2 ^ 64 - 1
+    → IsProperCall v (facts h) (of_actor by h) by question
     → export_event by question (export_reply s question) ≡ Some x → IsExportStep v h x (export_after s question)
 
 abbrev pub IsExportLaw : Volume → Type 0

@@ -4,13 +4,15 @@
 //! and the permanent facts; `NodeWord` and `ExportWord` say what the events of a node's and of the
 //! export's word leave there; `Own` says what an actor's own events say, and `Outcomes` what came of
 //! each position in a read or a write. `ExportRows`, `NodeRows` and `OwnRows` have one row for each
-//! kind of event: when it is allowed. `Legal` puts them together. `Longer` says what holds of a log
-//! that goes on after another. `Tied` says when the state of a node or of the export is the one that
-//! the log gives, and what then holds of each of their calls.
+//! kind of event: when it is allowed; `Courses` has the course of an operation, which says what ends
+//! it. `HeldRecords` has the records that a node holds. `Legal` puts the rows together. `Longer` says
+//! what holds of a log that goes on after another. `Tied` says when the state of a node or of the
+//! export is the one that the log gives, and what then holds of each of their calls.
 //!
 //! Each row reads three things alone: the events of the event's word, the events by its actor, and
 //! the permanent facts. What a node and the export answer is said by the crates `rz_node_model` and
-//! `rz_export_model`, and nothing here says how they keep their state.
+//! `rz_export_model`, and what an operation asks by `rz_operation_model`; nothing here says how they
+//! keep their state.
 #![tactic(auto)]
 
 ghost use Rattle.std.specs.Prelude.{ℕ, List, Option};
@@ -21,8 +23,8 @@ ghost use Rattle.rz_events.specs.declared.nodes.NodeAsk.TheVariants as ask;
 ghost use Rattle.rz_events.specs.declared.tree.TreeCall.{TreeCall as ATreeCall};
 ghost use Rattle.rz_events.specs.declared.export.Call.TheVariants as call;
 ghost use Rattle.rz_events.specs.declared.events.Event.{Event as AnEvent};
-ghost use Rattle.rz_core.specs.Legal.{IsLocal};
-ghost use Rattle.rz_core.specs.Longer.{IsPermanent, IsPrefixLegal};
+ghost use Rattle.rz_core.specs.Legal.{IsLocal, IsLocalInRuns};
+ghost use Rattle.rz_core.specs.Longer.{IsNextRun, IsPermanent, IsPrefixLegal, IsPrefixLegalInRuns, IsRun};
 ghost use Rattle.rz_core.specs.Tied.{IsExportLaw, IsExportLawOf, IsNodeLaw, IsNodeLawOf};
 
 /// What is allowed stays allowed, whatever others do: a later history of the same facts allows an
@@ -32,9 +34,29 @@ pub fn local()
     ensures { (v : Volume) → IsLocal v }
 {}
 
+/// The same in the log of several runs.
+pub fn local_in_runs()
+    ensures { (v : Volume) → IsLocalInRuns v }
+{}
+
 /// The beginnings of a legal log are legal.
 pub fn beginnings()
     ensures { (v : Volume) → IsPrefixLegal v }
+{}
+
+/// The same of the log of several runs.
+pub fn beginnings_in_runs()
+    ensures { (v : Volume) → IsPrefixLegalInRuns v }
+{}
+
+/// A legal log is the log of one run: what holds of the logs of any number of runs holds of it.
+pub fn one_run()
+    ensures { (v : Volume) → IsRun v }
+{}
+
+/// A run that goes on after the log of any number of runs makes the log of one run more.
+pub fn next_run()
+    ensures { (v : Volume) → IsNextRun v }
 {}
 
 /// A permanent fact that stands in a log stands unchanged in every longer one.

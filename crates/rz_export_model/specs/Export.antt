@@ -64,8 +64,8 @@ abbrev pub published_of : Blocks → Key → Option Published
 published_of blocks key = option_and_then (λ b. b.published) (maps.get blocks key)
 
 -- the stamp that is published, or 0
-abbrev pub base_of : Blocks → Key → ℕ
-base_of blocks key = option_map_or (λ p. p.stamp) (published_of blocks key) 0
+abbrev pub published_stamp : Blocks → Key → ℕ
+published_stamp blocks key = option_map_or (λ p. p.stamp) (published_of blocks key) 0
 
 -- the keys with `key` prepared
 abbrev pub prepared : Blocks → Key → Blocks
@@ -152,9 +152,12 @@ next_on s node after = first_listed s after (is_on node)
 abbrev pub unknown_file : Export → Key → Option Denial
 unknown_file s key = given_if (is_none (file_of s.tree key.fid)) denial.UnknownFile
 
--- a file has 1,048,576 blocks
+-- a file has so many blocks
+abbrev pub file_blocks : ℕ
+file_blocks = 1048576
+
 abbrev pub too_far : Key → Option Denial
-too_far key = given_if (nat_le 1048576 key.block) denial.BlockTooFar
+too_far key = given_if (nat_le file_blocks key.block) denial.BlockTooFar
 
 -- the last number drawn is the greatest one
 abbrev pub spent : Export → Option Denial
@@ -247,7 +250,7 @@ is_proper s (call.Recheck key) = true
 abbrev pub export_reply : Export → Call → Reply
 export_reply s (call.Tree c) = reply.Tree (reply_to s.tree (new_places s).cid (new_places s).places c)
 export_reply s (call.Begin key text) =
-    option_map_or reply.Denied (no_begin s key) (reply.Begun (s.last + 1) (base_of s.blocks key))
+    option_map_or reply.Denied (no_begin s key) (reply.Begun (s.last + 1) (published_stamp s.blocks key))
 export_reply s (call.Publish key stamp mask length) = unwrap_or (no_publish s key stamp mask) reply.Accepted
 export_reply s (call.Look key) =
     option_map_or reply.Denied (no_look s key) (reply.Looked (published_of s.blocks key))
