@@ -1,4 +1,4 @@
 pub mod Fits
-pub mod Peeling
-pub mod Sweep
+pub mod Rows
+pub mod Series
 pub mod Store

@@ -1,12 +1,24 @@
-//! A block from its projections: a `Work` takes as many projections as the block has rows, at distinct
-//! angles in any order, and `solve` finds the one block that has them. The contracts say that `solve`
-//! answers Ok exactly where some block fits, and that the block it gives is the only one that does. They
-//! do not say in which order the words are found, nor how long it takes.
+//! Blocks from their projections.
+//!
+//! A `Work` takes as many projections as the block has rows, at distinct angles in any order, and `solve`
+//! finds the one block that has them. A `WorkEight` does so for eight blocks side by side. The contracts
+//! say that `solve` answers well exactly where some block fits, and that the block it gives is the only
+//! one that does. They do not say in which order the words are found, nor how long it takes.
+//!
+//! A projection at the angle `p` is the value of a polynomial whose coefficients are the rows, moved by
+//! `p` places for each row. So the rows are found by divided differences, as Newton did with numbers:
+//! two projections are added, and divided by what their angles differ in, which is a running exclusive
+//! or. The rows are then put together from the quotients. A remainder anywhere says that no block fits.
 #![tactic(auto)]
 
-mod sweep;
+mod eight;
+mod invert;
+mod run;
+mod series;
+mod store;
 mod work;
 
+pub use eight::WorkEight;
 pub use work::{Inconsistent, Work};
 
 #[cfg(test)]

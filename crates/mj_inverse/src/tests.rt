@@ -1,10 +1,12 @@
+//! Blocks that come back, and bins that no block has.
+
 ghost use Rattle.std.specs.Prelude.{◌≡◌, ◌≢◌, ◌≤◌, ◌<◌, ℕ, pos, length, slice_index_or, unsigned_abs, IfOk, IsTrue, vec_len};
 ghost use Rattle.rz_words.specs.Grid.{IsShape};
 ghost use Rattle.mj_angles.specs.Projection.{bins as bin_count};
 ghost use Rattle.mj_inverse.specs.Fits.{empty_search};
 
 use super::*;
-use mj_angles::{Layout, bins, row_start};
+use mj_angles::{bins, row_start};
 use rz_words::Block;
 use std::alloc::{AllocError, Global};
 use std::process::Abort;
@@ -106,33 +108,34 @@ fn one_column(rt: HostRuntime) -> Result<(), Fail> {
     Ok(())
 }
 
-/// Every set of as many positions as are enough gives back a block of each layout, whatever the order
-/// in which the projections come. Among them are the first and the last positions alone.
+/// The widest angles of layout 2, on the left and on the right.
 #[test]
-fn every_set(rt: HostRuntime) -> Result<(), Fail> {
-    let layouts = [
-        Layout::L0,
-        Layout::L0B1,
-        Layout::L0B2,
-        Layout::L0B3,
-        Layout::L1,
-        Layout::L1B1,
-        Layout::L1B2,
-        Layout::L1B3,
-        Layout::L2,
-        Layout::L2B1,
-        Layout::L2B2,
-        Layout::L2B3,
-    ];
-    for layout in layouts {
-        let sets = every_set_of(&rt, rt.alloc(), layout)?;
-        let want = match layout.inverse() {
-            2 => 6,
-            4 => 70,
-            _ => 12870,
-        };
-        assert_eq!(rt; sets, want);
+fn extremes(rt: HostRuntime) -> Result<(), Fail> {
+    let block = counted(rt.alloc(), 8, 64)?;
+    let mut work = Work::new(rt.alloc(), 8, 64)?;
+    let mut out = Block::zero(rt.alloc(), 8, 64)?;
+    let mut all = Vec::new(rt.alloc());
+    for p in -16i32..17 {
+        all.push(sums(rt.alloc(), &block, p)?)?;
     }
+    let left = [-8, -7, -6, -5, -4, -3, -2, -1];
+    comes_back(&rt, &mut work, &mut out, &block, &left, &all);
+    let right = [7, 6, 5, 4, 3, 2, 1, 0];
+    comes_back(&rt, &mut work, &mut out, &block, &right, &all);
+    Ok(())
+}
+
+/// One bit of one bin of block 3 of eight is altered.
+#[test]
+fn one_of_eight(rt: HostRuntime) -> Result<(), Fail> {
+    let mut work = WorkEight::new(rt.alloc(), 2, 256)?;
+    let mut bins = vec![in rt.alloc(); 0u64; 2064]?;
+    let mut out = vec![in rt.alloc(); 9u64; 4096]?;
+    bins[3] = 1;
+    work.add(-2, &bins);
+    work.add(-1, &bins[8..]);
+    assert_eq!(rt; work.solve(&mut out), 8);
+    assert_eq!(rt; out[4095], 0);
     Ok(())
 }
 
@@ -159,53 +162,4 @@ fn comes_back(
     add_all(rt, work, rows, cols, angles, all);
     assert_eq!(rt; work.solve(out), Ok(()));
     assert_eq!(rt; out.words(), block.words());
-}
-
-/// Inverts a block from each set of positions of this layout, and answers how many sets there are.
-fn every_set_of(rt: &impl Abort, alloc: Global, layout: Layout) -> Result<usize, AllocError> {
-    let rows = layout.inverse();
-    let cols = layout.cols();
-    let block = counted(alloc, rows, cols)?;
-    let mut work = Work::new(alloc, rows, cols)?;
-    let mut out = Block::zero(alloc, rows, cols)?;
-    let mut all = Vec::new(alloc);
-    for p in -16i32..17 {
-        assert!(rt; p.unsigned_abs() <= 16);
-        let bins = sums(alloc, &block, p)?;
-        all.push(bins)?;
-    }
-    let angles = Vec::with_capacity(alloc, rows)?;
-    try_sets(rt, &mut work, &mut out, &block, layout, &all, angles)
-}
-
-/// Inverts the block from each set of positions of this layout, and answers how many sets there are.
-fn try_sets(
-    rt: &impl Abort,
-    work: &mut Work,
-    out: &mut Block,
-    block: &Block,
-    layout: Layout,
-    all: &[Vec<u64>],
-    mut angles: Vec<i32>,
-) -> Result<usize, AllocError>
-    requires empty { work.old ≡ empty_search block.now.rows block.now.cols }
-    requires rows { out.old.rows ≡ block.now.rows }
-    requires cols { out.old.cols ≡ block.now.cols }
-{
-    let mut sets = 0;
-    for mask in 0u32..65536 {
-        if mask >> layout.safe() == 0 && mask.count_ones() as usize == layout.inverse() {
-            angles.clear();
-            for i in 0..layout.safe() {
-                // Each set in an order of its own.
-                let position = (i * 5 + mask as usize) % 16 % layout.safe();
-                if mask >> position & 1 == 1 {
-                    angles.push(layout.angle(position as u8))?;
-                }
-            }
-            comes_back(rt, work, out, block, &angles, all);
-            sets += 1;
-        }
-    }
-    Ok(sets)
 }

@@ -4,9 +4,9 @@ ghost use Rattle.std.specs.Prelude.{◌≡◌, ◌≢◌, ◌≤◌, ◌<◌, �
 ghost use Rattle.rz_words.specs.Grid.{IsShape, Grid};
 ghost use Rattle.mj_angles.specs.Projection.{bins as bin_count};
 ghost use Rattle.mj_inverse.specs.Fits.{IsFound, empty_search, with_pair};
-ghost use Rattle.mj_inverse.specs.Store.{pasted};
 
-use crate::sweep::Sweep;
+use crate::series::Series;
+use crate::store::{blanks, put_at, solve_all, wipe_all};
 use rz_words::Block;
 use std::alloc::{AllocError, Global};
 use std::marker::Model;
@@ -17,22 +17,24 @@ use std::marker::Model;
 /// which they were added.
 #[derive(Drop)]
 pub struct Work {
-    sweep: Sweep,
-    bins: Vec<u64>,
+    rows: usize,
+    cols: usize,
+    count: usize,
+    all: Vec<Series>,
+    marks: Vec<u64>,
     words: Vec<u64>,
 }
 
 impl Model for Work {
     ghost use Rattle.std.specs.Prelude.{◌≡◌, ◌*◌, vec_len};
     ghost use Rattle.mj_inverse.specs.Fits.{Search};
-    ghost use Rattle.mj_inverse.specs.Sweep.{IsSweep};
-    ghost use Rattle.mj_inverse.specs.Store.{search_in};
+    ghost use Rattle.mj_inverse.specs.Store.{IsStore, search_in};
 
     ghost Value = { Search };
 
-    ghost view = { λ w. search_in w.sweep w.bins.items };
+    ghost view = { λ w. search_in 1 w.rows w.cols w.count w.all.items };
 
-    ghost invariant = { λ w. IsSweep w.sweep × (vec_len w.bins ≡ w.sweep.rows * w.sweep.stride) × (vec_len w.words ≡ w.sweep.rows * w.sweep.cols) };
+    ghost invariant = { λ w. IsStore 1 w.rows w.cols w.count w.all.items × (vec_len w.marks ≡ 1) × (vec_len w.words ≡ w.rows * w.cols) };
 }
 
 /// No block has the projections.
@@ -45,17 +47,28 @@ impl Work {
         requires { IsShape rows cols }
         ensures { IfOk result (λ w. w ≡ empty_search rows cols) }
     {
-        let sweep = Sweep::new(alloc, rows, cols)?;
-        let bins = vec![in alloc; 0u64; rows * sweep.stride]?;
+        let all = blanks(alloc, rows, cols, 1)?;
+        let marks = vec![in alloc; 0u64; 1]?;
         let words = vec![in alloc; 0u64; rows * cols]?;
-        Ok(Work { sweep, bins, words })
+        Ok(Work {
+            rows,
+            cols,
+            count: 0,
+            all,
+            marks,
+            words,
+        })
     }
 
     /// Forgets all projections.
     pub fn clear(&mut self)
         ensures { self.new ≡ empty_search self.old.rows self.old.cols }
     {
-        self.sweep.clear()
+        let rows = self.rows;
+        let cols = self.cols;
+        let count = self.count;
+        wipe_all(&mut self.all, count, 1, rows, cols);
+        self.count = 0;
     }
 
     /// Adds the projection at the angle `p`, at which none was added yet. The order of the angles is free.
@@ -66,8 +79,11 @@ impl Work {
         requires size { length bins.now ≡ bin_count p self.old.rows self.old.cols }
         ensures { self.new ≡ with_pair self.old p bins.now }
     {
-        let place = self.sweep.add(p);
-        store(&mut self.bins, place, bins);
+        let rows = self.rows;
+        let cols = self.cols;
+        let count = self.count;
+        put_at(&mut self.all, count, p, rows, cols, 1, bins);
+        self.count = count + 1;
     }
 
     /// Writes the one block that has the projections, which are as many as rows, and forgets them all.
@@ -86,21 +102,21 @@ impl Work {
         ensures cols { out.new.cols ≡ out.old.cols }
         ensures clear { self.new ≡ empty_search self.old.rows self.old.cols }
     {
-        let found = self.sweep.solve(&mut self.bins, &mut self.words);
-        self.sweep.clear();
-        if !found {
+        let rows = self.rows;
+        let cols = self.cols;
+        solve_all(
+            &mut self.all,
+            rows,
+            cols,
+            1,
+            &mut self.words,
+            &mut self.marks,
+        );
+        self.count = 0;
+        if self.marks[0] != 0 {
             return Err(Inconsistent);
         }
         out.swap_words(&mut self.words);
         Ok(())
     }
-}
-
-/// Writes `words` into `all` from place `from` on.
-fn store(all: &mut Vec<u64>, from: usize, words: &[u64])
-    requires { from + length words.now ≤ vec_len all.old }
-    ensures items { all.new.items ≡ pasted all.old.items from words.now }
-    ensures len { vec_len all.new ≡ vec_len all.old }
-{
-    all[from..from + words.len()].copy_from_slice(words);
 }

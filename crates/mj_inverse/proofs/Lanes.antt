@@ -1,0 +1,134 @@
+-- The words of one block of `unit` that stand side by side.
+use Rattle.std.proofs.Common.{◌≡◌, ℕ, ◌+◌, ◌-◌, ◌*◌, ◌<◌, ◌≤◌, min, max, sym, ap, ◌∙◌, arith, ◌⊎◌, inl, inr}
+use Rattle.std.specs.Prelude.{bit_xor}
+use Rattle.std.proofs.lemmas.Bool.{cases_lt}
+use mathlib.Core.Path.{fun_ext}
+use Rattle.mj_inverse.specs.Rows.{plus, times, IsFinite}
+use Rattle.mj_inverse.proofs.Places.{IsRun, IsAdded, from_place, run_exact, run_spent, times_of}
+use Rattle.mj_inverse.proofs.Taken.{place_below, place_le}
+
+abbrev pub lane : ℕ → ℕ → (ℕ → ℕ) → ℕ → ℕ
+lane unit j xs t = xs (unit * t + j)
+
+span : (unit at from d : ℕ) → unit * at + (unit * (from + d) - unit * from) ≡ unit * (at + d)
+span unit at from d = omega arith
+
+-- as many words as lie between two places
+pub place_span : (unit at from to : ℕ) → from ≤ to → unit * at + (unit * to - unit * from) ≡ unit * (at + (to - from))
+place_span unit at from to h =
+    let e : to ≡ from + (to - from) = omega arith in
+    ap (λ n. unit * at + (unit * n - unit * from)) e ∙ span unit at from (to - from)
+
+-- what a running exclusive or over the words of all blocks gives
+pub record IsFlatRun (unit : ℕ) (xs ys zs : ℕ → ℕ) (f t at s : ℕ) : Type 0 where
+  pub first : (k : ℕ) → unit * f + k < unit * t → k < unit * s → zs (unit * f + k) ≡ bit_xor (xs (unit * f + k)) (ys (unit * at + k))
+  pub next : (k : ℕ) → unit * f + (k + unit * s) < unit * t →
+      zs (unit * f + (k + unit * s)) ≡ bit_xor (bit_xor (xs (unit * f + (k + unit * s))) (ys (unit * at + (k + unit * s)))) (zs (unit * f + k))
+  pub below : (i : ℕ) → i < unit * f → zs i ≡ xs i
+  pub above : (i : ℕ) → unit * t ≤ i → zs i ≡ xs i
+
+-- what holds of the places
+pub record IsSpan (unit : ℕ) (xs ys : ℕ → ℕ) (o p f t a s : ℕ) : Type 0 where
+  pub low : o + a ≤ f
+  pub order : f ≤ t
+  pub stride : 0 < s
+  pub x_below : (k j : ℕ) → k < f → j < unit → xs (unit * k + j) ≡ 0
+  pub x_above : (k j : ℕ) → t ≤ k → j < unit → xs (unit * k + j) ≡ 0
+  pub y_below : (e j : ℕ) → o + e < f → j < unit → ys (unit * (p + e) + j) ≡ 0
+  pub y_above : (e j : ℕ) → t ≤ o + e → j < unit → ys (unit * (p + e) + j) ≡ 0
+
+at_index : (zs : ℕ → ℕ) (i j : ℕ) → i ≡ j → zs i ≡ zs j
+at_index zs i j h = ap zs h
+
+pub lane_run : (unit j : ℕ) (xs ys zs : ℕ → ℕ) (o p f t a s : ℕ) → j < unit → IsSpan unit xs ys o p f t a s → IsFlatRun unit xs ys zs f t (p + (f - o)) s →
+    IsRun (lane unit j xs) (lane unit j ys) (lane unit j zs) o p f t a s
+lane_run unit j xs ys zs o p f t a s h span run = record {
+  low = span.low;
+  order = span.order;
+  stride = span.stride;
+  x_below = λ k l. span.x_below k j l h;
+  x_above = λ k l. span.x_above k j l h;
+  y_below = λ e l. span.y_below e j l h;
+  y_above = λ e l. span.y_above e j l h;
+  first = λ k near small.
+      let n : ℕ = unit * k + j in
+      let at : ℕ = p + (f - o) in
+      let in_range = place_below unit (f + k) j t h near in
+      let in_row = place_below unit k j s h small in
+      let x : unit * f + n ≡ unit * (f + k) + j = omega arith in
+      let y : unit * at + n ≡ unit * (at + k) + j = omega arith in
+      at_index zs (unit * (f + k) + j) (unit * f + n) (sym x) ∙ run.first n (omega arith) in_row
+      ∙ ap (λ i. bit_xor (xs i) (ys (unit * at + n))) x ∙ ap (λ i. bit_xor (xs (unit * (f + k) + j)) (ys i)) y;
+  next = λ k near.
+      let n : ℕ = unit * k + j in
+      let at : ℕ = p + (f - o) in
+      let in_range = place_below unit (f + (k + s)) j t h near in
+      let x : unit * f + (n + unit * s) ≡ unit * (f + (k + s)) + j = omega arith in
+      let y : unit * at + (n + unit * s) ≡ unit * (at + (k + s)) + j = omega arith in
+      let z : unit * f + n ≡ unit * (f + k) + j = omega arith in
+      at_index zs (unit * (f + (k + s)) + j) (unit * f + (n + unit * s)) (sym x) ∙ run.next n (omega arith)
+      ∙ ap (λ i. bit_xor (bit_xor (xs i) (ys (unit * at + (n + unit * s)))) (zs (unit * f + n))) x
+      ∙ ap (λ i. bit_xor (bit_xor (xs (unit * (f + (k + s)) + j)) (ys i)) (zs (unit * f + n))) y
+      ∙ ap (λ i. bit_xor (bit_xor (xs (unit * (f + (k + s)) + j)) (ys (unit * (at + (k + s)) + j))) (zs i)) z;
+  below = λ k l. run.below (unit * k + j) (place_below unit k j f h l);
+  above = λ k l. run.above (unit * k + j) (let m = place_le unit t k l in omega arith);
+}
+
+-- ws are the words zs with zeros from place m to place t
+pub record IsCut (unit : ℕ) (zs ws : ℕ → ℕ) (m t : ℕ) : Type 0 where
+  pub zero : (k j : ℕ) → m ≤ k → k < t → j < unit → ws (unit * k + j) ≡ 0
+  pub below : (i : ℕ) → i < unit * m → ws i ≡ zs i
+  pub above : (i : ℕ) → unit * t ≤ i → ws i ≡ zs i
+
+-- a block with no other words there stays as it is
+pub lane_cut : (unit j : ℕ) (zs ws : ℕ → ℕ) (m t : ℕ) → j < unit → IsCut unit zs ws m t → ((k : ℕ) → m ≤ k → k < t → zs (unit * k + j) ≡ 0) →
+    (k : ℕ) → ws (unit * k + j) ≡ zs (unit * k + j)
+lane_cut unit j zs ws m t h cut zeros k = by (cases_lt k m) (cases_lt k t)
+  where
+    by : (k < m) ⊎ (m ≤ k) → (k < t) ⊎ (t ≤ k) → ws (unit * k + j) ≡ zs (unit * k + j)
+    by (inl l) _ = cut.below (unit * k + j) (place_below unit k j m h l)
+    by (inr l) (inl r) = cut.zero k j l r h ∙ sym (zeros k l r)
+    by (inr l) (inr r) = cut.above (unit * k + j) (let n = place_le unit t k r in omega arith)
+
+module _ (unit j : ℕ) (xs ys zs ws : ℕ → ℕ) (o p f t a s m q q' : ℕ) (h : j < unit) (span : IsSpan unit xs ys o p f t a s)
+    (run : IsFlatRun unit xs ys zs f t (p + (f - o)) s) (cut : IsCut unit zs ws m t) (down : a + s ≡ max q q') (less : a ≡ min q q') (end : m ≡ max (t - s) f) where
+  -- with no other words behind place m, it is divided
+  pub lane_exact : ((k : ℕ) → m ≤ k → k < t → zs (unit * k + j) ≡ 0) →
+      plus (from_place (lane unit j xs) o) (from_place (lane unit j ys) p) ≡ times q q' (from_place (lane unit j ws) (o + a))
+  lane_exact zeros =
+      run_exact (lane unit j xs) (lane unit j ys) (lane unit j zs) o p f t a s (lane_run unit j xs ys zs o p f t a s h span run) (λ k far near. zeros k (omega arith) near)
+      ∙ ap (times a (a + s)) (fun_ext (λ e. sym (lane_cut unit j zs ws m t h cut zeros (o + a + e))))
+      ∙ sym (times_of q q' a s (from_place (lane unit j ws) (o + a)) less (omega arith))
+
+  -- where it can be divided, there are no other words behind place m
+  pub lane_spent : (g : ℕ → ℕ) → IsFinite g → plus (from_place (lane unit j xs) o) (from_place (lane unit j ys) p) ≡ times q q' g →
+      (k : ℕ) → m ≤ k → k < t → zs (unit * k + j) ≡ 0
+  lane_spent g finite is k far near =
+      run_spent (lane unit j xs) (lane unit j ys) (lane unit j zs) o p f t a s (lane_run unit j xs ys zs o p f t a s h span run) g finite
+      (is ∙ times_of q q' a s g less (omega arith)) k (omega arith) near
+
+-- what an addition over the words of all blocks gives
+pub record IsFlatAdded (unit : ℕ) (xs ys zs : ℕ → ℕ) (at f t : ℕ) : Type 0 where
+  pub inside : (k : ℕ) → unit * f + k < unit * t → zs (unit * at + k) ≡ bit_xor (xs (unit * at + k)) (ys (unit * f + k))
+  pub below : (i : ℕ) → i < unit * at → zs i ≡ xs i
+  pub above : (i : ℕ) → unit * at + (unit * t - unit * f) ≤ i → zs i ≡ xs i
+
+pub lane_added : (unit j : ℕ) (xs ys zs : ℕ → ℕ) (o p u f t : ℕ) → j < unit → p ≤ f → f ≤ t →
+    ((k j : ℕ) → k < f → j < unit → ys (unit * k + j) ≡ 0) → ((k j : ℕ) → t ≤ k → j < unit → ys (unit * k + j) ≡ 0) →
+    IsFlatAdded unit xs ys zs (o + u + (f - p)) f t → IsAdded (lane unit j xs) (lane unit j ys) (lane unit j zs) o p u f t
+lane_added unit j xs ys zs o p u f t h low order y_below y_above add = record {
+  low = low;
+  order = order;
+  y_below = λ k l. y_below k j l h;
+  y_above = λ k l. y_above k j l h;
+  inside = λ k near.
+      let n : ℕ = unit * k + j in
+      let at : ℕ = o + u + (f - p) in
+      let in_range = place_below unit (f + k) j t h near in
+      let x : unit * at + n ≡ unit * (at + k) + j = omega arith in
+      let y : unit * f + n ≡ unit * (f + k) + j = omega arith in
+      at_index zs (unit * (at + k) + j) (unit * at + n) (sym x) ∙ add.inside n (omega arith)
+      ∙ ap (λ i. bit_xor (xs i) (ys (unit * f + n))) x ∙ ap (λ i. bit_xor (xs (unit * (at + k) + j)) (ys i)) y;
+  below = λ k l. add.below (unit * k + j) (place_below unit k j (o + u + (f - p)) h l);
+  above = λ k l. add.above (unit * k + j) (rw (place_span unit (o + u + (f - p)) f t order) (let m = place_le unit (o + u + (f - p) + (t - f)) k l in omega arith));
+}

@@ -1,0 +1,80 @@
+-- What each step keeps of the places.
+use Rattle.std.proofs.Common.{◌≡◌, ◌≢◌, ℕ, suc, refl, sym, ap, ◌∙◌, arith, List, [], ◌∷◌, length}
+use Rattle.mj_inverse.specs.declared.series.Series.{Series}
+use Rattle.mj_inverse.specs.Rows.{Every, Both, Differ}
+use Rattle.mj_inverse.specs.Series.{angle, IsAt, IsNext, SameRoom}
+
+pub next_room : (unit : ℕ) (p : Series) (xs ys : List Series) → Both (IsNext unit p) xs ys → Both SameRoom xs ys
+next_room unit p [] [] both = tt
+next_room unit p [] (y ∷ ys) both = absurd both
+next_room unit p (x ∷ xs) [] both = absurd both
+next_room unit p (x ∷ xs) (y ∷ ys) (n, both) = (n.room, next_room unit p xs ys both)
+
+pub next_length : (unit : ℕ) (p : Series) (xs ys : List Series) → Both (IsNext unit p) xs ys → length ys ≡ length xs
+next_length unit p [] [] both = refl
+next_length unit p [] (y ∷ ys) both = absurd both
+next_length unit p (x ∷ xs) [] both = absurd both
+next_length unit p (x ∷ xs) (y ∷ ys) (n, both) = ap suc (next_length unit p xs ys both)
+
+other_next : (unit a : ℕ) (p : Series) (xs ys : List Series) → Every (λ x. x.angle ≢ a) xs → Both (IsNext unit p) xs ys → Every (λ y. y.angle ≢ a) ys
+other_next unit a p [] [] differ both = tt
+other_next unit a p [] (y ∷ ys) differ both = absurd both
+other_next unit a p (x ∷ xs) [] differ both = absurd both
+other_next unit a p (x ∷ xs) (y ∷ ys) (ne, differ) (n, both) = (λ e. ne (sym n.angle ∙ e), other_next unit a p xs ys differ both)
+
+pub next_differ : (unit : ℕ) (p : Series) (xs ys : List Series) → Differ angle xs → Both (IsNext unit p) xs ys → Differ angle ys
+next_differ unit p [] [] differ both = tt
+next_differ unit p [] (y ∷ ys) differ both = absurd both
+next_differ unit p (x ∷ xs) [] differ both = absurd both
+next_differ unit p (x ∷ xs) (y ∷ ys) (ne, differ) (n, both) = (
+  other_next unit y.angle p xs ys (moved xs ne) both,
+  next_differ unit p xs ys differ both,
+)
+  where
+    moved : (xs : List Series) → Every (λ z. angle z ≢ angle x) xs → Every (λ z. z.angle ≢ y.angle) xs
+    moved [] d = tt
+    moved (z ∷ zs) (e, d) = (λ h. e (h ∙ n.angle), moved zs d)
+
+pub next_at : (unit n high most : ℕ) (p : Series) (xs ys : List Series) → IsAt unit (suc n) high most p → Every (IsAt unit (suc n) high most) xs →
+    Both (IsNext unit p) xs ys → Every (IsAt unit n high most) ys
+next_at unit n high most p [] [] at_p at both = tt
+next_at unit n high most p [] (y ∷ ys) at_p at both = absurd both
+next_at unit n high most p (x ∷ xs) [] at_p at both = absurd both
+next_at unit n high most p (x ∷ xs) (y ∷ ys) at_p (at_x, at) (m, both) = (
+  one,
+  next_at unit n high most p xs ys at_p at both,
+)
+  where
+    one : IsAt unit n high most y
+    one =
+        let a = at_x.low in
+        let b = at_x.reach in
+        let d = at_x.room in
+        let f = at_p.low in
+        let g = at_p.reach in
+        let i = m.from in
+        let j = m.origin in
+        let k = m.room in
+        let r = m.to in
+        let l = at_x.is.angle in
+        let o = at_p.is.angle in
+        let q = at_p.is.order in
+        record {
+          is = m.is;
+          low = omega arith;
+          reach = omega arith;
+          room = omega arith;
+        }
+
+pub same_room : (xs ys zs : List Series) → Both SameRoom xs ys → Both SameRoom ys zs → Both SameRoom xs zs
+same_room [] [] zs a b = b
+same_room [] (y ∷ ys) zs a b = absurd a
+same_room (x ∷ xs) [] zs a b = absurd a
+same_room (x ∷ xs) (y ∷ ys) [] a b = absurd b
+same_room (x ∷ xs) (y ∷ ys) (z ∷ zs) (a, as') (b, bs) = (b ∙ a, same_room xs ys zs as' bs)
+
+pub same_length : (xs ys : List Series) → Both SameRoom xs ys → length ys ≡ length xs
+same_length [] [] a = refl
+same_length [] (y ∷ ys) a = absurd a
+same_length (x ∷ xs) [] a = absurd a
+same_length (x ∷ xs) (y ∷ ys) (a, as') = ap suc (same_length xs ys as')

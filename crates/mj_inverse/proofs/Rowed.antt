@@ -1,0 +1,37 @@
+-- One row more is written out.
+use Rattle.std.proofs.Common.{◌≡◌, ℕ, suc, ◌+◌, ◌*◌, ◌<◌, ◌≤◌, sym, ap, ◌∙◌, arith, rules, ◌⊎◌, inl, inr, List, ◌∷◌, ◌++◌, length, get_or}
+use Rattle.std.proofs.lemmas.Bool.{cases_lt}
+use Rattle.std.proofs.lemmas.List.{places}
+use mathlib.Core.Path.{fun_ext}
+use Rattle.mj_inverse.specs.Rows.{raised, cut, block_rows}
+use Rattle.mj_inverse.proofs.Taken.{place_below}
+use Rattle.mj_inverse.proofs.Blocks.{cut_in, cut_out}
+
+pub cut-same : (cols : ℕ) (v w : ℕ → ℕ) → ((k : ℕ) → k < cols → v k ≡ w k) → cut cols v ≡ cut cols w
+cut-same cols v w same = fun_ext (λ k. by k (cases_lt k cols))
+  where
+    by : (k : ℕ) → (k < cols) ⊎ (cols ≤ k) → cut cols v k ≡ cut cols w k
+    by k (inl h) = cut_in cols v k h ∙ same k h ∙ sym (cut_in cols w k h)
+    by k (inr h) = cut_out cols v k h ∙ sym (cut_out cols w k h)
+
+front : (xs ys : List ℕ) (i : ℕ) → i < length xs → get_or (xs ++ ys) i 0 ≡ get_or xs i 0
+front xs ys i h = search (rules, places)
+
+back : (xs ys : List ℕ) (n i : ℕ) → length xs ≡ n → get_or (xs ++ ys) (n + i) 0 ≡ get_or ys i 0
+back xs ys n i h = search (rules, places)
+
+pub rows_more : (cols low n unit j : ℕ) (row others : List ℕ) → j < unit → length row ≡ unit * cols → (f : ℕ → ℕ) (fs : List (ℕ → ℕ)) →
+    f ≡ raised (low + 16 * (n + 1)) (cut cols (λ k. get_or row (unit * k + j) 0)) →
+    fs ≡ block_rows cols low n (λ i. get_or others (unit * i + j) 0) →
+    f ∷ fs ≡ block_rows cols low (suc n) (λ i. get_or (row ++ others) (unit * i + j) 0)
+rows_more cols low n unit j row others h long f fs first rest =
+    let a : low + 16 * (n + 1) ≡ low + 16 * suc n = omega arith in
+    let b : cut cols (λ k. get_or row (unit * k + j) 0) ≡ cut cols (λ i. get_or (row ++ others) (unit * i + j) 0) =
+    cut-same cols (λ k. get_or row (unit * k + j) 0) (λ i. get_or (row ++ others) (unit * i + j) 0)
+    (λ k l. sym (front row others (unit * k + j) (let m = place_below unit k j cols h l in omega arith))) in
+    let d : (λ i. get_or others (unit * i + j) 0) ≡ (λ i. get_or (row ++ others) (unit * (cols + i) + j) 0) =
+    fun_ext (λ i.
+    let e : unit * (cols + i) + j ≡ unit * cols + (unit * i + j) = omega arith in
+    sym (ap (λ x. get_or (row ++ others) x 0) e ∙ back row others (unit * cols) (unit * i + j) long)) in
+    ap (λ x. x ∷ fs) (first ∙ ap (λ x. raised x (cut cols (λ k. get_or row (unit * k + j) 0))) a ∙ ap (raised (low + 16 * suc n)) b)
+    ∙ ap (λ x. raised (low + 16 * suc n) (cut cols (λ i. get_or (row ++ others) (unit * i + j) 0)) ∷ x) (rest ∙ ap (block_rows cols low n) d)

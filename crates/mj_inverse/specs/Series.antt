@@ -1,0 +1,64 @@
+-- A projection, or what is left of one, in a list of words: `unit` blocks stand side by side, and each place has a word of each.
+use Rattle.std.specs.Prelude.{◌≡◌, ℕ, ◌+◌, ◌-◌, ◌*◌, ◌≤◌, ◌<◌, min, max, List, slice_index, vec_len}
+use Rattle.mj_inverse.specs.declared.series.Series.{Series}
+
+-- the words of block j, from place `origin` on
+abbrev pub seq : ℕ → ℕ → Series → ℕ → ℕ
+seq unit j s e = slice_index s.words.items (unit * (s.origin + e) + j)
+
+abbrev pub angle : Series → ℕ
+angle s = s.angle
+
+-- only the places from `from` to `to` may hold words other than zero
+pub record IsSeries (unit : ℕ) (s : Series) : Type 0 where
+  pub some : 0 < unit
+  pub angle : s.angle ≤ 32
+  pub order : s.from ≤ s.to
+  pub within : s.to ≤ s.room
+  pub room : vec_len s.words ≡ unit * s.room
+  pub below : (t j : ℕ) → t < s.from → j < unit → slice_index s.words.items (unit * t + j) ≡ 0
+  pub above : (t j : ℕ) → s.to ≤ t → j < unit → slice_index s.words.items (unit * t + j) ≡ 0
+
+-- so many more angles may be divided out, and so many places are used
+pub record IsAt (unit n high most : ℕ) (s : Series) : Type 0 where
+  pub is : IsSeries unit s
+  pub low : s.origin + 32 * n ≤ s.from
+  pub reach : s.to ≤ s.origin + high
+  pub room : s.origin + most + 32 * n ≤ s.room
+
+-- the two series can be brought together
+pub record Meet (unit : ℕ) (x y : Series) : Type 0 where
+  pub first : IsSeries unit x
+  pub second : IsSeries unit y
+  pub first_low : x.origin + 32 ≤ x.from
+  pub second_low : y.origin + 32 ≤ y.from
+  pub first_room : x.origin + y.to ≤ y.origin + x.room
+  pub second_room : y.origin + x.to ≤ x.origin + y.room
+
+-- a row of the block that comes out
+pub record IsWide (unit high most : ℕ) (s : Series) : Type 0 where
+  pub is : IsSeries unit s
+  pub low : s.origin ≤ s.from
+  pub reach : s.to ≤ s.origin + high
+  pub room : s.origin + most ≤ s.room
+
+-- y is x after the angle of p was divided out, with or without a remainder
+pub record IsNext (unit : ℕ) (p x y : Series) : Type 0 where
+  pub is : IsSeries unit y
+  pub angle : y.angle ≡ x.angle
+  pub room : y.room ≡ x.room
+  pub origin : y.origin ≡ x.origin + min x.angle p.angle
+  pub from : y.from ≡ min x.from (x.origin + (p.from - p.origin))
+  pub to : y.to ≤ max x.to (x.origin + (p.to - p.origin))
+
+abbrev pub SameRoom : Series → Series → Type 0
+SameRoom x y = y.room ≡ x.room
+
+-- blocks that were not marked before are not marked now
+abbrev pub IsUnmarked : List ℕ → ℕ → Type 0
+IsUnmarked bad j = slice_index bad j ≡ 0
+
+-- all words are zero
+pub record IsBlank (unit : ℕ) (s : Series) : Type 0 where
+  pub room : vec_len s.words ≡ unit * s.room
+  pub zero : (i : ℕ) → slice_index s.words.items i ≡ 0

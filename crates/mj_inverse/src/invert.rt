@@ -1,0 +1,143 @@
+//! The inversion: one angle after the other is divided out, and the rows are put together on the way back.
+
+ghost use Rattle.std.specs.Prelude.{◌≡◌, ◌≢◌, ◌≤◌, ◌<◌, ◌+◌, ◌-◌, ◌*◌, ◌^◌, ℕ, List, ◌∷◌, length, map, slice_index};
+ghost use Rattle.mj_inverse.specs.Rows.{joined, IsFinite, Every, Both, HaveValues, Differ, IsDividedOut, Divides, block_rows};
+ghost use Rattle.mj_inverse.specs.Series.{seq, angle as angle_of, IsAt, IsWide, IsNext, IsUnmarked, IsBlank, SameRoom, Meet};
+
+use crate::series::Series;
+
+/// Divides the angle of `by` out of each of `rest`. Marks the blocks where something remains.
+fn divide_all(rest: &mut [Series], by: &Series, unit: usize, bad: &mut [u64])
+    requires meet { Every (λ s. Meet unit s by.now) rest.old }
+    requires differ { Every (λ s. s.angle ≢ by.now.angle) rest.old }
+    requires blocks { length bad.old ≡ unit }
+    ensures next { Both (IsNext unit by.now) rest.old rest.new }
+    ensures exact { (j : ℕ) → j < unit → IsUnmarked bad.new j →
+        IsUnmarked bad.old j × Both (IsDividedOut angle_of (seq unit j) by.now) rest.old rest.new }
+    ensures divides { (j : ℕ) → j < unit → IsUnmarked bad.old j → Every (Divides angle_of (seq unit j) by.now) rest.old → IsUnmarked bad.new j }
+{
+    match rest.split_first_mut() {
+        None => {}
+        Some((first, others)) => {
+            first.divide_out(by, unit, bad);
+            divide_all(others, by, unit, bad);
+        }
+    }
+}
+
+/// Puts the rows `rest` and a projection of all rows at the angle `angle` together.
+fn join(
+    first: &mut Series,
+    rest: &mut [Series],
+    angle: usize,
+    unit: usize,
+    high: usize,
+    most: usize,
+)
+    requires first { IsWide unit high most first.old }
+    requires rest { Every (IsWide unit high most) rest.old }
+    requires angle { angle ≤ 32 }
+    requires room { high + 32 ≤ most }
+    requires limit { most < 2 ^ 32 }
+    ensures rows { (j : ℕ) → j < unit → map (seq unit j) (first.new ∷ rest.new) ≡ joined angle (seq unit j first.old) (map (seq unit j) rest.old) }
+    ensures first { IsWide unit (high + 32) most first.new }
+    ensures rest { Every (IsWide unit (high + 32) most) rest.new }
+    ensures same { Both SameRoom (first.old ∷ rest.old) (first.new ∷ rest.new) }
+{
+    match rest.split_first_mut() {
+        None => {}
+        Some((next, others)) => {
+            first.add_raised(next, angle, unit);
+            join(next, others, angle, unit, high, most);
+        }
+    }
+}
+
+/// Makes the rows of each block out of its projections, and marks the blocks that have none.
+pub fn invert(all: &mut [Series], unit: usize, bad: &mut [u64], high: usize, most: usize)
+    requires at { Every (IsAt unit (length all.old) high most) all.old }
+    requires differ { Differ angle_of all.old }
+    requires room { high + 32 * length all.old ≤ most }
+    requires limit { most < 2 ^ 32 }
+    requires blocks { length bad.old ≡ unit }
+    ensures wide { Every (IsWide unit (high + 32 * length all.old) most) all.new }
+    ensures same { Both SameRoom all.old all.new }
+    ensures values { (j : ℕ) → j < unit → IsUnmarked bad.new j →
+        IsUnmarked bad.old j × HaveValues angle_of (seq unit j) (map (seq unit j) all.new) all.old }
+    ensures complete { (j : ℕ) (fs : List (ℕ → ℕ)) → j < unit → IsUnmarked bad.old j → length fs ≡ length all.old → Every IsFinite fs →
+        HaveValues angle_of (seq unit j) fs all.old → IsUnmarked bad.new j × (fs ≡ map (seq unit j) all.new) }
+{
+    match all.split_first_mut() {
+        None => {}
+        Some((pivot, rest)) => {
+            divide_all(rest, pivot, unit, bad);
+            invert(rest, unit, bad, high, most);
+            let angle = pivot.angle;
+            join(pivot, rest, angle, unit, high + 32 * rest.len(), most);
+        }
+    }
+}
+
+/// Writes the rows into `out`, and makes all words of `all` zero. Marks the blocks whose rows have words outside their columns.
+fn give_rows(
+    all: &mut [Series],
+    low: usize,
+    cols: usize,
+    unit: usize,
+    out: &mut [u64],
+    bad: &mut [u64],
+    high: usize,
+    most: usize,
+)
+    requires wide { Every (IsWide unit high most) all.old }
+    requires room { low + 16 * length all.old + cols ≤ most }
+    requires limit { most < 2 ^ 32 }
+    requires blocks { length bad.old ≡ unit }
+    requires out { length out.old ≡ unit * (cols * length all.old) }
+    ensures blank { Every (IsBlank unit) all.new }
+    ensures same { Both SameRoom all.old all.new }
+    ensures rows { (j : ℕ) → j < unit → IsUnmarked bad.new j → IsUnmarked bad.old j ×
+        (map (seq unit j) all.old ≡ block_rows cols low (length all.old) (λ i. slice_index out.new (unit * i + j))) }
+    ensures fits { (j : ℕ) (w : ℕ → ℕ) → j < unit → IsUnmarked bad.old j → map (seq unit j) all.old ≡ block_rows cols low (length all.old) w →
+        IsUnmarked bad.new j }
+{
+    match all.split_first_mut() {
+        None => {}
+        Some((first, rest)) => {
+            let at = low + 16 * (rest.len() + 1);
+            let (row, others) = out.split_at_mut(unit * cols);
+            first.give_row(at, cols, unit, row, bad);
+            give_rows(rest, low, cols, unit, others, bad, high, most);
+        }
+    }
+}
+
+/// Writes the words of each block into `out`, and marks the blocks that no words fit.
+pub fn solve(
+    all: &mut [Series],
+    low: usize,
+    cols: usize,
+    unit: usize,
+    out: &mut [u64],
+    bad: &mut [u64],
+    high: usize,
+    most: usize,
+)
+    requires at { Every (IsAt unit (length all.old) high most) all.old }
+    requires differ { Differ angle_of all.old }
+    requires room { high + 32 * length all.old ≤ most }
+    requires columns { low + 16 * length all.old + cols ≤ most }
+    requires limit { most < 2 ^ 32 }
+    requires blocks { length bad.old ≡ unit }
+    requires unmarked { (j : ℕ) → j < unit → IsUnmarked bad.old j }
+    requires out { length out.old ≡ unit * (cols * length all.old) }
+    ensures blank { Every (IsBlank unit) all.new }
+    ensures same { Both SameRoom all.old all.new }
+    ensures exact { (j : ℕ) → j < unit → IsUnmarked bad.new j →
+        HaveValues angle_of (seq unit j) (block_rows cols low (length all.old) (λ i. slice_index out.new (unit * i + j))) all.old }
+    ensures complete { (j : ℕ) (w : ℕ → ℕ) → j < unit → HaveValues angle_of (seq unit j) (block_rows cols low (length all.old) w) all.old →
+        IsUnmarked bad.new j × (block_rows cols low (length all.old) w ≡ block_rows cols low (length all.old) (λ i. slice_index out.new (unit * i + j))) }
+{
+    invert(all, unit, bad, high, most);
+    give_rows(all, low, cols, unit, out, bad, high + 32 * all.len(), most);
+}

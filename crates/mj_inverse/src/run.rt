@@ -1,0 +1,249 @@
+//! The running exclusive or.
+
+ghost use Rattle.std.specs.Prelude.{◌≡◌, ◌≤◌, ◌<◌, ◌+◌, ◌-◌, ◌*◌, ℕ, length, slice_index, bit_xor, vec_len};
+
+use rz_lanes::xor_into;
+
+/// Adds `d` to `c`, and then to each word of `c` the word `step` places before it, in rising order.
+pub fn run(c: &mut [u64], d: &[u64], step: usize)
+    requires same { length c.old ≡ length d.now }
+    requires step { 0 < step }
+    ensures first { (k : ℕ) → k < length d.now → k < step → slice_index c.new k ≡ bit_xor (slice_index c.old k) (slice_index d.now k) }
+    ensures next { (k : ℕ) → k + step < length d.now →
+        slice_index c.new (k + step) ≡ bit_xor (bit_xor (slice_index c.old (k + step)) (slice_index d.now (k + step))) (slice_index c.new k) }
+{
+    if step == 1 {
+        run_one(c, d);
+    } else if step == 2 {
+        run_two(c, d);
+    } else if step == 3 {
+        run_three(c, d);
+    } else if !step.is_multiple_of(8) {
+        run_more(c, d, step);
+    } else {
+        run_rows(c, d, step);
+    }
+}
+
+/// `run` by one place: what was written last is kept apart.
+fn run_one(c: &mut [u64], d: &[u64])
+    requires { length c.old ≡ length d.now }
+    ensures first { (k : ℕ) → k < length d.now → k < 1 → slice_index c.new k ≡ bit_xor (slice_index c.old k) (slice_index d.now k) }
+    ensures next { (k : ℕ) → k + 1 < length d.now →
+        slice_index c.new (k + 1) ≡ bit_xor (bit_xor (slice_index c.old (k + 1)) (slice_index d.now (k + 1))) (slice_index c.new k) }
+{
+    let mut last = 0;
+    for t in 0..c.len() {
+        let word = c[t] ^ d[t] ^ last;
+        c[t] = word;
+        last = word;
+    }
+}
+
+/// `run` by two places.
+fn run_two(c: &mut [u64], d: &[u64])
+    requires { length c.old ≡ length d.now }
+    ensures first { (k : ℕ) → k < length d.now → k < 2 → slice_index c.new k ≡ bit_xor (slice_index c.old k) (slice_index d.now k) }
+    ensures next { (k : ℕ) → k + 2 < length d.now →
+        slice_index c.new (k + 2) ≡ bit_xor (bit_xor (slice_index c.old (k + 2)) (slice_index d.now (k + 2))) (slice_index c.new k) }
+{
+    let mut last = 0;
+    let mut second = 0;
+    for t in 0..c.len() {
+        let word = c[t] ^ d[t] ^ second;
+        c[t] = word;
+        second = last;
+        last = word;
+    }
+}
+
+/// `run` by three places.
+fn run_three(c: &mut [u64], d: &[u64])
+    requires { length c.old ≡ length d.now }
+    ensures first { (k : ℕ) → k < length d.now → k < 3 → slice_index c.new k ≡ bit_xor (slice_index c.old k) (slice_index d.now k) }
+    ensures next { (k : ℕ) → k + 3 < length d.now →
+        slice_index c.new (k + 3) ≡ bit_xor (bit_xor (slice_index c.old (k + 3)) (slice_index d.now (k + 3))) (slice_index c.new k) }
+{
+    let mut last = 0;
+    let mut second = 0;
+    let mut third = 0;
+    for t in 0..c.len() {
+        let word = c[t] ^ d[t] ^ third;
+        c[t] = word;
+        third = second;
+        second = last;
+        last = word;
+    }
+}
+
+/// `run` by more places, which are read again.
+fn run_more(c: &mut [u64], d: &[u64], step: usize)
+    requires same { length c.old ≡ length d.now }
+    requires step { 0 < step }
+    ensures first { (k : ℕ) → k < length d.now → k < step → slice_index c.new k ≡ bit_xor (slice_index c.old k) (slice_index d.now k) }
+    ensures next { (k : ℕ) → k + step < length d.now →
+        slice_index c.new (k + step) ≡ bit_xor (bit_xor (slice_index c.old (k + step)) (slice_index d.now (k + step))) (slice_index c.new k) }
+{
+    xor_into(c, d);
+    for t in step..c.len() {
+        c[t] ^= c[t - step];
+    }
+}
+
+/// `run` by eight places or more, row by row of `step` words, as vectors.
+fn run_rows(c: &mut [u64], d: &[u64], step: usize)
+    requires same { length c.old ≡ length d.now }
+    requires step { 0 < step }
+    ensures first { (k : ℕ) → k < length d.now → k < step → slice_index c.new k ≡ bit_xor (slice_index c.old k) (slice_index d.now k) }
+    ensures next { (k : ℕ) → k + step < length d.now →
+        slice_index c.new (k + step) ≡ bit_xor (bit_xor (slice_index c.old (k + step)) (slice_index d.now (k + step))) (slice_index c.new k) }
+{
+    xor_into(c, d);
+    let mut at = step;
+    while at < c.len() {
+        let end = if c.len() - at < step {
+            c.len()
+        } else {
+            at + step
+        };
+        add_row(c, at, end, step);
+        at = end;
+    }
+}
+
+/// Adds to the words from `at` to `end` those that stand `step` places before them.
+fn add_row(c: &mut [u64], at: usize, end: usize, step: usize)
+    requires low { step ≤ at }
+    requires order { at ≤ end }
+    requires short { end ≤ at + step }
+    requires within { end ≤ length c.old }
+    ensures inside { (k : ℕ) → at ≤ k + step → k + step < end → slice_index c.new (k + step) ≡ bit_xor (slice_index c.old (k + step)) (slice_index c.old k) }
+    ensures below { (k : ℕ) → k < at → slice_index c.new k ≡ slice_index c.old k }
+    ensures above { (k : ℕ) → end ≤ k → slice_index c.new k ≡ slice_index c.old k }
+{
+    let (before, now) = c.split_at_mut(at);
+    xor_into(&mut now[..end - at], &before[at - step..end - step]);
+}
+
+/// The same of as many words as lie from `from` to `to` in `words`, with those from `at` on in `by`.
+pub fn run_within(
+    words: &mut Vec<u64>,
+    from: usize,
+    to: usize,
+    by: &Vec<u64>,
+    at: usize,
+    step: usize,
+)
+    requires order { from ≤ to }
+    requires within { to ≤ vec_len words.old }
+    requires by { at + (to - from) ≤ vec_len by.now }
+    requires step { 0 < step }
+    ensures first { (k : ℕ) → from + k < to → k < step → slice_index words.new.items (from + k) ≡ bit_xor (slice_index words.old.items (from + k)) (slice_index by.now.items (at + k)) }
+    ensures next { (k : ℕ) → from + (k + step) < to → slice_index words.new.items (from + (k + step)) ≡
+        bit_xor (bit_xor (slice_index words.old.items (from + (k + step))) (slice_index by.now.items (at + (k + step)))) (slice_index words.new.items (from + k)) }
+    ensures below { (t : ℕ) → t < from → slice_index words.new.items t ≡ slice_index words.old.items t }
+    ensures above { (t : ℕ) → to ≤ t → slice_index words.new.items t ≡ slice_index words.old.items t }
+    ensures len { vec_len words.new ≡ vec_len words.old }
+{
+    run(&mut words[from..to], &by[at..at + (to - from)], step);
+}
+
+/// Adds the words from `at` to `end` of `by` to those from `from` on in `words`.
+pub fn add_within(words: &mut Vec<u64>, from: usize, by: &Vec<u64>, at: usize, end: usize)
+    requires order { at ≤ end }
+    requires by { end ≤ vec_len by.now }
+    requires within { from + (end - at) ≤ vec_len words.old }
+    ensures inside { (k : ℕ) → at + k < end → slice_index words.new.items (from + k) ≡ bit_xor (slice_index words.old.items (from + k)) (slice_index by.now.items (at + k)) }
+    ensures below { (t : ℕ) → t < from → slice_index words.new.items t ≡ slice_index words.old.items t }
+    ensures above { (t : ℕ) → from + (end - at) ≤ t → slice_index words.new.items t ≡ slice_index words.old.items t }
+    ensures len { vec_len words.new ≡ vec_len words.old }
+{
+    xor_into(&mut words[from..from + (end - at)], &by[at..end]);
+}
+
+/// Makes the words from place `from` to place `to` zero, and marks each block that had another word there.
+pub fn take_rest(words: &mut Vec<u64>, unit: usize, from: usize, to: usize, bad: &mut [u64])
+    requires order { from ≤ to }
+    requires within { unit * to ≤ vec_len words.old }
+    requires blocks { length bad.old ≡ unit }
+    ensures zero { (t j : ℕ) → from ≤ t → t < to → j < unit → slice_index words.new.items (unit * t + j) ≡ 0 }
+    ensures below { (i : ℕ) → i < unit * from → slice_index words.new.items i ≡ slice_index words.old.items i }
+    ensures above { (i : ℕ) → unit * to ≤ i → slice_index words.new.items i ≡ slice_index words.old.items i }
+    ensures len { vec_len words.new ≡ vec_len words.old }
+    ensures marked { (j : ℕ) → j < unit → slice_index bad.new j ≡ 0 →
+        (slice_index bad.old j ≡ 0) × ((t : ℕ) → from ≤ t → t < to → slice_index words.old.items (unit * t + j) ≡ 0) }
+    ensures unmarked { (j : ℕ) → j < unit → slice_index bad.old j ≡ 0 →
+        ((t : ℕ) → from ≤ t → t < to → slice_index words.old.items (unit * t + j) ≡ 0) → slice_index bad.new j ≡ 0 }
+{
+    for t in from..to {
+        take_place(words, unit, t, bad);
+    }
+}
+
+/// The same of one place.
+fn take_place(words: &mut Vec<u64>, unit: usize, t: usize, bad: &mut [u64])
+    requires within { unit * t + unit ≤ vec_len words.old }
+    requires blocks { length bad.old ≡ unit }
+    ensures zero { (j : ℕ) → j < unit → slice_index words.new.items (unit * t + j) ≡ 0 }
+    ensures below { (i : ℕ) → i < unit * t → slice_index words.new.items i ≡ slice_index words.old.items i }
+    ensures above { (i : ℕ) → unit * t + unit ≤ i → slice_index words.new.items i ≡ slice_index words.old.items i }
+    ensures len { vec_len words.new ≡ vec_len words.old }
+    ensures marked { (j : ℕ) → j < unit → slice_index bad.new j ≡ 0 →
+        (slice_index bad.old j ≡ 0) × (slice_index words.old.items (unit * t + j) ≡ 0) }
+    ensures unmarked { (j : ℕ) → j < unit → slice_index bad.old j ≡ 0 → slice_index words.old.items (unit * t + j) ≡ 0 → slice_index bad.new j ≡ 0 }
+{
+    take_group(&mut words[unit * t..unit * t + unit], bad);
+}
+
+/// Makes all words zero, and marks each place that had another word.
+fn take_group(group: &mut [u64], bad: &mut [u64])
+    requires { length bad.old ≡ length group.old }
+    ensures zero { (j : ℕ) → j < length group.old → slice_index group.new j ≡ 0 }
+    ensures marked { (j : ℕ) → j < length group.old → slice_index bad.new j ≡ 0 → (slice_index bad.old j ≡ 0) × (slice_index group.old j ≡ 0) }
+    ensures unmarked { (j : ℕ) → j < length group.old → slice_index bad.old j ≡ 0 → slice_index group.old j ≡ 0 → slice_index bad.new j ≡ 0 }
+{
+    for j in 0..group.len() {
+        if group[j] != 0 {
+            group[j] = 0;
+            bad[j] = 1;
+        }
+    }
+}
+
+/// Writes the words from place `from` to place `to` into `out`, and makes them zero.
+pub fn give_words(words: &mut Vec<u64>, from: usize, to: usize, out: &mut [u64])
+    requires order { from ≤ to }
+    requires within { to ≤ vec_len words.old }
+    requires room { from + length out.old ≡ to }
+    ensures out { (k : ℕ) → from + k < to → slice_index out.new k ≡ slice_index words.old.items (from + k) }
+    ensures zero { (i : ℕ) → from ≤ i → i < to → slice_index words.new.items i ≡ 0 }
+    ensures below { (i : ℕ) → i < from → slice_index words.new.items i ≡ slice_index words.old.items i }
+    ensures above { (i : ℕ) → to ≤ i → slice_index words.new.items i ≡ slice_index words.old.items i }
+    ensures len { vec_len words.new ≡ vec_len words.old }
+{
+    out.copy_from_slice(&words[from..to]);
+    words[from..to].fill(0);
+}
+
+/// Writes `bins` into `words` from place `from` on.
+pub fn put_words(words: &mut Vec<u64>, from: usize, bins: &[u64])
+    requires { from + length bins.now ≤ vec_len words.old }
+    ensures inside { (k : ℕ) → k < length bins.now → slice_index words.new.items (from + k) ≡ slice_index bins.now k }
+    ensures below { (i : ℕ) → i < from → slice_index words.new.items i ≡ slice_index words.old.items i }
+    ensures above { (i : ℕ) → from + length bins.now ≤ i → slice_index words.new.items i ≡ slice_index words.old.items i }
+    ensures len { vec_len words.new ≡ vec_len words.old }
+{
+    words[from..from + bins.len()].copy_from_slice(bins);
+}
+
+/// Makes the words from place `from` to place `to` zero.
+pub fn zero_words(words: &mut Vec<u64>, from: usize, to: usize)
+    requires order { from ≤ to }
+    requires within { to ≤ vec_len words.old }
+    ensures zero { (i : ℕ) → from ≤ i → i < to → slice_index words.new.items i ≡ 0 }
+    ensures below { (i : ℕ) → i < from → slice_index words.new.items i ≡ slice_index words.old.items i }
+    ensures above { (i : ℕ) → to ≤ i → slice_index words.new.items i ≡ slice_index words.old.items i }
+    ensures len { vec_len words.new ≡ vec_len words.old }
+{
+    words[from..to].fill(0);
+}

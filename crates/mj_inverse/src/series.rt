@@ -1,0 +1,174 @@
+//! A projection, or what is left of one.
+
+ghost use Rattle.std.specs.Prelude.{IfOk, ◌≡◌, ◌≢◌, ◌≤◌, ◌<◌, ◌+◌, ◌-◌, ◌*◌, ℕ, length, vec_len, slice_index, slice_range, unsigned_abs, min, max, bit_xor};
+ghost use Rattle.mj_inverse.specs.Rows.{plus, raised, times, cut, IsFinite};
+ghost use Rattle.rz_words.specs.Grid.{IsShape};
+ghost use Rattle.mj_angles.specs.Projection.{bins as bin_count};
+ghost use Rattle.mj_angles.proofs.Order.{lifted};
+ghost use Rattle.mj_inverse.specs.Store.{IsSpare, IsGiven};
+ghost use Rattle.mj_inverse.specs.Series.{seq, IsSeries, IsNext, IsUnmarked, IsBlank, SameRoom, Meet};
+
+use crate::run::{add_within, give_words, put_words, run_within, take_rest, zero_words};
+use std::alloc::{AllocError, Global};
+
+/// The words of a sequence: place `origin` of the list holds its word number 0.
+#[derive(Drop)]
+pub struct Series {
+    /// The angle of the projection.
+    pub direction: i32,
+    /// The angle, raised so that it is none below zero.
+    pub angle: usize,
+    pub origin: usize,
+    /// All words before this place are zero.
+    pub from: usize,
+    /// All words from this place on are zero.
+    pub to: usize,
+    /// So many places there are.
+    pub room: usize,
+    pub words: Vec<u64>,
+}
+
+/// The angle, raised by 16.
+fn lifted_angle(p: i32) -> usize
+    requires { unsigned_abs p ≤ 16 }
+    ensures value { result ≡ lifted 16 p }
+    ensures small { result ≤ 32 }
+{
+    (p + 16) as usize
+}
+
+impl Series {
+    /// Blank, with room for a block of this size.
+    pub fn new(alloc: Global, rows: usize, cols: usize, unit: usize) -> Result<Series, AllocError>
+        requires shape { IsShape rows cols }
+        requires few { unit ≤ 8 }
+        ensures { IfOk result (IsSpare unit rows cols) }
+    {
+        let room = cols + 128 * rows + 40;
+        let words = vec![in alloc; 0u64; unit * room]?;
+        Ok(Series {
+            direction: 0,
+            angle: 0,
+            origin: 0,
+            from: 0,
+            to: 0,
+            room,
+            words,
+        })
+    }
+
+    /// Adds `by`, and divides by what the two angles differ in. Marks the blocks where something remains.
+    pub fn divide_out(&mut self, by: &Series, unit: usize, bad: &mut [u64])
+        requires meet { Meet unit self.old by.now }
+        requires differ { self.old.angle ≢ by.now.angle }
+        requires blocks { length bad.old ≡ unit }
+        ensures next { IsNext unit by.now self.old self.new }
+        ensures exact { (j : ℕ) → j < unit → IsUnmarked bad.new j → IsUnmarked bad.old j ×
+            (plus (seq unit j self.old) (seq unit j by.now) ≡ times self.old.angle by.now.angle (seq unit j self.new)) }
+        ensures divides { (j : ℕ) (h : ℕ → ℕ) → j < unit → IsUnmarked bad.old j → IsFinite h →
+            plus (seq unit j self.old) (seq unit j by.now) ≡ times self.old.angle by.now.angle h → IsUnmarked bad.new j }
+    {
+        let down = self.angle.min(by.angle);
+        let step = self.angle.max(by.angle) - down;
+        let from = self.from.min(self.origin + (by.from - by.origin));
+        let to = self.to.max(self.origin + (by.to - by.origin));
+        let at = by.origin + (from - self.origin);
+        run_within(
+            &mut self.words,
+            unit * from,
+            unit * to,
+            &by.words,
+            unit * at,
+            unit * step,
+        );
+        let end = to.saturating_sub(step).max(from);
+        take_rest(&mut self.words, unit, end, to, bad);
+        self.origin += down;
+        self.from = from;
+        self.to = end;
+    }
+
+    /// Adds `other`, moved up by `up` places.
+    pub fn add_raised(&mut self, other: &Series, up: usize, unit: usize)
+        requires is { IsSeries unit self.old }
+        requires other { IsSeries unit other.now }
+        requires low { other.now.origin ≤ other.now.from }
+        requires room { self.old.origin + up + other.now.to ≤ other.now.origin + self.old.room }
+        ensures is { IsSeries unit self.new }
+        ensures angle { self.new.angle ≡ self.old.angle }
+        ensures room { self.new.room ≡ self.old.room }
+        ensures origin { self.new.origin ≡ self.old.origin }
+        ensures from { self.new.from ≡ min self.old.from (self.old.origin + up + (other.now.from - other.now.origin)) }
+        ensures to { self.new.to ≡ max self.old.to (self.old.origin + up + (other.now.to - other.now.origin)) }
+        ensures sum { (j : ℕ) → j < unit → seq unit j self.new ≡ plus (seq unit j self.old) (raised up (seq unit j other.now)) }
+    {
+        let from = self.origin + up + (other.from - other.origin);
+        let to = from + (other.to - other.from);
+        add_within(
+            &mut self.words,
+            unit * from,
+            &other.words,
+            unit * other.from,
+            unit * other.to,
+        );
+        self.from = self.from.min(from);
+        self.to = self.to.max(to);
+    }
+
+    /// Writes the words from number `at` on into `out`, and makes all words zero. Marks the blocks that had other words.
+    pub fn give_row(
+        &mut self,
+        at: usize,
+        cols: usize,
+        unit: usize,
+        out: &mut [u64],
+        bad: &mut [u64],
+    )
+        requires is { IsSeries unit self.old }
+        requires low { self.old.origin ≤ self.old.from }
+        requires room { self.old.origin + at + cols ≤ self.old.room }
+        requires blocks { length bad.old ≡ unit }
+        requires out { length out.old ≡ unit * cols }
+        ensures blank { IsBlank unit self.new }
+        ensures same { SameRoom self.old self.new }
+        ensures row { (j : ℕ) → j < unit → IsUnmarked bad.new j → IsUnmarked bad.old j ×
+            (seq unit j self.old ≡ raised at (cut cols (λ k. slice_index out.new (unit * k + j)))) }
+        ensures fits { (j : ℕ) (w : ℕ → ℕ) → j < unit → IsUnmarked bad.old j → seq unit j self.old ≡ raised at (cut cols w) → IsUnmarked bad.new j }
+    {
+        let start = self.origin + at;
+        let end = start + cols;
+        take_rest(&mut self.words, unit, self.from.min(start), start, bad);
+        take_rest(&mut self.words, unit, end, self.to.max(end), bad);
+        give_words(&mut self.words, unit * start, unit * end, out);
+    }
+
+    /// Takes the bins of a projection at the angle `p`.
+    pub fn put(&mut self, p: i32, rows: usize, cols: usize, unit: usize, bins: &[u64])
+        requires spare { IsSpare unit rows cols self.old }
+        requires some { 0 < unit }
+        requires shape { IsShape rows cols }
+        requires small { unsigned_abs p ≤ 16 }
+        requires size { length bins.now ≡ unit * bin_count p rows cols }
+        ensures given { IsGiven unit rows cols self.new }
+        ensures direction { self.new.direction ≡ p }
+        ensures bins { slice_range self.new.words.items (unit * self.new.from) (unit * self.new.to) ≡ bins.now }
+    {
+        let from = 48 * rows - mj_angles::offset(p, rows);
+        let to = from + mj_angles::bins(p, rows, cols);
+        put_words(&mut self.words, unit * from, bins);
+        self.direction = p;
+        self.angle = lifted_angle(p);
+        self.origin = 0;
+        self.from = from;
+        self.to = to;
+    }
+
+    /// Makes all words zero.
+    pub fn wipe(&mut self, unit: usize)
+        requires { IsSeries unit self.old }
+        ensures blank { IsBlank unit self.new }
+        ensures same { SameRoom self.old self.new }
+    {
+        zero_words(&mut self.words, unit * self.from, unit * self.to);
+    }
+}

@@ -1,0 +1,114 @@
+//! The series of a work: the first ones have a projection each, and the others are blank.
+
+ghost use Rattle.std.specs.Prelude.{◌≡◌, ◌≢◌, ◌≤◌, ◌<◌, ◌+◌, ◌*◌, ◌++◌, ◌∷◌, [], ℕ, IfOk, length, unsigned_abs, slice_index, vec_len};
+ghost use Rattle.rz_words.specs.Grid.{Grid, IsShape};
+ghost use Rattle.mj_angles.specs.Projection.{bins as bin_count};
+ghost use Rattle.mj_inverse.specs.Fits.{IsFound};
+ghost use Rattle.mj_inverse.specs.Rows.{Differ, Every, HaveValues, block_rows};
+ghost use Rattle.mj_inverse.specs.Series.{seq, angle as angle_of, IsUnmarked};
+ghost use Rattle.mj_inverse.specs.Store.{IsFilled, pairs_in, search_in, lane_search, lane_grid};
+
+use crate::invert::solve;
+use crate::series::Series;
+use std::alloc::{AllocError, Global};
+
+/// As many blank series as rows.
+pub fn blanks(
+    alloc: Global,
+    rows: usize,
+    cols: usize,
+    unit: usize,
+) -> Result<Vec<Series>, AllocError>
+    requires shape { IsShape rows cols }
+    requires few { unit ≤ 8 }
+    ensures { IfOk result (λ v. IsFilled unit rows cols 0 v.items × (length v.items ≡ rows)) }
+{
+    let mut all = Vec::with_capacity(alloc, rows)?;
+    for _i in 0..rows {
+        all.push(Series::new(alloc, rows, cols, unit)?)?;
+    }
+    Ok(all)
+}
+
+/// Makes the first `count` series blank.
+pub fn wipe_all(all: &mut [Series], count: usize, unit: usize, rows: usize, cols: usize)
+    requires { IsFilled unit rows cols count all.old }
+    ensures filled { IsFilled unit rows cols 0 all.new }
+    ensures len { length all.new ≡ length all.old }
+{
+    match all.split_first_mut() {
+        None => {}
+        Some((first, rest)) => {
+            if count > 0 {
+                first.wipe(unit);
+                wipe_all(rest, count - 1, unit, rows, cols);
+            }
+        }
+    }
+}
+
+/// Puts a projection at the angle `p` into series number `count`.
+pub fn put_at(
+    all: &mut [Series],
+    count: usize,
+    p: i32,
+    rows: usize,
+    cols: usize,
+    unit: usize,
+    bins: &[u64],
+)
+    requires filled { IsFilled unit rows cols count all.old }
+    requires room { count < length all.old }
+    requires some { 0 < unit }
+    requires shape { IsShape rows cols }
+    requires small { unsigned_abs p ≤ 16 }
+    requires size { length bins.now ≡ unit * bin_count p rows cols }
+    ensures filled { IsFilled unit rows cols (count + 1) all.new }
+    ensures pairs { pairs_in unit (count + 1) all.new ≡ pairs_in unit count all.old ++ (p, bins.now) ∷ [] }
+    ensures len { length all.new ≡ length all.old }
+{
+    match all.split_first_mut() {
+        None => {}
+        Some((first, rest)) => {
+            if count == 0 {
+                first.put(p, rows, cols, unit, bins);
+            } else {
+                put_at(rest, count - 1, p, rows, cols, unit, bins);
+            }
+        }
+    }
+}
+
+/// Writes the words of each block into `out`, and marks the blocks that no words fit.
+pub fn solve_all(
+    all: &mut [Series],
+    rows: usize,
+    cols: usize,
+    unit: usize,
+    out: &mut [u64],
+    bad: &mut [u64],
+)
+    requires filled { IsFilled unit rows cols rows all.old }
+    requires full { length all.old ≡ rows }
+    requires differ { Differ angle_of all.old }
+    requires shape { IsShape rows cols }
+    requires blocks { length bad.old ≡ unit }
+    requires out { length out.old ≡ unit * (rows * cols) }
+    ensures filled { IsFilled unit rows cols 0 all.new }
+    ensures len { length all.new ≡ length all.old }
+    ensures found { (j : ℕ) → j < unit → IsUnmarked bad.new j → IsFound (lane_search unit j (search_in unit rows cols rows all.old)) (lane_grid unit j rows cols out.new) }
+    ensures complete { (j : ℕ) (g : Grid) → j < unit → IsFound (lane_search unit j (search_in unit rows cols rows all.old)) g →
+        IsUnmarked bad.new j × (g ≡ lane_grid unit j rows cols out.new) }
+{
+    bad.fill(0);
+    solve(
+        all,
+        32 * rows,
+        cols,
+        unit,
+        out,
+        bad,
+        cols + 64 * rows,
+        cols + 96 * rows,
+    );
+}
