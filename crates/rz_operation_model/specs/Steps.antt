@@ -153,9 +153,9 @@ abbrev pub after_got : Layout → Course → List ℕ → ReadMark → Work
 after_got layout Alone text mark = Over
 after_got layout (Within r) text mark = in_range (after_part layout r text mark)
 
-abbrev pub told_reading : Layout → Course → ReaderState → Option ReadMark → Told → Work
-told_reading layout course s (Some mark) (Noted text) = after_got layout course text mark
-told_reading layout course s end t = Reading course (reader_after s t)
+abbrev pub said_reading : Layout → Course → ReaderState → List ℕ → Option ReadMark → Work
+said_reading layout course s text None = Reading course s
+said_reading layout course s text (Some mark) = after_got layout course text mark
 
 -- The write of a block.
 
@@ -173,9 +173,9 @@ abbrev pub after_gave : Layout → Course → WriteEnd → Work
 after_gave layout Alone end = Over
 after_gave layout (Within r) end = in_range (after_block layout r end)
 
-abbrev pub told_writing : Layout → Course → List ℕ → WriterState → Option WriteEnd → Told → Work
-told_writing layout course text s (Some end) (Noted found) = after_gave layout course end
-told_writing layout course text s end t = Writing course text (writer_after s t)
+abbrev pub said_writing : Layout → Course → List ℕ → WriterState → Option WriteEnd → Work
+said_writing layout course text s None = Writing course text s
+said_writing layout course text s (Some end) = after_gave layout course end
 
 -- The rebuild of a node.
 
@@ -203,8 +203,10 @@ told layout (Dropping fid n places) (Answered fits (node.Drop answer)) = after_d
 told layout (Dropping fid n places) Missed = drop_at fid places
 told layout (Opening path plan) (Replied (reply.Tree answer)) = after_open layout plan answer
 told layout (Locking path plan) (Locked granted (reply.Tree answer)) = after_lock layout path plan granted answer
-told layout (Writing course text s) t = told_writing layout course text s (writer_end s) t
-told layout (Reading course s) t = told_reading layout course s (reader_end s) t
+told layout (Writing course text s) (Noted found) = said_writing layout course text s (writer_end s)
+told layout (Writing course text s) t = Writing course text (writer_after s t)
+told layout (Reading course s) (Noted found) = said_reading layout course s found (reader_end s)
+told layout (Reading course s) t = Reading course (reader_after s t)
 told layout (Rebuilding n s) t = in_rebuild n (rebuild_after layout s t)
 told layout (Ending answer) (Noted text) = Over
 told layout work _ = work

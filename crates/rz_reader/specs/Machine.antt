@@ -1,7 +1,7 @@
 -- What contracts see of a reader, and what an answer makes of it.
-use Rattle.std.specs.Prelude.{ℕ, Bool, ◌≡◌, ◌<◌, ◌≤◌, ◌==◌, ◌↔◌, cond, List, [], ◌∷◌, ◌++◌, length, take, Option, Some, None, IsTrue, IsSomeAnd}
+use Rattle.std.specs.Prelude.{ℕ, Bool, ◌≡◌, ◌<◌, ◌≤◌, ◌==◌, ◌↔◌, cond, List, [], ◌∷◌, ◌++◌, length, take, Option, Some, None, IsTrue, IsSome, IsSomeAnd}
 use Rattle.mj_angles.specs.declared.layout.Layout.{Layout}
-use Rattle.mj_angles.specs.Layout.{inverse_of, safe_of, cols_of, angle_of, bins_at_of}
+use Rattle.mj_angles.specs.Layout.{inverse_of, safe_of, cols_of, angle_of, bins_at_of, block_bytes_of}
 use Rattle.rz_words.specs.Grid.{Grid}
 use Rattle.mj_inverse.specs.Fits.{Pair, Search, IsFound}
 use Rattle.rz_events.specs.declared.keys.Key.{Key}
@@ -100,3 +100,13 @@ HasBins layout _ _ bins = Unit {0}
 abbrev pub HasFound : Option ReadMark → ℕ → Type 0
 HasFound (Some (mark.Found stamp length)) size = length ≡ size
 HasFound _ size = ⊥
+
+-- a block is there where it was found
+abbrev pub HasIfFound : ReadStage → Option Grid → Type 0
+HasIfFound (Ended (mark.Found stamp length)) block = IsSome block
+HasIfFound stage block = Unit {0}
+
+-- a text that was found fits a block
+abbrev pub IsShortIfFound : Layout → ReadStage → Type 0
+IsShortIfFound layout (Ended (mark.Found stamp length)) = length ≤ block_bytes_of layout
+IsShortIfFound layout stage = Unit {0}

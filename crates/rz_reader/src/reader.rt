@@ -1,16 +1,18 @@
 //! The read of a block.
 
-ghost use Rattle.std.specs.Prelude.{◌≡◌, ◌≤◌, ◌<◌, ◌*◌, ℕ, List, Some, All, IfOk, IsSomeAnd, length, take};
-ghost use Rattle.mj_angles.specs.Layout.{safe_of, inverse_of, cols_of, block_bytes_of, bins_at_of};
+ghost use Rattle.std.specs.Prelude.{◌≡◌, ◌≤◌, ◌<◌, ◌*◌, ℕ, List, Some, All, IfOk, IsSome, IsSomeAnd, length, take};
+ghost use Rattle.mj_angles.specs.Layout.{safe_of, inverse_of, cols_of, block_bytes_of, bins_at_of, angle_of};
+ghost use Rattle.mj_forward.specs.Forward.{projection_of};
 ghost use Rattle.rz_words.specs.Grid.{bytes_from, grid_from_bytes};
 ghost use Rattle.rz_client_model.specs.Read.{IsReaderAnswer, reader_ask, reader_end, reader_start, next_position};
-ghost use Rattle.rz_reader.specs.Machine.{machine_for, pairs_at, block_at, pairs_with, pairs_after, IsStageAfter, IsStateAfter, IsBlockOf, IsAskOf, HasBins, HasFound};
+ghost use Rattle.rz_reader.specs.Machine.{machine_for, pairs_at, block_at, pairs_with, pairs_after, IsStageAfter, IsStateAfter, IsBlockOf, IsAskOf, HasBins, HasFound, HasIfFound, IsShortIfFound};
 ghost use Rattle.rz_reader.specs.Inside.{IsFetching, IsStage};
 
 use crate::seen::{next_position, with_record};
 use crate::steps;
 use crate::steps::Record;
 use mj_angles::Layout;
+use mj_forward::project;
 use mj_inverse::Work;
 use rz_client_model::{ReadStage, ReaderState};
 use rz_events::{FileInfo, Key, ReadMark, ReaderAnswer, ReaderAsk};
@@ -84,6 +86,15 @@ impl Reader {
         self.state.stage = stage;
     }
 
+    /// How far the read has come.
+    pub fn state(&self) -> &ReaderState
+        ensures value { result.now ≡ self.now.state }
+        ensures found { HasIfFound self.now.state.stage self.now.block }
+        ensures short { IsShortIfFound self.now.state.layout self.now.state.stage }
+    {
+        &self.state
+    }
+
     /// How the read ended, once it has.
     pub fn end(&self) -> Option<ReadMark>
         ensures { result ≡ reader_end self.now.state }
@@ -103,6 +114,16 @@ impl Reader {
         self.work.clear();
     }
 
+    /// Writes the bins of the block that was found at a position, as many as `out` has.
+    pub fn bins_into(&self, position: u8, out: &mut [u64])
+        requires found { IsSome self.now.block }
+        requires place { position < safe_of self.now.state.layout }
+        requires room { length out.old ≡ bins_at_of self.now.state.layout position }
+        ensures { IsSomeAnd self.now.block (λ g. out.new ≡ projection_of g (angle_of self.now.state.layout position)) }
+    {
+        project_at(self.state.layout, position, &self.block, out);
+    }
+
     /// Writes the text that was found, whose length `out` has.
     pub fn text_into(&self, out: &mut [u8])
         requires { HasFound (reader_end self.now.state) (length out.old) }
@@ -114,6 +135,18 @@ impl Reader {
     {
         self.block.to_bytes_into(out);
     }
+}
+
+/// Projects a block at a position.
+fn project_at(layout: Layout, position: u8, block: &Block, out: &mut [u64])
+    requires place { position < safe_of layout }
+    requires rows { block.now.rows ≡ inverse_of layout }
+    requires cols { block.now.cols ≡ cols_of layout }
+    requires room { length out.old ≡ bins_at_of layout position }
+    ensures { out.new ≡ projection_of block.now (angle_of layout position) }
+{
+    let _count = layout.bins_at(position);
+    project(block, layout.angle(position), out);
 }
 
 /// The read of a block of which nothing was asked yet.

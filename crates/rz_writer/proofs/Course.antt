@@ -20,7 +20,8 @@ use Rattle.rz_client_model.specs.declared.writing.WriteStage.TheVariants.{Beginn
 use Rattle.rz_client_model.specs.declared.writing.Sent.{Sent}
 use Rattle.rz_client_model.specs.Write.{why_of, is_kept, mask_of, none_sent, ask_at, writer_start, writer_ask, writer_told, after_answer, after_enrolled, unless_too_few, IsWriterAnswer, IsKeepAnswer, IsPublishAnswer}
 use Rattle.rz_writer.specs.Told.{after, AreAnswers, stamp_in, base_in, outcomes, table, kept_in, failed_in, IsNewest, IsAskAfter, IsEndAfter, AsksInOrder}
-use Rattle.rz_writer.proofs.Tables.{set-append-replicate, bit_at-mask_of, mask_of-append, one-if, one-true, within, count-push, count-set}
+use Rattle.rz_client_model.proofs.Masks.{safe-few, forward-less, one-if, bit_at-mask_of, mask_of-append}
+use Rattle.rz_writer.proofs.Tables.{set-append-replicate, one-true, within, count-push, count-set}
 
 -- the stage after these answers
 abbrev pub stage_after : Layout → List WriterAnswer → WriteStage
@@ -76,12 +77,6 @@ IsCourse layout answers Beginning = answers ≡ []
 IsCourse layout answers (Sending t) = IsSending layout answers t
 IsCourse layout answers (Ended e) = IsEndAfter layout answers e × IsOverSo layout answers e
 
-safe-most : (layout : Layout) → safe_of layout ≤ 16
-safe-most layout = grind arith
-
-forward-less : (layout : Layout) → forward_of layout ≤ safe_of layout
-forward-less layout = grind arith
-
 -- more has been sent, and an end comes where too much has failed
 module _ (layout : Layout) (new : List WriterAnswer) (t : Sent) (stamp_is : t.stamp ≡ stamp_in new) (base_is : t.base ≡ base_in new)
     (why_is : t.why ≡ table new) (kept_is : t.kept ≡ kept_in new) (asked_is : t.kept + t.failed ≡ length (outcomes new))
@@ -118,7 +113,7 @@ module _ (layout : Layout) (answers new : List WriterAnswer) (w : Why) (t : Sent
 
   why-more : set t.why (t.kept + t.failed) w ≡ table new
   why-more =
-      let n : t.kept + t.failed < 16 = omega (arith, h.spare, safe-most layout) in
+      let n : t.kept + t.failed < 16 = omega (arith, h.spare, safe-few layout) in
       let next : 16 - length (outcomes answers) ≡ suc (16 - length (outcomes new)) = omega (arith, asked-more, h.asked_is) in
       ap (λ ws. set ws (t.kept + t.failed) w) h.why_is
       ∙ set-append-replicate (outcomes answers) w NotAsked (16 - length (outcomes answers)) (16 - length (outcomes new)) (t.kept + t.failed) next (sym h.asked_is)

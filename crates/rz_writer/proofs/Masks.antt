@@ -1,16 +1,12 @@
 -- The mask of a table of outcomes.
-use Rattle.std.proofs.Common.{◌≡◌, ℕ, ◌+◌, ◌*◌, ◌^◌, ◌<◌, ◌≤◌, Bool, true, false, cond, List, [], ◌∷◌, length, drop, get_or, arith, ap, ◌∙◌, refl}
+use Rattle.std.proofs.Common.{◌≡◌, ℕ, ◌+◌, ◌*◌, ◌^◌, ◌<◌, ◌≤◌, Bool, true, false, cond, List, length, drop, get_or, arith, ap, ◌∙◌, refl}
 use Rattle.std.proofs.lemmas.List.{drop_more}
-use Rattle.std.proofs.Math.Nat.{pow-suc}
 use Rattle.std.proofs.Math.Pow.{pow_mono}
 use mir.Val.{bool_byte}
 use Rattle.rz_events.specs.declared.ends.Why.{Why}
 use Rattle.rz_events.specs.declared.ends.Why.TheVariants.{NotAsked}
 use Rattle.rz_client_model.specs.Write.{is_kept, mask_of}
-
-pub bit-le : (b : Bool) → cond b 1 0 ≤ 1
-bit-le true = omega arith
-bit-le false = omega arith
+use Rattle.rz_client_model.proofs.Masks.{mask_of-lt}
 
 byte-le : (b : Bool) → bool_byte b ≤ 1
 byte-le true = omega arith
@@ -22,11 +18,6 @@ byte-cond false = refl
 
 pub bit-of : (n : ℕ) (b : Bool) → n ≡ bool_byte b → n ≤ 1
 bit-of n b e = omega (arith, byte-le b)
-
--- a mask of n positions is below 2 ^ n
-pub mask_of-lt : (ws : List Why) → mask_of ws + 1 ≤ 2 ^ length ws
-mask_of-lt [] = omega arith
-mask_of-lt (w ∷ ws) = omega (arith, mask_of-lt ws, bit-le (is_kept w), pow-suc 2 (length ws))
 
 pub mask_of-small : (ws : List Why) → length ws ≤ 15 → mask_of ws < 2 ^ 15
 mask_of-small ws h = omega (arith, mask_of-lt ws, pow_mono {i = length ws} {j = 15} h)

@@ -65,6 +65,7 @@ pub fn after_answer(state: &WriterState, answer: WriterAnswer) -> WriteStage
 
 /// How far the write has come after the answer to its begin.
 fn after_begin(layout: Layout, answer: WriterAnswer) -> WriteStage
+    requires { IsBeginAnswer answer }
     ensures value { result ≡ after_answer layout Beginning answer }
     ensures within { IsWithin layout result }
 {
@@ -113,6 +114,7 @@ fn after_sent(state: &WriterState, sent: Sent, answer: WriterAnswer) -> WriteSta
 fn after_keep(layout: Layout, mut sent: Sent, why: Why) -> WriteStage
     requires more { sent.kept < forward_of layout }
     requires spare { sent.failed + forward_of layout ≤ safe_of layout }
+    requires base { sent.base < sent.stamp }
     ensures value { result ≡ after_keep layout sent why }
     ensures within { IsWithin layout result }
 {
@@ -132,6 +134,7 @@ fn after_enrolled(layout: Layout, mut sent: Sent, position: u8) -> WriteStage
     requires few { sent.kept ≤ forward_of layout }
     requires spare { sent.failed + forward_of layout ≤ safe_of layout }
     requires place { position < 16 }
+    requires base { sent.base < sent.stamp }
     ensures value { result ≡ after_enrolled layout sent position }
     ensures within { IsWithin layout result }
 {
@@ -143,7 +146,8 @@ fn after_enrolled(layout: Layout, mut sent: Sent, position: u8) -> WriteStage
 
 /// The end of a write of which more positions have failed than there are spare ones.
 fn unless_too_few(layout: Layout, sent: Sent) -> WriteStage
-    requires { sent.kept ≤ forward_of layout }
+    requires few { sent.kept ≤ forward_of layout }
+    requires base { sent.base < sent.stamp }
     ensures value { result ≡ unless_too_few layout sent }
     ensures within { IsWithin layout result }
 {

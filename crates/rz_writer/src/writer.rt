@@ -101,6 +101,14 @@ impl Writer {
         prepare(self.state.layout, steps::ask(&self.state), &mut self.sheet);
     }
 
+    /// How far the write has come.
+    pub fn state(&self) -> &WriterState
+        ensures value { result.now ≡ self.now.state }
+        ensures write { IsWrite self.now.state }
+    {
+        &self.state
+    }
+
     /// How the write ended, once it has.
     pub fn end(&self) -> Option<WriteEnd>
         ensures { result ≡ writer_end self.now.state }
