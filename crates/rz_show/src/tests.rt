@@ -9,48 +9,96 @@ use std::test::Fail;
 
 const KEY: Key = Key { fid: 1, block: 0 };
 
-const UUID: &str = "00000000-0000-0000-0000-0000000000ff";
-
-/// The bytes 0 to 32. The SHA-256 of all of them is `DIGEST`.
+/// The bytes 0 to 32, of which the first 32 are printed as they are, and all 33 by their SHA-256.
 const BYTES: [u8; 33] = [
     0, 1, 2, 3, 4, 5, 6, 7, 8, 9, 10, 11, 12, 13, 14, 15, 16, 17, 18, 19, 20, 21, 22, 23, 24, 25,
     26, 27, 28, 29, 30, 31, 32,
 ];
 
-const WHOLE: &str = "x:000102030405060708090a0b0c0d0e0f101112131415161718191a1b1c1d1e1f";
+const WHY: [Why; 16] = [
+    Why::NotAsked,
+    Why::Kept,
+    Why::Passed,
+    Why::Down,
+    Why::Lost,
+    Why::Fenced,
+    Why::Full,
+    Why::DiskFault,
+    Why::Missed,
+    Why::Enrolled,
+    Why::OtherFence,
+    Why::NotLost,
+    Why::OtherLoss,
+    Why::NotAsked,
+    Why::NotAsked,
+    Why::Kept,
+];
 
-const DIGEST: &str = "h:5d8fcfefa9aeeb711fb8ed1e4b7d5c8a9bafa46e8e76e68aa18adce5a10df6ab";
+const SEEN: [Seen; 16] = [
+    Seen::NotAsked,
+    Seen::Held,
+    Seen::Nothing,
+    Seen::Down,
+    Seen::Lost,
+    Seen::DiskFault,
+    Seen::Missed,
+    Seen::NotAsked,
+    Seen::NotAsked,
+    Seen::NotAsked,
+    Seen::NotAsked,
+    Seen::NotAsked,
+    Seen::NotAsked,
+    Seen::NotAsked,
+    Seen::NotAsked,
+    Seen::NotAsked,
+];
 
-/// So many nodes.
-fn places(count: u16) -> Places {
+const ATTR: Attr = Attr {
+    fid: 255,
+    kind: Kind::File,
+    mode: 0o644,
+    mtime: 18446744073709551615,
+    links: 2,
+    size: 5,
+};
+
+const REBUILT: [RebuildEnd; 7] = [
+    RebuildEnd::Rebuilt {
+        fence: 2,
+        refilled: 3,
+    },
+    RebuildEnd::Left {
+        fence: 2,
+        refilled: 3,
+        left: 4,
+    },
+    RebuildEnd::NotLost,
+    RebuildEnd::OtherLoss { loss: 5 },
+    RebuildEnd::OtherFence { fence: 6 },
+    RebuildEnd::LostAgain,
+    RebuildEnd::DiskFault,
+];
+
+/// What is printed of an answer to a client who opened a file at 16 places.
+fn printed(alloc: Global, answer: Answer) -> Result<Vec<u8>, AllocError> {
+    let by = Actor::Client(64);
     let mut places = Places::none();
-    'nodes: for node in 0..count.min(16) {
+    for node in 0..16 {
         places.push(node);
     }
-    places
-}
-
-/// An actor opens a file with so many places.
-fn opening(alloc: Global, by: Actor, count: u16) -> Result<Event, AllocError> {
-    let path = Text::from_bytes(alloc, b"/f")?;
     let info = FileInfo {
         fid: 1,
         cid: 1,
-        places: places(count),
+        places,
         size: 0,
     };
-    Ok(Event::Meta {
+    let path = Text::from_bytes(alloc, b"/f")?;
+    let mut log = Vec::new(alloc);
+    log.push(Event::Meta {
         by,
         call: TreeCall::OpenFile { path },
         reply: TreeReply::File(info),
-    })
-}
-
-/// What is printed of an answer to an actor that opened a file with so many places.
-fn printed(alloc: Global, count: u16, answer: Answer) -> Result<Vec<u8>, AllocError> {
-    let by = Actor::Client(64);
-    let mut log = Vec::new(alloc);
-    log.push(opening(alloc, by, count)?)?;
+    })?;
     log.push(Event::Done {
         by,
         number: 7,
@@ -62,307 +110,99 @@ fn printed(alloc: Global, count: u16, answer: Answer) -> Result<Vec<u8>, AllocEr
 #[test]
 fn answers(rt: HostRuntime) -> Result<(), Fail> {
     let alloc = rt.alloc();
+    let text = printed(alloc, Answer::Attr(ATTR))?;
+    assert_eq!(rt;
+        text.as_slice(),
+        b"c64 7 attr file 644 18446744073709551615 2 5 00000000-0000-0000-0000-0000000000ff\n".as_slice()
+    );
     let mut names = Vec::new(alloc);
     names.push(Text::from_bytes(alloc, b"a b")?)?;
-    let attr = Attr {
-        fid: 255,
-        kind: Kind::File,
-        mode: 0o644,
-        mtime: 18446744073709551615,
-        links: 2,
-        size: 5,
+    let text = printed(alloc, Answer::Names(Listing::of(names)))?;
+    assert_eq!(rt; text.as_slice(), b"c64 7 names 1 a b\n".as_slice());
+    let text = printed(alloc, Answer::Read(Text::from_bytes(alloc, &BYTES[..32])?))?;
+    assert_eq!(rt;
+        text.as_slice(),
+        b"c64 7 read 32 x:000102030405060708090a0b0c0d0e0f101112131415161718191a1b1c1d1e1f\n".as_slice()
+    );
+    let text = printed(alloc, Answer::Read(Text::from_bytes(alloc, &BYTES)?))?;
+    assert_eq!(rt;
+        text.as_slice(),
+        b"c64 7 read 33 h:5d8fcfefa9aeeb711fb8ed1e4b7d5c8a9bafa46e8e76e68aa18adce5a10df6ab\n".as_slice()
+    );
+    let text = printed(alloc, Answer::Refused(TreeFault::TooManyLinks))?;
+    assert_eq!(rt; text.as_slice(), b"c64 7 refused TooManyLinks\n".as_slice());
+    Ok(())
+}
+
+#[test]
+fn ends(rt: HostRuntime) -> Result<(), Fail> {
+    let alloc = rt.alloc();
+    let end = WriteEnd::Acked {
+        stamp: 9,
+        mask: 0x8001,
     };
-    for (answer, head, tail) in [
-        (Answer::Created { fid: 255 }, "created ", UUID),
-        (Answer::Plain, "done", ""),
-        (
-            Answer::Found {
-                kind: Kind::Dir,
-                fid: 255,
-            },
-            "found dir ",
-            UUID,
-        ),
-        (
-            Answer::Found {
-                kind: Kind::Link,
-                fid: 255,
-            },
-            "found link ",
-            UUID,
-        ),
-        (
-            Answer::Attr(attr),
-            "attr file 644 18446744073709551615 2 5 ",
-            UUID,
-        ),
-        (Answer::Names(Listing::of(Vec::new(alloc))), "names 0", ""),
-        (Answer::Names(Listing::of(names)), "names 1 ", "a b"),
-        (
-            Answer::Target(Text::from_bytes(alloc, b"/t")?),
-            "target ",
-            "/t",
-        ),
-        (Answer::Wrote { bytes: 65536 }, "wrote 65536", ""),
-        (
-            Answer::Read(Text::from_bytes(alloc, &BYTES[..32])?),
-            "read 32 ",
-            WHOLE,
-        ),
-        (
-            Answer::Read(Text::from_bytes(alloc, &BYTES)?),
-            "read 33 ",
-            DIGEST,
-        ),
-    ] {
-        let text = printed(alloc, 4, answer)?;
-        let want = format!(in alloc; "c64 7 {head}{tail}\n")?;
-        assert_eq!(rt; text.as_slice(), want.as_bytes());
-    }
+    let text = printed(alloc, Answer::ShortWrite { bytes: 3, end })?;
+    assert_eq!(rt;
+        text.as_slice(),
+        b"c64 7 short 3 acked 9 1000000000000001\n".as_slice()
+    );
+    let end = WriteEnd::TooFew { why: WHY };
+    let text = printed(alloc, Answer::ShortWrite { bytes: 3, end })?;
+    assert_eq!(rt;
+        text.as_slice(),
+        b"c64 7 short 3 toofew -kpdlfuxme???--k\n".as_slice()
+    );
+    let end = ReadEnd::TooFew { seen: SEEN };
+    let text = printed(alloc, Answer::ShortRead { bytes: 0, end })?;
+    assert_eq!(rt;
+        text.as_slice(),
+        b"c64 7 short 0 toofew -sndlxm---------\n".as_slice()
+    );
+    let end = ReadEnd::Moved { was: 1, now: 3 };
+    let text = printed(alloc, Answer::ShortRead { bytes: 0, end })?;
+    assert_eq!(rt; text.as_slice(), b"c64 7 short 0 moved 1 3\n".as_slice());
     Ok(())
 }
 
-#[test]
-fn writes(rt: HostRuntime) -> Result<(), Fail> {
-    let alloc = rt.alloc();
-    let why = [
-        Why::NotAsked,
-        Why::Kept,
-        Why::Passed,
-        Why::Down,
-        Why::Lost,
-        Why::Fenced,
-        Why::Full,
-        Why::DiskFault,
-        Why::Missed,
-        Why::Enrolled,
-        Why::OtherFence,
-        Why::NotLost,
-        Why::OtherLoss,
-        Why::NotAsked,
-        Why::NotAsked,
-        Why::Kept,
-    ];
-    for (count, end, want) in [
-        (
-            4,
-            WriteEnd::Acked {
-                stamp: 9,
-                mask: 0b1011,
-            },
-            "acked 9 1101",
-        ),
-        (
-            16,
-            WriteEnd::Acked {
-                stamp: 9,
-                mask: 0x8001,
-            },
-            "acked 9 1000000000000001",
-        ),
-        (0, WriteEnd::Acked { stamp: 9, mask: 7 }, "acked 9 "),
-        (16, WriteEnd::TooFew { why }, "toofew -kpdlfuxme???--k"),
-        (4, WriteEnd::TooFew { why }, "toofew -kpd"),
-        (
-            4,
-            WriteEnd::Denied(Denial::UnknownFile),
-            "refused UnknownFile",
-        ),
-        (4, WriteEnd::Revoked { later: 12 }, "revoked 12"),
-    ] {
-        let text = printed(alloc, count, Answer::ShortWrite { bytes: 3, end })?;
-        let want = format!(in alloc; "c64 7 short 3 {want}\n")?;
-        assert_eq!(rt; text.as_slice(), want.as_bytes());
-    }
-    Ok(())
-}
-
-#[test]
-fn reads(rt: HostRuntime) -> Result<(), Fail> {
-    let alloc = rt.alloc();
-    let seen = [
-        Seen::NotAsked,
-        Seen::Held,
-        Seen::Nothing,
-        Seen::Down,
-        Seen::Lost,
-        Seen::DiskFault,
-        Seen::Missed,
-        Seen::NotAsked,
-        Seen::NotAsked,
-        Seen::NotAsked,
-        Seen::NotAsked,
-        Seen::NotAsked,
-        Seen::NotAsked,
-        Seen::NotAsked,
-        Seen::NotAsked,
-        Seen::NotAsked,
-    ];
-    for (end, head, tail) in [
-        (
-            ReadEnd::Found {
-                stamp: 8,
-                text: Text::from_bytes(alloc, b"")?,
-            },
-            "data 8 0 x:",
-            "",
-        ),
-        (
-            ReadEnd::Found {
-                stamp: 8,
-                text: Text::from_bytes(alloc, &BYTES[..32])?,
-            },
-            "data 8 32 ",
-            WHOLE,
-        ),
-        (
-            ReadEnd::Found {
-                stamp: 8,
-                text: Text::from_bytes(alloc, &BYTES)?,
-            },
-            "data 8 33 ",
-            DIGEST,
-        ),
-        (ReadEnd::Hole, "hole", ""),
-        (ReadEnd::TooFew { seen }, "toofew -sndlxm-", ""),
-        (ReadEnd::Inconsistent, "inconsistent", ""),
-        (
-            ReadEnd::Denied(Denial::BlockTooFar),
-            "refused BlockTooFar",
-            "",
-        ),
-        (ReadEnd::Moved { was: 1, now: 3 }, "moved 1 3", ""),
-    ] {
-        let text = printed(alloc, 8, Answer::ShortRead { bytes: 0, end })?;
-        let want = format!(in alloc; "c64 7 short 0 {head}{tail}\n")?;
-        assert_eq!(rt; text.as_slice(), want.as_bytes());
-    }
-    Ok(())
-}
-
-#[test]
-fn rebuilds(rt: HostRuntime) -> Result<(), Fail> {
-    let alloc = rt.alloc();
-    for (end, want) in [
-        (
-            RebuildEnd::Rebuilt {
-                fence: 2,
-                refilled: 3,
-            },
-            "rebuilt 2 3",
-        ),
-        (
-            RebuildEnd::Left {
-                fence: 2,
-                refilled: 3,
-                left: 4,
-            },
-            "left 2 3 4",
-        ),
-        (RebuildEnd::NotLost, "notlost"),
-        (RebuildEnd::OtherLoss { loss: 5 }, "otherloss 5"),
-        (RebuildEnd::OtherFence { fence: 6 }, "otherfence 6"),
-        (RebuildEnd::LostAgain, "lostagain"),
-        (RebuildEnd::DiskFault, "diskfault"),
-        (
-            RebuildEnd::Denied(Denial::StampsSpent),
-            "refused StampsSpent",
-        ),
-        (
-            RebuildEnd::Denied(Denial::OldLoss { kept: 9 }),
-            "refused OldLoss",
-        ),
-    ] {
-        let text = printed(alloc, 4, Answer::Rebuild(end))?;
-        let want = format!(in alloc; "c64 7 {want}\n")?;
-        assert_eq!(rt; text.as_slice(), want.as_bytes());
-    }
-    Ok(())
-}
-
-#[test]
-fn refusals(rt: HostRuntime) -> Result<(), Fail> {
-    let alloc = rt.alloc();
-    for (fault, want) in [
-        (TreeFault::NoEntry, "NoEntry"),
-        (TreeFault::NotDir, "NotDir"),
-        (TreeFault::IsDir, "IsDir"),
-        (TreeFault::Exists, "Exists"),
-        (TreeFault::NotEmpty, "NotEmpty"),
-        (TreeFault::IntoItself, "IntoItself"),
-        (TreeFault::BadName, "BadName"),
-        (TreeFault::TooManyLinks, "TooManyLinks"),
-        (TreeFault::TooManyFiles, "TooManyFiles"),
-        (TreeFault::NotLink, "NotLink"),
-        (TreeFault::IsLink, "IsLink"),
-    ] {
-        let text = printed(alloc, 0, Answer::Refused(fault))?;
-        let want = format!(in alloc; "c64 7 refused {want}\n")?;
-        assert_eq!(rt; text.as_slice(), want.as_bytes());
-    }
-    Ok(())
-}
-
-/// A play of two clients and a rebuilder, of whose events some have no line.
+/// A play of a client and a rebuilder, of whose events some have no line.
 #[test]
 fn log(rt: HostRuntime) -> Result<(), Fail> {
     let alloc = rt.alloc();
-    let one = Actor::Client(1);
-    let two = Actor::Rebuilder(2);
-    let acked = WriteEnd::Acked { stamp: 1, mask: 3 };
+    let by = Actor::Rebuilder(2);
+    let denied = RebuildEnd::Denied(Denial::OldLoss { kept: 9 });
     let mut log = Vec::new(alloc);
-    log.push(opening(alloc, two, 2)?)?;
-    log.push(opening(alloc, one, 8)?)?;
+    for end in REBUILT {
+        log.push(Event::Done {
+            by,
+            number: 1,
+            answer: Answer::Rebuild(end),
+        })?;
+    }
     for event in [
         Event::Stop { node: 1 },
-        Event::Gave {
-            by: one,
+        Event::Got {
+            by,
             number: 1,
             key: KEY,
             part: true,
-            end: acked,
+            end: ReadEnd::Hole,
         },
-        Event::Gave {
-            by: one,
-            number: 2,
+        Event::Got {
+            by,
+            number: 4294967295,
             key: KEY,
             part: false,
-            end: acked,
+            end: ReadEnd::Hole,
         },
         Event::Unopened { node: 1, cause: 2 },
         Event::Start {
             node: 65535,
             took: false,
         },
-        Event::Start {
-            node: 1,
-            took: true,
-        },
-        Event::Got {
-            by: two,
-            number: 1,
-            key: KEY,
-            part: true,
-            end: ReadEnd::Hole,
-        },
-        Event::Got {
-            by: two,
-            number: 4294967295,
-            key: KEY,
-            part: false,
-            end: ReadEnd::Hole,
-        },
-        Event::Gave {
-            by: two,
-            number: 2,
-            key: KEY,
-            part: false,
-            end: acked,
-        },
         Event::Done {
             by: Actor::Admin,
             number: 1,
-            answer: Answer::Plain,
+            answer: Answer::Rebuild(denied),
         },
     ] {
         log.push(event)?;
@@ -370,7 +210,7 @@ fn log(rt: HostRuntime) -> Result<(), Fail> {
     let text = show(alloc, &log, true)?;
     assert_eq!(rt;
         text.as_slice(),
-        b"c1 2 acked 1 11000000\nn1 unopened 2\nn65535 started 0\nn1 started 1\nr2 4294967295 hole\nr2 2 acked 1 11\nadmin 1 done\nend 12\n".as_slice()
+        b"r2 1 rebuilt 2 3\nr2 1 left 2 3 4\nr2 1 notlost\nr2 1 otherloss 5\nr2 1 otherfence 6\nr2 1 lostagain\nr2 1 diskfault\nr2 4294967295 hole\nn1 unopened 2\nn65535 started 0\nadmin 1 refused OldLoss\nend 13\n".as_slice()
     );
     Ok(())
 }
