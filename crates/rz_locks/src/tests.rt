@@ -5,13 +5,20 @@ use crate::{LockAnswer, LockKind, Locks, Range};
 
 const LAST: u64 = u64::MAX;
 
+/// Gives up what the owner holds, if anything, and asks anew.
+fn ask(locks: &mut Locks, owner: u8, range: Range, kind: LockKind) -> LockAnswer
+    requires from_one { 1 ≤ owner }
+    requires to_last { owner ≤ 64 }
+{
+    locks.release(owner);
+    locks.take(owner, range, kind)
+}
+
 /// Whether the second owner gets an exclusive lock while the first owner holds a shared one.
 fn both_get(held: Range, asked: Range) -> bool {
     let mut locks = Locks::new();
-    locks.release(1);
-    locks.take(1, held, LockKind::Shared);
-    locks.release(2);
-    locks.take(2, asked, LockKind::Exclusive) == LockAnswer::Granted
+    ask(&mut locks, 1, held, LockKind::Shared);
+    ask(&mut locks, 2, asked, LockKind::Exclusive) == LockAnswer::Granted
 }
 
 /// Two ranges of the same file, each as its first byte and its length, and whether both are locked.
