@@ -1,0 +1,5 @@
+pub mod Beside
+pub mod Calls
+pub mod Losses
+pub mod Places
+pub mod Changes
