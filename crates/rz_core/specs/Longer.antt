@@ -14,8 +14,8 @@ abbrev pub IsPrefixLegalInRuns : Volume → Type 0
 IsPrefixLegalInRuns v = (h more : List Event) → IsLegalInRuns v (more ++ h) → IsLegalInRuns v h
 
 -- A legal log is the log of one run, and a run may go on after the log of any number of runs.
-abbrev pub IsRun : Volume → Type 0
-IsRun v = (h : List Event) → IsLegal v h → IsLegalInRuns v h
+abbrev pub IsOneRun : Volume → Type 0
+IsOneRun v = (h : List Event) → IsLegal v h → IsLegalInRuns v h
 
 abbrev pub IsNextRun : Volume → Type 0
 IsNextRun v = (old h : List Event) → IsLegalAfter v old h → IsLegalInRuns v (h ++ old)

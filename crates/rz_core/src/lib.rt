@@ -24,7 +24,7 @@ ghost use Rattle.rz_events.specs.declared.tree.TreeCall.{TreeCall as ATreeCall};
 ghost use Rattle.rz_events.specs.declared.export.Call.TheVariants as call;
 ghost use Rattle.rz_events.specs.declared.events.Event.{Event as AnEvent};
 ghost use Rattle.rz_core.specs.Legal.{IsLocal, IsLocalInRuns};
-ghost use Rattle.rz_core.specs.Longer.{IsNextRun, IsPermanent, IsPrefixLegal, IsPrefixLegalInRuns, IsRun};
+ghost use Rattle.rz_core.specs.Longer.{IsNextRun, IsPermanent, IsPrefixLegal, IsPrefixLegalInRuns, IsOneRun};
 ghost use Rattle.rz_core.specs.Tied.{IsExportLaw, IsExportLawOf, IsNodeLaw, IsNodeLawOf};
 
 /// What is allowed stays allowed, whatever others do: a later history of the same facts allows an
@@ -51,7 +51,7 @@ pub fn beginnings_in_runs()
 
 /// A legal log is the log of one run: what holds of the logs of any number of runs holds of it.
 pub fn one_run()
-    ensures { (v : Volume) → IsRun v }
+    ensures { (v : Volume) → IsOneRun v }
 {}
 
 /// A run that goes on after the log of any number of runs makes the log of one run more.
