@@ -1,15 +1,33 @@
 -- The events of a read, one by one.
-use Rattle.std.proofs.Common.{ℕ, Bool, true, false, ◌≡◌, inl, inr, ◌<◌, ◌+◌, ◌-◌, ◌^◌, ◌==◌, ◌&&◌, List, [], ◌∷◌, ◌++◌, Option, Some, None, option_map, cond, length, refl, sym, ◌∙◌, ap, arith, slice_get, lit<}
+use Rattle.std.proofs.Common.{ℕ, Bool, true, false, ◌≡◌, inl, inr, ◌<◌, ◌+◌, ◌-◌, ◌^◌, ◌==◌, ◌&&◌, List, [], ◌∷◌, ◌++◌, Option, Some, None, option_map, cond, length, refl, sym, ◌∙◌, ap, subst, arith, slice_get, lit<}
 use Rattle.std.proofs.lemmas.Bool.{eq-eqb}
 use Rattle.rz_events.specs.declared.ends.ReadEnd.TheVariants as read
 use Rattle.rz_events.specs.declared.events.Event.{Event}
 use Rattle.rz_events.specs.declared.events.Event.TheVariants as e
-use Rattle.rz_core.specs.History.{facts, wrote, IsPlace}
+use Rattle.rz_core.specs.History.{facts, of_actor, wrote, IsPlace}
 use Rattle.rz_core.specs.NodeRows.{FetchRow}
 use Rattle.rz_core.specs.ExportWord.{export_of, with_length}
 use Rattle.rz_core.specs.Own.{HasDistinct}
 use Rattle.rz_core.specs.Legal.{IsLegal}
-use Rattle.rz_replay.specs.Store.{Written, Store, get_events, last_write, client, key_of, opened, fetched, held_of, published_of}
+use Rattle.std.specs.Prelude.{codes}
+use Rattle.mj_angles.specs.declared.layout.Layout.TheVariants.{L0}
+use Rattle.rz_events.specs.declared.operations.Operation.TheVariants as operation
+use Rattle.rz_events.specs.declared.tree.TreeReply.TheVariants as given
+use Rattle.rz_events.specs.declared.export.Reply.TheVariants as reply
+use Rattle.rz_events.specs.declared.nodes.NodeAnswer.TheVariants as answer
+use Rattle.rz_operation_model.specs.Steps.{Replied, Answered}
+use Rattle.rz_operation_model.specs.Turns.{Through}
+use Rattle.rz_core.specs.Courses.{IsCourse, Begun as Started, Went, IsGot}
+use Rattle.rz_events.specs.declared.ends.ReadMark.TheVariants as mark
+use Rattle.rz_events.specs.declared.ends.Seen.TheVariants as seen
+use Rattle.rz_events.specs.declared.nodes.FetchAnswer.TheVariants as fetch
+use Rattle.rz_client_model.specs.declared.reading.ReaderState.{ReaderState}
+use Rattle.rz_client_model.specs.declared.reading.Fetches.{Fetches}
+use Rattle.rz_client_model.specs.declared.reading.ReadStage.{ReadStage}
+use Rattle.rz_client_model.specs.declared.reading.ReadStage.TheVariants.{Looking, Fetching, Ended}
+use Rattle.rz_client_model.specs.Read.{none_fetched, after_look, with_seen, with_record}
+use Rattle.rz_operation_model.specs.Work.{Opening, OnBlock, GetBlock, Reading, Alone}
+use Rattle.rz_replay.specs.Store.{Written, Store, get_events, last_write, client, key_of, info, opened, fetched, held_of, published_of}
 use Rattle.rz_history.specs.Wide.{wide}
 use Rattle.rz_history.proofs.Logs.{export, node, step, begun_of, wrote-front, places-front, known-front, unwritten-more}
 use Rattle.rz_history.proofs.Names.{open-reply}
@@ -55,7 +73,7 @@ module _ (s : Store) (h : List Event) (t : Follows s h) (few : length h + 8 < 2 
   legal-open : IsLegal wide (with_open s h)
   legal-open = (
     t.legal,
-    step h (opened s.size) (omega arith) (record { told = open-reply (export_of wide (facts h) (export h)) s.size (t.shown.file (facts h) t.known) }),
+    step h (opened s.size) (omega arith) tt (record { told = open-reply (export_of wide (facts h) (export h)) s.size (t.shown.file (facts h) t.known) }),
   )
 
   -- what stands of the last write
@@ -69,7 +87,7 @@ module _ (s : Store) (h : List Event) (t : Follows s h) (few : length h + 8 < 2 
   legal-look : (o : Option Written) → last_write s.writes block ≡ o → IsLegal wide (with_look s block o h)
   legal-look o is = (
     legal-open,
-    step (with_open s h) (looked block o) (omega arith)
+    step (with_open s h) (looked block o) (omega arith) tt
         (record {
           live = t.shown.live;
           block = low;
@@ -91,30 +109,89 @@ module _ (s : Store) (h : List Event) (t : Follows s h) (few : length h + 8 < 2 
   legal-first : (x : Written) → last_write s.writes block ≡ Some x → IsLegal wide (with_first s block x h)
   legal-first x is = (
     legal-look (Some x) is,
-    step (with_look s block (Some x) h) (fetched (key_of block) x 0) (omega arith)
+    step (with_look s block (Some x) h) (fetched (key_of block) x 0) (omega arith) (inl refl)
         (fetch-row (looked block (Some x) ∷ opened s.size ∷ []) (node 1 h) t.at_1 x is 0 1 refl),
   )
 
   legal-both : (x : Written) → last_write s.writes block ≡ Some x → IsLegal wide (with_both s block x h)
   legal-both x is = (
     legal-first x is,
-    step (with_first s block x h) (fetched (key_of block) x 1) (omega arith)
+    step (with_first s block x h) (fetched (key_of block) x 1) (omega arith) (inr (inl refl))
         (fetch-row (fetched (key_of block) x 0 ∷ looked block (Some x) ∷ opened s.size ∷ []) (node 2 h) t.at_2 x is 1 2 refl),
   )
+
+  -- the course of the read
+
+  abbrev state : ReadStage → ReaderState
+  state stage = record { layout = L0; key = key_of block; places = (info s.size).places; stage = stage }
+
+  opening : (number : ℕ) → IsCourse L0 client number (opened s.size ∷ of_actor client h) (Reading Alone (state Looking))
+  opening number =
+      let path = codes "/f" in
+      let c0 : IsCourse L0 client number (of_actor client h) (Opening path (OnBlock (GetBlock block))) = Started (of_actor client h) (operation.Get path block) refl t.between in
+      Went (of_actor client h) (Opening path (OnBlock (GetBlock block))) (Replied (reply.Tree (given.File (info s.size)))) (opened s.size ∷ []) c0
+      (reply.Tree (given.File (info s.size)), opened s.size, refl, refl, refl)
+
+  looking : (number : ℕ) (o : Option Written) → IsCourse L0 client number (looked block o ∷ opened s.size ∷ of_actor client h) (Reading Alone (state (after_look L0 (option_map published_of o))))
+  looking number o =
+      Went (opened s.size ∷ of_actor client h) (Reading Alone (state Looking)) (Replied (reply.Looked (option_map published_of o))) (looked block o ∷ []) (opening number)
+      (reply.Looked (option_map published_of o), looked block o, refl, refl, refl)
+
+  hole : (number : ℕ) → IsGot wide client number (of_actor client (with_look s block None h)) (key_of block) false read.Hole
+  hole number = record {
+    mark = mark.Hole;
+    text = [];
+    end_is = refl;
+    saying = record { work = Reading Alone (state (Ended mark.Hole)); course = looking number None; asks = refl };
+  }
+
+  -- after the records of positions 0 and 1
+  abbrev first_came : Written → Fetches
+  first_came x = with_record (none_fetched L0 (published_of x)) (length x.text)
+
+  abbrev both_came : Written → Fetches
+  both_came x = with_record (first_came x) (length x.text)
+
+  fetching : (number : ℕ) (x : Written) → IsCourse L0 client number (of_actor client (with_first s block x h)) (Reading Alone (state (Fetching (first_came x))))
+  fetching number x =
+      let a = none_fetched L0 (published_of x) in
+      subst (λ (b : Bool). IsCourse L0 client number (of_actor client (with_first s block x h)) (Reading Alone (state (cond b (Fetching (first_came x)) (Fetching (with_seen a seen.Held))))))
+      (eq-eqb x.stamp x.stamp refl)
+      (Went (of_actor client (with_look s block (Some x) h)) (Reading Alone (state (Fetching a))) (Answered true (answer.Fetch (fetch.Held (held_of x)))) (fetched (key_of block) x 0 ∷ []) (looking number (Some x))
+      (Through (answer.Fetch (fetch.Held (held_of x))) (fetched (key_of block) x 0) refl))
+
+  enough : (number : ℕ) (x : Written) → IsCourse L0 client number (of_actor client (with_both s block x h)) (Reading Alone (state (Ended (mark.Found x.stamp (length x.text)))))
+  enough number x =
+      let a = first_came x in
+      subst (λ (b : Bool). IsCourse L0 client number (of_actor client (with_both s block x h)) (Reading Alone (state (cond b (Ended (mark.Found x.stamp (length x.text))) (Fetching (with_seen a seen.Held))))))
+      (eq-eqb x.stamp x.stamp refl)
+      (Went (of_actor client (with_first s block x h)) (Reading Alone (state (Fetching a))) (Answered true (answer.Fetch (fetch.Held (held_of x)))) (fetched (key_of block) x 1 ∷ []) (fetching number x)
+      (Through (answer.Fetch (fetch.Held (held_of x))) (fetched (key_of block) x 1) refl))
+
+  found : (number : ℕ) (x : Written) → IsGot wide client number (of_actor client (with_both s block x h)) (key_of block) false (read.Found x.stamp x.text)
+  found number x = record {
+    mark = mark.Found x.stamp (length x.text);
+    text = x.text;
+    end_is = refl;
+    saying = record { work = Reading Alone (state (Ended (mark.Found x.stamp (length x.text)))); course = enough number x; asks = refl };
+  }
 
   legal-get : (number : ℕ) (o : Option Written) → last_write s.writes block ≡ o → IsLegal wide (get_events number s.size (key_of block) o ++ h)
   legal-get number None is = (
     legal-look None is,
-    step (with_look s block None h) (e.Got client number (key_of block) false read.Hole) (omega arith) refl,
+    step (with_look s block None h) (e.Got client number (key_of block) false read.Hole) (omega arith) tt (refl, hole number),
   )
   legal-get number (Some x) is = (
     legal-both x is,
-    step (with_both s block x h) (e.Got client number (key_of block) false (read.Found x.stamp x.text)) (omega arith)
-        (record {
-          looked = (published_of x, refl, refl);
-          enough = two-gave ((block == block) && (x.stamp == x.stamp)) (both _ _ (eq-eqb block block refl) (eq-eqb x.stamp x.stamp refl));
-          wrote = (begun_of block x, known (fetched (key_of block) x 1 ∷ fetched (key_of block) x 0 ∷ looked block (Some x) ∷ opened s.size ∷ []) x is, refl);
-        }),
+    step (with_both s block x h) (e.Got client number (key_of block) false (read.Found x.stamp x.text)) (omega arith) tt
+        (
+          record {
+            looked = (published_of x, refl, refl);
+            enough = two-gave ((block == block) && (x.stamp == x.stamp)) (both _ _ (eq-eqb block block refl) (eq-eqb x.stamp x.stamp refl));
+            wrote = (begun_of block x, known (fetched (key_of block) x 1 ∷ fetched (key_of block) x 0 ∷ looked block (Some x) ∷ opened s.size ∷ []) x is, refl);
+          },
+          found number x,
+        ),
   )
 
   follow-hole : (number : ℕ) → last_write s.writes block ≡ None → Follows s (get_events number s.size (key_of block) None ++ h)
@@ -123,6 +200,7 @@ module _ (s : Store) (h : List Event) (t : Follows s h) (few : length h + 8 < 2 
       let all = got ∷ looked block None ∷ opened s.size ∷ [] in
       record {
         legal = legal-get number None is;
+        between = refl;
         placed = places-front all h 1 places t.placed;
         known = known-front all h s.writes t.known;
         unwritten = λ q above. unwritten-more got (with_look s block None h) q refl
@@ -139,6 +217,7 @@ module _ (s : Store) (h : List Event) (t : Follows s h) (few : length h + 8 < 2 
       let all = got ∷ fetched (key_of block) x 1 ∷ fetched (key_of block) x 0 ∷ looked block (Some x) ∷ opened s.size ∷ [] in
       record {
         legal = legal-get number (Some x) is;
+        between = refl;
         placed = places-front all h 1 places t.placed;
         known = known-front all h s.writes t.known;
         unwritten = λ q above. unwritten-more got (with_both s block x h) q refl

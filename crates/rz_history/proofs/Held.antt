@@ -10,7 +10,7 @@ use Rattle.rz_events.specs.declared.events.Event.TheVariants as e
 use Rattle.rz_events.specs.Events.{same_key}
 use Rattle.rz_node_model.specs.Versions.{kept, greater_goes, IsAbove, Stands, IsHeld}
 use Rattle.rz_core.specs.History.{Facts, Begun, IsPlace, IsWriter}
-use Rattle.rz_core.specs.NodeWord.{phase, fence_of, held, itself, base_of}
+use Rattle.rz_core.specs.NodeWord.{phase, last_fence, held, itself, base_begun}
 use Rattle.rz_core.specs.NodeRows.{cells_of, IsAmong, HasCell, KeepRow}
 use Rattle.rz_replay.specs.Store.{Written, Store, after, last_write, stamp_in, client, key_of}
 use Rattle.rz_replay.specs.declared.operation.Operation.TheVariants as op
@@ -20,7 +20,7 @@ use Rattle.rz_history.specs.Wide.{wide}
 -- of the one file alone.
 pub record HoldsLast (s : Store) (w : List Event) : Type 0 where
   pub up : phase w ≡ Up
-  pub unfenced : fence_of w ≡ 0
+  pub unfenced : last_fence w ≡ 0
   pub stands : (f : Facts) (block : ℕ) (x : Written) → last_write s.writes block ≡ Some x → Stands x.stamp (held f w (key_of block))
   pub drawn : (f : Facts) (key : Key) → AllByRecursion (λ t. t ≤ s.drawn) (held f w key)
   pub blocks : (f : Facts) (key : Key) → IsHeld (held f w key) → (block : ℕ) × (block < 1048576) × (key ≡ key_of block)
@@ -143,19 +143,19 @@ keep-holds s w h n p block text low =
       unfenced = h.unfenced;
       stands = λ f q x is. stands f q x (q == block) is;
       drawn = λ f key. all_cond (λ t. t ≤ s.drawn + 1) (same_key key (key_of block)) _ _
-          (kept-all (λ t. t ≤ s.drawn + 1) (base_of f (s.drawn + 1)) (s.drawn + 1) (held f w key) (omega arith) (all-more s.drawn (held f w key) (h.drawn f key)))
+          (kept-all (λ t. t ≤ s.drawn + 1) (base_begun f (s.drawn + 1)) (s.drawn + 1) (held f w key) (omega arith) (all-more s.drawn (held f w key) (h.drawn f key)))
           (all-more s.drawn (held f w key) (h.drawn f key));
       blocks = λ f key there. blocks f key (same_key key (key_of block)) refl there;
     }
   where
     stands : (f : Facts) (q : ℕ) (x : Written) (t : Bool) → cond t (Some (writing s block text)) (last_write s.writes q) ≡ Some x
-        → Stands x.stamp (cond t (kept itself (base_of f (s.drawn + 1)) (s.drawn + 1) (held f w (key_of q))) (held f w (key_of q)))
+        → Stands x.stamp (cond t (kept itself (base_begun f (s.drawn + 1)) (s.drawn + 1) (held f w (key_of q))) (held f w (key_of q)))
     stands f q x true is =
-        subst (λ (y : Written). Stands y.stamp (kept itself (base_of f (s.drawn + 1)) (s.drawn + 1) (held f w (key_of q)))) (some_same x (writing s block text) is)
-        (kept-stands (base_of f (s.drawn + 1)) (s.drawn + 1) (held f w (key_of q)))
+        subst (λ (y : Written). Stands y.stamp (kept itself (base_begun f (s.drawn + 1)) (s.drawn + 1) (held f w (key_of q)))) (some_same x (writing s block text) is)
+        (kept-stands (base_begun f (s.drawn + 1)) (s.drawn + 1) (held f w (key_of q)))
     stands f q x false is = h.stands f q x is
 
     blocks : (f : Facts) (key : Key) (t : Bool) → same_key key (key_of block) ≡ t
-        → IsHeld (cond t (kept itself (base_of f (s.drawn + 1)) (s.drawn + 1) (held f w key)) (held f w key)) → (q : ℕ) × (q < 1048576) × (key ≡ key_of q)
+        → IsHeld (cond t (kept itself (base_begun f (s.drawn + 1)) (s.drawn + 1) (held f w key)) (held f w key)) → (q : ℕ) × (q < 1048576) × (key ≡ key_of q)
     blocks f key true same there = (block, low, key_same key block same)
     blocks f key false same there = h.blocks f key there

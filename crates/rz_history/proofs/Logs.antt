@@ -5,7 +5,7 @@ use Rattle.rz_events.specs.declared.events.Word.TheVariants.{Export, Node}
 use Rattle.rz_events.specs.declared.events.Event.{Event}
 use Rattle.rz_events.specs.Events.{by_of, word_of, same_word}
 use Rattle.rz_core.specs.History.{Facts, Begun, begun_by, facts, of_word, of_actor, wrote, places_of}
-use Rattle.rz_core.specs.Legal.{Row, IsAllowed}
+use Rattle.rz_core.specs.Legal.{Row, HasWord, IsAllowed}
 use Rattle.rz_replay.specs.Store.{Written, client, key_of}
 use Rattle.rz_history.specs.Wide.{wide}
 
@@ -26,10 +26,10 @@ filter-short p [] = omega arith
 filter-short p (x ∷ xs) = shorter (p x) x (filter p xs) xs (filter-short p xs)
 
 -- a log with few events has room for one more of any word
-pub step : (h : List Event) (x : Event) → length h < 2 ^ 64 - 1 → Row wide (facts h) (of_word (word_of x) h) (of_actor (by_of x) h) (of_actor (by_of x) h) x → IsAllowed wide h x
-step h x few row =
+pub step : (h : List Event) (x : Event) → length h < 2 ^ 64 - 1 → HasWord wide (word_of x) → Row wide (facts h) (of_word (word_of x) h) (of_actor (by_of x) h) (of_actor (by_of x) h) x → IsAllowed wide h x
+step h x few word row =
     let short : length (of_word (word_of x) h) ≤ length h = filter-short (λ y. same_word (word_of x) (word_of y)) h in
-    record { room = omega arith; row = row }
+    record { room = omega arith; word = word; row = row }
 
 -- what a write began with
 abbrev pub begun_of : ℕ → Written → Begun

@@ -8,7 +8,15 @@ use Rattle.rz_events.specs.declared.events.Event.TheVariants as e
 use Rattle.rz_core.specs.History.{facts, Has}
 use Rattle.rz_core.specs.Legal.{IsLegal}
 use Rattle.rz_core.specs.Longer.{IsPrefixLegal}
-use Rattle.rz_replay.specs.Store.{Written, Play, fresh, start, played, played_line, create_events, get_events, last_write, key_of, client, made, is_rest}
+use Rattle.std.specs.Prelude.{codes}
+use Rattle.rz_events.specs.declared.operations.Operation.TheVariants as operation
+use Rattle.rz_events.specs.declared.tree.TreeCall.TheVariants as call
+use Rattle.rz_events.specs.declared.tree.TreeReply.TheVariants as given
+use Rattle.rz_events.specs.declared.export.Reply.TheVariants as reply
+use Rattle.rz_operation_model.specs.Steps.{Replied}
+use Rattle.rz_operation_model.specs.Work.{Calling, Ending}
+use Rattle.rz_core.specs.Courses.{Begun, Went, DoneRow}
+use Rattle.rz_replay.specs.Store.{Written, Play, fresh, start, played, played_line, create_events, get_events, last_write, key_of, client, made, info, is_rest}
 use Rattle.rz_replay.specs.declared.operation.Operation.TheVariants as op
 use Rattle.rz_replay.specs.declared.operation.Line.{Line}
 use Rattle.rz_replay.specs.declared.operation.Line.TheVariants as line
@@ -36,12 +44,23 @@ none-enrolled n by loss fence (inr has) = has
 created-shown : ShowsLast fresh (made ∷ [])
 created-shown = record { last = refl; live = refl; free = none-enrolled; told = λ block. refl; below = λ block x is. cc; file = λ f k. file-made f }
 
+-- the file was made by one call
+made_row : (number : ℕ) → DoneRow wide client number (made ∷ []) (answer.Created 1)
+made_row number = record {
+  work = Ending (answer.Created 1);
+  course = Went [] (Calling (call.Create (codes "/f"))) (Replied (reply.Tree (given.MadeFile (info 0)))) (made ∷ [])
+      (Begun [] (operation.Tree (call.Create (codes "/f"))) refl tt)
+      (reply.Tree (given.MadeFile (info 0)), made, refl, refl, refl);
+  asks = refl;
+}
+
 created : (number : ℕ) → Follows fresh (create_events number)
 created number = record {
   legal = (
-    (tt, record { room = lit< tt; row = record { told = create-reply (facts []) } }),
-    record { room = lit< tt; row = inl (tt, refl) },
+    (tt, record { room = lit< tt; word = tt; row = record { told = create-reply (facts []) } }),
+    record { room = lit< tt; word = tt; row = made_row number },
   );
+  between = refl;
   placed = refl;
   known = tt;
   unwritten = λ t above. refl;

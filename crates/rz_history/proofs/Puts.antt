@@ -1,5 +1,5 @@
 -- The events of a write, one by one.
-use Rattle.std.proofs.Common.{ℕ, zero, suc, Bool, true, false, ◌≡◌, ◌⊎◌, inl, inr, ◌≤◌, ◌<◌, ◌+◌, ◌-◌, ◌^◌, ◌==◌, List, [], ◌∷◌, ◌++◌, Option, Some, None, cond, length, refl, sym, ◌∙◌, ap, arith, slice_get}
+use Rattle.std.proofs.Common.{ℕ, zero, suc, Bool, true, false, ◌≡◌, ◌⊎◌, inl, inr, ◌≤◌, ◌<◌, ◌+◌, ◌-◌, ◌^◌, ◌==◌, List, [], ◌∷◌, ◌++◌, Option, Some, None, cond, length, refl, sym, ◌∙◌, ap, arith, slice_get, slice_set, replicate}
 use Rattle.std.proofs.lemmas.Bool.{eqb-true, eq-eqb}
 use Rattle.std.proofs.lemmas.Nat.Bits.{bit_at_above}
 use Rattle.std.specs.Int.Count.{ones}
@@ -14,7 +14,25 @@ use Rattle.rz_core.specs.ExportWord.{export_of, stamp_in as stamp_told, latest}
 use Rattle.rz_events.specs.Masks.{HasBit}
 use Rattle.rz_core.specs.ExportRows.{HasKept}
 use Rattle.rz_core.specs.Legal.{IsLegal}
-use Rattle.rz_replay.specs.Store.{Store, after, events_of, last_write, client, key_of, opened, three}
+use Rattle.std.specs.Prelude.{codes}
+use Rattle.mj_angles.specs.declared.layout.Layout.TheVariants.{L0}
+use Rattle.rz_events.specs.declared.operations.Operation.TheVariants as operation
+use Rattle.rz_events.specs.declared.tree.TreeReply.TheVariants as given
+use Rattle.rz_events.specs.declared.export.Reply.TheVariants as reply
+use Rattle.rz_events.specs.declared.nodes.NodeAnswer.TheVariants as answer
+use Rattle.rz_operation_model.specs.Steps.{Replied, Answered}
+use Rattle.rz_operation_model.specs.Turns.{Through}
+use Rattle.rz_core.specs.Courses.{IsCourse, Begun as Started, Went, IsGave}
+use Rattle.rz_events.specs.declared.operations.Datum.TheVariants as datum
+use Rattle.rz_events.specs.declared.nodes.KeepAnswer.TheVariants as keep
+use Rattle.rz_events.specs.declared.ends.Why.{Why}
+use Rattle.rz_events.specs.declared.ends.Why.TheVariants as why
+use Rattle.rz_client_model.specs.declared.writing.Sent.{Sent}
+use Rattle.rz_client_model.specs.declared.writing.WriteStage.{WriteStage}
+use Rattle.rz_client_model.specs.declared.writing.WriteStage.TheVariants.{Beginning, Sending, Ended}
+use Rattle.rz_client_model.specs.Write.{writer_start}
+use Rattle.rz_operation_model.specs.Work.{Opening, OnBlock, PutBlock, Writing, Alone}
+use Rattle.rz_replay.specs.Store.{Store, after, events_of, stamp_in, last_write, client, key_of, info, opened, three}
 use Rattle.rz_replay.specs.declared.operation.Operation.TheVariants as op
 use Rattle.rz_history.specs.Wide.{wide}
 use Rattle.rz_history.proofs.Logs.{export, node, step, begun_of, wrote-front, places-front, known-front, unwritten-more}
@@ -94,13 +112,13 @@ module _ (s : Store) (h : List Event) (t : Follows s h) (few : length h + 8 < 2 
   legal-open : IsLegal wide (with_open s h)
   legal-open = (
     t.legal,
-    step h (opened s.size) (omega arith) (record { told = open-reply (export_of wide (facts h) (export h)) s.size (t.shown.file (facts h) t.known) }),
+    step h (opened s.size) (omega arith) tt (record { told = open-reply (export_of wide (facts h) (export h)) s.size (t.shown.file (facts h) t.known) }),
   )
 
   legal-begin : IsLegal wide (with_begin s block text h)
   legal-begin = (
     legal-open,
-    step (with_open s h) (begun s block text) (omega arith)
+    step (with_open s h) (begun s block text) (omega arith) tt
         (record {
           live = t.shown.live;
           block = low;
@@ -113,7 +131,7 @@ module _ (s : Store) (h : List Event) (t : Follows s h) (few : length h + 8 < 2 
   legal-one : IsLegal wide (with_one s block text h)
   legal-one = (
     legal-begin,
-    step (with_begin s block text h) (kept_at s block 1 0) (omega arith)
+    step (with_begin s block text h) (kept_at s block 1 0) (omega arith) (inl refl)
         (keep-row s (node 1 h) t.at_1 (facts (with_begin s block text h)) 1 0 block (begun_of block (writing s block text)) refl low (writer [])
         (place (begun s block text ∷ opened s.size ∷ []) 0 1 refl)),
   )
@@ -121,7 +139,7 @@ module _ (s : Store) (h : List Event) (t : Follows s h) (few : length h + 8 < 2 
   legal-two : IsLegal wide (with_two s block text h)
   legal-two = (
     legal-one,
-    step (with_one s block text h) (kept_at s block 2 1) (omega arith)
+    step (with_one s block text h) (kept_at s block 2 1) (omega arith) (inr (inl refl))
         (keep-row s (node 2 h) t.at_2 (facts (with_one s block text h)) 2 1 block (begun_of block (writing s block text)) refl low (writer (kept_at s block 1 0 ∷ []))
         (place (kept_at s block 1 0 ∷ begun s block text ∷ opened s.size ∷ []) 1 2 refl)),
   )
@@ -129,7 +147,7 @@ module _ (s : Store) (h : List Event) (t : Follows s h) (few : length h + 8 < 2 
   legal-keeps : IsLegal wide (with_keeps s block text h)
   legal-keeps = (
     legal-two,
-    step (with_two s block text h) (kept_at s block 3 2) (omega arith)
+    step (with_two s block text h) (kept_at s block 3 2) (omega arith) (inr (inr (inl refl)))
         (keep-row s (node 3 h) t.at_3 (facts (with_two s block text h)) 3 2 block (begun_of block (writing s block text)) refl low
         (writer (kept_at s block 2 1 ∷ kept_at s block 1 0 ∷ []))
         (place (kept_at s block 2 1 ∷ kept_at s block 1 0 ∷ begun s block text ∷ opened s.size ∷ []) 2 3 refl)),
@@ -158,7 +176,7 @@ module _ (s : Store) (h : List Event) (t : Follows s h) (few : length h + 8 < 2 
   legal-publish : IsLegal wide (with_publish s block text h)
   legal-publish = (
     legal-keeps,
-    step (with_keeps s block text h) (accepted_now s block) (omega arith)
+    step (with_keeps s block text h) (accepted_now s block) (omega arith) tt
         (record {
           publishable = record {
             live = t.shown.live;
@@ -173,11 +191,45 @@ module _ (s : Store) (h : List Event) (t : Follows s h) (few : length h + 8 < 2 
         }),
   )
 
+  -- the course of the write
+  acknowledged : (number : ℕ) → IsGave wide client number (of_actor client (with_publish s block text h)) (key_of block) false (write.Acked (s.drawn + 1) three)
+  acknowledged number =
+      let path = codes "/f" in
+      let own = of_actor client h in
+      let base = stamp_in (last_write s.writes block) in
+      let key = key_of block in
+      let start = writer_start L0 key (info s.size).places (length text) in
+      let at = λ (stage : WriteStage). Writing Alone text (record start { stage = stage }) in
+      let sent = λ (kept : ℕ) (causes : List Why). (let t : Sent = record { stamp = s.drawn + 1; base = base; kept = kept; failed = 0; why = causes } in Sending t) in
+      let one = slice_set (replicate 16 why.NotAsked) 0 why.Kept in
+      let two = slice_set one 1 why.Kept in
+      let all = slice_set two 2 why.Kept in
+      let c0 : IsCourse L0 client number own (Opening path (OnBlock (PutBlock block text))) = Started own (operation.Put path block (datum.Bytes text)) refl t.between in
+      let c1 : IsCourse L0 client number (opened s.size ∷ own) (at Beginning) =
+          Went own (Opening path (OnBlock (PutBlock block text))) (Replied (reply.Tree (given.File (info s.size)))) (opened s.size ∷ []) c0
+          (reply.Tree (given.File (info s.size)), opened s.size, refl, refl, refl) in
+      let c2 : IsCourse L0 client number (begun s block text ∷ opened s.size ∷ own) (at (sent 0 (replicate 16 why.NotAsked))) =
+          Went (opened s.size ∷ own) (at Beginning) (Replied (reply.Begun (s.drawn + 1) base)) (begun s block text ∷ []) c1
+          (reply.Begun (s.drawn + 1) base, begun s block text, refl, refl, refl) in
+      let c3 : IsCourse L0 client number (kept_at s block 1 0 ∷ begun s block text ∷ opened s.size ∷ own) (at (sent 1 one)) =
+          Went (begun s block text ∷ opened s.size ∷ own) (at (sent 0 (replicate 16 why.NotAsked))) (Answered true (answer.Keep keep.Kept)) (kept_at s block 1 0 ∷ []) c2
+          (Through (answer.Keep keep.Kept) (kept_at s block 1 0) refl) in
+      let c4 : IsCourse L0 client number (kept_at s block 2 1 ∷ kept_at s block 1 0 ∷ begun s block text ∷ opened s.size ∷ own) (at (sent 2 two)) =
+          Went (kept_at s block 1 0 ∷ begun s block text ∷ opened s.size ∷ own) (at (sent 1 one)) (Answered true (answer.Keep keep.Kept)) (kept_at s block 2 1 ∷ []) c3
+          (Through (answer.Keep keep.Kept) (kept_at s block 2 1) refl) in
+      let c5 : IsCourse L0 client number (kept_at s block 3 2 ∷ kept_at s block 2 1 ∷ kept_at s block 1 0 ∷ begun s block text ∷ opened s.size ∷ own) (at (sent 3 all)) =
+          Went (kept_at s block 2 1 ∷ kept_at s block 1 0 ∷ begun s block text ∷ opened s.size ∷ own) (at (sent 2 two)) (Answered true (answer.Keep keep.Kept)) (kept_at s block 3 2 ∷ []) c4
+          (Through (answer.Keep keep.Kept) (kept_at s block 3 2) refl) in
+      let c6 : IsCourse L0 client number (of_actor client (with_publish s block text h)) (at (Ended (write.Acked (s.drawn + 1) three))) =
+          Went (kept_at s block 3 2 ∷ kept_at s block 2 1 ∷ kept_at s block 1 0 ∷ begun s block text ∷ opened s.size ∷ own) (at (sent 3 all)) (Replied reply.Accepted) (accepted_now s block ∷ []) c5
+          (reply.Accepted, accepted_now s block, refl, refl, refl) in
+      record { work = at (Ended (write.Acked (s.drawn + 1) three)); course = c6; asks = refl }
+
   -- the write is acknowledged, and the client is told
   pub legal-put : (number : ℕ) → IsLegal wide (events_of number s (op.Put block text) ++ h)
   legal-put number = (
     legal-publish,
-    step (with_publish s block text h) (e.Gave client number (key_of block) false (write.Acked (s.drawn + 1) three)) (omega arith) refl,
+    step (with_publish s block text h) (e.Gave client number (key_of block) false (write.Acked (s.drawn + 1) three)) (omega arith) tt (refl, acknowledged number),
   )
 
   unwritten : (number q : ℕ) → s.drawn + 1 < q → wrote (events_of number s (op.Put block text) ++ h) q ≡ None
@@ -198,6 +250,7 @@ module _ (s : Store) (h : List Event) (t : Follows s h) (few : length h + 8 < 2 
       let all = gave ∷ accepted_now s block ∷ kept_at s block 3 2 ∷ kept_at s block 2 1 ∷ kept_at s block 1 0 ∷ begun s block text ∷ opened s.size ∷ [] in
       record {
         legal = legal-put number;
+        between = refl;
         placed = places-front all h 1 places t.placed;
         known = (
           wrote-front later (with_begin s block text h) (s.drawn + 1) (begun_of block (writing s block text)) begun-now,

@@ -2,9 +2,10 @@
 use Rattle.std.proofs.Common.{ℕ, Bool, true, false, ◌≡◌, ◌<◌, ◌==◌, List, [], ◌∷◌, Some, None, cond, refl, sym, subst}
 use Rattle.std.proofs.lemmas.Bool.{eqb-true}
 use Rattle.rz_events.specs.declared.events.Event.{Event}
-use Rattle.rz_core.specs.History.{Facts, facts, wrote, places_of}
+use Rattle.rz_core.specs.History.{Facts, facts, of_actor, wrote, places_of}
 use Rattle.rz_core.specs.Legal.{IsLegal}
-use Rattle.rz_replay.specs.Store.{Written, Store, last_write}
+use Rattle.rz_core.specs.Own.{IsBetween}
+use Rattle.rz_replay.specs.Store.{Written, Store, last_write, client}
 use Rattle.rz_history.specs.Wide.{wide}
 use Rattle.rz_history.proofs.Logs.{export, node, KnowsAll, begun_of}
 use Rattle.rz_history.proofs.Held.{HoldsLast, some_same}
@@ -17,6 +18,7 @@ places = 1 ∷ 2 ∷ 3 ∷ 4 ∷ []
 -- The log is legal, and what it leaves at the export and at the first three nodes is what is stored.
 pub record Follows (s : Store) (h : List Event) : Type 0 where
   pub legal : IsLegal wide h
+  pub between : IsBetween (of_actor client h)
   pub placed : places_of h 1 ≡ Some places
   pub known : KnowsAll (facts h) s.writes
   pub unwritten : (t : ℕ) → s.drawn < t → wrote h t ≡ None
