@@ -178,7 +178,7 @@ short-extends v f g ext start o key s told r = record {
 enough-extends : (v : Volume) (f g : Facts) → Extends f g → (start : Event → Bool) (o : List Event) (key : Key) (s : ℕ) → IsEnough v f start o key s → IsEnough v g start o key s
 enough-extends v f g ext start o key s r = record { places = r.places; placed = ext.places key.fid r.places r.placed; many = r.many }
 
-got-extends : (v : Volume) (f g : Facts) → Extends f g → (o : List Event) (by : Actor) (key : Key) (end : ReadEnd) → GotRow v f o by key end → GotRow v g o by key end
+pub got-extends : (v : Volume) (f g : Facts) → Extends f g → (o : List Event) (by : Actor) (key : Key) (end : ReadEnd) → GotRow v f o by key end → GotRow v g o by key end
 got-extends v f g ext o by key (read.Found stamp text) r =
     record { looked = r.looked; enough = r.enough; wrote = (r.wrote.0, ext.wrote _ _ r.wrote.1, r.wrote.2) }
 got-extends v f g ext o by key (read.TooFew seen) r = record {
@@ -195,7 +195,7 @@ got-extends v f g ext o by key read.Hole r = r
 got-extends v f g ext o by key read.Inconsistent r = absurd r
 got-extends v f g ext o by key (read.Denied cause) r = r
 
-gave-extends : (v : Volume) (f g : Facts) → Extends f g → (o : List Event) (by : Actor) (key : Key) (end : WriteEnd) → GaveRow v f o by key end → GaveRow v g o by key end
+pub gave-extends : (v : Volume) (f g : Facts) → Extends f g → (o : List Event) (by : Actor) (key : Key) (end : WriteEnd) → GaveRow v f o by key end → GaveRow v g o by key end
 gave-extends v f g ext o by key (write.Acked stamp mask) r = r
 gave-extends v f g ext o by key (write.TooFew causes) r = record {
   stamp = r.stamp;

@@ -153,6 +153,7 @@ module _ (s : Store) (h : List Event) (t : Follows s h) (few : length h + 8 < 2 
   both_came x = with_record (first_came x) (length x.text)
 
   fetching : (number : ℕ) (x : Written) → IsCourse L0 client number (of_actor client (with_first s block x h)) (Reading Alone (state (Fetching (first_came x))))
+  unfolding lib.Count.count_trailing_zeros
   fetching number x =
       let a = none_fetched L0 (published_of x) in
       subst (λ (b : Bool). IsCourse L0 client number (of_actor client (with_first s block x h)) (Reading Alone (state (cond b (Fetching (first_came x)) (Fetching (with_seen a seen.Held))))))
@@ -161,6 +162,7 @@ module _ (s : Store) (h : List Event) (t : Follows s h) (few : length h + 8 < 2 
       (Through (answer.Fetch (fetch.Held (held_of x))) (fetched (key_of block) x 0) refl))
 
   enough : (number : ℕ) (x : Written) → IsCourse L0 client number (of_actor client (with_both s block x h)) (Reading Alone (state (Ended (mark.Found x.stamp (length x.text)))))
+  unfolding lib.Count.count_trailing_zeros
   enough number x =
       let a = first_came x in
       subst (λ (b : Bool). IsCourse L0 client number (of_actor client (with_both s block x h)) (Reading Alone (state (cond b (Ended (mark.Found x.stamp (length x.text))) (Fetching (with_seen a seen.Held))))))
@@ -183,15 +185,14 @@ module _ (s : Store) (h : List Event) (t : Follows s h) (few : length h + 8 < 2 
   )
   legal-get number (Some x) is = (
     legal-both x is,
-    step (with_both s block x h) (e.Got client number (key_of block) false (read.Found x.stamp x.text)) (omega arith) tt
-        (
-          record {
-            looked = (published_of x, refl, refl);
-            enough = two-gave ((block == block) && (x.stamp == x.stamp)) (both _ _ (eq-eqb block block refl) (eq-eqb x.stamp x.stamp refl));
-            wrote = (begun_of block x, known (fetched (key_of block) x 1 ∷ fetched (key_of block) x 0 ∷ looked block (Some x) ∷ opened s.size ∷ []) x is, refl);
-          },
-          found number x,
-        ),
+    step (with_both s block x h) (e.Got client number (key_of block) false (read.Found x.stamp x.text)) (omega arith) tt (
+      record {
+        looked = (published_of x, refl, refl);
+        enough = two-gave ((block == block) && (x.stamp == x.stamp)) (both _ _ (eq-eqb block block refl) (eq-eqb x.stamp x.stamp refl));
+        wrote = (begun_of block x, known (fetched (key_of block) x 1 ∷ fetched (key_of block) x 0 ∷ looked block (Some x) ∷ opened s.size ∷ []) x is, refl);
+      },
+      found number x,
+    ),
   )
 
   follow-hole : (number : ℕ) → last_write s.writes block ≡ None → Follows s (get_events number s.size (key_of block) None ++ h)

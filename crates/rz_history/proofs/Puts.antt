@@ -206,23 +206,23 @@ module _ (s : Store) (h : List Event) (t : Follows s h) (few : length h + 8 < 2 
       let all = slice_set two 2 why.Kept in
       let c0 : IsCourse L0 client number own (Opening path (OnBlock (PutBlock block text))) = Started own (operation.Put path block (datum.Bytes text)) refl t.between in
       let c1 : IsCourse L0 client number (opened s.size ∷ own) (at Beginning) =
-          Went own (Opening path (OnBlock (PutBlock block text))) (Replied (reply.Tree (given.File (info s.size)))) (opened s.size ∷ []) c0
-          (reply.Tree (given.File (info s.size)), opened s.size, refl, refl, refl) in
+      Went own (Opening path (OnBlock (PutBlock block text))) (Replied (reply.Tree (given.File (info s.size)))) (opened s.size ∷ []) c0
+      (reply.Tree (given.File (info s.size)), opened s.size, refl, refl, refl) in
       let c2 : IsCourse L0 client number (begun s block text ∷ opened s.size ∷ own) (at (sent 0 (replicate 16 why.NotAsked))) =
-          Went (opened s.size ∷ own) (at Beginning) (Replied (reply.Begun (s.drawn + 1) base)) (begun s block text ∷ []) c1
-          (reply.Begun (s.drawn + 1) base, begun s block text, refl, refl, refl) in
+      Went (opened s.size ∷ own) (at Beginning) (Replied (reply.Begun (s.drawn + 1) base)) (begun s block text ∷ []) c1
+      (reply.Begun (s.drawn + 1) base, begun s block text, refl, refl, refl) in
       let c3 : IsCourse L0 client number (kept_at s block 1 0 ∷ begun s block text ∷ opened s.size ∷ own) (at (sent 1 one)) =
-          Went (begun s block text ∷ opened s.size ∷ own) (at (sent 0 (replicate 16 why.NotAsked))) (Answered true (answer.Keep keep.Kept)) (kept_at s block 1 0 ∷ []) c2
-          (Through (answer.Keep keep.Kept) (kept_at s block 1 0) refl) in
+      Went (begun s block text ∷ opened s.size ∷ own) (at (sent 0 (replicate 16 why.NotAsked))) (Answered true (answer.Keep keep.Kept)) (kept_at s block 1 0 ∷ []) c2
+      (Through (answer.Keep keep.Kept) (kept_at s block 1 0) refl) in
       let c4 : IsCourse L0 client number (kept_at s block 2 1 ∷ kept_at s block 1 0 ∷ begun s block text ∷ opened s.size ∷ own) (at (sent 2 two)) =
-          Went (kept_at s block 1 0 ∷ begun s block text ∷ opened s.size ∷ own) (at (sent 1 one)) (Answered true (answer.Keep keep.Kept)) (kept_at s block 2 1 ∷ []) c3
-          (Through (answer.Keep keep.Kept) (kept_at s block 2 1) refl) in
+      Went (kept_at s block 1 0 ∷ begun s block text ∷ opened s.size ∷ own) (at (sent 1 one)) (Answered true (answer.Keep keep.Kept)) (kept_at s block 2 1 ∷ []) c3
+      (Through (answer.Keep keep.Kept) (kept_at s block 2 1) refl) in
       let c5 : IsCourse L0 client number (kept_at s block 3 2 ∷ kept_at s block 2 1 ∷ kept_at s block 1 0 ∷ begun s block text ∷ opened s.size ∷ own) (at (sent 3 all)) =
-          Went (kept_at s block 2 1 ∷ kept_at s block 1 0 ∷ begun s block text ∷ opened s.size ∷ own) (at (sent 2 two)) (Answered true (answer.Keep keep.Kept)) (kept_at s block 3 2 ∷ []) c4
-          (Through (answer.Keep keep.Kept) (kept_at s block 3 2) refl) in
+      Went (kept_at s block 2 1 ∷ kept_at s block 1 0 ∷ begun s block text ∷ opened s.size ∷ own) (at (sent 2 two)) (Answered true (answer.Keep keep.Kept)) (kept_at s block 3 2 ∷ []) c4
+      (Through (answer.Keep keep.Kept) (kept_at s block 3 2) refl) in
       let c6 : IsCourse L0 client number (of_actor client (with_publish s block text h)) (at (Ended (write.Acked (s.drawn + 1) three))) =
-          Went (kept_at s block 3 2 ∷ kept_at s block 2 1 ∷ kept_at s block 1 0 ∷ begun s block text ∷ opened s.size ∷ own) (at (sent 3 all)) (Replied reply.Accepted) (accepted_now s block ∷ []) c5
-          (reply.Accepted, accepted_now s block, refl, refl, refl) in
+      Went (kept_at s block 3 2 ∷ kept_at s block 2 1 ∷ kept_at s block 1 0 ∷ begun s block text ∷ opened s.size ∷ own) (at (sent 3 all)) (Replied reply.Accepted) (accepted_now s block ∷ []) c5
+      (reply.Accepted, accepted_now s block, refl, refl, refl) in
       record { work = at (Ended (write.Acked (s.drawn + 1) three)); course = c6; asks = refl }
 
   -- the write is acknowledged, and the client is told

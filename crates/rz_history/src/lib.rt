@@ -28,6 +28,7 @@ pub fn sound()
     ensures { (script : List ALine) (log : List AnEvent) → IsPlay script log → IsSound wide log }
 {
     legal();
+    rz_core::one_run();
     rz_safety::sound();
 }
 
@@ -37,5 +38,6 @@ pub fn answering()
     ensures { (script : List ALine) (log : List AnEvent) → IsPlay script log → IsAnswering wide log }
 {
     legal();
+    rz_core::one_run();
     rz_safety::answering();
 }
