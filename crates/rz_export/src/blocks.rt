@@ -15,11 +15,13 @@ use rz_events::{Denial, FileInfo, Key, Published, Reply};
 use std::alloc::AllocError;
 
 impl Export {
-    /// Begins a write of a block: a new stamp, and the stamp that is published.
+    /// Begins a write of a block: a new stamp, and the stamp that is published. Memory is taken only
+    /// where the begin is not denied.
     pub fn begin(&mut self, key: Key) -> Result<Reply, AllocError>
         ensures reply { IfOk result (λ r. r ≡ export_reply self.old (Call.Begin key [])) }
         ensures ok { OnOk result (self.new ≡ export_after self.old (Call.Begin key [])) }
         ensures err { OnErr result (self.new ≡ self.old) }
+        ensures undenied { OnErr result (no_begin self.old key ≡ None) }
     {
         let Some(info) = self.file(key.fid) else {
             return Ok(Reply::Denied(Denial::UnknownFile));
