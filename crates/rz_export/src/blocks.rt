@@ -5,7 +5,7 @@ ghost use Rattle.std.specs.FinMap as maps;
 ghost use Rattle.mj_angles.specs.Layout.{block_bytes_of};
 ghost use Rattle.rz_events.specs.declared.export.Call.{Call};
 ghost use Rattle.rz_export_model.specs.Tree.{Tree, file_of};
-ghost use Rattle.rz_export_model.specs.Export.{no_begin, no_publish, export_reply, export_after, after_begin, after_publish, base_of, is_proper, is_node, is_ready, new_fence, spent};
+ghost use Rattle.rz_export_model.specs.Export.{no_begin, no_publish, export_reply, export_after, after_begin, after_publish, published_stamp, is_proper, is_node, is_ready, new_fence, spent};
 ghost use Rattle.rz_export.specs.Kept.{with_fence};
 
 use crate::export::Export;
@@ -82,7 +82,7 @@ impl Export {
 
     // The stamp that is published, or 0.
     fn base(&self, key: Key) -> u64
-        ensures { result ≡ base_of self.now.blocks key }
+        ensures { result ≡ published_stamp self.now.blocks key }
     {
         match self.published_of(key) {
             None => 0,

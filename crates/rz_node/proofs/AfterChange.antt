@@ -73,7 +73,7 @@ module _ (key : Key) (kept : held.Records) (after : List Held) (new : Option Rec
   at-own t =
       let named : names (head_in new) key t ≡ is_new new t = names-has (head_in new) key t (heads-of new key of) ∙ same-new new t in
       let stays : has_stamp stamp_of t (held_of (with_held kept key after) key) ≡ (names (head_in new) key t || (has_stamp stamp_of t (held_of kept key) && not (names gone key t))) =
-          ap (has_stamp stamp_of t) (own-held kept key after) ∙ way.stays t ∙ ap (λ b. b || (has_stamp stamp_of t (held_of kept key) && not (names gone key t))) (sym named) in
+      ap (has_stamp stamp_of t) (own-held kept key after) ∙ way.stays t ∙ ap (λ b. b || (has_stamp stamp_of t (held_of kept key) && not (names gone key t))) (sym named) in
       by-tests new (records key t) (names (head_in new) key t) (has_stamp stamp_of t (held_of kept key)) (names gone key t) (held key t)
       ∙ ap (λ b. if b then (if names (head_in new) key t then new else records key t) else None) (sym stays)
 

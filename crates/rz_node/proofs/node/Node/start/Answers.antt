@@ -48,10 +48,10 @@ returns-in-Ok-open_again-clause-branch g c told =
     let down = ready-down s.phase _ _ c.in-Down.is c.self.invariant.ready in
     let tied = subst (λ (y : Geometry). IsTied y.cells n.heads.items c.index_of.result) c.open_again.ensures.geometry c.index_of.ensures in
     let at : IsBranch s.cells.geometry s.cells.fence (g.D.Disk.text n.disk) s.undecided (held_by s.index.entries s.cells.heads.items) c.has_taken-took.result =
-        branch s.cells.geometry s.cells.fence (g.D.Disk.text n.disk) s.undecided (held_by s.index.entries s.cells.heads.items) (held_by c.index_of.result.entries n.heads.items) c.has_taken-took.result down.told
-        (c.has_taken-took.ensures n.geometry.cells n.heads.items c.index_of.ensures)
-        (λ records stands. shows-found s.cells.geometry n.fence s.cells.fence (g.D.Disk.text n.disk) n.heads.items c.index_of.result records tied
-        (subst (λ (t : List ℕ). Finds s.cells.geometry t n.fence n.heads.items) (sym c.open_again.ensures.text) (c.in-Ok-open_again.ensures.found told)) stands) in
+    branch s.cells.geometry s.cells.fence (g.D.Disk.text n.disk) s.undecided (held_by s.index.entries s.cells.heads.items) (held_by c.index_of.result.entries n.heads.items) c.has_taken-took.result down.told
+    (c.has_taken-took.ensures n.geometry.cells n.heads.items c.index_of.ensures)
+    (λ records stands. shows-found s.cells.geometry n.fence s.cells.fence (g.D.Disk.text n.disk) n.heads.items c.index_of.result records tied
+    (subst (λ (t : List ℕ). Finds s.cells.geometry t n.fence n.heads.items) (sym c.open_again.ensures.text) (c.in-Ok-open_again.ensures.found told)) stands) in
     branch-along _ _ (g.D.Disk.text n.disk) c.has_taken-took.result c.self.view_is
     (subst (λ (p : Phase). IsBranch s.cells.geometry s.cells.fence (g.D.Disk.text n.disk) s.undecided (held_in p s.index.entries s.cells.heads.items) c.has_taken-took.result) (sym c.in-Down.is) at)
 
