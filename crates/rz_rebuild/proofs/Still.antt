@@ -70,7 +70,6 @@ answered-still layout n r was s a bins plain h is = answered (machine_of layout 
 
 -- what is told of no read brings no record
 pub plain-probed : (a : RebuildAnswer) → IsProbed a → IsPlain a
-
 plain-probed (told.Fetched a) h = h
 plain-probed _ h = tt
 

@@ -13,5 +13,7 @@ mod asks;
 mod copies;
 mod rebuilder;
 mod step;
+#[cfg(test)]
+mod tests;
 
 pub use rebuilder::Rebuilder;

@@ -1,6 +1,6 @@
 //! The rebuild of a node.
 
-ghost use Rattle.std.specs.Prelude.{◌≡◌, IfOk, ℕ, List, length};
+ghost use Rattle.std.specs.Prelude.{◌≡◌, ◌↔◌, IfOk, IsTrue, ℕ, List, length};
 ghost use Rattle.mj_angles.specs.Layout.{safe_of, max_bins_of};
 ghost use Rattle.rz_operation_model.specs.Rebuild.{IsRebuildAnswer};
 ghost use Rattle.rz_rebuild.specs.Machine.{machine_for, ask_in, end_in, IsUnderWay, ComeWith, HasRoom, IsAnswered, IsRefill, AreBins};
@@ -101,6 +101,17 @@ impl Rebuilder {
             &self.reader,
             &mut self.bins,
         );
+    }
+
+    /// Whether the blocks that were refilled or left can be counted once more.
+    pub fn has_room(&self) -> bool
+        ensures { IsTrue result ↔ HasRoom self.now.state }
+    {
+        match &self.step {
+            Step::Refilling { copied, .. } => copied.tally.refilled < u64::MAX,
+            Step::Leaving { tally, .. } => tally.left < u64::MAX,
+            _ => true,
+        }
     }
 
     /// How the rebuild ended, once it has.
