@@ -2,9 +2,13 @@ pub mod Acked
 pub mod ReadLaws
 pub mod Counts
 pub mod EndLaws
+pub mod QuietLaws
 pub mod NodeLaws
 pub mod KeptLaws
 pub mod FenceLaws
 pub mod VersionLaws
 pub mod RebuildLaws
 pub mod OrderLaws
+pub mod WriteLaws
+pub mod PositionLaws
+pub mod CourseLaws
