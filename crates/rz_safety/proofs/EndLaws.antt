@@ -27,8 +27,8 @@ use Rattle.rz_core.specs.Legal.{IsLegal}
 use Rattle.rz_core.proofs.Extends.{some_length}
 use Rattle.rz_core.proofs.Locality.{legal-rest}
 use Rattle.rz_core.proofs.Stamps.{export, cases_le, accepted-latest, accepted-more, accepted-mask}
-use Rattle.rz_safety.specs.Reads.{IsAcked, is_look_denial, before_look, before_export, before_read}
-use Rattle.rz_safety.specs.Sound.{IsFew, IsAnswer, IsAnswering, IsReached, IsMoved, IsSoundRead}
+use Rattle.rz_safety.specs.Reads.{IsAcked, is_look_denial, before_look, before_export}
+use Rattle.rz_safety.specs.Sound.{IsFew, IsAnswer, IsReached, IsMoved, IsSoundRead}
 use Rattle.rz_safety.proofs.Acked.{acked-accepted, accepted-acked, acked-more}
 use Rattle.rz_safety.proofs.ReadLaws.{skip, looked, found_sound, hole_sound}
 use Rattle.rz_safety.proofs.Counts.{few-missing}
@@ -151,12 +151,12 @@ moved_right v a h legal key p told was now is same again says moved =
     above : (s was now : ℕ) → s ≡ was → s ≤ now → ¬ (now ≡ was) → s < now
     above s was now same low moved = elim (cases_le s now) [ inl l ↦ absurd (moved (omega arith)) | inr l ↦ l ]
 
-gone_if : (m g : Bool) → (m && not g) ≡ false → m ≡ true → g ≡ true
+pub gone_if : (m g : Bool) → (m && not g) ≡ false → m ≡ true → g ≡ true
 gone_if true true e k = refl
 gone_if true false e k = cc
 gone_if false g e k = cc
 
-not_live : (m g : Bool) → g ≡ true → ¬ ((m && not g) ≡ true)
+pub not_live : (m g : Bool) → g ≡ true → ¬ ((m && not g) ≡ true)
 not_live true true k e = cc
 not_live false true k e = cc
 not_live m false k e = cc
@@ -207,7 +207,7 @@ read_sound v a h legal key (read.Found s text) r = record {
   reached = λ p look live. let same = same_told a key p r.looked.0 _ look.told r.looked.1 in sym (ap (λ (q : Published). q.stamp) same ∙ r.looked.2);
 }
 read_sound v a h legal key read.Hole r = record {
-  right = hole_sound v a h legal key r;
+  right = record { looked = r; none = hole_sound v a h legal key r };
   reached = λ p look live. let both = sym r ∙ look.told in cc;
 }
 read_sound v a h legal key (read.TooFew seen) r = record {
@@ -231,7 +231,7 @@ read_sound v a h legal key (read.Denied cause) (inr (again, (answer, is))) = rec
 read_sound v a h legal key read.Inconsistent r = absurd r
 
 -- a read whose block is quiet answers, unless too many nodes gave no record
-answer_right : (v : Volume) (h : List Event) → IsLegal v h → (start : List Event) (key : Key) (p : Published) (end : ReadEnd)
+pub answer_right : (v : Volume) (h : List Event) → IsLegal v h → (start : List Event) (key : Key) (p : Published) (end : ReadEnd)
     → latest (export h) key ≤ p.stamp → IsReached v start h key p end → IsAnswer v p end
 answer_right v h legal start key p (read.Found s text) quiet r = r
 answer_right v h legal start key p (read.TooFew seen) quiet r = r
@@ -244,9 +244,3 @@ answer_right v h legal start key p (read.Moved was now) quiet r =
 answer_right v h legal start key p read.Hole quiet r = absurd r
 answer_right v h legal start key p read.Inconsistent quiet r = absurd r
 answer_right v h legal start key p (read.Denied why) quiet r = absurd r
-
-pub answering : (v : Volume) (h : List Event) → IsLegal v h → IsAnswering v h
-answering v [] legal = tt
-answering v (e.Got by number key part end ∷ h) legal =
-    (answering v h legal.0, λ p look live quiet. answer_right v h legal.0 (before_read by h end) key p end quiet ((read_sound v by h legal.0 key end legal.1.row).reached p look live))
-answering v (x ∷ h) legal = (answering v h legal.0, tt)

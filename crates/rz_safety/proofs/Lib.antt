@@ -2,6 +2,7 @@ pub mod Acked
 pub mod ReadLaws
 pub mod Counts
 pub mod EndLaws
+pub mod QuietLaws
 pub mod NodeLaws
 pub mod KeptLaws
 pub mod FenceLaws

@@ -8,22 +8,23 @@ use Rattle.rz_events.specs.declared.keys.Actor.{Actor}
 use Rattle.rz_events.specs.declared.files.Listed.{Listed}
 use Rattle.rz_events.specs.declared.files.Published.{Published}
 use Rattle.rz_events.specs.declared.records.Change.TheVariants as change
+use Rattle.rz_events.specs.declared.nodes.Phase.TheVariants.{Lost}
 use Rattle.rz_events.specs.declared.events.Event.{Event}
 use Rattle.rz_events.specs.declared.events.Event.TheVariants as e
 use Rattle.rz_events.specs.Events.{by_of, same_actor, same_key}
 use Rattle.rz_node_model.specs.Versions.{Stands, IsPast}
-use Rattle.rz_core.specs.History.{facts, wrote, of_actor, Has, IsPlace, base_in, length_in}
-use Rattle.rz_core.specs.NodeWord.{losses, held, base_of}
+use Rattle.rz_core.specs.History.{Facts, facts, wrote, of_actor, Has, IsPlace, base_in, length_in}
+use Rattle.rz_core.specs.NodeWord.{phase, losses, fence_of, held, base_of}
 use Rattle.rz_core.specs.ExportWord.{accepted, is_newer, is_gone, is_made}
 use Rattle.rz_events.specs.Masks.{HasBit}
 use Rattle.rz_core.specs.ExportRows.{IsLess, IsAfter, IsListed}
-use Rattle.rz_core.specs.Legal.{IsLegal}
+use Rattle.rz_core.specs.Legal.{IsLegal, Row}
 use Rattle.rz_core.proofs.Extends.{some_length}
 use Rattle.rz_core.proofs.Locality.{all-filter}
 use Rattle.rz_core.proofs.Stamps.{export, same_key-refl, key_ext, accepted_cases}
 use Rattle.rz_safety.specs.Kept.{before_published}
 use Rattle.rz_safety.specs.Rebuilt.{Stage, Ready, Told, Ended, IsRun as IsRunAt, IsComplete}
-use Rattle.rz_core.proofs.NodeLaws.{at-own, node, holds, filter-has, pairs}
+use Rattle.rz_core.proofs.NodeLaws.{at-own, at-node, node, node-row, holds, filter-has, pairs}
 use Rattle.rz_safety.proofs.NodeLaws.{node-step, IsBegun}
 use Rattle.rz_safety.proofs.KeptLaws.{accepted-kept, accepted-made, published-stays, held-begun, refilled-new, pass-holds, bases, live-before, place-before, not_gone}
 use Rattle.rz_safety.proofs.FenceLaws.{losses-more, lost-losses, enrolled-above, barred, published-free}
@@ -406,10 +407,64 @@ done-held v (x ∷ h) legal by n loss fence a run now key m q live acc set place
               own-step v x h legal by n loss fence a run b now key m q live acc set place done (λ c run' acc' done'. ih c b run' acc' done'))
         ]
 
+-- The fence of a replacement.
+
+replaced-losses : (v : Volume) (h : List Event) → IsLegal v h → (by : Actor) (n loss fence : ℕ) → Has h (e.Replace by n loss fence) → loss ≤ losses (node n h)
+replaced-losses v [] legal by n loss fence has = absurd has
+replaced-losses v (x ∷ h) legal by n loss fence (inr has) =
+    let i = replaced-losses v h legal.0 by n loss fence has in let m = losses-more v x h legal n in omega (arith, i, m)
+replaced-losses v (x ∷ h) legal by n loss fence (inl is) =
+    let legal' = subst (λ y. IsLegal v (y ∷ h)) is legal in
+    let row = node-row v (e.Replace by n loss fence) h n legal' refl in
+    let m = losses-more v x h legal n in
+    let r = row.loss_is in omega (arith, m, r)
+
+-- the node is not lost, and has this fence
+abbrev IsUnder : ℕ → List Event → Type 0
+IsUnder fence w = ¬ (phase w ≡ Lost) × (fence_of w ≡ fence)
+
+-- it stays so until its next loss
+under-word : (v : Volume) (x : Event) (f : Facts) (w o run : List Event) (loss fence : ℕ) → Row v f w o run x → losses w ≡ loss → losses (x ∷ w) ≡ loss
+    → IsUnder fence w → IsUnder fence (x ∷ w)
+under-word v (e.Lose m l) f w o run loss fence r before now k = let n = r.next in absurd (omega (arith, n, before, now))
+under-word v (e.Replace by m l g) f w o run loss fence r before now k = absurd (k.0 r.lost)
+under-word v (e.Broke by m c) f w o run loss fence r before now k = (λ q. cc, k.1)
+under-word v (e.Stop m) f w o run loss fence r before now k = (λ q. cc, k.1)
+under-word v (e.Start m took) f w o run loss fence r before now k = (λ q. cc, k.1)
+under-word v (x) f w o run loss fence r before now k = k
+
+replaced-under : (v : Volume) (h : List Event) → IsLegal v h → (by : Actor) (n loss fence : ℕ) → Has h (e.Replace by n loss fence) → losses (node n h) ≡ loss → IsUnder fence (node n h)
+replaced-under v [] legal by n loss fence has now = absurd has
+replaced-under v (x ∷ h) legal by n loss fence (inl is) now =
+    subst (λ y. IsUnder fence (node n (y ∷ h))) (sym is) (at-own (e.Replace by n loss fence) h n (IsUnder fence) refl (λ q. cc, refl))
+replaced-under v (x ∷ h) legal by n loss fence (inr has) now =
+    let low = replaced-losses v h legal.0 by n loss fence has in
+    let high = losses-more v x h legal n in
+    let before : losses (node n h) ≡ loss = omega (arith, low, high, now) in
+    let k = replaced-under v h legal.0 by n loss fence has before in
+    at-node x h n (λ w. losses w ≡ loss → IsUnder fence w)
+    (λ is now. under-word v x (facts h) (node n h) _ _ loss fence (node-row v x h n legal is) before now k)
+    (λ now. k) now
+
+-- a run has its replacement
+run-has : (o : List Event) (n loss fence : ℕ) (a : Option Key) → IsRun o n loss fence a → (by : Actor) × Has o (e.Replace by n loss fence)
+run-has [] n loss fence a run = absurd run
+run-has (x ∷ o) n loss fence a run =
+    elim (run-cases x o n loss fence a run) [
+      | inl first ↦ (first.0, inl first.1)
+      | inr rest ↦ (let i = run-has o n loss fence rest.0 rest.1 in (i.0, inr i.1))
+    ]
+
 pub complete : (v : Volume) (h : List Event) → IsLegal v h → IsComplete h
-complete v h legal by n loss fence refilled rebuilt now key p q live pub' set place =
-    let s = some_length (facts h) (accepted (export h) key) p (sym pub') in
+complete v h legal by n loss fence refilled rebuilt now =
     let r = run-stage (of_actor by h) n loss fence refilled Ended rebuilt in
-    subst (λ z. Stands z (holds n h key)) (sym s.2)
-    (done-held v h legal by n loss fence r.0.0 r.0.1 now key s.0 q (not_gone (export h) key.fid live) s.1 (subst (λ m. HasBit m q) s.3 set) place
-    (ended-done (of_actor by h) n key s.0.0 r.1))
+    let first = run-has (of_actor by h) n loss fence r.0.0 r.0.1 in
+    record {
+      fence_is =
+          (replaced-under v h legal first.0 n loss fence (filter-has (λ y. same_actor by (by_of y)) h (e.Replace first.0 n loss fence) first.1) now).1;
+      holds = λ key p q live pub' set place.
+          let s = some_length (facts h) (accepted (export h) key) p (sym pub') in
+          subst (λ z. Stands z (holds n h key)) (sym s.2)
+          (done-held v h legal by n loss fence r.0.0 r.0.1 now key s.0 q (not_gone (export h) key.fid live) s.1 (subst (λ m. HasBit m q) s.3 set) place
+          (ended-done (of_actor by h) n key s.0.0 r.1));
+    }

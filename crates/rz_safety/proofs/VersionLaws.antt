@@ -20,8 +20,8 @@ use Rattle.rz_core.proofs.Extends.{all-changed, all-taken, OfChange, some_length
 use Rattle.rz_core.proofs.Stamps.{export, same_key-true}
 use Rattle.rz_safety.specs.Reads.{IsLostSince}
 use Rattle.rz_safety.specs.Sound.{IsSoundMiss, IsSound}
-use Rattle.rz_safety.specs.Rebuilt.{IsRefilled, IsFenced}
-use Rattle.rz_core.proofs.NodeLaws.{lost-empty, node, holds, IsRows, rows, undecided-down, did-up}
+use Rattle.rz_safety.specs.Rebuilt.{IsRefillOf, IsRefilled, IsFenced}
+use Rattle.rz_core.proofs.NodeLaws.{lost-empty, node, holds, IsRows, rows, undecided-down}
 use Rattle.rz_safety.proofs.KeptLaws.{all-stands, accepted-kept, not_gone}
 use Rattle.rz_safety.proofs.EndLaws.{read_sound}
 
@@ -34,48 +34,45 @@ all-map P Q more (a ∷ now) all = (more a all.0, all-map P Q more now all.1)
 
 did-more : (by : Actor) (m : ℕ) (c : Change) (w : List Event) (key : Key) (s : ℕ) → IsGood w key s → IsGood (e.Did by m c ∷ w) key s
 did-more by m c w key s (inl above) = inl above
-did-more by m (change.Refill f k t p) w key s (inr old) = inr (inr old)
-did-more by m (change.Keep k t p) w key s (inr old) = inr old
-did-more by m (change.Drop k t) w key s (inr old) = inr old
+did-more by m c w key s (inr old) = inr (inr old)
 
-broke-more : (by : Actor) (m : ℕ) (c : Option Change) (w : List Event) (key : Key) (s : ℕ) → IsGood w key s → IsGood (e.Broke by m c ∷ w) key s
-broke-more by m c w key s (inl above) = inl above
-broke-more by m None w key s (inr old) = inr old
-broke-more by m (Some (change.Refill f k t p)) w key s (inr old) = inr (inr old)
-broke-more by m (Some (change.Keep k t p)) w key s (inr old) = inr old
-broke-more by m (Some (change.Drop k t)) w key s (inr old) = inr old
+start-more : (m : ℕ) (w : List Event) (key : Key) (s : ℕ) → IsGood w key s → IsGood (e.Start m true ∷ w) key s
+start-more m w key s (inl above) = inl above
+start-more m w key s (inr old) = inr (inr old)
 
 did-good : (v : Volume) (f : Facts) (w o : List Event) (by : Actor) (m : ℕ) (c : Change) (key : Key) → DidRow v f w o by m c → OfChange (IsGood (e.Did by m c ∷ w) key) key c
 did-good v f w o by m (change.Keep k t p) key r = λ q. inl r.keep.fenced
 did-good v f w o by m (change.Refill g k t p) key r = λ q. inr (inl (sym (same_key-true key k q), refl))
 did-good v f w o by m (change.Drop k t) key r = tt
 
-broke-good : (v : Volume) (f : Facts) (w o : List Event) (by : Actor) (m : ℕ) (c : Change) (key : Key) → DidRow v f w o by m c → OfChange (IsGood (e.Broke by m (Some c) ∷ w) key) key c
-broke-good v f w o by m (change.Keep k t p) key r = λ q. inl r.keep.fenced
-broke-good v f w o by m (change.Refill g k t p) key r = λ q. inr (inl (sym (same_key-true key k q), refl))
-broke-good v f w o by m (change.Drop k t) key r = tt
+-- a keep that is left undecided is above the fence
+keep-above : (v : Volume) (f : Facts) (w : List Event) → IsRows v f w → (k : Key) (t p : ℕ) → undecided w ≡ Some (change.Keep k t p) → fence_of w < t
+keep-above v f [] r k t p u = cc
+keep-above v f (e.Broke by m None ∷ w) r k t p u = cc
+keep-above v f (e.Broke by m (Some d) ∷ w) r k t p u =
+    let same : d ≡ change.Keep k t p = cc in
+    (subst (λ z. DidRow v f w r.1.0 by m z) same r.1.2).keep.fenced
+keep-above v f (e.Start m took ∷ w) r k t p u = cc
+keep-above v f (e.Lose m l ∷ w) r k t p u = cc
+keep-above v f (e.Replace by m l g ∷ w) r k t p u = let down = undecided-down v f w r.0 (change.Keep k t p) u in let lost = r.1.2.lost in cc
+keep-above v f (x ∷ w) r k t p u = keep-above v f w r.0 k t p u
 
-pending-good : (v : Volume) (f : Facts) (w : List Event) → IsRows v f w → (key : Key) (c : Change) → undecided w ≡ Some c → OfChange (IsGood w key) key c
-pending-good v f [] r key c u = cc
-pending-good v f (e.Broke by m None ∷ w) r key c u = cc
-pending-good v f (e.Broke by m (Some d) ∷ w) r key c u =
-    let same : d ≡ c = cc in subst (OfChange (IsGood (e.Broke by m (Some d) ∷ w) key) key) same (broke-good v f w r.1.0 by m d key r.1.2)
-pending-good v f (e.Start m took ∷ w) r key c u = cc
-pending-good v f (e.Lose m l ∷ w) r key c u = cc
-pending-good v f (e.Replace by m l g ∷ w) r key c u = let down = undecided-down v f w r.0 c u in let lost = r.1.2.lost in cc
-pending-good v f (e.Did by m d ∷ w) r key c u = let down = undecided-down v f w r.0 c u in let up = did-up v f w r.1.0 by m d r.1.2 in cc
-pending-good v f (x ∷ w) r key c u = pending-good v f w r.0 key c u
+pending-good : (v : Volume) (f : Facts) (m : ℕ) (w : List Event) → IsRows v f w → (key : Key) (c : Change) → undecided w ≡ Some c → OfChange (IsGood (e.Start m true ∷ w) key) key c
+pending-good v f m w r key (change.Keep k t p) u = λ q. inl (keep-above v f w r k t p u)
+pending-good v f m w r key (change.Refill g k t p) u = λ q. inr (inl (subst (IsRefillOf key t) (sym u) (sym (same_key-true key k q), refl)))
+pending-good v f m w r key (change.Drop k t) u = tt
 
 versions : (v : Volume) (f : Facts) (w : List Event) → IsRows v f w → (key : Key) → AllByRecursion (IsGood w key) (held f w key)
 versions v f [] r key = tt
 versions v f (e.Did by m c ∷ w) r key =
     all-changed (IsGood (e.Did by m c ∷ w) key) f key c (held f w key) (did-good v f w r.1.0 by m c key r.1.2)
     (all-map (IsGood w key) (IsGood (e.Did by m c ∷ w) key) (did-more by m c w key) (held f w key) (versions v f w r.0 key))
-versions v f (e.Start m true ∷ w) r key = all-taken (IsGood w key) f key (undecided w) (held f w key) (pending-good v f w r.0 key) (versions v f w r.0 key)
+versions v f (e.Start m true ∷ w) r key =
+    all-taken (IsGood (e.Start m true ∷ w) key) f key (undecided w) (held f w key) (pending-good v f m w r.0 key)
+    (all-map (IsGood w key) (IsGood (e.Start m true ∷ w) key) (start-more m w key) (held f w key) (versions v f w r.0 key))
 versions v f (e.Start m false ∷ w) r key = versions v f w r.0 key
 versions v f (e.Lose m l ∷ w) r key = tt
 versions v f (e.Replace by m l g ∷ w) r key = subst (AllByRecursion (IsGood (e.Replace by m l g ∷ w) key)) (sym (lost-empty v f w r.0 key r.1.2.lost)) tt
-versions v f (e.Broke by m c ∷ w) r key = all-map (IsGood w key) (IsGood (e.Broke by m c ∷ w) key) (broke-more by m c w key) (held f w key) (versions v f w r.0 key)
 versions v f (x ∷ w) r key = versions v f w r.0 key
 
 pub fenced : (v : Volume) (h : List Event) → IsLegal v h → IsFenced h

@@ -3,6 +3,7 @@ use Rattle.std.specs.Prelude.{ℕ, true, ◌≡◌, ◌⊎◌, ◌<◌, ◌+◌,
 use Rattle.rz_events.specs.declared.keys.Key.{Key}
 use Rattle.rz_events.specs.declared.keys.Actor.{Actor}
 use Rattle.rz_events.specs.declared.files.Published.{Published}
+use Rattle.rz_events.specs.declared.records.Change.{Change}
 use Rattle.rz_events.specs.declared.records.Change.TheVariants as change
 use Rattle.rz_events.specs.declared.ends.RebuildEnd.TheVariants as rebuild
 use Rattle.rz_events.specs.declared.events.Answer.TheVariants as answers
@@ -11,7 +12,7 @@ use Rattle.rz_events.specs.declared.events.Event.{Event}
 use Rattle.rz_events.specs.declared.events.Event.TheVariants as e
 use Rattle.rz_node_model.specs.Versions.{Stands}
 use Rattle.rz_core.specs.History.{of_word, of_actor, facts, IsPlace}
-use Rattle.rz_core.specs.NodeWord.{losses, held, fence_of}
+use Rattle.rz_core.specs.NodeWord.{losses, held, fence_of, undecided}
 use Rattle.rz_core.specs.ExportWord.{is_live, published}
 use Rattle.rz_events.specs.Masks.{stamp_told, HasBit}
 
@@ -49,29 +50,44 @@ IsRun (_ ∷ o) n loss fence count stage = IsRun o n loss fence count stage
 abbrev pub IsRebuilt : List Event → ℕ → ℕ → ℕ → ℕ → Type 0
 IsRebuilt o n loss fence refilled = IsRun o n loss fence refilled Ended
 
--- Each operation that says it rebuilt a node, with this fence and so many keys, did so.
-abbrev pub AreRebuilt : List Event → Type 0
-AreRebuilt [] = Unit {0}
-AreRebuilt (e.Done by number (answers.Rebuild (rebuild.Rebuilt fence refilled)) ∷ h) =
-    AreRebuilt h × ((n loss : ℕ) × IsRebuilt (of_actor by h) n loss fence refilled)
-AreRebuilt (_ ∷ h) = AreRebuilt h
+-- The node has this fence, and holds the published stamp of each key of a live file whose published mask names it.
+pub record IsWhole (h : List Event) (n fence : ℕ) : Type 0 where
+  pub fence_is : fence_of (of_word (Node n) h) ≡ fence
+  pub holds : (key : Key) (p : Published) (q : ℕ) → is_live (of_word Export h) key.fid ≡ true
+      → published (facts h) (of_word Export h) key ≡ Some p → HasBit p.mask q → IsPlace (facts h) key.fid q n
+      → Stands p.stamp (held (facts h) (of_word (Node n) h) key)
 
--- A rebuilt node that was not lost since its replacement holds the published stamp of each key of a live file whose
--- published mask names it.
+-- A node that an actor rebuilt, and that was not lost since its replacement, has the fence of the rebuild and is whole.
 abbrev pub IsComplete : List Event → Type 0
 IsComplete h = (by : Actor) (n loss fence refilled : ℕ) → IsRebuilt (of_actor by h) n loss fence refilled
-    → losses (of_word (Node n) h) ≡ loss
-    → (key : Key) (p : Published) (q : ℕ) → is_live (of_word Export h) key.fid ≡ true
-    → published (facts h) (of_word Export h) key ≡ Some p → HasBit p.mask q → IsPlace (facts h) key.fid q n
-    → Stands p.stamp (held (facts h) (of_word (Node n) h) key)
+    → losses (of_word (Node n) h) ≡ loss → IsWhole h n fence
 
--- the stamp was refilled since the node's last loss
+-- An operation that says it rebuilt a node, with this fence and so many keys, did so; and where the node was not lost since
+-- its replacement, it is whole.
+pub record IsRebuildDone (h : List Event) (by : Actor) (fence refilled : ℕ) : Type 0 where
+  pub node : ℕ
+  pub loss : ℕ
+  pub rebuilt : IsRebuilt (of_actor by h) node loss fence refilled
+  pub whole : losses (of_word (Node node) h) ≡ loss → IsWhole h node fence
+
+abbrev pub AreRebuilt : List Event → Type 0
+AreRebuilt [] = Unit {0}
+AreRebuilt (e.Done by number (answers.Rebuild (rebuild.Rebuilt fence refilled)) ∷ h) = AreRebuilt h × IsRebuildDone h by fence refilled
+AreRebuilt (_ ∷ h) = AreRebuilt h
+
+-- the change is a refill of the key with this stamp
+abbrev pub IsRefillOf : Key → ℕ → Option Change → Type 0
+IsRefillOf key s (Some (change.Refill f k t p)) = (k ≡ key) × (t ≡ s)
+IsRefillOf key s _ = ⊥
+
+-- The stamp was refilled since the node's last loss: the refill was done, or it ended in a disk fault and the next start
+-- found it on the disk.
 abbrev pub IsRefilled : List Event → Key → ℕ → Type 0
 IsRefilled [] key s = ⊥
 IsRefilled (e.Lose m l ∷ w) key s = ⊥
 IsRefilled (e.Replace by m l f ∷ w) key s = ⊥
-IsRefilled (e.Did by m (change.Refill f k t p) ∷ w) key s = ((k ≡ key) × (t ≡ s)) ⊎ IsRefilled w key s
-IsRefilled (e.Broke by m (Some (change.Refill f k t p)) ∷ w) key s = ((k ≡ key) × (t ≡ s)) ⊎ IsRefilled w key s
+IsRefilled (e.Did by m c ∷ w) key s = IsRefillOf key s (Some c) ⊎ IsRefilled w key s
+IsRefilled (e.Start m true ∷ w) key s = IsRefillOf key s (undecided w) ⊎ IsRefilled w key s
 IsRefilled (_ ∷ w) key s = IsRefilled w key s
 
 -- Each version that a node holds was refilled, or its stamp is above the node's fence.

@@ -1,5 +1,5 @@
 -- What each read gives. A history has the newest event first; `h` is the history before the event at hand.
-use Rattle.std.specs.Prelude.{ℕ, true, not, ◌≡◌, ◌<◌, ◌≤◌, ◌+◌, ◌-◌, ◌&&◌, List, [], ◌∷◌, Some, None, cond}
+use Rattle.std.specs.Prelude.{ℕ, true, not, ◌≡◌, ◌⊎◌, ◌<◌, ◌≤◌, ◌+◌, ◌-◌, ◌&&◌, List, [], ◌∷◌, Some, None, cond}
 use Rattle.mj_angles.specs.Layout.{inverse_of, forward_of}
 use Rattle.rz_events.specs.Volume.{Volume}
 use Rattle.rz_events.specs.declared.keys.Key.{Key}
@@ -12,10 +12,11 @@ use Rattle.rz_events.specs.declared.events.Word.TheVariants.{Export}
 use Rattle.rz_events.specs.declared.events.Event.{Event}
 use Rattle.rz_events.specs.declared.events.Event.TheVariants as e
 use Rattle.rz_events.specs.Masks.{has_bit, HasBit}
-use Rattle.rz_core.specs.History.{Has, of_word, facts, IsPlace}
-use Rattle.rz_core.specs.ExportWord.{is_live, latest, published}
+use Rattle.rz_core.specs.History.{Has, of_word, of_actor, facts, IsPlace}
+use Rattle.rz_core.specs.ExportWord.{is_live, published}
+use Rattle.rz_core.specs.Own.{last, is_look}
 use Rattle.rz_core.specs.Outcomes.{is_held}
-use Rattle.rz_safety.specs.Reads.{IsAcked, before_read, IsLookOf, IsLostSince}
+use Rattle.rz_safety.specs.Reads.{IsAcked, before_read, IsLookOf, IsQuiet, IsLostSince}
 
 -- A read that found s: the text is that of one write; its look was told s; and s is the greatest stamp of the key that was
 -- acknowledged before the read began.
@@ -25,10 +26,15 @@ pub record IsSoundFound (start h : List Event) (by : Actor) (key : Key) (s : ℕ
   pub acked : IsAcked start key s
   pub newest : (t : ℕ) → IsAcked start key t → t ≤ s
 
--- A hole: no write of the key was acknowledged before the read began. A read never finds that records do not fit.
+-- A read that found a hole: its look was told of no write, and none of the key was acknowledged before the read began.
+pub record IsSoundHole (start h : List Event) (by : Actor) (key : Key) : Type 0 where
+  pub looked : last is_look (of_actor by h) ≡ Some (e.Look by key None)
+  pub none : (t : ℕ) → ¬ IsAcked start key t
+
+-- A read never finds that records do not fit.
 abbrev pub IsSoundEnd : List Event → List Event → Actor → Key → ReadEnd → Type 0
 IsSoundEnd start h by key (read.Found s text) = IsSoundFound start h by key s text
-IsSoundEnd start h by key read.Hole = (t : ℕ) → ¬ IsAcked start key t
+IsSoundEnd start h by key read.Hole = IsSoundHole start h by key
 IsSoundEnd start h by key read.Inconsistent = ⊥
 IsSoundEnd start h by key (read.TooFew seen) = Unit {0}
 IsSoundEnd start h by key (read.Moved was now) = Unit {0}
@@ -83,16 +89,24 @@ abbrev pub IsSound : Volume → List Event → Type 0
 IsSound v [] = Unit {0}
 IsSound v (x ∷ h) = IsSound v h × IsSoundEvent v h x
 
--- What a client may count on: a read answers, by the write that its look was told, where that is the newest write of the
--- key at the read's end, the file is live, and no more nodes of that write than can be spared did not give its record.
+-- how a read answers that was told p: by that write, unless more of its nodes than can be spared did not give its record
 abbrev pub IsAnswer : Volume → Published → ReadEnd → Type 0
 IsAnswer v p (read.Found s text) = s ≡ p.stamp
 IsAnswer v p (read.TooFew seen) = IsFew v p.mask seen
 IsAnswer v p _ = ⊥
 
+-- the look of the read was told s, and the read answers by it
+pub record IsAnsweredBy (v : Volume) (h : List Event) (by : Actor) (key : Key) (s : ℕ) (end : ReadEnd) : Type 0 where
+  pub published : Published
+  pub look : IsLookOf by h end key published
+  pub stamp_is : published.stamp ≡ s
+  pub answer : IsAnswer v published end
+
+-- What a client may count on. Where the key is quiet at s at a read's end, and its file is live then, the read was told s
+-- and answers by it, or s was acknowledged only after the read began.
 abbrev pub IsAnswered : Volume → List Event → Event → Type 0
-IsAnswered v h (e.Got by number key part end) = (p : Published) → IsLookOf by h end key p
-    → is_live (of_word Export h) key.fid ≡ true → latest (of_word Export h) key ≤ p.stamp → IsAnswer v p end
+IsAnswered v h (e.Got by number key part end) = (s : ℕ) → IsQuiet h key s → is_live (of_word Export h) key.fid ≡ true
+    → IsAnsweredBy v h by key s end ⊎ ¬ IsAcked (before_read by h end) key s
 IsAnswered v h _ = Unit {0}
 
 abbrev pub IsAnswering : Volume → List Event → Type 0

@@ -1,4 +1,4 @@
-use Rattle.rz_safety.proofs.EndLaws as laws
+use Rattle.rz_safety.proofs.QuietLaws as laws
 use Rattle.rz_safety.proofs.answering.Goals as goal
 
 pub returns : goal.returns
