@@ -9,3 +9,5 @@ pub mod FenceLaws
 pub mod VersionLaws
 pub mod RebuildLaws
 pub mod OrderLaws
+pub mod WriteLaws
+pub mod PositionLaws

@@ -3,3 +3,5 @@ pub mod Sound
 pub mod Kept
 pub mod Rebuilt
 pub mod Order
+pub mod Writes
+pub mod Positions

@@ -6,14 +6,17 @@
 //! numbers and calls come.
 #![tactic(auto)]
 
-ghost use Rattle.std.specs.Prelude.{List};
+ghost use Rattle.std.specs.Prelude.{ℕ, List};
 ghost use Rattle.rz_events.specs.Volume.{Volume};
+ghost use Rattle.rz_events.specs.declared.keys.Key.{Key as AKey};
 ghost use Rattle.rz_events.specs.declared.events.Event.{Event as AnEvent};
 ghost use Rattle.rz_core.specs.Legal.{IsLegal};
 ghost use Rattle.rz_safety.specs.Kept.{IsKept};
 ghost use Rattle.rz_safety.specs.Order.{AreRising, IsMendedInOrder, IsOrdered};
+ghost use Rattle.rz_safety.specs.Positions.{AreApart, AreByPosition, IsEnough};
 ghost use Rattle.rz_safety.specs.Rebuilt.{IsComplete, IsFenced};
 ghost use Rattle.rz_safety.specs.Sound.{IsSound, IsAnswering};
+ghost use Rattle.rz_safety.specs.Writes.{AreWritesEnded};
 
 /// A legal log is sound: each read gives one write's text, no older than what was acknowledged before
 /// it began, or says why it gives none; and a node of a published write has no record of it only after
@@ -61,4 +64,21 @@ pub fn mended()
 /// and the stamps of a key are acknowledged in their order.
 pub fn ordered()
     ensures { (v : Volume) (h : List AnEvent) → IsLegal v h → IsOrdered h }
+{}
+
+/// Each write of a legal log that ends was acknowledged, or was short of positions, denied, or overtaken
+/// by a write of its block that began later.
+pub fn written()
+    ensures { (v : Volume) (h : List AnEvent) → IsLegal v h → AreWritesEnded v h }
+{}
+
+/// Positions that gave a record, no two of them equal, are as many distinct ones, in whatever order they
+/// come.
+pub fn enough()
+    ensures { (given : List ℕ) → IsEnough given }
+{}
+
+/// The tables of outcomes, which are by node, are by position too, for a file on distinct nodes.
+pub fn by_position()
+    ensures { (key : AKey) (s : ℕ) (places : List ℕ) (o : List AnEvent) → AreApart places → AreByPosition key s places o }
 {}
