@@ -7,7 +7,7 @@ use Rattle.rz_events.specs.declared.events.Event.{Event}
 use Rattle.rz_events.specs.declared.events.Event.TheVariants as e
 use Rattle.rz_events.specs.Events.{same_key}
 use Rattle.rz_core.specs.ExportWord.{accepted, is_newer}
-use Rattle.rz_core.specs.Legal.{IsLegal}
+use Rattle.rz_core.specs.Legal.{IsLegalInRuns}
 use Rattle.rz_core.proofs.Stamps.{export, same_key-true, same_key-refl, cases_le, accepted_cases}
 use Rattle.rz_safety.specs.Reads.{IsAcked}
 
@@ -36,7 +36,7 @@ acked_more true stamp mask t (Some b) (a, is, l) =
 acked_more true stamp mask t None (a, is, l) = cc
 
 -- what was acknowledged is at most what is accepted now
-pub acked-accepted : (v : Volume) (h : List Event) → IsLegal v h → (key : Key) (t : ℕ) → IsAcked h key t → (a : ℕ × ℕ) × (accepted (export h) key ≡ Some a) × (t ≤ a.0)
+pub acked-accepted : (v : Volume) (h : List Event) → IsLegalInRuns v h → (key : Key) (t : ℕ) → IsAcked h key t → (a : ℕ × ℕ) × (accepted (export h) key ≡ Some a) × (t ≤ a.0)
 acked-accepted v [] legal key t k = absurd k.2
 acked-accepted v (e.Publish by at stamp mask None ∷ h) legal key t k =
     elim k.2 [

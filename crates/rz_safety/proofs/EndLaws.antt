@@ -17,14 +17,14 @@ use Rattle.rz_events.specs.declared.export.Asked.TheVariants as asked
 use Rattle.rz_events.specs.declared.events.Event.{Event}
 use Rattle.rz_events.specs.declared.events.Event.TheVariants as e
 use Rattle.rz_events.specs.Events.{by_of, same_actor}
-use Rattle.rz_core.specs.History.{facts, of_actor}
+use Rattle.rz_core.specs.History.{facts, of_actor, Has}
 use Rattle.rz_core.specs.ExportWord.{latest, accepted, with_length, is_live, is_made, is_gone, makes, ends}
 use Rattle.rz_events.specs.Masks.{stamp_told}
 use Rattle.rz_core.specs.ExportRows.{IsInFile, DeniedRow}
-use Rattle.rz_core.specs.Own.{last, since, before, is_look, is_export}
+use Rattle.rz_core.specs.Own.{last, since, is_look, is_recheck, is_export}
 use Rattle.rz_core.specs.OwnRows.{TooFewRow, GotRow}
-use Rattle.rz_core.specs.Legal.{IsLegal}
-use Rattle.rz_core.proofs.Extends.{some_length}
+use Rattle.rz_core.specs.Legal.{IsLegalInRuns}
+use Rattle.rz_core.proofs.Extends.{some_length, last-has}
 use Rattle.rz_core.proofs.Locality.{legal-rest}
 use Rattle.rz_core.proofs.Stamps.{export, cases_le, accepted-latest, accepted-more, accepted-mask}
 use Rattle.rz_safety.specs.Reads.{IsAcked, is_look_denial, before_look, before_export}
@@ -106,22 +106,59 @@ newest-export a (y ∷ h) x k = go (same_actor a (by_of y)) (is_export y) refl r
         }
 
 -- the newest event of the export's word, as it was allowed
-pub newest-legal : (v : Volume) (a : Actor) (h : List Event) (x : Event) → IsLegal v h → IsNewest h a x (before_export a h) → IsLegal v (x ∷ before_export a h)
-newest-legal v a h x legal n = legal-rest v n.rest.0 (x ∷ before_export a h) (subst (IsLegal v) (sym n.rest.1) legal)
+pub newest-legal : (v : Volume) (a : Actor) (h earlier : List Event) (x : Event) → IsLegalInRuns v h → IsNewest h a x earlier → IsLegalInRuns v (x ∷ earlier)
+newest-legal v a h earlier x legal n = legal-rest v n.rest.0 (x ∷ earlier) (subst (IsLegalInRuns v) (sym n.rest.1) legal)
+
+-- An event since the actor's newest look that is no look itself stands after that look.
+pub since-look : (a : Actor) (h : List Event) (x : Event) → is_look x ≡ false → Has (since is_look (of_actor a h)) x → (earlier : List Event) × IsNewest h a x earlier
+since-look a [] x other has = absurd has
+since-look a (y ∷ h) x other has = go (same_actor a (by_of y)) (is_look y) refl refl has (since-look a h x other)
+  where
+    go : (t u : Bool) → same_actor a (by_of y) ≡ t → is_look y ≡ u → Has (since is_look (cond t (y ∷ of_actor a h) (of_actor a h))) x
+        → (Has (since is_look (of_actor a h)) x → (earlier : List Event) × IsNewest h a x earlier) → (earlier : List Event) × IsNewest (y ∷ h) a x earlier
+    go true true p q has rest = absurd (subst (λ (b : Bool). Has (cond b [] (y ∷ since is_look (of_actor a h))) x) q has)
+    go true false p q has rest = here (subst (λ (b : Bool). Has (cond b [] (y ∷ since is_look (of_actor a h))) x) q has)
+      where
+        here : Has (y ∷ since is_look (of_actor a h)) x → (earlier : List Event) × IsNewest (y ∷ h) a x earlier
+        here (inl same) = (
+          h,
+          record {
+            rest = ([], ap (λ (z : Event). z ∷ h) (sym same));
+            look = λ n. not_look a y h q;
+            last_look = λ n. skip (same_actor a (by_of y)) y (of_actor a h) q;
+          },
+        )
+        here (inr more) =
+            let (earlier, r) = rest more in (
+              earlier,
+              record {
+                rest = (y ∷ r.rest.0, ap (λ (l : List Event). y ∷ l) r.rest.1);
+                look = λ n. not_look a y h q ∙ r.look n;
+                last_look = λ n. skip (same_actor a (by_of y)) y (of_actor a h) q ∙ r.last_look n;
+              },
+            )
+    go false u p q has rest =
+        let (earlier, r) = rest has in (
+          earlier,
+          record {
+            rest = (y ∷ r.rest.0, ap (λ (l : List Event). y ∷ l) r.rest.1);
+            look = λ n. others a y h p ∙ r.look n;
+            last_look = λ n. ap (λ t. last is_look (cond t (y ∷ of_actor a h) (of_actor a h))) p ∙ r.last_look n;
+          },
+        )
 
 -- two records of what a look was told agree
 same_told : (a : Actor) (key : Key) (p q : Published) (o : Option Event) → o ≡ Some (e.Look a key (Some p)) → o ≡ Some (e.Look a key (Some q)) → p ≡ q
 same_told a key p q o x y = cc
 
 -- a recheck that told another stamp: that one is greater, and was acknowledged since
-moved_right : (v : Volume) (a : Actor) (h : List Event) → IsLegal v h → (key : Key) (p : Published) (told : Option Published) (was now : ℕ)
+moved_right : (v : Volume) (a : Actor) (h : List Event) → IsLegalInRuns v h → (key : Key) (p : Published) (told : Option Published) (was now : ℕ)
     → last is_look (of_actor a h) ≡ Some (e.Look a key (Some p)) → p.stamp ≡ was
-    → last is_export (of_actor a h) ≡ Some (e.Recheck a key told) → stamp_told told ≡ now → ¬ (now ≡ was)
+    → last is_recheck (since is_look (of_actor a h)) ≡ Some (e.Recheck a key told) → stamp_told told ≡ now → ¬ (now ≡ was)
     → IsMoved (before_look a h) h key p was now
 moved_right v a h legal key p told was now is same again says moved =
-    let n = newest-export a h (e.Recheck a key told) again in
-    let hr = before_export a h in
-    let rl = newest-legal v a h (e.Recheck a key told) legal n in
+    let (hr, n) = since-look a h (e.Recheck a key told) refl (last-has is_recheck (since is_look (of_actor a h)) (e.Recheck a key told) again) in
+    let rl = newest-legal v a h hr (e.Recheck a key told) legal n in
     let l = looked v a hr rl.0 key (Some p) (sym (n.last_look refl) ∙ is) in
     let earlier = before_look a hr in
     let pa = some_length (facts earlier) (accepted (export earlier) key) p l.legal.1.row.told in
@@ -162,13 +199,13 @@ not_live false true k e = cc
 not_live m false k e = cc
 
 -- a recheck of a block that was looked up is denied only where its file is gone
-denied_gone : (v : Volume) (a : Actor) (h : List Event) → IsLegal v h → (key : Key) (answer : Option Published) (cause : Denial)
+denied_gone : (v : Volume) (a : Actor) (h : List Event) → IsLegalInRuns v h → (key : Key) (answer : Option Published) (cause : Denial)
     → last is_look (of_actor a h) ≡ Some (e.Look a key answer)
     → last is_export (of_actor a h) ≡ Some (e.Denied a (asked.Recheck key) cause) → ¬ (is_live (export h) key.fid ≡ true)
 denied_gone v a h legal key answer cause is denied live =
     let n = newest-export a h (e.Denied a (asked.Recheck key) cause) denied in
     let hr = before_export a h in
-    let rl = newest-legal v a h (e.Denied a (asked.Recheck key) cause) legal n in
+    let rl = newest-legal v a h hr (e.Denied a (asked.Recheck key) cause) legal n in
     let l = looked v a hr rl.0 key answer (sym (n.last_look refl) ∙ is) in
     by_cause cause rl.1.row l.legal.1.row.block
     (λ dead.
@@ -188,20 +225,19 @@ denied_gone v a h legal key answer cause is denied live =
     by_cause (denial.OldLoss kept) row block dead = row
 
 -- too few records came, so too many positions of the published mask gave none
-few_right : (v : Volume) (a : Actor) (h : List Event) → IsLegal v h → (key : Key) (p : Published) (seen : List Seen)
+few_right : (v : Volume) (a : Actor) (h : List Event) → IsLegalInRuns v h → (key : Key) (p : Published) (seen : List Seen)
     → TooFewRow v (facts h) (of_actor a h) a key seen → last is_look (of_actor a h) ≡ Some (e.Look a key (Some p)) → IsFew v p.mask seen
 few_right v a h legal key p seen r is =
     let l = looked v a h legal key (Some p) is in
     let pa = some_length (facts (before_look a h)) (accepted (export (before_look a h)) key) p l.legal.1.row.told in
     let quorum = accepted-mask v (before_look a h) l.legal.0 key pa.0 pa.1 in
-    let short = r.looked.2 in
-    let (places, at, asked, told) = short.asked in
-    subst (λ t. IsFew v p.mask t) (sym told)
-    (few-missing v.layout p.mask key r.looked.0.stamp (since is_look (before is_export (of_actor a h))) places (ap (λ m. is_mask v.layout m) pa.3 ∙ quorum)
-    (subst (λ t. count_by is_held t < inverse_of v.layout) told short.few))
+    let short = r.short in
+    subst (λ t. IsFew v p.mask t) (sym short.told_is)
+    (few-missing v.layout p.mask key r.published.stamp (since is_look (of_actor a h)) short.places (ap (λ m. is_mask v.layout m) pa.3 ∙ quorum)
+    (subst (λ t. count_by is_held t < inverse_of v.layout) short.told_is short.few))
 
 -- what a read of a legal history may say
-pub read_sound : (v : Volume) (a : Actor) (h : List Event) → IsLegal v h → (key : Key) (end : ReadEnd) → GotRow v (facts h) (of_actor a h) a key end → IsSoundRead v h a key end
+pub read_sound : (v : Volume) (a : Actor) (h : List Event) → IsLegalInRuns v h → (key : Key) (end : ReadEnd) → GotRow v (facts h) (of_actor a h) a key end → IsSoundRead v h a key end
 read_sound v a h legal key (read.Found s text) r = record {
   right = found_sound v a h legal key s text r;
   reached = λ p look live. let same = same_told a key p r.looked.0 _ look.told r.looked.1 in sym (ap (λ (q : Published). q.stamp) same ∙ r.looked.2);
@@ -231,7 +267,7 @@ read_sound v a h legal key (read.Denied cause) (inr (again, (answer, is))) = rec
 read_sound v a h legal key read.Inconsistent r = absurd r
 
 -- a read whose block is quiet answers, unless too many nodes gave no record
-pub answer_right : (v : Volume) (h : List Event) → IsLegal v h → (start : List Event) (key : Key) (p : Published) (end : ReadEnd)
+pub answer_right : (v : Volume) (h : List Event) → IsLegalInRuns v h → (start : List Event) (key : Key) (p : Published) (end : ReadEnd)
     → latest (export h) key ≤ p.stamp → IsReached v start h key p end → IsAnswer v p end
 answer_right v h legal start key p (read.Found s text) quiet r = r
 answer_right v h legal start key p (read.TooFew seen) quiet r = r

@@ -11,10 +11,10 @@ use Rattle.rz_events.specs.declared.events.Event.TheVariants as e
 use Rattle.rz_events.specs.Events.{by_of, word_of, same_actor, same_word, same_key}
 use Rattle.rz_node_model.specs.Versions.{Stands}
 use Rattle.rz_core.specs.History.{Facts, facts, of_actor, Has, IsPlace}
-use Rattle.rz_core.specs.NodeWord.{phase, losses, fence_of}
+use Rattle.rz_core.specs.NodeWord.{phase, losses, last_fence}
 use Rattle.rz_core.specs.ExportWord.{last_drawn, accepted, is_newer, enrolled, or_new}
 use Rattle.rz_events.specs.Masks.{HasBit}
-use Rattle.rz_core.specs.Legal.{IsLegal, Row}
+use Rattle.rz_core.specs.Legal.{IsLegalInRuns, Row}
 use Rattle.rz_core.proofs.Extends.{some_length, extends-more, place-extends}
 use Rattle.rz_core.proofs.Stamps.{export, same_key-true, drawn}
 use Rattle.rz_safety.specs.Reads.{IsLostSince}
@@ -31,34 +31,34 @@ losses-word : (v : Volume) (x : Event) (f : Facts) (w o run : List Event) → Ro
 losses-word v (e.Lose m l) f w o run r = let n = r.next in omega arith
 losses-word v (x) f w o run r = omega arith
 
-pub losses-more : (v : Volume) (x : Event) (h : List Event) → IsLegal v (x ∷ h) → (n : ℕ) → losses (node n h) ≤ losses (node n (x ∷ h))
+pub losses-more : (v : Volume) (x : Event) (h : List Event) → IsLegalInRuns v (x ∷ h) → (n : ℕ) → losses (node n h) ≤ losses (node n (x ∷ h))
 losses-more v x h legal n =
     at-node x h n (λ w. losses (node n h) ≤ losses w)
     (λ is. losses-word v x (facts h) (node n h) _ _ (node-row v x h n legal is))
     (omega arith)
 
 -- a probe answers a loss that came
-pub probed-losses : (v : Volume) (h : List Event) → IsLegal v h → (by : Actor) (n loss : ℕ) → Has h (e.Probe by n (Some loss)) → loss ≤ losses (node n h)
+pub probed-losses : (v : Volume) (h : List Event) → IsLegalInRuns v h → (by : Actor) (n loss : ℕ) → Has h (e.Probe by n (Some loss)) → loss ≤ losses (node n h)
 probed-losses v [] legal by n loss has = absurd has
 probed-losses v (x ∷ h) legal by n loss (inr has) = let i = probed-losses v h legal.0 by n loss has in let m = losses-more v x h legal n in omega (arith, i, m)
 probed-losses v (x ∷ h) legal by n loss (inl is) =
-    let legal' = subst (λ y. IsLegal v (y ∷ h)) is legal in
+    let legal' = subst (λ y. IsLegalInRuns v (y ∷ h)) is legal in
     let row = node-row v (e.Probe by n (Some loss)) h n legal' refl in
     let m = losses-more v x h legal n in
     let r = row.1 in omega (arith, m, r)
 
 -- and an enrolment is of a loss that came
-pub enrolled-losses : (v : Volume) (h : List Event) → IsLegal v h → (by : Actor) (n loss fence : ℕ) → Has h (e.Enroll by n loss fence) → loss ≤ losses (node n h)
+pub enrolled-losses : (v : Volume) (h : List Event) → IsLegalInRuns v h → (by : Actor) (n loss fence : ℕ) → Has h (e.Enroll by n loss fence) → loss ≤ losses (node n h)
 enrolled-losses v [] legal by n loss fence has = absurd has
 enrolled-losses v (x ∷ h) legal by n loss fence (inr has) =
     let i = enrolled-losses v h legal.0 by n loss fence has in let m = losses-more v x h legal n in omega (arith, i, m)
 enrolled-losses v (x ∷ h) legal by n loss fence (inl is) =
-    let legal' = subst (λ y. IsLegal v (y ∷ h)) is legal in
+    let legal' = subst (λ y. IsLegalInRuns v (y ∷ h)) is legal in
     let i = probed-losses v h legal.0 by n loss (filter-has (λ y. same_actor by (by_of y)) h (e.Probe by n (Some loss)) legal'.1.row.probed) in
     let m = losses-more v x h legal n in omega (arith, i, m)
 
 -- a loss that came is at most the last
-pub lost-losses : (v : Volume) (h : List Event) → IsLegal v h → (n : ℕ) (key : Key) (s loss : ℕ) → IsLostSince h n key s loss → loss ≤ losses (node n h)
+pub lost-losses : (v : Volume) (h : List Event) → IsLegalInRuns v h → (n : ℕ) (key : Key) (s loss : ℕ) → IsLostSince h n key s loss → loss ≤ losses (node n h)
 lost-losses v [] legal n key s loss k = absurd k
 lost-losses v (e.Lose m l ∷ h) legal n key s loss (inl k) =
     subst (λ z. z ≤ losses (node n (e.Lose m l ∷ h))) k.1 (at-own (e.Lose m l) h n (λ w. l ≤ losses w) (ap Node k.0) (omega arith))
@@ -68,7 +68,7 @@ lost-losses v (x ∷ h) legal n key s loss k =
     let i = lost-losses v h legal.0 n key s loss k in let m = losses-more v x h legal n in omega (arith, i, m)
 
 -- each enrolment of a loss after what was stored has a fence above it
-pub enrolled-above : (v : Volume) (h : List Event) → IsLegal v h → (n : ℕ) (key : Key) (s loss : ℕ) → IsLostSince h n key s loss
+pub enrolled-above : (v : Volume) (h : List Event) → IsLegalInRuns v h → (n : ℕ) (key : Key) (s loss : ℕ) → IsLostSince h n key s loss
     → (by : Actor) (l fence : ℕ) → Has h (e.Enroll by n l fence) → loss ≤ l → s < fence
 enrolled-above v [] legal n key s loss lost by l fence has le = absurd has
 enrolled-above v (e.Lose m k ∷ h) legal n key s loss (inl (en, ek, stored)) by l fence (inl is) le = cc
@@ -79,7 +79,7 @@ enrolled-above v (e.Lose m k ∷ h) legal n key s loss (inl (en, ek, stored)) by
 enrolled-above v (e.Lose m k ∷ h) legal n key s loss (inr lost) by l fence (inl is) le = cc
 enrolled-above v (e.Lose m k ∷ h) legal n key s loss (inr lost) by l fence (inr has) le = enrolled-above v h legal.0 n key s loss lost by l fence has le
 enrolled-above v (e.Enroll by' m k g ∷ h) legal n key s loss lost by l fence (inl is) le =
-    let legal' = subst (λ y. IsLegal v (y ∷ h)) is legal in
+    let legal' = subst (λ y. IsLegalInRuns v (y ∷ h)) is legal in
     elim (new_cases (enrolled (export h) n l) (last_drawn (export h)) fence legal'.1.row.fence_is) [
       | inl old ↦ (let i = enrolled-has (export h) n l fence old in
           enrolled-above v h legal.0 n key s loss lost i.0 l fence (filter-has (λ y. same_word Export (word_of y)) h (e.Enroll i.0 n l fence) i.1) le)
@@ -92,7 +92,7 @@ enrolled-above v (x ∷ h) legal n key s loss lost by l fence (inr has) le = enr
 
 -- what bars a node from an older write
 abbrev pub IsBarred : List Event → ℕ → Type 0
-IsBarred w s = (phase w ≡ Lost) ⊎ (s < fence_of w)
+IsBarred w s = (phase w ≡ Lost) ⊎ (s < last_fence w)
 
 barred-word : (v : Volume) (x : Event) (f : Facts) (w o run : List Event) (s : ℕ) → Row v f w o run x
     → ((by : Actor) (m loss fence : ℕ) → x ≡ e.Replace by m loss fence → loss ≡ losses w → Has o (e.Enroll by m loss fence) → s < fence)
@@ -109,7 +109,7 @@ barred-word v (e.Start m took) f w o run s r replace (inr above) = inr above
 barred-word v (x) f w o run s r replace k = k
 
 -- a node that was lost after it stored a write is lost, or has a fence above it
-pub barred : (v : Volume) (h : List Event) → IsLegal v h → (n : ℕ) (key : Key) (s loss : ℕ) → IsLostSince h n key s loss → IsBarred (node n h) s
+pub barred : (v : Volume) (h : List Event) → IsLegalInRuns v h → (n : ℕ) (key : Key) (s loss : ℕ) → IsLostSince h n key s loss → IsBarred (node n h) s
 barred v [] legal n key s loss k = absurd k
 barred v (e.Lose m l ∷ h) legal n key s loss (inl k) = at-own (e.Lose m l) h n (λ w. IsBarred w s) (ap Node k.0) (inl refl)
 barred v (e.Lose m l ∷ h) legal n key s loss (inr k) =
@@ -117,7 +117,7 @@ barred v (e.Lose m l ∷ h) legal n key s loss (inr k) =
 barred v (x ∷ h) legal n key s loss k =
     let i = barred v h legal.0 n key s loss k in
     at-node x h n (λ w. IsBarred w s)
-    (λ is. barred-word v x (facts h) (node n h) (of_actor (by_of x) h) (of_actor (by_of x) h) s (node-row v x h n legal is)
+    (λ is. barred-word v x (facts h) (node n h) (of_actor (by_of x) h) legal.1.run s (node-row v x h n legal is)
     (λ by m loss' fence same loss_is has.
     let there : m ≡ n = node_is m n (sym (ap word_of same) ∙ is) in
     let le = lost-losses v h legal.0 n key s loss k in
@@ -135,7 +135,7 @@ second_in None = 0
 second_in (Some p) = p.1
 
 -- before the publish no node of its mask was enrolled above its stamp
-pub published-free : (v : Volume) (h : List Event) → IsLegal v h → (key : Key) (a : ℕ × ℕ) (q n : ℕ) → accepted (export h) key ≡ Some a → HasBit a.1 q → IsPlace (facts h) key.fid q n
+pub published-free : (v : Volume) (h : List Event) → IsLegalInRuns v h → (key : Key) (a : ℕ × ℕ) (q n : ℕ) → accepted (export h) key ≡ Some a → HasBit a.1 q → IsPlace (facts h) key.fid q n
     → (by : Actor) (l fence : ℕ) → Has (before_published h key) (e.Enroll by n l fence) → fence ≤ a.0
 published-free v [] legal key a q n acc set place by l fence has = cc
 published-free v (e.Publish by' at stamp mask None ∷ h) legal key a q n acc set place by l fence has =
@@ -167,7 +167,7 @@ before-has (e.Publish by at stamp mask None ∷ h) key x has = go (before-has h 
 before-has (y ∷ h) key x has = inr (before-has h key x has)
 
 -- the law
-pub kept : (v : Volume) (h : List Event) → IsLegal v h → IsKept h
+pub kept : (v : Volume) (h : List Event) → IsLegalInRuns v h → IsKept h
 kept v h legal key p q n live pub' set place =
     let s = some_length (facts h) (accepted (export h) key) p (sym pub') in
     let set' = subst (λ m. HasBit m q) s.3 set in

@@ -16,11 +16,11 @@ use Rattle.rz_events.specs.declared.events.Event.TheVariants as e
 use Rattle.rz_events.specs.Events.{by_of, word_of, same_actor, same_word, same_key}
 use Rattle.rz_node_model.specs.Versions.{kept, refilled, without, IsAbove, Stands, IsPast, greatest}
 use Rattle.rz_core.specs.History.{Facts, facts, Begun, wrote, of_word, of_actor, Has, IsPlace}
-use Rattle.rz_core.specs.NodeWord.{fence_of, held, changed, base_of, itself}
+use Rattle.rz_core.specs.NodeWord.{last_fence, held, changed, base_begun, itself}
 use Rattle.rz_core.specs.ExportWord.{latest, accepted, stamp_in, is_newer, is_gone, is_made, is_live, ends}
 use Rattle.rz_events.specs.Masks.{HasBit}
 use Rattle.rz_core.specs.NodeRows.{HasGone}
-use Rattle.rz_core.specs.Legal.{IsLegal, Row}
+use Rattle.rz_core.specs.Legal.{IsLegalInRuns, Row}
 use Rattle.rz_core.proofs.Extends.{all-changed, OfChange, IsPlaced, Knows, made-placed, extends-more, place-extends, place-back}
 use Rattle.rz_core.proofs.Locality.{all-filter, legal-knows}
 use Rattle.rz_core.proofs.Stamps.{export, positive, same_key-true, same_key-refl, begun_by-is, wrote-cases, begun-latest, latest-more, accepted_cases}
@@ -31,7 +31,7 @@ use Rattle.rz_core.proofs.NodeLaws.{node, holds, at-node, Fits, IsPair, pairs, f
 use Rattle.rz_safety.proofs.NodeLaws.{Told, IsBegun, node-step, holds-step, begun-more, rebuild-acked}
 
 -- what was acknowledged was begun
-pub acked-begun : (v : Volume) (h : List Event) → IsLegal v h → (key : Key) (t : ℕ) → IsAcked h key t → IsBegun h key t
+pub acked-begun : (v : Volume) (h : List Event) → IsLegalInRuns v h → (key : Key) (t : ℕ) → IsAcked h key t → IsBegun h key t
 acked-begun v [] legal key t k = absurd k.2
 acked-begun v (e.Publish by at stamp mask None ∷ h) legal key t (a, m, inl is) =
     let same : at ≡ key = cc in
@@ -42,7 +42,7 @@ acked-begun v (x ∷ h) legal key t (a, m, inl is) = cc
 acked-begun v (x ∷ h) legal key t (a, m, inr has) = begun-more x h key t (acked-begun v h legal.0 key t (a, m, has))
 
 -- a write above the published one began with it as its base
-pub bases : (v : Volume) (h : List Event) → IsLegal v h → (s : ℕ) (b : Begun) (a : ℕ × ℕ) → wrote h s ≡ Some b → accepted (export h) b.key ≡ Some a → a.0 < s → b.base ≡ a.0
+pub bases : (v : Volume) (h : List Event) → IsLegalInRuns v h → (s : ℕ) (b : Begun) (a : ℕ × ℕ) → wrote h s ≡ Some b → accepted (export h) b.key ≡ Some a → a.0 < s → b.base ≡ a.0
 bases v [] legal s b a k acc above = cc
 bases v (e.Begin by at stamp base text ∷ h) legal s b a k acc above =
     elim (wrote-cases (e.Begin by at stamp base text) h s b k) [
@@ -114,7 +114,7 @@ refilled-stands t s (a ∷ b ∷ []) p (inr (inr k)) never = absurd k
 refilled-stands t s (a ∷ b ∷ c ∷ more) p (inr k) never = absurd p
 
 -- the stamps that a node holds were begun on the key
-begun-change : (v : Volume) (h : List Event) → IsLegal v h → (key : Key) (c : Change) → Told h c → OfChange (IsBegun h key) key c
+begun-change : (v : Volume) (h : List Event) → IsLegalInRuns v h → (key : Key) (c : Change) → Told h c → OfChange (IsBegun h key) key c
 begun-change v h legal key (change.Keep at s position) told = λ t. subst (λ q. IsBegun h q s) (sym (same_key-true key at t)) told
 begun-change v h legal key (change.Refill fence at s position) told = λ t. subst (λ q. IsBegun h q s) (sym (same_key-true key at t)) (acked-begun v h legal at s told)
 begun-change v h legal key (change.Drop at s) told = tt
@@ -123,7 +123,7 @@ all-begun-more : (x : Event) (h : List Event) (key : Key) (now : List ℕ) → A
 all-begun-more x h key [] all = tt
 all-begun-more x h key (a ∷ now) all = (begun-more x h key a all.0, all-begun-more x h key now all.1)
 
-pub held-begun : (v : Volume) (h : List Event) → IsLegal v h → (n : ℕ) (key : Key) → AllByRecursion (IsBegun h key) (holds n h key)
+pub held-begun : (v : Volume) (h : List Event) → IsLegalInRuns v h → (n : ℕ) (key : Key) → AllByRecursion (IsBegun h key) (holds n h key)
 held-begun v [] legal n key = tt
 held-begun v (x ∷ h) legal n key =
     all-begun-more x h key (holds n (x ∷ h) key) (node-step v x h legal n key (AllByRecursion (IsBegun h key))
@@ -131,7 +131,7 @@ held-begun v (x ∷ h) legal n key =
     (λ loss is. tt)
     (held-begun v h legal.0 n key))
 
-pub begun-most : (v : Volume) (h : List Event) → IsLegal v h → (key : Key) (s : ℕ) → IsBegun h key s → s ≤ latest (export h) key
+pub begun-most : (v : Volume) (h : List Event) → IsLegalInRuns v h → (key : Key) (s : ℕ) → IsBegun h key s → s ≤ latest (export h) key
 begun-most v h legal key s b = subst (λ q. s ≤ latest (export h) q) b.2 (begun-latest v h legal s b.0 b.1)
 
 -- a file that is not gone was not gone before
@@ -168,11 +168,11 @@ live-stays h key at s t now live by (c, info, has, is) k = go (same_key key at) 
         let gone' = subst (λ z. is_gone (export h) z ≡ true) there gone in cc
 
 -- a change that fits leaves the published stamp where it is
-pub published-stays : (v : Volume) (h : List Event) → IsLegal v h → (key : Key) → is_gone (export h) key.fid ≡ false → (c : Change) (now : List ℕ) (a : ℕ × ℕ) → Told h c → Fits (facts h) key c now
+pub published-stays : (v : Volume) (h : List Event) → IsLegalInRuns v h → (key : Key) → is_gone (export h) key.fid ≡ false → (c : Change) (now : List ℕ) (a : ℕ × ℕ) → Told h c → Fits (facts h) key c now
     → IsPair now → AllByRecursion (IsBegun h key) now → accepted (export h) key ≡ Some a → Stands a.0 now → Stands a.0 (changed (facts h) key c now)
 published-stays v h legal key live (change.Keep at t position) now a told fits pair begun acc k = go (same_key key at) refl
   where
-    go : (u : Bool) → same_key key at ≡ u → Stands a.0 (cond u (kept itself (base_of (facts h) t) t now) now)
+    go : (u : Bool) → same_key key at ≡ u → Stands a.0 (cond u (kept itself (base_begun (facts h) t) t now) now)
     go false q = k
     go true q =
         let above = fits q in
@@ -195,8 +195,8 @@ published-stays v h legal key live (change.Refill fence at t position) now a tol
         let ne : ¬ (a.0 ≡ t) = λ same. (fits q).0 (subst (Stands t) (sym two) (inr (inl same))) in
         let lt : t < a.0 = below t a.0 le ne in
         let high : t < g = omega arith in
-        let low : a.0 ≤ base_of (facts h) g = rw b.1 (omega (arith, base)) in
-        (fits q).1 (subst (IsPast (base_of (facts h)) t) (sym two) (high, lt, low)))
+        let low : a.0 ≤ base_begun (facts h) g = rw b.1 (omega (arith, base)) in
+        (fits q).1 (subst (IsPast (base_begun (facts h)) t) (sym two) (high, lt, low)))
       where
         some_is : (x y : ℕ × ℕ) → Some x ≡ Some y → x ≡ y
         some_is x y e = cc
@@ -206,11 +206,11 @@ published-stays v h legal key live (change.Refill fence at t position) now a tol
 published-stays v h legal key live (change.Drop at t) now a told fits pair begun acc k = live-stays h key at a.0 t now live told.0 told.1 k
 
 -- so does it the newest stamp
-newest-stays : (v : Volume) (h : List Event) → IsLegal v h → (key : Key) → is_gone (export h) key.fid ≡ false → (c : Change) (now : List ℕ) (s : ℕ) → Told h c → Fits (facts h) key c now
+newest-stays : (v : Volume) (h : List Event) → IsLegalInRuns v h → (key : Key) → is_gone (export h) key.fid ≡ false → (c : Change) (now : List ℕ) (s : ℕ) → Told h c → Fits (facts h) key c now
     → IsPair now → AllByRecursion (IsBegun h key) now → s ≡ latest (export h) key → Stands s now → Stands s (changed (facts h) key c now)
 newest-stays v h legal key live (change.Keep at t position) now s told fits pair begun newest k = go (same_key key at) refl
   where
-    go : (u : Bool) → same_key key at ≡ u → Stands s (cond u (kept itself (base_of (facts h) t) t now) now)
+    go : (u : Bool) → same_key key at ≡ u → Stands s (cond u (kept itself (base_begun (facts h) t) t now) now)
     go false q = k
     go true q =
         let lt = above-stands s t now (fits q) k in
@@ -242,17 +242,17 @@ stored-cases x h n key s (inl (by, p, inr has)) = inl (inl (by, p, has))
 stored-cases x h n key s (inr (by, now, inl is)) = inr (inr (by, now, is))
 stored-cases x h n key s (inr (by, now, inr has)) = inl (inr (by, now, has))
 
-storing-begun : (v : Volume) (x : Event) (h : List Event) → IsLegal v (x ∷ h) → (n : ℕ) (key : Key) (s : ℕ) → IsStoring x n key s → IsBegun h key s
+storing-begun : (v : Volume) (x : Event) (h : List Event) → IsLegalInRuns v (x ∷ h) → (n : ℕ) (key : Key) (s : ℕ) → IsStoring x n key s → IsBegun h key s
 storing-begun v x h legal n key s (inl (by, p, is)) =
-    let row = subst (λ y. Row v (facts h) (of_word (word_of y) h) (of_actor (by_of y) h) (of_actor (by_of y) h) y) is legal.1.row in
+    let row = subst (λ y. Row v (facts h) (of_word (word_of y) h) (of_actor (by_of y) h) legal.1.run y) is legal.1.row in
     let i = row.keep.writing.writer in (i.0, i.1.found, i.1.key_is)
 storing-begun v x h legal n key s (inr (by, now, is)) =
-    elim (subst (λ y. Row v (facts h) (of_word (word_of y) h) (of_actor (by_of y) h) (of_actor (by_of y) h) y) is legal.1.row) [
+    elim (subst (λ y. Row v (facts h) (of_word (word_of y) h) (of_actor (by_of y) h) legal.1.run y) is legal.1.row) [
       | inl row ↦ (let i = row.keep.1.writing.writer in (i.0, i.1.found, i.1.key_is))
-      | inr row ↦ acked-begun v h legal.0 key s (rebuild-acked v h legal.0 (facts h) by n (fence_of (node n h)) key s row.refill.0 row.refill.1.rebuilding)
+      | inr row ↦ acked-begun v h legal.0 key s (rebuild-acked v h legal.0 (facts h) by n (last_fence (node n h)) key s row.refill.0 row.refill.1.rebuilding)
     ]
 
-pub stored-begun : (v : Volume) (h : List Event) → IsLegal v h → (n : ℕ) (key : Key) (s : ℕ) → IsStored h n key s → IsBegun h key s
+pub stored-begun : (v : Volume) (h : List Event) → IsLegalInRuns v h → (n : ℕ) (key : Key) (s : ℕ) → IsStored h n key s → IsBegun h key s
 stored-begun v [] legal n key s (inl k) = absurd k.2
 stored-begun v [] legal n key s (inr k) = absurd k.2
 stored-begun v (x ∷ h) legal n key s k =
@@ -279,12 +279,12 @@ lost-stored (e.Lose m l ∷ h) n key s loss (inr k) = stored-more (e.Lose m l) h
 lost-stored (x ∷ h) n key s loss k = stored-more x h n key s (lost-stored h n key s loss k)
 
 -- an event that changes nothing at nodes leaves what they hold
-pub pass-holds : (v : Volume) (h : List Event) (by : Actor) (m : ℕ) (key : Key) (s now : ℕ) → IsLegal v (e.Passed by m key s now ∷ h) → (n : ℕ) (at : Key) → holds n (e.Passed by m key s now ∷ h) at ≡ holds n h at
+pub pass-holds : (v : Volume) (h : List Event) (by : Actor) (m : ℕ) (key : Key) (s now : ℕ) → IsLegalInRuns v (e.Passed by m key s now ∷ h) → (n : ℕ) (at : Key) → holds n (e.Passed by m key s now ∷ h) at ≡ holds n h at
 pass-holds v h by m key s now legal n at =
     let x = e.Passed by m key s now in
     holds-step v x h legal n at ∙ at-node x h n (λ w. held (facts h) w at ≡ held (facts h) (node n h) at) (λ is. refl) refl
 
-publish-holds : (v : Volume) (h : List Event) (by : Actor) (key : Key) (s mask : ℕ) → IsLegal v (e.Publish by key s mask None ∷ h) → (n : ℕ) (at : Key) → holds n (e.Publish by key s mask None ∷ h) at ≡ holds n h at
+publish-holds : (v : Volume) (h : List Event) (by : Actor) (key : Key) (s mask : ℕ) → IsLegalInRuns v (e.Publish by key s mask None ∷ h) → (n : ℕ) (at : Key) → holds n (e.Publish by key s mask None ∷ h) at ≡ holds n h at
 publish-holds v h by key s mask legal n at = holds-step v (e.Publish by key s mask None) h legal n at
 
 -- the greatest of stamps that are at most s is s where it is at least s
@@ -292,29 +292,29 @@ greatest-stands : (s : ℕ) (now : List ℕ) → 1 ≤ s → AllByRecursion (λ 
 greatest-stands s [] one all l = absurd (omega arith)
 greatest-stands s (a ∷ now) one all l = let m = all.0 in inl (omega arith)
 
-past-top : (f : Facts) (s : ℕ) (now : List ℕ) → AllByRecursion (λ t. t ≤ s) now → IsPast (base_of f) s now → Stands s now
+past-top : (f : Facts) (s : ℕ) (now : List ℕ) → AllByRecursion (λ t. t ≤ s) now → IsPast (base_begun f) s now → Stands s now
 past-top f s [] all p = absurd p
 past-top f s (a ∷ []) all p = absurd p
 past-top f s (a ∷ b ∷ more) all p = let l = p.0 in let m = all.0 in absurd (omega arith)
 
-all-most : (v : Volume) (h : List Event) → IsLegal v h → (key : Key) (s : ℕ) → s ≡ latest (export h) key → (now : List ℕ) → AllByRecursion (IsBegun h key) now → AllByRecursion (λ t. t ≤ s) now
+all-most : (v : Volume) (h : List Event) → IsLegalInRuns v h → (key : Key) (s : ℕ) → s ≡ latest (export h) key → (now : List ℕ) → AllByRecursion (IsBegun h key) now → AllByRecursion (λ t. t ≤ s) now
 all-most v h legal key s newest [] all = tt
 all-most v h legal key s newest (a ∷ now) all =
     let l = begun-most v h legal key a all.0 in ((omega (arith, l, newest)), all-most v h legal key s newest now all.1)
 
 -- a keep or pass of the newest stamp leaves it held
-storing-holds : (v : Volume) (x : Event) (h : List Event) → IsLegal v (x ∷ h) → (n : ℕ) (key : Key) (s : ℕ) → s ≡ latest (export h) key → IsStoring x n key s → Stands s (holds n (x ∷ h) key)
+storing-holds : (v : Volume) (x : Event) (h : List Event) → IsLegalInRuns v (x ∷ h) → (n : ℕ) (key : Key) (s : ℕ) → s ≡ latest (export h) key → IsStoring x n key s → Stands s (holds n (x ∷ h) key)
 storing-holds v x h legal n key s newest (inl (by, p, is)) = go x is legal
   where
-    go : (x : Event) → x ≡ e.Did by n (change.Keep key s p) → IsLegal v (x ∷ h) → Stands s (holds n (x ∷ h) key)
+    go : (x : Event) → x ≡ e.Did by n (change.Keep key s p) → IsLegalInRuns v (x ∷ h) → Stands s (holds n (x ∷ h) key)
     go (e.Did by' m (change.Keep at t place)) is legal =
         let en : m ≡ n = cc in
         let ek : at ≡ key = cc in
         let es : t ≡ s = cc in
-        rw (en, ek, es, eq-eqb n n refl, same_key-refl key) (kept-new (base_of (facts (e.Did by' n (change.Keep key s place) ∷ h)) s) s (held (facts (e.Did by' n (change.Keep key s place) ∷ h)) (node n h) key))
+        rw (en, ek, es, eq-eqb n n refl, same_key-refl key) (kept-new (base_begun (facts (e.Did by' n (change.Keep key s place) ∷ h)) s) s (held (facts (e.Did by' n (change.Keep key s place) ∷ h)) (node n h) key))
     go (y) is legal = cc
 storing-holds v x h legal n key s newest (inr (by, now, is)) =
-    let legal' = subst (λ y. IsLegal v (y ∷ h)) is legal in
+    let legal' = subst (λ y. IsLegalInRuns v (y ∷ h)) is legal in
     let begun = storing-begun v (e.Passed by n key s now) h legal' n key s (inr (by, now, refl)) in
     let one = positive v h legal'.0 s begun.0 begun.1 in
     let all = all-most v h legal'.0 key s newest (holds n h key) (held-begun v h legal'.0 n key) in
@@ -325,7 +325,7 @@ storing-holds v x h legal n key s newest (inr (by, now, is)) =
     subst (λ y. Stands s (holds n (y ∷ h) key)) (sym is) (subst (Stands s) (sym (pass-holds v h by n key s now legal' n key)) there)
 
 -- a node that kept or passed the newest write of a key holds it, or was lost since
-pub newest-kept : (v : Volume) (h : List Event) → IsLegal v h → (n : ℕ) (key : Key) (s : ℕ) → is_gone (export h) key.fid ≡ false → IsStored h n key s → s ≡ latest (export h) key → Stands s (holds n h key) ⊎ IsLost h n key s
+pub newest-kept : (v : Volume) (h : List Event) → IsLegalInRuns v h → (n : ℕ) (key : Key) (s : ℕ) → is_gone (export h) key.fid ≡ false → IsStored h n key s → s ≡ latest (export h) key → Stands s (holds n h key) ⊎ IsLost h n key s
 newest-kept v [] legal n key s live k newest = absurd (elim k [ inl (by, p, has) ↦ has | inr (by, p, has) ↦ has ])
 newest-kept v (x ∷ h) legal n key s live k newest =
     let was = live-before x h key.fid live in
@@ -350,7 +350,7 @@ place-unique f fid p m n (i, a, b) (j, c, d) =
     let one : slice_get i p ≡ Some n = subst (λ z. slice_get z p ≡ Some n) (sym same) d in cc
 
 -- a further event leaves the published stamp at a node that holds it, or is its loss
-pub published-step : (v : Volume) (x : Event) (h : List Event) → IsLegal v (x ∷ h) → (key : Key) (a : ℕ × ℕ) (n : ℕ) → is_gone (export h) key.fid ≡ false → accepted (export h) key ≡ Some a
+pub published-step : (v : Volume) (x : Event) (h : List Event) → IsLegalInRuns v (x ∷ h) → (key : Key) (a : ℕ × ℕ) (n : ℕ) → is_gone (export h) key.fid ≡ false → accepted (export h) key ≡ Some a
     → IsStored h n key a.0 → Stands a.0 (holds n h key) ⊎ IsLost h n key a.0 → Stands a.0 (holds n (x ∷ h) key) ⊎ IsLost (x ∷ h) n key a.0
 published-step v x h legal key a n live acc stored (inl k) =
     node-step v x h legal n key (λ now. Stands a.0 now ⊎ IsLost (x ∷ h) n key a.0)
@@ -360,7 +360,7 @@ published-step v x h legal key a n live acc stored (inl k) =
 published-step v x h legal key a n live acc stored (inr lost) = inr (lost.0, lost-more x h n key a.0 lost.0 lost.1)
 
 -- the file of a published block was made
-pub accepted-made : (v : Volume) (h : List Event) → IsLegal v h → (key : Key) (a : ℕ × ℕ) → accepted (export h) key ≡ Some a → is_made (export h) key.fid ≡ true
+pub accepted-made : (v : Volume) (h : List Event) → IsLegalInRuns v h → (key : Key) (a : ℕ × ℕ) → accepted (export h) key ≡ Some a → is_made (export h) key.fid ≡ true
 accepted-made v [] legal key a acc = cc
 accepted-made v (e.Publish by at stamp mask None ∷ h) legal key a acc =
     elim (accepted_cases (same_key key at && is_newer stamp (accepted (export h) key)) stamp mask (accepted (export h) key) a acc) [
@@ -372,13 +372,13 @@ accepted-made v (e.Publish by at stamp mask None ∷ h) legal key a acc =
 accepted-made v (x ∷ h) legal key a acc = made-more (x ∷ []) h key.fid (accepted-made v h legal.0 key a acc)
 
 -- so its places were known
-pub accepted-placed : (v : Volume) (h : List Event) → IsLegal v h → (key : Key) (a : ℕ × ℕ) → accepted (export h) key ≡ Some a → IsPlaced (facts h) key.fid
+pub accepted-placed : (v : Volume) (h : List Event) → IsLegalInRuns v h → (key : Key) (a : ℕ × ℕ) → accepted (export h) key ≡ Some a → IsPlaced (facts h) key.fid
 accepted-placed v h legal key a acc =
     made-placed (facts h) (export h) key.fid
     (all-filter (Knows (facts h)) (λ y. same_word Export (word_of y)) h (legal-knows v h legal)) (accepted-made v h legal key a acc)
 
 -- and are the same after a further event
-pub place-before : (v : Volume) (x : Event) (h : List Event) → IsLegal v h → (key : Key) (a : ℕ × ℕ) (q n : ℕ) → accepted (export h) key ≡ Some a
+pub place-before : (v : Volume) (x : Event) (h : List Event) → IsLegalInRuns v h → (key : Key) (a : ℕ × ℕ) (q n : ℕ) → accepted (export h) key ≡ Some a
     → IsPlace (facts (x ∷ h)) key.fid q n → IsPlace (facts h) key.fid q n
 place-before v x h legal key a q n acc place =
     place-back (facts h) (facts (x ∷ h)) (extends-more (x ∷ []) h) key.fid q n (accepted-placed v h legal key a acc) place
@@ -392,7 +392,7 @@ not_gone w fid live = go (is_gone w fid) (and_parts (is_made w fid) (not (is_gon
     go false k = refl
 
 -- what is published was kept or passed by each node of its mask, and is held or was lost
-pub accepted-kept : (v : Volume) (h : List Event) → IsLegal v h → (key : Key) (a : ℕ × ℕ) (q n : ℕ) → is_gone (export h) key.fid ≡ false → accepted (export h) key ≡ Some a → HasBit a.1 q → IsPlace (facts h) key.fid q n
+pub accepted-kept : (v : Volume) (h : List Event) → IsLegalInRuns v h → (key : Key) (a : ℕ × ℕ) (q n : ℕ) → is_gone (export h) key.fid ≡ false → accepted (export h) key ≡ Some a → HasBit a.1 q → IsPlace (facts h) key.fid q n
     → IsStored h n key a.0 × (Stands a.0 (holds n h key) ⊎ IsLost h n key a.0)
 accepted-kept v [] legal key a q n live acc set place = cc
 accepted-kept v (e.Publish by at stamp mask None ∷ h) legal key a q n live acc set place =
@@ -429,7 +429,7 @@ accepted-kept v (x ∷ h) legal key a q n live acc set place =
     (stored-more x h n key a.0 i.0, published-step v x h legal key a n was acc i.0 i.1)
 
 -- each begin above a publish came after it, with a base of at least its stamp
-pub base-of-later : (v : Volume) (h : List Event) → IsLegal v h → (key : Key) (s t : ℕ) (b : Begun) → IsAcked h key s → wrote h t ≡ Some b → b.key ≡ key → s < t → s ≤ b.base
+pub base-of-later : (v : Volume) (h : List Event) → IsLegalInRuns v h → (key : Key) (s t : ℕ) (b : Begun) → IsAcked h key s → wrote h t ≡ Some b → b.key ≡ key → s < t → s ≤ b.base
 base-of-later v [] legal key s t b acked w on above = cc
 base-of-later v (e.Begin by at stamp base text ∷ h) legal key s t b (a, m, inl is) w on above = cc
 base-of-later v (e.Begin by at stamp base text ∷ h) legal key s t b (a, m, inr has) w on above =

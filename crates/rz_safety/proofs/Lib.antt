@@ -11,3 +11,4 @@ pub mod RebuildLaws
 pub mod OrderLaws
 pub mod WriteLaws
 pub mod PositionLaws
+pub mod CourseLaws

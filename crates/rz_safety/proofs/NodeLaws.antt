@@ -18,10 +18,10 @@ use Rattle.rz_events.specs.Events.{by_of, word_of, same_actor, same_word, same_k
 use Rattle.rz_node_model.specs.Versions.{kept, refilled, without, greater_goes, IsAbove, Stands, IsPast}
 use Rattle.rz_core.specs.History.{Facts, facts, Begun, wrote, of_word, of_actor, Has}
 use Rattle.rz_core.specs.Own.{is_next}
-use Rattle.rz_core.specs.NodeWord.{phase, held, changed, taken, undecided, base_of, itself}
+use Rattle.rz_core.specs.NodeWord.{phase, held, changed, settled, undecided, base_begun, itself}
 use Rattle.rz_core.specs.ExportWord.{accepted}
 use Rattle.rz_core.specs.NodeRows.{DidRow, IsRebuilding, HasGone}
-use Rattle.rz_core.specs.Legal.{IsLegal, Row}
+use Rattle.rz_core.specs.Legal.{IsLegalInRuns, Row}
 use Rattle.rz_core.proofs.Extends.{Extends, extends-more, wrote-more, held-extends, Knows, last-has, some_length}
 use Rattle.rz_core.proofs.Rows.{row-extends}
 use Rattle.rz_core.proofs.Locality.{all-filter, legal-knows, KnowsBefore, row-knows}
@@ -31,7 +31,7 @@ use Rattle.rz_safety.proofs.Acked.{accepted-acked}
 use Rattle.rz_core.proofs.NodeLaws.{node, holds, same_word-true, at-node, node-row, IsRows, rows, Fits, did-fits, did-up, undecided-down, pending-fits, IsPair, change-pair, word-pair, pairs, filter-has, has-filter}
 
 -- what a next listed was acknowledged
-pub nexted : (v : Volume) (h : List Event) → IsLegal v h → (by : Actor) (m : ℕ) (after : Option Key) (l : Listed) → Has h (e.Next by m after (Some l)) → IsAcked h l.key l.published.stamp
+pub nexted : (v : Volume) (h : List Event) → IsLegalInRuns v h → (by : Actor) (m : ℕ) (after : Option Key) (l : Listed) → Has h (e.Next by m after (Some l)) → IsAcked h l.key l.published.stamp
 nexted v [] legal by m after l has = absurd has
 nexted v (e.Next by' m' after' (Some l') ∷ h) legal by m after l (inl is) =
     let same : l' ≡ l = cc in
@@ -43,7 +43,7 @@ nexted v (e.Next by' m' after' (Some l') ∷ h) legal by m after l (inl is) =
 nexted v (x ∷ h) legal by m after l (inl is) = cc
 nexted v (x ∷ h) legal by m after l (inr has) = let r = nexted v h legal.0 by m after l has in (r.0, r.1, inr r.2)
 
-pub rebuild-acked : (v : Volume) (h : List Event) → IsLegal v h → (f : Facts) (by : Actor) (n fence : ℕ) (key : Key) (s p : ℕ) → IsRebuilding v f (of_actor by h) by n fence key s p → IsAcked h key s
+pub rebuild-acked : (v : Volume) (h : List Event) → IsLegalInRuns v h → (f : Facts) (by : Actor) (n fence : ℕ) (key : Key) (s p : ℕ) → IsRebuilding v f (of_actor by h) by n fence key s p → IsAcked h key s
 rebuild-acked v h legal f by n fence key s p r =
     let (m, l, is, stamped) = r.next in
     let x = e.Next by m is.after.0 (Some l) in
@@ -67,7 +67,7 @@ told-more x h (change.Keep at s position) t = begun-more x h at s t
 told-more x h (change.Refill fence at s position) t = (t.0, t.1, inr t.2)
 told-more x h (change.Drop at s) t = let (by, (c, info, has, is)) = t in (by, (c, info, inr has, is))
 
-did-told : (v : Volume) (h : List Event) → IsLegal v h → (w : List Event) (by : Actor) (n : ℕ) (c : Change) → DidRow v (facts h) w (of_actor by h) by n c → Told h c
+did-told : (v : Volume) (h : List Event) → IsLegalInRuns v h → (w : List Event) (by : Actor) (n : ℕ) (c : Change) → DidRow v (facts h) w (of_actor by h) by n c → Told h c
 did-told v h legal w by n (change.Keep at s position) r = let i = r.keep.writing.writer in (i.0, i.1.found, i.1.key_is)
 did-told v h legal w by n (change.Refill fence at s position) r = rebuild-acked v h legal (facts h) by n fence at s position r.refill.rebuilding
 did-told v h legal w by n (change.Drop at s) r =
@@ -81,7 +81,7 @@ undecided-cases (e.Start m took) w c u = cc
 undecided-cases (e.Lose m loss) w c u = cc
 undecided-cases (x) w c u = inl u
 
-pub pending-told : (v : Volume) (h : List Event) → IsLegal v h → (n : ℕ) (c : Change) → undecided (node n h) ≡ Some c → Told h c
+pub pending-told : (v : Volume) (h : List Event) → IsLegalInRuns v h → (n : ℕ) (c : Change) → undecided (node n h) ≡ Some c → Told h c
 pending-told v [] legal n c u = cc
 pending-told v (x ∷ h) legal n c u =
     let ih = pending-told v h legal.0 n c in
@@ -89,7 +89,7 @@ pending-told v (x ∷ h) legal n c u =
     (λ is u. elim (undecided-cases x (node n h) c u) [
       | inl old ↦ ih old
       | inr broke ↦ (let (by, m, same) = broke in
-          did-told v h legal.0 (node n h) by m c (subst (λ y. Row v (facts h) (node n h) (of_actor (by_of y) h) (of_actor (by_of y) h) y) same (node-row v x h n legal is)))
+          did-told v h legal.0 (node n h) by m c (subst (λ y. Row v (facts h) (node n h) (of_actor (by_of y) h) legal.1.run y) same (node-row v x h n legal is)))
     ])
     ih u)
 
@@ -103,7 +103,7 @@ held-cases : (f : Facts) (w : List Event) (x : Event) (key : Key) (P : List ℕ 
 held-cases f w (e.Did by m c) key P did start lose now = did by m c refl
 held-cases f w (e.Start m true) key P did start lose now = go (undecided w) refl
   where
-    go : (u : Option Change) → undecided w ≡ u → P (taken f key u (held f w key))
+    go : (u : Option Change) → undecided w ≡ u → P (settled f key u (held f w key))
     go None q = now
     go (Some c) q = start c q
 held-cases f w (e.Start m false) key P did start lose now = now
@@ -116,7 +116,7 @@ node-knows f n (e.Meta by call given) is k = cc
 node-knows f n (x) is k = k
 
 -- a further event changes no base of what is held
-pub holds-step : (v : Volume) (x : Event) (h : List Event) → IsLegal v (x ∷ h) → (n : ℕ) (key : Key) → holds n (x ∷ h) key ≡ held (facts h) (node n (x ∷ h)) key
+pub holds-step : (v : Volume) (x : Event) (h : List Event) → IsLegalInRuns v (x ∷ h) → (n : ℕ) (key : Key) → holds n (x ∷ h) key ≡ held (facts h) (node n (x ∷ h)) key
 holds-step v x h legal n key =
     held-extends (facts h) (facts (x ∷ h)) (extends-more (x ∷ []) h) (node n (x ∷ h)) key
     (at-node x h n (AllByRecursion (Knows (facts h)))
@@ -136,7 +136,7 @@ holds-step v x h legal n key =
     own_actor = all-filter (Knows (facts h)) (λ y. same_actor (by_of x) (by_of y)) h all
 
 -- what a node holds is as before, or after a change that fits and that the log told of, or nothing after its loss
-pub node-step : (v : Volume) (x : Event) (h : List Event) → IsLegal v (x ∷ h) → (n : ℕ) (key : Key) (P : List ℕ → Type 0)
+pub node-step : (v : Volume) (x : Event) (h : List Event) → IsLegalInRuns v (x ∷ h) → (n : ℕ) (key : Key) (P : List ℕ → Type 0)
     → ((c : Change) → Told h c → Fits (facts h) key c (holds n h key) → P (changed (facts h) key c (holds n h key)))
     → ((loss : ℕ) → x ≡ e.Lose n loss → P [])
     → P (holds n h key)
@@ -145,7 +145,7 @@ node-step v x h legal n key P change lose now =
     subst P (sym (holds-step v x h legal n key)) (at-node x h n (λ w. P (held (facts h) w key))
     (λ is. held-cases (facts h) (node n h) x key P
     (λ by m c same.
-    let row = subst (λ y. Row v (facts h) (node n h) (of_actor (by_of y) h) (of_actor (by_of y) h) y) same (node-row v x h n legal is) in
+    let row = subst (λ y. Row v (facts h) (node n h) (of_actor (by_of y) h) legal.1.run y) same (node-row v x h n legal is) in
     change c (did-told v h legal.0 (node n h) by m c row) (did-fits v (facts h) (node n h) (of_actor by h) by m key c row))
     (λ c u. change c (pending-told v h legal.0 n c u) (pending-fits v (facts h) (node n h) (rows v h legal.0 n) key c u))
     (λ m loss same. let there : m ≡ n = node_is m n (sym (ap word_of same) ∙ is) in lose loss (same ∙ ap (λ z. e.Lose z loss) there))

@@ -12,7 +12,7 @@ use Rattle.rz_events.specs.Events.{by_of, word_of, same_actor, same_word}
 use Rattle.rz_core.specs.History.{Has}
 use Rattle.rz_core.specs.NodeWord.{phase, losses}
 use Rattle.rz_core.specs.ExportWord.{last_drawn, accepted, latest, stamp_in, enrolled}
-use Rattle.rz_core.specs.Legal.{IsLegal}
+use Rattle.rz_core.specs.Legal.{IsLegalInRuns}
 use Rattle.rz_core.proofs.Stamps.{export, last_drawn-more, latest-drawn, accepted-latest, greater-left}
 use Rattle.rz_safety.specs.Reads.{IsAcked}
 use Rattle.rz_safety.specs.Order.{IsStamp, IsFence, IsNew, AreRising, IsMendedInOrder, IsOrdered}
@@ -20,23 +20,23 @@ use Rattle.rz_safety.proofs.Acked.{acked-accepted}
 use Rattle.rz_core.proofs.NodeLaws.{node, same_word-true, node-row, filter-has}
 use Rattle.rz_core.proofs.EnrollLaws.{enrolled-has, new_cases}
 
-stamp-drawn : (v : Volume) (h : List Event) → IsLegal v h → (by : Actor) (key : Key) (s base : ℕ) (text : List ℕ) → Has h (e.Begin by key s base text) → s ≤ last_drawn (export h)
+stamp-drawn : (v : Volume) (h : List Event) → IsLegalInRuns v h → (by : Actor) (key : Key) (s base : ℕ) (text : List ℕ) → Has h (e.Begin by key s base text) → s ≤ last_drawn (export h)
 stamp-drawn v [] legal by key s base text has = absurd has
 stamp-drawn v (x ∷ h) legal by key s base text (inl is) = subst (λ y. s ≤ last_drawn (export (y ∷ h))) (sym is) (omega arith)
 stamp-drawn v (x ∷ h) legal by key s base text (inr has) =
     let i = stamp-drawn v h legal.0 by key s base text has in let m = last_drawn-more v x h legal in omega (arith, i, m)
 
-fence-drawn : (v : Volume) (h : List Event) → IsLegal v h → (by : Actor) (node loss s : ℕ) → Has h (e.Enroll by node loss s) → s ≤ last_drawn (export h)
+fence-drawn : (v : Volume) (h : List Event) → IsLegalInRuns v h → (by : Actor) (node loss s : ℕ) → Has h (e.Enroll by node loss s) → s ≤ last_drawn (export h)
 fence-drawn v [] legal by node loss s has = absurd has
 fence-drawn v (x ∷ h) legal by node loss s (inl is) = subst (λ y. s ≤ last_drawn (export (y ∷ h))) (sym is) (greater-left s (last_drawn (export h)))
 fence-drawn v (x ∷ h) legal by node loss s (inr has) =
     let i = fence-drawn v h legal.0 by node loss s has in let m = last_drawn-more v x h legal in omega (arith, i, m)
 
-next-new : (v : Volume) (h : List Event) → IsLegal v h → (n : ℕ) → n ≡ last_drawn (export h) + 1 → IsNew h n
+next-new : (v : Volume) (h : List Event) → IsLegalInRuns v h → (n : ℕ) → n ≡ last_drawn (export h) + 1 → IsNew h n
 next-new v h legal n is s (inl (by, key, base, text, has)) = let d = stamp-drawn v h legal by key s base text has in omega (arith, d, is)
 next-new v h legal n is s (inr (by, node, loss, has)) = let d = fence-drawn v h legal by node loss s has in omega (arith, d, is)
 
-pub rising : (v : Volume) (h : List Event) → IsLegal v h → AreRising h
+pub rising : (v : Volume) (h : List Event) → IsLegalInRuns v h → AreRising h
 rising v [] legal = tt
 rising v (e.Begin by key stamp base text ∷ h) legal = (rising v h legal.0, next-new v h legal.0 stamp legal.1.row.next)
 rising v (e.Enroll by n loss fence ∷ h) legal = (
@@ -79,15 +79,15 @@ lost-has h n lost =
     subst (λ z. Has h (e.Lose z (losses (node n h)))) here (filter-has (λ y. same_word (Node n) (word_of y)) h x i.1)
 
 -- a probe that told a loss came after it
-probed-lost : (v : Volume) (h : List Event) → IsLegal v h → (by : Actor) (n loss : ℕ) → Has h (e.Probe by n (Some loss)) → Has h (e.Lose n loss)
+probed-lost : (v : Volume) (h : List Event) → IsLegalInRuns v h → (by : Actor) (n loss : ℕ) → Has h (e.Probe by n (Some loss)) → Has h (e.Lose n loss)
 probed-lost v [] legal by n loss has = absurd has
 probed-lost v (x ∷ h) legal by n loss (inr has) = inr (probed-lost v h legal.0 by n loss has)
 probed-lost v (x ∷ h) legal by n loss (inl is) =
-    let legal' = subst (λ y. IsLegal v (y ∷ h)) is legal in
+    let legal' = subst (λ y. IsLegalInRuns v (y ∷ h)) is legal in
     let row = node-row v (e.Probe by n (Some loss)) h n legal' refl in
     inr (subst (λ l. Has h (e.Lose n l)) (sym row.1) (lost-has h n row.0))
 
-pub mended : (v : Volume) (h : List Event) → IsLegal v h → IsMendedInOrder h
+pub mended : (v : Volume) (h : List Event) → IsLegalInRuns v h → IsMendedInOrder h
 mended v [] legal = tt
 mended v (e.Enroll by n loss fence ∷ h) legal =
     (mended v h legal.0, probed-lost v h legal.0 by n loss (filter-has (λ y. same_actor by (by_of y)) h (e.Probe by n (Some loss)) legal.1.row.probed))
@@ -95,7 +95,7 @@ mended v (e.Replace by n loss fence ∷ h) legal =
     (mended v h legal.0, filter-has (λ y. same_actor by (by_of y)) h (e.Enroll by n loss fence) legal.1.row.enrolled)
 mended v (x ∷ h) legal = mended v h legal.0
 
-pub ordered : (v : Volume) (h : List Event) → IsLegal v h → IsOrdered h
+pub ordered : (v : Volume) (h : List Event) → IsLegalInRuns v h → IsOrdered h
 ordered v [] legal = tt
 ordered v (e.Begin by key stamp base text ∷ h) legal = (
   ordered v h legal.0,

@@ -16,7 +16,7 @@ use Rattle.rz_node_model.specs.Versions.{Stands}
 use Rattle.rz_core.specs.Own.{IsFalling, HasDistinct}
 use Rattle.rz_core.specs.Outcomes.{seen_at, seens, why_at, whys, bars}
 use Rattle.rz_core.proofs.Stamps.{same_key-refl}
-use Rattle.rz_safety.specs.Positions.{AreApart, IsEnough, node_in, AreByPosition}
+use Rattle.rz_safety.specs.Positions.{AreApart, IsInAnyOrder, node_in, AreByPosition}
 
 -- Distinct positions.
 
@@ -76,7 +76,7 @@ sorted-falling : (ps : List ℕ) → AreApart ps → IsFalling (sorted ps)
 sorted-falling [] apart = tt
 sorted-falling (p ∷ ps) apart = placed-falling p (sorted ps) (sorted-all (λ q. ¬ (p ≡ q)) ps apart.0) (sorted-falling ps apart.1)
 
-pub enough : (given : List ℕ) → IsEnough given
+pub enough : (given : List ℕ) → IsInAnyOrder given
 enough given ps apart stands = (sorted ps, sorted-falling ps apart, sorted-length ps, sorted-all (λ p. Stands p given) ps stands)
 
 -- Tables.

@@ -17,7 +17,7 @@ use Rattle.rz_core.specs.ExportWord.{accepted, latest, with_length, is_live, is_
 use Rattle.rz_core.specs.ExportRows.{IsInFile, DeniedRow}
 use Rattle.rz_core.specs.Own.{last, is_look, is_export}
 use Rattle.rz_core.specs.OwnRows.{GotRow}
-use Rattle.rz_core.specs.Legal.{IsLegal}
+use Rattle.rz_core.specs.Legal.{IsLegalInRuns}
 use Rattle.rz_core.proofs.Stamps.{export, accepted-latest, wrote-has}
 use Rattle.rz_safety.specs.Reads.{IsAcked, IsQuiet, IsLookOf, is_look_denial, is_denied_look, before_look, before_export, before_read}
 use Rattle.rz_safety.specs.Sound.{IsAnsweredBy, IsAnswering}
@@ -31,7 +31,7 @@ has-looked : (v : Volume) (a : Actor) (h : List Event) (key : Key) (end : ReadEn
     → (answer : Option Published) × (last is_look (of_actor a h) ≡ Some (e.Look a key answer))
 has-looked v a h key (read.Found s text) r there = (Some r.looked.0, r.looked.1)
 has-looked v a h key read.Hole r there = (None, r)
-has-looked v a h key (read.TooFew seen) r there = (Some r.looked.0, r.looked.1)
+has-looked v a h key (read.TooFew seen) r there = (Some r.published, r.looked)
 has-looked v a h key (read.Moved was now) r there = (Some r.looked.0, r.looked.1)
 has-looked v a h key (read.Denied cause) (inl at_look) there = let so = ap is_look_denial at_look in cc
 has-looked v a h key (read.Denied cause) (inr (again, (answer, is))) there = (answer, is)
@@ -49,18 +49,18 @@ was-denied v a h key (read.Denied cause) (inr (again, (answer, is))) there = let
 was-denied v a h key read.Inconsistent r there = absurd r
 
 -- a block that was written lies in its file
-begun-in-file : (v : Volume) (h : List Event) → IsLegal v h → (by : Actor) (key : Key) (s base : ℕ) (text : List ℕ) → Has h (e.Begin by key s base text) → IsInFile key
+begun-in-file : (v : Volume) (h : List Event) → IsLegalInRuns v h → (by : Actor) (key : Key) (s base : ℕ) (text : List ℕ) → Has h (e.Begin by key s base text) → IsInFile key
 begun-in-file v [] legal by key s base text has = absurd has
-begun-in-file v (x ∷ h) legal by key s base text (inl is) = (subst (λ y. IsLegal v (y ∷ h)) is legal).1.row.block
+begun-in-file v (x ∷ h) legal by key s base text (inl is) = (subst (λ y. IsLegalInRuns v (y ∷ h)) is legal).1.row.block
 begun-in-file v (x ∷ h) legal by key s base text (inr has) = begun-in-file v h legal.0 by key s base text has
 
-acked-in-file : (v : Volume) (h : List Event) → IsLegal v h → (key : Key) (s : ℕ) → IsAcked h key s → IsInFile key
+acked-in-file : (v : Volume) (h : List Event) → IsLegalInRuns v h → (key : Key) (s : ℕ) → IsAcked h key s → IsInFile key
 acked-in-file v h legal key s acked =
     let b = acked-begun v h legal key s acked in
     subst IsInFile b.2 (begun-in-file v h legal b.0.by b.0.key s b.0.base b.0.text (wrote-has h s b.0 b.1))
 
 -- what was acknowledged earlier of a block that is quiet at s is at most s
-quiet-most : (v : Volume) (more earlier : List Event) (key : Key) (s t : ℕ) → IsLegal v (more ++ earlier) → IsQuiet (more ++ earlier) key s → IsAcked earlier key t → t ≤ s
+quiet-most : (v : Volume) (more earlier : List Event) (key : Key) (s t : ℕ) → IsLegalInRuns v (more ++ earlier) → IsQuiet (more ++ earlier) key s → IsAcked earlier key t → t ≤ s
 quiet-most v more earlier key s t legal quiet acked =
     let m = acked-accepted v (more ++ earlier) legal key t (acked-more more earlier key t acked) in
     let l = accepted-latest v (more ++ earlier) legal key m.0 m.1 in
@@ -68,7 +68,7 @@ quiet-most v more earlier key s t legal quiet acked =
     omega (arith, m.2, l, q)
 
 -- a look of a key whose write was acknowledged is not denied where its file is live later
-denied-none : (v : Volume) (a : Actor) (h : List Event) → IsLegal v h → (key : Key) (cause : Denial) → last is_export (of_actor a h) ≡ Some (e.Denied a (asked.Look key) cause)
+denied-none : (v : Volume) (a : Actor) (h : List Event) → IsLegalInRuns v h → (key : Key) (cause : Denial) → last is_export (of_actor a h) ≡ Some (e.Denied a (asked.Look key) cause)
     → is_live (export h) key.fid ≡ true → (s : ℕ) → ¬ IsAcked (before_export a h) key s
 denied-none v a h legal key cause denied live s acked =
     by_cause cause rl.1.row
@@ -85,8 +85,8 @@ denied-none v a h legal key cause denied live s acked =
     n : IsNewest h a (e.Denied a (asked.Look key) cause) hr
     n = newest-export a h (e.Denied a (asked.Look key) cause) denied
 
-    rl : IsLegal v (e.Denied a (asked.Look key) cause ∷ hr)
-    rl = newest-legal v a h (e.Denied a (asked.Look key) cause) legal n
+    rl : IsLegalInRuns v (e.Denied a (asked.Look key) cause ∷ hr)
+    rl = newest-legal v a h hr (e.Denied a (asked.Look key) cause) legal n
 
     by_cause : (c : Denial) → DeniedRow (export hr) (asked.Look key) c → (is_live (export hr) key.fid ≡ false → ⊥) → ⊥
     by_cause denial.UnknownFile row dead = dead row
@@ -100,7 +100,7 @@ told_of f None a is = cc
 told_of f (Some b) a is = let same : b ≡ a = cc in (record { stamp = b.0; mask = b.1; length = _ }, refl, ap (λ (z : ℕ × ℕ). z.0) same)
 
 -- a read that looked the key up was told s, or s was not acknowledged then
-looked-quiet : (v : Volume) (a : Actor) (h : List Event) → IsLegal v h → (key : Key) (s : ℕ) (answer : Option Published) → IsQuiet h key s
+looked-quiet : (v : Volume) (a : Actor) (h : List Event) → IsLegalInRuns v h → (key : Key) (s : ℕ) (answer : Option Published) → IsQuiet h key s
     → last is_look (of_actor a h) ≡ Some (e.Look a key answer)
     → ((p : Published) × (answer ≡ Some p) × (p.stamp ≡ s)) ⊎ ¬ IsAcked (before_look a h) key s
 looked-quiet v a h legal key s answer quiet is = go (accepted (export earlier) key) refl
@@ -114,7 +114,7 @@ looked-quiet v a h legal key s answer quiet is = go (accepted (export earlier) k
     most : (t : ℕ) → IsAcked earlier key t → t ≤ s
     most t acked =
         let then : IsAcked (e.Look a key answer ∷ earlier) key t = (acked.0, acked.1, inr acked.2) in
-        quiet-most v l.rest.0 (e.Look a key answer ∷ earlier) key s t (subst (IsLegal v) (sym l.rest.1) legal)
+        quiet-most v l.rest.0 (e.Look a key answer ∷ earlier) key s t (subst (IsLegalInRuns v) (sym l.rest.1) legal)
         (subst (λ (z : List Event). IsQuiet z key s) (sym l.rest.1) quiet) then
 
     go : (m : Option (ℕ × ℕ)) → accepted (export earlier) key ≡ m → ((p : Published) × (answer ≡ Some p) × (p.stamp ≡ s)) ⊎ ¬ IsAcked earlier key s
@@ -136,7 +136,7 @@ looked-quiet v a h legal key s answer quiet is = go (accepted (export earlier) k
             let w = eq-eqb b.0 s (omega (arith, same, up, low)) in cc)
 
 -- the law
-quiet_read : (v : Volume) (a : Actor) (h : List Event) → IsLegal v h → (key : Key) (end : ReadEnd) → GotRow v (facts h) (of_actor a h) a key end
+quiet_read : (v : Volume) (a : Actor) (h : List Event) → IsLegalInRuns v h → (key : Key) (end : ReadEnd) → GotRow v (facts h) (of_actor a h) a key end
     → (s : ℕ) → IsQuiet h key s → is_live (export h) key.fid ≡ true → IsAnsweredBy v h a key s end ⊎ ¬ IsAcked (before_read a h end) key s
 quiet_read v a h legal key end r s quiet live = go (is_denied_look a h end) refl
   where
@@ -157,8 +157,8 @@ quiet_read v a h legal key end r s quiet live = go (is_denied_look a h end) refl
           | inr not_yet ↦ inr not_yet
         ]
 
-pub answering : (v : Volume) (h : List Event) → IsLegal v h → IsAnswering v h
+pub answering : (v : Volume) (h : List Event) → IsLegalInRuns v h → IsAnswering v h
 answering v [] legal = tt
 answering v (e.Got by number key part end ∷ h) legal =
-    (answering v h legal.0, λ s quiet live. quiet_read v by h legal.0 key end legal.1.row s quiet live)
+    (answering v h legal.0, λ s quiet live. quiet_read v by h legal.0 key end legal.1.row.0 s quiet live)
 answering v (x ∷ h) legal = (answering v h legal.0, tt)

@@ -11,7 +11,7 @@ use Rattle.rz_core.specs.History.{Facts, Begun, wrote, facts, of_actor, Has}
 use Rattle.rz_core.specs.ExportWord.{accepted, with_length}
 use Rattle.rz_core.specs.Own.{last, is_look}
 use Rattle.rz_core.specs.OwnRows.{FoundRow}
-use Rattle.rz_core.specs.Legal.{IsLegal}
+use Rattle.rz_core.specs.Legal.{IsLegalInRuns}
 use Rattle.rz_core.proofs.Extends.{wrote-more, some_length}
 use Rattle.rz_core.proofs.Stamps.{export, wrote-has, accepted-begun}
 use Rattle.rz_safety.specs.Reads.{IsAcked, before_look}
@@ -20,20 +20,20 @@ use Rattle.rz_safety.proofs.Acked.{acked-accepted, accepted-acked}
 
 -- the actor's newest look stands after `before`, was of a block of a live file, and was told what was published then
 pub record IsLook (v : Volume) (before h : List Event) (a : Actor) (key : Key) (answer : Option Published) : Type 0 where
-  pub legal : IsLegal v (e.Look a key answer ∷ before)
+  pub legal : IsLegalInRuns v (e.Look a key answer ∷ before)
   pub rest : (more : List Event) × (more ++ (e.Look a key answer ∷ before) ≡ h)
 
 keep_look : (v : Volume) (x : Event) (before h : List Event) (a : Actor) (key : Key) (answer : Option Published) → IsLook v before h a key answer → IsLook v before (x ∷ h) a key answer
 keep_look v x before h a key answer i = record { legal = i.legal; rest = (x ∷ i.rest.0, ap (λ (l : List Event). x ∷ l) i.rest.1) }
 
 look_cases : (v : Volume) (mine : Bool) (a : Actor) (at key : Key) (said answer : Option Published) (by : Actor) (h : List Event)
-    → IsLegal v (e.Look by at said ∷ h)
+    → IsLegalInRuns v (e.Look by at said ∷ h)
     → last is_look (cond mine (e.Look by at said ∷ of_actor a h) (of_actor a h)) ≡ Some (e.Look a key answer)
     → (last is_look (of_actor a h) ≡ Some (e.Look a key answer) → IsLook v (before_look a h) h a key answer)
     → IsLook v (cond mine h (before_look a h)) (e.Look by at said ∷ h) a key answer
 look_cases v true a at key said answer by h legal k rest =
     let same : e.Look by at said ≡ e.Look a key answer = cc in
-    record { legal = subst (λ (x : Event). IsLegal v (x ∷ h)) same legal; rest = ([], ap (λ (x : Event). x ∷ h) (sym same)) }
+    record { legal = subst (λ (x : Event). IsLegalInRuns v (x ∷ h)) same legal; rest = ([], ap (λ (x : Event). x ∷ h) (sym same)) }
 look_cases v false a at key said answer by h legal k rest =
     keep_look v (e.Look by at said) (before_look a h) h a key answer (rest k)
 
@@ -41,7 +41,7 @@ pub skip : (mine : Bool) (x : Event) (o : List Event) → is_look x ≡ false �
 skip true x o e = rw e refl
 skip false x o e = refl
 
-pub looked : (v : Volume) (a : Actor) (h : List Event) → IsLegal v h → (key : Key) (answer : Option Published) → last is_look (of_actor a h) ≡ Some (e.Look a key answer) → IsLook v (before_look a h) h a key answer
+pub looked : (v : Volume) (a : Actor) (h : List Event) → IsLegalInRuns v h → (key : Key) (answer : Option Published) → last is_look (of_actor a h) ≡ Some (e.Look a key answer) → IsLook v (before_look a h) h a key answer
 looked v a [] legal key answer k = cc
 looked v a (e.Look by at said ∷ h) legal key answer k =
     look_cases v (same_actor a by) a at key said answer by h legal k (looked v a h legal.0 key answer)
@@ -60,7 +60,7 @@ none_length : (f : Facts) (m : Option (ℕ × ℕ)) → None ≡ with_length f m
 none_length f None k = refl
 none_length f (Some a) k = cc
 
-pub found_sound : (v : Volume) (a : Actor) (h : List Event) → IsLegal v h → (key : Key) (s : ℕ) (text : List ℕ) → FoundRow v (facts h) (of_actor a h) a key s text → IsSoundFound (before_look a h) h a key s text
+pub found_sound : (v : Volume) (a : Actor) (h : List Event) → IsLegalInRuns v h → (key : Key) (s : ℕ) (text : List ℕ) → FoundRow v (facts h) (of_actor a h) a key s text → IsSoundFound (before_look a h) h a key s text
 found_sound v a h legal key s text r =
     let l = looked v a h legal key (Some r.looked.0) r.looked.1 in
     let told = l.legal.1.row.told in
@@ -81,7 +81,7 @@ found_sound v a h legal key s text r =
     pair : {A B : Type 0} {x y : A} {u v : B} → x ≡ y → u ≡ v → (let p : A × B = (x, u) in p) ≡ (y, v)
     pair p q = cc
 
-pub hole_sound : (v : Volume) (a : Actor) (h : List Event) → IsLegal v h → (key : Key) → last is_look (of_actor a h) ≡ Some (e.Look a key None) → (t : ℕ) → ¬ IsAcked (before_look a h) key t
+pub hole_sound : (v : Volume) (a : Actor) (h : List Event) → IsLegalInRuns v h → (key : Key) → last is_look (of_actor a h) ≡ Some (e.Look a key None) → (t : ℕ) → ¬ IsAcked (before_look a h) key t
 hole_sound v a h legal key k t acked =
     let l = looked v a h legal key None k in
     let none = none_length (facts (before_look a h)) (accepted (export (before_look a h)) key) l.legal.1.row.told in

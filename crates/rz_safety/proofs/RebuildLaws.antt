@@ -14,12 +14,13 @@ use Rattle.rz_events.specs.declared.events.Event.TheVariants as e
 use Rattle.rz_events.specs.Events.{by_of, same_actor, same_key}
 use Rattle.rz_node_model.specs.Versions.{Stands, IsPast}
 use Rattle.rz_core.specs.History.{Facts, facts, wrote, of_actor, Has, IsPlace, base_in, length_in}
-use Rattle.rz_core.specs.NodeWord.{phase, losses, fence_of, held, base_of}
+use Rattle.rz_core.specs.NodeWord.{phase, losses, last_fence, held, base_begun}
 use Rattle.rz_core.specs.ExportWord.{accepted, is_newer, is_gone, is_made}
 use Rattle.rz_events.specs.Masks.{HasBit}
 use Rattle.rz_core.specs.ExportRows.{IsLess, IsAfter, IsListed}
-use Rattle.rz_core.specs.Legal.{IsLegal, Row}
+use Rattle.rz_core.specs.Legal.{IsLegalInRuns, Row}
 use Rattle.rz_core.proofs.Extends.{some_length}
+use Rattle.rz_core.proofs.Keys.{less-trans, parts-less}
 use Rattle.rz_core.proofs.Locality.{all-filter}
 use Rattle.rz_core.proofs.Stamps.{export, same_key-refl, key_ext, accepted_cases}
 use Rattle.rz_safety.specs.Kept.{before_published}
@@ -113,12 +114,6 @@ run-stage (x ∷ o) n loss fence count stage r = at_same stage (run-stage o n lo
     at_same Ended r = r
 
 -- the order of keys
-less-trans : (a b c : Key) → IsLess a b → IsLess b c → IsLess a c
-less-trans a b c (inl p) (inl q) = inl (omega arith)
-less-trans a b c (inl p) (inr q) = let s = q.0 in inl (omega arith)
-less-trans a b c (inr p) (inl q) = let s = p.0 in inl (omega arith)
-less-trans a b c (inr p) (inr q) = let s = p.1 in let t = q.1 in inr (p.0 ∙ q.0, omega arith)
-
 abbrev pub IsUpTo : Option Key → Key → Type 0
 IsUpTo None key = ⊥
 IsUpTo (Some a) key = (key ≡ a) ⊎ IsLess key a
@@ -129,14 +124,14 @@ nat_cases m n = elim (cases_lt m n) [ inl l ↦ inl l | inr l ↦ elim (cases_lt
 key_cases : (a key : Key) → IsLess a key ⊎ ((key ≡ a) ⊎ IsLess key a)
 key_cases a key =
     elim (nat_cases a.fid key.fid) [
-      | inl l ↦ inl (inl l)
+      | inl l ↦ inl (parts-less a key (inl l))
       | inr rest ↦ elim rest [
-        | inr g ↦ inr (inr (inl g))
+        | inr g ↦ inr (inr (parts-less key a (inl g)))
         | inl same ↦ elim (nat_cases a.block key.block) [
-          | inl l ↦ inl (inr (same, l))
+          | inl l ↦ inl (parts-less a key (inr (same, l)))
           | inr more ↦ elim more [
             | inl eq ↦ inr (inl (key_ext key a (sym same) (sym eq)))
-            | inr g ↦ inr (inr (inr (sym same, g)))
+            | inr g ↦ inr (inr (parts-less key a (inr (sym same, g))))
           ]
         ]
       ]
@@ -189,7 +184,7 @@ abbrev pub IsNextOn : Event → Type 0
 IsNextOn (e.Next by m after (Some l)) = IsAfter after l.key
 IsNextOn _ = Unit {0}
 
-nexts-on : (v : Volume) (h : List Event) → IsLegal v h → AllByRecursion IsNextOn h
+nexts-on : (v : Volume) (h : List Event) → IsLegalInRuns v h → AllByRecursion IsNextOn h
 nexts-on v [] legal = tt
 nexts-on v (e.Next by m after (Some l) ∷ h) legal = (legal.1.row.later, nexts-on v h legal.0)
 nexts-on v (e.Next by m after None ∷ h) legal = (tt, nexts-on v h legal.0)
@@ -238,10 +233,10 @@ run-cases (x) o n loss fence a run = inr (a, run)
 abbrev pub IsBegunRun : List Event → ℕ → ℕ → ℕ → Type 0
 IsBegunRun h n loss fence = ((by : Actor) × Has h (e.Enroll by n loss fence)) × (loss ≤ losses (node n h))
 
-begun-run-more : (v : Volume) (x : Event) (h : List Event) → IsLegal v (x ∷ h) → (n loss fence : ℕ) → IsBegunRun h n loss fence → IsBegunRun (x ∷ h) n loss fence
+begun-run-more : (v : Volume) (x : Event) (h : List Event) → IsLegalInRuns v (x ∷ h) → (n loss fence : ℕ) → IsBegunRun h n loss fence → IsBegunRun (x ∷ h) n loss fence
 begun-run-more v x h legal n loss fence b = let m = losses-more v x h legal n in let l = b.1 in ((b.0.0, inr b.0.1), omega (arith, m, l))
 
-run-begun : (v : Volume) (h : List Event) → IsLegal v h → (by : Actor) (n loss fence : ℕ) (a : Option Key) → IsRun (of_actor by h) n loss fence a → IsBegunRun h n loss fence
+run-begun : (v : Volume) (h : List Event) → IsLegalInRuns v h → (by : Actor) (n loss fence : ℕ) (a : Option Key) → IsRun (of_actor by h) n loss fence a → IsBegunRun h n loss fence
 run-begun v [] legal by n loss fence a run = absurd run
 run-begun v (x ∷ h) legal by n loss fence a run = begun-run-more v x h legal n loss fence (go (run-begun v h legal.0 by n loss fence) (same_actor by (by_of x)) run)
   where
@@ -250,7 +245,7 @@ run-begun v (x ∷ h) legal by n loss fence a run = begun-run-more v x h legal n
     go ih true run =
         elim (run-cases x (of_actor by h) n loss fence a run) [
           | inl first ↦ (let (by', is) = first in
-              let legal' = subst (λ y. IsLegal v (y ∷ h)) is legal in
+              let legal' = subst (λ y. IsLegalInRuns v (y ∷ h)) is legal in
               let row = legal'.1.row in
               let eq = row.loss_is in
               ((by', filter-has (λ y. same_actor by' (by_of y)) h (e.Enroll by' n loss fence) row.enrolled), omega (arith, eq)))
@@ -258,20 +253,20 @@ run-begun v (x ∷ h) legal by n loss fence a run = begun-run-more v x h legal n
         ]
 
 -- while a run lasts and no loss comes, what is published at the node is held at once, and stays
-stay : (v : Volume) (x : Event) (h : List Event) → IsLegal v (x ∷ h) → (n loss : ℕ) → losses (node n h) ≡ loss → losses (node n (x ∷ h)) ≡ loss
+stay : (v : Volume) (x : Event) (h : List Event) → IsLegalInRuns v (x ∷ h) → (n loss : ℕ) → losses (node n h) ≡ loss → losses (node n (x ∷ h)) ≡ loss
     → (key : Key) (m : ℕ × ℕ) → is_gone (export h) key.fid ≡ false → accepted (export h) key ≡ Some m → Stands m.0 (holds n h key) → Stands m.0 (holds n (x ∷ h) key)
 stay v x h legal n loss before now key m live acc k =
     node-step v x h legal n key (Stands m.0)
     (λ c told fits. published-stays v h legal.0 key live c (holds n h key) m told fits (pairs v h legal.0 n key) (held-begun v h legal.0 n key) acc k)
     (λ l is.
-    let legal' = subst (λ y. IsLegal v (y ∷ h)) is legal in
+    let legal' = subst (λ y. IsLegalInRuns v (y ∷ h)) is legal in
     let next : l ≡ losses (node n h) + 1 = legal'.1.row.next in
     let same : losses (node n (e.Lose n l ∷ h)) ≡ l = at-own (e.Lose n l) h n (λ w. losses w ≡ l) refl refl in
     let now' : losses (node n (e.Lose n l ∷ h)) ≡ loss = subst (λ y. losses (node n (y ∷ h)) ≡ loss) is now in
     absurd (omega (arith, next, same, now', before)))
     k
 
-keep-on : (v : Volume) (x : Event) (h : List Event) → IsLegal v (x ∷ h) → (n loss fence : ℕ) → IsBegunRun h n loss fence → losses (node n h) ≡ loss → losses (node n (x ∷ h)) ≡ loss
+keep-on : (v : Volume) (x : Event) (h : List Event) → IsLegalInRuns v (x ∷ h) → (n loss fence : ℕ) → IsBegunRun h n loss fence → losses (node n h) ≡ loss → losses (node n (x ∷ h)) ≡ loss
     → (key : Key) (m : ℕ × ℕ) (q : ℕ) → is_gone (export (x ∷ h)) key.fid ≡ false → accepted (export (x ∷ h)) key ≡ Some m → HasBit m.1 q → IsPlace (facts (x ∷ h)) key.fid q n
     → (accepted (export h) key ≡ Some m → Stands m.0 (holds n h key)) → Stands m.0 (holds n (x ∷ h) key)
 keep-on v (e.Publish by at stamp mask None) h legal n loss fence begun before now key m q live acc set place rest =
@@ -290,7 +285,7 @@ keep-on v (e.Publish by at stamp mask None) h legal n loss fence begun before no
 keep-on v (x) h legal n loss fence begun before now key m q live acc set place rest = stay v x h legal n loss before now key m (live-before x h key.fid live) acc (rest acc)
 
 -- what is accepted and names a node is listed
-is-listed : (v : Volume) (h : List Event) → IsLegal v h → (key : Key) (m : ℕ × ℕ) (q n : ℕ) → is_gone (export h) key.fid ≡ false → accepted (export h) key ≡ Some m → HasBit m.1 q → IsPlace (facts h) key.fid q n
+is-listed : (v : Volume) (h : List Event) → IsLegalInRuns v h → (key : Key) (m : ℕ × ℕ) (q n : ℕ) → is_gone (export h) key.fid ≡ false → accepted (export h) key ≡ Some m → HasBit m.1 q → IsPlace (facts h) key.fid q n
     → (p : Published) × IsListed (facts h) (export h) n key p
 is-listed v h legal key m q n live acc set place =
     let p : Published = record { stamp = m.0; mask = m.1; length = length_in (wrote h m.0) } in
@@ -302,7 +297,7 @@ is-listed v h legal key m q n live acc set place =
     both false b p q = cc
 
 -- where two greater ones are held, the published stamp is no lesser than the base
-past-published : (v : Volume) (h : List Event) → IsLegal v h → (key : Key) (m : ℕ × ℕ) (now : List ℕ) → accepted (export h) key ≡ Some m → AllByRecursion (IsBegun h key) now → IsPast (base_of (facts h)) m.0 now → ⊥
+past-published : (v : Volume) (h : List Event) → IsLegalInRuns v h → (key : Key) (m : ℕ × ℕ) (now : List ℕ) → accepted (export h) key ≡ Some m → AllByRecursion (IsBegun h key) now → IsPast (base_begun (facts h)) m.0 now → ⊥
 past-published v h legal key m [] acc begun p = p
 past-published v h legal key m (a ∷ []) acc begun p = p
 past-published v h legal key m (a ∷ b ∷ more) acc begun p =
@@ -317,7 +312,7 @@ refill-holds : (h : List Event) (by : Actor) (m n f p : ℕ) (k key : Key) (t s 
 refill-holds h by m n f p k key t s em ek et =
     rw (em, ek, et, eq-eqb n n refl, same_key-refl key) (refilled-new s (held (facts (e.Did by n (change.Refill f key s p) ∷ h)) (node n h) key))
 
-pass-held : (v : Volume) (h : List Event) (by : Actor) (n now : ℕ) (key : Key) (m : ℕ × ℕ) (q : ℕ) → IsLegal v (e.Passed by n key m.0 now ∷ h) → is_gone (export h) key.fid ≡ false → accepted (export h) key ≡ Some m → HasBit m.1 q → IsPlace (facts h) key.fid q n
+pass-held : (v : Volume) (h : List Event) (by : Actor) (n now : ℕ) (key : Key) (m : ℕ × ℕ) (q : ℕ) → IsLegalInRuns v (e.Passed by n key m.0 now ∷ h) → is_gone (export h) key.fid ≡ false → accepted (export h) key ≡ Some m → HasBit m.1 q → IsPlace (facts h) key.fid q n
     → Stands m.0 (holds n h key)
 pass-held v h by n now key m q legal live acc set place =
     elim legal.1.row [
@@ -335,7 +330,7 @@ pass-held v h by n now key m q legal live acc set place =
     ]
 
 -- what one own event adds to what is done
-own-step : (v : Volume) (x : Event) (h : List Event) → IsLegal v (x ∷ h) → (by : Actor) (n loss fence : ℕ) (a : Option Key) → IsRun (x ∷ of_actor by h) n loss fence a
+own-step : (v : Volume) (x : Event) (h : List Event) → IsLegalInRuns v (x ∷ h) → (by : Actor) (n loss fence : ℕ) (a : Option Key) → IsRun (x ∷ of_actor by h) n loss fence a
     → losses (node n h) ≡ loss → losses (node n (x ∷ h)) ≡ loss
     → (key : Key) (m : ℕ × ℕ) (q : ℕ) → is_gone (export (x ∷ h)) key.fid ≡ false → accepted (export (x ∷ h)) key ≡ Some m → HasBit m.1 q → IsPlace (facts (x ∷ h)) key.fid q n
     → IsDone (x ∷ of_actor by h) n key m.0
@@ -374,7 +369,7 @@ own-step v (e.Did by' m' (change.Drop k t)) h legal by n loss fence a run before
     stay v (e.Did by' m' (change.Drop k t)) h legal n loss before now key m live acc (ih a run acc done)
 own-step v (e.Passed by' m' k t held_now) h legal by n loss fence a run before now key m q live acc set place (inl (em, ek, et)) ih =
     let same : e.Passed by' m' k t held_now ≡ e.Passed by' n key m.0 held_now = cc in
-    let legal' = subst (λ y. IsLegal v (y ∷ h)) same legal in
+    let legal' = subst (λ y. IsLegalInRuns v (y ∷ h)) same legal in
     subst (λ y. Stands m.0 (holds n (y ∷ h) key)) (sym same)
     (subst (Stands m.0) (sym (pass-holds v h by' n key m.0 held_now legal' n key)) (pass-held v h by' n held_now key m q legal' live acc set (place-before v (e.Passed by' m' k t held_now) h legal.0 key m q n acc place)))
 own-step v (e.Passed by' m' k t held_now) h legal by n loss fence a (inl run) before now key m q live acc set place (inr done) ih =
@@ -385,7 +380,7 @@ own-step v (x) h legal by n loss fence a run before now key m q live acc set pla
     keep-on v x h legal n loss fence (run-begun v h legal.0 by n loss fence a run) before now key m q live acc set place (λ acc'. ih a run acc' done)
 
 -- what is done is held
-done-held : (v : Volume) (h : List Event) → IsLegal v h → (by : Actor) (n loss fence : ℕ) (a : Option Key) → IsRun (of_actor by h) n loss fence a → losses (node n h) ≡ loss
+done-held : (v : Volume) (h : List Event) → IsLegalInRuns v h → (by : Actor) (n loss fence : ℕ) (a : Option Key) → IsRun (of_actor by h) n loss fence a → losses (node n h) ≡ loss
     → (key : Key) (m : ℕ × ℕ) (q : ℕ) → is_gone (export h) key.fid ≡ false → accepted (export h) key ≡ Some m → HasBit m.1 q → IsPlace (facts h) key.fid q n
     → IsDone (of_actor by h) n key m.0 → Stands m.0 (holds n h key)
 done-held v [] legal by n loss fence a run now key m q live acc set place done = absurd run
@@ -409,19 +404,19 @@ done-held v (x ∷ h) legal by n loss fence a run now key m q live acc set place
 
 -- The fence of a replacement.
 
-replaced-losses : (v : Volume) (h : List Event) → IsLegal v h → (by : Actor) (n loss fence : ℕ) → Has h (e.Replace by n loss fence) → loss ≤ losses (node n h)
+replaced-losses : (v : Volume) (h : List Event) → IsLegalInRuns v h → (by : Actor) (n loss fence : ℕ) → Has h (e.Replace by n loss fence) → loss ≤ losses (node n h)
 replaced-losses v [] legal by n loss fence has = absurd has
 replaced-losses v (x ∷ h) legal by n loss fence (inr has) =
     let i = replaced-losses v h legal.0 by n loss fence has in let m = losses-more v x h legal n in omega (arith, i, m)
 replaced-losses v (x ∷ h) legal by n loss fence (inl is) =
-    let legal' = subst (λ y. IsLegal v (y ∷ h)) is legal in
+    let legal' = subst (λ y. IsLegalInRuns v (y ∷ h)) is legal in
     let row = node-row v (e.Replace by n loss fence) h n legal' refl in
     let m = losses-more v x h legal n in
     let r = row.loss_is in omega (arith, m, r)
 
 -- the node is not lost, and has this fence
 abbrev IsUnder : ℕ → List Event → Type 0
-IsUnder fence w = ¬ (phase w ≡ Lost) × (fence_of w ≡ fence)
+IsUnder fence w = ¬ (phase w ≡ Lost) × (last_fence w ≡ fence)
 
 -- it stays so until its next loss
 under-word : (v : Volume) (x : Event) (f : Facts) (w o run : List Event) (loss fence : ℕ) → Row v f w o run x → losses w ≡ loss → losses (x ∷ w) ≡ loss
@@ -433,7 +428,7 @@ under-word v (e.Stop m) f w o run loss fence r before now k = (λ q. cc, k.1)
 under-word v (e.Start m took) f w o run loss fence r before now k = (λ q. cc, k.1)
 under-word v (x) f w o run loss fence r before now k = k
 
-replaced-under : (v : Volume) (h : List Event) → IsLegal v h → (by : Actor) (n loss fence : ℕ) → Has h (e.Replace by n loss fence) → losses (node n h) ≡ loss → IsUnder fence (node n h)
+replaced-under : (v : Volume) (h : List Event) → IsLegalInRuns v h → (by : Actor) (n loss fence : ℕ) → Has h (e.Replace by n loss fence) → losses (node n h) ≡ loss → IsUnder fence (node n h)
 replaced-under v [] legal by n loss fence has now = absurd has
 replaced-under v (x ∷ h) legal by n loss fence (inl is) now =
     subst (λ y. IsUnder fence (node n (y ∷ h))) (sym is) (at-own (e.Replace by n loss fence) h n (IsUnder fence) refl (λ q. cc, refl))
@@ -455,7 +450,7 @@ run-has (x ∷ o) n loss fence a run =
       | inr rest ↦ (let i = run-has o n loss fence rest.0 rest.1 in (i.0, inr i.1))
     ]
 
-pub complete : (v : Volume) (h : List Event) → IsLegal v h → IsComplete h
+pub complete : (v : Volume) (h : List Event) → IsLegalInRuns v h → IsComplete h
 complete v h legal by n loss fence refilled rebuilt now =
     let r = run-stage (of_actor by h) n loss fence refilled Ended rebuilt in
     let first = run-has (of_actor by h) n loss fence r.0.0 r.0.1 in

@@ -11,11 +11,11 @@ use Rattle.rz_events.specs.declared.events.Event.{Event}
 use Rattle.rz_events.specs.declared.events.Event.TheVariants as e
 use Rattle.rz_node_model.specs.Versions.{Stands}
 use Rattle.rz_core.specs.History.{Facts, facts}
-use Rattle.rz_core.specs.NodeWord.{phase, fence_of, held, undecided}
+use Rattle.rz_core.specs.NodeWord.{phase, last_fence, held, undecided}
 use Rattle.rz_core.specs.ExportWord.{accepted}
 use Rattle.rz_events.specs.Masks.{HasBit}
 use Rattle.rz_core.specs.NodeRows.{DidRow}
-use Rattle.rz_core.specs.Legal.{IsLegal}
+use Rattle.rz_core.specs.Legal.{IsLegalInRuns}
 use Rattle.rz_core.proofs.Extends.{all-changed, all-taken, OfChange, some_length}
 use Rattle.rz_core.proofs.Stamps.{export, same_key-true}
 use Rattle.rz_safety.specs.Reads.{IsLostSince}
@@ -26,7 +26,7 @@ use Rattle.rz_safety.proofs.KeptLaws.{all-stands, accepted-kept, not_gone}
 use Rattle.rz_safety.proofs.EndLaws.{read_sound}
 
 abbrev pub IsGood : List Event → Key → ℕ → Type 0
-IsGood w key s = (fence_of w < s) ⊎ IsRefilled w key s
+IsGood w key s = (last_fence w < s) ⊎ IsRefilled w key s
 
 all-map : (P Q : ℕ → Type 0) → ((s : ℕ) → P s → Q s) → (now : List ℕ) → AllByRecursion P now → AllByRecursion Q now
 all-map P Q more [] all = tt
@@ -46,7 +46,7 @@ did-good v f w o by m (change.Refill g k t p) key r = λ q. inr (inl (sym (same_
 did-good v f w o by m (change.Drop k t) key r = tt
 
 -- a keep that is left undecided is above the fence
-keep-above : (v : Volume) (f : Facts) (w : List Event) → IsRows v f w → (k : Key) (t p : ℕ) → undecided w ≡ Some (change.Keep k t p) → fence_of w < t
+keep-above : (v : Volume) (f : Facts) (w : List Event) → IsRows v f w → (k : Key) (t p : ℕ) → undecided w ≡ Some (change.Keep k t p) → last_fence w < t
 keep-above v f [] r k t p u = cc
 keep-above v f (e.Broke by m None ∷ w) r k t p u = cc
 keep-above v f (e.Broke by m (Some d) ∷ w) r k t p u =
@@ -75,11 +75,11 @@ versions v f (e.Lose m l ∷ w) r key = tt
 versions v f (e.Replace by m l g ∷ w) r key = subst (AllByRecursion (IsGood (e.Replace by m l g ∷ w) key)) (sym (lost-empty v f w r.0 key r.1.2.lost)) tt
 versions v f (x ∷ w) r key = versions v f w r.0 key
 
-pub fenced : (v : Volume) (h : List Event) → IsLegal v h → IsFenced h
+pub fenced : (v : Volume) (h : List Event) → IsLegalInRuns v h → IsFenced h
 fenced v h legal n key s k = all-stands (IsGood (node n h) key) (holds n h key) (versions v (facts h) (node n h) (rows v h legal n) key) s k
 
 -- a fetch of the published stamp from a node of its mask finds none only after a loss
-pub absent : (v : Volume) (h : List Event) → IsLegal v h → (n : ℕ) (key : Key) (s : ℕ) → ¬ Stands s (holds n h key) → IsSoundMiss h n key s
+pub absent : (v : Volume) (h : List Event) → IsLegalInRuns v h → (n : ℕ) (key : Key) (s : ℕ) → ¬ Stands s (holds n h key) → IsSoundMiss h n key s
 absent v h legal n key s told p q live pub' stamped set place =
     let a = some_length (facts h) (accepted (export h) key) p (sym pub') in
     let same : a.0.0 ≡ s = sym a.2 ∙ stamped in
@@ -90,8 +90,8 @@ absent v h legal n key s told p q live pub' stamped set place =
     ])
 
 -- a legal history is sound
-pub sound : (v : Volume) (h : List Event) → IsLegal v h → IsSound v h
+pub sound : (v : Volume) (h : List Event) → IsLegalInRuns v h → IsSound v h
 sound v [] legal = tt
-sound v (e.Got by number key part end ∷ h) legal = (sound v h legal.0, read_sound v by h legal.0 key end legal.1.row)
+sound v (e.Got by number key part end ∷ h) legal = (sound v h legal.0, read_sound v by h legal.0 key end legal.1.row.0)
 sound v (e.Fetch by n key position s None ∷ h) legal = (sound v h legal.0, absent v h legal.0 n key s legal.1.row.told)
 sound v (x ∷ h) legal = (sound v h legal.0, tt)

@@ -16,7 +16,7 @@ use Rattle.rz_core.specs.History.{facts, wrote, Begun, IsWriter, of_word, of_act
 use Rattle.rz_core.specs.ExportWord.{latest}
 use Rattle.rz_core.specs.Own.{last, is_export, is_begin, is_publish}
 use Rattle.rz_core.specs.OwnRows.{GaveRow}
-use Rattle.rz_core.specs.Legal.{IsLegal}
+use Rattle.rz_core.specs.Legal.{IsLegalInRuns}
 use Rattle.rz_core.proofs.Extends.{last-has, wrote-more}
 use Rattle.rz_core.proofs.Stamps.{export, same_key-true, wrote-has}
 use Rattle.rz_core.proofs.NodeLaws.{filter-has}
@@ -39,10 +39,10 @@ begun-later [] h by key s b = b
 begun-later (x ∷ more) h by key s b = let i = begun-later more h by key s b in (i.0, i.1, inr i.2)
 
 -- who publishes a write began it
-published-begun : (v : Volume) (h : List Event) → IsLegal v h → (by : Actor) (key : Key) (s mask : ℕ) → Has h (e.Publish by key s mask None) → IsBegunBy h by key s
+published-begun : (v : Volume) (h : List Event) → IsLegalInRuns v h → (by : Actor) (key : Key) (s mask : ℕ) → Has h (e.Publish by key s mask None) → IsBegunBy h by key s
 published-begun v [] legal by key s mask has = absurd has
 published-begun v (x ∷ h) legal by key s mask (inl is) =
-    let legal' = subst (λ y. IsLegal v (y ∷ h)) is legal in
+    let legal' = subst (λ y. IsLegalInRuns v (y ∷ h)) is legal in
     begun-later (x ∷ []) h by key s (writer-begun h by key s legal'.1.row.publishable.publishing.writer)
 published-begun v (x ∷ h) legal by key s mask (inr has) = begun-later (x ∷ []) h by key s (published-begun v h legal.0 by key s mask has)
 
@@ -61,16 +61,16 @@ latest-begun (x ∷ w) key some = let i = latest-begun w key some in (i.0, (i.1.
 word-begun : (h : List Event) (by : Actor) (key : Key) (s : ℕ) → IsBegunBy (export h) by key s → IsBegunBy h by key s
 word-begun h by key s b = (b.0, b.1, filter-has (λ y. same_word Export (word_of y)) h (e.Begin by key s b.0 b.1) b.2)
 
-denied : (v : Volume) (a : Actor) (h : List Event) → IsLegal v h → (question : Asked) (cause : Denial) → last is_export (of_actor a h) ≡ Some (e.Denied a question cause) → IsDenied h a question cause
+denied : (v : Volume) (a : Actor) (h : List Event) → IsLegalInRuns v h → (question : Asked) (cause : Denial) → last is_export (of_actor a h) ≡ Some (e.Denied a question cause) → IsDenied h a question cause
 denied v a h legal question cause is =
     let n = newest-export a h (e.Denied a question cause) is in
-    record { earlier = before_export a h; there = n.rest; cause_is = (newest-legal v a h (e.Denied a question cause) legal n).1.row }
+    record { earlier = before_export a h; there = n.rest; cause_is = (newest-legal v a h (before_export a h) (e.Denied a question cause) legal n).1.row }
 
-overtaken : (v : Volume) (a : Actor) (h : List Event) → IsLegal v h → (key : Key) (stamp later : ℕ) → last is_export (of_actor a h) ≡ Some (e.Revoked a key stamp later) → IsOvertaken h a key later
+overtaken : (v : Volume) (a : Actor) (h : List Event) → IsLegalInRuns v h → (key : Key) (stamp later : ℕ) → last is_export (of_actor a h) ≡ Some (e.Revoked a key stamp later) → IsOvertaken h a key later
 overtaken v a h legal key stamp later is =
     let n = newest-export a h (e.Revoked a key stamp later) is in
     let hr = before_export a h in
-    let row = (newest-legal v a h (e.Revoked a key stamp later) legal n).1.row in
+    let row = (newest-legal v a h hr (e.Revoked a key stamp later) legal n).1.row in
     let above = row.above in
     let same = row.later_is in
     let other = latest-begun (export hr) key (omega (arith, above, same)) in
@@ -82,23 +82,21 @@ overtaken v a h legal key stamp later is =
       other = (other.0, subst (IsBegunBy h other.0 key) (sym same) (now other.0 (latest (export hr) key) (word-begun hr other.0 key (latest (export hr) key) other.1)));
     }
 
-write-ended : (v : Volume) (a : Actor) (h : List Event) → IsLegal v h → (key : Key) (end : WriteEnd) → GaveRow v (facts h) (of_actor a h) a key end → IsWriteEnd v h a key end
+write-ended : (v : Volume) (a : Actor) (h : List Event) → IsLegalInRuns v h → (key : Key) (end : WriteEnd) → GaveRow v (facts h) (of_actor a h) a key end → IsWriteEnd v h a key end
 write-ended v a h legal key (write.Acked stamp mask) r =
     let has = own-has is_publish a h (e.Publish a key stamp mask None) r in
     record { begun = published-begun v h legal a key stamp mask has; published = has }
-write-ended v a h legal key (write.TooFew causes) r =
-    let (stamp, base, text, places, is, placed, told) = r.begun in
-    record {
-      stamp = stamp;
-      begun = (base, text, own-has is_begin a h (e.Begin a key stamp base text) is);
-      outcomes = (places, placed, told);
-      many = r.many;
-    }
+write-ended v a h legal key (write.TooFew causes) r = record {
+  stamp = r.stamp;
+  begun = (r.base, r.text, own-has is_begin a h (e.Begin a key r.stamp r.base r.text) r.begun);
+  outcomes = (r.places, r.placed, r.causes_are);
+  many = r.many;
+}
 write-ended v a h legal key (write.Denied cause) (inl begin) = inl (denied v a h legal (asked.Begin key) cause begin)
 write-ended v a h legal key (write.Denied cause) (inr publish) = inr (denied v a h legal (asked.Publish key) cause publish)
 write-ended v a h legal key (write.Revoked later) r = overtaken v a h legal key r.0 later r.1
 
-pub written : (v : Volume) (h : List Event) → IsLegal v h → AreWritesEnded v h
+pub written : (v : Volume) (h : List Event) → IsLegalInRuns v h → AreWritesEnded v h
 written v [] legal = tt
-written v (e.Gave by number key part end ∷ h) legal = (written v h legal.0, write-ended v by h legal.0 key end legal.1.row)
+written v (e.Gave by number key part end ∷ h) legal = (written v h legal.0, write-ended v by h legal.0 key end legal.1.row.0)
 written v (x ∷ h) legal = written v h legal.0

@@ -10,7 +10,7 @@ use Rattle.rz_events.specs.declared.events.Event.TheVariants as e
 use Rattle.rz_events.specs.Events.{same_key}
 use Rattle.rz_node_model.specs.Versions.{Stands}
 use Rattle.rz_core.specs.History.{Has, of_word, facts, IsPlace}
-use Rattle.rz_core.specs.NodeWord.{phase, held, fence_of}
+use Rattle.rz_core.specs.NodeWord.{phase, held, last_fence}
 use Rattle.rz_core.specs.ExportWord.{is_live, published, accepted, is_newer}
 use Rattle.rz_events.specs.Masks.{HasBit}
 use Rattle.rz_safety.specs.Reads.{IsLostSince}
@@ -26,7 +26,7 @@ before_published (_ ∷ h) key = before_published h key
 -- it was enrolled for that loss, or a later one, only after the publish.
 pub record IsLostAfter (h : List Event) (n : ℕ) (key : Key) (s : ℕ) : Type 0 where
   pub lost : (loss : ℕ) × IsLostSince h n key s loss
-  pub barred : (phase (of_word (Node n) h) ≡ Lost) ⊎ (s < fence_of (of_word (Node n) h))
+  pub barred : (phase (of_word (Node n) h) ≡ Lost) ⊎ (s < last_fence (of_word (Node n) h))
   pub later : (loss : ℕ) → IsLostSince h n key s loss → (by : Actor) (l fence : ℕ)
       → Has (before_published h key) (e.Enroll by n l fence) → l < loss
 

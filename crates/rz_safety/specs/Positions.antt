@@ -19,8 +19,8 @@ AreApart [] = Unit {0}
 AreApart (p ∷ ps) = AllByRecursion (λ q. ¬ (p ≡ q)) ps × AreApart ps
 
 -- Positions that gave a record, no two of them equal, are as many distinct ones, in whatever order they come.
-abbrev pub IsEnough : List ℕ → Type 0
-IsEnough given = (ps : List ℕ) → AreApart ps → AllByRecursion (λ p. Stands p given) ps → HasDistinct (length ps) given
+abbrev pub IsInAnyOrder : List ℕ → Type 0
+IsInAnyOrder given = (ps : List ℕ) → AreApart ps → AllByRecursion (λ p. Stands p given) ps → HasDistinct (length ps) given
 
 abbrev pub node_of : Word → Option ℕ
 node_of (Node n) = Some n

@@ -12,7 +12,7 @@ use Rattle.rz_events.specs.declared.events.Event.{Event}
 use Rattle.rz_events.specs.declared.events.Event.TheVariants as e
 use Rattle.rz_node_model.specs.Versions.{Stands}
 use Rattle.rz_core.specs.History.{of_word, of_actor, facts, IsPlace}
-use Rattle.rz_core.specs.NodeWord.{losses, held, fence_of, undecided}
+use Rattle.rz_core.specs.NodeWord.{losses, held, last_fence, undecided}
 use Rattle.rz_core.specs.ExportWord.{is_live, published}
 use Rattle.rz_events.specs.Masks.{stamp_told, HasBit}
 
@@ -52,7 +52,7 @@ IsRebuilt o n loss fence refilled = IsRun o n loss fence refilled Ended
 
 -- The node has this fence, and holds the published stamp of each key of a live file whose published mask names it.
 pub record IsWhole (h : List Event) (n fence : ℕ) : Type 0 where
-  pub fence_is : fence_of (of_word (Node n) h) ≡ fence
+  pub fence_is : last_fence (of_word (Node n) h) ≡ fence
   pub holds : (key : Key) (p : Published) (q : ℕ) → is_live (of_word Export h) key.fid ≡ true
       → published (facts h) (of_word Export h) key ≡ Some p → HasBit p.mask q → IsPlace (facts h) key.fid q n
       → Stands p.stamp (held (facts h) (of_word (Node n) h) key)
@@ -93,4 +93,4 @@ IsRefilled (_ ∷ w) key s = IsRefilled w key s
 -- Each version that a node holds was refilled, or its stamp is above the node's fence.
 abbrev pub IsFenced : List Event → Type 0
 IsFenced h = (n : ℕ) (key : Key) (s : ℕ) → Stands s (held (facts h) (of_word (Node n) h) key)
-    → (fence_of (of_word (Node n) h) < s) ⊎ IsRefilled (of_word (Node n) h) key s
+    → (last_fence (of_word (Node n) h) < s) ⊎ IsRefilled (of_word (Node n) h) key s

@@ -10,10 +10,10 @@ ghost use Rattle.std.specs.Prelude.{ℕ, List};
 ghost use Rattle.rz_events.specs.Volume.{Volume};
 ghost use Rattle.rz_events.specs.declared.keys.Key.{Key as AKey};
 ghost use Rattle.rz_events.specs.declared.events.Event.{Event as AnEvent};
-ghost use Rattle.rz_core.specs.Legal.{IsLegal};
+ghost use Rattle.rz_core.specs.Legal.{IsLegalInRuns};
 ghost use Rattle.rz_safety.specs.Kept.{IsKept};
 ghost use Rattle.rz_safety.specs.Order.{AreRising, IsMendedInOrder, IsOrdered};
-ghost use Rattle.rz_safety.specs.Positions.{AreApart, AreByPosition, IsEnough};
+ghost use Rattle.rz_safety.specs.Positions.{AreApart, AreByPosition, IsInAnyOrder};
 ghost use Rattle.rz_safety.specs.Rebuilt.{IsComplete, IsFenced};
 ghost use Rattle.rz_safety.specs.Sound.{IsSound, IsAnswering};
 ghost use Rattle.rz_safety.specs.Writes.{AreWritesEnded};
@@ -22,60 +22,60 @@ ghost use Rattle.rz_safety.specs.Writes.{AreWritesEnded};
 /// it began, or says why it gives none; and a node of a published write has no record of it only after
 /// it lost its disk.
 pub fn sound()
-    ensures { (v : Volume) (h : List AnEvent) → IsLegal v h → IsSound v h }
+    ensures { (v : Volume) (h : List AnEvent) → IsLegalInRuns v h → IsSound v h }
 {}
 
 /// Each read of a legal log whose block is quiet answers, unless too many of the write's nodes did not
 /// give its record.
 pub fn answering()
-    ensures { (v : Volume) (h : List AnEvent) → IsLegal v h → IsAnswering v h }
+    ensures { (v : Volume) (h : List AnEvent) → IsLegalInRuns v h → IsAnswering v h }
 {}
 
 /// In a legal log each node of a published mask holds the published stamp, or it was lost after it kept
 /// or passed it. Then it is lost or fenced above the stamp, and was enrolled for that loss only after
 /// the publish.
 pub fn kept()
-    ensures { (v : Volume) (h : List AnEvent) → IsLegal v h → IsKept h }
+    ensures { (v : Volume) (h : List AnEvent) → IsLegalInRuns v h → IsKept h }
 {}
 
 /// In a legal log each version that a node holds was refilled, or its stamp is above the node's fence.
 pub fn fenced()
-    ensures { (v : Volume) (h : List AnEvent) → IsLegal v h → IsFenced h }
+    ensures { (v : Volume) (h : List AnEvent) → IsLegalInRuns v h → IsFenced h }
 {}
 
 /// In a legal log a node that was rebuilt, and not lost since, holds the published stamp of each key
 /// of a live file whose published mask names it.
 pub fn complete()
-    ensures { (v : Volume) (h : List AnEvent) → IsLegal v h → IsComplete h }
+    ensures { (v : Volume) (h : List AnEvent) → IsLegalInRuns v h → IsComplete h }
 {}
 
 /// In a legal log each stamp is above all numbers that were drawn before it, and so is each fence that
 /// was not given before.
 pub fn rising()
-    ensures { (v : Volume) (h : List AnEvent) → IsLegal v h → AreRising h }
+    ensures { (v : Volume) (h : List AnEvent) → IsLegalInRuns v h → AreRising h }
 {}
 
 /// In a legal log a loss comes before its enrolment, and this before the replacement under its fence.
 pub fn mended()
-    ensures { (v : Volume) (h : List AnEvent) → IsLegal v h → IsMendedInOrder h }
+    ensures { (v : Volume) (h : List AnEvent) → IsLegalInRuns v h → IsMendedInOrder h }
 {}
 
 /// In a legal log a write's base is at least each stamp of the key that was acknowledged when it began,
 /// and the stamps of a key are acknowledged in their order.
 pub fn ordered()
-    ensures { (v : Volume) (h : List AnEvent) → IsLegal v h → IsOrdered h }
+    ensures { (v : Volume) (h : List AnEvent) → IsLegalInRuns v h → IsOrdered h }
 {}
 
 /// Each write of a legal log that ends was acknowledged, or was short of positions, denied, or overtaken
 /// by a write of its block that began later.
 pub fn written()
-    ensures { (v : Volume) (h : List AnEvent) → IsLegal v h → AreWritesEnded v h }
+    ensures { (v : Volume) (h : List AnEvent) → IsLegalInRuns v h → AreWritesEnded v h }
 {}
 
 /// Positions that gave a record, no two of them equal, are as many distinct ones, in whatever order they
 /// come.
 pub fn enough()
-    ensures { (given : List ℕ) → IsEnough given }
+    ensures { (given : List ℕ) → IsInAnyOrder given }
 {}
 
 /// The tables of outcomes, which are by node, are by position too, for a file on distinct nodes.
