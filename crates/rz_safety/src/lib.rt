@@ -14,7 +14,7 @@ ghost use Rattle.rz_core.specs.Legal.{IsLegalInRuns};
 ghost use Rattle.rz_safety.specs.Kept.{IsKept};
 ghost use Rattle.rz_safety.specs.Order.{AreRising, IsMendedInOrder, IsOrdered};
 ghost use Rattle.rz_safety.specs.Positions.{AreApart, AreByPosition, IsInAnyOrder};
-ghost use Rattle.rz_safety.specs.Rebuilt.{IsComplete, IsFenced};
+ghost use Rattle.rz_safety.specs.Rebuilt.{AreRebuilt, IsComplete, IsFenced};
 ghost use Rattle.rz_safety.specs.Sound.{IsSound, IsAnswering};
 ghost use Rattle.rz_safety.specs.Writes.{AreWritesEnded};
 
@@ -47,6 +47,12 @@ pub fn fenced()
 /// of a live file whose published mask names it.
 pub fn complete()
     ensures { (v : Volume) (h : List AnEvent) → IsLegalInRuns v h → IsComplete h }
+{}
+
+/// Each operation of a legal log that says it rebuilt a node did so, under the fence and with the number
+/// of keys that it says; and where the node was not lost since its replacement, it is whole.
+pub fn rebuilt()
+    ensures { (v : Volume) (h : List AnEvent) → IsLegalInRuns v h → AreRebuilt h }
 {}
 
 /// In a legal log each stamp is above all numbers that were drawn before it, and so is each fence that
