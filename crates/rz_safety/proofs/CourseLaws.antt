@@ -1,5 +1,5 @@
 -- The course of a rebuild is a run: what an operation says that it rebuilt, it did.
-use Rattle.std.proofs.Common.{ℕ, Bool, true, false, ◌==◌, ◌≡◌, ◌⊎◌, inl, inr, ◌<◌, ◌+◌, List, [], ◌∷◌, ◌++◌, Option, Some, None, cond, refl, sym, ◌∙◌, ap, subst, arith, nat_lt, length}
+use Rattle.std.proofs.Common.{ℕ, Bool, true, false, ◌==◌, ◌≡◌, inl, inr, List, [], ◌∷◌, ◌++◌, Option, Some, None, cond, refl, sym, ◌∙◌, ap, subst, arith, nat_lt}
 use Rattle.std.specs.Prelude.{slice_index}
 use Rattle.std.proofs.lemmas.Bool.{eqb-true, eq-eqb}
 use Rattle.mj_angles.specs.declared.layout.Layout.{Layout}
@@ -18,7 +18,6 @@ use Rattle.rz_events.specs.declared.ends.ReadMark.{ReadMark}
 use Rattle.rz_events.specs.declared.ends.ReadMark.TheVariants as mark
 use Rattle.rz_events.specs.declared.ends.Seen.TheVariants as seen
 use Rattle.rz_events.specs.declared.ends.WriteEnd.{WriteEnd}
-use Rattle.rz_events.specs.declared.ends.LeftWhy.TheVariants as left
 use Rattle.rz_events.specs.declared.ends.RebuildEnd.{RebuildEnd}
 use Rattle.rz_events.specs.declared.ends.RebuildEnd.TheVariants as ends
 use Rattle.rz_events.specs.declared.export.Call.{Call}
@@ -34,7 +33,6 @@ use Rattle.rz_events.specs.declared.nodes.FetchAnswer.{FetchAnswer}
 use Rattle.rz_events.specs.declared.nodes.FetchAnswer.TheVariants as fetch
 use Rattle.rz_events.specs.declared.nodes.RefillAnswer.{RefillAnswer}
 use Rattle.rz_events.specs.declared.nodes.RefillAnswer.TheVariants as refill
-use Rattle.rz_events.specs.declared.nodes.ReplaceAnswer.{ReplaceAnswer}
 use Rattle.rz_events.specs.declared.nodes.ReplaceAnswer.TheVariants as replace
 use Rattle.rz_events.specs.declared.nodes.NodeAsk.{NodeAsk}
 use Rattle.rz_events.specs.declared.nodes.NodeAsk.TheVariants as ask
@@ -48,7 +46,6 @@ use Rattle.rz_events.specs.declared.machines.WriterAsk.{WriterAsk}
 use Rattle.rz_events.specs.declared.machines.WriterAsk.TheVariants as writers
 use Rattle.rz_events.specs.declared.machines.RebuildAsk.{RebuildAsk}
 use Rattle.rz_events.specs.declared.machines.RebuildAsk.TheVariants as rebuilds
-use Rattle.rz_events.specs.declared.machines.ReaderAnswer.{ReaderAnswer}
 use Rattle.rz_events.specs.declared.machines.ReaderAnswer.TheVariants as reads
 use Rattle.rz_events.specs.declared.machines.RebuildAnswer.{RebuildAnswer}
 use Rattle.rz_events.specs.declared.machines.RebuildAnswer.TheVariants as hears
@@ -63,14 +60,14 @@ use Rattle.rz_client_model.specs.declared.reading.ReadStage.{ReadStage}
 use Rattle.rz_client_model.specs.declared.reading.ReadStage.TheVariants as reading
 use Rattle.rz_client_model.specs.declared.reading.Fetches.{Fetches}
 use Rattle.rz_client_model.specs.declared.writing.WriterState.{WriterState}
-use Rattle.rz_client_model.specs.Read.{none_fetched, after_fetch, after_recheck, unless_enough, with_seen, with_record, reader_told, reader_ask, ask_at, reader_end, end_at, next_position}
+use Rattle.rz_client_model.specs.Read.{none_fetched, after_fetch, unless_enough, with_seen, with_record, reader_ask, ask_at, reader_end, end_at, next_position}
 use Rattle.rz_client_model.specs.Write.{writer_ask, writer_end}
 use Rattle.rz_operation_model.specs.Ranges.{Aim, Taking, Giving}
 use Rattle.rz_operation_model.specs.Files.{FileState, Reads, Writes, Ended as FileEnded, write_start, read_start, after_part, after_block}
-use Rattle.rz_operation_model.specs.Rebuild.{Tally, RebuildState, Probing, Enrolling, Replacing, Listing, Copying, Refilling, Leaving, Rebuild, Going, Ended as RebuildEnded, started, with_left, end_of, after_read, after_refill, base_told, position_of, ask_to_copy, rebuild_ask, rebuild_told}
-use Rattle.rz_operation_model.specs.Work.{Work, BlockPlan, PutBlock, GetBlock, RangePlan, WriteBytes, ReadBytes, Plan, OnBlock, OnRange, Course, Alone, Within, Calling, Dropping, Opening, Locking, Writing, Reading, Rebuilding, Ending, Over}
+use Rattle.rz_operation_model.specs.Rebuild.{Tally, RebuildState, Probing, Enrolling, Replacing, Listing, Copying, Refilling, Leaving, Rebuild, Going, Ended as RebuildEnded, end_of, after_read, after_refill, base_told, position_of, ask_to_copy, rebuild_ask, rebuild_told}
+use Rattle.rz_operation_model.specs.Work.{Work, PutBlock, GetBlock, RangePlan, WriteBytes, ReadBytes, Plan, OnBlock, OnRange, Course, Alone, Within, Calling, Dropping, Opening, Locking, Writing, Reading, Rebuilding, Ending, Over}
 use Rattle.rz_operation_model.specs.Ask.{Say, SayDone, ask_of, is_part, got, read_asks, gave, write_asks, refill_head, rebuild_asks}
-use Rattle.rz_operation_model.specs.Steps.{Told as Hears, Replied, Locked, Answered, Missed, Noted, begun, told, in_range, range_answer, whole_answer, planned, after_open, after_lock, drop_at, after_drop, after_call, told_reading, told_writing, after_got, after_gave, rebuild_after, in_rebuild}
+use Rattle.rz_operation_model.specs.Steps.{Told as Hears, Replied, Locked, Answered, Missed, Noted, begun, told, in_range, range_answer, planned, after_open, after_lock, drop_at, after_drop, after_call, told_reading, told_writing, after_got, after_gave, rebuild_after, in_rebuild}
 use Rattle.rz_operation_model.specs.Turns.{IsStep, IsNodeStep, Through, ReplyLost, RequestLost, IsExportStep}
 use Rattle.rz_core.specs.History.{of_actor}
 use Rattle.rz_core.specs.Courses.{IsCourse, Begun, Went, DoneRow}

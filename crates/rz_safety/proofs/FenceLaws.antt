@@ -1,6 +1,6 @@
 -- Losses, enrolments and fences.
-use Rattle.std.proofs.Common.{ℕ, Bool, true, false, ◌==◌, ◌≡◌, ◌⊎◌, inl, inr, ◌≤◌, ◌<◌, ◌+◌, List, [], ◌∷◌, Option, Some, None, cond, refl, sym, ◌∙◌, ap, subst, arith, ◌&&◌}
-use Rattle.std.proofs.lemmas.Bool.{eqb-true, eq-eqb, and_parts, cases_lt}
+use Rattle.std.proofs.Common.{ℕ, Bool, true, false, ◌≡◌, ◌⊎◌, inl, inr, ◌≤◌, ◌<◌, ◌+◌, List, [], ◌∷◌, Option, Some, None, cond, refl, sym, ◌∙◌, ap, subst, arith, ◌&&◌}
+use Rattle.std.proofs.lemmas.Bool.{and_parts, cases_lt}
 use Rattle.rz_events.specs.Volume.{Volume}
 use Rattle.rz_events.specs.declared.keys.Key.{Key}
 use Rattle.rz_events.specs.declared.keys.Actor.{Actor}
@@ -12,7 +12,7 @@ use Rattle.rz_events.specs.Events.{by_of, word_of, same_actor, same_word, same_k
 use Rattle.rz_node_model.specs.Versions.{Stands}
 use Rattle.rz_core.specs.History.{Facts, facts, of_actor, Has, IsPlace}
 use Rattle.rz_core.specs.NodeWord.{phase, losses, last_fence}
-use Rattle.rz_core.specs.ExportWord.{last_drawn, accepted, is_newer, enrolled, or_new}
+use Rattle.rz_core.specs.ExportWord.{last_drawn, accepted, is_newer, enrolled}
 use Rattle.rz_events.specs.Masks.{HasBit}
 use Rattle.rz_core.specs.Legal.{IsLegalInRuns, Row}
 use Rattle.rz_core.proofs.Extends.{some_length, extends-more, place-extends}

@@ -1,7 +1,6 @@
 -- What the events of a node leave at it, step by step.
-use Rattle.std.proofs.Common.{ℕ, Bool, true, false, ◌==◌, ◌≡◌, ◌⊎◌, inl, inr, ◌≤◌, ◌<◌, List, [], ◌∷◌, Option, Some, None, cond, refl, sym, ◌∙◌, ap, subst, arith, nat_lt}
-use Rattle.std.specs.List.{filter, AllByRecursion}
-use Rattle.std.proofs.lemmas.Bool.{eqb-true, lt-ltb, ltb-true, cases_lt}
+use Rattle.std.proofs.Common.{ℕ, true, false, ◌≡◌, ◌⊎◌, inl, inr, List, [], ◌∷◌, Option, Some, None, refl, sym, ◌∙◌, ap, subst}
+use Rattle.std.specs.List.{AllByRecursion}
 use Rattle.rz_events.specs.Volume.{Volume}
 use Rattle.rz_events.specs.declared.keys.Key.{Key}
 use Rattle.rz_events.specs.declared.keys.Actor.{Actor}
@@ -9,26 +8,22 @@ use Rattle.rz_events.specs.declared.files.Listed.{Listed}
 use Rattle.rz_events.specs.declared.tree.TreeReply.TheVariants as reply
 use Rattle.rz_events.specs.declared.records.Change.{Change}
 use Rattle.rz_events.specs.declared.records.Change.TheVariants as change
-use Rattle.rz_events.specs.declared.nodes.Phase.TheVariants.{Up, Down}
-use Rattle.rz_events.specs.declared.events.Word.{Word}
-use Rattle.rz_events.specs.declared.events.Word.TheVariants.{Export, Node, Own}
+use Rattle.rz_events.specs.declared.events.Word.TheVariants.{Node}
 use Rattle.rz_events.specs.declared.events.Event.{Event}
 use Rattle.rz_events.specs.declared.events.Event.TheVariants as e
-use Rattle.rz_events.specs.Events.{by_of, word_of, same_actor, same_word, same_key}
-use Rattle.rz_node_model.specs.Versions.{kept, refilled, without, greater_goes, IsAbove, Stands, IsPast}
+use Rattle.rz_events.specs.Events.{by_of, word_of, same_actor, same_word}
 use Rattle.rz_core.specs.History.{Facts, facts, Begun, wrote, of_word, of_actor, Has}
 use Rattle.rz_core.specs.Own.{is_next}
-use Rattle.rz_core.specs.NodeWord.{phase, held, changed, settled, undecided, base_begun, itself}
+use Rattle.rz_core.specs.NodeWord.{held, changed, settled, undecided}
 use Rattle.rz_core.specs.ExportWord.{accepted}
 use Rattle.rz_core.specs.NodeRows.{DidRow, IsRebuilding, HasGone}
 use Rattle.rz_core.specs.Legal.{IsLegalInRuns, Row}
-use Rattle.rz_core.proofs.Extends.{Extends, extends-more, wrote-more, held-extends, Knows, last-has, some_length}
-use Rattle.rz_core.proofs.Rows.{row-extends}
+use Rattle.rz_core.proofs.Extends.{extends-more, wrote-more, held-extends, Knows, last-has, some_length}
 use Rattle.rz_core.proofs.Locality.{all-filter, legal-knows, KnowsBefore, row-knows}
-use Rattle.rz_core.proofs.Stamps.{export, same_key-true}
+use Rattle.rz_core.proofs.Stamps.{export}
 use Rattle.rz_safety.specs.Reads.{IsAcked}
 use Rattle.rz_safety.proofs.Acked.{accepted-acked}
-use Rattle.rz_core.proofs.NodeLaws.{node, holds, same_word-true, at-node, node-row, IsRows, rows, Fits, did-fits, did-up, undecided-down, pending-fits, IsPair, change-pair, word-pair, pairs, filter-has, has-filter}
+use Rattle.rz_core.proofs.NodeLaws.{node, holds, at-node, node-row, rows, Fits, did-fits, pending-fits, filter-has}
 
 -- what a next listed was acknowledged
 pub nexted : (v : Volume) (h : List Event) → IsLegalInRuns v h → (by : Actor) (m : ℕ) (after : Option Key) (l : Listed) → Has h (e.Next by m after (Some l)) → IsAcked h l.key l.published.stamp

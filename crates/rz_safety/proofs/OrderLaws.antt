@@ -1,5 +1,5 @@
 -- In which order numbers and calls come.
-use Rattle.std.proofs.Common.{ℕ, Bool, true, false, ◌≡◌, ◌⊎◌, inl, inr, ◌≤◌, ◌<◌, ◌+◌, List, [], ◌∷◌, Option, Some, None, cond, refl, sym, ◌∙◌, ap, subst, arith}
+use Rattle.std.proofs.Common.{ℕ, Bool, true, false, ◌≡◌, inl, inr, ◌≤◌, ◌+◌, List, [], ◌∷◌, Some, None, cond, refl, sym, ◌∙◌, ap, subst, arith}
 use Rattle.std.specs.List.{filter}
 use Rattle.rz_events.specs.Volume.{Volume}
 use Rattle.rz_events.specs.declared.keys.Key.{Key}
@@ -11,11 +11,10 @@ use Rattle.rz_events.specs.declared.events.Event.TheVariants as e
 use Rattle.rz_events.specs.Events.{by_of, word_of, same_actor, same_word}
 use Rattle.rz_core.specs.History.{Has}
 use Rattle.rz_core.specs.NodeWord.{phase, losses}
-use Rattle.rz_core.specs.ExportWord.{last_drawn, accepted, latest, stamp_in, enrolled}
+use Rattle.rz_core.specs.ExportWord.{last_drawn, stamp_in, enrolled}
 use Rattle.rz_core.specs.Legal.{IsLegalInRuns}
 use Rattle.rz_core.proofs.Stamps.{export, last_drawn-more, latest-drawn, accepted-latest, greater-left}
-use Rattle.rz_safety.specs.Reads.{IsAcked}
-use Rattle.rz_safety.specs.Order.{IsStamp, IsFence, IsNew, AreRising, IsMendedInOrder, IsOrdered}
+use Rattle.rz_safety.specs.Order.{IsNew, AreRising, IsMendedInOrder, IsOrdered}
 use Rattle.rz_safety.proofs.Acked.{acked-accepted}
 use Rattle.rz_core.proofs.NodeLaws.{node, same_word-true, node-row, filter-has}
 use Rattle.rz_core.proofs.EnrollLaws.{enrolled-has, new_cases}

@@ -1,20 +1,18 @@
 -- Tables of outcomes by node and by position, and distinct positions.
-use Rattle.std.proofs.Common.{ℕ, zero, suc, Bool, true, false, ◌==◌, ◌≡◌, ◌≢◌, ◌⊎◌, inl, inr, ◌<◌, ◌≤◌, ◌+◌, List, [], ◌∷◌, Option, Some, None, cond, refl, sym, ◌∙◌, ap, subst, arith, length, ◌&&◌}
+use Rattle.std.proofs.Common.{ℕ, zero, suc, Bool, true, false, ◌==◌, ◌≡◌, ◌≢◌, ◌⊎◌, inl, inr, ◌<◌, ◌≤◌, ◌+◌, List, [], ◌∷◌, Some, refl, sym, ◌∙◌, ap, subst, arith, length}
 use Rattle.std.specs.Prelude.{slice_get, slice_set}
 use Rattle.std.specs.List.{AllByRecursion}
 use Rattle.std.proofs.lemmas.Bool.{eqb-true, eq-eqb, cases_lt}
 use Rattle.rz_events.specs.declared.keys.Key.{Key}
 use Rattle.rz_events.specs.declared.keys.Actor.{Actor}
 use Rattle.rz_events.specs.declared.records.Change.TheVariants as change
-use Rattle.rz_events.specs.declared.ends.Seen.{Seen}
 use Rattle.rz_events.specs.declared.ends.Why.{Why}
 use Rattle.rz_events.specs.declared.ends.Why.TheVariants as why
 use Rattle.rz_events.specs.declared.events.Event.{Event}
 use Rattle.rz_events.specs.declared.events.Event.TheVariants as e
-use Rattle.rz_events.specs.Events.{same_key}
 use Rattle.rz_node_model.specs.Versions.{Stands}
-use Rattle.rz_core.specs.Own.{IsFalling, HasDistinct}
-use Rattle.rz_core.specs.Outcomes.{seen_at, seens, why_at, whys, bars}
+use Rattle.rz_core.specs.Own.{IsFalling}
+use Rattle.rz_core.specs.Outcomes.{seen_at, seens, why_at, whys}
 use Rattle.rz_core.proofs.Stamps.{same_key-refl}
 use Rattle.rz_safety.specs.Positions.{AreApart, IsInAnyOrder, node_in, AreByPosition}
 

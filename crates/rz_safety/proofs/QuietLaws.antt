@@ -1,5 +1,5 @@
 -- What a read of a quiet block is told, and how it then ends.
-use Rattle.std.proofs.Common.{ℕ, Bool, true, false, not, ◌==◌, ◌≡◌, ◌⊎◌, inl, inr, ◌≤◌, ◌<◌, List, [], ◌∷◌, ◌++◌, Option, Some, None, cond, refl, sym, ◌∙◌, ap, subst, arith}
+use Rattle.std.proofs.Common.{ℕ, Bool, true, false, ◌==◌, ◌≡◌, ◌⊎◌, inl, inr, ◌≤◌, List, [], ◌∷◌, ◌++◌, Option, Some, None, cond, refl, sym, ◌∙◌, ap, subst, arith}
 use Rattle.std.proofs.lemmas.Bool.{eqb-true, eq-eqb}
 use Rattle.rz_events.specs.Volume.{Volume}
 use Rattle.rz_events.specs.declared.keys.Key.{Key}
@@ -13,7 +13,7 @@ use Rattle.rz_events.specs.declared.export.Asked.TheVariants as asked
 use Rattle.rz_events.specs.declared.events.Event.{Event}
 use Rattle.rz_events.specs.declared.events.Event.TheVariants as e
 use Rattle.rz_core.specs.History.{Facts, facts, of_actor, Has}
-use Rattle.rz_core.specs.ExportWord.{accepted, latest, with_length, is_live, is_made, is_gone}
+use Rattle.rz_core.specs.ExportWord.{accepted, with_length, is_live, is_made, is_gone}
 use Rattle.rz_core.specs.ExportRows.{IsInFile, DeniedRow}
 use Rattle.rz_core.specs.Own.{last, is_look, is_export}
 use Rattle.rz_core.specs.OwnRows.{GotRow}

@@ -1,17 +1,16 @@
 -- Where the versions of a replaced node come from, and what an empty answer means.
-use Rattle.std.proofs.Common.{ℕ, true, false, ◌≡◌, ◌⊎◌, inl, inr, ◌<◌, List, [], ◌∷◌, Option, Some, None, refl, sym, ◌∙◌, subst}
+use Rattle.std.proofs.Common.{ℕ, true, false, ◌≡◌, ◌⊎◌, inl, inr, ◌<◌, List, [], ◌∷◌, Some, None, refl, sym, ◌∙◌, subst}
 use Rattle.std.specs.List.{AllByRecursion}
 use Rattle.rz_events.specs.Volume.{Volume}
 use Rattle.rz_events.specs.declared.keys.Key.{Key}
 use Rattle.rz_events.specs.declared.keys.Actor.{Actor}
 use Rattle.rz_events.specs.declared.records.Change.{Change}
 use Rattle.rz_events.specs.declared.records.Change.TheVariants as change
-use Rattle.rz_events.specs.declared.nodes.Phase.TheVariants.{Lost}
 use Rattle.rz_events.specs.declared.events.Event.{Event}
 use Rattle.rz_events.specs.declared.events.Event.TheVariants as e
 use Rattle.rz_node_model.specs.Versions.{Stands}
 use Rattle.rz_core.specs.History.{Facts, facts}
-use Rattle.rz_core.specs.NodeWord.{phase, last_fence, held, undecided}
+use Rattle.rz_core.specs.NodeWord.{last_fence, held, undecided}
 use Rattle.rz_core.specs.ExportWord.{accepted}
 use Rattle.rz_events.specs.Masks.{HasBit}
 use Rattle.rz_core.specs.NodeRows.{DidRow}

@@ -1,5 +1,5 @@
 -- How the writes of a legal history end.
-use Rattle.std.proofs.Common.{ℕ, Bool, true, false, ◌≡◌, inl, inr, ◌<◌, ◌≤◌, List, [], ◌∷◌, ◌++◌, Some, None, cond, refl, sym, ◌∙◌, ap, subst, arith}
+use Rattle.std.proofs.Common.{ℕ, Bool, true, false, ◌≡◌, inl, inr, ◌<◌, List, [], ◌∷◌, ◌++◌, Some, None, cond, refl, sym, ap, subst, arith}
 use Rattle.rz_events.specs.Volume.{Volume}
 use Rattle.rz_events.specs.declared.keys.Key.{Key}
 use Rattle.rz_events.specs.declared.keys.Actor.{Actor}
@@ -12,12 +12,12 @@ use Rattle.rz_events.specs.declared.events.Word.TheVariants.{Export}
 use Rattle.rz_events.specs.declared.events.Event.{Event}
 use Rattle.rz_events.specs.declared.events.Event.TheVariants as e
 use Rattle.rz_events.specs.Events.{by_of, word_of, same_actor, same_word, same_key}
-use Rattle.rz_core.specs.History.{facts, wrote, Begun, IsWriter, of_word, of_actor, Has}
+use Rattle.rz_core.specs.History.{facts, Begun, IsWriter, of_actor, Has}
 use Rattle.rz_core.specs.ExportWord.{latest}
 use Rattle.rz_core.specs.Own.{last, is_export, is_begin, is_publish}
 use Rattle.rz_core.specs.OwnRows.{GaveRow}
 use Rattle.rz_core.specs.Legal.{IsLegalInRuns}
-use Rattle.rz_core.proofs.Extends.{last-has, wrote-more}
+use Rattle.rz_core.proofs.Extends.{last-has}
 use Rattle.rz_core.proofs.Stamps.{export, same_key-true, wrote-has}
 use Rattle.rz_core.proofs.NodeLaws.{filter-has}
 use Rattle.rz_safety.specs.Reads.{before_export}

@@ -1,9 +1,10 @@
 //! The safety of the log: what a reader of a legal log may rely on.
 //!
 //! Definitions stand here, in reading order: `Reads` says when a write is acknowledged, when a read
-//! began and when a block is quiet; `Sound` says what each read gives; `Kept` says what the nodes of
-//! a published write hold; `Rebuilt` says what a finished rebuild has done; `Order` says in which order
-//! numbers and calls come.
+//! began and when a block is quiet; `Sound` says what each read gives; `Writes` says how a write ends;
+//! `Kept` says what the nodes of a published write hold; `Rebuilt` says what a finished rebuild has
+//! done; `Order` says in which order numbers and calls come; `Positions` says how the outcomes of a
+//! file's positions stand in tables. The laws hold of the logs of any number of runs.
 #![tactic(auto)]
 
 ghost use Rattle.std.specs.Prelude.{ℕ, List};
