@@ -30,6 +30,8 @@ impl Disk for Blank {
 
     ghost image = { λ d c. ⊥ };
 
+    ghost picks = { λ d pick c. c ≡ replicate d.size 0 };
+
     ghost meter = { λ d. record { fuse = None; planned = 0; own = 0 } };
 
     ghost text_is_image = { λ d no. cc };

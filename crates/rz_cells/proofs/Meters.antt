@@ -37,7 +37,7 @@ took_nothing a = record {
   planned_only = λ rose. absurd (omega arith);
   unarmed = λ none. none;
   enough = λ n is ok. (omega arith, is ∙ ap (λ (m : ℕ). Some m) (omega arith));
-  left = λ n is. (n, is, omega arith);
+  left = λ n is. (n, is, omega arith, omega arith);
 }
 
 -- the passes of calls under another result

@@ -196,6 +196,7 @@ impl<D: Disk> Cells<D> {
     /// Loses what a loss of power may lose of the disk, and keeps all else. `pick` says which image
     /// is left, in the disk's own way.
     pub fn crash(&mut self, pick: u64)
+        ensures by_pick { D.picks self.old.disk pick (D.text self.new.disk) }
         ensures left { IsTrue D.tells → D.image self.old.disk (D.text self.new.disk) }
         ensures only { Only (D.text self.new.disk) (D.image self.new.disk) }
         ensures meter { D.meter self.new.disk ≡ D.meter self.old.disk }

@@ -5,7 +5,7 @@ ghost use Rattle.rz_events.specs.declared.records.Head.{Head};
 ghost use Rattle.rz_disk.specs.Images.{Within};
 ghost use Rattle.rz_disk.specs.Meter.{Took, Lasts, Rises, HasPasses, faults};
 ghost use Rattle.rz_cells.specs.Held.{Records, in_cell};
-ghost use Rattle.rz_cells.specs.Shape.{IsGeometry, slot_of};
+ghost use Rattle.rz_cells.specs.Shape.{IsGeometry, disk_bytes, slot_of};
 ghost use Rattle.rz_cells.specs.Stands.{StandsFor};
 ghost use Rattle.rz_cells.specs.Open.{Finds, IsOpen};
 ghost use Rattle.rz_cells.specs.Opening.{NotSize, OnlyRead, Refuses, opening_calls};
@@ -37,7 +37,10 @@ impl<D: Disk> Cells<D> {
 
         // Each fault is the first that the text has.
         ensures refused { IfErr result (λ e. IsTrue D.tells → Refuses geometry (D.text disk) e.1) }
+
+        // A wrong size is refused as such also of a disk that does not tell what it holds.
         ensures size { IfErr result (λ e. (have need : ℕ) → e.1 ≡ OpenFault.WrongSize have need → Refuses geometry (D.text disk) (OpenFault.WrongSize have need)) }
+        ensures fits { IfErr result (λ e. NotSize e.1 → length (D.text disk) ≡ disk_bytes geometry) }
 
         // A text that stands for records is refused by want of memory or a failed device call alone.
         ensures exact { IfErr result (λ e. IsTrue D.tells → (fence : ℕ) (held : Records) → StandsFor geometry fence (D.text disk) held → (e.1 ≡ OpenFault.NoMemory) ⊎ (e.1 ≡ OpenFault.DiskFault)) }
@@ -95,7 +98,10 @@ impl<D: Disk> Cells<D> {
 
         // Each fault is the first that the text has.
         ensures refused { IfErr result (λ e. IsTrue D.tells → Refuses self.old.geometry (D.text self.old.disk) e) }
+
+        // A wrong size is refused as such also of a disk that does not tell what it holds.
         ensures size { IfErr result (λ e. (have need : ℕ) → e ≡ OpenFault.WrongSize have need → Refuses self.old.geometry (D.text self.old.disk) (OpenFault.WrongSize have need)) }
+        ensures fits { IfErr result (λ e. NotSize e → length (D.text self.old.disk) ≡ disk_bytes self.old.geometry) }
 
         // A text that stands for records is refused by want of memory or a failed device call alone.
         ensures exact { IfErr result (λ e. IsTrue D.tells → (fence : ℕ) (held : Records) → StandsFor self.old.geometry fence (D.text self.old.disk) held → (e ≡ OpenFault.NoMemory) ⊎ (e ≡ OpenFault.DiskFault)) }
@@ -139,6 +145,7 @@ fn read_disk<D: Disk>(
     ensures buffer { IfOk result (λ r. length r.1.buffer.items ≡ slot_of geometry.now) }
     ensures refused { IfErr result (λ e. IsTrue D.tells → Refuses geometry.now (D.text disk.old) e) }
     ensures wrong_size { IfErr result (λ e. NotSize e ⊎ Refuses geometry.now (D.text disk.old) e) }
+    ensures fits { IfErr result (λ e. NotSize e → length (D.text disk.old) ≡ disk_bytes geometry.now) }
     ensures read { OnlyRead (D.text disk.old) (D.text disk.new) (D.image disk.old) (D.image disk.new) (D.meter disk.old) (D.meter disk.new) }
     ensures untouched { IfErr result (λ e. NotSize e ⊎ (disk.new ≡ disk.old)) }
     ensures took { Took (opening_calls geometry.now) result (D.meter disk.old) (D.meter disk.new) }
@@ -174,6 +181,7 @@ fn read_all<D: Disk>(
     ensures buffer { IfOk result (λ r. length r.1.buffer.items ≡ slot_of geometry.now) }
     ensures refused { IfErr result (λ e. IsTrue D.tells → Refuses geometry.now (D.text disk.old) e) }
     ensures wrong_size { IfErr result (λ e. NotSize e ⊎ Refuses geometry.now (D.text disk.old) e) }
+    ensures fits { IfErr result (λ e. NotSize e → length (D.text disk.old) ≡ disk_bytes geometry.now) }
     ensures read { OnlyRead (D.text disk.old) (D.text disk.new) (D.image disk.old) (D.image disk.new) (D.meter disk.old) (D.meter disk.new) }
     ensures untouched { IfErr result (λ e. NotSize e ⊎ (disk.new ≡ disk.old)) }
     ensures took { Took (opening_calls geometry.now) result (D.meter disk.old) (D.meter disk.new) }

@@ -29,7 +29,7 @@ took_one result a b one = record {
         (some_or_none n),
     one.fuse ∙ ap spent is,
   );
-  left = λ n is. (n - 1, one.fuse ∙ ap spent is, omega arith);
+  left = λ n is. (n - 1, one.fuse ∙ ap spent is, omega arith, omega arith);
 }
 
 -- where calls failed, those that were to follow took none
@@ -38,7 +38,7 @@ took_failed j k first result a b fewer failed took = record {
   planned_only = λ rose. let at = took.planned_only rose in (at.0, at.1, omega (arith, at.2));
   unarmed = took.unarmed;
   enough = λ n is ok. absurd (not_both result ok failed);
-  left = λ n is. let end = took.left n is in (end.0, end.1, omega (arith, end.2));
+  left = λ n is. let end = took.left n is in (end.0, end.1, omega (arith, end.2), end.3);
 }
 
 -- calls that went well, and then others
@@ -61,5 +61,5 @@ took_then j k first second a b c went one two = record {
       let first-two = one.enough n is went in
       let last-two = two.enough (n - j) first-two.1 ok in
       (omega (arith, first-two.0, last-two.0), last-two.1 ∙ ap (λ (m : ℕ). Some m) (omega arith));
-  left = λ n is. let mid = one.left n is in let end = two.left mid.0 mid.1 in (end.0, end.1, omega (arith, mid.2, end.2));
+  left = λ n is. let mid = one.left n is in let end = two.left mid.0 mid.1 in (end.0, end.1, omega (arith, mid.2, end.2), omega (arith, mid.3, end.3));
 }

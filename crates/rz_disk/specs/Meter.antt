@@ -44,13 +44,13 @@ pub record Passes {T E : Type 0} (result : Result T E) (old new : Meter) : Type 
   pub risen : IsErr result → Rises (faults old) (faults new)
   pub own_risen : IsErr result → HasPasses 1 old → Rises old.own new.own
 
--- After calls that take k passes in all where each went well, and at most k otherwise.
+-- After calls that take k passes in all where each went well, and at most k otherwise. No pass comes back.
 pub record Took {T E : Type 0} (k : ℕ) (result : Result T E) (old new : Meter) : Type 0 where
   pub planned_only : old.planned < new.planned → (n : ℕ) × (old.fuse ≡ Some n) × (n < k)
   pub unarmed : old.fuse ≡ None → new.fuse ≡ None
   pub enough : (n : ℕ) → old.fuse ≡ Some n → is_ok result ≡ true
       → (k ≤ n) × (new.fuse ≡ Some (n - k))
-  pub left : (n : ℕ) → old.fuse ≡ Some n → (m : ℕ) × (new.fuse ≡ Some m) × (n ≤ m + k)
+  pub left : (n : ℕ) → old.fuse ≡ Some n → (m : ℕ) × (new.fuse ≡ Some m) × (n ≤ m + k) × (m ≤ n)
 
 -- after an arming, or a disarming
 abbrev pub armed : Option ℕ → Meter → Meter

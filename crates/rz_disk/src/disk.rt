@@ -33,6 +33,9 @@ pub trait Disk: Drop {
     /// What a crash at this moment may leave.
     ghost image: { Self → List ℕ → Type 0 };
 
+    /// What a crash with a pick leaves to be read, in the disk's own way.
+    ghost picks: { Self → ℕ → List ℕ → Type 0 };
+
     /// Its faults, those that its fuse planned, and the passes that it has left where it is armed.
     ghost meter: { Self → Meter };
 
@@ -94,6 +97,7 @@ pub trait Disk: Drop {
 
     /// Loses what a loss of power may lose. `pick` says which image is left, in the disk's own way.
     fn crash(&mut self, pick: u64)
+        ensures by_pick { picks self.old pick (text self.new) }
         ensures left { IsTrue Self.tells → image self.old (text self.new) }
         ensures only { Only (text self.new) (image self.new) }
         ensures meter { meter self.new ≡ meter self.old };

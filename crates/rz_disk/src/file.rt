@@ -137,6 +137,8 @@ impl<'a, R: Files> Disk for FileDisk<'a, R> {
 
     ghost image = { λ d c. ⊥ };
 
+    ghost picks = { λ d pick c. c ≡ replicate d.size 0 };
+
     ghost meter = { λ d. file_meter d };
 
     ghost text_is_image = { λ d no. cc };

@@ -73,6 +73,8 @@ impl<D: Disk> Disk for Fused<D> {
 
     ghost image = { λ f. D.image f.disk };
 
+    ghost picks = { λ f. D.picks f.disk };
+
     ghost meter = { λ f. fused_meter D.meter f };
 
     ghost text_is_image = { λ f. D.text_is_image f.disk };

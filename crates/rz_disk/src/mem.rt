@@ -72,6 +72,8 @@ impl Disk for MemDisk {
 
     ghost image = { λ d. Leaves d.stored.marks d.stored.text };
 
+    ghost picks = { λ d pick. Picked pick d.stored.synced d.stored.marks d.stored.text };
+
     ghost meter = { λ d. record { fuse = None; planned = 0; own = d.faults } };
 
     ghost text_is_image = { λ d _. record { size = refl; same = λ i free. refl } };

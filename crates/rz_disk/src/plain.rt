@@ -42,6 +42,8 @@ impl Disk for PlainDisk {
 
     ghost image = { λ d. Leaves d.marks d.text };
 
+    ghost picks = { λ d pick. Picked pick d.synced d.marks d.text };
+
     ghost meter = { λ d. record { fuse = None; planned = 0; own = 0 } };
 
     ghost text_is_image = { λ d _. record { size = refl; same = λ i free. refl } };

@@ -41,6 +41,8 @@ impl<D: Disk> Disk for RotDisk<D> {
 
     ghost image = { λ r. D.image r.disk };
 
+    ghost picks = { λ r. D.picks r.disk };
+
     ghost meter = { λ r. D.meter r.disk };
 
     ghost text_is_image = { λ r no. cc };
@@ -112,6 +114,7 @@ impl<D: Disk> Disk for RotDisk<D> {
     }
 
     fn crash(&mut self, pick: u64)
+        ensures by_pick { D.picks self.old.disk pick (D.text self.new.disk) }
         ensures left { IsTrue D.tells → D.image self.old.disk (D.text self.new.disk) }
         ensures only { Only (D.text self.new.disk) (D.image self.new.disk) }
         ensures meter { D.meter self.new.disk ≡ D.meter self.old.disk }

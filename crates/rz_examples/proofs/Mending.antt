@@ -1,5 +1,5 @@
 -- The steps of the mended history, one by one.
-use Rattle.std.proofs.Common.{ℕ, Bool, true, false, ◌≡◌, inl, inr, ◌≤◌, ◌&&◌, [], ◌∷◌, Some, None, cond, refl, arith, lit<}
+use Rattle.std.proofs.Common.{ℕ, Bool, true, false, ◌≡◌, ◌⊎◌, inl, inr, ◌≤◌, ◌<◌, ◌&&◌, [], ◌∷◌, Some, None, cond, refl, arith, lit<}
 use Rattle.std.proofs.lemmas.Bool.{eqb-true, and_parts}
 use Rattle.rz_events.specs.declared.keys.Key.{Key}
 use Rattle.rz_events.specs.declared.keys.Actor.{Actor}
@@ -11,20 +11,22 @@ use Rattle.rz_core.specs.History.{Facts, facts, of_word, of_actor, Has}
 use Rattle.rz_core.specs.ExportWord.{with_length}
 use Rattle.rz_core.specs.ExportRows.{IsListed, IsLess}
 use Rattle.rz_core.specs.Legal.{IsLegal}
+use Rattle.rz_core.proofs.Keys.{less-parts}
 use Rattle.rz_safety.specs.Rebuilt.{IsRebuilt}
 use Rattle.rz_examples.specs.Plain.{plain, mender, block, places}
 use Rattle.rz_examples.specs.Ordinary.{with_write}
-use Rattle.rz_examples.specs.Mended.{refilled, hello_listed, with_disk, with_sources, mended}
+use Rattle.rz_examples.specs.Mended.{refilled, hello_listed, with_disk, with_sources, mended, finished}
+use Rattle.rz_examples.proofs.Courses.{finished_row}
 use Rattle.rz_examples.proofs.Names.{file_there}
-use Rattle.rz_examples.proofs.Steps.{the_write, legal_write}
+use Rattle.rz_examples.proofs.Steps.{node_1, node_2, node_3, the_write, legal_write}
 
 pub legal_disk : IsLegal plain with_disk
 legal_disk = (
   (
-    ((legal_write, record { room = lit< tt; row = record { there = λ q. cc; next = refl } }), record { room = lit< tt; row = (refl, refl) }),
-    record { room = lit< tt; row = record { probed = inl refl; top = none; fence_is = refl } },
+    ((legal_write, record { room = lit< tt; word = node_1; row = record { there = λ q. cc; next = refl } }), record { room = lit< tt; word = node_1; row = (refl, refl) }),
+    record { room = lit< tt; word = tt; row = record { probed = inl refl; top = none; fence_is = refl } },
   ),
-  record { room = lit< tt; row = record { lost = refl; loss_is = refl; enrolled = inl refl } },
+  record { room = lit< tt; word = node_1; row = record { lost = refl; loss_is = refl; enrolled = inl refl } },
 )
   where
     none : (a : Actor) (l g : ℕ) → Has (of_word Export with_write) (e.Enroll a 1 l g) → l ≤ 1
@@ -44,22 +46,22 @@ is_listed_one key p li = one_key (same_key key block) key p (facts with_disk) re
 
 -- a key that is the block is not less than it, and not after it
 pub not_less : (key : Key) → same_key key block ≡ true → IsLess key block → ⊥
-not_less key same less = go less
+not_less key same less = go (less-parts key block less)
   where
     parts : (key.fid ≡ 1) × (key.block ≡ 0)
     parts = let p = and_parts _ _ same in (eqb-true _ _ p.0, eqb-true _ _ p.1)
 
-    go : IsLess key block → ⊥
+    go : (key.fid < 1) ⊎ ((key.fid ≡ 1) × (key.block < 0)) → ⊥
     go (inl l) = let q = parts.0 in absurd (omega (arith, l, q))
     go (inr l) = let q = parts.1 in let m = l.1 in absurd (omega (arith, m, q))
 
 not_after : (key : Key) → same_key key block ≡ true → IsLess block key → ⊥
-not_after key same less = go less
+not_after key same less = go (less-parts block key less)
   where
     parts : (key.fid ≡ 1) × (key.block ≡ 0)
     parts = let p = and_parts _ _ same in (eqb-true _ _ p.0, eqb-true _ _ p.1)
 
-    go : IsLess block key → ⊥
+    go : (1 < key.fid) ⊎ ((1 ≡ key.fid) × (0 < key.block)) → ⊥
     go (inl l) = let q = parts.0 in absurd (omega (arith, l, q))
     go (inr l) = let q = parts.1 in let m = l.1 in absurd (omega (arith, m, q))
 
@@ -67,20 +69,24 @@ pub legal_sources : IsLegal plain with_sources
 legal_sources = (
   (
     (
-      legal_disk,
-      record {
-        room = lit< tt;
-        row = record {
-          listed = record { live = refl; told = refl; named = (0, refl, (places, refl, refl)) };
-          later = tt;
-          least = λ key p after less li. not_less key (is_listed_one key p li) less;
-          file = file_there;
-        };
-      },
+      (
+        legal_disk,
+        record {
+          room = lit< tt;
+          word = tt;
+          row = record {
+            listed = record { live = refl; told = refl; named = (0, refl, (places, refl, refl)) };
+            later = tt;
+            least = λ key p after less li. not_less key (is_listed_one key p li) less;
+            file = file_there;
+          };
+        },
+      ),
+      record { room = lit< tt; word = node_1; row = record { up = refl; place = (places, refl, refl); told = λ there. there } },
     ),
-    record { room = lit< tt; row = record { up = refl; place = (places, refl, refl); told = (inl refl, (the_write, record { found = refl; stamp = refl; length = refl; base = refl })) } },
+    record { room = lit< tt; word = node_2; row = record { up = refl; place = (places, refl, refl); told = (inl refl, (the_write, record { found = refl; stamp = refl; length = refl; base = refl })) } },
   ),
-  record { room = lit< tt; row = record { up = refl; place = (places, refl, refl); told = (inl refl, (the_write, record { found = refl; stamp = refl; length = refl; base = refl })) } },
+  record { room = lit< tt; word = node_3; row = record { up = refl; place = (places, refl, refl); told = (inl refl, (the_write, record { found = refl; stamp = refl; length = refl; base = refl })) } },
 )
 
 pub legal_mended : IsLegal plain mended
@@ -89,6 +95,7 @@ legal_mended = (
     legal_sources,
     record {
       room = lit< tt;
+      word = node_1;
       row = record {
         refill = record {
           up = refl;
@@ -106,8 +113,11 @@ legal_mended = (
       };
     },
   ),
-  record { room = lit< tt; row = λ key p after li. not_after key (one_key (same_key key block) key p (facts (refilled ∷ with_sources)) refl li.told) after },
+  record { room = lit< tt; word = tt; row = λ key p after li. not_after key (one_key (same_key key block) key p (facts (refilled ∷ with_sources)) refl li.told) after },
 )
+
+pub legal_finished : IsLegal plain finished
+legal_finished = (legal_mended, record { room = lit< tt; word = tt; row = finished_row })
 
 pub mended_rebuilt : IsRebuilt (of_actor mender mended) 1 1 2 1
 mended_rebuilt = (refl, refl, inr (refl, refl, (None, 0, refl, (refl, refl, (refl, refl, refl, refl, refl)))))

@@ -83,7 +83,7 @@ differ same = let b : 104 ≡ 119 = ap first_of same in absurd (omega (arith, b)
 
 pub not_other_text : ¬ IsLegal plain other_text
 unfolding text_in
-not_other_text legal = let w = legal.1.row.wrote in differ (ap text_in w.1 ∙ w.2)
+not_other_text legal = let w = legal.1.row.0.wrote in differ (ap text_in w.1 ∙ w.2)
 
 -- the stamp that is published is 2
 pub not_stale_look : ¬ IsLegal plain stale_look
@@ -93,7 +93,7 @@ not_stale_look legal = let t : 1 ≡ 2 = ap stamp_told legal.1.row.told in absur
 pub not_older_stamp : ¬ IsLegal plain older_stamp
 unfolding told_by
 not_older_stamp legal =
-    let l = legal.1.row.looked in let t : 2 ≡ l.0.stamp = ap told_by l.1 in let s = l.2 in absurd (omega (arith, t, s))
+    let l = legal.1.row.0.looked in let t : 2 ≡ l.0.stamp = ap told_by l.1 in let s = l.2 in absurd (omega (arith, t, s))
 
 -- two distinct positions are not among one
 one_given : (p : ℕ) → HasDistinct 2 (p ∷ []) → ⊥
@@ -111,13 +111,13 @@ one_given p given = go given.0 given.1 given.2 given.3
 
 -- one node alone gave the record of stamp 2
 pub not_joined : ¬ IsLegal plain joined
-not_joined legal = one_given 0 legal.1.row.enough
+not_joined legal = one_given 0 legal.1.row.0.enough
 
 pub not_from_lost : ¬ IsLegal plain from_lost
 not_from_lost legal = let u = legal.1.row.up in cc
 
 pub not_unseen_move : ¬ IsLegal plain unseen_move
-not_unseen_move legal = let a = legal.1.row.again.1 in cc
+not_unseen_move legal = let a = legal.1.row.0.again.1 in cc
 
 pub not_idle_miss : ¬ IsLegal plain idle_miss
 not_idle_miss legal = let o = legal.1.row in cc

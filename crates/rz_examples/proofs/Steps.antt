@@ -9,14 +9,28 @@ use Rattle.rz_export_model.specs.Export.{is_mask}
 use Rattle.rz_core.specs.History.{Facts, Begun, facts, of_word, of_actor, Has, IsPlace, IsWriter}
 use Rattle.rz_events.specs.Masks.{HasBit}
 use Rattle.rz_core.specs.ExportRows.{HasKept, IsFree}
-use Rattle.rz_core.specs.NodeRows.{HasRoom, cells_of}
+use Rattle.rz_core.specs.NodeRows.{HasRoom, IsNodeOf, cells_of}
 use Rattle.rz_core.specs.Legal.{IsLegal}
 use Rattle.rz_examples.specs.Plain.{plain, one, block, places, hello}
 use Rattle.rz_examples.specs.Ordinary.{kept_at, hello_published, with_file, with_begin, with_keeps, with_write, with_records, ordinary}
+use Rattle.rz_examples.proofs.Courses.{made_row, put_gave, get_got}
 use Rattle.rz_examples.proofs.Names.{create_reply, open_reply, open_again}
 
 abbrev pub the_write : Begun
 the_write = record { by = one; key = block; base = 0; text = hello }
+
+-- the nodes of the volume
+pub node_1 : IsNodeOf plain 1
+node_1 = inl refl
+
+pub node_2 : IsNodeOf plain 2
+node_2 = inr (inl refl)
+
+pub node_3 : IsNodeOf plain 3
+node_3 = inr (inr (inl refl))
+
+pub node_4 : IsNodeOf plain 4
+node_4 = inr (inr (inr (inl refl)))
 
 pub is_writer : (f : Facts) → f.wrote 1 ≡ Some the_write → (b : Begun) × IsWriter f one block 1 b
 is_writer f w = (the_write, record { found = w; by_is = refl; key_is = refl })
@@ -57,14 +71,14 @@ none_enrolled n s by loss fence has = absurd (never by loss fence has)
 
 pub legal_file : IsLegal plain with_file
 legal_file = (
-  (tt, record { room = lit< tt; row = record { told = create_reply (facts []) } }),
-  record { room = lit< tt; row = inl (tt, refl) },
+  (tt, record { room = lit< tt; word = tt; row = record { told = create_reply (facts []) } }),
+  record { room = lit< tt; word = tt; row = made_row },
 )
 
 pub legal_begin : IsLegal plain with_begin
 legal_begin = (
-  (legal_file, record { room = lit< tt; row = record { told = open_reply } }),
-  record { room = lit< tt; row = record { live = refl; block = lit< tt; short = lit≤ tt; next = refl; from = refl } },
+  (legal_file, record { room = lit< tt; word = tt; row = record { told = open_reply } }),
+  record { room = lit< tt; word = tt; row = record { live = refl; block = lit< tt; short = lit≤ tt; next = refl; from = refl } },
 )
 
 pub legal_keeps : IsLegal plain with_keeps
@@ -74,6 +88,7 @@ legal_keeps = (
       legal_begin,
       record {
         room = lit< tt;
+        word = node_1;
         row = record {
           keep = record { up = refl; fenced = lit< tt; writing = record { writer = is_writer (facts with_begin) refl; place = (places, refl, refl) } };
           above = tt;
@@ -83,6 +98,7 @@ legal_keeps = (
     ),
     record {
       room = lit< tt;
+      word = node_2;
       row = record {
         keep = record { up = refl; fenced = lit< tt; writing = record { writer = is_writer (facts (kept_at 1 0 ∷ with_begin)) refl; place = (places, refl, refl) } };
         above = tt;
@@ -92,6 +108,7 @@ legal_keeps = (
   ),
   record {
     room = lit< tt;
+    word = node_3;
     row = record {
       keep = record { up = refl; fenced = lit< tt; writing = record { writer = is_writer (facts (kept_at 2 1 ∷ kept_at 1 0 ∷ with_begin)) refl; place = (places, refl, refl) } };
       above = tt;
@@ -106,29 +123,32 @@ legal_write = (
     legal_keeps,
     record {
       room = lit< tt;
+      word = tt;
       row = record {
         publishable = record { live = refl; newest = lit≤ tt; publishing = record { writer = is_writer (facts with_keeps) refl; quorum = quorum; kept = keeps } };
         free = λ p n bit place. none_enrolled n 1;
       };
     },
   ),
-  record { room = lit< tt; row = refl },
+  record { room = lit< tt; word = tt; row = (refl, put_gave) },
 )
 
 pub legal_records : IsLegal plain with_records
 legal_records = (
   (
     (
-      (legal_write, record { room = lit< tt; row = record { told = open_again } }),
-      record { room = lit< tt; row = record { live = refl; block = lit< tt; told = refl } },
+      (legal_write, record { room = lit< tt; word = tt; row = record { told = open_again } }),
+      record { room = lit< tt; word = tt; row = record { live = refl; block = lit< tt; told = refl } },
     ),
     record {
       room = lit< tt;
+      word = node_1;
       row = record { up = refl; place = (places, refl, refl); told = (inl refl, (the_write, record { found = refl; stamp = refl; length = refl; base = refl })) };
     },
   ),
   record {
     room = lit< tt;
+    word = node_2;
     row = record { up = refl; place = (places, refl, refl); told = (inl refl, (the_write, record { found = refl; stamp = refl; length = refl; base = refl })) };
   },
 )
@@ -138,10 +158,14 @@ legal_ordinary = (
   legal_records,
   record {
     room = lit< tt;
-    row = record {
-      looked = (hello_published, refl, refl);
-      enough = (1 ∷ 0 ∷ [], ((lit< tt, tt), (tt, tt)), refl, (inl refl, (inr (inl refl), tt)));
-      wrote = (the_write, refl, refl);
-    };
+    word = tt;
+    row = (
+      record {
+        looked = (hello_published, refl, refl);
+        enough = (1 ∷ 0 ∷ [], ((lit< tt, tt), (tt, tt)), refl, (inl refl, (inr (inl refl), tt)));
+        wrote = (the_write, refl, refl);
+      },
+      get_got,
+    );
   },
 )

@@ -5,7 +5,6 @@ use Rattle.std.specs.Int.Count.{ones}
 use Rattle.rz_events.specs.declared.keys.Key.{Key}
 use Rattle.rz_events.specs.declared.keys.Actor.{Actor}
 use Rattle.rz_events.specs.declared.events.Word.TheVariants.{Export}
-use Rattle.rz_events.specs.declared.events.Event.{Event}
 use Rattle.rz_events.specs.declared.events.Event.TheVariants as e
 use Rattle.rz_events.specs.declared.tree.TreeCall.TheVariants as call
 use Rattle.rz_events.specs.Events.{same_key}
@@ -14,11 +13,12 @@ use Rattle.rz_core.specs.History.{facts, of_word, of_actor, Has, IsPlace}
 use Rattle.rz_events.specs.Masks.{HasBit}
 use Rattle.rz_core.specs.ExportRows.{IsLess, HasKept, IsFree}
 use Rattle.rz_core.specs.Legal.{IsLegal}
-use Rattle.rz_examples.specs.Plain.{plain, one, block, places, file, path}
+use Rattle.rz_examples.specs.Plain.{plain, one, block, places, file, path, hello}
 use Rattle.rz_examples.specs.Ordinary.{kept_at, hello_published, with_begin}
-use Rattle.rz_examples.specs.Troubled.{lost_reply, short_write, short_read, unlinked}
+use Rattle.rz_examples.specs.Troubled.{with_loss, with_three, lost_reply, short_write, short_read, unlinked}
+use Rattle.rz_examples.proofs.Courses.{lost_gave, short_gave, short_got, unlinked_row}
 use Rattle.rz_examples.proofs.Names.{open_reply, open_mended, unlink_reply}
-use Rattle.rz_examples.proofs.Steps.{the_write, is_writer, room, legal_file, legal_begin, legal_write}
+use Rattle.rz_examples.proofs.Steps.{node_1, node_2, node_3, node_4, the_write, is_writer, room, legal_file, legal_begin, legal_write}
 use Rattle.rz_examples.proofs.Mending.{legal_disk, not_less}
 
 -- the positions of the mask 14
@@ -28,13 +28,6 @@ bits (suc zero) b = inl refl
 bits (suc (suc zero)) b = inr (inl refl)
 bits (suc (suc (suc zero))) b = inr (inr refl)
 bits (suc (suc (suc (suc p)))) b = let z = bit_at_above 14 4 (suc (suc (suc (suc p)))) (omega arith) (omega arith) in cc
-
--- the first node kept its record, and its reply was lost
-abbrev with_loss : List Event
-with_loss = e.Missed one 1 true ∷ kept_at 1 0 ∷ with_begin
-
-abbrev with_three : List Event
-with_three = kept_at 4 3 ∷ kept_at 3 2 ∷ kept_at 2 1 ∷ with_loss
 
 keeps : (p : ℕ) → HasBit 14 p → (n : ℕ) × IsPlace (facts with_three) 1 p n × HasKept (of_actor one with_three) one n block 1 p
 keeps p b = elim (bits p b) [
@@ -67,6 +60,7 @@ legal_three = (
           legal_begin,
           record {
             room = lit< tt;
+            word = node_1;
             row = record {
               keep = record { up = refl; fenced = lit< tt; writing = record { writer = is_writer (facts with_begin) refl; place = (places, refl, refl) } };
               above = tt;
@@ -74,10 +68,11 @@ legal_three = (
             };
           },
         ),
-        record { room = lit< tt; row = refl },
+        record { room = lit< tt; word = tt; row = refl },
       ),
       record {
         room = lit< tt;
+        word = node_2;
         row = record {
           keep = record { up = refl; fenced = lit< tt; writing = record { writer = is_writer (facts with_loss) refl; place = (places, refl, refl) } };
           above = tt;
@@ -87,6 +82,7 @@ legal_three = (
     ),
     record {
       room = lit< tt;
+      word = node_3;
       row = record {
         keep = record { up = refl; fenced = lit< tt; writing = record { writer = is_writer (facts (kept_at 2 1 ∷ with_loss)) refl; place = (places, refl, refl) } };
         above = tt;
@@ -96,6 +92,7 @@ legal_three = (
   ),
   record {
     room = lit< tt;
+    word = node_4;
     row = record {
       keep = record { up = refl; fenced = lit< tt; writing = record { writer = is_writer (facts (kept_at 3 2 ∷ kept_at 2 1 ∷ with_loss)) refl; place = (places, refl, refl) } };
       above = tt;
@@ -110,13 +107,14 @@ legal_lost_reply = (
     legal_three,
     record {
       room = lit< tt;
+      word = tt;
       row = record {
         publishable = record { live = refl; newest = lit≤ tt; publishing = record { writer = is_writer (facts with_three) refl; quorum = quorum; kept = keeps } };
         free = λ p n bit place. none_enrolled n 1;
       };
     },
   ),
-  record { room = lit< tt; row = refl },
+  record { room = lit< tt; word = tt; row = (refl, lost_gave) },
 )
 
 pub legal_short_write : IsLegal plain short_write
@@ -126,18 +124,25 @@ legal_short_write = (
       (
         (
           (
-            (legal_file, record { room = lit< tt; row = refl }),
-            record { room = lit< tt; row = refl },
+            (legal_file, record { room = lit< tt; word = node_1; row = refl }),
+            record { room = lit< tt; word = node_2; row = refl },
           ),
-          record { room = lit< tt; row = record { told = open_reply } },
+          record { room = lit< tt; word = tt; row = record { told = open_reply } },
         ),
-        record { room = lit< tt; row = record { live = refl; block = lit< tt; short = lit≤ tt; next = refl; from = refl } },
+        record { room = lit< tt; word = tt; row = record { live = refl; block = lit< tt; short = lit≤ tt; next = refl; from = refl } },
       ),
-      record { room = lit< tt; row = (refl, refl) },
+      record { room = lit< tt; word = node_1; row = (refl, refl) },
     ),
-    record { room = lit< tt; row = (refl, refl) },
+    record { room = lit< tt; word = node_2; row = (refl, refl) },
   ),
-  record { room = lit< tt; row = record { begun = (1, 0, _, places, refl, refl, refl); many = lit< tt } },
+  record {
+    room = lit< tt;
+    word = tt;
+    row = (
+      record { stamp = 1; base = 0; text = hello; begun = refl; places = places; placed = refl; causes_are = refl; many = lit< tt },
+      short_gave,
+    );
+  },
 )
 
 pub legal_short_read : IsLegal plain short_read
@@ -149,26 +154,35 @@ legal_short_read = (
           (
             (
               (
-                (legal_disk, record { room = lit< tt; row = record { there = λ q. cc; next = refl } }),
-                record { room = lit< tt; row = record { told = open_mended } },
+                (legal_disk, record { room = lit< tt; word = node_2; row = record { there = λ q. cc; next = refl } }),
+                record { room = lit< tt; word = tt; row = record { told = open_mended } },
               ),
-              record { room = lit< tt; row = record { live = refl; block = lit< tt; told = refl } },
+              record { room = lit< tt; word = tt; row = record { live = refl; block = lit< tt; told = refl } },
             ),
-            record { room = lit< tt; row = record { up = refl; place = (places, refl, refl); told = λ there. there } },
+            record { room = lit< tt; word = node_1; row = record { up = refl; place = (places, refl, refl); told = λ there. there } },
           ),
-          record { room = lit< tt; row = (refl, refl) },
+          record { room = lit< tt; word = node_2; row = (refl, refl) },
         ),
-        record { room = lit< tt; row = record { up = refl; place = (places, refl, refl); told = (inl refl, (the_write, record { found = refl; stamp = refl; length = refl; base = refl })) } },
+        record { room = lit< tt; word = node_3; row = record { up = refl; place = (places, refl, refl); told = (inl refl, (the_write, record { found = refl; stamp = refl; length = refl; base = refl })) } },
       ),
-      record { room = lit< tt; row = record { up = refl; place = (places, refl, refl); told = λ there. there } },
+      record { room = lit< tt; word = node_4; row = record { up = refl; place = (places, refl, refl); told = λ there. there } },
     ),
-    record { room = lit< tt; row = record { live = refl; looked = inl (Some hello_published, inr (inr (inr (inr (inl refl))))); told = refl } },
+    record { room = lit< tt; word = tt; row = record { live = refl; looked = inl (Some hello_published, inr (inr (inr (inr (inl refl))))); told = refl } },
   ),
   record {
     room = lit< tt;
-    row = record {
-      looked = (hello_published, refl, record { asked = (places, refl, (refl, (refl, (refl, (refl, tt)))), refl); few = lit< tt }, (Some hello_published, refl, refl));
-    };
+    word = tt;
+    row = (
+      record {
+        published = hello_published;
+        looked = refl;
+        short = record { places = places; placed = refl; asked = (refl, (refl, (refl, (refl, tt)))); told_is = refl; few = lit< tt; ended = (refl, (refl, (refl, (refl, tt)))) };
+        now = Some hello_published;
+        again = refl;
+        same = refl;
+      },
+      short_got,
+    );
   },
 )
 
@@ -183,23 +197,26 @@ legal_unlinked = (
     (
       (
         (
-          (legal_write, record { room = lit< tt; row = record { told = unlink_reply } }),
+          (legal_write, record { room = lit< tt; word = tt; row = record { told = unlink_reply } }),
           record {
             room = lit< tt;
+            word = node_1;
             row = record { up = refl; least = λ at file less. none_less (same_key at block) at less refl; lesser = refl; gone = (call.Unlink path, file 5, inl refl, refl) };
           },
         ),
         record {
           room = lit< tt;
+          word = node_2;
           row = record { up = refl; least = λ at file less. none_less (same_key at block) at less refl; lesser = refl; gone = (call.Unlink path, file 5, inr (inl refl), refl) };
         },
       ),
-      record { room = lit< tt; row = refl },
+      record { room = lit< tt; word = tt; row = refl },
     ),
-    record { room = lit< tt; row = record { up = refl; none = λ at file. refl } },
+    record { room = lit< tt; word = node_4; row = record { up = refl; none = λ at file. refl } },
   ),
   record {
     room = lit< tt;
-    row = inr (1, (refl, (refl, inl (refl, inl (refl, refl, refl)))), refl);
+    word = tt;
+    row = unlinked_row;
   },
 )

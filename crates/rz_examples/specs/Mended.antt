@@ -2,6 +2,8 @@
 use Rattle.std.specs.Prelude.{ℕ, List, ◌∷◌, Some, None}
 use Rattle.rz_events.specs.declared.files.Listed.{Listed}
 use Rattle.rz_events.specs.declared.records.Change.TheVariants as change
+use Rattle.rz_events.specs.declared.ends.RebuildEnd.TheVariants as rebuild
+use Rattle.rz_events.specs.declared.events.Answer.TheVariants as answers
 use Rattle.rz_events.specs.declared.events.Event.{Event}
 use Rattle.rz_events.specs.declared.events.Event.TheVariants as e
 use Rattle.rz_examples.specs.Plain.{mender, block, file}
@@ -39,9 +41,16 @@ none_left = e.Next mender 1 (Some block) None
 abbrev pub with_disk : List Event
 with_disk = replaced ∷ enrolled ∷ probed ∷ lost ∷ with_write
 
--- two other nodes gave the rebuilder their records
+abbrev pub empty_there : Event
+empty_there = e.Fetch mender 1 block 0 1 None
+
+-- the node itself has no record yet, and two others give theirs
 abbrev pub with_sources : List Event
-with_sources = given_at 3 2 ∷ given_at 2 1 ∷ listed ∷ with_disk
+with_sources = given_at 3 2 ∷ given_at 2 1 ∷ empty_there ∷ listed ∷ with_disk
 
 abbrev pub mended : List Event
 mended = none_left ∷ refilled ∷ with_sources
+
+-- the rebuilder says that it refilled one key under fence 2
+abbrev pub finished : List Event
+finished = e.Done mender 1 (answers.Rebuild (rebuild.Rebuilt 2 1)) ∷ mended

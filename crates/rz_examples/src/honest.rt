@@ -6,7 +6,7 @@ ghost use Rattle.rz_core.specs.Legal.{IsLegal};
 ghost use Rattle.rz_safety.specs.Rebuilt.{IsRebuilt};
 ghost use Rattle.rz_examples.specs.Plain.{plain, mender};
 ghost use Rattle.rz_examples.specs.Ordinary.{ordinary};
-ghost use Rattle.rz_examples.specs.Mended.{mended};
+ghost use Rattle.rz_examples.specs.Mended.{finished, mended};
 
 /// A client makes a file, writes its first block and reads it again: fourteen events.
 pub fn ordinary()
@@ -19,4 +19,9 @@ pub fn ordinary()
 pub fn mended()
     ensures legal { IsLegal plain mended }
     ensures rebuilt { IsRebuilt (of_actor mender mended) 1 1 2 1 }
+{}
+
+/// The same to its end: the rebuilder says that it rebuilt the node.
+pub fn finished()
+    ensures { IsLegal plain finished }
 {}

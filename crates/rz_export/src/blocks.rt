@@ -5,7 +5,7 @@ ghost use Rattle.std.specs.FinMap as maps;
 ghost use Rattle.mj_angles.specs.Layout.{block_bytes_of};
 ghost use Rattle.rz_events.specs.declared.export.Call.{Call};
 ghost use Rattle.rz_export_model.specs.Tree.{Tree, file_of};
-ghost use Rattle.rz_export_model.specs.Export.{no_begin, no_publish, export_reply, export_after, after_begin, after_publish, base_of, is_proper, is_node, is_ready, new_fence, spent};
+ghost use Rattle.rz_export_model.specs.Export.{no_begin, no_publish, export_reply, export_after, after_begin, after_publish, published_stamp, is_proper, is_node, is_ready, new_fence, spent};
 ghost use Rattle.rz_export.specs.Kept.{with_fence};
 
 use crate::export::Export;
@@ -15,11 +15,13 @@ use rz_events::{Denial, FileInfo, Key, Published, Reply};
 use std::alloc::AllocError;
 
 impl Export {
-    /// Begins a write of a block: a new stamp, and the stamp that is published.
+    /// Begins a write of a block: a new stamp, and the stamp that is published. Memory is taken only
+    /// where the begin is not denied.
     pub fn begin(&mut self, key: Key) -> Result<Reply, AllocError>
         ensures reply { IfOk result (λ r. r ≡ export_reply self.old (Call.Begin key [])) }
         ensures ok { OnOk result (self.new ≡ export_after self.old (Call.Begin key [])) }
         ensures err { OnErr result (self.new ≡ self.old) }
+        ensures undenied { OnErr result (no_begin self.old key ≡ None) }
     {
         let Some(info) = self.file(key.fid) else {
             return Ok(Reply::Denied(Denial::UnknownFile));
@@ -80,7 +82,7 @@ impl Export {
 
     // The stamp that is published, or 0.
     fn base(&self, key: Key) -> u64
-        ensures { result ≡ base_of self.now.blocks key }
+        ensures { result ≡ published_stamp self.now.blocks key }
     {
         match self.published_of(key) {
             None => 0,

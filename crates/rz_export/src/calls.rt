@@ -14,7 +14,8 @@ use std::alloc::AllocError;
 
 impl Export {
     /// Answers a call that the export takes: the reply of the model, with the model's next state, or
-    /// that memory is wanting, and then nothing changes. Only calls on names and begins take memory.
+    /// that memory is wanting, and then nothing changes. Only calls on names and begins take memory, a
+    /// begin only where it is not denied.
     pub fn answer(&mut self, call: &Call) -> Reply
         requires { IsTrue (is_proper self.old call.now) }
         ensures { IsAnswered self.old call.now result self.new }

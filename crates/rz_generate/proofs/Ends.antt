@@ -1,7 +1,7 @@
 -- The last lines of the workload.
 use Rattle.std.proofs.Common.{◌≡◌, [], ◌∷◌, refl, lit≤}
 use Rattle.rz_events.specs.declared.keys.Actor.TheVariants.{Rebuilder}
-use Rattle.rz_script.specs.declared.line.Operation.TheVariants.{Rebuild}
+use Rattle.rz_events.specs.declared.operations.Operation.TheVariants.{Rebuild}
 use Rattle.rz_script.specs.declared.line.Line.TheVariants.{Op, Rounds, Rest, Lose}
 use Rattle.rz_script.specs.Lines.{IsLine}
 use Rattle.rz_script.specs.Scripts.{Script, with_line}

@@ -5,7 +5,7 @@ use Rattle.std.proofs.lemmas.List.{length_push, map-id}
 use Rattle.std.proofs.lemmas.List.Concat.{flat_map-append}
 use Rattle.std.proofs.lemmas.List.FromFn.{map-range_with_len_more}
 use Rattle.rand_pcg.specs.Lcg.{Lcg}
-use Rattle.rz_script.specs.declared.line.Datum.TheVariants.{Made}
+use Rattle.rz_events.specs.declared.operations.Datum.TheVariants.{Made}
 use Rattle.rz_script.specs.declared.line.Line.{Line}
 use Rattle.rz_script.specs.Scripts.{Script, with_line}
 use Rattle.rz_generate.specs.Draws.{draw, drawn_from, after}

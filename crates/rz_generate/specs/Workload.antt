@@ -8,9 +8,9 @@ use Rattle.rz_events.specs.declared.files.NodeSpec.{NodeSpec}
 use Rattle.rz_events.specs.declared.keys.Actor.TheVariants.{Client, Rebuilder}
 use Rattle.rz_events.specs.declared.tree.TreeCall.TheVariants as tree
 use Rattle.rz_events.specs.Volume.{Volume, Cluster}
-use Rattle.rz_script.specs.declared.line.Datum.{Datum}
-use Rattle.rz_script.specs.declared.line.Datum.TheVariants.{Made}
-use Rattle.rz_script.specs.declared.line.Operation.TheVariants.{Tree, Put, Get, Rebuild}
+use Rattle.rz_events.specs.declared.operations.Datum.{Datum}
+use Rattle.rz_events.specs.declared.operations.Datum.TheVariants.{Made}
+use Rattle.rz_events.specs.declared.operations.Operation.TheVariants.{Tree, Put, Get, Rebuild}
 use Rattle.rz_script.specs.declared.line.Line.{Line}
 use Rattle.rz_script.specs.declared.line.Line.TheVariants.{Op, Rounds, Rest, Lose}
 use Rattle.rz_script.specs.Scripts.{Script}

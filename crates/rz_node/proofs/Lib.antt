@@ -1,3 +1,4 @@
+pub mod AfterChange
 pub mod Changes
 pub mod Clears
 pub mod Drops

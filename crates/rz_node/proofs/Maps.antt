@@ -20,7 +20,7 @@ Single cells = (c d : ℕ) (r s : Rec) → c ≢ d → in_cell cells c ≡ Some 
 same-key : (a b : Key) → a.fid ≡ b.fid → a.block ≡ b.block → a ≡ b
 same-key a b f g = λ i. record { fid = f i; block = g i }
 
-names-it : (r : Rec) (key : Key) (stamp : ℕ) → names (Some r.head) key stamp ≡ true → (r.head.key ≡ key) × (r.head.stamp ≡ stamp)
+pub names-it : (r : Rec) (key : Key) (stamp : ℕ) → names (Some r.head) key stamp ≡ true → (r.head.key ≡ key) × (r.head.stamp ≡ stamp)
 names-it r key stamp is =
     let p = and_parts ((r.head.key.fid == key.fid) && (r.head.key.block == key.block)) (r.head.stamp == stamp) is in
     let q = and_parts (r.head.key.fid == key.fid) (r.head.key.block == key.block) p.0 in

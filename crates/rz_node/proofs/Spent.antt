@@ -20,7 +20,7 @@ passed-one {T} {E} x old new p = record {
     planned_only = λ rose. (0, p.planned_only rose, omega arith);
     unarmed = λ none. p.fuse ∙ ap spent none;
     enough = λ n armed ok. (not-blown n (λ zero-is. false-true (p.blown (armed ∙ ap (λ (m : ℕ). Some m) zero-is))), p.fuse ∙ ap spent armed);
-    left = λ n armed. (n - 1, p.fuse ∙ ap spent armed, omega arith);
+    left = λ n armed. (n - 1, p.fuse ∙ ap spent armed, omega arith, omega arith);
   };
   lasts = record { planned = p.planned; own = p.own };
 }
@@ -31,7 +31,7 @@ failed-one {T} {E} e old new p = record {
     planned_only = λ rose. (0, p.planned_only rose, omega arith);
     unarmed = λ none. p.fuse ∙ ap spent none;
     enough = λ n armed ok. absurd (cc);
-    left = λ n armed. (n - 1, p.fuse ∙ ap spent armed, omega arith);
+    left = λ n armed. (n - 1, p.fuse ∙ ap spent armed, omega arith, omega arith);
   };
   lasts = record { planned = p.planned; own = p.own };
   risen = p.risen refl;

@@ -25,6 +25,7 @@ use Rattle.rz_index.specs.declared.index.Entry.{Entry}
 use Rattle.rz_cells.specs.Held.{Records}
 use Rattle.rz_cells.specs.Stands.{StandsFor}
 use Rattle.rz_node.specs.Around.{Around}
+use Rattle.rz_node.specs.Change.{IsBranch}
 use Rattle.rz_node.specs.Kept.{held_by}
 use Rattle.rz_node.specs.Seen.{NodeView, held_in, state_of}
 use Rattle.rz_cells.specs.Opening.{opening_calls}
@@ -52,6 +53,9 @@ opened-along {D} meter v w new same p = subst (λ (x : NodeView D). Passed (open
 
 pub stopped-along : {D : Type 0} (meter : D → Meter) (v w : NodeView D) (cause : OpenFault) (new : Meter) → v ≡ w → Stopped (opening_calls v.geometry) cause (meter v.disk) new → Stopped (opening_calls w.geometry) cause (meter w.disk) new
 stopped-along {D} meter v w cause new same p = subst (λ (x : NodeView D). Stopped (opening_calls x.geometry) cause (meter x.disk) new) same p
+
+pub branch-along : {D : Type 0} (v w : NodeView D) (text : List ℕ) (took : Bool) → v ≡ w → IsBranch v.geometry v.state.fence text v.state.undecided v.state.held took → IsBranch w.geometry w.state.fence text w.state.undecided w.state.held took
+branch-along {D} v w text took same p = subst (λ (x : NodeView D). IsBranch x.geometry x.state.fence text x.state.undecided x.state.held took) same p
 
 pub stands-along : {D : Type 0} (text : D → List ℕ) (v w : NodeView D) (records : Records) → v ≡ w → StandsFor w.geometry w.state.fence (text w.disk) records → StandsFor v.geometry v.state.fence (text v.disk) records
 stands-along {D} text v w records same p = subst (λ (x : NodeView D). StandsFor x.geometry x.state.fence (text x.disk) records) (sym same) p

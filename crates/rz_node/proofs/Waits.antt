@@ -151,7 +151,7 @@ module _ (heads : List (Option Head)) (cell : ℕ) (long : cell < length heads) 
 
 -- ---- a change can be told
 
-own-held : (held : Records) (key : Key) (rs : List Held) → held_of (with_held held key rs) key ≡ rs
+pub own-held : (held : Records) (key : Key) (rs : List Held) → held_of (with_held held key rs) key ≡ rs
 own-held held key [] = ap listed (gone-own held key)
 own-held held key (r ∷ rs) = ap listed (get-own held key (r ∷ rs))
 

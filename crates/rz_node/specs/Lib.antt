@@ -1,4 +1,5 @@
 pub mod Around
+pub mod Change
 pub mod Gives
 pub mod Kept
 pub mod Opens

@@ -13,6 +13,11 @@ abbrev pub IfStarted : StartAnswer → Type 0 → Type 0
 IfStarted (start.Started took) P = P
 IfStarted _ P = Unit {0}
 
+-- of whether the start took a change
+abbrev pub IfTook : StartAnswer → (Bool → Type 0) → Type 0
+IfTook (start.Started took) P = P took
+IfTook _ P = Unit {0}
+
 abbrev pub UnlessStarted : StartAnswer → Type 0 → Type 0
 UnlessStarted (start.Started took) P = Unit {0}
 UnlessStarted _ P = P

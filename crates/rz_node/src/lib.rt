@@ -10,12 +10,14 @@
 //! Bins are read from the disk each time. Memory is taken where a node is made, started or replaced, and by
 //! no other call.
 //!
-//! In reading order: `node`, `fetching`, `keeping`, `dropping`, `rows`, `opening`, `replacing`.
+//! In reading order: `node`, `fetching`, `keeping`, `dropping`, `rows`, `opening`, `replacing`,
+//! `laws`.
 #![tactic(auto)]
 
 mod dropping;
 mod fetching;
 mod keeping;
+mod laws;
 mod node;
 mod opening;
 mod replacing;
@@ -23,9 +25,10 @@ mod rows;
 #[cfg(test)]
 mod tests;
 
+pub use laws::change;
 pub use node::Node;
 pub use rz_cells::{FormatFault, Geometry};
 pub use rz_events::{
-    DropAnswer, FetchAnswer, Head, Held, KeepAnswer, Key, OpenFault, RefillAnswer, ReplaceAnswer,
-    StartAnswer,
+    DropAnswer, FetchAnswer, Head, Held, KeepAnswer, Key, OpenFault, Phase, RefillAnswer,
+    ReplaceAnswer, StartAnswer,
 };

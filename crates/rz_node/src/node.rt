@@ -83,6 +83,13 @@ impl<D: Disk> Node<D> {
         }
     }
 
+    /// Whether it is up, down or lost.
+    pub fn phase(&self) -> Phase
+        ensures { result ≡ self.now.state.phase }
+    {
+        self.phase
+    }
+
     /// How many disks it lost, where it is lost.
     pub fn probe(&self) -> Option<u64>
         ensures { IsNodeAnswer self.now.geometry.cells self.now.state NodeAsk.Probe (NodeAnswer.Probe result) }
@@ -131,6 +138,7 @@ impl<D: Disk> Node<D> {
         requires down { self.old.state.phase ≡ Phase.Down }
         ensures state { self.new.state ≡ self.old.state }
         ensures geometry { self.new.geometry ≡ self.old.geometry }
+        ensures by_pick { D.picks self.old.disk pick (D.text self.new.disk) }
         ensures left { IsTrue D.tells → D.image self.old.disk (D.text self.new.disk) }
         ensures only { Only (D.text self.new.disk) (D.image self.new.disk) }
         ensures meter { D.meter self.new.disk ≡ D.meter self.old.disk }

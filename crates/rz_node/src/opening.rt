@@ -1,10 +1,10 @@
 //! Opening a disk: for a new node, or again for one that is down.
-ghost use Rattle.std.specs.Prelude.{◌≡◌, ◌⊎◌, ℕ, List, Option, IsTrue, IfOk, IfErr, MatchResult};
+ghost use Rattle.std.specs.Prelude.{◌≡◌, ◌⊎◌, ℕ, List, length, Option, IsTrue, IfOk, IfErr, MatchResult};
 ghost use Rattle.rz_disk.specs.Images.{Only, Within};
 ghost use Rattle.rz_disk.specs.Meter.{Took, Lasts, Rises, HasPasses, faults};
 ghost use Rattle.rz_cells.specs.Held.{Records};
-ghost use Rattle.rz_cells.specs.Opening.{Refuses, opening_calls};
-ghost use Rattle.rz_cells.specs.Shape.{IsGeometry};
+ghost use Rattle.rz_cells.specs.Opening.{NotSize, Refuses, opening_calls};
+ghost use Rattle.rz_cells.specs.Shape.{IsGeometry, disk_bytes};
 ghost use Rattle.rz_cells.specs.Stands.{StandsFor};
 ghost use Rattle.rz_node_model.specs.Afterwards.{after_answer};
 ghost use Rattle.rz_node_model.specs.Answers.{IsNodeAnswer};
@@ -12,8 +12,9 @@ ghost use Rattle.rz_node_model.specs.Records.{held_of, stamp_of};
 ghost use Rattle.rz_node_model.specs.States.{opened};
 ghost use Rattle.rz_node_model.specs.Versions.{has_stamp};
 ghost use Rattle.rz_events.specs.declared.records.Head.{Head};
+ghost use Rattle.rz_node.specs.Change.{IsBranch};
 ghost use Rattle.rz_node.specs.Kept.{IsTied, held_by};
-ghost use Rattle.rz_node.specs.Opens.{IfStarted, UnlessStarted, IfUnopened, TookIs, Opens};
+ghost use Rattle.rz_node.specs.Opens.{IfStarted, IfTook, UnlessStarted, IfUnopened, TookIs, Opens};
 ghost use Rattle.rz_node.specs.Shows.{Shows};
 ghost use Rattle.rz_node.specs.Waiting.{has_taken};
 
@@ -47,7 +48,10 @@ impl<D: Disk> Node<D> {
 
         // Each fault is the first that the text has.
         ensures refused { IfErr result (λ e. IsTrue D.tells → Refuses geometry (D.text disk) e.1) }
+
+        // A wrong size is refused as such also of a disk that does not tell what it holds.
         ensures size { IfErr result (λ e. (have need : ℕ) → e.1 ≡ OpenFault.WrongSize have need → Refuses geometry (D.text disk) (OpenFault.WrongSize have need)) }
+        ensures fits { IfErr result (λ e. NotSize e.1 → length (D.text disk) ≡ disk_bytes geometry) }
 
         // A text that stands for records is refused by want of memory or a failed device call alone.
         ensures exact { IfErr result (λ e. IsTrue D.tells → (fence : ℕ) (held : Records) → StandsFor geometry fence (D.text disk) held → (e.1 ≡ OpenFault.NoMemory) ⊎ (e.1 ≡ OpenFault.DiskFault)) }
@@ -99,8 +103,12 @@ impl<D: Disk> Node<D> {
         // A disk that tells is refused by a failed device call alone.
         ensures exact { IfUnopened result (λ cause. IsTrue D.tells → cause ≡ OpenFault.DiskFault) }
 
-        // A wrong size is true also of a disk that does not tell what it holds.
+        // A wrong size is refused as such also of a disk that does not tell what it holds.
         ensures size { IfUnopened result (λ cause. (have need : ℕ) → cause ≡ OpenFault.WrongSize have need → Refuses self.old.geometry (D.text self.old.disk) (OpenFault.WrongSize have need)) }
+        ensures fits { IfUnopened result (λ cause. NotSize cause → length (D.text self.old.disk) ≡ disk_bytes self.old.geometry) }
+
+        // The answer tells which records the text stands for where a change was left undecided.
+        ensures branch { IfTook result (λ took. IsTrue D.tells → IsBranch self.old.geometry self.old.state.fence (D.text self.new.disk) self.old.state.undecided self.old.state.held took) }
 
         // What is held is what the text stands for.
         ensures stands { IfStarted result (IsTrue D.tells → (records : Records) × StandsFor self.new.geometry self.new.state.fence (D.text self.new.disk) records) }

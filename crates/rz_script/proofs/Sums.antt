@@ -8,10 +8,10 @@ use Rattle.mj_angles.specs.declared.layout.Layout.{Layout}
 use Rattle.mj_angles.specs.declared.layout.Layout.TheVariants.{L0, L1, L2, L0B1, L0B2, L0B3, L1B1, L1B2, L1B3, L2B1, L2B2, L2B3}
 use Rattle.rz_events.specs.declared.keys.Actor.TheVariants.{Client, Rebuilder, Admin}
 use Rattle.rz_events.specs.Volume.{Volume}
-use Rattle.rz_script.specs.declared.line.Datum.{Datum}
-use Rattle.rz_script.specs.declared.line.Datum.TheVariants.{Bytes, Made}
-use Rattle.rz_script.specs.declared.line.Operation.{Operation}
-use Rattle.rz_script.specs.declared.line.Operation.TheVariants.{Tree, Put, Get, Write, Read, Rebuild, Update, View}
+use Rattle.rz_events.specs.declared.operations.Datum.{Datum}
+use Rattle.rz_events.specs.declared.operations.Datum.TheVariants.{Bytes, Made}
+use Rattle.rz_events.specs.declared.operations.Operation.{Operation}
+use Rattle.rz_events.specs.declared.operations.Operation.TheVariants.{Tree, Put, Get, Write, Read, Rebuild, Update, View}
 use Rattle.rz_script.specs.declared.line.Line.{Line}
 use Rattle.rz_script.specs.declared.line.Line.TheVariants.{Op, Turn, Rounds, Rest, Stop, Start, Lose, Break, Miss}
 use Rattle.rz_script.specs.Lines.{IsLine, AreLines, IsOfClient, IsOfRebuilder, IsDatum, datum_length}

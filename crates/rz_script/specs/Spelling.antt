@@ -11,10 +11,10 @@ use Rattle.rz_events.specs.declared.tree.TreeCall.{TreeCall}
 use Rattle.rz_events.specs.declared.tree.TreeCall.TheVariants as tree
 use Rattle.rz_events.specs.declared.files.NodeSpec.{NodeSpec}
 use Rattle.rz_events.specs.Volume.{Volume, Cluster}
-use Rattle.rz_script.specs.declared.line.Datum.{Datum}
-use Rattle.rz_script.specs.declared.line.Datum.TheVariants.{Bytes, Made}
-use Rattle.rz_script.specs.declared.line.Operation.{Operation}
-use Rattle.rz_script.specs.declared.line.Operation.TheVariants.{Tree, Put, Get, Write, Read, Rebuild, Update, View}
+use Rattle.rz_events.specs.declared.operations.Datum.{Datum}
+use Rattle.rz_events.specs.declared.operations.Datum.TheVariants.{Bytes, Made}
+use Rattle.rz_events.specs.declared.operations.Operation.{Operation}
+use Rattle.rz_events.specs.declared.operations.Operation.TheVariants.{Tree, Put, Get, Write, Read, Rebuild, Update, View}
 use Rattle.rz_script.specs.declared.line.Line.{Line}
 use Rattle.rz_script.specs.declared.line.Line.TheVariants.{Op, Turn, Rounds, Rest, Stop, Start, Lose, Break, Miss}
 use Rattle.rz_script.specs.Grammar.{Word}

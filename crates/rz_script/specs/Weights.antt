@@ -2,8 +2,8 @@
 use Rattle.std.specs.Prelude.{ℕ, ◌+◌, ◌*◌, ◌/◌, sum_by}
 use Rattle.mj_angles.specs.declared.layout.Layout.{Layout}
 use Rattle.mj_angles.specs.Layout.{block_bytes_of}
-use Rattle.rz_script.specs.declared.line.Operation.{Operation}
-use Rattle.rz_script.specs.declared.line.Operation.TheVariants.{Put, Get, Write, Read, Update, View}
+use Rattle.rz_events.specs.declared.operations.Operation.{Operation}
+use Rattle.rz_events.specs.declared.operations.Operation.TheVariants.{Put, Get, Write, Read, Update, View}
 use Rattle.rz_script.specs.declared.line.Line.{Line}
 use Rattle.rz_script.specs.declared.line.Line.TheVariants.{Op}
 use Rattle.rz_script.specs.Lines.{datum_length}

@@ -1,7 +1,7 @@
 use Rattle.std.proofs.Common.{◌≡◌, ap, ◌∙◌}
 use Rattle.std.proofs.lemmas.Result.{IfOk-equal}
 use Rattle.rz_events.specs.declared.keys.Actor.TheVariants.{Rebuilder}
-use Rattle.rz_script.specs.declared.line.Operation.TheVariants.{Rebuild}
+use Rattle.rz_events.specs.declared.operations.Operation.TheVariants.{Rebuild}
 use Rattle.rz_script.specs.declared.line.Line.TheVariants.{Op, Rest, Lose}
 use Rattle.rz_script.specs.Scripts.{Script, with_line}
 use Rattle.rz_generate.specs.Workload.{volume, ends, with_lines}

@@ -1,7 +1,7 @@
 use Rattle.std.proofs.Common.{ℕ, ◌≡◌, ◌+◌, ◌%◌, List, [], ◌∷◌, ◌++◌, length, map, sym, ap, ◌∙◌, arith}
 use Rattle.std.specs.List.{range_with_len}
 use Rattle.std.proofs.lemmas.List.FromFn.{map-range_with_len_more}
-use Rattle.rz_script.specs.declared.line.Datum.TheVariants.{Made}
+use Rattle.rz_events.specs.declared.operations.Datum.TheVariants.{Made}
 use Rattle.rz_script.specs.declared.line.Line.{Line}
 use Rattle.rz_script.specs.Scripts.{Script}
 use Rattle.rz_generate.specs.Draws.{draw, drawn_from}

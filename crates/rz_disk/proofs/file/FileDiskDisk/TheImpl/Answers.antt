@@ -59,6 +59,7 @@ sync-tells g x c = record {
 
 pub crash-tells : goal.crash-tells
 crash-tells g x c = record {
+  by_pick = ap (λ (d : OverFile). replicate d.size 0) c.ensures;
   left = λ told. cc;
   only = λ _ none. absurd none;
   meter = ap file_meter c.ensures;

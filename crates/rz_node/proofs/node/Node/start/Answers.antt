@@ -1,6 +1,7 @@
 -- The disk has what was held, or that with the undecided change.
 use Rattle.std.proofs.Common.{◌≡◌, ⊎_elim, ℕ, List, Err, refl, sym, ◌∙◌, ap, subst}
 use Rattle.rz_events.specs.declared.nodes.OpenFault.TheVariants as fault
+use Rattle.rz_events.specs.declared.nodes.Phase.{Phase}
 use Rattle.rz_events.specs.declared.nodes.StartAnswer.TheVariants as start
 use Rattle.std.specs.Prelude.{IsSome}
 use Rattle.rz_node_model.specs.Afterwards.{after_start}
@@ -10,13 +11,15 @@ use Rattle.rz_cells.specs.Opening.{opening_calls}
 use Rattle.rz_cells.specs.declared.geometry.Geometry.{Geometry}
 use Rattle.rz_cells.specs.Open.{Finds}
 use Rattle.rz_cells.specs.Stands.{StandsFor}
+use Rattle.rz_node.specs.Change.{IsBranch}
 use Rattle.rz_node.specs.Kept.{held_by, IsTied}
-use Rattle.rz_node.specs.Seen.{state_of}
+use Rattle.rz_node.specs.Seen.{held_in, state_of}
 use Rattle.rz_node.specs.Waiting.{has_taken}
+use Rattle.rz_node.proofs.AfterChange.{branch}
 use Rattle.rz_node.proofs.Shows.{shows-found}
 use Rattle.rz_node.proofs.Spent.{took-as}
 use Rattle.rz_node.proofs.Starts.{ready-down, down-ready, started, down-stands, some-taken}
-use Rattle.rz_node.proofs.Views.{state-same, opened-along, stopped-along}
+use Rattle.rz_node.proofs.Views.{state-same, branch-along, opened-along, stopped-along}
 use Rattle.rz_node.proofs.Waits.{tied-moved, down-moved}
 use Rattle.rz_node.proofs.node.Node.start.Goals as goal
 
@@ -36,6 +39,21 @@ returns-in-Ok-open_again-clause-shows g c told records stands =
     let n = c.open_again.new.self in
     shows-found n.geometry n.fence n.fence (g.D.Disk.text n.disk) n.heads.items c.index_of.result records c.index_of.ensures
     (subst (λ (t : List ℕ). Finds n.geometry t n.fence n.heads.items) (sym c.open_again.ensures.text) (subst (λ (y : Geometry). Finds y (g.D.Disk.text s.cells.disk) n.fence n.heads.items) (sym c.open_again.ensures.geometry) (c.in-Ok-open_again.ensures.found told))) stands
+
+pub returns-in-Ok-open_again-clause-branch : goal.returns-in-Ok-open_again-clause-branch
+returns-in-Ok-open_again-clause-branch g c told =
+    let s = c.self.inside in
+    let n = c.open_again.new.self in
+    let same = state-same _ _ c.self.view_is in
+    let down = ready-down s.phase _ _ c.in-Down.is c.self.invariant.ready in
+    let tied = subst (λ (y : Geometry). IsTied y.cells n.heads.items c.index_of.result) c.open_again.ensures.geometry c.index_of.ensures in
+    let at : IsBranch s.cells.geometry s.cells.fence (g.D.Disk.text n.disk) s.undecided (held_by s.index.entries s.cells.heads.items) c.has_taken-took.result =
+    branch s.cells.geometry s.cells.fence (g.D.Disk.text n.disk) s.undecided (held_by s.index.entries s.cells.heads.items) (held_by c.index_of.result.entries n.heads.items) c.has_taken-took.result down.told
+    (c.has_taken-took.ensures n.geometry.cells n.heads.items c.index_of.ensures)
+    (λ records stands. shows-found s.cells.geometry n.fence s.cells.fence (g.D.Disk.text n.disk) n.heads.items c.index_of.result records tied
+    (subst (λ (t : List ℕ). Finds s.cells.geometry t n.fence n.heads.items) (sym c.open_again.ensures.text) (c.in-Ok-open_again.ensures.found told)) stands) in
+    branch-along _ _ (g.D.Disk.text n.disk) c.has_taken-took.result c.self.view_is
+    (subst (λ (p : Phase). IsBranch s.cells.geometry s.cells.fence (g.D.Disk.text n.disk) s.undecided (held_in p s.index.entries s.cells.heads.items) c.has_taken-took.result) (sym c.in-Down.is) at)
 
 pub returns-in-Ok-open_again-clause-answer : goal.returns-in-Ok-open_again-clause-answer
 returns-in-Ok-open_again-clause-answer g c =

@@ -1,0 +1,4 @@
+pub mod Meaning
+pub mod Machine
+pub mod Answers
+pub mod Inside

@@ -1,0 +1,59 @@
+//! What an operation asks next.
+
+use rz_events::{Answer, Key, LeftWhy, NodeAsk, Published, ReadMark, TreeCall, WriteEnd};
+
+/// What an operation asks next. It borrows what it names.
+#[derive(Clone, Copy, Drop)]
+pub enum Ask<'a> {
+    /// A call of the export.
+    Export(ExportAsk<'a>),
+    /// The file is opened by this call, and so many bytes from `from` on are locked, for this operation
+    /// alone or shared.
+    Lock {
+        call: &'a TreeCall,
+        exclusive: bool,
+        from: u64,
+        count: u64,
+    },
+    /// A call of a node. The bins of a keep or a refill are the machine's.
+    Node {
+        node: u16,
+        ask: NodeAsk,
+    },
+    /// An event of the actor's own word.
+    Say(Saying<'a>),
+    /// Nothing is left to do.
+    Rest,
+}
+
+/// A call of the export.
+#[derive(Clone, Copy, Drop)]
+pub enum ExportAsk<'a> {
+    Tree(&'a TreeCall),
+    Begin { key: Key, text: &'a [u8] },
+    Publish { key: Key, published: Published },
+    Look { key: Key },
+    Recheck { key: Key },
+    Enroll { node: u16, loss: u64 },
+    Next { node: u16, after: Option<Key> },
+}
+
+/// An event of the actor's own word. A block of a range is a part of its operation.
+#[derive(Clone, Copy, Drop)]
+pub enum Saying<'a> {
+    Got {
+        key: Key,
+        part: bool,
+        mark: ReadMark,
+    },
+    Gave {
+        key: Key,
+        part: bool,
+        end: WriteEnd,
+    },
+    Left {
+        key: Key,
+        why: LeftWhy,
+    },
+    Done(&'a Answer),
+}

@@ -1,0 +1,194 @@
+//! How an operation begins, and how it goes on once its file is open.
+
+ghost use Rattle.std.specs.Prelude.{◌≡◌, ◌≤◌, length, IsSome, IfOk};
+ghost use Rattle.mj_angles.specs.Layout.{safe_of, block_bytes_of};
+ghost use Rattle.rz_operation_model.specs.Ranges.{bytes_of};
+ghost use Rattle.rz_operation_model.specs.Steps.{begun, planned, after_open, after_call};
+ghost use Rattle.rz_operation.specs.Answers.{HasPlaces, IsOperation};
+ghost use Rattle.rz_operation.specs.Inside.{IsStage, IsPlan, IsFresh, IsQuiet, work_of, plan_of};
+
+use crate::drops::dropping;
+use crate::stage::{Plan, Stage};
+use mj_angles::Layout;
+use rz_events::{Answer, Datum, FileInfo, Operation, Places, Text, TreeCall, TreeReply};
+use rz_reader::Reader;
+use rz_writer::Writer;
+use std::alloc::{AllocError, Global};
+
+/// A file that has a node for each position, for machines that wait for theirs.
+fn blank(layout: Layout) -> FileInfo
+    ensures { length result.places ≡ safe_of layout }
+{
+    let mut places = Places::none();
+    for i in 0..layout.safe() {
+        places.push(i as u16);
+    }
+    FileInfo {
+        fid: 0,
+        cid: 0,
+        places,
+        size: 0,
+    }
+}
+
+/// How an operation begins.
+pub fn begun(alloc: Global, layout: Layout, op: Operation) -> Result<Stage, AllocError>
+    requires { IsOperation layout op }
+    ensures work { IfOk result (λ s. work_of s ≡ begun op) }
+    ensures inside { IfOk result (λ s. IsStage layout s) }
+{
+    match op {
+        Operation::Tree(call) => Ok(Stage::Calling(call)),
+        Operation::Put { path, block, datum } => put(alloc, layout, path, block, datum),
+        Operation::Get { path, block } => get(alloc, layout, path, block),
+        Operation::Write { .. } => unreachable!(),
+        Operation::Read { .. } => unreachable!(),
+        Operation::Rebuild { .. } => unreachable!(),
+        Operation::Update { .. } => unreachable!(),
+        Operation::View { .. } => unreachable!(),
+    }
+}
+
+/// The write of a block begins.
+fn put(
+    alloc: Global,
+    layout: Layout,
+    path: Text,
+    block: u64,
+    datum: Datum,
+) -> Result<Stage, AllocError>
+    requires { length (bytes_of datum) ≤ block_bytes_of layout }
+    ensures work { IfOk result (λ s. work_of s ≡ begun (Operation.Put path block datum)) }
+    ensures inside { IfOk result (λ s. IsStage layout s) }
+{
+    let text = text_of(alloc, datum)?;
+    let writer = Writer::start(alloc, layout, &blank(layout), 0, b"")?;
+    Ok(opening(
+        layout,
+        path,
+        Plan::Put {
+            block,
+            writer,
+            text,
+        },
+    ))
+}
+
+/// The read of a block begins.
+fn get(alloc: Global, layout: Layout, path: Text, block: u64) -> Result<Stage, AllocError>
+    ensures work { IfOk result (λ s. work_of s ≡ begun (Operation.Get path block)) }
+    ensures inside { IfOk result (λ s. IsStage layout s) }
+{
+    let reader = Reader::start(alloc, layout, &blank(layout), 0)?;
+    Ok(opening(layout, path, Plan::Get { block, reader }))
+}
+
+/// The file at a path is opened.
+fn opening(layout: Layout, path: Text, plan: Plan) -> Stage
+    requires { IsPlan layout plan }
+    ensures work { result ≡ Stage.Opening (TreeCall.OpenFile path) plan }
+    ensures inside { IsStage layout result }
+{
+    let call = TreeCall::OpenFile { path };
+    Stage::Opening { call, plan }
+}
+
+/// The bytes of a datum.
+fn text_of(alloc: Global, datum: Datum) -> Result<Text, AllocError>
+    ensures { IfOk result (λ text. text ≡ bytes_of datum) }
+{
+    match datum {
+        Datum::Bytes(text) => Ok(text),
+        Datum::Made { length, seed } => made(alloc, length, seed),
+    }
+}
+
+/// So many bytes, of which byte `i` is `(seed + 31 * i) mod 256`.
+fn made(alloc: Global, length: u32, seed: u8) -> Result<Text, AllocError>
+    ensures { IfOk result (λ text. text ≡ bytes_of (Datum.Made length seed)) }
+{
+    let mut bytes = Vec::with_capacity(alloc, length as usize)?;
+    for i in 0..length {
+        bytes.push(((u64::from(seed) + 31 * u64::from(i)) % 256) as u8)?;
+    }
+    Ok(Text::from_vec(bytes))
+}
+
+/// How a call on names goes on.
+pub fn after_call(answer: TreeReply) -> Stage
+    ensures work { work_of result ≡ after_call answer }
+    ensures quiet { IsQuiet result }
+{
+    match answer {
+        TreeReply::Made { fid } => Stage::Ending(Answer::Created { fid }),
+        TreeReply::MadeFile(info) => Stage::Ending(Answer::Created { fid: info.fid }),
+        TreeReply::Found { fid, kind } => Stage::Ending(Answer::Found { kind, fid }),
+        TreeReply::Attr(attr) => Stage::Ending(Answer::Attr(attr)),
+        TreeReply::Plain => Stage::Ending(Answer::Plain),
+        TreeReply::Gone(None) => Stage::Ending(Answer::Plain),
+        TreeReply::Gone(Some(info)) => dropping(info.fid, info.places, 0),
+        TreeReply::Names(names) => Stage::Ending(Answer::Names(names)),
+        TreeReply::Target(target) => Stage::Ending(Answer::Target(target)),
+        TreeReply::File(_) => Stage::Over,
+        TreeReply::Refused(fault) => Stage::Ending(Answer::Refused(fault)),
+    }
+}
+
+/// How an operation goes on after its file was opened, or not.
+pub fn after_open(layout: Layout, plan: Plan, answer: &TreeReply) -> Stage
+    requires plan { IsPlan layout plan }
+    requires places { HasPlaces layout answer.now }
+    ensures work { work_of result ≡ after_open layout (plan_of plan) answer.now }
+    ensures inside { IsStage layout result }
+    ensures fresh { IsFresh result }
+{
+    match answer {
+        TreeReply::File(info) => planned(layout, info, plan),
+        TreeReply::Refused(fault) => Stage::Ending(Answer::Refused(*fault)),
+        _ => Stage::Over,
+    }
+}
+
+/// How an operation goes on with its file open.
+fn planned(layout: Layout, info: &FileInfo, plan: Plan) -> Stage
+    requires plan { IsPlan layout plan }
+    requires places { length info.now.places ≡ safe_of layout }
+    ensures work { work_of result ≡ planned layout info.now (plan_of plan) }
+    ensures inside { IsStage layout result }
+    ensures fresh { IsFresh result }
+{
+    match plan {
+        Plan::Put {
+            block,
+            writer,
+            text,
+        } => write_block(layout, info, block, writer, text),
+        Plan::Get { block, reader } => read_block(layout, info, block, reader),
+    }
+}
+
+/// A block is written.
+fn write_block(layout: Layout, info: &FileInfo, block: u64, mut writer: Writer, text: Text) -> Stage
+    requires layout { writer.state.layout ≡ layout }
+    requires whole { IsSome writer.block }
+    requires short { length text ≤ block_bytes_of layout }
+    requires places { length info.now.places ≡ safe_of layout }
+    ensures work { work_of result ≡ planned layout info.now (plan_of (Plan.Put block writer text)) }
+    ensures inside { IsStage layout result }
+    ensures fresh { IsFresh result }
+{
+    writer.again(info, block, text.bytes());
+    Stage::Writing { writer, text }
+}
+
+/// A block is read.
+fn read_block(layout: Layout, info: &FileInfo, block: u64, mut reader: Reader) -> Stage
+    requires layout { reader.state.layout ≡ layout }
+    requires places { length info.now.places ≡ safe_of layout }
+    ensures work { work_of result ≡ planned layout info.now (plan_of (Plan.Get block reader)) }
+    ensures inside { IsStage layout result }
+    ensures fresh { IsFresh result }
+{
+    reader.again(info, block);
+    Stage::Reading(reader)
+}

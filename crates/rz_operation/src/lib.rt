@@ -1,0 +1,20 @@
+//! An operation of an actor, as a machine that anyone can drive over any transport.
+//!
+//! A `Machine` says what it asks next, is told the answer, and goes on. Its contracts say that it is the
+//! machine of `rz_operation_model`, for every list of answers that belong to what was asked. They say
+//! nothing of which answers a node or the export gives, nor of which event an answer has in the log.
+//! Memory is taken by `start` alone.
+//!
+//! In reading order: `ask`, `stage`, `machine`, `begins`, `replies`, `drops`, `blocks`.
+#![tactic(auto)]
+
+mod ask;
+mod begins;
+mod blocks;
+mod drops;
+mod machine;
+mod replies;
+mod stage;
+
+pub use ask::{Ask, ExportAsk, Saying};
+pub use machine::Machine;

@@ -1,0 +1,138 @@
+//! An operation in hand.
+
+ghost use Rattle.std.specs.Prelude.{◌≡◌, IfOk, length, []};
+ghost use Rattle.rz_operation_model.specs.Ask.{ask_of, Say, SayDone};
+ghost use Rattle.rz_operation_model.specs.Steps.{begun, Replied, Missed, Noted};
+ghost use Rattle.rz_operation.specs.Meaning.{meaning_of};
+ghost use Rattle.rz_operation.specs.Machine.{HasBins, AreBins, HasText, text_of};
+ghost use Rattle.rz_operation.specs.Answers.{IsOperation, IsReply, IsAnswer, ComeWith, MayMiss, IsPartSaid, IsDone, Goes, IsAnswered};
+
+use crate::ask::{Ask, ExportAsk, Saying};
+use crate::begins::begun;
+use crate::blocks::{read_ask, write_ask};
+use crate::drops::drop_ask;
+use crate::replies::{after_answer, after_miss, after_reply, after_said, answer_in};
+use crate::stage::Stage;
+use mj_angles::Layout;
+use rz_events::{Answer, NodeAnswer, Operation, Reply};
+use std::alloc::{AllocError, Global};
+use std::marker::Model;
+use std::mem::replace;
+
+/// An operation in hand.
+///
+/// Contracts see the layout and the work; the angles and bins of the records of the block that is read,
+/// while they are fetched; and the block that fits them, once it is found.
+#[derive(Drop)]
+pub struct Machine {
+    layout: Layout,
+    stage: Stage,
+}
+
+impl Model for Machine {
+    ghost use Rattle.rz_operation.specs.Machine.{Machine as TheMachine};
+
+    ghost Value = { TheMachine };
+
+    ghost use Rattle.rz_operation.specs.Inside.{machine_of, IsStage};
+
+    ghost view = { λ m. machine_of m.layout m.stage };
+
+    ghost invariant = { λ m. IsStage m.layout m.stage };
+}
+
+impl Machine {
+    /// The operation, with all the memory that it needs.
+    pub fn start(alloc: Global, layout: Layout, op: Operation) -> Result<Machine, AllocError>
+        requires { IsOperation layout op }
+        ensures layout { IfOk result (λ m. m.layout ≡ layout) }
+        ensures work { IfOk result (λ m. m.work ≡ begun op) }
+    {
+        let stage = begun(alloc, layout, op)?;
+        Ok(Machine { layout, stage })
+    }
+
+    /// What the operation asks next.
+    pub fn next(&self) -> Ask<'_>
+        ensures { meaning_of result ≡ ask_of self.now.layout self.now.work }
+    {
+        match &self.stage {
+            Stage::Calling(call) => Ask::Export(ExportAsk::Tree(call)),
+            Stage::Dropping { fid, places, done } => drop_ask(*fid, places, *done),
+            Stage::Opening { call, .. } => Ask::Export(ExportAsk::Tree(call)),
+            Stage::Writing { writer, text } => write_ask(false, writer, text.bytes()),
+            Stage::Reading(reader) => read_ask(false, reader),
+            Stage::Ending(answer) => Ask::Say(Saying::Done(answer)),
+            Stage::Over => Ask::Rest,
+        }
+    }
+
+    /// Takes the reply of the export.
+    pub fn tell_reply(&mut self, reply: Reply)
+        requires { IsReply self.old.layout (ask_of self.old.layout self.old.work) reply }
+        ensures { Goes self.old self.old.pairs (Replied reply) self.new }
+    {
+        let stage = replace(&mut self.stage, Stage::Over);
+        self.stage = after_reply(self.layout, stage, reply);
+    }
+
+    /// Takes the answer of a node, and with a record the bins of its position.
+    pub fn tell_answer(&mut self, answer: NodeAnswer, bins: &[u64])
+        requires asked { IsAnswer self.old.layout (ask_of self.old.layout self.old.work) answer }
+        requires bins { ComeWith self.old.layout (ask_of self.old.layout self.old.work) answer bins.now }
+        ensures { IsAnswered self.old answer bins.now self.new }
+    {
+        let stage = replace(&mut self.stage, Stage::Over);
+        self.stage = after_answer(self.layout, stage, answer, bins);
+    }
+
+    /// Takes it that the message to the node, or its answer, was lost.
+    pub fn tell_missed(&mut self)
+        requires { MayMiss (ask_of self.old.layout self.old.work) }
+        ensures { Goes self.old self.old.pairs Missed self.new }
+    {
+        let stage = replace(&mut self.stage, Stage::Over);
+        self.stage = after_miss(self.layout, stage);
+    }
+
+    /// Takes it that the end of a block was said.
+    pub fn tell_said(&mut self)
+        requires { IsPartSaid (ask_of self.old.layout self.old.work) }
+        ensures { Goes self.old self.old.pairs (Noted (text_of self.old)) self.new }
+    {
+        let stage = replace(&mut self.stage, Stage::Over);
+        self.stage = after_said(self.layout, stage);
+    }
+
+    /// Takes it that the answer is said, and gives it out.
+    pub fn finish(&mut self) -> Answer
+        requires { IsDone (ask_of self.old.layout self.old.work) }
+        ensures answer { ask_of self.old.layout self.old.work ≡ Say (SayDone result) }
+        ensures goes { Goes self.old self.old.pairs (Noted []) self.new }
+    {
+        let stage = replace(&mut self.stage, Stage::Over);
+        answer_in(stage)
+    }
+
+    /// The bins of what a node is to keep.
+    pub fn bins(&self) -> &[u64]
+        requires { HasBins (ask_of self.now.layout self.now.work) }
+        ensures { AreBins self.now (ask_of self.now.layout self.now.work) result.now }
+    {
+        match &self.stage {
+            Stage::Writing { writer, .. } => writer.bins(),
+            _ => unreachable!(),
+        }
+    }
+
+    /// Writes the text that was found, whose length `out` has.
+    pub fn text_into(&self, out: &mut [u8])
+        requires { HasText (ask_of self.now.layout self.now.work) (length out.old) }
+        ensures { out.new ≡ text_of self.now }
+    {
+        match &self.stage {
+            Stage::Reading(reader) => reader.text_into(out),
+            _ => unreachable!(),
+        }
+    }
+}

@@ -1,0 +1,157 @@
+//! How an operation goes on after an answer.
+
+ghost use Rattle.std.specs.Prelude.{◌≡◌};
+ghost use Rattle.rz_operation_model.specs.Ask.{ask_of};
+ghost use Rattle.rz_operation_model.specs.Steps.{Replied, Missed, Noted};
+ghost use Rattle.rz_operation.specs.Answers.{IsReply, IsAnswer, ComeWith, MayMiss, IsPartSaid, Goes, IsAnswered, IsDrop, IsKeep, IsTreeReply};
+ghost use Rattle.rz_operation.specs.Machine.{text_of};
+ghost use Rattle.rz_operation.specs.Inside.{IsStage, IsDoneStage, IsAnswerIn, machine_of, work_of};
+
+use crate::begins::{after_call, after_open};
+use crate::blocks::{fetch_answer, tell_fetch, tell_keep, tell_reader, tell_writer};
+use crate::drops::{after_drop, after_lost};
+use crate::stage::Stage;
+use mj_angles::Layout;
+use rz_events::{
+    Answer, DropAnswer, KeepAnswer, NodeAnswer, ReaderAnswer, Reply, TreeReply, WriterAnswer,
+};
+
+/// How the operation goes on after a reply of the export.
+pub fn after_reply(layout: Layout, stage: Stage, reply: Reply) -> Stage
+    requires inside { IsStage layout stage }
+    requires asked { IsReply layout (ask_of layout (work_of stage)) reply }
+    ensures goes { Goes (machine_of layout stage) (machine_of layout stage).pairs (Replied reply) (machine_of layout result) }
+    ensures inside { IsStage layout result }
+{
+    match stage {
+        Stage::Calling(_) => after_call(tree_reply(layout, reply)),
+        Stage::Opening { plan, .. } => after_open(layout, plan, &tree_reply(layout, reply)),
+        Stage::Writing { mut writer, text } => {
+            tell_writer(&mut writer, &reply);
+            Stage::Writing { writer, text }
+        }
+        Stage::Reading(mut reader) => {
+            tell_reader(&mut reader, &reply);
+            Stage::Reading(reader)
+        }
+        Stage::Dropping { .. } => unreachable!(),
+        Stage::Ending(_) => unreachable!(),
+        Stage::Over => unreachable!(),
+    }
+}
+
+/// How the operation goes on after the answer of a node, with the bins that came with it.
+pub fn after_answer(layout: Layout, stage: Stage, answer: NodeAnswer, bins: &[u64]) -> Stage
+    requires inside { IsStage layout stage }
+    requires asked { IsAnswer layout (ask_of layout (work_of stage)) answer }
+    requires bins { ComeWith layout (ask_of layout (work_of stage)) answer bins.now }
+    ensures goes { IsAnswered (machine_of layout stage) answer bins.now (machine_of layout result) }
+    ensures inside { IsStage layout result }
+{
+    match stage {
+        Stage::Writing { mut writer, text } => {
+            tell_keep(&mut writer, keep_answer(answer));
+            Stage::Writing { writer, text }
+        }
+        Stage::Reading(mut reader) => {
+            tell_fetch(&mut reader, fetch_answer(answer), bins);
+            Stage::Reading(reader)
+        }
+        Stage::Dropping { fid, places, done } => after_drop(fid, places, done, drop_answer(answer)),
+        Stage::Calling(_) => unreachable!(),
+        Stage::Opening { .. } => unreachable!(),
+        Stage::Ending(_) => unreachable!(),
+        Stage::Over => unreachable!(),
+    }
+}
+
+/// How the operation goes on after a message to a node, or its answer, was lost.
+pub fn after_miss(layout: Layout, stage: Stage) -> Stage
+    requires inside { IsStage layout stage }
+    requires asked { MayMiss (ask_of layout (work_of stage)) }
+    ensures goes { Goes (machine_of layout stage) (machine_of layout stage).pairs Missed (machine_of layout result) }
+    ensures inside { IsStage layout result }
+{
+    match stage {
+        Stage::Writing { mut writer, text } => {
+            writer.tell(WriterAnswer::Missed);
+            Stage::Writing { writer, text }
+        }
+        Stage::Reading(mut reader) => {
+            reader.tell(ReaderAnswer::Missed, &[]);
+            Stage::Reading(reader)
+        }
+        Stage::Dropping { fid, places, done } => after_lost(fid, places, done),
+        Stage::Calling(_) => unreachable!(),
+        Stage::Opening { .. } => unreachable!(),
+        Stage::Ending(_) => unreachable!(),
+        Stage::Over => unreachable!(),
+    }
+}
+
+/// How the operation goes on after the end of its block was said.
+pub fn after_said(layout: Layout, stage: Stage) -> Stage
+    requires inside { IsStage layout stage }
+    requires asked { IsPartSaid (ask_of layout (work_of stage)) }
+    ensures goes { Goes (machine_of layout stage) (machine_of layout stage).pairs (Noted (text_of (machine_of layout stage))) (machine_of layout result) }
+    ensures inside { IsStage layout result }
+{
+    match stage {
+        Stage::Writing { .. } => Stage::Over,
+        Stage::Reading(_) => Stage::Over,
+        Stage::Dropping { .. } => unreachable!(),
+        Stage::Calling(_) => unreachable!(),
+        Stage::Opening { .. } => unreachable!(),
+        Stage::Ending(_) => unreachable!(),
+        Stage::Over => unreachable!(),
+    }
+}
+
+/// The answer that is said.
+pub fn answer_in(stage: Stage) -> Answer
+    requires { IsDoneStage stage }
+    ensures { IsAnswerIn stage result }
+{
+    match stage {
+        Stage::Ending(answer) => answer,
+        Stage::Dropping { .. } => unreachable!(),
+        Stage::Writing { .. } => unreachable!(),
+        Stage::Reading(_) => unreachable!(),
+        Stage::Calling(_) => unreachable!(),
+        Stage::Opening { .. } => unreachable!(),
+        Stage::Over => unreachable!(),
+    }
+}
+
+/// The answer to a keep.
+fn keep_answer(answer: NodeAnswer) -> KeepAnswer
+    requires { IsKeep answer }
+    ensures { NodeAnswer.Keep result ≡ answer }
+{
+    let NodeAnswer::Keep(answer) = answer else {
+        unreachable!()
+    };
+    answer
+}
+
+/// The answer to a drop.
+fn drop_answer(answer: NodeAnswer) -> DropAnswer
+    requires { IsDrop answer }
+    ensures { NodeAnswer.Drop result ≡ answer }
+{
+    let NodeAnswer::Drop(answer) = answer else {
+        unreachable!()
+    };
+    answer
+}
+
+/// The reply to a call on names.
+fn tree_reply(layout: Layout, reply: Reply) -> TreeReply
+    requires { IsTreeReply layout reply }
+    ensures { Reply.Tree result ≡ reply }
+{
+    let Reply::Tree(answer) = reply else {
+        unreachable!()
+    };
+    answer
+}

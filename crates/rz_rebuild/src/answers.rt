@@ -1,0 +1,144 @@
+//! How a rebuild goes on after an answer, but for the read of its block.
+
+ghost use Rattle.std.specs.Prelude.{◌≡◌, ◌<◌, ◌+◌, ◌^◌, Some, true};
+ghost use Rattle.mj_angles.specs.declared.layout.Layout.{Layout};
+ghost use Rattle.rz_client_model.specs.declared.reading.ReaderState.{ReaderState};
+ghost use Rattle.rz_operation_model.specs.Rebuild.{Probing, Enrolling, Replacing, Refilling, end_of, after_refill, rebuild_told};
+ghost use Rattle.rz_rebuild.specs.Kinds.{IsProbed, IsEnrolled, IsReplaced, IsRefilled};
+ghost use Rattle.rz_rebuild.specs.Inside.{state_of, tally_of, IsStill};
+
+use crate::step::{Copied, Step, Tally};
+use rz_events::{Key, LeftWhy, RebuildAnswer, RebuildEnd, RefillAnswer, ReplaceAnswer};
+
+/// How a rebuild goes on after its probe.
+pub fn after_probe(answer: RebuildAnswer) -> Step
+    requires { IsProbed answer }
+    ensures state { (layout : Layout) (r : ReaderState) → state_of r result ≡ rebuild_told layout true Probing answer }
+    ensures still { IsStill result }
+{
+    match answer {
+        RebuildAnswer::Probed(None) => Step::Ended(RebuildEnd::NotLost),
+        RebuildAnswer::Probed(Some(loss)) => Step::Enrolling { loss },
+        _ => unreachable!(),
+    }
+}
+
+/// How a rebuild goes on after its enrolment.
+pub fn after_enroll(loss: u64, answer: RebuildAnswer) -> Step
+    requires { IsEnrolled answer }
+    ensures state { (layout : Layout) (r : ReaderState) → state_of r result ≡ rebuild_told layout true (Enrolling loss) answer }
+    ensures still { IsStill result }
+{
+    match answer {
+        RebuildAnswer::Enrolled { fence } => Step::Replacing { loss, fence },
+        RebuildAnswer::Denied(cause) => Step::Ended(RebuildEnd::Denied(cause)),
+        _ => unreachable!(),
+    }
+}
+
+/// How a rebuild goes on after its replacement.
+pub fn after_replace(loss: u64, fence: u64, answer: RebuildAnswer) -> Step
+    requires { IsReplaced answer }
+    ensures state { (layout : Layout) (r : ReaderState) → state_of r result ≡ rebuild_told layout true (Replacing loss fence) answer }
+    ensures still { IsStill result }
+{
+    let RebuildAnswer::Replaced(answer) = answer else {
+        unreachable!()
+    };
+    match answer {
+        ReplaceAnswer::Replaced => Step::Listing(Tally {
+            fence,
+            after: None,
+            refilled: 0,
+            left: 0,
+        }),
+        ReplaceAnswer::NotLost => Step::Ended(RebuildEnd::NotLost),
+        ReplaceAnswer::OtherLoss { loss: now } => Step::Ended(RebuildEnd::OtherLoss { loss: now }),
+        ReplaceAnswer::DiskFault => Step::Ended(RebuildEnd::DiskFault),
+        ReplaceAnswer::NoMemory => Step::Replacing { loss, fence },
+    }
+}
+
+/// How a rebuild goes on after the refill of a block.
+pub fn after_refill(copied: &Copied, length: u32, answer: RebuildAnswer) -> Step
+    requires asked { IsRefilled answer }
+    requires room { copied.now.tally.refilled + 1 < 2 ^ 64 }
+    ensures state { (layout : Layout) (r : ReaderState) → state_of r result ≡ rebuild_told layout true (Refilling (tally_of copied.now.tally) copied.now.listed length copied.now.base) answer }
+    ensures still { IsStill result }
+{
+    match answer {
+        RebuildAnswer::Refilled(answer) => after_refilled(copied, answer),
+        RebuildAnswer::Missed => leaving(copied, LeftWhy::Missed),
+        _ => unreachable!(),
+    }
+}
+
+/// How a rebuild goes on after the node's answer to a refill.
+fn after_refilled(copied: &Copied, answer: RefillAnswer) -> Step
+    requires { copied.now.tally.refilled + 1 < 2 ^ 64 }
+    ensures state { (r : ReaderState) → state_of r result ≡ after_refill (tally_of copied.now.tally) copied.now.listed answer }
+    ensures still { IsStill result }
+{
+    match answer {
+        RefillAnswer::Kept => refilled(copied),
+        RefillAnswer::Passed { .. } => refilled(copied),
+        RefillAnswer::Lost => Step::Ended(RebuildEnd::LostAgain),
+        RefillAnswer::OtherFence { fence } => Step::Ended(RebuildEnd::OtherFence { fence }),
+        RefillAnswer::Down => leaving(copied, LeftWhy::Down),
+        RefillAnswer::Full => leaving(copied, LeftWhy::Full),
+        RefillAnswer::DiskFault => leaving(copied, LeftWhy::DiskFault),
+    }
+}
+
+/// The block in hand was refilled.
+fn refilled(copied: &Copied) -> Step
+    requires { copied.now.tally.refilled + 1 < 2 ^ 64 }
+    ensures { result ≡ Step.Listing (record copied.now.tally { after = Some copied.now.listed.key; refilled = copied.now.tally.refilled + 1 }) }
+{
+    Step::Listing(Tally {
+        after: Some(copied.listed.key),
+        refilled: copied.tally.refilled + 1,
+        ..copied.tally
+    })
+}
+
+/// It is said that the block in hand is left.
+pub fn leaving(copied: &Copied, why: LeftWhy) -> Step
+    ensures { result ≡ Step.Leaving copied.now.tally copied.now.listed.key why }
+{
+    Step::Leaving {
+        tally: copied.tally,
+        key: copied.listed.key,
+        why,
+    }
+}
+
+/// How a rebuild goes on once it was said that a block is left.
+pub fn after_left(tally: Tally, key: Key) -> Step
+    requires { tally.left + 1 < 2 ^ 64 }
+    ensures { result ≡ Step.Listing (record tally { after = Some key; left = tally.left + 1 }) }
+{
+    Step::Listing(Tally {
+        after: Some(key),
+        left: tally.left + 1,
+        ..tally
+    })
+}
+
+/// How a rebuild ends where no block is left to be rebuilt.
+pub fn end_of(tally: &Tally) -> RebuildEnd
+    ensures { result ≡ end_of (tally_of tally.now) }
+{
+    if tally.left == 0 {
+        RebuildEnd::Rebuilt {
+            fence: tally.fence,
+            refilled: tally.refilled,
+        }
+    } else {
+        RebuildEnd::Left {
+            fence: tally.fence,
+            refilled: tally.refilled,
+            left: tally.left,
+        }
+    }
+}

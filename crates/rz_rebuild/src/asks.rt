@@ -1,0 +1,80 @@
+//! What a rebuild asks.
+
+ghost use Rattle.std.specs.Prelude.{◌≡◌};
+ghost use Rattle.rz_operation_model.specs.Rebuild.{position_of, ask_to_copy};
+ghost use Rattle.rz_rebuild.specs.Machine.{ask_in};
+ghost use Rattle.rz_rebuild.specs.Inside.{state_of};
+
+use crate::step::{Copied, Step};
+use rz_events::{Key, Listed, ReaderAsk, RebuildAsk};
+use rz_reader::Reader;
+
+/// The position of a node among those of a block's file.
+pub fn position_of(node: u16, listed: &Listed) -> u8
+    ensures { result ≡ position_of node listed.now }
+{
+    let places = listed.info.places.list();
+    for i in 0..places.len() {
+        if places[i] == node {
+            return i as u8;
+        }
+    }
+    places.len() as u8
+}
+
+/// What a rebuild asks next.
+pub fn ask(node: u16, step: &Step, reader: &Reader) -> RebuildAsk
+    ensures { result ≡ ask_in node (state_of reader.now.state step.now) }
+{
+    match step {
+        Step::Probing => RebuildAsk::Probe,
+        Step::Enrolling { loss } => RebuildAsk::Enroll { loss: *loss },
+        Step::Replacing { loss, fence } => RebuildAsk::Replace {
+            loss: *loss,
+            fence: *fence,
+        },
+        Step::Listing(tally) => RebuildAsk::Next { after: tally.after },
+        Step::Copying(copied) => ask_to_copy(copied.listed.key, reader.next()),
+        Step::Refilling { copied, length } => refill_ask(node, copied, *length),
+        Step::Leaving { key, why, .. } => RebuildAsk::Left {
+            key: *key,
+            why: *why,
+        },
+        Step::Ended(_) => RebuildAsk::End,
+    }
+}
+
+/// What the read of a block asks, which has its look already, in what was listed.
+fn ask_to_copy(key: Key, ask: ReaderAsk) -> RebuildAsk
+    ensures { result ≡ ask_to_copy key ask }
+{
+    match ask {
+        ReaderAsk::Look => RebuildAsk::End,
+        ReaderAsk::Fetch {
+            position,
+            node,
+            stamp,
+        } => RebuildAsk::Fetch {
+            key,
+            position,
+            node,
+            stamp,
+        },
+        ReaderAsk::Recheck => RebuildAsk::Recheck { key },
+        ReaderAsk::End => RebuildAsk::End,
+    }
+}
+
+/// The node is to have a record of this length as a refill.
+fn refill_ask(node: u16, copied: &Copied, length: u32) -> RebuildAsk
+    ensures { result ≡ RebuildAsk.Refill copied.now.tally.fence copied.now.listed.key copied.now.listed.published.stamp length (position_of node copied.now.listed) copied.now.base }
+{
+    RebuildAsk::Refill {
+        fence: copied.tally.fence,
+        key: copied.listed.key,
+        stamp: copied.listed.published.stamp,
+        length,
+        position: position_of(node, &copied.listed),
+        base: copied.base,
+    }
+}
