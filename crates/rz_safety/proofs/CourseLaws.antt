@@ -67,11 +67,7 @@ use Rattle.rz_operation_model.specs.Files.{FileState, Reads, Writes, Ended as Fi
 use Rattle.rz_operation_model.specs.Rebuild.{Tally, RebuildState, Probing, Enrolling, Replacing, Listing, Copying, Refilling, Leaving, Rebuild, Going, Ended as RebuildEnded, end_of, after_read, after_refill, base_told, position_of, ask_to_copy, rebuild_ask, rebuild_told}
 use Rattle.rz_operation_model.specs.Work.{Work, PutBlock, GetBlock, RangePlan, WriteBytes, ReadBytes, Plan, OnBlock, OnRange, Course, Alone, Within, Calling, Dropping, Opening, Locking, Writing, Reading, Rebuilding, Ending, Over}
 use Rattle.rz_operation_model.specs.Ask.{Say, SayDone, ask_of, is_part, got, read_asks, gave, write_asks, refill_head, rebuild_asks}
-<<<<<<< HEAD
-use Rattle.rz_operation_model.specs.Steps.{Told as Hears, Replied, Locked, Answered, Missed, Noted, begun, told, in_range, range_answer, planned, after_open, after_lock, drop_at, after_drop, after_call, told_reading, told_writing, after_got, after_gave, rebuild_after, in_rebuild}
-=======
 use Rattle.rz_operation_model.specs.Steps.{Told as Hears, Replied, Locked, Answered, Missed, Noted, begun, told, in_range, range_answer, planned, after_open, after_lock, drop_at, after_drop, after_call, said_reading, said_writing, after_got, after_gave, rebuild_after, in_rebuild}
->>>>>>> 1ec62cf
 use Rattle.rz_operation_model.specs.Turns.{IsStep, IsNodeStep, Through, ReplyLost, RequestLost, IsExportStep}
 use Rattle.rz_core.specs.History.{of_actor}
 use Rattle.rz_core.specs.Courses.{IsCourse, Begun, Went, DoneRow}
@@ -163,12 +159,6 @@ got-at : (layout : Layout) (o : List Event) (course : Course) (text : List ℕ) 
 got-at layout o Alone text m = tt
 got-at layout o (Within r) text m = in-range o (after_part layout r text m)
 
-<<<<<<< HEAD
-reading-at : (layout : Layout) (o : List Event) (course : Course) (s : ReaderState) (m : Option ReadMark) (t : Hears) → IsAt o (told_reading layout course s m t)
-reading-at layout o course s (Some m) (Noted text) = got-at layout o course text m
-reading-at layout o course s (Some m) (_) = tt
-reading-at layout o course s None (_) = tt
-=======
 said-read-at : (layout : Layout) (o : List Event) (course : Course) (s : ReaderState) (text : List ℕ) (m : Option ReadMark) → IsAt o (said_reading layout course s text m)
 said-read-at layout o course s text None = tt
 said-read-at layout o course s text (Some m) = got-at layout o course text m
@@ -176,18 +166,11 @@ said-read-at layout o course s text (Some m) = got-at layout o course text m
 reading-at : (layout : Layout) (o : List Event) (course : Course) (s : ReaderState) (t : Hears) → IsAt o (told layout (Reading course s) t)
 reading-at layout o course s (Noted text) = said-read-at layout o course s text (reader_end s)
 reading-at layout o course s (_) = tt
->>>>>>> 1ec62cf
 
 gave-at : (layout : Layout) (o : List Event) (course : Course) (end : WriteEnd) → IsAt o (after_gave layout course end)
 gave-at layout o Alone end = tt
 gave-at layout o (Within r) end = in-range o (after_block layout r end)
 
-<<<<<<< HEAD
-writing-at : (layout : Layout) (o : List Event) (course : Course) (text : List ℕ) (s : WriterState) (end : Option WriteEnd) (t : Hears) → IsAt o (told_writing layout course text s end t)
-writing-at layout o course text s (Some end) (Noted found) = gave-at layout o course end
-writing-at layout o course text s (Some end) (_) = tt
-writing-at layout o course text s None (_) = tt
-=======
 said-written-at : (layout : Layout) (o : List Event) (course : Course) (text : List ℕ) (s : WriterState) (end : Option WriteEnd) → IsAt o (said_writing layout course text s end)
 said-written-at layout o course text s None = tt
 said-written-at layout o course text s (Some end) = gave-at layout o course end
@@ -195,7 +178,6 @@ said-written-at layout o course text s (Some end) = gave-at layout o course end
 writing-at : (layout : Layout) (o : List Event) (course : Course) (text : List ℕ) (s : WriterState) (t : Hears) → IsAt o (told layout (Writing course text s) t)
 writing-at layout o course text s (Noted found) = said-written-at layout o course text s (writer_end s)
 writing-at layout o course text s (_) = tt
->>>>>>> 1ec62cf
 
 calling-at : (layout : Layout) (o : List Event) (t : Hears) → (c : TreeCall) → IsAt o (told layout (Calling c) t)
 calling-at layout o (Replied (reply.Tree answer)) c = call-at o answer
@@ -447,13 +429,8 @@ work-step layout by number o (Calling c) at t xs step = calling-at layout (xs ++
 work-step layout by number o (Dropping fid n places) at t xs step = dropping-at layout (xs ++ o) fid n places t
 work-step layout by number o (Opening path plan) at t xs step = opening-at layout (xs ++ o) path plan t
 work-step layout by number o (Locking path plan) at t xs step = locking-at layout (xs ++ o) path plan t
-<<<<<<< HEAD
-work-step layout by number o (Writing course text s) at t xs step = writing-at layout (xs ++ o) course text s (writer_end s) t
-work-step layout by number o (Reading course s) at t xs step = reading-at layout (xs ++ o) course s (reader_end s) t
-=======
 work-step layout by number o (Writing course text s) at t xs step = writing-at layout (xs ++ o) course text s t
 work-step layout by number o (Reading course s) at t xs step = reading-at layout (xs ++ o) course s t
->>>>>>> 1ec62cf
 work-step layout by number o (Rebuilding n s) at t xs step = in-rebuild (xs ++ o) n (rebuild_after layout s t) (rebuild-step layout by number n o s at t xs step)
 work-step layout by number o (Ending answer) at t xs (text, is, xs_is) = subst (λ z. IsAt (xs ++ o) (told layout (Ending answer) z)) (sym is) tt
 work-step layout by number o Over at t xs step = absurd step
