@@ -1,0 +1,6 @@
+pub mod World
+pub mod Turns
+pub mod Lines
+pub mod Stops
+pub mod Played
+pub mod Faults

@@ -1,0 +1,6 @@
+use Rattle.rz_play_laws.proofs.Telling as laws
+use Rattle.rz_play_laws.proofs.Places as places
+use Rattle.rz_play_laws.proofs.facts_told.Goals as goal
+
+pub returns : goal.returns
+returns c = λ v volume. laws.telling v (places.roomy v volume)
