@@ -1,4 +1,6 @@
 pub mod Courses
+pub mod Endings
+pub mod Bytes
 pub mod Names
 pub mod Steps
 pub mod Mending

@@ -1,5 +1,5 @@
 -- The steps of the mended history, one by one.
-use Rattle.std.proofs.Common.{ℕ, Bool, true, false, ◌≡◌, ◌⊎◌, inl, inr, ◌≤◌, ◌<◌, ◌&&◌, [], ◌∷◌, Some, None, cond, refl, arith, lit<}
+use Rattle.std.proofs.Common.{ℕ, Bool, true, false, ◌≡◌, inl, inr, ◌≤◌, ◌&&◌, [], ◌∷◌, Some, None, cond, refl, sym, ap, subst, lit<}
 use Rattle.std.proofs.lemmas.Bool.{eqb-true, and_parts}
 use Rattle.rz_events.specs.declared.keys.Key.{Key}
 use Rattle.rz_events.specs.declared.keys.Actor.{Actor}
@@ -11,7 +11,6 @@ use Rattle.rz_core.specs.History.{Facts, facts, of_word, of_actor, Has}
 use Rattle.rz_core.specs.ExportWord.{with_length}
 use Rattle.rz_core.specs.ExportRows.{IsListed, IsLess}
 use Rattle.rz_core.specs.Legal.{IsLegal}
-use Rattle.rz_core.proofs.Keys.{less-parts}
 use Rattle.rz_safety.specs.Rebuilt.{IsRebuilt}
 use Rattle.rz_examples.specs.Plain.{plain, mender, block, places}
 use Rattle.rz_examples.specs.Ordinary.{with_write}
@@ -44,26 +43,18 @@ one_key false key p f q e = cc
 is_listed_one : (key : Key) (p : Published) → IsListed (facts with_disk) (of_word Export with_disk) 1 key p → same_key key block ≡ true
 is_listed_one key p li = one_key (same_key key block) key p (facts with_disk) refl li.told
 
+block_is : (key : Key) → same_key key block ≡ true → key ≡ block
+block_is key same = let p = and_parts _ _ same in both key.fid key.block (eqb-true _ _ p.0) (eqb-true _ _ p.1)
+  where
+    both : (a b : ℕ) → a ≡ 1 → b ≡ 0 → ◌≡◌ {A = Key} (record { fid = a; block = b }) block
+    both a b p q = subst (λ x. ◌≡◌ {A = Key} (record { fid = x; block = b }) block) (sym p) (ap (λ (y : ℕ). let k : Key = record { fid = 1; block = y } in k) q)
+
 -- a key that is the block is not less than it, and not after it
 pub not_less : (key : Key) → same_key key block ≡ true → IsLess key block → ⊥
-not_less key same less = go (less-parts key block less)
-  where
-    parts : (key.fid ≡ 1) × (key.block ≡ 0)
-    parts = let p = and_parts _ _ same in (eqb-true _ _ p.0, eqb-true _ _ p.1)
-
-    go : (key.fid < 1) ⊎ ((key.fid ≡ 1) × (key.block < 0)) → ⊥
-    go (inl l) = let q = parts.0 in absurd (omega (arith, l, q))
-    go (inr l) = let q = parts.1 in let m = l.1 in absurd (omega (arith, m, q))
+not_less key same less = let never = subst (λ k. IsLess k block) (block_is key same) less in cc
 
 not_after : (key : Key) → same_key key block ≡ true → IsLess block key → ⊥
-not_after key same less = go (less-parts block key less)
-  where
-    parts : (key.fid ≡ 1) × (key.block ≡ 0)
-    parts = let p = and_parts _ _ same in (eqb-true _ _ p.0, eqb-true _ _ p.1)
-
-    go : (1 < key.fid) ⊎ ((1 ≡ key.fid) × (0 < key.block)) → ⊥
-    go (inl l) = let q = parts.0 in absurd (omega (arith, l, q))
-    go (inr l) = let q = parts.1 in let m = l.1 in absurd (omega (arith, m, q))
+not_after key same less = let never = subst (λ k. IsLess block k) (block_is key same) less in cc
 
 pub legal_sources : IsLegal plain with_sources
 legal_sources = (

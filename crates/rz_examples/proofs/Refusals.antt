@@ -1,7 +1,10 @@
 -- Why each of the mistaken histories is not legal: the row of its newest event says so.
-use Rattle.std.proofs.Common.{ℕ, ◌≡◌, inl, inr, ◌<◌, List, [], ◌∷◌, Option, Some, None, refl, ap, arith, length, ◌∙◌}
+use Rattle.std.proofs.Common.{ℕ, false, ◌≡◌, ◌⊎◌, inl, inr, ◌<◌, List, [], ◌∷◌, Option, Some, None, refl, ap, subst, arith, length, ◌∙◌}
 use Rattle.std.specs.List.{AllByRecursion}
 use Rattle.std.specs.Int.Count.{ones}
+use Rattle.rz_events.specs.declared.tree.TreeCall.TheVariants as call
+use Rattle.rz_events.specs.declared.tree.TreeReply.TheVariants as reply
+use Rattle.rz_events.specs.declared.events.Answer.TheVariants as answers
 use Rattle.rz_events.specs.declared.events.Event.{Event}
 use Rattle.rz_events.specs.declared.events.Event.TheVariants as e
 use Rattle.rz_node_model.specs.Versions.{Stands}
@@ -9,10 +12,16 @@ use Rattle.rz_core.specs.History.{Begun, Has, of_actor}
 use Rattle.rz_core.specs.Own.{HasDistinct, IsFalling}
 use Rattle.rz_events.specs.Masks.{stamp_told}
 use Rattle.rz_core.specs.ExportRows.{HasKept}
+use Rattle.rz_core.specs.NodeRows.{IsNodeOf}
+use Rattle.rz_core.specs.Outcomes.{seen_at, is_asked}
 use Rattle.rz_core.specs.Legal.{IsLegal}
-use Rattle.rz_examples.specs.Plain.{plain, one, block, hello, world, places}
+use Rattle.rz_safety.specs.Rebuilt.{Ready, IsRun, AreRebuilt}
+use Rattle.rz_examples.specs.Plain.{plain, one, mender, path, file, block, hello, world, places}
 use Rattle.rz_examples.specs.Ordinary.{kept_at, with_begin}
-use Rattle.rz_examples.specs.Mistakes.{early, thin, drawn_twice, outrun, enrolled_named, under_fence, smaller, other_text, stale_look, older_stamp, joined, from_lost, unseen_move, idle_miss, late_refill, thin_refill}
+use Rattle.rz_examples.specs.Mistakes.{early, thin, drawn_twice, outrun, enrolled_named, under_fence, smaller, other_text, stale_look, older_stamp, joined, from_lost, unseen_move, idle_miss, late_outcome, unknown_stops, late_refill, thin_refill}
+use Rattle.rz_examples.specs.Answers.{part_found, read_elsewhere, part_short, counted_unwritten, made_by_rebuilder, refused_drop, fenced_drop, skipped, before_pass, passed_other}
+use Rattle.rz_examples.proofs.Endings.{said-last, said-rebuilder}
+use Rattle.rz_examples.proofs.Bytes.{IsFound, said-found}
 
 -- Writes.
 
@@ -129,3 +138,67 @@ not_late_refill legal = let f = legal.1.row.refill.fence_is in absurd (omega (ar
 
 pub not_thin_refill : ¬ IsLegal plain thin_refill
 not_thin_refill legal = one_given 1 legal.1.row.refill.rebuilding.enough
+
+-- Outcomes and nodes.
+
+-- node 4 has an outcome since the recheck
+pub not_late_outcome : ¬ IsLegal plain late_outcome
+not_late_outcome legal =
+    let s = legal.1.row.0.short in
+    let told : Some places ≡ Some s.places = s.placed in
+    let same : s.places ≡ places = cc in
+    let late = (subst (λ (ns : List ℕ). AllByRecursion (λ n. is_asked (seen_at block legal.1.row.0.published.stamp n (e.Missed one 4 false ∷ [])) ≡ false) ns) same s.ended).1.1.1.0 in
+    cc
+
+pub not_unknown_stops : ¬ IsLegal plain unknown_stops
+not_unknown_stops legal = none legal.1.word
+  where
+    none : IsNodeOf plain 5 → ⊥
+    none (inl is) = absurd (omega (arith, is))
+    none (inr (inl is)) = absurd (omega (arith, is))
+    none (inr (inr (inl is))) = absurd (omega (arith, is))
+    none (inr (inr (inr (inl is)))) = absurd (omega (arith, is))
+    none (inr (inr (inr (inr more)))) = more
+
+-- Answers.
+
+-- the byte 119 was not found
+pub not_read_elsewhere : ¬ IsLegal plain read_elsewhere
+not_read_elsewhere legal = go (said-found plain one 3 (of_actor one part_found) world legal.1.row).0
+  where
+    not_in_hello : Stands 119 hello → ⊥
+    not_in_hello (inl is) = absurd (omega (arith, is))
+    not_in_hello (inr (inl is)) = absurd (omega (arith, is))
+    not_in_hello (inr (inr (inl is))) = absurd (omega (arith, is))
+    not_in_hello (inr (inr (inr (inl is)))) = absurd (omega (arith, is))
+    not_in_hello (inr (inr (inr (inr (inl is))))) = absurd (omega (arith, is))
+    not_in_hello (inr (inr (inr (inr (inr none))))) = none
+
+    go : ◌≡◌ {A = ℕ} 119 0 ⊎ IsFound (of_actor one part_found) 119 → ⊥
+    go (inl is) = absurd (omega (arith, is))
+    go (inr (inl there)) = not_in_hello there
+    go (inr (inr none)) = none
+
+-- the last block of the range was not acknowledged
+pub not_counted_unwritten : ¬ IsLegal plain counted_unwritten
+not_counted_unwritten legal = said-last plain one 2 (of_actor one part_short) (answers.Wrote 5) legal.1.row
+
+-- a client's answer is none of a rebuilder
+pub not_made_by_rebuilder : ¬ IsLegal plain made_by_rebuilder
+not_made_by_rebuilder legal = said-rebuilder plain 1 1 (e.Meta mender (call.Create path) (reply.MadeFile (file 0)) ∷ []) (answers.Created 1) legal.1.row
+
+-- a drop is passed over where the node is lost or down
+pub not_fenced_drop : ¬ IsLegal plain fenced_drop
+not_fenced_drop legal = said-last plain one 3 (of_actor one refused_drop) answers.Plain legal.1.row
+
+-- the key that was told has to be refilled, or passed over, before the next one is asked for
+pub not_skipped : AreRebuilt skipped → ⊥
+not_skipped rebuilt = let r = rebuilt.1.rebuilt.2.1 in cc
+
+-- with the stamp that was told
+pub not_passed_other : AreRebuilt passed_other → ⊥
+not_passed_other rebuilt = go rebuilt.1.node rebuilt.1.loss rebuilt.1.rebuilt.2
+  where
+    go : (n loss : ℕ) → IsRun (of_actor mender before_pass) n loss 2 1 (Ready (Some block)) → ⊥
+    go n loss (inl k) = let z = k.1 in cc
+    go n loss (inr (there, is, (a, done, more, k))) = let z = k.1 in let three : ◌≡◌ {A = ℕ} 3 1 = cc in absurd (omega (arith, three))

@@ -3,3 +3,4 @@ pub mod Ordinary
 pub mod Mended
 pub mod Troubled
 pub mod Mistakes
+pub mod Answers

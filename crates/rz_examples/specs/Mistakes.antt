@@ -1,14 +1,16 @@
 -- Histories that are not legal: each ends with one event that an honest store would not have, after events of the
 -- ordinary and the mended history.
-use Rattle.std.specs.Prelude.{ℕ, false, List, ◌∷◌, Some, None}
+use Rattle.std.specs.Prelude.{ℕ, false, List, ◌∷◌, Some, None, replicate}
 use Rattle.rz_events.specs.declared.files.Published.{Published}
 use Rattle.rz_events.specs.declared.records.Held.{Held}
 use Rattle.rz_events.specs.declared.records.Change.TheVariants as change
+use Rattle.rz_events.specs.declared.ends.Seen.TheVariants as seen
 use Rattle.rz_events.specs.declared.ends.ReadEnd.TheVariants as read
 use Rattle.rz_events.specs.declared.events.Event.{Event}
 use Rattle.rz_events.specs.declared.events.Event.TheVariants as e
 use Rattle.rz_examples.specs.Plain.{one, two, mender, block, hello, world}
-use Rattle.rz_examples.specs.Ordinary.{kept_at, accepted_on, looked, fetched_at, found, with_begin, with_keeps, with_write, with_records}
+use Rattle.rz_examples.specs.Ordinary.{kept_at, accepted_on, looked, fetched_at, found, with_file, with_begin, with_keeps, with_write, with_records}
+use Rattle.rz_examples.specs.Troubled.{none_at, lost_at, looked_again}
 use Rattle.rz_examples.specs.Mended.{lost, probed, enrolled, replaced, given_at, listed, with_disk}
 
 -- The events of a second write of the block, by another client.
@@ -96,6 +98,18 @@ unseen_move = e.Got one 3 block false (read.Moved 1 2) ∷ with_records
 -- a message is lost of an actor that does nothing
 abbrev pub idle_miss : List Event
 idle_miss = e.Missed one 1 false ∷ with_write
+
+-- a message is lost after the reader looked again
+abbrev pub late_outcome : List Event
+late_outcome =
+    e.Got one 3 block false (read.TooFew (seen.Nothing ∷ seen.Lost ∷ seen.Held ∷ seen.Missed ∷ replicate 12 seen.NotAsked)) ∷ e.Missed one 4 false
+    ∷ looked_again ∷ fetched_at 3 2 ∷ lost_at 2 ∷ none_at 1 0 ∷ looked ∷ e.Lose 2 1 ∷ with_disk
+
+-- Nodes.
+
+-- a node stops that the volume does not have
+abbrev pub unknown_stops : List Event
+unknown_stops = e.Stop 5 ∷ with_file
 
 -- Rebuilds.
 

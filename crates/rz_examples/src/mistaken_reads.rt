@@ -2,7 +2,7 @@
 
 ghost use Rattle.rz_core.specs.Legal.{IsLegal};
 ghost use Rattle.rz_examples.specs.Plain.{plain};
-ghost use Rattle.rz_examples.specs.Mistakes.{other_text, stale_look, older_stamp, joined, from_lost, unseen_move, idle_miss};
+ghost use Rattle.rz_examples.specs.Mistakes.{other_text, stale_look, older_stamp, joined, from_lost, late_outcome, unseen_move, idle_miss};
 
 /// The text that is found is not that of the write with this stamp.
 pub fn text_of_another_write()
@@ -37,4 +37,9 @@ pub fn moved_without_recheck()
 /// A message is lost of an actor that has no operation open.
 pub fn idle_miss()
     ensures { ¬ IsLegal plain idle_miss }
+{}
+
+/// A message is lost after the reader looked again, and its read ends with too few.
+pub fn outcome_after_recheck()
+    ensures { ¬ IsLegal plain late_outcome }
 {}

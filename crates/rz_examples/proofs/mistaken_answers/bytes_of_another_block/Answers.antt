@@ -1,0 +1,5 @@
+use Rattle.rz_examples.proofs.Refusals.{not_read_elsewhere}
+use Rattle.rz_examples.proofs.mistaken_answers.bytes_of_another_block.Goals as goal
+
+pub returns : goal.returns
+returns c = not_read_elsewhere

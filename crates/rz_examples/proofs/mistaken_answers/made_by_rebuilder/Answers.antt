@@ -1,0 +1,5 @@
+use Rattle.rz_examples.proofs.Refusals.{not_made_by_rebuilder}
+use Rattle.rz_examples.proofs.mistaken_answers.made_by_rebuilder.Goals as goal
+
+pub returns : goal.returns
+returns c = not_made_by_rebuilder

@@ -1,0 +1,5 @@
+use Rattle.rz_examples.proofs.Refusals.{not_late_outcome}
+use Rattle.rz_examples.proofs.mistaken_reads.outcome_after_recheck.Goals as goal
+
+pub returns : goal.returns
+returns c = not_late_outcome
