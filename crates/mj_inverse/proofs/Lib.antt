@@ -12,3 +12,5 @@ pub mod Put
 pub mod Stores
 pub mod Delayed
 pub mod Marks
+pub mod Columns
+pub mod Exchanged

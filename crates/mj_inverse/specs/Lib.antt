@@ -2,3 +2,4 @@ pub mod Fits
 pub mod Rows
 pub mod Series
 pub mod Store
+pub mod Arranged

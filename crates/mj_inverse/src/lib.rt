@@ -13,6 +13,7 @@
 
 mod eight;
 mod invert;
+mod order;
 mod run;
 mod series;
 mod store;

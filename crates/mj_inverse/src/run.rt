@@ -2,7 +2,8 @@
 
 ghost use Rattle.std.specs.Prelude.{◌≡◌, ◌≤◌, ◌<◌, ◌+◌, ◌-◌, ◌*◌, ℕ, length, slice_index, bit_xor, vec_len};
 
-use rz_lanes::xor_into;
+use rz_lanes::{all_zero, xor_into};
+use std::simd::prelude::*;
 
 /// Adds `d` to `c`, and then to each word of `c` the word `step` places before it, in rising order.
 pub fn run(c: &mut [u64], d: &[u64], step: usize)
@@ -15,11 +16,13 @@ pub fn run(c: &mut [u64], d: &[u64], step: usize)
     if step == 1 {
         run_one(c, d);
     } else if step == 2 {
-        run_two(c, d);
-    } else if step == 3 {
-        run_three(c, d);
-    } else if !step.is_multiple_of(8) {
-        run_more(c, d, step);
+        run_columns::<1>(c, d, step);
+    } else if step <= 4 {
+        run_columns::<2>(c, d, step);
+    } else if step <= 8 {
+        run_columns::<4>(c, d, step);
+    } else if step <= 16 {
+        run_columns::<8>(c, d, step);
     } else {
         run_rows(c, d, step);
     }
@@ -40,57 +43,47 @@ fn run_one(c: &mut [u64], d: &[u64])
     }
 }
 
-/// `run` by two places.
-fn run_two(c: &mut [u64], d: &[u64])
-    requires { length c.old ≡ length d.now }
-    ensures first { (k : ℕ) → k < length d.now → k < 2 → slice_index c.new k ≡ bit_xor (slice_index c.old k) (slice_index d.now k) }
-    ensures next { (k : ℕ) → k + 2 < length d.now →
-        slice_index c.new (k + 2) ≡ bit_xor (bit_xor (slice_index c.old (k + 2)) (slice_index d.now (k + 2))) (slice_index c.new k) }
-{
-    let mut last = 0;
-    let mut second = 0;
-    for t in 0..c.len() {
-        let word = c[t] ^ d[t] ^ second;
-        c[t] = word;
-        second = last;
-        last = word;
-    }
-}
-
-/// `run` by three places.
-fn run_three(c: &mut [u64], d: &[u64])
-    requires { length c.old ≡ length d.now }
-    ensures first { (k : ℕ) → k < length d.now → k < 3 → slice_index c.new k ≡ bit_xor (slice_index c.old k) (slice_index d.now k) }
-    ensures next { (k : ℕ) → k + 3 < length d.now →
-        slice_index c.new (k + 3) ≡ bit_xor (bit_xor (slice_index c.old (k + 3)) (slice_index d.now (k + 3))) (slice_index c.new k) }
-{
-    let mut last = 0;
-    let mut second = 0;
-    let mut third = 0;
-    for t in 0..c.len() {
-        let word = c[t] ^ d[t] ^ third;
-        c[t] = word;
-        third = second;
-        second = last;
-        last = word;
-    }
-}
-
-/// `run` by more places, which are read again.
-fn run_more(c: &mut [u64], d: &[u64], step: usize)
+/// `run` by more than `W` places and at most twice as many. Two vectors, the first and the last `W` of them,
+/// keep the words that were written last.
+fn run_columns<const W: usize>(c: &mut [u64], d: &[u64], step: usize)
     requires same { length c.old ≡ length d.now }
-    requires step { 0 < step }
+    requires some { 0 < W }
+    requires low { W ≤ step }
+    requires high { step ≤ 2 * W }
     ensures first { (k : ℕ) → k < length d.now → k < step → slice_index c.new k ≡ bit_xor (slice_index c.old k) (slice_index d.now k) }
     ensures next { (k : ℕ) → k + step < length d.now →
         slice_index c.new (k + step) ≡ bit_xor (bit_xor (slice_index c.old (k + step)) (slice_index d.now (k + step))) (slice_index c.new k) }
 {
-    xor_into(c, d);
-    for t in step..c.len() {
-        c[t] ^= c[t - step];
+    let mut front = Simd::<u64, W>::splat(0);
+    let mut back = Simd::<u64, W>::splat(0);
+    let mut at = 0;
+    'rows: while c.len() - at >= step {
+        let behind = at + (step - W);
+        let near = Simd::<u64, W>::from_slice(&c[at..]) ^ Simd::<u64, W>::from_slice(&d[at..]);
+        let far = Simd::<u64, W>::from_slice(&c[behind..])
+            ^ Simd::<u64, W>::from_slice(&d[behind..]);
+        front = near ^ front;
+        back = far ^ back;
+        front.copy_to_slice(&mut c[at..]);
+        back.copy_to_slice(&mut c[behind..]);
+        at += step;
+    }
+    'rest: for t in at..c.len() {
+        let before = word_before(c, t, step);
+        c[t] = c[t] ^ d[t] ^ before;
     }
 }
 
-/// `run` by eight places or more, row by row of `step` words, as vectors.
+/// The word `step` places before place `t`, or zero where there is none.
+fn word_before(c: &[u64], t: usize, step: usize) -> u64
+    requires { t < length c.now }
+    ensures start { t < step → result ≡ 0 }
+    ensures back { (k : ℕ) → k + step ≡ t → result ≡ slice_index c.now k }
+{
+    if t < step { 0 } else { c[t - step] }
+}
+
+/// `run` by more places, row by row of `step` words.
 fn run_rows(c: &mut [u64], d: &[u64], step: usize)
     requires same { length c.old ≡ length d.now }
     requires step { 0 < step }
@@ -163,6 +156,25 @@ pub fn add_within(words: &mut Vec<u64>, from: usize, by: &Vec<u64>, at: usize, e
 
 /// Makes the words from place `from` to place `to` zero, and marks each block that had another word there.
 pub fn take_rest(words: &mut Vec<u64>, unit: usize, from: usize, to: usize, bad: &mut [u64])
+    requires order { from ≤ to }
+    requires within { unit * to ≤ vec_len words.old }
+    requires blocks { length bad.old ≡ unit }
+    ensures zero { (t j : ℕ) → from ≤ t → t < to → j < unit → slice_index words.new.items (unit * t + j) ≡ 0 }
+    ensures below { (i : ℕ) → i < unit * from → slice_index words.new.items i ≡ slice_index words.old.items i }
+    ensures above { (i : ℕ) → unit * to ≤ i → slice_index words.new.items i ≡ slice_index words.old.items i }
+    ensures len { vec_len words.new ≡ vec_len words.old }
+    ensures marked { (j : ℕ) → j < unit → slice_index bad.new j ≡ 0 →
+        (slice_index bad.old j ≡ 0) × ((t : ℕ) → from ≤ t → t < to → slice_index words.old.items (unit * t + j) ≡ 0) }
+    ensures unmarked { (j : ℕ) → j < unit → slice_index bad.old j ≡ 0 →
+        ((t : ℕ) → from ≤ t → t < to → slice_index words.old.items (unit * t + j) ≡ 0) → slice_index bad.new j ≡ 0 }
+{
+    if !all_zero(&words[unit * from..unit * to]) {
+        take_each(words, unit, from, to, bad);
+    }
+}
+
+/// The same, place by place.
+fn take_each(words: &mut Vec<u64>, unit: usize, from: usize, to: usize, bad: &mut [u64])
     requires order { from ≤ to }
     requires within { unit * to ≤ vec_len words.old }
     requires blocks { length bad.old ≡ unit }

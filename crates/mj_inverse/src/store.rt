@@ -9,6 +9,7 @@ ghost use Rattle.mj_inverse.specs.Series.{seq, angle as angle_of, IsUnmarked};
 ghost use Rattle.mj_inverse.specs.Store.{IsFilled, pairs_in, search_in, lane_search, lane_grid};
 
 use crate::invert::solve;
+use crate::order::sort;
 use crate::series::Series;
 use std::alloc::{AllocError, Global};
 
@@ -100,6 +101,7 @@ pub fn solve_all(
     ensures complete { (j : ℕ) (g : Grid) → j < unit → IsFound (lane_search unit j (search_in unit rows cols rows all.old)) g →
         IsUnmarked bad.new j × (g ≡ lane_grid unit j rows cols out.new) }
 {
+    sort(all);
     bad.fill(0);
     solve(
         all,

@@ -84,7 +84,9 @@ impl Rebuilder {
         requires asked { IsRebuildAnswer self.old.layout self.old.node (ask_in self.old.node self.old.state) answer }
         requires bins { ComeWith self.old.layout (ask_in self.old.node self.old.state) answer bins.now }
         requires room { HasRoom self.old.state }
-        ensures { IsAnswered self.old answer bins.now self.new }
+        ensures answered { IsAnswered self.old answer bins.now self.new }
+        ensures layout { self.new.layout ≡ self.old.layout }
+        ensures node { self.new.node ≡ self.old.node }
     {
         self.step = after(
             self.layout,

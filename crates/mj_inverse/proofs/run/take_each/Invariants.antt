@@ -1,5 +1,5 @@
 use Rattle.std.proofs.Common.{◌≡◌, ◌<◌, ◌≤◌, ◌+◌, ◌*◌, ℕ, get_or, vec_len}
-use Rattle.mj_inverse.proofs.run.take_rest.Given as goal
+use Rattle.mj_inverse.proofs.run.take_each.Given as goal
 
 abbrev pub invariant-loop-t : goal.invariant-loop-t
 invariant-loop-t l = record {

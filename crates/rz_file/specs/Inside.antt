@@ -1,0 +1,132 @@
+-- Where the machine of a range keeps its bytes and the texts of its block.
+use Rattle.std.specs.Prelude.{ℕ, ◌≡◌, ◌<◌, ◌≤◌, ◌+◌, ◌*◌, ◌^◌, List, [], length, take, vec_len, vec_capacity, Option, Some, None, IsSome, IsSomeAnd}
+use Rattle.mj_angles.specs.declared.layout.Layout.{Layout}
+use Rattle.mj_angles.specs.Layout.{safe_of, block_bytes_of}
+use Rattle.mj_inverse.specs.Fits.{Pair}
+use Rattle.rz_words.specs.Grid.{Grid, bytes_from}
+use Rattle.rz_events.specs.declared.ends.ReadMark.{ReadMark}
+use Rattle.rz_events.specs.declared.ends.ReadMark.TheVariants as mark
+use Rattle.rz_client_model.specs.Read.{reader_end}
+use Rattle.rz_client_model.specs.declared.reading.ReaderState.{ReaderState}
+use Rattle.rz_client_model.specs.declared.reading.ReadStage.TheVariants.{Looking}
+use Rattle.rz_client_model.specs.declared.writing.WriterState.{WriterState}
+use Rattle.rz_reader.specs.Machine.{Machine as ReaderMachine}
+use Rattle.rz_writer.specs.Machine.{Machine as WriterMachine, block_of}
+use Rattle.rz_operation_model.specs.Ranges.{Aim as AimOf, Taking, Giving, Range as RangeOf}
+use Rattle.rz_operation_model.specs.Work.{RangePlan, WriteBytes, ReadBytes}
+use Rattle.rz_operation_model.specs.Files.{FileState, Reads, Writes, Ended}
+use Rattle.rz_file.specs.declared.span.Span.{Span}
+use Rattle.rz_file.specs.declared.span.Aim.{Aim}
+use Rattle.rz_file.specs.declared.span.Aim.TheVariants as aim
+use Rattle.rz_file.specs.declared.span.Step.{Step}
+use Rattle.rz_file.specs.declared.span.Step.TheVariants as step
+use Rattle.rz_file.specs.Ranges.{range_of, InRange}
+use Rattle.rz_file.specs.Machine.{Machine, IsEnd}
+
+-- What contracts see.
+
+abbrev pub aim_of : Aim → List ℕ → AimOf
+aim_of aim.Taking bytes = Taking bytes
+aim_of aim.Giving bytes = Giving bytes
+
+abbrev pub range_in : Span → RangeOf
+range_in s = range_of (aim_of s.aim s.bytes.items) s.range
+
+abbrev pub state_of : Span → ReaderState → WriterState → Step → FileState
+state_of s r w step.Reading = Reads (range_in s) r
+state_of s r w step.Writing = Writes (range_in s) s.text.items w
+state_of s r w (step.Ended end) = Ended (range_in s) end
+
+abbrev pub pairs_of : Step → List Pair → List Pair
+pairs_of step.Reading pairs = pairs
+pairs_of s pairs = []
+
+abbrev pub block_in : Step → Option Grid → Option Grid
+block_in step.Reading block = block
+block_in s block = None
+
+abbrev pub machine_of : Layout → Span → ReaderMachine → WriterMachine → Step → Machine
+machine_of layout s r w at = record {
+  layout = layout;
+  state = state_of s r.state w.state at;
+  pairs = pairs_of at r.pairs;
+  block = block_in at r.block;
+}
+
+-- What holds between two answers.
+
+-- there is room for the bytes that are read, or the bytes that are written are as many as the range has
+abbrev pub IsAimed : Aim → Span → Type 0
+IsAimed aim.Taking s = (vec_len s.bytes ≡ s.range.done) × (s.range.size ≤ vec_capacity s.bytes)
+IsAimed aim.Giving s = vec_len s.bytes ≡ s.range.size
+
+pub record IsSpan (layout : Layout) (s : Span) : Type 0 where
+  pub places : length s.range.info.places ≡ safe_of layout
+  pub range : InRange s.range
+  pub found : vec_len s.found ≡ block_bytes_of layout
+  pub text : 2 * block_bytes_of layout ≤ vec_capacity s.text
+  pub aimed : IsAimed s.aim s
+
+-- the reader and the writer are of the layout, and a range that is written has a writer with bins
+abbrev pub CanWrite : Aim → Option Grid → Type 0
+CanWrite aim.Taking block = Unit {0}
+CanWrite aim.Giving block = IsSome block
+
+pub record AreHands (layout : Layout) (a : Aim) (r : ReaderMachine) (w : WriterMachine) : Type 0 where
+  pub reader : r.state.layout ≡ layout
+  pub writer : w.state.layout ≡ layout
+  pub bins : CanWrite a w.block
+
+-- the writer writes the text
+pub record IsWritten (layout : Layout) (s : Span) (w : WriterMachine) : Type 0 where
+  pub giving : s.aim ≡ aim.Giving
+  pub block : w.block ≡ Some (block_of layout s.text.items)
+  pub length : w.state.length ≡ length s.text.items
+
+-- the first of these bytes are the text that was found
+abbrev pub IsFoundText : Option ReadMark → Option Grid → List ℕ → Type 0
+IsFoundText (Some (mark.Found stamp size)) block found = IsSomeAnd block (λ g. take size found ≡ take size (bytes_from g.words))
+IsFoundText end block found = Unit {0}
+
+abbrev pub IsStep : Layout → Span → ReaderMachine → WriterMachine → Step → Type 0
+IsStep layout s r w step.Reading = IsFoundText (reader_end r.state) r.block s.found.items
+IsStep layout s r w step.Writing = IsWritten layout s w
+IsStep layout s r w (step.Ended end) = IsEnd end
+
+pub record IsFile (layout : Layout) (s : Span) (r : ReaderMachine) (w : WriterMachine) (at : Step) : Type 0 where
+  pub span : IsSpan layout s
+  pub hands : AreHands layout s.aim r w
+  pub step : IsStep layout s r w at
+
+-- a read that begins has nothing fetched
+abbrev pub IsFresh : ReaderMachine → Step → Type 0
+IsFresh r step.Reading = (r.pairs ≡ []) × (r.block ≡ None) × (r.state.stage ≡ Looking)
+IsFresh r s = Unit {0}
+
+-- so many bytes were found, which fit a block
+abbrev pub size_of : ReadMark → ℕ
+size_of (mark.Found stamp size) = size
+size_of m = 0
+
+abbrev pub IsShortMark : Layout → ReadMark → Type 0
+IsShortMark layout m = size_of m ≤ block_bytes_of layout
+
+abbrev pub size_found : Option ReadMark → ℕ
+size_found None = 0
+size_found (Some m) = size_of m
+
+-- What waits for its file.
+
+abbrev pub plan_in : Aim → ℕ → List ℕ → ℕ → RangePlan
+plan_in aim.Taking offset bytes count = ReadBytes offset count
+plan_in aim.Giving offset bytes count = WriteBytes offset bytes
+
+abbrev pub IsPlanned : Aim → ℕ → Span → ℕ → Type 0
+IsPlanned aim.Taking offset s count = (s.bytes.items ≡ []) × (count ≤ vec_capacity s.bytes)
+IsPlanned aim.Giving offset s count = (vec_len s.bytes ≡ count) × (offset + count < 2 ^ 64)
+
+pub record IsFilePlan (layout : Layout) (offset count : ℕ) (s : Span) (r : ReaderMachine) (w : WriterMachine) : Type 0 where
+  pub found : vec_len s.found ≡ block_bytes_of layout
+  pub text : 2 * block_bytes_of layout ≤ vec_capacity s.text
+  pub planned : IsPlanned s.aim offset s count
+  pub hands : AreHands layout s.aim r w

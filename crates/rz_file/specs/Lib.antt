@@ -1,0 +1,4 @@
+pub mod Ranges
+pub mod Machine
+pub mod Told
+pub mod Inside
