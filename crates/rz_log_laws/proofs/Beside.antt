@@ -2,6 +2,9 @@
 use Rattle.std.proofs.Common.{◌≡◌, ℕ, List, [], ◌∷◌, ◌++◌, map, Option, Some, None, sym, refl, ap, ap₂, ◌∙◌, subst}
 use Rattle.std.specs.List.{AllByRecursion}
 use Rattle.std.specs.Option.{option_map}
+use Rattle.std.specs.FinMap as maps
+use Rattle.rz_events.specs.Keys.{key_cmp}
+use Rattle.rz_node_model.specs.Records.{listed}
 use Rattle.rz_events.specs.Volume.{Volume}
 use Rattle.rz_events.specs.declared.keys.Actor.{Actor}
 use Rattle.rz_events.specs.declared.records.Head.{Head}
@@ -25,7 +28,7 @@ use Rattle.rz_core.specs.Tied.{record_in, pending_in, IsNode, IsExport, IsOfWrit
 use Rattle.rz_core.proofs.Extends.{Extends, IsKnown, Knows, KnowsChange, extends-more, place-extends, held-extends, held-known, undecided-known, export-extends, has-all, last-has}
 use Rattle.rz_core.proofs.Locality.{all-filter, legal-knows}
 use Rattle.rz_core.proofs.NodeTies.{step, idle}
-use Rattle.rz_log_laws.specs.Beside.{IsNodeKept, IsExportKept, IsAskKept, IsCallKept, IsArming, IsStopping, IsStarting}
+use Rattle.rz_log_laws.specs.Beside.{IsBeginning, IsNodeKept, IsExportKept, IsAskKept, IsCallKept, IsArming, IsStopping, IsStarting}
 
 same-wrote : (f g : Facts) → Extends f g → (s : ℕ) → IsKnown f s → f.wrote s ≡ g.wrote s
 same-wrote f g ext s k = k.1 ∙ sym (ext.wrote s k.0 k.1)
@@ -100,6 +103,21 @@ call-extends v f g ext o by (call.Look key) p = p
 call-extends v f g ext o by (call.Enroll node loss) p = p
 call-extends v f g ext o by (call.Next node after) p = p
 call-extends v f g ext o by (call.Recheck key) p = p
+
+-- The beginning.
+
+pub beginning : (v : Volume) → IsBeginning v
+beginning v f = (
+  record {
+    phase_is = refl;
+    fence_is = refl;
+    losses_is = refl;
+    held_is = λ key. ap listed (maps.get-empty {X = List Held} key_cmp key);
+    whole = λ key q. (let z = maps.get-empty {X = List Held} key_cmp key in cc);
+    undecided_is = refl;
+  },
+  refl,
+)
 
 -- Later logs.
 

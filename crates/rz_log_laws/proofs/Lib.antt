@@ -3,3 +3,4 @@ pub mod Calls
 pub mod Losses
 pub mod Places
 pub mod Changes
+pub mod Building

@@ -13,6 +13,7 @@ use Rattle.rz_events.specs.declared.tree.TreeCall.TheVariants as call
 use Rattle.rz_events.specs.declared.tree.TreeReply.{TreeReply}
 use Rattle.rz_events.specs.declared.tree.TreeReply.TheVariants as reply
 use Rattle.rz_events.specs.declared.tree.TreeFault.{TreeFault}
+use Rattle.rz_events.specs.declared.tree.TreeFault.TheVariants as fault
 use Rattle.rz_events.specs.declared.events.Event.{Event}
 use Rattle.rz_events.specs.declared.events.Event.TheVariants as e
 use Rattle.rz_node_model.specs.Versions.{Stands}
@@ -267,7 +268,7 @@ laid-new v volume s is =
 made-places : (t : Tree) (cid : ℕ) (ps : List ℕ) (c : TreeCall) (info : FileInfo) → reply_to t cid ps c ≡ reply.MadeFile info → info.places ≡ ps
 made-places t cid ps c info is = by_fault (refusal t c) is
   where
-    told : (o : Option Found) (tell : Found → TreeReply) → ((f : Found) → ¬ (tell f ≡ reply.MadeFile info)) → option_map_or tell o (reply.Refused Rattle.rz_events.specs.declared.tree.TreeFault.TheVariants.NoEntry) ≡ reply.MadeFile info → info.places ≡ ps
+    told : (o : Option Found) (tell : Found → TreeReply) → ((f : Found) → ¬ (tell f ≡ reply.MadeFile info)) → option_map_or tell o (reply.Refused fault.NoEntry) ≡ reply.MadeFile info → info.places ≡ ps
     told None tell never is = cc
     told (Some f) tell never is = absurd (never f is)
 
@@ -284,7 +285,7 @@ made-places t cid ps c info is = by_fault (refusal t c) is
 
     by_fault : (o : Option TreeFault) → option_map_or reply.Refused o (answer_to t cid ps c) ≡ reply.MadeFile info → info.places ≡ ps
     by_fault None is = answer c is
-    by_fault (Some fault) is = cc
+    by_fault (Some why) is = cc
 
 -- where a file lies, by the event that made it or by those before
 first_cases : (a b : Option (List ℕ)) (ps : List ℕ) → first_some a b ≡ Some ps → (a ≡ Some ps) ⊎ (b ≡ Some ps)

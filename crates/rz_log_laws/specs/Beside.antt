@@ -1,6 +1,6 @@
 -- What stays true when only others act: what is said of a word, or of an actor, where that has the same events
 -- afterwards. And what the administrator may do to a node.
-use Rattle.std.specs.Prelude.{ℕ, Bool, true, ◌≡◌, ◌<◌, ◌-◌, ◌^◌, List, ◌++◌, length, Some}
+use Rattle.std.specs.Prelude.{ℕ, Bool, true, ◌≡◌, ◌<◌, ◌-◌, ◌^◌, List, [], ◌++◌, length, Some}
 use Rattle.rz_events.specs.Volume.{Volume}
 use Rattle.rz_events.specs.declared.keys.Actor.{Actor}
 use Rattle.rz_events.specs.declared.records.Change.{Change}
@@ -10,9 +10,9 @@ use Rattle.rz_events.specs.declared.export.Call.{Call}
 use Rattle.rz_events.specs.declared.events.Word.TheVariants.{Export, Node}
 use Rattle.rz_events.specs.declared.events.Event.{Event}
 use Rattle.rz_events.specs.declared.events.Event.TheVariants as e
-use Rattle.rz_node_model.specs.States.{NodeState}
-use Rattle.rz_export_model.specs.Export.{Export as ExportState}
-use Rattle.rz_core.specs.History.{facts, of_word, of_actor}
+use Rattle.rz_node_model.specs.States.{NodeState, fresh}
+use Rattle.rz_export_model.specs.Export.{Export as ExportState, new_export}
+use Rattle.rz_core.specs.History.{Facts, facts, of_word, of_actor}
 use Rattle.rz_core.specs.NodeWord.{phase, undecided}
 use Rattle.rz_core.specs.NodeRows.{IsNodeOf}
 use Rattle.rz_core.specs.Legal.{IsLegalInRuns, IsAllowedIn}
@@ -41,6 +41,10 @@ abbrev pub IsCallKept : Volume → Type 0
 IsCallKept v = (h more : List Event) (by : Actor) (question : Call) → IsLegalInRuns v h
     → of_actor by (more ++ h) ≡ of_actor by h → IsProperCall v (facts h) (of_actor by h) by question
     → IsProperCall v (facts (more ++ h)) (of_actor by (more ++ h)) by question
+
+-- A node on a disk that was formatted is the one of a word without events, and a new export is that of the empty log.
+abbrev pub IsBeginning : Volume → Type 0
+IsBeginning v = (f : Facts) → IsNode f [] fresh × IsExport v f [] (new_export v 0)
 
 -- a node of the volume whose word has room, with the state that the log gives
 pub record IsThere (v : Volume) (h : List Event) (n : ℕ) (s : NodeState) : Type 0 where

@@ -8,11 +8,16 @@
 #![tactic(auto)]
 
 ghost use Rattle.rz_events.specs.Volume.{Volume};
-ghost use Rattle.rz_log_laws.specs.Beside.{IsArming, IsAskKept, IsCallKept, IsExportKept, IsNodeKept, IsStarting, IsStopping};
+ghost use Rattle.rz_log_laws.specs.Beside.{IsArming, IsAskKept, IsBeginning, IsCallKept, IsExportKept, IsNodeKept, IsStarting, IsStopping};
 ghost use Rattle.rz_log_laws.specs.Calls.{IsUsable};
-ghost use Rattle.rz_log_laws.specs.Changes.{AreDeciding};
+ghost use Rattle.rz_log_laws.specs.Changes.{AreDeciding, IsBuilt};
 ghost use Rattle.rz_log_laws.specs.Losses.{AreLossesEnrolled, AreLossesKnown};
 ghost use Rattle.rz_log_laws.specs.Places.{AreLaid};
+
+/// A node on a formatted disk and a new export are those of the empty log.
+pub fn beginning()
+    ensures { (v : Volume) → IsBeginning v }
+{}
 
 /// A node's state that is the log's stays so while the node's word has no event more.
 pub fn node_kept()
@@ -72,4 +77,9 @@ pub fn laid()
 /// Calls that only ask, refused calls, denials, looks and listings leave the export as it is.
 pub fn deciding()
     ensures { (v : Volume) → AreDeciding v }
+{}
+
+/// A new export that answers the calls that changed the log's export comes to its state.
+pub fn built()
+    ensures { (v : Volume) → IsBuilt v }
 {}
