@@ -23,12 +23,10 @@ use Rattle.rz_core.proofs.Extends.{Extends}
 use Rattle.rz_operation_model.specs.Ranges.{Range, Aim, Taking, Giving, start_in, count_in, is_whole, cut, patched, passed}
 use Rattle.rz_operation_model.specs.Work.{Course, Alone, Within}
 use Rattle.rz_operation_model.specs.Ask.{is_part}
-use Rattle.rz_events.specs.declared.machines.FileEnd.{FileEnd}
 use Rattle.rz_events.specs.declared.machines.FileEnd.TheVariants as end
 use Rattle.rz_operation_model.specs.Files.{Ended, reads_block, next_block, go_on, with_text, writes_block}
-use Rattle.rz_operation_model.specs.Ask.{SayDone}
-use Rattle.rz_operation_model.specs.Steps.{read_end, in_range, range_answer, after_got, after_gave}
-use Rattle.rz_play_laws.specs.Own.{IsPlacing, IsToldBy, InCourse, IsSaidSo, IsOwn}
+use Rattle.rz_operation_model.specs.Steps.{read_end, in_range, after_got, after_gave}
+use Rattle.rz_play_laws.specs.Own.{IsPlacing, IsToldBy, InCourse, IsOwn}
 
 pub placing-more : (v : Volume) (f g : Facts) → Extends f g → (fid : ℕ) (places : List ℕ) → IsPlacing v f fid places → IsPlacing v g fid places
 placing-more v f g ext fid places p = record { placed = ext.places fid places p.placed; many = p.many; apart = p.apart; nodes = p.nodes }
@@ -57,13 +55,6 @@ long-patched start bytes text most low short =
     let d = length-drop (start + length bytes) text in
     omega (arith, c, a, b, d, low, short)
 
--- the answer of a range says of no rebuild that it is finished
-pub range-said : (o : List Event) (aim : Aim) (end : FileEnd) → IsSaidSo o (SayDone (range_answer aim end))
-range-said o (Taking bytes) (end.Whole done) = tt
-range-said o (Giving bytes) (end.Whole done) = tt
-range-said o aim (end.ShortWrite done cause) = tt
-range-said o aim (end.ShortRead done mark) = tt
-
 module _ (v : Volume) (g : Facts) (o run : List Event) (by : Actor) (going : IsOpen run) where
   reads : (r : Range) → IsPlacing v g r.info.fid r.info.places → IsOwn v g o run by (in_range (reads_block v.layout r))
   reads r placing = (going, record { layout_is = refl; placing = placing; stage = tt }, placing)
@@ -83,7 +74,7 @@ module _ (v : Volume) (g : Facts) (o run : List Event) (by : Actor) (going : IsO
   goes-on r placing = go (r.done == r.size)
     where
       go : (b : Bool) → IsOwn v g o run by (in_range (cond b (Ended r (end.Whole r.done)) (next_block v.layout r r.aim)))
-      go true = range-said o r.aim (end.Whole r.done)
+      go true = tt
       go false = next r placing r.aim
 
 pub after-gave : (v : Volume) (f g : Facts) → Extends f g → (o run : List Event) (by : Actor) (number : ℕ) (key : Key) (course : Course) → InCourse v f course → (end : WriteEnd)
@@ -92,9 +83,7 @@ after-gave v f g ext o run by number key Alone is end = refl
 after-gave v f g ext o run by number key (Within r) is (write.Acked stamp mask) =
     let x = e.Gave by number key true (write.Acked stamp mask) in
     goes-on v g (x ∷ o) (x ∷ run) by refl (passed v.layout r r.aim) (placing-more v f g ext r.info.fid r.info.places is)
-after-gave v f g ext o run by number key (Within r) is (write.TooFew causes) = range-said (e.Gave by number key true (write.TooFew causes) ∷ o) r.aim (end.ShortWrite r.done (write.TooFew causes))
-after-gave v f g ext o run by number key (Within r) is (write.Denied cause) = range-said (e.Gave by number key true (write.Denied cause) ∷ o) r.aim (end.ShortWrite r.done (write.Denied cause))
-after-gave v f g ext o run by number key (Within r) is (write.Revoked later) = range-said (e.Gave by number key true (write.Revoked later) ∷ o) r.aim (end.ShortWrite r.done (write.Revoked later))
+after-gave v f g ext o run by number key (Within r) is (_) = tt
 
 with-text : (v : Volume) (g : Facts) (o run : List Event) (by : Actor) → IsOpen run → (r : Range) → IsPlacing v g r.info.fid r.info.places → (text : List ℕ) → length text ≤ block_bytes_of v.layout
     → (aim : Aim) → IsOwn v g o run by (in_range (with_text v.layout r text aim))
@@ -115,10 +104,7 @@ after-found v f g ext o run by number key (Within r) is (mark.Found stamp size) 
 after-found v f g ext o run by number key (Within r) is mark.Hole text told =
     let x = e.Got by number key true (read_end text mark.Hole) in
     with-text v g (x ∷ o) (x ∷ run) by refl r (placing-more v f g ext r.info.fid r.info.places is) [] (omega arith) r.aim
-after-found v f g ext o run by number key (Within r) is (mark.TooFew seen) text told = range-said (e.Got by number key true (read_end text (mark.TooFew seen)) ∷ o) r.aim (end.ShortRead r.done (mark.TooFew seen))
-after-found v f g ext o run by number key (Within r) is mark.Inconsistent text told = range-said (e.Got by number key true (read_end text mark.Inconsistent) ∷ o) r.aim (end.ShortRead r.done mark.Inconsistent)
-after-found v f g ext o run by number key (Within r) is (mark.Denied cause) text told = range-said (e.Got by number key true (read_end text (mark.Denied cause)) ∷ o) r.aim (end.ShortRead r.done (mark.Denied cause))
-after-found v f g ext o run by number key (Within r) is (mark.Moved was now) text told = range-said (e.Got by number key true (read_end text (mark.Moved was now)) ∷ o) r.aim (end.ShortRead r.done (mark.Moved was now))
+after-found v f g ext o run by number key (Within r) is (_) text told = tt
 
 -- a position's node is one of the volume
 pub node-there : (v : Volume) (places : List ℕ) (p : ℕ) → AllByRecursion (IsNodeOf v) places → p < length places → IsNodeOf v (slice_index places p)

@@ -17,3 +17,4 @@ pub mod Telling
 pub mod Turning
 pub mod Plays
 pub mod Progress
+pub mod Misses

@@ -46,7 +46,7 @@ proper v f o run by number (Locking path plan) own course = lock-proper v f o ru
 proper v f o run by number (Writing c text s) own course = proper-write v f o run by number c text s own.0 own.1 course
 proper v f o run by number (Reading c s) own course = proper-read v f o run by number c s own.0 own.1 course
 proper v f o run by number (Rebuilding n state) own course = proper-rebuilding v f o run by number n own.0 state own.1
-proper v f o run by number (Ending answer) own course = (record { work = Ending answer; course = course; asks = refl }, own)
+proper v f o run by number (Ending answer) own course = record { work = Ending answer; course = course; asks = refl }
 proper v f o run by number Over own course = tt
 
 -- after an answer its own events say where it stands
@@ -121,7 +121,6 @@ rebuild-grows v f g ext o run by n (Copying t l base s) own = (
       state_is = own.1.1.state_is;
       fetching = fetching-grows v f g ext o is_next l.key l.info.places own.1.0 own.1.1.fetching;
       first = λ some. first-more f g ext own.1.0.stamp own.1.0.length base own.1.1.fetching.known (own.1.1.first some);
-      so_far = own.1.1.so_far;
     },
   ),
 )
@@ -134,7 +133,6 @@ rebuild-grows v f g ext o run by n (Refilling t l size base) own = (
     enough = own.1.enough;
     many = own.1.many;
     first = first-more f g ext l.published.stamp size base own.1.listed.known own.1.first;
-    so_far = own.1.so_far;
   },
 )
 rebuild-grows v f g ext o run by n (Leaving t key why) own = (own.0, row-extends v f g ext [] o run (e.Left by key why) tt own.1)

@@ -60,7 +60,7 @@ use Rattle.rz_play_laws.proofs.OwnTurns.{proper, own-turn}
 use Rattle.rz_play_laws.proofs.Telling.{telling}
 use Rattle.rz_play_laws.proofs.Places.{roomy}
 use Rattle.rz_play_laws.proofs.Scripts.{seated, node-of, begins, does-it}
-use Rattle.rz_play_laws.proofs.Turning.{ask-turn, fine-after, said-node, grow, in-runs}
+use Rattle.rz_play_laws.proofs.Turning.{ask-turn, fine-after, grow, in-runs}
 
 -- An operation is taken up.
 
@@ -99,7 +99,6 @@ counts v old w fine = record {
   export_is = fine.export_is;
   own = fine.own;
   under_way = fine.under_way;
-  said_so = fine.said_so;
   todo = fine.todo;
 }
 
@@ -237,7 +236,6 @@ module _ (v : Volume) (telling : IsTelling v) (old : List Event) where
       export_is = fine.export_is;
       own = λ a ok. own-of fine a ok (same_actor a by) refl;
       under_way = λ a ok. way-of fine a ok (same_actor a by) refl;
-      said_so = fine.said_so;
       todo = λ a. todo-of fine a (same_actor a by) refl;
     });
   }
@@ -285,7 +283,6 @@ module _ (v : Volume) (telling : IsTelling v) (old : List Event) where
           tied = subst (λ (z : World). AreTied v (x ∷ w.log) z.nodes z.export) (sym is)
               (tied-node v x w.log w.nodes w.export n after (in-runs v old w fine) (record { nodes_are = fine.nodes_are; export_is = fine.export_is }) at now.tied);
           own = λ ok. cc;
-          said_so = said-node old x fine.run n at fine.said_so;
           course = λ ok. cc;
           number_is = ap (λ (z : World). (z.seats Admin).number) is;
           seat_is = λ a apart. ap (λ (z : World). z.seats a) is;
@@ -308,7 +305,6 @@ module _ (v : Volume) (telling : IsTelling v) (old : List Event) where
       export_is = fine.export_is;
       own = fine.own;
       under_way = fine.under_way;
-      said_so = fine.said_so;
       todo = fine.todo;
     });
   }
@@ -489,7 +485,6 @@ begins-fine v nodes s old b = record {
   export_is = b.export_is;
   own = λ by ok. tt;
   under_way = λ by ok. inl refl;
-  said_so = tt;
   todo = λ by. tt;
 }
 

@@ -372,16 +372,13 @@ read-proper v f o run by number course key places placing (reading.Fetching t) g
     fetching-proper v f o run by number (is_part course) is_look key places placing t h.1 (inl (Some h.0.0, last-has is_look o _ h.0.1)) going (t.left == 0) refl
 read-proper v f o run by number course key places placing (reading.Ended mark) going h going_on =
     let s : ReaderState = record { layout = v.layout; key = key; places = places; stage = reading.Ended mark } in (
-      (
-        h,
-        record {
-          mark = mark;
-          text = found_text f mark;
-          end_is = refl;
-          saying = record { work = Reading course s; course = going_on; asks = refl };
-        },
-      ),
-      tt,
+      h,
+      record {
+        mark = mark;
+        text = found_text f mark;
+        end_is = refl;
+        saying = record { work = Reading course s; course = going_on; asks = refl };
+      },
     )
 
 -- The same of a state that has the layout of the volume.

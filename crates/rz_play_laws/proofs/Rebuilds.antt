@@ -23,7 +23,6 @@ use Rattle.rz_events.specs.declared.nodes.ReplaceAnswer.TheVariants as replace
 use Rattle.rz_events.specs.declared.nodes.NodeAsk.TheVariants as ask
 use Rattle.rz_events.specs.declared.nodes.NodeAnswer.{NodeAnswer}
 use Rattle.rz_events.specs.declared.nodes.NodeAnswer.TheVariants as answer
-use Rattle.rz_events.specs.declared.events.Answer.TheVariants as answers
 use Rattle.rz_events.specs.declared.machines.ReaderAsk.TheVariants as asks
 use Rattle.rz_events.specs.declared.events.Event.{Event}
 use Rattle.rz_events.specs.declared.events.Event.TheVariants as e
@@ -47,12 +46,10 @@ use Rattle.rz_client_model.specs.declared.reading.Fetches.{Fetches}
 use Rattle.rz_client_model.specs.Read.{none_fetched, next_position, with_seen, with_record, unless_enough, after_fetch, seen_of, reader_end}
 use Rattle.rz_operation_model.specs.Rebuild.{RebuildState, Tally, Probing, Enrolling, Replacing, Listing, Copying, Refilling, Leaving, position_of, base_after, ask_to_copy, after_read, after_refill}
 use Rattle.rz_operation_model.specs.Work.{Rebuilding}
-use Rattle.rz_operation_model.specs.Ask.{SayLeft, SayDone, ask_of, rebuild_asks, refill_head}
+use Rattle.rz_operation_model.specs.Ask.{SayLeft, ask_of, rebuild_asks, refill_head}
 use Rattle.rz_operation_model.specs.Turns.{IsStep}
 use Rattle.rz_operation_model.specs.Steps.{Told, Replied, Answered, Missed, told, in_rebuild}
-use Rattle.rz_play_laws.specs.Own.{IsPlacing, IsListedAt, IsToldBy, AreToldBy, IsFetching, HasReplaced, IsOfFirst, IsCopying, IsFilling, IsSoFar, IsSaidSo, IsRebuildStage, IsOwn, IsProper}
-use Rattle.rz_safety.specs.Rebuilt as stages
-use Rattle.rz_events.specs.declared.ends.RebuildEnd.TheVariants as ends
+use Rattle.rz_play_laws.specs.Own.{IsPlacing, IsListedAt, IsToldBy, AreToldBy, IsFetching, HasReplaced, IsOfFirst, IsCopying, IsFilling, IsRebuildStage, IsOwn, IsProper}
 use Rattle.rz_play_laws.proofs.Words.{same, skip-last, has-more}
 use Rattle.rz_play_laws.proofs.Steps.{export-step, node-step, say-step}
 use Rattle.rz_play_laws.proofs.Blocks.{placing-more}
@@ -112,7 +109,7 @@ module _ (v : Volume) (f g : Facts) (ext : Extends f g) (o run : List Event) (by
 
   replaced : (loss fence : ℕ) (given : NodeAnswer) (x : Event) → node_event by n (ask.Replace loss fence) given ≡ Some x → IsNext (Replacing loss fence) (Answered true given) (x ∷ [])
   replaced loss fence (answer.Replace replace.Replaced) x is =
-      subst (λ y. IsNext (Replacing loss fence) (Answered true (answer.Replace replace.Replaced)) (y ∷ [])) (the_some _ x is) (λ told. (there, ((loss, inl refl), λ z. (loss, (refl, refl, refl, refl, refl)))))
+      subst (λ y. IsNext (Replacing loss fence) (Answered true (answer.Replace replace.Replaced)) (y ∷ [])) (the_some _ x is) (λ told. (there, (loss, inl refl)))
   replaced loss fence (answer.Replace replace.NotLost) x is = λ all. tt
   replaced loss fence (answer.Replace (replace.OtherLoss now)) x is = λ all. tt
   replaced loss fence (answer.Replace replace.NoMemory) x is = cc
@@ -124,14 +121,9 @@ module _ (v : Volume) (f g : Facts) (ext : Extends f g) (o run : List Event) (by
   replaced-more : (xs : List Event) (fence : ℕ) → HasReplaced o by n fence → HasReplaced (xs ++ o) by n fence
   replaced-more xs fence h = (h.0, has-more xs o _ h.1)
 
-  listed : (t : Tally) → HasReplaced o by n t.fence × IsSoFar o n t (stages.Ready t.after) → (r : Reply) (x : Event) → next_event by (call.Next n t.after) r ≡ Some x → IsNext (Listing t) (Replied r) (x ∷ [])
+  listed : (t : Tally) → HasReplaced o by n t.fence → (r : Reply) (x : Event) → next_event by (call.Next n t.after) r ≡ Some x → IsNext (Listing t) (Replied r) (x ∷ [])
   listed t has (reply.Listed None) x is =
-      subst (λ y. IsNext (Listing t) (Replied (reply.Listed None)) (y ∷ [])) (the_some _ x is) (λ all. go (t.left == 0) refl)
-    where
-      go : (b : Bool) → (t.left == 0) ≡ b
-          → IsSaidSo (e.Next by n t.after None ∷ o) (SayDone (answers.Rebuild (cond b (ends.Rebuilt t.fence t.refilled) (ends.Left t.fence t.refilled t.left))))
-      go true none = let r = has.1 (eqb-true t.left 0 none) in (n, r.0, (refl, refl, r.1))
-      go false some = tt
+      subst (λ y. IsNext (Listing t) (Replied (reply.Listed None)) (y ∷ [])) (the_some _ x is) (λ all. tt)
   listed t has (reply.Listed (Some l)) x is =
       subst (λ y. IsNext (Listing t) (Replied (reply.Listed (Some l))) (y ∷ [])) (the_some _ x is)
       (λ told. (
@@ -142,13 +134,12 @@ module _ (v : Volume) (f g : Facts) (ext : Extends f g) (o run : List Event) (by
             none_fetched v.layout l.published,
             record {
               listing = record { after = (t.after, refl); key_is = refl };
-              replaced = has.0;
+              replaced = has;
               listed = told.0;
               stamp_is = refl;
               state_is = refl;
               fetching = fresh-fetches v g (e.Next by n t.after (Some l) ∷ o) is_next l.key l.info.places l.published told.0.placing.many refl told.0.known;
               first = λ some. absurd (omega (arith, some));
-              so_far = λ z. let r = has.1 z in (r.0, (refl, refl, r.1));
             },
           ),
         ),
@@ -164,9 +155,8 @@ module _ (v : Volume) (f g : Facts) (ext : Extends f g) (o run : List Event) (by
     -- it goes on
     copying : (xs : List Event) (now : ℕ) (nt : Fetches) → IsOpen (xs ++ run) → last is_next (xs ++ o) ≡ last is_next o → before is_next (xs ++ o) ≡ before is_next o
         → nt.stamp ≡ ft.stamp → IsFetching v g (xs ++ o) is_next l.key l.info.places nt → (0 < nt.given → IsOfFirst g nt.stamp nt.length now)
-        → IsSoFar (xs ++ o) n t (stages.Told t.after l.key l.published.stamp)
         → IsRebuildStage v g (xs ++ o) (xs ++ run) by n (Copying t l now (state (reading.Fetching nt)))
-    copying xs now nt going none older stamp fetching first so_far = (
+    copying xs now nt going none older stamp fetching first = (
       going,
       (
         nt,
@@ -178,7 +168,6 @@ module _ (v : Volume) (f g : Facts) (ext : Extends f g) (o run : List Event) (by
           state_is = refl;
           fetching = fetching;
           first = first;
-          so_far = so_far;
         },
       ),
     )
@@ -199,18 +188,11 @@ module _ (v : Volume) (f g : Facts) (ext : Extends f g) (o run : List Event) (by
       abbrev loses : Bool → Event
       loses lost = e.Missed by node lost
 
-      run-on : (a : FetchAnswer) → IsSoFar (gets a ∷ o) n t (stages.Told t.after l.key l.published.stamp)
-      run-on (fetch.Held r) = c.so_far
-      run-on fetch.Nothing = c.so_far
-      run-on fetch.Lost = c.so_far
-      run-on fetch.Down = c.so_far
-      run-on fetch.DiskFault = c.so_far
-
       unseen : (a : FetchAnswer) → is_held (seen_of a) ≡ false → IsRebuildStage v g (gets a ∷ o) (gets a ∷ run) by n (Copying t l base (state (reading.Fetching (with_seen ft (seen_of a)))))
       unseen a is =
           let quiet = quiet-next by node l.key (next_position ft) ft.stamp a in
           copying (gets a ∷ []) base (with_seen ft (seen_of a)) (fetch-ends by node l.key (next_position ft) ft.stamp a) (skip-last is_next (gets a) o quiet) (skip-before is_next (gets a) o quiet) refl
-          (seen-more v f g ext o by is_next (quiet-next by) (λ m lost. refl) l.key l.info.places c.listed.placing ft c.fetching some a is) old-first (run-on a)
+          (seen-more v f g ext o by is_next (quiet-next by) (λ m lost. refl) l.key l.info.places c.listed.placing ft c.fetching some a is) old-first
 
       -- the length and base after a record
       first-now : (r : Held) (b : Begun) → g.wrote ft.stamp ≡ Some b → r.length ≡ length b.text → r.base ≡ b.base → (r.stamp == ft.stamp) ≡ true → (z : Bool) → (ft.given == 0) ≡ z
@@ -226,7 +208,7 @@ module _ (v : Volume) (f g : Facts) (ext : Extends f g) (o run : List Event) (by
       held r b found long from same true less =
           copying (gets (fetch.Held r) ∷ []) (base_after (reading.Fetching ft) base (fetch.Held r)) (with_record ft r.length) refl refl refl refl
           (record-more v f g ext o by is_next (quiet-next by) (λ m lost. refl) l.key l.info.places c.listed.placing ft c.fetching some r (ltb-true (ft.given + 1) (inverse_of v.layout) less))
-          (λ z. first-now r b found long from same (ft.given == 0) refl) c.so_far
+          (λ z. first-now r b found long from same (ft.given == 0) refl)
       held r b found long from same false more = (
         refl,
         record {
@@ -239,7 +221,6 @@ module _ (v : Volume) (f g : Facts) (ext : Extends f g) (o run : List Event) (by
               (record-many v f g ext o by is_next (quiet-next by) (λ m lost. refl) l.key l.info.places c.listed.placing ft c.fetching some r (ltb-false (ft.given + 1) (inverse_of v.layout) more));
           first = subst (λ z. IsOfFirst g z (cond (ft.given == 0) r.length ft.length) (base_after (reading.Fetching ft) base (fetch.Held r))) c.stamp_is
               (first-now r b found long from same (ft.given == 0) refl);
-          so_far = c.so_far;
         },
       )
 
@@ -269,7 +250,7 @@ module _ (v : Volume) (f g : Facts) (ext : Extends f g) (o run : List Event) (by
             there,
             let quiet = quiet-next by node l.key (next_position ft) ft.stamp a in
                 copying (loses true ∷ gets a ∷ []) base (with_seen ft seen.Missed) refl (skip-last is_next (gets a) o quiet) (skip-before is_next (gets a) o quiet) refl
-                (reply-lost v f g ext o by is_next (quiet-next by) (λ m lost. refl) l.key l.info.places c.listed.placing ft c.fetching some a) old-first (run-on a),
+                (reply-lost v f g ext o by is_next (quiet-next by) (λ m lost. refl) l.key l.info.places c.listed.placing ft c.fetching some a) old-first,
           ))
       replied (_) x is = cc
 
@@ -277,7 +258,7 @@ module _ (v : Volume) (f g : Facts) (ext : Extends f g) (o run : List Event) (by
       requested told = (
         there,
         copying (loses false ∷ []) base (with_seen ft seen.Missed) refl refl refl refl
-            (request-lost v f g ext o by is_next (quiet-next by) (λ m lost. refl) l.key l.info.places c.listed.placing ft c.fetching some) old-first c.so_far,
+            (request-lost v f g ext o by is_next (quiet-next by) (λ m lost. refl) l.key l.info.places c.listed.placing ft c.fetching some) old-first,
       )
 
     module _ (none : ft.left ≡ 0) where
@@ -308,9 +289,7 @@ module _ (v : Volume) (f g : Facts) (ext : Extends f g) (o run : List Event) (by
           same = eqb-true (stamp_told p) ft.stamp is ∙ c.stamp_is;
         },
       )
-      rechecked p false is =
-          let apart : ¬ (stamp_told p ≡ l.published.stamp) = λ k. (let z : (stamp_told p == ft.stamp) ≡ true = eq-eqb (stamp_told p) ft.stamp (k ∙ sym c.stamp_is) in cc) in
-          (has-replaced (e.Recheck by l.key p ∷ []), λ z. (let r = c.so_far z in (r.0, inr (t.after, l.published.stamp, refl, apart, r.1))))
+      rechecked p false is = has-replaced (e.Recheck by l.key p ∷ [])
 
       recheck-step : (r : Reply) (x : Event) → recheck_event by (call.Recheck l.key) r ≡ Some x → IsNext (Copying t l base (state (reading.Fetching ft))) (Replied r) (x ∷ [])
       recheck-step (reply.Looked p) x is =
@@ -361,8 +340,8 @@ module _ (v : Volume) (f g : Facts) (ext : Extends f g) (o run : List Event) (by
     leaves xs why row = (there, (has-replaced-then xs, row))
 
     filled : (a : RefillAnswer) → IsOwn v g (fills a ∷ o) (fills a ∷ run) by (in_rebuild n (after_refill t l a))
-    filled refill.Kept = (there, (has-replaced-then (fills refill.Kept ∷ []), λ z. (let r = c.so_far z in (r.0, inr (refl, refl, (t.after, t.refilled, refl, r.1))))))
-    filled (refill.Passed held) = (there, (has-replaced-then (fills (refill.Passed held) ∷ []), λ z. (let r = c.so_far z in (r.0, inr (refl, refl, (t.after, t.refilled, refl, r.1))))))
+    filled refill.Kept = (there, has-replaced-then (fills refill.Kept ∷ []))
+    filled (refill.Passed held) = (there, has-replaced-then (fills (refill.Passed held) ∷ []))
     filled refill.Lost = tt
     filled (refill.OtherFence now) = tt
     filled refill.Down = leaves (fills refill.Down ∷ []) left.Down (record { node = n; told = l; refused = refl; refilling = refilling })
@@ -405,7 +384,7 @@ module _ (v : Volume) (f g : Facts) (ext : Extends f g) (o run : List Event) (by
       node-step by n (ask.Refill tally.fence (refill_head v.layout (position_of n l) l.published.stamp size base l.key)) (λ z zs. IsNext (Refilling tally l size base) z zs)
       (refill-through tally l size base own.1) (λ given x event link. refill-replied tally l size base own.1 given x event) (λ link. refill-requested tally l size base own.1) t xs step
   own-rebuilding (Leaving tally key why) own t xs step =
-      say-step by number (SayLeft key why) (λ z zs. IsNext (Leaving tally key why) z zs) (λ text all. (there, (replaced-more (e.Left by key why ∷ []) tally.fence own.0, λ z. absurd (omega (arith, z))))) t xs step
+      say-step by number (SayLeft key why) (λ z zs. IsNext (Leaving tally key why) z zs) (λ text all. (there, replaced-more (e.Left by key why ∷ []) tally.fence own.0)) t xs step
 
 -- What a rebuild asks is proper.
 
@@ -442,4 +421,4 @@ proper-rebuilding v f o run by number n there (Refilling t l size base) own =
       tt,
       λ link. own.0,
     )
-proper-rebuilding v f o run by number n there (Leaving t key why) own = (own.1, tt)
+proper-rebuilding v f o run by number n there (Leaving t key why) own = own.1

@@ -30,29 +30,16 @@ use Rattle.rz_operation_model.specs.Steps.{Told, Replied, Locked, Answered, Miss
 use Rattle.rz_events.specs.declared.operations.Operation.{Operation}
 use Rattle.rz_play.specs.World.{World, Seat}
 use Rattle.rz_play.specs.Turns.{IsAskTurn, IsExportTurn, IsLockTurn, IsNodeTurn, Through, ReplyLost, RequestLost, IsSayTurn, moved, advanced, answered, text_said, no_miss, with_lost, IsLost}
-use Rattle.rz_play_laws.specs.Own.{IsToldBy, AreToldBy, IsOwn, IsProper, IsUnderWay, IsSaidSo}
+use Rattle.rz_play_laws.specs.Own.{IsToldBy, AreToldBy, IsOwn, IsProper, IsUnderWay}
 use Rattle.rz_core.proofs.Locality.{next-run}
 use Rattle.rz_script.specs.Lines.{IsOperation}
-use Rattle.rz_safety.specs.Rebuilt.{IsRebuilt}
-use Rattle.rz_events.specs.declared.ends.RebuildEnd.TheVariants as ends
-use Rattle.rz_events.specs.declared.events.Answer.TheVariants as answers
 use Rattle.rz_operation_model.specs.Turns.{said_event, goes_by_link, IsStep, Through as StepThrough, ReplyLost as StepReplyLost, RequestLost as StepRequestLost}
 use Rattle.rz_core.specs.Courses.{IsCourse, Went}
-use Rattle.rz_play_laws.specs.Fine.{IsSeated, IsTelling, AreSaidSo, IsFine, IsFineIfShort}
+use Rattle.rz_play_laws.specs.Fine.{IsSeated, IsTelling, IsFine, IsFineIfShort}
 use Rattle.rz_play_laws.proofs.Frames.{AreBy, of_actor-mine, of_actor-other, same_actor-refl, same_actor-true, AreTied, with_state, tied-export, tied-own, tied-node, word-short}
 use Rattle.rz_play_laws.proofs.Events.{export-event, node-event, no-opening}
 use Rattle.rz_play_laws.proofs.OwnTurns.{own-others}
 use Rattle.rz_play_laws.proofs.Telling.{told-extends}
-
--- Events that say of no rebuild that it is finished.
-
-pub said-export : (old : List Event) (x : Event) (run : List Event) → word_of x ≡ Export → AreSaidSo old run → AreSaidSo old (x ∷ run)
-said-export old (e.Done by number answer) run is r = cc
-said-export old (_) run is r = r
-
-pub said-node : (old : List Event) (x : Event) (run : List Event) (n : ℕ) → word_of x ≡ Node n → AreSaidSo old run → AreSaidSo old (x ∷ run)
-said-node old (e.Done by number answer) run n is r = cc
-said-node old (_) run n is r = r
 
 -- The world after the events xs of one actor.
 
@@ -63,7 +50,6 @@ pub record IsAfter (v : Volume) (old run : List Event) (w : World) (by : Actor) 
   pub tied : AreTied v (xs ++ w.log) next.nodes next.export
   pub own : IsSeated by → IsOwn v (facts (xs ++ w.log)) (xs ++ of_actor by w.log) (xs ++ of_actor by run) by work
   pub course : IsSeated by → IsUnderWay v by number (xs ++ of_actor by run) work
-  pub said_so : AreSaidSo old (xs ++ run)
   pub number_is : (next.seats by).number ≡ number
   pub seat_is : (a : Actor) → same_actor a by ≡ false → next.seats a ≡ w.seats a
   pub work_is : (next.seats by).work ≡ work
@@ -84,7 +70,6 @@ fine-after v old w fine by number work todo xs next after = record {
   export_is = subst (λ (h : List Event). IsExport v (facts h) (of_word Export h) next.export) (sym after.log_is) after.tied.export_is;
   own = λ a ok. subst (λ (h : List Event). IsOwn v (facts h) (of_actor a h) (of_actor a (xs ++ fine.run)) a (next.seats a).work) (sym after.log_is) (of_a a ok (same_actor a by) refl);
   under_way = λ a ok. way_of a ok (same_actor a by) refl;
-  said_so = after.said_so;
   todo = λ a. todo_of a (same_actor a by) refl;
 }
   where
@@ -188,7 +173,6 @@ module _ (v : Volume) (telling : IsTelling v) (old : List Event) (w : World) (fi
         tied = subst (λ (z : World). AreTied v (x ∷ w.log) z.nodes z.export) (sym next_is) (tied-export v x w.log w.nodes w.export (export_after w.export c) (in-runs v old w fine) tied ev.word_is step.tied);
         own = λ ok. turns (facts (x ∷ w.log)) (extends-more (x ∷ []) w.log) (Replied (export_reply w.export c)) (x ∷ [])
             (export_reply w.export c, x, refl, is, refl) (telling w.log x seen, tt);
-        said_so = said-export old x fine.run ev.word_is fine.said_so;
         course = λ ok. steps (Replied (export_reply w.export c)) (x ∷ []) (export_reply w.export c, x, refl, is, refl);
         number_is = ap (λ (z : World). (z.seats by).number) next_is ∙ ap (λ (z : Seat). z.number) (seat-mine by _ _);
         seat_is = λ a apart. ap (λ (z : World). z.seats a) next_is ∙ seat-other a by (same_actor a by) _ _ apart;
@@ -216,7 +200,6 @@ module _ (v : Volume) (telling : IsTelling v) (old : List Event) (w : World) (fi
         tied = subst (λ (z : World). AreTied v (x ∷ w.log) z.nodes z.export) (sym next_is) (tied-export v x w.log w.nodes w.export (export_after w.export c) (in-runs v old w fine) tied ev.word_is step.tied);
         own = λ ok. turns (facts (x ∷ w.log)) (extends-more (x ∷ []) w.log) (Locked granted (export_reply w.export c)) (x ∷ [])
             (granted, export_reply w.export c, x, refl, is, refl) (telling w.log x seen, tt);
-        said_so = said-export old x fine.run ev.word_is fine.said_so;
         course = λ ok. steps (Locked granted (export_reply w.export c)) (x ∷ []) (granted, export_reply w.export c, x, refl, is, refl);
         number_is = ap (λ (z : World). (z.seats by).number) next_is ∙ ap (λ (z : Seat). z.number) (seat-mine by _ _);
         seat_is = λ a apart. ap (λ (z : World). z.seats a) next_is ∙ seat-other a by (same_actor a by) _ _ apart;
@@ -244,15 +227,6 @@ module _ (v : Volume) (telling : IsTelling v) (old : List Event) (w : World) (fi
   said-row number text (SayLeft key why) w' run row = row
   said-row number text (SayDone answer) w' run row = row
 
-  said-so : (number : ℕ) (text : List ℕ) (said : Saying) → IsSaidSo o said → AreSaidSo old (said_event by number text said ∷ fine.run)
-  said-so number text (SayGot key part mark) is = fine.said_so
-  said-so number text (SayGave key part end) is = fine.said_so
-  said-so number text (SayLeft key why) is = fine.said_so
-  said-so number text (SayDone (answers.Rebuild (ends.Rebuilt fence refilled))) is =
-      (fine.said_so, subst (λ (h : List Event). (n loss : ℕ) × IsRebuilt (of_actor by h) n loss fence refilled) fine.log_is is)
-  said-so number text (SayDone (answers.Rebuild (_))) is = fine.said_so
-  said-so number text (SayDone (_)) is = fine.said_so
-
   own-allowed : (x : Event) (h run : List Event) → by_of x ≡ by → word_of x ≡ Own by → length h < 2 ^ 64 - 1
       → Row v (facts h) (of_word (Own by) h) (of_actor by h) (of_actor by run) x → IsAllowedIn v h (of_actor (by_of x) run) x
   own-allowed x h run by_is word_is few row =
@@ -267,7 +241,7 @@ module _ (v : Volume) (telling : IsTelling v) (old : List Event) (w : World) (fi
       let log_is : next.log ≡ x ∷ w.log = ap (λ (z : World). z.log) next_is in
       let long : length (x ∷ w.log) < 2 ^ 64 - 1 = subst (λ (h : List Event). length h < 2 ^ 64 - 1) log_is few in
       let allowed = own-allowed x w.log fine.run (said-by s.number text said) (said-word s.number text said) (omega (arith, long))
-      (said-row s.number text said (of_word (Own by) w.log) r proper.0) in
+      (said-row s.number text said (of_word (Own by) w.log) r proper) in
       let legal = grow v old w fine x allowed in
       let seen = now-in-runs v old w fine x legal in
       fine-after v old w fine by s.number (told v.layout s.work (Noted text)) s.todo (x ∷ []) next
@@ -277,7 +251,6 @@ module _ (v : Volume) (telling : IsTelling v) (old : List Event) (w : World) (fi
         legal = legal;
         tied = subst (λ (z : World). AreTied v (x ∷ w.log) z.nodes z.export) (sym next_is) (tied-own v x w.log w.nodes w.export by (in-runs v old w fine) tied (said-word s.number text said));
         own = λ ok. turns (facts (x ∷ w.log)) (extends-more (x ∷ []) w.log) (Noted text) (x ∷ []) (text, refl, refl) (telling w.log x seen, tt);
-        said_so = said-so s.number text said proper.1;
         course = λ ok. steps (Noted text) (x ∷ []) (text, refl, refl);
         number_is = ap (λ (z : World). (z.seats by).number) next_is ∙ ap (λ (z : Seat). z.number) (seat-mine by _ _);
         seat_is = λ a apart. ap (λ (z : World). z.seats a) next_is ∙ seat-other a by (same_actor a by) _ _ apart;
@@ -312,7 +285,6 @@ module _ (v : Volume) (telling : IsTelling v) (old : List Event) (w : World) (fi
           tied = subst (λ (z : World). AreTied v (x ∷ w.log) z.nodes z.export) (sym next_is)
               (tied-node v x w.log w.nodes w.export n (after_answer question given (w.nodes n)) (in-runs v old w fine) tied ev.word_is step.tied);
           own = λ ok. turns (facts (x ∷ w.log)) (extends-more (x ∷ []) w.log) (Answered true given) (x ∷ []) (StepThrough given x is) (telling w.log x seen, tt);
-          said_so = said-node old x fine.run n ev.word_is fine.said_so;
           course = λ ok. steps (Answered true given) (x ∷ []) (StepThrough given x is);
           number_is = ap (λ (z : World). (z.seats by).number) next_is ∙ ap (λ (z : Seat). z.number) (seat-mine by _ _);
           seat_is = λ a apart. ap (λ (z : World). z.seats a) next_is ∙ seat-other a by (same_actor a by) _ _ apart;
@@ -344,7 +316,6 @@ module _ (v : Volume) (telling : IsTelling v) (old : List Event) (w : World) (fi
               (tied-own v m (x ∷ w.log) (with_state w.nodes n (after_answer question given (w.nodes n))) w.export by seen now refl);
           own = λ ok. turns (facts (m ∷ x ∷ w.log)) (extends-more (m ∷ x ∷ []) w.log) Missed (m ∷ x ∷ []) (StepReplyLost given x is link)
               (tt, (told-more v m (x ∷ w.log) x (telling w.log x seen), tt));
-          said_so = said-node old x fine.run n ev.word_is fine.said_so;
           course = λ ok. steps Missed (m ∷ x ∷ []) (StepReplyLost given x is link);
           number_is = ap (λ (z : World). (z.seats by).number) next_is ∙ ap (λ (z : Seat). z.number) (seat-mine by _ _);
           seat_is = λ a apart. ap (λ (z : World). z.seats a) next_is ∙ seat-other a by (same_actor a by) _ _ apart;
@@ -366,7 +337,6 @@ module _ (v : Volume) (telling : IsTelling v) (old : List Event) (w : World) (fi
           legal = missed;
           tied = subst (λ (z : World). AreTied v (m ∷ w.log) z.nodes z.export) (sym next_is) (tied-own v m w.log w.nodes w.export by (in-runs v old w fine) tied refl);
           own = λ ok. turns (facts (m ∷ w.log)) (extends-more (m ∷ []) w.log) Missed (m ∷ []) (StepRequestLost link) (tt, tt);
-          said_so = fine.said_so;
           course = λ ok. steps Missed (m ∷ []) (StepRequestLost link);
           number_is = ap (λ (z : World). (z.seats by).number) next_is ∙ ap (λ (z : Seat). z.number) (seat-mine by _ _);
           seat_is = λ a apart. ap (λ (z : World). z.seats a) next_is ∙ seat-other a by (same_actor a by) _ _ apart;

@@ -298,7 +298,7 @@ module _ (v : Volume) (f : Facts) (o run : List Event) (by : Actor) (key : Key) 
   write-proper number going writing.Beginning is going_on = short
   write-proper number going (writing.Sending t) h going_on = sending-proper number going t h (nat_lt t.kept (forward_of v.layout)) refl
   write-proper number going (writing.Ended end) h going_on =
-      ((h, record { work = Writing course text (state_at (writing.Ended end)); course = going_on; asks = refl }), tt)
+      (h, record { work = Writing course text (state_at (writing.Ended end)); course = going_on; asks = refl })
 
 -- The same of a state that has the layout of the volume.
 

@@ -1,14 +1,11 @@
 -- When a world is in order, in a play that goes on after an earlier log.
-use Rattle.std.specs.Prelude.{ℕ, false, [], ◌≡◌, ◌<◌, ◌-◌, ◌^◌, List, ◌∷◌, ◌++◌, length}
+use Rattle.std.specs.Prelude.{ℕ, false, ◌≡◌, ◌<◌, ◌-◌, ◌^◌, List, ◌∷◌, ◌++◌, length}
 use Rattle.std.specs.List.{AllByRecursion}
 use Rattle.rz_events.specs.Volume.{Volume}
 use Rattle.rz_events.specs.declared.keys.Actor.{Actor}
 use Rattle.rz_events.specs.declared.keys.Actor.TheVariants.{Admin}
-use Rattle.rz_events.specs.declared.ends.RebuildEnd.TheVariants as ends
-use Rattle.rz_events.specs.declared.events.Answer.TheVariants as answers
 use Rattle.rz_events.specs.declared.events.Word.TheVariants.{Export, Node}
 use Rattle.rz_events.specs.declared.events.Event.{Event}
-use Rattle.rz_events.specs.declared.events.Event.TheVariants as e
 use Rattle.rz_events.specs.Events.{same_actor}
 use Rattle.rz_node_model.specs.States.{NodeState}
 use Rattle.rz_export_model.specs.Export.{Export as ExportState}
@@ -16,7 +13,6 @@ use Rattle.rz_script.specs.Lines.{IsOperation}
 use Rattle.rz_core.specs.History.{facts, of_word, of_actor}
 use Rattle.rz_core.specs.Legal.{IsLegalInRuns, IsLegalAfter}
 use Rattle.rz_core.specs.Tied.{IsNode, IsExport}
-use Rattle.rz_safety.specs.Rebuilt.{IsRebuilt}
 use Rattle.rz_play.specs.World.{World}
 use Rattle.rz_play_laws.specs.Own.{IsOwn, IsUnderWay, IsToldBy}
 
@@ -39,13 +35,6 @@ pub record IsBeginning (v : Volume) (nodes : ℕ → NodeState) (s : ExportState
 abbrev pub IsSeated : Actor → Type 0
 IsSeated by = same_actor by Admin ≡ false
 
--- each operation of this run that says it rebuilt a node, with this fence and so many keys, did so
-abbrev pub AreSaidSo : List Event → List Event → Type 0
-AreSaidSo old [] = Unit {0}
-AreSaidSo old (e.Done by number (answers.Rebuild (ends.Rebuilt fence refilled)) ∷ run) =
-    AreSaidSo old run × ((n loss : ℕ) × IsRebuilt (of_actor by (run ++ old)) n loss fence refilled)
-AreSaidSo old (_ ∷ run) = AreSaidSo old run
-
 -- `run` has the events of this run, which go on after the earlier log.
 pub record IsFine (v : Volume) (old : List Event) (w : World) : Type 0 where
   pub run : List Event
@@ -55,7 +44,6 @@ pub record IsFine (v : Volume) (old : List Event) (w : World) : Type 0 where
   pub export_is : IsExport v (facts w.log) (of_word Export w.log) w.export
   pub own : (by : Actor) → IsSeated by → IsOwn v (facts w.log) (of_actor by w.log) (of_actor by run) by (w.seats by).work
   pub under_way : (by : Actor) → IsSeated by → IsUnderWay v by (w.seats by).number (of_actor by run) (w.seats by).work
-  pub said_so : AreSaidSo old run
   pub todo : (by : Actor) → AllByRecursion (IsOperation v by) (w.seats by).todo
 
 -- a log has room for fewer than 2^64 events

@@ -44,12 +44,8 @@ use Rattle.rz_client_model.specs.Write.{is_kept}
 use Rattle.rz_operation_model.specs.Work.{Work, Plan, OnBlock, PutBlock, Course, Alone, Within, Calling, Dropping, Opening, Locking, Writing, Reading, Rebuilding, Ending, Over}
 use Rattle.rz_operation_model.specs.Rebuild.{RebuildState, Tally, Probing, Enrolling, Replacing, Listing, Copying, Refilling, Leaving, position_of}
 use Rattle.rz_operation_model.specs.Turns.{said_event, goes_by_link, IsStep}
-use Rattle.rz_operation_model.specs.Ask.{Ask, AskExport, AskNode, AskLock, Say, Rest, Saying, SayDone, ask_of}
+use Rattle.rz_operation_model.specs.Ask.{Ask, AskExport, AskNode, AskLock, Say, Rest, ask_of}
 use Rattle.rz_operation_model.specs.Steps.{Told, told, read_end}
-use Rattle.rz_safety.specs.Rebuilt as stages
-use Rattle.rz_safety.specs.Rebuilt.{Stage, IsRun, IsRebuilt}
-use Rattle.rz_events.specs.declared.ends.RebuildEnd.TheVariants as ends
-use Rattle.rz_events.specs.declared.events.Answer.TheVariants as answers
 use Rattle.rz_play.specs.Turns.{found_text, text_said}
 use Rattle.rz_events.specs.declared.ends.ReadEnd.TheVariants as read
 
@@ -104,11 +100,6 @@ IsOfActor ask.Start = ⊥
 IsOfActor ask.Lose = ⊥
 IsOfActor _ = Unit {0}
 
--- where a rebuild says that it is finished, it is
-abbrev pub IsSaidSo : List Event → Saying → Type 0
-IsSaidSo o (SayDone (answers.Rebuild (ends.Rebuilt fence refilled))) = (n loss : ℕ) × IsRebuilt o n loss fence refilled
-IsSaidSo o _ = Unit {0}
-
 -- What an ask needs of the actor's own events: a call is one that the laws of a node or of the export speak of, and a word
 -- is allowed.
 abbrev pub IsProper : Volume → Facts → List Event → List Event → Actor → ℕ → Ask → Type 0
@@ -116,7 +107,7 @@ IsProper v f o run by number (AskExport c) = IsProperCall v f o by c
 IsProper v f o run by number (AskNode n question) =
     IsProperAsk v f o by n question × IsNodeOf v n × IsOfActor question × (goes_by_link question ≡ true → IsOpen run)
 IsProper v f o run by number (AskLock path exclusive from count) = Unit {0}
-IsProper v f o run by number (Say said) = Row v f [] o run (said_event by number (text_said f said) said) × IsSaidSo o said
+IsProper v f o run by number (Say said) = Row v f [] o run (said_event by number (text_said f said) said)
 IsProper v f o run by number Rest = Unit {0}
 
 -- The write of a block.
@@ -185,10 +176,6 @@ InCourse v f (Within r) = IsPlacing v f r.info.fid r.info.places
 abbrev pub HasReplaced : List Event → Actor → ℕ → ℕ → Type 0
 HasReplaced o by n fence = (loss : ℕ) × Has o (e.Replace by n loss fence)
 
--- As long as no block was left, the own events since the replacement are those of a rebuild that stands here.
-abbrev pub IsSoFar : List Event → ℕ → Tally → Stage → Type 0
-IsSoFar o n t stage = t.left ≡ 0 → (loss : ℕ) × IsRun o n loss t.fence t.refilled stage
-
 -- the length and the base that the first record told are those of the write
 pub record IsOfFirst (f : Facts) (stamp length base : ℕ) : Type 0 where
   pub length_is : length ≡ length_in (f.wrote stamp)
@@ -203,7 +190,6 @@ pub record IsCopying (v : Volume) (f : Facts) (o : List Event) (by : Actor) (n :
   pub state_is : s ≡ record { layout = v.layout; key = l.key; places = l.info.places; stage = reading.Fetching ft }
   pub fetching : IsFetching v f o is_next l.key l.info.places ft
   pub first : 0 < ft.given → IsOfFirst f ft.stamp ft.length base
-  pub so_far : IsSoFar o n t (stages.Told t.after l.key l.published.stamp)
 
 pub record IsFilling (v : Volume) (f : Facts) (o : List Event) (by : Actor) (n : ℕ) (t : Tally) (l : Listed) (length base : ℕ) : Type 0 where
   pub listing : IsListing o by n l.key l
@@ -212,13 +198,12 @@ pub record IsFilling (v : Volume) (f : Facts) (o : List Event) (by : Actor) (n :
   pub enough : HasDistinct (inverse_of v.layout) (gave l.key l.published.stamp (since is_next o))
   pub many : inverse_of v.layout ≤ count_by is_held (seens l.key l.published.stamp (since is_next o) 0 l.info.places)
   pub first : IsOfFirst f l.published.stamp length base
-  pub so_far : IsSoFar o n t (stages.Told t.after l.key l.published.stamp)
 
 abbrev pub IsRebuildStage : Volume → Facts → List Event → List Event → Actor → ℕ → RebuildState → Type 0
 IsRebuildStage v f o run by n Probing = Unit {0}
 IsRebuildStage v f o run by n (Enrolling loss) = Has o (e.Probe by n (Some loss))
 IsRebuildStage v f o run by n (Replacing loss fence) = Has o (e.Enroll by n loss fence)
-IsRebuildStage v f o run by n (Listing t) = HasReplaced o by n t.fence × IsSoFar o n t (stages.Ready t.after)
+IsRebuildStage v f o run by n (Listing t) = HasReplaced o by n t.fence
 IsRebuildStage v f o run by n (Copying t l base s) = IsOpen run × ((ft : Fetches) × IsCopying v f o by n t l base s ft)
 IsRebuildStage v f o run by n (Refilling t l length base) = IsOpen run × IsFilling v f o by n t l length base
 IsRebuildStage v f o run by n (Leaving t key why) = HasReplaced o by n t.fence × LeftRow v f o by key why
@@ -244,7 +229,7 @@ IsOwn v f o run by (Locking path plan) = Unit {0}
 IsOwn v f o run by (Writing course text s) = IsOpen run × IsWrite v f o by text s × InCourse v f course
 IsOwn v f o run by (Reading course s) = IsOpen run × IsRead v f o by s × InCourse v f course
 IsOwn v f o run by (Rebuilding n s) = IsNodeOf v n × IsRebuildStage v f o run by n s
-IsOwn v f o run by (Ending answer) = IsSaidSo o (SayDone answer)
+IsOwn v f o run by (Ending answer) = Unit {0}
 IsOwn v f o run by Over = IsBetween run
 
 -- The newest own events of the run are those of the operation in hand, or none is in hand.

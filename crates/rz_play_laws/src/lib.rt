@@ -8,7 +8,7 @@
 //! which scripts are meant and what is promised of a play that goes on.
 #![tactic(auto)]
 
-ghost use Rattle.std.specs.Prelude.{ℕ, List};
+ghost use Rattle.std.specs.Prelude.{ℕ, ◌+◌, ◌≤◌, List};
 ghost use Rattle.rz_events.specs.Volume.{Volume, IsVolume};
 ghost use Rattle.rz_events.specs.declared.keys.Actor.{Actor as AnActor};
 ghost use Rattle.rz_events.specs.declared.events.Event.{Event as AnEvent};
@@ -21,6 +21,7 @@ ghost use Rattle.rz_script.specs.declared.line.Line.{Line as ALine};
 ghost use Rattle.rz_play.specs.World.{World, world_after};
 ghost use Rattle.rz_play.specs.Turns.{IsTurn};
 ghost use Rattle.rz_play.specs.Stops.{StopCause};
+ghost use Rattle.rz_play.specs.Faults.{missed, misses};
 ghost use Rattle.rz_play.specs.Played.{IsPlayedFrom, IsStoppedFrom, IsBegunFrom, IsBegun};
 ghost use Rattle.rz_play_laws.specs.Own.{IsOwnTurn, IsOwnKept, IsOwnProper};
 ghost use Rattle.rz_play_laws.specs.Fine.{IsBeginning, IsSeated, IsFine, IsTelling};
@@ -104,4 +105,10 @@ pub fn in_order()
 /// In such a world each actor has a turn, whatever it asks.
 pub fn goes_on()
     ensures { (v : Volume) (old : List AnEvent) (w : World) → IsFine v old w → (by : AnActor) → IsSeated by → (next : World) × IsTurn v by w next }
+{}
+
+/// Each message that was lost was lost by a line of the script or by the link.
+pub fn losses()
+    ensures { (v : Volume) (script : List ALine) (nodes : ℕ → NodeState) (export : ExportState) (old log : List AnEvent)
+        → (p : IsBegunFrom v (world_after nodes export old) script log) → missed log ≤ missed old + misses script + p.last.lost }
 {}
