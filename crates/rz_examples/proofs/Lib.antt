@@ -6,3 +6,4 @@ pub mod Steps
 pub mod Mending
 pub mod Trouble
 pub mod Refusals
+pub mod Ranges

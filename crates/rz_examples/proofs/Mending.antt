@@ -43,18 +43,18 @@ one_key false key p f q e = cc
 is_listed_one : (key : Key) (p : Published) → IsListed (facts with_disk) (of_word Export with_disk) 1 key p → same_key key block ≡ true
 is_listed_one key p li = one_key (same_key key block) key p (facts with_disk) refl li.told
 
-block_is : (key : Key) → same_key key block ≡ true → key ≡ block
-block_is key same = let p = and_parts _ _ same in both key.fid key.block (eqb-true _ _ p.0) (eqb-true _ _ p.1)
+pub same_is : (key at : Key) → same_key key at ≡ true → key ≡ at
+same_is key at same = let p = and_parts _ _ same in both key.fid key.block (eqb-true _ _ p.0) (eqb-true _ _ p.1)
   where
-    both : (a b : ℕ) → a ≡ 1 → b ≡ 0 → ◌≡◌ {A = Key} (record { fid = a; block = b }) block
-    both a b p q = subst (λ x. ◌≡◌ {A = Key} (record { fid = x; block = b }) block) (sym p) (ap (λ (y : ℕ). let k : Key = record { fid = 1; block = y } in k) q)
+    both : (a b : ℕ) → a ≡ at.fid → b ≡ at.block → ◌≡◌ {A = Key} (record { fid = a; block = b }) at
+    both a b p q = subst (λ x. ◌≡◌ {A = Key} (record { fid = x; block = b }) at) (sym p) (ap (λ (y : ℕ). let k : Key = record { fid = at.fid; block = y } in k) q)
 
 -- a key that is the block is not less than it, and not after it
 pub not_less : (key : Key) → same_key key block ≡ true → IsLess key block → ⊥
-not_less key same less = let never = subst (λ k. IsLess k block) (block_is key same) less in cc
+not_less key same less = let never = subst (λ k. IsLess k block) (same_is key block same) less in cc
 
 not_after : (key : Key) → same_key key block ≡ true → IsLess block key → ⊥
-not_after key same less = let never = subst (λ k. IsLess block k) (block_is key same) less in cc
+not_after key same less = let never = subst (λ k. IsLess block k) (same_is key block same) less in cc
 
 pub legal_sources : IsLegal plain with_sources
 legal_sources = (

@@ -18,6 +18,7 @@ use Rattle.rz_core.specs.ExportRows.{names_reply}
 use Rattle.rz_examples.specs.Plain.{plain, path, file}
 use Rattle.rz_examples.specs.Ordinary.{with_file, with_write}
 use Rattle.rz_examples.specs.Mended.{with_disk}
+use Rattle.rz_examples.specs.Ranged.{with_range}
 
 -- an empty map has no entries
 pub no_entries : {K : Type 0} (R : K → K → Ordering) (X : Type 0) → maps.entries (maps.empty {X = X} {R = R}) ≡ []
@@ -81,3 +82,6 @@ open_mended = simp maps_answer refl
 
 pub unlink_reply : reply.Gone (Some (file 5)) ≡ names_reply (export_of plain (facts with_write) (of_word Export with_write)) (call.Unlink path)
 unlink_reply = simp maps_answer refl
+
+pub open_ranged : reply.File (file 8193) ≡ names_reply (export_of plain (facts with_range) (of_word Export with_range)) (call.OpenFile path)
+open_ranged = simp maps_answer refl

@@ -4,3 +4,4 @@ pub mod Mended
 pub mod Troubled
 pub mod Mistakes
 pub mod Answers
+pub mod Ranged

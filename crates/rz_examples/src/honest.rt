@@ -7,6 +7,7 @@ ghost use Rattle.rz_safety.specs.Rebuilt.{IsRebuilt};
 ghost use Rattle.rz_examples.specs.Plain.{plain, mender};
 ghost use Rattle.rz_examples.specs.Ordinary.{ordinary};
 ghost use Rattle.rz_examples.specs.Mended.{finished, mended};
+ghost use Rattle.rz_examples.specs.Ranged.{ranged};
 
 /// A client makes a file, writes its first block and reads it again: fourteen events.
 pub fn ordinary()
@@ -24,4 +25,11 @@ pub fn mended()
 /// The same to its end: the rebuilder says that it rebuilt the node.
 pub fn finished()
     ensures { IsLegal plain finished }
+{}
+
+/// A client writes two bytes over the border of two blocks, and reads three blocks, of which the first
+/// is a hole: thirty-two events.
+pub fn ranged()
+    ensures legal { IsLegal plain ranged }
+    ensures thirty_two { length ranged ≡ 32 }
 {}

@@ -2,10 +2,10 @@
 //! mistake that it shows.
 //!
 //! The functions have no code. What each one says is its clause, which is proved: a history of
-//! `specs/Ordinary`, `specs/Mended` or `specs/Troubled` is legal, or one of `specs/Mistakes` or
-//! `specs/Answers` is not. So the definitions of the log allow what an honest store does, and refuse
-//! what a broken one would. `versions` has five steps of the rule by which a version of a block gives
-//! way.
+//! `specs/Ordinary`, `specs/Ranged`, `specs/Mended` or `specs/Troubled` is legal, or one of
+//! `specs/Mistakes` or `specs/Answers` is not. So the definitions of the log allow what an honest store
+//! does, and refuse what a broken one would. `versions` has five steps of the rule by which a version
+//! of a block gives way.
 #![tactic(auto)]
 
 mod honest;
