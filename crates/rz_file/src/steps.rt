@@ -163,14 +163,12 @@ pub fn after_block(
     ensures inside { IsFile layout span.new reader.new writer.new result }
     ensures fresh { IsFresh reader.new result }
 {
+    let bytes = span.range.done;
     match end {
         WriteEnd::Acked { .. } => {
             span.range.done += span.range.count(layout) as u64;
             go_on(layout, span, reader, writer)
         }
-        _ => Step::Ended(FileEnd::ShortWrite {
-            bytes: span.range.done,
-            end,
-        }),
+        _ => Step::Ended(FileEnd::ShortWrite { bytes, end }),
     }
 }
