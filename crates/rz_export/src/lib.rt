@@ -20,5 +20,3 @@ mod releases;
 
 pub use export::Export;
 
-#[cfg(test)]
-mod tests;

@@ -13,5 +13,3 @@ mod row;
 
 pub use marks::Marks;
 
-#[cfg(test)]
-mod tests;

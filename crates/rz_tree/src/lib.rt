@@ -19,5 +19,3 @@ mod tree;
 
 pub use tree::Tree;
 
-#[cfg(test)]
-mod tests;
