@@ -15,7 +15,7 @@ use Rattle.rz_events.specs.declared.machines.RebuildAnswer.{RebuildAnswer}
 use Rattle.rz_events.specs.declared.machines.RebuildAnswer.TheVariants as told
 use Rattle.rz_reader.specs.Fetched.{record_in}
 use Rattle.rz_reader.specs.Machine.{pairs_at, pairs_if, AreFitting, IsOnly, search_of}
-use Rattle.rz_operation_model.specs.Rebuild.{Rebuild, Going, Ended, RebuildState, Probing, Copying, Refilling, Leaving, IsRebuild, position_of, rebuild_ask, rebuild_told}
+use Rattle.rz_operation_model.specs.Rebuild.{Rebuild, Going, Ended, RebuildState, Probing, Copying, Refilling, Leaving, IsRebuild, rebuild_ask, rebuild_told}
 
 -- how far the rebuild of a node has come; the angles and bins of the records of the listed stamp while they are fetched;
 -- and the block that fits them while it is refilled
