@@ -35,14 +35,12 @@ use Rattle.rz_play.specs.Turns.{IsTurn, counted, text_in, kind_of}
 use Rattle.rz_play.specs.Played.{BeginsLines, IsBegun}
 use Rattle.rz_play.specs.Stops.{most_turns}
 use Rattle.rz_play_laws.specs.Runs.{IsScript}
-use Rattle.rz_play_laws.proofs.Places.{roomy}
 use Rattle.rz_play_laws.proofs.Scripts.{seated}
 use Rattle.rz_play_laws.proofs.Turning.{in-runs}
 use Rattle.rz_play_laws.specs.Own.{IsOwn, IsWriteStage}
 use Rattle.rz_script.specs.Lines.{IsActor}
-use Rattle.rz_play_laws.specs.Fine.{IsFine}
+use Rattle.rz_play_laws.specs.Fine.{IsTelling, IsFine}
 use Rattle.rz_play_laws.proofs.Frames.{AreBy, of_actor-other, same_actor-true}
-use Rattle.rz_play_laws.proofs.Telling.{telling}
 use Rattle.rz_play_locks.specs.Operations.{given, ended, in_hand, IsUpdate, IsGuarded}
 use Rattle.rz_play_locks.specs.Promises.{published_text, IsUpdated, NoneLost}
 use Rattle.rz_play_locks.specs.Holding.{AreApart, HasBlock, OfPlan, IsHeld, IsRange, InCourse, IsAlone, IsBegunBy, IsHolding, IsKeeping}
@@ -346,25 +344,25 @@ module _ (v : Volume) (ops : Actor → List Operation) where
 pub safe-new : (v : Volume) (ops : Actor → List Operation) → IsSafe v.layout ops ops (new_world v)
 safe-new v ops = record { keeping = keeping-new v ops; texts = λ by ok. tt; none_lost = λ key guarded. tt }
 
-pub safe-reached : (v : Volume) (lines : List Line) → IsScript v lines → (w : World) → BeginsLines v lines (new_world v) w → w.turns ≤ most_turns
+pub safe-reached : (v : Volume) → IsTelling v → (lines : List Line) → IsScript v lines → (w : World) → BeginsLines v lines (new_world v) w → w.turns ≤ most_turns
     → IsFine v [] w × ((more : Actor → List Operation) × IsSafe v.layout (λ a. given a lines) more w)
-safe-reached v lines s w is few =
-    reached v (telling v (roomy v s.volume)) (IsSafe v.layout (λ a. given a lines))
+safe-reached v tells lines s w is few =
+    reached v tells (IsSafe v.layout (λ a. given a lines))
     (λ more by ok w next fine fine_next k turn. safe-turn v (λ a. given a lines) more by ok w next fine fine_next k turn)
     (safe-gives v (λ a. given a lines)) (safe-misses v (λ a. given a lines)) (safe-admins v (λ a. given a lines))
     lines s (safe-new v (λ a. given a lines)) w is few
 
 -- No update is lost.
-pub none-lost : (v : Volume) (lines : List Line) → IsScript v lines → (h : List Event) → IsBegun v lines h → (key : Key) → IsGuarded (λ a. given a lines) key h
+pub none-lost : (v : Volume) → IsTelling v → (lines : List Line) → IsScript v lines → (h : List Event) → IsBegun v lines h → (key : Key) → IsGuarded (λ a. given a lines) key h
     → NoneLost v.layout (λ a. given a lines) key h
-none-lost v lines s h p key guarded =
-    let k = safe-reached v lines s p.last p.played p.few in
+none-lost v tells lines s h p key guarded =
+    let k = safe-reached v tells lines s p.last p.played p.few in
     subst (λ (g : List Event). NoneLost v.layout (λ a. given a lines) key g) p.log_is
     (k.1.1.none_lost key (subst (λ (g : List Event). IsGuarded (λ a. given a lines) key g) (sym p.log_is) guarded))
 
-pub locks-apart : (v : Volume) (lines : List Line) → IsScript v lines → (h : List Event) (p : IsBegun v lines h) → AreApart p.last
-locks-apart v lines s h p = (safe-reached v lines s p.last p.played p.few).1.1.keeping.apart
+pub locks-apart : (v : Volume) → IsTelling v → (lines : List Line) → IsScript v lines → (h : List Event) (p : IsBegun v lines h) → AreApart p.last
+locks-apart v tells lines s h p = (safe-reached v tells lines s p.last p.played p.few).1.1.keeping.apart
 
-pub locks-held : (v : Volume) (lines : List Line) → IsScript v lines → (h : List Event) (p : IsBegun v lines h)
+pub locks-held : (v : Volume) → IsTelling v → (lines : List Line) → IsScript v lines → (h : List Event) (p : IsBegun v lines h)
     → (more : Actor → List Operation) × IsKeeping v.layout (λ a. given a lines) more p.last
-locks-held v lines s h p = let k = safe-reached v lines s p.last p.played p.few in (k.1.0, k.1.1.keeping)
+locks-held v tells lines s h p = let k = safe-reached v tells lines s p.last p.played p.few in (k.1.0, k.1.1.keeping)

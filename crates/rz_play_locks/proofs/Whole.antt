@@ -53,16 +53,14 @@ use Rattle.rz_play.specs.Turns.{IsTurn, counted}
 use Rattle.rz_play.specs.Played.{BeginsLines, IsBegun}
 use Rattle.rz_play.specs.Stops.{most_turns}
 use Rattle.rz_play_laws.specs.Runs.{IsScript}
-use Rattle.rz_play_laws.proofs.Places.{roomy}
 use Rattle.rz_play_laws.proofs.Scripts.{seated}
 use Rattle.rz_play_laws.proofs.Turning.{in-runs}
 use Rattle.rz_play_laws.specs.Own.{IsProper}
 use Rattle.rz_script.specs.Lines.{IsActor}
-use Rattle.rz_play_laws.specs.Fine.{IsFine}
+use Rattle.rz_play_laws.specs.Fine.{IsTelling, IsFine}
 use Rattle.rz_play_laws.proofs.Frames.{AreBy, of_actor-other, same_actor-true}
 use Rattle.rz_play_laws.proofs.Steps.{export-step, node-step, lock-step, say-step}
 use Rattle.rz_play_laws.proofs.Events.{export-event, node-event}
-use Rattle.rz_play_laws.proofs.Telling.{telling}
 use Rattle.rz_play_locks.specs.Operations.{given, ended, in_hand, IsGuarded}
 use Rattle.rz_play_locks.specs.Promises.{published_text, text_of, newest_text, last_open, key_at, IsWhole, IsViewedAt, IsViewed, AreWhole}
 use Rattle.rz_play_locks.specs.Holding.{HasBlock, lock_for, OfPlan, IsHeld, IsRange, IsHolding, IsKeeping}
@@ -404,18 +402,18 @@ module _ (v : Volume) (ops : Actor → List Operation) where
 seeing-new : (v : Volume) (ops : Actor → List Operation) → IsSeeing v.layout ops ops (new_world v)
 seeing-new v ops = record { safe = safe-new v ops; seen = λ by ok path offset count at. tt; whole = tt }
 
-pub seeing-reached : (v : Volume) (lines : List Line) → IsScript v lines → (w : World) → BeginsLines v lines (new_world v) w → w.turns ≤ most_turns
+pub seeing-reached : (v : Volume) → IsTelling v → (lines : List Line) → IsScript v lines → (w : World) → BeginsLines v lines (new_world v) w → w.turns ≤ most_turns
     → IsFine v [] w × ((more : Actor → List Operation) × IsSeeing v.layout (λ a. given a lines) more w)
-seeing-reached v lines s w is few =
-    reached v (telling v (roomy v s.volume)) (IsSeeing v.layout (λ a. given a lines))
+seeing-reached v tells lines s w is few =
+    reached v tells (IsSeeing v.layout (λ a. given a lines))
     (λ more by ok w next fine fine_next k turn. seeing-turn v (λ a. given a lines) more by ok w next fine fine_next k turn)
     (seeing-gives v (λ a. given a lines)) (seeing-misses v (λ a. given a lines)) (seeing-admins v (λ a. given a lines))
     lines s (seeing-new v (λ a. given a lines)) w is few
 
 -- No view sees an update in part.
-pub whole-views : (v : Volume) (lines : List Line) → IsScript v lines → (h : List Event) → IsBegun v lines h → AreWhole v.layout (λ a. given a lines) h
-whole-views v lines s h p =
-    let k = seeing-reached v lines s p.last p.played p.few in
+pub whole-views : (v : Volume) → IsTelling v → (lines : List Line) → IsScript v lines → (h : List Event) → IsBegun v lines h → AreWhole v.layout (λ a. given a lines) h
+whole-views v tells lines s h p =
+    let k = seeing-reached v tells lines s p.last p.played p.few in
     subst (λ (g : List Event). AreWhole v.layout (λ a. given a lines) g) p.log_is k.1.1.whole
 
 -- A turn in which a guarded key is published: no other actor has a lock on it.

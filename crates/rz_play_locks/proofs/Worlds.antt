@@ -13,12 +13,10 @@ use Rattle.rz_play.specs.Lines.{with_operation, with_miss}
 use Rattle.rz_play.specs.Played.{BeginsLines}
 use Rattle.rz_play.specs.Stops.{most_turns}
 use Rattle.rz_play_laws.proofs.Scripts.{seated}
-use Rattle.rz_play_laws.proofs.Places.{roomy}
 use Rattle.rz_play_laws.specs.Runs.{IsScript}
 use Rattle.rz_script.specs.Lines.{IsActor}
-use Rattle.rz_play_laws.specs.Fine.{IsFine}
+use Rattle.rz_play_laws.specs.Fine.{IsTelling, IsFine}
 use Rattle.rz_play_laws.proofs.Frames.{AreBy, of_actor-other, same_actor-true, same_actor-refl}
-use Rattle.rz_play_laws.proofs.Telling.{telling}
 use Rattle.rz_play_locks.specs.Operations.{given}
 use Rattle.rz_play_locks.specs.Holding.{IsSeat, IsKeeping}
 use Rattle.rz_play_locks.proofs.Kept.{seat-frame, keeping-turn}
@@ -84,11 +82,11 @@ keeping-new v ops = record {
   seats = λ by ok. record { rest = refl; hand = (refl, refl) };
 }
 
-pub keeping-reached : (v : Volume) (lines : List Line) → IsScript v lines → (w : World) → BeginsLines v lines (new_world v) w → w.turns ≤ most_turns
+pub keeping-reached : (v : Volume) → IsTelling v → (lines : List Line) → IsScript v lines → (w : World) → BeginsLines v lines (new_world v) w → w.turns ≤ most_turns
     → IsFine v [] w × ((more : Actor → List Operation) × IsKeeping v.layout (λ a. given a lines) more w)
-keeping-reached v lines s w is few =
+keeping-reached v tells lines s w is few =
     let ops : Actor → List Operation = λ a. given a lines in
-    reached v (telling v (roomy v s.volume)) (IsKeeping v.layout (λ a. given a lines))
+    reached v tells (IsKeeping v.layout (λ a. given a lines))
     (λ more by ok w next fine fine_next k turn. keeping-turn v (λ a. given a lines) more by ok w next fine fine_next k turn)
     (keeping-gives v (λ a. given a lines)) (keeping-misses v (λ a. given a lines)) (keeping-admins v (λ a. given a lines))
     lines s (keeping-new v (λ a. given a lines)) w is few

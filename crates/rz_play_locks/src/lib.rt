@@ -32,13 +32,17 @@ ghost use Rattle.rz_play_locks.specs.Holding.{AreApart, HasBlock, IsKeeping, IsR
 /// Between two turns of a play no two locks that are held conflict.
 pub fn apart()
     ensures { (v : Volume) (script : List ALine) → IsScript v script → (log : List AnEvent) (p : IsBegun v script log) → AreApart p.last }
-{}
+{
+    rz_play_laws::facts_told();
+}
 
 /// And each operation holds the lock that it has to, from its granted open to its `Done`.
 pub fn held()
     ensures { (v : Volume) (script : List ALine) → IsScript v script → (log : List AnEvent) (p : IsBegun v script log)
         → (more : AnActor → List AnOperation) × IsKeeping v.layout (λ a. given a script) more p.last }
-{}
+{
+    rz_play_laws::facts_told();
+}
 
 /// A lock that is held is held on, until the `Done` of its operation.
 pub fn released()
@@ -61,14 +65,18 @@ pub fn barred()
 pub fn none_lost()
     ensures { (v : Volume) (script : List ALine) → IsScript v script → (log : List AnEvent) → IsBegun v script log
         → (key : AKey) → IsGuarded (λ a. given a script) key log → NoneLost v.layout (λ a. given a script) key log }
-{}
+{
+    rz_play_laws::facts_told();
+}
 
 /// Each view whose blocks are guarded, and that answers, gives the bytes of the texts that were published
 /// at its last open. It never ends as moved.
 pub fn whole_views()
     ensures { (v : Volume) (script : List ALine) → IsScript v script → (log : List AnEvent) → IsBegun v script log
         → AreWhole v.layout (λ a. given a script) log }
-{}
+{
+    rz_play_laws::facts_told();
+}
 
 /// What is published of a block is the text of its newest accepted publish.
 pub fn newest()
