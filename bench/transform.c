@@ -2,9 +2,9 @@
  * (compile with -DHAVE_ISAL and link -lisal). One thread, processor time, best of some rounds.
  *
  * Encoding writes all projections of a block that a layout asks for. ISA-L writes as many pieces: the
- * data as it is, and the others by ec_encode_data. Decoding finds blocks from the widest angles of both
- * signs; ISA-L loses as many pieces of data as it has others. Every block that comes back is
- * compared. */
+ * data as it is, and the others by ec_encode_data. Decoding finds blocks from the worst set of
+ * positions: of ours the widest angles of both signs, of ISA-L's as many pieces as positions those that
+ * are no data. Every block that comes back is compared. */
 #include "../include/mj_c.h"
 #include <stdio.h>
 #include <stdlib.h>
@@ -28,7 +28,7 @@ struct job {
     uint64_t *from, *pieces, *bins, *to;
 #ifdef HAVE_ISAL
     unsigned char encode[32 * MOST * MOST], decode[32 * MOST * MOST];
-    size_t lost;
+    uint64_t *others;
 #endif
 };
 
@@ -86,28 +86,36 @@ static void isal_encode(struct job *j) {
     }
 }
 
-/* The first pieces of data are lost, and made again from the others. */
+/* All data are lost, and made again from as many other pieces. */
 static void isal_decode(struct job *j) {
     size_t k = j->n.inverse, each = j->n.cols * 8;
     for (size_t b = 0; b < j->blocks; b++) {
-        unsigned char *have[MOST], *made[MOST], *out = (unsigned char *)(j->to + b * j->words);
-        for (size_t i = 0; i < k; i++)
-            have[i] = (unsigned char *)(j->pieces + b * j->stride) + (i + j->lost) * each;
-        for (size_t i = 0; i < j->lost; i++) made[i] = out + i * each;
-        ec_encode_data((int)each, (int)k, (int)j->lost, j->decode, have, made);
-        memcpy(out + j->lost * each, have[0], (k - j->lost) * each);
+        unsigned char *have[MOST], *made[MOST];
+        for (size_t i = 0; i < k; i++) {
+            have[i] = (unsigned char *)(j->others + b * j->words) + i * each;
+            made[i] = (unsigned char *)(j->to + b * j->words) + i * each;
+        }
+        ec_encode_data((int)each, (int)k, (int)k, j->decode, have, made);
     }
 }
 
 static void isal_prepare(struct job *j) {
-    size_t k = j->n.inverse, all = j->n.forward;
-    unsigned char code[MOST * MOST], left[MOST * MOST], back[MOST * MOST];
-    j->lost = all - k;
-    gf_gen_cauchy1_matrix(code, (int)all, (int)k);
-    ec_init_tables((int)k, (int)(all - k), code + k * k, j->encode);
-    memcpy(left, code + j->lost * k, k * k);
-    if (gf_invert_matrix(left, back, (int)k)) exit(1);
-    ec_init_tables((int)k, (int)j->lost, back, j->decode);
+    size_t k = j->n.inverse, each = j->n.cols * 8;
+    unsigned char code[MOST * MOST], back[MOST * MOST], tables[32 * MOST * MOST];
+    gf_gen_cauchy1_matrix(code, (int)(2 * k), (int)k);
+    ec_init_tables((int)k, (int)(j->n.forward - k), code + k * k, j->encode);
+    ec_init_tables((int)k, (int)k, code + k * k, tables);
+    j->others = room(j->blocks * j->words);
+    for (size_t b = 0; b < j->blocks; b++) {
+        unsigned char *data[MOST], *made[MOST];
+        for (size_t i = 0; i < k; i++) {
+            data[i] = (unsigned char *)(j->from + b * j->words) + i * each;
+            made[i] = (unsigned char *)(j->others + b * j->words) + i * each;
+        }
+        ec_encode_data((int)each, (int)k, (int)k, tables, data, made);
+    }
+    if (gf_invert_matrix(code + k * k, back, (int)k)) exit(1);
+    ec_init_tables((int)k, (int)k, back, j->decode);
 }
 #endif
 
@@ -184,6 +192,7 @@ static void time_layout(uint32_t layout, size_t bytes, int rounds, int passes) {
     double back = speed(&j, isal_decode, rounds, passes);
     compare(&j, "ISA-L");
     printf(" %8.2f %8.2f %8.2f %8.2f", other, back, encoded / other, many / back);
+    free(j.others);
 #endif
     printf("\n");
     free(j.from);

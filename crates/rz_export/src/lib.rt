@@ -19,4 +19,3 @@ mod refusals;
 mod releases;
 
 pub use export::Export;
-

@@ -12,4 +12,3 @@ mod marks;
 mod row;
 
 pub use marks::Marks;
-

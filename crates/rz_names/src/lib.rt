@@ -19,4 +19,3 @@ mod path;
 
 pub use map::NameMap;
 pub use path::{Path, PathError};
-

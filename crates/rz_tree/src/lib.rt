@@ -18,4 +18,3 @@ mod renames;
 mod tree;
 
 pub use tree::Tree;
-
