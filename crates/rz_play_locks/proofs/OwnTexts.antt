@@ -329,7 +329,7 @@ module _ (v : Volume) (ops : Actor → List Operation) (h : List Event) (op : Op
     module _ (legal : IsLegalInRuns v h) (stage : WriteStage) (old : IsUpdate (Some op) → IsGuarded ops key h → IsUpdated v.layout (Some op) key.block (published_text h key) text) where
       kept : (xs : List Event) (t : Told) → AreSilent key xs → Afterwards xs t stage
       kept xs t silent = λ update guarded.
-          let same : (writer_after (S stage) t).key ≡ key = writer-key v.layout ops h op None (S stage) t in
+          let same : (writer_after (S stage) t).key ≡ key = writer-key v.layout op None (S stage) t in
           any-written (xs ++ h) (writer_after (S stage) t).key (writer_after (S stage) t).stage
           (subst (λ (k : Key). IsUpdated v.layout (Some op) k.block (published_text (xs ++ h) k) text) (sym same)
           (subst (λ (z : List ℕ). IsUpdated v.layout (Some op) key.block z text) (sym (text-same v xs h key legal (accepted-same xs h key silent)))
@@ -442,7 +442,7 @@ module _ (v : Volume) (ops : Actor → List Operation) (h : List Event) (op : Op
     ending-text a (Noted text) = tt
     ending-text a (_) = tt
 
-    pub text-turn : (work : Work) → IsHolding v.layout ops h op lock work → IsText v.layout ops h (Some op) work → Turn work
+    pub text-turn : (work : Work) → IsHolding v.layout op lock work → IsText v.layout ops h (Some op) work → Turn work
     text-turn (Calling c) holds old step said = calling-text c t
     text-turn (Dropping fid n places) holds old step said = drop-text xs fid n places t
     text-turn (Opening path plan) holds old step said = not-locking xs (opened-not op path plan holds.0) (told v.layout (Opening path plan) t)

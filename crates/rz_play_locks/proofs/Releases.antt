@@ -32,7 +32,7 @@ use Rattle.rz_play_locks.proofs.Barring.{lock-at_work}
 use Rattle.rz_play_locks.proofs.Kept.{IsGoing, going}
 
 -- An open with a lock is asked by an operation that holds none.
-module _ (layout : Layout) (ops : Actor → List Operation) (h : List Event) (op : Operation) (lock : Option Lock) (path : List ℕ) (exclusive : Bool) (from count : ℕ) where
+module _ (layout : Layout) (op : Operation) (lock : Option Lock) (path : List ℕ) (exclusive : Bool) (from count : ℕ) where
   abbrev wanted : Ask
   wanted = AskLock path exclusive from count
 
@@ -59,7 +59,7 @@ module _ (layout : Layout) (ops : Actor → List Operation) (h : List Event) (op
   copy-no n k reads.Recheck is = cc
   copy-no n k reads.End is = cc
 
-  holds-none : (work : Work) → IsHolding layout ops h op lock work → ask_of layout work ≡ wanted → lock ≡ None
+  holds-none : (work : Work) → IsHolding layout op lock work → ask_of layout work ≡ wanted → lock ≡ None
   holds-none (Locking p plan) holds is = holds.1
   holds-none (Opening p plan) holds is = holds.1
   holds-none (Calling c) holds is = cc
@@ -89,7 +89,7 @@ released v ops more w next fine fine_next keeping by ok turn a lock held = elim 
     at-ask g mine (AskNode n question) asks step is = inl (is ∙ mine)
     at-ask g mine Rest asks step is = inl (is ∙ mine)
     at-ask g mine (AskLock path exclusive from count) asks step is =
-        let none = holds-none v.layout ops w.log g.hand.op (at_work (w.seats by)).lock path exclusive from count (at_work (w.seats by)).work g.hand.holds asks in cc
+        let none = holds-none v.layout g.hand.op (at_work (w.seats by)).lock path exclusive from count (at_work (w.seats by)).work g.hand.holds asks in cc
     at-ask g mine (Say (SayDone answer)) asks step is =
         inr ((at_work (w.seats by)).number, answer, g.move.log_is ∙ ap (λ (zs : List Event). zs ++ w.log) step.2)
     at-ask g mine (Say (SayGot key part m)) asks step is = inl (is.1 ∙ mine)

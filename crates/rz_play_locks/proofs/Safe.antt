@@ -43,15 +43,15 @@ use Rattle.rz_play_laws.specs.Fine.{IsTelling, IsFine}
 use Rattle.rz_play_laws.proofs.Frames.{AreBy, of_actor-other, same_actor-true}
 use Rattle.rz_play_locks.specs.Operations.{given, ended, in_hand, IsUpdate, IsGuarded}
 use Rattle.rz_play_locks.specs.Promises.{published_text, IsUpdated, NoneLost}
-use Rattle.rz_play_locks.specs.Holding.{AreApart, HasBlock, OfPlan, IsHeld, IsRange, InCourse, IsAlone, IsBegunBy, IsHolding, IsKeeping}
+use Rattle.rz_play_locks.specs.Holding.{AreApart, HasBlock, OfPlan, IsHeld, IsRange, InCourse, IsAlone, IsHolding, IsKeeping}
 use Rattle.rz_play_locks.specs.Texts.{IsLocking, IsNewest, IsWritten, IsText, IsSafe}
 use Rattle.rz_play_locks.proofs.Moves.{IsLockAfter}
-use Rattle.rz_play_locks.proofs.Holds.{guarded-back}
+use Rattle.rz_play_locks.proofs.Holds.{guarded-back, guarded-update}
 use Rattle.rz_play_locks.proofs.Kept.{IsGoing, going, hand-of, keeping-turn}
 use Rattle.rz_play_locks.proofs.Carried.{IsAdmins, reached}
 use Rattle.rz_play_locks.proofs.Worlds.{keeping-gives, keeping-misses, keeping-admins, keeping-new}
 use Rattle.rz_play_locks.proofs.Publishing.{publish-step, IsSendingOf, sending-of, lock-low, lock-high, barred}
-use Rattle.rz_play_locks.proofs.Published.{publishes, AreSilent, accepted-same, text-same, MayPublish, may-publish}
+use Rattle.rz_play_locks.proofs.Published.{publishes, AreSilent, accepted-same, text-same, IsPublished, MayPublish, may-publish}
 use Rattle.rz_play_locks.proofs.OwnTexts.{IsSaid, text-turn}
 
 -- The lock of an update or a view is on the block in hand.
@@ -107,15 +107,15 @@ update-locks (Some (_)) is = absurd is
 update-locks None is = absurd is
 
 module _ (v : Volume) (ops : Actor → List Operation) (h xs : List Event) (legal : IsLegalInRuns v h) where
-  pub text-frame : (op : Operation) (lock : Option Lock) → ((key : Key) → IsGuarded ops key h → IsOn v.layout lock key → accepted (of_word Export (xs ++ h)) key ≡ accepted (of_word Export h) key)
-      → (work : Work) → IsHolding v.layout ops h op lock work → IsText v.layout ops h (Some op) work → IsText v.layout ops (xs ++ h) (Some op) work
+  pub text-frame : (op : Operation) (lock : Option Lock) → ((key : Key) → IsGuarded ops key (xs ++ h) → IsOn v.layout lock key → accepted (of_word Export (xs ++ h)) key ≡ accepted (of_word Export h) key)
+      → (work : Work) → IsHolding v.layout op lock work → IsText v.layout ops h (Some op) work → IsText v.layout ops (xs ++ h) (Some op) work
   text-frame op lock same (Reading (Within r) s) holds is = λ locking guarded.
       let less = guarded-back ops s.key xs h guarded in
-      newest-frame h (xs ++ h) s.key (same s.key less (range-on v.layout op lock r s.key locking holds)) s.stage (is locking less)
+      newest-frame h (xs ++ h) s.key (same s.key guarded (range-on v.layout op lock r s.key locking holds)) s.stage (is locking less)
   text-frame op lock same (Writing (Within r) text s) holds is = λ update guarded.
       let less = guarded-back ops s.key xs h guarded in
       written-frame v.layout h (xs ++ h) (Some op) s.key text
-      (text-same v xs h s.key legal (same s.key less (range-on v.layout op lock r s.key (update-locks (Some op) update) holds.0))) s.stage (is update less)
+      (text-same v xs h s.key legal (same s.key guarded (range-on v.layout op lock r s.key (update-locks (Some op) update) holds.0))) s.stage (is update less)
   text-frame op lock same (Reading Alone s) holds is = tt
   text-frame op lock same (Writing Alone text s) holds is = tt
   text-frame op lock same (Calling c) holds is = tt
@@ -168,15 +168,15 @@ said-of v ops w op by s Rest t lock is = tt
 
 -- an accepted publish is of the text that was published, with the update's bytes in place
 published-updated : (v : Volume) (ops : Actor → List Operation) (h o : List Event) (by : Actor) (op : Operation) (lock : Option Lock) (work : Work) (key : Key) (stamp : ℕ) → IsSendingOf work key stamp
-    → IsHolding v.layout ops h op lock work → IsText v.layout ops h (Some op) work → IsOwn v (facts h) o o by work → IsGuarded ops key h
+    → IsHolding v.layout op lock work → IsText v.layout ops h (Some op) work → IsOwn v (facts h) o o by work → IsUpdate (Some op) → IsGuarded ops key h
     → IsUpdated v.layout (Some op) key.block (published_text h key) (text_in ((facts h).wrote stamp))
-published-updated v ops h o by op lock work key stamp k holds text own guarded =
+published-updated v ops h o by op lock work key stamp k holds text own update guarded =
     subst (λ (z : Key). IsUpdated v.layout (Some op) z.block (published_text h z) (text_in ((facts h).wrote stamp))) k.key_is
     (subst (λ z. IsUpdated v.layout (Some op) k.state.key.block (published_text h k.state.key) (text_in ((facts h).wrote z))) k.stamp_is
     (subst (λ z. IsUpdated v.layout (Some op) k.state.key.block (published_text h k.state.key) (text_in z)) (sym sent.wrote) (by-course k.course is.0 is.1 at)))
   where
-    is : IsHolding v.layout ops h op lock (Writing k.course k.text k.state)
-    is = subst (IsHolding v.layout ops h op lock) k.work_is holds
+    is : IsHolding v.layout op lock (Writing k.course k.text k.state)
+    is = subst (IsHolding v.layout op lock) k.work_is holds
 
     mine : IsOwn v (facts h) o o by (Writing k.course k.text k.state)
     mine = subst (IsOwn v (facts h) o o by) k.work_is own
@@ -189,9 +189,6 @@ published-updated v ops h o by op lock work key stamp k holds text own guarded =
 
     here : IsGuarded ops k.state.key h
     here = subst (λ z. IsGuarded ops z h) (sym k.key_is) guarded
-
-    update : IsUpdate (Some op)
-    update = (subst (IsBegunBy ops h op k.state.key) k.stage_is is.2) here
 
     by-course : (course : Course) → InCourse v.layout op lock course k.state.key → IsAlone op course → IsText v.layout ops h (Some op) (Writing course k.text k.state)
         → IsUpdated v.layout (Some op) k.state.key.block (published_text h k.state.key) k.text
@@ -220,6 +217,11 @@ safe-turn v ops more by ok w next fine fine_next safe turn = elim (going v ops m
     published : (g : IsGoing v ops w by (at_work (w.seats by)) next) (key : Key) → MayPublish by key g.move.xs
     published g key = may-publish v (facts w.log) (of_actor by w.log) by (at_work (w.seats by)).number key (ask_of v.layout (at_work (w.seats by)).work) g.proper g.move.t g.move.xs g.move.step
 
+    -- an accepted publish of a guarded key is that of an update
+    of-guarded : (g : IsGoing v ops w by (at_work (w.seats by)) next) (key : Key) (p : IsPublished by key g.move.xs) → IsGuarded ops key (g.move.xs ++ w.log)
+        → IsUpdate (in_hand (ops by) (of_actor by w.log))
+    of-guarded g key p guarded = guarded-update ops by key p.stamp p.mask g.move.xs w.log p.is guarded
+
     -- the text that the actor itself knows
     known : (g : IsGoing v ops w by (at_work (w.seats by)) next) → IsText v.layout ops w.log (Some g.hand.op) (at_work (w.seats by)).work
     known g = text-at_work v.layout ops w.log (Some g.hand.op) (w.seats by) (subst (λ z. IsText v.layout ops w.log z (w.seats by).work) g.hand.at (safe.texts by ok))
@@ -231,7 +233,7 @@ safe-turn v ops more by ok w next fine fine_next safe turn = elim (going v ops m
         (said-of v ops (counted w) g.hand.op by (at_work (w.seats by)) (ask_of v.layout (at_work (w.seats by)).work) g.move.t (next.seats by).lock g.move.lock_is)
 
     mine : (g : IsGoing v ops w by (at_work (w.seats by)) next) → IsText v.layout ops next.log (in_hand (ops by) (of_actor by next.log)) (next.seats by).work
-    mine g = elim (hand-of v.layout ops next.log (of_actor by next.log) by (next.seats by).number (next.seats by).lock (next.seats by).work (now.seats by ok).hand) [
+    mine g = elim (hand-of v.layout ops (of_actor by next.log) by (next.seats by).number (next.seats by).lock (next.seats by).work (now.seats by ok).hand) [
       | inl over ↦ subst (IsText v.layout ops next.log (in_hand (ops by) (of_actor by next.log))) (sym over) tt
       | inr hand ↦ (
           let a = hand.count in
@@ -247,13 +249,13 @@ safe-turn v ops more by ok w next fine fine_next safe turn = elim (going v ops m
     -- and the one that another actor knows
     other : (g : IsGoing v ops w by (at_work (w.seats by)) next) (a : Actor) → IsActor a → same_actor a by ≡ false
         → IsText v.layout ops (g.move.xs ++ w.log) (in_hand (ops a) (of_actor a w.log)) (w.seats a).work
-    other g a is apart = elim (hand-of v.layout ops w.log (of_actor a w.log) a (w.seats a).number (w.seats a).lock (w.seats a).work (safe.keeping.seats a is).hand) [
+    other g a is apart = elim (hand-of v.layout ops (of_actor a w.log) a (w.seats a).number (w.seats a).lock (w.seats a).work (safe.keeping.seats a is).hand) [
       | inl over ↦ subst (IsText v.layout ops (g.move.xs ++ w.log) (in_hand (ops a) (of_actor a w.log))) (sym over) tt
       | inr hand ↦ subst (λ z. IsText v.layout ops (g.move.xs ++ w.log) z (w.seats a).work) (sym hand.at)
           (text-frame v ops w.log g.move.xs (in-runs v [] w fine) hand.op (w.seats a).lock
           (λ key guarded on. elim (published g key) [
             | inl silent ↦ accepted-same g.move.xs w.log key silent
-            | inr p ↦ absurd (barred v ops w next by ok safe.keeping.apart g by key p.stamp p.mask [] p.is guarded a is apart on.held on.is on.block)
+            | inr p ↦ absurd (barred v ops w next by ok safe.keeping.apart g by key p.stamp p.mask [] p.is (of-guarded g key p guarded) a is apart on.held on.is on.block)
           ])
           (w.seats a).work hand.holds (subst (λ z. IsText v.layout ops w.log z (w.seats a).work) hand.at (safe.texts a is)))
     ]
@@ -276,7 +278,7 @@ safe-turn v ops more by ok w next fine fine_next safe turn = elim (going v ops m
             λ same. subst (λ z. IsUpdated v.layout z key.block (published_text w.log key) (text_in ((facts w.log).wrote p.stamp))) (sym g.hand.at)
                 (let asks = publish-step by by (at_work (w.seats by)).number key p.stamp p.mask [] v (facts w.log) (of_actor by w.log) (ask_of v.layout (at_work (w.seats by)).work) g.proper g.move.t g.move.xs g.move.step p.is in
                 published-updated v ops w.log (of_actor by w.log) by g.hand.op (at_work (w.seats by)).lock (at_work (w.seats by)).work key p.stamp
-                (sending-of v.layout key p.stamp p.mask asks.size (at_work (w.seats by)).work asks.asks) g.hand.holds (known g) g.own less),
+                (sending-of v.layout key p.stamp p.mask asks.size (at_work (w.seats by)).work asks.asks) g.hand.holds (known g) g.own (subst IsUpdate g.hand.at (of-guarded g key p guarded)) less),
           )
         ]
 
@@ -334,7 +336,7 @@ module _ (v : Volume) (ops : Actor → List Operation) where
   }
     where
       text : (a : Actor) → IsActor a → IsText v.layout ops (xs ++ w.log) (in_hand (ops a) (of_actor a w.log)) (w.seats a).work
-      text a ok = elim (hand-of v.layout ops w.log (of_actor a w.log) a (w.seats a).number (w.seats a).lock (w.seats a).work (is.keeping.seats a ok).hand) [
+      text a ok = elim (hand-of v.layout ops (of_actor a w.log) a (w.seats a).number (w.seats a).lock (w.seats a).work (is.keeping.seats a ok).hand) [
         | inl over ↦ subst (IsText v.layout ops (xs ++ w.log) (in_hand (ops a) (of_actor a w.log))) (sym over) tt
         | inr hand ↦ subst (λ z. IsText v.layout ops (xs ++ w.log) z (w.seats a).work) (sym hand.at)
             (text-frame v ops w.log xs (in-runs v [] w fine) hand.op (w.seats a).lock (λ key guarded on. accepted-same xs w.log key (admins-silent key xs all))

@@ -112,14 +112,14 @@ viewed-other layout ops h offset count answer is (Some opened) = λ all. is open
 
 -- what was seen stays so where each block's text stays
 pub so-far-frame : (layout : Layout) (ops : Actor → List Operation) (h xs : List Event) (a : Actor) (offset count : ℕ) (r : Range) → last_open a (xs ++ h) ≡ last_open a h
-    → (AllGuarded layout ops h r.info offset r.size → (i : ℕ) → i < r.size
+    → (AllGuarded layout ops (xs ++ h) r.info offset r.size → (i : ℕ) → i < r.size
     → published_text (xs ++ h) (key_at r.info ((offset + i) / block_bytes_of layout)) ≡ published_text h (key_at r.info ((offset + i) / block_bytes_of layout)))
     → IsSoFar layout ops h a offset count r → IsSoFar layout ops (xs ++ h) a offset count r
 so-far-frame layout ops h xs a offset count r opens same is = record {
   before = is.before;
   opened = opens ∙ is.opened;
   size_is = is.size_is;
-  texts = λ all i low. (let less = all-back layout ops xs h r.info offset r.size all in same less i low ∙ is.texts less i low);
+  texts = λ all i low. same all i low ∙ is.texts (all-back layout ops xs h r.info offset r.size all) i low;
   bytes = is.bytes;
   aim_is = is.aim_is;
   bytes_are = λ all. is.bytes_are (all-back layout ops xs h r.info offset r.size all);
@@ -347,7 +347,7 @@ module _ (v : Volume) (ops : Actor → List Operation) (h : List Event) (before 
         subst (λ z. V xs (told v.layout (Reading (Within r) (record { layout = layout; key = key; places = places; stage = reading.Ended m })) z)) (sym said)
         (part-seen xs (subst (λ (zs : List Event). IsStill by zs h) (sym step.2) (record { opens = refl; silent = λ k. (refl, tt) })) lock r key range (offset-of r key range) is m (λ guarded. text tt guarded))
 
-    pub seen-turn : (work : Work) → IsHolding v.layout ops h op lock work → IsText v.layout ops h (Some op) work → IsSeenAt v.layout ops h by offset count work → Turn work
+    pub seen-turn : (work : Work) → IsHolding v.layout op lock work → IsText v.layout ops h (Some op) work → IsSeenAt v.layout ops h by offset count work → Turn work
     seen-turn (Calling c) holds text old step said = calling-seen c t
     seen-turn (Dropping fid n places) holds text old step said = drop-seen fid n places t
     seen-turn (Opening path plan) holds text old step said = absurd (let k = holds.0 in cc)

@@ -61,12 +61,13 @@ use Rattle.rz_play_laws.specs.Fine.{IsTelling, IsFine}
 use Rattle.rz_play_laws.proofs.Frames.{AreBy, of_actor-other, same_actor-true}
 use Rattle.rz_play_laws.proofs.Steps.{export-step, node-step, lock-step, say-step}
 use Rattle.rz_play_laws.proofs.Events.{export-event, node-event}
-use Rattle.rz_play_locks.specs.Operations.{given, ended, in_hand, IsGuarded}
+use Rattle.rz_play_locks.specs.Operations.{given, ended, in_hand, IsUpdate, IsGuarded}
 use Rattle.rz_play_locks.specs.Promises.{published_text, text_of, newest_text, last_open, key_at, IsWhole, IsViewedAt, IsViewed, AreWhole}
 use Rattle.rz_play_locks.specs.Holding.{HasBlock, lock_for, OfPlan, IsHeld, IsRange, IsHolding, IsKeeping}
 use Rattle.rz_play_locks.specs.Texts.{IsText, IsSafe}
 use Rattle.rz_play_locks.specs.Views.{IsSeenAt, IsSeeing}
 use Rattle.rz_play_locks.proofs.Moves.{IsLockAfter}
+use Rattle.rz_play_locks.proofs.Holds.{guarded-update}
 use Rattle.rz_play_locks.proofs.Kept.{IsGoing, going, hand-of}
 use Rattle.rz_play_locks.proofs.Carried.{IsAdmins, reached}
 use Rattle.rz_play_locks.proofs.Publishing.{lock-low, lock-high, barred}
@@ -199,8 +200,8 @@ viewed-frame layout ops h xs offset count (Some opened) a is = λ all. is (all-b
 
 seen-frame : (v : Volume) (ops : Actor → List Operation) (h xs : List Event) → IsLegalInRuns v h → (a : Actor) (path : List ℕ) (offset count : ℕ) (lock : Option Lock)
     → last_open a (xs ++ h) ≡ last_open a h
-    → ((key : Key) → IsGuarded ops key h → IsOn v.layout lock key → accepted (of_word Export (xs ++ h)) key ≡ accepted (of_word Export h) key)
-    → (work : Work) → IsHolding v.layout ops h (operation.View path offset count) lock work → IsSeenAt v.layout ops h a offset count work → IsSeenAt v.layout ops (xs ++ h) a offset count work
+    → ((key : Key) → IsGuarded ops key (xs ++ h) → IsOn v.layout lock key → accepted (of_word Export (xs ++ h)) key ≡ accepted (of_word Export h) key)
+    → (work : Work) → IsHolding v.layout (operation.View path offset count) lock work → IsSeenAt v.layout ops h a offset count work → IsSeenAt v.layout ops (xs ++ h) a offset count work
 seen-frame v ops h xs legal a path offset count lock opens same (Reading (Within r) s) holds is =
     so-far-frame v.layout ops h xs a offset count r opens
     (λ all i low. text-same v xs h (key_at r.info ((offset + i) / block_bytes_of v.layout)) legal
@@ -287,7 +288,7 @@ seeing-turn v ops more by ok w next fine fine_next see turn = elim (going v ops 
         → IsSeenAt v.layout ops (g.move.xs ++ w.log) by offset count (told v.layout (at_work (w.seats by)).work g.move.t)
     after g path offset count is =
         seen-turn v ops w.log (in-runs v [] w fine) by path offset count (at_work (w.seats by)).number (at_work (w.seats by)).lock g.move.t g.move.xs (at_work (w.seats by)).work
-        (subst (λ z. IsHolding v.layout ops w.log z (at_work (w.seats by)).lock (at_work (w.seats by)).work) is g.hand.holds)
+        (subst (λ z. IsHolding v.layout z (at_work (w.seats by)).lock (at_work (w.seats by)).work) is g.hand.holds)
         (text-at_work v.layout ops w.log (Some (operation.View path offset count)) (w.seats by)
         (subst (λ z. IsText v.layout ops w.log z (w.seats by).work) (g.hand.at ∙ ap Some is) (see.safe.texts by ok)))
         (known path offset count (g.hand.at ∙ ap Some is)) g.move.step
@@ -298,7 +299,7 @@ seeing-turn v ops more by ok w next fine fine_next see turn = elim (going v ops 
 
     mine : (g : IsGoing v ops w by (at_work (w.seats by)) next) (path : List ℕ) (offset count : ℕ) → in_hand (ops by) (of_actor by next.log) ≡ Some (operation.View path offset count)
         → IsSeenAt v.layout ops next.log by offset count (next.seats by).work
-    mine g path offset count at = elim (hand-of v.layout ops next.log (of_actor by next.log) by (next.seats by).number (next.seats by).lock (next.seats by).work (now.keeping.seats by ok).hand) [
+    mine g path offset count at = elim (hand-of v.layout ops (of_actor by next.log) by (next.seats by).number (next.seats by).lock (next.seats by).work (now.keeping.seats by ok).hand) [
       | inl over ↦ subst (IsSeenAt v.layout ops next.log by offset count) (sym over) tt
       | inr hand ↦ (
           let a = hand.count in
@@ -313,16 +314,16 @@ seeing-turn v ops more by ok w next fine fine_next see turn = elim (going v ops 
 
     other : (g : IsGoing v ops w by (at_work (w.seats by)) next) (a : Actor) → IsActor a → same_actor a by ≡ false → (path : List ℕ) (offset count : ℕ)
         → in_hand (ops a) (of_actor a w.log) ≡ Some (operation.View path offset count) → IsSeenAt v.layout ops (g.move.xs ++ w.log) a offset count (w.seats a).work
-    other g a is apart path offset count at = elim (hand-of v.layout ops w.log (of_actor a w.log) a (w.seats a).number (w.seats a).lock (w.seats a).work (see.safe.keeping.seats a is).hand) [
+    other g a is apart path offset count at = elim (hand-of v.layout ops (of_actor a w.log) a (w.seats a).number (w.seats a).lock (w.seats a).work (see.safe.keeping.seats a is).hand) [
       | inl over ↦ subst (IsSeenAt v.layout ops (g.move.xs ++ w.log) a offset count) (sym over) tt
       | inr hand ↦ (
           let op_is : hand.op ≡ operation.View path offset count = same-op hand.op (operation.View path offset count) (sym hand.at ∙ at) in
           seen-frame v ops w.log g.move.xs (in-runs v [] w fine) a path offset count (w.seats a).lock (open-other a by g.move.xs w.log apart g.mine)
           (λ key guarded on. elim (may-publish v (facts w.log) (of_actor by w.log) by (at_work (w.seats by)).number key (ask_of v.layout (at_work (w.seats by)).work) g.proper g.move.t g.move.xs g.move.step) [
             | inl silent ↦ accepted-same g.move.xs w.log key silent
-            | inr p ↦ absurd (barred v ops w next by ok see.safe.keeping.apart g by key p.stamp p.mask [] p.is guarded a is apart on.held on.is on.block)
+            | inr p ↦ absurd (barred v ops w next by ok see.safe.keeping.apart g by key p.stamp p.mask [] p.is (guarded-update ops by key p.stamp p.mask g.move.xs w.log p.is guarded) a is apart on.held on.is on.block)
           ])
-          (w.seats a).work (subst (λ z. IsHolding v.layout ops w.log z (w.seats a).lock (w.seats a).work) op_is hand.holds) (see.seen a is path offset count at)
+          (w.seats a).work (subst (λ z. IsHolding v.layout z (w.seats a).lock (w.seats a).work) op_is hand.holds) (see.seen a is path offset count at)
           )
     ]
 
@@ -389,13 +390,13 @@ module _ (v : Volume) (ops : Actor → List Operation) where
 
       seen : (a : Actor) → IsActor a → (path : List ℕ) (offset count : ℕ) → in_hand (ops a) (of_actor a w.log) ≡ Some (operation.View path offset count)
           → IsSeenAt v.layout ops (xs ++ w.log) a offset count (w.seats a).work
-      seen a ok path offset count at = elim (hand-of v.layout ops w.log (of_actor a w.log) a (w.seats a).number (w.seats a).lock (w.seats a).work (is.safe.keeping.seats a ok).hand) [
+      seen a ok path offset count at = elim (hand-of v.layout ops (of_actor a w.log) a (w.seats a).number (w.seats a).lock (w.seats a).work (is.safe.keeping.seats a ok).hand) [
         | inl over ↦ subst (IsSeenAt v.layout ops (xs ++ w.log) a offset count) (sym over) tt
         | inr hand ↦ (
             let op_is : hand.op ≡ operation.View path offset count = same-op hand.op (operation.View path offset count) (sym hand.at ∙ at) in
             seen-frame v ops w.log xs (in-runs v [] w fine) a path offset count (w.seats a).lock (open-other a Admin xs w.log (seated a ok) (admins-by v ops xs all))
             (λ key guarded on. accepted-same xs w.log key (admins-silent v ops key xs all))
-            (w.seats a).work (subst (λ z. IsHolding v.layout ops w.log z (w.seats a).lock (w.seats a).work) op_is hand.holds) (is.seen a ok path offset count at)
+            (w.seats a).work (subst (λ z. IsHolding v.layout z (w.seats a).lock (w.seats a).work) op_is hand.holds) (is.seen a ok path offset count at)
             )
       ]
 
@@ -416,7 +417,7 @@ whole-views v tells lines s h p =
     let k = seeing-reached v tells lines s p.last p.played p.few in
     subst (λ (g : List Event). AreWhole v.layout (λ a. given a lines) g) p.log_is k.1.1.whole
 
--- A turn in which a guarded key is published: no other actor has a lock on it.
+-- A turn in which an update publishes a block: no other actor has a lock on it.
 first-of : (x : Event) (xs h : List Event) → xs ++ h ≡ x ∷ h → (ys : List Event) × (xs ≡ x ∷ ys)
 first-of x [] h is = absurd (longer h x is)
   where
@@ -432,13 +433,13 @@ first-of x (y ∷ ys) h is = (ys, ap (λ (z : Event). z ∷ ys) (head y (ys ++ h
         pick d (z ∷ zs) = z
 
 pub barred-turn : (v : Volume) (ops more : Actor → List Operation) (w next : World) → IsFine v [] w → IsFine v [] next → IsKeeping v.layout ops more w → (by : Actor) → IsActor by → IsTurn v by w next
-    → (b : Actor) (key : Key) (stamp mask : ℕ) → next.log ≡ e.Publish b key stamp mask None ∷ w.log → IsGuarded ops key w.log
+    → (b : Actor) (key : Key) (stamp mask : ℕ) → next.log ≡ e.Publish b key stamp mask None ∷ w.log → IsUpdate (in_hand (ops by) (of_actor by w.log))
     → (a : Actor) → IsActor a → same_actor a by ≡ false → (lock : Lock) → (w.seats a).lock ≡ Some lock → ¬ HasBlock v.layout lock key
-barred-turn v ops more w next fine fine_next keeping by ok turn b key stamp mask log_is guarded a ok_a apart lock at on = elim (going v ops more by ok w next fine fine_next keeping turn) [
+barred-turn v ops more w next fine fine_next keeping by ok turn b key stamp mask log_is update a ok_a apart lock at on = elim (going v ops more by ok w next fine fine_next keeping turn) [
   | inl same ↦ longer w.log (e.Publish b key stamp mask None) (sym (ap (λ (z : World). z.log) same) ∙ log_is)
   | inr g ↦ (
       let k = first-of (e.Publish b key stamp mask None) g.move.xs w.log (sym g.move.log_is ∙ log_is) in
-      barred v ops w next by ok keeping.apart g b key stamp mask k.0 k.1 guarded a ok_a apart lock at on
+      barred v ops w next by ok keeping.apart g b key stamp mask k.0 k.1 update a ok_a apart lock at on
       )
 ]
   where

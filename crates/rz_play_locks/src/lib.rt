@@ -2,9 +2,10 @@
 //!
 //! The functions have no code: what each one says is its clause, which is proved of every script and of
 //! every play of it, finished or not. `specs/Operations` says to which operation of the script an event
-//! belongs, and when a block is guarded: where all its writes are those of updates. `specs/Promises` says
-//! that no update is lost and that views are whole. `specs/Holding` says which locks are held between two
-//! turns, and `specs/Texts` and `specs/Views` what an update or a view knows of the published text.
+//! belongs, and when a block is guarded: where all its accepted publishes are those of updates.
+//! `specs/Promises` says that no update is lost and that views are whole. `specs/Holding` says which locks
+//! are held between two turns, and `specs/Texts` and `specs/Views` what an update or a view knows of the
+//! published text.
 #![tactic(auto)]
 
 ghost use Rattle.std.specs.Prelude.{ℕ, List, [], ◌∷◌, ◌≡◌, false, None, Some};
@@ -16,7 +17,7 @@ ghost use Rattle.rz_events.specs.declared.events.Event.{Event as AnEvent};
 ghost use Rattle.rz_events.specs.declared.events.Event.TheVariants as e;
 ghost use Rattle.rz_events.specs.Events.{same_actor};
 ghost use Rattle.rz_locks.specs.declared.conflict.Lock.{Lock};
-ghost use Rattle.rz_core.specs.History.{facts};
+ghost use Rattle.rz_core.specs.History.{facts, of_actor};
 ghost use Rattle.rz_core.specs.Legal.{IsLegalInRuns};
 ghost use Rattle.rz_script.specs.declared.line.Line.{Line as ALine};
 ghost use Rattle.rz_script.specs.Lines.{IsActor};
@@ -25,7 +26,7 @@ ghost use Rattle.rz_play.specs.Turns.{IsTurn};
 ghost use Rattle.rz_play.specs.Played.{IsBegun};
 ghost use Rattle.rz_play_laws.specs.Fine.{IsFine};
 ghost use Rattle.rz_play_laws.specs.Runs.{IsScript};
-ghost use Rattle.rz_play_locks.specs.Operations.{IsGuarded, given};
+ghost use Rattle.rz_play_locks.specs.Operations.{IsGuarded, IsUpdate, given, in_hand};
 ghost use Rattle.rz_play_locks.specs.Promises.{NoneLost, AreWhole, published_text, newest_text};
 ghost use Rattle.rz_play_locks.specs.Holding.{AreApart, HasBlock, IsKeeping, IsReleased};
 
@@ -51,13 +52,13 @@ pub fn released()
         → (a : AnActor) (lock : Lock) → (w.seats a).lock ≡ Some lock → IsReleased w next a lock }
 {}
 
-/// No other actor's publish of a guarded block is accepted while an actor has a lock on it.
+/// While an actor has a lock on a block, no other actor's update has a publish of it accepted.
 pub fn barred()
     ensures { (v : Volume) (ops more : AnActor → List AnOperation) (w next : World) → IsFine v [] w → IsFine v [] next
         → IsKeeping v.layout ops more w → (by : AnActor) → IsActor by → IsTurn v by w next
         → (b : AnActor) (key : AKey) (stamp mask : ℕ) → next.log ≡ e.Publish b key stamp mask None ∷ w.log
-        → IsGuarded ops key w.log → (a : AnActor) → IsActor a → same_actor a by ≡ false → (lock : Lock)
-        → (w.seats a).lock ≡ Some lock → ¬ HasBlock v.layout lock key }
+        → IsUpdate (in_hand (ops by) (of_actor by w.log)) → (a : AnActor) → IsActor a → same_actor a by ≡ false
+        → (lock : Lock) → (w.seats a).lock ≡ Some lock → ¬ HasBlock v.layout lock key }
 {}
 
 /// Each accepted publish of a guarded block is of the text that was published before it, with the bytes
