@@ -24,6 +24,11 @@ Takes layout (ask.Refill fence head) bins = IsRecord layout head bins
 Takes layout (ask.Fetch key position stamp) bins = max_bins_of layout ≤ length bins
 Takes layout _ bins = Unit {0}
 
+-- what a start finds depends on the disk
+abbrev pub IsNoStart : NodeAsk → Type 0
+IsNoStart ask.Start = ⊥
+IsNoStart question = Unit {0}
+
 -- an opening makes so many device calls
 abbrev pub Counts : ℕ → NodeAnswer → Meter → Meter → Type 0
 Counts k (answer.Keep a) old new = Spends 4 (keep_used a) old new

@@ -3,7 +3,7 @@ ghost use Rattle.std.specs.Prelude.{◌≡◌, IsTrue};
 ghost use Rattle.rz_cells.specs.Opening.{opening_calls};
 ghost use Rattle.rz_node_model.specs.Answers.{IsNodeAnswer};
 ghost use Rattle.rz_node_model.specs.Afterwards.{after_answer};
-ghost use Rattle.rz_calls.specs.Calls.{Takes, Counts};
+ghost use Rattle.rz_calls.specs.Calls.{Takes, IsNoStart, Counts};
 
 use rz_disk::Disk;
 use rz_events::{NodeAnswer, NodeAsk};
@@ -23,6 +23,7 @@ pub fn answer_node<D: Disk>(
 
     // What a start finds on a disk is said where the disk tells it.
     ensures after { IsTrue D.tells → node.new.state ≡ after_answer ask.now result node.old.state }
+    ensures after_call { IsNoStart ask.now → node.new.state ≡ after_answer ask.now result node.old.state }
     ensures geometry { node.new.geometry ≡ node.old.geometry }
     ensures counts { Counts (opening_calls node.old.geometry) result (D.meter node.old.disk) (D.meter node.new.disk) }
 {
