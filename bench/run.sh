@@ -1,10 +1,25 @@
 #!/usr/bin/env bash
-# Builds libmj_c.a, links the benchmark with it, and runs it. KIT is the folder of the Rattle kit.
+# Builds libmj_c.a for each of two processors, tries every set of positions, and times the transform.
+# KIT is the folder of the Rattle kit. ISA-L is measured where its headers are (Debian: libisal-dev).
 set -e
 here="$(cd "$(dirname "$0")" && pwd)"
 kit="${KIT:-/opt/rattle}"
-(cd "$here/../crates/mj_c" && rt lib >/dev/null)
 out="$(mktemp -d)"
 trap 'rm -rf "$out"' EXIT
-cc -O2 -Wall -Wextra "$here/transform.c" "$here/../crates/mj_c/out/libmj_c.a" "$kit/c/liblibc_c.a" -o "$out/transform"
-"$out/transform"
+isal=()
+if echo '#include <isa-l.h>' | cc -E - >/dev/null 2>&1; then
+    isal=(-DHAVE_ISAL -lisal)
+fi
+for cpu in x86-64-v2 x86-64-v3; do
+    if [ "$cpu" = x86-64-v3 ] && ! grep -qw avx2 /proc/cpuinfo; then
+        echo "this processor has no AVX2, so $cpu is passed over"
+        continue
+    fi
+    (cd "$here/../crates/mj_c" && rt lib mj_c --cpu "$cpu" >/dev/null)
+    archives=("$here/../crates/mj_c/out/libmj_c.a" "$kit/c/liblibc_c.a")
+    cc -O2 -Wall -Wextra "$here/sets.c" "${archives[@]}" -o "$out/sets"
+    cc -O2 -Wall -Wextra "$here/transform.c" "${archives[@]}" "${isal[@]}" -o "$out/transform"
+    echo "== $cpu"
+    "$out/sets"
+    "$out/transform" "$@"
+done

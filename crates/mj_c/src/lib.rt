@@ -10,17 +10,20 @@
 //! there is memory.
 #![tactic(auto)]
 
-ghost use Rattle.std.specs.Prelude.{◌≡◌, ◌≢◌, ◌⊎◌, length, IfSome};
-ghost use Rattle.mj_angles.specs.Projection.{projection, word_at};
-ghost use Rattle.mj_angles.specs.Layout.{inverse_of, cols_of, angle_of};
+ghost use Rattle.std.specs.Prelude.{◌≡◌, ◌≢◌, ◌⊎◌, ◌<◌, ◌+◌, ◌*◌, ◌/◌, ℕ, length, slice_index, slice_range, IfSome};
+ghost use Rattle.mj_angles.specs.Projection.{bin, projection, word_at};
+ghost use Rattle.mj_angles.specs.Layout.{inverse_of, cols_of, angle_of, bins_at_of};
+ghost use Rattle.mj_forward.specs.Forward.{lane_word, start_of};
 ghost use Rattle.rz_words.specs.Grid.{Grid, grid_of};
 ghost use Rattle.mj_inverse.specs.Fits.{IsFound};
-ghost use Rattle.mj_c.specs.Layouts.{layout_at, search_of};
-ghost use Rattle.mj_c.specs.Answers.{code_of, project_answer, solve_refusal};
+ghost use Rattle.mj_c.specs.Layouts.{layout_at, search_of, search_at, words_of, IsAnswered, bins_or_zero};
+ghost use Rattle.mj_c.specs.Numbers.{numbers_answer, numbers_of};
+ghost use Rattle.mj_c.specs.Answers.{code_of, project_answer, eight_answer, all_answer, solve_refusal, many_refusal};
 
 mod forward;
 mod inverse;
 mod layouts;
+mod many;
 
 use std::alloc::Global;
 
@@ -53,7 +56,62 @@ pub extern "C" fn mj_c_project(layout: u32, position: u32, block: &[u64], out: &
         (λ y. out.new ≡ projection (word_at block.now (cols_of y)) (inverse_of y) (cols_of y) (angle_of y position)) }
     ensures refused { result ≢ 0 → out.new ≡ out.old }
 {
-    forward::project_at(layout, position, block, out).code()
+    forward::project_at(layout, position, 0, block, out).code()
+}
+
+/// The same, faster where `lead` says which word of `out` is the first of a line of 64 bytes in memory. What
+/// is written does not depend on it.
+#[unsafe(no_mangle)]
+pub extern "C" fn mj_c_project_at(
+    layout: u32,
+    position: u32,
+    lead: usize,
+    block: &[u64],
+    out: &mut [u64],
+) -> u32
+    ensures answer { result ≡ code_of (project_answer (layout_at layout) position (length block.now) (length out.old)) }
+    ensures done { result ≡ 0 → IfSome (layout_at layout)
+        (λ y. out.new ≡ projection (word_at block.now (cols_of y)) (inverse_of y) (cols_of y) (angle_of y position)) }
+    ensures refused { result ≢ 0 → out.new ≡ out.old }
+{
+    forward::project_at(layout, position, lead, block, out).code()
+}
+
+/// Writes the projections at the positions below `count` one after the other, and leaves `out` as it was
+/// where it refuses. A `count` that is too great is answered as a position would be.
+#[unsafe(no_mangle)]
+pub extern "C" fn mj_c_project_all(
+    layout: u32,
+    count: u32,
+    lead: usize,
+    block: &[u64],
+    out: &mut [u64],
+) -> u32
+    ensures answer { result ≡ code_of (all_answer (layout_at layout) count (length block.now) (length out.old)) }
+    ensures done { result ≡ 0 → IfSome (layout_at layout)
+        (λ y. (j : ℕ) → j < count → slice_range out.new (start_of y j) (start_of y j + bins_at_of y j) ≡
+        projection (word_at block.now (cols_of y)) (inverse_of y) (cols_of y) (angle_of y j)) }
+    ensures refused { result ≢ 0 → out.new ≡ out.old }
+{
+    forward::project_all_at(layout, count, lead, block, out).code()
+}
+
+/// Writes the projections of eight blocks at `position`: word `j` of block `i` stands in place `8 * j + i` of
+/// `blocks`, and bin `b` of its projection in place `8 * b + i` of `out`.
+#[unsafe(no_mangle)]
+pub extern "C" fn mj_c_project_eight(
+    layout: u32,
+    position: u32,
+    blocks: &[u64],
+    out: &mut [u64],
+) -> u32
+    ensures answer { result ≡ code_of (eight_answer (layout_at layout) position (length blocks.now) (length out.old)) }
+    ensures done { result ≡ 0 → IfSome (layout_at layout)
+        (λ y. (i b : ℕ) → i < 8 → b < bins_at_of y position →
+        slice_index out.new (8 * b + i) ≡ bin (lane_word blocks.now (cols_of y) i) (inverse_of y) (cols_of y) (angle_of y position) b) }
+    ensures refused { result ≢ 0 → out.new ≡ out.old }
+{
+    forward::project_eight_at(layout, position, blocks, out).code()
 }
 
 /// Writes the one block that has these projections into `out`, and leaves `out` as it was otherwise. The
@@ -79,6 +137,70 @@ pub extern "C" fn mj_c_solve(
     ensures unchanged { result ≢ 0 → out.new ≡ out.old }
 {
     inverse::solve_at(alloc, layout, positions, bins, out).code()
+}
+
+/// Writes into `out` as many blocks as it has room for, one after the other. `bins` has the projections of the
+/// first block at the positions one after the other, then those of the second, and so on. Room is taken
+/// once for them all. Where the answer is 5, some block has no words, and `out` holds any words.
+#[unsafe(no_mangle)]
+pub extern "C" fn mj_c_solve_many(
+    alloc: Global,
+    layout: u32,
+    positions: &[u32],
+    bins: &[u64],
+    out: &mut [u64],
+) -> u32
+    ensures refused { let refusal = many_refusal (layout_at layout) positions.now (length bins.now) (length out.old) in
+        refusal ≢ Answer.Done → result ≡ code_of refusal }
+    ensures tried { many_refusal (layout_at layout) positions.now (length bins.now) (length out.old) ≡ Answer.Done →
+        (result ≡ 0) ⊎ (result ≡ 5) ⊎ (result ≡ 6) }
+    ensures done { result ≡ 0 → IfSome (layout_at layout)
+        (λ y. (i : ℕ) → i < length out.old / words_of y → IsAnswered y positions.now bins.now out.new i) }
+    ensures none { result ≡ 5 → IfSome (layout_at layout)
+        (λ y. (i : ℕ) × (i < length out.old / words_of y) × ((g : Grid) → ¬ IsFound (search_at y positions.now bins.now i) g)) }
+{
+    many::solve_many_at(alloc, layout, positions, bins, out).code()
+}
+
+/// The numbers of a layout.
+#[repr(C)]
+pub struct Numbers {
+    /// So many projections give a block back, and so many rows it has.
+    pub inverse: u32,
+    /// So many projections are written.
+    pub forward: u32,
+    /// So many positions there are.
+    pub safe: u32,
+    /// So many words a row has.
+    pub cols: u32,
+}
+
+/// Writes the numbers of a layout, and leaves them as they were where there is no such layout.
+#[unsafe(no_mangle)]
+pub extern "C" fn mj_c_numbers(layout: u32, numbers: &mut Numbers) -> u32
+    ensures answer { result ≡ code_of (numbers_answer (layout_at layout)) }
+    ensures done { IfSome (layout_at layout) (λ y. numbers.new ≡ numbers_of y) }
+    ensures refused { result ≢ 0 → numbers.new ≡ numbers.old }
+{
+    let Some(layout) = layouts::layout_of(layout) else {
+        return Answer::BadLayout.code();
+    };
+    numbers.inverse = layout.inverse() as u32;
+    numbers.forward = layout.forward() as u32;
+    numbers.safe = layout.safe() as u32;
+    numbers.cols = layout.cols() as u32;
+    Answer::Done.code()
+}
+
+/// How many bins the projection at `position` has, and 0 where there is no such position.
+#[unsafe(no_mangle)]
+pub extern "C" fn mj_c_bins(layout: u32, position: u32) -> usize
+    ensures { result ≡ bins_or_zero (layout_at layout) position }
+{
+    match layouts::layout_of(layout) {
+        Some(layout) if (position as usize) < layout.safe() => layout.bins_at(position as u8),
+        _ => 0,
+    }
 }
 
 #[cfg(test)]

@@ -12,8 +12,6 @@
 mod fault;
 mod parts;
 mod reading;
-#[cfg(test)]
-mod tests;
 mod volume;
 
 pub use fault::{VolumeCause, VolumeError, VolumeFault};

@@ -19,6 +19,3 @@ mod refusals;
 mod releases;
 
 pub use export::Export;
-
-#[cfg(test)]
-mod tests;

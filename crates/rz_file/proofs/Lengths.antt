@@ -1,5 +1,5 @@
 -- The text of a block that is written in part fits the block.
-use Rattle.std.proofs.Common.{arith, ℕ, List, ◌+◌, ◌-◌, ◌++◌, ◌≤◌, ◌≡◌, min, length, take, drop, replicate, length-append, ap, sym, ◌∙◌}
+use Rattle.std.proofs.Common.{arith, ℕ, List, ◌+◌, ◌-◌, ◌++◌, ◌≤◌, ◌≡◌, length, take, drop, replicate, length-append, ◌∙◌}
 use Rattle.std.proofs.Math.Nat.{min-eq_left, min-le_left}
 use Rattle.std.proofs.lemmas.List.{length-replicate, length-take, length-drop}
 use Rattle.rz_operation_model.specs.Ranges.{cut, patched}

@@ -27,7 +27,7 @@ use Rattle.rz_client_model.specs.Read.{reader_end}
 use Rattle.rz_client_model.specs.Write.{IsWrite}
 use Rattle.rz_reader.specs.Fetched.{record_in}
 use Rattle.rz_reader.specs.Machine.{pairs_at, pairs_if, AreFitting, IsBlockOf, IsAskOf as IsReaderAskOf}
-use Rattle.rz_writer.specs.Machine.{block_of, IsAskOf as IsWriterAskOf}
+use Rattle.rz_writer.specs.Machine.{block_of, IsAskOf as IsWriterAskOf, IsCountOf}
 use Rattle.rz_operation_model.specs.Ranges.{Aim, Taking, Giving, Range}
 use Rattle.rz_operation_model.specs.Work.{RangePlan, WriteBytes, ReadBytes}
 use Rattle.rz_operation_model.specs.Files.{FileState, Reads, Writes, Ended, read_start, write_start, file_ask, file_told}
@@ -71,6 +71,15 @@ abbrev pub text_in : FileState → Option Grid → List ℕ
 text_in (Reads r s) block = text_found (reader_end s) block
 text_in (Writes r text s) block = text
 text_in (Ended r end) block = []
+
+-- a text that was found has the length that was told
+abbrev pub IsFoundLong : Option ReadMark → ℕ → Type 0
+IsFoundLong (Some (mark.Found stamp size)) count = count ≡ size
+IsFoundLong end count = Unit {0}
+
+abbrev pub IsTextLong : FileState → ℕ → Type 0
+IsTextLong (Reads r s) count = IsFoundLong (reader_end s) count
+IsTextLong state count = Unit {0}
 
 -- The beginning.
 
@@ -134,6 +143,11 @@ IsAnswered m answer bins new = Goes m m.pairs (file_told m.layout true (text_in 
 abbrev pub IsUnderWay : FileState → Type 0
 IsUnderWay (Writes r text s) = IsWrite s × (s.length ≡ length text)
 IsUnderWay state = Unit {0}
+
+-- the write of the block in hand is one of the layout
+abbrev pub IsLaidOut : Layout → FileState → Type 0
+IsLaidOut layout (Writes r text s) = s.layout ≡ layout
+IsLaidOut layout state = Unit {0}
 
 -- a position that is asked is one of the layout
 abbrev pub IsAskOf : Layout → FileAsk → Type 0
@@ -206,3 +220,8 @@ AreBinsFor layout text question bins = ⊥
 
 abbrev pub AreBins : Machine → List ℕ → Type 0
 AreBins m bins = AreBinsFor m.layout (text_in m.state m.block) (file_ask m.state) bins
+
+-- there are as many as the position has
+abbrev pub IsCountIn : Layout → FileAsk → List ℕ → Type 0
+IsCountIn layout (ask.Write block question) bins = IsCountOf layout question bins
+IsCountIn layout question bins = Unit {0}

@@ -17,8 +17,6 @@ mod plan;
 mod range;
 mod span;
 mod steps;
-#[cfg(test)]
-mod tests;
 mod texts;
 
 pub use files::{FileRead, FileWrite};

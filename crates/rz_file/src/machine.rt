@@ -1,8 +1,8 @@
 //! The machine of a range.
 
-ghost use Rattle.std.specs.Prelude.{◌≡◌};
+ghost use Rattle.std.specs.Prelude.{◌≡◌, length};
 ghost use Rattle.rz_operation_model.specs.Files.{IsFileAnswer, file_ask, file_end, go_on};
-ghost use Rattle.rz_file.specs.Machine.{IsAnswered, IsUnderWay, IsAskOf, IsKeep, AreBins, ComeWith, IsEndIn, IsReaderIn, IsWriterIn, IsReading, IsWriting, machine_with, aim_in, bytes_in, text_in, is_taking};
+ghost use Rattle.rz_file.specs.Machine.{IsAnswered, IsUnderWay, IsLaidOut, IsAskOf, IsKeep, AreBins, IsCountIn, IsTextLong, ComeWith, IsEndIn, IsReaderIn, IsWriterIn, IsReading, IsWriting, machine_with, aim_in, bytes_in, text_in, is_taking};
 ghost use Rattle.rz_file.specs.Inside.{IsSpan, AreHands, range_in};
 
 use crate::answers::after;
@@ -46,6 +46,7 @@ impl FileMachine {
     pub fn next(&self) -> FileAsk
         ensures value { result ≡ file_ask self.now.state }
         ensures under_way { IsUnderWay self.now.state }
+        ensures layout { IsLaidOut self.now.layout self.now.state }
         ensures place { IsAskOf self.now.layout result }
     {
         match self.step {
@@ -58,14 +59,16 @@ impl FileMachine {
     /// The bins of the position that the write of the block in hand asks a node to keep.
     pub fn bins(&self) -> &[u64]
         requires { IsKeep (file_ask self.now.state) }
-        ensures { AreBins self.now result.now }
+        ensures bins { AreBins self.now result.now }
+        ensures count { IsCountIn self.now.layout (file_ask self.now.state) result.now }
     {
         self.writer.bins()
     }
 
     /// The text of the block in hand: the one that was found, or that is written.
     pub fn text(&self) -> &[u8]
-        ensures { result.now ≡ text_in self.now.state self.now.block }
+        ensures text { result.now ≡ text_in self.now.state self.now.block }
+        ensures long { IsTextLong self.now.state (length result.now) }
     {
         match self.step {
             Step::Reading => &self.span.found[..found_size(&self.reader)],

@@ -9,7 +9,5 @@
 #![tactic(auto)]
 
 mod index;
-#[cfg(test)]
-mod tests;
 
 pub use index::{Entry, Index};

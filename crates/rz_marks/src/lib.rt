@@ -12,6 +12,3 @@ mod marks;
 mod row;
 
 pub use marks::Marks;
-
-#[cfg(test)]
-mod tests;

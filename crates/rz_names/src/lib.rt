@@ -19,6 +19,3 @@ mod path;
 
 pub use map::NameMap;
 pub use path::{Path, PathError};
-
-#[cfg(test)]
-mod tests;

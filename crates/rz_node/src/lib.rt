@@ -22,8 +22,6 @@ mod node;
 mod opening;
 mod replacing;
 mod rows;
-#[cfg(test)]
-mod tests;
 
 pub use laws::change;
 pub use node::Node;

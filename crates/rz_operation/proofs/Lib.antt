@@ -1,0 +1,4 @@
+mod RebuildTurns
+mod RangeTurns
+mod ReadTurns
+mod Heads

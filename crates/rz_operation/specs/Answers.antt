@@ -1,8 +1,8 @@
 -- Which answers belong to what was asked, and what they make of a machine.
-use Rattle.std.specs.Prelude.{ℕ, Bool, true, ◌≡◌, ◌<◌, ◌≤◌, ◌+◌, ◌^◌, List, [], length, Option, Some, None, IsSomeAnd}
+use Rattle.std.specs.Prelude.{ℕ, Bool, true, ◌≡◌, ◌<◌, ◌≤◌, ◌+◌, List, [], length, Option, None}
 use Rattle.std.specs.Int.{bit_at}
 use Rattle.mj_angles.specs.declared.layout.Layout.{Layout}
-use Rattle.mj_angles.specs.Layout.{safe_of, bins_at_of, block_bytes_of}
+use Rattle.mj_angles.specs.Layout.{safe_of, block_bytes_of}
 use Rattle.mj_inverse.specs.Fits.{Pair}
 use Rattle.rz_words.specs.Grid.{Grid}
 use Rattle.rz_events.specs.declared.tree.TreeReply.{TreeReply}
@@ -16,34 +16,40 @@ use Rattle.rz_events.specs.declared.nodes.NodeAsk.TheVariants as ask
 use Rattle.rz_events.specs.declared.nodes.NodeAnswer.{NodeAnswer}
 use Rattle.rz_events.specs.declared.nodes.NodeAnswer.TheVariants as answer
 use Rattle.rz_events.specs.declared.nodes.FetchAnswer.{FetchAnswer}
-use Rattle.rz_events.specs.declared.nodes.FetchAnswer.TheVariants as fetch
-use Rattle.rz_events.specs.declared.machines.ReaderAnswer.{ReaderAnswer}
 use Rattle.rz_events.specs.declared.machines.ReaderAnswer.TheVariants as reads
-use Rattle.rz_events.specs.declared.machines.WriterAnswer.{WriterAnswer}
-use Rattle.rz_events.specs.declared.machines.WriterAnswer.TheVariants as writes
 use Rattle.rz_events.specs.declared.machines.ReaderAsk.{ReaderAsk}
 use Rattle.rz_events.specs.declared.machines.ReaderAsk.TheVariants as fetches
 use Rattle.rz_events.specs.declared.machines.WriterAsk.{WriterAsk}
 use Rattle.rz_events.specs.declared.machines.WriterAsk.TheVariants as keeps
 use Rattle.rz_client_model.specs.Read.{IsTold, IsFetched}
 use Rattle.rz_reader.specs.Fetched.{record_in}
-use Rattle.rz_reader.specs.Machine.{pairs_at, pairs_if, AreFitting, IsBlockOf, IsOnly, search_of, Machine as ReaderMachine}
+use Rattle.rz_reader.specs.Machine.{pairs_at, pairs_if, AreFitting, IsBlockOf, Machine as ReaderMachine}
 use Rattle.rz_events.specs.declared.operations.Operation.{Operation}
 use Rattle.rz_events.specs.declared.operations.Operation.TheVariants as operation
 use Rattle.rz_operation_model.specs.Ranges.{bytes_of}
-use Rattle.rz_operation_model.specs.Ask.{Ask, AskExport, AskNode, Say, Saying, SayDone}
+use Rattle.rz_operation_model.specs.Ask.{Ask, AskExport, AskNode, AskLock, Say, Saying, SayDone}
 use Rattle.rz_operation_model.specs.Steps.{Told, Answered, told, reader_after}
 use Rattle.rz_operation_model.specs.Rebuild.{IsNextAnswer}
-use Rattle.rz_operation_model.specs.Work.{Work, Reading}
+use Rattle.rz_rebuild.specs.Machine.{HasBinsAt, HasRoomAt, pairs_at_state, pairs_fetched_at, IsBlockAt}
+use Rattle.rz_operation_model.specs.Work.{Work, RangePlan, WriteBytes, ReadBytes, Reading, Rebuilding}
 use Rattle.rz_operation.specs.Machine.{Machine}
 
--- Operations that a machine takes: a block's datum fits the block.
+-- Operations that a machine takes: a block's datum fits the block, and a range ends where the longest file does.
 
 abbrev pub IsOperation : Layout → Operation → Type 0
 IsOperation layout (operation.Tree c) = Unit {0}
 IsOperation layout (operation.Put path block datum) = length (bytes_of datum) ≤ block_bytes_of layout
 IsOperation layout (operation.Get path block) = Unit {0}
-IsOperation layout op = ⊥
+IsOperation layout (operation.Rebuild n) = Unit {0}
+IsOperation layout (operation.Write path offset datum) = offset + length (bytes_of datum) ≤ 4294967296
+IsOperation layout (operation.Read path offset count) = offset + count ≤ 4294967296
+IsOperation layout (operation.Update path offset datum) = offset + length (bytes_of datum) ≤ 4294967296
+IsOperation layout (operation.View path offset count) = offset + count ≤ 4294967296
+
+-- the range of an operation ends where the longest file does
+abbrev pub IsWithinFile : RangePlan → Type 0
+IsWithinFile (WriteBytes offset bytes) = offset + length bytes ≤ 4294967296
+IsWithinFile (ReadBytes offset count) = offset + count ≤ 4294967296
 
 -- Answers of the export.
 
@@ -95,20 +101,9 @@ abbrev pub IsReply : Layout → Ask → Reply → Type 0
 IsReply layout (AskExport c) r = IsReplyTo layout c r
 IsReply layout ask r = ⊥
 
--- what the write of a block is told by a reply
-abbrev pub write_answer : Reply → Option WriterAnswer
-write_answer (reply.Begun stamp base) = Some (writes.Begun stamp base)
-write_answer (reply.Denied why) = Some (writes.Denied why)
-write_answer reply.Accepted = Some writes.Accepted
-write_answer (reply.Enrolled position fence) = Some (writes.Enrolled position fence)
-write_answer (reply.Revoked later) = Some (writes.Revoked later)
-write_answer r = None
-
--- what the read of a block is told by a reply
-abbrev pub read_answer : Reply → Option ReaderAnswer
-read_answer (reply.Looked p) = Some (reads.Looked p)
-read_answer (reply.Denied why) = Some (reads.Denied why)
-read_answer r = None
+abbrev pub IsLockReply : Layout → Ask → Reply → Type 0
+IsLockReply layout (AskLock path exclusive from count) r = IsTreeReply layout r
+IsLockReply layout ask r = ⊥
 
 -- Answers of nodes. A record comes with the bins of the position that was asked.
 
@@ -117,7 +112,7 @@ IsFetch layout position (answer.Fetch a) = IsFetched layout a
 IsFetch layout position a = ⊥
 
 abbrev pub HasFetched : Layout → ℕ → NodeAnswer → List ℕ → Type 0
-HasFetched layout position (answer.Fetch (fetch.Held r)) bins = bins_at_of layout position ≤ length bins
+HasFetched layout position (answer.Fetch a) bins = HasBinsAt layout position a bins
 HasFetched layout position a bins = Unit {0}
 
 abbrev pub IsFetchGiven : NodeAnswer → Type 0
@@ -199,16 +194,19 @@ IsDone ask = ⊥
 -- pairs are there while records are fetched
 abbrev pub pairs_in : Work → List Pair → List Pair
 pairs_in (Reading course s) pairs = pairs_at s.stage pairs
+pairs_in (Rebuilding n s) pairs = pairs_at_state s pairs
 pairs_in work pairs = []
 
 -- a record of the published stamp adds one
 abbrev pub pairs_fetched : Layout → Work → List Pair → FetchAnswer → List ℕ → List Pair
 pairs_fetched layout (Reading course s) pairs a bins = pairs_if layout pairs (record_in s.stage (reads.Fetched a)) bins
+pairs_fetched layout (Rebuilding n s) pairs a bins = pairs_fetched_at layout s pairs a bins
 pairs_fetched layout work pairs a bins = pairs
 
 -- the block is there once it is found, and is the one that fits
 abbrev pub IsBlockIn : Layout → List Pair → Work → Option Grid → Type 0
 IsBlockIn layout pairs (Reading course s) block = IsBlockOf layout pairs s.stage block
+IsBlockIn layout pairs (Rebuilding n s) block = IsBlockAt layout pairs s block
 IsBlockIn layout pairs work block = block ≡ None
 
 -- What an answer makes of a machine.
@@ -245,3 +243,8 @@ IsFetchedInto r a bins new = (fits : Bool) × AreFitting r.state.layout (pairs_t
     × (new.state ≡ reader_after r.state (Answered fits (answer.Fetch a)))
     × (new.pairs ≡ pairs_at new.state.stage (pairs_told r a bins))
     × IsBlockOf r.state.layout (pairs_told r a bins) new.state.stage new.block
+
+-- what counts the blocks of a rebuild has room for one more
+abbrev pub HasRoom : Work → Type 0
+HasRoom (Rebuilding n s) = HasRoomAt s
+HasRoom work = Unit {0}

@@ -1,7 +1,7 @@
 -- What contracts see of a machine, and the bins and the text that it gives.
-use Rattle.std.specs.Prelude.{ℕ, ◌≡◌, List, [], take, Option, Some, IsSomeAnd}
+use Rattle.std.specs.Prelude.{ℕ, Bool, true, false, ◌≡◌, List, [], take, Option, Some, IsSomeAnd}
 use Rattle.mj_angles.specs.declared.layout.Layout.{Layout}
-use Rattle.mj_angles.specs.Layout.{angle_of, bins_at_of}
+use Rattle.mj_angles.specs.Layout.{angle_of}
 use Rattle.mj_forward.specs.Forward.{projection_of}
 use Rattle.mj_inverse.specs.Fits.{Pair}
 use Rattle.rz_words.specs.Grid.{Grid, bytes_from}
@@ -10,7 +10,7 @@ use Rattle.rz_events.specs.declared.nodes.NodeAsk.TheVariants as node
 use Rattle.rz_events.specs.declared.ends.ReadMark.{ReadMark}
 use Rattle.rz_events.specs.declared.ends.ReadMark.TheVariants as mark
 use Rattle.rz_operation_model.specs.Ask.{Ask, AskNode, Say, Saying, SayGot, ask_of}
-use Rattle.rz_operation_model.specs.Work.{Work, Writing}
+use Rattle.rz_operation_model.specs.Work.{Work, Writing, Over}
 use Rattle.rz_writer.specs.Machine.{block_of}
 
 -- the layout and the work; the angles and bins of the records of the block that is read, while they are fetched; and the
@@ -21,7 +21,12 @@ pub record Machine : Type 0 where
   pub pairs : List Pair
   pub block : Option Grid
 
--- The bins of what a node is to keep.
+-- nothing is left to do
+abbrev pub is_over : Work → Bool
+is_over Over = true
+is_over work = false
+
+-- The bins of what a node is to keep, or to have as a refill.
 
 -- the text of the block that is written
 abbrev pub text_in : Work → List ℕ
@@ -30,6 +35,7 @@ text_in work = []
 
 abbrev pub HasBinsFor : NodeAsk → Type 0
 HasBinsFor (node.Keep head) = Unit {0}
+HasBinsFor (node.Refill fence head) = Unit {0}
 HasBinsFor question = ⊥
 
 abbrev pub HasBins : Ask → Type 0
@@ -38,6 +44,7 @@ HasBins ask = ⊥
 
 abbrev pub AreBinsFor : Machine → NodeAsk → List ℕ → Type 0
 AreBinsFor m (node.Keep head) bins = bins ≡ projection_of (block_of m.layout (text_in m.work)) (angle_of m.layout head.position)
+AreBinsFor m (node.Refill fence head) bins = IsSomeAnd m.block (λ g. bins ≡ projection_of g (angle_of m.layout head.position))
 AreBinsFor m question bins = ⊥
 
 -- the bins are those of the block in hand at the position that was asked

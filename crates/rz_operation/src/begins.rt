@@ -1,17 +1,22 @@
 //! How an operation begins, and how it goes on once its file is open.
 
-ghost use Rattle.std.specs.Prelude.{◌≡◌, ◌≤◌, length, IsSome, IfOk};
+ghost use Rattle.std.specs.Prelude.{◌≡◌, ◌≤◌, ◌+◌, length, IsSome, IfOk};
 ghost use Rattle.mj_angles.specs.Layout.{safe_of, block_bytes_of};
 ghost use Rattle.rz_operation_model.specs.Ranges.{bytes_of};
-ghost use Rattle.rz_operation_model.specs.Steps.{begun, planned, after_open, after_call};
-ghost use Rattle.rz_operation.specs.Answers.{HasPlaces, IsOperation};
+ghost use Rattle.rz_operation_model.specs.Steps.{begun, planned, after_open, after_lock, after_call};
+ghost use Rattle.rz_operation_model.specs.Work.{WriteBytes};
+ghost use Rattle.rz_operation.specs.Meaning.{path_in};
+ghost use Rattle.rz_operation.specs.Answers.{HasPlaces, IsOperation, IsWithinFile};
 ghost use Rattle.rz_operation.specs.Inside.{IsStage, IsPlan, IsFresh, IsQuiet, work_of, plan_of};
 
 use crate::drops::dropping;
+use crate::ranges::open_range;
 use crate::stage::{Plan, Stage};
 use mj_angles::Layout;
 use rz_events::{Answer, Datum, FileInfo, Operation, Places, Text, TreeCall, TreeReply};
+use rz_file::FilePlan;
 use rz_reader::Reader;
+use rz_rebuild::Rebuilder;
 use rz_writer::Writer;
 use std::alloc::{AllocError, Global};
 
@@ -41,11 +46,39 @@ pub fn begun(alloc: Global, layout: Layout, op: Operation) -> Result<Stage, Allo
         Operation::Tree(call) => Ok(Stage::Calling(call)),
         Operation::Put { path, block, datum } => put(alloc, layout, path, block, datum),
         Operation::Get { path, block } => get(alloc, layout, path, block),
-        Operation::Write { .. } => unreachable!(),
-        Operation::Read { .. } => unreachable!(),
-        Operation::Rebuild { .. } => unreachable!(),
-        Operation::Update { .. } => unreachable!(),
-        Operation::View { .. } => unreachable!(),
+        Operation::Write {
+            path,
+            offset,
+            datum,
+        } => {
+            let plan = write_plan(alloc, layout, offset, datum)?;
+            Ok(opening(layout, path, Plan::Range(plan)))
+        }
+        Operation::Read {
+            path,
+            offset,
+            length,
+        } => {
+            let plan = FilePlan::read(alloc, layout, offset, length)?;
+            Ok(opening(layout, path, Plan::Range(plan)))
+        }
+        Operation::Rebuild { node } => rebuild(alloc, layout, node),
+        Operation::Update {
+            path,
+            offset,
+            datum,
+        } => {
+            let plan = write_plan(alloc, layout, offset, datum)?;
+            Ok(locking(layout, path, plan))
+        }
+        Operation::View {
+            path,
+            offset,
+            length,
+        } => {
+            let plan = FilePlan::read(alloc, layout, offset, length)?;
+            Ok(locking(layout, path, plan))
+        }
     }
 }
 
@@ -83,6 +116,15 @@ fn get(alloc: Global, layout: Layout, path: Text, block: u64) -> Result<Stage, A
     Ok(opening(layout, path, Plan::Get { block, reader }))
 }
 
+/// The rebuild of a node begins.
+fn rebuild(alloc: Global, layout: Layout, node: u16) -> Result<Stage, AllocError>
+    ensures work { IfOk result (λ s. work_of s ≡ begun (Operation.Rebuild node)) }
+    ensures inside { IfOk result (λ s. IsStage layout s) }
+{
+    let rebuilder = Rebuilder::start(alloc, layout, node)?;
+    Ok(Stage::Rebuilding { node, rebuilder })
+}
+
 /// The file at a path is opened.
 fn opening(layout: Layout, path: Text, plan: Plan) -> Stage
     requires { IsPlan layout plan }
@@ -91,6 +133,31 @@ fn opening(layout: Layout, path: Text, plan: Plan) -> Stage
 {
     let call = TreeCall::OpenFile { path };
     Stage::Opening { call, plan }
+}
+
+/// The file at a path is opened and locked.
+fn locking(layout: Layout, path: Text, plan: FilePlan) -> Stage
+    requires layout { plan.layout ≡ layout }
+    requires within { IsWithinFile plan.plan }
+    ensures work { result ≡ Stage.Locking (TreeCall.OpenFile path) plan }
+    ensures inside { IsStage layout result }
+{
+    let call = TreeCall::OpenFile { path };
+    Stage::Locking { call, plan }
+}
+
+/// The write of a datum from an offset on.
+fn write_plan(
+    alloc: Global,
+    layout: Layout,
+    offset: u64,
+    datum: Datum,
+) -> Result<FilePlan, AllocError>
+    requires { offset + length (bytes_of datum) ≤ 4294967296 }
+    ensures { IfOk result (λ p. p ≡ record { layout = layout; plan = WriteBytes offset (bytes_of datum) }) }
+{
+    let text = text_of(alloc, datum)?;
+    FilePlan::write(alloc, layout, offset, text.into_vec())
 }
 
 /// The bytes of a datum.
@@ -164,6 +231,7 @@ fn planned(layout: Layout, info: &FileInfo, plan: Plan) -> Stage
             text,
         } => write_block(layout, info, block, writer, text),
         Plan::Get { block, reader } => read_block(layout, info, block, reader),
+        Plan::Range(plan) => open_range(layout, info, plan),
     }
 }
 
@@ -191,4 +259,30 @@ fn read_block(layout: Layout, info: &FileInfo, block: u64, mut reader: Reader) -
 {
     reader.again(info, block);
     Stage::Reading(reader)
+}
+
+/// How an operation goes on after its file was opened and a lock was granted or not: a file that is
+/// locked by another is opened again.
+pub fn after_locked(
+    layout: Layout,
+    call: TreeCall,
+    plan: FilePlan,
+    granted: bool,
+    answer: TreeReply,
+) -> Stage
+    requires call { call ≡ TreeCall.OpenFile (path_in call) }
+    requires layout { plan.layout ≡ layout }
+    requires within { IsWithinFile plan.plan }
+    requires places { HasPlaces layout answer }
+    ensures work { work_of result ≡ after_lock layout (path_in call) plan.plan granted answer }
+    ensures inside { IsStage layout result }
+    ensures fresh { IsFresh result }
+{
+    if granted {
+        return after_open(layout, Plan::Range(plan), &answer);
+    }
+    match &answer {
+        TreeReply::File(_) => Stage::Locking { call, plan },
+        _ => after_open(layout, Plan::Range(plan), &answer),
+    }
 }

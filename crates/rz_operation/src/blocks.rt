@@ -1,16 +1,19 @@
 //! The write and the read of a block: what they ask, and what they are told.
 
-ghost use Rattle.std.specs.Prelude.{◌≡◌, Bool, length, Some, IsSomeAnd};
+ghost use Rattle.std.specs.Prelude.{◌≡◌, Bool, false, length, Some, IsSomeAnd};
 ghost use Rattle.rz_client_model.specs.Write.{writer_ask, writer_end, writer_told, IsWriterAnswer};
 ghost use Rattle.rz_client_model.specs.Read.{reader_ask, reader_end, IsReaderAnswer};
 ghost use Rattle.rz_events.specs.declared.machines.WriterAnswer.TheVariants as writes;
 ghost use Rattle.rz_reader.specs.Machine.{IsStateAfter, IsBlockOf, pairs_at, pairs_after, HasBins};
-ghost use Rattle.rz_operation_model.specs.Ask.{write_asks, read_asks, gave, got};
+ghost use Rattle.rz_operation_model.specs.Ask.{write_asks, read_asks};
 ghost use Rattle.rz_operation_model.specs.Steps.{Replied, Answered, writer_after, reader_after};
 ghost use Rattle.rz_operation.specs.Meaning.{meaning_of};
-ghost use Rattle.rz_operation.specs.Answers.{IsFetchGiven, write_answer, read_answer, IsKeepAsk, IsFetchAsk, IsFetchedInto};
+ghost use Rattle.rz_operation.specs.Answers.{IsFetchGiven, IsKeepAsk, IsFetchAsk, IsFetchedInto};
+ghost use Rattle.rz_operation.specs.Told.{write_answer, read_answer};
+ghost use Rattle.rz_operation.specs.Records.{HasHead};
 
 use crate::ask::{Ask, ExportAsk, Saying};
+use rz_client_model::WriterState;
 use rz_events::{
     FetchAnswer, Head, KeepAnswer, Key, NodeAnswer, NodeAsk, Published, ReadMark, ReaderAnswer,
     ReaderAsk, Reply, WriteEnd, WriterAnswer, WriterAsk,
@@ -18,16 +21,20 @@ use rz_events::{
 use rz_reader::Reader;
 use rz_writer::Writer;
 
-/// What the write of a block asks.
-pub fn write_ask<'a>(part: bool, writer: &Writer, text: &'a [u8]) -> Ask<'a>
-    ensures { meaning_of result ≡ write_asks part text.now writer.now.state (writer_ask writer.now.state) }
+/// What the write of a block asks, of which this is the end.
+pub fn write_asked<'a>(
+    part: bool,
+    state: &WriterState,
+    text: &'a [u8],
+    ask: WriterAsk,
+    end: Option<WriteEnd>,
+) -> Ask<'a>
+    requires { end ≡ writer_end state.now }
+    ensures { meaning_of result ≡ write_asks part text.now state.now ask }
 {
-    let state = writer.state();
-    match writer.next() {
-        WriterAsk::Begin { .. } => Ask::Export(ExportAsk::Begin {
-            key: state.key,
-            text,
-        }),
+    let key = state.key;
+    match ask {
+        WriterAsk::Begin { .. } => Ask::Export(ExportAsk::Begin { key, text }),
         WriterAsk::Keep {
             position,
             node,
@@ -37,7 +44,7 @@ pub fn write_ask<'a>(part: bool, writer: &Writer, text: &'a [u8]) -> Ask<'a>
             node,
             ask: NodeAsk::Keep(Head {
                 stamp,
-                key: state.key,
+                key,
                 layout: state.layout,
                 bsize: state.layout.bsize(),
                 position,
@@ -46,33 +53,25 @@ pub fn write_ask<'a>(part: bool, writer: &Writer, text: &'a [u8]) -> Ask<'a>
             }),
         },
         WriterAsk::Publish { stamp, mask } => Ask::Export(ExportAsk::Publish {
-            key: state.key,
+            key,
             published: Published {
                 stamp,
                 mask,
                 length: state.length,
             },
         }),
-        WriterAsk::End => gave(part, state.key, writer.end()),
+        WriterAsk::End => match end {
+            Some(end) => Ask::Say(Saying::Gave { key, part, end }),
+            None => Ask::Rest,
+        },
     }
 }
 
-/// The end of a write is said.
-fn gave(part: bool, key: Key, end: Option<WriteEnd>) -> Ask<'static>
-    ensures { meaning_of result ≡ gave part key end }
+/// What the read of a block asks, of which this is the end.
+pub fn read_asked(part: bool, key: Key, ask: ReaderAsk, end: Option<ReadMark>) -> Ask<'static>
+    ensures { meaning_of result ≡ read_asks part key end ask }
 {
-    match end {
-        Some(end) => Ask::Say(Saying::Gave { key, part, end }),
-        None => Ask::Rest,
-    }
-}
-
-/// What the read of a block asks.
-pub fn read_ask(part: bool, reader: &Reader) -> Ask<'static>
-    ensures { meaning_of result ≡ read_asks part reader.now.state.key (reader_end reader.now.state) (reader_ask reader.now.state) }
-{
-    let key = reader.state().key;
-    match reader.next() {
+    match ask {
         ReaderAsk::Look => Ask::Export(ExportAsk::Look { key }),
         ReaderAsk::Fetch {
             position,
@@ -87,22 +86,31 @@ pub fn read_ask(part: bool, reader: &Reader) -> Ask<'static>
             },
         },
         ReaderAsk::Recheck => Ask::Export(ExportAsk::Recheck { key }),
-        ReaderAsk::End => got(part, key, reader.end()),
+        ReaderAsk::End => match end {
+            Some(mark) => Ask::Say(Saying::Got { key, part, mark }),
+            None => Ask::Rest,
+        },
     }
 }
 
-/// The end of a read is said.
-fn got(part: bool, key: Key, mark: Option<ReadMark>) -> Ask<'static>
-    ensures { meaning_of result ≡ got part key mark }
+/// What an operation asks that writes a block.
+pub fn write_ask<'a>(writer: &Writer, text: &'a [u8]) -> Ask<'a>
+    ensures value { meaning_of result ≡ write_asks false text.now writer.now.state (writer_ask writer.now.state) }
+    ensures head { HasHead writer.now.state.layout (write_asks false text.now writer.now.state (writer_ask writer.now.state)) }
 {
-    match mark {
-        Some(mark) => Ask::Say(Saying::Got { key, part, mark }),
-        None => Ask::Rest,
-    }
+    write_asked(false, writer.state(), text, writer.next(), writer.end())
+}
+
+/// What an operation asks that reads a block.
+pub fn read_ask(reader: &Reader) -> Ask<'static>
+    ensures value { meaning_of result ≡ read_asks false reader.now.state.key (reader_end reader.now.state) (reader_ask reader.now.state) }
+    ensures head { HasHead reader.now.state.layout (read_asks false reader.now.state.key (reader_end reader.now.state) (reader_ask reader.now.state)) }
+{
+    read_asked(false, reader.state().key, reader.next(), reader.end())
 }
 
 /// What a write is told by a reply of the export.
-fn write_answer(reply: &Reply) -> Option<WriterAnswer>
+pub fn write_answer(reply: &Reply) -> Option<WriterAnswer>
     ensures { result ≡ write_answer reply.now }
 {
     match reply {
@@ -133,7 +141,7 @@ pub fn tell_writer(writer: &mut Writer, reply: &Reply)
 }
 
 /// What a read is told by a reply of the export.
-fn read_answer(reply: &Reply) -> Option<ReaderAnswer>
+pub fn read_answer(reply: &Reply) -> Option<ReaderAnswer>
     ensures { result ≡ read_answer reply.now }
 {
     match reply {

@@ -1,22 +1,20 @@
 //! The drops of a file that has no name left.
 
-ghost use Rattle.std.specs.Prelude.{◌≡◌, ◌<◌, ◌≤◌, ◌+◌, Bool, length, drop};
+ghost use Rattle.std.specs.Prelude.{◌≡◌, ◌<◌, ◌≤◌, ◌+◌, length, drop, slice_index};
+ghost use Rattle.rz_operation_model.specs.Ask.{AskNode};
 ghost use Rattle.rz_events.specs.declared.nodes.NodeAsk.TheVariants as ask;
-ghost use Rattle.rz_events.specs.declared.nodes.NodeAnswer.TheVariants as node;
-ghost use Rattle.rz_operation_model.specs.Ask.{ask_of};
-ghost use Rattle.rz_operation_model.specs.Steps.{Answered, Missed, told, drop_at};
+ghost use Rattle.rz_operation_model.specs.Steps.{after_drop, drop_at};
 ghost use Rattle.rz_operation.specs.Meaning.{meaning_of};
 ghost use Rattle.rz_operation.specs.Inside.{IsQuiet, work_of};
 
 use crate::ask::Ask;
 use crate::stage::Stage;
-use mj_angles::Layout;
 use rz_events::{Answer, DropAnswer, NodeAsk, Places};
 
 /// What the drops of a file ask.
 pub fn drop_ask(fid: u128, places: &Places, done: u8) -> Ask<'static>
     requires { done < length places.now }
-    ensures { (layout : Layout) → meaning_of result ≡ ask_of layout (drop_at fid (drop done places.now)) }
+    ensures { meaning_of result ≡ AskNode (slice_index places.now done) (ask.Drop fid) }
 {
     Ask::Node {
         node: places.list()[done as usize],
@@ -27,7 +25,7 @@ pub fn drop_ask(fid: u128, places: &Places, done: u8) -> Ask<'static>
 /// How the drops go on after a node's answer.
 pub fn after_drop(fid: u128, places: Places, done: u8, answer: DropAnswer) -> Stage
     requires { done < length places }
-    ensures work { (layout : Layout) (fits : Bool) → work_of result ≡ told layout (drop_at fid (drop done places)) (Answered fits (node.Drop answer)) }
+    ensures work { work_of result ≡ after_drop fid (slice_index places done) (drop (done + 1) places) answer }
     ensures quiet { IsQuiet result }
 {
     match answer {
@@ -40,17 +38,8 @@ pub fn after_drop(fid: u128, places: Places, done: u8, answer: DropAnswer) -> St
     }
 }
 
-/// How the drops go on where the message was lost.
-pub fn after_lost(fid: u128, places: Places, done: u8) -> Stage
-    requires { done < length places }
-    ensures work { (layout : Layout) → work_of result ≡ told layout (drop_at fid (drop done places)) Missed }
-    ensures quiet { IsQuiet result }
-{
-    dropped(fid, places, done)
-}
-
 /// One node more is done.
-fn dropped(fid: u128, places: Places, done: u8) -> Stage
+pub fn dropped(fid: u128, places: Places, done: u8) -> Stage
     requires { done < length places }
     ensures work { work_of result ≡ drop_at fid (drop (done + 1) places) }
     ensures quiet { IsQuiet result }

@@ -5,16 +5,21 @@
 //! nothing of which answers a node or the export gives, nor of which event an answer has in the log.
 //! Memory is taken by `start` alone.
 //!
-//! In reading order: `ask`, `stage`, `machine`, `begins`, `replies`, `drops`, `blocks`.
+//! In reading order: `ask`, `stage`, `machine`, `begins`, `replies`, `drops`, `locks`, `blocks`,
+//! `ranges`, `rebuilds`, `takes`.
 #![tactic(auto)]
 
 mod ask;
 mod begins;
 mod blocks;
 mod drops;
+mod locks;
 mod machine;
+mod ranges;
+mod rebuilds;
 mod replies;
 mod stage;
+mod takes;
 
 pub use ask::{Ask, ExportAsk, Saying};
 pub use machine::Machine;

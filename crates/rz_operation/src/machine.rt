@@ -1,18 +1,23 @@
 //! An operation in hand.
 
-ghost use Rattle.std.specs.Prelude.{◌≡◌, IfOk, length, []};
+ghost use Rattle.std.specs.Prelude.{◌≡◌, ◌↔◌, IfOk, IsTrue, length, []};
 ghost use Rattle.rz_operation_model.specs.Ask.{ask_of, Say, SayDone};
-ghost use Rattle.rz_operation_model.specs.Steps.{begun, Replied, Missed, Noted};
+ghost use Rattle.rz_operation_model.specs.Steps.{begun, Replied, Locked, Missed, Noted};
 ghost use Rattle.rz_operation.specs.Meaning.{meaning_of};
-ghost use Rattle.rz_operation.specs.Machine.{HasBins, AreBins, HasText, text_of};
-ghost use Rattle.rz_operation.specs.Answers.{IsOperation, IsReply, IsAnswer, ComeWith, MayMiss, IsPartSaid, IsDone, Goes, IsAnswered};
+ghost use Rattle.rz_operation.specs.Machine.{is_over, HasBins, AreBins, HasText, text_of};
+ghost use Rattle.rz_operation.specs.Records.{HasHead, IsCount};
+ghost use Rattle.rz_operation.specs.Answers.{IsOperation, IsReply, IsLockReply, IsAnswer, ComeWith, MayMiss, IsPartSaid, IsDone, HasRoom, Goes, IsAnswered};
 
 use crate::ask::{Ask, ExportAsk, Saying};
 use crate::begins::begun;
 use crate::blocks::{read_ask, write_ask};
 use crate::drops::drop_ask;
-use crate::replies::{after_answer, after_miss, after_reply, after_said, answer_in};
+use crate::locks::lock_ask;
+use crate::ranges::range_ask;
+use crate::rebuilds::rebuilder_ask;
+use crate::replies::{after_answer, after_lock, after_miss, after_reply, after_said, answer_in};
 use crate::stage::Stage;
+use crate::takes::{is_answer, is_lock_reply, is_reply};
 use mj_angles::Layout;
 use rz_events::{Answer, NodeAnswer, Operation, Reply};
 use std::alloc::{AllocError, Global};
@@ -54,17 +59,30 @@ impl Machine {
 
     /// What the operation asks next.
     pub fn next(&self) -> Ask<'_>
-        ensures { meaning_of result ≡ ask_of self.now.layout self.now.work }
+        ensures value { meaning_of result ≡ ask_of self.now.layout self.now.work }
+        ensures head { HasHead self.now.layout (ask_of self.now.layout self.now.work) }
     {
         match &self.stage {
             Stage::Calling(call) => Ask::Export(ExportAsk::Tree(call)),
             Stage::Dropping { fid, places, done } => drop_ask(*fid, places, *done),
             Stage::Opening { call, .. } => Ask::Export(ExportAsk::Tree(call)),
-            Stage::Writing { writer, text } => write_ask(false, writer, text.bytes()),
-            Stage::Reading(reader) => read_ask(false, reader),
+            Stage::Writing { writer, text } => write_ask(writer, text.bytes()),
+            Stage::Locking { call, plan } => lock_ask(self.layout, call, plan),
+            Stage::Reading(reader) => read_ask(reader),
+            Stage::Ranging(file) => range_ask(self.layout, file),
+            Stage::Rebuilding { node, rebuilder } => {
+                rebuilder_ask(self.layout, *node, rebuilder)
+            }
             Stage::Ending(answer) => Ask::Say(Saying::Done(answer)),
             Stage::Over => Ask::Rest,
         }
+    }
+
+    /// Whether nothing is left to do.
+    pub fn is_over(&self) -> bool
+        ensures { result ≡ is_over self.now.work }
+    {
+        matches!(&self.stage, Stage::Over)
     }
 
     /// Takes the reply of the export.
@@ -76,10 +94,20 @@ impl Machine {
         self.stage = after_reply(self.layout, stage, reply);
     }
 
+    /// Takes the reply of the export to an open with a lock, and whether the lock was granted.
+    pub fn tell_locked(&mut self, granted: bool, reply: Reply)
+        requires { IsLockReply self.old.layout (ask_of self.old.layout self.old.work) reply }
+        ensures { Goes self.old self.old.pairs (Locked granted reply) self.new }
+    {
+        let stage = replace(&mut self.stage, Stage::Over);
+        self.stage = after_lock(self.layout, stage, granted, reply);
+    }
+
     /// Takes the answer of a node, and with a record the bins of its position.
     pub fn tell_answer(&mut self, answer: NodeAnswer, bins: &[u64])
         requires asked { IsAnswer self.old.layout (ask_of self.old.layout self.old.work) answer }
         requires bins { ComeWith self.old.layout (ask_of self.old.layout self.old.work) answer bins.now }
+        requires room { HasRoom self.old.work }
         ensures { IsAnswered self.old answer bins.now self.new }
     {
         let stage = replace(&mut self.stage, Stage::Over);
@@ -88,16 +116,18 @@ impl Machine {
 
     /// Takes it that the message to the node, or its answer, was lost.
     pub fn tell_missed(&mut self)
-        requires { MayMiss (ask_of self.old.layout self.old.work) }
+        requires asked { MayMiss (ask_of self.old.layout self.old.work) }
+        requires room { HasRoom self.old.work }
         ensures { Goes self.old self.old.pairs Missed self.new }
     {
         let stage = replace(&mut self.stage, Stage::Over);
         self.stage = after_miss(self.layout, stage);
     }
 
-    /// Takes it that the end of a block was said.
+    /// Takes it that the end of a block was said, or that a block was left.
     pub fn tell_said(&mut self)
-        requires { IsPartSaid (ask_of self.old.layout self.old.work) }
+        requires asked { IsPartSaid (ask_of self.old.layout self.old.work) }
+        requires room { HasRoom self.old.work }
         ensures { Goes self.old self.old.pairs (Noted (text_of self.old)) self.new }
     {
         let stage = replace(&mut self.stage, Stage::Over);
@@ -114,13 +144,47 @@ impl Machine {
         answer_in(stage)
     }
 
-    /// The bins of what a node is to keep.
+    /// Whether this is a reply to what the operation asks of the export.
+    pub fn takes_reply(&self, reply: &Reply) -> bool
+        ensures { IsTrue result → IsReply self.now.layout (ask_of self.now.layout self.now.work) reply.now }
+    {
+        is_reply(self.layout, &self.next(), reply)
+    }
+
+    /// Whether this is a reply to the open with a lock that the operation asks.
+    pub fn takes_locked(&self, reply: &Reply) -> bool
+        ensures { IsTrue result → IsLockReply self.now.layout (ask_of self.now.layout self.now.work) reply.now }
+    {
+        is_lock_reply(self.layout, &self.next(), reply)
+    }
+
+    /// Whether this is an answer to what the operation asks of a node.
+    pub fn takes_answer(&self, answer: &NodeAnswer) -> bool
+        ensures { IsTrue result → IsAnswer self.now.layout (ask_of self.now.layout self.now.work) answer.now }
+    {
+        is_answer(self.layout, &self.next(), answer)
+    }
+
+    /// Whether what counts the blocks of a rebuild has room for one more.
+    pub fn has_room(&self) -> bool
+        ensures { IsTrue result ↔ HasRoom self.now.work }
+    {
+        match &self.stage {
+            Stage::Rebuilding { rebuilder, .. } => rebuilder.has_room(),
+            _ => true,
+        }
+    }
+
+    /// The bins of what a node is to keep, or to have as a refill.
     pub fn bins(&self) -> &[u64]
         requires { HasBins (ask_of self.now.layout self.now.work) }
-        ensures { AreBins self.now (ask_of self.now.layout self.now.work) result.now }
+        ensures bins { AreBins self.now (ask_of self.now.layout self.now.work) result.now }
+        ensures count { IsCount self.now.layout (ask_of self.now.layout self.now.work) result.now }
     {
         match &self.stage {
             Stage::Writing { writer, .. } => writer.bins(),
+            Stage::Ranging(file) => file.bins(),
+            Stage::Rebuilding { rebuilder, .. } => rebuilder.bins(),
             _ => unreachable!(),
         }
     }
@@ -132,6 +196,7 @@ impl Machine {
     {
         match &self.stage {
             Stage::Reading(reader) => reader.text_into(out),
+            Stage::Ranging(file) => out.copy_from_slice(file.text()),
             _ => unreachable!(),
         }
     }

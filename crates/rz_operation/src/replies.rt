@@ -2,14 +2,16 @@
 
 ghost use Rattle.std.specs.Prelude.{◌≡◌};
 ghost use Rattle.rz_operation_model.specs.Ask.{ask_of};
-ghost use Rattle.rz_operation_model.specs.Steps.{Replied, Missed, Noted};
-ghost use Rattle.rz_operation.specs.Answers.{IsReply, IsAnswer, ComeWith, MayMiss, IsPartSaid, Goes, IsAnswered, IsDrop, IsKeep, IsTreeReply};
+ghost use Rattle.rz_operation_model.specs.Steps.{Replied, Locked, Missed, Noted};
+ghost use Rattle.rz_operation.specs.Answers.{IsReply, IsLockReply, IsAnswer, ComeWith, MayMiss, IsPartSaid, HasRoom, Goes, IsAnswered, IsDrop, IsKeep, IsTreeReply};
 ghost use Rattle.rz_operation.specs.Machine.{text_of};
 ghost use Rattle.rz_operation.specs.Inside.{IsStage, IsDoneStage, IsAnswerIn, machine_of, work_of};
 
-use crate::begins::{after_call, after_open};
+use crate::begins::{after_call, after_locked, after_open};
 use crate::blocks::{fetch_answer, tell_fetch, tell_keep, tell_reader, tell_writer};
-use crate::drops::{after_drop, after_lost};
+use crate::drops::{after_drop, dropped};
+use crate::ranges::{range_answered, range_missed, range_replied, range_said};
+use crate::rebuilds::{rebuild_answered, rebuild_missed, rebuild_replied, rebuild_said};
 use crate::stage::Stage;
 use mj_angles::Layout;
 use rz_events::{
@@ -34,7 +36,33 @@ pub fn after_reply(layout: Layout, stage: Stage, reply: Reply) -> Stage
             tell_reader(&mut reader, &reply);
             Stage::Reading(reader)
         }
+        Stage::Ranging(file) => range_replied(layout, file, &reply),
+        Stage::Locking { .. } => unreachable!(),
+        Stage::Rebuilding { node, rebuilder } => rebuild_replied(layout, node, rebuilder, &reply),
         Stage::Dropping { .. } => unreachable!(),
+        Stage::Ending(_) => unreachable!(),
+        Stage::Over => unreachable!(),
+    }
+}
+
+/// How the operation goes on after its file was opened and a lock was granted or not.
+pub fn after_lock(layout: Layout, stage: Stage, granted: bool, reply: Reply) -> Stage
+    requires inside { IsStage layout stage }
+    requires asked { IsLockReply layout (ask_of layout (work_of stage)) reply }
+    ensures goes { Goes (machine_of layout stage) (machine_of layout stage).pairs (Locked granted reply) (machine_of layout result) }
+    ensures inside { IsStage layout result }
+{
+    match stage {
+        Stage::Locking { call, plan } => {
+            after_locked(layout, call, plan, granted, tree_reply(layout, reply))
+        }
+        Stage::Calling(_) => unreachable!(),
+        Stage::Dropping { .. } => unreachable!(),
+        Stage::Opening { .. } => unreachable!(),
+        Stage::Writing { .. } => unreachable!(),
+        Stage::Reading(_) => unreachable!(),
+        Stage::Ranging(_) => unreachable!(),
+        Stage::Rebuilding { .. } => unreachable!(),
         Stage::Ending(_) => unreachable!(),
         Stage::Over => unreachable!(),
     }
@@ -45,6 +73,7 @@ pub fn after_answer(layout: Layout, stage: Stage, answer: NodeAnswer, bins: &[u6
     requires inside { IsStage layout stage }
     requires asked { IsAnswer layout (ask_of layout (work_of stage)) answer }
     requires bins { ComeWith layout (ask_of layout (work_of stage)) answer bins.now }
+    requires room { HasRoom (work_of stage) }
     ensures goes { IsAnswered (machine_of layout stage) answer bins.now (machine_of layout result) }
     ensures inside { IsStage layout result }
 {
@@ -57,7 +86,12 @@ pub fn after_answer(layout: Layout, stage: Stage, answer: NodeAnswer, bins: &[u6
             tell_fetch(&mut reader, fetch_answer(answer), bins);
             Stage::Reading(reader)
         }
+        Stage::Ranging(file) => range_answered(layout, file, answer, bins),
+        Stage::Locking { .. } => unreachable!(),
         Stage::Dropping { fid, places, done } => after_drop(fid, places, done, drop_answer(answer)),
+        Stage::Rebuilding { node, rebuilder } => {
+            rebuild_answered(layout, node, rebuilder, answer, bins)
+        }
         Stage::Calling(_) => unreachable!(),
         Stage::Opening { .. } => unreachable!(),
         Stage::Ending(_) => unreachable!(),
@@ -69,6 +103,7 @@ pub fn after_answer(layout: Layout, stage: Stage, answer: NodeAnswer, bins: &[u6
 pub fn after_miss(layout: Layout, stage: Stage) -> Stage
     requires inside { IsStage layout stage }
     requires asked { MayMiss (ask_of layout (work_of stage)) }
+    requires room { HasRoom (work_of stage) }
     ensures goes { Goes (machine_of layout stage) (machine_of layout stage).pairs Missed (machine_of layout result) }
     ensures inside { IsStage layout result }
 {
@@ -81,7 +116,10 @@ pub fn after_miss(layout: Layout, stage: Stage) -> Stage
             reader.tell(ReaderAnswer::Missed, &[]);
             Stage::Reading(reader)
         }
-        Stage::Dropping { fid, places, done } => after_lost(fid, places, done),
+        Stage::Ranging(file) => range_missed(layout, file),
+        Stage::Locking { .. } => unreachable!(),
+        Stage::Dropping { fid, places, done } => dropped(fid, places, done),
+        Stage::Rebuilding { node, rebuilder } => rebuild_missed(layout, node, rebuilder),
         Stage::Calling(_) => unreachable!(),
         Stage::Opening { .. } => unreachable!(),
         Stage::Ending(_) => unreachable!(),
@@ -93,12 +131,16 @@ pub fn after_miss(layout: Layout, stage: Stage) -> Stage
 pub fn after_said(layout: Layout, stage: Stage) -> Stage
     requires inside { IsStage layout stage }
     requires asked { IsPartSaid (ask_of layout (work_of stage)) }
+    requires room { HasRoom (work_of stage) }
     ensures goes { Goes (machine_of layout stage) (machine_of layout stage).pairs (Noted (text_of (machine_of layout stage))) (machine_of layout result) }
     ensures inside { IsStage layout result }
 {
     match stage {
         Stage::Writing { .. } => Stage::Over,
         Stage::Reading(_) => Stage::Over,
+        Stage::Ranging(file) => range_said(layout, file),
+        Stage::Locking { .. } => unreachable!(),
+        Stage::Rebuilding { node, rebuilder } => rebuild_said(layout, node, rebuilder),
         Stage::Dropping { .. } => unreachable!(),
         Stage::Calling(_) => unreachable!(),
         Stage::Opening { .. } => unreachable!(),
@@ -114,9 +156,12 @@ pub fn answer_in(stage: Stage) -> Answer
 {
     match stage {
         Stage::Ending(answer) => answer,
+        Stage::Rebuilding { .. } => unreachable!(),
         Stage::Dropping { .. } => unreachable!(),
         Stage::Writing { .. } => unreachable!(),
         Stage::Reading(_) => unreachable!(),
+        Stage::Ranging(_) => unreachable!(),
+        Stage::Locking { .. } => unreachable!(),
         Stage::Calling(_) => unreachable!(),
         Stage::Opening { .. } => unreachable!(),
         Stage::Over => unreachable!(),

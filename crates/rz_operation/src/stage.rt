@@ -1,7 +1,9 @@
 //! How far an operation has come.
 
 use rz_events::{Answer, Places, Text, TreeCall};
+use rz_file::{FileMachine, FilePlan};
 use rz_reader::Reader;
+use rz_rebuild::Rebuilder;
 use rz_writer::Writer;
 
 /// How far an operation has come, with the machine that it needs there.
@@ -13,10 +15,16 @@ pub enum Stage {
     Dropping { fid: u128, places: Places, done: u8 },
     /// The file is opened by this call.
     Opening { call: TreeCall, plan: Plan },
+    /// It is opened by this call, and its bytes are locked.
+    Locking { call: TreeCall, plan: FilePlan },
     /// A block is written with this text.
     Writing { writer: Writer, text: Text },
     /// A block is read.
     Reading(Reader),
+    /// A range of bytes is written or read.
+    Ranging(FileMachine),
+    /// A node is rebuilt.
+    Rebuilding { node: u16, rebuilder: Rebuilder },
     /// The answer is said.
     Ending(Answer),
     Over,
@@ -34,4 +42,5 @@ pub enum Plan {
         block: u64,
         reader: Reader,
     },
+    Range(FilePlan),
 }

@@ -16,8 +16,6 @@ use rz_events::Places;
 
 mod choice;
 mod order;
-#[cfg(test)]
-mod tests;
 
 /// The first `safe` nodes of a cluster with these free cells.
 fn first_nodes(safe: usize, cluster: &ClusterSpec, free: &[u64]) -> Places

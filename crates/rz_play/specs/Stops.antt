@@ -1,42 +1,21 @@
 -- Where a line of a script may be cut off: between two turns. A play stops before a turn that is not taken, and where memory
 -- ran out it has only begun.
-use Rattle.std.specs.Prelude.{ℕ, Bool, true, false, not, ◌≡◌, ◌≤◌, ◌<◌, List, ◌∷◌, ◌++◌, Some, None}
+use Rattle.std.specs.Prelude.{ℕ, true, ◌≡◌, ◌≤◌, ◌<◌, List, ◌∷◌, ◌++◌, Some}
 use Rattle.rz_events.specs.Volume.{Volume}
 use Rattle.rz_events.specs.declared.keys.Actor.{Actor}
-use Rattle.rz_events.specs.declared.tree.TreeCall.{TreeCall}
-use Rattle.rz_events.specs.declared.tree.TreeCall.TheVariants as tree
-use Rattle.rz_events.specs.declared.tree.TreeReply.TheVariants as told
 use Rattle.rz_events.specs.declared.events.Event.{Event}
-use Rattle.rz_events.specs.declared.events.Event.TheVariants as e
 use Rattle.rz_export_model.specs.Export.{Export, export_reply}
 use Rattle.rz_export_model.specs.ExportEvents.{export_event}
+use Rattle.rz_log_laws.specs.Changes.{is_changing}
 use Rattle.rz_script.specs.declared.line.Line.{Line}
 use Rattle.rz_script.specs.declared.line.Line.TheVariants as line
 use Rattle.rz_operation_model.specs.Ask.{Ask, AskExport, ask_of}
 use Rattle.rz_play.specs.World.{World, actors, has_work, at_work}
 use Rattle.rz_play.specs.Lines.{IsTurns, IsRound, IsRounds}
 
--- Calls that change the export, by their events: a journal of the export stores these before they are answered.
-
-abbrev pub only_reads : TreeCall → Bool
-only_reads (tree.Lookup path) = true
-only_reads (tree.Getattr path) = true
-only_reads (tree.Readlink path) = true
-only_reads (tree.Readdir path) = true
-only_reads (tree.OpenFile path) = true
-only_reads _ = false
-
-abbrev pub is_change : Event → Bool
-is_change (e.Meta by c (told.Refused fault)) = false
-is_change (e.Meta by c answer) = not (only_reads c)
-is_change (e.Begin by key stamp base text) = true
-is_change (e.Publish by key stamp mask None) = true
-is_change (e.Enroll by node loss fence) = true
-is_change _ = false
-
--- this is asked of the export, and would change it
+-- this is asked of the export, and would change it: a journal of the export stores such a call before it is answered
 abbrev pub IsChange : Export → Actor → Ask → Type 0
-IsChange s by (AskExport c) = (x : Event) × (export_event by c (export_reply s c) ≡ Some x) × (is_change x ≡ true)
+IsChange s by (AskExport c) = (x : Event) × (export_event by c (export_reply s c) ≡ Some x) × (is_changing x ≡ true)
 IsChange s by _ = ⊥
 
 -- Why a turn is not taken.

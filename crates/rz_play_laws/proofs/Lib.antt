@@ -11,7 +11,6 @@ pub mod Rebuilds
 pub mod OwnTurns
 pub mod Frames
 pub mod Events
-pub mod Places
 pub mod Scripts
 pub mod Telling
 pub mod Turning

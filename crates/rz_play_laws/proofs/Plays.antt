@@ -36,7 +36,6 @@ use Rattle.rz_play.specs.World.{World, Seat, world_after, with_seat, with_node, 
 use Rattle.rz_play.specs.Stops.{StopCause, TurnsSpent, JournalRefused, HasCause, StopsLine, BeginsLine, most_turns}
 use Rattle.rz_node_model.specs.States.{fresh}
 use Rattle.rz_export_model.specs.Export.{Export as ExportState, new_export}
-use Rattle.rz_events.specs.Volume.{IsVolume}
 use Rattle.rz_script.specs.Lines.{IsOperation, IsLine, AreLines}
 use Rattle.rz_play.specs.Turns.{IsTurn, IsAskTurn, Through, ReplyLost, RequestLost, text_said, counted, answered}
 use Rattle.rz_operation_model.specs.Turns.{said_event}
@@ -55,10 +54,8 @@ use Rattle.rz_safety.specs.Rebuilt.{AreRebuilt}
 use Rattle.rz_play_laws.specs.Runs.{IsScript, IsRunAfter}
 use Rattle.rz_play.specs.Played.{IsBegun, PlaysLines, StopsLines, BeginsLines, IsPlayedFrom, IsStoppedFrom, IsBegunFrom}
 use Rattle.rz_play_laws.specs.Own.{IsOwn, IsUnderWay}
-use Rattle.rz_play_laws.specs.Fine.{IsSeated, IsTelling, IsBeginning, IsFine, IsFineIfShort}
+use Rattle.rz_play_laws.specs.Fine.{IsSeated, IsTelling, MayBegin, IsFine, IsFineIfShort}
 use Rattle.rz_play_laws.proofs.OwnTurns.{proper, own-turn}
-use Rattle.rz_play_laws.proofs.Telling.{telling}
-use Rattle.rz_play_laws.proofs.Places.{roomy}
 use Rattle.rz_play_laws.proofs.Scripts.{seated, node-of, begins, does-it}
 use Rattle.rz_play_laws.proofs.Turning.{ask-turn, fine-after, grow, in-runs}
 
@@ -111,7 +108,7 @@ working v old w fine by ok =
 
 pub turn : (v : Volume) → IsTelling v → (old : List Event) (by : Actor) → IsSeated by → (w next : World) → IsTurn v by w next → IsFine v old w → IsFineIfShort v old next
 unfolding counts
-turn v telling old by ok w next is fine = go (at_work (w.seats by)) (working v old w fine by ok) is
+turn v tells old by ok w next is fine = go (at_work (w.seats by)) (working v old w fine by ok) is
   where
     go : (s : Seat) → IsAtWork v (facts w.log) (of_actor by w.log) (of_actor by fine.run) by s → IsAskTurn v (counted w) by s (ask_of v.layout s.work) next → IsFineIfShort v old next
     go s t turn = by_way t.way
@@ -120,7 +117,7 @@ turn v telling old by ok w next is fine = go (at_work (w.seats by)) (working v o
         by_way (inl over) few =
             subst (IsFine v old) (sym (subst (λ z. IsAskTurn v (counted w) by s (ask_of v.layout z) next) over turn)) (counts v old w fine)
         by_way (inr course) few =
-            ask-turn v telling old (counted w) (counts v old w fine) by s t.todo course next
+            ask-turn v tells old (counted w) (counts v old w fine) by s t.todo course next
             (proper v (facts w.log) (of_actor by w.log) (of_actor by fine.run) by s.number s.work t.own course)
             (λ g ext told xs step all. own-turn v (facts w.log) g ext (of_actor by w.log) (of_actor by fine.run) by s.number s.work t.own told xs step all) turn few
 
@@ -185,12 +182,12 @@ wider v old w next j k few a = record { grows = a.grows; most = (let x = a.most 
 pub both : (v : Volume) (old : List Event) (w mid next : World) → Leads v old w mid 0 → Leads v old mid next 0 → Leads v old w next 0
 both v old w mid next a b = wider v old w next (0 + 0) 0 (omega arith) (then v old w mid next 0 0 a b)
 
-module _ (v : Volume) (telling : IsTelling v) (old : List Event) where
+module _ (v : Volume) (tells : IsTelling v) (old : List Event) where
   pub by-turn : (by : Actor) → IsSeated by → (w next : World) → IsTurn v by w next → Leads v old w next 0
   by-turn by ok w next is =
       let s = at_work (w.seats by) in
       let g = grown v (counted w) by s (ask_of v.layout s.work) next is in
-      record { grows = longer (counted w) next g; most = by-two w next g; keeps = turn v telling old by ok w next is }
+      record { grows = longer (counted w) next g; most = by-two w next g; keeps = turn v tells old by ok w next is }
 
   pub by-turns : (by : Actor) → IsSeated by → (k : ℕ) (w next : World) → IsTurns v by k w next → Leads v old w next 0
   by-turns by ok zero w next is = stays v old w next is
@@ -476,7 +473,7 @@ played-begun v first lines h p = record { last = p.last; played = plays-begin v 
 
 -- The beginning.
 
-pub begins-fine : (v : Volume) (nodes : ℕ → NodeState) (s : ExportState) (old : List Event) → IsBeginning v nodes s old → IsFine v old (world_after nodes s old)
+pub begins-fine : (v : Volume) (nodes : ℕ → NodeState) (s : ExportState) (old : List Event) → MayBegin v nodes s old → IsFine v old (world_after nodes s old)
 begins-fine v nodes s old b = record {
   run = [];
   log_is = refl;
@@ -489,7 +486,7 @@ begins-fine v nodes s old b = record {
 }
 
 -- a new volume
-pub new-beginning : (v : Volume) → IsBeginning v (λ n. fresh) (new_export v 0) []
+pub new-beginning : (v : Volume) → MayBegin v (λ n. fresh) (new_export v 0) []
 new-beginning v = record {
   legal = tt;
   nodes_are = λ n. record { phase_is = refl; fence_is = refl; losses_is = refl; held_is = λ key. nothing key; whole = empty-whole; undecided_is = refl };
@@ -505,18 +502,18 @@ new-beginning v = record {
 
 -- A play leaves a world that is in order.
 
-pub play-fine : (v : Volume) → IsVolume v → (lines : List Line) → AreLines v lines → length lines < 2 ^ 32
-    → (nodes : ℕ → NodeState) (s : ExportState) (old : List Event) → IsBeginning v nodes s old
+pub play-fine : (v : Volume) → IsTelling v → (lines : List Line) → AreLines v lines → length lines < 2 ^ 32
+    → (nodes : ℕ → NodeState) (s : ExportState) (old : List Event) → MayBegin v nodes s old
     → (last : World) → BeginsLines v lines (world_after nodes s old) last → last.turns ≤ most_turns → IsFine v old last
-play-fine v volume lines limits few nodes s old b last begun turns =
-    let leads = by-beginning v (telling v (roomy v volume)) old lines limits (world_after nodes s old) last begun in
+play-fine v tells lines limits few nodes s old b last begun turns =
+    let leads = by-beginning v tells old lines limits (world_after nodes s old) last begun in
     let most = leads.most in
     let room = b.few in
     leads.keeps (begins-fine v nodes s old b) (omega (arith, most, few, turns, room))
 
-pub play-in-order : (v : Volume) (lines : List Line) → IsScript v lines → (nodes : ℕ → NodeState) (s : ExportState) (old : List Event) → IsBeginning v nodes s old
+pub play-in-order : (v : Volume) → IsTelling v → (lines : List Line) → IsScript v lines → (nodes : ℕ → NodeState) (s : ExportState) (old : List Event) → MayBegin v nodes s old
     → (h : List Event) (p : IsBegunFrom v (world_after nodes s old) lines h) → IsFine v old p.last
-play-in-order v lines script nodes s old b h p = play-fine v script.volume lines script.limits script.few nodes s old b p.last p.played p.few
+play-in-order v tells lines script nodes s old b h p = play-fine v tells lines script.limits script.few nodes s old b p.last p.played p.few
 
 -- The log of a play.
 
@@ -532,16 +529,16 @@ legal-alone v (x ∷ run) legal = (
   subst (λ (h : List Event). IsAllowedIn v h (of_actor (by_of x) run) x) (nothing-after run) legal.1,
 )
 
-pub play-legal : (v : Volume) (lines : List Line) → IsScript v lines → (h : List Event) → IsBegun v lines h → IsLegal v h
-play-legal v lines script h p =
-    let fine = play-in-order v lines script (λ n. fresh) (new_export v 0) [] (new-beginning v) h p in
+pub play-legal : (v : Volume) → IsTelling v → (lines : List Line) → IsScript v lines → (h : List Event) → IsBegun v lines h → IsLegal v h
+play-legal v tells lines script h p =
+    let fine = play-in-order v tells lines script (λ n. fresh) (new_export v 0) [] (new-beginning v) h p in
     subst (IsLegal v) (sym (nothing-after fine.run) ∙ sym fine.log_is ∙ p.log_is) (legal-alone v fine.run fine.legal)
 
-pub play-after : (v : Volume) → IsNextRun v → ((h : List Event) → IsLegalInRuns v h → IsSound v h) → ((h : List Event) → IsLegalInRuns v h → AreRebuilt h)
-    → (lines : List Line) → IsScript v lines → (nodes : ℕ → NodeState) (s : ExportState) (old : List Event) → IsBeginning v nodes s old
+pub play-after : (v : Volume) → IsTelling v → IsNextRun v → ((h : List Event) → IsLegalInRuns v h → IsSound v h) → ((h : List Event) → IsLegalInRuns v h → AreRebuilt h)
+    → (lines : List Line) → IsScript v lines → (nodes : ℕ → NodeState) (s : ExportState) (old : List Event) → MayBegin v nodes s old
     → (h : List Event) → IsBegunFrom v (world_after nodes s old) lines h → IsRunAfter v old h
-play-after v next sound rebuilt lines script nodes s old b h p =
-    let fine = play-in-order v lines script nodes s old b h p in
+play-after v tells next sound rebuilt lines script nodes s old b h p =
+    let fine = play-in-order v tells lines script nodes s old b h p in
     let is : h ≡ fine.run ++ old = sym p.log_is ∙ fine.log_is in
     let runs : IsLegalInRuns v h = subst (IsLegalInRuns v) (sym is) (next old fine.run fine.legal) in
     record { run = fine.run; log_is = is; legal = fine.legal; sound = sound h runs; rebuilt = rebuilt h runs }

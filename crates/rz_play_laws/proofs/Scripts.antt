@@ -1,5 +1,5 @@
 -- What the limits of a script's lines say of the operations in them.
-use Rattle.std.proofs.Common.{◌≡◌, inl, inr, ℕ, ◌==◌, ◌≤◌, Bool, true, false, ◌||◌, List, [], ◌∷◌, ◌++◌, length, sym, subst, refl}
+use Rattle.std.proofs.Common.{map, ap, ◌≡◌, inl, inr, ℕ, ◌==◌, ◌≤◌, Bool, true, false, ◌||◌, List, [], ◌∷◌, ◌++◌, length, sym, subst, refl}
 use Rattle.std.specs.List.{list_any}
 use Rattle.std.proofs.lemmas.Bool.{eqb-true}
 use Rattle.std.proofs.lemmas.List.FromFn.{length-map-range_with_len}
@@ -26,7 +26,6 @@ use Rattle.rz_operation_model.specs.Ranges.{bytes_of}
 use Rattle.rz_operation_model.specs.Steps.{begun}
 use Rattle.rz_play_laws.specs.Own.{IsOnNames, IsOwn}
 use Rattle.rz_play_laws.specs.Fine.{IsSeated}
-use Rattle.rz_play_laws.proofs.Places.{spec_sids, sids-both, stands-front, stands-back}
 
 -- an actor of a script is a client or a rebuilder
 pub seated : (by : Actor) → IsActor by → IsSeated by
@@ -35,6 +34,22 @@ seated (Rebuilder n) is = refl
 seated Admin is = absurd is
 
 -- Nodes.
+
+abbrev pub spec_sids : List NodeSpec → List ℕ
+spec_sids specs = map (λ (n : NodeSpec). n.sid) specs
+
+pub sids-both : (ns ms : List NodeSpec) → spec_sids (ns ++ ms) ≡ spec_sids ns ++ spec_sids ms
+sids-both [] ms = refl
+sids-both (n ∷ ns) ms = ap (λ (ks : List ℕ). n.sid ∷ ks) (sids-both ns ms)
+
+pub stands-front : (n : ℕ) (ns ms : List ℕ) → Stands n ns → Stands n (ns ++ ms)
+stands-front n [] ms is = absurd is
+stands-front n (k ∷ ns) ms (inl same) = inl same
+stands-front n (k ∷ ns) ms (inr more) = inr (stands-front n ns ms more)
+
+pub stands-back : (n : ℕ) (ns ms : List ℕ) → Stands n ms → Stands n (ns ++ ms)
+stands-back n [] ms is = is
+stands-back n (k ∷ ns) ms is = inr (stands-back n ns ms is)
 
 in-nodes : (n : ℕ) (specs : List NodeSpec) → has_sid n specs ≡ true → Stands n (spec_sids specs)
 in-nodes n [] is = cc

@@ -1,5 +1,5 @@
 -- What the events of a legal log say for good.
-use Rattle.std.proofs.Common.{◌≡◌, ◌⊎◌, inl, inr, ◌<◌, ◌≤◌, ◌+◌, ℕ, zero, suc, ◌==◌, ◌&&◌, Bool, true, false, cond, List, [], ◌∷◌, length, refl, sym, ◌∙◌, ap, subst, arith, Option, Some, None}
+use Rattle.std.proofs.Common.{◌≡◌, inl, inr, ◌<◌, ◌≤◌, ◌+◌, ℕ, zero, suc, ◌==◌, ◌&&◌, Bool, true, false, cond, List, [], ◌∷◌, length, refl, sym, ◌∙◌, ap, subst, arith, Option, Some, None}
 use Rattle.std.proofs.lemmas.Bool.{eq-eqb, eqb-true}
 use Rattle.std.specs.Prelude.{slice_get}
 use Rattle.rz_events.specs.Volume.{Volume}
@@ -27,7 +27,7 @@ use Rattle.rz_export_model.specs.Tree.{Tree, Object, Found, found_at, fid_at, is
 use Rattle.rz_export_model.specs.Refusals.{is_same_object, path_in, refusal, unreadable, walk, absent, dir, link}
 use Rattle.rz_export_model.specs.TreeCalls.{told, attr_of, answer_to, reply_to, last_name_of, replaced}
 use Rattle.rz_export_model.specs.Export.{new_places}
-use Rattle.rz_core.specs.History.{Facts, Begun, facts, wrote, first_some, places_of, placed_by, IsPlace}
+use Rattle.rz_core.specs.History.{Facts, Begun, facts, wrote, first_some, IsPlace}
 use Rattle.rz_core.specs.ExportWord.{last_drawn, accepted, published, export_of}
 use Rattle.rz_core.specs.Legal.{IsLegalInRuns}
 use Rattle.rz_core.proofs.Extends.{Extends, Knows, extends-more, some_length, accepted-known}
@@ -43,7 +43,7 @@ use Rattle.rz_play_laws.specs.Own.{IsPlacing, IsReply, IsToldBy}
 use Rattle.rz_play_laws.specs.Fine.{IsTelling}
 use Rattle.rz_play_laws.proofs.Blocks.{placing-more}
 use Rattle.rz_play_laws.proofs.Rebuilds.{listed-more}
-use Rattle.rz_play_laws.proofs.Places.{ArePlaces, IsRoomy, placed, same-volume}
+use Rattle.rz_log_laws.specs.Places.{IsLaid}
 
 reply-extends : (v : Volume) (f g : Facts) → Extends f g → (c : TreeCall) (r : TreeReply) → IsReply v f c r → IsReply v g c r
 reply-extends v f g ext (tree.OpenFile path) (reply.File info) is = placing-more v f g ext info.fid info.places is
@@ -65,13 +65,12 @@ told-extends v f g ext (_) is = is
 
 -- What the tree answers.
 
--- a file is told to one who opened it, a new one has the places that were free, and one that is gone was there
+-- a file is told to one who opened it, and one that is gone was there
 abbrev IsShape : Tree → List ℕ → TreeCall → TreeReply → Type 0
 IsShape t places (tree.OpenFile path) (reply.File info) = file_of t info.fid ≡ Some info
 IsShape t places (tree.OpenFile path) (reply.Refused fault) = Unit {0}
 IsShape t places (tree.OpenFile path) answer = ⊥
 IsShape t places c (reply.File info) = ⊥
-IsShape t places c (reply.MadeFile info) = info.places ≡ places
 IsShape t places c (reply.Gone (Some info)) = file_of t info.fid ≡ Some info
 IsShape t places c answer = Unit {0}
 
@@ -170,7 +169,7 @@ answer-shape t cid places (tree.Lookup path) none = told-shape t places (path_in
 answer-shape t cid places (tree.Getattr path) none = told-shape t places (path_in path) (tree.Getattr path) (λ f. reply.Attr (attr_of t f)) (λ f. tt)
 answer-shape t cid places (tree.Setattr path mode mtime) none = tt
 answer-shape t cid places (tree.Mkdir path) none = tt
-answer-shape t cid places (tree.Create path) none = refl
+answer-shape t cid places (tree.Create path) none = tt
 answer-shape t cid places (tree.Symlink target path) none = tt
 answer-shape t cid places (tree.Rmdir path) none = tt
 answer-shape t cid places (tree.Unlink path) none = unlinked-shape t places path (last_name_of t (path_in path)) (λ info is. last-file t (path_in path) info is)
@@ -203,50 +202,27 @@ meta-shape v h by c r legal =
     let s = export_of v (facts h) (export h) in
     subst (λ z. IsShape s.tree (new_places s).places c z) (sym legal.1.row.told) (reply-shape s.tree (new_places s).cid (new_places s).places c)
 
-made-shape : (t : Tree) (places : List ℕ) (c : TreeCall) (info : FileInfo) → IsShape t places c (reply.MadeFile info) → info.places ≡ places
-made-shape t places (tree.OpenFile path) info is = absurd is
-made-shape t places (_) info is = is
-
-first-cases : {A : Type 0} (m n : Option A) (b : A) → first_some m n ≡ Some b → (m ≡ Some b) ⊎ (n ≡ Some b)
-first-cases None n b is = inr is
-first-cases (Some a) n b is = inl is
-
-are-places : (v : Volume) → IsRoomy v → (h : List Event) → IsLegalInRuns v h → (fid : ℕ) (places : List ℕ) → places_of h fid ≡ Some places → ArePlaces v places
-are-places v roomy [] legal fid places is = cc
-are-places v roomy (x ∷ h) legal fid places is =
-    elim (first-cases (places_of h fid) (placed_by fid x) places is) [
-      | inl old ↦ are-places v roomy h legal.0 fid places old
-      | inr new ↦ made x legal new
-    ]
-  where
-    here : (b : Bool) (ps : List ℕ) → cond b (Some ps) None ≡ Some places → ps ≡ places
-    here true ps is = the_some ps places is
-    here false ps is = cc
-
-    made : (y : Event) → IsLegalInRuns v (y ∷ h) → placed_by fid y ≡ Some places → ArePlaces v places
-    made (e.Meta by c (reply.MadeFile info)) legal is =
-        let s = export_of v (facts h) (export h) in
-        let same = made-shape s.tree (new_places s).places c info (meta-shape v h by c (reply.MadeFile info) legal) in
-        subst (ArePlaces v) (sym same ∙ here (fid == info.fid) info.places is) (placed v roomy s (same-volume v (facts h) (export h)))
-    made (_) legal is = cc
+-- each file lies on distinct nodes of the volume
+abbrev pub IsLaidOut : Volume → Type 0
+IsLaidOut v = (h : List Event) → IsLegalInRuns v h → (fid : ℕ) (places : List ℕ) → (facts h).places fid ≡ Some places → IsLaid v places
 
 -- Each event of a legal log says what is so for good.
 
-placing : (v : Volume) → IsRoomy v → (h : List Event) → IsLegalInRuns v h → (x : Event) (fid : ℕ) (info : FileInfo) → file_of (export_of v (facts h) (export h)).tree fid ≡ Some info
+placing : (v : Volume) → IsLaidOut v → (h : List Event) → IsLegalInRuns v h → (x : Event) (fid : ℕ) (info : FileInfo) → file_of (export_of v (facts h) (export h)).tree fid ≡ Some info
     → IsPlacing v (facts (x ∷ h)) fid info.places
-placing v roomy h legal x fid info is =
+placing v laid h legal x fid info is =
     let at = file-places v h legal fid info is in
-    let ps = are-places v roomy h legal fid info.places at in
-    record { placed = (extends-more (x ∷ []) h).places fid info.places at; many = ps.many; apart = ps.apart; nodes = ps.nodes }
+    let ps = laid h legal fid info.places at in
+    record { placed = (extends-more (x ∷ []) h).places fid info.places at; many = ps.many; apart = ps.apart; nodes = ps.of_volume }
 
-shape-reply : (v : Volume) → IsRoomy v → (h : List Event) → IsLegalInRuns v h → (x : Event) (places : List ℕ) (c : TreeCall) (r : TreeReply)
+shape-reply : (v : Volume) → IsLaidOut v → (h : List Event) → IsLegalInRuns v h → (x : Event) (places : List ℕ) (c : TreeCall) (r : TreeReply)
     → IsShape (export_of v (facts h) (export h)).tree places c r → IsReply v (facts (x ∷ h)) c r
-shape-reply v roomy h legal x places (tree.OpenFile path) (reply.File info) is = placing v roomy h legal x info.fid info is
-shape-reply v roomy h legal x places (tree.OpenFile path) (reply.Refused fault) is = tt
-shape-reply v roomy h legal x places (tree.OpenFile path) (_) is = absurd is
-shape-reply v roomy h legal x places (_) (reply.File info) is = absurd is
-shape-reply v roomy h legal x places (_) (reply.Gone (Some info)) is = (placing v roomy h legal x info.fid info is).nodes
-shape-reply v roomy h legal x places (_) (_) is = tt
+shape-reply v laid h legal x places (tree.OpenFile path) (reply.File info) is = placing v laid h legal x info.fid info is
+shape-reply v laid h legal x places (tree.OpenFile path) (reply.Refused fault) is = tt
+shape-reply v laid h legal x places (tree.OpenFile path) (_) is = absurd is
+shape-reply v laid h legal x places (_) (reply.File info) is = absurd is
+shape-reply v laid h legal x places (_) (reply.Gone (Some info)) is = (placing v laid h legal x info.fid info is).nodes
+shape-reply v laid h legal x places (_) (_) is = tt
 
 first-begun : (a : Option Begun) (b : Bool) (x : Begun) → a ≡ None → b ≡ true → first_some a (cond b (Some x) None) ≡ Some x
 first-begun None true x p q = refl
@@ -304,32 +280,32 @@ wrote-short v (x ∷ h) legal s b is =
     begun-short : (y : Event) → IsLegalInRuns v (y ∷ h) → y ≡ e.Begin b.by b.key s b.base b.text → length b.text ≤ block_bytes_of v.layout
     begun-short y legal is = (subst (λ z. IsLegalInRuns v (z ∷ h)) is legal).1.row.short
 
-pub telling : (v : Volume) → IsRoomy v → IsTelling v
-telling v roomy h (e.Meta by c r) legal =
+pub telling : (v : Volume) → IsLaidOut v → IsTelling v
+telling v laid h (e.Meta by c r) legal =
     let s = export_of v (facts h) (export h) in
-    shape-reply v roomy h legal.0 (e.Meta by c r) (new_places s).places c r (meta-shape v h by c r legal)
-telling v roomy h (e.Begin by key stamp base text) legal =
+    shape-reply v laid h legal.0 (e.Meta by c r) (new_places s).places c r (meta-shape v h by c r legal)
+telling v laid h (e.Begin by key stamp base text) legal =
     let next = legal.1.row.next in
     first-begun (wrote h stamp) (stamp == stamp) (record { by = by; key = key; base = base; text = text })
     (unwritten v h legal.0 stamp (omega (arith, next))) (eq-eqb stamp stamp refl)
-telling v roomy h (e.Publish by key stamp mask (Some refused)) legal = legal.1.row.named
-telling v roomy h (e.Look by key (Some p)) legal =
+telling v laid h (e.Publish by key stamp mask (Some refused)) legal = legal.1.row.named
+telling v laid h (e.Look by key (Some p)) legal =
     let k = looked-known v h legal.0 key p legal.1.row.told in
     (k.0, (extends-more (e.Look by key (Some p) ∷ []) h).wrote p.stamp k.0 k.1)
-telling v roomy h (e.Fetch by node key position stamp (Some r)) legal =
+telling v laid h (e.Fetch by node key position stamp (Some r)) legal =
     let t = legal.1.row.told.1 in
     (t.0, record { found = (extends-more (e.Fetch by node key position stamp (Some r) ∷ []) h).wrote stamp t.0 t.1.found; stamp = t.1.stamp; length = t.1.length; base = t.1.base })
-telling v roomy h (e.Next by node after (Some l)) legal =
+telling v laid h (e.Next by node after (Some l)) legal =
     let row = legal.1.row in
     let k = looked-known v h legal.0 l.key l.published row.listed.told in
-    let place = placing v roomy h legal.0 (e.Next by node after (Some l)) l.key.fid l.info row.file in
+    let place = placing v laid h legal.0 (e.Next by node after (Some l)) l.key.fid l.info row.file in
     let named = row.listed.named in
     record {
       placing = place;
       known = (k.0, (extends-more (e.Next by node after (Some l) ∷ []) h).wrote l.published.stamp k.0 k.1);
       at = node-at (facts h) l node (file-places v h legal.0 l.key.fid l.info row.file) named.0 named.2;
     }
-telling v roomy h (e.Got by number key part (read.Found stamp text)) legal =
+telling v laid h (e.Got by number key part (read.Found stamp text)) legal =
     let w = legal.1.row.0.wrote in
     subst (λ (t : List ℕ). length t ≤ block_bytes_of v.layout) w.2 (wrote-short v h legal.0 stamp w.0 w.1)
-telling v roomy h (_) legal = tt
+telling v laid h (_) legal = tt

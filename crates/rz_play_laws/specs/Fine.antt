@@ -22,8 +22,8 @@ IsTelling v = (h : List Event) (x : Event) → IsLegalInRuns v (x ∷ h) → IsT
 
 -- The beginning.
 
--- Nodes and export are those of this log, which is legal and leaves room for a play.
-pub record IsBeginning (v : Volume) (nodes : ℕ → NodeState) (s : ExportState) (old : List Event) : Type 0 where
+-- A play may begin after this log, which is legal and leaves room: nodes and export are those of the log.
+pub record MayBegin (v : Volume) (nodes : ℕ → NodeState) (s : ExportState) (old : List Event) : Type 0 where
   pub legal : IsLegalInRuns v old
   pub nodes_are : (n : ℕ) → IsNode (facts old) (of_word (Node n) old) (nodes n)
   pub export_is : IsExport v (facts old) (of_word Export old) s

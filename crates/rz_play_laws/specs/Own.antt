@@ -24,6 +24,7 @@ use Rattle.rz_node_model.specs.Versions.{Stands}
 use Rattle.rz_core.specs.History.{Facts, Begun, Has, length_in}
 use Rattle.rz_core.specs.NodeWord.{base_begun}
 use Rattle.rz_core.specs.Courses.{IsCourse}
+use Rattle.rz_log_laws.specs.Places.{IsApart}
 use Rattle.rz_events.specs.Masks.{HasBit}
 use Rattle.rz_core.specs.ExportRows.{HasKept}
 use Rattle.rz_core.specs.NodeRows.{HasGone, IsRecord, IsNodeOf}
@@ -50,10 +51,6 @@ use Rattle.rz_play.specs.Turns.{found_text, text_said}
 use Rattle.rz_events.specs.declared.ends.ReadEnd.TheVariants as read
 
 -- What an event says for good.
-
--- no node stands twice
-abbrev pub IsApart : List ℕ → Type 0
-IsApart places = (p q n : ℕ) → slice_get places p ≡ Some n → slice_get places q ≡ Some n → p ≡ q
 
 -- the file lies at these nodes, one for each position of the layout
 pub record IsPlacing (v : Volume) (f : Facts) (fid : ℕ) (places : List ℕ) : Type 0 where

@@ -24,7 +24,7 @@ ghost use Rattle.rz_play.specs.Stops.{StopCause};
 ghost use Rattle.rz_play.specs.Faults.{missed, misses};
 ghost use Rattle.rz_play.specs.Played.{IsPlayedFrom, IsStoppedFrom, IsBegunFrom, IsBegun};
 ghost use Rattle.rz_play_laws.specs.Own.{IsOwnTurn, IsOwnKept, IsOwnProper};
-ghost use Rattle.rz_play_laws.specs.Fine.{IsBeginning, IsSeated, IsFine, IsTelling};
+ghost use Rattle.rz_play_laws.specs.Fine.{MayBegin, IsSeated, IsFine, IsTelling};
 ghost use Rattle.rz_play_laws.specs.Runs.{IsScript, IsRunAfter};
 
 /// What an operation asks is proper, where its own events say how far it has come.
@@ -45,7 +45,9 @@ pub fn own_kept()
 /// Each event of a legal log says what is so for good: what a write began with, where a file lies.
 pub fn facts_told()
     ensures { (v : Volume) → IsVolume v → IsTelling v }
-{}
+{
+    rz_log_laws::laid();
+}
 
 /// A play that came to its end has begun, so what is said below of plays that have begun holds of it.
 pub fn ended()
@@ -62,7 +64,9 @@ pub fn stopped()
 /// The log of a play is legal: each of its events is allowed after those before it.
 pub fn legal()
     ensures { (v : Volume) (script : List ALine) → IsScript v script → (log : List AnEvent) → IsBegun v script log → IsLegal v log }
-{}
+{
+    facts_told();
+}
 
 /// The log of a play is sound: each read that found a text gives the newest acknowledged write of its
 /// block.
@@ -87,9 +91,10 @@ pub fn rebuilt()
 /// The same of a play that goes on after an earlier log, with the nodes and the export of that log.
 pub fn after()
     ensures { (v : Volume) (script : List ALine) → IsScript v script
-        → (nodes : ℕ → NodeState) (export : ExportState) (old : List AnEvent) → IsBeginning v nodes export old
+        → (nodes : ℕ → NodeState) (export : ExportState) (old : List AnEvent) → MayBegin v nodes export old
         → (log : List AnEvent) → IsBegunFrom v (world_after nodes export old) script log → IsRunAfter v old log }
 {
+    facts_told();
     rz_core::next_run();
     rz_safety::sound();
     rz_safety::rebuilt();
@@ -98,9 +103,11 @@ pub fn after()
 /// A play leaves a world that is in order.
 pub fn in_order()
     ensures { (v : Volume) (script : List ALine) → IsScript v script
-        → (nodes : ℕ → NodeState) (export : ExportState) (old : List AnEvent) → IsBeginning v nodes export old
+        → (nodes : ℕ → NodeState) (export : ExportState) (old : List AnEvent) → MayBegin v nodes export old
         → (log : List AnEvent) (p : IsBegunFrom v (world_after nodes export old) script log) → IsFine v old p.last }
-{}
+{
+    facts_told();
+}
 
 /// In such a world each actor has a turn, whatever it asks.
 pub fn goes_on()

@@ -11,7 +11,5 @@
 mod reader;
 mod seen;
 mod steps;
-#[cfg(test)]
-mod tests;
 
 pub use reader::Reader;

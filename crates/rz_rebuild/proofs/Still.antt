@@ -1,5 +1,5 @@
 -- A rebuild that reads no block has no pairs and no block.
-use Rattle.std.proofs.Common.{◌≡◌, ℕ, List, [], Option, None, refl, subst, true}
+use Rattle.std.proofs.Common.{◌≡◌, ℕ, List, Option, refl, true}
 use Rattle.mj_angles.specs.declared.layout.Layout.{Layout}
 use Rattle.mj_inverse.specs.Fits.{Pair}
 use Rattle.rz_words.specs.Grid.{Grid}

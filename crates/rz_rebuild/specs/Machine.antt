@@ -1,7 +1,7 @@
 -- What contracts see of a rebuilder, and what an answer makes of it.
 use Rattle.std.specs.Prelude.{ℕ, Bool, true, ◌≡◌, ◌<◌, ◌≤◌, ◌+◌, ◌^◌, List, [], length, Option, Some, None, IsSomeAnd}
 use Rattle.mj_angles.specs.declared.layout.Layout.{Layout}
-use Rattle.mj_angles.specs.Layout.{angle_of, bins_at_of}
+use Rattle.mj_angles.specs.Layout.{safe_of, angle_of, bins_at_of}
 use Rattle.mj_forward.specs.Forward.{projection_of}
 use Rattle.mj_inverse.specs.Fits.{Pair}
 use Rattle.rz_words.specs.Grid.{Grid}
@@ -15,7 +15,7 @@ use Rattle.rz_events.specs.declared.machines.RebuildAnswer.{RebuildAnswer}
 use Rattle.rz_events.specs.declared.machines.RebuildAnswer.TheVariants as told
 use Rattle.rz_reader.specs.Fetched.{record_in}
 use Rattle.rz_reader.specs.Machine.{pairs_at, pairs_if, AreFitting, IsOnly, search_of}
-use Rattle.rz_operation_model.specs.Rebuild.{Rebuild, Going, Ended, RebuildState, Probing, Copying, Refilling, Leaving, IsRebuild, position_of, rebuild_ask, rebuild_told}
+use Rattle.rz_operation_model.specs.Rebuild.{Rebuild, Going, Ended, RebuildState, Probing, Copying, Refilling, Leaving, IsRebuild, rebuild_ask, rebuild_told}
 
 -- how far the rebuild of a node has come; the angles and bins of the records of the listed stamp while they are fetched;
 -- and the block that fits them while it is refilled
@@ -44,6 +44,11 @@ end_in (Ended end) = Some end
 abbrev pub IsUnderWay : Layout → ℕ → Rebuild → Type 0
 IsUnderWay layout n (Going s) = IsRebuild layout n s
 IsUnderWay layout n (Ended end) = Unit {0}
+
+-- a position that is fetched is one of the layout
+abbrev pub IsAskOf : Layout → RebuildAsk → Type 0
+IsAskOf layout (ask.Fetch key position of stamp) = position < safe_of layout
+IsAskOf layout a = Unit {0}
 
 -- What an answer makes of it.
 
@@ -127,3 +132,8 @@ AreBinsFor layout a block bins = ⊥
 
 abbrev pub AreBins : Machine → List ℕ → Type 0
 AreBins m bins = AreBinsFor m.layout (ask_in m.node m.state) m.block bins
+
+-- there are as many as the position has
+abbrev pub IsCountFor : Layout → RebuildAsk → List ℕ → Type 0
+IsCountFor layout (ask.Refill fence key stamp size position base) bins = length bins ≡ bins_at_of layout position
+IsCountFor layout a bins = ⊥

@@ -2,7 +2,9 @@
 
 ghost use Rattle.std.specs.Prelude.{◌≡◌};
 ghost use Rattle.rz_operation_model.specs.Rebuild.{position_of, ask_to_copy};
-ghost use Rattle.rz_rebuild.specs.Machine.{ask_in};
+ghost use Rattle.mj_angles.specs.declared.layout.Layout.{Layout};
+ghost use Rattle.rz_reader.specs.Machine.{IsAskOf as IsReaderAskOf};
+ghost use Rattle.rz_rebuild.specs.Machine.{ask_in, IsAskOf};
 ghost use Rattle.rz_rebuild.specs.Inside.{state_of};
 
 use crate::step::{Copied, Step};
@@ -24,7 +26,8 @@ pub fn position_of(node: u16, listed: &Listed) -> u8
 
 /// What a rebuild asks next.
 pub fn ask(node: u16, step: &Step, reader: &Reader) -> RebuildAsk
-    ensures { result ≡ ask_in node (state_of reader.now.state step.now) }
+    ensures value { result ≡ ask_in node (state_of reader.now.state step.now) }
+    ensures place { IsAskOf reader.now.state.layout result }
 {
     match step {
         Step::Probing => RebuildAsk::Probe,
@@ -46,7 +49,8 @@ pub fn ask(node: u16, step: &Step, reader: &Reader) -> RebuildAsk
 
 /// What the read of a block asks, which has its look already, in what was listed.
 fn ask_to_copy(key: Key, ask: ReaderAsk) -> RebuildAsk
-    ensures { result ≡ ask_to_copy key ask }
+    ensures value { result ≡ ask_to_copy key ask }
+    ensures place { (layout : Layout) → IsReaderAskOf layout ask → IsAskOf layout result }
 {
     match ask {
         ReaderAsk::Look => RebuildAsk::End,

@@ -13,7 +13,6 @@ mod asks;
 mod copies;
 mod rebuilder;
 mod step;
-#[cfg(test)]
-mod tests;
 
+pub use asks::position_of;
 pub use rebuilder::Rebuilder;

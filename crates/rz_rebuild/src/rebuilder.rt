@@ -3,7 +3,7 @@
 ghost use Rattle.std.specs.Prelude.{◌≡◌, ◌↔◌, IfOk, IsTrue, ℕ, List, length};
 ghost use Rattle.mj_angles.specs.Layout.{safe_of, max_bins_of};
 ghost use Rattle.rz_operation_model.specs.Rebuild.{IsRebuildAnswer};
-ghost use Rattle.rz_rebuild.specs.Machine.{machine_for, ask_in, end_in, IsUnderWay, ComeWith, HasRoom, IsAnswered, IsRefill, AreBins};
+ghost use Rattle.rz_rebuild.specs.Machine.{machine_for, ask_in, end_in, IsUnderWay, IsAskOf, ComeWith, HasRoom, IsAnswered, IsRefill, AreBins, IsCountFor};
 ghost use Rattle.rz_rebuild.specs.Kinds.{IsListing};
 ghost use Rattle.rz_rebuild.specs.Inside.{IsStep, IsProjected, machine_of, state_of};
 
@@ -63,6 +63,7 @@ impl Rebuilder {
     pub fn next(&self) -> RebuildAsk
         ensures value { result ≡ ask_in self.now.node self.now.state }
         ensures under_way { IsUnderWay self.now.layout self.now.node self.now.state }
+        ensures place { IsAskOf self.now.layout result }
     {
         ask(self.node, &self.step, &self.reader)
     }
@@ -70,7 +71,8 @@ impl Rebuilder {
     /// The bins of the record that the node is to have as a refill.
     pub fn bins(&self) -> &[u64]
         requires { IsRefill (ask_in self.now.node self.now.state) }
-        ensures { AreBins self.now result.now }
+        ensures bins { AreBins self.now result.now }
+        ensures count { IsCountFor self.now.layout (ask_in self.now.node self.now.state) result.now }
     {
         let Step::Refilling { copied, .. } = &self.step else {
             unreachable!()

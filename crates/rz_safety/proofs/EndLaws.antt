@@ -28,7 +28,7 @@ use Rattle.rz_core.proofs.Extends.{some_length, last-has}
 use Rattle.rz_core.proofs.Locality.{legal-rest}
 use Rattle.rz_core.proofs.Stamps.{export, cases_le, accepted-latest, accepted-more, accepted-mask}
 use Rattle.rz_safety.specs.Reads.{IsAcked, is_look_denial, before_look, before_export}
-use Rattle.rz_safety.specs.Sound.{IsFew, IsAnswer, IsReached, IsMoved, IsSoundRead}
+use Rattle.rz_safety.specs.Sound.{IsFew, IsReadAnswer, IsReached, IsMoved, IsSoundRead}
 use Rattle.rz_safety.proofs.Acked.{acked-accepted, accepted-acked, acked-more}
 use Rattle.rz_safety.proofs.ReadLaws.{skip, looked, found_sound, hole_sound}
 use Rattle.rz_safety.proofs.Counts.{few-missing}
@@ -268,7 +268,7 @@ read_sound v a h legal key read.Inconsistent r = absurd r
 
 -- a read whose block is quiet answers, unless too many nodes gave no record
 pub answer_right : (v : Volume) (h : List Event) → IsLegalInRuns v h → (start : List Event) (key : Key) (p : Published) (end : ReadEnd)
-    → latest (export h) key ≤ p.stamp → IsReached v start h key p end → IsAnswer v p end
+    → latest (export h) key ≤ p.stamp → IsReached v start h key p end → IsReadAnswer v p end
 answer_right v h legal start key p (read.Found s text) quiet r = r
 answer_right v h legal start key p (read.TooFew seen) quiet r = r
 answer_right v h legal start key p (read.Moved was now) quiet r =

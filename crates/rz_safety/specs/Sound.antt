@@ -90,17 +90,17 @@ IsSound v [] = Unit {0}
 IsSound v (x ∷ h) = IsSound v h × IsSoundEvent v h x
 
 -- how a read answers that was told p: by that write, unless more of its nodes than can be spared did not give its record
-abbrev pub IsAnswer : Volume → Published → ReadEnd → Type 0
-IsAnswer v p (read.Found s text) = s ≡ p.stamp
-IsAnswer v p (read.TooFew seen) = IsFew v p.mask seen
-IsAnswer v p _ = ⊥
+abbrev pub IsReadAnswer : Volume → Published → ReadEnd → Type 0
+IsReadAnswer v p (read.Found s text) = s ≡ p.stamp
+IsReadAnswer v p (read.TooFew seen) = IsFew v p.mask seen
+IsReadAnswer v p _ = ⊥
 
 -- the look of the read was told s, and the read answers by it
 pub record IsAnsweredBy (v : Volume) (h : List Event) (by : Actor) (key : Key) (s : ℕ) (end : ReadEnd) : Type 0 where
   pub published : Published
   pub look : IsLookOf by h end key published
   pub stamp_is : published.stamp ≡ s
-  pub answer : IsAnswer v published end
+  pub answer : IsReadAnswer v published end
 
 -- What a client may count on. Where the key is quiet at s at a read's end, and its file is live then, the read was told s
 -- and answers by it, or s was acknowledged only after the read began.

@@ -20,8 +20,6 @@ mod operations;
 mod printing;
 mod reading;
 mod script;
-#[cfg(test)]
-mod tests;
 mod weights;
 mod words;
 

@@ -11,6 +11,3 @@ mod sequence;
 
 pub use mark::Mark;
 pub use sequence::{Fork, Sequence};
-
-#[cfg(test)]
-mod tests;

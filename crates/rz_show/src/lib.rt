@@ -11,8 +11,6 @@
 mod ends;
 mod opened;
 mod outcomes;
-#[cfg(test)]
-mod tests;
 mod text;
 mod words;
 

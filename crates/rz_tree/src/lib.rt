@@ -18,6 +18,3 @@ mod renames;
 mod tree;
 
 pub use tree::Tree;
-
-#[cfg(test)]
-mod tests;

@@ -6,8 +6,6 @@
 //! memory, and know no records and no disk.
 #![tactic(auto)]
 
-#[cfg(test)]
-mod tests;
 mod versions;
 
 pub use versions::{Room, Version, Versions};

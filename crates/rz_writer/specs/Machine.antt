@@ -1,7 +1,7 @@
 -- What contracts see of a writer, and the bins that it gives.
 use Rattle.std.specs.Prelude.{ℕ, ◌≡◌, ◌<◌, List, length, Option, Some, None}
 use Rattle.mj_angles.specs.declared.layout.Layout.{Layout}
-use Rattle.mj_angles.specs.Layout.{inverse_of, cols_of, safe_of, angle_of}
+use Rattle.mj_angles.specs.Layout.{inverse_of, cols_of, safe_of, angle_of, bins_at_of}
 use Rattle.mj_forward.specs.Forward.{projection_of}
 use Rattle.rz_words.specs.Grid.{Grid, grid_from_bytes}
 use Rattle.rz_events.specs.declared.keys.Key.{Key}
@@ -57,3 +57,8 @@ AreBinsFor layout _ _ bins = ⊥
 
 abbrev pub AreBins : Machine → List ℕ → Type 0
 AreBins m bins = AreBinsFor m.state.layout (writer_ask m.state) m.block bins
+
+-- There are as many as the position has.
+abbrev pub IsCountOf : Layout → WriterAsk → List ℕ → Type 0
+IsCountOf layout (ask.Keep position node stamp base) bins = length bins ≡ bins_at_of layout position
+IsCountOf layout _ bins = Unit {0}

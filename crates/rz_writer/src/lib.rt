@@ -12,8 +12,6 @@ pub mod laws;
 mod outcomes;
 mod sheet;
 mod steps;
-#[cfg(test)]
-mod tests;
 mod writer;
 
 pub use writer::Writer;

@@ -3,7 +3,7 @@
 ghost use Rattle.std.specs.Prelude.{◌≡◌, ◌≤◌, ◌<◌, IfOk, IfSome, IsSome, length};
 ghost use Rattle.mj_angles.specs.Layout.{block_bytes_of};
 ghost use Rattle.rz_client_model.specs.Write.{IsWrite, IsWriterAnswer, writer_ask, writer_told, writer_end, writer_start};
-ghost use Rattle.rz_writer.specs.Machine.{machine_with, bare_machine, key_in, block_of, HasPlaces, IsAskOf, HasBins, AreBins};
+ghost use Rattle.rz_writer.specs.Machine.{machine_with, bare_machine, key_in, block_of, HasPlaces, IsAskOf, HasBins, AreBins, IsCountOf};
 
 use crate::sheet::{Sheet, prepare, reload};
 use crate::steps;
@@ -80,7 +80,8 @@ impl Writer {
     /// The bins of the position that the write asks a node to keep.
     pub fn bins(&self) -> &[u64]
         requires { HasBins self.now }
-        ensures { AreBins self.now result.now }
+        ensures bins { AreBins self.now result.now }
+        ensures count { IsCountOf self.now.state.layout (writer_ask self.now.state) result.now }
     {
         let WriterAsk::Keep { position, .. } = steps::ask(&self.state) else {
             unreachable!()

@@ -1,5 +1,4 @@
 use Rattle.std.proofs.Common.{ℕ, ◌+◌, ap, sym, ◌∙◌}
-use Rattle.rz_events.specs.declared.ends.WriteEnd.{WriteEnd}
 use Rattle.rz_operation_model.specs.Files.{go_on, after_block}
 use Rattle.rz_file.specs.Inside.{range_in}
 use Rattle.rz_file.proofs.steps.after_block.Goals as goal

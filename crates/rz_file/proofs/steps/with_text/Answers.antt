@@ -1,6 +1,6 @@
 use Rattle.std.proofs.Common.{arith, ℕ, List, ◌+◌, ◌++◌, ◌≤◌, length, take, ap, sym, ◌∙◌, ◌≡◌, subst, rules}
 use Rattle.mj_angles.specs.Layout.{block_bytes_of}
-use Rattle.rz_operation_model.specs.Ranges.{Aim as AimOf, Taking, Giving, cut, patched, start_in, count_in}
+use Rattle.rz_operation_model.specs.Ranges.{Aim as AimOf, Taking, cut, patched, start_in}
 use Rattle.rz_operation_model.specs.Files.{FileState, Writes, go_on, with_text, writes_block}
 use Rattle.rz_file.specs.declared.span.Aim.{Aim}
 use Rattle.rz_file.specs.declared.span.Span.{Span}

@@ -1,0 +1,429 @@
+//! Rebuilds as tables of what is asked and answered.
+
+ghost use Rattle.std.specs.Prelude.{◌≡◌, ◌<◌, IfOk, IsTrue};
+ghost use Rattle.mj_angles.specs.declared.layout.Layout.TheVariants.{L0};
+ghost use Rattle.rz_events.specs.declared.machines.RebuildAnswer.{RebuildAnswer as AnAnswer};
+ghost use Rattle.rz_client_model.specs.Read.{IsTold};
+ghost use Rattle.rz_operation_model.specs.Rebuild.{IsNextAnswer, IsRebuildAnswer};
+ghost use Rattle.rz_rebuild.specs.Machine.{ComeWith};
+
+use mj_angles::Layout;
+use rz_events::{
+    Denial, FetchAnswer, FileInfo, Held, Key, LeftWhy, Listed, Places, Published, RebuildAnswer,
+    RebuildAsk, RebuildEnd, RefillAnswer, ReplaceAnswer,
+};
+use rz_rebuild::{Rebuilder, position_of};
+use std::alloc::AllocError;
+use std::process::Abort;
+use std::test::Fail;
+
+/// Room for the bins of any position.
+const ROOM: usize = 568;
+
+/// Where the words 0 of the first two rows fall, by position: the text has 1 there, and 2.
+const FIRST: [usize; 4] = [2, 1, 0, 0];
+
+const SECOND: [usize; 4] = [0, 0, 0, 1];
+
+/// As `FIRST`, but no block has the bins of both position 0 and position 1.
+const WRONG: [usize; 4] = [2, 0, 0, 0];
+
+/// Whether what is told as published can be.
+fn can_be_told(published: Option<Published>) -> bool
+    ensures { IsTrue result → IsTold L0 published }
+{
+    let Some(published) = published else {
+        return true;
+    };
+    published.stamp > 0
+        && published.mask < 16
+        && published.length as usize <= Layout::L0.block_bytes()
+}
+
+/// Whether the block can be listed for node 12.
+fn can_be_listed(listed: &Option<Listed>) -> bool
+    ensures { IsTrue result → IsNextAnswer L0 12 listed.now }
+{
+    let Some(listed) = listed else {
+        return true;
+    };
+    let places = listed.info.places.list().len();
+    places == 4 && position_of(12, listed) < 4 && can_be_told(Some(listed.published))
+}
+
+/// Whether the answer belongs to what was asked.
+fn belongs(ask: RebuildAsk, answer: &RebuildAnswer) -> bool
+    ensures { IsTrue result → IsRebuildAnswer L0 12 ask answer.now }
+{
+    match (ask, answer) {
+        (RebuildAsk::Probe, RebuildAnswer::Probed(_)) => true,
+        (RebuildAsk::Enroll { .. }, RebuildAnswer::Enrolled { .. }) => true,
+        (RebuildAsk::Enroll { .. }, RebuildAnswer::Denied(_)) => true,
+        (RebuildAsk::Replace { .. }, RebuildAnswer::Replaced(_)) => true,
+        (RebuildAsk::Next { .. }, RebuildAnswer::Listed(listed)) => can_be_listed(listed),
+        (RebuildAsk::Fetch { .. }, RebuildAnswer::Fetched(FetchAnswer::Held(held))) => {
+            held.base < held.stamp && held.length as usize <= Layout::L0.block_bytes()
+        }
+        (RebuildAsk::Fetch { .. }, RebuildAnswer::Fetched(FetchAnswer::Nothing)) => true,
+        (RebuildAsk::Fetch { .. }, RebuildAnswer::Missed) => true,
+        (RebuildAsk::Recheck { .. }, RebuildAnswer::Rechecked(published)) => {
+            can_be_told(*published)
+        }
+        (RebuildAsk::Recheck { .. }, RebuildAnswer::Denied(_)) => true,
+        (RebuildAsk::Refill { .. }, RebuildAnswer::Refilled(_)) => true,
+        (RebuildAsk::Refill { .. }, RebuildAnswer::Missed) => true,
+        (RebuildAsk::Left { .. }, RebuildAnswer::Noted) => true,
+        _ => false,
+    }
+}
+
+/// Whether these are enough bins for what was asked.
+fn are_enough(ask: RebuildAsk, bins: &[u64]) -> bool
+    ensures { (answer : AnAnswer) → IsTrue result → ComeWith L0 ask answer bins.now }
+{
+    match ask {
+        RebuildAsk::Fetch { position, .. } => {
+            position < 4 && Layout::L0.bins_at(position) <= bins.len()
+        }
+        _ => true,
+    }
+}
+
+/// Compares what is asked, and answers it; a record has the bins of the text.
+fn step(
+    rt: &impl Abort,
+    rebuilder: &mut Rebuilder,
+    first: &[usize; 4],
+    ask: RebuildAsk,
+    answer: RebuildAnswer,
+)
+    requires layout { rebuilder.old.layout ≡ L0 }
+    requires node { rebuilder.old.node ≡ 12 }
+    ensures layout { rebuilder.new.layout ≡ L0 }
+    ensures node { rebuilder.new.node ≡ 12 }
+{
+    assert_eq!(rt; rebuilder.end(), None, "before {ask:?}");
+    let asked = rebuilder.next();
+    assert_eq!(rt; asked, ask);
+    let mut bins = [0u64; ROOM];
+    if let RebuildAsk::Fetch { position, .. } = asked {
+        assert!(rt; position < 4);
+        let (first, second) = (first[position as usize], SECOND[position as usize]);
+        assert!(rt; first < ROOM && second < ROOM);
+        bins[first] |= 1;
+        bins[second] |= 2;
+    }
+    assert!(rt; belongs(asked, &answer), "{answer:?}");
+    assert!(rt; are_enough(asked, &bins) && rebuilder.has_room());
+    rebuilder.tell(answer, &bins);
+}
+
+fn key(block: u64) -> Key {
+    Key { fid: 5, block }
+}
+
+/// The block is one of a file of which the node has position 2, and is published at the others.
+fn listed(block: u64) -> RebuildAnswer {
+    let mut places = Places::none();
+    places.push(10);
+    places.push(11);
+    places.push(12);
+    places.push(13);
+    RebuildAnswer::Listed(Some(Listed {
+        key: key(block),
+        info: FileInfo {
+            fid: 5,
+            cid: 1,
+            places,
+            size: 9000,
+        },
+        published: published(9),
+    }))
+}
+
+fn published(stamp: u64) -> Published {
+    Published {
+        stamp,
+        mask: 0b1011,
+        length: 2049,
+    }
+}
+
+fn held(stamp: u64, base: u64) -> RebuildAnswer {
+    RebuildAnswer::Fetched(FetchAnswer::Held(Held {
+        stamp,
+        length: 2049,
+        base,
+    }))
+}
+
+fn nothing() -> RebuildAnswer {
+    RebuildAnswer::Fetched(FetchAnswer::Nothing)
+}
+
+fn fetch(block: u64, position: u8) -> RebuildAsk
+    requires { position < 4 }
+{
+    RebuildAsk::Fetch {
+        key: key(block),
+        position,
+        node: 10 + u16::from(position),
+        stamp: 9,
+    }
+}
+
+fn refill(block: u64) -> RebuildAsk {
+    RebuildAsk::Refill {
+        fence: 5,
+        key: key(block),
+        stamp: 9,
+        length: 2049,
+        position: 2,
+        base: 4,
+    }
+}
+
+const NONE: RebuildAnswer = RebuildAnswer::Listed(None);
+
+const NEXT: RebuildAsk = RebuildAsk::Next { after: None };
+
+const ENROLL: RebuildAsk = RebuildAsk::Enroll { loss: 7 };
+
+const REPLACE: RebuildAsk = RebuildAsk::Replace { loss: 7, fence: 5 };
+
+fn next_after(block: u64) -> RebuildAsk {
+    RebuildAsk::Next {
+        after: Some(key(block)),
+    }
+}
+
+/// The rebuild of node 12, whose loss 7 is enrolled under fence 5, up to its first listing.
+fn begin(rt: &(impl Abort + AllocGlobal)) -> Result<Rebuilder, AllocError>
+    ensures layout { IfOk result (λ r. r.layout ≡ L0) }
+    ensures node { IfOk result (λ r. r.node ≡ 12) }
+{
+    let mut rebuilder = Rebuilder::start(rt.alloc(), Layout::L0, 12)?;
+    let probed = RebuildAnswer::Probed(Some(7));
+    step(rt, &mut rebuilder, &FIRST, RebuildAsk::Probe, probed);
+    let fence = RebuildAnswer::Enrolled { fence: 5 };
+    step(rt, &mut rebuilder, &FIRST, ENROLL, fence);
+    let replaced = RebuildAnswer::Replaced(ReplaceAnswer::Replaced);
+    step(rt, &mut rebuilder, &FIRST, REPLACE, replaced);
+    Ok(rebuilder)
+}
+
+/// The block is listed, and both records that give it back come.
+fn copy(
+    rt: &impl Abort,
+    rebuilder: &mut Rebuilder,
+    first: &[usize; 4],
+    after: RebuildAsk,
+    block: u64,
+)
+    requires layout { rebuilder.old.layout ≡ L0 }
+    requires node { rebuilder.old.node ≡ 12 }
+    ensures layout { rebuilder.new.layout ≡ L0 }
+    ensures node { rebuilder.new.node ≡ 12 }
+{
+    step(rt, rebuilder, first, after, listed(block));
+    step(rt, rebuilder, first, fetch(block, 0), held(9, 4));
+    step(rt, rebuilder, first, fetch(block, 1), held(9, 3));
+}
+
+fn check_end(rt: &impl Abort, rebuilder: &Rebuilder, end: RebuildEnd) {
+    assert_eq!(rt; rebuilder.next(), RebuildAsk::End);
+    assert_eq!(rt; rebuilder.end(), Some(end));
+}
+
+#[test]
+fn two_blocks(rt: HostRuntime) -> Result<(), Fail> {
+    let mut rebuilder = begin(&rt)?;
+    copy(&rt, &mut rebuilder, &FIRST, NEXT, 3);
+    let asked = rebuilder.next();
+    assert!(rt; matches!(asked, RebuildAsk::Refill { .. }));
+    let bins = rebuilder.bins();
+    assert!(rt; bins.len() > 1 && bins[0] == 3 && bins[1] == 0);
+    let kept = RebuildAnswer::Refilled(RefillAnswer::Kept);
+    step(&rt, &mut rebuilder, &FIRST, refill(3), kept);
+    copy(&rt, &mut rebuilder, &FIRST, next_after(3), 4);
+    let passed = RebuildAnswer::Refilled(RefillAnswer::Passed { held: 12 });
+    step(&rt, &mut rebuilder, &FIRST, refill(4), passed);
+    step(&rt, &mut rebuilder, &FIRST, next_after(4), NONE);
+    let end = RebuildEnd::Rebuilt {
+        fence: 5,
+        refilled: 2,
+    };
+    check_end(&rt, &rebuilder, end);
+    Ok(())
+}
+
+#[test]
+fn moved(rt: HostRuntime) -> Result<(), Fail> {
+    let mut rebuilder = begin(&rt)?;
+    unanswered(&rt, &mut rebuilder);
+    let later = RebuildAnswer::Rechecked(Some(published(11)));
+    step(&rt, &mut rebuilder, &FIRST, RECHECK, later);
+    step(&rt, &mut rebuilder, &FIRST, NEXT, NONE);
+    let end = RebuildEnd::Rebuilt {
+        fence: 5,
+        refilled: 0,
+    };
+    check_end(&rt, &rebuilder, end);
+    Ok(())
+}
+
+const RECHECK: RebuildAsk = RebuildAsk::Recheck {
+    key: Key { fid: 5, block: 3 },
+};
+
+/// Block 3 is listed, and no position has a record of its stamp.
+fn unanswered(rt: &impl Abort, rebuilder: &mut Rebuilder)
+    requires layout { rebuilder.old.layout ≡ L0 }
+    requires node { rebuilder.old.node ≡ 12 }
+    ensures layout { rebuilder.new.layout ≡ L0 }
+    ensures node { rebuilder.new.node ≡ 12 }
+{
+    step(rt, rebuilder, &FIRST, NEXT, listed(3));
+    step(rt, rebuilder, &FIRST, fetch(3, 0), nothing());
+    step(rt, rebuilder, &FIRST, fetch(3, 1), held(8, 4));
+    step(rt, rebuilder, &FIRST, fetch(3, 3), RebuildAnswer::Missed);
+    step(rt, rebuilder, &FIRST, fetch(3, 2), nothing());
+}
+
+/// Block 3 is left for this cause, and no other block is listed.
+fn leave(rt: &impl Abort, rebuilder: &mut Rebuilder, why: LeftWhy)
+    requires layout { rebuilder.old.layout ≡ L0 }
+    requires node { rebuilder.old.node ≡ 12 }
+    ensures layout { rebuilder.new.layout ≡ L0 }
+    ensures node { rebuilder.new.node ≡ 12 }
+{
+    let asked = RebuildAsk::Left { key: key(3), why };
+    step(rt, rebuilder, &FIRST, asked, RebuildAnswer::Noted);
+    step(rt, rebuilder, &FIRST, next_after(3), NONE);
+    let end = RebuildEnd::Left {
+        fence: 5,
+        refilled: 0,
+        left: 1,
+    };
+    check_end(rt, rebuilder, end);
+}
+
+#[test]
+fn left_unread(rt: HostRuntime) -> Result<(), Fail> {
+    let why = Denial::UnknownFile;
+    let mut rebuilder = begin(&rt)?;
+    unanswered(&rt, &mut rebuilder);
+    let same = RebuildAnswer::Rechecked(Some(published(9)));
+    step(&rt, &mut rebuilder, &FIRST, RECHECK, same);
+    leave(&rt, &mut rebuilder, LeftWhy::TooFew);
+    let mut rebuilder = begin(&rt)?;
+    unanswered(&rt, &mut rebuilder);
+    step(
+        &rt,
+        &mut rebuilder,
+        &FIRST,
+        RECHECK,
+        RebuildAnswer::Denied(why),
+    );
+    leave(&rt, &mut rebuilder, LeftWhy::Denied(why));
+    let mut rebuilder = begin(&rt)?;
+    copy(&rt, &mut rebuilder, &WRONG, NEXT, 3);
+    leave(&rt, &mut rebuilder, LeftWhy::Inconsistent);
+    Ok(())
+}
+
+#[test]
+fn left_unfilled(rt: HostRuntime) -> Result<(), Fail> {
+    let table = [
+        (RebuildAnswer::Missed, LeftWhy::Missed),
+        (RebuildAnswer::Refilled(RefillAnswer::Down), LeftWhy::Down),
+        (RebuildAnswer::Refilled(RefillAnswer::Full), LeftWhy::Full),
+        (
+            RebuildAnswer::Refilled(RefillAnswer::DiskFault),
+            LeftWhy::DiskFault,
+        ),
+    ];
+    for (answer, why) in table {
+        let mut rebuilder = begin(&rt)?;
+        copy(&rt, &mut rebuilder, &FIRST, NEXT, 3);
+        step(&rt, &mut rebuilder, &FIRST, refill(3), answer);
+        leave(&rt, &mut rebuilder, why);
+    }
+    Ok(())
+}
+
+#[test]
+fn refused(rt: HostRuntime) -> Result<(), Fail> {
+    let table = [
+        (RefillAnswer::Lost, RebuildEnd::LostAgain),
+        (
+            RefillAnswer::OtherFence { fence: 6 },
+            RebuildEnd::OtherFence { fence: 6 },
+        ),
+    ];
+    for (answer, end) in table {
+        let mut rebuilder = begin(&rt)?;
+        copy(&rt, &mut rebuilder, &FIRST, NEXT, 3);
+        step(
+            &rt,
+            &mut rebuilder,
+            &FIRST,
+            refill(3),
+            RebuildAnswer::Refilled(answer),
+        );
+        check_end(&rt, &rebuilder, end);
+    }
+    Ok(())
+}
+
+#[test]
+fn early(rt: HostRuntime) -> Result<(), Fail> {
+    let old = Denial::OldLoss { kept: 8 };
+    let table = [
+        (
+            RebuildAsk::Probe,
+            RebuildAnswer::Probed(None),
+            RebuildEnd::NotLost,
+        ),
+        (ENROLL, RebuildAnswer::Denied(old), RebuildEnd::Denied(old)),
+        (
+            REPLACE,
+            RebuildAnswer::Replaced(ReplaceAnswer::NotLost),
+            RebuildEnd::NotLost,
+        ),
+        (
+            REPLACE,
+            RebuildAnswer::Replaced(ReplaceAnswer::OtherLoss { loss: 8 }),
+            RebuildEnd::OtherLoss { loss: 8 },
+        ),
+        (
+            REPLACE,
+            RebuildAnswer::Replaced(ReplaceAnswer::DiskFault),
+            RebuildEnd::DiskFault,
+        ),
+    ];
+    for (ask, answer, end) in table {
+        let mut rebuilder = Rebuilder::start(rt.alloc(), Layout::L0, 12)?;
+        if ask != RebuildAsk::Probe {
+            step(
+                &rt,
+                &mut rebuilder,
+                &FIRST,
+                RebuildAsk::Probe,
+                RebuildAnswer::Probed(Some(7)),
+            );
+        }
+        if ask == REPLACE {
+            step(
+                &rt,
+                &mut rebuilder,
+                &FIRST,
+                ENROLL,
+                RebuildAnswer::Enrolled { fence: 5 },
+            );
+        }
+        step(&rt, &mut rebuilder, &FIRST, ask, answer);
+        check_end(&rt, &rebuilder, end);
+    }
+    Ok(())
+}

@@ -1,0 +1,16 @@
+use Rattle.std.proofs.Common.{subst}
+use Rattle.rz_operation_model.specs.Steps.{Locked}
+use Rattle.rz_operation.specs.declared.stage.Stage.{Stage}
+use Rattle.rz_operation.specs.Machine.{Machine}
+use Rattle.rz_operation.specs.Answers.{Goes}
+use Rattle.rz_operation.specs.Inside.{machine_of}
+use Rattle.rz_operation.proofs.machine.Machine.tell_locked.Goals as goal
+
+pub returns : goal.returns
+returns c =
+    let i = c.self.inside in
+    let at : Stage → Machine = λ s. machine_of i.layout s in
+    let told = Locked c.args.granted c.args.reply in
+    let new = at c.after_lock.result in
+    subst (λ (m : Machine). Goes m m.pairs told new) c.self.view_is
+    (subst (λ (s : Stage). Goes (at s) (at s).pairs told new) c.replace-stage.ensures.value c.after_lock.ensures.goes)

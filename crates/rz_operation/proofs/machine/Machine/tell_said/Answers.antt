@@ -1,0 +1,15 @@
+use Rattle.std.proofs.Common.{subst}
+use Rattle.rz_operation_model.specs.Steps.{Noted}
+use Rattle.rz_operation.specs.declared.stage.Stage.{Stage}
+use Rattle.rz_operation.specs.Machine.{Machine, text_of}
+use Rattle.rz_operation.specs.Answers.{Goes}
+use Rattle.rz_operation.specs.Inside.{machine_of}
+use Rattle.rz_operation.proofs.machine.Machine.tell_said.Goals as goal
+
+pub returns : goal.returns
+returns c =
+    let i = c.self.inside in
+    let at : Stage → Machine = λ s. machine_of i.layout s in
+    let new = at c.after_said.result in
+    subst (λ (m : Machine). Goes m m.pairs (Noted (text_of m)) new) c.self.view_is
+    (subst (λ (s : Stage). Goes (at s) (at s).pairs (Noted (text_of (at s))) new) c.replace-stage.ensures.value c.after_said.ensures.goes)

@@ -1,0 +1,12 @@
+use Rattle.std.proofs.Common.{subst, sym}
+use Rattle.rz_operation_model.specs.Steps.{Noted}
+use Rattle.rz_operation.specs.declared.stage.Stage.{Stage}
+use Rattle.rz_operation.specs.Machine.{Machine, text_of}
+use Rattle.rz_operation.specs.Answers.{Goes}
+use Rattle.rz_operation.specs.Inside.{machine_of}
+use Rattle.rz_operation.proofs.replies.after_said.Goals as goal
+
+pub returns-in-Ranging-clause-goes : goal.returns-in-Ranging-clause-goes
+returns-in-Ranging-clause-goes c =
+    let at : Stage → Machine = λ s. machine_of c.args.layout s in
+    subst (λ (s : Stage). Goes (at s) (at s).pairs (Noted (text_of (at s))) (at c.range_said.result)) (sym c.in-Ranging.is) c.range_said.ensures.goes

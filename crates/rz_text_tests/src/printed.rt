@@ -1,0 +1,216 @@
+//! The text of logs, byte for byte.
+use rz_events::{
+    Actor, Answer, Attr, Denial, Event, FileInfo, Key, Kind, Listing, Places, ReadEnd, RebuildEnd,
+    Seen, Text, TreeCall, TreeFault, TreeReply, Why, WriteEnd,
+};
+use rz_show::show;
+use std::alloc::{AllocError, Global};
+use std::test::Fail;
+
+const KEY: Key = Key { fid: 1, block: 0 };
+
+/// The bytes 0 to 32, of which the first 32 are printed as they are, and all 33 by their SHA-256.
+const BYTES: [u8; 33] = [
+    0, 1, 2, 3, 4, 5, 6, 7, 8, 9, 10, 11, 12, 13, 14, 15, 16, 17, 18, 19, 20, 21, 22, 23, 24, 25,
+    26, 27, 28, 29, 30, 31, 32,
+];
+
+const WHY: [Why; 16] = [
+    Why::NotAsked,
+    Why::Kept,
+    Why::Passed,
+    Why::Down,
+    Why::Lost,
+    Why::Fenced,
+    Why::Full,
+    Why::DiskFault,
+    Why::Missed,
+    Why::Enrolled,
+    Why::OtherFence,
+    Why::NotLost,
+    Why::OtherLoss,
+    Why::NotAsked,
+    Why::NotAsked,
+    Why::Kept,
+];
+
+const SEEN: [Seen; 16] = [
+    Seen::NotAsked,
+    Seen::Held,
+    Seen::Nothing,
+    Seen::Down,
+    Seen::Lost,
+    Seen::DiskFault,
+    Seen::Missed,
+    Seen::NotAsked,
+    Seen::NotAsked,
+    Seen::NotAsked,
+    Seen::NotAsked,
+    Seen::NotAsked,
+    Seen::NotAsked,
+    Seen::NotAsked,
+    Seen::NotAsked,
+    Seen::NotAsked,
+];
+
+const ATTR: Attr = Attr {
+    fid: 255,
+    kind: Kind::File,
+    mode: 0o644,
+    mtime: 18446744073709551615,
+    links: 2,
+    size: 5,
+};
+
+const REBUILT: [RebuildEnd; 7] = [
+    RebuildEnd::Rebuilt {
+        fence: 2,
+        refilled: 3,
+    },
+    RebuildEnd::Left {
+        fence: 2,
+        refilled: 3,
+        left: 4,
+    },
+    RebuildEnd::NotLost,
+    RebuildEnd::OtherLoss { loss: 5 },
+    RebuildEnd::OtherFence { fence: 6 },
+    RebuildEnd::LostAgain,
+    RebuildEnd::DiskFault,
+];
+
+/// What is printed of an answer to a client who opened a file at 16 places.
+fn printed(alloc: Global, answer: Answer) -> Result<Vec<u8>, AllocError> {
+    let by = Actor::Client(64);
+    let mut places = Places::none();
+    for node in 0..16 {
+        places.push(node);
+    }
+    let info = FileInfo {
+        fid: 1,
+        cid: 1,
+        places,
+        size: 0,
+    };
+    let path = Text::from_bytes(alloc, b"/f")?;
+    let mut log = Vec::new(alloc);
+    log.push(Event::Meta {
+        by,
+        call: TreeCall::OpenFile { path },
+        reply: TreeReply::File(info),
+    })?;
+    log.push(Event::Done {
+        by,
+        number: 7,
+        answer,
+    })?;
+    show(alloc, &log, false)
+}
+
+#[test]
+fn answers(rt: HostRuntime) -> Result<(), Fail> {
+    let alloc = rt.alloc();
+    let text = printed(alloc, Answer::Attr(ATTR))?;
+    assert_eq!(rt;
+        text.as_slice(),
+        b"c64 7 attr file 644 18446744073709551615 2 5 00000000-0000-0000-0000-0000000000ff\n".as_slice()
+    );
+    let mut names = Vec::new(alloc);
+    names.push(Text::from_bytes(alloc, b"a b")?)?;
+    let text = printed(alloc, Answer::Names(Listing::of(names)))?;
+    assert_eq!(rt; text.as_slice(), b"c64 7 names 1 a b\n".as_slice());
+    let text = printed(alloc, Answer::Read(Text::from_bytes(alloc, &BYTES[..32])?))?;
+    assert_eq!(rt;
+        text.as_slice(),
+        b"c64 7 read 32 x:000102030405060708090a0b0c0d0e0f101112131415161718191a1b1c1d1e1f\n".as_slice()
+    );
+    let text = printed(alloc, Answer::Read(Text::from_bytes(alloc, &BYTES)?))?;
+    assert_eq!(rt;
+        text.as_slice(),
+        b"c64 7 read 33 h:5d8fcfefa9aeeb711fb8ed1e4b7d5c8a9bafa46e8e76e68aa18adce5a10df6ab\n".as_slice()
+    );
+    let text = printed(alloc, Answer::Refused(TreeFault::TooManyLinks))?;
+    assert_eq!(rt; text.as_slice(), b"c64 7 refused TooManyLinks\n".as_slice());
+    Ok(())
+}
+
+#[test]
+fn ends(rt: HostRuntime) -> Result<(), Fail> {
+    let alloc = rt.alloc();
+    let end = WriteEnd::Acked {
+        stamp: 9,
+        mask: 0x8001,
+    };
+    let text = printed(alloc, Answer::ShortWrite { bytes: 3, end })?;
+    assert_eq!(rt;
+        text.as_slice(),
+        b"c64 7 short 3 acked 9 1000000000000001\n".as_slice()
+    );
+    let end = WriteEnd::TooFew { why: WHY };
+    let text = printed(alloc, Answer::ShortWrite { bytes: 3, end })?;
+    assert_eq!(rt;
+        text.as_slice(),
+        b"c64 7 short 3 toofew -kpdlfuxme???--k\n".as_slice()
+    );
+    let end = ReadEnd::TooFew { seen: SEEN };
+    let text = printed(alloc, Answer::ShortRead { bytes: 0, end })?;
+    assert_eq!(rt;
+        text.as_slice(),
+        b"c64 7 short 0 toofew -sndlxm---------\n".as_slice()
+    );
+    let end = ReadEnd::Moved { was: 1, now: 3 };
+    let text = printed(alloc, Answer::ShortRead { bytes: 0, end })?;
+    assert_eq!(rt; text.as_slice(), b"c64 7 short 0 moved 1 3\n".as_slice());
+    Ok(())
+}
+
+/// A play of a client and a rebuilder, of whose events some have no line.
+#[test]
+fn log(rt: HostRuntime) -> Result<(), Fail> {
+    let alloc = rt.alloc();
+    let by = Actor::Rebuilder(2);
+    let denied = RebuildEnd::Denied(Denial::OldLoss { kept: 9 });
+    let mut log = Vec::new(alloc);
+    for end in REBUILT {
+        log.push(Event::Done {
+            by,
+            number: 1,
+            answer: Answer::Rebuild(end),
+        })?;
+    }
+    for event in [
+        Event::Stop { node: 1 },
+        Event::Got {
+            by,
+            number: 1,
+            key: KEY,
+            part: true,
+            end: ReadEnd::Hole,
+        },
+        Event::Got {
+            by,
+            number: 4294967295,
+            key: KEY,
+            part: false,
+            end: ReadEnd::Hole,
+        },
+        Event::Unopened { node: 1, cause: 2 },
+        Event::Start {
+            node: 65535,
+            took: false,
+        },
+        Event::Done {
+            by: Actor::Admin,
+            number: 1,
+            answer: Answer::Rebuild(denied),
+        },
+    ] {
+        log.push(event)?;
+    }
+    let text = show(alloc, &log, true)?;
+    assert_eq!(rt;
+        text.as_slice(),
+        b"r2 1 rebuilt 2 3\nr2 1 left 2 3 4\nr2 1 notlost\nr2 1 otherloss 5\nr2 1 otherfence 6\nr2 1 lostagain\nr2 1 diskfault\nr2 4294967295 hole\nn1 unopened 2\nn65535 started 0\nadmin 1 refused OldLoss\nend 13\n".as_slice()
+    );
+    Ok(())
+}
