@@ -7,6 +7,7 @@ ghost use Rattle.rz_lines.specs.Ends.{IsLinePlayed, IsEnded, ended_by};
 use crate::rounds::{play_rounds, play_to_rest};
 use crate::stage::Stage;
 use crate::turns::{Cut, take_turns};
+use rz_link::Link;
 use rz_script::Line;
 
 /// How the play of a script ends.
@@ -31,7 +32,7 @@ impl From<Cut> for PlayEnd {
 }
 
 /// Plays a line.
-fn play_line<S: Stage>(stage: &mut S, line: &Line) -> Result<(), Cut>
+fn play_line<S: Stage, L: Link>(stage: &mut S, line: &Line, link: &mut L) -> Result<(), Cut>
     requires ready { S.is_ready stage.old }
     requires line { IsLine (S.volume stage.old) line.now }
     requires few { (S.world stage.old).turns ≤ most_turns }
@@ -42,9 +43,9 @@ fn play_line<S: Stage>(stage: &mut S, line: &Line) -> Result<(), Cut>
 {
     match line {
         Line::Op { by, op } => stage.add(*by, op)?,
-        Line::Turn { by, k } => take_turns(stage, *by, *k)?,
-        Line::Rounds { k } => play_rounds(stage, *k)?,
-        Line::Rest => play_to_rest(stage)?,
+        Line::Turn { by, k } => take_turns(stage, *by, *k, link)?,
+        Line::Rounds { k } => play_rounds(stage, *k, link)?,
+        Line::Rest => play_to_rest(stage, link)?,
         Line::Stop { node } => stage.stop(*node)?,
         Line::Start { node } => stage.start(*node)?,
         Line::Lose { node } => stage.lose(*node)?,
@@ -55,7 +56,7 @@ fn play_line<S: Stage>(stage: &mut S, line: &Line) -> Result<(), Cut>
 }
 
 /// Plays the lines of a script.
-pub fn play<S: Stage>(stage: &mut S, lines: &[Line]) -> PlayEnd
+pub fn play<S: Stage, L: Link>(stage: &mut S, lines: &[Line], link: &mut L) -> PlayEnd
     requires ready { S.is_ready stage.old }
     requires lines { AreLines (S.volume stage.old) lines.now }
     requires few { (S.world stage.old).turns ≤ most_turns }
@@ -63,7 +64,7 @@ pub fn play<S: Stage>(stage: &mut S, lines: &[Line]) -> PlayEnd
     ensures played { IsTrue S.tells → IsEnded (S.volume stage.old) (S.world stage.old) lines.now result (S.world stage.new).log }
 {
     for line in lines {
-        if let Err(cut) = play_line(stage, line) {
+        if let Err(cut) = play_line(stage, line, link) {
             return PlayEnd::from(cut);
         }
     }

@@ -10,6 +10,7 @@ ghost use Rattle.rz_lines.specs.Ends.{IsRoundPlayed, IsLinePlayed};
 use crate::stage::Stage;
 use crate::turns::{Cut, take_turn};
 use rz_events::Actor;
+use rz_link::Link;
 
 /// The actors of a script, in the order of a round.
 static ACTORS: [Actor; 80] = [
@@ -96,7 +97,7 @@ static ACTORS: [Actor; 80] = [
 ];
 
 /// Each of these that has work takes a turn, one after another. Says whether one did.
-fn take_round<S: Stage>(stage: &mut S, actors: &[Actor]) -> Result<bool, Cut>
+fn take_round<S: Stage, L: Link>(stage: &mut S, actors: &[Actor], link: &mut L) -> Result<bool, Cut>
     requires ready { S.is_ready stage.old }
     requires actors { AllByRecursion IsActor actors.now }
     requires few { (S.world stage.old).turns ≤ most_turns }
@@ -107,7 +108,7 @@ fn take_round<S: Stage>(stage: &mut S, actors: &[Actor]) -> Result<bool, Cut>
     let mut any = false;
     for by in actors {
         if stage.is_busy(*by) {
-            take_turn(stage, *by)?;
+            take_turn(stage, *by, link)?;
             any = true;
         }
     }
@@ -115,18 +116,22 @@ fn take_round<S: Stage>(stage: &mut S, actors: &[Actor]) -> Result<bool, Cut>
 }
 
 /// A round of all actors. Says whether one took a turn.
-fn play_round<S: Stage>(stage: &mut S) -> Result<bool, Cut>
+fn play_round<S: Stage, L: Link>(stage: &mut S, link: &mut L) -> Result<bool, Cut>
     requires ready { S.is_ready stage.old }
     requires few { (S.world stage.old).turns ≤ most_turns }
     ensures volume { S.volume stage.new ≡ S.volume stage.old }
     ensures ready { OnOk result (S.is_ready stage.new) }
     ensures played { IsRoundPlayed (S.volume stage.old) actors (S.world stage.old) result (S.world stage.new) }
 {
-    take_round(stage, &ACTORS)
+    take_round(stage, &ACTORS, link)
 }
 
 /// So many rounds. After one in which no actor had work, none has any more.
-pub(crate) fn play_rounds<S: Stage>(stage: &mut S, count: u32) -> Result<(), Cut>
+pub(crate) fn play_rounds<S: Stage, L: Link>(
+    stage: &mut S,
+    count: u32,
+    link: &mut L,
+) -> Result<(), Cut>
     requires ready { S.is_ready stage.old }
     requires few { (S.world stage.old).turns ≤ most_turns }
     ensures volume { S.volume stage.new ≡ S.volume stage.old }
@@ -134,7 +139,7 @@ pub(crate) fn play_rounds<S: Stage>(stage: &mut S, count: u32) -> Result<(), Cut
     ensures played { IsLinePlayed (S.volume stage.old) (line.Rounds count) (S.world stage.old) result (S.world stage.new) }
 {
     for _ in 0..count {
-        if !play_round(stage)? {
+        if !play_round(stage, link)? {
             return Ok(());
         }
     }
@@ -142,13 +147,13 @@ pub(crate) fn play_rounds<S: Stage>(stage: &mut S, count: u32) -> Result<(), Cut
 }
 
 /// Rounds until no actor has work.
-pub(crate) fn play_to_rest<S: Stage>(stage: &mut S) -> Result<(), Cut>
+pub(crate) fn play_to_rest<S: Stage, L: Link>(stage: &mut S, link: &mut L) -> Result<(), Cut>
     requires ready { S.is_ready stage.old }
     requires few { (S.world stage.old).turns ≤ most_turns }
     ensures volume { S.volume stage.new ≡ S.volume stage.old }
     ensures ready { OnOk result (S.is_ready stage.new) }
     ensures played { IsLinePlayed (S.volume stage.old) line.Rest (S.world stage.old) result (S.world stage.new) }
 {
-    while play_round(stage)? {}
+    while play_round(stage, link)? {}
     Ok(())
 }

@@ -10,6 +10,7 @@ ghost use Rattle.rz_play.specs.Lines.{PlaysLine};
 ghost use Rattle.rz_play.specs.Stops.{most_turns};
 
 use rz_events::{Actor, Operation};
+use rz_link::Link;
 
 /// Memory is wanting.
 #[derive(Clone, Copy, Debug, PartialEq, Eq, Drop)]
@@ -41,8 +42,8 @@ pub trait Stage {
         requires actor { IsActor by }
         ensures { result ≡ has_work ((world self.now).seats by) };
 
-    /// The actor takes a turn.
-    fn turn(&mut self, by: Actor) -> Result<(), NoMemory>
+    /// The actor takes a turn. Its messages go through the link.
+    fn turn<L: Link>(&mut self, by: Actor, link: &mut L) -> Result<(), NoMemory>
         requires ready { is_ready self.old }
         requires actor { IsActor by }
         requires few { (world self.old).turns < most_turns }

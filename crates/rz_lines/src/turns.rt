@@ -7,6 +7,7 @@ ghost use Rattle.rz_lines.specs.Ends.{IsTurnTaken, IsLinePlayed};
 
 use crate::stage::{NoMemory, Stage};
 use rz_events::Actor;
+use rz_link::Link;
 
 /// A play has at most so many turns.
 pub const MOST_TURNS: u32 = 1_000_000;
@@ -30,7 +31,11 @@ impl From<NoMemory> for Cut {
 }
 
 /// The actor takes a turn, where the play has one more.
-pub(crate) fn take_turn<S: Stage>(stage: &mut S, by: Actor) -> Result<(), Cut>
+pub(crate) fn take_turn<S: Stage, L: Link>(
+    stage: &mut S,
+    by: Actor,
+    link: &mut L,
+) -> Result<(), Cut>
     requires ready { S.is_ready stage.old }
     requires actor { IsActor by }
     requires few { (S.world stage.old).turns ≤ most_turns }
@@ -41,12 +46,17 @@ pub(crate) fn take_turn<S: Stage>(stage: &mut S, by: Actor) -> Result<(), Cut>
     if stage.turns() >= MOST_TURNS {
         return Err(Cut::TooManyTurns);
     }
-    stage.turn(by)?;
+    stage.turn(by, link)?;
     Ok(())
 }
 
 /// The actor takes so many turns.
-pub(crate) fn take_turns<S: Stage>(stage: &mut S, by: Actor, count: u32) -> Result<(), Cut>
+pub(crate) fn take_turns<S: Stage, L: Link>(
+    stage: &mut S,
+    by: Actor,
+    count: u32,
+    link: &mut L,
+) -> Result<(), Cut>
     requires ready { S.is_ready stage.old }
     requires actor { IsActor by }
     requires few { (S.world stage.old).turns ≤ most_turns }
@@ -55,7 +65,7 @@ pub(crate) fn take_turns<S: Stage>(stage: &mut S, by: Actor, count: u32) -> Resu
     ensures played { IsLinePlayed (S.volume stage.old) (line.Turn by count) (S.world stage.old) result (S.world stage.new) }
 {
     for _ in 0..count {
-        take_turn(stage, by)?;
+        take_turn(stage, by, link)?;
     }
     Ok(())
 }

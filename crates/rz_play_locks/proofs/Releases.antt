@@ -1,5 +1,5 @@
 -- A lock that is held is released by a `Done` alone.
-use Rattle.std.proofs.Common.{◌≡◌, inl, inr, ℕ, Bool, true, false, List, [], ◌++◌, Option, Some, None, refl, sym, ◌∙◌, ap, subst}
+use Rattle.std.proofs.Common.{◌≡◌, inl, inr, ℕ, Bool, true, false, List, ◌++◌, Option, Some, None, refl, sym, ◌∙◌, ap, subst}
 use Rattle.mj_angles.specs.declared.layout.Layout.{Layout}
 use Rattle.rz_events.specs.Volume.{Volume}
 use Rattle.rz_events.specs.declared.keys.Actor.{Actor}
@@ -76,14 +76,14 @@ module _ (layout : Layout) (op : Operation) (lock : Option Lock) (path : List �
   holds-none (Ending a) holds is = cc
   holds-none Over holds is = absurd holds
 
-pub released : (v : Volume) (ops more : Actor → List Operation) (w next : World) → IsFine v [] w → IsFine v [] next → IsKeeping v.layout ops more w → (by : Actor) → IsActor by → IsTurn v by w next
+pub released : (v : Volume) (old : List Event) (ops more : Actor → List Operation) (w next : World) (fine : IsFine v old w) → IsFine v old next → IsKeeping v.layout ops more fine.run w → (by : Actor) → IsActor by → IsTurn v by w next
     → (a : Actor) (lock : Lock) → (w.seats a).lock ≡ Some lock → IsReleased w next a lock
-released v ops more w next fine fine_next keeping by ok turn a lock held = elim (going v ops more by ok w next fine fine_next keeping turn) [
+released v old ops more w next fine fine_next keeping by ok turn a lock held = elim (going v old ops more by ok w next fine fine_next keeping turn) [
   | inl same ↦ inl (ap (λ (z : World). (z.seats a).lock) same ∙ held)
   | inr g ↦ seat g (same_actor a by) refl
 ]
   where
-    at-ask : (g : IsGoing v ops w by (at_work (w.seats by)) next) → (at_work (w.seats by)).lock ≡ Some lock → (z : Ask) → ask_of v.layout (at_work (w.seats by)).work ≡ z
+    at-ask : (g : IsGoing v ops fine.run w by (at_work (w.seats by)) next) → (at_work (w.seats by)).lock ≡ Some lock → (z : Ask) → ask_of v.layout (at_work (w.seats by)).work ≡ z
         → IsStep by (at_work (w.seats by)).number z g.move.t g.move.xs → IsLockAfter (counted w) by (at_work (w.seats by)) z g.move.t (next.seats by).lock → IsReleased w next by lock
     at-ask g mine (AskExport c) asks step is = inl (is ∙ mine)
     at-ask g mine (AskNode n question) asks step is = inl (is ∙ mine)
@@ -96,7 +96,7 @@ released v ops more w next fine fine_next keeping by ok turn a lock held = elim 
     at-ask g mine (Say (SayGave key part end)) asks step is = inl (is.1 ∙ mine)
     at-ask g mine (Say (SayLeft key why)) asks step is = inl (is.1 ∙ mine)
 
-    seat : IsGoing v ops w by (at_work (w.seats by)) next → (b : Bool) → same_actor a by ≡ b → IsReleased w next a lock
+    seat : IsGoing v ops fine.run w by (at_work (w.seats by)) next → (b : Bool) → same_actor a by ≡ b → IsReleased w next a lock
     seat g true is =
         let same : a ≡ by = same_actor-true a by is in
         subst (λ z. IsReleased w next z lock) (sym same)

@@ -206,7 +206,7 @@ module _ (v : Volume) (ops : Actor → List Operation) (h : List Event) (by : Ac
   by-say now said W f t xs step = say-step by number said (λ t xs. Between xs (W t) → After xs now (W t)) f t xs step
 
   -- Every turn.
-  module _ (w : World) (s : Seat) (f : Facts) (run : List Event) (t : Told) (xs : List Event) (now : Option Lock) where
+  module _ (w : World) (s : Seat) (f : Facts) (all run : List Event) (t : Told) (xs : List Event) (now : Option Lock) where
     abbrev Turn : Work → Type 0
     Turn work = IsStep by number (ask_of v.layout work) t xs → IsLockAfter w by s (ask_of v.layout work) t now
         → Between xs (told v.layout work t) → After xs now (told v.layout work t)
@@ -288,7 +288,7 @@ module _ (v : Volume) (ops : Actor → List Operation) (h : List Event) (by : Ac
         go true step lk = export-asks n (Copying t0 l base (record { layout = layout; key = l.key; places = l.info.places; stage = reading.Fetching ft })) (call.Recheck l.key) (later-of n (Copying t0 l base (record { layout = layout; key = l.key; places = l.info.places; stage = reading.Fetching ft }))) step lk between
         go false step lk = node-asks n (Copying t0 l base (record { layout = layout; key = l.key; places = l.info.places; stage = reading.Fetching ft })) (slice_index l.info.places (next_read ft)) (ask.Fetch l.key (next_read ft) ft.stamp) tt (later-of n (Copying t0 l base (record { layout = layout; key = l.key; places = l.info.places; stage = reading.Fetching ft }))) step lk between
 
-    rebuilding-turn : (n : ℕ) (state : RebuildState) → IsOwn v f o run by (Rebuilding n state) → Turn (Rebuilding n state)
+    rebuilding-turn : (n : ℕ) (state : RebuildState) → IsOwn v f all run by (Rebuilding n state) → Turn (Rebuilding n state)
     rebuilding-turn n Probing own step lk between = node-asks n Probing n ask.Probe tt (later-of n Probing) step lk between
     rebuilding-turn n (Enrolling loss) own step lk between = export-asks n (Enrolling loss) (call.Enroll n loss) (later-of n (Enrolling loss)) step lk between
     rebuilding-turn n (Replacing loss fence) own step lk between = node-asks n (Replacing loss fence) n (ask.Replace loss fence) tt (later-of n (Replacing loss fence)) step lk between
@@ -300,7 +300,7 @@ module _ (v : Volume) (ops : Actor → List Operation) (h : List Event) (by : Ac
         by-say now (SayLeft key why) (told v.layout (Rebuilding n (Leaving t0 key why)))
         (λ text between. finish (e.Left by key why ∷ []) now (told v.layout (Rebuilding n (Leaving t0 key why)) (Noted text)) (one-quiet o (e.Left by key why) refl) tt between) t xs step between
 
-    pub hand-turn : (work : Work) → IsOwn v f o run by work → IsHolding v.layout op s.lock work → Turn work
+    pub hand-turn : (work : Work) → IsOwn v f all run by work → IsHolding v.layout op s.lock work → Turn work
     hand-turn (Calling c) own holds step lk between = same (told v.layout (Calling c) t) lk (by-export s.lock (call.Tree c) (told v.layout (Calling c)) (λ r. calling-later v.layout op s.lock c r) t xs step between)
     hand-turn (Dropping fid n places) own holds step lk between =
         same (told v.layout (Dropping fid n places) t) lk (by-node s.lock n (ask.Drop fid) (told v.layout (Dropping fid n places)) tt (λ z. dropping-later v.layout op s.lock fid n places z) t xs step between)

@@ -105,14 +105,14 @@ InHand layout ops o by number lock work =
     (ended o + 1 ≡ number) × ((op : Operation) × (in_hand (ops by) o ≡ Some op) × IsHolding layout op lock work)
 
 -- An actor: what is left to do are the last ones of its operations, and what it has in hand is the one before them.
-pub record IsSeat (layout : Layout) (ops : Actor → List Operation) (h : List Event) (by : Actor) (more : List Operation) (s : Seat) : Type 0 where
+pub record IsSeat (layout : Layout) (ops : Actor → List Operation) (run : List Event) (by : Actor) (more : List Operation) (s : Seat) : Type 0 where
   pub rest : s.todo ++ more ≡ drop s.number (ops by)
-  pub hand : InHand layout ops (of_actor by h) by s.number s.lock s.work
+  pub hand : InHand layout ops (of_actor by run) by s.number s.lock s.work
 
--- Between two turns; `more` has the operations that each actor is still to be given.
-pub record IsKeeping (layout : Layout) (ops more : Actor → List Operation) (w : World) : Type 0 where
+-- Between two turns; `more` has the operations that each actor is still to be given, and `run` the events of this run.
+pub record IsKeeping (layout : Layout) (ops more : Actor → List Operation) (run : List Event) (w : World) : Type 0 where
   pub apart : AreApart w
-  pub seats : (by : Actor) → IsActor by → IsSeat layout ops w.log by (more by) (w.seats by)
+  pub seats : (by : Actor) → IsActor by → IsSeat layout ops run by (more by) (w.seats by)
 
 -- After a turn the actor still holds the lock, or the turn was the `Done` of its operation.
 abbrev pub IsReleased : World → World → Actor → Lock → Type 0

@@ -21,14 +21,17 @@ ghost use Rattle.rz_core.specs.History.{facts, of_actor};
 ghost use Rattle.rz_core.specs.Legal.{IsLegalInRuns};
 ghost use Rattle.rz_script.specs.declared.line.Line.{Line as ALine};
 ghost use Rattle.rz_script.specs.Lines.{IsActor};
-ghost use Rattle.rz_play.specs.World.{World};
+ghost use Rattle.rz_node_model.specs.States.{NodeState};
+ghost use Rattle.rz_export_model.specs.Export.{Export as ExportState};
+ghost use Rattle.rz_play.specs.World.{World, world_after};
 ghost use Rattle.rz_play.specs.Turns.{IsTurn};
-ghost use Rattle.rz_play.specs.Played.{IsBegun};
-ghost use Rattle.rz_play_laws.specs.Fine.{IsFine};
+ghost use Rattle.rz_play.specs.Played.{IsBegun, IsBegunFrom};
+ghost use Rattle.rz_play_laws.specs.Fine.{IsFine, MayBegin};
 ghost use Rattle.rz_play_laws.specs.Runs.{IsScript};
 ghost use Rattle.rz_play_locks.specs.Operations.{IsGuarded, IsUpdate, given, in_hand};
 ghost use Rattle.rz_play_locks.specs.Promises.{NoneLost, AreWhole, published_text, newest_text};
 ghost use Rattle.rz_play_locks.specs.Holding.{AreApart, HasBlock, IsKeeping, IsReleased};
+ghost use Rattle.rz_play_locks.specs.Kept.{IsKeptAfter};
 
 /// Between two turns of a play no two locks that are held conflict.
 pub fn apart()
@@ -40,24 +43,24 @@ pub fn apart()
 /// And each operation holds the lock that it has to, from its granted open to its `Done`.
 pub fn held()
     ensures { (v : Volume) (script : List ALine) → IsScript v script → (log : List AnEvent) (p : IsBegun v script log)
-        → (more : AnActor → List AnOperation) × IsKeeping v.layout (λ a. given a script) more p.last }
+        → (more : AnActor → List AnOperation) × IsKeeping v.layout (λ a. given a script) more log p.last }
 {
     rz_play_laws::facts_told();
 }
 
 /// A lock that is held is held on, until the `Done` of its operation.
 pub fn released()
-    ensures { (v : Volume) (ops more : AnActor → List AnOperation) (w next : World) → IsFine v [] w → IsFine v [] next
-        → IsKeeping v.layout ops more w → (by : AnActor) → IsActor by → IsTurn v by w next
+    ensures { (v : Volume) (old : List AnEvent) (ops more : AnActor → List AnOperation) (w next : World)
+        → (fine : IsFine v old w) → IsFine v old next → IsKeeping v.layout ops more fine.run w → (by : AnActor) → IsActor by → IsTurn v by w next
         → (a : AnActor) (lock : Lock) → (w.seats a).lock ≡ Some lock → IsReleased w next a lock }
 {}
 
 /// While an actor has a lock on a block, no other actor's update has a publish of it accepted.
 pub fn barred()
-    ensures { (v : Volume) (ops more : AnActor → List AnOperation) (w next : World) → IsFine v [] w → IsFine v [] next
-        → IsKeeping v.layout ops more w → (by : AnActor) → IsActor by → IsTurn v by w next
+    ensures { (v : Volume) (old : List AnEvent) (ops more : AnActor → List AnOperation) (w next : World)
+        → (fine : IsFine v old w) → IsFine v old next → IsKeeping v.layout ops more fine.run w → (by : AnActor) → IsActor by → IsTurn v by w next
         → (b : AnActor) (key : AKey) (stamp mask : ℕ) → next.log ≡ e.Publish b key stamp mask None ∷ w.log
-        → IsUpdate (in_hand (ops by) (of_actor by w.log)) → (a : AnActor) → IsActor a → same_actor a by ≡ false
+        → IsUpdate (in_hand (ops by) (of_actor by fine.run)) → (a : AnActor) → IsActor a → same_actor a by ≡ false
         → (lock : Lock) → (w.seats a).lock ≡ Some lock → ¬ HasBlock v.layout lock key }
 {}
 
@@ -65,7 +68,7 @@ pub fn barred()
 /// of its own update in place.
 pub fn none_lost()
     ensures { (v : Volume) (script : List ALine) → IsScript v script → (log : List AnEvent) → IsBegun v script log
-        → (key : AKey) → IsGuarded (λ a. given a script) key log → NoneLost v.layout (λ a. given a script) key log }
+        → (key : AKey) → IsGuarded (λ a. given a script) key log → NoneLost v.layout (λ a. given a script) key [] log }
 {
     rz_play_laws::facts_told();
 }
@@ -74,7 +77,17 @@ pub fn none_lost()
 /// at its last open. It never ends as moved.
 pub fn whole_views()
     ensures { (v : Volume) (script : List ALine) → IsScript v script → (log : List AnEvent) → IsBegun v script log
-        → AreWhole v.layout (λ a. given a script) log }
+        → AreWhole v.layout (λ a. given a script) [] log }
+{
+    rz_play_laws::facts_told();
+}
+
+/// All of this of a play that goes on after an earlier log, for the events of its run.
+pub fn after()
+    ensures { (v : Volume) (script : List ALine) → IsScript v script
+        → (nodes : ℕ → NodeState) (export : ExportState) (old : List AnEvent) → MayBegin v nodes export old
+        → (log : List AnEvent) (p : IsBegunFrom v (world_after nodes export old) script log)
+        → IsKeptAfter v.layout (λ a. given a script) old log p.last }
 {
     rz_play_laws::facts_told();
 }
