@@ -5,7 +5,7 @@
 //! belongs, and when a block is guarded: where all its accepted publishes are those of updates.
 //! `specs/Promises` says that no update is lost and that views are whole. `specs/Holding` says which locks
 //! are held between two turns, and `specs/Texts` and `specs/Views` what an update or a view knows of the
-//! published text.
+//! published text. `specs/Kept` puts it together for a play that goes on after an earlier log.
 #![tactic(auto)]
 
 ghost use Rattle.std.specs.Prelude.{ℕ, List, [], ◌∷◌, ◌≡◌, false, None, Some};
