@@ -11,10 +11,17 @@ ghost use Rattle.rz_play.specs.Stops.{most_turns};
 
 use rz_events::{Actor, Operation};
 use rz_link::Link;
+use std::alloc::AllocError;
 
 /// Memory is wanting.
 #[derive(Clone, Copy, Debug, PartialEq, Eq, Drop)]
 pub struct NoMemory;
+
+impl From<AllocError> for NoMemory {
+    fn from(_: AllocError) -> Self {
+        NoMemory
+    }
+}
 
 /// Nodes, an export and actors that a script is played on.
 ///
