@@ -11,16 +11,18 @@ ghost use Rattle.rz_perform.specs.Telling.{Performs};
 use crate::stages::LoggedStage;
 use crate::telling::tell;
 use rz_lines::play;
+use rz_link::Link;
 use rz_ports::Sink;
 use rz_script::Script;
 use std::alloc::Global;
 
-/// Plays a script on a new stage of its volume, writes what is to be told of the play, and gives the
-/// status.
-pub fn perform<S: LoggedStage, O: Sink>(
+/// Plays a script on a new stage of its volume, with messages through this link. Writes what is to be
+/// told of the play, and gives the status.
+pub fn perform<S: LoggedStage, L: Link, O: Sink>(
     alloc: Global,
     script: &Script,
     stage: &mut S,
+    link: &mut L,
     output: &mut O,
 ) -> u8
     requires ready { S.is_ready stage.old }
@@ -37,6 +39,6 @@ pub fn perform<S: LoggedStage, O: Sink>(
     rz_play_laws::legal();
     rz_play_laws::sound();
     rz_play_laws::rebuilt();
-    let end = play(stage, script.lines());
+    let end = play(stage, script.lines(), link);
     tell(alloc, end, stage.log(), output)
 }
