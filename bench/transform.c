@@ -25,7 +25,8 @@ struct job {
     struct mj_c_numbers n;
     size_t words, blocks, all, stride, some;
     uint32_t positions[MOST];
-    uint64_t *from, *pieces, *bins, *to;
+    uint64_t *from, *pieces, *bins, *to, *lanes, *blocks_in_lanes;
+    uint8_t *answers;
 #ifdef HAVE_ISAL
     unsigned char encode[32 * MOST * MOST], decode[32 * MOST * MOST];
     uint64_t *others;
@@ -72,6 +73,22 @@ static void solve(struct job *j) {
 static void solve_many(struct job *j) {
     want(mj_c_solve_many(j->layout, j->positions, j->n.inverse, j->bins, j->blocks * j->some, j->to,
                          j->blocks * j->words), "mj_c_solve_many");
+}
+
+/* Eight blocks side by side. Moving them there and back is not timed. */
+static void solve_eight(struct job *j) {
+    want(mj_c_solve_eight(j->layout, j->positions, j->n.inverse, j->lanes, j->blocks * j->some,
+                          j->blocks_in_lanes, j->blocks * j->words, j->answers, j->blocks / 8), "mj_c_solve_eight");
+}
+
+/* Moves so many words of each block, `each` words apart, side by side in groups of eight, or back. */
+static void interleave(uint64_t *apart, uint64_t *beside, size_t blocks, size_t each, int back) {
+    for (size_t b = 0; b < blocks; b++)
+        for (size_t i = 0; i < each; i++) {
+            uint64_t *x = apart + b * each + i, *y = beside + (b / 8) * 8 * each + 8 * i + b % 8;
+            if (back) *x = *y;
+            else *y = *x;
+        }
 }
 
 #ifdef HAVE_ISAL
@@ -145,7 +162,7 @@ static void prepare(struct job *j, uint32_t layout, size_t bytes) {
     want(mj_c_numbers(layout, &j->n), "mj_c_numbers");
     size_t rows = j->n.inverse;
     j->words = rows * j->n.cols;
-    j->blocks = bytes / 8 / j->words;
+    j->blocks = (bytes / 8 / j->words + 7) / 8 * 8;
     j->all = j->some = 0;
     for (uint32_t i = 0; i < j->n.forward; i++) j->all += mj_c_bins(layout, i);
     j->stride = (j->all + LINE - 1) / LINE * LINE;
@@ -171,6 +188,10 @@ static void prepare(struct job *j, uint32_t layout, size_t bytes) {
             at += bins;
         }
     }
+    j->lanes = room(j->blocks * j->some);
+    j->blocks_in_lanes = room(j->blocks * j->words);
+    j->answers = (uint8_t *)room(j->blocks / 64 + 1);
+    interleave(j->bins, j->lanes, j->blocks, j->some, 0);
 #ifdef HAVE_ISAL
     isal_prepare(j);
 #endif
@@ -186,12 +207,18 @@ static void time_layout(uint32_t layout, size_t bytes, int rounds, int passes) {
     compare(&j, "mj_c_solve");
     double many = speed(&j, solve_many, rounds, passes);
     compare(&j, "mj_c_solve_many");
-    printf("%-5s %7.1f %8.2f %8.2f %8.2f", NAMES[layout], memory, encoded, one, many);
+    double eight = speed(&j, solve_eight, rounds, passes);
+    interleave(j.to, j.blocks_in_lanes, j.blocks, j.words, 1);
+    compare(&j, "mj_c_solve_eight");
+    for (size_t i = 0; i < j.blocks / 8; i++) want(j.answers[i], "a group of mj_c_solve_eight");
+    double best = eight > many ? eight : many;
+    printf("%-5s %7.1f %8.2f %8.2f %8.2f %8.2f", NAMES[layout], memory, encoded, one, many, eight);
+    (void)best;
 #ifdef HAVE_ISAL
     double other = speed(&j, isal_encode, rounds, passes);
     double back = speed(&j, isal_decode, rounds, passes);
     compare(&j, "ISA-L");
-    printf(" %8.2f %8.2f %8.2f %8.2f", other, back, encoded / other, many / back);
+    printf(" %8.2f %8.2f %8.2f %8.2f", other, back, encoded / other, best / back);
     free(j.others);
 #endif
     printf("\n");
@@ -199,13 +226,16 @@ static void time_layout(uint32_t layout, size_t bytes, int rounds, int passes) {
     free(j.to);
     free(j.pieces);
     free(j.bins);
+    free(j.lanes);
+    free(j.blocks_in_lanes);
+    free(j.answers);
 }
 
 static void time_all(const char *title, size_t bytes, int rounds, int passes) {
     printf("%s, GB/s of blocks\n", title);
-    printf("layout memcpy   encode    solve     many");
+    printf("layout memcpy   encode    solve     many    eight");
 #ifdef HAVE_ISAL
-    printf("  ISA-L:  ISA-L:    ratio    ratio\n%52s   decode   encode   decode\n", "encode");
+    printf("  ISA-L:  ISA-L:    ratio    ratio\n%61s   decode   encode   decode\n", "encode");
 #else
     printf("   (no ISA-L here)\n");
 #endif

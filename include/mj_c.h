@@ -7,12 +7,12 @@
  * overlaps nothing else.
  *
  * The caller owns all that is passed, and the library keeps nothing of it after the call. It keeps no
- * state either, so calls from several threads need no lock. mj_c_solve and mj_c_solve_many take room by
- * malloc and give it back by free before they return; the others take none.
+ * state either, so calls from several threads need no lock. mj_c_solve, mj_c_solve_many and
+ * mj_c_solve_eight take room by malloc and give it back by free before they return; the others take none.
  *
  * To link: cc program.c libmj_c.a KIT/c/liblibc_c.a, where KIT is the folder of the Rattle kit. The second
- * archive has what the first one needs of the C library: malloc, realloc and free under the
- * names by which the kit calls them.
+ * archive has rattle_alloc, rattle_realloc and rattle_dealloc over malloc, realloc and free. Beside them
+ * the first one needs memmove and memset alone.
  */
 #ifndef MJ_C_H
 #define MJ_C_H
@@ -76,6 +76,14 @@ uint32_t mj_c_solve(uint32_t layout, const uint32_t *positions, size_t count, co
  * MJ_C_INCONSISTENT, which says that some block has no words, `out` holds any words. */
 uint32_t mj_c_solve_many(uint32_t layout, const uint32_t *positions, size_t count,
                          const uint64_t *bins, size_t all, uint64_t *out, size_t words);
+
+/* Writes the blocks of `groups` groups of eight side by side, and a byte for each group into `answers`:
+ * bit i is 1 where block i of the group has no words, and these are any words then. In a group word j of
+ * block i stands at out[8 * j + i], and so do its bins in each projection; `bins` has the projections of
+ * the first group one after the other, then those of the second, and so on. Room is taken once for all. */
+uint32_t mj_c_solve_eight(uint32_t layout, const uint32_t *positions, size_t count,
+                          const uint64_t *bins, size_t all, uint64_t *out, size_t words,
+                          uint8_t *answers, size_t groups);
 
 #ifdef __cplusplus
 }

@@ -16,10 +16,11 @@ ghost use Rattle.mj_angles.specs.Layout.{inverse_of, cols_of, angle_of, bins_at_
 ghost use Rattle.mj_forward.specs.Forward.{lane_word, start_of};
 ghost use Rattle.rz_words.specs.Grid.{Grid, grid_of};
 ghost use Rattle.mj_inverse.specs.Fits.{IsFound};
-ghost use Rattle.mj_c.specs.Layouts.{layout_at, search_of, search_at, words_of, IsAnswered, bins_or_zero};
+ghost use Rattle.mj_c.specs.Layouts.{layout_at, search_of, search_at, words_of, IsAnswered, bins_or_zero, group_search, group_at, IsSolved};
 ghost use Rattle.mj_c.specs.Numbers.{numbers_answer, numbers_of};
-ghost use Rattle.mj_c.specs.Answers.{code_of, project_answer, eight_answer, all_answer, solve_refusal, many_refusal};
+ghost use Rattle.mj_c.specs.Answers.{code_of, project_answer, eight_answer, all_answer, solve_refusal, many_refusal, eight_refusal};
 
+mod eight;
 mod forward;
 mod inverse;
 mod layouts;
@@ -160,6 +161,30 @@ pub extern "C" fn mj_c_solve_many(
         (λ y. (i : ℕ) × (i < length out.old / words_of y) × ((g : Grid) → ¬ IsFound (search_at y positions.now bins.now i) g)) }
 {
     many::solve_many_at(alloc, layout, positions, bins, out).code()
+}
+
+/// Writes the blocks of as many groups of eight as `answers` has bytes. Word `j` of block `i` of a group stands in
+/// place `8 * j + i` of its words in `out`, and so do its bins in each projection; `bins` has the
+/// projections of the first group one after the other, then those of the second, and so on. Room is taken
+/// once for them all. Bit `i` of a group's answer is 1 where its block `i` has no words, and these are any
+/// words then.
+#[unsafe(no_mangle)]
+pub extern "C" fn mj_c_solve_eight(
+    alloc: Global,
+    layout: u32,
+    positions: &[u32],
+    bins: &[u64],
+    out: &mut [u64],
+    answers: &mut [u8],
+) -> u32
+    ensures refused { let refusal = eight_refusal (layout_at layout) positions.now (length bins.now) (length out.old) (length answers.old) in
+        refusal ≢ Answer.Done → result ≡ code_of refusal }
+    ensures tried { eight_refusal (layout_at layout) positions.now (length bins.now) (length out.old) (length answers.old) ≡ Answer.Done →
+        (result ≡ 0) ⊎ (result ≡ 6) }
+    ensures done { result ≡ 0 → IfSome (layout_at layout)
+        (λ y. (i j : ℕ) → i < length answers.old → j < 8 → IsSolved y (group_search y positions.now bins.now i) (group_at y out.new i) (slice_index answers.new i) j) }
+{
+    eight::solve_eight_at(alloc, layout, positions, bins, out, answers).code()
 }
 
 /// The numbers of a layout.

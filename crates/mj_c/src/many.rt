@@ -54,7 +54,7 @@ pub fn solve_many_at(
 }
 
 /// Whether `n` is `a` times `b`.
-fn is_product(n: usize, a: usize, b: usize) -> bool
+pub fn is_product(n: usize, a: usize, b: usize) -> bool
     ensures { result ≡ (n == a * b) }
 {
     match a.checked_mul(b) {

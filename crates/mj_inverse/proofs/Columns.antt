@@ -35,33 +35,33 @@ module _ (n t : ℕ) (c d last : List ℕ) (fc : t + n ≤ length c) (fd : t + n
       ∙ ap (λ w. bit_xor w (get_or (chunk t n d) j 0)) (get_or-chunk t n c j 0 small)
       ∙ ap (bit_xor (get_or c (t + j) 0)) (get_or-chunk t n d j 0 small))
 
-module _ (s n t u : ℕ) (old c d front back : List ℕ) (place : u + n ≡ t + s) (some : n ≤ s) (all : s ≤ n + n) (fc : t + s ≤ length c) (fd : t + s ≤ length d)
-    (ff : length front ≡ n) (fb : length back ≡ n) (is : IsDelayed s t old c d) (cf : IsCarried s n t c front) (cb : IsCarried s n u c back) where
+module _ (s n o t u : ℕ) (old c d front back : List ℕ) (place : u + o ≡ t + s) (some : n ≤ s) (few : o ≤ s) (all : s ≤ n + o) (fc : t + s ≤ length c) (fd : t + s ≤ length d)
+    (ff : length front ≡ n) (fb : length back ≡ o) (is : IsDelayed s t old c d) (cf : IsCarried s n t c front) (cb : IsCarried s o u c back) where
   near : List ℕ
   near = next n t c d front
 
   far : List ℕ
-  far = next n u c d back
+  far = next o u c d back
 
   near_long : length (next n t c d front) ≡ n
   near_long = next_long n t c d front (omega arith) (omega arith) ff
 
-  far_long : length (next n u c d back) ≡ n
-  far_long = next_long n u c d back (omega arith) (omega arith) fb
+  far_long : length (next o u c d back) ≡ o
+  far_long = next_long o u c d back (omega arith) (omega arith) fb
 
   mid_long : length (put_chunk t c (next n t c d front)) ≡ length c
   mid_long = length-put_chunk t c (next n t c d front)
 
   -- a word of the row
-  in_row : (k : ℕ) → t ≤ k → k < t + s → (k < s → get_or (put_chunk u (put_chunk t c (next n t c d front)) (next n u c d back)) k 0 ≡ bit_xor (get_or c k 0) (get_or d k 0))
+  in_row : (k : ℕ) → t ≤ k → k < t + s → (k < s → get_or (put_chunk u (put_chunk t c (next n t c d front)) (next o u c d back)) k 0 ≡ bit_xor (get_or c k 0) (get_or d k 0))
   in_row k low high first = by (cases_lt k u)
     where
-      by : (k < u) ⊎ (u ≤ k) → get_or (put_chunk u (put_chunk t c (next n t c d front)) (next n u c d back)) k 0 ≡ bit_xor (get_or c k 0) (get_or d k 0)
+      by : (k < u) ⊎ (u ≤ k) → get_or (put_chunk u (put_chunk t c (next n t c d front)) (next o u c d back)) k 0 ≡ bit_xor (get_or c k 0) (get_or d k 0)
       by (inl before) =
           let j : ℕ = k - t in
           let e : t + j ≡ k = omega arith in
           let l = near_long in
-          get_or-put_chunk_below u (put_chunk t c (next n t c d front)) (next n u c d back) k 0 before
+          get_or-put_chunk_below u (put_chunk t c (next n t c d front)) (next o u c d back) k 0 before
           ∙ ap (λ i. get_or (put_chunk t c (next n t c d front)) i 0) (sym e)
           ∙ get_or-put_chunk_at t c (next n t c d front) j 0 (omega arith) (omega arith)
           ∙ next_at n t c d front (omega arith) (omega arith) ff j (omega arith)
@@ -73,22 +73,22 @@ module _ (s n t u : ℕ) (old c d front back : List ℕ) (place : u + n ≡ t + 
           let e : u + j ≡ k = omega arith in
           let l = far_long in
           let m = mid_long in
-          ap (λ i. get_or (put_chunk u (put_chunk t c (next n t c d front)) (next n u c d back)) i 0) (sym e)
-          ∙ get_or-put_chunk_at u (put_chunk t c (next n t c d front)) (next n u c d back) j 0 (omega arith) (omega arith)
-          ∙ next_at n u c d back (omega arith) (omega arith) fb j (omega arith)
+          ap (λ i. get_or (put_chunk u (put_chunk t c (next n t c d front)) (next o u c d back)) i 0) (sym e)
+          ∙ get_or-put_chunk_at u (put_chunk t c (next n t c d front)) (next o u c d back) j 0 (omega arith) (omega arith)
+          ∙ next_at o u c d back (omega arith) (omega arith) fb j (omega arith)
           ∙ ap (λ i. bit_xor (bit_xor (get_or c i 0) (get_or d i 0)) (get_or back j 0)) e
           ∙ ap (bit_xor (bit_xor (get_or c k 0) (get_or d k 0))) (cb.start j (omega arith) (omega arith))
           ∙ xor_zero_r (bit_xor (get_or c k 0) (get_or d k 0))
 
-  on_row : (k m : ℕ) → t ≤ k → k < t + s → m + s ≡ k → get_or (put_chunk u (put_chunk t c (next n t c d front)) (next n u c d back)) k 0 ≡ bit_xor (bit_xor (get_or c k 0) (get_or d k 0)) (get_or c m 0)
+  on_row : (k m : ℕ) → t ≤ k → k < t + s → m + s ≡ k → get_or (put_chunk u (put_chunk t c (next n t c d front)) (next o u c d back)) k 0 ≡ bit_xor (bit_xor (get_or c k 0) (get_or d k 0)) (get_or c m 0)
   on_row k m low high back_is = by (cases_lt k u)
     where
-      by : (k < u) ⊎ (u ≤ k) → get_or (put_chunk u (put_chunk t c (next n t c d front)) (next n u c d back)) k 0 ≡ bit_xor (bit_xor (get_or c k 0) (get_or d k 0)) (get_or c m 0)
+      by : (k < u) ⊎ (u ≤ k) → get_or (put_chunk u (put_chunk t c (next n t c d front)) (next o u c d back)) k 0 ≡ bit_xor (bit_xor (get_or c k 0) (get_or d k 0)) (get_or c m 0)
       by (inl before) =
           let j : ℕ = k - t in
           let e : t + j ≡ k = omega arith in
           let l = near_long in
-          get_or-put_chunk_below u (put_chunk t c (next n t c d front)) (next n u c d back) k 0 before
+          get_or-put_chunk_below u (put_chunk t c (next n t c d front)) (next o u c d back) k 0 before
           ∙ ap (λ i. get_or (put_chunk t c (next n t c d front)) i 0) (sym e)
           ∙ get_or-put_chunk_at t c (next n t c d front) j 0 (omega arith) (omega arith)
           ∙ next_at n t c d front (omega arith) (omega arith) ff j (omega arith)
@@ -99,36 +99,36 @@ module _ (s n t u : ℕ) (old c d front back : List ℕ) (place : u + n ≡ t + 
           let e : u + j ≡ k = omega arith in
           let l = far_long in
           let m' = mid_long in
-          ap (λ i. get_or (put_chunk u (put_chunk t c (next n t c d front)) (next n u c d back)) i 0) (sym e)
-          ∙ get_or-put_chunk_at u (put_chunk t c (next n t c d front)) (next n u c d back) j 0 (omega arith) (omega arith)
-          ∙ next_at n u c d back (omega arith) (omega arith) fb j (omega arith)
+          ap (λ i. get_or (put_chunk u (put_chunk t c (next n t c d front)) (next o u c d back)) i 0) (sym e)
+          ∙ get_or-put_chunk_at u (put_chunk t c (next n t c d front)) (next o u c d back) j 0 (omega arith) (omega arith)
+          ∙ next_at o u c d back (omega arith) (omega arith) fb j (omega arith)
           ∙ ap (λ i. bit_xor (bit_xor (get_or c i 0) (get_or d i 0)) (get_or back j 0)) e
           ∙ ap (bit_xor (bit_xor (get_or c k 0) (get_or d k 0))) (cb.back j m (omega arith) (omega arith))
 
-  below : (k : ℕ) → k < t → get_or (put_chunk u (put_chunk t c (next n t c d front)) (next n u c d back)) k 0 ≡ get_or c k 0
+  below : (k : ℕ) → k < t → get_or (put_chunk u (put_chunk t c (next n t c d front)) (next o u c d back)) k 0 ≡ get_or c k 0
   below k low =
-      get_or-put_chunk_below u (put_chunk t c (next n t c d front)) (next n u c d back) k 0 (omega arith)
+      get_or-put_chunk_below u (put_chunk t c (next n t c d front)) (next o u c d back) k 0 (omega arith)
       ∙ get_or-put_chunk_below t c (next n t c d front) k 0 low
 
-  above : (k : ℕ) → t + s ≤ k → get_or (put_chunk u (put_chunk t c (next n t c d front)) (next n u c d back)) k 0 ≡ get_or c k 0
+  above : (k : ℕ) → t + s ≤ k → get_or (put_chunk u (put_chunk t c (next n t c d front)) (next o u c d back)) k 0 ≡ get_or c k 0
   above k high =
-      get_or-put_chunk_above u (put_chunk t c (next n t c d front)) (next n u c d back) k 0 (let l = far_long in omega arith)
+      get_or-put_chunk_above u (put_chunk t c (next n t c d front)) (next o u c d back) k 0 (let l = far_long in omega arith)
       ∙ get_or-put_chunk_above t c (next n t c d front) k 0 (let l = near_long in omega arith)
 
-  pub row_delayed : IsDelayed s (t + s) old (put_chunk u (put_chunk t c (next n t c d front)) (next n u c d back)) d
+  pub row_delayed : IsDelayed s (t + s) old (put_chunk u (put_chunk t c (next n t c d front)) (next o u c d back)) d
   row_delayed = record {
     first = λ k less small. first k less small (cases_lt k t);
     next = λ k less. later k less (cases_lt (k + s) t);
     left = λ k more. above k more ∙ is.left k (omega arith);
   }
     where
-      first : (k : ℕ) → k < t + s → k < s → (k < t) ⊎ (t ≤ k) → get_or (put_chunk u (put_chunk t c (next n t c d front)) (next n u c d back)) k 0 ≡ bit_xor (get_or old k 0) (get_or d k 0)
+      first : (k : ℕ) → k < t + s → k < s → (k < t) ⊎ (t ≤ k) → get_or (put_chunk u (put_chunk t c (next n t c d front)) (next o u c d back)) k 0 ≡ bit_xor (get_or old k 0) (get_or d k 0)
       first k less small (inl before) = below k before ∙ is.first k before small
       first k less small (inr from) = in_row k from less small ∙ ap (λ w. bit_xor w (get_or d k 0)) (is.left k from)
 
       later : (k : ℕ) → k + s < t + s → (k + s < t) ⊎ (t ≤ k + s) →
-          get_or (put_chunk u (put_chunk t c (next n t c d front)) (next n u c d back)) (k + s) 0
-          ≡ bit_xor (bit_xor (get_or old (k + s) 0) (get_or d (k + s) 0)) (get_or (put_chunk u (put_chunk t c (next n t c d front)) (next n u c d back)) k 0)
+          get_or (put_chunk u (put_chunk t c (next n t c d front)) (next o u c d back)) (k + s) 0
+          ≡ bit_xor (bit_xor (get_or old (k + s) 0) (get_or d (k + s) 0)) (get_or (put_chunk u (put_chunk t c (next n t c d front)) (next o u c d back)) k 0)
       later k less (inl before) =
           below (k + s) before ∙ is.next k before
           ∙ ap (bit_xor (bit_xor (get_or old (k + s) 0) (get_or d (k + s) 0))) (sym (below k (omega arith)))
@@ -137,13 +137,13 @@ module _ (s n t u : ℕ) (old c d front back : List ℕ) (place : u + n ≡ t + 
           ∙ ap (λ w. bit_xor (bit_xor w (get_or d (k + s) 0)) (get_or c k 0)) (is.left (k + s) from)
           ∙ ap (bit_xor (bit_xor (get_or old (k + s) 0) (get_or d (k + s) 0))) (sym (below k (omega arith)))
 
-  pub front_carried : IsCarried s n (t + s) (put_chunk u (put_chunk t c (next n t c d front)) (next n u c d back)) (next n t c d front)
+  pub front_carried : IsCarried s n (t + s) (put_chunk u (put_chunk t c (next n t c d front)) (next o u c d back)) (next n t c d front)
   front_carried = record {
     start = λ k small low. absurd (omega arith);
     back = λ k m small e. by k m small (let f : m ≡ t + k = omega arith in f) (cases_lt m s);
   }
     where
-      by : (k m : ℕ) → k < n → m ≡ t + k → (m < s) ⊎ (s ≤ m) → get_or (next n t c d front) k 0 ≡ get_or (put_chunk u (put_chunk t c (next n t c d front)) (next n u c d back)) m 0
+      by : (k m : ℕ) → k < n → m ≡ t + k → (m < s) ⊎ (s ≤ m) → get_or (next n t c d front) k 0 ≡ get_or (put_chunk u (put_chunk t c (next n t c d front)) (next o u c d back)) m 0
       by k m small e (inl low) =
           next_at n t c d front (omega arith) (omega arith) ff k small
           ∙ ap (bit_xor (bit_xor (get_or c (t + k) 0) (get_or d (t + k) 0))) (cf.start k small (omega arith))
@@ -157,20 +157,20 @@ module _ (s n t u : ℕ) (old c d front back : List ℕ) (place : u + n ≡ t + 
           ∙ ap (λ i. bit_xor (bit_xor (get_or c i 0) (get_or d i 0)) (get_or c p 0)) (sym e)
           ∙ sym (on_row m p (omega arith) (omega arith) (omega arith))
 
-  pub back_carried : IsCarried s n (u + s) (put_chunk u (put_chunk t c (next n t c d front)) (next n u c d back)) (next n u c d back)
+  pub back_carried : IsCarried s o (u + s) (put_chunk u (put_chunk t c (next n t c d front)) (next o u c d back)) (next o u c d back)
   back_carried = record {
     start = λ k small low. absurd (omega arith);
     back = λ k m small e.
         (let l = far_long in
         let m' = mid_long in
         let f : u + k ≡ m = omega arith in
-        sym (get_or-put_chunk_at u (put_chunk t c (next n t c d front)) (next n u c d back) k 0 (omega arith) (omega arith))
-        ∙ ap (λ i. get_or (put_chunk u (put_chunk t c (next n t c d front)) (next n u c d back)) i 0) f);
+        sym (get_or-put_chunk_at u (put_chunk t c (next n t c d front)) (next o u c d back) k 0 (omega arith) (omega arith))
+        ∙ ap (λ i. get_or (put_chunk u (put_chunk t c (next n t c d front)) (next o u c d back)) i 0) f);
   }
 
-  pub back_carried_at : (v : ℕ) → u + s ≡ v → IsCarried s n v (put_chunk u (put_chunk t c (next n t c d front)) (next n u c d back)) (next n u c d back)
+  pub back_carried_at : (v : ℕ) → u + s ≡ v → IsCarried s o v (put_chunk u (put_chunk t c (next n t c d front)) (next o u c d back)) (next o u c d back)
   back_carried_at v e =
-      let P : ℕ → Type 0 = λ x. IsCarried s n x (put_chunk u (put_chunk t c (next n t c d front)) (next n u c d back)) (next n u c d back) in
+      let P : ℕ → Type 0 = λ x. IsCarried s o x (put_chunk u (put_chunk t c (next n t c d front)) (next o u c d back)) (next o u c d back) in
       subst P e back_carried
 
 -- before the first row

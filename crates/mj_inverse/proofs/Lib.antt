@@ -14,3 +14,8 @@ pub mod Delayed
 pub mod Marks
 pub mod Columns
 pub mod Exchanged
+pub mod Crossed
+pub mod Falling
+pub mod Swept
+pub mod Lined
+pub mod Tied

@@ -138,6 +138,17 @@ module _ (unit rows cols j : ℕ) (s : Series) (h : j < unit) (given : IsGiven u
   unfolding bs
   value_from_pair is = value_from_bins (bins_from_pair is)
 
+  -- the same of the bins themselves
+  pub value_from_words : ((b : ℕ) → b < bins s.direction rows cols → get_or s.words.items (unit * (s.from + b) + j) 0 ≡ bin (λ l k. w (l * cols + k)) rows cols s.direction b) →
+      value s.angle (block_rows cols (32 * rows) rows w) ≡ seq unit j s
+  unfolding SameBins
+  value_from_words same = value_from_bins same
+
+  pub words_from_value : value s.angle (block_rows cols (32 * rows) rows w) ≡ seq unit j s →
+      (b : ℕ) → b < bins s.direction rows cols → get_or s.words.items (unit * (s.from + b) + j) 0 ≡ bin (λ l k. w (l * cols + k)) rows cols s.direction b
+  unfolding SameBins
+  words_from_value is = bins_from_value is
+
 -- the pair fits the words
 abbrev pub FitsWords : ℕ → ℕ → (ℕ → ℕ) → Pair → Type 0
 FitsWords rows cols w pair = pair.1 ≡ projection (λ l k. w (l * cols + k)) rows cols pair.0

@@ -3,3 +3,4 @@ pub mod Rows
 pub mod Series
 pub mod Store
 pub mod Arranged
+pub mod Padded

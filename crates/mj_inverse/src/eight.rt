@@ -7,8 +7,8 @@ ghost use Rattle.mj_angles.specs.Projection.{bins as bin_count};
 ghost use Rattle.mj_inverse.specs.Fits.{IsFound, empty_search, with_pair};
 ghost use Rattle.mj_inverse.specs.Store.{lane_search, lane_grid};
 
-use crate::series::Series;
-use crate::store::{blanks, put_at, solve_all, wipe_all};
+use crate::series::{Series, zeros};
+use crate::store::{blanks, put_at, solve_eight, wipe_all};
 use std::alloc::{AllocError, Global};
 use std::marker::Model;
 use std::simd::prelude::*;
@@ -24,18 +24,22 @@ pub struct WorkEight {
     count: usize,
     all: Vec<Series>,
     marks: Vec<u64>,
+    turns: Vec<usize>,
+    grid: Vec<u64>,
 }
 
 impl Model for WorkEight {
-    ghost use Rattle.std.specs.Prelude.{◌≡◌, vec_len};
+    ghost use Rattle.std.specs.Prelude.{◌≡◌, ◌*◌, vec_len};
     ghost use Rattle.mj_inverse.specs.Fits.{Search};
+    ghost use Rattle.mj_inverse.specs.Padded.{IsPadded, reach_of, width_of};
     ghost use Rattle.mj_inverse.specs.Store.{IsStore, search_in};
 
     ghost Value = { Search };
 
     ghost view = { λ w. search_in 8 w.rows w.cols w.count w.all.items };
 
-    ghost invariant = { λ w. IsStore 8 w.rows w.cols w.count w.all.items × (vec_len w.marks ≡ 8) };
+    ghost invariant = { λ w. IsStore 8 w.rows w.cols w.count w.all.items × (vec_len w.marks ≡ 8) × (vec_len w.turns ≡ w.rows)
+        × (vec_len w.grid ≡ 8 * (w.rows * width_of w.cols (reach_of w.rows))) × IsPadded w.rows w.cols (reach_of w.rows) w.grid.items };
 }
 
 impl WorkEight {
@@ -46,12 +50,16 @@ impl WorkEight {
     {
         let all = blanks(alloc, rows, cols, 8)?;
         let marks = vec![in alloc; 0u64; 8]?;
+        let turns = vec![in alloc; 0usize; rows]?;
+        let grid = zeros(alloc, 8 * (rows * (cols + 32 * rows)))?;
         Ok(WorkEight {
             rows,
             cols,
             count: 0,
             all,
             marks,
+            turns,
+            grid,
         })
     }
 
@@ -93,7 +101,15 @@ impl WorkEight {
     {
         let rows = self.rows;
         let cols = self.cols;
-        solve_all(&mut self.all, rows, cols, 8, out, &mut self.marks);
+        solve_eight(
+            &mut self.all,
+            rows,
+            cols,
+            &mut self.turns,
+            &mut self.grid,
+            out,
+            &mut self.marks,
+        );
         self.count = 0;
         mask(&self.marks)
     }

@@ -9,14 +9,19 @@
 //! `p` places for each row. So the rows are found by divided differences, as Newton did with numbers:
 //! two projections are added, and divided by what their angles differ in, which is a running exclusive
 //! or. The rows are then put together from the quotients. A remainder anywhere says that no block fits.
+//!
+//! Eight blocks side by side are read off word by word instead, each word from its bin and the other words
+//! on its line, and then projected again and compared.
 #![tactic(auto)]
 
 mod eight;
 mod invert;
+mod lines;
 mod order;
 mod run;
 mod series;
 mod store;
+mod sweep;
 mod work;
 
 pub use eight::WorkEight;

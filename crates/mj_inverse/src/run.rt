@@ -13,18 +13,19 @@ pub fn run(c: &mut [u64], d: &[u64], step: usize)
     ensures next { (k : ℕ) → k + step < length d.now →
         slice_index c.new (k + step) ≡ bit_xor (bit_xor (slice_index c.old (k + step)) (slice_index d.now (k + step))) (slice_index c.new k) }
 {
-    if step == 1 {
-        run_one(c, d);
-    } else if step == 2 {
-        run_columns::<1>(c, d, step);
-    } else if step <= 4 {
-        run_columns::<2>(c, d, step);
-    } else if step <= 8 {
-        run_columns::<4>(c, d, step);
-    } else if step <= 16 {
-        run_columns::<8>(c, d, step);
-    } else {
-        run_rows(c, d, step);
+    match step {
+        1 => run_one(c, d),
+        2 => run_columns::<1, 1>(c, d, step),
+        3 => run_columns::<2, 1>(c, d, step),
+        4 => run_columns::<2, 2>(c, d, step),
+        5 => run_columns::<4, 1>(c, d, step),
+        6 => run_columns::<4, 2>(c, d, step),
+        7 | 8 => run_columns::<4, 4>(c, d, step),
+        9 => run_columns::<8, 1>(c, d, step),
+        10 => run_columns::<8, 2>(c, d, step),
+        11 | 12 => run_columns::<8, 4>(c, d, step),
+        13..=16 => run_columns::<8, 8>(c, d, step),
+        _ => run_rows(c, d, step),
     }
 }
 
@@ -43,25 +44,26 @@ fn run_one(c: &mut [u64], d: &[u64])
     }
 }
 
-/// `run` by more than `W` places and at most twice as many. Two vectors, the first and the last `W` of them,
-/// keep the words that were written last.
-fn run_columns<const W: usize>(c: &mut [u64], d: &[u64], step: usize)
+/// `run` by at most `A + B` places. Two vectors keep the words that were written last: the first `A` of them,
+/// and the last `B`.
+fn run_columns<const A: usize, const B: usize>(c: &mut [u64], d: &[u64], step: usize)
     requires same { length c.old ≡ length d.now }
-    requires some { 0 < W }
-    requires low { W ≤ step }
-    requires high { step ≤ 2 * W }
+    requires some { 0 < A }
+    requires first { A ≤ step }
+    requires last { B ≤ step }
+    requires all { step ≤ A + B }
     ensures first { (k : ℕ) → k < length d.now → k < step → slice_index c.new k ≡ bit_xor (slice_index c.old k) (slice_index d.now k) }
     ensures next { (k : ℕ) → k + step < length d.now →
         slice_index c.new (k + step) ≡ bit_xor (bit_xor (slice_index c.old (k + step)) (slice_index d.now (k + step))) (slice_index c.new k) }
 {
-    let mut front = Simd::<u64, W>::splat(0);
-    let mut back = Simd::<u64, W>::splat(0);
+    let mut front = Simd::<u64, A>::splat(0);
+    let mut back = Simd::<u64, B>::splat(0);
     let mut at = 0;
     'rows: while c.len() - at >= step {
-        let behind = at + (step - W);
-        let near = Simd::<u64, W>::from_slice(&c[at..]) ^ Simd::<u64, W>::from_slice(&d[at..]);
-        let far = Simd::<u64, W>::from_slice(&c[behind..])
-            ^ Simd::<u64, W>::from_slice(&d[behind..]);
+        let behind = at + (step - B);
+        let near = Simd::<u64, A>::from_slice(&c[at..]) ^ Simd::<u64, A>::from_slice(&d[at..]);
+        let far = Simd::<u64, B>::from_slice(&c[behind..])
+            ^ Simd::<u64, B>::from_slice(&d[behind..]);
         front = near ^ front;
         back = far ^ back;
         front.copy_to_slice(&mut c[at..]);

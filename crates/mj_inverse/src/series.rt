@@ -37,6 +37,16 @@ fn lifted_angle(p: i32) -> usize
     (p + 16) as usize
 }
 
+/// So many words that are zero.
+pub fn zeros(alloc: Global, n: usize) -> Result<Vec<u64>, AllocError>
+    ensures len { IfOk result (λ v. vec_len v ≡ n) }
+    ensures zero { IfOk result (λ v. (i : ℕ) → slice_index v.items i ≡ 0) }
+{
+    let mut words = Vec::new(alloc);
+    words.resize(n, 0)?;
+    Ok(words)
+}
+
 impl Series {
     /// Blank, with room for a block of this size.
     pub fn new(alloc: Global, rows: usize, cols: usize, unit: usize) -> Result<Series, AllocError>
@@ -45,7 +55,7 @@ impl Series {
         ensures { IfOk result (IsSpare unit rows cols) }
     {
         let room = cols + 128 * rows + 40;
-        let words = vec![in alloc; 0u64; unit * room]?;
+        let words = zeros(alloc, unit * room)?;
         Ok(Series {
             direction: 0,
             angle: 0,

@@ -5,12 +5,14 @@ ghost use Rattle.rz_words.specs.Grid.{Grid, IsShape};
 ghost use Rattle.mj_angles.specs.Projection.{bins as bin_count};
 ghost use Rattle.mj_inverse.specs.Fits.{IsFound};
 ghost use Rattle.mj_inverse.specs.Rows.{Differ, Every, HaveValues, block_rows};
+ghost use Rattle.mj_inverse.specs.Padded.{IsPadded, reach_of, width_of};
 ghost use Rattle.mj_inverse.specs.Series.{seq, angle as angle_of, IsUnmarked};
 ghost use Rattle.mj_inverse.specs.Store.{IsFilled, pairs_in, search_in, lane_search, lane_grid};
 
 use crate::invert::solve;
-use crate::order::sort;
+use crate::order::{sort, sort_falling};
 use crate::series::Series;
+use crate::sweep::sweep;
 use std::alloc::{AllocError, Global};
 
 /// As many blank series as rows.
@@ -113,4 +115,34 @@ pub fn solve_all(
         cols + 64 * rows,
         cols + 96 * rows,
     );
+}
+
+/// The same of eight blocks, read off word by word. `grid` and `turns` are room for that.
+pub fn solve_eight(
+    all: &mut [Series],
+    rows: usize,
+    cols: usize,
+    turns: &mut [usize],
+    grid: &mut [u64],
+    out: &mut [u64],
+    bad: &mut [u64],
+)
+    requires filled { IsFilled 8 rows cols rows all.old }
+    requires full { length all.old ≡ rows }
+    requires differ { Differ angle_of all.old }
+    requires shape { IsShape rows cols }
+    requires turns { length turns.old ≡ rows }
+    requires room { length grid.old ≡ 8 * (rows * width_of cols (reach_of rows)) }
+    requires padded { IsPadded rows cols (reach_of rows) grid.old }
+    requires blocks { length bad.old ≡ 8 }
+    requires out { length out.old ≡ 8 * (rows * cols) }
+    ensures filled { IsFilled 8 rows cols 0 all.new }
+    ensures len { length all.new ≡ length all.old }
+    ensures padded { IsPadded rows cols (reach_of rows) grid.new }
+    ensures found { (j : ℕ) → j < 8 → IsUnmarked bad.new j → IsFound (lane_search 8 j (search_in 8 rows cols rows all.old)) (lane_grid 8 j rows cols out.new) }
+    ensures complete { (j : ℕ) (g : Grid) → j < 8 → IsFound (lane_search 8 j (search_in 8 rows cols rows all.old)) g →
+        IsUnmarked bad.new j × (g ≡ lane_grid 8 j rows cols out.new) }
+{
+    sort_falling(all);
+    sweep(all, turns, rows, cols, grid, out, bad);
 }

@@ -5,7 +5,7 @@ ghost use Rattle.rz_words.specs.Grid.{IsShape, Grid};
 ghost use Rattle.mj_angles.specs.Projection.{bins as bin_count};
 ghost use Rattle.mj_inverse.specs.Fits.{IsFound, empty_search, with_pair};
 
-use crate::series::Series;
+use crate::series::{Series, zeros};
 use crate::store::{blanks, put_at, solve_all, wipe_all};
 use rz_words::Block;
 use std::alloc::{AllocError, Global};
@@ -49,7 +49,7 @@ impl Work {
     {
         let all = blanks(alloc, rows, cols, 1)?;
         let marks = vec![in alloc; 0u64; 1]?;
-        let words = vec![in alloc; 0u64; rows * cols]?;
+        let words = zeros(alloc, rows * cols)?;
         Ok(Work {
             rows,
             cols,

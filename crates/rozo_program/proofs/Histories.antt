@@ -12,7 +12,8 @@ use Rattle.rz_history.specs.Script.{AreFurther, IsScript, IsPlay}
 use Rattle.rozo_program.specs.declared.script.Place.{Place}
 use Rattle.rozo_program.specs.declared.script.Place.TheVariants.{First, Middle, Last}
 use Rattle.rozo_program.specs.Script.{onto, lines_of, front_of, rest_of, is_digit, number_from, block_of, is_text, text_of, begins, put_line, get_line, line_of, stands, standing, place_after, with_first, with_rest, reading, IsReadAs}
-use Rattle.rozo_program.specs.Replay.{Sunk, Plays, Answers, Replays}
+use Rattle.rz_command.specs.Line.{Meaning}
+use Rattle.rozo_program.specs.Replay.{PlaysOver, Reads, Sunk, Plays, Answers, Replays}
 
 -- What a line says fits.
 
@@ -152,16 +153,25 @@ module _ (P : List Event → Type 0) (none : P []) (plays : (script : List Line)
   play-holds lines sink status log script few (inl all) = plays lines log (record { script_is = script; few = few; oldest = ([], sym all.0) })
   play-holds lines sink status log script few (inr cut) = plays lines log (record { script_is = script; few = few; oldest = cut.2 })
 
-  answers-hold : (text : List ℕ) (sink : Sunk) (status : ℕ) (log : List Event) → Answers text sink status log → P log
-  answers-hold text sink status log (inl long) = empty-holds log long.1.1
-  answers-hold text sink status log (inr (inl refused)) = empty-holds log refused.1.2.1
-  answers-hold text sink status log (inr (inr (inl played))) =
-      let read = script-read text played.1.0 played.1.1 played.0 in
-      play-holds played.1.0 sink status log read.0 read.1 played.1.2
-  answers-hold text sink status log (inr (inr (inr short))) = empty-holds log short.2
+  fits-hold : (lines : List Line) (disks : ℕ) (sink : Sunk) (status : ℕ) (log : List Event) → IsScript lines → length lines < 2 ^ 32 → PlaysOver lines disks sink status log → P log
+  fits-hold lines disks sink status log script few (inl other) = empty-holds log other.1.1
+  fits-hold lines disks sink status log script few (inr (inl played)) = play-holds lines sink status log script few played.1
+  fits-hold lines disks sink status log script few (inr (inr short)) = empty-holds log short.2
 
-  pub replays-hold : (words : List (List ℕ)) (left : Option (List ℕ)) (fails : Type 0) (sink : Sunk) (status : ℕ) (log : List Event) → Replays words left fails sink status log → P log
+  answers-hold : (text : List ℕ) (disks : ℕ) (sink : Sunk) (status : ℕ) (log : List Event) → Answers text disks sink status log → P log
+  answers-hold text disks sink status log (inl long) = empty-holds log long.1.1
+  answers-hold text disks sink status log (inr (inl refused)) = empty-holds log refused.1.2.1
+  answers-hold text disks sink status log (inr (inr (inl played))) =
+      let read = script-read text played.1.0 played.1.1 played.0 in
+      fits-hold played.1.0 disks sink status log read.0 read.1 played.1.2
+  answers-hold text disks sink status log (inr (inr (inr short))) = empty-holds log short.2
+
+  reads-hold : (left : Option (List ℕ)) (fails : Type 0) (disks : ℕ) (sink : Sunk) (status : ℕ) (log : List Event) → Reads left fails disks sink status log → P log
+  reads-hold left fails disks sink status log (inl failed) = empty-holds log failed.3
+  reads-hold left fails disks sink status log (inr (inl short)) = empty-holds log short.2
+  reads-hold left fails disks sink status log (inr (inr read)) = answers-hold read.0 disks sink status log read.2
+
+  pub replays-hold : (words : Option Meaning) (left : Option (List ℕ)) (fails : Type 0) (sink : Sunk) (status : ℕ) (log : List Event) → Replays words left fails sink status log → P log
   replays-hold words left fails sink status log (inl usage) = empty-holds log usage.1.1
-  replays-hold words left fails sink status log (inr (inl failed)) = empty-holds log failed.4
-  replays-hold words left fails sink status log (inr (inr (inl short))) = empty-holds log short.3
-  replays-hold words left fails sink status log (inr (inr (inr read))) = answers-hold read.1.0 sink status log read.1.2
+  replays-hold words left fails sink status log (inr (inl short)) = empty-holds log short.3
+  replays-hold words left fails sink status log (inr (inr read)) = reads-hold left fails read.0 sink status log read.2

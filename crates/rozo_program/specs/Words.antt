@@ -1,12 +1,18 @@
 -- The command line.
-use Rattle.std.specs.Prelude.{ℕ, Bool, false, ◌&&◌, List, [], ◌∷◌, codes}
-use Rattle.std.specs.Str.{bytes_eq}
+use Rattle.std.specs.Prelude.{ℕ, List, Option, Some, None}
+use Rattle.rz_command.specs.declared.command.Command.{Command}
+use Rattle.rz_command.specs.declared.command.Command.TheVariants.{Replay}
+use Rattle.rz_command.specs.Line.{Meaning}
 
--- the command, and the option for the number of disks
-abbrev pub are_those : List ℕ → List ℕ → List ℕ → Bool
-are_those command option disks = bytes_eq command (codes "replay") && bytes_eq option (codes "--disks") && bytes_eq disks (codes "4")
+-- the number of disks of a replay in memory; nothing else is built here
+abbrev pub in_memory : Command → Option (List ℕ) → ℕ → Option ℕ
+in_memory Replay None disks = Some disks
+in_memory _ _ disks = None
 
--- the program's name, and then those words alone
-abbrev pub is_wanted : List (List ℕ) → Bool
-is_wanted (name ∷ command ∷ option ∷ disks ∷ []) = are_those command option disks
-is_wanted _ = false
+abbrev pub disks_of : Meaning → Option ℕ
+disks_of m = in_memory m.command m.folder m.disks
+
+-- the number of disks that words of this meaning want
+abbrev pub disks_wanted : Option Meaning → Option ℕ
+disks_wanted None = None
+disks_wanted (Some m) = disks_of m

@@ -80,7 +80,9 @@ fn words(alloc: Global, word: u64) -> Result<Vec<u64>, AllocError>
 #[test]
 #[tactic(auto, using(crate::proofs::Made::goes_alone), unfolding(rz_record::specs::Record::bins_of))]
 fn bins_are_read(rt: HostRuntime) -> Result<(), Fail> {
-    let mut cells = formatted(rt.alloc())?;
+    let Ok(mut cells) = Cells::format(rt.alloc(), ONE, 7, PlainDisk::new(rt.alloc())) else {
+        return Err("not formatted")?;
+    };
     let bins = words(rt.alloc(), 9)?;
     cells.put(0, &FIRST, &bins)?;
     let mut out = words(rt.alloc(), 7)?;

@@ -18,10 +18,10 @@ use Rattle.rz_events.specs.declared.ends.WriteEnd.{WriteEnd}
 use Rattle.rz_events.specs.declared.ends.WriteEnd.TheVariants as write
 use Rattle.rz_events.specs.declared.events.Event.{Event}
 use Rattle.rz_events.specs.declared.events.Event.TheVariants as e
+use Rattle.rz_core.specs.History.{of_actor}
+use Rattle.rz_core.proofs.Stamps.{same_key-refl}
 use Rattle.rz_client_model.specs.declared.reading.ReaderState.{ReaderState}
 use Rattle.rz_client_model.specs.declared.writing.WriterState.{WriterState}
-use Rattle.rz_client_model.specs.declared.writing.WriteStage.{WriteStage}
-use Rattle.rz_client_model.specs.declared.writing.WriteStage.TheVariants as writing
 use Rattle.rz_events.specs.declared.operations.Operation.{Operation}
 use Rattle.rz_operation_model.specs.Ranges.{Range, Aim, Taking, Giving, count_in, passed, cut, is_whole}
 use Rattle.rz_operation_model.specs.Work.{Work, Plan, OnBlock, OnRange, BlockPlan, RangePlan, PutBlock, GetBlock, WriteBytes, ReadBytes, Course, Calling, Dropping, Opening, Locking, Writing, Reading, Over}
@@ -30,27 +30,33 @@ use Rattle.rz_operation_model.specs.Files.{Ended as FileEnded, next_block, go_on
 use Rattle.rz_operation_model.specs.Steps.{Told, Replied, Locked, Answered, Missed, Noted, begun, told, in_range, block_planned, range_planned, planned, after_open, after_call, drop_at, reader_after, writer_after}
 use Rattle.rz_locks.specs.declared.conflict.Lock.{Lock}
 use Rattle.rz_play.specs.Turns.{kind_of, lock_on}
-use Rattle.rz_play_locks.specs.Operations.{IsUpdate, IsGuarded}
+use Rattle.rz_play_locks.specs.Operations.{in_hand, IsUpdate, IsGuarded}
 use Rattle.rz_play_locks.proofs.Geometry.{passed-aligned}
-use Rattle.rz_play_locks.specs.Holding.{IsAligned, IsToGive, lock_for, OfPlan, IsTaking, IsHeld, IsRange, InCourse, IsAlone, IsBegunBy, IsHolding}
+use Rattle.rz_play_locks.specs.Holding.{IsAligned, IsToGive, lock_for, OfPlan, IsTaking, IsHeld, IsRange, InCourse, IsAlone, IsHolding}
 
 -- a key that is guarded in a log is guarded in each beginning of it
 pub guarded-before : (ops : Actor → List Operation) (key : Key) (x : Event) (h : List Event) → IsGuarded ops key (x ∷ h) → IsGuarded ops key h
-guarded-before ops key (e.Begin by at stamp base text) h g = g.0
+guarded-before ops key (e.Publish by at stamp mask None) h g = g.0
+guarded-before ops key (e.Publish by at stamp mask (Some refused)) h g = g
 guarded-before ops key (_) h g = g
 
 pub guarded-back : (ops : Actor → List Operation) (key : Key) (xs h : List Event) → IsGuarded ops key (xs ++ h) → IsGuarded ops key h
 guarded-back ops key [] h g = g
 guarded-back ops key (x ∷ xs) h g = guarded-back ops key xs h (guarded-before ops key x (xs ++ h) g)
 
--- what the work after an answer holds, where the operation goes on
-abbrev pub Later : Layout → (Actor → List Operation) → List Event → Operation → Option Lock → Work → Type 0
-Later layout ops h op lock Over = Unit {0}
-Later layout ops h op lock work = IsHolding layout ops h op lock work
+-- an accepted publish of a guarded key is that of an update
+pub guarded-update : (ops : Actor → List Operation) (by : Actor) (key : Key) (stamp mask : ℕ) (xs h : List Event) → xs ≡ e.Publish by key stamp mask None ∷ []
+    → IsGuarded ops key (xs ++ h) → IsUpdate (in_hand (ops by) (of_actor by h))
+guarded-update ops by key stamp mask xs h is guarded = (subst (λ (zs : List Event). IsGuarded ops key (zs ++ h)) is guarded).1 (same_key-refl key)
 
-module _ (layout : Layout) (ops : Actor → List Operation) (h : List Event) (op : Operation) (lock : Option Lock) where
+-- what the work after an answer holds, where the operation goes on
+abbrev pub Later : Layout → Operation → Option Lock → Work → Type 0
+Later layout op lock Over = Unit {0}
+Later layout op lock work = IsHolding layout op lock work
+
+module _ (layout : Layout) (op : Operation) (lock : Option Lock) where
   abbrev L : Work → Type 0
-  L work = Later layout ops h op lock work
+  L work = Later layout op lock work
 
   -- a range goes on
   pub go-later : (r : Range) (path : List ℕ) (plan : RangePlan) → IsHeld layout op lock path plan r.info.fid → OfPlan plan r → r.done ≤ r.size → (r.done < r.size → IsAligned layout r) → L (in_range (go_on layout r))
@@ -61,7 +67,7 @@ module _ (layout : Layout) (ops : Actor → List Operation) (h : List Event) (op
       block left (Giving bytes) at = cases (is_whole layout r)
         where
           cases : (b : Bool) → L (in_range (cond b (writes_block layout r (cut r.done (count_in layout r) bytes)) (reads_block layout r)))
-          cases true = (record { path = path; plan = plan; held = held; range = range; left = left; aligned = aligned left; key_is = refl }, subst IsToGive (sym at) tt, tt)
+          cases true = (record { path = path; plan = plan; held = held; range = range; left = left; aligned = aligned left; key_is = refl }, subst IsToGive (sym at) tt)
           cases false = record { path = path; plan = plan; held = held; range = range; left = left; aligned = aligned left; key_is = refl }
 
       go : (b : Bool) → (r.done == r.size) ≡ b → L (in_range (cond b (FileEnded r (end.Whole r.done)) (next_block layout r r.aim)))
@@ -90,7 +96,7 @@ module _ (layout : Layout) (ops : Actor → List Operation) (h : List Event) (op
   -- the block in hand was found, or is a hole
   text-later : (r : Range) (text : List ℕ) (key : Key) → IsRange layout op lock r key → (aim : Aim) → r.aim ≡ aim → L (in_range (with_text layout r text aim))
   text-later r text key is (Taking bytes) aim_is = passed-later r (Taking _) key is (λ b given. cc) (λ k. tt)
-  text-later r text key is (Giving bytes) aim_is = (record { path = is.path; plan = is.plan; held = is.held; range = is.range; left = is.left; aligned = is.aligned; key_is = refl }, subst IsToGive (sym aim_is) tt, tt)
+  text-later r text key is (Giving bytes) aim_is = (record { path = is.path; plan = is.plan; held = is.held; range = is.range; left = is.left; aligned = is.aligned; key_is = refl }, subst IsToGive (sym aim_is) tt)
 
   pub part-later : (r : Range) (text : List ℕ) (key : Key) → IsRange layout op lock r key → (m : ReadMark) → L (in_range (after_part layout r text m))
   part-later r text key is (mark.Found stamp size) = text-later r text key is r.aim refl
@@ -112,7 +118,7 @@ module _ (layout : Layout) (ops : Actor → List Operation) (h : List Event) (op
       few a b = omega arith
 
   block-planned : (info : FileInfo) (path : List ℕ) (plan : BlockPlan) → begun op ≡ Opening path (OnBlock plan) → lock ≡ None → L (block_planned layout info plan)
-  block-planned info path (PutBlock block text) is none = (none, (path, block, text, is), tt)
+  block-planned info path (PutBlock block text) is none = (none, (path, block, text, is))
   block-planned info path (GetBlock block) is none = none
 
   planned-later : (info : FileInfo) (path : List ℕ) (plan : Plan) → begun op ≡ Opening path plan → lock ≡ None → L (planned layout info plan)
@@ -179,29 +185,20 @@ module _ (layout : Layout) (ops : Actor → List Operation) (h : List Event) (op
   writer-key s (Locked granted r) = refl
   writer-key s (Noted text) = refl
 
-  any-stage : (key : Key) (stage : WriteStage) → (IsGuarded ops key h → IsUpdate (Some op)) → IsBegunBy ops h op key stage
-  any-stage key (writing.Sending t) is = is
-  any-stage key (_) is = tt
-
-  pub writing-later : (course : Course) (text : List ℕ) (s : WriterState) (t : Told) → InCourse layout op lock course s.key → IsAlone op course
-      → (IsGuarded ops s.key h → IsUpdate (Some op)) → L (Writing course text (writer_after s t))
-  writing-later course text s t is alone update = (
-    subst (InCourse layout op lock course) (sym (writer-key s t)) is,
-    alone,
-    any-stage (writer_after s t).key (writer_after s t).stage (subst (λ z. IsGuarded ops z h → IsUpdate (Some op)) (sym (writer-key s t)) update),
-  )
+  pub writing-later : (course : Course) (text : List ℕ) (s : WriterState) (t : Told) → InCourse layout op lock course s.key → IsAlone op course → L (Writing course text (writer_after s t))
+  writing-later course text s t is alone = (subst (InCourse layout op lock course) (sym (writer-key s t)) is, alone)
 
 -- The file is opened with a lock.
-module _ (layout : Layout) (ops : Actor → List Operation) (h : List Event) (op : Operation) (lock now : Option Lock) (none : lock ≡ None) where
+module _ (layout : Layout) (op : Operation) (lock now : Option Lock) (none : lock ≡ None) where
   abbrev WithLock : List ℕ → RangePlan → Bool → ℕ → ℕ → Bool → Reply → Type 0
   WithLock path plan exclusive from count granted r =
       begun op ≡ Locking path plan
       → ((fid : ℕ) → lock_for layout path plan fid ≡ Some (record { range = record { fid = fid; from = from; length = count }; kind = kind_of exclusive }))
       → now ≡ cond granted (lock_on r exclusive from count) lock
-      → Later layout ops h op now (told layout (Locking path plan) (Locked granted r))
+      → Later layout op now (told layout (Locking path plan) (Locked granted r))
 
   pub locked-later : (path : List ℕ) (plan : RangePlan) (exclusive : Bool) (from count : ℕ) (granted : Bool) (r : Reply) → WithLock path plan exclusive from count granted r
-  locked-later path plan exclusive from count true (reply.Tree (answer.File info)) is for now_is = range-later layout ops h op now info path plan (inr (is, now_is ∙ sym (for info.fid)))
+  locked-later path plan exclusive from count true (reply.Tree (answer.File info)) is for now_is = range-later layout op now info path plan (inr (is, now_is ∙ sym (for info.fid)))
   locked-later path plan exclusive from count true (reply.Tree (answer.Refused fault)) is for now_is = tt
   locked-later path plan exclusive from count true (reply.Tree (_)) is for now_is = tt
   locked-later path plan exclusive from count true (_) is for now_is = (is, now_is)

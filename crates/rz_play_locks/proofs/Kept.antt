@@ -4,15 +4,12 @@ use Rattle.std.specs.Prelude.{slice_get}
 use Rattle.mj_angles.specs.declared.layout.Layout.{Layout}
 use Rattle.rz_events.specs.Volume.{Volume}
 use Rattle.rz_events.specs.declared.keys.Actor.{Actor}
-use Rattle.rz_events.specs.declared.keys.Key.{Key}
 use Rattle.rz_events.specs.declared.export.Call.TheVariants as call
 use Rattle.rz_events.specs.declared.tree.TreeCall.TheVariants as tree
 use Rattle.rz_events.specs.declared.events.Event.{Event}
 use Rattle.rz_events.specs.Events.{by_of, same_actor}
 use Rattle.rz_core.specs.History.{Facts, facts, of_actor}
 use Rattle.rz_core.specs.Own.{IsBetween}
-use Rattle.rz_client_model.specs.declared.writing.WriteStage.{WriteStage}
-use Rattle.rz_client_model.specs.declared.writing.WriteStage.TheVariants as writing
 use Rattle.rz_events.specs.declared.operations.Operation.{Operation}
 use Rattle.rz_events.specs.declared.operations.Operation.TheVariants as operation
 use Rattle.rz_operation_model.specs.Work.{Work, Calling, Dropping, Opening, Locking, Writing, Reading, Rebuilding, Ending, Over}
@@ -31,12 +28,12 @@ use Rattle.rz_play_laws.proofs.Events.{export-event, node-event}
 use Rattle.rz_play_laws.proofs.OwnTurns.{proper}
 use Rattle.rz_play_laws.proofs.Plays.{IsAtWork, working}
 use Rattle.rz_play_laws.proofs.Scripts.{seated}
-use Rattle.rz_play_locks.specs.Operations.{in_hand, ended, IsGuarded}
-use Rattle.rz_play_locks.specs.Holding.{IsBegunBy, IsHolding, InHand, IsSeat, IsKeeping}
+use Rattle.rz_play_locks.specs.Operations.{in_hand, ended}
+use Rattle.rz_play_locks.specs.Holding.{IsHolding, InHand, IsSeat, IsKeeping}
 use Rattle.rz_play_locks.proofs.Moves.{IsMoved, moves}
 use Rattle.rz_play_locks.proofs.Barring.{apart-after, lock-at_work}
-use Rattle.rz_play_locks.proofs.Holds.{guarded-back}
 use Rattle.rz_play_locks.proofs.Turned.{hand-turn}
+use Rattle.std.proofs.lemmas.List.{append_cancel_right, append_assoc}
 
 -- The events of a turn are the actor's.
 pub step-mine : (v : Volume) (f : Facts) (o run : List Event) (by : Actor) (number : ℕ) (a : Ask) → IsProper v f o run by number a → (t : Told) (xs : List Event) → IsStep by number a t xs → AreBy by xs
@@ -73,50 +70,20 @@ next-of (suc n) (x ∷ all) op ops is = next-of n all op ops is
 
 -- What others do changes nothing.
 
-begun-frame : (ops : Actor → List Operation) (h g : List Event) → ((key : Key) → IsGuarded ops key g → IsGuarded ops key h) → (op : Operation) (key : Key) (stage : WriteStage)
-    → IsBegunBy ops h op key stage → IsBegunBy ops g op key stage
-begun-frame ops h g less op key (writing.Sending t) is = λ guarded. is (less key guarded)
-begun-frame ops h g less op key (writing.Beginning) is = tt
-begun-frame ops h g less op key (writing.Ended end) is = tt
-
-module _ (layout : Layout) (ops : Actor → List Operation) (h g : List Event) (less : (key : Key) → IsGuarded ops key g → IsGuarded ops key h) where
-  holds-frame : (op : Operation) (lock : Option Lock) (work : Work) → IsHolding layout ops h op lock work → IsHolding layout ops g op lock work
-  holds-frame op lock (Writing course text s) is = (is.0, is.1, begun-frame ops h g less op s.key s.stage is.2)
-  holds-frame op lock (Calling c) is = is
-  holds-frame op lock (Dropping fid n places) is = is
-  holds-frame op lock (Opening path plan) is = is
-  holds-frame op lock (Locking path plan) is = is
-  holds-frame op lock (Reading course s) is = is
-  holds-frame op lock (Rebuilding n s) is = is
-  holds-frame op lock (Ending answer) is = is
-  holds-frame op lock Over is = is
-
-  hand-frame : (o : List Event) (by : Actor) (number : ℕ) (lock : Option Lock) (work : Work) → InHand layout ops h o by number lock work → InHand layout ops g o by number lock work
-  hand-frame o by number lock (Writing course text s) is = (is.0, (is.1.0, is.1.1, holds-frame is.1.0 lock (Writing course text s) is.1.2))
-  hand-frame o by number lock (Calling c) is = is
-  hand-frame o by number lock (Dropping fid n places) is = is
-  hand-frame o by number lock (Opening path plan) is = is
-  hand-frame o by number lock (Locking path plan) is = is
-  hand-frame o by number lock (Reading course s) is = is
-  hand-frame o by number lock (Rebuilding n s) is = is
-  hand-frame o by number lock (Ending answer) is = is
-  hand-frame o by number lock Over is = is
-
 pub seat-frame : (layout : Layout) (ops : Actor → List Operation) (h xs : List Event) (by : Actor) (more : List Operation) (s : Seat) → of_actor by (xs ++ h) ≡ of_actor by h
     → IsSeat layout ops h by more s → IsSeat layout ops (xs ++ h) by more s
 seat-frame layout ops h xs by more s own is = record {
   rest = is.rest;
-  hand = subst (λ (o : List Event). InHand layout ops (xs ++ h) o by s.number s.lock s.work) (sym own)
-      (hand-frame layout ops h (xs ++ h) (λ key g. guarded-back ops key xs h g) (of_actor by h) by s.number s.lock s.work is.hand);
+  hand = subst (λ (o : List Event). InHand layout ops o by s.number s.lock s.work) (sym own) is.hand;
 }
 
 -- An operation is taken up.
 
 module _ (layout : Layout) (ops : Actor → List Operation) (h : List Event) (by : Actor) (more : List Operation) (s : Seat) (is : IsSeat layout ops h by more s) where
-  begins : (op : Operation) → ended (of_actor by h) ≡ s.number → s.lock ≡ None → slice_get (ops by) s.number ≡ Some op → InHand layout ops h (of_actor by h) by (s.number + 1) s.lock (begun op)
+  begins : (op : Operation) → ended (of_actor by h) ≡ s.number → s.lock ≡ None → slice_get (ops by) s.number ≡ Some op → InHand layout ops (of_actor by h) by (s.number + 1) s.lock (begun op)
   begins op count none at = go op (ap (slice_get (ops by)) count ∙ at)
     where
-      go : (op : Operation) → in_hand (ops by) (of_actor by h) ≡ Some op → InHand layout ops h (of_actor by h) by (s.number + 1) s.lock (begun op)
+      go : (op : Operation) → in_hand (ops by) (of_actor by h) ≡ Some op → InHand layout ops (of_actor by h) by (s.number + 1) s.lock (begun op)
       go (operation.Tree c) at = (ap (λ k. k + 1) count, (operation.Tree c, at, tt))
       go (operation.Put path block datum) at = (ap (λ k. k + 1) count, (operation.Put path block datum, at, (refl, none)))
       go (operation.Get path block) at = (ap (λ k. k + 1) count, (operation.Get path block, at, (refl, none)))
@@ -128,7 +95,7 @@ module _ (layout : Layout) (ops : Actor → List Operation) (h : List Event) (by
 
   up : (work : Work) (todo : List Operation) → s.work ≡ work → s.todo ≡ todo → IsSeat layout ops h by more (take_up s work todo)
   up Over (op ∷ rest) at todo =
-      let hand : InHand layout ops h (of_actor by h) by s.number s.lock Over = subst (InHand layout ops h (of_actor by h) by s.number s.lock) at is.hand in
+      let hand : InHand layout ops (of_actor by h) by s.number s.lock Over = subst (InHand layout ops (of_actor by h) by s.number s.lock) at is.hand in
       let k = next-of s.number (ops by) op (rest ++ more) (subst (λ (z : List Operation). z ++ more ≡ drop s.number (ops by)) todo is.rest) in
       record {
         rest = subst (λ n. rest ++ more ≡ drop n (ops by)) (sym (add-one s.number)) k.1;
@@ -148,109 +115,112 @@ module _ (layout : Layout) (ops : Actor → List Operation) (h : List Event) (by
   seat-at_work = up s.work s.todo refl refl
 
 -- nothing is in hand, or an operation
-pub record IsInHand (layout : Layout) (ops : Actor → List Operation) (h o : List Event) (by : Actor) (number : ℕ) (lock : Option Lock) (work : Work) : Type 0 where
+pub record IsInHand (layout : Layout) (ops : Actor → List Operation) (o : List Event) (by : Actor) (number : ℕ) (lock : Option Lock) (work : Work) : Type 0 where
   pub op : Operation
   pub count : ended o + 1 ≡ number
   pub at : in_hand (ops by) o ≡ Some op
-  pub holds : IsHolding layout ops h op lock work
+  pub holds : IsHolding layout op lock work
 
-pub hand-of : (layout : Layout) (ops : Actor → List Operation) (h o : List Event) (by : Actor) (number : ℕ) (lock : Option Lock) (work : Work) → InHand layout ops h o by number lock work
-    → (work ≡ Over) ⊎ IsInHand layout ops h o by number lock work
-hand-of layout ops h o by number lock Over is = inl refl
-hand-of layout ops h o by number lock (Calling c) is = inr (record { op = is.1.0; count = is.0; at = is.1.1; holds = is.1.2 })
-hand-of layout ops h o by number lock (Dropping fid n places) is = inr (record { op = is.1.0; count = is.0; at = is.1.1; holds = is.1.2 })
-hand-of layout ops h o by number lock (Opening path plan) is = inr (record { op = is.1.0; count = is.0; at = is.1.1; holds = is.1.2 })
-hand-of layout ops h o by number lock (Locking path plan) is = inr (record { op = is.1.0; count = is.0; at = is.1.1; holds = is.1.2 })
-hand-of layout ops h o by number lock (Writing c text s) is = inr (record { op = is.1.0; count = is.0; at = is.1.1; holds = is.1.2 })
-hand-of layout ops h o by number lock (Reading c s) is = inr (record { op = is.1.0; count = is.0; at = is.1.1; holds = is.1.2 })
-hand-of layout ops h o by number lock (Rebuilding n s) is = inr (record { op = is.1.0; count = is.0; at = is.1.1; holds = is.1.2 })
-hand-of layout ops h o by number lock (Ending a) is = inr (record { op = is.1.0; count = is.0; at = is.1.1; holds = is.1.2 })
+pub hand-of : (layout : Layout) (ops : Actor → List Operation) (o : List Event) (by : Actor) (number : ℕ) (lock : Option Lock) (work : Work) → InHand layout ops o by number lock work
+    → (work ≡ Over) ⊎ IsInHand layout ops o by number lock work
+hand-of layout ops o by number lock Over is = inl refl
+hand-of layout ops o by number lock (Calling c) is = inr (record { op = is.1.0; count = is.0; at = is.1.1; holds = is.1.2 })
+hand-of layout ops o by number lock (Dropping fid n places) is = inr (record { op = is.1.0; count = is.0; at = is.1.1; holds = is.1.2 })
+hand-of layout ops o by number lock (Opening path plan) is = inr (record { op = is.1.0; count = is.0; at = is.1.1; holds = is.1.2 })
+hand-of layout ops o by number lock (Locking path plan) is = inr (record { op = is.1.0; count = is.0; at = is.1.1; holds = is.1.2 })
+hand-of layout ops o by number lock (Writing c text s) is = inr (record { op = is.1.0; count = is.0; at = is.1.1; holds = is.1.2 })
+hand-of layout ops o by number lock (Reading c s) is = inr (record { op = is.1.0; count = is.0; at = is.1.1; holds = is.1.2 })
+hand-of layout ops o by number lock (Rebuilding n s) is = inr (record { op = is.1.0; count = is.0; at = is.1.1; holds = is.1.2 })
+hand-of layout ops o by number lock (Ending a) is = inr (record { op = is.1.0; count = is.0; at = is.1.1; holds = is.1.2 })
 
--- A turn, with all that is known of the actor at work.
-pub record IsGoing (v : Volume) (ops : Actor → List Operation) (w : World) (by : Actor) (s : Seat) (next : World) : Type 0 where
+-- A turn, with all that is known of the actor at work; `run` has the events of this run before it.
+pub record IsGoing (v : Volume) (ops : Actor → List Operation) (run : List Event) (w : World) (by : Actor) (s : Seat) (next : World) : Type 0 where
   pub move : IsMoved v (counted w) by s (ask_of v.layout s.work) next
-  pub own : IsOwn v (facts w.log) (of_actor by w.log) (of_actor by w.log) by s.work
-  pub proper : IsProper v (facts w.log) (of_actor by w.log) (of_actor by w.log) by s.number (ask_of v.layout s.work)
-  pub hand : IsInHand v.layout ops w.log (of_actor by w.log) by s.number s.lock s.work
+  pub own : IsOwn v (facts w.log) (of_actor by w.log) (of_actor by run) by s.work
+  pub proper : IsProper v (facts w.log) (of_actor by w.log) (of_actor by run) by s.number (ask_of v.layout s.work)
+  pub hand : IsInHand v.layout ops (of_actor by run) by s.number s.lock s.work
   pub mine : AreBy by move.xs
-  pub after : IsOwn v (facts (move.xs ++ w.log)) (move.xs ++ of_actor by w.log) (move.xs ++ of_actor by w.log) by (told v.layout s.work move.t)
+  pub after : IsOwn v (facts (move.xs ++ w.log)) (move.xs ++ of_actor by w.log) (move.xs ++ of_actor by run) by (told v.layout s.work move.t)
 
--- a play of a new volume has no earlier log
-nothing-before : (h : List Event) → h ++ [] ≡ h
-nothing-before [] = refl
-nothing-before (x ∷ h) = ap (λ (z : List Event). x ∷ z) (nothing-before h)
+-- the events that a turn, or a line, adds are of this run
+pub runs-on : (v : Volume) (old : List Event) (w next : World) (fine : IsFine v old w) (fine_next : IsFine v old next) (xs : List Event) → next.log ≡ xs ++ w.log → fine_next.run ≡ xs ++ fine.run
+runs-on v old w next fine fine_next xs log_is =
+    append_cancel_right fine_next.run (xs ++ fine.run) old
+    (sym fine_next.log_is ∙ log_is ∙ ap (λ (z : List Event). xs ++ z) fine.log_is ∙ sym (append_assoc xs fine.run old))
 
-run-is : (v : Volume) (w : World) (fine : IsFine v [] w) (by : Actor) → of_actor by fine.run ≡ of_actor by w.log
-run-is v w fine by = ap (of_actor by) (sym (nothing-before fine.run) ∙ sym fine.log_is)
-
-pub going : (v : Volume) (ops more : Actor → List Operation) (by : Actor) → IsActor by → (w next : World) → IsFine v [] w → IsFine v [] next → IsKeeping v.layout ops more w
-    → IsTurn v by w next → (next ≡ counted w) ⊎ IsGoing v ops w by (at_work (w.seats by)) next
-going v ops more by ok w next fine fine_next keeping turn =
-    go (at_work (w.seats by))
-    (subst (λ (r : List Event). IsAtWork v (facts w.log) (of_actor by w.log) r by (at_work (w.seats by))) (run-is v w fine by) (working v [] w fine by (seated by ok)))
-    (seat-at_work v.layout ops w.log by (more by) (w.seats by) (keeping.seats by ok)) turn
+pub going : (v : Volume) (old : List Event) (ops more : Actor → List Operation) (by : Actor) → IsActor by → (w next : World) (fine : IsFine v old w) → IsFine v old next
+    → IsKeeping v.layout ops more fine.run w → IsTurn v by w next → (next ≡ counted w) ⊎ IsGoing v ops fine.run w by (at_work (w.seats by)) next
+going v old ops more by ok w next fine fine_next keeping turn =
+    go (at_work (w.seats by)) (working v old w fine by (seated by ok)) (seat-at_work v.layout ops fine.run by (more by) (w.seats by) (keeping.seats by ok)) turn
   where
-    moved : (s : Seat) → IsAtWork v (facts w.log) (of_actor by w.log) (of_actor by w.log) by s → IsInHand v.layout ops w.log (of_actor by w.log) by s.number s.lock s.work
-        → IsProper v (facts w.log) (of_actor by w.log) (of_actor by w.log) by s.number (ask_of v.layout s.work) → IsMoved v (counted w) by s (ask_of v.layout s.work) next → IsGoing v ops w by s next
+    all : List Event
+    all = of_actor by w.log
+
+    mine : List Event
+    mine = of_actor by fine.run
+
+    moved : (s : Seat) → IsAtWork v (facts w.log) all mine by s → IsInHand v.layout ops mine by s.number s.lock s.work
+        → IsProper v (facts w.log) all mine by s.number (ask_of v.layout s.work) → IsMoved v (counted w) by s (ask_of v.layout s.work) next → IsGoing v ops fine.run w by s next
     moved s at hand ok_ask m =
-        let mine = step-mine v (facts w.log) (of_actor by w.log) (of_actor by w.log) by s.number (ask_of v.layout s.work) ok_ask m.t m.xs m.step in
+        let by_is = step-mine v (facts w.log) all mine by s.number (ask_of v.layout s.work) ok_ask m.t m.xs m.step in
         record {
           move = m;
           own = at.own;
           proper = ok_ask;
           hand = hand;
-          mine = mine;
-          after = subst (λ (o : List Event). IsOwn v (facts (m.xs ++ w.log)) o o by (told v.layout s.work m.t)) (of_actor-mine by m.xs w.log mine)
-              (subst (λ (h : List Event). IsOwn v (facts h) (of_actor by h) (of_actor by h) by (told v.layout s.work m.t)) m.log_is
-              (subst (λ z. IsOwn v (facts next.log) (of_actor by next.log) (of_actor by next.log) by z) m.work_is
-              (subst (λ (r : List Event). IsOwn v (facts next.log) (of_actor by next.log) r by (next.seats by).work) (run-is v next fine_next by) (fine_next.own by (seated by ok)))));
+          mine = by_is;
+          after = subst (λ (r : List Event). IsOwn v (facts (m.xs ++ w.log)) (m.xs ++ all) r by (told v.layout s.work m.t)) (of_actor-mine by m.xs fine.run by_is)
+              (subst (λ (o : List Event). IsOwn v (facts (m.xs ++ w.log)) o (of_actor by (m.xs ++ fine.run)) by (told v.layout s.work m.t)) (of_actor-mine by m.xs w.log by_is)
+              (subst (λ (h : List Event). IsOwn v (facts h) (of_actor by h) (of_actor by (m.xs ++ fine.run)) by (told v.layout s.work m.t)) m.log_is
+              (subst (λ z. IsOwn v (facts next.log) (of_actor by next.log) (of_actor by (m.xs ++ fine.run)) by z) m.work_is
+              (subst (λ (r : List Event). IsOwn v (facts next.log) (of_actor by next.log) (of_actor by r) by (next.seats by).work) (runs-on v old w next fine fine_next m.xs m.log_is)
+              (fine_next.own by (seated by ok))))));
         }
 
-    go : (s : Seat) → IsAtWork v (facts w.log) (of_actor by w.log) (of_actor by w.log) by s → IsSeat v.layout ops w.log by (more by) s → IsAskTurn v (counted w) by s (ask_of v.layout s.work) next
-        → (next ≡ counted w) ⊎ IsGoing v ops w by s next
-    go s at seat turn = elim (hand-of v.layout ops w.log (of_actor by w.log) by s.number s.lock s.work seat.hand) [
+    go : (s : Seat) → IsAtWork v (facts w.log) all mine by s → IsSeat v.layout ops fine.run by (more by) s → IsAskTurn v (counted w) by s (ask_of v.layout s.work) next
+        → (next ≡ counted w) ⊎ IsGoing v ops fine.run w by s next
+    go s at seat turn = elim (hand-of v.layout ops mine by s.number s.lock s.work seat.hand) [
       | inl over ↦ inl (subst (λ z. IsAskTurn v (counted w) by s (ask_of v.layout z) next) over turn)
       | inr hand ↦ elim at.way [
         | inl over ↦ inl (subst (λ z. IsAskTurn v (counted w) by s (ask_of v.layout z) next) over turn)
         | inr course ↦ elim (moves v (counted w) by s (ask_of v.layout s.work) next turn) [
           | inl same ↦ inl same
-          | inr m ↦ inr (moved s at hand (proper v (facts w.log) (of_actor by w.log) (of_actor by w.log) by s.number s.work at.own course) m)
+          | inr m ↦ inr (moved s at hand (proper v (facts w.log) all mine by s.number s.work at.own course) m)
         ]
       ]
     ]
 
-between-of : (v : Volume) (f : Facts) (o : List Event) (by : Actor) (work : Work) → IsOwn v f o o by work → work ≡ Over → IsBetween o
-between-of v f o by work own over = subst (IsOwn v f o o by) over own
+between-of : (v : Volume) (f : Facts) (o run : List Event) (by : Actor) (work : Work) → IsOwn v f o run by work → work ≡ Over → IsBetween run
+between-of v f o run by work own over = subst (IsOwn v f o run by) over own
 
 -- The world after a turn.
-pub keeping-turn : (v : Volume) (ops more : Actor → List Operation) (by : Actor) → IsActor by → (w next : World) → IsFine v [] w → IsFine v [] next → IsKeeping v.layout ops more w
-    → IsTurn v by w next → IsKeeping v.layout ops more next
-keeping-turn v ops more by ok w next fine fine_next keeping turn = elim (going v ops more by ok w next fine fine_next keeping turn) [
-  | inl same ↦ subst (IsKeeping v.layout ops more) (sym same) (record { apart = keeping.apart; seats = keeping.seats })
-  | inr g ↦ record {
+pub keeping-turn : (v : Volume) (old : List Event) (ops more : Actor → List Operation) (by : Actor) → IsActor by → (w next : World) (fine : IsFine v old w) (fine_next : IsFine v old next)
+    → IsKeeping v.layout ops more fine.run w → IsTurn v by w next → IsKeeping v.layout ops more fine_next.run next
+keeping-turn v old ops more by ok w next fine fine_next keeping turn = elim (going v old ops more by ok w next fine fine_next keeping turn) [
+  | inl same ↦ subst (λ (r : List Event). IsKeeping v.layout ops more r next) (sym (runs-on v old w next fine fine_next [] (ap (λ (z : World). z.log) same)))
+      (subst (IsKeeping v.layout ops more fine.run) (sym same) (record { apart = keeping.apart; seats = keeping.seats }))
+  | inr g ↦ subst (λ (r : List Event). IsKeeping v.layout ops more r next) (sym (runs-on v old w next fine fine_next g.move.xs g.move.log_is)) (record {
     apart = apart-after v (counted w) keeping.apart by ok (at_work (w.seats by)) (lock-at_work (w.seats by)) (ask_of v.layout (at_work (w.seats by)).work) next g.move;
     seats = λ a is. seat g a is (same_actor a by) refl;
-  }
+  })
 ]
   where
-    seat : IsGoing v ops w by (at_work (w.seats by)) next → (a : Actor) → IsActor a → (b : Bool) → same_actor a by ≡ b → IsSeat v.layout ops next.log a (more a) (next.seats a)
+    seat : (g : IsGoing v ops fine.run w by (at_work (w.seats by)) next) → (a : Actor) → IsActor a → (b : Bool) → same_actor a by ≡ b → IsSeat v.layout ops (g.move.xs ++ fine.run) a (more a) (next.seats a)
     seat g a is true at =
         let s = at_work (w.seats by) in
-        let old = seat-at_work v.layout ops w.log by (more by) (w.seats by) (keeping.seats by ok) in
+        let before = seat-at_work v.layout ops fine.run by (more by) (w.seats by) (keeping.seats by ok) in
         let m = g.move in
-        let now = hand-turn v ops w.log by s.number g.hand.op g.hand.count g.hand.at (counted w) s (facts w.log) (of_actor by w.log) m.t m.xs (next.seats by).lock s.work g.own g.hand.holds m.step m.lock_is
-        (between-of v (facts (m.xs ++ w.log)) (m.xs ++ of_actor by w.log) by (told v.layout s.work m.t) g.after) in
-        subst (λ z. IsSeat v.layout ops next.log z (more z) (next.seats z)) (sym (same_actor-true a by at))
-        (subst (λ (h : List Event). IsSeat v.layout ops h by (more by) (next.seats by)) (sym m.log_is)
+        let now = hand-turn v ops fine.run by s.number g.hand.op g.hand.count g.hand.at (counted w) s (facts w.log) (of_actor by w.log) (of_actor by fine.run) m.t m.xs (next.seats by).lock s.work g.own g.hand.holds m.step m.lock_is
+        (between-of v (facts (m.xs ++ w.log)) (m.xs ++ of_actor by w.log) (m.xs ++ of_actor by fine.run) by (told v.layout s.work m.t) g.after) in
+        subst (λ z. IsSeat v.layout ops (m.xs ++ fine.run) z (more z) (next.seats z)) (sym (same_actor-true a by at))
         (record {
           rest = subst (λ (z : List Operation). z ++ more by ≡ drop (next.seats by).number (ops by)) (sym m.todo_is)
-              (subst (λ k. s.todo ++ more by ≡ drop k (ops by)) (sym m.number_is) old.rest);
-          hand = subst (λ (o : List Event). InHand v.layout ops (m.xs ++ w.log) o by (next.seats by).number (next.seats by).lock (next.seats by).work) (sym (of_actor-mine by m.xs w.log g.mine))
-              (subst (λ k. InHand v.layout ops (m.xs ++ w.log) (m.xs ++ of_actor by w.log) by k (next.seats by).lock (next.seats by).work) (sym m.number_is)
-              (subst (InHand v.layout ops (m.xs ++ w.log) (m.xs ++ of_actor by w.log) by s.number (next.seats by).lock) (sym m.work_is) now));
-        }))
+              (subst (λ k. s.todo ++ more by ≡ drop k (ops by)) (sym m.number_is) before.rest);
+          hand = subst (λ (o : List Event). InHand v.layout ops o by (next.seats by).number (next.seats by).lock (next.seats by).work) (sym (of_actor-mine by m.xs fine.run g.mine))
+              (subst (λ k. InHand v.layout ops (m.xs ++ of_actor by fine.run) by k (next.seats by).lock (next.seats by).work) (sym m.number_is)
+              (subst (InHand v.layout ops (m.xs ++ of_actor by fine.run) by s.number (next.seats by).lock) (sym m.work_is) now));
+        })
     seat g a is false apart =
         let m = g.move in
-        subst (λ (h : List Event). IsSeat v.layout ops h a (more a) (next.seats a)) (sym m.log_is)
-        (subst (λ (z : Seat). IsSeat v.layout ops (m.xs ++ w.log) a (more a) z) (sym (m.others a apart))
-        (seat-frame v.layout ops w.log m.xs a (more a) (w.seats a) (of_actor-other a by m.xs w.log apart g.mine) (keeping.seats a is)))
+        subst (λ (z : Seat). IsSeat v.layout ops (m.xs ++ fine.run) a (more a) z) (sym (m.others a apart))
+        (seat-frame v.layout ops fine.run m.xs a (more a) (w.seats a) (of_actor-other a by m.xs fine.run apart g.mine) (keeping.seats a is))

@@ -100,9 +100,9 @@ of-update layout (operation.Update p o d) lock path plan r bytes update (inr hel
     the_aim a b is = cc
 of-update layout (_) lock path plan r bytes update held range aim = absurd update
 
-module _ (v : Volume) (ops : Actor → List Operation) (h : List Event) (op : Operation) where
+module _ (v : Volume) (ops : Actor → List Operation) (run h : List Event) (op : Operation) where
   abbrev T : List Event → Work → Type 0
-  T xs work = IsText v.layout ops (xs ++ h) (Some op) work
+  T xs work = IsText v.layout ops (xs ++ run) (xs ++ h) (Some op) work
 
   abbrev Fine : List Event → Type 0
   Fine xs = IsLegalInRuns v (xs ++ h)
@@ -166,23 +166,23 @@ module _ (v : Volume) (ops : Actor → List Operation) (h : List Event) (op : Op
 
   -- the block in hand was found with the text that is published
   found-text : (xs : List Event) → Fine xs → (lock : Option Lock) (r : Range) (key : Key) → IsRange v.layout op lock r key → (text : List ℕ)
-      → (IsLocking (Some op) → IsGuarded ops key (xs ++ h) → text ≡ published_text (xs ++ h) key) → (aim : Aim) → r.aim ≡ aim → T xs (in_range (with_text v.layout r text aim))
+      → (IsLocking (Some op) → IsGuarded ops key (xs ++ run) → text ≡ published_text (xs ++ h) key) → (aim : Aim) → r.aim ≡ aim → T xs (in_range (with_text v.layout r text aim))
   found-text xs legal lock r key is text published (Taking bytes) aim_is = passed-text xs legal lock r (Taking _) key is (plan-taking r is.plan bytes _ aim_is is.range)
   found-text xs legal lock r key is text published (Giving bytes) aim_is = λ update guarded.
       let k = of-update v.layout op lock is.path is.plan r bytes update is.held is.range aim_is in
       k.updated (key_in v.layout r).block (published_text (xs ++ h) (key_in v.layout r)) _
       (ap (patched (start_in v.layout r) (cut r.done (count_in v.layout r) bytes))
-      (subst (λ (z : Key). text ≡ published_text (xs ++ h) z) is.key_is (published (update-locks (Some op) update) (subst (λ (z : Key). IsGuarded ops z (xs ++ h)) (sym is.key_is) guarded)))
+      (subst (λ (z : Key). text ≡ published_text (xs ++ h) z) is.key_is (published (update-locks (Some op) update) (subst (λ (z : Key). IsGuarded ops z (xs ++ run)) (sym is.key_is) guarded)))
       ∙ part-text v.layout r bytes k.size_is is.left is.aligned (published_text (xs ++ h) (key_in v.layout r)))
 
   -- how a read ended, and the text that its event tells
   part-after : (x : Event) → Fine (x ∷ []) → accepted (of_word Export (x ∷ h)) ≡ accepted (of_word Export h) → (lock : Option Lock) (r : Range) (key : Key) → IsRange v.layout op lock r key → (m : ReadMark)
-      → (IsLocking (Some op) → IsGuarded ops key h → IsNewest h key (reading.Ended m)) → T (x ∷ []) (in_range (after_part v.layout r (found_text (facts h) m) m))
+      → (IsLocking (Some op) → IsGuarded ops key run → IsNewest h key (reading.Ended m)) → T (x ∷ []) (in_range (after_part v.layout r (found_text (facts h) m) m))
   part-after x legal same lock r key is (mark.Found s size) newest = found-text (x ∷ []) legal lock r key is (found_text (facts h) (mark.Found s size)) (λ locking guarded.
-      let n = newest locking (guarded-back ops key (x ∷ []) h guarded) in
+      let n = newest locking (guarded-back ops key (x ∷ []) run guarded) in
       sym (text-same v (x ∷ []) h key legal.0 (ap (λ f. f key) same) ∙ ap (text_of (facts h)) n.1)) r.aim refl
   part-after x legal same lock r key is mark.Hole newest = found-text (x ∷ []) legal lock r key is [] (λ locking guarded.
-      let n = newest locking (guarded-back ops key (x ∷ []) h guarded) in
+      let n = newest locking (guarded-back ops key (x ∷ []) run guarded) in
       sym (text-same v (x ∷ []) h key legal.0 (ap (λ f. f key) same) ∙ ap (text_of (facts h)) n)) r.aim refl
   part-after x legal same lock r key is (_) newest = tt
 
@@ -263,10 +263,10 @@ module _ (v : Volume) (ops : Actor → List Operation) (h : List Event) (op : Op
     looking (reply.Denied why) x is legal = λ locking guarded. tt
     looking (_) x is legal = λ locking guarded. tt
 
-    module _ (t0 : Fetches) (old : IsLocking (Some op) → IsGuarded ops key h → IsAccepted h key t0.stamp) where
-      still : (xs : List Event) → AreSilent key xs → IsLocking (Some op) → IsGuarded ops key (xs ++ h) → IsAccepted (xs ++ h) key t0.stamp
+    module _ (t0 : Fetches) (old : IsLocking (Some op) → IsGuarded ops key run → IsAccepted h key t0.stamp) where
+      still : (xs : List Event) → AreSilent key xs → IsLocking (Some op) → IsGuarded ops key (xs ++ run) → IsAccepted (xs ++ h) key t0.stamp
       still xs silent locking guarded =
-          let o = old locking (guarded-back ops key xs h guarded) in (o.0, accepted-same xs h key silent ∙ o.1)
+          let o = old locking (guarded-back ops key xs run guarded) in (o.0, accepted-same xs h key silent ∙ o.1)
 
       after-fetch : (g : List Event) (fits : Bool) (a : FetchAnswer) → IsAccepted g key t0.stamp → IsNewest g key (after_fetch layout fits t0 a)
       after-fetch g fits (fetch.Held b) is = go (b.stamp == t0.stamp)
@@ -326,29 +326,29 @@ module _ (v : Volume) (ops : Actor → List Operation) (h : List Event) (op : Op
     any-written g k (writing.Sending t) is = is
     any-written g k (writing.Ended end) is = tt
 
-    module _ (legal : IsLegalInRuns v h) (stage : WriteStage) (old : IsUpdate (Some op) → IsGuarded ops key h → IsUpdated v.layout (Some op) key.block (published_text h key) text) where
+    module _ (legal : IsLegalInRuns v h) (stage : WriteStage) (old : IsUpdate (Some op) → IsGuarded ops key run → IsUpdated v.layout (Some op) key.block (published_text h key) text) where
       kept : (xs : List Event) (t : Told) → AreSilent key xs → Afterwards xs t stage
       kept xs t silent = λ update guarded.
-          let same : (writer_after (S stage) t).key ≡ key = writer-key v.layout ops h op None (S stage) t in
+          let same : (writer_after (S stage) t).key ≡ key = writer-key v.layout op None (S stage) t in
           any-written (xs ++ h) (writer_after (S stage) t).key (writer_after (S stage) t).stage
           (subst (λ (k : Key). IsUpdated v.layout (Some op) k.block (published_text (xs ++ h) k) text) (sym same)
           (subst (λ (z : List ℕ). IsUpdated v.layout (Some op) key.block z text) (sym (text-same v xs h key legal (accepted-same xs h key silent)))
-          (old update (guarded-back ops key xs h (subst (λ (k : Key). IsGuarded ops k (xs ++ h)) same guarded)))))
+          (old update (guarded-back ops key xs run (subst (λ (k : Key). IsGuarded ops k (xs ++ run)) same guarded)))))
 
-    sent : IsLegalInRuns v h → (t0 : Sent) → (IsUpdate (Some op) → IsGuarded ops key h → IsUpdated v.layout (Some op) key.block (published_text h key) text)
+    sent : IsLegalInRuns v h → (t0 : Sent) → (IsUpdate (Some op) → IsGuarded ops key run → IsUpdated v.layout (Some op) key.block (published_text h key) text)
         → (xs : List Event) (t : Told) → AreSilent key xs → (t ≡ Missed) ⊎ ((given : NodeAnswer) × (t ≡ Answered true given)) → T xs (told v.layout (Writing (Within r) text (S (writing.Sending t0))) t)
     sent legal t0 old xs t silent (inl is) = subst (λ z. T xs (told v.layout (Writing (Within r) text (S (writing.Sending t0))) z)) (sym is) (kept legal (writing.Sending t0) old xs Missed silent)
     sent legal t0 old xs t silent (inr (given, is)) =
         subst (λ z. T xs (told v.layout (Writing (Within r) text (S (writing.Sending t0))) z)) (sym is) (kept legal (writing.Sending t0) old xs (Answered true given) silent)
 
-    begins : IsLegalInRuns v h → (IsUpdate (Some op) → IsGuarded ops key h → IsUpdated v.layout (Some op) key.block (published_text h key) text)
+    begins : IsLegalInRuns v h → (IsUpdate (Some op) → IsGuarded ops key run → IsUpdated v.layout (Some op) key.block (published_text h key) text)
         → (c : Reply) (x : Event) → export_event by (call.Begin key text) c ≡ Some x → Afterwards (x ∷ []) (Replied c) writing.Beginning
     begins legal old (reply.Begun stamp base) x is =
         subst (λ z. Afterwards (z ∷ []) (Replied (reply.Begun stamp base)) writing.Beginning) (the_some _ x is) (kept legal writing.Beginning old (e.Begin by key stamp base text ∷ []) (Replied (reply.Begun stamp base)) (refl, tt))
     begins legal old (reply.Denied why) x is = λ update guarded. tt
     begins legal old (_) x is = cc
 
-    publishing : IsLegalInRuns v h → (t0 : Sent) → (IsUpdate (Some op) → IsGuarded ops key h → IsUpdated v.layout (Some op) key.block (published_text h key) text)
+    publishing : IsLegalInRuns v h → (t0 : Sent) → (IsUpdate (Some op) → IsGuarded ops key run → IsUpdated v.layout (Some op) key.block (published_text h key) text)
         → (mask : ℕ) (c : Reply) (x : Event) → export_event by (call.Publish key t0.stamp mask size) c ≡ Some x → Afterwards (x ∷ []) (Replied c) (writing.Sending t0)
     publishing legal t0 old mask reply.Accepted x is = λ update guarded. tt
     publishing legal t0 old mask (reply.Enrolled p fence) x is =
@@ -377,7 +377,7 @@ module _ (v : Volume) (ops : Actor → List Operation) (h : List Event) (op : Op
     via c W f step = export-step by c (λ t xs. Fine xs → T xs (W t)) f t xs step legal
 
     reading-within : (r : Range) (layout : Layout) (key : Key) (places : List ℕ) → IsRange v.layout op lock r key → (stage : ReadStage)
-        → IsText v.layout ops h (Some op) (Reading (Within r) (record { layout = layout; key = key; places = places; stage = stage }))
+        → IsText v.layout ops run h (Some op) (Reading (Within r) (record { layout = layout; key = key; places = places; stage = stage }))
         → Turn (Reading (Within r) (record { layout = layout; key = key; places = places; stage = stage }))
     reading-within r layout key places is reading.Looking old step said =
         via (call.Look key) (told v.layout (Reading (Within r) (R by number r layout key places reading.Looking))) (looking by number r layout key places) step
@@ -393,7 +393,7 @@ module _ (v : Volume) (ops : Actor → List Operation) (h : List Event) (op : Op
         (λ fine. part-after (said_event by number step.0 (SayGot key true m)) fine refl lock r key is m old) legal)
 
     writing-within : (r : Range) (text : List ℕ) (layout : Layout) (key : Key) (places : List ℕ) (size : ℕ) → IsRange v.layout op lock r key → (stage : WriteStage)
-        → IsText v.layout ops h (Some op) (Writing (Within r) text (record { layout = layout; key = key; places = places; length = size; stage = stage }))
+        → IsText v.layout ops run h (Some op) (Writing (Within r) text (record { layout = layout; key = key; places = places; length = size; stage = stage }))
         → Turn (Writing (Within r) text (record { layout = layout; key = key; places = places; length = size; stage = stage }))
     writing-within r text layout key places size is writing.Beginning old step said =
         via (call.Begin key text) (told v.layout (Writing (Within r) text (S by number r text layout key places size writing.Beginning))) (λ c x at fine. begins by number r text layout key places size before old c x at) step
@@ -442,7 +442,7 @@ module _ (v : Volume) (ops : Actor → List Operation) (h : List Event) (op : Op
     ending-text a (Noted text) = tt
     ending-text a (_) = tt
 
-    pub text-turn : (work : Work) → IsHolding v.layout ops h op lock work → IsText v.layout ops h (Some op) work → Turn work
+    pub text-turn : (work : Work) → IsHolding v.layout op lock work → IsText v.layout ops run h (Some op) work → Turn work
     text-turn (Calling c) holds old step said = calling-text c t
     text-turn (Dropping fid n places) holds old step said = drop-text xs fid n places t
     text-turn (Opening path plan) holds old step said = not-locking xs (opened-not op path plan holds.0) (told v.layout (Opening path plan) t)

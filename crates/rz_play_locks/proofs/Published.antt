@@ -94,20 +94,20 @@ one-published by key (e.Publish b at s mask None) by_is = go (same_key key at) r
 one-published by key (e.Publish b at s mask (Some refused)) by_is = inl (refl, tt)
 one-published by key (_) by_is = inl (refl, tt)
 
-pub may-publish : (v : Volume) (f : Facts) (o : List Event) (by : Actor) (number : ℕ) (key : Key) (a : Ask) → IsProper v f o o by number a → (t : Told) (xs : List Event) → IsStep by number a t xs → MayPublish by key xs
-may-publish v f o by number key (AskExport c) ok t xs step = export-step by c (λ t xs. MayPublish by key xs) (λ r x is. one-published by key x (export-event by c r x is).by_is) t xs step
-may-publish v f o by number key (AskNode n question) ok t xs step =
+pub may-publish : (v : Volume) (f : Facts) (o run : List Event) (by : Actor) (number : ℕ) (key : Key) (a : Ask) → IsProper v f o run by number a → (t : Told) (xs : List Event) → IsStep by number a t xs → MayPublish by key xs
+may-publish v f o run by number key (AskExport c) ok t xs step = export-step by c (λ t xs. MayPublish by key xs) (λ r x is. one-published by key x (export-event by c r x is).by_is) t xs step
+may-publish v f o run by number key (AskNode n question) ok t xs step =
     node-step by n question (λ t xs. MayPublish by key xs)
     (λ given x is. inl (node-silent x key n (node-event by n question given x ok.2 is).word_is, tt))
     (λ given x is link. inl (refl, (node-silent x key n (node-event by n question given x ok.2 is).word_is, tt)))
     (λ link. inl (refl, tt)) t xs step
-may-publish v f o by number key (AskLock path exclusive from count) ok t xs step =
+may-publish v f o run by number key (AskLock path exclusive from count) ok t xs step =
     lock-step by path (λ t xs. MayPublish by key xs) (λ granted r x is. one-published by key x (export-event by (call.Tree (tree.OpenFile path)) r x is).by_is) t xs step
-may-publish v f o by number key (Say said) ok t xs step = say-step by number said (λ t xs. MayPublish by key xs) (λ text. inl (silent said text, tt)) t xs step
+may-publish v f o run by number key (Say said) ok t xs step = say-step by number said (λ t xs. MayPublish by key xs) (λ text. inl (silent said text, tt)) t xs step
   where
     silent : (said : Saying) (text : List ℕ) → publishes key (said_event by number text said) ≡ false
     silent (SayGot k part m) text = refl
     silent (SayGave k part end) text = refl
     silent (SayLeft k why) text = refl
     silent (SayDone answer) text = refl
-may-publish v f o by number key Rest ok t xs step = absurd step
+may-publish v f o run by number key Rest ok t xs step = absurd step

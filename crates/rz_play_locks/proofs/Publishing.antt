@@ -1,4 +1,4 @@
--- A guarded key that an actor has locked is published by no other actor.
+-- A block that an actor has locked is published by no other actor's update.
 use Rattle.std.proofs.Common.{◌≡◌, inl, inr, ◌<◌, ◌≤◌, ◌+◌, ◌-◌, ◌*◌, ◌/◌, ◌==◌, ℕ, Bool, true, false, cond, List, [], ◌∷◌, length, Option, Some, None, refl, sym, ◌∙◌, ap, subst, arith}
 use Rattle.std.specs.Prelude.{nat_lt, slice_index}
 use Rattle.std.proofs.lemmas.Bool.{eqb-true}
@@ -46,8 +46,8 @@ use Rattle.rz_locks.specs.Conflicts.{HasByte, Conflict}
 use Rattle.rz_play_laws.specs.Own.{IsProper}
 use Rattle.rz_play_laws.proofs.Blocks.{block-some}
 use Rattle.rz_play_laws.proofs.Events.{node-event}
-use Rattle.rz_play_locks.specs.Operations.{IsUpdate, IsGuarded}
-use Rattle.rz_play_locks.specs.Holding.{AreApart, HasBlock, OfPlan, IsHeld, IsRange, InCourse, IsAlone, IsBegunBy, IsHolding}
+use Rattle.rz_play_locks.specs.Operations.{IsUpdate, in_hand}
+use Rattle.rz_play_locks.specs.Holding.{AreApart, HasBlock, OfPlan, IsHeld, IsRange, InCourse, IsAlone, IsHolding}
 use Rattle.rz_play_locks.proofs.Barring.{others-apart, lock-at_work}
 use Rattle.rz_play_locks.proofs.Kept.{IsGoing}
 
@@ -106,20 +106,20 @@ module _ (by b : Actor) (number : ℕ) (key : Key) (stamp mask : ℕ) (ys : List
   missed-no : (n : ℕ) (reply : Bool) → e.Missed by n reply ≡ x0 → ⊥
   missed-no n reply is = cc
 
-  pub publish-step : (v : Volume) (f : Facts) (o : List Event) (a : Ask) → IsProper v f o o by number a → (t : Told) (xs : List Event) → IsStep by number a t xs → xs ≡ x0 ∷ ys → IsPublish key stamp mask a t
-  publish-step v f o (AskExport c) ok t xs (r, x, t_is, x_is, xs_is) is =
+  pub publish-step : (v : Volume) (f : Facts) (o run : List Event) (a : Ask) → IsProper v f o run by number a → (t : Told) (xs : List Event) → IsStep by number a t xs → xs ≡ x0 ∷ ys → IsPublish key stamp mask a t
+  publish-step v f o run (AskExport c) ok t xs (r, x, t_is, x_is, xs_is) is =
       subst (IsPublish key stamp mask (AskExport c)) (sym t_is) (by-call c r (subst (λ z. export_event by c r ≡ Some z) (first-of x [] (sym xs_is ∙ is)) x_is))
-  publish-step v f o (AskNode n question) ok _ _ (Through given x x_is) is = absurd (node-no n (ap word_of (sym (first-of x [] is)) ∙ (node-event by n question given x ok.2 x_is).word_is))
-  publish-step v f o (AskNode n question) ok _ _ (ReplyLost given x x_is link) is = absurd (missed-no n true (first-of (e.Missed by n true) (x ∷ []) is))
-  publish-step v f o (AskNode n question) ok _ _ (RequestLost link) is = absurd (missed-no n false (first-of (e.Missed by n false) [] is))
-  publish-step v f o (AskLock path exclusive from count) ok t xs (granted, r, x, t_is, x_is, xs_is) is =
+  publish-step v f o run (AskNode n question) ok _ _ (Through given x x_is) is = absurd (node-no n (ap word_of (sym (first-of x [] is)) ∙ (node-event by n question given x ok.2 x_is).word_is))
+  publish-step v f o run (AskNode n question) ok _ _ (ReplyLost given x x_is link) is = absurd (missed-no n true (first-of (e.Missed by n true) (x ∷ []) is))
+  publish-step v f o run (AskNode n question) ok _ _ (RequestLost link) is = absurd (missed-no n false (first-of (e.Missed by n false) [] is))
+  publish-step v f o run (AskLock path exclusive from count) ok t xs (granted, r, x, t_is, x_is, xs_is) is =
       absurd (no r (subst (λ z. export_event by (call.Tree (tree.OpenFile path)) r ≡ Some z) (first-of x [] (sym xs_is ∙ is)) x_is))
     where
       no : (r : Reply) → export_event by (call.Tree (tree.OpenFile path)) r ≡ Some x0 → ⊥
       no (reply.Tree r) is = cc
       no (_) is = cc
-  publish-step v f o (Say said) ok t xs (text, t_is, xs_is) is = absurd (said-no text said (first-of (said_event by number text said) [] (sym xs_is ∙ is)))
-  publish-step v f o Rest ok t xs step is = absurd step
+  publish-step v f o run (Say said) ok t xs (text, t_is, xs_is) is = absurd (said-no text said (first-of (said_event by number text said) [] (sym xs_is ∙ is)))
+  publish-step v f o run Rest ok t xs step is = absurd step
 
 -- And that is asked by a write alone, whose records were sent.
 pub record IsSendingOf (work : Work) (key : Key) (stamp : ℕ) : Type 0 where
@@ -248,16 +248,13 @@ update-locked layout op lock r key update is = go is.plan is.held is.range
           );
         }
 
--- a write on a guarded key that has begun holds the key's lock
-pub sending-locked : (layout : Layout) (ops : Actor → List Operation) (h : List Event) (op : Operation) (lock : Option Lock) (work : Work) (key : Key) (stamp : ℕ)
-    → IsHolding layout ops h op lock work → IsSendingOf work key stamp → IsGuarded ops key h → IsUpdate (Some op) × IsLocked layout lock key
-sending-locked layout ops h op lock work key stamp holds s guarded = (update, subst (IsLocked layout lock) s.key_is (by-course s.course held.0 held.1))
+-- an update that sends a block holds the lock on it
+pub sending-locked : (layout : Layout) (op : Operation) (lock : Option Lock) (work : Work) (key : Key) (stamp : ℕ) → IsHolding layout op lock work → IsSendingOf work key stamp → IsUpdate (Some op)
+    → IsLocked layout lock key
+sending-locked layout op lock work key stamp holds s update = subst (IsLocked layout lock) s.key_is (by-course s.course held.0 held.1)
   where
-    held : IsHolding layout ops h op lock (Writing s.course s.text s.state)
-    held = subst (IsHolding layout ops h op lock) s.work_is holds
-
-    update : IsUpdate (Some op)
-    update = (subst (IsBegunBy ops h op s.state.key) s.stage_is held.2) (subst (λ k. IsGuarded ops k h) (sym s.key_is) guarded)
+    held : IsHolding layout op lock (Writing s.course s.text s.state)
+    held = subst (IsHolding layout op lock) s.work_is holds
 
     by-course : (course : Course) → InCourse layout op lock course s.state.key → IsAlone op course → IsLocked layout lock s.state.key
     by-course Alone is put = absurd (not-opened op put.0 (OnBlock (PutBlock put.1 put.2)) update put.3)
@@ -267,13 +264,13 @@ sending-locked layout ops h op lock work key stamp holds s guarded = (update, su
 pub both-conflict : (layout : Layout) (a b : Lock) (key : Key) → HasBlock layout a key → HasBlock layout b key → a.kind ≡ Exclusive → Conflict a b
 both-conflict layout a b key on_a on_b exclusive = ((on_a.0 ∙ sym on_b.0, (key.block * block_bytes_of layout, on_a.1, on_b.1)), inl exclusive)
 
--- So no other actor's publish of the key is accepted.
-pub barred : (v : Volume) (ops : Actor → List Operation) (w next : World) (by : Actor) → IsActor by → AreApart w → (g : IsGoing v ops w by (at_work (w.seats by)) next)
-    → (b : Actor) (key : Key) (stamp mask : ℕ) (ys : List Event) → g.move.xs ≡ e.Publish b key stamp mask None ∷ ys → IsGuarded ops key w.log
+-- So no other actor has a lock on a block of which an update's publish is accepted.
+pub barred : (v : Volume) (ops : Actor → List Operation) (run : List Event) (w next : World) (by : Actor) → IsActor by → AreApart w → (g : IsGoing v ops run w by (at_work (w.seats by)) next)
+    → (b : Actor) (key : Key) (stamp mask : ℕ) (ys : List Event) → g.move.xs ≡ e.Publish b key stamp mask None ∷ ys → IsUpdate (in_hand (ops by) (of_actor by run))
     → (a : Actor) → IsActor a → same_actor a by ≡ false → (lock : Lock) → (w.seats a).lock ≡ Some lock → ¬ HasBlock v.layout lock key
-barred v ops w next by ok apart g b key stamp mask ys xs_is guarded a ok_a other lock at on =
+barred v ops run w next by ok apart g b key stamp mask ys xs_is update a ok_a other lock at on =
     let s = at_work (w.seats by) in
     let m = g.move in
-    let p = publish-step by b s.number key stamp mask ys v (facts w.log) (of_actor by w.log) (ask_of v.layout s.work) g.proper m.t m.xs m.step xs_is in
-    let k = sending-locked v.layout ops w.log g.hand.op s.lock s.work key stamp g.hand.holds (sending-of v.layout key stamp mask p.size s.work p.asks) guarded in
-    apart by a k.1.held lock ok ok_a (others-apart a by other) (sym (lock-at_work (w.seats by)) ∙ k.1.is) at (both-conflict v.layout k.1.held lock key k.1.block on k.1.exclusive)
+    let p = publish-step by b s.number key stamp mask ys v (facts w.log) (of_actor by w.log) (of_actor by run) (ask_of v.layout s.work) g.proper m.t m.xs m.step xs_is in
+    let k = sending-locked v.layout g.hand.op s.lock s.work key stamp g.hand.holds (sending-of v.layout key stamp mask p.size s.work p.asks) (subst IsUpdate g.hand.at update) in
+    apart by a k.held lock ok ok_a (others-apart a by other) (sym (lock-at_work (w.seats by)) ∙ k.is) at (both-conflict v.layout k.held lock key k.block on k.exclusive)

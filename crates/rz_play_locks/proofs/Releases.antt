@@ -1,5 +1,5 @@
 -- A lock that is held is released by a `Done` alone.
-use Rattle.std.proofs.Common.{◌≡◌, inl, inr, ℕ, Bool, true, false, List, [], ◌++◌, Option, Some, None, refl, sym, ◌∙◌, ap, subst}
+use Rattle.std.proofs.Common.{◌≡◌, inl, inr, ℕ, Bool, true, false, List, ◌++◌, Option, Some, None, refl, sym, ◌∙◌, ap, subst}
 use Rattle.mj_angles.specs.declared.layout.Layout.{Layout}
 use Rattle.rz_events.specs.Volume.{Volume}
 use Rattle.rz_events.specs.declared.keys.Actor.{Actor}
@@ -32,7 +32,7 @@ use Rattle.rz_play_locks.proofs.Barring.{lock-at_work}
 use Rattle.rz_play_locks.proofs.Kept.{IsGoing, going}
 
 -- An open with a lock is asked by an operation that holds none.
-module _ (layout : Layout) (ops : Actor → List Operation) (h : List Event) (op : Operation) (lock : Option Lock) (path : List ℕ) (exclusive : Bool) (from count : ℕ) where
+module _ (layout : Layout) (op : Operation) (lock : Option Lock) (path : List ℕ) (exclusive : Bool) (from count : ℕ) where
   abbrev wanted : Ask
   wanted = AskLock path exclusive from count
 
@@ -59,7 +59,7 @@ module _ (layout : Layout) (ops : Actor → List Operation) (h : List Event) (op
   copy-no n k reads.Recheck is = cc
   copy-no n k reads.End is = cc
 
-  holds-none : (work : Work) → IsHolding layout ops h op lock work → ask_of layout work ≡ wanted → lock ≡ None
+  holds-none : (work : Work) → IsHolding layout op lock work → ask_of layout work ≡ wanted → lock ≡ None
   holds-none (Locking p plan) holds is = holds.1
   holds-none (Opening p plan) holds is = holds.1
   holds-none (Calling c) holds is = cc
@@ -76,27 +76,27 @@ module _ (layout : Layout) (ops : Actor → List Operation) (h : List Event) (op
   holds-none (Ending a) holds is = cc
   holds-none Over holds is = absurd holds
 
-pub released : (v : Volume) (ops more : Actor → List Operation) (w next : World) → IsFine v [] w → IsFine v [] next → IsKeeping v.layout ops more w → (by : Actor) → IsActor by → IsTurn v by w next
+pub released : (v : Volume) (old : List Event) (ops more : Actor → List Operation) (w next : World) (fine : IsFine v old w) → IsFine v old next → IsKeeping v.layout ops more fine.run w → (by : Actor) → IsActor by → IsTurn v by w next
     → (a : Actor) (lock : Lock) → (w.seats a).lock ≡ Some lock → IsReleased w next a lock
-released v ops more w next fine fine_next keeping by ok turn a lock held = elim (going v ops more by ok w next fine fine_next keeping turn) [
+released v old ops more w next fine fine_next keeping by ok turn a lock held = elim (going v old ops more by ok w next fine fine_next keeping turn) [
   | inl same ↦ inl (ap (λ (z : World). (z.seats a).lock) same ∙ held)
   | inr g ↦ seat g (same_actor a by) refl
 ]
   where
-    at-ask : (g : IsGoing v ops w by (at_work (w.seats by)) next) → (at_work (w.seats by)).lock ≡ Some lock → (z : Ask) → ask_of v.layout (at_work (w.seats by)).work ≡ z
+    at-ask : (g : IsGoing v ops fine.run w by (at_work (w.seats by)) next) → (at_work (w.seats by)).lock ≡ Some lock → (z : Ask) → ask_of v.layout (at_work (w.seats by)).work ≡ z
         → IsStep by (at_work (w.seats by)).number z g.move.t g.move.xs → IsLockAfter (counted w) by (at_work (w.seats by)) z g.move.t (next.seats by).lock → IsReleased w next by lock
     at-ask g mine (AskExport c) asks step is = inl (is ∙ mine)
     at-ask g mine (AskNode n question) asks step is = inl (is ∙ mine)
     at-ask g mine Rest asks step is = inl (is ∙ mine)
     at-ask g mine (AskLock path exclusive from count) asks step is =
-        let none = holds-none v.layout ops w.log g.hand.op (at_work (w.seats by)).lock path exclusive from count (at_work (w.seats by)).work g.hand.holds asks in cc
+        let none = holds-none v.layout g.hand.op (at_work (w.seats by)).lock path exclusive from count (at_work (w.seats by)).work g.hand.holds asks in cc
     at-ask g mine (Say (SayDone answer)) asks step is =
         inr ((at_work (w.seats by)).number, answer, g.move.log_is ∙ ap (λ (zs : List Event). zs ++ w.log) step.2)
     at-ask g mine (Say (SayGot key part m)) asks step is = inl (is.1 ∙ mine)
     at-ask g mine (Say (SayGave key part end)) asks step is = inl (is.1 ∙ mine)
     at-ask g mine (Say (SayLeft key why)) asks step is = inl (is.1 ∙ mine)
 
-    seat : IsGoing v ops w by (at_work (w.seats by)) next → (b : Bool) → same_actor a by ≡ b → IsReleased w next a lock
+    seat : IsGoing v ops fine.run w by (at_work (w.seats by)) next → (b : Bool) → same_actor a by ≡ b → IsReleased w next a lock
     seat g true is =
         let same : a ≡ by = same_actor-true a by is in
         subst (λ z. IsReleased w next z lock) (sym same)

@@ -68,90 +68,90 @@ use Rattle.rz_play_locks.proofs.Turned.{fetch_asks}
 use Rattle.rz_play_locks.proofs.Published.{AreSilent, accepted-same, text-same, node-quiet}
 
 -- The events open no file for the actor, and publish nothing.
-pub record IsStill (a : Actor) (xs h : List Event) : Type 0 where
-  pub opens : last_open a (xs ++ h) ≡ last_open a h
+pub record IsStill (a : Actor) (old xs run : List Event) : Type 0 where
+  pub opens : last_open a old (xs ++ run) ≡ last_open a old run
   pub silent : (key : Key) → AreSilent key xs
 
-node-open : (a : Actor) (x : Event) (h : List Event) (n : ℕ) → word_of x ≡ Node n → last_open a (x ∷ h) ≡ last_open a h
-node-open a (e.Meta b c r) h n is = cc
-node-open a (_) h n is = refl
+node-open : (a : Actor) (old : List Event) (x : Event) (run : List Event) (n : ℕ) → word_of x ≡ Node n → last_open a old (x ∷ run) ≡ last_open a old run
+node-open a old (e.Meta b c r) run n is = cc
+node-open a old (_) run n is = refl
 
-still-node : (a by : Actor) (n : ℕ) (question : NodeAsk) (h : List Event) → IsOfActor question → (t : Told) (xs : List Event) → IsNodeStep by n question t xs → IsStill a xs h
-still-node a by n question h ok t xs step = record {
-  opens = node-step by n question (λ t xs. last_open a (xs ++ h) ≡ last_open a h)
-      (λ given x is. node-open a x h n (node-event by n question given x ok is).word_is)
-      (λ given x is link. node-open a x h n (node-event by n question given x ok is).word_is)
+still-node : (a by : Actor) (n : ℕ) (question : NodeAsk) (old run : List Event) → IsOfActor question → (t : Told) (xs : List Event) → IsNodeStep by n question t xs → IsStill a old xs run
+still-node a by n question old run ok t xs step = record {
+  opens = node-step by n question (λ t xs. last_open a old (xs ++ run) ≡ last_open a old run)
+      (λ given x is. node-open a old x run n (node-event by n question given x ok is).word_is)
+      (λ given x is link. node-open a old x run n (node-event by n question given x ok is).word_is)
       (λ link. refl) t xs step;
   silent = λ key. node-quiet by n question key ok t xs step;
 }
 
-still-look : (a by : Actor) (key : Key) (h : List Event) (t : Told) (xs : List Event) → IsExportStep by (call.Look key) t xs → IsStill a xs h
-still-look a by key h t xs step = export-step by (call.Look key) (λ t xs. IsStill a xs h) go t xs step
+still-look : (a by : Actor) (key : Key) (old run : List Event) (t : Told) (xs : List Event) → IsExportStep by (call.Look key) t xs → IsStill a old xs run
+still-look a by key old run t xs step = export-step by (call.Look key) (λ t xs. IsStill a old xs run) go t xs step
   where
-    go : (r : Reply) (x : Event) → export_event by (call.Look key) r ≡ Some x → IsStill a (x ∷ []) h
-    go (reply.Looked p) x is = subst (λ z. IsStill a (z ∷ []) h) (the_some _ x is) (record { opens = refl; silent = λ k. (refl, tt) })
-    go (reply.Denied why) x is = subst (λ z. IsStill a (z ∷ []) h) (the_some _ x is) (record { opens = refl; silent = λ k. (refl, tt) })
+    go : (r : Reply) (x : Event) → export_event by (call.Look key) r ≡ Some x → IsStill a old (x ∷ []) run
+    go (reply.Looked p) x is = subst (λ z. IsStill a old (z ∷ []) run) (the_some _ x is) (record { opens = refl; silent = λ k. (refl, tt) })
+    go (reply.Denied why) x is = subst (λ z. IsStill a old (z ∷ []) run) (the_some _ x is) (record { opens = refl; silent = λ k. (refl, tt) })
     go (_) x is = cc
 
-still-recheck : (a by : Actor) (key : Key) (h : List Event) (t : Told) (xs : List Event) → IsExportStep by (call.Recheck key) t xs → IsStill a xs h
-still-recheck a by key h t xs step = export-step by (call.Recheck key) (λ t xs. IsStill a xs h) go t xs step
+still-recheck : (a by : Actor) (key : Key) (old run : List Event) (t : Told) (xs : List Event) → IsExportStep by (call.Recheck key) t xs → IsStill a old xs run
+still-recheck a by key old run t xs step = export-step by (call.Recheck key) (λ t xs. IsStill a old xs run) go t xs step
   where
-    go : (r : Reply) (x : Event) → export_event by (call.Recheck key) r ≡ Some x → IsStill a (x ∷ []) h
-    go (reply.Looked p) x is = subst (λ z. IsStill a (z ∷ []) h) (the_some _ x is) (record { opens = refl; silent = λ k. (refl, tt) })
-    go (reply.Denied why) x is = subst (λ z. IsStill a (z ∷ []) h) (the_some _ x is) (record { opens = refl; silent = λ k. (refl, tt) })
+    go : (r : Reply) (x : Event) → export_event by (call.Recheck key) r ≡ Some x → IsStill a old (x ∷ []) run
+    go (reply.Looked p) x is = subst (λ z. IsStill a old (z ∷ []) run) (the_some _ x is) (record { opens = refl; silent = λ k. (refl, tt) })
+    go (reply.Denied why) x is = subst (λ z. IsStill a old (z ∷ []) run) (the_some _ x is) (record { opens = refl; silent = λ k. (refl, tt) })
     go (_) x is = cc
 
-pub all-back : (layout : Layout) (ops : Actor → List Operation) (xs h : List Event) (info : FileInfo) (offset size : ℕ) → AllGuarded layout ops (xs ++ h) info offset size → AllGuarded layout ops h info offset size
-all-back layout ops xs h info offset size all i low = guarded-back ops (key_at info ((offset + i) / block_bytes_of layout)) xs h (all i low)
+pub all-back : (layout : Layout) (ops : Actor → List Operation) (xs run : List Event) (info : FileInfo) (offset size : ℕ) → AllGuarded layout ops (xs ++ run) info offset size → AllGuarded layout ops run info offset size
+all-back layout ops xs run info offset size all i low = guarded-back ops (key_at info ((offset + i) / block_bytes_of layout)) xs run (all i low)
 
 -- an answer of which nothing is promised
-pub viewed-other : (layout : Layout) (ops : Actor → List Operation) (h : List Event) (offset count : ℕ) (answer : Answer) → ((info : FileInfo) (g : List Event) (size : ℕ) → IsWhole layout info g offset size answer)
-    → (opened : Option (FileInfo × List Event)) → IsViewedAt layout ops h offset count opened answer
-viewed-other layout ops h offset count answer is None = tt
-viewed-other layout ops h offset count answer is (Some opened) = λ all. is opened.0 opened.1 (min count (opened.0.size - offset))
+pub viewed-other : (layout : Layout) (ops : Actor → List Operation) (run : List Event) (offset count : ℕ) (answer : Answer) → ((info : FileInfo) (g : List Event) (size : ℕ) → IsWhole layout info g offset size answer)
+    → (opened : Option (FileInfo × List Event)) → IsViewedAt layout ops run offset count opened answer
+viewed-other layout ops run offset count answer is None = tt
+viewed-other layout ops run offset count answer is (Some opened) = λ all. is opened.0 opened.1 (min count (opened.0.size - offset))
 
 -- what was seen stays so where each block's text stays
-pub so-far-frame : (layout : Layout) (ops : Actor → List Operation) (h xs : List Event) (a : Actor) (offset count : ℕ) (r : Range) → last_open a (xs ++ h) ≡ last_open a h
-    → (AllGuarded layout ops h r.info offset r.size → (i : ℕ) → i < r.size
+pub so-far-frame : (layout : Layout) (ops : Actor → List Operation) (old run h xs : List Event) (a : Actor) (offset count : ℕ) (r : Range) → last_open a old (xs ++ run) ≡ last_open a old run
+    → (AllGuarded layout ops (xs ++ run) r.info offset r.size → (i : ℕ) → i < r.size
     → published_text (xs ++ h) (key_at r.info ((offset + i) / block_bytes_of layout)) ≡ published_text h (key_at r.info ((offset + i) / block_bytes_of layout)))
-    → IsSoFar layout ops h a offset count r → IsSoFar layout ops (xs ++ h) a offset count r
-so-far-frame layout ops h xs a offset count r opens same is = record {
+    → IsSoFar layout ops old run h a offset count r → IsSoFar layout ops old (xs ++ run) (xs ++ h) a offset count r
+so-far-frame layout ops old run h xs a offset count r opens same is = record {
   before = is.before;
   opened = opens ∙ is.opened;
   size_is = is.size_is;
-  texts = λ all i low. (let less = all-back layout ops xs h r.info offset r.size all in same less i low ∙ is.texts less i low);
+  texts = λ all i low. same all i low ∙ is.texts (all-back layout ops xs run r.info offset r.size all) i low;
   bytes = is.bytes;
   aim_is = is.aim_is;
-  bytes_are = λ all. is.bytes_are (all-back layout ops xs h r.info offset r.size all);
+  bytes_are = λ all. is.bytes_are (all-back layout ops xs run r.info offset r.size all);
 }
 
-module _ (v : Volume) (ops : Actor → List Operation) (h : List Event) (before : IsLegalInRuns v h) (by : Actor) (path0 : List ℕ) (offset count : ℕ) where
+module _ (v : Volume) (ops : Actor → List Operation) (old run h : List Event) (log_is : h ≡ run ++ old) (before : IsLegalInRuns v h) (by : Actor) (path0 : List ℕ) (offset count : ℕ) where
   abbrev op : Operation
   op = operation.View path0 offset count
 
   abbrev V : List Event → Work → Type 0
-  V xs work = IsSeenAt v.layout ops (xs ++ h) by offset count work
+  V xs work = IsSeenAt v.layout ops old (xs ++ run) (xs ++ h) by offset count work
 
   abbrev B : ℕ
   B = block_bytes_of v.layout
 
   other : (xs : List Event) (answer : Answer) → ((info : FileInfo) (g : List Event) (size : ℕ) → IsWhole v.layout info g offset size answer) → V xs (Ending answer)
-  other xs answer is = viewed-other v.layout ops (xs ++ h) offset count answer is (last_open by (xs ++ h))
+  other xs answer is = viewed-other v.layout ops (xs ++ run) offset count answer is (last_open by old (xs ++ run))
 
-  still-so-far : (xs : List Event) → IsStill by xs h → (r : Range) → IsSoFar v.layout ops h by offset count r → IsSoFar v.layout ops (xs ++ h) by offset count r
+  still-so-far : (xs : List Event) → IsStill by old xs run → (r : Range) → IsSoFar v.layout ops old run h by offset count r → IsSoFar v.layout ops old (xs ++ run) (xs ++ h) by offset count r
   still-so-far xs still r is =
-      so-far-frame v.layout ops h xs by offset count r still.opens
+      so-far-frame v.layout ops old run h xs by offset count r still.opens
       (λ all i low. text-same v xs h (key_at r.info ((offset + i) / B)) before (accepted-same xs h (key_at r.info ((offset + i) / B)) (still.silent (key_at r.info ((offset + i) / B))))) is
 
   -- the range goes on
-  go-seen : (xs : List Event) (r : Range) → IsSoFar v.layout ops (xs ++ h) by offset count r → V xs (in_range (go_on v.layout r))
+  go-seen : (xs : List Event) (r : Range) → IsSoFar v.layout ops old (xs ++ run) (xs ++ h) by offset count r → V xs (in_range (go_on v.layout r))
   go-seen xs r is = go (r.done == r.size) refl
     where
-      all-of : AllGuarded v.layout ops (xs ++ h) r.info offset (min count (r.info.size - offset)) → AllGuarded v.layout ops (xs ++ h) r.info offset r.size
-      all-of all = subst (AllGuarded v.layout ops (xs ++ h) r.info offset) (sym is.size_is) all
+      all-of : AllGuarded v.layout ops (xs ++ run) r.info offset (min count (r.info.size - offset)) → AllGuarded v.layout ops (xs ++ run) r.info offset r.size
+      all-of all = subst (AllGuarded v.layout ops (xs ++ run) r.info offset) (sym is.size_is) all
 
       whole : r.done ≡ r.size → V xs (Ending (whole_answer (Taking is.bytes) r.done))
-      whole done = subst (λ z. IsViewedAt v.layout ops (xs ++ h) offset count z (answers.Read is.bytes)) (sym is.opened)
+      whole done = subst (λ z. IsViewedAt v.layout ops (xs ++ run) offset count z (answers.Read is.bytes)) (sym is.opened)
           (λ all. is.bytes_are (all-of all) ∙ ap (file_bytes v.layout (λ block. published_text is.before (key_at r.info block)) offset) (done ∙ is.size_is))
 
       go : (b : Bool) → (r.done == r.size) ≡ b → V xs (in_range (cond b (FileEnded r (end.Whole r.done)) (next_block v.layout r r.aim)))
@@ -159,8 +159,8 @@ module _ (v : Volume) (ops : Actor → List Operation) (h : List Event) (before 
       go false left = subst (λ z. V xs (in_range (next_block v.layout r z))) (sym is.aim_is) is
 
   -- the block in hand was found with the text that is published
-  passed-seen : (xs : List Event) → IsStill by xs h → (r : Range) → IsSoFar v.layout ops h by offset count r → r.offset ≡ offset → r.done < r.size → (text : List ℕ)
-      → (IsGuarded ops (key_in v.layout r) h → text ≡ published_text h (key_in v.layout r)) → V xs (in_range (with_text v.layout r text r.aim))
+  passed-seen : (xs : List Event) → IsStill by old xs run → (r : Range) → IsSoFar v.layout ops old run h by offset count r → r.offset ≡ offset → r.done < r.size → (text : List ℕ)
+      → (IsGuarded ops (key_in v.layout r) run → text ≡ published_text h (key_in v.layout r)) → V xs (in_range (with_text v.layout r text r.aim))
   passed-seen xs still r is at left text published =
       subst (λ z. V xs (in_range (with_text v.layout r text z))) (sym is.aim_is)
       (go-seen xs (passed v.layout r (Taking (is.bytes ++ cut (start_in v.layout r) (count_in v.layout r) text)))
@@ -188,25 +188,25 @@ module _ (v : Volume) (ops : Actor → List Operation) (h : List Event) (before 
       key-is : key_at r.info ((offset + r.done) / B) ≡ key_in v.layout r
       key-is = ap (λ o. key_at r.info ((o + r.done) / B)) (sym at)
 
-      text-is : AllGuarded v.layout ops h r.info offset r.size → text ≡ texts ((r.offset + r.done) / B)
-      text-is all = published (subst (λ (k : Key). IsGuarded ops k h) key-is (all r.done left))
+      text-is : AllGuarded v.layout ops run r.info offset r.size → text ≡ texts ((r.offset + r.done) / B)
+      text-is all = published (subst (λ (k : Key). IsGuarded ops k run) key-is (all r.done left))
           ∙ ap (published_text h) (sym key-is) ∙ is.texts all r.done left ∙ ap (λ o. texts ((o + r.done) / B)) (sym at)
 
   -- how its read ended
-  part-seen : (xs : List Event) → IsStill by xs h → (lock : Option Lock) (r : Range) (key : Key) → IsRange v.layout op lock r key → r.offset ≡ offset → IsSoFar v.layout ops h by offset count r
-      → (m : ReadMark) → (IsGuarded ops key h → IsNewest h key (reading.Ended m)) → V xs (in_range (after_part v.layout r (found_text (facts h) m) m))
+  part-seen : (xs : List Event) → IsStill by old xs run → (lock : Option Lock) (r : Range) (key : Key) → IsRange v.layout op lock r key → r.offset ≡ offset → IsSoFar v.layout ops old run h by offset count r
+      → (m : ReadMark) → (IsGuarded ops key run → IsNewest h key (reading.Ended m)) → V xs (in_range (after_part v.layout r (found_text (facts h) m) m))
   part-seen xs still lock r key range at is (mark.Found s size) newest =
       passed-seen xs still r is at range.left (found_text (facts h) (mark.Found s size)) (λ guarded.
-      (let n = newest (subst (λ (k : Key). IsGuarded ops k h) (sym range.key_is) guarded) in
+      (let n = newest (subst (λ (k : Key). IsGuarded ops k run) (sym range.key_is) guarded) in
       sym (subst (λ (k : Key). published_text h k ≡ text_in ((facts h).wrote s)) range.key_is (ap (text_of (facts h)) n.1))))
   part-seen xs still lock r key range at is mark.Hole newest =
       passed-seen xs still r is at range.left [] (λ guarded.
-      (let n = newest (subst (λ (k : Key). IsGuarded ops k h) (sym range.key_is) guarded) in
+      (let n = newest (subst (λ (k : Key). IsGuarded ops k run) (sym range.key_is) guarded) in
       sym (subst (λ (k : Key). published_text h k ≡ []) range.key_is (ap (text_of (facts h)) n))))
   part-seen xs still lock r key range at is (mark.Moved was now) newest =
-      subst (λ z. IsViewedAt v.layout ops (xs ++ h) offset count z (answers.ShortRead r.done (read_end [] (mark.Moved was now)))) (sym (still.opens ∙ is.opened))
-      (λ all. newest (subst (λ (k : Key). IsGuarded ops k h) (ap (λ o. key_at r.info ((o + r.done) / B)) (sym at) ∙ sym range.key_is)
-      (guarded-back ops (key_at r.info ((offset + r.done) / B)) xs h (all r.done (let left = range.left in let size = is.size_is in omega (arith, left, size))))))
+      subst (λ z. IsViewedAt v.layout ops (xs ++ run) offset count z (answers.ShortRead r.done (read_end [] (mark.Moved was now)))) (sym (still.opens ∙ is.opened))
+      (λ all. newest (subst (λ (k : Key). IsGuarded ops k run) (ap (λ o. key_at r.info ((o + r.done) / B)) (sym at) ∙ sym range.key_is)
+      (guarded-back ops (key_at r.info ((offset + r.done) / B)) xs run (all r.done (let left = range.left in let size = is.size_is in omega (arith, left, size))))))
   part-seen xs still lock r key range at is (mark.TooFew seen) newest = other xs (answers.ShortRead r.done _) (λ info g size. tt)
   part-seen xs still lock r key range at is mark.Inconsistent newest = other xs (answers.ShortRead r.done _) (λ info g size. tt)
   part-seen xs still lock r key range at is (mark.Denied cause) newest = other xs (answers.ShortRead r.done _) (λ info g size. tt)
@@ -218,10 +218,12 @@ module _ (v : Volume) (ops : Actor → List Operation) (h : List Event) (before 
       subst (λ z. V (z ∷ []) (told v.layout (Locking path (ReadBytes offset count)) (Locked true (reply.Tree (answer.File info))))) (the_some _ x is)
       (go-seen (e.Meta by (tree.OpenFile path) (answer.File info) ∷ []) (record { info = info; offset = offset; size = min count (info.size - offset); done = 0; aim = Taking [] })
       (record {
-        before = h;
-        opened = ap (λ b. cond b (Some (info, h)) (last_open by h)) (same_actor-refl by);
+        before = run ++ old;
+        opened = ap (λ b. cond b (Some (info, run ++ old)) (last_open by old run)) (same_actor-refl by);
         size_is = refl;
-        texts = λ all i low. text-same v (e.Meta by (tree.OpenFile path) (answer.File info) ∷ []) h (key_at info ((offset + i) / B)) before refl;
+        texts = λ all i low.
+            text-same v (e.Meta by (tree.OpenFile path) (answer.File info) ∷ []) h (key_at info ((offset + i) / B)) before refl
+            ∙ ap (λ (z : List Event). published_text z (key_at info ((offset + i) / B))) log_is;
         bytes = [];
         aim_is = refl;
         bytes_are = λ all. refl;
@@ -303,7 +305,7 @@ module _ (v : Volume) (ops : Actor → List Operation) (h : List Event) (before 
     writing-alone text s Missed = tt
 
     -- a read that has not ended goes on
-    reading-on : (r : Range) (s : ReaderState) → reader_end s ≡ None → IsSoFar v.layout ops (xs ++ h) by offset count r → (t : Told) → V xs (told v.layout (Reading (Within r) s) t)
+    reading-on : (r : Range) (s : ReaderState) → reader_end s ≡ None → IsSoFar v.layout ops old (xs ++ run) (xs ++ h) by offset count r → (t : Told) → V xs (told v.layout (Reading (Within r) s) t)
     reading-on r s none is (Noted text) = subst (λ z. V xs (said_reading v.layout (Within r) s text z)) (sym none) is
     reading-on r s none is (Replied a) = is
     reading-on r s none is (Locked granted a) = is
@@ -332,22 +334,22 @@ module _ (v : Volume) (ops : Actor → List Operation) (h : List Event) (before 
         go (inl held) = absurd (let k = held.0 in cc)
         go (inr held) = (subst (λ z. OfPlan z r) (plan-of is.path is.plan held.0) is.range).0
 
-    reading-within : (r : Range) (layout : Layout) (key : Key) (places : List ℕ) → IsRange v.layout op lock r key → IsSoFar v.layout ops h by offset count r → (stage : ReadStage)
-        → IsText v.layout ops h (Some op) (Reading (Within r) (record { layout = layout; key = key; places = places; stage = stage }))
+    reading-within : (r : Range) (layout : Layout) (key : Key) (places : List ℕ) → IsRange v.layout op lock r key → IsSoFar v.layout ops old run h by offset count r → (stage : ReadStage)
+        → IsText v.layout ops run h (Some op) (Reading (Within r) (record { layout = layout; key = key; places = places; stage = stage }))
         → Turn (Reading (Within r) (record { layout = layout; key = key; places = places; stage = stage }))
     reading-within r layout key places range is reading.Looking text step said =
-        reading-on r (record { layout = layout; key = key; places = places; stage = reading.Looking }) refl (still-so-far xs (still-look by by key h t xs step) r is) t
+        reading-on r (record { layout = layout; key = key; places = places; stage = reading.Looking }) refl (still-so-far xs (still-look by by key old run t xs step) r is) t
     reading-within r layout key places range is (reading.Fetching t0) text step said =
         reading-on r (record { layout = layout; key = key; places = places; stage = reading.Fetching t0 }) refl (go (t0.left == 0) step) t
       where
-        go : (b : Bool) → IsStep by number (fetch_asks true key places t0 b) t xs → IsSoFar v.layout ops (xs ++ h) by offset count r
-        go true step = still-so-far xs (still-recheck by by key h t xs step) r is
-        go false step = still-so-far xs (still-node by by (slice_index places (next_read t0)) (ask.Fetch key (next_read t0) t0.stamp) h tt t xs step) r is
+        go : (b : Bool) → IsStep by number (fetch_asks true key places t0 b) t xs → IsSoFar v.layout ops old (xs ++ run) (xs ++ h) by offset count r
+        go true step = still-so-far xs (still-recheck by by key old run t xs step) r is
+        go false step = still-so-far xs (still-node by by (slice_index places (next_read t0)) (ask.Fetch key (next_read t0) t0.stamp) old run tt t xs step) r is
     reading-within r layout key places range is (reading.Ended m) text step said =
         subst (λ z. V xs (told v.layout (Reading (Within r) (record { layout = layout; key = key; places = places; stage = reading.Ended m })) z)) (sym said)
-        (part-seen xs (subst (λ (zs : List Event). IsStill by zs h) (sym step.2) (record { opens = refl; silent = λ k. (refl, tt) })) lock r key range (offset-of r key range) is m (λ guarded. text tt guarded))
+        (part-seen xs (subst (λ (zs : List Event). IsStill by old zs run) (sym step.2) (record { opens = refl; silent = λ k. (refl, tt) })) lock r key range (offset-of r key range) is m (λ guarded. text tt guarded))
 
-    pub seen-turn : (work : Work) → IsHolding v.layout ops h op lock work → IsText v.layout ops h (Some op) work → IsSeenAt v.layout ops h by offset count work → Turn work
+    pub seen-turn : (work : Work) → IsHolding v.layout op lock work → IsText v.layout ops run h (Some op) work → IsSeenAt v.layout ops old run h by offset count work → Turn work
     seen-turn (Calling c) holds text old step said = calling-seen c t
     seen-turn (Dropping fid n places) holds text old step said = drop-seen fid n places t
     seen-turn (Opening path plan) holds text old step said = absurd (let k = holds.0 in cc)

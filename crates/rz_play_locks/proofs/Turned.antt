@@ -9,7 +9,6 @@ use Rattle.rz_events.specs.declared.keys.Key.{Key}
 use Rattle.rz_events.specs.declared.export.Call.{Call}
 use Rattle.rz_events.specs.declared.export.Call.TheVariants as call
 use Rattle.rz_events.specs.declared.export.Reply.{Reply}
-use Rattle.rz_events.specs.declared.export.Reply.TheVariants as reply
 use Rattle.rz_events.specs.declared.tree.TreeCall.TheVariants as tree
 use Rattle.rz_events.specs.declared.nodes.NodeAsk.{NodeAsk}
 use Rattle.rz_events.specs.declared.nodes.NodeAsk.TheVariants as ask
@@ -21,11 +20,8 @@ use Rattle.rz_events.specs.declared.events.Event.{Event}
 use Rattle.rz_events.specs.declared.events.Event.TheVariants as e
 use Rattle.rz_events.specs.Events.{word_of}
 use Rattle.rz_export_model.specs.Export.{export_reply}
-use Rattle.rz_export_model.specs.ExportEvents.{export_event}
 use Rattle.rz_core.specs.History.{Facts, of_actor}
 use Rattle.rz_core.specs.Own.{is_end, IsBetween}
-use Rattle.rz_core.proofs.NodeSteps.{the_some}
-use Rattle.rz_core.proofs.Stamps.{same_key-refl}
 use Rattle.rz_client_model.specs.declared.reading.ReaderState.{ReaderState}
 use Rattle.rz_client_model.specs.declared.reading.ReadStage.{ReadStage}
 use Rattle.rz_client_model.specs.declared.reading.ReadStage.TheVariants as reading
@@ -50,10 +46,10 @@ use Rattle.rz_locks.specs.declared.conflict.Lock.{Lock}
 use Rattle.rz_play_laws.specs.Own.{IsOwn, IsOfActor}
 use Rattle.rz_play_laws.proofs.Steps.{export-step, node-step, say-step}
 use Rattle.rz_play_laws.proofs.Events.{export-event, node-event}
-use Rattle.rz_play_locks.specs.Operations.{in_hand, ended, IsUpdate, IsGuarded}
-use Rattle.rz_play_locks.specs.Holding.{lock_for, InCourse, IsAlone, IsBegunBy, IsHolding, InHand}
+use Rattle.rz_play_locks.specs.Operations.{in_hand, ended}
+use Rattle.rz_play_locks.specs.Holding.{lock_for, InCourse, IsAlone, IsHolding, InHand}
 use Rattle.rz_play_locks.proofs.Moves.{IsLockAfter}
-use Rattle.rz_play_locks.proofs.Holds.{Later, guarded-back, calling-later, dropping-later, opening-later, reading-later, writing-later, locked-later, part-later, block-later}
+use Rattle.rz_play_locks.proofs.Holds.{Later, calling-later, dropping-later, opening-later, reading-later, writing-later, locked-later, part-later, block-later}
 
 -- an event of the export ends no operation
 export-going : (x : Event) → word_of x ≡ Export → is_end x ≡ false
@@ -94,12 +90,12 @@ module _ (v : Volume) (ops : Actor → List Operation) (h : List Event) (by : Ac
   o = of_actor by h
 
   abbrev After : List Event → Option Lock → Work → Type 0
-  After xs lock work = InHand v.layout ops (xs ++ h) (xs ++ o) by number lock work
+  After xs lock work = InHand v.layout ops (xs ++ o) by number lock work
 
   abbrev Between : List Event → Work → Type 0
   Between xs work = work ≡ Over → IsBetween (xs ++ o)
 
-  finish : (xs : List Event) (lock : Option Lock) (work : Work) → IsQuiet o xs → Later v.layout ops (xs ++ h) op lock work → Between xs work → After xs lock work
+  finish : (xs : List Event) (lock : Option Lock) (work : Work) → IsQuiet o xs → Later v.layout op lock work → Between xs work → After xs lock work
   finish xs lock work quiet later between = go work later between
     where
       count' : ended (xs ++ o) + 1 ≡ number
@@ -108,7 +104,7 @@ module _ (v : Volume) (ops : Actor → List Operation) (h : List Event) (by : Ac
       at' : in_hand (ops by) (xs ++ o) ≡ Some op
       at' = ap (slice_get (ops by)) quiet.same ∙ at
 
-      go : (z : Work) → Later v.layout ops (xs ++ h) op lock z → Between xs z → After xs lock z
+      go : (z : Work) → Later v.layout op lock z → Between xs z → After xs lock z
       go Over later between = absurd (quiet.going (between refl))
       go (Calling c) later between = (count', (op, at', later))
       go (Dropping fid n places) later between = (count', (op, at', later))
@@ -120,54 +116,43 @@ module _ (v : Volume) (ops : Actor → List Operation) (h : List Event) (by : Ac
       go (Ending answer) later between = (count', (op, at', later))
 
   module _ (lock : Option Lock) where
-    by-export : (c : Call) (W : Told → Work) → ((r : Reply) (x : Event) → export_event by c r ≡ Some x → Later v.layout ops (x ∷ h) op lock (W (Replied r)))
+    by-export : (c : Call) (W : Told → Work) → ((r : Reply) → Later v.layout op lock (W (Replied r)))
         → (t : Told) (xs : List Event) → IsExportStep by c t xs → Between xs (W t) → After xs lock (W t)
     by-export c W later t xs step =
         export-step by c (λ t xs. Between xs (W t) → After xs lock (W t))
-        (λ r x is between. finish (x ∷ []) lock (W (Replied r)) (one-quiet o x (export-going x (export-event by c r x is).word_is)) (later r x is) between) t xs step
+        (λ r x is between. finish (x ∷ []) lock (W (Replied r)) (one-quiet o x (export-going x (export-event by c r x is).word_is)) (later r) between) t xs step
 
-    by-node : (n : ℕ) (question : NodeAsk) (W : Told → Work) → IsOfActor question → ((t : Told) (xs : List Event) → Later v.layout ops (xs ++ h) op lock (W t))
+    by-node : (n : ℕ) (question : NodeAsk) (W : Told → Work) → IsOfActor question → ((t : Told) → Later v.layout op lock (W t))
         → (t : Told) (xs : List Event) → IsNodeStep by n question t xs → Between xs (W t) → After xs lock (W t)
     by-node n question W ok later t xs step =
         node-step by n question (λ t xs. Between xs (W t) → After xs lock (W t))
-        (λ given x is between. finish (x ∷ []) lock _ (one-quiet o x (node-event by n question given x ok is).going) (later (Answered true given) (x ∷ [])) between)
-        (λ given x is link between. finish (e.Missed by n true ∷ x ∷ []) lock _ (more-quiet o x (e.Missed by n true) (node-event by n question given x ok is).going refl) (later Missed (e.Missed by n true ∷ x ∷ [])) between)
-        (λ link between. finish (e.Missed by n false ∷ []) lock _ (one-quiet o (e.Missed by n false) refl) (later Missed (e.Missed by n false ∷ [])) between) t xs step
+        (λ given x is between. finish (x ∷ []) lock _ (one-quiet o x (node-event by n question given x ok is).going) (later (Answered true given)) between)
+        (λ given x is link between. finish (e.Missed by n true ∷ x ∷ []) lock _ (more-quiet o x (e.Missed by n true) (node-event by n question given x ok is).going refl) (later Missed) between)
+        (λ link between. finish (e.Missed by n false ∷ []) lock _ (one-quiet o (e.Missed by n false) refl) (later Missed) between) t xs step
 
     -- The write of a block.
     module _ (course : Course) (text : List ℕ) (layout : Layout) (key : Key) (places : List ℕ) (size : ℕ) (in_course : InCourse v.layout op lock course key) (alone : IsAlone op course) where
       abbrev S : WriteStage → WriterState
       S stage = record { layout = layout; key = key; places = places; length = size; stage = stage }
 
-      begins : (r : Reply) (x : Event) → export_event by (call.Begin key text) r ≡ Some x → Later v.layout ops (x ∷ h) op lock (Writing course text (writer_after (S writing.Beginning) (Replied r)))
-      begins (reply.Begun stamp base) x is = (
-        in_course,
-        alone,
-        λ g.
-            subst IsUpdate at ((subst (λ z. IsGuarded ops key (z ∷ h)) (sym (the_some _ x is)) g).1 (same_key-refl key)),
-      )
-      begins (reply.Denied why) x is = (in_course, alone, tt)
-      begins (_) x is = cc
-
       abbrev Sends : Sent → Told → Work
       Sends t0 t = told v.layout (Writing course text (S (writing.Sending t0))) t
 
-      goes-on : (t0 : Sent) → (IsGuarded ops key h → IsUpdate (Some op)) → (t : Told) (xs : List Event)
-          → Later v.layout ops (xs ++ h) op lock (Writing course text (writer_after (S (writing.Sending t0)) t))
-      goes-on t0 update t xs = writing-later v.layout ops (xs ++ h) op lock course text (S (writing.Sending t0)) t in_course alone (λ g. update (guarded-back ops key xs h g))
+      writes-on : (stage : WriteStage) (t : Told) → Later v.layout op lock (Writing course text (writer_after (S stage) t))
+      writes-on stage t = writing-later v.layout op lock course text (S stage) t in_course alone
 
-      sends : (t0 : Sent) → (IsGuarded ops key h → IsUpdate (Some op)) → (t : Told) (xs : List Event) → Later v.layout ops (xs ++ h) op lock (Sends t0 t)
-      sends t0 update (Replied r) xs = goes-on t0 update (Replied r) xs
-      sends t0 update (Locked granted r) xs = goes-on t0 update (Locked granted r) xs
-      sends t0 update (Answered fits given) xs = goes-on t0 update (Answered fits given) xs
-      sends t0 update Missed xs = goes-on t0 update Missed xs
-      sends t0 update (Noted found) xs = goes-on t0 update (Noted found) xs
+      sends : (t0 : Sent) (t : Told) → Later v.layout op lock (Sends t0 t)
+      sends t0 (Replied r) = writes-on (writing.Sending t0) (Replied r)
+      sends t0 (Locked granted r) = writes-on (writing.Sending t0) (Locked granted r)
+      sends t0 (Answered fits given) = writes-on (writing.Sending t0) (Answered fits given)
+      sends t0 Missed = writes-on (writing.Sending t0) Missed
+      sends t0 (Noted found) = writes-on (writing.Sending t0) (Noted found)
 
-      sending : (t0 : Sent) → (IsGuarded ops key h → IsUpdate (Some op)) → (t : Told) (xs : List Event) → (b : Bool)
+      sending : (t0 : Sent) (t : Told) (xs : List Event) → (b : Bool)
           → IsStep by number (write_asks (is_part course) text (S (writing.Sending t0)) (cond b (writes.Keep (next_position t0) (slice_index places (next_position t0)) t0.stamp t0.base) (writes.Publish t0.stamp (mask_of t0.why)))) t xs
           → Between xs (Sends t0 t) → After xs lock (Sends t0 t)
-      sending t0 update t xs true step = by-node (slice_index places (next_position t0)) (ask.Keep _) (Sends t0) tt (sends t0 update) t xs step
-      sending t0 update t xs false step = by-export (call.Publish key t0.stamp (mask_of t0.why) size) (Sends t0) (λ r x is. sends t0 update (Replied r) (x ∷ [])) t xs step
+      sending t0 t xs true step = by-node (slice_index places (next_position t0)) (ask.Keep _) (Sends t0) tt (sends t0) t xs step
+      sending t0 t xs false step = by-export (call.Publish key t0.stamp (mask_of t0.why) size) (Sends t0) (λ r. sends t0 (Replied r)) t xs step
 
     -- The read of a block.
     module _ (course : Course) (layout : Layout) (key : Key) (places : List ℕ) (in_course : InCourse v.layout op lock course key) where
@@ -177,20 +162,20 @@ module _ (v : Volume) (ops : Actor → List Operation) (h : List Event) (by : Ac
       abbrev Reads : ReadStage → Told → Work
       Reads stage t = told v.layout (Reading course (R stage)) t
 
-      reads-on : (stage : ReadStage) (t : Told) (xs : List Event) → Later v.layout ops (xs ++ h) op lock (Reading course (reader_after (R stage) t))
-      reads-on stage t xs = reading-later v.layout ops (xs ++ h) op lock course (R stage) t in_course
+      reads-on : (stage : ReadStage) (t : Told) → Later v.layout op lock (Reading course (reader_after (R stage) t))
+      reads-on stage t = reading-later v.layout op lock course (R stage) t in_course
 
-      fetches : (t0 : Fetches) (t : Told) (xs : List Event) → Later v.layout ops (xs ++ h) op lock (Reads (reading.Fetching t0) t)
-      fetches t0 (Replied r) xs = reads-on (reading.Fetching t0) (Replied r) xs
-      fetches t0 (Locked granted r) xs = reads-on (reading.Fetching t0) (Locked granted r) xs
-      fetches t0 (Answered fits given) xs = reads-on (reading.Fetching t0) (Answered fits given) xs
-      fetches t0 Missed xs = reads-on (reading.Fetching t0) Missed xs
-      fetches t0 (Noted found) xs = reads-on (reading.Fetching t0) (Noted found) xs
+      fetches : (t0 : Fetches) (t : Told) → Later v.layout op lock (Reads (reading.Fetching t0) t)
+      fetches t0 (Replied r) = reads-on (reading.Fetching t0) (Replied r)
+      fetches t0 (Locked granted r) = reads-on (reading.Fetching t0) (Locked granted r)
+      fetches t0 (Answered fits given) = reads-on (reading.Fetching t0) (Answered fits given)
+      fetches t0 Missed = reads-on (reading.Fetching t0) Missed
+      fetches t0 (Noted found) = reads-on (reading.Fetching t0) (Noted found)
 
       fetching : (t0 : Fetches) (t : Told) (xs : List Event) → (b : Bool)
           → IsStep by number (read_asks (is_part course) key None (cond b reads.Recheck (reads.Fetch (next_read t0) (slice_index places (next_read t0)) t0.stamp))) t xs
           → Between xs (Reads (reading.Fetching t0) t) → After xs lock (Reads (reading.Fetching t0) t)
-      fetching t0 t xs true step = by-export (call.Recheck key) (Reads (reading.Fetching t0)) (λ r x is. fetches t0 (Replied r) (x ∷ [])) t xs step
+      fetching t0 t xs true step = by-export (call.Recheck key) (Reads (reading.Fetching t0)) (λ r. fetches t0 (Replied r)) t xs step
       fetching t0 t xs false step = by-node (slice_index places (next_read t0)) (ask.Fetch key (next_read t0) t0.stamp) (Reads (reading.Fetching t0)) tt (fetches t0) t xs step
 
   -- Words.
@@ -207,13 +192,13 @@ module _ (v : Volume) (ops : Actor → List Operation) (h : List Event) (by : Ac
   gave-turn Alone key lock is text end between = over (e.Gave by number key false end) lock refl is
   gave-turn (Within r) key lock is text end between =
       let x = e.Gave by number key true end in
-      finish (x ∷ []) lock (after_gave v.layout (Within r) end) (one-quiet o x refl) (block-later v.layout ops (x ∷ h) op lock r key is end) between
+      finish (x ∷ []) lock (after_gave v.layout (Within r) end) (one-quiet o x refl) (block-later v.layout op lock r key is end) between
 
   got-turn : (course : Course) (key : Key) (lock : Option Lock) → InCourse v.layout op lock course key → (text : List ℕ) (m : ReadMark) (x : Event) → is_end x ≡ not (is_part course)
       → Between (x ∷ []) (after_got v.layout course text m) → After (x ∷ []) lock (after_got v.layout course text m)
   got-turn Alone key lock is text m x end between = over x lock end is
   got-turn (Within r) key lock is text m x end between =
-      finish (x ∷ []) lock (after_got v.layout (Within r) text m) (one-quiet o x end) (part-later v.layout ops (x ∷ h) op lock r text key is m) between
+      finish (x ∷ []) lock (after_got v.layout (Within r) text m) (one-quiet o x end) (part-later v.layout op lock r text key is m) between
 
   by-say : (now : Option Lock) (said : Saying) (W : Told → Work)
       → ((text : List ℕ) → Between (said_event by number text said ∷ []) (W (Noted text)) → After (said_event by number text said ∷ []) now (W (Noted text)))
@@ -221,7 +206,7 @@ module _ (v : Volume) (ops : Actor → List Operation) (h : List Event) (by : Ac
   by-say now said W f t xs step = say-step by number said (λ t xs. Between xs (W t) → After xs now (W t)) f t xs step
 
   -- Every turn.
-  module _ (w : World) (s : Seat) (f : Facts) (run : List Event) (t : Told) (xs : List Event) (now : Option Lock) where
+  module _ (w : World) (s : Seat) (f : Facts) (all run : List Event) (t : Told) (xs : List Event) (now : Option Lock) where
     abbrev Turn : Work → Type 0
     Turn work = IsStep by number (ask_of v.layout work) t xs → IsLockAfter w by s (ask_of v.layout work) t now
         → Between xs (told v.layout work t) → After xs now (told v.layout work t)
@@ -238,8 +223,8 @@ module _ (v : Volume) (ops : Actor → List Operation) (h : List Event) (by : Ac
         let r = export_reply w.export (call.Tree (tree.OpenFile path)) in
         let quiet : IsQuiet o xs = subst (IsQuiet o) (sym step.5) (one-quiet o step.2 (export-going step.2 (export-event by (call.Tree (tree.OpenFile path)) step.1 step.2 step.4).word_is)) in
         finish xs now (told v.layout (Locking path plan) t) quiet
-        (subst (λ z. Later v.layout ops (xs ++ h) op now (told v.layout (Locking path plan) z)) (sym t_is)
-        (locked-later v.layout ops (xs ++ h) op s.lock now none path plan exclusive from size granted r is for now_is)) between
+        (subst (λ z. Later v.layout op now (told v.layout (Locking path plan) z)) (sym t_is)
+        (locked-later v.layout op s.lock now none path plan exclusive from size granted r is for now_is)) between
 
     locking-turn : (path : List ℕ) (plan : RangePlan) → begun op ≡ Locking path plan → s.lock ≡ None → Turn (Locking path plan)
     locking-turn path (WriteBytes offset bytes) is none =
@@ -248,18 +233,17 @@ module _ (v : Volume) (ops : Actor → List Operation) (h : List Event) (by : Ac
         lock-turn path (ReadBytes offset size) false (first_byte v.layout offset) (whole_bytes v.layout offset size) is none (λ fid. refl)
 
     writing-turn : (course : Course) (text : List ℕ) (layout : Layout) (key : Key) (places : List ℕ) (size : ℕ) → InCourse v.layout op s.lock course key → IsAlone op course
-        → (stage : WriteStage) → IsBegunBy ops h op key stage
-        → Turn (Writing course text (record { layout = layout; key = key; places = places; length = size; stage = stage }))
-    writing-turn course text layout key places size is alone writing.Beginning update step lk between =
+        → (stage : WriteStage) → Turn (Writing course text (record { layout = layout; key = key; places = places; length = size; stage = stage }))
+    writing-turn course text layout key places size is alone writing.Beginning step lk between =
         let W = told v.layout (Writing course text (record { layout = layout; key = key; places = places; length = size; stage = writing.Beginning })) in
-        same (W t) lk (by-export s.lock (call.Begin key text) W (begins s.lock course text layout key places size is alone) t xs step between)
-    writing-turn course text layout key places size is alone (writing.Sending t0) update step lk between = go (nat_lt t0.kept (forward_of layout)) step lk
+        same (W t) lk (by-export s.lock (call.Begin key text) W (λ r. writes-on s.lock course text layout key places size is alone writing.Beginning (Replied r)) t xs step between)
+    writing-turn course text layout key places size is alone (writing.Sending t0) step lk between = go (nat_lt t0.kept (forward_of layout)) step lk
       where
         go : (b : Bool) → IsStep by number (send_asks course text layout key places size t0 b) t xs → IsLockAfter w by s (send_asks course text layout key places size t0 b) t now
             → After xs now (told v.layout (Writing course text (record { layout = layout; key = key; places = places; length = size; stage = writing.Sending t0 })) t)
-        go true step lk = same (told v.layout (Writing course text (record { layout = layout; key = key; places = places; length = size; stage = writing.Sending t0 })) t) lk (sending s.lock course text layout key places size is alone t0 update t xs true step between)
-        go false step lk = same (told v.layout (Writing course text (record { layout = layout; key = key; places = places; length = size; stage = writing.Sending t0 })) t) lk (sending s.lock course text layout key places size is alone t0 update t xs false step between)
-    writing-turn course text layout key places size is alone (writing.Ended end) update step lk between =
+        go true step lk = same (told v.layout (Writing course text (record { layout = layout; key = key; places = places; length = size; stage = writing.Sending t0 })) t) lk (sending s.lock course text layout key places size is alone t0 t xs true step between)
+        go false step lk = same (told v.layout (Writing course text (record { layout = layout; key = key; places = places; length = size; stage = writing.Sending t0 })) t) lk (sending s.lock course text layout key places size is alone t0 t xs false step between)
+    writing-turn course text layout key places size is alone (writing.Ended end) step lk between =
         by-say now (SayGave key (is_part course) end) (told v.layout (Writing course text (record { layout = layout; key = key; places = places; length = size; stage = writing.Ended end })))
         (λ found. gave-turn course key now (subst (λ z. InCourse v.layout op z course key) (sym lk.1) is) found end) t xs step between
 
@@ -267,7 +251,7 @@ module _ (v : Volume) (ops : Actor → List Operation) (h : List Event) (by : Ac
         → (stage : ReadStage) → Turn (Reading course (record { layout = layout; key = key; places = places; stage = stage }))
     reading-turn course layout key places is reading.Looking step lk between =
         let W = told v.layout (Reading course (record { layout = layout; key = key; places = places; stage = reading.Looking })) in
-        same (W t) lk (by-export s.lock (call.Look key) W (λ r x k. reads-on s.lock course layout key places is reading.Looking (Replied r) (x ∷ [])) t xs step between)
+        same (W t) lk (by-export s.lock (call.Look key) W (λ r. reads-on s.lock course layout key places is reading.Looking (Replied r)) t xs step between)
     reading-turn course layout key places is (reading.Fetching t0) step lk between = go (t0.left == 0) step lk
       where
         go : (b : Bool) → IsStep by number (fetch_asks (is_part course) key places t0 b) t xs → IsLockAfter w by s (fetch_asks (is_part course) key places t0 b) t now
@@ -280,21 +264,21 @@ module _ (v : Volume) (ops : Actor → List Operation) (h : List Event) (by : Ac
 
     -- The rebuild of a node: a key that is copied is still being fetched.
 
-    node-asks : (n : ℕ) (state : RebuildState) (m : ℕ) (question : NodeAsk) → IsOfActor question → ((z : Told) (zs : List Event) → Later v.layout ops (zs ++ h) op s.lock (told v.layout (Rebuilding n state) z))
+    node-asks : (n : ℕ) (state : RebuildState) (m : ℕ) (question : NodeAsk) → IsOfActor question → ((z : Told) → Later v.layout op s.lock (told v.layout (Rebuilding n state) z))
         → IsStep by number (AskNode m question) t xs → now ≡ s.lock → Between xs (told v.layout (Rebuilding n state) t) → After xs now (told v.layout (Rebuilding n state) t)
     node-asks n state m question ok later step lk between = same (told v.layout (Rebuilding n state) t) lk (by-node s.lock m question (told v.layout (Rebuilding n state)) ok later t xs step between)
 
-    export-asks : (n : ℕ) (state : RebuildState) (c : Call) → ((z : Told) (zs : List Event) → Later v.layout ops (zs ++ h) op s.lock (told v.layout (Rebuilding n state) z))
+    export-asks : (n : ℕ) (state : RebuildState) (c : Call) → ((z : Told) → Later v.layout op s.lock (told v.layout (Rebuilding n state) z))
         → IsStep by number (AskExport c) t xs → now ≡ s.lock → Between xs (told v.layout (Rebuilding n state) t) → After xs now (told v.layout (Rebuilding n state) t)
-    export-asks n state c later step lk between = same (told v.layout (Rebuilding n state) t) lk (by-export s.lock c (told v.layout (Rebuilding n state)) (λ r x is. later (Replied r) (x ∷ [])) t xs step between)
+    export-asks n state c later step lk between = same (told v.layout (Rebuilding n state) t) lk (by-export s.lock c (told v.layout (Rebuilding n state)) (λ r. later (Replied r)) t xs step between)
 
-    rebuild-later : (n : ℕ) (r : Rebuild) (g : List Event) → Later v.layout ops g op s.lock (in_rebuild n r)
-    rebuild-later n (Going state) g = tt
-    rebuild-later n (RebuildEnded end) g = tt
+    rebuild-later : (n : ℕ) (r : Rebuild) → Later v.layout op s.lock (in_rebuild n r)
+    rebuild-later n (Going state) = tt
+    rebuild-later n (RebuildEnded end) = tt
 
     -- what a rebuild does next needs no lock
-    later-of : (n : ℕ) (state : RebuildState) (z : Told) (zs : List Event) → Later v.layout ops (zs ++ h) op s.lock (told v.layout (Rebuilding n state) z)
-    later-of n state z zs = rebuild-later n (rebuild_after v.layout state z) (zs ++ h)
+    later-of : (n : ℕ) (state : RebuildState) (z : Told) → Later v.layout op s.lock (told v.layout (Rebuilding n state) z)
+    later-of n state z = rebuild-later n (rebuild_after v.layout state z)
 
     copying-turn : (n : ℕ) (t0 : Tally) (l : Listed) (base : ℕ) (ft : Fetches) (layout : Layout) → Turn (Rebuilding n (Copying t0 l base (record { layout = layout; key = l.key; places = l.info.places; stage = reading.Fetching ft })))
     copying-turn n t0 l base ft layout step lk between = go (ft.left == 0) step lk
@@ -304,7 +288,7 @@ module _ (v : Volume) (ops : Actor → List Operation) (h : List Event) (by : Ac
         go true step lk = export-asks n (Copying t0 l base (record { layout = layout; key = l.key; places = l.info.places; stage = reading.Fetching ft })) (call.Recheck l.key) (later-of n (Copying t0 l base (record { layout = layout; key = l.key; places = l.info.places; stage = reading.Fetching ft }))) step lk between
         go false step lk = node-asks n (Copying t0 l base (record { layout = layout; key = l.key; places = l.info.places; stage = reading.Fetching ft })) (slice_index l.info.places (next_read ft)) (ask.Fetch l.key (next_read ft) ft.stamp) tt (later-of n (Copying t0 l base (record { layout = layout; key = l.key; places = l.info.places; stage = reading.Fetching ft }))) step lk between
 
-    rebuilding-turn : (n : ℕ) (state : RebuildState) → IsOwn v f o run by (Rebuilding n state) → Turn (Rebuilding n state)
+    rebuilding-turn : (n : ℕ) (state : RebuildState) → IsOwn v f all run by (Rebuilding n state) → Turn (Rebuilding n state)
     rebuilding-turn n Probing own step lk between = node-asks n Probing n ask.Probe tt (later-of n Probing) step lk between
     rebuilding-turn n (Enrolling loss) own step lk between = export-asks n (Enrolling loss) (call.Enroll n loss) (later-of n (Enrolling loss)) step lk between
     rebuilding-turn n (Replacing loss fence) own step lk between = node-asks n (Replacing loss fence) n (ask.Replace loss fence) tt (later-of n (Replacing loss fence)) step lk between
@@ -316,14 +300,14 @@ module _ (v : Volume) (ops : Actor → List Operation) (h : List Event) (by : Ac
         by-say now (SayLeft key why) (told v.layout (Rebuilding n (Leaving t0 key why)))
         (λ text between. finish (e.Left by key why ∷ []) now (told v.layout (Rebuilding n (Leaving t0 key why)) (Noted text)) (one-quiet o (e.Left by key why) refl) tt between) t xs step between
 
-    pub hand-turn : (work : Work) → IsOwn v f o run by work → IsHolding v.layout ops h op s.lock work → Turn work
-    hand-turn (Calling c) own holds step lk between = same (told v.layout (Calling c) t) lk (by-export s.lock (call.Tree c) (told v.layout (Calling c)) (λ r x is. calling-later v.layout ops (x ∷ h) op s.lock c r) t xs step between)
+    pub hand-turn : (work : Work) → IsOwn v f all run by work → IsHolding v.layout op s.lock work → Turn work
+    hand-turn (Calling c) own holds step lk between = same (told v.layout (Calling c) t) lk (by-export s.lock (call.Tree c) (told v.layout (Calling c)) (λ r. calling-later v.layout op s.lock c r) t xs step between)
     hand-turn (Dropping fid n places) own holds step lk between =
-        same (told v.layout (Dropping fid n places) t) lk (by-node s.lock n (ask.Drop fid) (told v.layout (Dropping fid n places)) tt (λ z zs. dropping-later v.layout ops (zs ++ h) op s.lock fid n places z) t xs step between)
+        same (told v.layout (Dropping fid n places) t) lk (by-node s.lock n (ask.Drop fid) (told v.layout (Dropping fid n places)) tt (λ z. dropping-later v.layout op s.lock fid n places z) t xs step between)
     hand-turn (Opening path plan) own holds step lk between =
-        same (told v.layout (Opening path plan) t) lk (by-export s.lock (call.Tree (tree.OpenFile path)) (told v.layout (Opening path plan)) (λ r x is. opening-later v.layout ops (x ∷ h) op s.lock path plan r holds.0 holds.1) t xs step between)
+        same (told v.layout (Opening path plan) t) lk (by-export s.lock (call.Tree (tree.OpenFile path)) (told v.layout (Opening path plan)) (λ r. opening-later v.layout op s.lock path plan r holds.0 holds.1) t xs step between)
     hand-turn (Locking path plan) own holds step lk between = locking-turn path plan holds.0 holds.1 step lk between
-    hand-turn (Writing course text z) own holds step lk between = writing-turn course text z.layout z.key z.places z.length holds.0 holds.1 z.stage holds.2 step lk between
+    hand-turn (Writing course text z) own holds step lk between = writing-turn course text z.layout z.key z.places z.length holds.0 holds.1 z.stage step lk between
     hand-turn (Reading course z) own holds step lk between = reading-turn course z.layout z.key z.places holds z.stage step lk between
     hand-turn (Rebuilding n state) own holds step lk between = rebuilding-turn n state own step lk between
     hand-turn (Ending answer) own holds step lk between =

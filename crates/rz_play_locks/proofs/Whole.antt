@@ -32,6 +32,9 @@ use Rattle.rz_safety.proofs.Acked.{accepted-acked}
 use Rattle.rz_safety.proofs.OrderLaws.{ordered}
 use Rattle.std.proofs.lemmas.Bool.{lt-ltb}
 use Rattle.rz_play.specs.Turns.{text_in}
+use Rattle.rz_node_model.specs.States.{NodeState, fresh}
+use Rattle.rz_export_model.specs.Export.{Export as ExportState, new_export}
+use Rattle.std.proofs.lemmas.List.{append-nil}
 use Rattle.rz_client_model.specs.declared.writing.WriterState.{WriterState}
 use Rattle.rz_client_model.specs.Read.{reader_ask, reader_end}
 use Rattle.rz_client_model.specs.Write.{writer_ask, writer_end}
@@ -44,31 +47,33 @@ use Rattle.rz_operation_model.specs.Work.{Work, OnRange, RangePlan, WriteBytes, 
 use Rattle.rz_operation_model.specs.Ask.{Ask, AskExport, AskNode, AskLock, Say, Rest, Saying, SayGot, SayGave, SayLeft, SayDone, ask_of, is_part, read_asks, rebuild_asks, write_asks, gave, first_byte, whole_bytes}
 use Rattle.rz_operation_model.specs.Steps.{Told, begun, told}
 use Rattle.rz_operation_model.specs.Turns.{IsStep, said_event}
-use Rattle.rz_play.specs.World.{World, Seat, new_world, with_seat, take_up, at_work}
+use Rattle.rz_play.specs.World.{World, Seat, world_after, with_seat, take_up, at_work}
 use Rattle.rz_locks.specs.declared.conflict.Lock.{Lock}
 use Rattle.rz_locks.specs.declared.conflict.LockKind.TheVariants.{Shared}
 use Rattle.rz_script.specs.Lines.{IsActor}
 use Rattle.rz_play.specs.Lines.{with_operation, with_miss}
 use Rattle.rz_play.specs.Turns.{IsTurn, counted}
-use Rattle.rz_play.specs.Played.{BeginsLines, IsBegun}
-use Rattle.rz_play.specs.Stops.{most_turns}
+use Rattle.rz_play.specs.Played.{IsBegun, IsBegunFrom}
 use Rattle.rz_play_laws.specs.Runs.{IsScript}
 use Rattle.rz_play_laws.proofs.Scripts.{seated}
 use Rattle.rz_play_laws.proofs.Turning.{in-runs}
 use Rattle.rz_play_laws.specs.Own.{IsProper}
 use Rattle.rz_script.specs.Lines.{IsActor}
-use Rattle.rz_play_laws.specs.Fine.{IsTelling, IsFine}
+use Rattle.rz_play_laws.specs.Fine.{IsTelling, MayBegin, IsFine}
 use Rattle.rz_play_laws.proofs.Frames.{AreBy, of_actor-other, same_actor-true}
 use Rattle.rz_play_laws.proofs.Steps.{export-step, node-step, lock-step, say-step}
 use Rattle.rz_play_laws.proofs.Events.{export-event, node-event}
-use Rattle.rz_play_locks.specs.Operations.{given, ended, in_hand, IsGuarded}
-use Rattle.rz_play_locks.specs.Promises.{published_text, text_of, newest_text, last_open, key_at, IsWhole, IsViewedAt, IsViewed, AreWhole}
-use Rattle.rz_play_locks.specs.Holding.{HasBlock, lock_for, OfPlan, IsHeld, IsRange, IsHolding, IsKeeping}
+use Rattle.rz_play_locks.specs.Operations.{given, ended, in_hand, IsUpdate, IsGuarded}
+use Rattle.rz_play_locks.specs.Promises.{published_text, text_of, newest_text, last_open, key_at, IsWhole, IsViewedAt, IsViewed, NoneLost, AreWhole}
+use Rattle.rz_play_locks.specs.Holding.{AreApart, HasBlock, lock_for, OfPlan, IsHeld, IsRange, IsHolding, IsKeeping}
 use Rattle.rz_play_locks.specs.Texts.{IsText, IsSafe}
 use Rattle.rz_play_locks.specs.Views.{IsSeenAt, IsSeeing}
+use Rattle.rz_play_locks.specs.Kept.{IsKeptAfter}
+use Rattle.rz_play_laws.proofs.Plays.{new-beginning}
 use Rattle.rz_play_locks.proofs.Moves.{IsLockAfter}
-use Rattle.rz_play_locks.proofs.Kept.{IsGoing, going, hand-of}
-use Rattle.rz_play_locks.proofs.Carried.{IsAdmins, reached}
+use Rattle.rz_play_locks.proofs.Holds.{guarded-update}
+use Rattle.rz_play_locks.proofs.Kept.{IsGoing, runs-on, going, hand-of}
+use Rattle.rz_play_locks.proofs.Carried.{IsAdmins, reached-run}
 use Rattle.rz_play_locks.proofs.Publishing.{lock-low, lock-high, barred}
 use Rattle.rz_play_locks.proofs.Published.{accepted-same, text-same, may-publish}
 use Rattle.rz_play_locks.proofs.Safe.{IsOn, never-opened, safe-turn, safe-gives, safe-misses, safe-admins, safe-new, admins-silent, admins-by, text-at_work}
@@ -123,43 +128,43 @@ module _ (layout : Layout) (offset : ℕ) (a : Answer) where
   done-of (Rebuilding n (Leaving t key why)) is = cc
   done-of Over is = cc
 
-viewed : (layout : Layout) (ops : Actor → List Operation) (h : List Event) (opened : Option (FileInfo × List Event)) (a : Answer) (m : Option Operation)
-    → ((path : List ℕ) (offset count : ℕ) → m ≡ Some (operation.View path offset count) → IsViewedAt layout ops h offset count opened a) → IsViewed layout ops h m opened a
-viewed layout ops h opened a (Some (operation.View path offset count)) is = is path offset count refl
-viewed layout ops h opened a (Some (_)) is = tt
-viewed layout ops h opened a None is = tt
+viewed : (layout : Layout) (ops : Actor → List Operation) (run : List Event) (opened : Option (FileInfo × List Event)) (a : Answer) (m : Option Operation)
+    → ((path : List ℕ) (offset count : ℕ) → m ≡ Some (operation.View path offset count) → IsViewedAt layout ops run offset count opened a) → IsViewed layout ops run m opened a
+viewed layout ops run opened a (Some (operation.View path offset count)) is = is path offset count refl
+viewed layout ops run opened a (Some (_)) is = tt
+viewed layout ops run opened a None is = tt
 
 -- The log with the events of a turn.
 
-module _ (v : Volume) (ops : Actor → List Operation) (h : List Event) (whole : AreWhole v.layout ops h) where
-  by-export : (x : Event) → word_of x ≡ Export → AreWhole v.layout ops (x ∷ h)
+module _ (v : Volume) (ops : Actor → List Operation) (old run : List Event) (whole : AreWhole v.layout ops old run) where
+  by-export : (x : Event) → word_of x ≡ Export → AreWhole v.layout ops old (x ∷ run)
   by-export (e.Done by number a) is = cc
   by-export (_) is = whole
 
-  pub by-node : (x : Event) (n : ℕ) → word_of x ≡ Node n → AreWhole v.layout ops (x ∷ h)
+  pub by-node : (x : Event) (n : ℕ) → word_of x ≡ Node n → AreWhole v.layout ops old (x ∷ run)
   by-node (e.Done by number a) n is = cc
   by-node (_) n is = whole
 
-  whole-turn : (f : Facts) (o : List Event) (by : Actor) (number : ℕ) (a : Ask) → IsProper v f o o by number a
-      → ((answer : Answer) → a ≡ Say (SayDone answer) → IsViewed v.layout ops h (in_hand (ops by) (of_actor by h)) (last_open by h) answer)
-      → (t : Told) (xs : List Event) → IsStep by number a t xs → AreWhole v.layout ops (xs ++ h)
-  whole-turn f o by number (AskExport c) ok done t xs step = export-step by c (λ t xs. AreWhole v.layout ops (xs ++ h)) (λ r x is. by-export x (export-event by c r x is).word_is) t xs step
-  whole-turn f o by number (AskNode n question) ok done t xs step =
-      node-step by n question (λ t xs. AreWhole v.layout ops (xs ++ h))
+  whole-turn : (f : Facts) (o mine : List Event) (by : Actor) (number : ℕ) (a : Ask) → IsProper v f o mine by number a
+      → ((answer : Answer) → a ≡ Say (SayDone answer) → IsViewed v.layout ops run (in_hand (ops by) (of_actor by run)) (last_open by old run) answer)
+      → (t : Told) (xs : List Event) → IsStep by number a t xs → AreWhole v.layout ops old (xs ++ run)
+  whole-turn f o mine by number (AskExport c) ok done t xs step = export-step by c (λ t xs. AreWhole v.layout ops old (xs ++ run)) (λ r x is. by-export x (export-event by c r x is).word_is) t xs step
+  whole-turn f o mine by number (AskNode n question) ok done t xs step =
+      node-step by n question (λ t xs. AreWhole v.layout ops old (xs ++ run))
       (λ given x is. by-node x n (node-event by n question given x ok.2 is).word_is)
       (λ given x is link. by-node x n (node-event by n question given x ok.2 is).word_is)
       (λ link. whole) t xs step
-  whole-turn f o by number (AskLock path exclusive from count) ok done t xs step =
-      lock-step by path (λ t xs. AreWhole v.layout ops (xs ++ h)) (λ granted r x is. by-export x (export-event by (call.Tree (tree.OpenFile path)) r x is).word_is) t xs step
-  whole-turn f o by number (Say said) ok done t xs step = say-step by number said (λ t xs. AreWhole v.layout ops (xs ++ h)) (λ text. saying said text done) t xs step
+  whole-turn f o mine by number (AskLock path exclusive from count) ok done t xs step =
+      lock-step by path (λ t xs. AreWhole v.layout ops old (xs ++ run)) (λ granted r x is. by-export x (export-event by (call.Tree (tree.OpenFile path)) r x is).word_is) t xs step
+  whole-turn f o mine by number (Say said) ok done t xs step = say-step by number said (λ t xs. AreWhole v.layout ops old (xs ++ run)) (λ text. saying said text done) t xs step
     where
-      saying : (said : Saying) (text : List ℕ) → ((answer : Answer) → Say said ≡ Say (SayDone answer) → IsViewed v.layout ops h (in_hand (ops by) (of_actor by h)) (last_open by h) answer)
-          → AreWhole v.layout ops (said_event by number text said ∷ h)
+      saying : (said : Saying) (text : List ℕ) → ((answer : Answer) → Say said ≡ Say (SayDone answer) → IsViewed v.layout ops run (in_hand (ops by) (of_actor by run)) (last_open by old run) answer)
+          → AreWhole v.layout ops old (said_event by number text said ∷ run)
       saying (SayGot key part m) text done = whole
       saying (SayGave key part end) text done = whole
       saying (SayLeft key why) text done = whole
       saying (SayDone answer) text done = (whole, done answer refl)
-  whole-turn f o by number Rest ok done t xs step = absurd step
+  whole-turn f o mine by number Rest ok done t xs step = absurd step
 
 -- Each block of a view's range is within its lock.
 view-on : (layout : Layout) (path : List ℕ) (offset count : ℕ) (lock : Option Lock) (r : Range) (key : Key) → IsRange layout (operation.View path offset count) lock r key → (i : ℕ) → i < r.size
@@ -184,43 +189,43 @@ view-on layout path offset count lock r key is i low = go is.plan is.held is.ran
 
 -- What others do leaves what was seen.
 
-open-other : (a by : Actor) (xs h : List Event) → same_actor a by ≡ false → AreBy by xs → last_open a (xs ++ h) ≡ last_open a h
-open-other a by [] h apart all = refl
-open-other a by (e.Meta b (tree.OpenFile path) (answer.File info) ∷ xs) h apart all =
-    ap (λ t. cond t (Some (info, xs ++ h)) (last_open a (xs ++ h))) (ap (same_actor a) all.0 ∙ apart) ∙ open-other a by xs h apart all.1
-open-other a by (e.Meta b (tree.OpenFile path) (_) ∷ xs) h apart all = open-other a by xs h apart all.1
-open-other a by (e.Meta b (_) r ∷ xs) h apart all = open-other a by xs h apart all.1
-open-other a by (_ ∷ xs) h apart all = open-other a by xs h apart all.1
+open-other : (a by : Actor) (old xs run : List Event) → same_actor a by ≡ false → AreBy by xs → last_open a old (xs ++ run) ≡ last_open a old run
+open-other a by old [] run apart all = refl
+open-other a by old (e.Meta b (tree.OpenFile path) (answer.File info) ∷ xs) run apart all =
+    ap (λ t. cond t (Some (info, (xs ++ run) ++ old)) (last_open a old (xs ++ run))) (ap (same_actor a) all.0 ∙ apart) ∙ open-other a by old xs run apart all.1
+open-other a by old (e.Meta b (tree.OpenFile path) (_) ∷ xs) run apart all = open-other a by old xs run apart all.1
+open-other a by old (e.Meta b (_) r ∷ xs) run apart all = open-other a by old xs run apart all.1
+open-other a by old (_ ∷ xs) run apart all = open-other a by old xs run apart all.1
 
-viewed-frame : (layout : Layout) (ops : Actor → List Operation) (h xs : List Event) (offset count : ℕ) (opened : Option (FileInfo × List Event)) (a : Answer)
-    → IsViewedAt layout ops h offset count opened a → IsViewedAt layout ops (xs ++ h) offset count opened a
-viewed-frame layout ops h xs offset count None a is = tt
-viewed-frame layout ops h xs offset count (Some opened) a is = λ all. is (all-back layout ops xs h opened.0 offset (min count (opened.0.size - offset)) all)
+viewed-frame : (layout : Layout) (ops : Actor → List Operation) (run xs : List Event) (offset count : ℕ) (opened : Option (FileInfo × List Event)) (a : Answer)
+    → IsViewedAt layout ops run offset count opened a → IsViewedAt layout ops (xs ++ run) offset count opened a
+viewed-frame layout ops run xs offset count None a is = tt
+viewed-frame layout ops run xs offset count (Some opened) a is = λ all. is (all-back layout ops xs run opened.0 offset (min count (opened.0.size - offset)) all)
 
-seen-frame : (v : Volume) (ops : Actor → List Operation) (h xs : List Event) → IsLegalInRuns v h → (a : Actor) (path : List ℕ) (offset count : ℕ) (lock : Option Lock)
-    → last_open a (xs ++ h) ≡ last_open a h
-    → ((key : Key) → IsGuarded ops key h → IsOn v.layout lock key → accepted (of_word Export (xs ++ h)) key ≡ accepted (of_word Export h) key)
-    → (work : Work) → IsHolding v.layout ops h (operation.View path offset count) lock work → IsSeenAt v.layout ops h a offset count work → IsSeenAt v.layout ops (xs ++ h) a offset count work
-seen-frame v ops h xs legal a path offset count lock opens same (Reading (Within r) s) holds is =
-    so-far-frame v.layout ops h xs a offset count r opens
+seen-frame : (v : Volume) (ops : Actor → List Operation) (old run h xs : List Event) → IsLegalInRuns v h → (a : Actor) (path : List ℕ) (offset count : ℕ) (lock : Option Lock)
+    → last_open a old (xs ++ run) ≡ last_open a old run
+    → ((key : Key) → IsGuarded ops key (xs ++ run) → IsOn v.layout lock key → accepted (of_word Export (xs ++ h)) key ≡ accepted (of_word Export h) key)
+    → (work : Work) → IsHolding v.layout (operation.View path offset count) lock work → IsSeenAt v.layout ops old run h a offset count work → IsSeenAt v.layout ops old (xs ++ run) (xs ++ h) a offset count work
+seen-frame v ops old run h xs legal a path offset count lock opens same (Reading (Within r) s) holds is =
+    so-far-frame v.layout ops old run h xs a offset count r opens
     (λ all i low. text-same v xs h (key_at r.info ((offset + i) / block_bytes_of v.layout)) legal
     (same (key_at r.info ((offset + i) / block_bytes_of v.layout)) (all i low) (view-on v.layout path offset count lock r s.key holds i low))) is
-seen-frame v ops h xs legal a path offset count lock opens same (Ending b) holds is =
-    subst (λ z. IsViewedAt v.layout ops (xs ++ h) offset count z b) (sym opens) (viewed-frame v.layout ops h xs offset count (last_open a h) b is)
-seen-frame v ops h xs legal a path offset count lock opens same (Reading Alone s) holds is = tt
-seen-frame v ops h xs legal a path offset count lock opens same (Writing c text s) holds is = tt
-seen-frame v ops h xs legal a path offset count lock opens same (Calling c) holds is = tt
-seen-frame v ops h xs legal a path offset count lock opens same (Dropping fid n places) holds is = tt
-seen-frame v ops h xs legal a path offset count lock opens same (Opening p plan) holds is = tt
-seen-frame v ops h xs legal a path offset count lock opens same (Locking p plan) holds is = tt
-seen-frame v ops h xs legal a path offset count lock opens same (Rebuilding n s) holds is = tt
-seen-frame v ops h xs legal a path offset count lock opens same Over holds is = tt
+seen-frame v ops old run h xs legal a path offset count lock opens same (Ending b) holds is =
+    subst (λ z. IsViewedAt v.layout ops (xs ++ run) offset count z b) (sym opens) (viewed-frame v.layout ops run xs offset count (last_open a old run) b is)
+seen-frame v ops old run h xs legal a path offset count lock opens same (Reading Alone s) holds is = tt
+seen-frame v ops old run h xs legal a path offset count lock opens same (Writing c text s) holds is = tt
+seen-frame v ops old run h xs legal a path offset count lock opens same (Calling c) holds is = tt
+seen-frame v ops old run h xs legal a path offset count lock opens same (Dropping fid n places) holds is = tt
+seen-frame v ops old run h xs legal a path offset count lock opens same (Opening p plan) holds is = tt
+seen-frame v ops old run h xs legal a path offset count lock opens same (Locking p plan) holds is = tt
+seen-frame v ops old run h xs legal a path offset count lock opens same (Rebuilding n s) holds is = tt
+seen-frame v ops old run h xs legal a path offset count lock opens same Over holds is = tt
 
 -- an operation that is taken up has seen nothing yet
-seen-at_work : (layout : Layout) (ops : Actor → List Operation) (h : List Event) (a : Actor) (offset count : ℕ) (s : Seat) → IsSeenAt layout ops h a offset count s.work → IsSeenAt layout ops h a offset count (at_work s).work
-seen-at_work layout ops h a offset count s is = up s.work s.todo
+seen-at_work : (layout : Layout) (ops : Actor → List Operation) (old run h : List Event) (a : Actor) (offset count : ℕ) (s : Seat) → IsSeenAt layout ops old run h a offset count s.work → IsSeenAt layout ops old run h a offset count (at_work s).work
+seen-at_work layout ops old run h a offset count s is = up s.work s.todo
   where
-    first : (op : Operation) → IsSeenAt layout ops h a offset count (begun op)
+    first : (op : Operation) → IsSeenAt layout ops old run h a offset count (begun op)
     first (operation.Tree c) = tt
     first (operation.Put p b d) = tt
     first (operation.Get p b) = tt
@@ -230,7 +235,7 @@ seen-at_work layout ops h a offset count s is = up s.work s.todo
     first (operation.Update p o d) = tt
     first (operation.View p o c) = tt
 
-    up : (work : Work) (todo : List Operation) → IsSeenAt layout ops h a offset count (take_up s work todo).work
+    up : (work : Work) (todo : List Operation) → IsSeenAt layout ops old run h a offset count (take_up s work todo).work
     up Over (op ∷ rest) = first op
     up Over [] = is
     up (Calling c) todo = is
@@ -242,181 +247,225 @@ seen-at_work layout ops h a offset count s is = up s.work s.todo
     up (Rebuilding n r) todo = is
     up (Ending b) todo = is
 
-said-text : (v : Volume) (ops : Actor → List Operation) (w : World) (before : IsLegalInRuns v w.log) (path : List ℕ) (offset count number : ℕ) (xs : List Event) (by : Actor) (s : Seat) (a : Ask) (t : Told) (lock now : Option Lock)
-    → IsLockAfter w by s a t now → IsSaid v ops w.log before by path offset count number lock t xs a t
-said-text v ops w before path offset count number xs by s (Say said) t lock now is = is.0
-said-text v ops w before path offset count number xs by s (AskExport c) t lock now is = tt
-said-text v ops w before path offset count number xs by s (AskNode n question) t lock now is = tt
-said-text v ops w before path offset count number xs by s (AskLock p exclusive from size) t lock now is = tt
-said-text v ops w before path offset count number xs by s Rest t lock now is = tt
+said-text : (v : Volume) (ops : Actor → List Operation) (old run : List Event) (w : World) (log_is : w.log ≡ run ++ old) (before : IsLegalInRuns v w.log) (path : List ℕ) (offset count number : ℕ) (xs : List Event) (by : Actor) (s : Seat) (a : Ask) (t : Told) (lock now : Option Lock)
+    → IsLockAfter w by s a t now → IsSaid v ops old run w.log log_is before by path offset count number lock t xs a t
+said-text v ops old run w log_is before path offset count number xs by s (Say said) t lock now is = is.0
+said-text v ops old run w log_is before path offset count number xs by s (AskExport c) t lock now is = tt
+said-text v ops old run w log_is before path offset count number xs by s (AskNode n question) t lock now is = tt
+said-text v ops old run w log_is before path offset count number xs by s (AskLock p exclusive from size) t lock now is = tt
+said-text v ops old run w log_is before path offset count number xs by s Rest t lock now is = tt
 
 -- After a turn.
-seeing-turn : (v : Volume) (ops more : Actor → List Operation) (by : Actor) → IsActor by → (w next : World) → IsFine v [] w → IsFine v [] next → IsSeeing v.layout ops more w
-    → IsTurn v by w next → IsSeeing v.layout ops more next
-seeing-turn v ops more by ok w next fine fine_next see turn = elim (going v ops more by ok w next fine fine_next see.safe.keeping turn) [
-  | inl same ↦ record { safe = now; seen = subst (λ z. Seen z) (sym same) see.seen; whole = subst (λ (z : World). AreWhole v.layout ops z.log) (sym same) see.whole }
+seeing-turn : (v : Volume) (old : List Event) (ops more : Actor → List Operation) (by : Actor) → IsActor by → (w next : World) (fine : IsFine v old w) (fine_next : IsFine v old next)
+    → IsSeeing v.layout ops more old fine.run w → IsTurn v by w next → IsSeeing v.layout ops more old fine_next.run next
+seeing-turn v old ops more by ok w next fine fine_next see turn = elim (going v old ops more by ok w next fine fine_next see.safe.keeping turn) [
+  | inl same ↦ (
+      let run_same = runs-on v old w next fine fine_next [] (ap (λ (z : World). z.log) same) in
+      record {
+        safe = now;
+        seen = subst (λ (r : List Event). Seen r next) (sym run_same) (subst (λ (z : World). Seen run z) (sym same) see.seen);
+        whole = subst (λ (r : List Event). AreWhole v.layout ops old r) (sym run_same) see.whole;
+      }
+      )
   | inr g ↦ record {
     safe = now;
     seen = λ a is path offset count at. seen g a is path offset count (same_actor a by) refl at;
-    whole = subst (λ (h : List Event). AreWhole v.layout ops h) (sym g.move.log_is)
-        (whole-turn v ops w.log see.whole (facts w.log) (of_actor by w.log) by (at_work (w.seats by)).number (ask_of v.layout (at_work (w.seats by)).work) g.proper
-        (λ answer asks. viewed v.layout ops w.log (last_open by w.log) answer (in_hand (ops by) (of_actor by w.log)) (λ path offset count at.
+    whole = subst (λ (r : List Event). AreWhole v.layout ops old r) (sym (run_is g))
+        (whole-turn v ops old run see.whole (facts w.log) (of_actor by w.log) (of_actor by run) by (at_work (w.seats by)).number (ask_of v.layout (at_work (w.seats by)).work) g.proper
+        (λ answer asks. viewed v.layout ops run (last_open by old run) answer (in_hand (ops by) (of_actor by run)) (λ path offset count at.
         said path offset count answer at (done-of v.layout offset answer (at_work (w.seats by)).work asks)))
         g.move.t g.move.xs g.move.step);
   }
 ]
   where
-    Seen : World → Type 0
-    Seen z = (a : Actor) → IsActor a → (path : List ℕ) (offset count : ℕ) → in_hand (ops a) (of_actor a z.log) ≡ Some (operation.View path offset count)
-        → IsSeenAt v.layout ops z.log a offset count (z.seats a).work
+    run : List Event
+    run = fine.run
 
-    now : IsSafe v.layout ops more next
-    now = safe-turn v ops more by ok w next fine fine_next see.safe turn
+    Going : Type 0
+    Going = IsGoing v ops run w by (at_work (w.seats by)) next
+
+    run_is : (g : Going) → fine_next.run ≡ g.move.xs ++ run
+    run_is g = runs-on v old w next fine fine_next g.move.xs g.move.log_is
+
+    Seen : List Event → World → Type 0
+    Seen r z = (a : Actor) → IsActor a → (path : List ℕ) (offset count : ℕ) → in_hand (ops a) (of_actor a r) ≡ Some (operation.View path offset count)
+        → IsSeenAt v.layout ops old r z.log a offset count (z.seats a).work
+
+    now : IsSafe v.layout ops more old fine_next.run next
+    now = safe-turn v old ops more by ok w next fine fine_next see.safe turn
 
     -- what the actor at work has seen
-    known : (path : List ℕ) (offset count : ℕ) → in_hand (ops by) (of_actor by w.log) ≡ Some (operation.View path offset count) → IsSeenAt v.layout ops w.log by offset count (at_work (w.seats by)).work
-    known path offset count at = seen-at_work v.layout ops w.log by offset count (w.seats by) (see.seen by ok path offset count at)
+    known : (path : List ℕ) (offset count : ℕ) → in_hand (ops by) (of_actor by run) ≡ Some (operation.View path offset count) → IsSeenAt v.layout ops old run w.log by offset count (at_work (w.seats by)).work
+    known path offset count at = seen-at_work v.layout ops old run w.log by offset count (w.seats by) (see.seen by ok path offset count at)
 
-    said : (path : List ℕ) (offset count : ℕ) (answer : Answer) → in_hand (ops by) (of_actor by w.log) ≡ Some (operation.View path offset count)
+    said : (path : List ℕ) (offset count : ℕ) (answer : Answer) → in_hand (ops by) (of_actor by run) ≡ Some (operation.View path offset count)
         → ((at_work (w.seats by)).work ≡ Ending answer) ⊎ ((info : FileInfo) (g : List Event) (size : ℕ) → IsWhole v.layout info g offset size answer)
-        → IsViewedAt v.layout ops w.log offset count (last_open by w.log) answer
-    said path offset count answer at (inl is) = subst (IsSeenAt v.layout ops w.log by offset count) is (known path offset count at)
-    said path offset count answer at (inr is) = viewed-other v.layout ops w.log offset count answer is (last_open by w.log)
+        → IsViewedAt v.layout ops run offset count (last_open by old run) answer
+    said path offset count answer at (inl is) = subst (IsSeenAt v.layout ops old run w.log by offset count) is (known path offset count at)
+    said path offset count answer at (inr is) = viewed-other v.layout ops run offset count answer is (last_open by old run)
 
-    after : (g : IsGoing v ops w by (at_work (w.seats by)) next) (path : List ℕ) (offset count : ℕ) → g.hand.op ≡ operation.View path offset count
-        → IsSeenAt v.layout ops (g.move.xs ++ w.log) by offset count (told v.layout (at_work (w.seats by)).work g.move.t)
+    after : (g : Going) (path : List ℕ) (offset count : ℕ) → g.hand.op ≡ operation.View path offset count
+        → IsSeenAt v.layout ops old (g.move.xs ++ run) (g.move.xs ++ w.log) by offset count (told v.layout (at_work (w.seats by)).work g.move.t)
     after g path offset count is =
-        seen-turn v ops w.log (in-runs v [] w fine) by path offset count (at_work (w.seats by)).number (at_work (w.seats by)).lock g.move.t g.move.xs (at_work (w.seats by)).work
-        (subst (λ z. IsHolding v.layout ops w.log z (at_work (w.seats by)).lock (at_work (w.seats by)).work) is g.hand.holds)
-        (text-at_work v.layout ops w.log (Some (operation.View path offset count)) (w.seats by)
-        (subst (λ z. IsText v.layout ops w.log z (w.seats by).work) (g.hand.at ∙ ap Some is) (see.safe.texts by ok)))
+        seen-turn v ops old run w.log fine.log_is (in-runs v old w fine) by path offset count (at_work (w.seats by)).number (at_work (w.seats by)).lock g.move.t g.move.xs (at_work (w.seats by)).work
+        (subst (λ z. IsHolding v.layout z (at_work (w.seats by)).lock (at_work (w.seats by)).work) is g.hand.holds)
+        (text-at_work v.layout ops run w.log (Some (operation.View path offset count)) (w.seats by)
+        (subst (λ z. IsText v.layout ops run w.log z (w.seats by).work) (g.hand.at ∙ ap Some is) (see.safe.texts by ok)))
         (known path offset count (g.hand.at ∙ ap Some is)) g.move.step
-        (said-text v ops (counted w) (in-runs v [] w fine) path offset count (at_work (w.seats by)).number g.move.xs by (at_work (w.seats by)) (ask_of v.layout (at_work (w.seats by)).work) g.move.t (at_work (w.seats by)).lock (next.seats by).lock g.move.lock_is)
+        (said-text v ops old run (counted w) fine.log_is (in-runs v old w fine) path offset count (at_work (w.seats by)).number g.move.xs by (at_work (w.seats by)) (ask_of v.layout (at_work (w.seats by)).work) g.move.t (at_work (w.seats by)).lock (next.seats by).lock g.move.lock_is)
 
     same-op : (a b : Operation) → Some a ≡ Some b → a ≡ b
     same-op a b is = cc
 
-    mine : (g : IsGoing v ops w by (at_work (w.seats by)) next) (path : List ℕ) (offset count : ℕ) → in_hand (ops by) (of_actor by next.log) ≡ Some (operation.View path offset count)
-        → IsSeenAt v.layout ops next.log by offset count (next.seats by).work
-    mine g path offset count at = elim (hand-of v.layout ops next.log (of_actor by next.log) by (next.seats by).number (next.seats by).lock (next.seats by).work (now.keeping.seats by ok).hand) [
-      | inl over ↦ subst (IsSeenAt v.layout ops next.log by offset count) (sym over) tt
+    mine : (g : Going) (path : List ℕ) (offset count : ℕ) → in_hand (ops by) (of_actor by fine_next.run) ≡ Some (operation.View path offset count)
+        → IsSeenAt v.layout ops old fine_next.run next.log by offset count (next.seats by).work
+    mine g path offset count at = elim (hand-of v.layout ops (of_actor by fine_next.run) by (next.seats by).number (next.seats by).lock (next.seats by).work (now.keeping.seats by ok).hand) [
+      | inl over ↦ subst (IsSeenAt v.layout ops old fine_next.run next.log by offset count) (sym over) tt
       | inr hand ↦ (
           let a = hand.count in
           let b = g.hand.count in
           let n = g.move.number_is in
-          let same : ended (of_actor by next.log) ≡ ended (of_actor by w.log) = omega (arith, a, b, n) in
+          let same : ended (of_actor by fine_next.run) ≡ ended (of_actor by run) = omega (arith, a, b, n) in
           let op_is : g.hand.op ≡ operation.View path offset count = same-op g.hand.op (operation.View path offset count) (sym g.hand.at ∙ sym (ap (slice_get (ops by)) same) ∙ at) in
-          subst (λ (h : List Event). IsSeenAt v.layout ops h by offset count (next.seats by).work) (sym g.move.log_is)
-          (subst (IsSeenAt v.layout ops (g.move.xs ++ w.log) by offset count) (sym g.move.work_is) (after g path offset count op_is))
+          subst (λ (r : List Event). IsSeenAt v.layout ops old r next.log by offset count (next.seats by).work) (sym (run_is g))
+          (subst (λ (h : List Event). IsSeenAt v.layout ops old (g.move.xs ++ run) h by offset count (next.seats by).work) (sym g.move.log_is)
+          (subst (IsSeenAt v.layout ops old (g.move.xs ++ run) (g.move.xs ++ w.log) by offset count) (sym g.move.work_is) (after g path offset count op_is)))
           )
     ]
 
-    other : (g : IsGoing v ops w by (at_work (w.seats by)) next) (a : Actor) → IsActor a → same_actor a by ≡ false → (path : List ℕ) (offset count : ℕ)
-        → in_hand (ops a) (of_actor a w.log) ≡ Some (operation.View path offset count) → IsSeenAt v.layout ops (g.move.xs ++ w.log) a offset count (w.seats a).work
-    other g a is apart path offset count at = elim (hand-of v.layout ops w.log (of_actor a w.log) a (w.seats a).number (w.seats a).lock (w.seats a).work (see.safe.keeping.seats a is).hand) [
-      | inl over ↦ subst (IsSeenAt v.layout ops (g.move.xs ++ w.log) a offset count) (sym over) tt
+    other : (g : Going) (a : Actor) → IsActor a → same_actor a by ≡ false → (path : List ℕ) (offset count : ℕ)
+        → in_hand (ops a) (of_actor a run) ≡ Some (operation.View path offset count) → IsSeenAt v.layout ops old (g.move.xs ++ run) (g.move.xs ++ w.log) a offset count (w.seats a).work
+    other g a is apart path offset count at = elim (hand-of v.layout ops (of_actor a run) a (w.seats a).number (w.seats a).lock (w.seats a).work (see.safe.keeping.seats a is).hand) [
+      | inl over ↦ subst (IsSeenAt v.layout ops old (g.move.xs ++ run) (g.move.xs ++ w.log) a offset count) (sym over) tt
       | inr hand ↦ (
           let op_is : hand.op ≡ operation.View path offset count = same-op hand.op (operation.View path offset count) (sym hand.at ∙ at) in
-          seen-frame v ops w.log g.move.xs (in-runs v [] w fine) a path offset count (w.seats a).lock (open-other a by g.move.xs w.log apart g.mine)
-          (λ key guarded on. elim (may-publish v (facts w.log) (of_actor by w.log) by (at_work (w.seats by)).number key (ask_of v.layout (at_work (w.seats by)).work) g.proper g.move.t g.move.xs g.move.step) [
+          seen-frame v ops old run w.log g.move.xs (in-runs v old w fine) a path offset count (w.seats a).lock (open-other a by old g.move.xs run apart g.mine)
+          (λ key guarded on. elim (may-publish v (facts w.log) (of_actor by w.log) (of_actor by run) by (at_work (w.seats by)).number key (ask_of v.layout (at_work (w.seats by)).work) g.proper g.move.t g.move.xs g.move.step) [
             | inl silent ↦ accepted-same g.move.xs w.log key silent
-            | inr p ↦ absurd (barred v ops w next by ok see.safe.keeping.apart g by key p.stamp p.mask [] p.is guarded a is apart on.held on.is on.block)
+            | inr p ↦ absurd (barred v ops run w next by ok see.safe.keeping.apart g by key p.stamp p.mask [] p.is (guarded-update ops by key p.stamp p.mask g.move.xs run p.is guarded) a is apart on.held on.is on.block)
           ])
-          (w.seats a).work (subst (λ z. IsHolding v.layout ops w.log z (w.seats a).lock (w.seats a).work) op_is hand.holds) (see.seen a is path offset count at)
+          (w.seats a).work (subst (λ z. IsHolding v.layout z (w.seats a).lock (w.seats a).work) op_is hand.holds) (see.seen a is path offset count at)
           )
     ]
 
-    seen : (g : IsGoing v ops w by (at_work (w.seats by)) next) (a : Actor) → IsActor a → (path : List ℕ) (offset count : ℕ) → (b : Bool) → same_actor a by ≡ b
-        → in_hand (ops a) (of_actor a next.log) ≡ Some (operation.View path offset count) → IsSeenAt v.layout ops next.log a offset count (next.seats a).work
+    seen : (g : Going) (a : Actor) → IsActor a → (path : List ℕ) (offset count : ℕ) → (b : Bool) → same_actor a by ≡ b
+        → in_hand (ops a) (of_actor a fine_next.run) ≡ Some (operation.View path offset count) → IsSeenAt v.layout ops old fine_next.run next.log a offset count (next.seats a).work
     seen g a is path offset count true at hand =
         let same : a ≡ by = same_actor-true a by at in
-        subst (λ z. IsSeenAt v.layout ops next.log z offset count (next.seats z).work) (sym same)
-        (mine g path offset count (subst (λ z. in_hand (ops z) (of_actor z next.log) ≡ Some (operation.View path offset count)) same hand))
+        subst (λ z. IsSeenAt v.layout ops old fine_next.run next.log z offset count (next.seats z).work) (sym same)
+        (mine g path offset count (subst (λ z. in_hand (ops z) (of_actor z fine_next.run) ≡ Some (operation.View path offset count)) same hand))
     seen g a is path offset count false apart hand =
-        subst (λ (h : List Event). IsSeenAt v.layout ops h a offset count (next.seats a).work) (sym g.move.log_is)
-        (subst (λ (z : Seat). IsSeenAt v.layout ops (g.move.xs ++ w.log) a offset count z.work) (sym (g.move.others a apart))
+        subst (λ (r : List Event). IsSeenAt v.layout ops old r next.log a offset count (next.seats a).work) (sym (run_is g))
+        (subst (λ (h : List Event). IsSeenAt v.layout ops old (g.move.xs ++ run) h a offset count (next.seats a).work) (sym g.move.log_is)
+        (subst (λ (z : Seat). IsSeenAt v.layout ops old (g.move.xs ++ run) (g.move.xs ++ w.log) a offset count z.work) (sym (g.move.others a apart))
         (other g a is apart path offset count
-        (subst (λ (o : List Event). in_hand (ops a) o ≡ Some (operation.View path offset count)) (of_actor-other a by g.move.xs w.log apart g.mine)
-        (subst (λ (h : List Event). in_hand (ops a) (of_actor a h) ≡ Some (operation.View path offset count)) g.move.log_is hand))))
+        (subst (λ (o : List Event). in_hand (ops a) o ≡ Some (operation.View path offset count)) (of_actor-other a by g.move.xs run apart g.mine)
+        (subst (λ (r : List Event). in_hand (ops a) (of_actor a r) ≡ Some (operation.View path offset count)) (run_is g) hand)))))
 
 -- Lines.
 
-seen-line : (layout : Layout) (ops : Actor → List Operation) (w : World) (by : Actor) (t : Seat) → t.work ≡ (w.seats by).work
-    → ((a : Actor) → IsActor a → (path : List ℕ) (offset count : ℕ) → in_hand (ops a) (of_actor a w.log) ≡ Some (operation.View path offset count) → IsSeenAt layout ops w.log a offset count (w.seats a).work)
-    → (a : Actor) → IsActor a → (path : List ℕ) (offset count : ℕ) → in_hand (ops a) (of_actor a w.log) ≡ Some (operation.View path offset count)
-    → IsSeenAt layout ops w.log a offset count ((with_seat w by t).seats a).work
-seen-line layout ops w by t same seen a ok path offset count at = go (same_actor a by) refl
+seen-line : (layout : Layout) (ops : Actor → List Operation) (old run : List Event) (w : World) (by : Actor) (t : Seat) → t.work ≡ (w.seats by).work
+    → ((a : Actor) → IsActor a → (path : List ℕ) (offset count : ℕ) → in_hand (ops a) (of_actor a run) ≡ Some (operation.View path offset count) → IsSeenAt layout ops old run w.log a offset count (w.seats a).work)
+    → (a : Actor) → IsActor a → (path : List ℕ) (offset count : ℕ) → in_hand (ops a) (of_actor a run) ≡ Some (operation.View path offset count)
+    → IsSeenAt layout ops old run w.log a offset count ((with_seat w by t).seats a).work
+seen-line layout ops old run w by t same seen a ok path offset count at = go (same_actor a by) refl
   where
-    go : (b : Bool) → same_actor a by ≡ b → IsSeenAt layout ops w.log a offset count (cond b t (w.seats a)).work
-    go true is = subst (IsSeenAt layout ops w.log a offset count) (ap (λ z. (w.seats z).work) (same_actor-true a by is) ∙ sym same) (seen a ok path offset count at)
+    go : (b : Bool) → same_actor a by ≡ b → IsSeenAt layout ops old run w.log a offset count (cond b t (w.seats a)).work
+    go true is = subst (IsSeenAt layout ops old run w.log a offset count) (ap (λ z. (w.seats z).work) (same_actor-true a by is) ∙ sym same) (seen a ok path offset count at)
     go false is = seen a ok path offset count at
 
-module _ (v : Volume) (ops : Actor → List Operation) where
-  seeing-gives : (more : Actor → List Operation) (by : Actor) (op : Operation) (w : World) → IsSeeing v.layout ops (λ a. cond (same_actor a by) (op ∷ more a) (more a)) w
-      → IsSeeing v.layout ops more (with_seat w by (with_operation (w.seats by) op))
-  seeing-gives more by op w is = record {
-    safe = safe-gives v ops more by op w is.safe;
-    seen = seen-line v.layout ops w by (with_operation (w.seats by) op) refl is.seen;
+module _ (v : Volume) (old : List Event) (ops : Actor → List Operation) where
+  seeing-gives : (more : Actor → List Operation) (by : Actor) (op : Operation) (run : List Event) (w : World) → IsSeeing v.layout ops (λ a. cond (same_actor a by) (op ∷ more a) (more a)) old run w
+      → IsSeeing v.layout ops more old run (with_seat w by (with_operation (w.seats by) op))
+  seeing-gives more by op run w is = record {
+    safe = safe-gives v old ops more by op run w is.safe;
+    seen = seen-line v.layout ops old run w by (with_operation (w.seats by) op) refl is.seen;
     whole = is.whole;
   }
 
-  seeing-misses : (more : Actor → List Operation) (by : Actor) (reply : Bool) (w : World) → IsSeeing v.layout ops more w → IsSeeing v.layout ops more (with_seat w by (with_miss (w.seats by) reply))
-  seeing-misses more by reply w is = record {
-    safe = safe-misses v ops more by reply w is.safe;
-    seen = seen-line v.layout ops w by (with_miss (w.seats by) reply) refl is.seen;
+  seeing-misses : (more : Actor → List Operation) (by : Actor) (reply : Bool) (run : List Event) (w : World) → IsSeeing v.layout ops more old run w
+      → IsSeeing v.layout ops more old run (with_seat w by (with_miss (w.seats by) reply))
+  seeing-misses more by reply run w is = record {
+    safe = safe-misses v old ops more by reply run w is.safe;
+    seen = seen-line v.layout ops old run w by (with_miss (w.seats by) reply) refl is.seen;
     whole = is.whole;
   }
 
-  admins-whole : (xs h : List Event) → AllByRecursion IsAdmins xs → AreWhole v.layout ops h → AreWhole v.layout ops (xs ++ h)
-  admins-whole [] h all is = is
-  admins-whole (x ∷ xs) h all is = by-node v ops (xs ++ h) (admins-whole xs h all.1 is) x all.0.at.0 all.0.at.1
+  admins-whole : (xs run : List Event) → AllByRecursion IsAdmins xs → AreWhole v.layout ops old run → AreWhole v.layout ops old (xs ++ run)
+  admins-whole [] run all is = is
+  admins-whole (x ∷ xs) run all is = by-node v ops old (xs ++ run) (admins-whole xs run all.1 is) x all.0.at.0 all.0.at.1
 
-  seeing-admins : (more : Actor → List Operation) (w next : World) (xs : List Event) → IsFine v [] w → AllByRecursion IsAdmins xs → next.seats ≡ w.seats → next.log ≡ xs ++ w.log
-      → IsSeeing v.layout ops more w → IsSeeing v.layout ops more next
-  seeing-admins more w next xs fine all seats_are log_is is = record {
-    safe = safe-admins v ops more w next xs fine all seats_are log_is is.safe;
+  seeing-admins : (more : Actor → List Operation) (run : List Event) (w next : World) (xs : List Event) → IsFine v old w → AllByRecursion IsAdmins xs → next.seats ≡ w.seats → next.log ≡ xs ++ w.log
+      → IsSeeing v.layout ops more old run w → IsSeeing v.layout ops more old (xs ++ run) next
+  seeing-admins more run w next xs fine all seats_are log_is is = record {
+    safe = safe-admins v old ops more run w next xs fine all seats_are log_is is.safe;
     seen = λ a ok path offset count at.
-        subst (λ (h : List Event). IsSeenAt v.layout ops h a offset count (next.seats a).work) (sym log_is)
-        (subst (λ (z : Actor → Seat). IsSeenAt v.layout ops (xs ++ w.log) a offset count (z a).work) (sym seats_are)
+        subst (λ (h : List Event). IsSeenAt v.layout ops old (xs ++ run) h a offset count (next.seats a).work) (sym log_is)
+        (subst (λ (z : Actor → Seat). IsSeenAt v.layout ops old (xs ++ run) (xs ++ w.log) a offset count (z a).work) (sym seats_are)
         (seen a ok path offset count
-        (subst (λ (o : List Event). in_hand (ops a) o ≡ Some (operation.View path offset count)) (of_actor-other a Admin xs w.log (seated a ok) (admins-by v ops xs all))
-        (subst (λ (h : List Event). in_hand (ops a) (of_actor a h) ≡ Some (operation.View path offset count)) log_is at))));
-    whole = subst (λ (h : List Event). AreWhole v.layout ops h) (sym log_is) (admins-whole xs w.log all is.whole);
+        (subst (λ (o : List Event). in_hand (ops a) o ≡ Some (operation.View path offset count)) (of_actor-other a Admin xs run (seated a ok) (admins-by v old ops xs all)) at)));
+    whole = admins-whole xs run all is.whole;
   }
     where
       same-op : (a b : Operation) → Some a ≡ Some b → a ≡ b
       same-op a b is = cc
 
-      seen : (a : Actor) → IsActor a → (path : List ℕ) (offset count : ℕ) → in_hand (ops a) (of_actor a w.log) ≡ Some (operation.View path offset count)
-          → IsSeenAt v.layout ops (xs ++ w.log) a offset count (w.seats a).work
-      seen a ok path offset count at = elim (hand-of v.layout ops w.log (of_actor a w.log) a (w.seats a).number (w.seats a).lock (w.seats a).work (is.safe.keeping.seats a ok).hand) [
-        | inl over ↦ subst (IsSeenAt v.layout ops (xs ++ w.log) a offset count) (sym over) tt
+      seen : (a : Actor) → IsActor a → (path : List ℕ) (offset count : ℕ) → in_hand (ops a) (of_actor a run) ≡ Some (operation.View path offset count)
+          → IsSeenAt v.layout ops old (xs ++ run) (xs ++ w.log) a offset count (w.seats a).work
+      seen a ok path offset count at = elim (hand-of v.layout ops (of_actor a run) a (w.seats a).number (w.seats a).lock (w.seats a).work (is.safe.keeping.seats a ok).hand) [
+        | inl over ↦ subst (IsSeenAt v.layout ops old (xs ++ run) (xs ++ w.log) a offset count) (sym over) tt
         | inr hand ↦ (
             let op_is : hand.op ≡ operation.View path offset count = same-op hand.op (operation.View path offset count) (sym hand.at ∙ at) in
-            seen-frame v ops w.log xs (in-runs v [] w fine) a path offset count (w.seats a).lock (open-other a Admin xs w.log (seated a ok) (admins-by v ops xs all))
-            (λ key guarded on. accepted-same xs w.log key (admins-silent v ops key xs all))
-            (w.seats a).work (subst (λ z. IsHolding v.layout ops w.log z (w.seats a).lock (w.seats a).work) op_is hand.holds) (is.seen a ok path offset count at)
+            seen-frame v ops old run w.log xs (in-runs v old w fine) a path offset count (w.seats a).lock (open-other a Admin old xs run (seated a ok) (admins-by v old ops xs all))
+            (λ key guarded on. accepted-same xs w.log key (admins-silent v old ops key xs all))
+            (w.seats a).work (subst (λ z. IsHolding v.layout z (w.seats a).lock (w.seats a).work) op_is hand.holds) (is.seen a ok path offset count at)
             )
       ]
 
-seeing-new : (v : Volume) (ops : Actor → List Operation) → IsSeeing v.layout ops ops (new_world v)
-seeing-new v ops = record { safe = safe-new v ops; seen = λ by ok path offset count at. tt; whole = tt }
+seeing-new : (v : Volume) (ops : Actor → List Operation) (nodes : ℕ → NodeState) (export : ExportState) (old : List Event) → IsSeeing v.layout ops ops old [] (world_after nodes export old)
+seeing-new v ops nodes export old = record { safe = safe-new v ops nodes export old; seen = λ by ok path offset count at. tt; whole = tt }
 
-pub seeing-reached : (v : Volume) → IsTelling v → (lines : List Line) → IsScript v lines → (w : World) → BeginsLines v lines (new_world v) w → w.turns ≤ most_turns
-    → IsFine v [] w × ((more : Actor → List Operation) × IsSeeing v.layout (λ a. given a lines) more w)
-seeing-reached v tells lines s w is few =
-    reached v tells (IsSeeing v.layout (λ a. given a lines))
-    (λ more by ok w next fine fine_next k turn. seeing-turn v (λ a. given a lines) more by ok w next fine fine_next k turn)
-    (seeing-gives v (λ a. given a lines)) (seeing-misses v (λ a. given a lines)) (seeing-admins v (λ a. given a lines))
-    lines s (seeing-new v (λ a. given a lines)) w is few
+-- What a play leaves.
+pub kept-after : (v : Volume) → IsTelling v → (lines : List Line) → IsScript v lines → (nodes : ℕ → NodeState) (export : ExportState) (old : List Event) → MayBegin v nodes export old
+    → (h : List Event) (p : IsBegunFrom v (world_after nodes export old) lines h) → IsKeptAfter v.layout (λ a. given a lines) old h p.last
+kept-after v tells lines script nodes export old b h p =
+    let k = reached-run v tells old (λ more run w. IsSeeing v.layout (λ a. given a lines) more old run w)
+    (λ more by ok w next fine fine_next k turn. seeing-turn v old (λ a. given a lines) more by ok w next fine fine_next k turn)
+    (seeing-gives v old (λ a. given a lines)) (seeing-misses v old (λ a. given a lines))
+    (λ more run w next xs fine run_is all seats_are log_is k. seeing-admins v old (λ a. given a lines) more run w next xs fine all seats_are log_is k)
+    lines script nodes export b (seeing-new v (λ a. given a lines) nodes export old) p.last p.played p.few in
+    record {
+      run = k.0.run;
+      log_is = sym p.log_is ∙ k.0.log_is;
+      apart = k.1.1.safe.keeping.apart;
+      held = (k.1.0, k.1.1.safe.keeping);
+      none_lost = k.1.1.safe.none_lost;
+      whole_views = k.1.1.whole;
+    }
 
--- No view sees an update in part.
-pub whole-views : (v : Volume) → IsTelling v → (lines : List Line) → IsScript v lines → (h : List Event) → IsBegun v lines h → AreWhole v.layout (λ a. given a lines) h
-whole-views v tells lines s h p =
-    let k = seeing-reached v tells lines s p.last p.played p.few in
-    subst (λ (g : List Event). AreWhole v.layout (λ a. given a lines) g) p.log_is k.1.1.whole
+-- A new volume: the whole log is that of the run.
+module _ (v : Volume) (tells : IsTelling v) (lines : List Line) (script : IsScript v lines) (h : List Event) (p : IsBegun v lines h) where
+  kept : IsKeptAfter v.layout (λ a. given a lines) [] h p.last
+  kept = kept-after v tells lines script (λ n. fresh) (new_export v 0) [] (new-beginning v) h p
 
--- A turn in which a guarded key is published: no other actor has a lock on it.
+  whole-run : kept.run ≡ h
+  whole-run = sym (append-nil kept.run) ∙ sym kept.log_is
+
+  pub locks-apart : AreApart p.last
+  locks-apart = kept.apart
+
+  pub locks-held : (more : Actor → List Operation) × IsKeeping v.layout (λ a. given a lines) more h p.last
+  locks-held = (kept.held.0, subst (λ (r : List Event). IsKeeping v.layout (λ a. given a lines) kept.held.0 r p.last) whole-run kept.held.1)
+
+  pub none-lost : (key : Key) → IsGuarded (λ a. given a lines) key h → NoneLost v.layout (λ a. given a lines) key [] h
+  none-lost key guarded =
+      subst (λ (r : List Event). NoneLost v.layout (λ a. given a lines) key [] r) whole-run
+      (kept.none_lost key (subst (λ (r : List Event). IsGuarded (λ a. given a lines) key r) (sym whole-run) guarded))
+
+  pub whole-views : AreWhole v.layout (λ a. given a lines) [] h
+  whole-views = subst (λ (r : List Event). AreWhole v.layout (λ a. given a lines) [] r) whole-run kept.whole_views
+
+-- A turn in which an update publishes a block: no other actor has a lock on it.
 first-of : (x : Event) (xs h : List Event) → xs ++ h ≡ x ∷ h → (ys : List Event) × (xs ≡ x ∷ ys)
 first-of x [] h is = absurd (longer h x is)
   where
@@ -431,14 +480,14 @@ first-of x (y ∷ ys) h is = (ys, ap (λ (z : Event). z ∷ ys) (head y (ys ++ h
         pick d [] = d
         pick d (z ∷ zs) = z
 
-pub barred-turn : (v : Volume) (ops more : Actor → List Operation) (w next : World) → IsFine v [] w → IsFine v [] next → IsKeeping v.layout ops more w → (by : Actor) → IsActor by → IsTurn v by w next
-    → (b : Actor) (key : Key) (stamp mask : ℕ) → next.log ≡ e.Publish b key stamp mask None ∷ w.log → IsGuarded ops key w.log
+pub barred-turn : (v : Volume) (old : List Event) (ops more : Actor → List Operation) (w next : World) (fine : IsFine v old w) → IsFine v old next → IsKeeping v.layout ops more fine.run w → (by : Actor) → IsActor by → IsTurn v by w next
+    → (b : Actor) (key : Key) (stamp mask : ℕ) → next.log ≡ e.Publish b key stamp mask None ∷ w.log → IsUpdate (in_hand (ops by) (of_actor by fine.run))
     → (a : Actor) → IsActor a → same_actor a by ≡ false → (lock : Lock) → (w.seats a).lock ≡ Some lock → ¬ HasBlock v.layout lock key
-barred-turn v ops more w next fine fine_next keeping by ok turn b key stamp mask log_is guarded a ok_a apart lock at on = elim (going v ops more by ok w next fine fine_next keeping turn) [
+barred-turn v old ops more w next fine fine_next keeping by ok turn b key stamp mask log_is update a ok_a apart lock at on = elim (going v old ops more by ok w next fine fine_next keeping turn) [
   | inl same ↦ longer w.log (e.Publish b key stamp mask None) (sym (ap (λ (z : World). z.log) same) ∙ log_is)
   | inr g ↦ (
       let k = first-of (e.Publish b key stamp mask None) g.move.xs w.log (sym g.move.log_is ∙ log_is) in
-      barred v ops w next by ok keeping.apart g b key stamp mask k.0 k.1 guarded a ok_a apart lock at on
+      barred v ops fine.run w next by ok keeping.apart g b key stamp mask k.0 k.1 update a ok_a apart lock at on
       )
 ]
   where

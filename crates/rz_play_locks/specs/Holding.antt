@@ -9,8 +9,6 @@ use Rattle.rz_events.specs.declared.events.Event.{Event}
 use Rattle.rz_events.specs.declared.events.Event.TheVariants as e
 use Rattle.rz_events.specs.Events.{same_actor}
 use Rattle.rz_core.specs.History.{of_actor}
-use Rattle.rz_client_model.specs.declared.writing.WriteStage.{WriteStage}
-use Rattle.rz_client_model.specs.declared.writing.WriteStage.TheVariants as writing
 use Rattle.rz_events.specs.declared.operations.Operation.{Operation}
 use Rattle.rz_operation_model.specs.Ranges.{Range, Aim, Taking, Giving, key_in, start_in}
 use Rattle.rz_operation_model.specs.Work.{Work, OnBlock, OnRange, RangePlan, PutBlock, WriteBytes, ReadBytes, Course, Alone, Within, Calling, Dropping, Opening, Locking, Writing, Reading, Rebuilding, Ending, Over}
@@ -21,7 +19,7 @@ use Rattle.rz_play.specs.Turns.{kind_of}
 use Rattle.rz_locks.specs.declared.conflict.Lock.{Lock}
 use Rattle.rz_locks.specs.Conflicts.{HasByte, Conflict}
 use Rattle.rz_script.specs.Lines.{IsActor}
-use Rattle.rz_play_locks.specs.Operations.{ended, in_hand, IsUpdate, IsGuarded}
+use Rattle.rz_play_locks.specs.Operations.{ended, in_hand}
 
 -- No two locks that are held conflict.
 abbrev pub AreApart : World → Type 0
@@ -88,39 +86,33 @@ abbrev pub IsAlone : Operation → Course → Type 0
 IsAlone op Alone = IsPut op
 IsAlone op (Within r) = IsToGive r.aim
 
--- a write that has begun on a guarded key is that of an update
-abbrev pub IsBegunBy : (Actor → List Operation) → List Event → Operation → Key → WriteStage → Type 0
-IsBegunBy ops h op key (writing.Sending t) = IsGuarded ops key h → IsUpdate (Some op)
-IsBegunBy ops h op key _ = Unit {0}
-
 -- which lock an operation holds where it stands
-abbrev pub IsHolding : Layout → (Actor → List Operation) → List Event → Operation → Option Lock → Work → Type 0
-IsHolding layout ops h op lock (Calling c) = Unit {0}
-IsHolding layout ops h op lock (Dropping fid n places) = Unit {0}
-IsHolding layout ops h op lock (Opening path plan) = (begun op ≡ Opening path plan) × (lock ≡ None)
-IsHolding layout ops h op lock (Locking path plan) = (begun op ≡ Locking path plan) × (lock ≡ None)
-IsHolding layout ops h op lock (Writing course text s) =
-    InCourse layout op lock course s.key × IsAlone op course × IsBegunBy ops h op s.key s.stage
-IsHolding layout ops h op lock (Reading course s) = InCourse layout op lock course s.key
-IsHolding layout ops h op lock (Rebuilding n s) = Unit {0}
-IsHolding layout ops h op lock (Ending answer) = Unit {0}
-IsHolding layout ops h op lock Over = ⊥
+abbrev pub IsHolding : Layout → Operation → Option Lock → Work → Type 0
+IsHolding layout op lock (Calling c) = Unit {0}
+IsHolding layout op lock (Dropping fid n places) = Unit {0}
+IsHolding layout op lock (Opening path plan) = (begun op ≡ Opening path plan) × (lock ≡ None)
+IsHolding layout op lock (Locking path plan) = (begun op ≡ Locking path plan) × (lock ≡ None)
+IsHolding layout op lock (Writing course text s) = InCourse layout op lock course s.key × IsAlone op course
+IsHolding layout op lock (Reading course s) = InCourse layout op lock course s.key
+IsHolding layout op lock (Rebuilding n s) = Unit {0}
+IsHolding layout op lock (Ending answer) = Unit {0}
+IsHolding layout op lock Over = ⊥
 
 -- No operation is in hand, and no lock is held; or the operation in hand holds what it has to. `o` has the own events.
-abbrev pub InHand : Layout → (Actor → List Operation) → List Event → List Event → Actor → ℕ → Option Lock → Work → Type 0
-InHand layout ops h o by number lock Over = (ended o ≡ number) × (lock ≡ None)
-InHand layout ops h o by number lock work =
-    (ended o + 1 ≡ number) × ((op : Operation) × (in_hand (ops by) o ≡ Some op) × IsHolding layout ops h op lock work)
+abbrev pub InHand : Layout → (Actor → List Operation) → List Event → Actor → ℕ → Option Lock → Work → Type 0
+InHand layout ops o by number lock Over = (ended o ≡ number) × (lock ≡ None)
+InHand layout ops o by number lock work =
+    (ended o + 1 ≡ number) × ((op : Operation) × (in_hand (ops by) o ≡ Some op) × IsHolding layout op lock work)
 
 -- An actor: what is left to do are the last ones of its operations, and what it has in hand is the one before them.
-pub record IsSeat (layout : Layout) (ops : Actor → List Operation) (h : List Event) (by : Actor) (more : List Operation) (s : Seat) : Type 0 where
+pub record IsSeat (layout : Layout) (ops : Actor → List Operation) (run : List Event) (by : Actor) (more : List Operation) (s : Seat) : Type 0 where
   pub rest : s.todo ++ more ≡ drop s.number (ops by)
-  pub hand : InHand layout ops h (of_actor by h) by s.number s.lock s.work
+  pub hand : InHand layout ops (of_actor by run) by s.number s.lock s.work
 
--- Between two turns; `more` has the operations that each actor is still to be given.
-pub record IsKeeping (layout : Layout) (ops more : Actor → List Operation) (w : World) : Type 0 where
+-- Between two turns; `more` has the operations that each actor is still to be given, and `run` the events of this run.
+pub record IsKeeping (layout : Layout) (ops more : Actor → List Operation) (run : List Event) (w : World) : Type 0 where
   pub apart : AreApart w
-  pub seats : (by : Actor) → IsActor by → IsSeat layout ops w.log by (more by) (w.seats by)
+  pub seats : (by : Actor) → IsActor by → IsSeat layout ops run by (more by) (w.seats by)
 
 -- After a turn the actor still holds the lock, or the turn was the `Done` of its operation.
 abbrev pub IsReleased : World → World → Actor → Lock → Type 0

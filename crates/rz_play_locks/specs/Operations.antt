@@ -1,5 +1,5 @@
 -- To which operation of the script an event belongs.
-use Rattle.std.specs.Prelude.{ℕ, true, cond, ◌+◌, ◌≡◌, List, [], ◌∷◌, Option, Some, slice_get}
+use Rattle.std.specs.Prelude.{ℕ, true, cond, ◌+◌, ◌≡◌, List, [], ◌∷◌, Option, Some, None, slice_get}
 use Rattle.rz_events.specs.declared.keys.Actor.{Actor}
 use Rattle.rz_events.specs.declared.keys.Key.{Key}
 use Rattle.rz_events.specs.declared.events.Event.{Event}
@@ -32,9 +32,9 @@ abbrev pub IsUpdate : Option Operation → Type 0
 IsUpdate (Some (operation.Update path offset datum)) = Unit {0}
 IsUpdate _ = ⊥
 
--- A key is guarded in a log, where `ops` has the operations of each actor: every begin on it belongs to an update.
+-- A key is guarded in a log, where `ops` has the operations of each actor: every accepted publish of it belongs to an update.
 abbrev pub IsGuarded : (Actor → List Operation) → Key → List Event → Type 0
 IsGuarded ops key [] = Unit {0}
-IsGuarded ops key (e.Begin by at stamp base text ∷ h) =
+IsGuarded ops key (e.Publish by at stamp mask None ∷ h) =
     IsGuarded ops key h × (same_key key at ≡ true → IsUpdate (in_hand (ops by) (of_actor by h)))
 IsGuarded ops key (_ ∷ h) = IsGuarded ops key h

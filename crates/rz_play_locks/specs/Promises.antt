@@ -1,5 +1,6 @@
--- What updates and views promise. A history has the newest event first.
-use Rattle.std.specs.Prelude.{ℕ, true, min, map, cond, ◌≡◌, ◌<◌, ◌+◌, ◌-◌, ◌*◌, ◌/◌, ◌%◌, List, [], ◌∷◌, Option, Some, None, take, drop, get_or}
+-- What updates and views promise, in a play that goes on after an earlier log. A history has the newest event first; `old` is
+-- the earlier log, and `run` has the events of this run, which stand before it.
+use Rattle.std.specs.Prelude.{ℕ, true, min, map, cond, ◌≡◌, ◌<◌, ◌+◌, ◌-◌, ◌*◌, ◌/◌, ◌%◌, List, [], ◌∷◌, ◌++◌, Option, Some, None, take, drop, get_or}
 use Rattle.std.specs.List.{range_with_len}
 use Rattle.mj_angles.specs.declared.layout.Layout.{Layout}
 use Rattle.mj_angles.specs.Layout.{block_bytes_of}
@@ -59,20 +60,20 @@ IsUpdated layout _ block old new = ⊥
 
 -- Each accepted publish of the key is of the text that was published before it, or of the empty one, with the bytes of its
 -- own update in place.
-abbrev pub NoneLost : Layout → (Actor → List Operation) → Key → List Event → Type 0
-NoneLost layout ops key [] = Unit {0}
-NoneLost layout ops key (e.Publish by at stamp mask None ∷ h) = NoneLost layout ops key h
+abbrev pub NoneLost : Layout → (Actor → List Operation) → Key → (old run : List Event) → Type 0
+NoneLost layout ops key old [] = Unit {0}
+NoneLost layout ops key old (e.Publish by at stamp mask None ∷ run) = NoneLost layout ops key old run
     × (same_key key at ≡ true
-    → IsUpdated layout (in_hand (ops by) (of_actor by h)) key.block (published_text h key) (text_in ((facts h).wrote stamp)))
-NoneLost layout ops key (_ ∷ h) = NoneLost layout ops key h
+    → IsUpdated layout (in_hand (ops by) (of_actor by run)) key.block (published_text (run ++ old) key) (text_in ((facts (run ++ old)).wrote stamp)))
+NoneLost layout ops key old (_ ∷ run) = NoneLost layout ops key old run
 
 -- Whole view.
 
--- the file as the actor's newest open told it, with the history before that open
-abbrev pub last_open : Actor → List Event → Option (FileInfo × List Event)
-last_open a [] = None
-last_open a (e.Meta by (tree.OpenFile path) (reply.File info) ∷ h) = cond (same_actor a by) (Some (info, h)) (last_open a h)
-last_open a (_ ∷ h) = last_open a h
+-- the file as the actor's newest open told it, with the log before that open
+abbrev pub last_open : Actor → (old run : List Event) → Option (FileInfo × List Event)
+last_open a old [] = None
+last_open a old (e.Meta by (tree.OpenFile path) (reply.File info) ∷ run) = cond (same_actor a by) (Some (info, run ++ old)) (last_open a old run)
+last_open a old (_ ∷ run) = last_open a old run
 
 -- the byte of a file at a place, by the texts of its blocks, with zeros past each
 abbrev pub byte_at : Layout → (ℕ → List ℕ) → ℕ → ℕ
@@ -86,8 +87,8 @@ key_at info block = record { fid = info.fid; block = block }
 
 -- each block that the bytes touch is guarded
 abbrev pub AllGuarded : Layout → (Actor → List Operation) → List Event → FileInfo → (offset size : ℕ) → Type 0
-AllGuarded layout ops h info offset size =
-    (i : ℕ) → i < size → IsGuarded ops (key_at info ((offset + i) / block_bytes_of layout)) h
+AllGuarded layout ops run info offset size =
+    (i : ℕ) → i < size → IsGuarded ops (key_at info ((offset + i) / block_bytes_of layout)) run
 
 -- a view of so many bytes of a file, which was open after `h`, gave this answer
 abbrev pub IsWhole : Layout → FileInfo → List Event → (offset size : ℕ) → Answer → Type 0
@@ -96,18 +97,18 @@ IsWhole layout info h offset size (answers.ShortRead done (read.Moved was now)) 
 IsWhole layout info h offset size _ = Unit {0}
 
 abbrev pub IsViewedAt : Layout → (Actor → List Operation) → List Event → (offset count : ℕ) → Option (FileInfo × List Event) → Answer → Type 0
-IsViewedAt layout ops h offset count None answer = Unit {0}
-IsViewedAt layout ops h offset count (Some opened) answer =
+IsViewedAt layout ops run offset count None answer = Unit {0}
+IsViewedAt layout ops run offset count (Some opened) answer =
     let size = min count (opened.0.size - offset) in
-    AllGuarded layout ops h opened.0 offset size → IsWhole layout opened.0 opened.1 offset size answer
+    AllGuarded layout ops run opened.0 offset size → IsWhole layout opened.0 opened.1 offset size answer
 
 abbrev pub IsViewed : Layout → (Actor → List Operation) → List Event → Option Operation → Option (FileInfo × List Event) → Answer → Type 0
-IsViewed layout ops h (Some (operation.View path offset count)) opened answer = IsViewedAt layout ops h offset count opened answer
-IsViewed layout ops h _ opened answer = Unit {0}
+IsViewed layout ops run (Some (operation.View path offset count)) opened answer = IsViewedAt layout ops run offset count opened answer
+IsViewed layout ops run _ opened answer = Unit {0}
 
 -- Each view whose blocks are guarded, and that answers, gives what was published at its last open. It never moved.
-abbrev pub AreWhole : Layout → (Actor → List Operation) → List Event → Type 0
-AreWhole layout ops [] = Unit {0}
-AreWhole layout ops (e.Done by number answer ∷ h) =
-    AreWhole layout ops h × IsViewed layout ops h (in_hand (ops by) (of_actor by h)) (last_open by h) answer
-AreWhole layout ops (_ ∷ h) = AreWhole layout ops h
+abbrev pub AreWhole : Layout → (Actor → List Operation) → (old run : List Event) → Type 0
+AreWhole layout ops old [] = Unit {0}
+AreWhole layout ops old (e.Done by number answer ∷ run) =
+    AreWhole layout ops old run × IsViewed layout ops run (in_hand (ops by) (of_actor by run)) (last_open by old run) answer
+AreWhole layout ops old (_ ∷ run) = AreWhole layout ops old run

@@ -46,13 +46,14 @@ IsWritten layout h m key text writing.Beginning = IsUpdated layout m key.block (
 IsWritten layout h m key text (writing.Sending t) = IsUpdated layout m key.block (published_text h key) text
 IsWritten layout h m key text (writing.Ended end) = Unit {0}
 
-abbrev pub IsText : Layout → (Actor → List Operation) → List Event → Option Operation → Work → Type 0
-IsText layout ops h m (Reading (Within r) s) = IsLocking m → IsGuarded ops s.key h → IsNewest h s.key s.stage
-IsText layout ops h m (Writing (Within r) text s) = IsUpdate m → IsGuarded ops s.key h → IsWritten layout h m s.key text s.stage
-IsText layout ops h m _ = Unit {0}
+-- `h` is the whole log, and `run` has the events of this run
+abbrev pub IsText : Layout → (Actor → List Operation) → (run h : List Event) → Option Operation → Work → Type 0
+IsText layout ops run h m (Reading (Within r) s) = IsLocking m → IsGuarded ops s.key run → IsNewest h s.key s.stage
+IsText layout ops run h m (Writing (Within r) text s) = IsUpdate m → IsGuarded ops s.key run → IsWritten layout h m s.key text s.stage
+IsText layout ops run h m _ = Unit {0}
 
--- Between two turns.
-pub record IsSafe (layout : Layout) (ops more : Actor → List Operation) (w : World) : Type 0 where
-  pub keeping : IsKeeping layout ops more w
-  pub texts : (by : Actor) → IsActor by → IsText layout ops w.log (in_hand (ops by) (of_actor by w.log)) (w.seats by).work
-  pub none_lost : (key : Key) → IsGuarded ops key w.log → NoneLost layout ops key w.log
+-- Between two turns; `run` has the events of this run, which go on after the earlier log.
+pub record IsSafe (layout : Layout) (ops more : Actor → List Operation) (old run : List Event) (w : World) : Type 0 where
+  pub keeping : IsKeeping layout ops more run w
+  pub texts : (by : Actor) → IsActor by → IsText layout ops run w.log (in_hand (ops by) (of_actor by run)) (w.seats by).work
+  pub none_lost : (key : Key) → IsGuarded ops key run → NoneLost layout ops key old run

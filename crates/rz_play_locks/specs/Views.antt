@@ -17,24 +17,24 @@ use Rattle.rz_play_locks.specs.Texts.{IsSafe}
 
 -- The range is that of the actor's newest open. Where its blocks are guarded, what is published of each is what was
 -- published then, and the bytes that came so far are those of these texts.
-pub record IsSoFar (layout : Layout) (ops : Actor → List Operation) (h : List Event) (a : Actor) (offset count : ℕ) (r : Range) : Type 0 where
+pub record IsSoFar (layout : Layout) (ops : Actor → List Operation) (old run h : List Event) (a : Actor) (offset count : ℕ) (r : Range) : Type 0 where
   pub before : List Event
-  pub opened : last_open a h ≡ Some (r.info, before)
+  pub opened : last_open a old run ≡ Some (r.info, before)
   pub size_is : r.size ≡ min count (r.info.size - offset)
-  pub texts : AllGuarded layout ops h r.info offset r.size → (i : ℕ) → i < r.size
+  pub texts : AllGuarded layout ops run r.info offset r.size → (i : ℕ) → i < r.size
       → published_text h (key_at r.info ((offset + i) / block_bytes_of layout)) ≡ published_text before (key_at r.info ((offset + i) / block_bytes_of layout))
   pub bytes : List ℕ
   pub aim_is : r.aim ≡ Taking bytes
-  pub bytes_are : AllGuarded layout ops h r.info offset r.size → bytes ≡ file_bytes layout (λ block. published_text before (key_at r.info block)) offset r.done
+  pub bytes_are : AllGuarded layout ops run r.info offset r.size → bytes ≡ file_bytes layout (λ block. published_text before (key_at r.info block)) offset r.done
 
-abbrev pub IsSeenAt : Layout → (Actor → List Operation) → List Event → Actor → (offset count : ℕ) → Work → Type 0
-IsSeenAt layout ops h a offset count (Reading (Within r) s) = IsSoFar layout ops h a offset count r
-IsSeenAt layout ops h a offset count (Ending answer) = IsViewedAt layout ops h offset count (last_open a h) answer
-IsSeenAt layout ops h a offset count _ = Unit {0}
+abbrev pub IsSeenAt : Layout → (Actor → List Operation) → (old run h : List Event) → Actor → (offset count : ℕ) → Work → Type 0
+IsSeenAt layout ops old run h a offset count (Reading (Within r) s) = IsSoFar layout ops old run h a offset count r
+IsSeenAt layout ops old run h a offset count (Ending answer) = IsViewedAt layout ops run offset count (last_open a old run) answer
+IsSeenAt layout ops old run h a offset count _ = Unit {0}
 
 -- Between two turns.
-pub record IsSeeing (layout : Layout) (ops more : Actor → List Operation) (w : World) : Type 0 where
-  pub safe : IsSafe layout ops more w
-  pub seen : (by : Actor) → IsActor by → (path : List ℕ) (offset count : ℕ) → in_hand (ops by) (of_actor by w.log) ≡ Some (operation.View path offset count)
-      → IsSeenAt layout ops w.log by offset count (w.seats by).work
-  pub whole : AreWhole layout ops w.log
+pub record IsSeeing (layout : Layout) (ops more : Actor → List Operation) (old run : List Event) (w : World) : Type 0 where
+  pub safe : IsSafe layout ops more old run w
+  pub seen : (by : Actor) → IsActor by → (path : List ℕ) (offset count : ℕ) → in_hand (ops by) (of_actor by run) ≡ Some (operation.View path offset count)
+      → IsSeenAt layout ops old run w.log by offset count (w.seats by).work
+  pub whole : AreWhole layout ops old run

@@ -1,6 +1,8 @@
 //! The first bad line of texts with its cause, and the printed form of every line.
 use ScriptCause::*;
 use rz_script::{Form, Line, Script, ScriptCause, ScriptError, Volume};
+use std::alloc::Global;
+use std::process::Abort;
 use std::test::Fail;
 
 /// Eight nodes in two clusters with the largest blocks, and every line and operation in a loose
@@ -81,7 +83,7 @@ fn prints_what_reads_back(rt: HostRuntime) -> Result<(), Fail> {
     let script = Script::read(rt.alloc(), LOOSE.as_bytes(), Form::Replay)?;
     let once = script.print(rt.alloc())?;
     assert!(rt; once.as_slice() == PRINTED.as_bytes());
-    let again = Script::read(rt.alloc(), once.as_slice(), Form::Replay)?;
+    let again = read(rt.alloc(), once.as_slice(), Form::Replay)?;
     let twice = again.print(rt.alloc())?;
     assert!(rt; twice.as_slice() == PRINTED.as_bytes());
     Ok(())
@@ -135,16 +137,38 @@ const REFUSED: [(&[u8], Form, u32, ScriptCause); 34] = [
     (b"miss c1 message", Form::Replay, 1, UnknownLine),
 ];
 
+/// Reads a text, which is short.
+fn read(alloc: Global, text: &[u8], form: Form) -> Result<Script, ScriptError> {
+    if text.len() > 100_000 {
+        return Err(ScriptError::NoMemory);
+    }
+    Script::read(alloc, text, form)
+}
+
+/// The text is refused at this line for this cause.
+fn refused(
+    rt: &impl Abort,
+    alloc: Global,
+    text: &[u8],
+    form: Form,
+    at: u32,
+    why: ScriptCause,
+) -> Result<(), Fail> {
+    match read(alloc, text, form) {
+        Err(ScriptError::Script { line, cause }) => {
+            assert_eq!(rt; cause, why);
+            assert_eq!(rt; line, at);
+            Ok(())
+        }
+        _ => Err(Fail::from("not refused by a line")),
+    }
+}
+
 #[test]
 fn refuses_the_first_bad_line(rt: HostRuntime) -> Result<(), Fail> {
-    for (text, form, at, why) in REFUSED {
-        match Script::read(rt.alloc(), text, form) {
-            Err(ScriptError::Script { line, cause }) => {
-                assert_eq!(rt; cause, why);
-                assert_eq!(rt; line, at);
-            }
-            _ => return Err(Fail::from("not refused by a line")),
-        }
+    let alloc = rt.alloc();
+    for (text, form, line, cause) in REFUSED {
+        refused(&rt, alloc, text, form, line, cause)?;
     }
     Ok(())
 }

@@ -7,8 +7,8 @@ abbrev pub invariant-rows : goal.invariant-rows
 invariant-rows g l = record {
   within : l.at ≤ length l.c;
   delayed : IsDelayed l.step l.at l.initial.c l.c l.d;
-  front : IsCarried l.step g.row.W l.at l.c l.front;
-  back : IsCarried l.step g.row.W (l.at + (l.step - g.row.W)) l.c l.back;
+  front : IsCarried l.step g.row.A l.at l.c l.front;
+  back : IsCarried l.step g.row.B (l.at + (l.step - g.row.B)) l.c l.back;
 }
 
 abbrev pub decreases-rows : goal.decreases-rows

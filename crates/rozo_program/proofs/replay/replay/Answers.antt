@@ -2,6 +2,7 @@ use Rattle.std.proofs.Common.{List, [], map, reverse, string_bytes}
 use Rattle.rz_ports.specs.Counts.{Rises}
 use Rattle.rz_events.specs.declared.events.Event.{Event}
 use Rattle.rz_replay.specs.declared.operation.Line.{Line}
+use Rattle.rz_command.specs.Line.{meaning}
 use Rattle.rz_core.specs.Legal.{IsLegal}
 use Rattle.rz_safety.specs.Sound.{IsAnswering, IsSound}
 use Rattle.rz_history.specs.Wide.{wide}
@@ -21,7 +22,7 @@ log-holds P none plays g c =
       old = g.O.Sink.faults c.args.output.now;
       new = g.O.Sink.faults c.read_and_play.new.output;
     } in
-    replays-hold P none plays (map string_bytes c.args.words.now) (g.I.Source.left c.args.input.now)
+    replays-hold P none plays (meaning (map string_bytes c.args.words.now)) (g.I.Source.left c.args.input.now)
     (Rises (g.I.Source.faults c.args.input.now) (g.I.Source.faults c.read_and_play.new.input))
     sink c.read_and_play.result.status (reverse c.read_and_play.result.log.items) c.read_and_play.ensures.replayed
 

@@ -44,4 +44,4 @@ invariant_of-self c =
     let store : IsStore 8 s.rows s.cols (s.count + 1) ys =
     add_store 8 s.rows s.cols s.count xs ys c.args.p c.args.bins.now i.0 (omega arith) c.put_at.ensures.filled added (c.put_at.ensures.len ∙ ap length value) other in
     let Q : List Series → Type 0 = λ zs. IsStore 8 s.rows s.cols (s.count + 1) zs in
-    (subst Q (sym all) store, i.1)
+    (subst Q (sym all) store, i.1, i.2, i.3, i.4)

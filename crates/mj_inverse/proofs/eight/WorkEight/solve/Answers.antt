@@ -8,8 +8,8 @@ use Rattle.mj_inverse.specs.Store.{IsStore, IsFilled, pairs_in, search_in, lane_
 use Rattle.mj_inverse.proofs.Stores.{length-pairs_in, differ_from_pairs, whole}
 use Rattle.mj_inverse.proofs.eight.WorkEight.solve.Goals as goal
 
-pub solve_all-requires-clause-filled : goal.solve_all-requires-clause-filled
-solve_all-requires-clause-filled c =
+pub solve_eight-requires-clause-filled : goal.solve_eight-requires-clause-filled
+solve_eight-requires-clause-filled c =
     let s = c.self.inside in
     let i = c.self.invariant.0 in
     let few = i.few in
@@ -22,8 +22,8 @@ solve_all-requires-clause-filled c =
     let Q : List Series → Type 0 = λ xs. IsFilled 8 s.rows s.cols s.rows xs in
     subst Q (sym c.deref_mut.ensures.value) (subst P full i.filled)
 
-pub solve_all-requires-clause-differ : goal.solve_all-requires-clause-differ
-solve_all-requires-clause-differ c =
+pub solve_eight-requires-clause-differ : goal.solve_eight-requires-clause-differ
+solve_eight-requires-clause-differ c =
     let s = c.self.inside in
     let i = c.self.invariant.0 in
     let few = i.few in
@@ -51,15 +51,15 @@ returns-clause-found c = λ j h zero.
     let l = looked s.rows s.cols s.count c.args.self.now s.all.items c.deref_mut.result.now c.self.invariant.0 c.self.view_is c.requires.full c.deref_mut.ensures.value in
     let rows : s.rows ≡ c.args.self.now.rows = ap (λ (v : Search). v.rows) c.self.view_is in
     let cols : s.cols ≡ c.args.self.now.cols = ap (λ (v : Search). v.cols) c.self.view_is in
-    let marks : take s.marks.len (c.solve_all.new.bad ++ drop (length c.solve_all.new.bad) s.marks.items) ≡ c.solve_all.new.bad =
-    whole s.marks.len s.marks.items c.solve_all.new.bad (search rules) (search rules) in
-    let seen : c.deref.result.now ≡ c.solve_all.new.bad = c.deref.ensures.value ∙ marks in
-    let out : lane_grid 8 j s.rows s.cols c.solve_all.new.out ≡ lane_grid 8 j c.args.self.now.rows c.args.self.now.cols c.solve_all.new.out =
-    ap (λ r. lane_grid 8 j r s.cols c.solve_all.new.out) rows ∙ ap (λ k. lane_grid 8 j c.args.self.now.rows k c.solve_all.new.out) cols in
-    let mark : get_or c.solve_all.new.bad j 0 ≡ 0 = ap (λ xs. get_or xs j 0) (sym seen) ∙ (c.mask.ensures j h).0 zero in
-    let P : Search → Type 0 = λ v. IsFound (lane_search 8 j v) (lane_grid 8 j s.rows s.cols c.solve_all.new.out) in
+    let marks : take s.marks.len (c.solve_eight.new.bad ++ drop (length c.solve_eight.new.bad) s.marks.items) ≡ c.solve_eight.new.bad =
+    whole s.marks.len s.marks.items c.solve_eight.new.bad (search rules) (search rules) in
+    let seen : c.deref.result.now ≡ c.solve_eight.new.bad = c.deref.ensures.value ∙ marks in
+    let out : lane_grid 8 j s.rows s.cols c.solve_eight.new.out ≡ lane_grid 8 j c.args.self.now.rows c.args.self.now.cols c.solve_eight.new.out =
+    ap (λ r. lane_grid 8 j r s.cols c.solve_eight.new.out) rows ∙ ap (λ k. lane_grid 8 j c.args.self.now.rows k c.solve_eight.new.out) cols in
+    let mark : get_or c.solve_eight.new.bad j 0 ≡ 0 = ap (λ xs. get_or xs j 0) (sym seen) ∙ (c.mask.ensures j h).0 zero in
+    let P : Search → Type 0 = λ v. IsFound (lane_search 8 j v) (lane_grid 8 j s.rows s.cols c.solve_eight.new.out) in
     let Q : Grid → Type 0 = λ g. IsFound (lane_search 8 j c.args.self.now) g in
-    subst Q out (subst P l (c.solve_all.ensures.found j h mark))
+    subst Q out (subst P l (c.solve_eight.ensures.found j h mark))
 
 pub returns-clause-only : goal.returns-clause-only
 returns-clause-only c = λ j g h found.
@@ -67,13 +67,13 @@ returns-clause-only c = λ j g h found.
     let l = looked s.rows s.cols s.count c.args.self.now s.all.items c.deref_mut.result.now c.self.invariant.0 c.self.view_is c.requires.full c.deref_mut.ensures.value in
     let rows : s.rows ≡ c.args.self.now.rows = ap (λ (v : Search). v.rows) c.self.view_is in
     let cols : s.cols ≡ c.args.self.now.cols = ap (λ (v : Search). v.cols) c.self.view_is in
-    let marks : take s.marks.len (c.solve_all.new.bad ++ drop (length c.solve_all.new.bad) s.marks.items) ≡ c.solve_all.new.bad =
-    whole s.marks.len s.marks.items c.solve_all.new.bad (search rules) (search rules) in
-    let seen : c.deref.result.now ≡ c.solve_all.new.bad = c.deref.ensures.value ∙ marks in
-    let out : lane_grid 8 j s.rows s.cols c.solve_all.new.out ≡ lane_grid 8 j c.args.self.now.rows c.args.self.now.cols c.solve_all.new.out =
-    ap (λ r. lane_grid 8 j r s.cols c.solve_all.new.out) rows ∙ ap (λ k. lane_grid 8 j c.args.self.now.rows k c.solve_all.new.out) cols in
+    let marks : take s.marks.len (c.solve_eight.new.bad ++ drop (length c.solve_eight.new.bad) s.marks.items) ≡ c.solve_eight.new.bad =
+    whole s.marks.len s.marks.items c.solve_eight.new.bad (search rules) (search rules) in
+    let seen : c.deref.result.now ≡ c.solve_eight.new.bad = c.deref.ensures.value ∙ marks in
+    let out : lane_grid 8 j s.rows s.cols c.solve_eight.new.out ≡ lane_grid 8 j c.args.self.now.rows c.args.self.now.cols c.solve_eight.new.out =
+    ap (λ r. lane_grid 8 j r s.cols c.solve_eight.new.out) rows ∙ ap (λ k. lane_grid 8 j c.args.self.now.rows k c.solve_eight.new.out) cols in
     let P : Search → Type 0 = λ v. IsFound (lane_search 8 j v) g in
-    (c.solve_all.ensures.complete j g h (subst P (sym l) found)).1 ∙ out
+    (c.solve_eight.ensures.complete j g h (subst P (sym l) found)).1 ∙ out
 
 pub returns-clause-exact : goal.returns-clause-exact
 returns-clause-exact c = λ j h.
@@ -81,14 +81,14 @@ returns-clause-exact c = λ j h.
     let l = looked s.rows s.cols s.count c.args.self.now s.all.items c.deref_mut.result.now c.self.invariant.0 c.self.view_is c.requires.full c.deref_mut.ensures.value in
     let rows : s.rows ≡ c.args.self.now.rows = ap (λ (v : Search). v.rows) c.self.view_is in
     let cols : s.cols ≡ c.args.self.now.cols = ap (λ (v : Search). v.cols) c.self.view_is in
-    let marks : take s.marks.len (c.solve_all.new.bad ++ drop (length c.solve_all.new.bad) s.marks.items) ≡ c.solve_all.new.bad =
-    whole s.marks.len s.marks.items c.solve_all.new.bad (search rules) (search rules) in
-    let seen : c.deref.result.now ≡ c.solve_all.new.bad = c.deref.ensures.value ∙ marks in
-    let out : lane_grid 8 j s.rows s.cols c.solve_all.new.out ≡ lane_grid 8 j c.args.self.now.rows c.args.self.now.cols c.solve_all.new.out =
-    ap (λ r. lane_grid 8 j r s.cols c.solve_all.new.out) rows ∙ ap (λ k. lane_grid 8 j c.args.self.now.rows k c.solve_all.new.out) cols in (
-      λ zero. (lane_grid 8 j c.args.self.now.rows c.args.self.now.cols c.solve_all.new.out, returns-clause-found c j h zero),
+    let marks : take s.marks.len (c.solve_eight.new.bad ++ drop (length c.solve_eight.new.bad) s.marks.items) ≡ c.solve_eight.new.bad =
+    whole s.marks.len s.marks.items c.solve_eight.new.bad (search rules) (search rules) in
+    let seen : c.deref.result.now ≡ c.solve_eight.new.bad = c.deref.ensures.value ∙ marks in
+    let out : lane_grid 8 j s.rows s.cols c.solve_eight.new.out ≡ lane_grid 8 j c.args.self.now.rows c.args.self.now.cols c.solve_eight.new.out =
+    ap (λ r. lane_grid 8 j r s.cols c.solve_eight.new.out) rows ∙ ap (λ k. lane_grid 8 j c.args.self.now.rows k c.solve_eight.new.out) cols in (
+      λ zero. (lane_grid 8 j c.args.self.now.rows c.args.self.now.cols c.solve_eight.new.out, returns-clause-found c j h zero),
       λ x.
           let P : Search → Type 0 = λ v. IsFound (lane_search 8 j v) x.0 in
-          let got = c.solve_all.ensures.complete j x.0 h (subst P (sym l) x.1) in
+          let got = c.solve_eight.ensures.complete j x.0 h (subst P (sym l) x.1) in
           (c.mask.ensures j h).1 (ap (λ xs. get_or xs j 0) seen ∙ got.0),
     )

@@ -1,0 +1,164 @@
+-- The words on a line, where each row has room for zeros on both sides of its columns.
+use Rattle.std.proofs.Common.{◌≡◌, ◌≢◌, ℕ, ◌+◌, ◌-◌, ◌*◌, ◌<◌, ◌≤◌, refl, sym, ap, ◌∙◌, subst, arith, ◌⊎◌, inl, inr, ℤ, pos, List, length, get_or}
+use Rattle.std.specs.Prelude.{bit_xor, negsuc, unsigned_abs, ◌==◌, if◌then◌else◌}
+use Rattle.std.proofs.Math.Nat.{mul-le-mul_left, mul-le-mul_right}
+use Rattle.std.proofs.lemmas.Nat.{mul-add-lt, same_from_place, row_fits}
+use Rattle.std.proofs.lemmas.Bool.{cases_lt}
+use Rattle.mj_angles.specs.Xor.{xor_below}
+use Rattle.mj_angles.specs.Projection.{bins, bin, offset, row_start}
+use Rattle.mj_angles.proofs.Sums.{xor_below-same, row_at, row_misses}
+use Rattle.mj_inverse.specs.Padded.{IsPadded, inner, step_of, line_sum, width_of, reach_of}
+
+-- where a line meets row j
+pub same_place : (p : ℤ) (w reach rows b j : ℕ) → unsigned_abs p ≤ w → unsigned_abs p * (rows - 1) ≤ reach → j < rows →
+    reach - offset p rows + b + j * step_of w p ≡ j * w + (reach + b - row_start p rows j)
+same_place (pos n) w reach rows b j fits reaches h =
+    let r : ℕ = w - n in
+    let split : w ≡ r + n = omega arith in
+    let whole : j * w ≡ j * (r + n) = ap (λ x. j * x) split in
+    let low : n * j ≤ n * (rows - 1) = mul-le-mul_left n (let k : j ≤ rows - 1 = omega arith in k) in
+    let by : (x y z : ℕ) → z ≡ x + y → y ≤ reach → reach - 0 + b + x ≡ z + (reach + b - y) = λ x y z e le. omega arith in
+    let sum : j * w ≡ j * r + n * j = omega (arith, whole) in
+    by (j * r) (n * j) (j * w) sum (omega (arith, low, reaches))
+same_place (negsuc n) w reach rows b j fits reaches h =
+    let a : ℕ = n + 1 in
+    let rest : rows - 1 ≡ (rows - 1 - j) + j = omega arith in
+    let whole : a * (rows - 1) ≡ a * ((rows - 1 - j) + j) = ap (λ x. a * x) rest in
+    let by : (x y z v : ℕ) → x ≡ y + z → x ≤ reach → reach - x + b + (v + z) ≡ v + (reach + b - y) = λ x y z v e le. omega arith in
+    let parts : a * (rows - 1) ≡ a * (rows - 1 - j) + a * j = omega (arith, whole) in
+    let low : a * (rows - 1) ≤ reach = omega (arith, reaches) in
+    let here = by (a * (rows - 1)) (a * (rows - 1 - j)) (a * j) (j * w) parts low in
+    let e : j * (w + a) ≡ j * w + a * j = omega arith in
+    ap (λ x. reach - a * (rows - 1) + b + x) e ∙ here
+
+start_low : (p : ℤ) (rows reach j : ℕ) → unsigned_abs p * (rows - 1) ≤ reach → j < rows → row_start p rows j ≤ reach
+start_low (pos n) rows reach j h k = omega (arith, h, mul-le-mul_left n (let l : j ≤ rows - 1 = omega arith in l))
+start_low (negsuc n) rows reach j h k = omega (arith, h, mul-le-mul_left (n + 1) (let l : rows - 1 - j ≤ rows - 1 = omega arith in l))
+
+module _ (g : List ℕ) (i rows cols reach : ℕ) (padded : IsPadded rows cols reach g) (lane : i < 8) where
+  -- the word in row j
+  word_on : (p : ℤ) (b j : ℕ) → unsigned_abs p ≤ reach → unsigned_abs p * (rows - 1) ≤ reach → b < bins p rows cols → j < rows →
+      get_or g (8 * (reach - offset p rows + b + j * step_of (width_of cols reach) p) + i) 0
+      ≡ xor_below cols (λ k. if row_start p rows j + k == b then inner g (width_of cols reach) reach i j k else 0)
+  word_on p b j small reaches within h =
+      let w : ℕ = width_of cols reach in
+      let s : ℕ = row_start p rows j in
+      let low : s ≤ reach = start_low p rows reach j reaches h in
+      let place = same_place p w reach rows b j (omega arith) reaches h in
+      let here : get_or g (8 * (reach - offset p rows + b + j * step_of w p) + i) 0 ≡ get_or g (8 * (j * w + (reach + b - s)) + i) 0 = ap (λ x. get_or g (8 * x + i) 0) place in
+      here ∙ by_side (cases_lt b s) (cases_lt b (s + cols))
+    where
+      by_side : (b < row_start p rows j) ⊎ (row_start p rows j ≤ b) → (b < row_start p rows j + cols) ⊎ (row_start p rows j + cols ≤ b) →
+          get_or g (8 * (j * width_of cols reach + (reach + b - row_start p rows j)) + i) 0
+          ≡ xor_below cols (λ k. if row_start p rows j + k == b then inner g (width_of cols reach) reach i j k else 0)
+      by_side (inl before) _ =
+          let low : row_start p rows j ≤ reach = start_low p rows reach j reaches h in
+          padded.left j (reach + b - row_start p rows j) i h lane (omega arith)
+          ∙ sym (row_misses cols (row_start p rows j) b (inner g (width_of cols reach) reach i j) (λ k m e. absurd (omega arith)))
+      by_side (inr from) (inl inside) =
+          let k : ℕ = b - row_start p rows j in
+          let place : reach + b - row_start p rows j ≡ reach + k = omega arith in
+          ap (λ c. get_or g (8 * (j * width_of cols reach + c) + i) 0) place
+          ∙ sym (row_at cols (row_start p rows j) b k (inner g (width_of cols reach) reach i j) (omega arith) (omega arith))
+      by_side (inr from) (inr behind) =
+          padded.right j (reach + b - row_start p rows j) i h lane (omega arith) (omega (arith, within, reaches))
+          ∙ sym (row_misses cols (row_start p rows j) b (inner g (width_of cols reach) reach i j) (λ k m e. absurd (omega arith)))
+
+  -- all words on a line
+  pub line-is : (p : ℤ) (b : ℕ) → unsigned_abs p ≤ reach → unsigned_abs p * (rows - 1) ≤ reach → b < bins p rows cols →
+      line_sum g i rows (reach - offset p rows + b) (step_of (width_of cols reach) p) ≡ bin (inner g (width_of cols reach) reach i) rows cols p b
+  line-is p b small reaches within =
+      xor_below-same rows (λ j. get_or g (8 * (reach - offset p rows + b + j * step_of (width_of cols reach) p) + i) 0)
+      (λ j. xor_below cols (λ k. if row_start p rows j + k == b then inner g (width_of cols reach) reach i j k else 0))
+      (λ j h. word_on p b j small reaches within h)
+
+-- a line stays within the rows
+module _ (rows cols : ℕ) where
+  w : ℕ
+  w = width_of cols (reach_of rows)
+
+  pub reaches : (p : ℤ) → unsigned_abs p ≤ 16 → unsigned_abs p * (rows - 1) ≤ reach_of rows
+  reaches p small = omega (arith, mul-le-mul_right (rows - 1) small)
+
+  eight : (x y : ℕ) → x < y → 8 * x + 8 ≤ 8 * y
+  eight x y h = omega arith
+
+  pub line_fits : (p : ℤ) (b j : ℕ) → unsigned_abs p ≤ 16 → b < bins p rows cols → j < rows →
+      8 * (reach_of rows - offset p rows + b + j * step_of (width_of cols (reach_of rows)) p) + 8 ≤ 8 * (rows * width_of cols (reach_of rows))
+  line_fits p b j small within h =
+      let v : ℕ = width_of cols (reach_of rows) in
+      let r = reaches p small in
+      let col : ℕ = reach_of rows + b - row_start p rows j in
+      let near : col < width_of cols (reach_of rows) = omega (arith, within, r) in
+      let low : unsigned_abs p ≤ v = omega arith in
+      let place = same_place p v (reach_of rows) rows b j low r h in
+      let inside : j * v + col < rows * v = omega (arith, mul-add-lt j v col rows h near) in
+      eight (reach_of rows - offset p rows + b + j * step_of v p) (rows * v) (omega (arith, place, inside))
+
+  pub own_fits : (n k : ℕ) → n < rows → k < cols → 8 * (n * width_of cols (reach_of rows) + (reach_of rows + k)) + 8 ≤ 8 * (rows * width_of cols (reach_of rows))
+  own_fits n k h m =
+      let v : ℕ = width_of cols (reach_of rows) in
+      let near : reach_of rows + k < v = omega arith in
+      eight (n * v + (reach_of rows + k)) (rows * v) (omega (arith, mul-add-lt n v (reach_of rows + k) rows h near))
+
+-- a word in another place
+pub elsewhere : (x y i : ℕ) → y ≢ x → i < 8 → (8 * y + i < 8 * x) ⊎ (8 * x + 8 ≤ 8 * y + i)
+elsewhere x y i ne small = by (cases_lt y x)
+  where
+    by : (y < x) ⊎ (x ≤ y) → (8 * y + i < 8 * x) ⊎ (8 * x + 8 ≤ 8 * y + i)
+    by (inl less) = inl (omega arith)
+    by (inr more) = inr (omega arith)
+
+pub kept_place : (old new : List ℕ) (x y i : ℕ) → y ≢ x → i < 8 → ((k : ℕ) → k < 8 * x → get_or new k 0 ≡ get_or old k 0) → ((k : ℕ) → 8 * x + 8 ≤ k → get_or new k 0 ≡ get_or old k 0) →
+    get_or new (8 * y + i) 0 ≡ get_or old (8 * y + i) 0
+kept_place old new x y i ne small below above = by (elsewhere x y i ne small)
+  where
+    by : (8 * y + i < 8 * x) ⊎ (8 * x + 8 ≤ 8 * y + i) → get_or new (8 * y + i) 0 ≡ get_or old (8 * y + i) 0
+    by (inl low) = below (8 * y + i) low
+    by (inr high) = above (8 * y + i) high
+
+-- what is written in one place changes nothing else
+module _ (rows cols : ℕ) (old new : List ℕ) (n k : ℕ) (in_row : n < rows) (in_col : k < cols)
+    (below : (m : ℕ) → m < 8 * (n * width_of cols (reach_of rows) + (reach_of rows + k)) → get_or new m 0 ≡ get_or old m 0)
+    (above : (m : ℕ) → 8 * (n * width_of cols (reach_of rows) + (reach_of rows + k)) + 8 ≤ m → get_or new m 0 ≡ get_or old m 0) where
+  pub other_words : (i l' k' : ℕ) → i < 8 → l' < rows → k' < cols → (l' ≡ n → k' ≡ k → ⊥) →
+      inner new (width_of cols (reach_of rows)) (reach_of rows) i l' k' ≡ inner old (width_of cols (reach_of rows)) (reach_of rows) i l' k'
+  other_words i l' k' small h m ne =
+      let v : ℕ = width_of cols (reach_of rows) in
+      kept_place old new (n * v + (reach_of rows + k)) (l' * v + (reach_of rows + k')) i
+      (λ e. let same = same_from_place l' (reach_of rows + k') n (reach_of rows + k) v (omega arith) (omega arith) e in ne same.0 (let c = same.1 in omega arith)) small below above
+
+  pub still_padded : IsPadded rows cols (reach_of rows) old → IsPadded rows cols (reach_of rows) new
+  still_padded padded = record {
+    left = λ l c i h small low.
+        (let v : ℕ = width_of cols (reach_of rows) in
+        kept_place old new (n * v + (reach_of rows + k)) (l * v + c) i
+        (λ e. let same = (same_from_place l c n (reach_of rows + k) v (omega arith) (omega arith) e).1 in absurd (omega arith)) small below above
+        ∙ padded.left l c i h small low);
+    right = λ l c i h small from near.
+        (let v : ℕ = width_of cols (reach_of rows) in
+        kept_place old new (n * v + (reach_of rows + k)) (l * v + c) i
+        (λ e. let same = (same_from_place l c n (reach_of rows + k) v near (omega arith) e).1 in absurd (omega arith)) small below above
+        ∙ padded.right l c i h small from near);
+  }
+
+-- one more row is copied
+pub copied_more : (rows cols : ℕ) (grid old new : List ℕ) (l : ℕ) → l < rows →
+    ((m : ℕ) → m < 8 * cols → get_or new (8 * (l * cols) + m) 0 ≡ get_or grid (8 * (l * width_of cols (reach_of rows) + reach_of rows) + m) 0) →
+    ((m : ℕ) → m < 8 * (l * cols) → get_or new m 0 ≡ get_or old m 0) →
+    ((i l' k : ℕ) → i < 8 → l' < l → k < cols → get_or old (8 * (l' * cols + k) + i) 0 ≡ inner grid (width_of cols (reach_of rows)) (reach_of rows) i l' k) →
+    (i l' k : ℕ) → i < 8 → l' < l + 1 → k < cols → get_or new (8 * (l' * cols + k) + i) 0 ≡ inner grid (width_of cols (reach_of rows)) (reach_of rows) i l' k
+copied_more rows cols grid old new l few inside below before i l' k small h m = by (cases_lt l' l)
+  where
+    by : (l' < l) ⊎ (l ≤ l') → get_or new (8 * (l' * cols + k) + i) 0 ≡ inner grid (width_of cols (reach_of rows)) (reach_of rows) i l' k
+    by (inl less) =
+        let row : l' * cols + cols ≤ l * cols = row_fits l' cols l cols less (omega arith) in
+        below (8 * (l' * cols + k) + i) (omega (arith, row)) ∙ before i l' k small less m
+    by (inr more) =
+        let e : l ≡ l' = omega arith in
+        let v : ℕ = width_of cols (reach_of rows) in
+        let P : ℕ → Type 0 = λ x. get_or new (8 * (x * cols + k) + i) 0 ≡ inner grid (width_of cols (reach_of rows)) (reach_of rows) i x k in
+        let to : 8 * (l * cols) + (8 * k + i) ≡ 8 * (l * cols + k) + i = omega arith in
+        let from : 8 * (l * v + reach_of rows) + (8 * k + i) ≡ 8 * (l * v + (reach_of rows + k)) + i = omega arith in
+        let here : P l = ap (λ x. get_or new x 0) (sym to) ∙ inside (8 * k + i) (omega arith) ∙ ap (λ x. get_or grid x 0) from in
+        subst P e here

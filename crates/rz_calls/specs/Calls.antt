@@ -1,0 +1,42 @@
+-- What a node asks of the arguments of any call, and what the call leaves of its disk's meter.
+use Rattle.std.specs.Prelude.{ℕ, ◌≡◌, ◌≤◌, List, length}
+use Rattle.mj_angles.specs.declared.layout.Layout.{Layout}
+use Rattle.mj_angles.specs.Layout.{max_bins_of}
+use Rattle.rz_events.specs.declared.nodes.NodeAsk.{NodeAsk}
+use Rattle.rz_events.specs.declared.nodes.NodeAsk.TheVariants as ask
+use Rattle.rz_events.specs.declared.nodes.NodeAnswer.{NodeAnswer}
+use Rattle.rz_events.specs.declared.nodes.NodeAnswer.TheVariants as answer
+use Rattle.rz_events.specs.declared.records.Head.{Head}
+use Rattle.rz_disk.specs.Meter.{Meter}
+use Rattle.rz_record.specs.Record.{IsValid, bins_of}
+use Rattle.rz_node.specs.Spends.{Spends, keep_used, fetch_used, refill_used, drop_used}
+use Rattle.rz_node.specs.Opens.{Opens, Replaces}
+
+-- the head of a record of this layout, and so many bins
+pub record IsRecord (layout : Layout) (head : Head) (bins : List ℕ) : Type 0 where
+  pub valid : IsValid head
+  pub layout_is : head.layout ≡ layout
+  pub bins_are : length bins ≡ bins_of head
+
+abbrev pub Takes : Layout → NodeAsk → List ℕ → Type 0
+Takes layout (ask.Keep head) bins = IsRecord layout head bins
+Takes layout (ask.Refill fence head) bins = IsRecord layout head bins
+Takes layout (ask.Fetch key position stamp) bins = max_bins_of layout ≤ length bins
+Takes layout _ bins = Unit {0}
+
+-- what a start finds depends on the disk
+abbrev pub IsNoStart : NodeAsk → Type 0
+IsNoStart ask.Start = ⊥
+IsNoStart question = Unit {0}
+
+-- an opening makes so many device calls
+abbrev pub Counts : ℕ → NodeAnswer → Meter → Meter → Type 0
+Counts k (answer.Keep a) old new = Spends 4 (keep_used a) old new
+Counts k (answer.Fetch a) old new = Spends 1 (fetch_used a) old new
+Counts k (answer.Refill a) old new = Spends 4 (refill_used a) old new
+Counts k (answer.Drop a) old new = Spends 4 (drop_used a) old new
+Counts k (answer.Start a) old new = Opens k a old new
+Counts k (answer.Replace a) old new = Replaces a old new
+Counts k (answer.Probe a) old new = new ≡ old
+Counts k (answer.Stop a) old new = new ≡ old
+Counts k (answer.Lose a) old new = new ≡ old

@@ -1,0 +1,5 @@
+mod Counts
+mod Sequences
+mod Cuts
+mod Amongs
+mod Scripts

@@ -1,0 +1,47 @@
+use Rattle.std.proofs.Common.{Err, ◌∙◌, List, take_all, refl, subst}
+use Rattle.rz_events.specs.Volume.{Volume}
+use Rattle.rz_script.specs.declared.line.Line.{Line}
+use Rattle.rz_play.specs.Lines.{PlaysLine}
+use Rattle.rz_play.specs.Played.{PlaysLines}
+use Rattle.rz_lines.specs.Ends.{IsLinePlayed}
+use Rattle.rz_lines.proofs.Scripts.{lines-at, script-cut}
+use Rattle.rz_lines.proofs.lines.play.Goals as goal
+
+pub returns-in-Err-clause-played : goal.returns-in-Err-clause-played
+returns-in-Err-clause-played g c told =
+    let volume = g.S.Stage.volume in
+    let world = g.S.Stage.world in
+    let i = c.loop-line.invariant in
+    let cut = subst (λ (v : Volume). IsLinePlayed v c.line-item.result (world c.loop-line.stage) (Err c.in-Err.cut) (world c.play_line.new.stage)) i.volume (c.in-Err.ensures.played told) in
+    let cut_at = subst (λ (x : Line). IsLinePlayed (volume c.args.stage.now) x (world c.loop-line.stage) (Err c.in-Err.cut) (world c.play_line.new.stage)) c.line-item.is cut in
+    rw c.from.ensures (script-cut (volume c.args.stage.now) c.args.lines.now c.loop-line.line-index c.line-item.result (world c.args.stage.now) (world c.loop-line.stage) (world c.play_line.new.stage)
+    c.in-Err.cut c.loop-line-test.true (i.played told) cut_at)
+
+pub loop-line-preserved : goal.loop-line-preserved
+loop-line-preserved g c =
+    let volume = g.S.Stage.volume in
+    let world = g.S.Stage.world in
+    let i = c.loop-line.invariant in
+    let e = c.in_default.ensures in
+    record {
+      ready = e.ready;
+      volume = e.volume ∙ i.volume;
+      few = e.few;
+      played = λ told.
+          let played = rw i.volume at (e.played told).0 in
+          let played_at = subst (λ (x : Line). PlaysLine (volume c.args.stage.now) x (world c.loop-line.stage) (world c.play_line.new.stage)) c.line-item.is played in
+          lines-at (volume c.args.stage.now) c.args.lines.now c.loop-line.line-index c.line-item.result (world c.args.stage.now) (world c.loop-line.stage) (world c.play_line.new.stage)
+          c.loop-line-test.true (i.played told) played_at;
+    }
+
+pub returns-clause-played : goal.returns-clause-played
+returns-clause-played g c told =
+    let world = g.S.Stage.world in
+    let i = c.loop-line.invariant in
+    let whole = take_all c.loop-line.line-index c.args.lines.now c.loop-line-test.false in
+    record {
+      last = world c.loop-line.stage;
+      played = subst (λ (xs : List Line). PlaysLines (g.S.Stage.volume c.args.stage.now) xs (world c.args.stage.now) (world c.loop-line.stage)) whole (i.played told);
+      few = i.few;
+      log_is = refl;
+    }

@@ -1,0 +1,12 @@
+use Rattle.std.proofs.Common.{◌≡◌, ◌≤◌}
+use Rattle.rz_play.specs.Stops.{most_turns}
+use Rattle.rz_play.specs.Lines.{IsRounds}
+use Rattle.rz_lines.proofs.rounds.play_rounds.Given as goal
+
+abbrev pub invariant-loop : goal.invariant-loop
+invariant-loop g l = record {
+  ready : g.S.Stage.is_ready l.stage;
+  volume : g.S.Stage.volume l.stage ≡ g.S.Stage.volume l.fn.stage;
+  few : (g.S.Stage.world l.stage).turns ≤ most_turns;
+  played : IsRounds (g.S.Stage.volume l.fn.stage) l.counter (g.S.Stage.world l.fn.stage) (g.S.Stage.world l.stage);
+}

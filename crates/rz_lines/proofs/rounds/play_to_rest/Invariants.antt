@@ -1,0 +1,15 @@
+use Rattle.std.proofs.Common.{ℕ, ◌≡◌, ◌≤◌, ◌-◌}
+use Rattle.rz_play.specs.Stops.{most_turns}
+use Rattle.rz_play.specs.Lines.{IsRounds}
+use Rattle.rz_lines.proofs.rounds.play_to_rest.Given as goal
+
+abbrev pub invariant-loop : goal.invariant-loop
+invariant-loop g l = record {
+  ready : g.S.Stage.is_ready l.stage;
+  volume : g.S.Stage.volume l.stage ≡ g.S.Stage.volume l.fn.stage;
+  few : (g.S.Stage.world l.stage).turns ≤ most_turns;
+  played : (k : ℕ) × IsRounds (g.S.Stage.volume l.fn.stage) k (g.S.Stage.world l.fn.stage) (g.S.Stage.world l.stage);
+}
+
+abbrev pub decreases-loop : goal.decreases-loop
+decreases-loop g l = most_turns - (g.S.Stage.world l.stage).turns

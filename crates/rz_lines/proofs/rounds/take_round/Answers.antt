@@ -1,0 +1,41 @@
+use Rattle.std.proofs.Common.{Err, ◌∙◌, get_or, subst, sym}
+use Rattle.std.proofs.lemmas.Result.{err_from_is_err_and}
+use Rattle.rz_events.specs.Volume.{Volume}
+use Rattle.rz_events.specs.declared.keys.Actor.TheVariants.{Client}
+use Rattle.rz_lines.specs.Ends.{IsTurnTaken}
+use Rattle.rz_lines.proofs.Amongs.{cut-at, taken-at, skipped-at}
+use Rattle.rz_lines.proofs.rounds.take_round.Goals as goal
+use Rattle.rz_lines.proofs.rounds.take_round.Goals.{then-is_busy+in_ok-take_turn, else-is_busy}
+
+pub returns-in_err-take_turn-clause-played : goal.returns-in_err-take_turn-clause-played
+returns-in_err-take_turn-clause-played g c =
+    let world = g.S.Stage.world in
+    let i = c.loop-by.invariant in
+    let p = err_from_is_err_and c.from_residual.result c.from_residual.ensures.1 in
+    let by = get_or c.args.actors.now c.loop-by.by-index (Client 0) in
+    let turn = subst (λ (v : Volume). IsTurnTaken v by (world c.loop-by.stage) (Err c.in_err-take_turn.field-0.0) (world c.take_turn.new.stage)) i.volume c.in_err-take_turn.ensures.taken in
+    rw (p.1, p.2) (cut-at (g.S.Stage.volume c.args.stage.now) c.args.actors.now c.loop-by.by-index _ (world c.args.stage.now) c.loop-by.any (world c.loop-by.stage) (world c.take_turn.new.stage)
+    c.in_err-take_turn.field-0.0 c.loop-by-test.true i.up_to (sym c.if-is_busy.ensures) turn)
+
+pub loop-by-preserved : goal.loop-by-preserved
+loop-by-preserved g c =
+    let volume = g.S.Stage.volume in
+    let world = g.S.Stage.world in
+    let i = c.loop-by.invariant in
+    elim c.if-is_busy.branch [
+      | then-is_busy+in_ok-take_turn w ↦
+          let turn = rw i.volume at w.in_ok-take_turn.ensures.taken in
+          rw (w.stage-is, w.any-is) (record {
+            ready = w.in_ok-take_turn.ensures.ready;
+            volume = w.in_ok-take_turn.ensures.volume ∙ i.volume;
+            up_to = taken-at (volume c.args.stage.now) c.args.actors.now c.loop-by.by-index _ (world c.args.stage.now) c.loop-by.any (world c.loop-by.stage) (world w.take_turn.new.stage)
+                c.loop-by-test.true i.up_to (sym w.if-is_busy.ensures) turn;
+          })
+      | else-is_busy w ↦
+          rw (w.stage-is, w.any-is) (record {
+            ready = i.ready;
+            volume = i.volume;
+            up_to = skipped-at (volume c.args.stage.now) c.args.actors.now c.loop-by.by-index _ (world c.args.stage.now) c.loop-by.any (world c.loop-by.stage)
+                c.loop-by-test.true i.up_to (sym w.if-is_busy.ensures);
+          })
+    ]

@@ -1,0 +1,62 @@
+-- How a turn, a round, a line or a script ends: whole, or cut off between two turns. Where memory is wanting, what was
+-- played stands in the log.
+use Rattle.std.specs.Prelude.{Bool, true, false, ◌≡◌, ◌<◌, ◌≤◌, List, ◌∷◌, ◌++◌, Result, Ok, Err}
+use Rattle.std.specs.List.{AllByRecursion}
+use Rattle.rz_events.specs.Volume.{Volume}
+use Rattle.rz_events.specs.declared.keys.Actor.{Actor}
+use Rattle.rz_events.specs.declared.events.Event.{Event}
+use Rattle.rz_script.specs.declared.line.Line.{Line}
+use Rattle.rz_play.specs.World.{World, has_work}
+use Rattle.rz_play.specs.Turns.{IsTurn}
+use Rattle.rz_play.specs.Lines.{IsRound, PlaysLine}
+use Rattle.rz_play.specs.Stops.{TurnsSpent, HasCause, StopsLine, BeginsLine, most_turns}
+use Rattle.rz_play.specs.Played.{IsPlayedFrom, IsStoppedFrom, IsBegunFrom}
+use Rattle.rz_lines.specs.declared.turns.Cut.{Cut}
+use Rattle.rz_lines.specs.declared.turns.Cut.TheVariants as cut
+use Rattle.rz_lines.specs.declared.lines.PlayEnd.{PlayEnd}
+use Rattle.rz_lines.specs.declared.lines.PlayEnd.TheVariants as end
+
+-- the log is that of a world up to which so much was played
+abbrev pub IsLogOf : (World → Type 0) → World → Type 0
+IsLogOf begun next = (last : World) × begun last × (last.turns ≤ most_turns) × (next.log ≡ last.log)
+
+-- a turn
+abbrev pub IsTurnTaken : Volume → Actor → World → Result (Unit {0}) Cut → World → Type 0
+IsTurnTaken v by w (Ok done) next = IsTurn v by w next × (w.turns < most_turns)
+IsTurnTaken v by w (Err cut.TooManyTurns) next = (next ≡ w) × HasCause v TurnsSpent w by
+IsTurnTaken v by w (Err cut.NoMemory) next = next.log ≡ w.log
+
+-- A round of these actors: whether one had work, and took a turn.
+
+abbrev pub HadWork : List Actor → World → Bool → World → Type 0
+HadWork actors w true next = w.turns < next.turns
+HadWork actors w false next = (next ≡ w) × AllByRecursion (λ by. has_work (w.seats by) ≡ false) actors
+
+-- it stops before the turn of one that has work
+abbrev pub StopsAmong : Volume → List Actor → World → World → Type 0
+StopsAmong v actors w next = (done : List Actor) × (by : Actor) × (more : List Actor) × (actors ≡ done ++ by ∷ more)
+    × IsRound v done w next × (has_work (next.seats by) ≡ true) × HasCause v TurnsSpent next by
+
+abbrev pub BeginsAmong : Volume → List Actor → World → World → Type 0
+BeginsAmong v actors w next = (done more : List Actor) × (actors ≡ done ++ more) × IsRound v done w next
+
+abbrev pub IsRoundPlayed : Volume → List Actor → World → Result Bool Cut → World → Type 0
+IsRoundPlayed v actors w (Ok any) next = IsRound v actors w next × HadWork actors w any next × (next.turns ≤ most_turns)
+IsRoundPlayed v actors w (Err cut.TooManyTurns) next = StopsAmong v actors w next
+IsRoundPlayed v actors w (Err cut.NoMemory) next = IsLogOf (BeginsAmong v actors w) next
+
+-- a line
+abbrev pub IsLinePlayed : Volume → Line → World → Result (Unit {0}) Cut → World → Type 0
+IsLinePlayed v line w (Ok done) next = PlaysLine v line w next × (next.turns ≤ most_turns)
+IsLinePlayed v line w (Err cut.TooManyTurns) next = StopsLine v TurnsSpent line w next
+IsLinePlayed v line w (Err cut.NoMemory) next = IsLogOf (BeginsLine v line w) next
+
+abbrev pub ended_by : Cut → PlayEnd
+ended_by cut.TooManyTurns = end.TooManyTurns
+ended_by cut.NoMemory = end.NoMemory
+
+-- a script, by how its play ended
+abbrev pub IsEnded : Volume → World → List Line → PlayEnd → List Event → Type 0
+IsEnded v first lines end.Ended h = IsPlayedFrom v first lines h
+IsEnded v first lines end.TooManyTurns h = IsStoppedFrom v TurnsSpent first lines h
+IsEnded v first lines end.NoMemory h = IsBegunFrom v first lines h

@@ -1,0 +1,16 @@
+//! A script played line by line on any stage.
+//!
+//! A [`Stage`] is what the lines of a script are played on: it lets an actor take a turn, and does what
+//! the administrator's lines order. [`play`] plays a script over it: so many turns, rounds of the actors
+//! that have work, rounds until none has. It stops before a turn that is one too many, and where memory
+//! is wanting. Whichever it was, the log is that of the lines played so far.
+#![tactic(auto)]
+
+mod lines;
+mod rounds;
+mod stage;
+mod turns;
+
+pub use lines::{PlayEnd, play};
+pub use stage::{NoMemory, Stage};
+pub use turns::{Cut, MOST_TURNS};

@@ -1,0 +1,72 @@
+//! The lines of a script, one after another.
+ghost use Rattle.std.specs.Prelude.{◌≡◌, ◌≤◌, IsTrue, OnOk};
+ghost use Rattle.rz_script.specs.Lines.{IsLine, AreLines};
+ghost use Rattle.rz_play.specs.Stops.{most_turns};
+ghost use Rattle.rz_lines.specs.Ends.{IsLinePlayed, IsEnded, ended_by};
+
+use crate::rounds::{play_rounds, play_to_rest};
+use crate::stage::Stage;
+use crate::turns::{Cut, take_turns};
+use rz_link::Link;
+use rz_script::Line;
+
+/// How the play of a script ends.
+#[derive(Clone, Copy, Debug, PartialEq, Eq, Drop)]
+pub enum PlayEnd {
+    /// Every line was played.
+    Ended,
+    /// A turn more was called for than a play has.
+    TooManyTurns,
+    NoMemory,
+}
+
+impl From<Cut> for PlayEnd {
+    fn from(cut: Cut) -> Self
+        ensures { result ≡ ended_by cut }
+    {
+        match cut {
+            Cut::TooManyTurns => PlayEnd::TooManyTurns,
+            Cut::NoMemory => PlayEnd::NoMemory,
+        }
+    }
+}
+
+/// Plays a line.
+fn play_line<S: Stage, L: Link>(stage: &mut S, line: &Line, link: &mut L) -> Result<(), Cut>
+    requires ready { S.is_ready stage.old }
+    requires line { IsLine (S.volume stage.old) line.now }
+    requires few { (S.world stage.old).turns ≤ most_turns }
+    ensures volume { S.volume stage.new ≡ S.volume stage.old }
+    ensures ready { OnOk result (S.is_ready stage.new) }
+    ensures few { OnOk result ((S.world stage.new).turns ≤ most_turns) }
+    ensures played { IsTrue S.tells → IsLinePlayed (S.volume stage.old) line.now (S.world stage.old) result (S.world stage.new) }
+{
+    match line {
+        Line::Op { by, op } => stage.add(*by, op)?,
+        Line::Turn { by, k } => take_turns(stage, *by, *k, link)?,
+        Line::Rounds { k } => play_rounds(stage, *k, link)?,
+        Line::Rest => play_to_rest(stage, link)?,
+        Line::Stop { node } => stage.stop(*node)?,
+        Line::Start { node } => stage.start(*node)?,
+        Line::Lose { node } => stage.lose(*node)?,
+        Line::Break { node, k, pick } => stage.arm(*node, *k, *pick)?,
+        Line::Miss { by, reply } => stage.miss(*by, *reply),
+    }
+    Ok(())
+}
+
+/// Plays the lines of a script.
+pub fn play<S: Stage, L: Link>(stage: &mut S, lines: &[Line], link: &mut L) -> PlayEnd
+    requires ready { S.is_ready stage.old }
+    requires lines { AreLines (S.volume stage.old) lines.now }
+    requires few { (S.world stage.old).turns ≤ most_turns }
+    ensures volume { S.volume stage.new ≡ S.volume stage.old }
+    ensures played { IsTrue S.tells → IsEnded (S.volume stage.old) (S.world stage.old) lines.now result (S.world stage.new).log }
+{
+    for line in lines {
+        if let Err(cut) = play_line(stage, line, link) {
+            return PlayEnd::from(cut);
+        }
+    }
+    PlayEnd::Ended
+}

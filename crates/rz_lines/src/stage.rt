@@ -1,0 +1,115 @@
+//! What a script is played on.
+ghost use Rattle.std.specs.Prelude.{◌≡◌, ◌<◌, Bool, IsTrue, OnOk, OnErr};
+ghost use Rattle.rz_events.specs.Volume.{Volume};
+ghost use Rattle.rz_script.specs.Lines.{IsActor, IsLine};
+ghost use Rattle.rz_script.specs.declared.line.Line.{Line};
+ghost use Rattle.rz_script.specs.declared.line.Line.TheVariants as line;
+ghost use Rattle.rz_play.specs.World.{World, has_work};
+ghost use Rattle.rz_play.specs.Turns.{IsTurn};
+ghost use Rattle.rz_play.specs.Lines.{PlaysLine};
+ghost use Rattle.rz_play.specs.Stops.{most_turns};
+
+use rz_events::{Actor, Operation};
+use rz_link::Link;
+use std::alloc::AllocError;
+
+/// Memory is wanting.
+#[derive(Clone, Copy, Debug, PartialEq, Eq, Drop)]
+pub struct NoMemory;
+
+impl From<AllocError> for NoMemory {
+    fn from(_: AllocError) -> Self {
+        NoMemory
+    }
+}
+
+/// Nodes, an export and actors that a script is played on.
+///
+/// After want of memory the log has every event that happened, and it is as before the call. The rest
+/// may be anything, so nothing more is played then.
+pub trait Stage {
+    /// Whether its disks tell their texts. What a start finds is said of such disks alone.
+    ghost tells: { Bool };
+
+    ghost volume: { Self → Volume };
+
+    /// The world of the play.
+    ghost world: { Self → World };
+
+    /// It stands between two turns.
+    ghost is_ready: { Self → Type 0 };
+
+    /// How many turns were taken.
+    fn turns(&self) -> u32
+        ensures { result ≡ (world self.now).turns };
+
+    /// Whether the actor has work.
+    fn is_busy(&self, by: Actor) -> bool
+        requires ready { is_ready self.now }
+        requires actor { IsActor by }
+        ensures { result ≡ has_work ((world self.now).seats by) };
+
+    /// The actor takes a turn. Its messages go through the link.
+    fn turn<L: Link>(&mut self, by: Actor, link: &mut L) -> Result<(), NoMemory>
+        requires ready { is_ready self.old }
+        requires actor { IsActor by }
+        requires few { (world self.old).turns < most_turns }
+        ensures volume { volume self.new ≡ volume self.old }
+        ensures ready { OnOk result (is_ready self.new) }
+        ensures taken { OnOk result (IsTurn (volume self.old) by (world self.old) (world self.new)) }
+        ensures log { OnErr result ((world self.new).log ≡ (world self.old).log) };
+
+    /// The operation goes to the end of the actor's list.
+    fn add(&mut self, by: Actor, op: &Operation) -> Result<(), NoMemory>
+        requires ready { is_ready self.old }
+        requires line { IsLine (volume self.old) (line.Op by op.now) }
+        ensures volume { volume self.new ≡ volume self.old }
+        ensures ready { OnOk result (is_ready self.new) }
+        ensures played { OnOk result (PlaysLine (volume self.old) (line.Op by op.now) (world self.old) (world self.new)) }
+        ensures log { OnErr result ((world self.new).log ≡ (world self.old).log) };
+
+    /// The actor's next message is to be lost.
+    fn miss(&mut self, by: Actor, reply: bool)
+        requires ready { is_ready self.old }
+        requires line { IsLine (volume self.old) (line.Miss by reply) }
+        ensures volume { volume self.new ≡ volume self.old }
+        ensures ready { is_ready self.new }
+        ensures played { PlaysLine (volume self.old) (line.Miss by reply) (world self.old) (world self.new) };
+
+    /// The node stops.
+    fn stop(&mut self, node: u16) -> Result<(), NoMemory>
+        requires ready { is_ready self.old }
+        requires line { IsLine (volume self.old) (line.Stop node) }
+        ensures volume { volume self.new ≡ volume self.old }
+        ensures ready { OnOk result (is_ready self.new) }
+        ensures played { OnOk result (PlaysLine (volume self.old) (line.Stop node) (world self.old) (world self.new)) }
+        ensures log { OnErr result ((world self.new).log ≡ (world self.old).log) };
+
+    /// The node starts again.
+    fn start(&mut self, node: u16) -> Result<(), NoMemory>
+        requires ready { is_ready self.old }
+        requires line { IsLine (volume self.old) (line.Start node) }
+        ensures volume { volume self.new ≡ volume self.old }
+        ensures ready { OnOk result (is_ready self.new) }
+        ensures played { OnOk result (IsTrue Self.tells → PlaysLine (volume self.old) (line.Start node) (world self.old) (world self.new)) }
+        ensures turns { OnOk result ((world self.new).turns ≡ (world self.old).turns) }
+        ensures log { OnErr result ((world self.new).log ≡ (world self.old).log) };
+
+    /// The node loses its disk.
+    fn lose(&mut self, node: u16) -> Result<(), NoMemory>
+        requires ready { is_ready self.old }
+        requires line { IsLine (volume self.old) (line.Lose node) }
+        ensures volume { volume self.new ≡ volume self.old }
+        ensures ready { OnOk result (is_ready self.new) }
+        ensures played { OnOk result (PlaysLine (volume self.old) (line.Lose node) (world self.old) (world self.new)) }
+        ensures log { OnErr result ((world self.new).log ≡ (world self.old).log) };
+
+    /// The node's disk lets so many device calls pass, and its next crash picks by `pick`.
+    fn arm(&mut self, node: u16, passes: u64, pick: u64) -> Result<(), NoMemory>
+        requires ready { is_ready self.old }
+        requires line { IsLine (volume self.old) (line.Break node passes pick) }
+        ensures volume { volume self.new ≡ volume self.old }
+        ensures ready { OnOk result (is_ready self.new) }
+        ensures played { OnOk result (PlaysLine (volume self.old) (line.Break node passes pick) (world self.old) (world self.new)) }
+        ensures log { OnErr result ((world self.new).log ≡ (world self.old).log) };
+}

@@ -1,0 +1,71 @@
+//! Turns of one actor.
+ghost use Rattle.std.specs.Prelude.{◌≡◌, ◌≤◌, OnOk};
+ghost use Rattle.rz_script.specs.Lines.{IsActor};
+ghost use Rattle.rz_script.specs.declared.line.Line.TheVariants as line;
+ghost use Rattle.rz_play.specs.Stops.{most_turns};
+ghost use Rattle.rz_lines.specs.Ends.{IsTurnTaken, IsLinePlayed};
+
+use crate::stage::{NoMemory, Stage};
+use rz_events::Actor;
+use rz_link::Link;
+
+/// A play has at most so many turns.
+pub const MOST_TURNS: u32 = 1_000_000;
+
+/// Why a line was cut off.
+#[derive(Clone, Copy, Debug, PartialEq, Eq, Drop)]
+pub enum Cut {
+    /// A turn more was called for than a play has.
+    TooManyTurns,
+    NoMemory,
+}
+
+impl From<NoMemory> for Cut {
+    ghost use Rattle.rz_lines.specs.declared.turns.Cut.TheVariants as cut;
+
+    ghost from_gives = { λ _ cause. cause ≡ cut.NoMemory };
+
+    fn from(_: NoMemory) -> Self {
+        Cut::NoMemory
+    }
+}
+
+/// The actor takes a turn, where the play has one more.
+pub(crate) fn take_turn<S: Stage, L: Link>(
+    stage: &mut S,
+    by: Actor,
+    link: &mut L,
+) -> Result<(), Cut>
+    requires ready { S.is_ready stage.old }
+    requires actor { IsActor by }
+    requires few { (S.world stage.old).turns ≤ most_turns }
+    ensures volume { S.volume stage.new ≡ S.volume stage.old }
+    ensures ready { OnOk result (S.is_ready stage.new) }
+    ensures taken { IsTurnTaken (S.volume stage.old) by (S.world stage.old) result (S.world stage.new) }
+{
+    if stage.turns() >= MOST_TURNS {
+        return Err(Cut::TooManyTurns);
+    }
+    stage.turn(by, link)?;
+    Ok(())
+}
+
+/// The actor takes so many turns.
+pub(crate) fn take_turns<S: Stage, L: Link>(
+    stage: &mut S,
+    by: Actor,
+    count: u32,
+    link: &mut L,
+) -> Result<(), Cut>
+    requires ready { S.is_ready stage.old }
+    requires actor { IsActor by }
+    requires few { (S.world stage.old).turns ≤ most_turns }
+    ensures volume { S.volume stage.new ≡ S.volume stage.old }
+    ensures ready { OnOk result (S.is_ready stage.new) }
+    ensures played { IsLinePlayed (S.volume stage.old) (line.Turn by count) (S.world stage.old) result (S.world stage.new) }
+{
+    for _ in 0..count {
+        take_turn(stage, by, link)?;
+    }
+    Ok(())
+}

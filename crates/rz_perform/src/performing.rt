@@ -1,0 +1,44 @@
+//! The play of a script and what is told of it.
+
+ghost use Rattle.std.specs.Prelude.{◌≡◌, IsTrue};
+ghost use Rattle.rz_core.specs.Legal.{IsLegal};
+ghost use Rattle.rz_events.specs.Volume.{IsVolume};
+ghost use Rattle.rz_play.specs.World.{new_world};
+ghost use Rattle.rz_safety.specs.Rebuilt.{AreRebuilt};
+ghost use Rattle.rz_safety.specs.Sound.{IsSound};
+ghost use Rattle.rz_perform.specs.Telling.{Performs};
+
+use crate::stages::LoggedStage;
+use crate::telling::tell;
+use rz_lines::play;
+use rz_link::Link;
+use rz_ports::Sink;
+use rz_script::Script;
+use std::alloc::Global;
+
+/// Plays a script on a new stage of its volume, with messages through this link. Writes what is to be
+/// told of the play, and gives the status.
+pub fn perform<S: LoggedStage, L: Link, O: Sink>(
+    alloc: Global,
+    script: &Script,
+    stage: &mut S,
+    link: &mut L,
+    output: &mut O,
+) -> u8
+    requires ready { S.is_ready stage.old }
+    requires volume { S.volume stage.old ≡ script.now.volume }
+    requires rules { IsVolume script.now.volume }
+    requires new { S.world stage.old ≡ new_world script.now.volume }
+    ensures performed { Performs S.tells script.now.volume script.now.lines (S.world stage.new).log (record { before = O.taken output.old; after = O.taken output.new; old = O.faults output.old; new = O.faults output.new }) result }
+    ensures legal { IsTrue S.tells → IsLegal script.now.volume (S.world stage.new).log }
+    ensures sound { IsTrue S.tells → IsSound script.now.volume (S.world stage.new).log }
+    ensures rebuilt { IsTrue S.tells → AreRebuilt (S.world stage.new).log }
+{
+    rz_play_laws::ended();
+    rz_play_laws::stopped();
+    rz_play_laws::legal();
+    rz_play_laws::sound();
+    rz_play_laws::rebuilt();
+    let end = play(stage, script.lines(), link);
+    tell(alloc, end, stage.log(), output)
+}

@@ -1,0 +1,59 @@
+//! What is written of a play, and of a refusal.
+
+ghost use Rattle.std.specs.Prelude.{◌≡◌, IfOk};
+ghost use Rattle.rz_perform.specs.Telling.{Refuses, Stops, Tells, text_so_far};
+
+use crate::output::finish;
+use rz_events::Event;
+use rz_lines::PlayEnd;
+use rz_ports::Sink;
+use rz_request::{Refusal, Stop};
+use rz_show::show;
+use std::alloc::{AllocError, Global};
+
+/// What is printed of a play that was cut off before a turn too many.
+fn text_so_far(alloc: Global, log: &[Event]) -> Result<Vec<u8>, AllocError>
+    ensures { IfOk result (λ t. t.items ≡ text_so_far log.now) }
+{
+    let mut text = show(alloc, log, false)?;
+    text.extend_from_slice(b"refused turns\n")?;
+    Ok(text)
+}
+
+/// Writes what is to be told of a play, and gives the status.
+pub fn tell<O: Sink>(alloc: Global, end: PlayEnd, log: &[Event], output: &mut O) -> u8
+    ensures { Tells end log.now (record { before = O.taken output.old; after = O.taken output.new; old = O.faults output.old; new = O.faults output.new }) result }
+{
+    match end {
+        PlayEnd::Ended => match show(alloc, log, true) {
+            Ok(text) => finish(output, 0, &text),
+            Err(_) => 70,
+        },
+        PlayEnd::TooManyTurns => match text_so_far(alloc, log) {
+            Ok(text) => finish(output, 8, &text),
+            Err(_) => 70,
+        },
+        PlayEnd::NoMemory => 70,
+    }
+}
+
+/// Writes the line of a refusal, and gives the status.
+pub fn refuse<O: Sink>(alloc: Global, refusal: &Refusal, output: &mut O) -> u8
+    ensures { Refuses refusal.now (record { before = O.taken output.old; after = O.taken output.new; old = O.faults output.old; new = O.faults output.new }) result }
+{
+    match refusal.line(alloc) {
+        Ok(line) => finish(output, refusal.status(), &line),
+        Err(_) => 70,
+    }
+}
+
+/// Writes what is to be told where there is nothing to play, and gives the status.
+pub fn stop<O: Sink>(alloc: Global, stop: &Stop, output: &mut O) -> u8
+    ensures { Stops stop.now (record { before = O.taken output.old; after = O.taken output.new; old = O.faults output.old; new = O.faults output.new }) result }
+{
+    match stop {
+        Stop::NoMemory => 70,
+        Stop::Source => 4,
+        Stop::Refused(refusal) => refuse(alloc, refusal, output),
+    }
+}

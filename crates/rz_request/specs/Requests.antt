@@ -1,0 +1,102 @@
+-- What words and an input ask for.
+use Rattle.std.specs.Prelude.{ℕ, ◌≡◌, ◌≢◌, ◌≤◌, ◌<◌, ◌||◌, nat_lt, Bool, true, false, List, [], Option, Some, None, IfSome, IsSome, Result, Ok, Err, length}
+use Rattle.rz_ports.specs.Counts.{Rises}
+use Rattle.rz_command.specs.Line.{Meaning}
+use Rattle.rz_command.specs.declared.command.Command.{Command}
+use Rattle.rz_command.specs.declared.command.Command.TheVariants as commands
+use Rattle.rz_config.specs.Sizes.{all_disk_bytes}
+use Rattle.rz_events.specs.Volume.{nodes_of}
+use Rattle.rz_generate.specs.Workload.{workload}
+use Rattle.rz_script.specs.Grammar.{script}
+use Rattle.rz_script.specs.Scripts.{Script}
+use Rattle.rz_script.specs.Weights.{script_weight}
+use Rattle.rz_script.specs.declared.form.Form.TheVariants as forms
+use Rattle.rz_script.specs.declared.fault.ScriptError.{ScriptError}
+use Rattle.rz_script.specs.declared.fault.ScriptError.TheVariants as errors
+use Rattle.rz_request.specs.Input.{limit}
+use Rattle.rz_request.specs.declared.refusal.Refusal.{Refusal}
+use Rattle.rz_request.specs.declared.refusal.Refusal.TheVariants as refusals
+use Rattle.rz_request.specs.declared.refusal.Stop.{Stop}
+use Rattle.rz_request.specs.declared.refusal.Stop.TheVariants as stops
+use Rattle.rz_request.specs.declared.wishes.Wish.{Wish}
+use Rattle.rz_request.specs.declared.wishes.Wish.TheVariants as wishes
+use Rattle.rz_request.specs.declared.wishes.Request.{Request}
+
+-- the play that a command wishes for; the other commands are not built here
+abbrev pub wish_of : Command → Option Wish
+wish_of commands.Replay = Some wishes.Replay
+wish_of (commands.Load seed) = Some (wishes.Load seed)
+wish_of _ = None
+
+-- the play that words of this meaning wish for
+abbrev pub wished : Option Meaning → Option Wish
+wished None = None
+wished (Some m) = wish_of m.command
+
+-- the wish of words of this meaning, or a refusal of words that wish for nothing; memory is wanted only for words that mean something
+abbrev pub IsWished : Option Meaning → Result Wish Stop → Type 0
+IsWished m (Ok wish) = wished m ≡ Some wish
+IsWished m (Err stops.NoMemory) = IsSome m
+IsWished m (Err e) = (wished m ≡ None) × (e ≡ stops.Refused refusals.Usage)
+
+-- the disks have more than 512 MiB, or the work more than 128 MiB
+abbrev pub is_large : Script → Bool
+is_large s = nat_lt 536870912 (all_disk_bytes s.volume) || nat_lt 32768 (script_weight s)
+
+abbrev pub nodes_in : Script → ℕ
+nodes_in s = length (nodes_of s.volume.clusters)
+
+-- What a reading of a script comes to over so many disks: the script, which is not too large and has a node for each disk; or
+-- its first fault; or a script that is too large; or one of another number of nodes. Want of memory says nothing.
+abbrev pub Judges : Result Script ScriptError → ℕ → Result Request Stop → Type 0
+Judges read disks (Ok r) = (read ≡ Ok r.script) × (is_large r.script ≡ false) × (disks ≡ nodes_in r.script)
+Judges read disks (Err stops.NoMemory) = Unit {0}
+Judges read disks (Err (stops.Refused (refusals.Script line cause))) = read ≡ Err (errors.Script line cause)
+Judges read disks (Err (stops.Refused (refusals.Volume fault))) = read ≡ Err (errors.Volume fault)
+Judges read disks (Err (stops.Refused refusals.Large)) = (s : Script) × (read ≡ Ok s) × (is_large s ≡ true)
+Judges read disks (Err (stops.Refused (refusals.Disks have need))) =
+    (s : Script) × (read ≡ Ok s) × (is_large s ≡ false) × (have ≡ disks) × (need ≡ nodes_in s) × (have ≢ need)
+Judges read disks (Err _) = ⊥
+
+-- a request is for this wish
+abbrev pub IsFor : Wish → Result Request Stop → Type 0
+IsFor wish (Ok r) = r.wish ≡ wish
+IsFor wish (Err e) = Unit {0}
+
+-- a source before and after it was read: what it had left, where that is told, and its faults
+pub record Reading : Type 0 where
+  pub before : Option (List ℕ)
+  pub after : Option (List ℕ)
+  pub old : ℕ
+  pub new : ℕ
+
+-- this text was left, and all of it was read
+abbrev pub IsRead : Reading → List ℕ → Type 0
+IsRead source text = IfSome source.before (λ left. (left ≡ text) × (source.after ≡ Some [])) × (length text ≤ limit)
+
+-- What a source comes to over so many disks: more was left than the limit; its faults rose; or all that was left is judged as a
+-- script. Want of memory says nothing.
+abbrev pub Reads : Reading → ℕ → Result Request Stop → Type 0
+Reads source disks (Err stops.Source) = Rises source.old source.new
+Reads source disks (Err stops.NoMemory) = Unit {0}
+Reads source disks (Err (stops.Refused refusals.Long)) = IfSome source.before (λ left. limit < length left)
+Reads source disks result = (text : List ℕ) × IsRead source text × Judges (script forms.Replay text) disks result
+
+-- the source is as it was
+abbrev pub IsUnread : Reading → Type 0
+IsUnread source = (source.after ≡ source.before) × (source.new ≡ source.old)
+
+-- words of this meaning are refused as usage; memory is wanted only for words that mean something
+abbrev pub IsUsage : Option Meaning → Result Request Stop → Type 0
+IsUsage m (Err stops.NoMemory) = IsSome m
+IsUsage m result = result ≡ Err (stops.Refused refusals.Usage)
+
+abbrev pub AsksFor : Option Wish → Option Meaning → Reading → ℕ → Result Request Stop → Type 0
+AsksFor None m source disks result = IsUsage m result × IsUnread source
+AsksFor (Some wishes.Replay) m source disks result = Reads source disks result × IsFor wishes.Replay result
+AsksFor (Some (wishes.Load seed)) m source disks result = Judges (Ok (workload seed)) disks result × IsFor (wishes.Load seed) result × IsUnread source
+
+-- What words of this meaning ask for: words that wish for nothing are refused as usage, with the source unread; a replay is of the
+-- script of the source; and a load is of the workload of its seed, with the source unread.
+abbrev pub Asks : Option Meaning → Reading → ℕ → Result Request Stop → Type 0
+Asks m = AsksFor (wished m) m

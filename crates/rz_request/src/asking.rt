@@ -1,0 +1,134 @@
+//! The request that words and an input make.
+
+ghost use Rattle.std.specs.Prelude.{◌≡◌, ◌≤◌, length, map, string_bytes};
+ghost use Rattle.rz_command.specs.Line.{meaning};
+ghost use Rattle.rz_generate.specs.Workload.{workload};
+ghost use Rattle.rz_script.specs.Grammar.{script};
+ghost use Rattle.rz_script.specs.declared.form.Form.TheVariants as forms;
+ghost use Rattle.rz_request.specs.Input.{limit};
+ghost use Rattle.rz_request.specs.Requests.{Asks, IsFor, IsWished, Judges, Reads, is_large as too_large, wish_of as wish_in};
+ghost use Rattle.rz_request.specs.declared.wishes.Wish.TheVariants as wishes;
+
+use crate::input::{Taken, take};
+use crate::{Refusal, Request, Stop, Wish};
+use rz_command::{Command, WordsError, wanted};
+use rz_generate::generate;
+use rz_ports::Source;
+use rz_script::{Form, Script, ScriptError};
+use std::alloc::Global;
+
+/// The most bytes of all disks.
+const DISK_BYTES: u64 = 536_870_912;
+
+/// The most work of a script, in pieces of 4096 bytes.
+const WORK: u64 = 32_768;
+
+/// Whether the disks or the work of a script are too large.
+fn is_large(script: &Script) -> bool
+    ensures { result ≡ too_large script.now }
+{
+    script.volume().disk_bytes() > DISK_BYTES || script.weight() > WORK
+}
+
+/// A script over so many disks.
+fn fit(wish: Wish, script: Script, disks: u64) -> Result<Request, Stop>
+    ensures judged { Judges (Ok script) disks result }
+    ensures wish { IsFor wish result }
+{
+    if is_large(&script) {
+        return Err(Stop::Refused(Refusal::Large));
+    }
+    let need = script.volume().node_count() as u64;
+    if need != disks {
+        return Err(Stop::Refused(Refusal::Disks { have: disks, need }));
+    }
+    Ok(Request { wish, script })
+}
+
+/// The script of a text over so many disks.
+fn read(alloc: Global, text: &[u8], disks: u64) -> Result<Request, Stop>
+    requires { length text.now ≤ limit }
+    ensures judged { Judges (script forms.Replay text.now) disks result }
+    ensures wish { IsFor wishes.Replay result }
+{
+    match Script::read(alloc, text, Form::Replay) {
+        Ok(script) => fit(Wish::Replay, script, disks),
+        Err(ScriptError::NoMemory) => Err(Stop::NoMemory),
+        Err(ScriptError::Script { line, cause }) => {
+            Err(Stop::Refused(Refusal::Script { line, cause }))
+        }
+        Err(ScriptError::Volume(fault)) => Err(Stop::Refused(Refusal::Volume(fault))),
+    }
+}
+
+/// The script of an input over so many disks.
+fn replay<I: Source>(alloc: Global, input: &mut I, disks: u64) -> Result<Request, Stop>
+    ensures asked { Reads (record { before = I.left input.old; after = I.left input.new; old = I.faults input.old; new = I.faults input.new }) disks result }
+    ensures wish { IsFor wishes.Replay result }
+{
+    match take(alloc, input) {
+        Taken::All(bytes) => read(alloc, &bytes, disks),
+        Taken::Long => Err(Stop::Refused(Refusal::Long)),
+        Taken::Failed => Err(Stop::Source),
+        Taken::NoMemory => Err(Stop::NoMemory),
+    }
+}
+
+/// The workload of a seed over so many disks.
+fn load(alloc: Global, seed: u64, disks: u64) -> Result<Request, Stop>
+    ensures judged { Judges (Ok (workload seed)) disks result }
+    ensures wish { IsFor (wishes.Load seed) result }
+{
+    match generate(alloc, seed) {
+        Ok(script) => fit(Wish::Load { seed }, script, disks),
+        Err(_) => Err(Stop::NoMemory),
+    }
+}
+
+/// The play that a command wishes for, where it is one of those that are built here.
+fn wish_of(command: Command) -> Option<Wish>
+    ensures { result ≡ wish_in command }
+{
+    match command {
+        Command::Replay => Some(Wish::Replay),
+        Command::Load { seed } => Some(Wish::Load { seed }),
+        Command::Run | Command::Scrub | Command::First | Command::Again => None,
+        Command::Migrate { .. } => None,
+    }
+}
+
+/// The play that words wish for.
+fn read_words(alloc: Global, words: &[String]) -> Result<Wish, Stop>
+    ensures { IsWished (meaning (map string_bytes words.now)) result }
+{
+    match wanted(alloc, words) {
+        Ok(wanted) => match wish_of(wanted.command) {
+            Some(wish) => Ok(wish),
+            None => Err(Stop::Refused(Refusal::Usage)),
+        },
+        Err(WordsError::Usage) => Err(Stop::Refused(Refusal::Usage)),
+        Err(WordsError::NoMemory) => Err(Stop::NoMemory),
+    }
+}
+
+/// What words and an input ask for, over so many disks.
+///
+/// The words are judged first. For `load` the source is left unread; for `replay` it is read to its
+/// end, or until there is one byte more than the limit. Then come the grammar, the size of the disks
+/// and of the work, and the number of disks.
+pub fn request<I: Source>(
+    alloc: Global,
+    words: &[String],
+    input: &mut I,
+    disks: u64,
+) -> Result<Request, Stop>
+    ensures { Asks (meaning (map string_bytes words.now)) (record { before = I.left input.old; after = I.left input.new; old = I.faults input.old; new = I.faults input.new }) disks result }
+{
+    match read_words(alloc, words) {
+        Ok(wish) => match wish {
+            Wish::Replay => replay(alloc, input, disks),
+            Wish::Load { seed } => load(alloc, seed, disks),
+        },
+        Err(stop) => Err(stop),
+    }
+}

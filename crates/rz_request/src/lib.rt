@@ -1,0 +1,23 @@
+//! From the words of the command line and the input to what is to be played, or to the refusal.
+//!
+//! The contract of [`request`] says of each answer when it comes: words of another form, a source
+//! that failed, a text that is too long, its first fault by the grammar of scripts, a script that is
+//! too large, another number of disks than the volume has nodes; and that otherwise the script is
+//! the one that the text means, or for `load` the workload of its seed. [`Refusal`] has the status and
+//! the line of each refusal, those of a disk and of too many turns too, which come later. It says
+//! nothing of what playing a script comes to, nor that there is memory.
+//!
+//! In reading order: `refusal`, `causes`, `input`, `wishes`, `asking`.
+#![tactic(auto)]
+
+mod asking;
+mod causes;
+mod input;
+mod refusal;
+#[cfg(test)]
+mod tests;
+mod wishes;
+
+pub use asking::request;
+pub use refusal::{Refusal, Stop};
+pub use wishes::{Request, Wish};

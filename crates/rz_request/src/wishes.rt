@@ -1,0 +1,19 @@
+//! What is to be played.
+
+use rz_script::Script;
+
+/// Which play it is.
+#[derive(Clone, Copy, Debug, PartialEq, Eq, Drop)]
+pub enum Wish {
+    /// The script of the input.
+    Replay,
+    /// The workload of a seed.
+    Load { seed: u64 },
+}
+
+/// A script that is to be played, for a wish.
+#[derive(Debug, Drop)]
+pub struct Request {
+    pub wish: Wish,
+    pub script: Script,
+}
