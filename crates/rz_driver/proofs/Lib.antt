@@ -1,0 +1,13 @@
+pub mod Asks
+pub mod Begins
+pub mod Fits
+pub mod SeatLemmas
+pub mod WorldLemmas
+pub mod TurnLemmas
+pub mod ReadyLemmas
+pub mod OrderLemmas
+mod Rows
+mod MessageLemmas
+mod OpenLemmas
+mod TakeLemmas
+mod ActorOrders

@@ -1,0 +1,51 @@
+-- An actor was ordered to do something more.
+use Rattle.std.proofs.Common.{◌≡◌, ℕ, ◌<◌, ◌≤◌, Bool, true, false, cond, List, [], ◌∷◌, ◌++◌, length, set, Option, Some, None, refl, sym, ◌∙◌, ap, subst}
+use Rattle.std.specs.Prelude.{slice_get}
+use Rattle.std.specs.List.{AllByRecursion}
+use Rattle.std.proofs.Math.Path.{fun_ext}
+use Rattle.std.proofs.lemmas.List.{length-set}
+use Rattle.mj_angles.specs.declared.layout.Layout.{Layout}
+use Rattle.mj_angles.specs.Layout.{max_bins_of}
+use Rattle.rz_events.specs.Volume.{Volume}
+use Rattle.rz_events.specs.declared.keys.Actor.{Actor}
+use Rattle.rz_events.specs.declared.operations.Operation.{Operation}
+use Rattle.rz_events.specs.Events.{same_actor}
+use Rattle.rz_operation.specs.Answers.{IsOperation}
+use Rattle.rz_play.specs.World.{World, Seat as APlayer, with_seat}
+use Rattle.rz_play.specs.Lines.{with_operation, with_miss}
+use Rattle.rz_driver.specs.declared.driver.Driver.{Driver}
+use Rattle.rz_driver.specs.declared.seat.Seat.{Seat}
+use Rattle.rz_driver.specs.declared.station.Shared.{Shared}
+use Rattle.rz_driver.specs.Locking.{lock_of}
+use Rattle.rz_driver.specs.Seats.{seat_of, IsSeat}
+use Rattle.rz_driver.specs.Stations.{IsStation}
+use Rattle.rz_driver.specs.Worlds.{place_of, seat_in, world, world_of, AreLocks, HaveNoLocks, IsDriver}
+use Rattle.rz_driver.proofs.WorldLemmas.{seat-here, seat-set}
+use Rattle.rz_driver.proofs.ReadyLemmas.{all-set, all-at, locks-stay}
+
+-- the world with one actor changed
+pub ordered : {D : Type 0} (p : Shared D) (ss : List Seat) (turns : ℕ) (by : Actor) (place : ℕ) (s b : Seat) (t : APlayer → APlayer) → place_of by ≡ Some place → place < length ss → slice_get ss place ≡ Some s → seat_of b ≡ t (seat_of s)
+    → world p (set ss place b) turns ≡ with_seat (world p ss turns) by (t ((world p ss turns).seats by))
+ordered p ss turns by place s b t at low here is = λ i. record (world p ss turns) { seats = seats i }
+  where
+    seats : seat_in (set ss place b) ≡ (λ x. cond (same_actor x by) (t (seat_in ss by)) (seat_in ss x))
+    seats = fun_ext (λ x. seat-set ss by place b at low x ∙ ap (λ (y : APlayer). cond (same_actor x by) y (seat_in ss x)) (is ∙ ap t (sym (seat-here ss by place s at here))))
+
+pub all-more : (layout : Layout) (ops : List Operation) (op : Operation) → AllByRecursion (IsOperation layout) ops → IsOperation layout op → AllByRecursion (IsOperation layout) (ops ++ op ∷ [])
+all-more layout [] op all fits = (fits, tt)
+all-more layout (x ∷ ops) op all fits = (all.0, all-more layout ops op all.1 fits)
+
+-- a driver of which one actor changed, but not its lock
+pub still-ready : {D : Type 0} (d e : Driver D) (by : Actor) (place : ℕ) (s b : Seat) → IsDriver d → e.volume ≡ d.volume → e.shared ≡ d.shared → e.seats.items ≡ set d.seats.items place b → place_of by ≡ Some place → place < length d.seats.items
+    → slice_get d.seats.items place ≡ Some s → IsSeat d.volume.layout b → b.lock ≡ s.lock → IsDriver e
+still-ready {D} d e by place s b ready volume shared seats at low here seat lock = record {
+  stations = subst (λ (v : Volume). AllByRecursion (IsStation v) e.shared.stations.items) (sym volume) (subst (λ (p : Shared D). AllByRecursion (IsStation d.volume) p.stations.items) (sym shared) ready.stations);
+  bins = subst (λ (v : Volume). max_bins_of v.layout ≤ length e.shared.bins.items) (sym volume) (subst (λ (p : Shared D). max_bins_of d.volume.layout ≤ length p.bins.items) (sym shared) ready.bins);
+  seats = subst (λ (v : Volume). AllByRecursion (IsSeat v.layout) e.seats.items) (sym volume) (subst (AllByRecursion (IsSeat d.volume.layout)) (sym seats) (all-set (IsSeat d.volume.layout) d.seats.items place b ready.seats seat));
+  count = ap length seats ∙ length-set d.seats.items place b ∙ ready.count;
+  locks = subst (λ (p : Shared D). AreLocks p.locks e.seats.items) (sym shared) (subst (AreLocks d.shared.locks) (sym seats) both.0);
+  no_locks = subst HaveNoLocks (sym seats) both.1;
+}
+  where
+    both : AreLocks d.shared.locks (set d.seats.items place b) × HaveNoLocks (set d.seats.items place b)
+    both = locks-stay by d.seats.items place at low s b here lock d.shared.locks ready.locks ready.no_locks

@@ -1,0 +1,81 @@
+-- An actor took a turn.
+use Rattle.std.proofs.Common.{◌≡◌, ℕ, ◌+◌, ◌<◌, ◌≤◌, List, [], ◌∷◌, length, set, get_or, Option, Some, None, refl, sym, ◌∙◌, ap, subst, arith}
+use Rattle.std.specs.Prelude.{slice_get}
+use Rattle.std.specs.List.{AllByRecursion}
+use Rattle.std.specs.FinMap.{get}
+use Rattle.std.proofs.lemmas.List.{length-set}
+use Rattle.std.proofs.lemmas.Option.{slice_get_read}
+use Rattle.mj_angles.specs.Layout.{max_bins_of}
+use Rattle.rz_events.specs.Volume.{Volume}
+use Rattle.rz_events.specs.declared.keys.Actor.{Actor}
+use Rattle.rz_events.specs.declared.keys.Actor.TheVariants.{Client, Rebuilder, Admin}
+use Rattle.rz_events.specs.declared.events.Event.{Event}
+use Rattle.rz_play.specs.World.{World, Seat as APlayer, at_work}
+use Rattle.rz_play.specs.Turns.{IsTurn}
+use Rattle.rz_driver.specs.declared.driver.Driver.{Driver}
+use Rattle.rz_driver.specs.declared.seat.Seat.{Seat}
+use Rattle.rz_driver.specs.declared.station.Shared.{Shared}
+use Rattle.rz_driver.specs.declared.station.Station.{Station}
+use Rattle.rz_driver.specs.Acts.{IsAct, HasLayouts}
+use Rattle.rz_driver.specs.Locking.{lock_of}
+use Rattle.rz_driver.specs.Logged.{Logged}
+use Rattle.rz_driver.specs.Seats.{seat_of, IsSeat}
+use Rattle.rz_driver.specs.Stations.{IsStation}
+use Rattle.rz_driver.specs.Worlds.{place_of, seat_in, world, world_of, AreLocks, HaveNoLocks, IsDriver}
+use Rattle.rz_driver.proofs.ReadyLemmas.{all-set, all-at, stations-after, seat-after, locks-after}
+use Rattle.rz_driver.proofs.TurnLemmas.{turn-is}
+use Rattle.rz_driver.proofs.WorldLemmas.{client-place, rebuilder-place, seat-here}
+
+place-low : (by : Actor) (q : ℕ) → place_of by ≡ Some q → q < 80
+place-low (Client m) q at = let r = client-place m q at in omega (arith, r.0, r.1, r.2)
+place-low (Rebuilder m) q at = let r = rebuilder-place m q at in omega (arith, r.0, r.1, r.2)
+place-low Admin q at = absurd (cc)
+
+-- the actor at a place
+pub seat-there : {D : Type 0} (by : Actor) (place : ℕ) (a : Seat) (d : Driver D) → IsDriver d → place_of by ≡ Some place → a ≡ get_or d.seats.items place a
+    → (slice_get d.seats.items place ≡ Some a) × (place < length d.seats.items) × IsSeat d.volume.layout a
+seat-there by place a d ready at is =
+    let low : place < length d.seats.items = subst (λ (n : ℕ). place < n) (sym ready.count) (place-low by place at) in
+    let here : slice_get d.seats.items place ≡ Some a = slice_get_read d.seats.items (length d.seats.items) place a refl low is in
+    (here, low, all-at (IsSeat d.volume.layout) d.seats.items place a ready.seats here)
+
+pub have-layouts : {D : Type 0} (v : Volume) (xs : List (Station D)) → AllByRecursion (IsStation v) xs → HasLayouts v.layout xs
+have-layouts v [] all = tt
+have-layouts v (x ∷ xs) all = (all.0.layout, have-layouts v xs all.1)
+
+-- the locks have what a client notes as its own
+pub tied-at : {D : Type 0} (by : Actor) (place : ℕ) (a0 a : Seat) (d : Driver D) → IsDriver d → place_of by ≡ Some place → slice_get d.seats.items place ≡ Some a0 → a.lock ≡ a0.lock
+    → (n : ℕ) → by ≡ Client n → get d.shared.locks n ≡ lock_of a.lock
+tied-at by place a0 a d ready at here kept n is =
+    ready.locks n ∙ ap (λ (x : Actor). (seat_in d.seats.items x).lock) (sym is) ∙ ap (λ (s : APlayer). s.lock) (seat-here d.seats.items by place a0 at here) ∙ ap lock_of (sym kept)
+
+module _ {D : Type 0} (by : Actor) (place : ℕ) (d e : Driver D) (log : Logged) (a0 a b : Seat) (ready : IsDriver d) (at : place_of by ≡ Some place) (here : slice_get d.seats.items place ≡ Some a0) (low : place < length d.seats.items)
+    (taken : seat_of a ≡ at_work (seat_of a0)) (fits : IsSeat d.volume.layout a) (kept : a.lock ≡ a0.lock) (events : log.events ≡ d.shared.log.events)
+    (acts : IsAct d.volume.layout by a b (record d.shared { log = log }) e.shared) (volume : e.volume ≡ d.volume) (seats : e.seats.items ≡ set d.seats.items place b) where
+  abbrev p : Shared D
+  p = record d.shared { log = log }
+
+  abbrev ss : List Seat
+  ss = d.seats.items
+
+  locks : AreLocks e.shared.locks (set ss place b) × HaveNoLocks (set ss place b)
+  locks = locks-after by ss place at low a0 a b here kept d.volume.layout p e.shared acts ready.locks ready.no_locks
+
+  pub drives : length e.shared.bins.items ≡ length d.shared.bins.items → IsDriver e
+  drives bins = record {
+    stations = subst (λ (v : Volume). AllByRecursion (IsStation v) e.shared.stations.items) (sym volume) (stations-after d.volume d.volume.layout by a b p e.shared acts ready.stations);
+    bins = subst (λ (v : Volume). max_bins_of v.layout ≤ length e.shared.bins.items) (sym volume) (subst (λ (n : ℕ). max_bins_of d.volume.layout ≤ n) (sym bins) ready.bins);
+    seats = subst (λ (v : Volume). AllByRecursion (IsSeat v.layout) e.seats.items) (sym volume)
+        (subst (AllByRecursion (IsSeat d.volume.layout)) (sym seats) (all-set (IsSeat d.volume.layout) ss place b ready.seats (seat-after d.volume.layout by a b p e.shared acts fits)));
+    count = ap length seats ∙ length-set ss place b ∙ ready.count;
+    locks = subst (AreLocks e.shared.locks) (sym seats) locks.0;
+    no_locks = subst HaveNoLocks (sym seats) locks.1;
+  }
+
+  pub turned : (f : Driver D) → d ≡ f → e.turns ≡ d.turns + 1 → IsTurn f.volume by (world_of f) (world_of e)
+  turned f is turns =
+      let first : world p ss d.turns ≡ world_of d = ap (λ (h : List Event). record (world_of d) { log = h }) events in
+      let last : world e.shared (set ss place b) (d.turns + 1) ≡ world_of e = ap (λ (xs : List Seat). world e.shared xs (d.turns + 1)) (sym seats) ∙ ap (world e.shared e.seats.items) (sym turns) in
+      subst (λ (x : Driver D). IsTurn x.volume by (world_of x) (world_of e)) is
+      (subst (λ (w : World). IsTurn d.volume by w (world_of e)) first
+      (subst (IsTurn d.volume by (world p ss d.turns)) last (turn-is d.volume by ss place d.turns at low a0 a here taken fits.machine p e.shared ready.locks ready.no_locks ready.stations kept b acts)))

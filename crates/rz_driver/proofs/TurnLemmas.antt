@@ -1,0 +1,335 @@
+-- What an actor did is its turn in the world of the play.
+use Rattle.std.proofs.Common.{◌≡◌, ◌≢◌, ◌⊎◌, inl, inr, ⊎_elim, ℕ, zero, suc, ◌+◌, ◌<◌, ◌≤◌, Bool, true, false, cond, List, [], ◌∷◌, length, set, Option, Some, None, refl, sym, ◌∙◌, ap, subst, arith}
+use Rattle.std.specs.Prelude.{◌==◌, slice_get, IsSomeAnd}
+use Rattle.std.specs.List.{AllByRecursion}
+use Rattle.std.specs.FinMap.{get}
+use Rattle.std.specs.Ordering.{nat_cmp}
+use Rattle.std.proofs.Math.Path.{fun_ext}
+use Rattle.mj_angles.specs.declared.layout.Layout.{Layout}
+use Rattle.rz_events.specs.Volume.{Volume}
+use Rattle.rz_events.specs.declared.keys.Actor.{Actor}
+use Rattle.rz_events.specs.declared.keys.Actor.TheVariants.{Client, Rebuilder, Admin}
+use Rattle.rz_events.specs.declared.events.Event.{Event}
+use Rattle.rz_events.specs.declared.export.Call.{Call}
+use Rattle.rz_events.specs.declared.export.Call.TheVariants as call
+use Rattle.rz_events.specs.declared.tree.TreeCall.TheVariants as tree
+use Rattle.rz_events.specs.declared.nodes.NodeAsk.{NodeAsk}
+use Rattle.rz_events.specs.declared.nodes.NodeAnswer.{NodeAnswer}
+use Rattle.rz_events.specs.declared.operations.Operation.{Operation}
+use Rattle.rz_events.specs.declared.operations.Operation.TheVariants as operation
+use Rattle.rz_events.specs.Events.{same_actor}
+use Rattle.rz_node_model.specs.States.{NodeState}
+use Rattle.rz_node_model.specs.Answers.{IsNodeAnswer}
+use Rattle.rz_node_model.specs.Afterwards.{after_answer}
+use Rattle.rz_node_model.specs.NodeEvents.{node_event}
+use Rattle.rz_export_model.specs.Export.{Export, export_reply, export_after}
+use Rattle.rz_core.specs.History.{facts}
+use Rattle.rz_core.specs.NodeRows.{cells_of}
+use Rattle.rz_locks.specs.declared.conflict.Lock.{Lock}
+use Rattle.rz_locks.specs.declared.conflict.LockKind.{LockKind}
+use Rattle.rz_locks.specs.declared.conflict.Range.{Range}
+use Rattle.rz_locks.specs.Conflicts.{Conflict}
+use Rattle.rz_locks.specs.Held.{Held, Blocks}
+use Rattle.rz_operation.specs.Machine.{Machine}
+use Rattle.rz_operation_model.specs.Ask.{Ask, AskExport, AskNode, AskLock, Say, Rest, Saying, SayGot, SayGave, SayLeft, SayDone, ask_of, lock_asks}
+use Rattle.rz_operation_model.specs.Work.{Work, RangePlan, WriteBytes, ReadBytes, Over, Calling, Dropping, Opening, Locking, Writing, Reading, Rebuilding, Ending}
+use Rattle.rz_operation_model.specs.Steps.{Told, Replied, Locked, Answered, Missed, Noted, told, begun}
+use Rattle.rz_operation_model.specs.Turns.{said_event}
+use Rattle.rz_play.specs.World.{World, Seat as APlayer, with_seat, with_node, with_work, at_work, take_up, Bars, IsFree, actors}
+use Rattle.rz_play.specs.Turns.{IsTurn, IsAskTurn, IsExportTurn, IsNodeTurn, Through as ComesThrough, ReplyLost as LosesReply, RequestLost as LosesRequest, IsLockTurn, IsGranted, IsSayTurn, IsGiven, IsThrough, IsLost, lost_after, lock_after, lock_on, locked, moved, advanced, answered, no_miss, with_lost, counted, text_said}
+use Rattle.rz_driver.specs.declared.seat.Seat.{Seat}
+use Rattle.rz_driver.specs.declared.station.Shared.{Shared}
+use Rattle.rz_driver.specs.declared.station.Station.{Station}
+use Rattle.rz_driver.specs.Acts.{IsAct, Rests, Exports, Opens, Sends, Says, IsSameActor, IsMessage, IsFate, Through, ReplyLost, RequestLost, IsReleased, lock_left}
+use Rattle.rz_driver.specs.Locking.{lock_of, lock_if, open_reply, Grants, IsOpened, IsOpenPart}
+use Rattle.rz_driver.specs.Nodes.{IsServed, IsAsked}
+use Rattle.rz_driver.specs.Parts.{IsTold, IsExportPart, IsSayPart, is_done}
+use Rattle.rz_driver.specs.Seats.{work_in, seat_of, HasLayout}
+use Rattle.rz_driver.specs.Stations.{state_in, IsAt, IsStation}
+use Rattle.rz_driver.specs.Worlds.{place_of, seat_at, seat_in, world, AreLocks, HaveNoLocks}
+use Rattle.rz_driver.proofs.WorldLemmas.{state-at, state-set, set-same, seat-here, seat-set, seat-same, actor-is, all-actors, at-client, client-place}
+
+-- ---- the actor
+
+-- an operation that is taken up asks for something
+begun-asks : {A : Type 0} (layout : Layout) (op : Operation) → ask_of layout (begun op) ≡ Rest → A
+begun-asks layout (operation.Tree c) is = absurd (cc)
+begun-asks layout (operation.Put path block datum) is = absurd (cc)
+begun-asks layout (operation.Get path block) is = absurd (cc)
+begun-asks layout (operation.Write path offset datum) is = absurd (cc)
+begun-asks layout (operation.Read path offset count) is = absurd (cc)
+begun-asks layout (operation.Rebuild n) is = absurd (cc)
+begun-asks layout (operation.Update path offset datum) is = absurd (cc)
+begun-asks layout (operation.View path offset count) is = absurd (cc)
+
+-- an actor that asks for nothing took nothing up
+rest-same : (layout : Layout) (s : APlayer) (work : Work) (todo : List Operation) → ask_of layout (take_up s work todo).work ≡ Rest → take_up s work todo ≡ s
+rest-same layout s Over [] is = refl
+rest-same layout s Over (op ∷ todo) is = begun-asks layout op is
+rest-same layout s (Calling c) todo is = refl
+rest-same layout s (Dropping fid n places) todo is = refl
+rest-same layout s (Opening path plan) todo is = refl
+rest-same layout s (Locking path plan) todo is = refl
+rest-same layout s (Writing course text w) todo is = refl
+rest-same layout s (Reading course r) todo is = refl
+rest-same layout s (Rebuilding n r) todo is = refl
+rest-same layout s (Ending answer) todo is = refl
+
+player-is : (s : APlayer) (a b : Seat) → IsSameActor a b → seat_of a ≡ s → (work : Work) → work_in b.machine ≡ work → (lock : Option Lock) → lock_of b.lock ≡ lock → (miss : Option Bool) → b.miss ≡ miss
+    → seat_of b ≡ record s { work = work; lock = lock; miss = miss }
+player-is s a b same is work work_is lock lock_is miss miss_is =
+    (λ i. record { todo = same.todo i; number = same.number i; work = work_is i; lock = lock_is i; miss = miss_is i })
+    ∙ ap (λ (x : APlayer). record x { work = work; lock = lock; miss = miss }) is
+
+-- ---- the turn
+
+module _ {D : Type 0} (v : Volume) (by : Actor) (ss : List Seat) (place turns : ℕ) (at : place_of by ≡ Some place) (low : place < length ss) (a0 a : Seat) (here : slice_get ss place ≡ Some a0) (taken : seat_of a ≡ at_work (seat_of a0))
+    (layout : HasLayout v.layout a.machine) (p q : Shared D) where
+  abbrev w : World
+  w = counted (world p ss turns)
+
+  abbrev s : APlayer
+  s = seat_of a
+
+  -- the actor of the world goes to work
+  works : at_work (w.seats by) ≡ s
+  works = ap at_work (seat-here ss by place a0 at here) ∙ sym taken
+
+  seats-are : (b : Seat) (t : APlayer) → seat_of b ≡ t → seat_in (set ss place b) ≡ (λ x. cond (same_actor x by) t (seat_in ss x))
+  seats-are b t is = fun_ext (λ x. seat-set ss by place b at low x ∙ ap (λ (y : APlayer). cond (same_actor x by) y (seat_in ss x)) is)
+
+  abbrev next : Seat → World
+  next b = world q (set ss place b) (turns + 1)
+
+  asked : (m : Machine) (ask : Ask) → a.machine ≡ Some m → ask_of m.layout m.work ≡ ask → ask_of v.layout s.work ≡ ask
+  asked m ask is asks =
+      let same : m.layout ≡ v.layout = subst (HasLayout v.layout) is layout in
+      ap (λ (o : Option Machine). ask_of v.layout (work_in o)) is ∙ ap (λ (y : Layout). ask_of y m.work) (sym same) ∙ asks
+
+  told-is : (m new : Machine) (b : Seat) (t : Told) → a.machine ≡ Some m → b.machine ≡ Some new → IsTold m new t → work_in b.machine ≡ told v.layout s.work t
+  told-is m new b t was is goes =
+      let same : m.layout ≡ v.layout = subst (HasLayout v.layout) was layout in
+      ap work_in is ∙ goes.work ∙ ap (λ (y : Layout). told y m.work t) same ∙ ap (λ (o : Option Machine). told v.layout (work_in o) t) (sym was)
+
+  lift : (ask : Ask) (b : Seat) → ask_of v.layout s.work ≡ ask → IsAskTurn v w by s ask (next b) → IsTurn v by (world p ss turns) (next b)
+  lift ask b is turn =
+      subst (λ (x : APlayer). IsAskTurn v w by x (ask_of v.layout x.work) (next b)) (sym works) (subst (λ (y : Ask). IsAskTurn v w by s y (next b)) (sym is) turn)
+
+  rests : (b : Seat) → ask_of v.layout s.work ≡ Rest → b ≡ a → q ≡ p → IsTurn v by (world p ss turns) (next b)
+  rests b is same shared = lift Rest b is
+      ((λ i. world (shared i) (set ss place (same i)) (turns + 1)) ∙ (λ i. record (world p ss (turns + 1)) { seats = stays i }))
+    where
+      unchanged : at_work (seat_of a0) ≡ seat_of a0
+      unchanged = rest-same v.layout (seat_of a0) (seat_of a0).work (seat_of a0).todo (ap (λ (x : APlayer). ask_of v.layout x.work) (sym taken) ∙ is)
+
+      stays : seat_in (set ss place a) ≡ seat_in ss
+      stays = fun_ext (seat-same ss by place a0 a at low here (taken ∙ unchanged))
+
+  -- the actor went on so
+  goes-on : (m new : Machine) (b : Seat) (t : Told) → a.machine ≡ Some m → b.machine ≡ Some new → IsSameActor a b → IsTold m new t → (lock : Option Lock) → lock_of b.lock ≡ lock → (miss : Option Bool) → b.miss ≡ miss
+      → seat_of b ≡ record s { work = told v.layout s.work t; lock = lock; miss = miss }
+  goes-on m new b t was is same goes lock lock_is miss miss_is = player-is s a b same refl (told v.layout s.work t) (told-is m new b t was is goes) lock lock_is miss miss_is
+
+  -- ---- the export is asked
+
+  exports : (b : Seat) (old new : Machine) → a.machine ≡ Some old → b.machine ≡ Some new → IsSameActor a b → b.lock ≡ a.lock → b.miss ≡ a.miss
+      → IsExportPart by old new p.export q.export p.log.events q.log.events → q.stations.items ≡ p.stations.items → q.lost ≡ p.lost → IsTurn v by (world p ss turns) (next b)
+  exports b old new was is same lock miss (c, asks, replied) stations lost =
+      let x = replied.noted.0 in
+      let seats = seats-are b (advanced v s (Replied (export_reply p.export c))) (goes-on old new b (Replied (export_reply p.export c)) was is same replied.goes s.lock (ap lock_of lock) s.miss miss) in
+      lift (AskExport c) b (asked old (AskExport c) was asks) (
+        x,
+        replied.noted.1,
+        λ i. record {
+          nodes = state_in (stations i);
+          export = replied.after i;
+          seats = seats i;
+          turns = turns + 1;
+          lost = lost i;
+          log = replied.noted.2 i;
+        },
+      )
+
+  -- ---- a lock is asked for
+
+  module _ (tied : AreLocks p.locks ss) (free : HaveNoLocks ss) where
+    bars-blocks : (l : Lock) (o : Option Lock) → Bars o l → IsSomeAnd o (λ other. Conflict other l)
+    bars-blocks l None bars = absurd bars
+    bars-blocks l (Some x) bars = bars
+
+    blocks-bars : (l : Lock) (o : Option Lock) → IsSomeAnd o (λ other. Conflict other l) → Bars o l
+    blocks-bars l None blocks = absurd (not-some blocks)
+      where
+        not-some : IsSomeAnd None (λ (other : Lock). Conflict other l) → ⊥
+        not-some none = none
+    blocks-bars l (Some x) blocks = blocks
+
+    -- an owner of a lock is a client of the row
+    owner-place : (n : ℕ) (o : Option ℕ) → place_of (Client n) ≡ o → (l : Lock) → Bars (seat_at ss o).lock l → (1 ≤ n) × (n ≤ 64)
+    owner-place n None is l bars = absurd bars
+    owner-place n (Some place') is l bars = let r = client-place n place' is in (r.0, r.1)
+
+    is-free : (l : Lock) → ((other : ℕ) → Blocks p.locks l other → ⊥) → IsFree w by l
+    is-free l none = all-actors (λ other. same_actor other by ≡ false → ¬ Bars (w.seats other).lock l)
+        (λ m apart bars. none m (subst (λ (o : Option Lock). IsSomeAnd o (λ other. Conflict other l)) (sym (tied m)) (bars-blocks l (seat_in ss (Client m)).lock bars)))
+        (λ m apart bars. subst (λ (o : Option Lock). Bars o l) (free m) bars)
+
+    not-free : (l : Lock) (owner : ℕ) → by ≡ Client owner → lock_of a0.lock ≡ None → (other : ℕ) → Blocks p.locks l other → IsFree w by l → ⊥
+    not-free l owner is none other blocks all =
+        let bars : Bars (seat_in ss (Client other)).lock l = blocks-bars l (seat_in ss (Client other)).lock (subst (λ (o : Option Lock). IsSomeAnd o (λ x. Conflict x l)) (tied other) blocks) in
+        let range = owner-place other (place_of (Client other)) refl l bars in
+        at-client (λ x. same_actor x by ≡ false → ¬ Bars (w.seats x).lock l) other all range.0 range.1 (apart (same_actor (Client other) by) refl bars) bars
+      where
+        apart : (b : Bool) → same_actor (Client other) by ≡ b → Bars (seat_in ss (Client other)).lock l → same_actor (Client other) by ≡ false
+        apart false no_ bars = no_
+        apart true eq bars = absurd (subst (λ (o : Option Lock). Bars o l)
+            (ap (λ (x : Actor). (seat_in ss x).lock) (actor-is (Client other) by eq) ∙ ap (λ (x : APlayer). x.lock) (seat-here ss by place a0 at here) ∙ none) bars)
+
+    granted-is : (owner : ℕ) → by ≡ Client owner → lock_of a0.lock ≡ None → (o : Option Lock) (granted : Bool) (after : Held) → Grants p.locks owner o granted after → IsGranted w by o granted
+    granted-is owner is none None granted after grants = grants.0
+    granted-is owner is none (Some l) true after grants = (λ eq. is-free l grants.0, λ all. refl)
+    granted-is owner is none (Some l) false after grants = (λ eq. (let never_ : false ≡ true = eq in absurd (cc)), λ all. absurd (not-free l owner is none grants.0.0 grants.0.1 all))
+
+    if-cond : (b : Bool) (x y : Option Lock) → lock_if b x y ≡ cond b x y
+    if-cond true x y = refl
+    if-cond false x y = refl
+
+    opens : (b : Seat) (old new : Machine) → a.machine ≡ Some old → b.machine ≡ Some new → IsSameActor a b → b.miss ≡ a.miss → a.lock ≡ a0.lock
+        → IsOpenPart by old new p.export q.export p.locks q.locks a.lock b.lock p.log.events q.log.events → q.stations.items ≡ p.stations.items → q.lost ≡ p.lost → IsTurn v by (world p ss turns) (next b)
+    opens b old new was is same miss kept (path, exclusive, from, count, asks, (owner, o)) stations lost =
+        let answer = open_reply p.export path in
+        let lock = lock_on answer exclusive from count in
+        let x = o.noted.0 in
+        let seats = seats-are b (locked o.granted lock (advanced v s (Locked o.granted answer)))
+        (goes-on old new b (Locked o.granted answer) was is same o.goes (cond o.granted lock s.lock) (o.held_is ∙ if-cond o.granted lock (lock_of a.lock)) s.miss miss) in
+        lift (AskLock path exclusive from count) b (asked old (AskLock path exclusive from count) was asks) (
+          x,
+          o.noted.1,
+          o.granted,
+          granted-is owner o.owner_is (sym (ap lock_of kept) ∙ o.none_held) lock o.granted q.locks o.grants,
+          λ i. record {
+            nodes = state_in (stations i);
+            export = o.after i;
+            seats = seats i;
+            turns = turns + 1;
+            lost = lost i;
+            log = o.noted.2 i;
+          },
+        )
+
+  -- ---- a message is sent
+
+  module _ (stations : AllByRecursion (IsStation v) p.stations.items) where
+    station-at : (ss' : List (Station D)) (i : ℕ) (st : Station D) → AllByRecursion (IsStation v) ss' → slice_get ss' i ≡ Some st → IsStation v st
+    station-at [] i st all is = absurd (cc)
+    station-at (y ∷ ss') zero st all is = subst (IsStation v) (the-one y st is) all.0
+      where
+        the-one : (y st : Station D) → Some y ≡ Some st → y ≡ st
+        the-one y st is = cc
+    station-at (y ∷ ss') (suc i) st all is = station-at ss' i st all.1 is
+
+    module _ (n : ℕ) (question : NodeAsk) (old new : Machine) (b : Seat) (m : IsMessage by n question old new a.miss b.miss p q) (was : a.machine ≡ Some old) (is : b.machine ≡ Some new) (same : IsSameActor a b) (lock : b.lock ≡ a.lock) (asks : IsAsked old n question) where
+      found : (m.station.sid ≡ n) × (state_in p.stations.items n ≡ m.station.node.state)
+      found = state-at p.stations.items n m.place m.station m.at m.is
+
+      shape : IsStation v m.station
+      shape = station-at p.stations.items m.place m.station stations m.is
+
+      -- the answer is that of the node in its state
+      given-is : (given : NodeAnswer) (x : Event) → IsServed m.station.node.geometry.cells question given m.station.node.state m.after.node.state → node_event by n question given ≡ Some x → IsGiven v w by n question given x
+      given-is given x served event = record {
+        given_is = subst (λ (st : NodeState). IsNodeAnswer (cells_of v n) st question given) (sym found.1)
+            (subst (λ (k : ℕ). IsNodeAnswer k m.station.node.state question given) (shape.cells ∙ ap (cells_of v) found.0) served.given_is);
+        event = event;
+      }
+
+      -- and its state is that after the answer
+      states : (given : NodeAnswer) → m.after.node.state ≡ after_answer question given m.station.node.state → state_in q.stations.items ≡ (λ k. cond (k == n) (after_answer question given (w.nodes n)) (w.nodes k))
+      states given after = ap state_in m.stations ∙ fun_ext (λ k. state-set p.stations.items n m.place m.after m.at (m.called.sid ∙ found.0) k
+          ∙ ap (λ (st : NodeState). cond (k == n) st (state_in p.stations.items k)) (after ∙ ap (after_answer question given) (sym found.1)))
+
+      sent : IsFate by n question m.station m.after old new a.miss b.miss p q → IsTurn v by (world p ss turns) (next b)
+      sent (Through part comes miss lost) =
+          let given = part.given in
+          let x = part.noted.0 in
+          let nodes = states given part.served.after in
+          let seats = seats-are b (advanced v s (Answered true given)) (goes-on old new b (Answered true given) was is same part.goes s.lock (ap lock_of lock) s.miss miss) in
+          lift (AskNode n question) b (asked old (AskNode n question) was asks) (ComesThrough (
+            given,
+            x,
+            given-is given x part.served part.noted.1,
+            comes,
+            λ i. record {
+              nodes = nodes i;
+              export = m.export i;
+              seats = seats i;
+              turns = turns + 1;
+              lost = lost i;
+              log = part.noted.2 i;
+            },
+          ))
+      sent (ReplyLost part lost_so miss lost) =
+          let given = part.given in
+          let nodes = states given part.served.after in
+          let seats = seats-are b (no_miss (advanced v s Missed)) (goes-on old new b Missed was is same part.goes s.lock (ap lock_of lock) None miss) in
+          lift (AskNode n question) b (asked old (AskNode n question) was asks) (LosesReply (
+            given,
+            part.event,
+            given-is given part.event part.served part.event_is,
+            lost_so,
+            λ i. record {
+              nodes = nodes i;
+              export = m.export i;
+              seats = seats i;
+              turns = turns + 1;
+              lost = lost i;
+              log = part.noted i;
+            },
+          ))
+      sent (RequestLost stays part lost_so miss lost) =
+          let nodes : state_in q.stations.items ≡ state_in p.stations.items =
+          ap state_in (m.stations ∙ ap (set p.stations.items m.place) stays ∙ set-same p.stations.items m.place m.station m.is) in
+          let seats = seats-are b (no_miss (advanced v s Missed)) (goes-on old new b Missed was is same part.goes s.lock (ap lock_of lock) None miss) in
+          lift (AskNode n question) b (asked old (AskNode n question) was asks) (LosesRequest (
+            lost_so,
+            λ i. record {
+              nodes = nodes i;
+              export = m.export i;
+              seats = seats i;
+              turns = turns + 1;
+              lost = lost i;
+              log = part.noted i;
+            },
+          ))
+
+  -- ---- a word is said
+
+  lock-said : (said : Saying) (done : Bool) (lock lock' : Option (Range × LockKind)) → done ≡ is_done said → lock' ≡ lock_left done lock → lock_of lock' ≡ lock_after said (lock_of lock)
+  lock-said (SayDone answer) done lock lock' done_is left = ap lock_of (left ∙ ap (λ (d : Bool). lock_left d lock) done_is)
+  lock-said (SayGot key part m) done lock lock' done_is left = ap lock_of (left ∙ ap (λ (d : Bool). lock_left d lock) done_is)
+  lock-said (SayGave key part end) done lock lock' done_is left = ap lock_of (left ∙ ap (λ (d : Bool). lock_left d lock) done_is)
+  lock-said (SayLeft key why) done lock lock' done_is left = ap lock_of (left ∙ ap (λ (d : Bool). lock_left d lock) done_is)
+
+  says : (b : Seat) (old new : Machine) → a.machine ≡ Some old → b.machine ≡ Some new → IsSameActor a b → b.miss ≡ a.miss
+      → (done : Bool) → IsSayPart by a.number done old new p.log.events q.log.events → IsReleased done by a.lock b.lock p.locks q.locks
+      → q.stations.items ≡ p.stations.items → q.export ≡ p.export → q.lost ≡ p.lost → IsTurn v by (world p ss turns) (next b)
+  says b old new was is same miss done (said, asks, part) released stations export lost =
+      let text = text_said (facts p.log.events) said in
+      let seats = seats-are b (record (advanced v s (Noted text)) { lock = lock_after said s.lock })
+      (goes-on old new b (Noted text) was is same part.goes (lock_after said s.lock) (lock-said said done a.lock b.lock part.done_is released.lock_is) s.miss miss) in
+      lift (Say said) b (asked old (Say said) was asks) (λ i. record {
+        nodes = state_in (stations i);
+        export = export i;
+        seats = seats i;
+        turns = turns + 1;
+        lost = lost i;
+        log = part.noted i;
+      })
+
+  -- What the actor did is its turn.
+  pub turn-is : AreLocks p.locks ss → HaveNoLocks ss → AllByRecursion (IsStation v) p.stations.items → a.lock ≡ a0.lock → (b : Seat) → IsAct v.layout by a b p q → IsTurn v by (world p ss turns) (next b)
+  turn-is tied free stations kept b (Rests is same shared) = rests b is same shared
+  turn-is tied free stations kept b (Exports old new was is same lock miss part sts lks lost) = exports b old new was is same lock miss part sts lost
+  turn-is tied free stations kept b (Opens old new was is same miss part sts lost) = opens tied free b old new was is same miss kept part sts lost
+  turn-is tied free stations kept b (Sends old new was is same lock n question asks message) = sent stations n question old new b message was is same lock asks message.fate
+  turn-is tied free stations kept b (Says old new was is same miss done part released sts export lost) = says b old new was is same miss done part released sts export lost

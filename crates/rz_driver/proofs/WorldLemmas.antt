@@ -1,0 +1,197 @@
+-- Nodes and actors in their rows.
+use Rattle.std.proofs.Common.{◌≡◌, ◌≢◌, ◌⊎◌, inl, inr, ⊎_elim, ℕ, zero, suc, ◌+◌, ◌-◌, ◌<◌, ◌≤◌, Bool, true, false, cond, List, [], ◌∷◌, ◌++◌, map, length, set, Option, Some, None, refl, sym, ◌∙◌, ap, subst, arith, eq-eqb}
+use Rattle.std.specs.Prelude.{◌==◌, ◌&&◌, nat_le, slice_get}
+use Rattle.std.specs.List.{AllByRecursion, range_with_len}
+use Rattle.std.proofs.lemmas.Bool.{and_parts, eqb-true}
+use Rattle.std.proofs.lemmas.Bool.Decides.{nat_tests}
+use Rattle.rz_events.specs.declared.keys.Actor.{Actor}
+use Rattle.rz_events.specs.declared.keys.Actor.TheVariants.{Client, Rebuilder, Admin}
+use Rattle.rz_events.specs.Events.{same_actor}
+use Rattle.rz_node_model.specs.States.{NodeState}
+use Rattle.rz_play.specs.World.{Seat as APlayer, empty_seat, actors}
+use Rattle.rz_driver.specs.declared.seat.Seat.{Seat}
+use Rattle.rz_driver.specs.declared.station.Station.{Station}
+use Rattle.rz_driver.specs.Seats.{seat_of}
+use Rattle.rz_driver.specs.Stations.{state_in, IsAt}
+use Rattle.rz_driver.specs.Worlds.{place_if, place_of, seat_there, seat_at, seat_in}
+
+never : {A : Type 0} (b : Bool) → b ≡ true → b ≡ false → A
+never b t f = let none : true ≡ false = sym t ∙ f in absurd (cc)
+
+differ : (n m : ℕ) → n ≢ m → (n == m) ≡ false
+differ n m ne = go (n == m) refl
+  where
+    go : (b : Bool) → (n == m) ≡ b → (n == m) ≡ false
+    go false is = is
+    go true is = absurd (ne (eqb-true n m is))
+
+-- ---- nodes
+
+twice : (b : Bool) (s x r : NodeState) → cond b s r ≡ cond b s (cond b x r)
+twice true s x r = refl
+twice false s x r = refl
+
+swap : (c b : Bool) (x s r : NodeState) → (c ≡ true → b ≡ true → ⊥) → cond c x (cond b s r) ≡ cond b s (cond c x r)
+swap true true x s r apart = absurd (apart refl refl)
+swap true false x s r apart = refl
+swap false true x s r apart = refl
+swap false false x s r apart = refl
+
+module _ {D : Type 0} where
+  the-station : (x s : Station D) → Some x ≡ Some s → x ≡ s
+  the-station x s is = cc
+
+  -- the node at the place of a number
+  pub state-at : (ss : List (Station D)) (n i : ℕ) (s : Station D) → IsAt ss n i → slice_get ss i ≡ Some s → (s.sid ≡ n) × (state_in ss n ≡ s.node.state)
+  state-at [] n i s at is = absurd at
+  state-at (x ∷ ss) n zero s at is =
+      let same = the-station x s is in (
+        ap (λ (y : Station D). y.sid) (sym same) ∙ at,
+        ap (λ b. cond b x.node.state (state_in ss n)) (eq-eqb n x.sid (sym at)) ∙ ap (λ (y : Station D). y.node.state) same,
+      )
+  state-at (x ∷ ss) n (suc i) s at is =
+      let rest = state-at ss n i s at.1 is in
+      (rest.0, ap (λ b. cond b x.node.state (state_in ss n)) (differ n x.sid (λ same. at.0 (sym same))) ∙ rest.1)
+
+  -- and after it was changed
+  pub state-set : (ss : List (Station D)) (n i : ℕ) (s : Station D) → IsAt ss n i → s.sid ≡ n → (m : ℕ) → state_in (set ss i s) m ≡ cond (m == n) s.node.state (state_in ss m)
+  state-set [] n i s at sid m = absurd at
+  state-set (x ∷ ss) n zero s at sid m =
+      ap (λ (k : ℕ). cond (m == k) s.node.state (state_in ss m)) sid
+      ∙ twice (m == n) s.node.state x.node.state (state_in ss m)
+      ∙ ap (λ (k : ℕ). cond (m == n) s.node.state (cond (m == k) x.node.state (state_in ss m))) (sym at)
+  state-set (x ∷ ss) n (suc i) s at sid m =
+      ap (cond (m == x.sid) x.node.state) (state-set ss n i s at.1 sid m)
+      ∙ swap (m == x.sid) (m == n) x.node.state s.node.state (state_in ss m) (λ one two. at.0 (sym (eqb-true m x.sid one) ∙ eqb-true m n two))
+
+-- ---- rows
+
+module _ {A : Type 0} where
+  pub get-set-same : (xs : List A) (i : ℕ) (v : A) → i < length xs → slice_get (set xs i v) i ≡ Some v
+  get-set-same [] i v low = absurd (omega (arith, low))
+  get-set-same (x ∷ xs) zero v low = refl
+  get-set-same (x ∷ xs) (suc i) v low = get-set-same xs i v (omega (arith, low))
+
+  pub get-set-other : (xs : List A) (i j : ℕ) (v : A) → j ≢ i → slice_get (set xs i v) j ≡ slice_get xs j
+  get-set-other [] i j v ne = refl
+  get-set-other (x ∷ xs) zero zero v ne = absurd (ne refl)
+  get-set-other (x ∷ xs) zero (suc j) v ne = refl
+  get-set-other (x ∷ xs) (suc i) zero v ne = refl
+  get-set-other (x ∷ xs) (suc i) (suc j) v ne = get-set-other xs i j v (λ same. ne (ap suc same))
+
+  pub set-same : (xs : List A) (i : ℕ) (v : A) → slice_get xs i ≡ Some v → set xs i v ≡ xs
+  set-same [] i v is = refl
+  set-same (x ∷ xs) zero v is = ap (λ (y : A). y ∷ xs) (the-item v x (sym is))
+    where
+      the-item : (v x : A) → Some v ≡ Some x → v ≡ x
+      the-item v x is = cc
+  set-same (x ∷ xs) (suc i) v is = ap (λ (ys : List A). x ∷ ys) (set-same xs i v is)
+
+  pub set-set : (xs : List A) (i : ℕ) (v u : A) → set (set xs i v) i u ≡ set xs i u
+  set-set [] i v u = refl
+  set-set (x ∷ xs) zero v u = refl
+  set-set (x ∷ xs) (suc i) v u = ap (λ (ys : List A). x ∷ ys) (set-set xs i v u)
+
+-- ---- actors
+
+if-some : (b : Bool) (p q : ℕ) → place_if b p ≡ Some q → (b ≡ true) × (p ≡ q)
+if-some true p q is = (refl, (cc))
+if-some false p q is = absurd (cc)
+
+at-most : (m n : ℕ) → nat_le m n ≡ true → m ≤ n
+at-most m n is = grind (arith, nat_tests)
+
+pub client-place : (m q : ℕ) → place_of (Client m) ≡ Some q → (1 ≤ m) × (m ≤ 64) × (m - 1 ≡ q)
+client-place m q is =
+    let p = if-some (nat_le 1 m && nat_le m 64) (m - 1) q is in
+    let r = and_parts (nat_le 1 m) (nat_le m 64) p.0 in
+    (at-most 1 m r.0, at-most m 64 r.1, p.1)
+
+pub rebuilder-place : (m q : ℕ) → place_of (Rebuilder m) ≡ Some q → (1 ≤ m) × (m ≤ 16) × (m + 63 ≡ q)
+rebuilder-place m q is =
+    let p = if-some (nat_le 1 m && nat_le m 16) (m + 63) q is in
+    let r = and_parts (nat_le 1 m) (nat_le m 16) p.0 in
+    (at-most 1 m r.0, at-most m 16 r.1, p.1)
+
+pub same-place : (a b : Actor) (q : ℕ) → place_of a ≡ Some q → place_of b ≡ Some q → a ≡ b
+same-place (Client m) (Client n) q x y = let one = client-place m q x in let two = client-place n q y in ap Client (omega (arith, one.0, one.2, two.0, two.2))
+same-place (Rebuilder m) (Rebuilder n) q x y = let one = rebuilder-place m q x in let two = rebuilder-place n q y in ap Rebuilder (omega (arith, one.2, two.2))
+same-place (Client m) (Rebuilder n) q x y = let one = client-place m q x in let two = rebuilder-place n q y in absurd (omega (arith, one.1, one.2, two.0, two.2))
+same-place (Rebuilder m) (Client n) q x y = let one = rebuilder-place m q x in let two = client-place n q y in absurd (omega (arith, one.0, one.2, two.1, two.2))
+same-place Admin b q x y = absurd (cc)
+same-place (Client m) Admin q x y = absurd (cc)
+same-place (Rebuilder m) Admin q x y = absurd (cc)
+
+pub actor-is : (a b : Actor) → same_actor a b ≡ true → a ≡ b
+actor-is (Client m) (Client n) is = ap Client (eqb-true m n is)
+actor-is (Rebuilder m) (Rebuilder n) is = ap Rebuilder (eqb-true m n is)
+actor-is Admin Admin is = refl
+actor-is (Client m) (Rebuilder n) is = absurd (cc)
+actor-is (Client m) Admin is = absurd (cc)
+actor-is (Rebuilder m) (Client n) is = absurd (cc)
+actor-is (Rebuilder m) Admin is = absurd (cc)
+actor-is Admin (Client n) is = absurd (cc)
+actor-is Admin (Rebuilder n) is = absurd (cc)
+
+pub actor-same : (a : Actor) → same_actor a a ≡ true
+actor-same (Client n) = eq-eqb n n refl
+actor-same (Rebuilder n) = eq-eqb n n refl
+actor-same Admin = refl
+
+the-place : (p q : ℕ) → Some p ≡ Some q → p ≡ q
+the-place p q is = cc
+
+pub seat-here : (ss : List Seat) (by : Actor) (place : ℕ) (s : Seat) → place_of by ≡ Some place → slice_get ss place ≡ Some s → seat_in ss by ≡ seat_of s
+seat-here ss by place s at is = ap (seat_at ss) at ∙ ap seat_there is
+
+-- the actors after one was changed
+pub seat-set : (ss : List Seat) (by : Actor) (place : ℕ) (s : Seat) → place_of by ≡ Some place → place < length ss → (a : Actor) → seat_in (set ss place s) a ≡ cond (same_actor a by) (seat_of s) (seat_in ss a)
+seat-set ss by place s at low a = go (same_actor a by) refl
+  where
+    other : (o : Option ℕ) → place_of a ≡ o → same_actor a by ≡ false → seat_at (set ss place s) o ≡ seat_at ss o
+    other None is apart = refl
+    other (Some q) is apart = ap seat_there (get-set-other ss place q s (λ same. never (same_actor a by)
+        (ap (λ (x : Actor). same_actor x by) (same-place a by place (is ∙ ap (λ (k : ℕ). Some k) same) at) ∙ actor-same by) apart))
+
+    go : (b : Bool) → same_actor a by ≡ b → seat_in (set ss place s) a ≡ cond b (seat_of s) (seat_in ss a)
+    go true is = ap (seat_in (set ss place s)) (actor-is a by is) ∙ ap (seat_at (set ss place s)) at ∙ ap seat_there (get-set-same ss place s low)
+    go false is = ap (seat_at (set ss place s)) refl ∙ other (place_of a) refl is
+
+-- an actor that is as it was
+pub seat-same : (ss : List Seat) (by : Actor) (place : ℕ) (s t : Seat) → place_of by ≡ Some place → place < length ss → slice_get ss place ≡ Some s → seat_of t ≡ seat_of s → (a : Actor) → seat_in (set ss place t) a ≡ seat_in ss a
+seat-same ss by place s t at low is same a = seat-set ss by place t at low a ∙ go (same_actor a by) refl
+  where
+    go : (b : Bool) → same_actor a by ≡ b → cond b (seat_of t) (seat_in ss a) ≡ seat_in ss a
+    go true eq = same ∙ sym (seat-here ss by place s at is) ∙ ap (seat_in ss) (sym (actor-is a by eq))
+    go false no_ = refl
+
+-- ---- all actors
+
+module _ (P : Actor → Type 0) where
+  all-clients : (a n : ℕ) (more : List Actor) → ((m : ℕ) → P (Client m)) → AllByRecursion P more → AllByRecursion P (map Client (range_with_len a n) ++ more)
+  all-clients a zero more each rest = rest
+  all-clients a (suc n) more each rest = (each a, all-clients (a + 1) n more each rest)
+
+  all-rebuilders : (a n : ℕ) → ((m : ℕ) → P (Rebuilder m)) → AllByRecursion P (map Rebuilder (range_with_len a n))
+  all-rebuilders a zero each = tt
+  all-rebuilders a (suc n) each = (each a, all-rebuilders (a + 1) n each)
+
+  pub all-actors : ((m : ℕ) → P (Client m)) → ((m : ℕ) → P (Rebuilder m)) → AllByRecursion P actors
+  all-actors clients rebuilders = all-clients 1 64 (map Rebuilder (range_with_len 1 16)) clients (all-rebuilders 1 16 rebuilders)
+
+  a-client : (a n m : ℕ) (more : List Actor) → AllByRecursion P (map Client (range_with_len a n) ++ more) → a ≤ m → m < a + n → P (Client m)
+  a-client a zero m more all low high = absurd (omega (arith, low, high))
+  a-client a (suc n) m more all low high = ⊎_elim
+      (λ (same : m ≡ a). subst (λ (k : ℕ). P (Client k)) (sym same) all.0)
+      (λ (above : m ≢ a). a-client (a + 1) n m more all.1 (omega (arith, low, above)) (omega (arith, high)))
+      (cases m a)
+    where
+      cases : (m a : ℕ) → (m ≡ a) ⊎ (m ≢ a)
+      cases m a = by-test (m == a) refl
+        where
+          by-test : (b : Bool) → (m == a) ≡ b → (m ≡ a) ⊎ (m ≢ a)
+          by-test true is = inl (eqb-true m a is)
+          by-test false is = inr (λ same. never (m == a) (eq-eqb m a same) is)
+
+  pub at-client : (m : ℕ) → AllByRecursion P actors → 1 ≤ m → m ≤ 64 → P (Client m)
+  at-client m all low high = a-client 1 64 m (map Rebuilder (range_with_len 1 16)) all low (omega (arith, high))

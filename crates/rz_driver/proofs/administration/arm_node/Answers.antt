@@ -1,0 +1,27 @@
+use Rattle.std.proofs.Common.{◌≡◌, List, ◌∷◌, ◌<◌, ◌∙◌, IsTrue, get_or, length, refl, ap, arith, rules}
+use Rattle.std.proofs.lemmas.Option.{slice_get-get_or}
+use Rattle.std.proofs.lemmas.Result.{on_ok_weaker}
+use Rattle.rz_events.specs.declared.events.Event.{Event}
+use Rattle.rz_events.specs.declared.events.Event.TheVariants as e
+use Rattle.rz_driver.proofs.Rows.{at-within}
+use Rattle.rz_driver.proofs.administration.arm_node.Goals as goal
+
+pub offset_bounds-stations-place : goal.offset_bounds-stations-place
+offset_bounds-stations-place g c = let low : c.in-Some.place < length c.args.stations.now = at-within c.args.stations.now c.args.sid c.in-Some.place c.in-Some.ensures in search rules
+
+pub bounds-stations-place : goal.bounds-stations-place
+bounds-stations-place g c = at-within c.args.stations.now c.args.sid c.in-Some.place c.in-Some.ensures
+
+pub returns-clause-ok : goal.returns-clause-ok
+returns-clause-ok g c =
+    let low = at-within c.args.stations.now c.args.sid c.in-Some.place c.in-Some.ensures in
+    on_ok_weaker c.note.result (λ (h : c.note.new.self.events ≡ e.Armed c.args.sid c.args.passes c.args.pick ∷ c.make_room.new.self.events). record {
+      place = c.in-Some.place;
+      station = get_or c.args.stations.now c.in-Some.place c.index-stations-place.result;
+      after = c.arm.new.station;
+      at = c.in-Some.ensures;
+      is = slice_get-get_or c.args.stations.now c.in-Some.place c.index-stations-place.result low;
+      stations = refl;
+      armed = c.arm.ensures;
+      log_is = h ∙ ap (λ (rest : List Event). e.Armed c.args.sid c.args.passes c.args.pick ∷ rest) c.make_room.ensures.same;
+    }) c.note.ensures.ok

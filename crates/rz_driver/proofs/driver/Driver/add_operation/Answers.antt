@@ -1,0 +1,54 @@
+use Rattle.std.proofs.Common.{◌≡◌, ℕ, ◌<◌, List, [], ◌∷◌, ◌++◌, length, Some, refl, sym, ◌∙◌, ap, subst, arith}
+use Rattle.std.specs.Prelude.{slice_get, OnOk}
+use Rattle.std.specs.List.{AllByRecursion}
+use Rattle.std.proofs.lemmas.Option.{slice_get_read}
+use Rattle.rz_events.specs.declared.operations.Operation.{Operation}
+use Rattle.rz_operation.specs.Answers.{IsOperation}
+use Rattle.rz_operation.specs.Machine.{Machine}
+use Rattle.rz_play.specs.Lines.{with_operation}
+use Rattle.rz_play.specs.World.{Seat as APlayer}
+use Rattle.std.specs.Prelude.{Option}
+use Rattle.rz_driver.specs.declared.seat.Seat.{Seat}
+use Rattle.rz_driver.specs.Locking.{lock_of}
+use Rattle.rz_driver.specs.Seats.{IsSeat, HasLayout, work_in, seat_of}
+use Rattle.rz_driver.specs.Worlds.{place_of}
+use Rattle.rz_driver.proofs.ReadyLemmas.{all-at}
+use Rattle.rz_driver.proofs.OrderLemmas.{ordered, still-ready, all-more}
+use Rattle.rz_driver.proofs.ActorOrders.{place-low, operation-fits}
+use Rattle.rz_driver.proofs.driver.Driver.add_operation.Goals as goal
+
+added : (s b : Seat) (op : Operation) → b.todo.items ≡ s.todo.items ++ op ∷ [] → b.number ≡ s.number → b.machine ≡ s.machine → b.lock ≡ s.lock → b.miss ≡ s.miss → seat_of b ≡ with_operation (seat_of s) op
+added s b op todo number machine lock miss = λ i. record { todo = todo i; number = number i; work = work_in (machine i); lock = lock_of (lock i); miss = miss i }
+
+pub returns-clause-ready : goal.returns-clause-ready
+returns-clause-ready g c =
+    let d = c.args.self.now in
+    let s = c.index_mut.result.now in
+    let b = c.add.new.self in
+    let at : place_of c.args.by ≡ Some c.in-Some.place = sym c.place.ensures ∙ c.in-Some.is in
+    let row = place-low c.args.by c.in-Some.place at in
+    let count : length d.seats.items ≡ 80 = c.requires.ready.count in
+    let low : c.in-Some.place < length d.seats.items = omega (arith, row, count) in
+    let here : slice_get d.seats.items c.in-Some.place ≡ Some s = slice_get_read d.seats.items (length d.seats.items) c.in-Some.place s refl low c.index_mut.ensures.value in
+    let shape = all-at (IsSeat d.volume.layout) d.seats.items c.in-Some.place s c.requires.ready.seats here in
+    let e = c.in_ok-add.ensures in
+    let fits = subst (IsOperation d.volume.layout) (sym c.in_ok-op.ensures) (operation-fits d.volume c.args.by c.args.op.now c.requires.line.1) in
+    still-ready d _ c.args.by c.in-Some.place s b c.requires.ready refl refl refl at low here
+    (record {
+      machine = subst (HasLayout d.volume.layout) (sym e.machine) shape.machine;
+      todo = subst (AllByRecursion (IsOperation d.volume.layout)) (sym e.todo) (all-more d.volume.layout s.todo.items c.in_ok-op.op shape.todo fits);
+    }) e.lock
+
+pub returns-clause-played : goal.returns-clause-played
+returns-clause-played g c =
+    let d = c.args.self.now in
+    let s = c.index_mut.result.now in
+    let b = c.add.new.self in
+    let at : place_of c.args.by ≡ Some c.in-Some.place = sym c.place.ensures ∙ c.in-Some.is in
+    let row = place-low c.args.by c.in-Some.place at in
+    let count : length d.seats.items ≡ 80 = c.requires.ready.count in
+    let low : c.in-Some.place < length d.seats.items = omega (arith, row, count) in
+    let here : slice_get d.seats.items c.in-Some.place ≡ Some s = slice_get_read d.seats.items (length d.seats.items) c.in-Some.place s refl low c.index_mut.ensures.value in
+    let e = c.in_ok-add.ensures in
+    ordered d.shared d.seats.items d.turns c.args.by c.in-Some.place s b (λ x. with_operation x c.args.op.now) at low here
+    (added s b c.args.op.now (e.todo ∙ ap (λ (o : Operation). s.todo.items ++ o ∷ []) c.in_ok-op.ensures) e.number e.machine e.lock e.miss)

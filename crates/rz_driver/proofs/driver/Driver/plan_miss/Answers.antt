@@ -1,0 +1,34 @@
+use Rattle.std.proofs.Common.{◌≡◌, ℕ, ◌<◌, length, Some, refl, sym, ◌∙◌, arith}
+use Rattle.std.specs.Prelude.{slice_get}
+use Rattle.std.proofs.lemmas.Option.{slice_get_read}
+use Rattle.rz_play.specs.Lines.{with_miss}
+use Rattle.rz_driver.specs.Seats.{IsSeat}
+use Rattle.rz_driver.specs.Worlds.{place_of}
+use Rattle.rz_driver.proofs.ReadyLemmas.{all-at}
+use Rattle.rz_driver.proofs.OrderLemmas.{ordered, still-ready}
+use Rattle.rz_driver.proofs.ActorOrders.{place-low}
+use Rattle.rz_driver.proofs.driver.Driver.plan_miss.Goals as goal
+
+pub returns-in-Some-clause-ready : goal.returns-in-Some-clause-ready
+returns-in-Some-clause-ready g c =
+    let d = c.args.self.now in
+    let s = c.index_mut.result.now in
+    let at : place_of c.args.by ≡ Some c.in-Some.place = sym c.place.ensures ∙ c.in-Some.is in
+    let row = place-low c.args.by c.in-Some.place at in
+    let count : length d.seats.items ≡ 80 = c.requires.ready.count in
+    let low : c.in-Some.place < length d.seats.items = omega (arith, row, count) in
+    let here : slice_get d.seats.items c.in-Some.place ≡ Some s = slice_get_read d.seats.items (length d.seats.items) c.in-Some.place s refl low c.index_mut.ensures.value in
+    let shape = all-at (IsSeat d.volume.layout) d.seats.items c.in-Some.place s c.requires.ready.seats here in
+    still-ready d _ c.args.by c.in-Some.place s (record s { miss = Some c.args.reply }) c.requires.ready refl refl refl at low here
+    (record { machine = shape.machine; todo = shape.todo }) refl
+
+pub returns-in-Some-clause-played : goal.returns-in-Some-clause-played
+returns-in-Some-clause-played g c =
+    let d = c.args.self.now in
+    let s = c.index_mut.result.now in
+    let at : place_of c.args.by ≡ Some c.in-Some.place = sym c.place.ensures ∙ c.in-Some.is in
+    let row = place-low c.args.by c.in-Some.place at in
+    let count : length d.seats.items ≡ 80 = c.requires.ready.count in
+    let low : c.in-Some.place < length d.seats.items = omega (arith, row, count) in
+    let here : slice_get d.seats.items c.in-Some.place ≡ Some s = slice_get_read d.seats.items (length d.seats.items) c.in-Some.place s refl low c.index_mut.ensures.value in
+    ordered d.shared d.seats.items d.turns c.args.by c.in-Some.place s (record s { miss = Some c.args.reply }) (λ x. with_miss x c.args.reply) at low here refl

@@ -1,0 +1,62 @@
+-- What a message to a node makes of the parts that it uses.
+use Rattle.std.specs.Prelude.{ℕ, Bool, true, false, ◌≡◌, ◌<◌, List, ◌∷◌, Option, Some, None}
+use Rattle.mj_angles.specs.declared.layout.Layout.{Layout}
+use Rattle.mj_angles.specs.Layout.{safe_of}
+use Rattle.rz_link.specs.declared.Sent.{Sent}
+use Rattle.rz_link.specs.declared.Sent.TheVariants as sent
+use Rattle.rz_events.specs.declared.keys.Actor.{Actor}
+use Rattle.rz_events.specs.declared.nodes.NodeAsk.{NodeAsk}
+use Rattle.rz_events.specs.declared.nodes.NodeAsk.TheVariants as ask
+use Rattle.rz_events.specs.declared.nodes.NodeAnswer.{NodeAnswer}
+use Rattle.rz_events.specs.declared.events.Event.{Event}
+use Rattle.rz_events.specs.declared.events.Event.TheVariants as e
+use Rattle.rz_node_model.specs.States.{NodeState}
+use Rattle.rz_node_model.specs.Answers.{IsNodeAnswer}
+use Rattle.rz_node_model.specs.Afterwards.{after_answer}
+use Rattle.rz_node_model.specs.NodeEvents.{node_event}
+use Rattle.rz_operation.specs.Machine.{Machine}
+use Rattle.rz_operation_model.specs.Ask.{AskNode, ask_of}
+use Rattle.rz_operation_model.specs.Steps.{Answered, Missed}
+use Rattle.rz_play.specs.Turns.{IsLost, IsThrough}
+use Rattle.rz_driver.specs.Parts.{IsTold, IsNoted}
+
+-- how a message fares is as a line of the script says, or, where none does, it may be lost if it goes through the link
+abbrev pub Fares : Option Bool → NodeAsk → Sent → Type 0
+Fares miss question sent.Through = IsThrough miss question
+Fares miss question sent.RequestLost = IsLost miss question false
+Fares miss question sent.ReplyLost = IsLost miss question true
+
+-- the machine asks this of the node
+abbrev pub IsAsked : Machine → ℕ → NodeAsk → Type 0
+IsAsked m n question = ask_of m.layout m.work ≡ AskNode n question
+
+-- what is fetched lies at a position of the layout
+abbrev pub IsPlaced : Layout → NodeAsk → Type 0
+IsPlaced layout (ask.Fetch key position stamp) = position < safe_of layout
+IsPlaced layout question = Unit {0}
+
+-- a node answered, in the state that it had, and has the state after it
+pub record IsServed (cells : ℕ) (question : NodeAsk) (given : NodeAnswer) (s s' : NodeState) : Type 0 where
+  pub given_is : IsNodeAnswer cells s question given
+  pub after : s' ≡ after_answer question given s
+
+-- the message came through
+pub record IsThroughPart (by : Actor) (n cells : ℕ) (question : NodeAsk) (s s' : NodeState) (old new : Machine) (log log' : List Event) : Type 0 where
+  pub given : NodeAnswer
+  pub served : IsServed cells question given s s'
+  pub noted : IsNoted (node_event by n question given) log log'
+  pub goes : IsTold old new (Answered true given)
+
+-- its answer was lost
+pub record IsReplyLostPart (by : Actor) (n cells : ℕ) (question : NodeAsk) (s s' : NodeState) (old new : Machine) (log log' : List Event) : Type 0 where
+  pub given : NodeAnswer
+  pub served : IsServed cells question given s s'
+  pub event : Event
+  pub event_is : node_event by n question given ≡ Some event
+  pub noted : log' ≡ e.Missed by n true ∷ event ∷ log
+  pub goes : IsTold old new Missed
+
+-- it was lost itself
+pub record IsRequestLostPart (by : Actor) (n : ℕ) (old new : Machine) (log log' : List Event) : Type 0 where
+  pub noted : log' ≡ e.Missed by n false ∷ log
+  pub goes : IsTold old new Missed

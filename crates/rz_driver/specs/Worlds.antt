@@ -1,0 +1,68 @@
+-- The world of a play that a driver stands for.
+use Rattle.std.specs.Prelude.{ℕ, Bool, true, false, ◌≡◌, ◌+◌, ◌-◌, ◌≤◌, ◌&&◌, nat_le, List, length, Option, Some, None, slice_get}
+use Rattle.std.specs.List.{AllByRecursion}
+use Rattle.std.specs.FinMap.{get}
+use Rattle.mj_angles.specs.Layout.{max_bins_of}
+use Rattle.rz_events.specs.declared.keys.Actor.{Actor}
+use Rattle.rz_events.specs.declared.keys.Actor.TheVariants.{Client, Rebuilder, Admin}
+use Rattle.rz_locks.specs.declared.conflict.Lock.{Lock}
+use Rattle.rz_locks.specs.Held.{Held}
+use Rattle.rz_play.specs.World.{World, Seat as APlayer, empty_seat}
+use Rattle.rz_driver.specs.declared.seat.Seat.{Seat}
+use Rattle.rz_driver.specs.declared.station.Shared.{Shared}
+use Rattle.rz_driver.specs.declared.driver.Driver.{Driver}
+use Rattle.rz_driver.specs.Seats.{seat_of, IsSeat}
+use Rattle.rz_driver.specs.Stations.{state_in, IsStation}
+
+-- Actors stand in a row, the clients 1 to 64 and then the rebuilders 1 to 16.
+
+abbrev pub place_if : Bool → ℕ → Option ℕ
+place_if true place = Some place
+place_if false place = None
+
+abbrev pub place_of : Actor → Option ℕ
+place_of (Client n) = place_if (nat_le 1 n && nat_le n 64) (n - 1)
+place_of (Rebuilder n) = place_if (nat_le 1 n && nat_le n 16) (n + 63)
+place_of Admin = None
+
+abbrev pub seat_there : Option Seat → APlayer
+seat_there None = empty_seat
+seat_there (Some s) = seat_of s
+
+abbrev pub seat_at : List Seat → Option ℕ → APlayer
+seat_at seats None = empty_seat
+seat_at seats (Some place) = seat_there (slice_get seats place)
+
+abbrev pub seat_in : List Seat → Actor → APlayer
+seat_in seats by = seat_at seats (place_of by)
+
+-- what is there between two turns
+abbrev pub world : {D : Type 0} → Shared D → List Seat → ℕ → World
+world p seats turns = record {
+  nodes = state_in p.stations.items;
+  export = p.export;
+  seats = seat_in seats;
+  turns = turns;
+  lost = p.lost;
+  log = p.log.events;
+}
+
+abbrev pub world_of : {D : Type 0} → Driver D → World
+world_of d = world d.shared d.seats.items d.turns
+
+-- the locks are those that the clients note as their own
+abbrev pub AreLocks : Held → List Seat → Type 0
+AreLocks locks seats = (n : ℕ) → get locks n ≡ (seat_in seats (Client n)).lock
+
+-- a rebuilder has no lock
+abbrev pub HaveNoLocks : List Seat → Type 0
+HaveNoLocks seats = (n : ℕ) → (seat_in seats (Rebuilder n)).lock ≡ None
+
+-- A driver between two turns.
+pub record IsDriver {D : Type 0} (d : Driver D) : Type 0 where
+  pub stations : AllByRecursion (IsStation d.volume) d.shared.stations.items
+  pub bins : max_bins_of d.volume.layout ≤ length d.shared.bins.items
+  pub seats : AllByRecursion (IsSeat d.volume.layout) d.seats.items
+  pub count : length d.seats.items ≡ 80
+  pub locks : AreLocks d.shared.locks d.seats.items
+  pub no_locks : HaveNoLocks d.seats.items

@@ -1,0 +1,220 @@
+//! Messages to nodes.
+ghost use Rattle.std.specs.Prelude.{◌≡◌, ◌≢◌, ◌<◌, ◌≤◌, ℕ, true, None, IsTrue, OnOk, OnErr, IfOk, length};
+ghost use Rattle.mj_angles.specs.Layout.{max_bins_of};
+ghost use Rattle.rz_calls.specs.Calls.{IsRecord};
+ghost use Rattle.rz_operation_model.specs.Steps.{Answered};
+ghost use Rattle.rz_operation_model.specs.Turns.{goes_by_link};
+ghost use Rattle.rz_driver.specs.Nodes.{Fares, IsServed, IsAsked, IsPlaced, IsThroughPart, IsReplyLostPart, IsRequestLostPart};
+ghost use Rattle.rz_driver.specs.Parts.{IsTold};
+
+use crate::NoMemory;
+use crate::log::Log;
+use crate::replies::note;
+use crate::words::is_bad;
+use mj_angles::Layout;
+use rz_calls::{answer_node, node_event};
+use rz_disk::Disk;
+use rz_events::{Actor, Event, Head, NodeAnswer, NodeAsk};
+use rz_link::{Link, Sent};
+use rz_node::Node;
+use rz_operation::Machine;
+use std::alloc::Global;
+
+/// Whether the message of a call goes through the link.
+fn by_link(ask: &NodeAsk) -> bool
+    ensures { result ≡ goes_by_link ask.now }
+{
+    match ask {
+        NodeAsk::Keep(_) | NodeAsk::Fetch { .. } | NodeAsk::Refill { .. } | NodeAsk::Drop { .. } =>
+            true,
+        NodeAsk::Probe | NodeAsk::Stop | NodeAsk::Start | NodeAsk::Lose | NodeAsk::Replace { .. } =>
+            false,
+    }
+}
+
+/// How a message fares: as a line of the script says, or as the link does.
+pub(crate) fn fate<L: Link>(miss: Option<bool>, ask: &NodeAsk, node: u16, link: &mut L) -> Sent
+    ensures fares { Fares miss ask.now result }
+    ensures lasting { L.lost link.old ≤ L.lost link.new }
+    ensures risen { miss ≡ None → result ≢ Sent.Through → L.lost link.old < L.lost link.new }
+{
+    if !by_link(ask) {
+        return Sent::Through;
+    }
+    match miss {
+        Some(true) => Sent::ReplyLost,
+        Some(false) => Sent::RequestLost,
+        None => link.send(node),
+    }
+}
+
+/// Whether a head and so many bins are those of a record of this layout.
+#[tactic(auto, unfolding(rz_record::specs::Record::bins_of))]
+fn is_record(layout: Layout, head: &Head, bins: &[u64]) -> bool
+    ensures { IsTrue result → IsRecord layout head.now bins.now }
+{
+    if head.layout != layout || head.bsize != layout.bsize() || head.stamp == 0 {
+        return false;
+    }
+    if usize::from(head.position) >= layout.safe() || head.base >= head.stamp {
+        return false;
+    }
+    head.length as usize <= layout.block_bytes() && bins.len() == layout.bins_at(head.position)
+}
+
+/// Gives a call to a node, with the bins of what it is to keep, or with room for those that it reads.
+fn serve<D: Disk>(
+    alloc: Global,
+    layout: Layout,
+    machine: &Machine,
+    ask: &NodeAsk,
+    node: &mut Node<D>,
+    bins: &mut [u64],
+) -> Result<NodeAnswer, NoMemory>
+    requires layout { node.old.geometry.layout ≡ layout }
+    requires asked { (n : ℕ) × IsAsked machine.now n ask.now }
+    requires room { max_bins_of layout ≤ length bins.old }
+    ensures served { IfOk result (λ a. IsServed node.old.geometry.cells ask.now a node.old.state node.new.state) }
+    ensures geometry { node.new.geometry ≡ node.old.geometry }
+{
+    match ask {
+        NodeAsk::Keep(head) | NodeAsk::Refill { head, .. } => {
+            let given = machine.bins();
+            if !is_record(layout, head, given) || bins.len() < given.len() {
+                return Err(NoMemory);
+            }
+            let own = &mut bins[..given.len()];
+            own.copy_from_slice(given);
+            Ok(answer_node(node, alloc, ask, own))
+        }
+        NodeAsk::Fetch { .. } | NodeAsk::Drop { .. } | NodeAsk::Probe | NodeAsk::Replace { .. } =>
+            Ok(answer_node(node, alloc, ask, bins)),
+        NodeAsk::Stop | NodeAsk::Start | NodeAsk::Lose => Err(NoMemory),
+    }
+}
+
+/// Whether what is fetched lies at a position of the layout.
+fn is_placed(layout: Layout, ask: &NodeAsk) -> bool
+    ensures { IsTrue result → IsPlaced layout ask.now }
+{
+    match ask {
+        NodeAsk::Fetch { position, .. } => usize::from(*position) < layout.safe(),
+        _ => true,
+    }
+}
+
+/// Tells a machine an answer. It does not go on where the records that came fit no block.
+fn tell(
+    layout: Layout,
+    machine: &mut Machine,
+    ask: &NodeAsk,
+    answer: NodeAnswer,
+    bins: &[u64],
+) -> Result<(), NoMemory>
+    requires machine { machine.old.layout ≡ layout }
+    requires asked { (n : ℕ) × IsAsked machine.old n ask.now }
+    ensures { OnOk result (IsTold machine.old machine.new (Answered true answer)) }
+{
+    let most = layout.max_bins();
+    if bins.len() < most || !is_placed(layout, ask) {
+        return Err(NoMemory);
+    }
+    if !machine.takes_answer(&answer) || !machine.has_room() {
+        return Err(NoMemory);
+    }
+    machine.tell_answer(answer, bins);
+    if is_bad(machine) {
+        return Err(NoMemory);
+    }
+    Ok(())
+}
+
+/// The message comes through.
+pub(crate) fn through<D: Disk>(
+    alloc: Global,
+    layout: Layout,
+    by: Actor,
+    number: u16,
+    machine: &mut Machine,
+    ask: NodeAsk,
+    node: &mut Node<D>,
+    bins: &mut [u64],
+    log: &mut Log,
+) -> Result<(), NoMemory>
+    requires layout { node.old.geometry.layout ≡ layout }
+    requires machine { machine.old.layout ≡ layout }
+    requires asked { IsAsked machine.old number ask }
+    requires bins { max_bins_of layout ≤ length bins.old }
+    requires room { 0 < log.old.room }
+    ensures ok { OnOk result (IsThroughPart by number node.old.geometry.cells ask node.old.state node.new.state machine.old machine.new log.old.events log.new.events) }
+    ensures err { OnErr result (log.new.events ≡ log.old.events) }
+    ensures geometry { node.new.geometry ≡ node.old.geometry }
+{
+    let answer = serve(alloc, layout, machine, &ask, node, bins)?;
+    tell(layout, machine, &ask, answer, bins)?;
+    note(node_event(by, number, &ask, &answer), log)
+}
+
+/// The node is given the call, and its answer is lost.
+pub(crate) fn without_reply<D: Disk>(
+    alloc: Global,
+    layout: Layout,
+    by: Actor,
+    number: u16,
+    machine: &mut Machine,
+    ask: NodeAsk,
+    node: &mut Node<D>,
+    bins: &mut [u64],
+    log: &mut Log,
+) -> Result<(), NoMemory>
+    requires layout { node.old.geometry.layout ≡ layout }
+    requires asked { IsAsked machine.old number ask }
+    requires lossy { goes_by_link ask ≡ true }
+    requires bins { max_bins_of layout ≤ length bins.old }
+    requires room { 2 ≤ log.old.room }
+    ensures ok { OnOk result (IsReplyLostPart by number node.old.geometry.cells ask node.old.state node.new.state machine.old machine.new log.old.events log.new.events) }
+    ensures err { OnErr result (log.new.events ≡ log.old.events) }
+    ensures geometry { node.new.geometry ≡ node.old.geometry }
+{
+    if !machine.has_room() {
+        return Err(NoMemory);
+    }
+    let answer = serve(alloc, layout, machine, &ask, node, bins)?;
+    let Some(event) = node_event(by, number, &ask, &answer) else {
+        return Err(NoMemory);
+    };
+    machine.tell_missed();
+    log.note_two(
+        event,
+        Event::Missed {
+            by,
+            node: number,
+            reply: true,
+        },
+    )
+}
+
+/// The message is lost.
+pub(crate) fn without_request(
+    by: Actor,
+    number: u16,
+    machine: &mut Machine,
+    ask: NodeAsk,
+    log: &mut Log,
+) -> Result<(), NoMemory>
+    requires asked { IsAsked machine.old number ask }
+    requires lossy { goes_by_link ask ≡ true }
+    requires room { 0 < log.old.room }
+    ensures ok { OnOk result (IsRequestLostPart by number machine.old machine.new log.old.events log.new.events) }
+    ensures err { OnErr result (log.new.events ≡ log.old.events) }
+{
+    if !machine.has_room() {
+        return Err(NoMemory);
+    }
+    machine.tell_missed();
+    log.note(Event::Missed {
+        by,
+        node: number,
+        reply: false,
+    })
+}

@@ -1,0 +1,111 @@
+//! What the script orders of an actor.
+ghost use Rattle.std.specs.Prelude.{◌≡◌, IfOk, OnOk, OnErr};
+ghost use Rattle.rz_script.specs.Lines.{IsLine};
+ghost use Rattle.rz_script.specs.declared.line.Line.TheVariants as line;
+ghost use Rattle.rz_play.specs.Lines.{PlaysLine};
+ghost use Rattle.rz_driver.specs.Worlds.{world_of, IsDriver};
+
+use crate::NoMemory;
+use crate::driver::{Driver, place};
+use rz_disk::Disk;
+use rz_events::{Actor, Datum, Operation};
+use std::alloc::{AllocError, Global};
+
+impl<D: Disk> Driver<D> {
+    /// The operation goes to the end of the actor's list.
+    pub(crate) fn add_operation(&mut self, by: Actor, op: &Operation) -> Result<(), NoMemory>
+        requires ready { IsDriver self.old }
+        requires line { IsLine self.old.volume (line.Op by op.now) }
+        ensures volume { self.new.volume ≡ self.old.volume }
+        ensures ready { OnOk result (IsDriver self.new) }
+        ensures played { OnOk result (PlaysLine self.old.volume (line.Op by op.now) (world_of self.old) (world_of self.new)) }
+        ensures log { OnErr result (self.new.shared.log.events ≡ self.old.shared.log.events) }
+    {
+        let Some(place) = place(by) else {
+            return Err(NoMemory);
+        };
+        let op = copy_operation(self.alloc, op)?;
+        self.seats[place].add(op)?;
+        Ok(())
+    }
+
+    /// The actor's next message is to be lost.
+    pub(crate) fn plan_miss(&mut self, by: Actor, reply: bool)
+        requires ready { IsDriver self.old }
+        requires line { IsLine self.old.volume (line.Miss by reply) }
+        ensures volume { self.new.volume ≡ self.old.volume }
+        ensures ready { IsDriver self.new }
+        ensures played { PlaysLine self.old.volume (line.Miss by reply) (world_of self.old) (world_of self.new) }
+    {
+        if let Some(place) = place(by) {
+            self.seats[place].miss = Some(reply);
+        }
+    }
+}
+
+/// The same operation, in new memory.
+fn copy_operation(alloc: Global, op: &Operation) -> Result<Operation, AllocError>
+    ensures { IfOk result (λ o. o ≡ op.now) }
+{
+    Ok(match op {
+        Operation::Tree(call) => Operation::Tree(call.copy(alloc)?),
+        Operation::Put { path, block, datum } => Operation::Put {
+            path: path.copy(alloc)?,
+            block: *block,
+            datum: copy_datum(alloc, datum)?,
+        },
+        Operation::Get { path, block } => Operation::Get {
+            path: path.copy(alloc)?,
+            block: *block,
+        },
+        Operation::Write {
+            path,
+            offset,
+            datum,
+        } => Operation::Write {
+            path: path.copy(alloc)?,
+            offset: *offset,
+            datum: copy_datum(alloc, datum)?,
+        },
+        Operation::Read {
+            path,
+            offset,
+            length,
+        } => Operation::Read {
+            path: path.copy(alloc)?,
+            offset: *offset,
+            length: *length,
+        },
+        Operation::Rebuild { node } => Operation::Rebuild { node: *node },
+        Operation::Update {
+            path,
+            offset,
+            datum,
+        } => Operation::Update {
+            path: path.copy(alloc)?,
+            offset: *offset,
+            datum: copy_datum(alloc, datum)?,
+        },
+        Operation::View {
+            path,
+            offset,
+            length,
+        } => Operation::View {
+            path: path.copy(alloc)?,
+            offset: *offset,
+            length: *length,
+        },
+    })
+}
+
+fn copy_datum(alloc: Global, datum: &Datum) -> Result<Datum, AllocError>
+    ensures { IfOk result (λ d. d ≡ datum.now) }
+{
+    Ok(match datum {
+        Datum::Bytes(text) => Datum::Bytes(text.copy(alloc)?),
+        Datum::Made { length, seed } => Datum::Made {
+            length: *length,
+            seed: *seed,
+        },
+    })
+}
