@@ -1,2 +1,4 @@
 pub mod Output
 pub mod Telling
+pub mod Houses
+pub mod Replays

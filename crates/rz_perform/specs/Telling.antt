@@ -8,12 +8,20 @@ use Rattle.rz_lines.specs.Ends.{IsEnded}
 use Rattle.rz_lines.specs.declared.lines.PlayEnd.{PlayEnd}
 use Rattle.rz_lines.specs.declared.lines.PlayEnd.TheVariants.{Ended, TooManyTurns, NoMemory}
 use Rattle.rz_show.specs.Text.{text_of}
+use Rattle.rz_summary.specs.Summary.{summary_of}
 use Rattle.rz_request.specs.Refusals.{line_of, status_of}
 use Rattle.rz_request.specs.declared.refusal.Refusal.{Refusal}
 use Rattle.rz_request.specs.declared.refusal.Refusal.TheVariants.{Turns}
 use Rattle.rz_request.specs.declared.refusal.Stop.{Stop}
 use Rattle.rz_request.specs.declared.refusal.Stop.TheVariants as stops
+use Rattle.rz_request.specs.declared.wishes.Wish.{Wish}
+use Rattle.rz_request.specs.declared.wishes.Wish.TheVariants.{Replay, Load}
 use Rattle.rz_perform.specs.Output.{Sunk, Ends, Lacks}
+
+-- what is printed of the log of a whole play, the oldest event first: its text, or the line of the workload
+abbrev pub text_told : Wish → List Event → List ℕ
+text_told Replay log = text_of log true
+text_told (Load seed) log = summary_of seed log
 
 -- what is printed of a play that was cut off before a turn too many: the text so far, and the line of the refusal
 abbrev pub text_so_far : List Event → List ℕ
@@ -21,16 +29,16 @@ text_so_far log = text_of log false ++ line_of Turns
 
 -- The status, and what the sink took, by how the play ended: the text with status 0, the text so far with status 8. Memory may
 -- be wanting at any of these.
-abbrev pub Tells : PlayEnd → List Event → Sunk → ℕ → Type 0
-Tells Ended log sink status = Ends sink 0 (text_of log true) status ⊎ Lacks sink status
-Tells TooManyTurns log sink status = Ends sink 8 (text_so_far log) status ⊎ Lacks sink status
-Tells NoMemory log sink status = Lacks sink status
+abbrev pub Tells : PlayEnd → Wish → List Event → Sunk → ℕ → Type 0
+Tells Ended wish log sink status = Ends sink 0 (text_told wish log) status ⊎ Lacks sink status
+Tells TooManyTurns wish log sink status = Ends sink 8 (text_so_far log) status ⊎ Lacks sink status
+Tells NoMemory wish log sink status = Lacks sink status
 
 -- A script was played to some end, told with its log, the newest event first. Over disks that tell their texts the log is that
 -- of the script's play.
-abbrev pub Performs : Bool → Volume → List Line → List Event → Sunk → ℕ → Type 0
-Performs tells v lines h sink status =
-    (end : PlayEnd) × (IsTrue tells → IsEnded v (new_world v) lines end h) × Tells end (reverse h) sink status
+abbrev pub Performs : Bool → Volume → List Line → Wish → List Event → Sunk → ℕ → Type 0
+Performs tells v lines wish h sink status =
+    (end : PlayEnd) × (IsTrue tells → IsEnded v (new_world v) lines end h) × Tells end wish (reverse h) sink status
 
 -- the line of a refusal was to be written with its status, or there was no memory
 abbrev pub Refuses : Refusal → Sunk → ℕ → Type 0

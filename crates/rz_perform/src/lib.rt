@@ -4,17 +4,22 @@
 //! which text was then to be written, and with which status: 0 with the text of the log at its end, 8
 //! with the text so far before a turn too many, 70 where memory was wanting, and 5 where the sink
 //! failed. Over disks that tell their texts it says that the log is that of the script's play, that it is
-//! legal and sound, and that each finished rebuild is whole. [`refuse`] and [`stop`] write what is told
-//! where nothing is played. It does not say what a real file or terminal takes, nor that there is memory.
+//! legal and sound, and that each finished rebuild is whole. [`replay`] is over any [`House`], disks on
+//! which such a stage can be made: it answers the words and the input, and performs what they ask for.
+//! It does not say what a real file or terminal takes, nor that there is memory.
 //!
-//! In reading order: `output`, `telling`, `stages`, `performing`.
+//! In reading order: `output`, `telling`, `stages`, `performing`, `houses`, `replaying`.
 #![tactic(auto)]
 
+mod houses;
 mod output;
 mod performing;
+mod replaying;
 mod stages;
 mod telling;
 
+pub use houses::{House, NoStage};
 pub use performing::perform;
+pub use replaying::{Played, replay};
 pub use stages::LoggedStage;
 pub use telling::{refuse, stop};

@@ -13,6 +13,7 @@ use crate::telling::tell;
 use rz_lines::play;
 use rz_link::Link;
 use rz_ports::Sink;
+use rz_request::Wish;
 use rz_script::Script;
 use std::alloc::Global;
 
@@ -20,6 +21,7 @@ use std::alloc::Global;
 /// told of the play, and gives the status.
 pub fn perform<S: LoggedStage, L: Link, O: Sink>(
     alloc: Global,
+    wish: Wish,
     script: &Script,
     stage: &mut S,
     link: &mut L,
@@ -29,7 +31,7 @@ pub fn perform<S: LoggedStage, L: Link, O: Sink>(
     requires volume { S.volume stage.old ≡ script.now.volume }
     requires rules { IsVolume script.now.volume }
     requires new { S.world stage.old ≡ new_world script.now.volume }
-    ensures performed { Performs S.tells script.now.volume script.now.lines (S.world stage.new).log (record { before = O.taken output.old; after = O.taken output.new; old = O.faults output.old; new = O.faults output.new }) result }
+    ensures performed { Performs S.tells script.now.volume script.now.lines wish (S.world stage.new).log (record { before = O.taken output.old; after = O.taken output.new; old = O.faults output.old; new = O.faults output.new }) result }
     ensures legal { IsTrue S.tells → IsLegal script.now.volume (S.world stage.new).log }
     ensures sound { IsTrue S.tells → IsSound script.now.volume (S.world stage.new).log }
     ensures rebuilt { IsTrue S.tells → AreRebuilt (S.world stage.new).log }
@@ -40,5 +42,5 @@ pub fn perform<S: LoggedStage, L: Link, O: Sink>(
     rz_play_laws::sound();
     rz_play_laws::rebuilt();
     let end = play(stage, script.lines(), link);
-    tell(alloc, end, stage.log(), output)
+    tell(alloc, end, wish, stage.log(), output)
 }

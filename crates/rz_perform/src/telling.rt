@@ -1,15 +1,26 @@
 //! What is written of a play, and of a refusal.
 
 ghost use Rattle.std.specs.Prelude.{◌≡◌, IfOk};
-ghost use Rattle.rz_perform.specs.Telling.{Refuses, Stops, Tells, text_so_far};
+ghost use Rattle.rz_perform.specs.Telling.{Refuses, Stops, Tells, text_so_far, text_told};
 
 use crate::output::finish;
 use rz_events::Event;
 use rz_lines::PlayEnd;
 use rz_ports::Sink;
-use rz_request::{Refusal, Stop};
+use rz_request::{Refusal, Stop, Wish};
 use rz_show::show;
+use rz_summary::summary;
 use std::alloc::{AllocError, Global};
+
+/// What is printed of the log of a whole play.
+fn text_told(alloc: Global, wish: Wish, log: &[Event]) -> Result<Vec<u8>, AllocError>
+    ensures { IfOk result (λ t. t.items ≡ text_told wish log.now) }
+{
+    match wish {
+        Wish::Replay => show(alloc, log, true),
+        Wish::Load { seed } => summary(alloc, seed, log),
+    }
+}
 
 /// What is printed of a play that was cut off before a turn too many.
 fn text_so_far(alloc: Global, log: &[Event]) -> Result<Vec<u8>, AllocError>
@@ -21,11 +32,11 @@ fn text_so_far(alloc: Global, log: &[Event]) -> Result<Vec<u8>, AllocError>
 }
 
 /// Writes what is to be told of a play, and gives the status.
-pub fn tell<O: Sink>(alloc: Global, end: PlayEnd, log: &[Event], output: &mut O) -> u8
-    ensures { Tells end log.now (record { before = O.taken output.old; after = O.taken output.new; old = O.faults output.old; new = O.faults output.new }) result }
+pub fn tell<O: Sink>(alloc: Global, end: PlayEnd, wish: Wish, log: &[Event], output: &mut O) -> u8
+    ensures { Tells end wish log.now (record { before = O.taken output.old; after = O.taken output.new; old = O.faults output.old; new = O.faults output.new }) result }
 {
     match end {
-        PlayEnd::Ended => match show(alloc, log, true) {
+        PlayEnd::Ended => match text_told(alloc, wish, log) {
             Ok(text) => finish(output, 0, &text),
             Err(_) => 70,
         },
