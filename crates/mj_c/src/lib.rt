@@ -227,6 +227,3 @@ pub extern "C" fn mj_c_bins(layout: u32, position: u32) -> usize
         _ => 0,
     }
 }
-
-#[cfg(test)]
-mod tests;

@@ -9,6 +9,3 @@
 mod batch;
 
 pub use batch::Batch;
-
-#[cfg(test)]
-mod tests;
