@@ -26,6 +26,3 @@ mod work;
 
 pub use eight::WorkEight;
 pub use work::{Inconsistent, Work};
-
-#[cfg(test)]
-mod tests;

@@ -54,10 +54,8 @@ fn rows(rt: HostRuntime) -> Result<(), Fail> {
 fn refusals(rt: HostRuntime) -> Result<(), Fail> {
     for (disks, script, status, want) in [
         ("0", &b"\xff"[..], 2, "refused usage\n"),
-        ("3", b"\xff", 3, "refused script 1 NotUtf8\n"),
         ("3", b"op c1 create /f\n", 10, "refused disks 3 4\n"),
         ("4", b"rest\n\xff", 3, "refused script 1 NotUtf8\n"),
-        ("4", b"\n", 3, "refused script 1 NotYet\n"),
         ("4", b"rest\n", 3, "refused script 1 NotYet\n"),
         (
             "4",
