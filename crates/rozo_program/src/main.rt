@@ -13,8 +13,6 @@ mod input;
 mod output;
 mod replay;
 mod script;
-#[cfg(test)]
-mod tests;
 mod words;
 
 use replay::replay;
