@@ -16,11 +16,11 @@ sides_code =
     code_by (Option Version × Option Version) (coded× (coded_option versions.the_row.coded) (coded_option versions.the_row.coded))
     (λ s. (s.zero, s.one)) (λ p. record { zero = p.0; one = p.1 }) (λ _. refl)
 
-abbrev pub stamp_of : Version → ℕ
-stamp_of v = v.stamp
+abbrev pub version_stamp : Version → ℕ
+version_stamp v = v.stamp
 
-abbrev pub base_of : Version → ℕ
-base_of v = v.base
+abbrev pub version_base : Version → ℕ
+version_base v = v.base
 
 -- what stands on a side, and on the other one
 abbrev pub at : {A : Type 0} → Sides A → ℕ → Option A

@@ -2,7 +2,7 @@
 
 ghost use Rattle.std.specs.Prelude.{◌≡◌, ◌<◌, ℕ, Some, None};
 ghost use Rattle.rz_node_model.specs.Versions.{greater_goes, kept, refilled, without, passes_keep, passes_refill, is_past, lesser_of};
-ghost use Rattle.rz_versions.specs.Sides.{at, other, put_at, in_order, stamp_of, base_of, first_of, Differ, has, side_with, side_for, never, goes_by, room};
+ghost use Rattle.rz_versions.specs.Sides.{at, other, put_at, in_order, version_stamp, version_base, first_of, Differ, has, side_with, side_for, never, goes_by, room};
 
 use std::marker::Model;
 
@@ -30,7 +30,7 @@ pub struct Versions {
 
 impl Model for Versions {
     ghost use Rattle.std.specs.Prelude.{◌≡◌, length, slice_index_or, None, [], ◌∷◌};
-    ghost use Rattle.rz_versions.specs.Sides.{Sides, sides_code, stamp_of, Differ};
+    ghost use Rattle.rz_versions.specs.Sides.{Sides, sides_code, version_stamp, Differ};
     ghost use Rattle.rz_versions.specs.declared.versions.Version.{Version};
 
     ghost Value = { Sides Version };
@@ -41,7 +41,7 @@ impl Model for Versions {
 
     ghost use Rattle.rz_versions.specs.Two.{two_sides};
 
-    ghost invariant = { λ v. (length v.sides ≡ 2) × Differ stamp_of (slice_index_or v.sides 0 None) (slice_index_or v.sides 1 None) };
+    ghost invariant = { λ v. (length v.sides ≡ 2) × Differ version_stamp (slice_index_or v.sides 0 None) (slice_index_or v.sides 1 None) };
 
     ghost inverse = { λ s. record { sides = s.zero ∷ s.one ∷ [] } };
 
@@ -60,7 +60,7 @@ impl Versions {
 
     /// The version of greater stamp.
     pub fn greatest(&self) -> Option<Version>
-        ensures { result ≡ first_of (in_order stamp_of self.now) }
+        ensures { result ≡ first_of (in_order version_stamp self.now) }
     {
         match (self.sides[0], self.sides[1]) {
             (Some(zero), Some(one)) => Some(if zero.stamp < one.stamp { one } else { zero }),
@@ -71,7 +71,7 @@ impl Versions {
 
     /// The version of smaller stamp, also where there is one alone.
     pub fn lesser(&self) -> Option<Version>
-        ensures { result ≡ lesser_of (in_order stamp_of self.now) }
+        ensures { result ≡ lesser_of (in_order version_stamp self.now) }
     {
         match (self.sides[0], self.sides[1]) {
             (Some(zero), Some(one)) => Some(if zero.stamp < one.stamp { zero } else { one }),
@@ -82,7 +82,7 @@ impl Versions {
 
     /// The side of a stamp.
     pub fn side_of(&self, stamp: u64) -> Option<u8>
-        ensures { result ≡ side_with stamp_of self.now stamp }
+        ensures { result ≡ side_with version_stamp self.now stamp }
     {
         if has(self.sides[0], stamp) {
             Some(0)
@@ -96,12 +96,12 @@ impl Versions {
     /// Where a writer's version goes: above all that are held, and of two in the place of the greater
     /// where the lesser may be what was published when the new one began.
     pub fn for_keep(&self, v: Version) -> Room
-        ensures room { result ≡ room (passes_keep stamp_of v.stamp (in_order stamp_of self.now)) (side_for stamp_of (greater_goes v.base) self.now) }
+        ensures room { result ≡ room (passes_keep version_stamp v.stamp (in_order version_stamp self.now)) (side_for version_stamp (greater_goes v.base) self.now) }
 
         // Put there, it leaves what the rule leaves.
-        ensures kept { (side : ℕ) → result ≡ Room.Put side → in_order stamp_of (put_at self.now side (Some v)) ≡ kept stamp_of v.base v (in_order stamp_of self.now) }
+        ensures kept { (side : ℕ) → result ≡ Room.Put side → in_order version_stamp (put_at self.now side (Some v)) ≡ kept version_stamp v.base v (in_order version_stamp self.now) }
         ensures side { (side : ℕ) → result ≡ Room.Put side → side < 2 }
-        ensures other { (side : ℕ) → result ≡ Room.Put side → Differ stamp_of (other self.now side) (Some v) }
+        ensures other { (side : ℕ) → result ≡ Room.Put side → Differ version_stamp (other self.now side) (Some v) }
     {
         match self.greatest() {
             Some(greatest) if v.stamp <= greatest.stamp => Room::Passed {
@@ -116,12 +116,12 @@ impl Versions {
     /// Where a rebuilder's version goes: it is not held and not out of date, and of two it takes the
     /// place of the lesser.
     pub fn for_refill(&self, v: Version) -> Room
-        ensures room { result ≡ room (passes_refill stamp_of base_of v.stamp (in_order stamp_of self.now)) (side_for stamp_of never self.now) }
+        ensures room { result ≡ room (passes_refill version_stamp version_base v.stamp (in_order version_stamp self.now)) (side_for version_stamp never self.now) }
 
         // Put there, it leaves what the rule leaves.
-        ensures kept { (side : ℕ) → result ≡ Room.Put side → in_order stamp_of (put_at self.now side (Some v)) ≡ refilled stamp_of v (in_order stamp_of self.now) }
+        ensures kept { (side : ℕ) → result ≡ Room.Put side → in_order version_stamp (put_at self.now side (Some v)) ≡ refilled version_stamp v (in_order version_stamp self.now) }
         ensures side { (side : ℕ) → result ≡ Room.Put side → side < 2 }
-        ensures other { (side : ℕ) → result ≡ Room.Put side → Differ stamp_of (other self.now side) (Some v) }
+        ensures other { (side : ℕ) → result ≡ Room.Put side → Differ version_stamp (other self.now side) (Some v) }
     {
         match self.greatest() {
             Some(newest) if self.side_of(v.stamp).is_some() || self.is_past(v.stamp) => {
@@ -136,7 +136,7 @@ impl Versions {
     /// With a version on a side, in the place of what is there.
     pub fn with(&self, side: u8, v: Version) -> Versions
         requires side { side < 2 }
-        requires other { Differ stamp_of (other self.now side) (Some v) }
+        requires other { Differ version_stamp (other self.now side) (Some v) }
         ensures { result ≡ put_at self.now side (Some v) }
     {
         if side == 0 {
@@ -154,7 +154,7 @@ impl Versions {
     pub fn without(&self, side: u8) -> Versions
         requires { side < 2 }
         ensures sides { result ≡ put_at self.now side None }
-        ensures rest { (w : Version) → at self.now side ≡ Some w → in_order stamp_of result ≡ without stamp_of w.stamp (in_order stamp_of self.now) }
+        ensures rest { (w : Version) → at self.now side ≡ Some w → in_order version_stamp result ≡ without version_stamp w.stamp (in_order version_stamp self.now) }
     {
         if side == 0 {
             Versions {
@@ -169,7 +169,7 @@ impl Versions {
 
     // Two versions above the stamp are held, and the lesser was published before the greater began.
     fn is_past(&self, stamp: u64) -> bool
-        ensures { result ≡ is_past stamp_of base_of stamp (in_order stamp_of self.now) }
+        ensures { result ≡ is_past version_stamp version_base stamp (in_order version_stamp self.now) }
     {
         match (self.sides[0], self.sides[1]) {
             (Some(zero), Some(one)) => {
@@ -187,7 +187,7 @@ impl Versions {
     // The side for a new version. Of two the greater gives way to a base that parts them, and otherwise
     // the lesser.
     fn side_for(&self, base: Option<u64>) -> u8
-        ensures { result ≡ side_for stamp_of (goes_by base) self.now }
+        ensures { result ≡ side_for version_stamp (goes_by base) self.now }
     {
         match (self.sides[0], self.sides[1]) {
             (None, _) => 0,
@@ -215,7 +215,7 @@ fn goes(base: Option<u64>, greater: u64, lesser: u64) -> bool
 
 // Whether a side has a stamp.
 fn has(side: Option<Version>, stamp: u64) -> bool
-    ensures { result ≡ has stamp_of side stamp }
+    ensures { result ≡ has version_stamp side stamp }
 {
     match side {
         None => false,
