@@ -1,5 +1,5 @@
 //! What a script is played on.
-ghost use Rattle.std.specs.Prelude.{◌≡◌, ◌<◌, Bool, IsTrue, OnOk, OnErr};
+ghost use Rattle.std.specs.Prelude.{◌≡◌, ◌<◌, Bool, IsTrue, OnOk, OnErr, reverse};
 ghost use Rattle.rz_events.specs.Volume.{Volume};
 ghost use Rattle.rz_script.specs.Lines.{IsActor, IsLine};
 ghost use Rattle.rz_script.specs.declared.line.Line.{Line};
@@ -9,7 +9,7 @@ ghost use Rattle.rz_play.specs.Turns.{IsTurn};
 ghost use Rattle.rz_play.specs.Lines.{PlaysLine};
 ghost use Rattle.rz_play.specs.Stops.{most_turns};
 
-use rz_events::{Actor, Operation};
+use rz_events::{Actor, Event, Operation};
 use rz_link::Link;
 use std::alloc::AllocError;
 
@@ -112,4 +112,11 @@ pub trait Stage {
         ensures ready { OnOk result (is_ready self.new) }
         ensures played { OnOk result (PlaysLine (volume self.old) (line.Break node passes pick) (world self.old) (world self.new)) }
         ensures log { OnErr result ((world self.new).log ≡ (world self.old).log) };
+}
+
+/// A stage whose log can be read.
+pub trait LoggedStage: Stage {
+    /// The log, the oldest event first.
+    fn log(&self) -> &[Event]
+        ensures { result.now ≡ reverse (Self.world self.now).log };
 }

@@ -5,8 +5,8 @@ ghost use Rattle.rz_events.specs.Volume.{IsVolume, nodes_of};
 ghost use Rattle.rz_play.specs.World.{new_world};
 ghost use Rattle.rz_perform.specs.Houses.{IsAtFault};
 
-use crate::stages::LoggedStage;
 use rz_events::Event;
+use rz_lines::LoggedStage;
 use rz_script::Volume;
 use std::alloc::Global;
 

@@ -8,18 +8,17 @@
 //! which such a stage can be made: it answers the words and the input, and performs what they ask for.
 //! It does not say what a real file or terminal takes, nor that there is memory.
 //!
-//! In reading order: `output`, `telling`, `stages`, `performing`, `houses`, `replaying`.
+//! In reading order: `output`, `telling`, `performing`, `houses`, `replaying`.
 #![tactic(auto)]
 
 mod houses;
 mod output;
 mod performing;
 mod replaying;
-mod stages;
 mod telling;
 
 pub use houses::{House, NoStage};
 pub use performing::perform;
 pub use replaying::{Played, replay};
-pub use stages::LoggedStage;
+pub use rz_lines::LoggedStage;
 pub use telling::{refuse, stop};

@@ -8,9 +8,8 @@ ghost use Rattle.rz_safety.specs.Rebuilt.{AreRebuilt};
 ghost use Rattle.rz_safety.specs.Sound.{IsSound};
 ghost use Rattle.rz_perform.specs.Telling.{Performs};
 
-use crate::stages::LoggedStage;
 use crate::telling::tell;
-use rz_lines::play;
+use rz_lines::{LoggedStage, play};
 use rz_link::Link;
 use rz_ports::Sink;
 use rz_request::Wish;

@@ -7,9 +7,9 @@ ghost use Rattle.rz_perform.specs.Replays.{Follows, IsTold, Opens, Replays};
 
 use crate::houses::{House, NoStage};
 use crate::performing::perform;
-use crate::stages::LoggedStage;
 use crate::telling::{refuse, stop};
 use rz_events::Event;
+use rz_lines::LoggedStage;
 use rz_link::Link;
 use rz_ports::{Sink, Source};
 use rz_request::{Refusal, Request, request};
