@@ -1,5 +1,5 @@
 //! What a script is played on.
-ghost use Rattle.std.specs.Prelude.{◌≡◌, ◌<◌, Bool, IsTrue, OnOk, OnErr, reverse};
+ghost use Rattle.std.specs.Prelude.{◌≡◌, ◌<◌, ◌≤◌, ◌+◌, Bool, IsTrue, OnOk, OnErr, reverse};
 ghost use Rattle.rz_events.specs.Volume.{Volume};
 ghost use Rattle.rz_script.specs.Lines.{IsActor, IsLine};
 ghost use Rattle.rz_script.specs.declared.line.Line.{Line};
@@ -8,6 +8,7 @@ ghost use Rattle.rz_play.specs.World.{World, has_work};
 ghost use Rattle.rz_play.specs.Turns.{IsTurn};
 ghost use Rattle.rz_play.specs.Lines.{PlaysLine};
 ghost use Rattle.rz_play.specs.Stops.{most_turns};
+ghost use Rattle.rz_lines.specs.Ends.{TellsOf};
 
 use rz_events::{Actor, Event, Operation};
 use rz_link::Link;
@@ -25,8 +26,8 @@ impl From<AllocError> for NoMemory {
 
 /// Nodes, an export and actors that a script is played on.
 ///
-/// After want of memory the log has every event that happened, and it is as before the call. The rest
-/// may be anything, so nothing more is played then.
+/// After want of memory the log has every event that happened. It is as before the call, and so is the
+/// count of the messages that the link lost. The rest may be anything, so nothing more is played then.
 pub trait Stage {
     /// Whether its disks tell their texts. What a start finds is said of such disks alone.
     ghost tells: { Bool };
@@ -57,7 +58,8 @@ pub trait Stage {
         ensures volume { volume self.new ≡ volume self.old }
         ensures ready { OnOk result (is_ready self.new) }
         ensures taken { OnOk result (IsTurn (volume self.old) by (world self.old) (world self.new)) }
-        ensures log { OnErr result ((world self.new).log ≡ (world self.old).log) };
+        ensures lost { (world self.new).lost + L.lost link.old ≤ (world self.old).lost + L.lost link.new }
+        ensures log { OnErr result (TellsOf (world self.old) (world self.new)) };
 
     /// The operation goes to the end of the actor's list.
     fn add(&mut self, by: Actor, op: &Operation) -> Result<(), NoMemory>
@@ -66,6 +68,7 @@ pub trait Stage {
         ensures volume { volume self.new ≡ volume self.old }
         ensures ready { OnOk result (is_ready self.new) }
         ensures played { OnOk result (PlaysLine (volume self.old) (line.Op by op.now) (world self.old) (world self.new)) }
+        ensures lost { (world self.new).lost ≡ (world self.old).lost }
         ensures log { OnErr result ((world self.new).log ≡ (world self.old).log) };
 
     /// The actor's next message is to be lost.
@@ -74,6 +77,7 @@ pub trait Stage {
         requires line { IsLine (volume self.old) (line.Miss by reply) }
         ensures volume { volume self.new ≡ volume self.old }
         ensures ready { is_ready self.new }
+        ensures lost { (world self.new).lost ≡ (world self.old).lost }
         ensures played { PlaysLine (volume self.old) (line.Miss by reply) (world self.old) (world self.new) };
 
     /// The node stops.
@@ -83,6 +87,7 @@ pub trait Stage {
         ensures volume { volume self.new ≡ volume self.old }
         ensures ready { OnOk result (is_ready self.new) }
         ensures played { OnOk result (PlaysLine (volume self.old) (line.Stop node) (world self.old) (world self.new)) }
+        ensures lost { (world self.new).lost ≡ (world self.old).lost }
         ensures log { OnErr result ((world self.new).log ≡ (world self.old).log) };
 
     /// The node starts again.
@@ -93,6 +98,7 @@ pub trait Stage {
         ensures ready { OnOk result (is_ready self.new) }
         ensures played { OnOk result (IsTrue Self.tells → PlaysLine (volume self.old) (line.Start node) (world self.old) (world self.new)) }
         ensures turns { OnOk result ((world self.new).turns ≡ (world self.old).turns) }
+        ensures lost { (world self.new).lost ≡ (world self.old).lost }
         ensures log { OnErr result ((world self.new).log ≡ (world self.old).log) };
 
     /// The node loses its disk.
@@ -102,6 +108,7 @@ pub trait Stage {
         ensures volume { volume self.new ≡ volume self.old }
         ensures ready { OnOk result (is_ready self.new) }
         ensures played { OnOk result (PlaysLine (volume self.old) (line.Lose node) (world self.old) (world self.new)) }
+        ensures lost { (world self.new).lost ≡ (world self.old).lost }
         ensures log { OnErr result ((world self.new).log ≡ (world self.old).log) };
 
     /// The node's disk lets so many device calls pass, and its next crash picks by `pick`.
@@ -111,6 +118,7 @@ pub trait Stage {
         ensures volume { volume self.new ≡ volume self.old }
         ensures ready { OnOk result (is_ready self.new) }
         ensures played { OnOk result (PlaysLine (volume self.old) (line.Break node passes pick) (world self.old) (world self.new)) }
+        ensures lost { (world self.new).lost ≡ (world self.old).lost }
         ensures log { OnErr result ((world self.new).log ≡ (world self.old).log) };
 }
 
