@@ -1,3 +1,4 @@
 pub mod Streams
 pub mod Begun
 pub mod Untold
+pub mod Completing

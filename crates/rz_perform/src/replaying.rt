@@ -1,9 +1,10 @@
 //! The replay of what words and an input ask for, over the disks of a house.
 
-ghost use Rattle.std.specs.Prelude.{◌≡◌, [], map, reverse, string_bytes};
+ghost use Rattle.std.specs.Prelude.{◌≡◌, ◌-◌, [], map, reverse, string_bytes};
 ghost use Rattle.rz_command.specs.Line.{meaning};
 ghost use Rattle.rz_request.specs.Requests.{nodes_in};
-ghost use Rattle.rz_perform.specs.Replays.{Follows, IsTold, Opens, Replays};
+ghost use Rattle.rz_perform.specs.Replays.{Follows, Opens, Replays};
+ghost use Rattle.rz_perform.specs.Told.{IsTold};
 
 use crate::houses::{House, NoStage};
 use crate::performing::perform;
@@ -42,7 +43,7 @@ fn play_request<S: LoggedStage, H: House<S>, L: Link, O: Sink>(
     output: &mut O,
 ) -> Played
     requires { H.disks house.old ≡ nodes_in request.now.script }
-    ensures { Follows S.tells request.now (H.faults house.old) (H.faults house.new) (record { before = O.taken output.old; after = O.taken output.new; old = O.faults output.old; new = O.faults output.new }) result.status (reverse result.log.items) }
+    ensures { Follows S.tells request.now (record { count = H.disks house.old; old = H.faults house.old; new = H.faults house.new }) (L.lost link.new - L.lost link.old) (record { before = O.taken output.old; after = O.taken output.new; old = O.faults output.old; new = O.faults output.new }) result.status (reverse result.log.items) }
 {
     let _nodes = request.script.volume().node_count();
     match house.open(alloc, request.script.volume()) {
@@ -76,7 +77,7 @@ pub fn replay<I: Source, S: LoggedStage, H: House<S>, L: Link, O: Sink>(
     link: &mut L,
     output: &mut O,
 ) -> Played
-    ensures { Replays S.tells (meaning (map string_bytes words.now)) (record { before = I.left input.old; after = I.left input.new; old = I.faults input.old; new = I.faults input.new }) (H.disks house.old) (H.faults house.old) (H.faults house.new) (record { before = O.taken output.old; after = O.taken output.new; old = O.faults output.old; new = O.faults output.new }) result.status (reverse result.log.items) }
+    ensures { Replays S.tells (meaning (map string_bytes words.now)) (record { before = I.left input.old; after = I.left input.new; old = I.faults input.old; new = I.faults input.new }) (record { count = H.disks house.old; old = H.faults house.old; new = H.faults house.new }) (L.lost link.new - L.lost link.old) (record { before = O.taken output.old; after = O.taken output.new; old = O.faults output.old; new = O.faults output.new }) result.status (reverse result.log.items) }
 {
     let disks = house.count();
     match request(alloc, words, input, disks) {
