@@ -6,23 +6,19 @@
 //! failed. Over disks that tell their texts it says that the log is that of the script's play and that
 //! what it says is true (`specs/Told`): it is legal and sound, each read and write ends as it has to, each
 //! finished rebuild is whole, no update is lost, each view is whole, and each lost message has its cause.
-//! [`replay`] is over any [`House`], disks on which such a stage can be made: it answers the words and the
-//! input, and performs what they ask for. [`completes`] says when it comes to its end. Nothing here says
-//! what a real file or terminal takes, nor that there is memory.
+//! `specs/Replays` says what a replay of words and an input over disks comes to, of which this is the last
+//! part, and [`completes`] when it comes to its end. Nothing here says what a real file or terminal takes,
+//! nor that there is memory.
 //!
-//! In reading order: `output`, `telling`, `performing`, `houses`, `replaying`, `laws`.
+//! In reading order: `output`, `telling`, `performing`, `laws`.
 #![tactic(auto)]
 
-mod houses;
 mod laws;
 mod output;
 mod performing;
-mod replaying;
 mod telling;
 
-pub use houses::{House, NoStage};
 pub use laws::completes;
 pub use performing::perform;
-pub use replaying::{Played, replay};
 pub use rz_lines::LoggedStage;
-pub use telling::{refuse, stop};
+pub use telling::{refuse, stop, tell};

@@ -3,6 +3,7 @@
 ghost use Rattle.std.specs.Prelude.{◌≡◌, ◌-◌, IsTrue};
 ghost use Rattle.rz_events.specs.Volume.{IsVolume};
 ghost use Rattle.rz_play.specs.World.{new_world};
+ghost use Rattle.rz_lines.specs.Ends.{Carries};
 ghost use Rattle.rz_perform.specs.Telling.{Performs};
 ghost use Rattle.rz_perform.specs.Told.{IsTold};
 
@@ -29,6 +30,8 @@ pub fn perform<S: LoggedStage, L: Link, O: Sink>(
     requires volume { S.volume stage.old ≡ script.now.volume }
     requires rules { IsVolume script.now.volume }
     requires new { S.world stage.old ≡ new_world script.now.volume }
+    ensures volume { S.volume stage.new ≡ S.volume stage.old }
+    ensures left { Carries (S.holds stage.old) (S.leaves stage.new) }
     ensures performed { Performs S.tells script.now.volume script.now.lines wish (L.lost link.new - L.lost link.old) (S.world stage.new).log (record { before = O.taken output.old; after = O.taken output.new; old = O.faults output.old; new = O.faults output.new }) result }
     ensures told { IsTrue S.tells → IsTold script.now.volume script.now.lines (L.lost link.new - L.lost link.old) (S.world stage.new).log }
 {
