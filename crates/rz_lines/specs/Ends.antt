@@ -16,6 +16,10 @@ use Rattle.rz_lines.specs.declared.turns.Cut.TheVariants as cut
 use Rattle.rz_lines.specs.declared.lines.PlayEnd.{PlayEnd}
 use Rattle.rz_lines.specs.declared.lines.PlayEnd.TheVariants as end
 
+-- what was so of counts is so still
+abbrev pub Carries : ((ℕ → ℕ) → Type 0) → ((ℕ → ℕ) → Type 0) → Type 0
+Carries before after = (first : ℕ → ℕ) → before first → after first
+
 -- the log and the count of lost messages are those of this world
 abbrev pub TellsOf : World → World → Type 0
 TellsOf last next = (next.log ≡ last.log) × (next.lost ≡ last.lost)

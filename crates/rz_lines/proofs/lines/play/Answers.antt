@@ -32,6 +32,7 @@ loop-line-preserved g c =
       volume = e.volume ∙ i.volume;
       few = e.few;
       lost = (let so_far = i.lost in let then = e.lost in omega (arith, so_far, then));
+      held = λ first held. e.held first (i.held first held);
       played = λ told.
           let played = rw i.volume at (e.played told).0 in
           let played_at = subst (λ (x : Line). PlaysLine (volume c.args.stage.now) x (world c.loop-line.stage) (world c.play_line.new.stage)) c.line-item.is played in

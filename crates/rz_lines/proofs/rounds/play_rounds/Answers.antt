@@ -37,5 +37,6 @@ loop-preserved g c =
       volume = e.volume ∙ i.volume;
       few = e.played.2;
       lost = (let so_far = i.lost in let then = e.lost in omega (arith, so_far, then));
+      held = λ first held. e.held first (i.held first held);
       played = rounds-more (volume c.args.stage.now) c.loop.counter (world c.args.stage.now) (world c.loop.stage) (world c.play_round.new.stage) i.played played.0;
     }

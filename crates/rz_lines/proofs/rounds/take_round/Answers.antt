@@ -29,6 +29,7 @@ loop-by-preserved g c =
             ready = w.in_ok-take_turn.ensures.ready;
             volume = w.in_ok-take_turn.ensures.volume ∙ i.volume;
             lost = (let so_far = i.lost in let then = w.in_ok-take_turn.ensures.lost in omega (arith, so_far, then));
+            held = λ first held. w.in_ok-take_turn.ensures.held first (i.held first held);
             up_to = taken-at (volume c.args.stage.now) c.args.actors.now c.loop-by.by-index _ (world c.args.stage.now) c.loop-by.any (world c.loop-by.stage) (world w.take_turn.new.stage)
                 c.loop-by-test.true i.up_to (sym w.if-is_busy.ensures) turn;
           })
@@ -37,6 +38,7 @@ loop-by-preserved g c =
             ready = i.ready;
             volume = i.volume;
             lost = i.lost;
+            held = i.held;
             up_to = skipped-at (volume c.args.stage.now) c.args.actors.now c.loop-by.by-index _ (world c.args.stage.now) c.loop-by.any (world c.loop-by.stage)
                 c.loop-by-test.true i.up_to (sym w.if-is_busy.ensures);
           })
