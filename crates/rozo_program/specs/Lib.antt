@@ -1,5 +1,1 @@
-pub mod Words
-pub mod Input
-pub mod Script
-pub mod Output
-pub mod Replay
+pub mod Replays
