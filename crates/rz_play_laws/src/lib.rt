@@ -8,7 +8,7 @@
 //! which scripts are meant and what is promised of a play that goes on.
 #![tactic(auto)]
 
-ghost use Rattle.std.specs.Prelude.{ℕ, ◌+◌, ◌≤◌, List};
+ghost use Rattle.std.specs.Prelude.{ℕ, ◌≡◌, ◌+◌, ◌≤◌, List};
 ghost use Rattle.rz_events.specs.Volume.{Volume, IsVolume};
 ghost use Rattle.rz_events.specs.declared.keys.Actor.{Actor as AnActor};
 ghost use Rattle.rz_events.specs.declared.events.Event.{Event as AnEvent};
@@ -49,16 +49,17 @@ pub fn facts_told()
     rz_log_laws::laid();
 }
 
-/// A play that came to its end has begun, so what is said below of plays that have begun holds of it.
+/// A play that came to its end has begun, and its last world is the same: so what is said below of plays
+/// that have begun holds of it.
 pub fn ended()
     ensures { (v : Volume) (first : World) (lines : List ALine) (log : List AnEvent)
-        → IsPlayedFrom v first lines log → IsBegunFrom v first lines log }
+        → (p : IsPlayedFrom v first lines log) → (begun : IsBegunFrom v first lines log) × (begun.last ≡ p.last) }
 {}
 
 /// So has a play that stopped before a turn.
 pub fn stopped()
     ensures { (v : Volume) (cause : StopCause) (first : World) (lines : List ALine) (log : List AnEvent)
-        → IsStoppedFrom v cause first lines log → IsBegunFrom v first lines log }
+        → (p : IsStoppedFrom v cause first lines log) → (begun : IsBegunFrom v first lines log) × (begun.last ≡ p.last) }
 {}
 
 /// The log of a play is legal: each of its events is allowed after those before it.

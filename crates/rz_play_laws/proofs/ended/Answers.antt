@@ -1,5 +1,6 @@
+use Rattle.std.proofs.Common.{refl}
 use Rattle.rz_play_laws.proofs.Plays as laws
 use Rattle.rz_play_laws.proofs.ended.Goals as goal
 
 pub returns : goal.returns
-returns c = laws.played-begun
+returns c = λ v first lines h p. (laws.played-begun v first lines h p, refl)

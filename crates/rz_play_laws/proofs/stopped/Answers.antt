@@ -1,5 +1,6 @@
+use Rattle.std.proofs.Common.{refl}
 use Rattle.rz_play_laws.proofs.Plays as laws
 use Rattle.rz_play_laws.proofs.stopped.Goals as goal
 
 pub returns : goal.returns
-returns c = laws.stopped-begun
+returns c = λ v cause first lines h p. (laws.stopped-begun v cause first lines h p, refl)
