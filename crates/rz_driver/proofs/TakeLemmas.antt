@@ -1,12 +1,14 @@
 -- An actor took a turn.
-use Rattle.std.proofs.Common.{◌≡◌, ℕ, ◌+◌, ◌<◌, ◌≤◌, List, [], ◌∷◌, length, set, get_or, Option, Some, None, refl, sym, ◌∙◌, ap, subst, arith}
+use Rattle.std.proofs.Common.{◌≡◌, ℕ, ◌+◌, ◌<◌, ◌≤◌, List, [], ◌∷◌, map, length, set, get_or, Option, Some, None, refl, sym, ◌∙◌, ap, subst, arith}
 use Rattle.std.specs.Prelude.{slice_get}
 use Rattle.std.specs.List.{AllByRecursion}
 use Rattle.std.specs.FinMap.{get}
 use Rattle.std.proofs.lemmas.List.{length-set}
 use Rattle.std.proofs.lemmas.Option.{slice_get_read}
 use Rattle.mj_angles.specs.Layout.{max_bins_of}
-use Rattle.rz_events.specs.Volume.{Volume}
+use Rattle.rz_disk.specs.UnderFuse.{UnderFuse}
+use Rattle.rz_events.specs.Volume.{Volume, nodes_of}
+use Rattle.rz_events.specs.declared.files.NodeSpec.{NodeSpec}
 use Rattle.rz_events.specs.declared.keys.Actor.{Actor}
 use Rattle.rz_events.specs.declared.keys.Actor.TheVariants.{Client, Rebuilder, Admin}
 use Rattle.rz_events.specs.declared.events.Event.{Event}
@@ -22,7 +24,7 @@ use Rattle.rz_driver.specs.Logged.{Logged}
 use Rattle.rz_driver.specs.Seats.{seat_of, IsSeat}
 use Rattle.rz_driver.specs.Stations.{IsStation}
 use Rattle.rz_driver.specs.Worlds.{place_of, seat_in, world, world_of, AreLocks, HaveNoLocks, IsDriver}
-use Rattle.rz_driver.proofs.ReadyLemmas.{all-set, all-at, stations-after, seat-after, locks-after}
+use Rattle.rz_driver.proofs.ReadyLemmas.{all-set, all-at, stations-after, numbers-after, seat-after, locks-after}
 use Rattle.rz_driver.proofs.TurnLemmas.{turn-is}
 use Rattle.rz_driver.proofs.WorldLemmas.{client-place, rebuilder-place, seat-here}
 
@@ -52,7 +54,7 @@ tied-at by place a0 a d ready at here kept n is =
 module _ {D : Type 0} (by : Actor) (place : ℕ) (d e : Driver D) (log : Logged) (a0 a b : Seat) (ready : IsDriver d) (at : place_of by ≡ Some place) (here : slice_get d.seats.items place ≡ Some a0) (low : place < length d.seats.items)
     (taken : seat_of a ≡ at_work (seat_of a0)) (fits : IsSeat d.volume.layout a) (kept : a.lock ≡ a0.lock) (events : log.events ≡ d.shared.log.events)
     (acts : IsAct d.volume.layout by a b (record d.shared { log = log }) e.shared) (volume : e.volume ≡ d.volume) (seats : e.seats.items ≡ set d.seats.items place b) where
-  abbrev p : Shared D
+  abbrev p : Shared (UnderFuse D)
   p = record d.shared { log = log }
 
   abbrev ss : List Seat
@@ -64,6 +66,7 @@ module _ {D : Type 0} (by : Actor) (place : ℕ) (d e : Driver D) (log : Logged)
   pub drives : length e.shared.bins.items ≡ length d.shared.bins.items → IsDriver e
   drives bins = record {
     stations = subst (λ (v : Volume). AllByRecursion (IsStation v) e.shared.stations.items) (sym volume) (stations-after d.volume d.volume.layout by a b p e.shared acts ready.stations);
+    numbers = numbers-after d.volume.layout by a b p e.shared acts ∙ ready.numbers ∙ ap (λ (v : Volume). map (λ (n : NodeSpec). n.sid) (nodes_of v.clusters)) (sym volume);
     bins = subst (λ (v : Volume). max_bins_of v.layout ≤ length e.shared.bins.items) (sym volume) (subst (λ (n : ℕ). max_bins_of d.volume.layout ≤ n) (sym bins) ready.bins);
     seats = subst (λ (v : Volume). AllByRecursion (IsSeat v.layout) e.seats.items) (sym volume)
         (subst (AllByRecursion (IsSeat d.volume.layout)) (sym seats) (all-set (IsSeat d.volume.layout) ss place b ready.seats (seat-after d.volume.layout by a b p e.shared acts fits)));

@@ -1,8 +1,6 @@
 -- Where nothing stands in the way of a replay, each answer but the end of the play and want of memory is excluded.
-use Rattle.std.proofs.Common.{ℕ, Bool, true, false, ◌≡◌, ◌≤◌, ◌<◌, ◌⊎◌, inl, inr, IsTrue, IfSome, List, [], Option, Some, None, Result, Ok, Err, length, reverse, refl, sym, ◌∙◌, ap, subst, arith}
-use Rattle.std.specs.Io.KnownBytes.{Appends}
+use Rattle.std.proofs.Common.{ℕ, true, false, ◌≡◌, ◌≤◌, ◌<◌, ◌⊎◌, inl, inr, IfSome, List, [], Option, Some, None, Result, Ok, Err, length, reverse, refl, sym, ◌∙◌, ap, subst, arith}
 use Rattle.rz_ports.specs.Counts.{Rises}
-use Rattle.rz_command.specs.Line.{Meaning}
 use Rattle.rz_events.specs.declared.events.Event.{Event}
 use Rattle.rz_generate.specs.Workload.{workload}
 use Rattle.rz_script.specs.Grammar.{script}
@@ -16,17 +14,17 @@ use Rattle.rz_lines.specs.Ends.{IsEnded}
 use Rattle.rz_lines.specs.declared.lines.PlayEnd.{PlayEnd}
 use Rattle.rz_lines.specs.declared.lines.PlayEnd.TheVariants as ends
 use Rattle.rz_request.specs.Input.{limit}
-use Rattle.rz_request.specs.Requests.{Reading, Judges, Reads, IsRead, IsFor, AsksFor, is_large, nodes_in, wished}
+use Rattle.rz_request.specs.Requests.{Reading, Judges, Reads, IsFor, AsksFor, is_large, nodes_in, wished}
 use Rattle.rz_request.specs.declared.refusal.Refusal.TheVariants as refusals
 use Rattle.rz_request.specs.declared.refusal.Stop.{Stop}
 use Rattle.rz_request.specs.declared.refusal.Stop.TheVariants as stops
 use Rattle.rz_request.specs.declared.wishes.Request.{Request}
 use Rattle.rz_request.specs.declared.wishes.Wish.{Wish}
 use Rattle.rz_request.specs.declared.wishes.Wish.TheVariants as wishes
-use Rattle.rz_perform.specs.Output.{Sunk, Ends, Lacks}
-use Rattle.rz_perform.specs.Telling.{Tells, Performs, text_told}
-use Rattle.rz_perform.specs.Replays.{Housed, Opens, Follows, Ensues, Replays}
-use Rattle.rz_perform.specs.Clear.{Means, IsClear, IsFinished}
+use Rattle.rz_perform.specs.Output.{Sunk}
+use Rattle.rz_perform.specs.Telling.{Tells, Performs}
+use Rattle.rz_perform.specs.Replays.{Faulted, Opens, Ensues}
+use Rattle.rz_perform.specs.Clear.{Means, IsFinished, IsComplete}
 
 -- What is asked for.
 
@@ -81,8 +79,8 @@ module _ (source : Reading) (disks : ℕ) (s : Script) (whole : ¬ Rises source.
 
 -- What comes of it.
 
-module _ (tells : Bool) (told : IsTrue tells) (disks : Housed) (lost : ℕ) (sink : Sunk) (status : ℕ) (h : List Event) (s : Script)
-    (turns : (g : List Event) → ¬ IsStopped s.volume TurnsSpent s.lines g) (disks_whole : (i : ℕ) → disks.new i ≤ disks.old i) (sink_whole : ¬ Rises sink.old sink.new) where
+module _ (disks : Faulted) (lost : ℕ) (sink : Sunk) (status : ℕ) (h : List Event) (s : Script)
+    (turns : (g : List Event) → ¬ IsStopped s.volume TurnsSpent s.lines g) (disks_whole : (i : ℕ) → ¬ Rises (disks.old i) (disks.new i)) (sink_whole : ¬ Rises sink.old sink.new) where
   told-end : (wish : Wish) (end : PlayEnd) → IsEnded s.volume (new_world s.volume) s.lines end lost h → Tells end wish (reverse h) sink status → IsFinished (Some wish) s sink status h ⊎ (status ≡ 70)
   told-end wish ends.Ended ended (inl (inl took)) = inl (took.0, ended.0, took.1)
   told-end wish ends.Ended ended (inl (inr failed)) = absurd (sink_whole failed.1)
@@ -90,31 +88,30 @@ module _ (tells : Bool) (told : IsTrue tells) (disks : Housed) (lost : ℕ) (sin
   told-end wish ends.TooManyTurns ended t = absurd (turns h ended.0)
   told-end wish ends.NoMemory ended t = inr t.0
 
-  followed : (wish : Wish) (r : Request) → r.script ≡ s → r.wish ≡ wish → Opens tells r disks lost sink status h → IsFinished (Some wish) s sink status h ⊎ (status ≡ 70)
+  followed : (wish : Wish) (r : Request) → r.script ≡ s → r.wish ≡ wish → Opens true r disks lost sink status h → IsFinished (Some wish) s sink status h ⊎ (status ≡ 70)
   followed wish r script_is wish_is (inl lacks) = inr lacks.0.0
-  followed wish r script_is wish_is (inr (inl failed)) = let rose = failed.1 in let still = disks_whole failed.0 in absurd (omega (arith, rose, still))
+  followed wish r script_is wish_is (inr (inl failed)) = absurd (disks_whole failed.0 failed.1)
   followed wish r script_is wish_is (inr (inr performed)) =
-      let P : Script → Type 0 = λ x. Performs tells x.volume x.lines r.wish lost h sink status in
-      let Q : Wish → Type 0 = λ x. Performs tells s.volume s.lines x lost h sink status in
+      let P : Script → Type 0 = λ x. Performs true x.volume x.lines r.wish lost h sink status in
+      let Q : Wish → Type 0 = λ x. Performs true s.volume s.lines x lost h sink status in
       let p = subst Q wish_is (subst P script_is performed) in
-      told-end wish p.0 (p.1 told) p.2
+      told-end wish p.0 (p.1 refl) p.2
 
-  ensued : (wish : Wish) (result : Result Request Stop) → Came s wish result → Ensues tells result disks lost sink status h → IsFinished (Some wish) s sink status h ⊎ (status ≡ 70)
+  ensued : (wish : Wish) (result : Result Request Stop) → Came s wish result → Ensues true result disks lost sink status h → IsFinished (Some wish) s sink status h ⊎ (status ≡ 70)
   ensued wish (Ok r) came e = followed wish r came.0 came.1 e.0
   ensued wish (Err stops.NoMemory) came e = inr e.0.0
   ensued wish (Err stops.Source) came e = absurd came
   ensued wish (Err (stops.Refused refusal)) came e = absurd came
 
-pub complete : (words : Option Meaning) (source : Reading) (disks : Housed) (lost : ℕ) (sink : Sunk) (status : ℕ) (h : List Event) (tells : Bool) → IsTrue tells
-    → Replays tells words source disks lost sink status h → (s : Script) → IsClear words source disks sink s → IsFinished (wished words) s sink status h ⊎ (status ≡ 70)
-complete words source disks lost sink status h tells told (result, asks, ensues) s clear = go (wished words) clear.means asks
+pub complete : IsComplete
+complete words source count disks lost sink status h result asks ensues s clear = go (wished words) clear.means asks
   where
-    go : (w : Option Wish) → Means w source.before s → AsksFor w words source disks.count result → IsFinished w s sink status h ⊎ (status ≡ 70)
+    go : (w : Option Wish) → Means w source.before s → AsksFor w words source count result → IsFinished w s sink status h ⊎ (status ≡ 70)
     go None means asked = absurd means
     go (Some wishes.Replay) (text, left, short, means) asked =
-        ensued tells told disks lost sink status h s clear.turns clear.disks_whole clear.sink_whole wishes.Replay result
-        (came-source source disks.count s clear.source_whole text left short means clear.small clear.fits result asked.0 asked.1) ensues
+        ensued disks lost sink status h s clear.turns clear.disks_whole clear.sink_whole wishes.Replay result
+        (came-source source count s clear.source_whole text left short means clear.small clear.fits result asked.0 asked.1) ensues
     go (Some (wishes.Load seed)) means asked =
         let is : ◌≡◌ {A = Result Script ScriptError} (Ok (workload seed)) (Ok s) = ap (λ (x : Script). Ok x) means in
-        ensued tells told disks lost sink status h s clear.turns clear.disks_whole clear.sink_whole (wishes.Load seed) result
-        (judged (Ok (workload seed)) disks.count s (wishes.Load seed) is clear.small clear.fits result asked.0 asked.1) ensues
+        ensued disks lost sink status h s clear.turns clear.disks_whole clear.sink_whole (wishes.Load seed) result
+        (judged (Ok (workload seed)) count s (wishes.Load seed) is clear.small clear.fits result asked.0 asked.1) ensues

@@ -6,8 +6,8 @@
 //! failed. Over disks that tell their texts it says that the log is that of the script's play and that
 //! what it says is true (`specs/Told`): it is legal and sound, each read and write ends as it has to, each
 //! finished rebuild is whole, no update is lost, each view is whole, and each lost message has its cause.
-//! `specs/Replays` says what a replay of words and an input over disks comes to, of which this is the last
-//! part, and [`completes`] when it comes to its end. Nothing here says what a real file or terminal takes,
+//! `specs/Replays` says what a replay of what was asked for comes to, of which this is the last part, and
+//! [`completes`] when it comes to its end. Nothing here says what a real file or terminal takes,
 //! nor that there is memory.
 //!
 //! In reading order: `output`, `telling`, `performing`, `laws`.
