@@ -1,18 +1,12 @@
 -- Disks as they were lent, and as they are handed back.
-use Rattle.std.specs.Prelude.{ℕ, ◌≡◌, ◌≤◌, List, Option, Some, None, Result, Ok, Err, length, slice_get}
-use Rattle.rz_disk.specs.Meter.{Meter, faults}
+use Rattle.std.specs.Prelude.{ℕ, ◌≡◌, ◌≤◌, List, Result, Ok, Err, length}
+use Rattle.rz_disk.specs.Meter.{Meter}
+use Rattle.rz_driver.specs.Made.{faults_at}
 use Rattle.rz_request.specs.declared.refusal.Stop.{Stop}
 use Rattle.rz_request.specs.declared.wishes.Request.{Request}
 use Rattle.rz_perform.specs.Replays.{Faulted}
 
-abbrev pub faults_of : {D : Type 0} → (D → Meter) → Option D → ℕ
-faults_of meter None = 0
-faults_of meter (Some d) = faults (meter d)
-
--- how many faults the disk at a place counts
-abbrev pub faults_at : {D : Type 0} → (D → Meter) → List D → ℕ → ℕ
-faults_at meter disks i = faults_of meter (slice_get disks i)
-
+-- the faults of each disk, by its place
 abbrev pub faulted : {D : Type 0} → (D → Meter) → List D → List D → Faulted
 faulted meter old new = record { old = faults_at meter old; new = faults_at meter new }
 
