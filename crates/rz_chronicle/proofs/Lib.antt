@@ -1,0 +1,13 @@
+pub mod Keys
+pub mod Trades
+pub mod Adding
+pub mod Back
+pub mod Histories
+pub mod Passes
+pub mod Joint
+pub mod Rows
+pub mod Numbers
+pub mod Deals
+pub mod Places
+pub mod Pens
+pub mod Settling

@@ -1,0 +1,12 @@
+use Rattle.std.proofs.Common.{◌≡◌, ◌++◌, ◌∷◌, ℕ, List, map, AllByRecursion}
+use Rattle.std.specs.Vec.Iter.{into_iter_items}
+use Rattle.rz_chronicle.specs.Keys.{word_key, IsLater}
+use Rattle.rz_chronicle.specs.Kinds.{IsFit}
+use Rattle.rz_chronicle.specs.Holds.{Stays, IsSettled}
+use Rattle.rz_chronicle.specs.Rules.{PostView}
+use Rattle.rz_chronicle.proofs.Settling.{Settles}
+use Rattle.rz_chronicle.proofs.book.Book.settle.Given as goal
+
+-- the posts so far are settled
+abbrev pub invariant-nodes : goal.invariant-nodes
+invariant-nodes g l = Settles g.J.Naming.kind l.fn.front l.fn.desk.export l.fn.desk.nodes.items (into_iter_items l.post-iterator) l.front
