@@ -230,16 +230,16 @@ module _ (pairs : ℕ) (heads : List (Option Head)) (index : Indexed) (tied : Is
 
   -- the index that was noted is of the heads without the record, and shows what is held
   pub cleared : (index' : Indexed) (v : Sides Version) → v ≡ put_at e.versions side None
-      → (in_order sides.stamp_of v ≢ [] → index'.entries ≡ maps.insert index.entries key (record { key = key; cell = e.cell; versions = v }))
-      → (in_order sides.stamp_of v ≢ [] → index'.free ≡ taken_in (maps.get index.entries key) e.cell index.free)
-      → (in_order sides.stamp_of v ≡ [] → index'.entries ≡ maps.remove index.entries key)
-      → (in_order sides.stamp_of v ≡ [] → index'.free ≡ freed_by (maps.get index.entries key) index.free)
+      → (in_order sides.version_stamp v ≢ [] → index'.entries ≡ maps.insert index.entries key (record { key = key; cell = e.cell; versions = v }))
+      → (in_order sides.version_stamp v ≢ [] → index'.free ≡ taken_in (maps.get index.entries key) e.cell index.free)
+      → (in_order sides.version_stamp v ≡ [] → index'.entries ≡ maps.remove index.entries key)
+      → (in_order sides.version_stamp v ≡ [] → index'.free ≡ freed_by (maps.get index.entries key) index.free)
       → IsTied pairs after index' × (held_by index'.entries after ≡ with_held (held_by index.entries heads) key (records_in after e.cell))
   cleared index' v v_is left left_free gone gone_free = go (records_in after e.cell) refl
     where
-      shows : in_order sides.stamp_of v ≡ map version_of (records_in after e.cell)
+      shows : in_order sides.version_stamp v ≡ map version_of (records_in after e.cell)
       shows =
-          ap (in_order sides.stamp_of) (v_is ∙ ap (λ (x : Sides Version). put_at x side None) placed.versions ∙ sym (put-versions (sides_in heads e.cell) side None) ∙ ap versions_of (sym sides-after))
+          ap (in_order sides.version_stamp) (v_is ∙ ap (λ (x : Sides Version). put_at x side None) placed.versions ∙ sym (put-versions (sides_in heads e.cell) side None) ∙ ap versions_of (sym sides-after))
           ∙ order-map (sides_in after e.cell)
 
       entries-left : index'.entries ≡ maps.insert index.entries key (record { key = key; cell = e.cell; versions = v }) → index'.entries ≡ maps.insert index.entries key entry
@@ -247,12 +247,12 @@ module _ (pairs : ℕ) (heads : List (Option Head)) (index : Indexed) (tied : Is
 
       go : (rs : List Held) → records_in after e.cell ≡ rs → IsTied pairs after index' × (held_by index'.entries after ≡ with_held (held_by index.entries heads) key (records_in after e.cell))
       go [] none =
-          let empty : in_order sides.stamp_of v ≡ [] = shows ∙ map-none (records_in after e.cell) none in
+          let empty : in_order sides.version_stamp v ≡ [] = shows ∙ map-none (records_in after e.cell) none in
           let both = empty-sides (sides_in after e.cell).zero (sides_in after e.cell).one none in
           let zero = no-head-of (in_cell after (2 * e.cell)) both.0 in
           let one = no-head-of (in_cell after (2 * e.cell + 1)) both.1 in
           (tied-gone none zero one index' (gone empty) (gone_free empty), held-gone none zero one index'.entries (gone empty))
       go (r ∷ rs) some =
           let not-empty : records_in after e.cell ≢ [] = λ none. (let never : r ∷ rs ≡ [] = sym some ∙ none in absurd (cc)) in
-          let shown : in_order sides.stamp_of v ≢ [] = λ none. not-empty (none-map (records_in after e.cell) (sym shows ∙ none)) in
+          let shown : in_order sides.version_stamp v ≢ [] = λ none. not-empty (none-map (records_in after e.cell) (sym shows ∙ none)) in
           (tied-left not-empty index' (entries-left (left shown)) (left_free shown), held-left not-empty index'.entries (entries-left (left shown)))

@@ -115,7 +115,7 @@ lesser-map (a ∷ []) = refl
 lesser-map (a ∷ b ∷ rs) = refl
 
 -- the record of the lesser version
-pub lesser-record : (s : Sides Held) (v : Version) → Some v ≡ lesser_of (in_order sides.stamp_of (versions_of s)) → (r : Held) × (lesser_of (in_order stamp_of s) ≡ Some r) × (r.stamp ≡ v.stamp)
+pub lesser-record : (s : Sides Held) (v : Version) → Some v ≡ lesser_of (in_order sides.version_stamp (versions_of s)) → (r : Held) × (lesser_of (in_order stamp_of s) ≡ Some r) × (r.stamp ≡ v.stamp)
 lesser-record s v is = go (lesser_of (in_order stamp_of s)) refl (is ∙ ap lesser_of (order-map s) ∙ lesser-map (in_order stamp_of s))
   where
     stamps : (a b : Version) → Some a ≡ Some b → b.stamp ≡ a.stamp
@@ -125,7 +125,7 @@ lesser-record s v is = go (lesser_of (in_order stamp_of s)) refl (is ∙ ap less
     go None none is = let no_version : Some v ≡ None = is ∙ ap (option_map version_of) none in absurd (cc)
     go (Some r) some is = let same : Some v ≡ Some (version_of r) = is ∙ ap (option_map version_of) some in (r, some, stamps v (version_of r) same)
 
-pub lesser-none : (s : Sides Held) → None ≡ lesser_of (in_order sides.stamp_of (versions_of s)) → lesser_of (in_order stamp_of s) ≡ None
+pub lesser-none : (s : Sides Held) → None ≡ lesser_of (in_order sides.version_stamp (versions_of s)) → lesser_of (in_order stamp_of s) ≡ None
 lesser-none s is = go (lesser_of (in_order stamp_of s)) (is ∙ ap lesser_of (order-map s) ∙ lesser-map (in_order stamp_of s))
   where
     go : (o : Option Held) → None ≡ option_map version_of o → o ≡ None
@@ -214,17 +214,17 @@ module _ (r : Held) (side : ℕ) where
       let parts = two-sides a b (nat_lt a.stamp b.stamp) refl differ is lesser in
       record { two = parts.0; at = parts.1; without_is = parts.2 }
 
-has-version : (o : Option Held) (t : ℕ) → has sides.stamp_of (option_map version_of o) t ≡ has stamp_of o t
+has-version : (o : Option Held) (t : ℕ) → has sides.version_stamp (option_map version_of o) t ≡ has stamp_of o t
 has-version None t = refl
 has-version (Some r) t = refl
 
 -- the side of the lesser version has the lesser record, and without it the others are left
-pub lesser-side : (s : Sides Held) (r : Held) (side : ℕ) → Differ stamp_of s.zero s.one → lesser_of (in_order stamp_of s) ≡ Some r → Some side ≡ side_with sides.stamp_of (versions_of s) r.stamp → IsSide s r side
+pub lesser-side : (s : Sides Held) (r : Held) (side : ℕ) → Differ stamp_of s.zero s.one → lesser_of (in_order stamp_of s) ≡ Some r → Some side ≡ side_with sides.version_stamp (versions_of s) r.stamp → IsSide s r side
 lesser-side s r side differ lesser is =
     sides-lesser r side s.zero s.one differ (is ∙ (λ i. chosen (has-version s.zero r.stamp i) (has-version s.one r.stamp i))) lesser
 
 -- and it stands on a side
-pub lesser-stands : (s : Sides Held) (r : Held) → lesser_of (in_order stamp_of s) ≡ Some r → None ≡ side_with sides.stamp_of (versions_of s) r.stamp → ⊥
+pub lesser-stands : (s : Sides Held) (r : Held) → lesser_of (in_order stamp_of s) ≡ Some r → None ≡ side_with sides.version_stamp (versions_of s) r.stamp → ⊥
 lesser-stands s r lesser is = go s.zero s.one lesser (is ∙ (λ i. chosen (has-version s.zero r.stamp i) (has-version s.one r.stamp i)))
   where
     not-first : (x y : Bool) → None ≡ chosen x y → x ≡ true → ⊥
@@ -309,23 +309,23 @@ module _ (pairs : ℕ) (heads : List (Option Head)) (index : Indexed) (tied : Is
   held-before : held_of (held_by index.entries heads) (key_at fid e.key.block) ≡ records_in heads e.cell
   held-before = ap (held_of (held_by index.entries heads)) first.1 ∙ place.held
 
-  shows : (t : Option Version) → t ≡ lesser_of (in_order sides.stamp_of e.versions) → t ≡ lesser_of (in_order sides.stamp_of (versions_of (sides_in heads e.cell)))
-  shows t lesser = lesser ∙ ap (λ (x : Sides Version). lesser_of (in_order sides.stamp_of x)) place.versions
+  shows : (t : Option Version) → t ≡ lesser_of (in_order sides.version_stamp e.versions) → t ≡ lesser_of (in_order sides.version_stamp (versions_of (sides_in heads e.cell)))
+  shows t lesser = lesser ∙ ap (λ (x : Sides Version). lesser_of (in_order sides.version_stamp x)) place.versions
 
-  pub nothing-lesser : None ≡ lesser_of (in_order sides.stamp_of e.versions) → (least_block (held_by index.entries heads) fid ≡ Some e.key.block) × (lesser_of (held_of (held_by index.entries heads) (key_at fid e.key.block)) ≡ None)
+  pub nothing-lesser : None ≡ lesser_of (in_order sides.version_stamp e.versions) → (least_block (held_by index.entries heads) fid ≡ Some e.key.block) × (lesser_of (held_of (held_by index.entries heads) (key_at fid e.key.block)) ≡ None)
   nothing-lesser none = (first.2, ap lesser_of held-before ∙ lesser-none (sides_in heads e.cell) (shows None none))
 
-  pub side-stands : (v : Version) → Some v ≡ lesser_of (in_order sides.stamp_of e.versions) → None ≡ side_with sides.stamp_of e.versions v.stamp → ⊥
+  pub side-stands : (v : Version) → Some v ≡ lesser_of (in_order sides.version_stamp e.versions) → None ≡ side_with sides.version_stamp e.versions v.stamp → ⊥
   side-stands v lesser none =
       let r = lesser-record (sides_in heads e.cell) v (shows (Some v) lesser) in
       lesser-stands (sides_in heads e.cell) r.0 r.1
-      (none ∙ (λ i. side_with sides.stamp_of (place.versions i) (sym r.2 i)))
+      (none ∙ (λ i. side_with sides.version_stamp (place.versions i) (sym r.2 i)))
 
-  pub dropping : Apart heads → (v : Version) → Some v ≡ lesser_of (in_order sides.stamp_of e.versions) → (side : ℕ) → Some side ≡ side_with sides.stamp_of e.versions v.stamp → Dropping heads index fid e v side
+  pub dropping : Apart heads → (v : Version) → Some v ≡ lesser_of (in_order sides.version_stamp e.versions) → (side : ℕ) → Some side ≡ side_with sides.version_stamp e.versions v.stamp → Dropping heads index fid e v side
   dropping apart v lesser side at =
       let r = lesser-record (sides_in heads e.cell) v (shows (Some v) lesser) in
       let differ = sides-differ pairs heads index e.key e place apart in
-      let shown = lesser-side (sides_in heads e.cell) r.0 side differ r.1 (at ∙ (λ i. side_with sides.stamp_of (place.versions i) (sym r.2 i))) in
+      let shown = lesser-side (sides_in heads e.cell) r.0 side differ r.1 (at ∙ (λ i. side_with sides.version_stamp (place.versions i) (sym r.2 i))) in
       let goes = stamp-goes (sides_in heads e.cell) r.0 side differ shown.at in
       record {
         there = first.0;

@@ -66,10 +66,10 @@ is-chosen false true = refl
 is-chosen false false = refl
 
 module _ (index : Indexed) (key : Key) (t : ℕ) (pairs : ℕ) (heads : List (Option Head)) (tied : IsTied pairs heads index) where
-  pub holds-some : (e : Entry) → maps.get index.entries key ≡ Some e → is_some (side_with sides.stamp_of e.versions t) ≡ has_stamp stamp_of t (held_of (held_by index.entries heads) key)
+  pub holds-some : (e : Entry) → maps.get index.entries key ≡ Some e → is_some (side_with sides.version_stamp e.versions t) ≡ has_stamp stamp_of t (held_of (held_by index.entries heads) key)
   holds-some e there =
       let s = sides_in heads e.cell in
-      ap (λ (v : Sides Version). is_some (side_with sides.stamp_of v t)) (tied.shown key e there).versions
+      ap (λ (v : Sides Version). is_some (side_with sides.version_stamp v t)) (tied.shown key e there).versions
       ∙ ap is_some (side-versions s t) ∙ is-chosen (has stamp_of s.zero t) (has stamp_of s.one t) ∙ sym (has-sides t s)
       ∙ sym (ap (has_stamp stamp_of t) (held-shown index.entries heads key e there))
 

@@ -37,7 +37,7 @@ found-ordered t (Some a) None = refl
 found-ordered t None (Some b) = refl
 found-ordered t (Some a) (Some b) = found-two a b t (nat_lt a.stamp b.stamp) refl
 
-has-version : (o : Option Held) (t : ℕ) → has sides.stamp_of (option_map version_of o) t ≡ has stamp_of o t
+has-version : (o : Option Held) (t : ℕ) → has sides.version_stamp (option_map version_of o) t ≡ has stamp_of o t
 has-version None t = refl
 has-version (Some r) t = refl
 
@@ -45,7 +45,7 @@ has-version (Some r) t = refl
 abbrev pub chosen : Bool → Bool → Option ℕ
 chosen x y = cond x (Some 0) (cond y (Some 1) None)
 
-pub side-versions : (s : Sides Held) (t : ℕ) → side_with sides.stamp_of (versions_of s) t ≡ chosen (has stamp_of s.zero t) (has stamp_of s.one t)
+pub side-versions : (s : Sides Held) (t : ℕ) → side_with sides.version_stamp (versions_of s) t ≡ chosen (has stamp_of s.zero t) (has stamp_of s.one t)
 side-versions s t = λ i. chosen (has-version s.zero t i) (has-version s.one t i)
 
 no-side : (x y : Bool) (a b : Option Held) → chosen x y ≡ None → cond x a (cond y b None) ≡ None
@@ -68,15 +68,15 @@ module _ (pairs : ℕ) (heads : List (Option Head)) (index : Indexed) (tied : Is
   found-is : found t (held_of (held_by index.entries heads) key) ≡ cond (has stamp_of s.zero t) s.zero (cond (has stamp_of s.one t) s.one None)
   found-is = ap (found t) (held-shown index.entries heads key e there) ∙ found-ordered t s.zero s.one
 
-  sides-are : (o : Option ℕ) → o ≡ side_with sides.stamp_of e.versions t → at_sides ≡ o
-  sides-are o is = sym (side-versions s t) ∙ ap (λ (v : Sides Version). side_with sides.stamp_of v t) (sym (tied.shown key e there).versions) ∙ sym is
+  sides-are : (o : Option ℕ) → o ≡ side_with sides.version_stamp e.versions t → at_sides ≡ o
+  sides-are o is = sym (side-versions s t) ∙ ap (λ (v : Sides Version). side_with sides.version_stamp v t) (sym (tied.shown key e there).versions) ∙ sym is
 
   -- no version with this stamp, and no record
-  pub found-none : None ≡ side_with sides.stamp_of e.versions t → found t (held_of (held_by index.entries heads) key) ≡ None
+  pub found-none : None ≡ side_with sides.version_stamp e.versions t → found t (held_of (held_by index.entries heads) key) ≡ None
   found-none is = found-is ∙ no-side (has stamp_of s.zero t) (has stamp_of s.one t) s.zero s.one (sides-are None is)
 
   -- the record of the side's cell
-  pub found-side : (i cell : ℕ) → Some i ≡ side_with sides.stamp_of e.versions t → cell ≡ 2 * e.cell + i → (found t (held_of (held_by index.entries heads) key) ≡ option_map record_of (in_cell heads cell)) × (i < 2)
+  pub found-side : (i cell : ℕ) → Some i ≡ side_with sides.version_stamp e.versions t → cell ≡ 2 * e.cell + i → (found t (held_of (held_by index.entries heads) key) ≡ option_map record_of (in_cell heads cell)) × (i < 2)
   found-side i cell is at = ⊎_elim
       (λ (zero : (i ≡ 0) × (cond (has stamp_of s.zero t) s.zero (cond (has stamp_of s.one t) s.one None) ≡ s.zero)).
       let here : cell ≡ 2 * e.cell = omega (arith, at, zero.0) in

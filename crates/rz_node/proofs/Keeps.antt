@@ -47,35 +47,35 @@ module _ (pairs : ℕ) (heads : List (Option Head)) (index : Indexed) (h : Head)
   abbrev before : List Held
   before = held_of (held_by index.entries heads) h.key
 
-  keep-passes : passes_keep sides.stamp_of h.stamp (in_order sides.stamp_of e.versions) ≡ passes_keep stamp_of h.stamp before
-  keep-passes = ap (λ (v : Sides Version). passes_keep sides.stamp_of h.stamp (in_order sides.stamp_of v)) placed.versions ∙ passes-keep s h.stamp ∙ ap (passes_keep stamp_of h.stamp) (sym placed.held)
+  keep-passes : passes_keep sides.version_stamp h.stamp (in_order sides.version_stamp e.versions) ≡ passes_keep stamp_of h.stamp before
+  keep-passes = ap (λ (v : Sides Version). passes_keep sides.version_stamp h.stamp (in_order sides.version_stamp v)) placed.versions ∙ passes-keep s h.stamp ∙ ap (passes_keep stamp_of h.stamp) (sym placed.held)
 
-  pub keep-passed : (t : ℕ) → Passed t ≡ room (passes_keep sides.stamp_of h.stamp (in_order sides.stamp_of e.versions)) (side_for sides.stamp_of (greater_goes h.base) e.versions) → passes_keep stamp_of h.stamp before ≡ Some t
+  pub keep-passed : (t : ℕ) → Passed t ≡ room (passes_keep sides.version_stamp h.stamp (in_order sides.version_stamp e.versions)) (side_for sides.version_stamp (greater_goes h.base) e.versions) → passes_keep stamp_of h.stamp before ≡ Some t
   keep-passed t is = sym keep-passes ∙ room-passed _ t _ is
 
-  pub keep-put : (side : ℕ) → Put side ≡ room (passes_keep sides.stamp_of h.stamp (in_order sides.stamp_of e.versions)) (side_for sides.stamp_of (greater_goes h.base) e.versions)
+  pub keep-put : (side : ℕ) → Put side ≡ room (passes_keep sides.version_stamp h.stamp (in_order sides.version_stamp e.versions)) (side_for sides.version_stamp (greater_goes h.base) e.versions)
       → (passes_keep stamp_of h.stamp before ≡ None) × (in_order stamp_of (put_at s side (Some (record_of h))) ≡ kept stamp_of h.base (record_of h) before)
   keep-put side is =
-      let put = room-put (passes_keep sides.stamp_of h.stamp (in_order sides.stamp_of e.versions)) side (side_for sides.stamp_of (greater_goes h.base) e.versions) is in
+      let put = room-put (passes_keep sides.version_stamp h.stamp (in_order sides.version_stamp e.versions)) side (side_for sides.version_stamp (greater_goes h.base) e.versions) is in
       let none : passes_keep stamp_of h.stamp before ≡ None = sym keep-passes ∙ put.0 in
-      let same : side ≡ side_for stamp_of (greater_goes h.base) s = put.1 ∙ ap (side_for sides.stamp_of (greater_goes h.base)) placed.versions ∙ side-map (greater_goes h.base) s in (
+      let same : side ≡ side_for stamp_of (greater_goes h.base) s = put.1 ∙ ap (side_for sides.version_stamp (greater_goes h.base)) placed.versions ∙ side-map (greater_goes h.base) s in (
         none,
         ap (λ (n : ℕ). in_order stamp_of (put_at s n (Some (record_of h)))) same
             ∙ keep-leaves s (record_of h) (ap (passes_keep stamp_of h.stamp) (sym placed.held) ∙ none) ∙ ap (kept stamp_of h.base (record_of h)) (sym placed.held),
       )
 
-  refill-passes : passes_refill sides.stamp_of sides.base_of h.stamp (in_order sides.stamp_of e.versions) ≡ passes_refill stamp_of base_of h.stamp before
-  refill-passes = ap (λ (v : Sides Version). passes_refill sides.stamp_of sides.base_of h.stamp (in_order sides.stamp_of v)) placed.versions ∙ passes-refill s h.stamp ∙ ap (passes_refill stamp_of base_of h.stamp) (sym placed.held)
+  refill-passes : passes_refill sides.version_stamp sides.version_base h.stamp (in_order sides.version_stamp e.versions) ≡ passes_refill stamp_of base_of h.stamp before
+  refill-passes = ap (λ (v : Sides Version). passes_refill sides.version_stamp sides.version_base h.stamp (in_order sides.version_stamp v)) placed.versions ∙ passes-refill s h.stamp ∙ ap (passes_refill stamp_of base_of h.stamp) (sym placed.held)
 
-  pub refill-passed : (t : ℕ) → Passed t ≡ room (passes_refill sides.stamp_of sides.base_of h.stamp (in_order sides.stamp_of e.versions)) (side_for sides.stamp_of never e.versions) → passes_refill stamp_of base_of h.stamp before ≡ Some t
+  pub refill-passed : (t : ℕ) → Passed t ≡ room (passes_refill sides.version_stamp sides.version_base h.stamp (in_order sides.version_stamp e.versions)) (side_for sides.version_stamp never e.versions) → passes_refill stamp_of base_of h.stamp before ≡ Some t
   refill-passed t is = sym refill-passes ∙ room-passed _ t _ is
 
-  pub refill-put : (side : ℕ) → Put side ≡ room (passes_refill sides.stamp_of sides.base_of h.stamp (in_order sides.stamp_of e.versions)) (side_for sides.stamp_of never e.versions)
+  pub refill-put : (side : ℕ) → Put side ≡ room (passes_refill sides.version_stamp sides.version_base h.stamp (in_order sides.version_stamp e.versions)) (side_for sides.version_stamp never e.versions)
       → (passes_refill stamp_of base_of h.stamp before ≡ None) × (in_order stamp_of (put_at s side (Some (record_of h))) ≡ refilled stamp_of (record_of h) before)
   refill-put side is =
-      let put = room-put (passes_refill sides.stamp_of sides.base_of h.stamp (in_order sides.stamp_of e.versions)) side (side_for sides.stamp_of never e.versions) is in
+      let put = room-put (passes_refill sides.version_stamp sides.version_base h.stamp (in_order sides.version_stamp e.versions)) side (side_for sides.version_stamp never e.versions) is in
       let none : passes_refill stamp_of base_of h.stamp before ≡ None = sym refill-passes ∙ put.0 in
-      let same : side ≡ side_for stamp_of never s = put.1 ∙ ap (side_for sides.stamp_of never) placed.versions ∙ side-map never s in (
+      let same : side ≡ side_for stamp_of never s = put.1 ∙ ap (side_for sides.version_stamp never) placed.versions ∙ side-map never s in (
         none,
         ap (λ (n : ℕ). in_order stamp_of (put_at s n (Some (record_of h)))) same
             ∙ refill-leaves s (record_of h) (ap (passes_refill stamp_of base_of h.stamp) (sym placed.held) ∙ none) ∙ ap (refilled stamp_of (record_of h)) (sym placed.held),

@@ -136,21 +136,21 @@ module _ (pairs : ℕ) (heads : List (Option Head)) (index : Indexed) (tied : Is
 
   -- ---- the cell may take it
 
-  other-stamp : (k : Head) → Differ sides.stamp_of (option_map version_of (option_map record_of (Some k))) (Some (version_of (record_of h))) → k.stamp ≢ h.stamp
+  other-stamp : (k : Head) → Differ sides.version_stamp (option_map version_of (option_map record_of (Some k))) (Some (version_of (record_of h))) → k.stamp ≢ h.stamp
   other-stamp k differ = differ
 
-  two-stamps : (d : ℕ) (k : Head) → d ≢ cell → in_cell heads d ≡ Some k → d / 2 ≡ e.cell → Differ sides.stamp_of (sides.other e.versions side) (Some (version_of (record_of h))) → k.stamp ≢ h.stamp
+  two-stamps : (d : ℕ) (k : Head) → d ≢ cell → in_cell heads d ≡ Some k → d / 2 ≡ e.cell → Differ sides.version_stamp (sides.other e.versions side) (Some (version_of (record_of h))) → k.stamp ≢ h.stamp
   two-stamps d k ne is in_pair differ =
-      let shows : Differ sides.stamp_of (sides.other (versions_of (sides_in heads e.cell)) side) (Some (version_of (record_of h))) = subst (λ (v : Sides Version). Differ sides.stamp_of (sides.other v side) (Some (version_of (record_of h)))) placed.versions differ in
+      let shows : Differ sides.version_stamp (sides.other (versions_of (sides_in heads e.cell)) side) (Some (version_of (record_of h))) = subst (λ (v : Sides Version). Differ sides.version_stamp (sides.other v side) (Some (version_of (record_of h)))) placed.versions differ in
       ⊎_elim
       (λ (low : side ≡ 0).
-      let shown : Differ sides.stamp_of (option_map version_of (option_map record_of (in_cell heads (2 * e.cell + 1)))) (Some (version_of (record_of h))) = subst (λ (n : ℕ). Differ sides.stamp_of (sides.other (versions_of (sides_in heads e.cell)) n) (Some (version_of (record_of h)))) low shows in
+      let shown : Differ sides.version_stamp (option_map version_of (option_map record_of (in_cell heads (2 * e.cell + 1)))) (Some (version_of (record_of h))) = subst (λ (n : ℕ). Differ sides.version_stamp (sides.other (versions_of (sides_in heads e.cell)) n) (Some (version_of (record_of h)))) low shows in
       let d-is : 2 * e.cell + 1 ≡ d = other-cell-one low in
-      subst (λ (o : Option Head). Differ sides.stamp_of (option_map version_of (option_map record_of o)) (Some (version_of (record_of h)))) (ap (in_cell heads) d-is ∙ is) shown)
+      subst (λ (o : Option Head). Differ sides.version_stamp (option_map version_of (option_map record_of o)) (Some (version_of (record_of h)))) (ap (in_cell heads) d-is ∙ is) shown)
       (λ (high : side ≢ 0).
-      let shown : Differ sides.stamp_of (option_map version_of (option_map record_of (in_cell heads (2 * e.cell)))) (Some (version_of (record_of h))) = subst (λ (n : ℕ). Differ sides.stamp_of (sides.other (versions_of (sides_in heads e.cell)) n) (Some (version_of (record_of h)))) (one-of high) shows in
+      let shown : Differ sides.version_stamp (option_map version_of (option_map record_of (in_cell heads (2 * e.cell)))) (Some (version_of (record_of h))) = subst (λ (n : ℕ). Differ sides.version_stamp (sides.other (versions_of (sides_in heads e.cell)) n) (Some (version_of (record_of h)))) (one-of high) shows in
       let d-is : 2 * e.cell ≡ d = other-cell-zero high in
-      subst (λ (o : Option Head). Differ sides.stamp_of (option_map version_of (option_map record_of o)) (Some (version_of (record_of h)))) (ap (in_cell heads) d-is ∙ is) shown)
+      subst (λ (o : Option Head). Differ sides.version_stamp (option_map version_of (option_map record_of o)) (Some (version_of (record_of h)))) (ap (in_cell heads) d-is ∙ is) shown)
       (cases_eq side 0)
     where
       one-of : side ≢ 0 → side ≡ 1
@@ -162,7 +162,7 @@ module _ (pairs : ℕ) (heads : List (Option Head)) (index : Indexed) (tied : Is
       other-cell-zero : side ≢ 0 → 2 * e.cell ≡ d
       other-cell-zero high = ⊎_elim (λ (low_d : d ≡ 2 * e.cell). sym low_d) (λ (is_d : d ≡ 2 * e.cell + 1). absurd (ne (omega (arith, is_d, at, one-of high)))) (two-cells d e.cell in_pair)
 
-  pub goes-put : Differ sides.stamp_of (sides.other e.versions side) (Some (version_of (record_of h))) → Goes heads cell h
+  pub goes-put : Differ sides.version_stamp (sides.other e.versions side) (Some (version_of (record_of h))) → Goes heads cell h
   goes-put differ = record {
     no_other_pair = λ d k is same.
         let was = tied.heads_in d k is in

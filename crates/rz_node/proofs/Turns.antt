@@ -14,46 +14,46 @@ two-map : (a b : Held) (lt : Bool) → cond lt (version_of b ∷ version_of a �
 two-map a b true = refl
 two-map a b false = refl
 
-ordered-map : (a b : Option Held) → ordered sides.stamp_of (option_map version_of a) (option_map version_of b) ≡ map version_of (ordered stamp_of a b)
+ordered-map : (a b : Option Held) → ordered sides.version_stamp (option_map version_of a) (option_map version_of b) ≡ map version_of (ordered stamp_of a b)
 ordered-map None None = refl
 ordered-map (Some a) None = refl
 ordered-map None (Some b) = refl
 ordered-map (Some a) (Some b) = two-map a b (nat_lt a.stamp b.stamp)
 
 -- versions stand in the order of the records
-pub order-map : (s : Sides Held) → in_order sides.stamp_of (versions_of s) ≡ map version_of (in_order stamp_of s)
+pub order-map : (s : Sides Held) → in_order sides.version_stamp (versions_of s) ≡ map version_of (in_order stamp_of s)
 order-map s = ordered-map s.zero s.one
 
-passes-map : (t : ℕ) (rs : List Held) → passes_keep sides.stamp_of t (map version_of rs) ≡ passes_keep stamp_of t rs
+passes-map : (t : ℕ) (rs : List Held) → passes_keep sides.version_stamp t (map version_of rs) ≡ passes_keep stamp_of t rs
 passes-map t [] = refl
 passes-map t (r ∷ rs) = refl
 
-pub passes-keep : (s : Sides Held) (t : ℕ) → passes_keep sides.stamp_of t (in_order sides.stamp_of (versions_of s)) ≡ passes_keep stamp_of t (in_order stamp_of s)
-passes-keep s t = ap (passes_keep sides.stamp_of t) (order-map s) ∙ passes-map t (in_order stamp_of s)
+pub passes-keep : (s : Sides Held) (t : ℕ) → passes_keep sides.version_stamp t (in_order sides.version_stamp (versions_of s)) ≡ passes_keep stamp_of t (in_order stamp_of s)
+passes-keep s t = ap (passes_keep sides.version_stamp t) (order-map s) ∙ passes-map t (in_order stamp_of s)
 
-has-map : (t : ℕ) (rs : List Held) → has_stamp sides.stamp_of t (map version_of rs) ≡ has_stamp stamp_of t rs
+has-map : (t : ℕ) (rs : List Held) → has_stamp sides.version_stamp t (map version_of rs) ≡ has_stamp stamp_of t rs
 has-map t [] = refl
 has-map t (r ∷ rs) = ap (λ b. (r.stamp == t) || b) (has-map t rs)
 
-past-map : (t : ℕ) (rs : List Held) → is_past sides.stamp_of sides.base_of t (map version_of rs) ≡ is_past stamp_of base_of t rs
+past-map : (t : ℕ) (rs : List Held) → is_past sides.version_stamp sides.version_base t (map version_of rs) ≡ is_past stamp_of base_of t rs
 past-map t [] = refl
 past-map t (a ∷ []) = refl
 past-map t (a ∷ b ∷ rs) = refl
 
-refill-map : (t : ℕ) (rs : List Held) → passes_refill sides.stamp_of sides.base_of t (map version_of rs) ≡ passes_refill stamp_of base_of t rs
+refill-map : (t : ℕ) (rs : List Held) → passes_refill sides.version_stamp sides.version_base t (map version_of rs) ≡ passes_refill stamp_of base_of t rs
 refill-map t [] = refl
 refill-map t (r ∷ rs) = λ i. cond (has-map t (r ∷ rs) i || past-map t (r ∷ rs) i) (Some r.stamp) None
 
-pub passes-refill : (s : Sides Held) (t : ℕ) → passes_refill sides.stamp_of sides.base_of t (in_order sides.stamp_of (versions_of s)) ≡ passes_refill stamp_of base_of t (in_order stamp_of s)
-passes-refill s t = ap (passes_refill sides.stamp_of sides.base_of t) (order-map s) ∙ refill-map t (in_order stamp_of s)
+pub passes-refill : (s : Sides Held) (t : ℕ) → passes_refill sides.version_stamp sides.version_base t (in_order sides.version_stamp (versions_of s)) ≡ passes_refill stamp_of base_of t (in_order stamp_of s)
+passes-refill s t = ap (passes_refill sides.version_stamp sides.version_base t) (order-map s) ∙ refill-map t (in_order stamp_of s)
 
-among-map : (goes : ℕ → ℕ → Bool) (a b : Option Held) → side_among sides.stamp_of goes (option_map version_of a) (option_map version_of b) ≡ side_among stamp_of goes a b
+among-map : (goes : ℕ → ℕ → Bool) (a b : Option Held) → side_among sides.version_stamp goes (option_map version_of a) (option_map version_of b) ≡ side_among stamp_of goes a b
 among-map goes None None = refl
 among-map goes None (Some b) = refl
 among-map goes (Some a) None = refl
 among-map goes (Some a) (Some b) = refl
 
-pub side-map : (goes : ℕ → ℕ → Bool) (s : Sides Held) → side_for sides.stamp_of goes (versions_of s) ≡ side_for stamp_of goes s
+pub side-map : (goes : ℕ → ℕ → Bool) (s : Sides Held) → side_for sides.version_stamp goes (versions_of s) ≡ side_for stamp_of goes s
 side-map goes s = among-map goes s.zero s.one
 
 -- ---- a keep

@@ -80,10 +80,10 @@ module _ (pairs : ℕ) (heads : List (Option Head)) (index : Indexed) (tied : Is
     finish : (index' : Indexed) → IsTied pairs (set heads cell None) index' × (held_by index'.entries (set heads cell None) ≡ with_held (held_by index.entries heads) key (records_in (set heads cell None) e.cell)) → shows
     finish index' both = (index', both.0, both.1 ∙ ap (with_held (held_by index.entries heads) key) (clears.records-after pairs heads index tied key e there placed side cell two at long))
 
-    not-both : {A : Type 0} (x : Version) (xs : List Version) → in_order sides.stamp_of v ≡ x ∷ xs → in_order sides.stamp_of v ≡ [] → A
+    not-both : {A : Type 0} (x : Version) (xs : List Version) → in_order sides.version_stamp v ≡ x ∷ xs → in_order sides.version_stamp v ≡ [] → A
     not-both x xs some none = let never : x ∷ xs ≡ [] = sym some ∙ none in absurd (cc)
 
-    by-versions : (vs : List Version) → in_order sides.stamp_of v ≡ vs → shows
+    by-versions : (vs : List Version) → in_order sides.version_stamp v ≡ vs → shows
     by-versions [] none =
         let index' : Indexed = record { entries = maps.remove index.entries key; free = freed_by (maps.get index.entries key) index.free } in
         finish index' (cleared pairs heads index tied key e there placed side cell two at long index' v refl (λ some. absurd (some none)) (λ some. absurd (some none)) (λ is. refl) (λ is. refl))
@@ -92,7 +92,7 @@ module _ (pairs : ℕ) (heads : List (Option Head)) (index : Indexed) (tied : Is
         finish index' (cleared pairs heads index tied key e there placed side cell two at long index' v refl (λ is. refl) (λ is. refl) (λ none. not-both x xs some none) (λ none. not-both x xs some none))
 
     pub shown-cleared : shows
-    shown-cleared = by-versions (in_order sides.stamp_of v) refl
+    shown-cleared = by-versions (in_order sides.version_stamp v) refl
 
 -- ---- heads that were changed
 

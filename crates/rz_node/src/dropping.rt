@@ -115,10 +115,10 @@ fn clear_in<D: Disk>(
 /// Sets the entry of a key, or takes the key away where no version is left.
 fn note(index: &mut Index, entry: Entry)
     requires { MatchOption (maps.get index.old.entries entry.key) (Contains index.old.free entry.cell) (λ e. e.cell ≡ entry.cell) }
-    ensures left { in_order sides.stamp_of entry.versions ≢ [] → index.new.entries ≡ maps.insert index.old.entries entry.key entry }
-    ensures left_free { in_order sides.stamp_of entry.versions ≢ [] → index.new.free ≡ taken_in (maps.get index.old.entries entry.key) entry.cell index.old.free }
-    ensures gone { in_order sides.stamp_of entry.versions ≡ [] → index.new.entries ≡ maps.remove index.old.entries entry.key }
-    ensures gone_free { in_order sides.stamp_of entry.versions ≡ [] → index.new.free ≡ freed_by (maps.get index.old.entries entry.key) index.old.free }
+    ensures left { in_order sides.version_stamp entry.versions ≢ [] → index.new.entries ≡ maps.insert index.old.entries entry.key entry }
+    ensures left_free { in_order sides.version_stamp entry.versions ≢ [] → index.new.free ≡ taken_in (maps.get index.old.entries entry.key) entry.cell index.old.free }
+    ensures gone { in_order sides.version_stamp entry.versions ≡ [] → index.new.entries ≡ maps.remove index.old.entries entry.key }
+    ensures gone_free { in_order sides.version_stamp entry.versions ≡ [] → index.new.free ≡ freed_by (maps.get index.old.entries entry.key) index.old.free }
 {
     match entry.versions.greatest() {
         Some(_) => index.set(entry),

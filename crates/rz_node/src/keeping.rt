@@ -164,7 +164,7 @@ fn put_in<D: Disk>(
     requires tied { IsTied cells.old.geometry.cells cells.old.heads.items index.old }
     requires place { place_in index.old head.now.key ≡ Some entry }
     requires side { side < 2 }
-    requires differ { Differ sides.stamp_of (sides.other entry.versions side) (Some (version_of (record_of head.now))) }
+    requires differ { Differ sides.version_stamp (sides.other entry.versions side) (Some (version_of (record_of head.now))) }
     requires valid { IsValid head.now }
     requires layout { head.now.layout ≡ cells.old.geometry.layout }
     requires bins { length bins.now ≡ bins_of head.now }

@@ -44,7 +44,7 @@ put-requires-clause-goes g c =
 
 pub with-versions-requires-clause-other : goal.with-versions-requires-clause-other
 with-versions-requires-clause-other g c =
-    subst (λ (v : Version). Differ sides.stamp_of (sides.other c.args.entry.versions c.args.side) (Some v)) (sym c.version.ensures) c.requires.differ
+    subst (λ (v : Version). Differ sides.version_stamp (sides.other c.args.entry.versions c.args.side) (Some v)) (sym c.version.ensures) c.requires.differ
 
 pub set-requires : goal.set-requires
 set-requires g c =

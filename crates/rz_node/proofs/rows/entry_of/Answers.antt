@@ -13,7 +13,7 @@ pub with-versions-requires-clause-other : goal.with-versions-requires-clause-oth
 with-versions-requires-clause-other g c =
     let n = c.args.cells.now in
     let zero = ap (λ (s : Sides Version). s.zero) c.with.ensures in
-    subst (λ (o : Option Version). Differ sides.stamp_of o (Some c.version-in-Some-Some.result)) (sym zero) (λ same.
+    subst (λ (o : Option Version). Differ sides.version_stamp o (Some c.version-in-Some-Some.result)) (sym zero) (λ same.
     pair-stamps n.heads.items c.args.pair c.in-Some-Some.zero c.in-Some-Some.one c.requires.apart (sym c.in-Some-Some.ensures) (sym c.in-Some-Some.ensures')
     (sym (ap (λ (v : Version). v.stamp) c.version.ensures) ∙ same ∙ ap (λ (v : Version). v.stamp) c.version-in-Some-Some.ensures))
 

@@ -30,7 +30,7 @@ pub returns-in-Passed-clause-answer : goal.returns-in-Passed-clause-answer
 returns-in-Passed-clause-answer g c =
     let s = c.self.inside in
     let p = placed s.cells.geometry.cells s.cells.heads.items s.index c.self.invariant.tied c.args.head.now.key c.in-Some.entry (sym c.in-Some.ensures) in
-    let passed = refill-passed s.cells.geometry.cells s.cells.heads.items s.index c.args.head.now c.in-Some.entry p c.in-Passed.held (subst (λ (v : Version). Passed c.in-Passed.held ≡ room (passes_refill sides.stamp_of sides.base_of v.stamp (in_order sides.stamp_of c.in-Some.entry.versions)) (side_for sides.stamp_of never c.in-Some.entry.versions)) c.version.ensures c.in-Passed.ensures.room) in
+    let passed = refill-passed s.cells.geometry.cells s.cells.heads.items s.index c.args.head.now c.in-Some.entry p c.in-Passed.held (subst (λ (v : Version). Passed c.in-Passed.held ≡ room (passes_refill sides.version_stamp sides.version_base v.stamp (in_order sides.version_stamp c.in-Some.entry.versions)) (side_for sides.version_stamp never c.in-Some.entry.versions)) c.version.ensures c.in-Passed.ensures.room) in
     sym (refill-up s.phase s.losses s.undecided s.cells.fence s.index.entries s.cells.heads.items c.in-Up.is s.cells.geometry.cells c.args.fence c.args.head.now.key c.args.head.now.stamp true (Some c.in-Passed.held) false
     (eq-eqb c.args.fence s.cells.fence (omega (arith, c.if-fence-own.false, c.fence-own.ensures)))
     passed (not-full s.cells.geometry.cells s.cells.heads.items s.index c.self.invariant.tied c.args.head.now.key c.in-Some.entry (sym c.in-Some.ensures)))
@@ -40,7 +40,7 @@ pub returns-in-Ok-clause-answer : goal.returns-in-Ok-clause-answer
 returns-in-Ok-clause-answer g c =
     let s = c.self.inside in
     let p = placed s.cells.geometry.cells s.cells.heads.items s.index c.self.invariant.tied c.args.head.now.key c.in-Some.entry (sym c.in-Some.ensures) in
-    let put = refill-put s.cells.geometry.cells s.cells.heads.items s.index c.args.head.now c.in-Some.entry p c.in-Put.side (subst (λ (v : Version). Put c.in-Put.side ≡ room (passes_refill sides.stamp_of sides.base_of v.stamp (in_order sides.stamp_of c.in-Some.entry.versions)) (side_for sides.stamp_of never c.in-Some.entry.versions)) c.version.ensures c.in-Put.ensures.room) in
+    let put = refill-put s.cells.geometry.cells s.cells.heads.items s.index c.args.head.now c.in-Some.entry p c.in-Put.side (subst (λ (v : Version). Put c.in-Put.side ≡ room (passes_refill sides.version_stamp sides.version_base v.stamp (in_order sides.version_stamp c.in-Some.entry.versions)) (side_for sides.version_stamp never c.in-Some.entry.versions)) c.version.ensures c.in-Put.ensures.room) in
     sym (refill-up s.phase s.losses s.undecided s.cells.fence s.index.entries s.cells.heads.items c.in-Up.is s.cells.geometry.cells c.args.fence c.args.head.now.key c.args.head.now.stamp true None false
     (eq-eqb c.args.fence s.cells.fence (omega (arith, c.if-fence-own.false, c.fence-own.ensures)))
     put.0 (not-full s.cells.geometry.cells s.cells.heads.items s.index c.self.invariant.tied c.args.head.now.key c.in-Some.entry (sym c.in-Some.ensures)))
@@ -50,7 +50,7 @@ pub returns-in-Err-clause-answer : goal.returns-in-Err-clause-answer
 returns-in-Err-clause-answer g c =
     let s = c.self.inside in
     let p = placed s.cells.geometry.cells s.cells.heads.items s.index c.self.invariant.tied c.args.head.now.key c.in-Some.entry (sym c.in-Some.ensures) in
-    let put = refill-put s.cells.geometry.cells s.cells.heads.items s.index c.args.head.now c.in-Some.entry p c.in-Put.side (subst (λ (v : Version). Put c.in-Put.side ≡ room (passes_refill sides.stamp_of sides.base_of v.stamp (in_order sides.stamp_of c.in-Some.entry.versions)) (side_for sides.stamp_of never c.in-Some.entry.versions)) c.version.ensures c.in-Put.ensures.room) in
+    let put = refill-put s.cells.geometry.cells s.cells.heads.items s.index c.args.head.now c.in-Some.entry p c.in-Put.side (subst (λ (v : Version). Put c.in-Put.side ≡ room (passes_refill sides.version_stamp sides.version_base v.stamp (in_order sides.version_stamp c.in-Some.entry.versions)) (side_for sides.version_stamp never c.in-Some.entry.versions)) c.version.ensures c.in-Put.ensures.room) in
     sym (λ i. refill_answer (geometry-same _ _ c.self.view_is i).cells (state-same _ _ c.self.view_is i) c.args.fence c.args.head.now.key c.args.head.now.stamp)
     ∙ refill-up s.phase s.losses s.undecided s.cells.fence s.index.entries s.cells.heads.items c.in-Up.is s.cells.geometry.cells c.args.fence c.args.head.now.key c.args.head.now.stamp true None false
     (eq-eqb c.args.fence s.cells.fence (omega (arith, c.if-fence-own.false, c.fence-own.ensures)))
@@ -60,7 +60,7 @@ pub returns-in-Ok-clause-after : goal.returns-in-Ok-clause-after
 returns-in-Ok-clause-after g c =
     let s = c.self.inside in
     let p = placed s.cells.geometry.cells s.cells.heads.items s.index c.self.invariant.tied c.args.head.now.key c.in-Some.entry (sym c.in-Some.ensures) in
-    let put = refill-put s.cells.geometry.cells s.cells.heads.items s.index c.args.head.now c.in-Some.entry p c.in-Put.side (subst (λ (v : Version). Put c.in-Put.side ≡ room (passes_refill sides.stamp_of sides.base_of v.stamp (in_order sides.stamp_of c.in-Some.entry.versions)) (side_for sides.stamp_of never c.in-Some.entry.versions)) c.version.ensures c.in-Put.ensures.room) in
+    let put = refill-put s.cells.geometry.cells s.cells.heads.items s.index c.args.head.now c.in-Some.entry p c.in-Put.side (subst (λ (v : Version). Put c.in-Put.side ≡ room (passes_refill sides.version_stamp sides.version_base v.stamp (in_order sides.version_stamp c.in-Some.entry.versions)) (side_for sides.version_stamp never c.in-Some.entry.versions)) c.version.ensures c.in-Put.ensures.room) in
     changed-up s.phase s.losses s.undecided s.cells.fence s.index.entries s.cells.heads.items c.in-Up.is c.put_in.new.cells.fence c.put_in.new.index.entries c.put_in.new.cells.heads.items (pending.Refill c.args.head.now.key (record_of c.args.head.now))
     c.put_in.ensures.fence (c.in-Ok.ensures.held ∙ ap (with_held (held_by s.index.entries s.cells.heads.items) c.args.head.now.key) put.1)
     ∙ (λ i. with_change (state-same _ _ c.self.view_is i) (pending.Refill c.args.head.now.key (record_of c.args.head.now)))
@@ -69,7 +69,7 @@ pub returns-in-Ok-clause-stands : goal.returns-in-Ok-clause-stands
 returns-in-Ok-clause-stands g c ne told =
     let s = c.self.inside in
     let p = placed s.cells.geometry.cells s.cells.heads.items s.index c.self.invariant.tied c.args.head.now.key c.in-Some.entry (sym c.in-Some.ensures) in
-    let put = refill-put s.cells.geometry.cells s.cells.heads.items s.index c.args.head.now c.in-Some.entry p c.in-Put.side (subst (λ (v : Version). Put c.in-Put.side ≡ room (passes_refill sides.stamp_of sides.base_of v.stamp (in_order sides.stamp_of c.in-Some.entry.versions)) (side_for sides.stamp_of never c.in-Some.entry.versions)) c.version.ensures c.in-Put.ensures.room) in
+    let put = refill-put s.cells.geometry.cells s.cells.heads.items s.index c.args.head.now c.in-Some.entry p c.in-Put.side (subst (λ (v : Version). Put c.in-Put.side ≡ room (passes_refill sides.version_stamp sides.version_base v.stamp (in_order sides.version_stamp c.in-Some.entry.versions)) (side_for sides.version_stamp never c.in-Some.entry.versions)) c.version.ensures c.in-Put.ensures.room) in
     let r : Rec = record { head = c.args.head.now; bins = c.args.bins.now } in
     around-along g.D.Disk.text _ _ (g.D.Disk.text c.put_in.new.cells.disk) (g.D.Disk.image c.put_in.new.cells.disk) (Some true) c.args.head.now.key (refilled stamp_of (record_of c.args.head.now))
     (records_in s.cells.heads.items c.in-Some.entry.cell) (in_order stamp_of (put_at (sides_in s.cells.heads.items c.in-Some.entry.cell) c.in-Put.side (Some (record_of c.args.head.now)))) (Some r)
@@ -79,7 +79,7 @@ pub returns-in-Err-clause-stands : goal.returns-in-Err-clause-stands
 returns-in-Err-clause-stands g c ne told =
     let s = c.self.inside in
     let p = placed s.cells.geometry.cells s.cells.heads.items s.index c.self.invariant.tied c.args.head.now.key c.in-Some.entry (sym c.in-Some.ensures) in
-    let put = refill-put s.cells.geometry.cells s.cells.heads.items s.index c.args.head.now c.in-Some.entry p c.in-Put.side (subst (λ (v : Version). Put c.in-Put.side ≡ room (passes_refill sides.stamp_of sides.base_of v.stamp (in_order sides.stamp_of c.in-Some.entry.versions)) (side_for sides.stamp_of never c.in-Some.entry.versions)) c.version.ensures c.in-Put.ensures.room) in
+    let put = refill-put s.cells.geometry.cells s.cells.heads.items s.index c.args.head.now c.in-Some.entry p c.in-Put.side (subst (λ (v : Version). Put c.in-Put.side ≡ room (passes_refill sides.version_stamp sides.version_base v.stamp (in_order sides.version_stamp c.in-Some.entry.versions)) (side_for sides.version_stamp never c.in-Some.entry.versions)) c.version.ensures c.in-Put.ensures.room) in
     let r : Rec = record { head = c.args.head.now; bins = c.args.bins.now } in
     around-along g.D.Disk.text _ _ (g.D.Disk.text c.put_in.new.cells.disk) (g.D.Disk.image c.put_in.new.cells.disk) (Some false) c.args.head.now.key (refilled stamp_of (record_of c.args.head.now))
     (records_in s.cells.heads.items c.in-Some.entry.cell) (in_order stamp_of (put_at (sides_in s.cells.heads.items c.in-Some.entry.cell) c.in-Put.side (Some (record_of c.args.head.now)))) (Some r)
@@ -89,7 +89,7 @@ pub invariant_of-self-in-Err : goal.invariant_of-self-in-Err
 invariant_of-self-in-Err g c =
     let s = c.self.inside in
     let p = placed s.cells.geometry.cells s.cells.heads.items s.index c.self.invariant.tied c.args.head.now.key c.in-Some.entry (sym c.in-Some.ensures) in
-    let put = refill-put s.cells.geometry.cells s.cells.heads.items s.index c.args.head.now c.in-Some.entry p c.in-Put.side (subst (λ (v : Version). Put c.in-Put.side ≡ room (passes_refill sides.stamp_of sides.base_of v.stamp (in_order sides.stamp_of c.in-Some.entry.versions)) (side_for sides.stamp_of never c.in-Some.entry.versions)) c.version.ensures c.in-Put.ensures.room) in
+    let put = refill-put s.cells.geometry.cells s.cells.heads.items s.index c.args.head.now c.in-Some.entry p c.in-Put.side (subst (λ (v : Version). Put c.in-Put.side ≡ room (passes_refill sides.version_stamp sides.version_base v.stamp (in_order sides.version_stamp c.in-Some.entry.versions)) (side_for sides.version_stamp never c.in-Some.entry.versions)) c.version.ensures c.in-Put.ensures.room) in
     record {
       tied = c.put_in.ensures.tied;
       decided = λ down. absurd (down refl);
