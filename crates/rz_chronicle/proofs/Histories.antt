@@ -14,7 +14,7 @@ use Rattle.rz_events.specs.Events.{by_of, word_of, same_actor, same_word}
 use Rattle.rz_events.specs.Volume.{Volume}
 use Rattle.rz_core.specs.Legal.{IsLegal, IsAllowed, IsForeign, IsLocal}
 use Rattle.rz_chronicle.specs.Keys.{touches, events_at, count_at, word_key, actor_key, IsOneOf, IsLater}
-use Rattle.rz_chronicle.specs.Kinds.{history, IsFit, MayCome, IsLegalIf, IsAllowedIf, is_honest, volume_in}
+use Rattle.rz_chronicle.specs.Kinds.{history, IsFit, MayCome, volume_in}
 use Rattle.rz_chronicle.specs.Tally.{at, Agree, IsHolding, HasCount, Covers, MayFollow, counts}
 use Rattle.rz_chronicle.specs.Holds.{keys, Stays}
 use Rattle.rz_chronicle.proofs.Keys.{count-append}
@@ -151,19 +151,14 @@ foreign x log xs p w a =
 
 -- what may come may follow all that others add
 pub follows : ((v : Volume) → IsLocal v) → (kind : List ℕ) (held : List (ℕ × ℕ)) (log : List Event) (x : Event) → held ≡ at (counts log) held → Covers held x → MayCome kind (history log) x → MayFollow kind held log x
-follows local kind held log x right covers may xs p agree = go (is_honest kind) may
-  where
-    v : Volume
-    v = volume_in kind
-
-    go : (b : Bool) → IsAllowedIf b v (history log) x → IsLegalIf b v (history xs) → IsLegalIf b v (history (xs ++ x ∷ []))
-    go false m fit = tt
-    go true m fit =
-        let w : count_at (word_key (word_of x)) xs ≡ count_at (word_key (word_of x)) log = same-held held (counts log) (counts xs) (word_key (word_of x)) right agree covers.0 in
-        let a : count_at (actor_key (by_of x)) xs ≡ count_at (actor_key (by_of x)) log = same-held held (counts log) (counts xs) (actor_key (by_of x)) right agree covers.1 in
-        let split : history xs ≡ reverse p.0 ++ history log = (later log xs p).1 in
-        let still : IsAllowed v (reverse p.0 ++ history log) x = local v (history log) (reverse p.0) x (subst (IsLegal v) split fit) (foreign x log xs p w a) m in
-        subst (IsLegal v) (sym (history-more xs x)) (fit, subst (λ (h : List Event). IsAllowed v h x) (sym split) still)
+follows local kind held log x right covers may xs p agree fit honest =
+    let v : Volume = volume_in kind in
+    let w : count_at (word_key (word_of x)) xs ≡ count_at (word_key (word_of x)) log = same-held held (counts log) (counts xs) (word_key (word_of x)) right agree covers.0 in
+    let a : count_at (actor_key (by_of x)) xs ≡ count_at (actor_key (by_of x)) log = same-held held (counts log) (counts xs) (actor_key (by_of x)) right agree covers.1 in
+    let split : history xs ≡ reverse p.0 ++ history log = (later log xs p).1 in
+    let legal : IsLegal v (history xs) = fit honest in
+    let still : IsAllowed v (reverse p.0 ++ history log) x = local v (history log) (reverse p.0) x (subst (IsLegal v) split legal) (foreign x log xs p w a) (may honest) in
+    subst (IsLegal v) (sym (history-more xs x)) (legal, subst (λ (h : List Event). IsAllowed v h x) (sym split) still)
 
 pub count_history : (k : ℕ) (xs : List Event) → count_at k (history xs) ≡ count_at k xs
 count_history k [] = refl

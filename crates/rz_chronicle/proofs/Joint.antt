@@ -9,7 +9,7 @@ use Rattle.rz_chronicle.specs.Kinds.{history}
 use Rattle.rz_chronicle.specs.Tally.{at, Agree, AllInRow, IsHolding, HasCount, Covers, Ends, counts, without, count_in}
 use Rattle.rz_chronicle.specs.Holds.{keys, Commits, IsRight}
 use Rattle.rz_chronicle.proofs.Keys.{count-same, touches-own}
-use Rattle.rz_chronicle.proofs.Passes.{committed}
+use Rattle.rz_chronicle.proofs.Hands.{committed}
 
 same-number : (k : ℕ) → (k == k) ≡ true
 same-number k = grind (arith, nat_tests)

@@ -10,15 +10,11 @@ use Rattle.rz_events.specs.declared.events.Word.TheVariants.{Export, Node, Own}
 use Rattle.rz_events.specs.declared.events.Event.{Event}
 use Rattle.rz_events.specs.Events.{by_of, word_of}
 use Rattle.rz_chronicle.specs.Keys.{touches, count_at, word_key, actor_key, rows, IsInRow}
-use Rattle.rz_chronicle.specs.Kinds.{IsFit, IsLegalIf, is_honest, volume_in}
+use Rattle.rz_chronicle.specs.Kinds.{IsFit}
 use Rattle.rz_chronicle.specs.Tally.{at, Agree, IsHolding, HasCount, Covers, notes, held_in, mark}
 
 pub fit-first : (kind : List ℕ) → IsFit kind []
-fit-first kind = go (is_honest kind)
-  where
-    go : (b : Bool) → IsLegalIf b (volume_in kind) []
-    go false = tt
-    go true = tt
+fit-first kind honest = tt
 
 pub count-append : (k : ℕ) (xs ys : List Event) → count_at k (xs ++ ys) ≡ count_at k xs + count_at k ys
 count-append k xs ys = sum_by-append (λ (e : Event). cond (touches k e) 1 0) xs ys

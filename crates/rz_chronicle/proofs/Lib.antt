@@ -3,11 +3,12 @@ pub mod Trades
 pub mod Adding
 pub mod Back
 pub mod Histories
-pub mod Passes
+pub mod Hands
 pub mod Joint
 pub mod Rows
 pub mod Numbers
 pub mod Deals
-pub mod Places
+pub mod Apart
 pub mod Pens
 pub mod Settling
+pub mod Same

@@ -8,7 +8,7 @@ use Rattle.logbook.specs.declared.tokens.Pen.{Pen}
 use Rattle.rz_chronicle.specs.Keys.{key_at, rows}
 use Rattle.rz_chronicle.specs.Deals.{IsFresh, AreFresh}
 use Rattle.rz_chronicle.proofs.Adding.{below_or}
-use Rattle.rz_chronicle.proofs.Places.{keys-apart}
+use Rattle.rz_chronicle.proofs.Apart.{keys-apart}
 
 -- the pens of the places from i on
 abbrev pub Remain : Book → List ℕ → ℕ → List Pen → Type 0

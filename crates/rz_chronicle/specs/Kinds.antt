@@ -1,6 +1,6 @@
 -- The kind of a book: whether it is honest, and the volume whose log it has. It stands as numbers among the ghost names of the
 -- book, and is read back from them.
-use Rattle.std.specs.Prelude.{ℕ, zero, suc, Bool, true, false, cond, List, [], ◌∷◌, reverse, slice_index_or}
+use Rattle.std.specs.Prelude.{ℕ, zero, suc, Bool, true, false, IsTrue, cond, List, [], ◌∷◌, reverse, slice_index_or}
 use Rattle.mj_angles.specs.declared.layout.Layout.{Layout}
 use Rattle.mj_angles.specs.declared.layout.Layout.TheVariants.{L0, L1, L2, L0B1, L0B2, L0B3, L1B1, L1B2, L1B3, L2B1, L2B2, L2B3}
 use Rattle.rz_events.specs.declared.files.NodeSpec.{NodeSpec}
@@ -67,18 +67,10 @@ is_honest _ = false
 abbrev pub history : List Event → List Event
 history log = reverse log
 
-abbrev pub IsLegalIf : Bool → Volume → List Event → Type 0
-IsLegalIf false v h = Unit {0}
-IsLegalIf true v h = IsLegal v h
-
-abbrev pub IsAllowedIf : Bool → Volume → List Event → Event → Type 0
-IsAllowedIf false v h x = Unit {0}
-IsAllowedIf true v h x = IsAllowed v h x
-
 -- the history of an honest book is legal
 abbrev pub IsFit : List ℕ → List Event → Type 0
-IsFit kind h = IsLegalIf (is_honest kind) (volume_in kind) h
+IsFit kind h = IsTrue (is_honest kind) → IsLegal (volume_in kind) h
 
--- the event may come next in an honest book
+-- the event may come next: in an honest book it is allowed
 abbrev pub MayCome : List ℕ → List Event → Event → Type 0
-MayCome kind h x = IsAllowedIf (is_honest kind) (volume_in kind) h x
+MayCome kind h x = IsTrue (is_honest kind) → IsAllowed (volume_in kind) h x

@@ -32,6 +32,6 @@ impl Kind {
 }
 
 /// A kind says its volume, and whether it is honest.
-pub fn kinds()
+pub fn read_back()
     ensures { (honest : Bool) (v : AVolume) → (is_honest (kind_of honest v) ≡ honest) × (volume_in (kind_of honest v) ≡ v) }
 {}

@@ -9,13 +9,14 @@
 //! The book is of a volume, and honest or not: an honest one keeps its log legal. Which book a pass, a
 //! post or a desk belongs to is the type parameter `J`, which each program picks once.
 //!
-//! In reading order: `kinds`, `places`, `told`, `hand`, `steps`, `passes`, `book`, `deal`, `start`.
+//! In reading order: `kinds`, `places`, `told`, `hand`, `steps`, `passes`, `book`, `deal`, `start`, `laws`.
 #![tactic(auto)]
 
 mod book;
 mod deal;
 mod hand;
 mod kinds;
+mod laws;
 mod passes;
 mod places;
 mod start;
@@ -23,7 +24,8 @@ mod steps;
 mod told;
 
 pub use book::Book;
-pub use hand::Asks;
-pub use kinds::{Kind, kinds};
+pub use hand::{Asks, Itself};
+pub use kinds::{Kind, read_back};
+pub use laws::{actors_kept, words_counted, words_kept};
 pub use passes::{Desk, Naming, Pass, Post};
 pub use start::{Crew, Opened};

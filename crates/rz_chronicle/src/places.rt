@@ -53,6 +53,7 @@ pub fn owner_at(nodes: &[u16], place: u16) -> Option<Word>
 }
 
 /// The key of the word at a place, or a number that is no word's key at one that is nobody's.
+#[tactic(auto, unfolding(crate::specs::Keys::rows))]
 pub fn key_at(nodes: &[u16], place: u16) -> u64
     requires { place < 338 }
     ensures value { result ≡ keys.key_at nodes.now place }

@@ -1,6 +1,7 @@
 //! How a book is made, and what it deals out.
 ghost use Rattle.std.specs.Prelude.{◌≡◌, ◌+◌, ◌≤◌, ◌++◌, [], ◌∷◌, map, length, nat_eq, OnOk, IfOk};
 ghost use Rattle.std.specs.List.{IsDistinct};
+ghost use Rattle.std.proofs.lemmas.Map.Keys.{IsDistinct-prop};
 ghost use Rattle.logbook.specs.Pages.{Book as ABook};
 ghost use Rattle.rz_events.specs.declared.files.NodeSpec.{NodeSpec as ANodeSpec};
 ghost use Rattle.rz_events.specs.declared.keys.Actor.TheVariants as a;
@@ -15,7 +16,7 @@ ghost use Rattle.rz_chronicle.specs.Deals.{new_pass, new_post, ArePasses, AreFre
 use crate::book::Book;
 use crate::deal::{Deal, clients, posts, rebuilders};
 use crate::hand::{Hand, Law, begin};
-use crate::kinds::{Kind, kinds};
+use crate::kinds::{Kind, read_back};
 use crate::passes::{Desk, Naming, Pass};
 use crate::places::{WORDS, key_at};
 use crate::told::Told;
@@ -113,7 +114,7 @@ pub struct Opened {
     ghost long: { length words.items ≡ 338 },
     ghost are: { AreWords seen.book nodes.items words.items },
     ghost few: { length nodes.items ≤ 256 },
-    ghost distinct: { IsDistinct nat_eq nodes.items },
+    ghost distinct: { IsDistinct nat_eq nodes.items } by { IsDistinct-prop nat_eq nodes.items },
     ghost numbers: { nodes.items ≡ sids_of (volume_in hand.kind) },
     ghost names: { seen.names ≡ hand.tallies ∷ hand.copy ∷ hand.kind },
     ghost empty: { seen.log ≡ [] },
@@ -140,7 +141,7 @@ impl Opened {
         let nodes = numbers(alloc, volume.clusters.as_slice())?;
         let _few = volume.node_count();
         let kind = Kind::of(volume.copy(alloc)?, honest);
-        kinds();
+        read_back();
         let (start, hand) = begin(&kind);
         let count = key_count();
         let (seen, pens) = Seen::open_row::<Empty, Empty>(&Empty, start, count);

@@ -11,8 +11,13 @@ use Rattle.rz_chronicle.specs.Tally.{at, counts, Agree, AllInRow}
 use Rattle.rz_chronicle.specs.Holds.{IsHand, IsOwn, Stays, keys, keys_in}
 use Rattle.rz_chronicle.specs.Rules.{PassView, PostView}
 use Rattle.rz_chronicle.proofs.Histories.{later, stays}
-use Rattle.rz_chronicle.proofs.Passes.{taken, taken-keys, at-same-keys, at-append, keys-append, agree-left, agree-right, low-append, own-left, own-place, hand-made, own-after, own-same}
+use Rattle.rz_chronicle.proofs.Hands.{taken, taken-keys, at-same-keys, at-append, keys-append, agree-left, agree-right, low-append, own-left, own-place, member-low, hand-made, own-after, own-same}
 use Rattle.rz_chronicle.proofs.book.Book.absorb.Goals as goal
+
+pub view-hand-requires-clause-word : goal.view-hand-requires-clause-word
+view-hand-requires-clause-word g c =
+    let key = ap (λ (n : Named). n.key) c.row-word.ensures ∙ own-place (sids_of (volume_in g.J.Naming.kind)) c.place_of.result (Own c.front.inside.actor) (c.place_of.ensures.owner (sids_of (volume_in g.J.Naming.kind))) in
+    (ap (λ (n : Named). n.tracked) c.row-word.ensures, subst (λ (k : ℕ). k < rows) (sym key) (member-low c.front.inside.actor c.front.invariant.4))
 
 pub view-hand-requires-clause-key : goal.view-hand-requires-clause-key
 view-hand-requires-clause-key g c = (Own c.front.inside.actor, ap (λ (n : Named). n.key) c.row-word.ensures ∙ own-place (sids_of (volume_in g.J.Naming.kind)) c.place_of.result (Own c.front.inside.actor) (c.place_of.ensures.owner (sids_of (volume_in g.J.Naming.kind))))

@@ -10,7 +10,7 @@ use Rattle.rz_chronicle.specs.Tally.{counts, IsHolding}
 use Rattle.rz_chronicle.specs.Holds.{IsHand, IsOwn, IsShared, Commits, keys}
 use Rattle.rz_chronicle.specs.Rules.{PassView, PostView}
 use Rattle.rz_chronicle.proofs.Histories.{same-log}
-use Rattle.rz_chronicle.proofs.Passes.{taken, taken-keys, at-same-keys, own-place, hand-right, hand-may, hand-after, own-after, own-stays, one-count, later-keys}
+use Rattle.rz_chronicle.proofs.Hands.{taken, taken-keys, at-same-keys, own-place, hand-right, hand-may, hand-after, own-after, own-stays, one-count, later-keys}
 use Rattle.rz_chronicle.proofs.book.Book.commit.Goals as goal
 
 pub append_both-its-requires-clause-word : goal.append_both-its-requires-clause-word
@@ -27,7 +27,7 @@ append_both-its-requires-clause-word g c =
 pub append_both-its-requires-clause-one : goal.append_both-its-requires-clause-one
 append_both-its-requires-clause-one g c =
     let h = taken (λ h. IsHand g.J.Naming.tallies g.J.Naming.copy g.J.Naming.kind c.pass.inside.seen.log h × IsOwn c.pass.inside.actor h.held) c.pass.inside.hand c.take.result c.in-Some.mine c.take.ensures.value c.in-Some.is c.pass.invariant.2 in
-    let o = taken (λ h. IsHand g.J.Naming.tallies g.J.Naming.copy g.J.Naming.kind c.post.inside.seen.log h × (h.held ≡ (word_key c.post.inside.word, c.post.inside.moved) ∷ [])) c.post.inside.hand c.take-1.result c.in-Some-take.its c.take-1.ensures.value c.in-Some-take.is c.post.invariant.2 in
+    let o = taken (λ h. IsHand g.J.Naming.tallies g.J.Naming.copy g.J.Naming.kind c.post.inside.seen.log h × (h.held ≡ (word_key c.post.inside.word, c.post.inside.moved) ∷ [])) c.post.inside.hand c.take-in-Some.result c.in-Some-take.its c.take-in-Some.ensures.value c.in-Some-take.is c.post.invariant.2 in
     record { tallies = o.0.tallies_is ∙ sym h.0.tallies_is; copy = o.0.copy_is ∙ sym h.0.copy_is; kind = o.0.kind_is ∙ sym h.0.kind_is }
 
 pub append_both-its-requires-clause-mine : goal.append_both-its-requires-clause-mine
@@ -41,7 +41,7 @@ pub append_both-its-requires-clause-its : goal.append_both-its-requires-clause-i
 append_both-its-requires-clause-its g c =
     let log = c.pass.inside.seen.log in let log2 = c.post.inside.seen.log in let mine = c.in-Some.mine in let its = c.in-Some-take.its in let k = word_key c.post.inside.word in
     let h = taken (λ h. IsHand g.J.Naming.tallies g.J.Naming.copy g.J.Naming.kind log h × IsOwn c.pass.inside.actor h.held) c.pass.inside.hand c.take.result mine c.take.ensures.value c.in-Some.is c.pass.invariant.2 in
-    let o = taken (λ h. IsHand g.J.Naming.tallies g.J.Naming.copy g.J.Naming.kind log2 h × (h.held ≡ (k, c.post.inside.moved) ∷ [])) c.post.inside.hand c.take-1.result its c.take-1.ensures.value c.in-Some-take.is c.post.invariant.2 in
+    let o = taken (λ h. IsHand g.J.Naming.tallies g.J.Naming.copy g.J.Naming.kind log2 h × (h.held ≡ (k, c.post.inside.moved) ∷ [])) c.post.inside.hand c.take-in-Some.result its c.take-in-Some.ensures.value c.in-Some-take.is c.post.invariant.2 in
     let one : log2 ≡ log = same-log log2 log (ap (λ (v : PostView). v.log) c.post.view_is ∙ (c.requires.one ∙ ap (λ (v : PassView). v.log) (sym c.pass.view_is))) in
     let n : count_at k log2 ≡ c.post.inside.moved = sym (one-count k c.post.inside.moved (counts log2) its.held o.1 o.0.right) in
     let m : count_at k mine.log ≡ c.post.inside.moved = ap (count_at k) (h.0.log_is ∙ sym one) ∙ n in (

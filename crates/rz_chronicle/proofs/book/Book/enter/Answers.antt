@@ -11,7 +11,7 @@ use Rattle.rz_chronicle.specs.Tally.{at, counts, Agree}
 use Rattle.rz_chronicle.specs.Holds.{IsHand, IsOwn, Stays, keys}
 use Rattle.rz_chronicle.specs.Rules.{PassView, PostView}
 use Rattle.rz_chronicle.proofs.Histories.{later, stays}
-use Rattle.rz_chronicle.proofs.Passes.{taken, taken-keys, at-same-keys, own-place, hand-made, own-after, own-same}
+use Rattle.rz_chronicle.proofs.Hands.{taken, taken-keys, at-same-keys, own-place, hand-made, own-after, own-same}
 use Rattle.rz_chronicle.proofs.book.Book.enter.Goals as goal
 
 pub view_both-its-requires-clause-word : goal.view_both-its-requires-clause-word
@@ -26,18 +26,18 @@ view_both-its-requires-clause-key g c =
 pub view_both-its-requires-clause-one : goal.view_both-its-requires-clause-one
 view_both-its-requires-clause-one g c =
     let h = taken (λ h. IsHand g.J.Naming.tallies g.J.Naming.copy g.J.Naming.kind c.pass.inside.seen.log h × IsOwn c.pass.inside.actor h.held) c.pass.inside.hand c.take.result c.in-Some.mine c.take.ensures.value c.in-Some.is c.pass.invariant.2 in
-    let o = taken (λ h. IsHand g.J.Naming.tallies g.J.Naming.copy g.J.Naming.kind c.post.inside.seen.log h × (h.held ≡ (word_key c.post.inside.word, c.post.inside.moved) ∷ [])) c.post.inside.hand c.take-1.result c.in-Some-take.its c.take-1.ensures.value c.in-Some-take.is c.post.invariant.2 in
+    let o = taken (λ h. IsHand g.J.Naming.tallies g.J.Naming.copy g.J.Naming.kind c.post.inside.seen.log h × (h.held ≡ (word_key c.post.inside.word, c.post.inside.moved) ∷ [])) c.post.inside.hand c.take-in-Some.result c.in-Some-take.its c.take-in-Some.ensures.value c.in-Some-take.is c.post.invariant.2 in
     record { tallies = o.0.tallies_is ∙ sym h.0.tallies_is; copy = o.0.copy_is ∙ sym h.0.copy_is; kind = o.0.kind_is ∙ sym h.0.kind_is }
 
 pub view_both-its-requires-clause-held : goal.view_both-its-requires-clause-held
 view_both-its-requires-clause-held g c =
     let h = taken (λ h. IsHand g.J.Naming.tallies g.J.Naming.copy g.J.Naming.kind c.pass.inside.seen.log h × IsOwn c.pass.inside.actor h.held) c.pass.inside.hand c.take.result c.in-Some.mine c.take.ensures.value c.in-Some.is c.pass.invariant.2 in
-    let o = taken (λ h. IsHand g.J.Naming.tallies g.J.Naming.copy g.J.Naming.kind c.post.inside.seen.log h × (h.held ≡ (word_key c.post.inside.word, c.post.inside.moved) ∷ [])) c.post.inside.hand c.take-1.result c.in-Some-take.its c.take-1.ensures.value c.in-Some-take.is c.post.invariant.2 in
+    let o = taken (λ h. IsHand g.J.Naming.tallies g.J.Naming.copy g.J.Naming.kind c.post.inside.seen.log h × (h.held ≡ (word_key c.post.inside.word, c.post.inside.moved) ∷ [])) c.post.inside.hand c.take-in-Some.result c.in-Some-take.its c.take-in-Some.ensures.value c.in-Some-take.is c.post.invariant.2 in
     (h.0.low, o.0.low)
 
 pub view_both-its-requires-clause-its : goal.view_both-its-requires-clause-its
 view_both-its-requires-clause-its g c =
-    let o = taken (λ h. IsHand g.J.Naming.tallies g.J.Naming.copy g.J.Naming.kind c.post.inside.seen.log h × (h.held ≡ (word_key c.post.inside.word, c.post.inside.moved) ∷ [])) c.post.inside.hand c.take-1.result c.in-Some-take.its c.take-1.ensures.value c.in-Some-take.is c.post.invariant.2 in
+    let o = taken (λ h. IsHand g.J.Naming.tallies g.J.Naming.copy g.J.Naming.kind c.post.inside.seen.log h × (h.held ≡ (word_key c.post.inside.word, c.post.inside.moved) ∷ [])) c.post.inside.hand c.take-in-Some.result c.in-Some-take.its c.take-in-Some.ensures.value c.in-Some-take.is c.post.invariant.2 in
     o.1 ∙ ap (λ (k : ℕ). (k, c.post.inside.moved) ∷ []) (sym c.key_of-key.ensures.value)
 
 pub invariant_of-pass : goal.invariant_of-pass
@@ -82,7 +82,7 @@ returns-in-Some-take-clause-stays g c =
 pub returns-in-Some-take-clause-serves : goal.returns-in-Some-take-clause-serves
 returns-in-Some-take-clause-serves g c =
     let log2 = c.post.inside.seen.log in let its = c.in-Some-take.its in
-    let o = taken (λ h. IsHand g.J.Naming.tallies g.J.Naming.copy g.J.Naming.kind log2 h × (h.held ≡ (word_key c.post.inside.word, c.post.inside.moved) ∷ [])) c.post.inside.hand c.take-1.result its c.take-1.ensures.value c.in-Some-take.is c.post.invariant.2 in
+    let o = taken (λ h. IsHand g.J.Naming.tallies g.J.Naming.copy g.J.Naming.kind log2 h × (h.held ≡ (word_key c.post.inside.word, c.post.inside.moved) ∷ [])) c.post.inside.hand c.take-in-Some.result its c.take-in-Some.ensures.value c.in-Some-take.is c.post.invariant.2 in
     let a = c.view_both-its.ensures in let new = c.view_both-its.new.seen.log in
     let from : IsPrefix log2 new = prefix_trans log2 c.learn.new.self.log new c.learn.ensures.3 a.seen in
     let n : count_at (word_key c.post.inside.word) new ≡ c.post.inside.moved = subst (λ (k : ℕ). count_at k new ≡ c.post.inside.moved) c.key_of-key.ensures.value a.agree.1 in

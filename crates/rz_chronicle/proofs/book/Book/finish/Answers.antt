@@ -10,7 +10,7 @@ use Rattle.rz_chronicle.specs.Kinds.{MayCome, history, volume_in}
 use Rattle.rz_chronicle.specs.Tally.{IsHolding}
 use Rattle.rz_chronicle.specs.Holds.{IsHand, IsOwn, Commits, keys}
 use Rattle.rz_chronicle.specs.Rules.{PassView}
-use Rattle.rz_chronicle.proofs.Passes.{taken, taken-keys, at-same-keys, hand-right, hand-may, hand-after, own-place, member-low, own-after, committed, moved-on, covers, has-own}
+use Rattle.rz_chronicle.proofs.Hands.{taken, taken-keys, at-same-keys, hand-right, hand-may, hand-after, own-place, member-low, own-after, committed, moved-on, covers, has-own}
 use Rattle.rz_chronicle.proofs.book.Book.finish.Goals as goal
 
 pub append-hand-requires-clause-word : goal.append-hand-requires-clause-word

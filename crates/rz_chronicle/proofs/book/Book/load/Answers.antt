@@ -10,7 +10,7 @@ use Rattle.rz_chronicle.specs.Tally.{at, counts, Agree}
 use Rattle.rz_chronicle.specs.Holds.{IsHand, IsOwn, Stays, keys, keys_in}
 use Rattle.rz_chronicle.specs.Rules.{PassView, PostView}
 use Rattle.rz_chronicle.proofs.Histories.{later, stays}
-use Rattle.rz_chronicle.proofs.Passes.{taken, taken-keys, at-same-keys, at-append, keys-append, agree-left, agree-right, low-append, own-left, hand-made, own-after, own-same}
+use Rattle.rz_chronicle.proofs.Hands.{taken, taken-keys, at-same-keys, at-append, keys-append, agree-left, agree-right, low-append, own-left, hand-made, own-after, own-same}
 use Rattle.rz_chronicle.proofs.book.Book.load.Goals as goal
 
 pub invariant_of-pass : goal.invariant_of-pass

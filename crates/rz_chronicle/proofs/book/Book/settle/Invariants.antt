@@ -1,9 +1,4 @@
-use Rattle.std.proofs.Common.{◌≡◌, ◌++◌, ◌∷◌, ℕ, List, map, AllByRecursion}
 use Rattle.std.specs.Vec.Iter.{into_iter_items}
-use Rattle.rz_chronicle.specs.Keys.{word_key, IsLater}
-use Rattle.rz_chronicle.specs.Kinds.{IsFit}
-use Rattle.rz_chronicle.specs.Holds.{Stays, IsSettled}
-use Rattle.rz_chronicle.specs.Rules.{PostView}
 use Rattle.rz_chronicle.proofs.Settling.{Settles}
 use Rattle.rz_chronicle.proofs.book.Book.settle.Given as goal
 

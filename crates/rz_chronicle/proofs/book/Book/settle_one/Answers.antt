@@ -3,7 +3,7 @@ use Rattle.rz_chronicle.specs.Keys.{IsLater, word_key}
 use Rattle.rz_chronicle.specs.Kinds.{history}
 use Rattle.rz_chronicle.specs.Holds.{IsHand, IsOwn, IsSettled, Stays, keys}
 use Rattle.rz_chronicle.specs.Rules.{PostView}
-use Rattle.rz_chronicle.proofs.Passes.{taken}
+use Rattle.rz_chronicle.proofs.Hands.{taken}
 use Rattle.rz_chronicle.proofs.book.Book.settle_one.Goals as goal
 
 pub absorb-requires-clause-theirs : goal.absorb-requires-clause-theirs

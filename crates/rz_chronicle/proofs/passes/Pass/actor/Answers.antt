@@ -4,7 +4,7 @@ use Rattle.rz_chronicle.specs.declared.hand.Hand.{Hand}
 use Rattle.rz_chronicle.specs.Keys.{actor_key, IsOneOf}
 use Rattle.rz_chronicle.specs.Holds.{IsHand, IsOwn, keys_in}
 use Rattle.rz_chronicle.specs.Rules.{PassView}
-use Rattle.rz_chronicle.proofs.Passes.{own-key}
+use Rattle.rz_chronicle.proofs.Hands.{own-key}
 use Rattle.rz_chronicle.proofs.passes.Pass.actor.Goals as goal
 
 pub returns-clause-own : goal.returns-clause-own

@@ -6,7 +6,7 @@ use Rattle.rz_chronicle.specs.Tally.{at, counts}
 use Rattle.rz_chronicle.specs.Holds.{IsHand}
 use Rattle.rz_chronicle.specs.Rules.{PostView}
 use Rattle.rz_chronicle.proofs.Histories.{count_history}
-use Rattle.rz_chronicle.proofs.Passes.{post-count}
+use Rattle.rz_chronicle.proofs.Hands.{post-count}
 use Rattle.rz_chronicle.proofs.passes.Post.room.Goals as goal
 
 pub returns-clause-room : goal.returns-clause-room

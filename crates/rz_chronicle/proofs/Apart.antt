@@ -10,7 +10,7 @@ use Rattle.rz_events.specs.declared.events.Word.TheVariants.{Export, Node, Own}
 use Rattle.rz_chronicle.specs.Keys.{word_key, owner, key_of_owner, key_at, rows}
 
 -- What is known of a key by its place. At a place that is a node's the key tells the node, at any other the place.
-data Shape (sids : List ℕ) (place key : ℕ) : Type 0 where
+pub data Shape (sids : List ℕ) (place key : ℕ) : Type 0 where
   Plain : key ≡ 4 * place → Shape sids place key
   OfNode : (n : ℕ) → 1 ≤ place → slice_get sids (place - 1) ≡ Some n → key ≡ 4 * n + 1 → Shape sids place key
   OfClient : 257 ≤ place → place ≤ 320 → key ≡ 4 * (3 * (place - 256)) + 2 → Shape sids place key
