@@ -12,3 +12,5 @@ pub mod Apart
 pub mod Pens
 pub mod Settling
 pub mod Same
+pub mod Dealt
+pub mod Posts

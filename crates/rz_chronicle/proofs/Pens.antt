@@ -1,9 +1,10 @@
 -- Which pens are left while the words of a book are made.
-use Rattle.std.proofs.Common.{◌≡◌, ◌≢◌, ℕ, ◌+◌, ◌<◌, ◌≤◌, nat_eq, List, [], ◌∷◌, ◌++◌, length, set, slice_index_or, sym, refl, ap, ◌∙◌, subst, inl, inr, arith}
+use Rattle.std.proofs.Common.{◌≡◌, ◌≢◌, ℕ, ◌+◌, ◌<◌, ◌≤◌, nat_eq, List, [], ◌∷◌, ◌++◌, length, set, slice_index_or, true, sym, refl, ap, ap₂, ◌∙◌, subst, inl, inr, arith}
 use Rattle.std.specs.List.{IsDistinct}
 use Rattle.std.proofs.lemmas.List.{get_or-set_other, get_or_push}
 use Rattle.std.proofs.Math.ListN.{get_or-append}
-use Rattle.logbook.specs.Pages.{Book, nib, may_make_home}
+use Rattle.logbook.specs.Pages.{Book, Named, Nib, nib, may_make_home}
+use Rattle.rz_chronicle.specs.Rules.{named}
 use Rattle.logbook.specs.declared.tokens.Pen.{Pen}
 use Rattle.rz_chronicle.specs.Keys.{key_at, rows}
 use Rattle.rz_chronicle.specs.Deals.{IsFresh, AreFresh}
@@ -28,3 +29,7 @@ fresh-more b ps p is are k d lt =
       | inl low ↦ subst (IsFresh b k) (sym (get_or-append ps (p ∷ []) d k low)) (are k d low)
       | inr here ↦ subst (λ (j : ℕ). IsFresh b j (slice_index_or (ps ++ p ∷ []) k d)) here (subst (IsFresh b (length ps)) (sym (get_or_push ps p d k here)) is)
     ]
+
+-- the word that a fresh pen makes
+pub pen-named : (b : Book) (k : ℕ) (p : Pen) (w : Named) → w ≡ record { tracked = true; key = p.nib.key; book = p.book } → IsFresh b k p → w ≡ named b k
+pen-named b k p w is fresh = is ∙ ap₂ (λ (j : ℕ) (c : Book). named c j) (ap (λ (n : Nib). n.key) fresh.1) fresh.0

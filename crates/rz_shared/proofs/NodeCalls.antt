@@ -1,6 +1,6 @@
 -- Calls of a locked node. Where a call is proper and its answer right at a history, so they are at each later one in which the
 -- events of the node's word and of the caller are the same.
-use Rattle.std.proofs.Common.{◌≡◌, ℕ, Bool, true, false, ◌+◌, ◌≤◌, ◌<◌, ◌-◌, ◌^◌, List, [], ◌∷◌, ◌++◌, length, Option, Some, None, sym, refl, ap, ◌∙◌, subst, inl, inr, arith}
+use Rattle.std.proofs.Common.{◌≡◌, ℕ, Bool, true, false, ◌+◌, ◌≤◌, ◌<◌, ◌-◌, ◌^◌, List, [], ◌∷◌, ◌++◌, length, Option, Some, None, IfSome, sym, refl, ap, ◌∙◌, subst, inl, inr, arith}
 use Rattle.std.proofs.lemmas.List.{append_assoc}
 use Rattle.rz_events.specs.Volume.{Volume}
 use Rattle.rz_events.specs.declared.keys.Key.{Key}
@@ -25,6 +25,7 @@ use Rattle.rz_events.specs.declared.nodes.NodeAnswer.TheVariants as answer
 use Rattle.rz_events.specs.declared.events.Word.{Word}
 use Rattle.rz_events.specs.declared.events.Word.TheVariants.{Node}
 use Rattle.rz_events.specs.declared.events.Event.{Event}
+use Rattle.rz_events.specs.declared.events.Event.TheVariants as e
 use Rattle.rz_events.specs.Events.{by_of, word_of}
 use Rattle.rz_node_model.specs.States.{NodeState}
 use Rattle.rz_node_model.specs.Answers.{IsNodeAnswer}
@@ -35,12 +36,13 @@ use Rattle.rz_core.specs.NodeRows.{cells_of, IsNodeOf}
 use Rattle.rz_core.specs.Legal.{IsLegal, IsLegalInRuns, IsAllowed}
 use Rattle.rz_core.specs.Longer.{IsOneRun}
 use Rattle.rz_core.specs.Tied.{IsNode, IsProperAsk, IsOpening, IsNodeStep, IsNodeLaw}
-use Rattle.rz_log_laws.specs.Beside.{IsNodeKept, IsAskKept}
+use Rattle.rz_log_laws.specs.Beside.{IsNodeKept, IsAskKept, IsArming, IsThere}
 use Rattle.rz_chronicle.specs.Keys.{count_at, events_at, word_key, actor_key, IsOneOf, IsLater}
 use Rattle.rz_chronicle.specs.Kinds.{IsFit, MayCome, is_honest, volume_in}
 use Rattle.rz_chronicle.specs.Holds.{Stays}
+use Rattle.rz_chronicle.specs.Rules.{PassView}
 use Rattle.rz_shared.specs.Notes.{Notes, with_event, IsNotable}
-use Rattle.rz_shared.specs.Seats.{IsTied, IsProper, IsFor, IsAnswerAt}
+use Rattle.rz_shared.specs.Seats.{Answered, IsTied, IsProper, IsFor, IsAnswerAt}
 
 -- Whose the event of an answer is.
 
@@ -245,3 +247,62 @@ later-still a b c p q = (q.0 ++ p.0, q.1 ∙ (ap (λ (l : List Event). q.0 ++ l)
 pub earlier-notes : (ks : List ℕ) (old mid new : List Event) (o : Option Event) → IsLater old mid → Stays ks old mid → Notes ks mid o new → Notes ks old o new
 earlier-notes ks old mid new o later stays m =
     record { before = m.before; later = later-still old mid m.before later m.later; stays = λ k is. m.stays k is ∙ stays k is; last = m.last }
+
+-- A fuse that is armed.
+
+pub armed-before : (kind : List ℕ) → IsOneRun (volume_in kind) → IsNodeKept (volume_in kind) → ((w : Word) (h g : List Event) → events_at (word_key w) h ≡ events_at (word_key w) g → of_word w h ≡ of_word w g)
+    → (h new : List Event) (n : ℕ) (s : NodeState) (x : Event) (ks : List ℕ) → IsNodeOf (volume_in kind) n → length (of_word (Node n) h) < 2 ^ 64 - 1
+    → IsFit kind h → IsTied kind n h s → (m : Notes (word_key (Node n) ∷ ks) h (Some x) new) → IsFit kind new → is_honest kind ≡ true → IsThere (volume_in kind) m.before n s
+armed-before kind one kept words h new n s x ks of_volume room old tied m fit honest =
+    let v : Volume = volume_in kind in let same = m.stays (word_key (Node n)) (inl refl) in record {
+      legal = before-legal v one (Some x) m.before new m.last (fit honest);
+      of_volume = of_volume;
+      tied = tied-still v kept words n h m.before s (one h (old honest)) m.later same (tied honest);
+      room = subst (λ (w : List Event). length w < 2 ^ 64 - 1) (sym (words (Node n) m.before h same)) room;
+    }
+
+pub armed-after : (kind : List ℕ) → IsOneRun (volume_in kind) → IsNodeKept (volume_in kind) → IsArming (volume_in kind) → ((w : Word) (h g : List Event) → events_at (word_key w) h ≡ events_at (word_key w) g → of_word w h ≡ of_word w g)
+    → (h new : List Event) (n k pick : ℕ) (s : NodeState) (ks : List ℕ) → IsNodeOf (volume_in kind) n → length (of_word (Node n) h) < 2 ^ 64 - 1
+    → IsFit kind h → IsTied kind n h s → Notes (word_key (Node n) ∷ ks) h (Some (e.Armed n k pick)) new → IsFit kind new → IsTied kind n new s
+armed-after kind one kept arming words h new n k pick s ks of_volume room old tied m fit honest =
+    subst (λ (l : List Event). IsNode (facts l) (of_word (Node n) l) s) (sym m.last)
+    (arming m.before n k pick s (armed-before kind one kept words h new n s (e.Armed n k pick) ks of_volume room old tied m fit honest)).tied
+
+-- What a seat gives to a call.
+
+pub asked : (kind : List ℕ) → Laws (volume_in kind) → (h its : List Event) (by : Actor) (n m cells : ℕ) (question : NodeAsk) (s : NodeState) (given : NodeAnswer) → m ≡ n → its ≡ h
+    → IsFit kind h → IsNodeOf (volume_in kind) m → IsTied kind m its s → IsProper kind by n h question → IsNodeAnswer cells s question given → cells ≡ cells_of (volume_in kind) m
+    → (is_honest kind ≡ true → IsOpening given) → count_at (word_key (Node n)) h + 1 < 2 ^ 64 → AskedIn kind h by n question s given
+asked kind laws h its by n m cells question s given same log fit of_volume tied proper right is opening room honest =
+    let v : Volume = volume_in kind in
+    let here : IsNode (facts its) (of_word (Node n) its) s = subst (λ (j : ℕ). IsNode (facts its) (of_word (Node j) its) s) same (tied honest) in
+    let few : length (of_word (Node n) h) ≤ count_at (word_key (Node n)) h = laws.counted (Node n) h in record {
+      legal = laws.one_run h (fit honest);
+      of_volume = subst (IsNodeOf v) same of_volume;
+      tied = subst (λ (l : List Event). IsNode (facts l) (of_word (Node n) l) s) log here;
+      proper = proper honest;
+      right = subst (λ (j : ℕ). IsNodeAnswer j s question given) (is ∙ ap (cells_of v) same) right;
+      opening = opening honest;
+      room = omega (arith, few, room);
+    }
+
+-- its event may be noted
+pub notable : (kind : List ℕ) → Laws (volume_in kind) → (pass : PassView) (word : Word) (n : ℕ) (question : NodeAsk) (s : NodeState) (given : NodeAnswer) → word ≡ Node n → IsFor pass.actor question
+    → AskedIn kind pass.log pass.actor n question s given → (o : Option Event) → node_event pass.actor n question given ≡ o → IfSome o (λ x. IsNotable kind pass word x)
+notable kind laws pass word n question s given at who a None is = tt
+notable kind laws pass word n question s given at who a (Some x) is =
+    let of = event-of pass.actor n question given x who is in
+    record { word_is = of.0 ∙ sym at; by_is = of.1; may = may-note kind laws pass.log pass.actor n question s given a x is }
+
+-- An answer after a log that goes on from an earlier one.
+pub earlier-answer : (kind : List ℕ) (n : ℕ) (question : NodeAsk) (given : NodeAnswer) (old mid new : PassView) → mid.actor ≡ old.actor → mid.keys ≡ old.keys → IsLater old.log mid.log → Stays old.keys old.log mid.log
+    → Answered kind n question given mid new → Answered kind n question given old new
+earlier-answer kind n question given old mid new actor keys later stays a = record {
+  notes = record {
+    before = a.notes.before;
+    later = later-still old.log mid.log a.notes.before later a.notes.later;
+    stays = λ k is. a.notes.stays k (subst (IsOneOf k) (sym keys) is) ∙ stays k is;
+    last = a.notes.last ∙ ap (λ (b : Actor). with_event (node_event b n question given) a.notes.before) actor;
+  };
+  right = a.right;
+}

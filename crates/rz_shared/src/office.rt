@@ -157,6 +157,14 @@ impl<J: Naming> Office<J> {
         }
         reply
     }
+
+    /// The post of the export's word.
+    pub fn close(self) -> Post<J>
+        ensures { (result.word ≡ w.Export) × (result.log ≡ self) }
+    {
+        let Office { export: _, post } = self;
+        post
+    }
 }
 
 // Waits for ever.

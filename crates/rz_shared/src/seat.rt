@@ -1,17 +1,20 @@
 //! A node under its lock.
-ghost use Rattle.std.specs.Prelude.{◌≡◌, ◌+◌, ◌<◌, ◌^◌, ◌∷◌, [], IsTrue};
+ghost use Rattle.std.specs.Prelude.{◌≡◌, ◌+◌, ◌<◌, ◌^◌, ◌∷◌, [], IsTrue, Some};
+ghost use Rattle.rz_events.specs.declared.keys.Actor.TheVariants as a;
+ghost use Rattle.rz_events.specs.declared.events.Event.TheVariants as e;
 ghost use Rattle.rz_events.specs.declared.events.Word.TheVariants as w;
 ghost use Rattle.rz_node_model.specs.States.{fresh};
 ghost use Rattle.rz_calls.specs.Calls.{Takes};
 ghost use Rattle.rz_chronicle.specs.Keys.{count_at, word_key, actor_key, IsLater, IsOneOf};
 ghost use Rattle.rz_chronicle.specs.Kinds.{IsFit, is_honest, volume_in};
 ghost use Rattle.rz_chronicle.specs.Holds.{Stays};
+ghost use Rattle.rz_shared.specs.Notes.{Notes};
 ghost use Rattle.rz_shared.specs.Seats.{Answered, IsFor, IsLaidFor, IsProper};
 
 use crate::asking::ask_node;
 use crate::notes::note;
 use rz_calls::node_event;
-use rz_chronicle::{Book, Itself, Naming, Pass, Post};
+use rz_chronicle::{Book, Naming, Pass, Post};
 use rz_disk::Disk;
 use rz_events::{Event, NodeAnswer, NodeAsk};
 use rz_node::Node;
@@ -146,6 +149,76 @@ impl<D: Disk, J: Naming> Seat<D, J> {
         let_go(event);
         answer
     }
+
+    /// Arms the node's fuse with `k` passes and keeps the pick of the next crash, and adds the event of that
+    /// to the log. It does not return where this is another node, or where its word cannot move.
+    pub fn arm<R: Wait>(
+        &mut self,
+        rt: &R,
+        book: &Book<J>,
+        pass: &mut Pass<J>,
+        number: u16,
+        k: u64,
+        pick: u64,
+    )
+        requires { pass.old.actor ≡ a.Admin }
+        ensures number { self.new.number ≡ self.old.number }
+        ensures same { (pass.new.actor ≡ pass.old.actor) × (pass.new.keys ≡ pass.old.keys) }
+        ensures armed { Notes pass.old.keys pass.old.log (Some (e.Armed number k pick)) pass.new.log }
+        ensures fit { IsFit J.kind pass.new.log }
+    {
+        if self.number != number {
+            stalled(rt);
+            return;
+        }
+        self.enter(book, pass);
+        if !self.post.room() {
+            stalled(rt);
+            return;
+        }
+        self.armed(book, pass, k, pick);
+    }
+
+    // The arming of a node whose word can move, by a pass that has entered.
+    fn armed(&mut self, book: &Book<J>, pass: &mut Pass<J>, k: u64, pick: u64)
+        requires one { self.old.log ≡ pass.old.log }
+        requires room { count_at (word_key (w.Node self.old.number)) self.old.log + 1 < 2 ^ 64 }
+        requires actor { pass.old.actor ≡ a.Admin }
+        ensures number { self.new.number ≡ self.old.number }
+        ensures same { (pass.new.actor ≡ pass.old.actor) × (pass.new.keys ≡ pass.old.keys) }
+        ensures armed { Notes pass.old.keys pass.old.log (Some (e.Armed self.old.number k pick)) pass.new.log }
+        ensures fit { IsFit J.kind pass.new.log }
+    {
+        rz_core::one_run();
+        rz_log_laws::arming();
+        rz_log_laws::node_kept();
+        rz_chronicle::words_kept();
+        rz_chronicle::words_counted();
+        let _actor = pass.actor();
+        self.node.arm(Some(k));
+        self.pick = pick;
+        let event = Some(Event::Armed {
+            node: self.number,
+            k,
+            pick,
+        });
+        note(book, pass, &mut self.post, &event);
+        let_go(event);
+    }
+
+    /// The disk, and the post of the node's word.
+    pub fn close(self) -> (D, Post<J>)
+        ensures { (result.1.word ≡ w.Node self.number) × (result.1.log ≡ self.log) }
+    {
+        let Seat {
+            alloc: _,
+            number: _,
+            pick: _,
+            node,
+            post,
+        } = self;
+        (node.into_disk(), post)
+    }
 }
 
 // Without it the end of an event has a case for each of its variants in the proof of whoever has it.
@@ -179,4 +252,22 @@ pub fn node_call<D: Disk, J: Naming, R: Wait>(
     ensures fit { IsFit J.kind pass.new.log }
 {
     seat.lock(rt).call(rt, book, pass, number, ask, bins)
+}
+
+/// Takes a node's lock, arms its fuse, and adds the event of that to the log.
+pub fn arm<D: Disk, J: Naming, R: Wait>(
+    rt: &R,
+    book: &Book<J>,
+    seat: &Mutex<Seat<D, J>>,
+    pass: &mut Pass<J>,
+    number: u16,
+    k: u64,
+    pick: u64,
+)
+    requires { pass.old.actor ≡ a.Admin }
+    ensures same { (pass.new.actor ≡ pass.old.actor) × (pass.new.keys ≡ pass.old.keys) }
+    ensures armed { Notes pass.old.keys pass.old.log (Some (e.Armed number k pick)) pass.new.log }
+    ensures fit { IsFit J.kind pass.new.log }
+{
+    seat.lock(rt).arm(rt, book, pass, number, k, pick);
 }
