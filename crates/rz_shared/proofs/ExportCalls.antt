@@ -1,6 +1,6 @@
 -- Calls of the locked export. Where a call is proper at a history, so it is at each later one in which the events of the export's
 -- word and of the caller are the same.
-use Rattle.std.proofs.Common.{◌≡◌, ◌⊎◌, ℕ, Bool, true, false, ◌+◌, ◌≤◌, ◌<◌, ◌-◌, ◌^◌, ◌==◌, ◌&&◌, nat_lt, List, [], ◌∷◌, ◌++◌, length, cond, Option, Some, None, sym, refl, ap, ◌∙◌, subst, inl, inr, arith}
+use Rattle.std.proofs.Common.{◌≡◌, ◌≢◌, ◌⊎◌, ℕ, Bool, true, false, ◌+◌, ◌≤◌, ◌<◌, ◌-◌, ◌^◌, ◌==◌, ◌&&◌, nat_lt, List, [], ◌∷◌, ◌++◌, length, cond, Option, Some, None, sym, refl, ap, ◌∙◌, subst, inl, inr, arith}
 use Rattle.std.specs.Option.{option_map, option_map_or, option_and_then}
 use Rattle.std.specs.Prelude.{unwrap_or}
 use Rattle.std.specs.FinMap as maps
@@ -33,8 +33,11 @@ use Rattle.rz_log_laws.specs.Beside.{IsExportKept, IsCallKept}
 use Rattle.rz_log_laws.specs.Calls.{IsUsable}
 use Rattle.rz_chronicle.specs.Keys.{count_at, events_at, word_key, actor_key, IsOneOf, IsLater}
 use Rattle.rz_chronicle.specs.Kinds.{IsFit, MayCome, is_honest, volume_in}
-use Rattle.rz_shared.specs.Notes.{Notes, with_event}
-use Rattle.rz_shared.specs.Offices.{IsKnown, IsEntitled, IsTakenByAll, IsReplyAt}
+use Rattle.rz_shared.specs.Notes.{Notes, IsNotable, with_event}
+use Rattle.std.proofs.lemmas.List.{append_assoc}
+use Rattle.rz_chronicle.specs.Holds.{Stays}
+use Rattle.rz_chronicle.specs.Rules.{PassView}
+use Rattle.rz_shared.specs.Offices.{Replied, IsKnown, IsEntitled, IsTakenByAll, IsReplyAt}
 
 -- Each reply of the model tells an event.
 
@@ -58,7 +61,7 @@ barred-event by s key stamp mask size i (n ∷ places) = go (has_bit mask i && n
 
 publish-event : (by : Actor) (s : State) (key : Key) (stamp mask size : ℕ) (a : Option Denial) (b : Bool) (later : ℕ) (c : Option FileInfo)
     → HasEvent by (call.Publish key stamp mask size)
-        (unwrap_or (first_of (option_map reply.Denied a ∷ given_if b (reply.Revoked later) ∷ option_and_then (λ info. barred s mask stamp 0 info.places) c ∷ [])) reply.Accepted)
+    (unwrap_or (first_of (option_map reply.Denied a ∷ given_if b (reply.Revoked later) ∷ option_and_then (λ info. barred s mask stamp 0 info.places) c ∷ [])) reply.Accepted)
 unfolding HasEvent
 publish-event by s key stamp mask size (Some why) b later c = (_, refl)
 publish-event by s key stamp mask size None true later c = (_, refl)
@@ -144,7 +147,6 @@ event-of by (call.Recheck key) (reply.Looked answer) x is = moved by _ x is (ref
 event-of by (call.Recheck key) (reply.Denied why) x is = moved by _ x is (refl, refl)
 event-of by (call.Recheck key) given x is = absurd cc
 
-
 -- The laws that a call rests on.
 pub record Laws (v : Volume) : Type 0 where
   pub one_run : IsOneRun v
@@ -227,3 +229,65 @@ known-after kind laws h new by question s x ks a own m fit is honest =
     let b = asked-before kind laws h new by question s (Some x) ks a own m fit honest in
     subst (λ (l : List Event). IsExport (volume_in kind) (facts l) (of_word Export l) (export_after s question)) (sym m.last)
     (asked-step (volume_in kind) laws m.before by question s b x is).tied
+
+pub later-still : (a b c : List Event) → IsLater a b → IsLater b c → IsLater a c
+later-still a b c p q = (q.0 ++ p.0, q.1 ∙ (ap (λ (l : List Event). q.0 ++ l) p.1 ∙ sym (append_assoc q.0 p.0 a)))
+
+-- A reply after a log that goes on from an earlier one.
+pub earlier-reply : (kind : List ℕ) (question : Call) (given : Reply) (old mid new : PassView) → mid.actor ≡ old.actor → mid.keys ≡ old.keys → IsLater old.log mid.log → Stays old.keys old.log mid.log
+    → Replied kind question given mid new → Replied kind question given old new
+earlier-reply kind question given old mid new actor keys later stays a = record {
+  notes = record {
+    before = a.notes.before;
+    later = later-still old.log mid.log a.notes.before later a.notes.later;
+    stays = λ k is. a.notes.stays k (subst (IsOneOf k) (sym keys) is) ∙ stays k is;
+    last = a.notes.last ∙ ap (λ (b : Actor). with_event (export_event b question given) a.notes.before) actor;
+  };
+  right = a.right;
+}
+
+-- What an office gives to a call.
+
+pub asked : (kind : List ℕ) → Laws (volume_in kind) → (h its : List Event) (by : Actor) (question : Call) (s : State) → its ≡ h
+    → IsFit kind h → IsKnown kind its s → IsEntitled kind by h question → count_at (word_key Export) h + 1 < 2 ^ 64 → AskedIn kind h by question s
+asked kind laws h its by question s log fit known entitled room honest =
+    let v : Volume = volume_in kind in
+    let few : length (of_word Export h) ≤ count_at (word_key Export) h = laws.counted Export h in record {
+      legal = laws.one_run h (fit honest);
+      known = subst (λ (l : List Event). IsExport v (facts l) (of_word Export l) s) log (known honest);
+      proper = entitled honest;
+      room = omega (arith, few, room);
+    }
+
+-- its event may be noted
+pub notable : (kind : List ℕ) → Laws (volume_in kind) → (pass : PassView) (word : Word) (question : Call) (s : State) (given : Reply) (after : State) → word ≡ Export
+    → AskedIn kind pass.log pass.actor question s → IsAnswered s question given after → given ≢ reply.NoMemory
+    → (x : Event) × (export_event pass.actor question given ≡ Some x) × IsNotable kind pass word x
+notable kind laws pass word question s given after at a (inl is) some =
+    let told = event-some pass.actor s question in
+    let here : export_event pass.actor question given ≡ Some told.0 = ap (export_event pass.actor question) is.0 ∙ told.1 in
+    let of = event-of pass.actor question given told.0 here in
+    (told.0, here, record { word_is = of.0 ∙ sym at; by_is = of.1; may = may-note kind laws pass.log pass.actor question s a told.0 told.1 })
+notable kind laws pass word question s given after at a (inr wanting) some = absurd (some wanting.1)
+
+pub own-notes : (k : ℕ) (ks : List ℕ) (old new : List Event) (o : Option Event) → Notes (k ∷ ks) old o new → Notes ks old o new
+own-notes k ks old new o m = record { before = m.before; later = m.later; stays = λ j is. m.stays j (inr is); last = m.last }
+
+-- the state after the reply is the log's
+pub known-by : (kind : List ℕ) → Laws (volume_in kind) → (h new : List Event) (by : Actor) (question : Call) (s : State) (given : Reply) (after : State) (ks : List ℕ) → AskedIn kind h by question s
+    → IsOneOf (actor_key by) ks → IsAnswered s question given after → Notes (word_key Export ∷ ks) h (export_event by question given) new → IsFit kind new → IsKnown kind new after
+known-by kind laws h new by question s given after ks a own (inl is) m fit =
+    let told = event-some by s question in
+    let here : export_event by question given ≡ Some told.0 = ap (export_event by question) is.0 ∙ told.1 in
+    subst (IsKnown kind new) (sym is.1) (known-after kind laws h new by question s told.0 ks a own (subst (λ o. Notes (word_key Export ∷ ks) h o new) here m) fit told.1)
+known-by kind laws h new by question s given after ks a own (inr wanting) m fit honest =
+    let none : export_event by question given ≡ None = ap (export_event by question) wanting.1 ∙ no-memory by question in
+    let b = asked-before kind laws h new by question s (export_event by question given) ks a own m fit honest in
+    let same : new ≡ m.before = m.last ∙ ap (λ o. with_event o m.before) none in
+    subst (λ (t : State). IsExport (volume_in kind) (facts new) (of_word Export new) t) (sym wanting.2)
+    (subst (λ (l : List Event). IsExport (volume_in kind) (facts l) (of_word Export l) s) (sym same) b.known)
+
+pub right-by : (kind : List ℕ) → Laws (volume_in kind) → (h new : List Event) (by : Actor) (question : Call) (s : State) (given : Reply) (after : State) (ks : List ℕ) → AskedIn kind h by question s
+    → IsOneOf (actor_key by) ks → IsAnswered s question given after → (m : Notes (word_key Export ∷ ks) h (export_event by question given) new) → IsFit kind new → IsReplyAt kind m.before question given
+right-by kind laws h new by question s given after ks a own answered m fit honest =
+    let b = asked-before kind laws h new by question s (export_event by question given) ks a own m fit honest in (s, b.known, (after, answered))

@@ -131,17 +131,17 @@ event-none by node cells (ask.Replace loss fence) (answer.Replace replace.DiskFa
 event-none by node cells question given s a is = absurd a
 
 -- an answer to another call than a start tells no opening
-pub no-opening : (cells : ℕ) (s : NodeState) (question : NodeAsk) (given : NodeAnswer) → Rattle.rz_calls.specs.Calls.IsNoStart question → IsNodeAnswer cells s question given → IsOpening given
-no-opening cells s (ask.Keep head) (answer.Keep given) n a = tt
-no-opening cells s (ask.Fetch key position stamp) (answer.Fetch given) n a = tt
-no-opening cells s (ask.Refill fence head) (answer.Refill given) n a = tt
-no-opening cells s (ask.Drop fid) (answer.Drop given) n a = tt
-no-opening cells s ask.Probe (answer.Probe given) n a = tt
-no-opening cells s ask.Stop (answer.Stop given) n a = tt
-no-opening cells s ask.Start given n a = absurd n
-no-opening cells s ask.Lose (answer.Lose given) n a = tt
-no-opening cells s (ask.Replace loss fence) (answer.Replace given) n a = tt
-no-opening cells s question given n a = absurd a
+pub no_opening : (cells : ℕ) (s : NodeState) (question : NodeAsk) (given : NodeAnswer) → Rattle.rz_calls.specs.Calls.IsNoStart question → IsNodeAnswer cells s question given → IsOpening given
+no_opening cells s (ask.Keep head) (answer.Keep given) n a = tt
+no_opening cells s (ask.Fetch key position stamp) (answer.Fetch given) n a = tt
+no_opening cells s (ask.Refill fence head) (answer.Refill given) n a = tt
+no_opening cells s (ask.Drop fid) (answer.Drop given) n a = tt
+no_opening cells s ask.Probe (answer.Probe given) n a = tt
+no_opening cells s ask.Stop (answer.Stop given) n a = tt
+no_opening cells s ask.Start given n a = absurd n
+no_opening cells s ask.Lose (answer.Lose given) n a = tt
+no_opening cells s (ask.Replace loss fence) (answer.Replace given) n a = tt
+no_opening cells s question given n a = absurd a
 
 -- The laws that a call rests on.
 pub record Laws (v : Volume) : Type 0 where
@@ -306,3 +306,17 @@ earlier-answer kind n question given old mid new actor keys later stays a = reco
   };
   right = a.right;
 }
+
+pub armed-now : (kind : List ℕ) (n m : ℕ) (its h : List Event) (s : NodeState) → m ≡ n → its ≡ h → IsTied kind m its s → IsTied kind n h s
+armed-now kind n m its h s number log tied = subst (λ (l : List Event). IsTied kind n l s) log (subst (λ (j : ℕ). IsTied kind j its s) number tied)
+
+pub armed-notable : (kind : List ℕ) → IsOneRun (volume_in kind) → IsArming (volume_in kind) → (pass : PassView) (word : Word) (n k pick : ℕ) (s : NodeState) → word ≡ Node n → pass.actor ≡ Admin
+    → IsNodeOf (volume_in kind) n → length (of_word (Node n) pass.log) < 2 ^ 64 - 1 → IsFit kind pass.log → IsTied kind n pass.log s → IsNotable kind pass word (e.Armed n k pick)
+armed-notable kind one arming pass word n k pick s at who of_volume room fit tied = record {
+  word_is = sym at;
+  by_is = sym who;
+  may = λ honest. (arming pass.log n k pick s (record { legal = one pass.log (fit honest); of_volume = of_volume; tied = tied honest; room = room })).allowed (of_actor Admin pass.log);
+}
+
+pub same-notes : (ks js : List ℕ) (old new : List Event) (o : Option Event) → ks ≡ js → Notes ks old o new → Notes js old o new
+same-notes ks js old new o is m = subst (λ (k : List ℕ). Notes k old o new) is m

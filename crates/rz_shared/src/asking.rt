@@ -24,22 +24,30 @@ pub fn answer_export(export: &mut Export, call: &Call) -> Reply
     export.answer(call)
 }
 
-/// Starts a node. Of one that is down the fuse is disarmed before, and what a loss of power may lose is
-/// lost.
-fn start<D: Disk>(node: &mut Node<D>, alloc: Global, pick: u64) -> StartAnswer
-    ensures answer { IsNodeAnswer node.old.geometry.cells node.old.state asks.Start (answers.Start result) }
-    ensures after { IsTrue D.tells → node.new.state ≡ after_answer asks.Start (answers.Start result) node.old.state }
-    ensures opening { IsTrue D.tells → IsOpening (answers.Start result) }
+/// Of a node that is down the fuse is disarmed, and what a loss of power may lose is lost.
+fn crash_down<D: Disk>(node: &mut Node<D>, pick: u64)
+    ensures state { node.new.state ≡ node.old.state }
     ensures geometry { node.new.geometry ≡ node.old.geometry }
 {
     if node.phase() == Phase::Down {
         node.arm(None);
         node.crash(pick);
     }
+}
+
+/// Starts a node, after the loss of power that it went down by.
+fn start<D: Disk>(node: &mut Node<D>, alloc: Global, pick: u64) -> StartAnswer
+    ensures answer { IsNodeAnswer node.old.geometry.cells node.old.state asks.Start (answers.Start result) }
+    ensures after { IsTrue D.tells → node.new.state ≡ after_answer asks.Start (answers.Start result) node.old.state }
+    ensures opening { IsTrue D.tells → IsOpening (answers.Start result) }
+    ensures geometry { node.new.geometry ≡ node.old.geometry }
+{
+    crash_down(node, pick);
     node.start(alloc)
 }
 
 /// Gives any call to a node, with the pick of the next crash of its disk.
+#[tactic(auto, using(crate::proofs::NodeCalls::no_opening))]
 pub(crate) fn ask_node<D: Disk>(
     node: &mut Node<D>,
     alloc: Global,

@@ -1,8 +1,9 @@
 //! The export under its lock.
-ghost use Rattle.std.specs.Prelude.{◌≡◌, ◌≢◌, ◌+◌, ◌<◌, ◌^◌, ◌∷◌, [], Some};
+ghost use Rattle.std.specs.Prelude.{◌≡◌, ◌≢◌, ◌+◌, ◌<◌, ◌^◌, ◌∷◌, [], Some, IsTrue, IsFalse, ◌↔◌};
 ghost use Rattle.rz_events.specs.declared.events.Event.{Event as AnEvent};
 ghost use Rattle.rz_events.specs.declared.events.Word.TheVariants as w;
 ghost use Rattle.rz_events.specs.declared.keys.Actor.TheVariants as a;
+ghost use Rattle.rz_events.specs.declared.export.Reply.TheVariants as r;
 ghost use Rattle.rz_export_model.specs.Export.{new_export};
 ghost use Rattle.rz_export_model.specs.ExportEvents.{export_event};
 ghost use Rattle.rz_chronicle.specs.Keys.{count_at, word_key, actor_key, IsLater, IsOneOf};
@@ -56,8 +57,16 @@ impl<'a> Asks<Given<'a>> for Telling {
     ghost event = { λ g. event_in (export_event g.by g.call.now g.reply.now) };
 }
 
-/// Adds the event of a reply to the log, under the lock of the export's word.
-fn note_reply<J: Naming>(
+/// Whether a reply tells an event: all do but want of memory.
+fn tells(reply: &Reply) -> bool
+    ensures told { IsTrue result → reply.now ≢ r.NoMemory }
+    ensures untold { IsFalse result → reply.now ≡ r.NoMemory }
+{
+    !matches!(reply, Reply::NoMemory)
+}
+
+/// Adds the event of a reply that tells one to the log, under the lock of the export's word.
+fn note_told<J: Naming>(
     book: &Book<J>,
     pass: &mut Pass<J>,
     post: &mut Post<J>,
@@ -75,6 +84,28 @@ fn note_reply<J: Naming>(
     let by = pass.actor();
     let given = Given { by, call, reply };
     book.commit::<Given, Telling>(pass, post, &given);
+}
+
+/// Adds the event of a reply to the log, if it tells one, under the lock of the export's word.
+fn note_reply<J: Naming>(
+    book: &Book<J>,
+    pass: &mut Pass<J>,
+    post: &mut Post<J>,
+    call: &Call,
+    reply: &Reply,
+)
+    requires one { post.old.log ≡ pass.old.log }
+    requires room { count_at (word_key post.old.word) post.old.log + 1 < 2 ^ 64 }
+    requires event { reply.now ≢ r.NoMemory → (x : AnEvent) × (export_event pass.old.actor call.now reply.now ≡ Some x) × IsNotable J.kind pass.old post.old.word x }
+    ensures same { (pass.new.actor ≡ pass.old.actor) × (pass.new.keys ≡ pass.old.keys) × (post.new.word ≡ post.old.word) }
+    ensures one { post.new.log ≡ pass.new.log }
+    ensures noted { Notes (word_key post.old.word ∷ pass.old.keys) pass.old.log (export_event pass.old.actor call.now reply.now) pass.new.log }
+    ensures fit { IsFit J.kind pass.new.log }
+{
+    let _actor = pass.actor();
+    if tells(reply) {
+        note_told(book, pass, post, call, reply);
+    }
 }
 
 impl<J: Naming> Office<J> {
@@ -105,6 +136,13 @@ impl<J: Naming> Office<J> {
         book.enter(pass, &mut self.post);
     }
 
+    // Whether the export's word can move once more.
+    fn has_room(&self) -> bool
+        ensures { IsTrue result ↔ (count_at (word_key w.Export) self.now + 1 < 2 ^ 64) }
+    {
+        self.post.room()
+    }
+
     /// Calls the export, and adds the event of its reply to the log. It does not return where its word
     /// cannot move.
     pub fn call<R: Wait>(
@@ -125,7 +163,7 @@ impl<J: Naming> Office<J> {
         rz_log_laws::call_kept();
         rz_chronicle::actors_kept();
         self.enter(book, pass);
-        if !self.post.room() {
+        if !self.has_room() {
             return stalled(rt);
         }
         self.served(book, pass, call)
@@ -151,10 +189,7 @@ impl<J: Naming> Office<J> {
         rz_chronicle::words_counted();
         let _actor = pass.actor();
         let reply = answer_export(&mut self.export, call);
-        match reply {
-            Reply::NoMemory => {}
-            _ => note_reply(book, pass, &mut self.post, call, &reply),
-        }
+        note_reply(book, pass, &mut self.post, call, &reply);
         reply
     }
 

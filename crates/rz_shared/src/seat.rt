@@ -1,5 +1,5 @@
 //! A node under its lock.
-ghost use Rattle.std.specs.Prelude.{◌≡◌, ◌+◌, ◌<◌, ◌^◌, ◌∷◌, [], IsTrue, Some};
+ghost use Rattle.std.specs.Prelude.{◌≡◌, ◌+◌, ◌<◌, ◌^◌, ◌∷◌, [], IsTrue, ◌↔◌, Some};
 ghost use Rattle.rz_events.specs.declared.keys.Actor.TheVariants as a;
 ghost use Rattle.rz_events.specs.declared.events.Event.TheVariants as e;
 ghost use Rattle.rz_events.specs.declared.events.Word.TheVariants as w;
@@ -85,6 +85,13 @@ impl<D: Disk, J: Naming> Seat<D, J> {
         book.enter(pass, &mut self.post);
     }
 
+    // Whether the node's word can move once more.
+    fn has_room(&self) -> bool
+        ensures { IsTrue result ↔ (count_at (word_key (w.Node self.now.number)) self.now.log + 1 < 2 ^ 64) }
+    {
+        self.post.room()
+    }
+
     /// Calls the node, and adds the event of its answer to the log. It does not return where this is
     /// another node, or where its word cannot move.
     pub fn call<R: Wait>(
@@ -111,10 +118,10 @@ impl<D: Disk, J: Naming> Seat<D, J> {
         rz_log_laws::ask_kept();
         rz_chronicle::actors_kept();
         self.enter(book, pass);
-        if !self.post.room() {
+        if !self.has_room() {
             return stalled(rt);
         }
-        self.served(book, pass, ask, bins)
+        self.served(book, pass, number, ask, bins)
     }
 
     // The call of a node whose word can move, by a pass that has entered.
@@ -122,17 +129,19 @@ impl<D: Disk, J: Naming> Seat<D, J> {
         &mut self,
         book: &Book<J>,
         pass: &mut Pass<J>,
+        number: u16,
         ask: &NodeAsk,
         bins: &mut [u64],
     ) -> NodeAnswer
+        requires number { self.old.number ≡ number }
         requires one { self.old.log ≡ pass.old.log }
-        requires room { count_at (word_key (w.Node self.old.number)) self.old.log + 1 < 2 ^ 64 }
+        requires room { count_at (word_key (w.Node number)) self.old.log + 1 < 2 ^ 64 }
         requires takes { Takes (volume_in J.kind).layout ask.now bins.old }
         requires actor { IsFor pass.old.actor ask.now }
-        requires proper { IsProper J.kind pass.old.actor self.old.number pass.old.log ask.now }
+        requires proper { IsProper J.kind pass.old.actor number pass.old.log ask.now }
         ensures number { self.new.number ≡ self.old.number }
         ensures same { (pass.new.actor ≡ pass.old.actor) × (pass.new.keys ≡ pass.old.keys) }
-        ensures answered { Answered J.kind self.old.number ask.now result pass.old pass.new }
+        ensures answered { Answered J.kind number ask.now result pass.old pass.new }
         ensures fit { IsFit J.kind pass.new.log }
     {
         rz_core::one_run();
@@ -144,7 +153,7 @@ impl<D: Disk, J: Naming> Seat<D, J> {
         rz_chronicle::words_counted();
         let by = pass.actor();
         let answer = ask_node(&mut self.node, self.alloc, self.pick, ask, bins);
-        let event = node_event(by, self.number, ask, &answer);
+        let event = node_event(by, number, ask, &answer);
         note(book, pass, &mut self.post, &event);
         let_go(event);
         answer
@@ -172,21 +181,22 @@ impl<D: Disk, J: Naming> Seat<D, J> {
             return;
         }
         self.enter(book, pass);
-        if !self.post.room() {
+        if !self.has_room() {
             stalled(rt);
             return;
         }
-        self.armed(book, pass, k, pick);
+        self.armed(book, pass, number, k, pick);
     }
 
     // The arming of a node whose word can move, by a pass that has entered.
-    fn armed(&mut self, book: &Book<J>, pass: &mut Pass<J>, k: u64, pick: u64)
+    fn armed(&mut self, book: &Book<J>, pass: &mut Pass<J>, number: u16, k: u64, pick: u64)
+        requires number { self.old.number ≡ number }
         requires one { self.old.log ≡ pass.old.log }
-        requires room { count_at (word_key (w.Node self.old.number)) self.old.log + 1 < 2 ^ 64 }
+        requires room { count_at (word_key (w.Node number)) self.old.log + 1 < 2 ^ 64 }
         requires actor { pass.old.actor ≡ a.Admin }
         ensures number { self.new.number ≡ self.old.number }
         ensures same { (pass.new.actor ≡ pass.old.actor) × (pass.new.keys ≡ pass.old.keys) }
-        ensures armed { Notes pass.old.keys pass.old.log (Some (e.Armed self.old.number k pick)) pass.new.log }
+        ensures armed { Notes pass.old.keys pass.old.log (Some (e.Armed number k pick)) pass.new.log }
         ensures fit { IsFit J.kind pass.new.log }
     {
         rz_core::one_run();
@@ -198,7 +208,7 @@ impl<D: Disk, J: Naming> Seat<D, J> {
         self.node.arm(Some(k));
         self.pick = pick;
         let event = Some(Event::Armed {
-            node: self.number,
+            node: number,
             k,
             pick,
         });
