@@ -1,13 +1,11 @@
 -- Each word of a book has a key of its own.
-use Rattle.std.proofs.Common.{◌≡◌, ◌≢◌, ◌==◌, ◌⊎◌, ℕ, zero, suc, ◌+◌, ◌-◌, ◌*◌, ◌<◌, ◌≤◌, nat_le, nat_eq, Bool, true, false, cond, List, [], ◌∷◌, length, Option, Some, None, slice_get, sym, refl, ap, ◌∙◌, subst, inl, inr, arith}
+use Rattle.std.proofs.Common.{◌≡◌, ◌≢◌, ◌==◌, ℕ, zero, suc, ◌+◌, ◌-◌, ◌*◌, ◌<◌, ◌≤◌, nat_le, nat_eq, Bool, true, false, cond, List, [], ◌∷◌, Option, Some, None, slice_get, refl, ap, ◌∙◌, arith}
 use Rattle.std.specs.List.{AllByRecursion, IsDistinct}
 use Rattle.std.specs.Option.{option_map}
 use Rattle.std.proofs.lemmas.Bool.Decides.{nat_tests}
-use Rattle.rz_events.specs.declared.keys.Actor.{Actor}
 use Rattle.rz_events.specs.declared.keys.Actor.TheVariants.{Client, Rebuilder, Admin}
-use Rattle.rz_events.specs.declared.events.Word.{Word}
 use Rattle.rz_events.specs.declared.events.Word.TheVariants.{Export, Node, Own}
-use Rattle.rz_chronicle.specs.Keys.{word_key, owner, key_of_owner, key_at, rows}
+use Rattle.rz_chronicle.specs.Keys.{owner, key_of_owner, key_at}
 
 -- What is known of a key by its place. At a place that is a node's the key tells the node, at any other the place.
 pub data Shape (sids : List ℕ) (place key : ℕ) : Type 0 where

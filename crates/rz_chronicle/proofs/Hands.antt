@@ -1,7 +1,5 @@
 -- What a step leaves of a pass.
-use Rattle.std.proofs.Common.{◌≡◌, ◌≢◌, ◌==◌, cond, length, ℕ, ◌+◌, ◌<◌, Bool, true, false, List, [], ◌∷◌, ◌++◌, map, sym, refl, ap, ap₂, ◌∙◌, subst, inl, inr, arith, Option, Some, None, IsSomeAnd}
-use Rattle.std.specs.List.{AllByRecursion}
-use mathlib.Core.List.{IsPrefix}
+use Rattle.std.proofs.Common.{◌≡◌, ◌≢◌, cond, length, ℕ, ◌+◌, ◌<◌, Bool, true, false, List, [], ◌∷◌, ◌++◌, sym, refl, ap, ◌∙◌, subst, inl, inr, arith, Option, Some, None, IsSomeAnd}
 use Rattle.std.proofs.lemmas.List.Sums.{sum_by-cons}
 use Rattle.rz_events.specs.declared.keys.Actor.{Actor}
 use Rattle.rz_events.specs.declared.keys.Actor.TheVariants.{Client, Rebuilder, Admin}
@@ -10,12 +8,12 @@ use Rattle.rz_events.specs.declared.events.Word.TheVariants.{Export, Node, Own}
 use Rattle.rz_events.specs.declared.events.Event.{Event}
 use Rattle.rz_events.specs.Events.{by_of, word_of}
 use Rattle.rz_chronicle.specs.declared.hand.Hand.{Hand}
-use Rattle.rz_chronicle.specs.Keys.{touches, count_at, events_at, IsOneOf, IsMember, word_key, actor_key, owner, key_at, key_of_owner, rows, IsLater}
-use Rattle.rz_chronicle.specs.Kinds.{history, IsFit, MayCome}
-use Rattle.rz_chronicle.specs.Tally.{at, Agree, AllInRow, IsHolding, HasCount, Covers, MayFollow, Ends, counts}
-use Rattle.rz_chronicle.specs.Holds.{keys, keys_in, IsHand, IsOwn, IsRight, IsShared, Stays, Commits}
-use Rattle.rz_chronicle.proofs.Keys.{at-at, at-keys, at-holding, count-same, touches-own, touches-other, count-append, has-agreed}
-use Rattle.rz_chronicle.proofs.Histories.{later, history-more, stays, count-held, same-held, follows, count_history}
+use Rattle.rz_chronicle.specs.Keys.{touches, count_at, events_at, IsOneOf, IsMember, word_key, actor_key, owner, key_at, key_of_owner, rows}
+use Rattle.rz_chronicle.specs.Kinds.{history, MayCome}
+use Rattle.rz_chronicle.specs.Tally.{at, Agree, AllInRow, IsHolding, HasCount, Covers, Ends, counts}
+use Rattle.rz_chronicle.specs.Holds.{keys, keys_in, IsHand, IsOwn, IsRight, IsShared, Commits}
+use Rattle.rz_chronicle.proofs.Keys.{at-at, at-keys, at-holding, count-same, touches-own, touches-other, count-append}
+use Rattle.rz_chronicle.proofs.Histories.{later, history-more, stays, count-held, same-held, count_history}
 
 -- what the invariant says of the hand that was taken out
 pub taken : (P : Hand → Type 0) (o r : Option Hand) (h : Hand) → r ≡ o → r ≡ Some h → IsSomeAnd o P → P h

@@ -1,7 +1,7 @@
 -- Logs with the oldest event first, and their histories.
-use Rattle.std.proofs.Common.{◌≡◌, ◌==◌, ◌||◌, ◌&&◌, ℕ, zero, suc, ◌+◌, ◌<◌, Bool, true, false, List, [], ◌∷◌, ◌++◌, map, cond, reverse, sym, refl, ap, ap₂, ◌∙◌, subst, inl, inr, arith}
+use Rattle.std.proofs.Common.{◌≡◌, ◌==◌, ◌||◌, ℕ, Bool, true, false, List, [], ◌∷◌, ◌++◌, cond, reverse, sym, refl, ap, ◌∙◌, subst, inl, inr, arith}
 use Rattle.std.specs.List.{AllByRecursion, filter}
-use Rattle.std.proofs.lemmas.Bool.{eqb-true, eqb-false}
+use Rattle.std.proofs.lemmas.Bool.{eqb-true}
 use Rattle.std.proofs.lemmas.Bool.Decides.{nat_tests}
 use Rattle.std.proofs.lemmas.List.{reverse-append, reverse-reverse}
 use mathlib.Core.List.{IsPrefix}
@@ -13,8 +13,8 @@ use Rattle.rz_events.specs.declared.events.Event.{Event}
 use Rattle.rz_events.specs.Events.{by_of, word_of, same_actor, same_word}
 use Rattle.rz_events.specs.Volume.{Volume}
 use Rattle.rz_core.specs.Legal.{IsLegal, IsAllowed, IsForeign, IsLocal}
-use Rattle.rz_chronicle.specs.Keys.{touches, events_at, count_at, word_key, actor_key, IsOneOf, IsLater}
-use Rattle.rz_chronicle.specs.Kinds.{history, IsFit, MayCome, volume_in}
+use Rattle.rz_chronicle.specs.Keys.{touches, events_at, count_at, word_key, actor_key, IsLater}
+use Rattle.rz_chronicle.specs.Kinds.{history, MayCome, volume_in}
 use Rattle.rz_chronicle.specs.Tally.{at, Agree, IsHolding, HasCount, Covers, MayFollow, counts}
 use Rattle.rz_chronicle.specs.Holds.{keys, Stays}
 use Rattle.rz_chronicle.proofs.Keys.{count-append}

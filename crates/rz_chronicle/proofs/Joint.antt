@@ -1,13 +1,12 @@
 -- A step with two hands: of a word, and of an actor.
-use Rattle.std.proofs.Common.{◌≡◌, ◌==◌, ℕ, ◌+◌, ◌<◌, Bool, true, false, cond, List, [], ◌∷◌, ◌++◌, sym, refl, ap, ap₂, ◌∙◌, subst, inl, inr, arith}
+use Rattle.std.proofs.Common.{◌≡◌, ◌==◌, ℕ, ◌+◌, true, List, [], ◌∷◌, ◌++◌, sym, refl, ap, ap₂, ◌∙◌, subst, inl, arith}
 use Rattle.std.proofs.lemmas.Bool.Decides.{nat_tests}
 use Rattle.rz_events.specs.declared.events.Event.{Event}
-use Rattle.rz_events.specs.Events.{by_of, word_of}
-use Rattle.rz_chronicle.specs.declared.hand.Hand.{Hand}
-use Rattle.rz_chronicle.specs.Keys.{count_at, word_key, actor_key, rows, IsInRow}
+use Rattle.rz_events.specs.Events.{word_of}
+use Rattle.rz_chronicle.specs.Keys.{count_at, word_key}
 use Rattle.rz_chronicle.specs.Kinds.{history}
-use Rattle.rz_chronicle.specs.Tally.{at, Agree, AllInRow, IsHolding, HasCount, Covers, Ends, counts, without, count_in}
-use Rattle.rz_chronicle.specs.Holds.{keys, Commits, IsRight}
+use Rattle.rz_chronicle.specs.Tally.{at, Agree, AllInRow, IsHolding, Ends, counts, without, count_in}
+use Rattle.rz_chronicle.specs.Holds.{keys, Commits}
 use Rattle.rz_chronicle.proofs.Keys.{count-same, touches-own}
 use Rattle.rz_chronicle.proofs.Hands.{committed}
 

@@ -3,7 +3,7 @@ use Rattle.std.proofs.Common.{◌≡◌, ◌≢◌, ℕ, ◌+◌, ◌<◌, ◌�
 use Rattle.std.specs.List.{IsDistinct}
 use Rattle.std.proofs.lemmas.List.{get_or-set_other, get_or_push}
 use Rattle.std.proofs.Math.ListN.{get_or-append}
-use Rattle.logbook.specs.Pages.{Book, Named, Nib, nib, may_make_home}
+use Rattle.logbook.specs.Pages.{Book, Named, Nib}
 use Rattle.rz_chronicle.specs.Rules.{named}
 use Rattle.logbook.specs.declared.tokens.Pen.{Pen}
 use Rattle.rz_chronicle.specs.Keys.{key_at, rows}

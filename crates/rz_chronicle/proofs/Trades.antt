@@ -1,5 +1,5 @@
 -- What a step does to the tallies. Assumes `Logic`.
-use Rattle.std.proofs.Common.{◌≡◌, ◌≢◌, ◌==◌, ℕ, zero, suc, ◌+◌, ◌<◌, ◌≤◌, Bool, true, false, List, [], ◌∷◌, ◌++◌, map, length, cond, sym, refl, ap, ap₂, ◌∙◌, subst, inl, inr, arith, MatchBool, None}
+use Rattle.std.proofs.Common.{◌≡◌, ◌≢◌, ◌==◌, ℕ, zero, suc, ◌+◌, ◌<◌, ◌≤◌, Bool, true, false, List, [], ◌∷◌, ◌++◌, map, cond, sym, refl, ap, ap₂, ◌∙◌, subst, inl, inr, arith, MatchBool, None}
 use Rattle.std.specs.List.{AllByRecursion}
 use Rattle.std.proofs.lemmas.Bool.Decides.{nat_tests}
 use Rattle.std.proofs.lemmas.Bool.{eqb-true, eqb-false}
@@ -16,15 +16,15 @@ use base.Shift.{Keyless}
 use types.Logic.{Logic, sem}
 use types.Owned.{basic}
 use types.Keyed.{entries_new, entries_take, entry_keyless}
-use types.Growing.{latest_new, latest_grows, latest_shows, latest_bounds, at_least_dup}
-use types.Kit.{‵, raw, ◌⊛◌, some, given, later, ◌$◌, ◌∵◌, !, qed, by, move, keep, drop, split, split3, fsplit, fsplit3, fjoin, fpick, fpack, pick, learn, show, assume, suffices, settle, done, use0, use1, use2, updating, await, now, rewrite}
+use types.Growing.{latest_new, latest_grows, latest_shows, latest_bounds}
+use types.Kit.{‵, raw, ◌⊛◌, some, given, later, ◌$◌, ◌∵◌, !, qed, by, move, keep, drop, split, fsplit, fsplit3, fjoin, fpick, fpack, pick, learn, show, assume, suffices, settle, done, use0, use1, use2, updating, await, now, rewrite}
 use denote.Steps.{nothing}
 use Rattle.logbook.specs.Kept.{fact, halved, part, roster, logs, reached, offer_owns}
 use Rattle.logbook.proofs.Roster.{joined, resets, prefix_in, prefix_out}
 use Rattle.rz_events.specs.contracts.events.Event.{the_row}
 use Rattle.rz_events.specs.declared.events.Event.{Event}
 use Rattle.rz_chronicle.specs.declared.told.Told.{Told}
-use Rattle.rz_chronicle.specs.Keys.{count_at, rows, IsInRow}
+use Rattle.rz_chronicle.specs.Keys.{rows, IsInRow}
 use Rattle.rz_chronicle.specs.Kinds.{history, IsFit}
 use Rattle.rz_chronicle.specs.Tally.{halves, parts, at, Agree, counts, grown, kept, hand_owns, gained, AllInRow, IsHolding, Covers, MayFollow, zeros, without, count_in}
 use Rattle.rz_chronicle.specs.Rules.{IsMove}

@@ -1,5 +1,5 @@
 -- What a new book deals out.
-use Rattle.std.specs.Prelude.{ℕ, ◌≡◌, ◌+◌, ◌<◌, List, [], ◌∷◌, length, slice_index_or}
+use Rattle.std.specs.Prelude.{ℕ, ◌≡◌, ◌<◌, List, [], length, slice_index_or}
 use Rattle.logbook.specs.Pages.{Book, nib, may_make_home}
 use Rattle.logbook.specs.declared.tokens.Pen.{Pen}
 use Rattle.rz_events.specs.declared.keys.Actor.{Actor}

@@ -1,5 +1,5 @@
 -- The events of each word and of each actor are counted twice: in the log, and by whoever holds the tally.
-use Rattle.std.specs.Prelude.{◌≡◌, ◌==◌, ◌⊎◌, ◌<◌, ◌++◌, ◌+◌, ℕ, zero, suc, cond, List, [], ◌∷◌, map}
+use Rattle.std.specs.Prelude.{◌≡◌, ◌==◌, ◌⊎◌, ◌<◌, ◌++◌, ℕ, zero, suc, cond, List, [], ◌∷◌, map}
 use Rattle.std.specs.List.{AllByRecursion}
 use mathlib.Core.List.{IsPrefix}
 use base.Fraction.{full_share}
@@ -11,7 +11,7 @@ use Rattle.rz_events.specs.contracts.events.Event.{the_row}
 use Rattle.rz_events.specs.declared.events.Event.{Event}
 use Rattle.rz_events.specs.declared.events.Event.TheVariants as e
 use Rattle.rz_events.specs.Events.{by_of, word_of}
-use Rattle.rz_chronicle.specs.Keys.{count_at, rows, word_key, actor_key, IsInRow}
+use Rattle.rz_chronicle.specs.Keys.{count_at, rows, word_key, actor_key}
 use Rattle.rz_chronicle.specs.Kinds.{history, IsFit}
 
 -- the book's halves of n tallies from k on

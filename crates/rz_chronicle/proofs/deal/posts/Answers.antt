@@ -1,11 +1,7 @@
-use Rattle.std.proofs.Common.{◌≡◌, ◌+◌, ◌*◌, ◌<◌, ◌++◌, ◌∷◌, [], ℕ, List, map, take, slice_get, slice_index_or, Some, sym, ap, ◌∙◌, subst, arith}
+use Rattle.std.proofs.Common.{◌≡◌, ◌+◌, ◌<◌, ℕ, List, slice_get, slice_index_or, Some, sym, ap, ◌∙◌, arith}
 use Rattle.std.proofs.lemmas.Option.{slice_get-get_or}
-use Rattle.rz_events.specs.declared.events.Word.{Word}
 use Rattle.rz_events.specs.declared.events.Word.TheVariants.{Node}
-use Rattle.rz_chronicle.specs.Keys.{word_key, rows, owner, sids_of}
-use Rattle.rz_chronicle.specs.Kinds.{volume_in}
-use Rattle.rz_chronicle.specs.Rules.{PostView}
-use Rattle.rz_chronicle.specs.Deals.{new_post}
+use Rattle.rz_chronicle.specs.Keys.{word_key, rows, owner}
 use Rattle.rz_chronicle.proofs.Rows.{rows-is}
 use Rattle.rz_chronicle.proofs.Apart.{node-owner}
 use Rattle.rz_chronicle.proofs.Posts.{not-before, left-next, posts-next}

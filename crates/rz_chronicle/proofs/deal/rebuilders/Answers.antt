@@ -1,7 +1,6 @@
-use Rattle.std.proofs.Common.{◌≡◌, ◌+◌, ◌*◌, ℕ, length, ap, ◌∙◌, subst, sym, arith}
+use Rattle.std.proofs.Common.{◌≡◌, ◌+◌, ◌*◌, ℕ, length, ap, subst, sym, arith}
 use Rattle.rz_events.specs.declared.keys.Actor.TheVariants.{Rebuilder}
 use Rattle.rz_chronicle.specs.Keys.{number}
-use Rattle.rz_chronicle.specs.Rules.{PassView}
 use Rattle.rz_chronicle.specs.Deals.{ArePasses}
 use Rattle.rz_chronicle.proofs.Dealt.{passes-more, dealt-next}
 use Rattle.rz_chronicle.proofs.deal.rebuilders.Goals as goal

@@ -1,4 +1,4 @@
-use Rattle.std.proofs.Common.{◌≡◌, ◌≢◌, ◌+◌, ◌<◌, ◌≤◌, ℕ}
+use Rattle.std.proofs.Common.{◌≢◌, ◌+◌, ◌<◌, ℕ}
 use Rattle.rz_events.specs.declared.keys.Actor.TheVariants.{Rebuilder}
 use Rattle.rz_events.specs.declared.events.Word.TheVariants.{Own}
 use Rattle.rz_chronicle.specs.Keys.{word_key, actor_key}

@@ -1,9 +1,8 @@
-use Rattle.std.proofs.Common.{◌≡◌, ◌+◌, ◌<◌, ◌≤◌, ◌++◌, ◌∷◌, [], ℕ, List, length, length-append, set, slice_index_or, sym, ap, ◌∙◌, subst, arith}
+use Rattle.std.proofs.Common.{◌≡◌, ◌+◌, ◌<◌, ◌∷◌, [], ℕ, length, length-append, set, slice_index_or, sym, ap, ◌∙◌, subst, arith}
 use Rattle.std.proofs.lemmas.List.{length-set}
-use Rattle.logbook.specs.Pages.{Book, Named}
 use Rattle.rz_chronicle.specs.Keys.{key_at, rows}
 use Rattle.rz_chronicle.specs.Rules.{AreWords, named}
-use Rattle.rz_chronicle.specs.Deals.{IsFresh, AreFresh}
+use Rattle.rz_chronicle.specs.Deals.{IsFresh}
 use Rattle.rz_chronicle.proofs.Adding.{words_more}
 use Rattle.rz_chronicle.proofs.Pens.{Remain, remain-next, pen-named}
 use Rattle.rz_chronicle.proofs.start.words.Goals as goal

@@ -1,12 +1,10 @@
-use Rattle.std.proofs.Common.{◌≡◌, ◌<◌, ◌+◌, ◌++◌, [], ◌∷◌, ℕ, List, sym, ◌∙◌, ap, subst, inl, inr}
+use Rattle.std.proofs.Common.{◌≡◌, ◌<◌, [], ◌∷◌, ℕ, List, sym, ◌∙◌, ap, subst, inl, inr}
 use Rattle.rz_events.specs.declared.events.Event.{Event}
-use Rattle.rz_events.specs.Events.{word_of, by_of}
-use Rattle.rz_chronicle.specs.declared.hand.Hand.{Hand}
-use Rattle.rz_chronicle.specs.Keys.{rows, word_key, actor_key, count_at}
+use Rattle.rz_events.specs.Events.{word_of}
+use Rattle.rz_chronicle.specs.Keys.{rows, word_key}
 use Rattle.rz_chronicle.specs.Kinds.{MayCome, history}
 use Rattle.rz_chronicle.specs.Tally.{at, counts, AllInRow, Covers, Ends, HasCount}
-use Rattle.rz_chronicle.specs.Holds.{Commits, IsRight, keys}
-use Rattle.rz_chronicle.proofs.Joint.{joined, all-low, all-right, first-count, first-without, first-held, moved-by-one, both-commit}
+use Rattle.rz_chronicle.proofs.Joint.{joined, all-right, first-count, first-without, first-held, moved-by-one, both-commit}
 use Rattle.rz_chronicle.proofs.steps.append_both.Goals as goal
 
 pub append-hand-requires-clause-held : goal.append-hand-requires-clause-held

@@ -1,5 +1,4 @@
-use Rattle.std.proofs.Common.{◌≡◌, ◌++◌, [], ◌∷◌, ℕ, List, sym, ◌∙◌, ap, subst}
-use Rattle.rz_events.specs.declared.events.Event.{Event}
+use Rattle.std.proofs.Common.{◌≡◌, [], ◌∷◌, ℕ, ◌∙◌, ap, subst}
 use Rattle.rz_chronicle.specs.Tally.{at, counts, Agree}
 use Rattle.rz_chronicle.proofs.Joint.{joined, all-low, first-count, first-without, first-held}
 use Rattle.rz_chronicle.proofs.steps.view_both.Goals as goal

@@ -1,9 +1,7 @@
 use Rattle.std.proofs.Common.{◌≡◌, ◌<◌, ◌∙◌, [], ◌∷◌, List, ℕ, sym, ap, subst}
 use Rattle.logbook.specs.Pages.{Named}
-use Rattle.rz_events.specs.declared.events.Word.TheVariants.{Own}
 use Rattle.rz_events.specs.declared.events.Event.{Event}
 use Rattle.rz_events.specs.Events.{word_of, by_of}
-use Rattle.rz_chronicle.specs.declared.hand.Hand.{Hand}
 use Rattle.rz_chronicle.specs.Keys.{rows, word_key, actor_key, count_at, sids_of}
 use Rattle.rz_chronicle.specs.Kinds.{history, IsFit, MayCome, volume_in}
 use Rattle.rz_chronicle.specs.Tally.{counts, IsHolding}

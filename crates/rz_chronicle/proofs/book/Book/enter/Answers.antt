@@ -1,13 +1,10 @@
-use Rattle.std.proofs.Common.{◌≡◌, ◌<◌, ◌∙◌, ◌++◌, [], ◌∷◌, List, ℕ, sym, ap, subst}
+use Rattle.std.proofs.Common.{◌≡◌, ◌<◌, ◌∙◌, [], ◌∷◌, List, ℕ, sym, ap, subst}
 use mathlib.Core.List.{IsPrefix}
 use Rattle.logbook.specs.Pages.{Named}
 use base.Growing.{prefix_trans}
-use Rattle.rz_events.specs.declared.events.Event.{Event}
-use Rattle.rz_events.specs.declared.events.Word.{Word}
-use Rattle.rz_chronicle.specs.declared.hand.Hand.{Hand}
-use Rattle.rz_chronicle.specs.Keys.{rows, word_key, key_at, count_at, IsLater, sids_of}
+use Rattle.rz_chronicle.specs.Keys.{rows, word_key, count_at, IsLater, sids_of}
 use Rattle.rz_chronicle.specs.Kinds.{history, IsFit, volume_in}
-use Rattle.rz_chronicle.specs.Tally.{at, counts, Agree}
+use Rattle.rz_chronicle.specs.Tally.{counts, Agree}
 use Rattle.rz_chronicle.specs.Holds.{IsHand, IsOwn, Stays, keys}
 use Rattle.rz_chronicle.specs.Rules.{PassView, PostView}
 use Rattle.rz_chronicle.proofs.Histories.{later, stays}

@@ -1,9 +1,6 @@
-use Rattle.std.proofs.Common.{◌≡◌, ◌∙◌, List, ℕ, sym, ap, subst, arith, ◌<◌}
+use Rattle.std.proofs.Common.{◌≡◌, ◌∙◌, List, ℕ, sym, ap, subst, ◌<◌}
 use Rattle.rz_events.specs.declared.events.Word.TheVariants.{Own}
-use Rattle.rz_events.specs.declared.events.Event.{Event}
-use Rattle.rz_events.specs.declared.keys.Actor.{Actor}
-use Rattle.rz_events.specs.Events.{by_of, word_of}
-use Rattle.rz_chronicle.specs.declared.hand.Hand.{Hand}
+use Rattle.rz_events.specs.Events.{word_of}
 use Rattle.logbook.specs.Pages.{Named}
 use Rattle.rz_chronicle.specs.Keys.{word_key, count_at, rows, sids_of}
 use Rattle.rz_chronicle.specs.Kinds.{MayCome, history, volume_in}

@@ -1,16 +1,11 @@
-use Rattle.std.proofs.Common.{◌≡◌, ◌<◌, ◌∙◌, ◌++◌, [], ◌∷◌, List, ℕ, sym, ap, ap₂, subst}
+use Rattle.std.proofs.Common.{◌∙◌, List, ℕ, sym, ap, subst}
 use mathlib.Core.List.{IsPrefix}
-use base.Growing.{prefix_trans}
-use Rattle.rz_events.specs.declared.events.Word.TheVariants.{Own}
-use Rattle.rz_events.specs.declared.events.Event.{Event}
-use Rattle.rz_chronicle.specs.declared.hand.Hand.{Hand}
-use Rattle.rz_chronicle.specs.Keys.{rows, word_key, count_at, IsLater}
+use Rattle.rz_chronicle.specs.Keys.{count_at, IsLater}
 use Rattle.rz_chronicle.specs.Kinds.{history, IsFit}
-use Rattle.rz_chronicle.specs.Tally.{at, counts, Agree}
-use Rattle.rz_chronicle.specs.Holds.{IsHand, IsOwn, Stays, keys, keys_in}
-use Rattle.rz_chronicle.specs.Rules.{PassView, PostView}
+use Rattle.rz_chronicle.specs.Holds.{IsHand, IsOwn, Stays, keys}
+use Rattle.rz_chronicle.specs.Rules.{PassView}
 use Rattle.rz_chronicle.proofs.Histories.{later, stays}
-use Rattle.rz_chronicle.proofs.Hands.{taken, taken-keys, at-same-keys, at-append, keys-append, agree-left, agree-right, low-append, own-left, hand-made, own-after, own-same}
+use Rattle.rz_chronicle.proofs.Hands.{taken, taken-keys, at-same-keys, hand-made, own-after, own-same}
 use Rattle.rz_chronicle.proofs.book.Book.load.Goals as goal
 
 pub invariant_of-pass : goal.invariant_of-pass

@@ -1,7 +1,7 @@
-use Rattle.std.proofs.Common.{◌≡◌, ◌++◌, [], ◌∷◌, List, ℕ, refl, sym, ap, subst, ◌∙◌}
-use Rattle.rz_chronicle.specs.Keys.{IsLater, word_key}
+use Rattle.std.proofs.Common.{◌≡◌, ◌++◌, [], ◌∷◌, List, ℕ, refl, ap, subst, ◌∙◌}
+use Rattle.rz_chronicle.specs.Keys.{word_key}
 use Rattle.rz_chronicle.specs.Kinds.{history}
-use Rattle.rz_chronicle.specs.Holds.{IsHand, IsOwn, IsSettled, Stays, keys}
+use Rattle.rz_chronicle.specs.Holds.{IsHand, IsSettled, Stays, keys}
 use Rattle.rz_chronicle.specs.Rules.{PostView}
 use Rattle.rz_chronicle.proofs.Hands.{taken}
 use Rattle.rz_chronicle.proofs.book.Book.settle_one.Goals as goal

@@ -1,4 +1,4 @@
-use Rattle.std.proofs.Common.{◌≡◌, [], ◌∷◌, ℕ, List, sym, ap, subst, ◌∙◌}
+use Rattle.std.proofs.Common.{[], ◌∷◌, ℕ, sym, ap, subst, ◌∙◌}
 use Rattle.rz_chronicle.proofs.Deals.{none-count, none-without, AreNone}
 use Rattle.rz_chronicle.proofs.deal.Deal.one.Goals as goal
 

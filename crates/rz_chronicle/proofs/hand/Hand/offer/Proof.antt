@@ -1,4 +1,4 @@
-use Rattle.std.proofs.Common.{ℕ, List, [], ◌∷◌, length, refl, sym, subst, arith}
+use Rattle.std.proofs.Common.{ℕ, List, [], ◌∷◌, refl, sym, subst}
 use mir.Syntax.{a_type, dcons, dnil, named}
 use mir.MapTy.{inst_fn}
 use denote.Param.{param, bounded}
@@ -24,9 +24,9 @@ use Rattle.std.specs.Prelude.{None}
 use Rattle.atomic_table.proofs.Walks.{proved}
 use Rattle.logbook.specs.Kept.{offer_owns}
 use Rattle.logbook.proofs.Fields.{token, Token, token_told, token_made, ends}
-use Rattle.rz_chronicle.specs.Tally.{kept, gained, hand_owns, notes, held_in, mark}
+use Rattle.rz_chronicle.specs.Tally.{kept, gained, hand_owns, notes, held_in}
 use Rattle.rz_chronicle.specs.Rules.{IsMove}
-use Rattle.rz_chronicle.proofs.Keys.{notes-back, mark-out}
+use Rattle.rz_chronicle.proofs.Keys.{notes-back}
 use Rattle.rz_events.specs.contracts.events.Event as Event
 use Rattle.rz_chronicle.specs.contracts.told.Told as Told
 use Rattle.rz_chronicle.specs.contracts.hand.Law as Law

@@ -1,10 +1,9 @@
-use Rattle.std.proofs.Common.{◌≡◌, ◌<◌, ℕ, List, [], ◌∷◌, ◌++◌, length, map, refl, sym, subst, arith, w64}
-use mir.Syntax.{named}
-use mir.Val.{Val, vint, vptr, vstruct, vcons, vnil, of_list}
-use base.Logic.{SProp, ent, sep, emp, id⊢}
-use base.Fml.{ftrue, fsep, feq, flft}
+use Rattle.std.proofs.Common.{ℕ, List, [], ◌∷◌, ◌++◌, map, refl, w64}
+use mir.Val.{Val, vint, vstruct, vcons, vnil, of_list}
+use base.Logic.{SProp, ent, sep, emp}
+use base.Fml.{ftrue, fsep, feq}
 use types.Logic.{sem}
-use types.Kit.{done, fjoin3, fpack, feq_i, rewrite, use2, ‵, ◌⊛◌, given, ◌$◌, ◌∵◌, !, qed, by, move, keep, drop, split, fsplit, fjoin, learn, use0, use1}
+use types.Kit.{done, fjoin3, fpack, feq_i, ‵, ◌⊛◌, given, ◌$◌, ◌∵◌, !, qed, by, move, keep, drop, split, fsplit, fjoin, learn, use0, use1}
 use types.Run.{no_more, and_then, returns, enter}
 use types.ByLocal.{alloc_all, pass_all, free_all, look_at, get, sets}
 use types.Part.{agg}
@@ -13,11 +12,9 @@ use contract.Running.{tables}
 use denote.Exit.{yes}
 use denote.RattleType.{RattleType, owns, Valss}
 use denote.Signature.{types_at, plain}
-use denote.Builtin.{RefOf, u64, unit}
+use denote.Builtin.{u64, unit}
 use denote.Plain.{uint_vals, uint_Tells}
-use denote.Ref.{shr_vals, shr_Tells}
 use denote.Steps.{nothing}
-use denote.Struct.Tuple.{Tuple}
 use denote.Triple.Walked.{Stays, stay_dropped, walk_of, Goes-dropped}
 use Rattle.atomic_table.proofs.Walks.{proved}
 use Rattle.logbook.proofs.Fields.{token, Token, token_told, token_made, ends}

@@ -1,8 +1,5 @@
-use Rattle.std.proofs.Common.{◌≡◌, ◌∷◌, sym, ap, subst, List, ℕ, Option, Some, None, IsSomeAnd, refl}
-use Rattle.rz_events.specs.declared.events.Event.{Event}
-use Rattle.rz_chronicle.specs.declared.hand.Hand.{Hand}
+use Rattle.std.proofs.Common.{subst}
 use Rattle.rz_chronicle.specs.Keys.{actor_key, IsOneOf}
-use Rattle.rz_chronicle.specs.Holds.{IsHand, IsOwn, keys_in}
 use Rattle.rz_chronicle.specs.Rules.{PassView}
 use Rattle.rz_chronicle.proofs.Hands.{own-key}
 use Rattle.rz_chronicle.proofs.passes.Pass.actor.Goals as goal

@@ -1,4 +1,4 @@
-use Rattle.std.proofs.Common.{◌≡◌, ◌+◌, ◌<◌, ◌∙◌, ℕ, sym, ap, subst, arith}
+use Rattle.std.proofs.Common.{◌≡◌, ◌∙◌, sym, subst, arith}
 use Rattle.rz_events.specs.declared.events.Word.TheVariants.{Own}
 use Rattle.rz_chronicle.specs.Keys.{count_at, word_key}
 use Rattle.rz_chronicle.specs.Rules.{PassView}

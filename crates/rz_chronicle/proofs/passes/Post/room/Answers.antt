@@ -1,9 +1,5 @@
-use Rattle.std.proofs.Common.{◌≡◌, ◌<◌, ◌+◌, ◌∙◌, [], ◌∷◌, List, ℕ, sym, ap, subst, arith, IsSomeAnd, Option, Some, None}
-use Rattle.rz_events.specs.declared.events.Event.{Event}
-use Rattle.rz_chronicle.specs.declared.hand.Hand.{Hand}
+use Rattle.std.proofs.Common.{◌≡◌, ◌∙◌, sym, subst, arith}
 use Rattle.rz_chronicle.specs.Keys.{word_key, count_at}
-use Rattle.rz_chronicle.specs.Tally.{at, counts}
-use Rattle.rz_chronicle.specs.Holds.{IsHand}
 use Rattle.rz_chronicle.specs.Rules.{PostView}
 use Rattle.rz_chronicle.proofs.Histories.{count_history}
 use Rattle.rz_chronicle.proofs.Hands.{post-count}

@@ -1,4 +1,4 @@
-use Rattle.std.proofs.Common.{◌≡◌, ◌∷◌, ℕ, List, sym, ap₂, ◌∙◌, subst}
+use Rattle.std.proofs.Common.{◌∷◌, ℕ, List, sym, ap₂, ◌∙◌, subst}
 use Rattle.rz_chronicle.proofs.Deals.{AreNone, zeros-none}
 use Rattle.rz_chronicle.specs.Keys.{rows}
 use Rattle.rz_chronicle.proofs.Dealt.{export-held, nodes-held, admin-held, clients-held, rebuilders-held}
