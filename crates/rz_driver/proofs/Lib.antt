@@ -1,3 +1,4 @@
+pub mod Rowwise
 pub mod Asks
 pub mod Begins
 pub mod Fits
@@ -11,3 +12,6 @@ mod MessageLemmas
 mod OpenLemmas
 mod TakeLemmas
 mod ActorOrders
+mod MadeLemmas
+mod FormatLemmas
+mod NodeOrders

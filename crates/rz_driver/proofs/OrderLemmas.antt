@@ -1,27 +1,28 @@
 -- An actor was ordered to do something more.
-use Rattle.std.proofs.Common.{◌≡◌, ℕ, ◌<◌, ◌≤◌, Bool, true, false, cond, List, [], ◌∷◌, ◌++◌, length, set, Option, Some, None, refl, sym, ◌∙◌, ap, subst}
+use Rattle.std.proofs.Common.{◌≡◌, ℕ, ◌<◌, ◌≤◌, cond, List, [], ◌∷◌, ◌++◌, map, length, set, Some, sym, ◌∙◌, ap, subst}
 use Rattle.std.specs.Prelude.{slice_get}
 use Rattle.std.specs.List.{AllByRecursion}
 use Rattle.std.proofs.Math.Path.{fun_ext}
 use Rattle.std.proofs.lemmas.List.{length-set}
 use Rattle.mj_angles.specs.declared.layout.Layout.{Layout}
 use Rattle.mj_angles.specs.Layout.{max_bins_of}
-use Rattle.rz_events.specs.Volume.{Volume}
+use Rattle.rz_disk.specs.declared.disk.Disk.{Ghosts}
+use Rattle.rz_disk.specs.UnderFuse.{UnderFuse}
+use Rattle.rz_events.specs.Volume.{Volume, nodes_of}
+use Rattle.rz_events.specs.declared.files.NodeSpec.{NodeSpec}
 use Rattle.rz_events.specs.declared.keys.Actor.{Actor}
 use Rattle.rz_events.specs.declared.operations.Operation.{Operation}
 use Rattle.rz_events.specs.Events.{same_actor}
 use Rattle.rz_operation.specs.Answers.{IsOperation}
-use Rattle.rz_play.specs.World.{World, Seat as APlayer, with_seat}
-use Rattle.rz_play.specs.Lines.{with_operation, with_miss}
+use Rattle.rz_play.specs.World.{Seat as APlayer, with_seat}
 use Rattle.rz_driver.specs.declared.driver.Driver.{Driver}
 use Rattle.rz_driver.specs.declared.seat.Seat.{Seat}
 use Rattle.rz_driver.specs.declared.station.Shared.{Shared}
-use Rattle.rz_driver.specs.Locking.{lock_of}
 use Rattle.rz_driver.specs.Seats.{seat_of, IsSeat}
-use Rattle.rz_driver.specs.Stations.{IsStation}
-use Rattle.rz_driver.specs.Worlds.{place_of, seat_in, world, world_of, AreLocks, HaveNoLocks, IsDriver}
+use Rattle.rz_driver.specs.Stations.{numbers_of, IsStation}
+use Rattle.rz_driver.specs.Worlds.{place_of, seat_in, world, AreLocks, HaveNoLocks, IsDriver}
 use Rattle.rz_driver.proofs.WorldLemmas.{seat-here, seat-set}
-use Rattle.rz_driver.proofs.ReadyLemmas.{all-set, all-at, locks-stay}
+use Rattle.rz_driver.proofs.ReadyLemmas.{all-set, locks-stay}
 
 -- the world with one actor changed
 pub ordered : {D : Type 0} (p : Shared D) (ss : List Seat) (turns : ℕ) (by : Actor) (place : ℕ) (s b : Seat) (t : APlayer → APlayer) → place_of by ≡ Some place → place < length ss → slice_get ss place ≡ Some s → seat_of b ≡ t (seat_of s)
@@ -36,14 +37,15 @@ all-more layout [] op all fits = (fits, tt)
 all-more layout (x ∷ ops) op all fits = (all.0, all-more layout ops op all.1 fits)
 
 -- a driver of which one actor changed, but not its lock
-pub still-ready : {D : Type 0} (d e : Driver D) (by : Actor) (place : ℕ) (s b : Seat) → IsDriver d → e.volume ≡ d.volume → e.shared ≡ d.shared → e.seats.items ≡ set d.seats.items place b → place_of by ≡ Some place → place < length d.seats.items
+pub still-ready : {D : Type 0} {G : Ghosts D} (d e : Driver D G) (by : Actor) (place : ℕ) (s b : Seat) → IsDriver d → e.volume ≡ d.volume → e.shared ≡ d.shared → e.seats.items ≡ set d.seats.items place b → place_of by ≡ Some place → place < length d.seats.items
     → slice_get d.seats.items place ≡ Some s → IsSeat d.volume.layout b → b.lock ≡ s.lock → IsDriver e
-still-ready {D} d e by place s b ready volume shared seats at low here seat lock = record {
-  stations = subst (λ (v : Volume). AllByRecursion (IsStation v) e.shared.stations.items) (sym volume) (subst (λ (p : Shared D). AllByRecursion (IsStation d.volume) p.stations.items) (sym shared) ready.stations);
-  bins = subst (λ (v : Volume). max_bins_of v.layout ≤ length e.shared.bins.items) (sym volume) (subst (λ (p : Shared D). max_bins_of d.volume.layout ≤ length p.bins.items) (sym shared) ready.bins);
+still-ready {D = D} d e by place s b ready volume shared seats at low here seat lock = record {
+  stations = subst (λ (v : Volume). AllByRecursion (IsStation v) e.shared.stations.items) (sym volume) (subst (λ (p : Shared (UnderFuse D)). AllByRecursion (IsStation d.volume) p.stations.items) (sym shared) ready.stations);
+  numbers = ap (λ (p : Shared (UnderFuse D)). numbers_of p.stations.items) shared ∙ ready.numbers ∙ ap (λ (v : Volume). map (λ (n : NodeSpec). n.sid) (nodes_of v.clusters)) (sym volume);
+  bins = subst (λ (v : Volume). max_bins_of v.layout ≤ length e.shared.bins.items) (sym volume) (subst (λ (p : Shared (UnderFuse D)). max_bins_of d.volume.layout ≤ length p.bins.items) (sym shared) ready.bins);
   seats = subst (λ (v : Volume). AllByRecursion (IsSeat v.layout) e.seats.items) (sym volume) (subst (AllByRecursion (IsSeat d.volume.layout)) (sym seats) (all-set (IsSeat d.volume.layout) d.seats.items place b ready.seats seat));
   count = ap length seats ∙ length-set d.seats.items place b ∙ ready.count;
-  locks = subst (λ (p : Shared D). AreLocks p.locks e.seats.items) (sym shared) (subst (AreLocks d.shared.locks) (sym seats) both.0);
+  locks = subst (λ (p : Shared (UnderFuse D)). AreLocks p.locks e.seats.items) (sym shared) (subst (AreLocks d.shared.locks) (sym seats) both.0);
   no_locks = subst HaveNoLocks (sym seats) both.1;
 }
   where

@@ -1,8 +1,10 @@
 -- A driver stands between two turns again.
-use Rattle.std.proofs.Common.{◌≡◌, ◌≢◌, ℕ, zero, suc, ◌<◌, ◌≤◌, Bool, true, false, cond, List, [], ◌∷◌, length, set, Option, Some, None, refl, sym, ◌∙◌, ap, subst, arith}
+use Rattle.std.proofs.Common.{◌≡◌, ℕ, zero, suc, ◌<◌, Bool, true, false, cond, List, [], ◌∷◌, length, set, Option, Some, None, refl, sym, ◌∙◌, ap, subst}
 use Rattle.std.specs.Prelude.{◌==◌, slice_get}
 use Rattle.std.specs.List.{AllByRecursion}
 use Rattle.std.specs.Cmp.{nat_cmp_total, unsigned_tied}
+use Rattle.std.proofs.Math.Seq.{map-set_same}
+use Rattle.std.proofs.lemmas.Option.{get_or_from_slice_get}
 use Rattle.std.specs.FinMap.{get, insert, remove, get-insert, get-remove}
 use Rattle.rz_events.specs.Volume.{Volume}
 use Rattle.rz_events.specs.declared.keys.Actor.{Actor}
@@ -10,10 +12,7 @@ use Rattle.rz_events.specs.declared.keys.Actor.TheVariants.{Client, Rebuilder, A
 use Rattle.rz_events.specs.Events.{same_actor}
 use Rattle.mj_angles.specs.declared.layout.Layout.{Layout}
 use Rattle.rz_core.specs.NodeRows.{cells_of}
-use Rattle.rz_events.specs.declared.operations.Operation.{Operation}
 use Rattle.rz_locks.specs.declared.conflict.Lock.{Lock}
-use Rattle.rz_locks.specs.declared.conflict.LockKind.{LockKind}
-use Rattle.rz_locks.specs.declared.conflict.Range.{Range}
 use Rattle.rz_locks.specs.Held.{Held}
 use Rattle.rz_operation.specs.Machine.{Machine}
 use Rattle.rz_operation.specs.Answers.{IsOperation}
@@ -21,11 +20,10 @@ use Rattle.rz_play.specs.World.{Seat as APlayer}
 use Rattle.rz_driver.specs.declared.seat.Seat.{Seat}
 use Rattle.rz_driver.specs.declared.station.Shared.{Shared}
 use Rattle.rz_driver.specs.declared.station.Station.{Station}
-use Rattle.rz_driver.specs.Acts.{IsAct, Rests, Exports, Opens, Sends, Says, IsSameActor, IsMessage, IsFate, Through, ReplyLost, RequestLost, IsReleased, lock_left, locks_after}
-use Rattle.rz_driver.specs.Locking.{lock_of, lock_if, Grants, IsOpened, IsOpenPart}
-use Rattle.rz_driver.specs.Parts.{IsTold, IsExportPart, IsSayPart}
+use Rattle.rz_driver.specs.Acts.{IsAct, Rests, Exports, Opens, Sends, Says, IsSameActor, IsFate, Through, ReplyLost, RequestLost, IsReleased, locks_after}
+use Rattle.rz_driver.specs.Locking.{lock_of, lock_if, Grants}
 use Rattle.rz_driver.specs.Seats.{seat_of, HasLayout, IsSeat}
-use Rattle.rz_driver.specs.Stations.{IsStation, IsCalled}
+use Rattle.rz_driver.specs.Stations.{numbers_of, IsStation}
 use Rattle.rz_driver.specs.Worlds.{place_of, seat_in, AreLocks, HaveNoLocks}
 use Rattle.rz_driver.proofs.WorldLemmas.{seat-here, seat-set, actor-is}
 
@@ -58,6 +56,18 @@ stations-after v layout by a b p q (Sends old new was is same lock n question as
       layout = ap (λ g. g.layout) m.called.geometry ∙ shape.layout;
       cells = ap (λ g. g.cells) m.called.geometry ∙ shape.cells ∙ ap (cells_of v) (sym m.called.sid);
     }))
+
+module _ {D : Type 0} where
+  pub numbers-kept : (xs ys : List (Station D)) (place : ℕ) (s after : Station D) → slice_get xs place ≡ Some s → ys ≡ set xs place after → after.sid ≡ s.sid → numbers_of ys ≡ numbers_of xs
+  numbers-kept xs ys place s after is set_is sid = ap numbers_of set_is
+      ∙ map-set_same (λ (x : Station D). x.sid) xs place after s (sid ∙ ap (λ (x : Station D). x.sid) (sym (get_or_from_slice_get xs place s s is)))
+
+pub numbers-after : {D : Type 0} (layout : Layout) (by : Actor) (a b : Seat) (p q : Shared D) → IsAct layout by a b p q → numbers_of q.stations.items ≡ numbers_of p.stations.items
+numbers-after layout by a b p q (Rests asks same shared) = ap (λ (x : Shared _). numbers_of x.stations.items) shared
+numbers-after layout by a b p q (Exports old new was is same lock miss part sts lks lost) = ap numbers_of sts
+numbers-after layout by a b p q (Opens old new was is same miss part sts lost) = ap numbers_of sts
+numbers-after layout by a b p q (Says old new was is same miss done part released sts export lost) = ap numbers_of sts
+numbers-after layout by a b p q (Sends old new was is same lock n question asks m) = numbers-kept p.stations.items q.stations.items m.place m.station m.after m.is m.stations m.called.sid
 
 -- ---- the actor
 

@@ -1,12 +1,15 @@
 -- An actor took a turn.
-use Rattle.std.proofs.Common.{◌≡◌, ℕ, ◌+◌, ◌<◌, ◌≤◌, List, [], ◌∷◌, length, set, get_or, Option, Some, None, refl, sym, ◌∙◌, ap, subst, arith}
+use Rattle.std.proofs.Common.{◌≡◌, ℕ, ◌+◌, ◌<◌, ◌≤◌, List, [], ◌∷◌, map, length, set, get_or, Some, refl, sym, ◌∙◌, ap, subst, arith}
 use Rattle.std.specs.Prelude.{slice_get}
 use Rattle.std.specs.List.{AllByRecursion}
 use Rattle.std.specs.FinMap.{get}
 use Rattle.std.proofs.lemmas.List.{length-set}
 use Rattle.std.proofs.lemmas.Option.{slice_get_read}
 use Rattle.mj_angles.specs.Layout.{max_bins_of}
-use Rattle.rz_events.specs.Volume.{Volume}
+use Rattle.rz_disk.specs.declared.disk.Disk.{Ghosts}
+use Rattle.rz_disk.specs.UnderFuse.{UnderFuse}
+use Rattle.rz_events.specs.Volume.{Volume, nodes_of}
+use Rattle.rz_events.specs.declared.files.NodeSpec.{NodeSpec}
 use Rattle.rz_events.specs.declared.keys.Actor.{Actor}
 use Rattle.rz_events.specs.declared.keys.Actor.TheVariants.{Client, Rebuilder, Admin}
 use Rattle.rz_events.specs.declared.events.Event.{Event}
@@ -22,7 +25,7 @@ use Rattle.rz_driver.specs.Logged.{Logged}
 use Rattle.rz_driver.specs.Seats.{seat_of, IsSeat}
 use Rattle.rz_driver.specs.Stations.{IsStation}
 use Rattle.rz_driver.specs.Worlds.{place_of, seat_in, world, world_of, AreLocks, HaveNoLocks, IsDriver}
-use Rattle.rz_driver.proofs.ReadyLemmas.{all-set, all-at, stations-after, seat-after, locks-after}
+use Rattle.rz_driver.proofs.ReadyLemmas.{all-set, all-at, stations-after, numbers-after, seat-after, locks-after}
 use Rattle.rz_driver.proofs.TurnLemmas.{turn-is}
 use Rattle.rz_driver.proofs.WorldLemmas.{client-place, rebuilder-place, seat-here}
 
@@ -32,7 +35,7 @@ place-low (Rebuilder m) q at = let r = rebuilder-place m q at in omega (arith, r
 place-low Admin q at = absurd (cc)
 
 -- the actor at a place
-pub seat-there : {D : Type 0} (by : Actor) (place : ℕ) (a : Seat) (d : Driver D) → IsDriver d → place_of by ≡ Some place → a ≡ get_or d.seats.items place a
+pub seat-there : {D : Type 0} {G : Ghosts D} (by : Actor) (place : ℕ) (a : Seat) (d : Driver D G) → IsDriver d → place_of by ≡ Some place → a ≡ get_or d.seats.items place a
     → (slice_get d.seats.items place ≡ Some a) × (place < length d.seats.items) × IsSeat d.volume.layout a
 seat-there by place a d ready at is =
     let low : place < length d.seats.items = subst (λ (n : ℕ). place < n) (sym ready.count) (place-low by place at) in
@@ -44,15 +47,15 @@ have-layouts v [] all = tt
 have-layouts v (x ∷ xs) all = (all.0.layout, have-layouts v xs all.1)
 
 -- the locks have what a client notes as its own
-pub tied-at : {D : Type 0} (by : Actor) (place : ℕ) (a0 a : Seat) (d : Driver D) → IsDriver d → place_of by ≡ Some place → slice_get d.seats.items place ≡ Some a0 → a.lock ≡ a0.lock
+pub tied-at : {D : Type 0} {G : Ghosts D} (by : Actor) (place : ℕ) (a0 a : Seat) (d : Driver D G) → IsDriver d → place_of by ≡ Some place → slice_get d.seats.items place ≡ Some a0 → a.lock ≡ a0.lock
     → (n : ℕ) → by ≡ Client n → get d.shared.locks n ≡ lock_of a.lock
 tied-at by place a0 a d ready at here kept n is =
     ready.locks n ∙ ap (λ (x : Actor). (seat_in d.seats.items x).lock) (sym is) ∙ ap (λ (s : APlayer). s.lock) (seat-here d.seats.items by place a0 at here) ∙ ap lock_of (sym kept)
 
-module _ {D : Type 0} (by : Actor) (place : ℕ) (d e : Driver D) (log : Logged) (a0 a b : Seat) (ready : IsDriver d) (at : place_of by ≡ Some place) (here : slice_get d.seats.items place ≡ Some a0) (low : place < length d.seats.items)
+module _ {D : Type 0} {G : Ghosts D} (by : Actor) (place : ℕ) (d e : Driver D G) (log : Logged) (a0 a b : Seat) (ready : IsDriver d) (at : place_of by ≡ Some place) (here : slice_get d.seats.items place ≡ Some a0) (low : place < length d.seats.items)
     (taken : seat_of a ≡ at_work (seat_of a0)) (fits : IsSeat d.volume.layout a) (kept : a.lock ≡ a0.lock) (events : log.events ≡ d.shared.log.events)
     (acts : IsAct d.volume.layout by a b (record d.shared { log = log }) e.shared) (volume : e.volume ≡ d.volume) (seats : e.seats.items ≡ set d.seats.items place b) where
-  abbrev p : Shared D
+  abbrev p : Shared (UnderFuse D)
   p = record d.shared { log = log }
 
   abbrev ss : List Seat
@@ -64,6 +67,7 @@ module _ {D : Type 0} (by : Actor) (place : ℕ) (d e : Driver D) (log : Logged)
   pub drives : length e.shared.bins.items ≡ length d.shared.bins.items → IsDriver e
   drives bins = record {
     stations = subst (λ (v : Volume). AllByRecursion (IsStation v) e.shared.stations.items) (sym volume) (stations-after d.volume d.volume.layout by a b p e.shared acts ready.stations);
+    numbers = numbers-after d.volume.layout by a b p e.shared acts ∙ ready.numbers ∙ ap (λ (v : Volume). map (λ (n : NodeSpec). n.sid) (nodes_of v.clusters)) (sym volume);
     bins = subst (λ (v : Volume). max_bins_of v.layout ≤ length e.shared.bins.items) (sym volume) (subst (λ (n : ℕ). max_bins_of d.volume.layout ≤ n) (sym bins) ready.bins);
     seats = subst (λ (v : Volume). AllByRecursion (IsSeat v.layout) e.seats.items) (sym volume)
         (subst (AllByRecursion (IsSeat d.volume.layout)) (sym seats) (all-set (IsSeat d.volume.layout) ss place b ready.seats (seat-after d.volume.layout by a b p e.shared acts fits)));
@@ -72,10 +76,14 @@ module _ {D : Type 0} (by : Actor) (place : ℕ) (d e : Driver D) (log : Logged)
     no_locks = subst HaveNoLocks (sym seats) locks.1;
   }
 
-  pub turned : (f : Driver D) → d ≡ f → e.turns ≡ d.turns + 1 → IsTurn f.volume by (world_of f) (world_of e)
-  turned f is turns =
-      let first : world p ss d.turns ≡ world_of d = ap (λ (h : List Event). record (world_of d) { log = h }) events in
-      let last : world e.shared (set ss place b) (d.turns + 1) ≡ world_of e = ap (λ (xs : List Seat). world e.shared xs (d.turns + 1)) (sym seats) ∙ ap (world e.shared e.seats.items) (sym turns) in
-      subst (λ (x : Driver D). IsTurn x.volume by (world_of x) (world_of e)) is
-      (subst (λ (w : World). IsTurn d.volume by w (world_of e)) first
-      (subst (IsTurn d.volume by (world p ss d.turns)) last (turn-is d.volume by ss place d.turns at low a0 a here taken fits.machine p e.shared ready.locks ready.no_locks ready.stations kept b acts)))
+-- and the world is that after the turn
+pub turned : {D : Type 0} {G : Ghosts D} (by : Actor) (place : ℕ) (d : Driver D G) (q : Shared (UnderFuse D)) (log : Logged) (a0 a b : Seat) → IsDriver d → place_of by ≡ Some place → slice_get d.seats.items place ≡ Some a0 → place < length d.seats.items
+    → seat_of a ≡ at_work (seat_of a0) → IsSeat d.volume.layout a → a.lock ≡ a0.lock → log.events ≡ d.shared.log.events → IsAct d.volume.layout by a b (record d.shared { log = log }) q
+    → (f : Driver D G) → d ≡ f → IsTurn f.volume by (world_of f) (world q (set d.seats.items place b) (d.turns + 1))
+turned {D = D} {G = G} by place d q log a0 a b ready at here low taken fits kept events acts f is =
+    let p : Shared (UnderFuse D) = record d.shared { log = log } in
+    let next : World = world q (set d.seats.items place b) (d.turns + 1) in
+    let first : world p d.seats.items d.turns ≡ world_of d = ap (λ (h : List Event). record (world_of d) { log = h }) events in
+    subst (λ (x : Driver D G). IsTurn x.volume by (world_of x) next) is
+    (subst (λ (w : World). IsTurn d.volume by w next) first
+    (turn-is d.volume by d.seats.items place d.turns at low a0 a here taken fits.machine p q ready.locks ready.no_locks ready.stations kept b acts))

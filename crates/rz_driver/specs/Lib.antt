@@ -7,3 +7,4 @@ pub mod Stations
 pub mod Acts
 pub mod Administration
 pub mod Worlds
+pub mod Made

@@ -1,6 +1,6 @@
 -- The nodes of a volume in a row.
-use Rattle.std.specs.Prelude.{ℕ, ◌≡◌, ◌≢◌, ◌==◌, zero, suc, cond, List, [], ◌∷◌}
-use Rattle.mj_angles.specs.declared.layout.Layout.{Layout}
+use Rattle.std.specs.Prelude.{ℕ, ◌≡◌, ◌≢◌, ◌==◌, zero, suc, cond, map, List, [], ◌∷◌}
+use Rattle.rz_disk.specs.UnderFuse.{UnderFuse}
 use Rattle.rz_events.specs.Volume.{Volume}
 use Rattle.rz_node_model.specs.States.{NodeState, fresh}
 use Rattle.rz_core.specs.NodeRows.{cells_of}
@@ -16,6 +16,14 @@ abbrev pub IsAt : {D : Type 0} → List (Station D) → ℕ → ℕ → Type 0
 IsAt [] n i = ⊥
 IsAt (s ∷ more) n zero = s.sid ≡ n
 IsAt (s ∷ more) n (suc i) = (s.sid ≢ n) × IsAt more n i
+
+-- the numbers of the nodes, in order
+abbrev pub numbers_of : {D : Type 0} → List (Station D) → List ℕ
+numbers_of {D = D} stations = map (λ (s : Station D). s.sid) stations
+
+-- and their disks, out of their fuses
+abbrev pub disks_of : {D : Type 0} → List (Station (UnderFuse D)) → List D
+disks_of {D = D} stations = map (λ (s : Station (UnderFuse D)). s.node.disk.disk) stations
 
 -- a node has the layout of the volume and the cells of its number
 pub record IsStation {D : Type 0} (v : Volume) (s : Station D) : Type 0 where

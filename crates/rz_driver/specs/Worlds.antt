@@ -1,18 +1,20 @@
 -- The world of a play that a driver stands for.
-use Rattle.std.specs.Prelude.{ℕ, Bool, true, false, ◌≡◌, ◌+◌, ◌-◌, ◌≤◌, ◌&&◌, nat_le, List, length, Option, Some, None, slice_get}
+use Rattle.std.specs.Prelude.{ℕ, Bool, true, false, ◌≡◌, ◌+◌, ◌-◌, ◌≤◌, ◌&&◌, nat_le, map, List, length, Option, Some, None, slice_get}
 use Rattle.std.specs.List.{AllByRecursion}
 use Rattle.std.specs.FinMap.{get}
 use Rattle.mj_angles.specs.Layout.{max_bins_of}
+use Rattle.rz_disk.specs.declared.disk.Disk.{Ghosts}
+use Rattle.rz_events.specs.Volume.{nodes_of}
+use Rattle.rz_events.specs.declared.files.NodeSpec.{NodeSpec}
 use Rattle.rz_events.specs.declared.keys.Actor.{Actor}
 use Rattle.rz_events.specs.declared.keys.Actor.TheVariants.{Client, Rebuilder, Admin}
-use Rattle.rz_locks.specs.declared.conflict.Lock.{Lock}
 use Rattle.rz_locks.specs.Held.{Held}
 use Rattle.rz_play.specs.World.{World, Seat as APlayer, empty_seat}
 use Rattle.rz_driver.specs.declared.seat.Seat.{Seat}
 use Rattle.rz_driver.specs.declared.station.Shared.{Shared}
 use Rattle.rz_driver.specs.declared.driver.Driver.{Driver}
 use Rattle.rz_driver.specs.Seats.{seat_of, IsSeat}
-use Rattle.rz_driver.specs.Stations.{state_in, IsStation}
+use Rattle.rz_driver.specs.Stations.{state_in, numbers_of, IsStation}
 
 -- Actors stand in a row, the clients 1 to 64 and then the rebuilders 1 to 16.
 
@@ -47,7 +49,7 @@ world p seats turns = record {
   log = p.log.events;
 }
 
-abbrev pub world_of : {D : Type 0} → Driver D → World
+abbrev pub world_of : {D : Type 0} {G : Ghosts D} → Driver D G → World
 world_of d = world d.shared d.seats.items d.turns
 
 -- the locks are those that the clients note as their own
@@ -59,8 +61,9 @@ abbrev pub HaveNoLocks : List Seat → Type 0
 HaveNoLocks seats = (n : ℕ) → (seat_in seats (Rebuilder n)).lock ≡ None
 
 -- A driver between two turns.
-pub record IsDriver {D : Type 0} (d : Driver D) : Type 0 where
+pub record IsDriver {D : Type 0} {G : Ghosts D} (d : Driver D G) : Type 0 where
   pub stations : AllByRecursion (IsStation d.volume) d.shared.stations.items
+  pub numbers : numbers_of d.shared.stations.items ≡ map (λ (n : NodeSpec). n.sid) (nodes_of d.volume.clusters)
   pub bins : max_bins_of d.volume.layout ≤ length d.shared.bins.items
   pub seats : AllByRecursion (IsSeat d.volume.layout) d.seats.items
   pub count : length d.seats.items ≡ 80

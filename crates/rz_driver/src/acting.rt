@@ -1,6 +1,7 @@
 //! What an actor does in its turn.
-ghost use Rattle.std.specs.Prelude.{◌≡◌, ◌≤◌, ℕ, length, IfSome, OnOk, OnErr};
+ghost use Rattle.std.specs.Prelude.{◌≡◌, ◌+◌, ◌≤◌, ℕ, length, IfSome, OnOk, OnErr};
 ghost use Rattle.std.specs.FinMap as map;
+ghost use Rattle.std.specs.Vec.{vec_len};
 ghost use Rattle.mj_angles.specs.Layout.{max_bins_of};
 ghost use Rattle.rz_events.specs.declared.keys.Actor.TheVariants as actor;
 ghost use Rattle.rz_operation_model.specs.Ask.{ask_of};
@@ -63,7 +64,10 @@ pub(crate) fn act<D: Disk, L: Link>(
     requires room { 2 ≤ shared.old.log.room }
     ensures ok { OnOk result (IsAct layout by seat.old seat.new shared.old shared.new) }
     ensures err { OnErr result (shared.new.log.events ≡ shared.old.log.events) }
+    ensures lost { OnErr result (shared.new.lost ≡ shared.old.lost) }
+    ensures link { shared.new.lost + L.lost link.old ≤ shared.old.lost + L.lost link.new }
     ensures bins { length shared.new.bins.items ≡ length shared.old.bins.items }
+    ensures count { vec_len shared.new.stations ≡ vec_len shared.old.stations }
 {
     let Some(machine) = &mut seat.machine else {
         return Ok(());
@@ -130,7 +134,10 @@ fn message<D: Disk, L: Link>(
     requires room { 2 ≤ shared.old.log.room }
     ensures ok { OnOk result (IsMessage by number ask machine.old machine.new miss.old miss.new shared.old shared.new) }
     ensures err { OnErr result (shared.new.log.events ≡ shared.old.log.events) }
+    ensures lost { OnErr result (shared.new.lost ≡ shared.old.lost) }
+    ensures link { shared.new.lost + L.lost link.old ≤ shared.old.lost + L.lost link.new }
     ensures bins { length shared.new.bins.items ≡ length shared.old.bins.items }
+    ensures count { vec_len shared.new.stations ≡ vec_len shared.old.stations }
 {
     let Some(place) = find(shared.stations.as_slice(), number) else {
         return Err(NoMemory);

@@ -1,72 +1,23 @@
-//! The driver, and the turns of its actors.
-ghost use Rattle.std.specs.Prelude.{◌≡◌, ◌+◌, ◌<◌, OnOk, OnErr, IfSome, Some};
-ghost use Rattle.rz_play.specs.Stops.{most_turns};
-ghost use Rattle.rz_play.specs.Turns.{IsTurn};
-ghost use Rattle.rz_play.specs.World.{has_work};
-ghost use Rattle.rz_driver.specs.Worlds.{place_of, world_of, IsDriver};
+//! The driver.
+ghost use Rattle.std.specs.Prelude.{◌+◌, ◌≤◌};
+ghost use Rattle.std.specs.Vec.{vec_len, vec_capacity};
 
-use crate::NoMemory;
-use crate::acting::act;
 use crate::seat::Seat;
 use crate::station::Shared;
 use rz_config::Volume;
-use rz_disk::Disk;
-use rz_events::Actor;
-use rz_link::Link;
+use rz_disk::{Disk, Fused};
 use std::alloc::Global;
 
-/// It plays a script over the nodes of a volume, their disks and the export.
+/// It plays a script over the nodes of a volume, their disks and the export. Each disk is in a fuse.
 #[derive(Drop)]
 pub struct Driver<D: Disk> {
     pub(crate) alloc: Global,
     pub(crate) volume: Volume,
-    pub(crate) shared: Shared<D>,
+    pub(crate) shared: Shared<Fused<D>>,
     /// The clients 1 to 64, and then the rebuilders 1 to 16.
     pub(crate) seats: Vec<Seat>,
     pub(crate) turns: u32,
-}
-
-/// Where an actor stands in the row.
-pub(crate) fn place(by: Actor) -> Option<usize>
-    ensures { result ≡ place_of by }
-{
-    match by {
-        Actor::Client(n) if 1 <= n && n <= 64 => Some(usize::from(n) - 1),
-        Actor::Rebuilder(n) if 1 <= n && n <= 16 => Some(usize::from(n) + 63),
-        _ => None,
-    }
-}
-
-impl<D: Disk> Driver<D> {
-    /// The actor takes a turn.
-    pub(crate) fn take_turn<L: Link>(&mut self, by: Actor, link: &mut L) -> Result<(), NoMemory>
-        requires ready { IsDriver self.old }
-        requires few { self.old.turns < most_turns }
-        ensures ready { OnOk result (IsDriver self.new) }
-        ensures volume { self.new.volume ≡ self.old.volume }
-        ensures taken { OnOk result (IsTurn self.old.volume by (world_of self.old) (world_of self.new)) }
-        ensures log { OnErr result (self.new.shared.log.events ≡ self.old.shared.log.events) }
-    {
-        let Some(place) = place(by) else {
-            return Err(NoMemory);
-        };
-        self.shared.log.make_room()?;
-        let layout = self.volume.layout;
-        let seat = &mut self.seats[place];
-        seat.take_up(self.alloc, layout)?;
-        act(self.alloc, layout, by, seat, &mut self.shared, link)?;
-        self.turns += 1;
-        Ok(())
-    }
-
-    /// Whether the actor has work.
-    pub(crate) fn is_at_work(&self, by: Actor) -> bool
-        requires ready { IsDriver self.now }
-        ensures { result ≡ has_work ((world_of self.now).seats by) }
-    {
-        match place(by) {
-            Some(place) => self.seats[place].has_work(),
-            None => false,
-        }
-    }
+    /// Room for the disks, for when they are handed back.
+    pub(crate) home: Vec<D>,
+    ghost room: { vec_len shared.stations + vec_len home ≤ vec_capacity home },
 }

@@ -3,24 +3,24 @@
 
 mod acting;
 mod administration;
+mod asking;
+mod closing;
 mod driver;
+mod formatting;
 mod locking;
 mod log;
+mod making;
 mod messages;
+mod nodes;
 mod orders;
+mod parts;
 mod replies;
 mod seat;
+mod stage;
 mod station;
+mod turns;
 mod words;
 
 pub use driver::Driver;
-
-/// Memory is wanting.
-#[derive(Clone, Copy, Debug, PartialEq, Eq, Drop)]
-pub(crate) struct NoMemory;
-
-impl From<std::alloc::AllocError> for NoMemory {
-    fn from(_: std::alloc::AllocError) -> Self {
-        NoMemory
-    }
-}
+pub use making::DriverFault;
+pub(crate) use rz_lines::NoMemory;

@@ -116,8 +116,15 @@ impl Log {
     }
 
     /// The events, the oldest first.
+    pub(crate) fn events(&self) -> &[Event]
+        ensures { result.now ≡ reverse self.now.events }
+    {
+        self.events.as_slice()
+    }
+
+    /// The events, the oldest first.
     pub(crate) fn close(self) -> Vec<Event>
-        ensures { reverse result.items ≡ self.events }
+        ensures { result.items ≡ reverse self.events }
     {
         self.events
     }

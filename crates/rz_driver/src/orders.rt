@@ -6,7 +6,8 @@ ghost use Rattle.rz_play.specs.Lines.{PlaysLine};
 ghost use Rattle.rz_driver.specs.Worlds.{world_of, IsDriver};
 
 use crate::NoMemory;
-use crate::driver::{Driver, place};
+use crate::driver::Driver;
+use crate::turns::place;
 use rz_disk::Disk;
 use rz_events::{Actor, Datum, Operation};
 use std::alloc::{AllocError, Global};
@@ -19,6 +20,7 @@ impl<D: Disk> Driver<D> {
         ensures volume { self.new.volume ≡ self.old.volume }
         ensures ready { OnOk result (IsDriver self.new) }
         ensures played { OnOk result (PlaysLine self.old.volume (line.Op by op.now) (world_of self.old) (world_of self.new)) }
+        ensures lost { self.new.shared.lost ≡ self.old.shared.lost }
         ensures log { OnErr result (self.new.shared.log.events ≡ self.old.shared.log.events) }
     {
         let Some(place) = place(by) else {
@@ -36,6 +38,7 @@ impl<D: Disk> Driver<D> {
         ensures volume { self.new.volume ≡ self.old.volume }
         ensures ready { IsDriver self.new }
         ensures played { PlaysLine self.old.volume (line.Miss by reply) (world_of self.old) (world_of self.new) }
+        ensures lost { self.new.shared.lost ≡ self.old.shared.lost }
     {
         if let Some(place) = place(by) {
             self.seats[place].miss = Some(reply);

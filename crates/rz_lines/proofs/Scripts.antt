@@ -1,5 +1,5 @@
 -- A script, line by line.
-use Rattle.std.proofs.Common.{ℕ, zero, suc, ◌≡◌, ◌+◌, ◌<◌, List, [], ◌∷◌, ◌++◌, Err, length, get_or, take, drop, subst, sym, refl, arith, inl, inr, add-one, drop-cons, take-append-drop}
+use Rattle.std.proofs.Common.{ℕ, zero, suc, ◌≡◌, ◌+◌, ◌<◌, ◌≤◌, List, [], ◌∷◌, ◌++◌, Err, length, get_or, take, drop, subst, sym, refl, arith, inl, inr, add-one, drop-cons, take-append-drop}
 use Rattle.std.proofs.lemmas.List.{take_more}
 use Rattle.rz_events.specs.Volume.{Volume}
 use Rattle.rz_script.specs.declared.line.Line.{Line}
@@ -36,15 +36,22 @@ begins-after : (v : Volume) (done : List Line) (x : Line) (more : List Line) (w 
 begins-after v [] x more w mid next same begins = inl (subst (λ (m : World). BeginsLine v x m next) same begins)
 begins-after v (y ∷ done) x more w mid next h begins = inr (h.0, h.1, begins-after v done x more h.0 mid next h.2 begins)
 
-pub script-cut : (v : Volume) (xs : List Line) (i : ℕ) (d : Line) (w mid next : World) (cause : Cut) → i < length xs → PlaysLines v (take i xs) w mid → IsLinePlayed v (get_or xs i d) mid (Err cause) next → IsEnded v w xs (ended_by cause) next.log
-script-cut v xs i d w mid next cut.TooManyTurns lt h stops = record {
-  last = next;
-  played = subst (λ (ys : List Line). StopsLines v TurnsSpent ys w next) (sym (split-at xs i d lt)) (stops-after v TurnsSpent (take i xs) (get_or xs i d) (drop (i + 1) xs) w mid next h stops);
-  log_is = refl;
-}
-script-cut v xs i d w mid next cut.NoMemory lt h begins = record {
-  last = begins.0;
-  played = subst (λ (ys : List Line). BeginsLines v ys w begins.0) (sym (split-at xs i d lt)) (begins-after v (take i xs) (get_or xs i d) (drop (i + 1) xs) w mid begins.0 h begins.1);
-  few = begins.2;
-  log_is = sym begins.3;
-}
+pub script-cut : (v : Volume) (xs : List Line) (i : ℕ) (d : Line) (w mid next : World) (cause : Cut) (lost : ℕ) → i < length xs → PlaysLines v (take i xs) w mid → IsLinePlayed v (get_or xs i d) mid (Err cause) next
+    → next.lost ≤ lost → IsEnded v w xs (ended_by cause) lost next.log
+script-cut v xs i d w mid next cut.TooManyTurns lost lt h stops few = (
+  record {
+    last = next;
+    played = subst (λ (ys : List Line). StopsLines v TurnsSpent ys w next) (sym (split-at xs i d lt)) (stops-after v TurnsSpent (take i xs) (get_or xs i d) (drop (i + 1) xs) w mid next h stops);
+    log_is = refl;
+  },
+  few,
+)
+script-cut v xs i d w mid next cut.NoMemory lost lt h begins few = (
+  record {
+    last = begins.0;
+    played = subst (λ (ys : List Line). BeginsLines v ys w begins.0) (sym (split-at xs i d lt)) (begins-after v (take i xs) (get_or xs i d) (drop (i + 1) xs) w mid begins.0 h begins.1);
+    few = begins.2;
+    log_is = sym begins.3.0;
+  },
+  (let same = begins.3.1 in omega (arith, few, same)),
+)

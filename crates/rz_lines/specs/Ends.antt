@@ -1,6 +1,6 @@
 -- How a turn, a round, a line or a script ends: whole, or cut off between two turns. Where memory is wanting, what was
 -- played stands in the log.
-use Rattle.std.specs.Prelude.{Bool, true, false, ◌≡◌, ◌<◌, ◌≤◌, List, ◌∷◌, ◌++◌, Result, Ok, Err}
+use Rattle.std.specs.Prelude.{ℕ, Bool, true, false, ◌≡◌, ◌<◌, ◌≤◌, List, ◌∷◌, ◌++◌, Result, Ok, Err}
 use Rattle.std.specs.List.{AllByRecursion}
 use Rattle.rz_events.specs.Volume.{Volume}
 use Rattle.rz_events.specs.declared.keys.Actor.{Actor}
@@ -16,15 +16,23 @@ use Rattle.rz_lines.specs.declared.turns.Cut.TheVariants as cut
 use Rattle.rz_lines.specs.declared.lines.PlayEnd.{PlayEnd}
 use Rattle.rz_lines.specs.declared.lines.PlayEnd.TheVariants as end
 
--- the log is that of a world up to which so much was played
+-- what was so of counts is so still
+abbrev pub Carries : ((ℕ → ℕ) → Type 0) → ((ℕ → ℕ) → Type 0) → Type 0
+Carries before after = (first : ℕ → ℕ) → before first → after first
+
+-- the log and the count of lost messages are those of this world
+abbrev pub TellsOf : World → World → Type 0
+TellsOf last next = (next.log ≡ last.log) × (next.lost ≡ last.lost)
+
+-- they are those of a world up to which so much was played
 abbrev pub IsLogOf : (World → Type 0) → World → Type 0
-IsLogOf begun next = (last : World) × begun last × (last.turns ≤ most_turns) × (next.log ≡ last.log)
+IsLogOf begun next = (last : World) × begun last × (last.turns ≤ most_turns) × TellsOf last next
 
 -- a turn
 abbrev pub IsTurnTaken : Volume → Actor → World → Result (Unit {0}) Cut → World → Type 0
 IsTurnTaken v by w (Ok done) next = IsTurn v by w next × (w.turns < most_turns)
 IsTurnTaken v by w (Err cut.TooManyTurns) next = (next ≡ w) × HasCause v TurnsSpent w by
-IsTurnTaken v by w (Err cut.NoMemory) next = next.log ≡ w.log
+IsTurnTaken v by w (Err cut.NoMemory) next = TellsOf w next
 
 -- A round of these actors: whether one had work, and took a turn.
 
@@ -55,8 +63,8 @@ abbrev pub ended_by : Cut → PlayEnd
 ended_by cut.TooManyTurns = end.TooManyTurns
 ended_by cut.NoMemory = end.NoMemory
 
--- a script, by how its play ended
-abbrev pub IsEnded : Volume → World → List Line → PlayEnd → List Event → Type 0
-IsEnded v first lines end.Ended h = IsPlayedFrom v first lines h
-IsEnded v first lines end.TooManyTurns h = IsStoppedFrom v TurnsSpent first lines h
-IsEnded v first lines end.NoMemory h = IsBegunFrom v first lines h
+-- A script, by how its play ended. The link has lost at most so many messages then.
+abbrev pub IsEnded : Volume → World → List Line → PlayEnd → ℕ → List Event → Type 0
+IsEnded v first lines end.Ended lost h = (p : IsPlayedFrom v first lines h) × (p.last.lost ≤ lost)
+IsEnded v first lines end.TooManyTurns lost h = (p : IsStoppedFrom v TurnsSpent first lines h) × (p.last.lost ≤ lost)
+IsEnded v first lines end.NoMemory lost h = (p : IsBegunFrom v first lines h) × (p.last.lost ≤ lost)

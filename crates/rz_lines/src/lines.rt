@@ -1,8 +1,8 @@
 //! The lines of a script, one after another.
-ghost use Rattle.std.specs.Prelude.{◌≡◌, ◌≤◌, IsTrue, OnOk};
+ghost use Rattle.std.specs.Prelude.{◌≡◌, ◌≤◌, ◌+◌, ◌-◌, IsTrue, OnOk, OnErr};
 ghost use Rattle.rz_script.specs.Lines.{IsLine, AreLines};
 ghost use Rattle.rz_play.specs.Stops.{most_turns};
-ghost use Rattle.rz_lines.specs.Ends.{IsLinePlayed, IsEnded, ended_by};
+ghost use Rattle.rz_lines.specs.Ends.{Carries, IsLinePlayed, IsEnded, ended_by};
 
 use crate::rounds::{play_rounds, play_to_rest};
 use crate::stage::Stage;
@@ -39,6 +39,9 @@ fn play_line<S: Stage, L: Link>(stage: &mut S, line: &Line, link: &mut L) -> Res
     ensures volume { S.volume stage.new ≡ S.volume stage.old }
     ensures ready { OnOk result (S.is_ready stage.new) }
     ensures few { OnOk result ((S.world stage.new).turns ≤ most_turns) }
+    ensures lost { (S.world stage.new).lost + L.lost link.old ≤ (S.world stage.old).lost + L.lost link.new }
+    ensures held { OnOk result (Carries (S.holds stage.old) (S.holds stage.new)) }
+    ensures left { OnErr result (Carries (S.holds stage.old) (S.leaves stage.new)) }
     ensures played { IsTrue S.tells → IsLinePlayed (S.volume stage.old) line.now (S.world stage.old) result (S.world stage.new) }
 {
     match line {
@@ -61,7 +64,8 @@ pub fn play<S: Stage, L: Link>(stage: &mut S, lines: &[Line], link: &mut L) -> P
     requires lines { AreLines (S.volume stage.old) lines.now }
     requires few { (S.world stage.old).turns ≤ most_turns }
     ensures volume { S.volume stage.new ≡ S.volume stage.old }
-    ensures played { IsTrue S.tells → IsEnded (S.volume stage.old) (S.world stage.old) lines.now result (S.world stage.new).log }
+    ensures left { Carries (S.holds stage.old) (S.leaves stage.new) }
+    ensures played { IsTrue S.tells → IsEnded (S.volume stage.old) (S.world stage.old) lines.now result ((S.world stage.old).lost + (L.lost link.new - L.lost link.old)) (S.world stage.new).log }
 {
     for line in lines {
         if let Err(cut) = play_line(stage, line, link) {

@@ -1,5 +1,5 @@
 //! What a script is played on.
-ghost use Rattle.std.specs.Prelude.{◌≡◌, ◌<◌, Bool, IsTrue, OnOk, OnErr};
+ghost use Rattle.std.specs.Prelude.{◌≡◌, ◌<◌, ◌≤◌, ◌+◌, ℕ, Bool, IsTrue, OnOk, OnErr, reverse};
 ghost use Rattle.rz_events.specs.Volume.{Volume};
 ghost use Rattle.rz_script.specs.Lines.{IsActor, IsLine};
 ghost use Rattle.rz_script.specs.declared.line.Line.{Line};
@@ -8,8 +8,9 @@ ghost use Rattle.rz_play.specs.World.{World, has_work};
 ghost use Rattle.rz_play.specs.Turns.{IsTurn};
 ghost use Rattle.rz_play.specs.Lines.{PlaysLine};
 ghost use Rattle.rz_play.specs.Stops.{most_turns};
+ghost use Rattle.rz_lines.specs.Ends.{Carries, TellsOf};
 
-use rz_events::{Actor, Operation};
+use rz_events::{Actor, Event, Operation};
 use rz_link::Link;
 use std::alloc::AllocError;
 
@@ -25,8 +26,8 @@ impl From<AllocError> for NoMemory {
 
 /// Nodes, an export and actors that a script is played on.
 ///
-/// After want of memory the log has every event that happened, and it is as before the call. The rest
-/// may be anything, so nothing more is played then.
+/// After want of memory the log has every event that happened. It is as before the call, and so is the
+/// count of the messages that the link lost. The rest may be anything, so nothing more is played then.
 pub trait Stage {
     /// Whether its disks tell their texts. What a start finds is said of such disks alone.
     ghost tells: { Bool };
@@ -38,6 +39,15 @@ pub trait Stage {
 
     /// It stands between two turns.
     ghost is_ready: { Self → Type 0 };
+
+    /// What is so of the disks and the log between two turns, where each disk, by its place, had counted so
+    /// many faults before the first line.
+    ghost holds: { Self → (ℕ → ℕ) → Type 0 };
+
+    /// What is so of them where a play ended, want of memory or not.
+    ghost leaves: { Self → (ℕ → ℕ) → Type 0 };
+
+    ghost ends: { (s : Self) → Carries (holds s) (leaves s) };
 
     /// How many turns were taken.
     fn turns(&self) -> u32
@@ -57,7 +67,10 @@ pub trait Stage {
         ensures volume { volume self.new ≡ volume self.old }
         ensures ready { OnOk result (is_ready self.new) }
         ensures taken { OnOk result (IsTurn (volume self.old) by (world self.old) (world self.new)) }
-        ensures log { OnErr result ((world self.new).log ≡ (world self.old).log) };
+        ensures lost { (world self.new).lost + L.lost link.old ≤ (world self.old).lost + L.lost link.new }
+        ensures log { OnErr result (TellsOf (world self.old) (world self.new)) }
+        ensures held { OnOk result (Carries (holds self.old) (holds self.new)) }
+        ensures left { OnErr result (Carries (holds self.old) (leaves self.new)) };
 
     /// The operation goes to the end of the actor's list.
     fn add(&mut self, by: Actor, op: &Operation) -> Result<(), NoMemory>
@@ -66,7 +79,10 @@ pub trait Stage {
         ensures volume { volume self.new ≡ volume self.old }
         ensures ready { OnOk result (is_ready self.new) }
         ensures played { OnOk result (PlaysLine (volume self.old) (line.Op by op.now) (world self.old) (world self.new)) }
-        ensures log { OnErr result ((world self.new).log ≡ (world self.old).log) };
+        ensures lost { (world self.new).lost ≡ (world self.old).lost }
+        ensures log { OnErr result ((world self.new).log ≡ (world self.old).log) }
+        ensures held { OnOk result (Carries (holds self.old) (holds self.new)) }
+        ensures left { OnErr result (Carries (holds self.old) (leaves self.new)) };
 
     /// The actor's next message is to be lost.
     fn miss(&mut self, by: Actor, reply: bool)
@@ -74,7 +90,9 @@ pub trait Stage {
         requires line { IsLine (volume self.old) (line.Miss by reply) }
         ensures volume { volume self.new ≡ volume self.old }
         ensures ready { is_ready self.new }
-        ensures played { PlaysLine (volume self.old) (line.Miss by reply) (world self.old) (world self.new) };
+        ensures lost { (world self.new).lost ≡ (world self.old).lost }
+        ensures played { PlaysLine (volume self.old) (line.Miss by reply) (world self.old) (world self.new) }
+        ensures held { Carries (holds self.old) (holds self.new) };
 
     /// The node stops.
     fn stop(&mut self, node: u16) -> Result<(), NoMemory>
@@ -83,7 +101,10 @@ pub trait Stage {
         ensures volume { volume self.new ≡ volume self.old }
         ensures ready { OnOk result (is_ready self.new) }
         ensures played { OnOk result (PlaysLine (volume self.old) (line.Stop node) (world self.old) (world self.new)) }
-        ensures log { OnErr result ((world self.new).log ≡ (world self.old).log) };
+        ensures lost { (world self.new).lost ≡ (world self.old).lost }
+        ensures log { OnErr result ((world self.new).log ≡ (world self.old).log) }
+        ensures held { OnOk result (Carries (holds self.old) (holds self.new)) }
+        ensures left { OnErr result (Carries (holds self.old) (leaves self.new)) };
 
     /// The node starts again.
     fn start(&mut self, node: u16) -> Result<(), NoMemory>
@@ -93,7 +114,10 @@ pub trait Stage {
         ensures ready { OnOk result (is_ready self.new) }
         ensures played { OnOk result (IsTrue Self.tells → PlaysLine (volume self.old) (line.Start node) (world self.old) (world self.new)) }
         ensures turns { OnOk result ((world self.new).turns ≡ (world self.old).turns) }
-        ensures log { OnErr result ((world self.new).log ≡ (world self.old).log) };
+        ensures lost { (world self.new).lost ≡ (world self.old).lost }
+        ensures log { OnErr result ((world self.new).log ≡ (world self.old).log) }
+        ensures held { OnOk result (Carries (holds self.old) (holds self.new)) }
+        ensures left { OnErr result (Carries (holds self.old) (leaves self.new)) };
 
     /// The node loses its disk.
     fn lose(&mut self, node: u16) -> Result<(), NoMemory>
@@ -102,7 +126,10 @@ pub trait Stage {
         ensures volume { volume self.new ≡ volume self.old }
         ensures ready { OnOk result (is_ready self.new) }
         ensures played { OnOk result (PlaysLine (volume self.old) (line.Lose node) (world self.old) (world self.new)) }
-        ensures log { OnErr result ((world self.new).log ≡ (world self.old).log) };
+        ensures lost { (world self.new).lost ≡ (world self.old).lost }
+        ensures log { OnErr result ((world self.new).log ≡ (world self.old).log) }
+        ensures held { OnOk result (Carries (holds self.old) (holds self.new)) }
+        ensures left { OnErr result (Carries (holds self.old) (leaves self.new)) };
 
     /// The node's disk lets so many device calls pass, and its next crash picks by `pick`.
     fn arm(&mut self, node: u16, passes: u64, pick: u64) -> Result<(), NoMemory>
@@ -111,5 +138,15 @@ pub trait Stage {
         ensures volume { volume self.new ≡ volume self.old }
         ensures ready { OnOk result (is_ready self.new) }
         ensures played { OnOk result (PlaysLine (volume self.old) (line.Break node passes pick) (world self.old) (world self.new)) }
-        ensures log { OnErr result ((world self.new).log ≡ (world self.old).log) };
+        ensures lost { (world self.new).lost ≡ (world self.old).lost }
+        ensures log { OnErr result ((world self.new).log ≡ (world self.old).log) }
+        ensures held { OnOk result (Carries (holds self.old) (holds self.new)) }
+        ensures left { OnErr result (Carries (holds self.old) (leaves self.new)) };
+}
+
+/// A stage whose log can be read.
+pub trait LoggedStage: Stage {
+    /// The log, the oldest event first.
+    fn log(&self) -> &[Event]
+        ensures { result.now ≡ reverse (Self.world self.now).log };
 }

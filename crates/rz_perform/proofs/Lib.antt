@@ -1,3 +1,3 @@
 pub mod Streams
 pub mod Begun
-pub mod Untold
+pub mod Completing

@@ -1,4 +1,5 @@
 pub mod Output
 pub mod Telling
-pub mod Houses
+pub mod Told
 pub mod Replays
+pub mod Clear

@@ -1,5 +1,5 @@
 -- What is told of a play.
-use Rattle.std.specs.Prelude.{ℕ, Bool, true, false, ◌≡◌, ◌⊎◌, IsTrue, List, ◌++◌, codes, reverse}
+use Rattle.std.specs.Prelude.{ℕ, Bool, true, false, ◌≡◌, ◌⊎◌, IsTrue, List, ◌++◌, reverse}
 use Rattle.rz_events.specs.Volume.{Volume}
 use Rattle.rz_events.specs.declared.events.Event.{Event}
 use Rattle.rz_script.specs.declared.line.Line.{Line}
@@ -34,11 +34,11 @@ Tells Ended wish log sink status = Ends sink 0 (text_told wish log) status ⊎ L
 Tells TooManyTurns wish log sink status = Ends sink 8 (text_so_far log) status ⊎ Lacks sink status
 Tells NoMemory wish log sink status = Lacks sink status
 
--- A script was played to some end, told with its log, the newest event first. Over disks that tell their texts the log is that
--- of the script's play.
-abbrev pub Performs : Bool → Volume → List Line → Wish → List Event → Sunk → ℕ → Type 0
-Performs tells v lines wish h sink status =
-    (end : PlayEnd) × (IsTrue tells → IsEnded v (new_world v) lines end h) × Tells end wish (reverse h) sink status
+-- A script was played to some end, with so many messages lost by the link, and told with its log, the newest event first. Over
+-- disks that tell their texts the log is that of the script's play.
+abbrev pub Performs : Bool → Volume → List Line → Wish → (lost : ℕ) → List Event → Sunk → ℕ → Type 0
+Performs tells v lines wish lost h sink status =
+    (end : PlayEnd) × (IsTrue tells → IsEnded v (new_world v) lines end lost h) × Tells end wish (reverse h) sink status
 
 -- the line of a refusal was to be written with its status, or there was no memory
 abbrev pub Refuses : Refusal → Sunk → ℕ → Type 0

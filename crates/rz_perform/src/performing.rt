@@ -1,16 +1,15 @@
 //! The play of a script and what is told of it.
 
-ghost use Rattle.std.specs.Prelude.{◌≡◌, IsTrue};
-ghost use Rattle.rz_core.specs.Legal.{IsLegal};
+ghost use Rattle.std.specs.Prelude.{◌≡◌, ◌-◌, IsTrue};
 ghost use Rattle.rz_events.specs.Volume.{IsVolume};
 ghost use Rattle.rz_play.specs.World.{new_world};
-ghost use Rattle.rz_safety.specs.Rebuilt.{AreRebuilt};
-ghost use Rattle.rz_safety.specs.Sound.{IsSound};
+ghost use Rattle.rz_lines.specs.Ends.{Carries};
 ghost use Rattle.rz_perform.specs.Telling.{Performs};
+ghost use Rattle.rz_perform.specs.Told.{IsTold};
 
-use crate::stages::LoggedStage;
+use crate::laws::true_logs;
 use crate::telling::tell;
-use rz_lines::play;
+use rz_lines::{LoggedStage, play};
 use rz_link::Link;
 use rz_ports::Sink;
 use rz_request::Wish;
@@ -31,16 +30,12 @@ pub fn perform<S: LoggedStage, L: Link, O: Sink>(
     requires volume { S.volume stage.old ≡ script.now.volume }
     requires rules { IsVolume script.now.volume }
     requires new { S.world stage.old ≡ new_world script.now.volume }
-    ensures performed { Performs S.tells script.now.volume script.now.lines wish (S.world stage.new).log (record { before = O.taken output.old; after = O.taken output.new; old = O.faults output.old; new = O.faults output.new }) result }
-    ensures legal { IsTrue S.tells → IsLegal script.now.volume (S.world stage.new).log }
-    ensures sound { IsTrue S.tells → IsSound script.now.volume (S.world stage.new).log }
-    ensures rebuilt { IsTrue S.tells → AreRebuilt (S.world stage.new).log }
+    ensures volume { S.volume stage.new ≡ S.volume stage.old }
+    ensures left { Carries (S.holds stage.old) (S.leaves stage.new) }
+    ensures performed { Performs S.tells script.now.volume script.now.lines wish (L.lost link.new - L.lost link.old) (S.world stage.new).log (record { before = O.taken output.old; after = O.taken output.new; old = O.faults output.old; new = O.faults output.new }) result }
+    ensures told { IsTrue S.tells → IsTold script.now.volume script.now.lines (L.lost link.new - L.lost link.old) (S.world stage.new).log }
 {
-    rz_play_laws::ended();
-    rz_play_laws::stopped();
-    rz_play_laws::legal();
-    rz_play_laws::sound();
-    rz_play_laws::rebuilt();
+    true_logs();
     let end = play(stage, script.lines(), link);
     tell(alloc, end, wish, stage.log(), output)
 }

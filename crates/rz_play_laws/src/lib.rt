@@ -8,7 +8,7 @@
 //! which scripts are meant and what is promised of a play that goes on.
 #![tactic(auto)]
 
-ghost use Rattle.std.specs.Prelude.{ℕ, ◌+◌, ◌≤◌, List};
+ghost use Rattle.std.specs.Prelude.{ℕ, ◌≡◌, ◌+◌, ◌≤◌, List};
 ghost use Rattle.rz_events.specs.Volume.{Volume, IsVolume};
 ghost use Rattle.rz_events.specs.declared.keys.Actor.{Actor as AnActor};
 ghost use Rattle.rz_events.specs.declared.events.Event.{Event as AnEvent};
@@ -20,11 +20,13 @@ ghost use Rattle.rz_safety.specs.Rebuilt.{AreRebuilt};
 ghost use Rattle.rz_script.specs.declared.line.Line.{Line as ALine};
 ghost use Rattle.rz_play.specs.World.{World, world_after};
 ghost use Rattle.rz_play.specs.Turns.{IsTurn};
+ghost use Rattle.rz_script.specs.Lines.{IsLine};
+ghost use Rattle.rz_play.specs.Lines.{PlaysLine};
 ghost use Rattle.rz_play.specs.Stops.{StopCause};
 ghost use Rattle.rz_play.specs.Faults.{missed, misses};
 ghost use Rattle.rz_play.specs.Played.{IsPlayedFrom, IsStoppedFrom, IsBegunFrom, IsBegun};
 ghost use Rattle.rz_play_laws.specs.Own.{IsOwnTurn, IsOwnKept, IsOwnProper};
-ghost use Rattle.rz_play_laws.specs.Fine.{MayBegin, IsSeated, IsFine, IsTelling};
+ghost use Rattle.rz_play_laws.specs.Fine.{MayBegin, IsSeated, IsFine, IsFineIfShort, IsTelling};
 ghost use Rattle.rz_play_laws.specs.Runs.{IsScript, IsRunAfter};
 
 /// What an operation asks is proper, where its own events say how far it has come.
@@ -49,16 +51,17 @@ pub fn facts_told()
     rz_log_laws::laid();
 }
 
-/// A play that came to its end has begun, so what is said below of plays that have begun holds of it.
+/// A play that came to its end has begun, and its last world is the same: so what is said below of plays
+/// that have begun holds of it.
 pub fn ended()
     ensures { (v : Volume) (first : World) (lines : List ALine) (log : List AnEvent)
-        → IsPlayedFrom v first lines log → IsBegunFrom v first lines log }
+        → (p : IsPlayedFrom v first lines log) → (begun : IsBegunFrom v first lines log) × (begun.last ≡ p.last) }
 {}
 
 /// So has a play that stopped before a turn.
 pub fn stopped()
     ensures { (v : Volume) (cause : StopCause) (first : World) (lines : List ALine) (log : List AnEvent)
-        → IsStoppedFrom v cause first lines log → IsBegunFrom v first lines log }
+        → (p : IsStoppedFrom v cause first lines log) → (begun : IsBegunFrom v first lines log) × (begun.last ≡ p.last) }
 {}
 
 /// The log of a play is legal: each of its events is allowed after those before it.
@@ -105,6 +108,20 @@ pub fn in_order()
     ensures { (v : Volume) (script : List ALine) → IsScript v script
         → (nodes : ℕ → NodeState) (export : ExportState) (old : List AnEvent) → MayBegin v nodes export old
         → (log : List AnEvent) (p : IsBegunFrom v (world_after nodes export old) script log) → IsFine v old p.last }
+{
+    facts_told();
+}
+
+/// A turn of an actor keeps a world in order, while the log has room.
+pub fn turned()
+    ensures { (v : Volume) → IsVolume v → (old : List AnEvent) (by : AnActor) → IsSeated by → (w next : World) → IsTurn v by w next → IsFine v old w → IsFineIfShort v old next }
+{
+    facts_told();
+}
+
+/// So does a line of a script.
+pub fn lined()
+    ensures { (v : Volume) → IsVolume v → (old : List AnEvent) (l : ALine) → IsLine v l → (w next : World) → PlaysLine v l w next → IsFine v old w → IsFineIfShort v old next }
 {
     facts_told();
 }

@@ -1,14 +1,24 @@
 -- What locks promise of a play that has begun.
-use Rattle.std.specs.Prelude.{◌≡◌, List, ◌++◌}
+use Rattle.std.specs.Prelude.{◌≡◌, List, [], ◌++◌}
 use Rattle.mj_angles.specs.declared.layout.Layout.{Layout}
 use Rattle.rz_events.specs.declared.keys.Actor.{Actor}
 use Rattle.rz_events.specs.declared.keys.Key.{Key}
 use Rattle.rz_events.specs.declared.events.Event.{Event}
 use Rattle.rz_events.specs.declared.operations.Operation.{Operation}
+use Rattle.rz_events.specs.Volume.{Volume}
+use Rattle.rz_script.specs.declared.line.Line.{Line}
 use Rattle.rz_play.specs.World.{World}
-use Rattle.rz_play_locks.specs.Operations.{IsGuarded}
+use Rattle.rz_play_locks.specs.Operations.{IsGuarded, given}
 use Rattle.rz_play_locks.specs.Promises.{NoneLost, AreWhole}
 use Rattle.rz_play_locks.specs.Holding.{AreApart, IsKeeping}
+
+-- Of the log of a play of a new volume: no update of a guarded block is lost.
+abbrev pub NoUpdateLost : Volume → List Line → List Event → Type 0
+NoUpdateLost v lines h = (key : Key) → IsGuarded (λ a. given a lines) key h → NoneLost v.layout (λ a. given a lines) key [] h
+
+-- and each view of guarded blocks is whole
+abbrev pub AreViewsWhole : Volume → List Line → List Event → Type 0
+AreViewsWhole v lines h = AreWhole v.layout (λ a. given a lines) [] h
 
 -- The log of a play that went on after an earlier log, and the world that it left: `run` has the events of this run.
 pub record IsKeptAfter (layout : Layout) (ops : Actor → List Operation) (old h : List Event) (last : World) : Type 0 where

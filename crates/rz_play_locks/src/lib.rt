@@ -8,7 +8,7 @@
 //! published text. `specs/Kept` puts it together for a play that goes on after an earlier log.
 #![tactic(auto)]
 
-ghost use Rattle.std.specs.Prelude.{ℕ, List, [], ◌∷◌, ◌≡◌, false, None, Some};
+ghost use Rattle.std.specs.Prelude.{ℕ, List, ◌∷◌, ◌≡◌, false, None, Some};
 ghost use Rattle.rz_events.specs.Volume.{Volume};
 ghost use Rattle.rz_events.specs.declared.keys.Actor.{Actor as AnActor};
 ghost use Rattle.rz_events.specs.declared.keys.Key.{Key as AKey};
@@ -28,10 +28,10 @@ ghost use Rattle.rz_play.specs.Turns.{IsTurn};
 ghost use Rattle.rz_play.specs.Played.{IsBegun, IsBegunFrom};
 ghost use Rattle.rz_play_laws.specs.Fine.{IsFine, MayBegin};
 ghost use Rattle.rz_play_laws.specs.Runs.{IsScript};
-ghost use Rattle.rz_play_locks.specs.Operations.{IsGuarded, IsUpdate, given, in_hand};
-ghost use Rattle.rz_play_locks.specs.Promises.{NoneLost, AreWhole, published_text, newest_text};
+ghost use Rattle.rz_play_locks.specs.Operations.{IsUpdate, given, in_hand};
+ghost use Rattle.rz_play_locks.specs.Promises.{published_text, newest_text};
 ghost use Rattle.rz_play_locks.specs.Holding.{AreApart, HasBlock, IsKeeping, IsReleased};
-ghost use Rattle.rz_play_locks.specs.Kept.{IsKeptAfter};
+ghost use Rattle.rz_play_locks.specs.Kept.{IsKeptAfter, NoUpdateLost, AreViewsWhole};
 
 /// Between two turns of a play no two locks that are held conflict.
 pub fn apart()
@@ -67,8 +67,7 @@ pub fn barred()
 /// Each accepted publish of a guarded block is of the text that was published before it, with the bytes
 /// of its own update in place.
 pub fn none_lost()
-    ensures { (v : Volume) (script : List ALine) → IsScript v script → (log : List AnEvent) → IsBegun v script log
-        → (key : AKey) → IsGuarded (λ a. given a script) key log → NoneLost v.layout (λ a. given a script) key [] log }
+    ensures { (v : Volume) (script : List ALine) → IsScript v script → (log : List AnEvent) → IsBegun v script log → NoUpdateLost v script log }
 {
     rz_play_laws::facts_told();
 }
@@ -76,8 +75,7 @@ pub fn none_lost()
 /// Each view whose blocks are guarded, and that answers, gives the bytes of the texts that were published
 /// at its last open. It never ends as moved.
 pub fn whole_views()
-    ensures { (v : Volume) (script : List ALine) → IsScript v script → (log : List AnEvent) → IsBegun v script log
-        → AreWhole v.layout (λ a. given a script) [] log }
+    ensures { (v : Volume) (script : List ALine) → IsScript v script → (log : List AnEvent) → IsBegun v script log → AreViewsWhole v script log }
 {
     rz_play_laws::facts_told();
 }

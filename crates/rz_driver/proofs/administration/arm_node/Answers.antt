@@ -1,4 +1,4 @@
-use Rattle.std.proofs.Common.{◌≡◌, List, ◌∷◌, ◌<◌, ◌∙◌, IsTrue, get_or, length, refl, ap, arith, rules}
+use Rattle.std.proofs.Common.{◌≡◌, List, ◌∷◌, ◌<◌, ◌∙◌, get_or, length, refl, ap, rules}
 use Rattle.std.proofs.lemmas.Option.{slice_get-get_or}
 use Rattle.std.proofs.lemmas.Result.{on_ok_weaker}
 use Rattle.rz_events.specs.declared.events.Event.{Event}

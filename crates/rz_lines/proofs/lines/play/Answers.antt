@@ -1,4 +1,4 @@
-use Rattle.std.proofs.Common.{Err, ◌∙◌, List, take_all, refl, subst}
+use Rattle.std.proofs.Common.{Err, ◌≤◌, ◌+◌, ◌-◌, ◌∙◌, List, take_all, refl, subst, arith}
 use Rattle.rz_events.specs.Volume.{Volume}
 use Rattle.rz_script.specs.declared.line.Line.{Line}
 use Rattle.rz_play.specs.Lines.{PlaysLine}
@@ -14,8 +14,12 @@ returns-in-Err-clause-played g c told =
     let i = c.loop-line.invariant in
     let cut = subst (λ (v : Volume). IsLinePlayed v c.line-item.result (world c.loop-line.stage) (Err c.in-Err.cut) (world c.play_line.new.stage)) i.volume (c.in-Err.ensures.played told) in
     let cut_at = subst (λ (x : Line). IsLinePlayed (volume c.args.stage.now) x (world c.loop-line.stage) (Err c.in-Err.cut) (world c.play_line.new.stage)) c.line-item.is cut in
+    let lost = g.L.Link.lost in
+    let so_far = i.lost in
+    let then = c.in-Err.ensures.lost in
+    let few : (world c.play_line.new.stage).lost ≤ (world c.args.stage.now).lost + (lost c.play_line.new.link - lost c.args.link.now) = omega (arith, so_far, then) in
     rw c.from.ensures (script-cut (volume c.args.stage.now) c.args.lines.now c.loop-line.line-index c.line-item.result (world c.args.stage.now) (world c.loop-line.stage) (world c.play_line.new.stage)
-    c.in-Err.cut c.loop-line-test.true (i.played told) cut_at)
+    c.in-Err.cut ((world c.args.stage.now).lost + (lost c.play_line.new.link - lost c.args.link.now)) c.loop-line-test.true (i.played told) cut_at few)
 
 pub loop-line-preserved : goal.loop-line-preserved
 loop-line-preserved g c =
@@ -27,6 +31,8 @@ loop-line-preserved g c =
       ready = e.ready;
       volume = e.volume ∙ i.volume;
       few = e.few;
+      lost = (let so_far = i.lost in let then = e.lost in omega (arith, so_far, then));
+      held = λ first held. e.held first (i.held first held);
       played = λ told.
           let played = rw i.volume at (e.played told).0 in
           let played_at = subst (λ (x : Line). PlaysLine (volume c.args.stage.now) x (world c.loop-line.stage) (world c.play_line.new.stage)) c.line-item.is played in
@@ -39,9 +45,12 @@ returns-clause-played g c told =
     let world = g.S.Stage.world in
     let i = c.loop-line.invariant in
     let whole = take_all c.loop-line.line-index c.args.lines.now c.loop-line-test.false in
-    record {
-      last = world c.loop-line.stage;
-      played = subst (λ (xs : List Line). PlaysLines (g.S.Stage.volume c.args.stage.now) xs (world c.args.stage.now) (world c.loop-line.stage)) whole (i.played told);
-      few = i.few;
-      log_is = refl;
-    }
+    let so_far = i.lost in (
+      record {
+        last = world c.loop-line.stage;
+        played = subst (λ (xs : List Line). PlaysLines (g.S.Stage.volume c.args.stage.now) xs (world c.args.stage.now) (world c.loop-line.stage)) whole (i.played told);
+        few = i.few;
+        log_is = refl;
+      },
+      omega (arith, so_far),
+    )

@@ -1,4 +1,4 @@
-use Rattle.std.proofs.Common.{Ok, Err, ◌+◌, ◌∙◌, subst}
+use Rattle.std.proofs.Common.{Ok, Err, ◌+◌, ◌∙◌, subst, arith}
 use Rattle.std.proofs.lemmas.Result.{err_from_is_err_and}
 use Rattle.rz_events.specs.Volume.{Volume}
 use Rattle.rz_play.specs.World.{actors}
@@ -27,6 +27,8 @@ loop-preserved g c =
       ready = e.ready;
       volume = e.volume ∙ i.volume;
       few = e.played.2;
+      lost = (let so_far = i.lost in let then = e.lost in omega (arith, so_far, then));
+      held = λ first held. e.held first (i.held first held);
       played = (i.played.0 + 1, rounds-more (volume c.args.stage.now) i.played.0 (world c.args.stage.now) (world c.loop.stage) (world c.play_round.new.stage) i.played.1 played.0);
     }
 

@@ -1,6 +1,7 @@
-use Rattle.std.proofs.Common.{ℕ, ◌≡◌, ◌≤◌, ◌-◌}
+use Rattle.std.proofs.Common.{ℕ, ◌≡◌, ◌≤◌, ◌-◌, ◌+◌}
 use Rattle.rz_play.specs.Stops.{most_turns}
 use Rattle.rz_play.specs.Lines.{IsRounds}
+use Rattle.rz_lines.specs.Ends.{Carries}
 use Rattle.rz_lines.proofs.rounds.play_to_rest.Given as goal
 
 abbrev pub invariant-loop : goal.invariant-loop
@@ -8,6 +9,8 @@ invariant-loop g l = record {
   ready : g.S.Stage.is_ready l.stage;
   volume : g.S.Stage.volume l.stage ≡ g.S.Stage.volume l.fn.stage;
   few : (g.S.Stage.world l.stage).turns ≤ most_turns;
+  lost : (g.S.Stage.world l.stage).lost + g.L.Link.lost l.fn.link ≤ (g.S.Stage.world l.fn.stage).lost + g.L.Link.lost l.link;
+  held : Carries (g.S.Stage.holds l.fn.stage) (g.S.Stage.holds l.stage);
   played : (k : ℕ) × IsRounds (g.S.Stage.volume l.fn.stage) k (g.S.Stage.world l.fn.stage) (g.S.Stage.world l.stage);
 }
 

@@ -1,4 +1,4 @@
-use Rattle.std.proofs.Common.{Err, ◌∙◌, get_or, subst, sym}
+use Rattle.std.proofs.Common.{Err, ◌∙◌, get_or, subst, sym, arith}
 use Rattle.std.proofs.lemmas.Result.{err_from_is_err_and}
 use Rattle.rz_events.specs.Volume.{Volume}
 use Rattle.rz_events.specs.declared.keys.Actor.TheVariants.{Client}
@@ -25,16 +25,20 @@ loop-by-preserved g c =
     elim c.if-is_busy.branch [
       | then-is_busy+in_ok-take_turn w ↦
           let turn = rw i.volume at w.in_ok-take_turn.ensures.taken in
-          rw (w.stage-is, w.any-is) (record {
+          rw (w.stage-is, w.link-is, w.any-is) (record {
             ready = w.in_ok-take_turn.ensures.ready;
             volume = w.in_ok-take_turn.ensures.volume ∙ i.volume;
+            lost = (let so_far = i.lost in let then = w.in_ok-take_turn.ensures.lost in omega (arith, so_far, then));
+            held = λ first held. w.in_ok-take_turn.ensures.held first (i.held first held);
             up_to = taken-at (volume c.args.stage.now) c.args.actors.now c.loop-by.by-index _ (world c.args.stage.now) c.loop-by.any (world c.loop-by.stage) (world w.take_turn.new.stage)
                 c.loop-by-test.true i.up_to (sym w.if-is_busy.ensures) turn;
           })
       | else-is_busy w ↦
-          rw (w.stage-is, w.any-is) (record {
+          rw (w.stage-is, w.link-is, w.any-is) (record {
             ready = i.ready;
             volume = i.volume;
+            lost = i.lost;
+            held = i.held;
             up_to = skipped-at (volume c.args.stage.now) c.args.actors.now c.loop-by.by-index _ (world c.args.stage.now) c.loop-by.any (world c.loop-by.stage)
                 c.loop-by-test.true i.up_to (sym w.if-is_busy.ensures);
           })

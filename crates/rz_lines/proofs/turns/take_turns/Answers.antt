@@ -28,5 +28,7 @@ loop-preserved g c =
       ready = e.ready;
       volume = e.volume ∙ i.volume;
       few = omega (arith, one, e.taken.1);
+      lost = (let so_far = i.lost in let then = e.lost in omega (arith, so_far, then));
+      held = λ first held. e.held first (i.held first held);
       played = turns-more (volume c.args.stage.now) c.args.by c.loop.counter (world c.args.stage.now) (world c.loop.stage) (world c.take_turn.new.stage) i.played turn;
     }

@@ -1,0 +1,159 @@
+-- What the script orders of a node.
+use Rattle.std.proofs.Common.{◌≡◌, ℕ, ◌≤◌, Bool, true, false, cond, List, ◌∷◌, map, length, set, Option, Some, refl, sym, ◌∙◌, ap, subst}
+use Rattle.std.specs.Prelude.{◌==◌, slice_get}
+use Rattle.std.specs.Global.{Vec}
+use Rattle.std.specs.List.{AllByRecursion}
+use Rattle.std.specs.Vec.{with_items}
+use Rattle.std.proofs.Math.Path.{fun_ext}
+use Rattle.std.proofs.lemmas.Bool.{eqb-true}
+use Rattle.std.proofs.lemmas.List.{length-set, with_items_is}
+use Rattle.mj_angles.specs.Layout.{max_bins_of}
+use Rattle.rz_disk.specs.declared.disk.Disk.{Ghosts}
+use Rattle.rz_disk.specs.UnderFuse.{UnderFuse}
+use Rattle.rz_events.specs.Volume.{Volume, nodes_of}
+use Rattle.rz_events.specs.declared.files.NodeSpec.{NodeSpec}
+use Rattle.rz_events.specs.declared.keys.Actor.TheVariants.{Admin}
+use Rattle.rz_events.specs.declared.nodes.NodeAsk.{NodeAsk}
+use Rattle.rz_events.specs.declared.events.Event.{Event}
+use Rattle.rz_events.specs.declared.events.Event.TheVariants as event
+use Rattle.rz_core.specs.NodeRows.{cells_of}
+use Rattle.rz_locks.specs.Held.{Held}
+use Rattle.rz_node_model.specs.States.{NodeState}
+use Rattle.rz_node_model.specs.Answers.{IsNodeAnswer}
+use Rattle.rz_node_model.specs.Afterwards.{after_answer}
+use Rattle.rz_node_model.specs.NodeEvents.{node_event}
+use Rattle.rz_play.specs.Lines.{IsAdminCall, noted}
+use Rattle.rz_driver.specs.declared.driver.Driver.{Driver}
+use Rattle.rz_driver.specs.declared.station.Shared.{Shared}
+use Rattle.rz_driver.specs.declared.station.Station.{Station}
+use Rattle.rz_driver.specs.Administration.{IsOrdered, IsCalledAt, IsArming}
+use Rattle.rz_driver.specs.Seats.{IsSeat}
+use Rattle.rz_driver.specs.Stations.{state_in, numbers_of, IsStation}
+use Rattle.rz_driver.specs.Worlds.{seat_in, world, world_of, AreLocks, HaveNoLocks, IsDriver}
+use Rattle.rz_driver.proofs.ReadyLemmas.{all-set, all-at, numbers-kept}
+use Rattle.rz_driver.proofs.WorldLemmas.{state-at, state-set}
+
+-- ---- a row of nodes in which one was called
+
+module _ {D : Type 0} where
+  pub called-of : (question : NodeAsk) (n : ℕ) (old new : List (Station D)) (log log' : List Event) → IsOrdered question n old new log log' → IsCalledAt n old new
+  called-of question n old new log log' o = record { place = o.place; station = o.station; after = o.after; at = o.at; is = o.is; stations = o.stations; called = o.order.called }
+
+  call-keeps : (v : Volume) (s after : Station D) → after.sid ≡ s.sid → after.node.geometry ≡ s.node.geometry → IsStation v s → IsStation v after
+  call-keeps v s after sid geometry shape = record {
+    layout = ap (λ g. g.layout) geometry ∙ shape.layout;
+    cells = ap (λ g. g.cells) geometry ∙ shape.cells ∙ ap (cells_of v) (sym sid);
+  }
+
+  pub stations-kept : (v : Volume) (xs ys : List (Station D)) (place : ℕ) (s after : Station D) → slice_get xs place ≡ Some s → ys ≡ set xs place after → after.sid ≡ s.sid → after.node.geometry ≡ s.node.geometry
+      → AllByRecursion (IsStation v) xs → AllByRecursion (IsStation v) ys
+  stations-kept v xs ys place s after is set_is sid geometry all = subst (AllByRecursion (IsStation v)) (sym set_is)
+      (all-set (IsStation v) xs place after all (call-keeps v s after sid geometry (all-at (IsStation v) xs place s all is)))
+
+  -- a node that has its state
+  state-same : (xs : List (Station D)) (n m : ℕ) (x : NodeState) → x ≡ state_in xs n → cond (m == n) x (state_in xs m) ≡ state_in xs m
+  state-same xs n m x is = go (m == n) refl
+    where
+      go : (b : Bool) → (m == n) ≡ b → cond b x (state_in xs m) ≡ state_in xs m
+      go true same = is ∙ ap (λ (k : ℕ). state_in xs k) (sym (eqb-true m n same))
+      go false apart = refl
+
+-- ---- the vector of nodes, of which a slice was written
+
+module _ {X : Type 0} where
+  pub in-vector : (v : Vec (Station X)) (xs ys : List (Station X)) (place : ℕ) (after : Station X) → xs ≡ v.items → ys ≡ set xs place after → (with_items v ys).items ≡ ys
+  in-vector v xs ys place after same is = with_items_is v ys (ap length is ∙ length-set xs place after ∙ ap length same ∙ sym v.ok.0)
+
+  pub ordered-in : (question : NodeAsk) (n : ℕ) (v : Vec (Station X)) (xs ys : List (Station X)) (log log' : List Event) → xs ≡ v.items → IsOrdered question n xs ys log log' → IsOrdered question n v.items (with_items v ys).items log log'
+  ordered-in question n v xs ys log log' same o =
+      subst (λ (zs : List (Station X)). IsOrdered question n zs (with_items v ys).items log log') same
+      (subst (λ (zs : List (Station X)). IsOrdered question n xs zs log log') (sym (in-vector v xs ys o.place o.after same o.stations)) o)
+
+  pub called-in : (n : ℕ) (v : Vec (Station X)) (xs ys : List (Station X)) → xs ≡ v.items → IsCalledAt n xs ys → IsCalledAt n v.items (with_items v ys).items
+  called-in n v xs ys same c =
+      subst (λ (zs : List (Station X)). IsCalledAt n zs (with_items v ys).items) same
+      (subst (λ (zs : List (Station X)). IsCalledAt n xs zs) (sym (in-vector v xs ys c.place c.after same c.stations)) c)
+
+  pub arming-in : (passes pick n : ℕ) (v : Vec (Station X)) (xs ys : List (Station X)) (log log' : List Event) → xs ≡ v.items → IsArming passes pick n xs ys log log' → IsArming passes pick n v.items (with_items v ys).items log log'
+  arming-in passes pick n v xs ys log log' same a =
+      subst (λ (zs : List (Station X)). IsArming passes pick n zs (with_items v ys).items log log') same
+      (subst (λ (zs : List (Station X)). IsArming passes pick n xs zs log log') (sym (in-vector v xs ys a.place a.after same a.stations)) a)
+
+-- ---- a driver of which a node was called
+
+module _ {D : Type 0} {G : Ghosts D} (d e : Driver D G) (ready : IsDriver d) (volume : e.volume ≡ d.volume) (seats : e.seats.items ≡ d.seats.items) where
+  ready-with : AllByRecursion (IsStation d.volume) e.shared.stations.items → numbers_of e.shared.stations.items ≡ numbers_of d.shared.stations.items → e.shared.locks ≡ d.shared.locks → e.shared.bins.items ≡ d.shared.bins.items → IsDriver e
+  ready-with stations numbers locks bins = record {
+    stations = subst (λ (v : Volume). AllByRecursion (IsStation v) e.shared.stations.items) (sym volume) stations;
+    numbers = numbers ∙ ready.numbers ∙ ap (λ (v : Volume). map (λ (n : NodeSpec). n.sid) (nodes_of v.clusters)) (sym volume);
+    bins = subst (λ (v : Volume). max_bins_of v.layout ≤ length e.shared.bins.items) (sym volume) (subst (λ (xs : List ℕ). max_bins_of d.volume.layout ≤ length xs) (sym bins) ready.bins);
+    seats = subst (λ (v : Volume). AllByRecursion (IsSeat v.layout) e.seats.items) (sym volume) (subst (AllByRecursion (IsSeat d.volume.layout)) (sym seats) ready.seats);
+    count = ap length seats ∙ ready.count;
+    locks = subst (λ (h : Held). AreLocks h e.seats.items) (sym locks) (subst (AreLocks d.shared.locks) (sym seats) ready.locks);
+    no_locks = subst HaveNoLocks (sym seats) ready.no_locks;
+  }
+
+  pub called-ready : (n : ℕ) → IsCalledAt n d.shared.stations.items e.shared.stations.items → e.shared.locks ≡ d.shared.locks → e.shared.bins.items ≡ d.shared.bins.items → IsDriver e
+  called-ready n c locks bins = ready-with
+      (stations-kept d.volume d.shared.stations.items e.shared.stations.items c.place c.station c.after c.is c.stations c.called.sid c.called.geometry ready.stations)
+      (numbers-kept d.shared.stations.items e.shared.stations.items c.place c.station c.after c.is c.stations c.called.sid) locks bins
+
+  pub armed-ready : (passes pick n : ℕ) → IsArming passes pick n d.shared.stations.items e.shared.stations.items d.shared.log.events e.shared.log.events → e.shared.locks ≡ d.shared.locks → e.shared.bins.items ≡ d.shared.bins.items → IsDriver e
+  armed-ready passes pick n a locks bins = ready-with
+      (stations-kept d.volume d.shared.stations.items e.shared.stations.items a.place a.station a.after a.is a.stations a.armed.sid a.armed.geometry ready.stations)
+      (numbers-kept d.shared.stations.items e.shared.stations.items a.place a.station a.after a.is a.stations a.armed.sid) locks bins
+
+-- ---- the world after it
+
+module _ {D : Type 0} {G : Ghosts D} (d : Driver D G) (ready : IsDriver d) (q : Shared (UnderFuse D)) (export : q.export ≡ d.shared.export) (lost : q.lost ≡ d.shared.lost) where
+  abbrev xs : List (Station (UnderFuse D))
+  xs = d.shared.stations.items
+
+  -- it is a call of the administrator in the world of the play
+  pub admin-call : (question : NodeAsk) (n : ℕ) → IsOrdered question n d.shared.stations.items q.stations.items d.shared.log.events q.log.events → IsAdminCall d.volume n question (world_of d) (world q d.seats.items d.turns)
+  admin-call question n o =
+      let s = o.station in
+      let here = state-at xs n o.place s o.at o.is in
+      let shape = all-at (IsStation d.volume) xs o.place s ready.stations o.is in
+      let cells : s.node.geometry.cells ≡ cells_of d.volume n = shape.cells ∙ ap (cells_of d.volume) here.0 in
+      let given = o.order.given in
+      let after : o.after.node.state ≡ after_answer question given (state_in xs n) = o.order.after ∙ ap (after_answer question given) (sym here.1) in
+      let nodes : state_in q.stations.items ≡ (λ m. cond (m == n) (after_answer question given (state_in xs n)) (state_in xs m)) =
+      ap (λ (ys : List (Station (UnderFuse D))). state_in ys) o.stations
+      ∙ fun_ext (λ m. state-set xs n o.place o.after o.at (o.order.called.sid ∙ here.0) m ∙ ap (λ (x : NodeState). cond (m == n) x (state_in xs m)) after)
+      in
+      let log : q.log.events ≡ noted (node_event Admin n question given) d.shared.log.events =
+      o.log_is ∙ ap (λ (x : Option Event). noted x d.shared.log.events) (o.order.event_is ∙ ap (λ (k : ℕ). node_event Admin k question given) here.0)
+      in
+      record {
+        given = given;
+        given_is = subst (λ (k : ℕ). IsNodeAnswer k (state_in xs n) question given) cells
+            (subst (λ (x : NodeState). IsNodeAnswer s.node.geometry.cells x question given) (sym here.1) o.order.given_is);
+        told = o.order.told;
+        next_is = λ i. record {
+          nodes = nodes i;
+          export = export i;
+          seats = seat_in d.seats.items;
+          turns = d.turns;
+          lost = lost i;
+          log = log i;
+        };
+      }
+
+  -- the states of all nodes stay where a disk is armed
+  pub armed-world : (passes pick n : ℕ) → IsArming passes pick n d.shared.stations.items q.stations.items d.shared.log.events q.log.events
+      → world q d.seats.items d.turns ≡ record (world_of d) { log = event.Armed n passes pick ∷ d.shared.log.events }
+  armed-world passes pick n a =
+      let here = state-at xs n a.place a.station a.at a.is in
+      let nodes : state_in q.stations.items ≡ state_in xs =
+      ap (λ (ys : List (Station (UnderFuse D))). state_in ys) a.stations
+      ∙ fun_ext (λ m. state-set xs n a.place a.after a.at (a.armed.sid ∙ here.0) m ∙ state-same xs n m a.after.node.state (a.armed.state ∙ sym here.1))
+      in
+      λ i. record {
+        nodes = nodes i;
+        export = export i;
+        seats = seat_in d.seats.items;
+        turns = d.turns;
+        lost = lost i;
+        log = a.log_is i;
+      }

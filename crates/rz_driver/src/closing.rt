@@ -1,0 +1,41 @@
+//! The end of a driver: the log and the disks go back.
+ghost use Rattle.std.specs.Prelude.{◌≡◌, ◌+◌, ◌≤◌, ◌++◌, reverse};
+ghost use Rattle.std.specs.Vec.{vec_len, vec_capacity};
+ghost use Rattle.rz_driver.specs.Stations.{disks_of};
+
+use crate::driver::Driver;
+use crate::station::Station;
+use rz_disk::{Disk, Fused};
+use rz_events::Event;
+
+/// Takes the disks of the nodes out of their fuses, and puts them before those of `home`, which has them the last one
+/// first.
+pub(crate) fn hand_back<D: Disk>(stations: Vec<Station<Fused<D>>>, home: Vec<D>) -> Vec<D>
+    requires room { vec_len stations + vec_len home ≤ vec_capacity home }
+    ensures { result.items ≡ disks_of stations.items ++ reverse home.items }
+{
+    let mut stations = stations;
+    let mut home = home;
+    while let Some(station) = stations.pop() {
+        let _back = home.push(station.node.into_disk().into_inner());
+    }
+    home.reverse();
+    home
+}
+
+impl<D: Disk> Driver<D> {
+    /// The log, the oldest event first, and the disks in their order.
+    pub fn close(self) -> (Vec<Event>, Vec<D>)
+        ensures log { result.0.items ≡ reverse self.shared.log.events }
+        ensures disks { result.1.items ≡ disks_of self.shared.stations.items }
+    {
+        let Driver {
+            shared,
+            mut home,
+            ..
+        } = self;
+        home.clear();
+        let log = shared.log.close();
+        (log, hand_back(shared.stations, home))
+    }
+}

@@ -1,0 +1,66 @@
+//! A new driver: each disk is formatted, and nothing is played.
+ghost use Rattle.std.specs.Prelude.{◌≡◌, IfOk, IfErr, length};
+ghost use Rattle.rz_events.specs.Volume.{nodes_of};
+ghost use Rattle.rz_play.specs.World.{new_world};
+ghost use Rattle.rz_driver.specs.Made.{AreBack, AreNew, IsCause};
+ghost use Rattle.rz_driver.specs.Worlds.{world_of, IsDriver};
+
+use crate::driver::Driver;
+use crate::formatting::new_stations;
+use crate::log::Log;
+use crate::parts::new_parts;
+use crate::station::Shared;
+use rz_config::Volume;
+use rz_disk::Disk;
+use rz_locks::Locks;
+use std::alloc::Global;
+
+/// Why no driver was made.
+#[derive(Clone, Copy, Debug, PartialEq, Eq, Drop)]
+pub enum DriverFault {
+    NoMemory,
+    /// The disk with this index failed while it was formatted.
+    Disk { index: u64 },
+}
+
+impl<D: Disk> Driver<D> {
+    /// Formats each disk of a volume for its node. Where one fails, or memory is wanting, all of them come
+    /// back in their order.
+    pub fn new(
+        alloc: Global,
+        volume: &Volume,
+        disks: Vec<D>,
+    ) -> Result<Driver<D>, (Vec<D>, DriverFault)>
+        requires count { length disks.items ≡ length (nodes_of volume.now.clusters) }
+        ensures ready { IfOk result (λ d. IsDriver d) }
+        ensures volume { IfOk result (λ d. d.volume ≡ volume.now) }
+        ensures world { IfOk result (λ d. world_of d ≡ new_world volume.now) }
+        ensures made { IfOk result (λ d. AreNew D.tells D.meter D.image volume.now.layout (nodes_of volume.now.clusters) disks.items d.shared.stations.items) }
+        ensures back { IfErr result (λ r. AreBack D.tells D.meter D.image volume.now.layout (nodes_of volume.now.clusters) disks.items r.0.items) }
+        ensures cause { IfErr result (λ r. IsCause D.meter disks.items r.0.items r.1) }
+    {
+        let Ok(parts) = new_parts(alloc, volume) else {
+            return Err((disks, DriverFault::NoMemory));
+        };
+        let locks = Locks::new();
+        let log = Log::new(alloc);
+        match new_stations(alloc, volume.layout, parts.nodes.as_slice(), disks) {
+            Ok((stations, home)) => Ok(Driver {
+                alloc,
+                volume: parts.volume,
+                shared: Shared {
+                    stations,
+                    export: parts.export,
+                    locks,
+                    lost: 0,
+                    log,
+                    bins: parts.bins,
+                },
+                seats: parts.seats,
+                turns: 0,
+                home,
+            }),
+            Err(back) => Err(back),
+        }
+    }
+}

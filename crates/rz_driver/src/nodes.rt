@@ -1,0 +1,77 @@
+//! What the script orders of a node.
+ghost use Rattle.std.specs.Prelude.{◌≡◌, ◌∷◌, OnOk, OnErr, IsTrue};
+ghost use Rattle.rz_events.specs.declared.nodes.NodeAsk.TheVariants as ask;
+ghost use Rattle.rz_events.specs.declared.events.Event.TheVariants as e;
+ghost use Rattle.rz_play.specs.Lines.{IsAdminCall};
+ghost use Rattle.rz_driver.specs.Worlds.{world_of, IsDriver};
+
+use crate::NoMemory;
+use crate::administration::{arm_node, lose_node, start_node, stop_node};
+use crate::driver::Driver;
+use rz_disk::Disk;
+
+impl<D: Disk> Driver<D> {
+    /// The node stops.
+    pub(crate) fn order_stop(&mut self, sid: u16) -> Result<(), NoMemory>
+        requires ready { IsDriver self.old }
+        ensures volume { self.new.volume ≡ self.old.volume }
+        ensures ready { OnOk result (IsDriver self.new) }
+        ensures called { OnOk result (IsAdminCall self.old.volume sid ask.Stop (world_of self.old) (world_of self.new)) }
+        ensures lost { self.new.shared.lost ≡ self.old.shared.lost }
+        ensures log { OnErr result (self.new.shared.log.events ≡ self.old.shared.log.events) }
+    {
+        let shared = &mut self.shared;
+        stop_node(shared.stations.as_mut_slice(), &mut shared.log, sid)
+    }
+
+    /// The node starts again. What it finds is said of a disk that tells its text.
+    pub(crate) fn order_start(&mut self, sid: u16) -> Result<(), NoMemory>
+        requires ready { IsDriver self.old }
+        ensures volume { self.new.volume ≡ self.old.volume }
+        ensures ready { OnOk result (IsDriver self.new) }
+        ensures called { OnOk result (IsTrue D.tells → IsAdminCall self.old.volume sid ask.Start (world_of self.old) (world_of self.new)) }
+        ensures turns { self.new.turns ≡ self.old.turns }
+        ensures lost { self.new.shared.lost ≡ self.old.shared.lost }
+        ensures log { OnErr result (self.new.shared.log.events ≡ self.old.shared.log.events) }
+    {
+        let shared = &mut self.shared;
+        start_node(
+            self.alloc,
+            shared.stations.as_mut_slice(),
+            &mut shared.log,
+            sid,
+        )
+    }
+
+    /// The node loses its disk.
+    pub(crate) fn order_loss(&mut self, sid: u16) -> Result<(), NoMemory>
+        requires ready { IsDriver self.old }
+        ensures volume { self.new.volume ≡ self.old.volume }
+        ensures ready { OnOk result (IsDriver self.new) }
+        ensures called { OnOk result (IsAdminCall self.old.volume sid ask.Lose (world_of self.old) (world_of self.new)) }
+        ensures lost { self.new.shared.lost ≡ self.old.shared.lost }
+        ensures log { OnErr result (self.new.shared.log.events ≡ self.old.shared.log.events) }
+    {
+        let shared = &mut self.shared;
+        lose_node(shared.stations.as_mut_slice(), &mut shared.log, sid)
+    }
+
+    /// The node's disk lets so many device calls pass, and its next crash picks by `pick`.
+    pub(crate) fn order_break(&mut self, sid: u16, passes: u64, pick: u64) -> Result<(), NoMemory>
+        requires ready { IsDriver self.old }
+        ensures volume { self.new.volume ≡ self.old.volume }
+        ensures ready { OnOk result (IsDriver self.new) }
+        ensures armed { OnOk result (world_of self.new ≡ record (world_of self.old) { log = e.Armed sid passes pick ∷ self.old.shared.log.events }) }
+        ensures lost { self.new.shared.lost ≡ self.old.shared.lost }
+        ensures log { OnErr result (self.new.shared.log.events ≡ self.old.shared.log.events) }
+    {
+        let shared = &mut self.shared;
+        arm_node(
+            shared.stations.as_mut_slice(),
+            &mut shared.log,
+            sid,
+            passes,
+            pick,
+        )
+    }
+}

@@ -1,0 +1,90 @@
+//! What a new driver has beside its nodes and their disks.
+ghost use Rattle.std.specs.Prelude.{◌≡◌, ◌++◌, IfOk, OnOk, length};
+ghost use Rattle.std.specs.List.{AllByRecursion};
+ghost use Rattle.mj_angles.specs.Layout.{max_bins_of};
+ghost use Rattle.rz_events.specs.Volume.{IsVolume, nodes_of};
+ghost use Rattle.rz_export_model.specs.Export.{new_export};
+ghost use Rattle.rz_driver.specs.Seats.{IsEmptySeat};
+
+use crate::seat::Seat;
+use rz_config::{ClusterSpec, Volume};
+use rz_events::NodeSpec;
+use rz_export::Export;
+use std::alloc::{AllocError, Global};
+
+/// 64 clients and 16 rebuilders.
+const SEATS: usize = 80;
+
+/// The volume and its nodes in order, an export of it, the actors, and room for the bins of a record.
+#[derive(Drop)]
+pub(crate) struct Parts {
+    pub(crate) volume: Volume,
+    pub(crate) nodes: Vec<NodeSpec>,
+    pub(crate) export: Export,
+    pub(crate) seats: Vec<Seat>,
+    pub(crate) bins: Vec<u64>,
+}
+
+/// The parts of a driver that has played nothing.
+pub(crate) fn new_parts(alloc: Global, volume: &Volume) -> Result<Parts, AllocError>
+    ensures volume { IfOk result (λ p. p.volume ≡ volume.now) }
+    ensures rules { IsVolume volume.now }
+    ensures nodes { IfOk result (λ p. p.nodes.items ≡ nodes_of volume.now.clusters) }
+    ensures export { IfOk result (λ p. p.export ≡ new_export volume.now 0) }
+    ensures seats { IfOk result (λ p. AllByRecursion IsEmptySeat p.seats.items) }
+    ensures count { IfOk result (λ p. length p.seats.items ≡ 80) }
+    ensures bins { IfOk result (λ p. length p.bins.items ≡ max_bins_of volume.now.layout) }
+{
+    let nodes = all_nodes(alloc, volume)?;
+    let layout = volume.layout;
+    let bins = Vec::from_elem(alloc, 0, layout.max_bins())?;
+    let seats = empty_seats(alloc)?;
+    let export = Export::new(alloc, volume.copy(alloc)?, 0)?;
+    let volume = volume.copy(alloc)?;
+    Ok(Parts {
+        volume,
+        nodes,
+        export,
+        seats,
+        bins,
+    })
+}
+
+/// The nodes of a volume, in the order of the description.
+fn all_nodes(alloc: Global, volume: &Volume) -> Result<Vec<NodeSpec>, AllocError>
+    ensures nodes { IfOk result (λ v. v.items ≡ nodes_of volume.now.clusters) }
+    ensures rules { IsVolume volume.now }
+{
+    let mut nodes = Vec::with_capacity(alloc, volume.node_count())?;
+    add_clusters(&mut nodes, volume.clusters.as_slice())?;
+    Ok(nodes)
+}
+
+/// Adds the nodes of these clusters.
+fn add_clusters(nodes: &mut Vec<NodeSpec>, clusters: &[ClusterSpec]) -> Result<(), AllocError>
+    ensures { OnOk result (nodes.new.items ≡ nodes.old.items ++ nodes_of clusters.now) }
+{
+    for cluster in clusters {
+        add_nodes(nodes, cluster)?;
+    }
+    Ok(())
+}
+
+/// Adds the nodes of a cluster.
+fn add_nodes(nodes: &mut Vec<NodeSpec>, cluster: &ClusterSpec) -> Result<(), AllocError>
+    ensures { OnOk result (nodes.new.items ≡ nodes.old.items ++ cluster.now.nodes) }
+{
+    nodes.extend_from_slice(cluster.nodes.as_slice())
+}
+
+/// The actors of a play, with nothing to do.
+fn empty_seats(alloc: Global) -> Result<Vec<Seat>, AllocError>
+    ensures all { IfOk result (λ v. AllByRecursion IsEmptySeat v.items) }
+    ensures count { IfOk result (λ v. length v.items ≡ 80) }
+{
+    let mut seats = Vec::with_capacity(alloc, SEATS)?;
+    for _ in 0..SEATS {
+        seats.push(Seat::new(alloc))?;
+    }
+    Ok(seats)
+}

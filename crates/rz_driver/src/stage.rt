@@ -1,0 +1,68 @@
+//! A driver as what a script is played on.
+ghost use Rattle.std.specs.Prelude.{◌≡◌};
+
+use crate::driver::Driver;
+use rz_disk::Disk;
+use rz_events::{Actor, Event, Operation};
+use rz_lines::{LoggedStage, NoMemory, Stage};
+use rz_link::Link;
+
+impl<D: Disk> Stage for Driver<D> {
+    ghost use Rattle.rz_driver.specs.Worlds.{world_of, IsDriver};
+
+    ghost tells = { D.tells };
+
+    ghost volume = { λ d. d.volume };
+
+    ghost world = { λ d. world_of d };
+
+    ghost is_ready = { λ d. IsDriver d };
+
+    ghost holds = { λ d first. Unit {0} };
+
+    ghost leaves = { λ d first. Unit {0} };
+
+    ghost ends = { λ d first held. tt };
+
+    fn turns(&self) -> u32 {
+        self.turns
+    }
+
+    fn is_busy(&self, by: Actor) -> bool {
+        self.is_at_work(by)
+    }
+
+    fn turn<L: Link>(&mut self, by: Actor, link: &mut L) -> Result<(), NoMemory> {
+        self.take_turn(by, link)
+    }
+
+    fn add(&mut self, by: Actor, op: &Operation) -> Result<(), NoMemory> {
+        self.add_operation(by, op)
+    }
+
+    fn miss(&mut self, by: Actor, reply: bool) {
+        self.plan_miss(by, reply)
+    }
+
+    fn stop(&mut self, node: u16) -> Result<(), NoMemory> {
+        self.order_stop(node)
+    }
+
+    fn start(&mut self, node: u16) -> Result<(), NoMemory> {
+        self.order_start(node)
+    }
+
+    fn lose(&mut self, node: u16) -> Result<(), NoMemory> {
+        self.order_loss(node)
+    }
+
+    fn arm(&mut self, node: u16, passes: u64, pick: u64) -> Result<(), NoMemory> {
+        self.order_break(node, passes, pick)
+    }
+}
+
+impl<D: Disk> LoggedStage for Driver<D> {
+    fn log(&self) -> &[Event] {
+        self.shared.log.events()
+    }
+}

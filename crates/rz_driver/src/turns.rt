@@ -1,0 +1,60 @@
+//! The turns of actors.
+ghost use Rattle.std.specs.Prelude.{◌≡◌, ◌+◌, ◌<◌, ◌≤◌, OnOk, OnErr};
+ghost use Rattle.rz_play.specs.Stops.{most_turns};
+ghost use Rattle.rz_play.specs.Turns.{IsTurn};
+ghost use Rattle.rz_play.specs.World.{has_work};
+ghost use Rattle.rz_driver.specs.Worlds.{place_of, world_of, IsDriver};
+
+use crate::NoMemory;
+use crate::acting::act;
+use crate::driver::Driver;
+use rz_disk::Disk;
+use rz_events::Actor;
+use rz_link::Link;
+
+/// Where an actor stands in the row.
+pub(crate) fn place(by: Actor) -> Option<usize>
+    ensures { result ≡ place_of by }
+{
+    match by {
+        Actor::Client(n) if 1 <= n && n <= 64 => Some(usize::from(n) - 1),
+        Actor::Rebuilder(n) if 1 <= n && n <= 16 => Some(usize::from(n) + 63),
+        _ => None,
+    }
+}
+
+impl<D: Disk> Driver<D> {
+    /// The actor takes a turn.
+    pub(crate) fn take_turn<L: Link>(&mut self, by: Actor, link: &mut L) -> Result<(), NoMemory>
+        requires ready { IsDriver self.old }
+        requires few { self.old.turns < most_turns }
+        ensures ready { OnOk result (IsDriver self.new) }
+        ensures volume { self.new.volume ≡ self.old.volume }
+        ensures taken { OnOk result (IsTurn self.old.volume by (world_of self.old) (world_of self.new)) }
+        ensures link { self.new.shared.lost + L.lost link.old ≤ self.old.shared.lost + L.lost link.new }
+        ensures log { OnErr result (self.new.shared.log.events ≡ self.old.shared.log.events) }
+        ensures lost { OnErr result (self.new.shared.lost ≡ self.old.shared.lost) }
+    {
+        let Some(place) = place(by) else {
+            return Err(NoMemory);
+        };
+        self.shared.log.make_room()?;
+        let layout = self.volume.layout;
+        let seat = &mut self.seats[place];
+        seat.take_up(self.alloc, layout)?;
+        act(self.alloc, layout, by, seat, &mut self.shared, link)?;
+        self.turns += 1;
+        Ok(())
+    }
+
+    /// Whether the actor has work.
+    pub(crate) fn is_at_work(&self, by: Actor) -> bool
+        requires ready { IsDriver self.now }
+        ensures { result ≡ has_work ((world_of self.now).seats by) }
+    {
+        match place(by) {
+            Some(place) => self.seats[place].has_work(),
+            None => false,
+        }
+    }
+}

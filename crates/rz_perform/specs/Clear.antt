@@ -1,0 +1,52 @@
+-- When nothing stands in the way of a replay, so that it comes to its end.
+use Rattle.std.specs.Prelude.{ℕ, true, false, ◌≡◌, ◌≤◌, ◌⊎◌, List, Option, Some, None, Result, Ok, length, reverse}
+use Rattle.std.specs.Io.KnownBytes.{Appends}
+use Rattle.rz_ports.specs.Counts.{Rises}
+use Rattle.rz_command.specs.Line.{Meaning}
+use Rattle.rz_events.specs.declared.events.Event.{Event}
+use Rattle.rz_generate.specs.Workload.{workload}
+use Rattle.rz_script.specs.Grammar.{script}
+use Rattle.rz_script.specs.Scripts.{Script}
+use Rattle.rz_script.specs.declared.form.Form.TheVariants as forms
+use Rattle.rz_play.specs.Stops.{TurnsSpent}
+use Rattle.rz_play.specs.Played.{IsPlayed, IsStopped}
+use Rattle.rz_request.specs.Input.{limit}
+use Rattle.rz_request.specs.Requests.{Asks, Reading, is_large, nodes_in, wished}
+use Rattle.rz_request.specs.declared.refusal.Stop.{Stop}
+use Rattle.rz_request.specs.declared.wishes.Request.{Request}
+use Rattle.rz_request.specs.declared.wishes.Wish.{Wish}
+use Rattle.rz_request.specs.declared.wishes.Wish.TheVariants as wishes
+use Rattle.rz_perform.specs.Output.{Sunk}
+use Rattle.rz_perform.specs.Replays.{Faulted, Ensues}
+use Rattle.rz_perform.specs.Telling.{text_told}
+
+-- what is wished for is this script: the text of the source, which is in the grammar and within the limit, means it, or it is the
+-- workload of the seed
+abbrev pub Means : Option Wish → Option (List ℕ) → Script → Type 0
+Means None left s = ⊥
+Means (Some wishes.Replay) left s = (text : List ℕ) × (left ≡ Some text) × (length text ≤ limit) × (script forms.Replay text ≡ Ok s)
+Means (Some (wishes.Load seed)) left s = workload seed ≡ s
+
+-- The words and the source mean the script, which is within the limits and has a node for each disk. No play of it calls for a
+-- turn too many, and neither the source, nor the sink, nor a disk counted a fault.
+pub record IsClear (words : Option Meaning) (source : Reading) (count : ℕ) (disks : Faulted) (sink : Sunk) (s : Script) : Type 0 where
+  pub means : Means (wished words) source.before s
+  pub small : is_large s ≡ false
+  pub fits : count ≡ nodes_in s
+  pub turns : (h : List Event) → ¬ IsStopped s.volume TurnsSpent s.lines h
+  pub source_whole : ¬ Rises source.old source.new
+  pub disks_whole : (i : ℕ) → ¬ Rises (disks.old i) (disks.new i)
+  pub sink_whole : ¬ Rises sink.old sink.new
+
+-- the script was played to its end, and the sink took what is to be told of it
+abbrev pub IsFinished : Option Wish → Script → Sunk → ℕ → List Event → Type 0
+IsFinished None s sink status h = ⊥
+IsFinished (Some wish) s sink status h =
+    (status ≡ 0) × IsPlayed s.volume s.lines h × Appends sink.before sink.after (text_told wish (reverse h))
+
+-- Where nothing stands in its way, a replay over so many disks that tell their texts plays the script to its end, or memory is
+-- wanting: the answer to what is asked for, and what comes of it, leave nothing else.
+abbrev pub IsComplete : Type 0
+IsComplete = (words : Option Meaning) (source : Reading) (count : ℕ) (disks : Faulted) (lost : ℕ) (sink : Sunk) (status : ℕ) (h : List Event) (r : Result Request Stop)
+    → Asks words source count r → Ensues true r disks lost sink status h
+    → (s : Script) → IsClear words source count disks sink s → IsFinished (wished words) s sink status h ⊎ (status ≡ 70)

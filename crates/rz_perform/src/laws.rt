@@ -1,0 +1,29 @@
+//! Laws without code: what the log of a performance says is true, and when a replay comes to its end.
+
+ghost use Rattle.rz_perform.specs.Clear.{IsComplete};
+ghost use Rattle.rz_perform.specs.Told.{AreTold};
+
+/// What the log of a script's play says is true, however the play ended: what is proved of each play that
+/// has begun holds of one that stopped or came to its end.
+pub(crate) fn true_logs()
+    ensures { AreTold }
+{
+    rz_play_laws::ended();
+    rz_play_laws::stopped();
+    rz_play_laws::losses();
+    rz_play_laws::legal();
+    rz_play_laws::sound();
+    rz_play_laws::rebuilt();
+    rz_play_locks::none_lost();
+    rz_play_locks::whole_views();
+    rz_core::one_run();
+    rz_safety::answering();
+    rz_safety::written();
+}
+
+/// A replay comes to its end where nothing stands in its way: the words and the source mean a script
+/// within the limits, there is a disk for each node, no turn too many is called for, and nothing outside
+/// failed. Want of memory is the one other answer.
+pub fn completes()
+    ensures { IsComplete }
+{}
