@@ -1,7 +1,4 @@
-pub mod Logged
-pub mod Parts
 pub mod Nodes
-pub mod Locking
 pub mod Seats
 pub mod Stations
 pub mod Acts

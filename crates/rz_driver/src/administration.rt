@@ -6,8 +6,8 @@ ghost use Rattle.rz_driver.specs.Stations.{IsCalled};
 ghost use Rattle.rz_driver.specs.Administration.{IsOrdered, IsOrder, IsArmed, IsArming, IsCalledAt};
 
 use crate::NoMemory;
-use crate::log::Log;
 use crate::station::{Station, find};
+use rz_asks::Log;
 use rz_calls::node_event;
 use rz_disk::Disk;
 use rz_events::{Actor, Event, NodeAnswer, NodeAsk, Phase, StartAnswer};

@@ -7,9 +7,9 @@ ghost use Rattle.rz_driver.specs.Worlds.{world_of, IsDriver};
 
 use crate::driver::Driver;
 use crate::formatting::new_stations;
-use crate::log::Log;
 use crate::parts::new_parts;
 use crate::station::Shared;
+use rz_asks::Log;
 use rz_config::Volume;
 use rz_disk::Disk;
 use rz_locks::Locks;

@@ -5,13 +5,11 @@ ghost use Rattle.rz_calls.specs.Calls.{IsRecord};
 ghost use Rattle.rz_operation_model.specs.Steps.{Answered};
 ghost use Rattle.rz_operation_model.specs.Turns.{goes_by_link};
 ghost use Rattle.rz_driver.specs.Nodes.{Fares, IsServed, IsAsked, IsPlaced, IsThroughPart, IsReplyLostPart, IsRequestLostPart};
-ghost use Rattle.rz_driver.specs.Parts.{IsTold};
+ghost use Rattle.rz_asks.specs.Parts.{IsTold};
 
 use crate::NoMemory;
-use crate::log::Log;
-use crate::replies::note;
-use crate::words::is_bad;
 use mj_angles::Layout;
+use rz_asks::{Log, is_bad, note};
 use rz_calls::{answer_node, node_event};
 use rz_disk::Disk;
 use rz_events::{Actor, Event, Head, NodeAnswer, NodeAsk};

@@ -1,8 +1,8 @@
 use Rattle.std.proofs.Common.{refl}
 use Rattle.std.proofs.lemmas.Result.{on_ok_weaker}
 use Rattle.rz_driver.specs.Acts.{IsMessage, Exports, Opens, Sends, Says}
-use Rattle.rz_driver.specs.Locking.{IsOpenPart}
-use Rattle.rz_driver.specs.Parts.{IsExportPart}
+use Rattle.rz_asks.specs.Locking.{IsOpenPart}
+use Rattle.rz_asks.specs.Parts.{IsExportPart}
 use Rattle.rz_driver.proofs.acting.act.Goals as goal
 
 pub returns-in-Export-clause-ok : goal.returns-in-Export-clause-ok
