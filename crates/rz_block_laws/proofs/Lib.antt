@@ -1,0 +1,4 @@
+mod Hands
+mod Fetching
+mod Records
+mod Others
