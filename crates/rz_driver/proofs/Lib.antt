@@ -13,4 +13,5 @@ mod OpenLemmas
 mod TakeLemmas
 mod ActorOrders
 mod MadeLemmas
+mod FormatLemmas
 mod NodeOrders

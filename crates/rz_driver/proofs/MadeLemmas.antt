@@ -29,21 +29,17 @@ use Rattle.rz_driver.specs.Made.{IsNew, AreNew, IsBack, AreBack, geometry_of}
 use Rattle.rz_driver.specs.Seats.{work_in, seat_of, HasLayout, IsSeat, IsEmptySeat}
 use Rattle.rz_driver.specs.Stations.{state_in, numbers_of, disks_of, IsStation}
 use Rattle.rz_driver.specs.Worlds.{place_of, seat_there, seat_at, seat_in, world_of, IsDriver}
-use Rattle.rz_driver.proofs.Rowwise.{zip-map, zip-same}
 
 -- ---- disks
 
 module _ {D : Type 0} (tells : Bool) (meter : D → Meter) (image : D → List ℕ → Type 0) (layout : Layout) where
   -- a disk that was formatted may come back
-  new-back : (h : NodeSpec × D) (s : Station (UnderFuse D)) → IsNew tells meter image layout h s → IsBack tells meter image layout h s.node.disk.disk
+  pub new-back : (h : NodeSpec × D) (s : Station (UnderFuse D)) → IsNew tells meter image layout h s → IsBack tells meter image layout h s.node.disk.disk
   new-back h s new = record { count = new.count; images = λ told c is. inr (inr (new.empty told c is)) }
 
-  pub news-back : (handed : List (NodeSpec × D)) (stations : List (Station (UnderFuse D))) → AllZip (IsNew tells meter image layout) handed stations → AllZip (IsBack tells meter image layout) handed (disks_of stations)
-  news-back handed stations all = zip-map (IsNew tells meter image layout) (IsBack tells meter image layout) (λ (s : Station (UnderFuse D)). s.node.disk.disk) handed stations new-back all
-
   -- and one that was not touched
-  pub untouched : (nodes : List NodeSpec) (disks : List D) → length disks ≡ length nodes → AreBack tells meter image layout nodes disks disks
-  untouched nodes disks count = zip-same (IsBack tells meter image layout) nodes disks count (λ n d. record { count = omega arith; images = λ told c is. inl is })
+  pub same-back : (n : NodeSpec) (d : D) → IsBack tells meter image layout (n, d) d
+  same-back n d = record { count = omega arith; images = λ told c is. inl is }
 
   -- ---- nodes
 

@@ -16,6 +16,14 @@ use Rattle.rz_driver.specs.declared.making.DriverFault.{DriverFault}
 use Rattle.rz_driver.specs.declared.making.DriverFault.TheVariants as driver
 use Rattle.rz_driver.specs.declared.station.Station.{Station}
 
+-- the faults of the disk at a place, or 0 where there is none
+abbrev pub faults_in : {D : Type 0} → (D → Meter) → Option D → ℕ
+faults_in meter None = 0
+faults_in meter (Some d) = faults (meter d)
+
+abbrev pub faults_at : {D : Type 0} → (D → Meter) → List D → ℕ → ℕ
+faults_at meter disks place = faults_in meter (slice_get disks place)
+
 -- how the disk of a node is laid out
 abbrev pub geometry_of : Layout → NodeSpec → Geometry
 geometry_of layout n = record { layout = layout; bsize = bsize_of layout; node = n.sid; cells = n.cells }

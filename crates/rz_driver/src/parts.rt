@@ -12,6 +12,9 @@ use rz_events::NodeSpec;
 use rz_export::Export;
 use std::alloc::{AllocError, Global};
 
+/// 64 clients and 16 rebuilders.
+const SEATS: usize = 80;
+
 /// The volume and its nodes in order, an export of it, the actors, and room for the bins of a record.
 #[derive(Drop)]
 pub(crate) struct Parts {
@@ -79,8 +82,8 @@ fn empty_seats(alloc: Global) -> Result<Vec<Seat>, AllocError>
     ensures all { IfOk result (λ v. AllByRecursion IsEmptySeat v.items) }
     ensures count { IfOk result (λ v. length v.items ≡ 80) }
 {
-    let mut seats = Vec::with_capacity(alloc, 80)?;
-    for _ in 0..80 {
+    let mut seats = Vec::with_capacity(alloc, SEATS)?;
+    for _ in 0..SEATS {
         seats.push(Seat::new(alloc))?;
     }
     Ok(seats)

@@ -18,6 +18,12 @@ impl<D: Disk> Stage for Driver<D> {
 
     ghost is_ready = { λ d. IsDriver d };
 
+    ghost holds = { λ d first. Unit {0} };
+
+    ghost leaves = { λ d first. Unit {0} };
+
+    ghost ends = { λ d first held. tt };
+
     fn turns(&self) -> u32 {
         self.turns
     }

@@ -1,0 +1,10 @@
+use Rattle.std.proofs.Common.{◌≡◌, length}
+use Rattle.std.specs.List.{AllByRecursion}
+use Rattle.rz_driver.specs.Seats.{IsEmptySeat}
+use Rattle.rz_driver.proofs.parts.empty_seats.Given as goal
+
+abbrev pub invariant-loop : goal.invariant-loop
+invariant-loop l = record {
+  all : AllByRecursion IsEmptySeat l.seats.items;
+  count : length l.seats.items ≡ l.counter;
+}
