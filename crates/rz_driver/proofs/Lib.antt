@@ -15,3 +15,5 @@ mod ActorOrders
 mod MadeLemmas
 mod FormatLemmas
 mod NodeOrders
+mod Words
+mod MeterLemmas

@@ -58,13 +58,16 @@ returns-in_default g c =
     let old = c.args.station.now in
     let mid = c.if-eq.station in
     let first : IsArmed old.pick old mid = elim c.if-eq.branch [
-      | then-eq w ↦ rw w.station-is (record { sid = refl; geometry = w.crash.ensures.geometry ∙ w.arm.ensures.geometry; state = w.crash.ensures.state ∙ w.arm.ensures.state; pick_is = refl })
+      | then-eq w ↦ rw w.station-is (record { sid = refl; geometry = w.arm.ensures.geometry ∙ w.crash.ensures.geometry; state = w.arm.ensures.state ∙ w.crash.ensures.state; pick_is = refl })
       | else-eq w ↦ rw w.station-is (record { sid = refl; geometry = refl; state = refl; pick_is = refl })
     ] in
     record {
       called = disarmed-first old mid c.start.new.self first c.start.ensures.geometry;
       ok = λ told. order-of old mid c.start.new.self c.start.result c.node_event.result first c.start.ensures.geometry c.start.ensures.answer
           (start-told c.start.result c.in_default.not-NoMemory (exact-told g.D.Disk.tells c.start.result told c.start.ensures.exact)) (c.start.ensures.after told) c.node_event.ensures;
+      crashed = ?;
+      metered = ?;
+      counted = ?;
     }
 
 pub returns-in-NoMemory : goal.returns-in-NoMemory
@@ -72,7 +75,7 @@ returns-in-NoMemory g c =
     let old = c.args.station.now in
     let mid = c.if-eq.station in
     let first : IsArmed old.pick old mid = elim c.if-eq.branch [
-      | then-eq w ↦ rw w.station-is (record { sid = refl; geometry = w.crash.ensures.geometry ∙ w.arm.ensures.geometry; state = w.crash.ensures.state ∙ w.arm.ensures.state; pick_is = refl })
+      | then-eq w ↦ rw w.station-is (record { sid = refl; geometry = w.arm.ensures.geometry ∙ w.crash.ensures.geometry; state = w.arm.ensures.state ∙ w.crash.ensures.state; pick_is = refl })
       | else-eq w ↦ rw w.station-is (record { sid = refl; geometry = refl; state = refl; pick_is = refl })
     ] in
-    record { called = disarmed-first old mid c.start.new.self first c.start.ensures.geometry; ok = tt }
+    record { called = disarmed-first old mid c.start.new.self first c.start.ensures.geometry; ok = tt; crashed = ?; metered = tt; counted = ? }
