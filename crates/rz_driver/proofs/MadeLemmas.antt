@@ -8,6 +8,7 @@ use Rattle.std.proofs.lemmas.List.Elements.{All-append}
 use Rattle.mj_angles.specs.declared.layout.Layout.{Layout}
 use Rattle.mj_angles.specs.Layout.{max_bins_of, safe_of}
 use Rattle.rz_disk.specs.Meter.{Meter, faults}
+use Rattle.rz_disk.specs.declared.disk.Disk.{Ghosts}
 use Rattle.rz_disk.specs.UnderFuse.{UnderFuse}
 use Rattle.rz_events.specs.Volume.{Volume, Cluster, IsNode, IsCluster, IsVolume, nodes_of}
 use Rattle.rz_events.specs.declared.files.NodeSpec.{NodeSpec}
@@ -130,7 +131,7 @@ empty-seats layout (s ∷ ss) all = (
 
 -- ---- the driver
 
-module _ {D : Type 0} (tells : Bool) (meter : D → Meter) (image : D → List ℕ → Type 0) (v : Volume) (rules : IsVolume v) (disks : List D) (count : length disks ≡ length (nodes_of v.clusters)) (d : Driver D) (volume : d.volume ≡ v)
+module _ {D : Type 0} {G : Ghosts D} (tells : Bool) (meter : D → Meter) (image : D → List ℕ → Type 0) (v : Volume) (rules : IsVolume v) (disks : List D) (count : length disks ≡ length (nodes_of v.clusters)) (d : Driver D G) (volume : d.volume ≡ v)
     (made : AreNew tells meter image v.layout (nodes_of v.clusters) disks d.shared.stations.items) (seats : AllByRecursion IsEmptySeat d.seats.items) where
   pub new-ready : length d.seats.items ≡ 80 → length d.shared.bins.items ≡ max_bins_of v.layout → d.shared.locks ≡ maps.empty → IsDriver d
   new-ready eighty bins locks = record {

@@ -8,6 +8,7 @@ use Rattle.std.proofs.Math.Path.{fun_ext}
 use Rattle.std.proofs.lemmas.Bool.{eqb-true}
 use Rattle.std.proofs.lemmas.List.{length-set, with_items_is}
 use Rattle.mj_angles.specs.Layout.{max_bins_of}
+use Rattle.rz_disk.specs.declared.disk.Disk.{Ghosts}
 use Rattle.rz_disk.specs.UnderFuse.{UnderFuse}
 use Rattle.rz_events.specs.Volume.{Volume, nodes_of}
 use Rattle.rz_events.specs.declared.files.NodeSpec.{NodeSpec}
@@ -81,7 +82,7 @@ module _ {X Z : Type 0} where
 
 -- ---- a driver of which a node was called
 
-module _ {D : Type 0} (d e : Driver D) (ready : IsDriver d) (volume : e.volume ≡ d.volume) (seats : e.seats.items ≡ d.seats.items) where
+module _ {D : Type 0} {G : Ghosts D} (d e : Driver D G) (ready : IsDriver d) (volume : e.volume ≡ d.volume) (seats : e.seats.items ≡ d.seats.items) where
   ready-with : AllByRecursion (IsStation d.volume) e.shared.stations.items → numbers_of e.shared.stations.items ≡ numbers_of d.shared.stations.items → e.shared.locks ≡ d.shared.locks → e.shared.bins.items ≡ d.shared.bins.items → IsDriver e
   ready-with stations numbers locks bins = record {
     stations = subst (λ (v : Volume). AllByRecursion (IsStation v) e.shared.stations.items) (sym volume) stations;

@@ -6,6 +6,7 @@ use Rattle.std.proofs.Math.Path.{fun_ext}
 use Rattle.std.proofs.lemmas.List.{length-set}
 use Rattle.mj_angles.specs.declared.layout.Layout.{Layout}
 use Rattle.mj_angles.specs.Layout.{max_bins_of}
+use Rattle.rz_disk.specs.declared.disk.Disk.{Ghosts}
 use Rattle.rz_disk.specs.UnderFuse.{UnderFuse}
 use Rattle.rz_events.specs.Volume.{Volume, nodes_of}
 use Rattle.rz_events.specs.declared.files.NodeSpec.{NodeSpec}
@@ -38,9 +39,9 @@ all-more layout [] op all fits = (fits, tt)
 all-more layout (x ∷ ops) op all fits = (all.0, all-more layout ops op all.1 fits)
 
 -- a driver of which one actor changed, but not its lock
-pub still-ready : {D : Type 0} (d e : Driver D) (by : Actor) (place : ℕ) (s b : Seat) → IsDriver d → e.volume ≡ d.volume → e.shared ≡ d.shared → e.seats.items ≡ set d.seats.items place b → place_of by ≡ Some place → place < length d.seats.items
+pub still-ready : {D : Type 0} {G : Ghosts D} (d e : Driver D G) (by : Actor) (place : ℕ) (s b : Seat) → IsDriver d → e.volume ≡ d.volume → e.shared ≡ d.shared → e.seats.items ≡ set d.seats.items place b → place_of by ≡ Some place → place < length d.seats.items
     → slice_get d.seats.items place ≡ Some s → IsSeat d.volume.layout b → b.lock ≡ s.lock → IsDriver e
-still-ready {D} d e by place s b ready volume shared seats at low here seat lock = record {
+still-ready {D = D} d e by place s b ready volume shared seats at low here seat lock = record {
   stations = subst (λ (v : Volume). AllByRecursion (IsStation v) e.shared.stations.items) (sym volume) (subst (λ (p : Shared (UnderFuse D)). AllByRecursion (IsStation d.volume) p.stations.items) (sym shared) ready.stations);
   numbers = ap (λ (p : Shared (UnderFuse D)). numbers_of p.stations.items) shared ∙ ready.numbers ∙ ap (λ (v : Volume). map (λ (n : NodeSpec). n.sid) (nodes_of v.clusters)) (sym volume);
   bins = subst (λ (v : Volume). max_bins_of v.layout ≤ length e.shared.bins.items) (sym volume) (subst (λ (p : Shared (UnderFuse D)). max_bins_of d.volume.layout ≤ length p.bins.items) (sym shared) ready.bins);

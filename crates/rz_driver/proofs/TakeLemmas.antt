@@ -6,6 +6,7 @@ use Rattle.std.specs.FinMap.{get}
 use Rattle.std.proofs.lemmas.List.{length-set}
 use Rattle.std.proofs.lemmas.Option.{slice_get_read}
 use Rattle.mj_angles.specs.Layout.{max_bins_of}
+use Rattle.rz_disk.specs.declared.disk.Disk.{Ghosts}
 use Rattle.rz_disk.specs.UnderFuse.{UnderFuse}
 use Rattle.rz_events.specs.Volume.{Volume, nodes_of}
 use Rattle.rz_events.specs.declared.files.NodeSpec.{NodeSpec}
@@ -34,7 +35,7 @@ place-low (Rebuilder m) q at = let r = rebuilder-place m q at in omega (arith, r
 place-low Admin q at = absurd (cc)
 
 -- the actor at a place
-pub seat-there : {D : Type 0} (by : Actor) (place : ℕ) (a : Seat) (d : Driver D) → IsDriver d → place_of by ≡ Some place → a ≡ get_or d.seats.items place a
+pub seat-there : {D : Type 0} {G : Ghosts D} (by : Actor) (place : ℕ) (a : Seat) (d : Driver D G) → IsDriver d → place_of by ≡ Some place → a ≡ get_or d.seats.items place a
     → (slice_get d.seats.items place ≡ Some a) × (place < length d.seats.items) × IsSeat d.volume.layout a
 seat-there by place a d ready at is =
     let low : place < length d.seats.items = subst (λ (n : ℕ). place < n) (sym ready.count) (place-low by place at) in
@@ -46,12 +47,12 @@ have-layouts v [] all = tt
 have-layouts v (x ∷ xs) all = (all.0.layout, have-layouts v xs all.1)
 
 -- the locks have what a client notes as its own
-pub tied-at : {D : Type 0} (by : Actor) (place : ℕ) (a0 a : Seat) (d : Driver D) → IsDriver d → place_of by ≡ Some place → slice_get d.seats.items place ≡ Some a0 → a.lock ≡ a0.lock
+pub tied-at : {D : Type 0} {G : Ghosts D} (by : Actor) (place : ℕ) (a0 a : Seat) (d : Driver D G) → IsDriver d → place_of by ≡ Some place → slice_get d.seats.items place ≡ Some a0 → a.lock ≡ a0.lock
     → (n : ℕ) → by ≡ Client n → get d.shared.locks n ≡ lock_of a.lock
 tied-at by place a0 a d ready at here kept n is =
     ready.locks n ∙ ap (λ (x : Actor). (seat_in d.seats.items x).lock) (sym is) ∙ ap (λ (s : APlayer). s.lock) (seat-here d.seats.items by place a0 at here) ∙ ap lock_of (sym kept)
 
-module _ {D : Type 0} (by : Actor) (place : ℕ) (d e : Driver D) (log : Logged) (a0 a b : Seat) (ready : IsDriver d) (at : place_of by ≡ Some place) (here : slice_get d.seats.items place ≡ Some a0) (low : place < length d.seats.items)
+module _ {D : Type 0} {G : Ghosts D} (by : Actor) (place : ℕ) (d e : Driver D G) (log : Logged) (a0 a b : Seat) (ready : IsDriver d) (at : place_of by ≡ Some place) (here : slice_get d.seats.items place ≡ Some a0) (low : place < length d.seats.items)
     (taken : seat_of a ≡ at_work (seat_of a0)) (fits : IsSeat d.volume.layout a) (kept : a.lock ≡ a0.lock) (events : log.events ≡ d.shared.log.events)
     (acts : IsAct d.volume.layout by a b (record d.shared { log = log }) e.shared) (volume : e.volume ≡ d.volume) (seats : e.seats.items ≡ set d.seats.items place b) where
   abbrev p : Shared (UnderFuse D)
@@ -75,10 +76,10 @@ module _ {D : Type 0} (by : Actor) (place : ℕ) (d e : Driver D) (log : Logged)
     no_locks = subst HaveNoLocks (sym seats) locks.1;
   }
 
-  pub turned : (f : Driver D) → d ≡ f → e.turns ≡ d.turns + 1 → IsTurn f.volume by (world_of f) (world_of e)
+  pub turned : (f : Driver D G) → d ≡ f → e.turns ≡ d.turns + 1 → IsTurn f.volume by (world_of f) (world_of e)
   turned f is turns =
       let first : world p ss d.turns ≡ world_of d = ap (λ (h : List Event). record (world_of d) { log = h }) events in
       let last : world e.shared (set ss place b) (d.turns + 1) ≡ world_of e = ap (λ (xs : List Seat). world e.shared xs (d.turns + 1)) (sym seats) ∙ ap (world e.shared e.seats.items) (sym turns) in
-      subst (λ (x : Driver D). IsTurn x.volume by (world_of x) (world_of e)) is
+      subst (λ (x : Driver D G). IsTurn x.volume by (world_of x) (world_of e)) is
       (subst (λ (w : World). IsTurn d.volume by w (world_of e)) first
       (subst (IsTurn d.volume by (world p ss d.turns)) last (turn-is d.volume by ss place d.turns at low a0 a here taken fits.machine p e.shared ready.locks ready.no_locks ready.stations kept b acts)))

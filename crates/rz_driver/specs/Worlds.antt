@@ -3,6 +3,7 @@ use Rattle.std.specs.Prelude.{ℕ, Bool, true, false, ◌≡◌, ◌+◌, ◌-�
 use Rattle.std.specs.List.{AllByRecursion}
 use Rattle.std.specs.FinMap.{get}
 use Rattle.mj_angles.specs.Layout.{max_bins_of}
+use Rattle.rz_disk.specs.declared.disk.Disk.{Ghosts}
 use Rattle.rz_events.specs.Volume.{nodes_of}
 use Rattle.rz_events.specs.declared.files.NodeSpec.{NodeSpec}
 use Rattle.rz_events.specs.declared.keys.Actor.{Actor}
@@ -49,7 +50,7 @@ world p seats turns = record {
   log = p.log.events;
 }
 
-abbrev pub world_of : {D : Type 0} → Driver D → World
+abbrev pub world_of : {D : Type 0} {G : Ghosts D} → Driver D G → World
 world_of d = world d.shared d.seats.items d.turns
 
 -- the locks are those that the clients note as their own
@@ -61,7 +62,7 @@ abbrev pub HaveNoLocks : List Seat → Type 0
 HaveNoLocks seats = (n : ℕ) → (seat_in seats (Rebuilder n)).lock ≡ None
 
 -- A driver between two turns.
-pub record IsDriver {D : Type 0} (d : Driver D) : Type 0 where
+pub record IsDriver {D : Type 0} {G : Ghosts D} (d : Driver D G) : Type 0 where
   pub stations : AllByRecursion (IsStation d.volume) d.shared.stations.items
   pub numbers : numbers_of d.shared.stations.items ≡ map (λ (n : NodeSpec). n.sid) (nodes_of d.volume.clusters)
   pub bins : max_bins_of d.volume.layout ≤ length d.shared.bins.items

@@ -3,6 +3,7 @@
 
 mod acting;
 mod administration;
+mod asking;
 mod closing;
 mod driver;
 mod formatting;

@@ -7,24 +7,24 @@ use Rattle.rz_driver.proofs.driver.Driver.take_turn.Goals as goal
 
 pub take_up-requires : goal.take_up-requires
 take_up-requires g c =
-    let ready = subst (λ (x : Driver g.row.D.Denot). IsDriver x) (sym c.self.view_is) c.requires.ready in
+    let ready = subst (λ (x : Driver g.row.D.Denot g.D.Disk). IsDriver x) (sym c.self.view_is) c.requires.ready in
     (seat-there c.args.by c.in-Some.place c.index_mut-seat.result.now _ ready (sym c.place.ensures ∙ c.in-Some.is) c.index_mut-seat.ensures.value).2
 
 pub act-requires-clause-stations : goal.act-requires-clause-stations
 act-requires-clause-stations g c =
-    let ready = subst (λ (x : Driver g.row.D.Denot). IsDriver x) (sym c.self.view_is) c.requires.ready in
+    let ready = subst (λ (x : Driver g.row.D.Denot g.D.Disk). IsDriver x) (sym c.self.view_is) c.requires.ready in
     have-layouts _ _ ready.stations
 
 pub act-requires-clause-tied : goal.act-requires-clause-tied
 act-requires-clause-tied g c =
-    let ready = subst (λ (x : Driver g.row.D.Denot). IsDriver x) (sym c.self.view_is) c.requires.ready in
+    let ready = subst (λ (x : Driver g.row.D.Denot g.D.Disk). IsDriver x) (sym c.self.view_is) c.requires.ready in
     let at = sym c.place.ensures ∙ c.in-Some.is in
     let there = seat-there c.args.by c.in-Some.place c.index_mut-seat.result.now _ ready at c.index_mut-seat.ensures.value in
     tied-at c.args.by c.in-Some.place c.index_mut-seat.result.now c.take_up.new.self _ ready at there.0 c.take_up.ensures.lock
 
 pub returns-clause-ready : goal.returns-clause-ready
 returns-clause-ready g c =
-    let ready = subst (λ (x : Driver g.row.D.Denot). IsDriver x) (sym c.self.view_is) c.requires.ready in
+    let ready = subst (λ (x : Driver g.row.D.Denot g.D.Disk). IsDriver x) (sym c.self.view_is) c.requires.ready in
     let at = sym c.place.ensures ∙ c.in-Some.is in
     let there = seat-there c.args.by c.in-Some.place c.index_mut-seat.result.now _ ready at c.index_mut-seat.ensures.value in
     drives c.args.by c.in-Some.place _ _ c.make_room.new.self c.index_mut-seat.result.now c.take_up.new.self c.act.new.seat ready at there.0 there.1
@@ -32,11 +32,11 @@ returns-clause-ready g c =
 
 pub returns-clause-taken : goal.returns-clause-taken
 returns-clause-taken g c =
-    let ready = subst (λ (x : Driver g.row.D.Denot). IsDriver x) (sym c.self.view_is) c.requires.ready in
+    let ready = subst (λ (x : Driver g.row.D.Denot g.D.Disk). IsDriver x) (sym c.self.view_is) c.requires.ready in
     let at = sym c.place.ensures ∙ c.in-Some.is in
     let there = seat-there c.args.by c.in-Some.place c.index_mut-seat.result.now _ ready at c.index_mut-seat.ensures.value in
     turned c.args.by c.in-Some.place _
     (record c.args.self.now { shared = c.act.new.shared; seats = with_item c.self.inside.0.1.1.1.0 c.in-Some.place c.act.new.seat; turns = c.self.inside.0.1.1.1.1.0 + 1 })
     c.make_room.new.self c.index_mut-seat.result.now c.take_up.new.self c.act.new.seat ready at there.0 there.1
     c.in_ok-take_up.ensures.ok c.in_ok-take_up.ensures.seat c.take_up.ensures.lock c.make_room.ensures.same c.in_ok-act.ensures.ok
-    (ap (λ (x : Driver g.row.D.Denot). x.volume) (sym c.self.view_is)) refl c.args.self.now c.self.view_is refl
+    (ap (λ (x : Driver g.row.D.Denot g.D.Disk). x.volume) (sym c.self.view_is)) refl c.args.self.now c.self.view_is refl

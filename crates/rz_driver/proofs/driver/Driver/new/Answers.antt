@@ -1,0 +1,32 @@
+use Rattle.std.proofs.Common.{◌≡◌, List, length, refl, sym, ◌∙◌, ap, subst}
+use Rattle.std.specs.List.{AllByRecursion}
+use Rattle.rz_events.specs.Volume.{IsNode, nodes_of}
+use Rattle.rz_events.specs.declared.files.NodeSpec.{NodeSpec}
+use Rattle.rz_driver.specs.Made.{AreNew, AreBack}
+use Rattle.rz_driver.proofs.MadeLemmas.{untouched, proper-nodes, new-ready, new-is}
+use Rattle.rz_driver.proofs.driver.Driver.new.Goals as goal
+
+pub returns-in_default-clause-back : goal.returns-in_default-clause-back
+returns-in_default-clause-back g c = untouched g.D.Disk.tells g.D.Disk.meter g.D.Disk.image c.args.volume.now.layout (nodes_of c.args.volume.now.clusters) c.args.disks.items c.requires.count
+
+pub new_stations-requires-clause-nodes : goal.new_stations-requires-clause-nodes
+new_stations-requires-clause-nodes g c = subst (AllByRecursion IsNode) (sym (c.as_slice.ensures.value ∙ c.in-Ok.ensures.nodes)) (proper-nodes c.args.volume.now c.new_parts.ensures.rules)
+
+pub new_stations-requires-clause-count : goal.new_stations-requires-clause-count
+new_stations-requires-clause-count g c = c.requires.count ∙ ap length (sym (c.as_slice.ensures.value ∙ c.in-Ok.ensures.nodes))
+
+pub returns-in-Ok-new_stations-clause-ready : goal.returns-in-Ok-new_stations-clause-ready
+returns-in-Ok-new_stations-clause-ready g c =
+    let made = subst (λ (ns : List NodeSpec). AreNew g.D.Disk.tells g.D.Disk.meter g.D.Disk.image c.args.volume.now.layout ns c.args.disks.items c.in-Ok-new_stations.stations.items) (c.as_slice.ensures.value ∙ c.in-Ok.ensures.nodes) c.in-Ok-new_stations.ensures.made in
+    new-ready g.D.Disk.tells g.D.Disk.meter g.D.Disk.image c.args.volume.now c.new_parts.ensures.rules c.args.disks.items c.requires.count _ c.in-Ok.ensures.volume made c.in-Ok.ensures.seats c.in-Ok.ensures.count c.in-Ok.ensures.bins c.new.ensures
+
+pub returns-in-Ok-new_stations-clause-world : goal.returns-in-Ok-new_stations-clause-world
+returns-in-Ok-new_stations-clause-world g c =
+    let made = subst (λ (ns : List NodeSpec). AreNew g.D.Disk.tells g.D.Disk.meter g.D.Disk.image c.args.volume.now.layout ns c.args.disks.items c.in-Ok-new_stations.stations.items) (c.as_slice.ensures.value ∙ c.in-Ok.ensures.nodes) c.in-Ok-new_stations.ensures.made in
+    new-is g.D.Disk.tells g.D.Disk.meter g.D.Disk.image c.args.volume.now c.new_parts.ensures.rules c.args.disks.items c.requires.count _ c.in-Ok.ensures.volume made c.in-Ok.ensures.seats c.in-Ok.ensures.export refl refl c.new-log.ensures
+
+pub returns-in-Ok-new_stations-clause-made : goal.returns-in-Ok-new_stations-clause-made
+returns-in-Ok-new_stations-clause-made g c = subst (λ (ns : List NodeSpec). AreNew g.D.Disk.tells g.D.Disk.meter g.D.Disk.image c.args.volume.now.layout ns c.args.disks.items c.in-Ok-new_stations.stations.items) (c.as_slice.ensures.value ∙ c.in-Ok.ensures.nodes) c.in-Ok-new_stations.ensures.made
+
+pub returns-in-Err-clause-back : goal.returns-in-Err-clause-back
+returns-in-Err-clause-back g c = subst (λ (ns : List NodeSpec). AreBack g.D.Disk.tells g.D.Disk.meter g.D.Disk.image c.args.volume.now.layout ns c.args.disks.items c.in-Err.back.0.items) (c.as_slice.ensures.value ∙ c.in-Ok.ensures.nodes) c.in-Err.ensures.back
