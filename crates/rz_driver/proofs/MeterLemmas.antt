@@ -38,8 +38,14 @@ use Rattle.rz_calls.specs.Calls as calls
 use Rattle.rz_calls.specs.Calls.{Counts}
 use Rattle.rz_play.specs.Faults.{AreFaultsCounted}
 use Rattle.rz_play.specs.Lines.{noted}
-use Rattle.rz_disk_laws.specs.Metered.{IsMetered, IsNoStart, IsFaultLaw, IsArmLaw, IsStartLaw, IsOpening, IsCounted}
+use Rattle.rz_disk_laws.specs.Metered.{IsMetered, IsNoStart, IsFaultLaw, IsArmLaw, IsStartLaw, IsOpening}
+use Rattle.rz_disk.specs.declared.disk.Disk.{Ghosts}
+use Rattle.rz_disk.specs.UnderFuse.{fused_meter}
+use Rattle.rz_events.specs.Volume.{nodes_of}
+use Rattle.rz_events.specs.declared.files.NodeSpec.{NodeSpec}
+use Rattle.rz_driver.specs.declared.driver.Driver.{Driver}
 use Rattle.rz_driver.specs.declared.station.Station.{Station}
+use Rattle.rz_driver.specs.Worlds.{Holds, Leaves}
 use Rattle.rz_driver.specs.Parts.{IsNoted}
 use Rattle.rz_driver.specs.Stations.{IsAt, numbers_of}
 use Rattle.rz_driver.specs.Meters.{IsExact, GoesWith, CountsWith, OfEach, AreMetered, AreCounted, GoesOn, Goes}
@@ -172,8 +178,15 @@ module _ {D : Type 0} (meter : D → Meter) where
     goes = λ first was. subst (λ (w : List Event). GoesWith meter first w node') (sym (stay n)) (goes.goes first was);
   }
 
-  counts-one : IsCounted → (f : ℕ) (w : List Event) (node : NodeView D) → GoesWith meter f w node → CountsWith meter f w node
-  counts-one law f w node met = (met.0, λ exact. law f w node.state.phase (meter node.disk) (met.1 exact))
+  -- where word and meter go together the faults are counted
+  counts-one : (f : ℕ) (w : List Event) (node : NodeView D) → GoesWith meter f w node → CountsWith meter f w node
+  counts-one f w node met = (
+    met.0,
+    λ exact.
+        let m = met.1 exact in
+        let few = m.few in
+        record { few = omega (arith, few); effect = λ none. m.effect (omega (arith, none, few)) },
+  )
 
   later-one : (f : ℕ) (w : List Event) (node node' : NodeView D) → (meter node.disk).own ≤ (meter node'.disk).own → CountsWith meter f w node → CountsWith meter f w node'
   later-one f w node node' rose counted = (
@@ -200,14 +213,14 @@ module _ {D : Type 0} (meter : D → Meter) where
     pub metered-stays : (row : List (Station D)) (h h' : List Event) → ((n : ℕ) → of_word (Node n) h' ≡ of_word (Node n) h) → AreMetered meter numbers row h first → AreMetered meter numbers row h' first
     metered-stays row h h' stay met = record { named = met.named; apart = met.apart; each = all-stay (GoesWith meter) first h h' 0 row stay met.each }
 
-    pub metered-counts : IsCounted → (row : List (Station D)) (h : List Event) → AreMetered meter numbers row h first → AreCounted meter numbers row h first
-    metered-counts law row h met = record { named = met.named; each = each-then (GoesWith meter) (CountsWith meter) first h 0 row (λ f w n. counts-one law f w n) met.each }
+    pub metered-counts : (row : List (Station D)) (h : List Event) → AreMetered meter numbers row h first → AreCounted meter numbers row h first
+    metered-counts row h met = record { named = met.named; each = each-then (GoesWith meter) (CountsWith meter) first h 0 row (λ f w n. counts-one f w n) met.each }
 
     -- where a node was called, and that did not come to an event
-    lasted-counts : IsCounted → (row : List (Station D)) (place : ℕ) (s s' : Station D) (h : List Event) → slice_get row place ≡ Some s → s'.sid ≡ s.sid → (meter s.node.disk).own ≤ (meter s'.node.disk).own
+    lasted-counts : (row : List (Station D)) (place : ℕ) (s s' : Station D) (h : List Event) → slice_get row place ≡ Some s → s'.sid ≡ s.sid → (meter s.node.disk).own ≤ (meter s'.node.disk).own
         → AreMetered meter numbers row h first → AreCounted meter numbers (slice_set row place s') h first
-    lasted-counts law row place s s' h at same rose met =
-        let counted = metered-counts law row h met in
+    lasted-counts row place s s' h at same rose met =
+        let counted = metered-counts row h met in
         record {
           named = numbers-set row place s s' at same ∙ met.named;
           each = one-goes (CountsWith meter) first h h 0 place row s s' at same (subst (IsDistinct nat_eq) (sym met.named) met.apart) (λ m apart. refl)
@@ -221,13 +234,13 @@ module _ {D : Type 0} (meter : D → Meter) where
     order-held row place s s' event h h' at same goes log_is met =
         subst (λ (k : List Event). AreMetered meter numbers (slice_set row place s') k first) (sym log_is) (metered-step row place s s' h (noted event h) at same (goes h) met)
 
-    pub order-left : IsCounted → (row : List (Station D)) (place : ℕ) (s s' : Station D) (h h' : List Event) → slice_get row place ≡ Some s → s'.sid ≡ s.sid → (meter s.node.disk).own ≤ (meter s'.node.disk).own
+    pub order-left : (row : List (Station D)) (place : ℕ) (s s' : Station D) (h h' : List Event) → slice_get row place ≡ Some s → s'.sid ≡ s.sid → (meter s.node.disk).own ≤ (meter s'.node.disk).own
         → h' ≡ h → AreMetered meter numbers row h first → AreCounted meter numbers (slice_set row place s') h' first
-    order-left law row place s s' h h' at same rose log_is met =
-        subst (λ (k : List Event). AreCounted meter numbers (slice_set row place s') k first) (sym log_is) (lasted-counts law row place s s' h at same rose met)
+    order-left row place s s' h h' at same rose log_is met =
+        subst (λ (k : List Event). AreCounted meter numbers (slice_set row place s') k first) (sym log_is) (lasted-counts row place s s' h at same rose met)
 
-    pub still-left : IsCounted → (row : List (Station D)) (h h' : List Event) → h' ≡ h → AreMetered meter numbers row h first → AreCounted meter numbers row h' first
-    still-left law row h h' log_is met = subst (λ (k : List Event). AreCounted meter numbers row k first) (sym log_is) (metered-counts law row h met)
+    pub still-left : (row : List (Station D)) (h h' : List Event) → h' ≡ h → AreMetered meter numbers row h first → AreCounted meter numbers row h' first
+    still-left row h h' log_is met = subst (λ (k : List Event). AreCounted meter numbers row k first) (sym log_is) (metered-counts row h met)
 
 -- Arming, and starting.
 
@@ -351,3 +364,8 @@ export-stays by c r h h' (x, is, log_is) n = ap (of_word (Node n)) log_is ∙ wo
 pub said-stays : (by : Actor) (number : ℕ) (said : Saying) (h h' : List Event) → h' ≡ said_event by number (text_said (facts h) said) said ∷ h → (n : ℕ) → of_word (Node n) h' ≡ of_word (Node n) h
 said-stays by number said h h' log_is n =
     ap (of_word (Node n)) log_is ∙ word-stays n (said_event by number (text_said (facts h) said) said) h (said-quiet by number (text_said (facts h) said) said n)
+
+-- a play may end between two turns
+pub holds-leaves : {D : Type 0} {G : Ghosts D} (d : Driver D G) (first : ℕ → ℕ) → Holds d first → Leaves d first
+holds-leaves {G = G} d first met =
+    metered-counts (fused_meter G.meter) first (map (λ (n : NodeSpec). n.sid) (nodes_of d.volume.clusters)) d.shared.stations.items d.shared.log.events met

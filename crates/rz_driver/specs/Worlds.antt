@@ -15,6 +15,8 @@ use Rattle.rz_driver.specs.declared.seat.Seat.{Seat}
 use Rattle.rz_driver.specs.declared.station.Shared.{Shared}
 use Rattle.rz_driver.specs.declared.driver.Driver.{Driver}
 use Rattle.rz_driver.specs.Seats.{seat_of, IsSeat}
+use Rattle.rz_disk.specs.UnderFuse.{fused_meter}
+use Rattle.rz_driver.specs.Meters.{AreMetered, AreCounted}
 use Rattle.rz_driver.specs.Stations.{state_in, numbers_of, IsStation}
 
 -- Actors stand in a row, the clients 1 to 64 and then the rebuilders 1 to 16.
@@ -70,3 +72,11 @@ pub record IsDriver {D : Type 0} {G : Ghosts D} (d : Driver D G) : Type 0 where
   pub count : length d.seats.items ≡ 80
   pub locks : AreLocks d.shared.locks d.seats.items
   pub no_locks : HaveNoLocks d.seats.items
+
+-- Where the disks had counted so many faults at first: what is so of disks and log between two turns, and where a play ended.
+
+abbrev pub Holds : {D : Type 0} {G : Ghosts D} → Driver D G → (ℕ → ℕ) → Type 0
+Holds {G = G} d = AreMetered (fused_meter G.meter) (map (λ (n : NodeSpec). n.sid) (nodes_of d.volume.clusters)) d.shared.stations.items d.shared.log.events
+
+abbrev pub Leaves : {D : Type 0} {G : Ghosts D} → Driver D G → (ℕ → ℕ) → Type 0
+Leaves {G = G} d = AreCounted (fused_meter G.meter) (map (λ (n : NodeSpec). n.sid) (nodes_of d.volume.clusters)) d.shared.stations.items d.shared.log.events

@@ -73,7 +73,6 @@ pub(crate) fn act<D: Disk, L: Link>(
     ensures held { OnOk result ((numbers : List ℕ) → Carries (AreMetered D.meter numbers shared.old.stations.items shared.old.log.events) (AreMetered D.meter numbers shared.new.stations.items shared.new.log.events)) }
     ensures left { OnErr result ((numbers : List ℕ) → Carries (AreMetered D.meter numbers shared.old.stations.items shared.old.log.events) (AreCounted D.meter numbers shared.new.stations.items shared.new.log.events)) }
 {
-    rz_disk_laws::counted();
     let Some(machine) = &mut seat.machine else {
         return Ok(());
     };
@@ -146,7 +145,6 @@ fn message<D: Disk, L: Link>(
     ensures held { OnOk result ((numbers : List ℕ) → Carries (AreMetered D.meter numbers shared.old.stations.items shared.old.log.events) (AreMetered D.meter numbers shared.new.stations.items shared.new.log.events)) }
     ensures left { OnErr result ((numbers : List ℕ) → Carries (AreMetered D.meter numbers shared.old.stations.items shared.old.log.events) (AreCounted D.meter numbers shared.new.stations.items shared.new.log.events)) }
 {
-    rz_disk_laws::counted();
     let Some(place) = find(shared.stations.as_slice(), number) else {
         return Err(NoMemory);
     };

@@ -27,7 +27,6 @@ pub(crate) fn stop_node<D: Disk>(
     ensures held { OnOk result ((numbers : List ℕ) → Carries (AreMetered D.meter numbers stations.old log.old.events) (AreMetered D.meter numbers stations.new log.new.events)) }
     ensures left { OnErr result ((numbers : List ℕ) → Carries (AreMetered D.meter numbers stations.old log.old.events) (AreCounted D.meter numbers stations.new log.new.events)) }
 {
-    rz_disk_laws::counted();
     let Some(place) = find(stations, sid) else {
         return Err(NoMemory);
     };
@@ -47,7 +46,6 @@ pub(crate) fn lose_node<D: Disk>(
     ensures held { OnOk result ((numbers : List ℕ) → Carries (AreMetered D.meter numbers stations.old log.old.events) (AreMetered D.meter numbers stations.new log.new.events)) }
     ensures left { OnErr result ((numbers : List ℕ) → Carries (AreMetered D.meter numbers stations.old log.old.events) (AreCounted D.meter numbers stations.new log.new.events)) }
 {
-    rz_disk_laws::counted();
     let Some(place) = find(stations, sid) else {
         return Err(NoMemory);
     };
@@ -70,7 +68,6 @@ pub(crate) fn start_node<D: Disk>(
     ensures held { OnOk result ((numbers : List ℕ) → Carries (AreMetered D.meter numbers stations.old log.old.events) (AreMetered D.meter numbers stations.new log.new.events)) }
     ensures left { OnErr result ((numbers : List ℕ) → Carries (AreMetered D.meter numbers stations.old log.old.events) (AreCounted D.meter numbers stations.new log.new.events)) }
 {
-    rz_disk_laws::counted();
     let Some(place) = find(stations, sid) else {
         return Err(NoMemory);
     };
@@ -94,7 +91,6 @@ pub(crate) fn arm_node<D: Disk>(
     ensures held { OnOk result ((numbers : List ℕ) → Carries (AreMetered D.meter numbers stations.old log.old.events) (AreMetered D.meter numbers stations.new log.new.events)) }
     ensures left { OnErr result ((numbers : List ℕ) → Carries (AreMetered D.meter numbers stations.old log.old.events) (AreCounted D.meter numbers stations.new log.new.events)) }
 {
-    rz_disk_laws::counted();
     let Some(place) = find(stations, sid) else {
         return Err(NoMemory);
     };

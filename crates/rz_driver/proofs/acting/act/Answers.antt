@@ -56,7 +56,7 @@ pub returns-in-Export-clause-left : goal.returns-in-Export-clause-left
 returns-in-Export-clause-left g c =
     let p = c.args.shared.now in
     on_err_weaker c.ask_export.result (λ (same : c.ask_export.new.log.events ≡ p.log.events). λ numbers first met.
-        still-left g.D.Disk.meter first numbers c.counted.ensures p.stations.items p.log.events c.ask_export.new.log.events same met) c.ask_export.ensures.err
+        still-left g.D.Disk.meter first numbers p.stations.items p.log.events c.ask_export.new.log.events same met) c.ask_export.ensures.err
 
 pub returns-in-Lock-clause-held : goal.returns-in-Lock-clause-held
 returns-in-Lock-clause-held g c =
@@ -71,7 +71,7 @@ pub returns-in-Lock-clause-left : goal.returns-in-Lock-clause-left
 returns-in-Lock-clause-left g c =
     let p = c.args.shared.now in
     on_err_weaker c.open.result (λ (same : c.open.new.log.events ≡ p.log.events). λ numbers first met.
-        still-left g.D.Disk.meter first numbers c.counted.ensures p.stations.items p.log.events c.open.new.log.events same met) c.open.ensures.err
+        still-left g.D.Disk.meter first numbers p.stations.items p.log.events c.open.new.log.events same met) c.open.ensures.err
 
 pub returns-in_ok-done-in-Say-clause-held : goal.returns-in_ok-done-in-Say-clause-held
 returns-in_ok-done-in-Say-clause-held g c = λ numbers first met.

@@ -96,7 +96,7 @@ returns-in-Through-clause-left g c =
     let s = c.index_mut.result.now in
     let there = read-at row c.as_slice.result.now c.args.number c.in-Some.place s c.as_slice.ensures.value c.in-Some.ensures c.index_mut.ensures.value in
     on_err_weaker c.through.result (λ (same : c.through.new.log.events ≡ h). λ numbers first met.
-        order-left meter first numbers c.counted.ensures row c.in-Some.place s (record { sid = s.sid; node = c.through.new.node; pick = s.pick }) h c.through.new.log.events there.1 refl
+        order-left meter first numbers row c.in-Some.place s (record { sid = s.sid; node = c.through.new.node; pick = s.pick }) h c.through.new.log.events there.1 refl
         c.through.ensures.counted same met) c.through.ensures.err
 
 pub returns-in_ok-without_reply-in-ReplyLost-clause-held : goal.returns-in_ok-without_reply-in-ReplyLost-clause-held

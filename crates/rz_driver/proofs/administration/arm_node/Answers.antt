@@ -46,4 +46,4 @@ returns-clause-left g c =
     let s = get_or row c.in-Some.place c.index-stations-place.result in
     let at = slice_get-get_or row c.in-Some.place c.index-stations-place.result low in
     on_err_weaker c.note.result (λ (h : c.note.new.self.events ≡ c.make_room.new.self.events). λ numbers first met.
-        order-left g.D.Disk.meter first numbers c.counted.ensures row c.in-Some.place s c.arm.new.station c.args.log.now.events c.note.new.self.events at c.arm.ensures.armed.sid c.arm.ensures.counted (h ∙ c.make_room.ensures.same) met) c.note.ensures.err
+        order-left g.D.Disk.meter first numbers row c.in-Some.place s c.arm.new.station c.args.log.now.events c.note.new.self.events at c.arm.ensures.armed.sid c.arm.ensures.counted (h ∙ c.make_room.ensures.same) met) c.note.ensures.err

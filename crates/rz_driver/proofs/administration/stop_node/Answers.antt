@@ -43,4 +43,4 @@ returns-clause-left g c =
     let s = get_or row c.in-Some.place c.index-stations-place.result in
     let at = slice_get-get_or row c.in-Some.place c.index-stations-place.result low in
     on_err_weaker c.note.result (λ (h : c.note.new.log.events ≡ c.make_room.new.self.events). λ numbers first met.
-        order-left g.D.Disk.meter first numbers c.counted.ensures row c.in-Some.place s c.stop-event.new.station c.args.log.now.events c.note.new.log.events at c.stop-event.ensures.order.called.sid c.stop-event.ensures.counted (h ∙ c.make_room.ensures.same) met) c.note.ensures.err
+        order-left g.D.Disk.meter first numbers row c.in-Some.place s c.stop-event.new.station c.args.log.now.events c.note.new.log.events at c.stop-event.ensures.order.called.sid c.stop-event.ensures.counted (h ∙ c.make_room.ensures.same) met) c.note.ensures.err
