@@ -4,6 +4,7 @@ ghost use Rattle.rz_cells.specs.Opening.{opening_calls};
 ghost use Rattle.rz_node_model.specs.Answers.{IsNodeAnswer};
 ghost use Rattle.rz_node_model.specs.Afterwards.{after_answer};
 ghost use Rattle.rz_calls.specs.Calls.{Takes, IsNoStart, Counts};
+ghost use Rattle.rz_calls.specs.Leaves.{Leaves};
 
 use rz_disk::Disk;
 use rz_events::{NodeAnswer, NodeAsk};
@@ -26,6 +27,7 @@ pub fn answer_node<D: Disk>(
     ensures after_call { IsNoStart ask.now → node.new.state ≡ after_answer ask.now result node.old.state }
     ensures geometry { node.new.geometry ≡ node.old.geometry }
     ensures counts { Counts (opening_calls node.old.geometry) result (D.meter node.old.disk) (D.meter node.new.disk) }
+    ensures leaves { IsTrue D.tells → Leaves node.old.geometry node.old.state ask.now result bins.old bins.new (D.text node.old.disk) (D.text node.new.disk) (D.image node.old.disk) (D.image node.new.disk) }
 {
     match ask {
         NodeAsk::Keep(head) => NodeAnswer::Keep(node.keep(head, bins)),

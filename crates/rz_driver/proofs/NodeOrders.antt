@@ -118,11 +118,11 @@ module _ {D : Type 0} {G : Ghosts D} (d e : Driver D G) (ready : IsDriver d) (vo
         let given = o.order.given in
         let after : o.after.node.state ≡ after_answer question given (state_in xs n) = o.order.after ∙ ap (after_answer question given) (sym here.1) in
         let nodes : state_in e.shared.stations.items ≡ (λ m. cond (m == n) (after_answer question given (state_in xs n)) (state_in xs m)) =
-            ap (λ (ys : List (Station (UnderFuse D))). state_in ys) o.stations
-            ∙ fun_ext (λ m. state-set xs n o.place o.after o.at (o.order.called.sid ∙ here.0) m ∙ ap (λ (x : NodeState). cond (m == n) x (state_in xs m)) after)
+        ap (λ (ys : List (Station (UnderFuse D))). state_in ys) o.stations
+        ∙ fun_ext (λ m. state-set xs n o.place o.after o.at (o.order.called.sid ∙ here.0) m ∙ ap (λ (x : NodeState). cond (m == n) x (state_in xs m)) after)
         in
         let log : e.shared.log.events ≡ noted (node_event Admin n question given) d.shared.log.events =
-            o.log_is ∙ ap (λ (x : Option Event). noted x d.shared.log.events) (o.order.event_is ∙ ap (λ (k : ℕ). node_event Admin k question given) here.0)
+        o.log_is ∙ ap (λ (x : Option Event). noted x d.shared.log.events) (o.order.event_is ∙ ap (λ (k : ℕ). node_event Admin k question given) here.0)
         in
         record {
           given = given;
@@ -145,8 +145,8 @@ module _ {D : Type 0} {G : Ghosts D} (d e : Driver D G) (ready : IsDriver d) (vo
     armed-world passes pick n a =
         let here = state-at xs n a.place a.station a.at a.is in
         let nodes : state_in e.shared.stations.items ≡ state_in xs =
-            ap (λ (ys : List (Station (UnderFuse D))). state_in ys) a.stations
-            ∙ fun_ext (λ m. state-set xs n a.place a.after a.at (a.armed.sid ∙ here.0) m ∙ state-same xs n m a.after.node.state (a.armed.state ∙ sym here.1))
+        ap (λ (ys : List (Station (UnderFuse D))). state_in ys) a.stations
+        ∙ fun_ext (λ m. state-set xs n a.place a.after a.at (a.armed.sid ∙ here.0) m ∙ state-same xs n m a.after.node.state (a.armed.state ∙ sym here.1))
         in
         λ i. record {
           nodes = nodes i;

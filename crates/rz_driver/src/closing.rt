@@ -29,7 +29,11 @@ impl<D: Disk> Driver<D> {
         ensures log { result.0.items ≡ reverse self.shared.log.events }
         ensures disks { result.1.items ≡ disks_of self.shared.stations.items }
     {
-        let Driver { shared, mut home, .. } = self;
+        let Driver {
+            shared,
+            mut home,
+            ..
+        } = self;
         home.clear();
         let log = shared.log.close();
         (log, hand_back(shared.stations, home))

@@ -14,7 +14,7 @@ use Rattle.rz_lines.specs.Ends.{IsEnded}
 use Rattle.rz_lines.specs.declared.lines.PlayEnd.{PlayEnd}
 use Rattle.rz_lines.specs.declared.lines.PlayEnd.TheVariants as ends
 use Rattle.rz_request.specs.Input.{limit}
-use Rattle.rz_request.specs.Requests.{Reading, Judges, Reads, IsFor, AsksFor, is_large, nodes_in, wished}
+use Rattle.rz_request.specs.Requests.{Reading, Judges, Reads, IsRead, IsFor, AsksFor, is_large, nodes_in, wished}
 use Rattle.rz_request.specs.declared.refusal.Refusal.TheVariants as refusals
 use Rattle.rz_request.specs.declared.refusal.Stop.{Stop}
 use Rattle.rz_request.specs.declared.refusal.Stop.TheVariants as stops

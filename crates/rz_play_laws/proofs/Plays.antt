@@ -460,16 +460,19 @@ stops-few v cause [] w next is = absurd is
 stops-few v cause (l ∷ lines) w next (inl stops) = stop-few v cause l w next stops
 stops-few v cause (l ∷ lines) w next (inr (mid, first, more)) = stops-few v cause lines mid next more
 
-pub stopped-begun : (v : Volume) (cause : StopCause) (first : World) (lines : List Line) (h : List Event) → IsStoppedFrom v cause first lines h → IsBegunFrom v first lines h
-stopped-begun v cause first lines h p = record {
-  last = p.last;
-  played = stops-begin v cause lines first p.last p.played;
-  few = stops-few v cause lines first p.last p.played;
-  log_is = p.log_is;
-}
+pub stopped-begun : (v : Volume) (cause : StopCause) (first : World) (lines : List Line) (h : List Event) → (p : IsStoppedFrom v cause first lines h) → (begun : IsBegunFrom v first lines h) × (begun.last ≡ p.last)
+stopped-begun v cause first lines h p = (
+  record {
+    last = p.last;
+    played = stops-begin v cause lines first p.last p.played;
+    few = stops-few v cause lines first p.last p.played;
+    log_is = p.log_is;
+  },
+  refl,
+)
 
-pub played-begun : (v : Volume) (first : World) (lines : List Line) (h : List Event) → IsPlayedFrom v first lines h → IsBegunFrom v first lines h
-played-begun v first lines h p = record { last = p.last; played = plays-begin v lines first p.last p.played; few = p.few; log_is = p.log_is }
+pub played-begun : (v : Volume) (first : World) (lines : List Line) (h : List Event) → (p : IsPlayedFrom v first lines h) → (begun : IsBegunFrom v first lines h) × (begun.last ≡ p.last)
+played-begun v first lines h p = (record { last = p.last; played = plays-begin v lines first p.last p.played; few = p.few; log_is = p.log_is }, refl)
 
 -- The beginning.
 

@@ -45,8 +45,7 @@ returns-clause-played g c told =
     let world = g.S.Stage.world in
     let i = c.loop-line.invariant in
     let whole = take_all c.loop-line.line-index c.args.lines.now c.loop-line-test.false in
-    let so_far = i.lost in
-    (
+    let so_far = i.lost in (
       record {
         last = world c.loop-line.stage;
         played = subst (λ (xs : List Line). PlaysLines (g.S.Stage.volume c.args.stage.now) xs (world c.args.stage.now) (world c.loop-line.stage)) whole (i.played told);

@@ -10,7 +10,7 @@ use Rattle.rz_perform.proofs.performing.perform.Given as given
 use Rattle.rz_perform.proofs.performing.perform.Goals as goal
 
 -- how many messages the link lost
-lost : (g : given.Over) (c : goal.After-tell g) → ℕ
+abbrev lost : (g : given.Over) (c : goal.After-tell g) → ℕ
 lost g c = g.L.Link.lost c.play-end.new.link - g.L.Link.lost c.args.link.now
 
 -- the log is that of the script's play
