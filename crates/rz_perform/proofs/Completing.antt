@@ -9,7 +9,7 @@ use Rattle.rz_script.specs.declared.form.Form.TheVariants as forms
 use Rattle.rz_script.specs.declared.fault.ScriptError.{ScriptError}
 use Rattle.rz_play.specs.World.{new_world}
 use Rattle.rz_play.specs.Stops.{TurnsSpent}
-use Rattle.rz_play.specs.Played.{IsPlayed, IsStopped}
+use Rattle.rz_play.specs.Played.{IsStopped}
 use Rattle.rz_lines.specs.Ends.{IsEnded}
 use Rattle.rz_lines.specs.declared.lines.PlayEnd.{PlayEnd}
 use Rattle.rz_lines.specs.declared.lines.PlayEnd.TheVariants as ends

@@ -1,4 +1,4 @@
-use Rattle.std.proofs.Common.{ℕ, Err, ◌≤◌, ◌+◌, ◌-◌, ◌∙◌, List, take_all, refl, subst, arith}
+use Rattle.std.proofs.Common.{Err, ◌≤◌, ◌+◌, ◌-◌, ◌∙◌, List, take_all, refl, subst, arith}
 use Rattle.rz_events.specs.Volume.{Volume}
 use Rattle.rz_script.specs.declared.line.Line.{Line}
 use Rattle.rz_play.specs.Lines.{PlaysLine}

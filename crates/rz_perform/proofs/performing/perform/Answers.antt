@@ -1,4 +1,4 @@
-use Rattle.std.proofs.Common.{◌≡◌, ◌-◌, ℕ, IsTrue, List, reverse, subst}
+use Rattle.std.proofs.Common.{◌-◌, ℕ, IsTrue, List, subst}
 use Rattle.rz_events.specs.declared.events.Event.{Event}
 use Rattle.rz_play.specs.World.{new_world}
 use Rattle.rz_play_laws.specs.Runs.{IsScript}
