@@ -15,5 +15,5 @@ mod ActorOrders
 mod MadeLemmas
 mod FormatLemmas
 mod NodeOrders
-mod Words
+mod EventWords
 mod MeterLemmas

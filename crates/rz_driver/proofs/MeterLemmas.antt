@@ -1,5 +1,5 @@
 -- Words beside meters, node by node along the row.
-use Rattle.std.proofs.Common.{ℕ, zero, suc, Bool, true, false, ◌≡◌, ◌≢◌, ◌+◌, ◌-◌, ◌<◌, ◌≤◌, nat_eq, map, List, [], ◌∷◌, Option, Some, None, IfSome, IsTrue, if◌then◌else◌, refl, sym, ◌∙◌, ap, subst, arith}
+use Rattle.std.proofs.Common.{ℕ, zero, suc, Bool, true, false, ◌≡◌, ◌≢◌, ◌+◌, ◌-◌, ◌<◌, ◌≤◌, nat_eq, map, List, [], ◌∷◌, Option, Some, None, IfSome, IsTrue, if◌then◌else◌, inl, inr, refl, sym, ◌∙◌, ap, subst, arith}
 use Rattle.std.specs.Prelude.{slice_get, slice_set}
 use Rattle.std.specs.List.{AllByRecursion, IsDistinct}
 use Rattle.std.proofs.lemmas.Bool.{eq-eqb}
@@ -41,15 +41,13 @@ use Rattle.rz_play.specs.Lines.{noted}
 use Rattle.rz_disk_laws.specs.Metered.{IsMetered, IsNoStart, IsFaultLaw, IsArmLaw, IsStartLaw, IsOpening}
 use Rattle.rz_disk.specs.declared.disk.Disk.{Ghosts}
 use Rattle.rz_disk.specs.UnderFuse.{fused_meter}
-use Rattle.rz_events.specs.Volume.{nodes_of}
-use Rattle.rz_events.specs.declared.files.NodeSpec.{NodeSpec}
 use Rattle.rz_driver.specs.declared.driver.Driver.{Driver}
 use Rattle.rz_driver.specs.declared.station.Station.{Station}
-use Rattle.rz_driver.specs.Worlds.{Holds, Leaves}
+use Rattle.rz_driver.specs.Worlds.{numbers_in, Holds, Leaves}
 use Rattle.rz_driver.specs.Parts.{IsNoted}
 use Rattle.rz_driver.specs.Stations.{IsAt, numbers_of}
 use Rattle.rz_driver.specs.Meters.{IsExact, GoesWith, CountsWith, OfEach, AreMetered, AreCounted, GoesOn, Goes}
-use Rattle.rz_driver.proofs.Words.{word-stays, word-grows, word-apart, node-word, export-quiet, said-quiet, noted-own, noted-others}
+use Rattle.rz_driver.proofs.EventWords.{word-stays, word-grows, word-apart, node-word, export-quiet, said-quiet, noted-own, noted-others}
 
 -- Along the row.
 
@@ -365,7 +363,7 @@ pub said-stays : (by : Actor) (number : ℕ) (said : Saying) (h h' : List Event)
 said-stays by number said h h' log_is n =
     ap (of_word (Node n)) log_is ∙ word-stays n (said_event by number (text_said (facts h) said) said) h (said-quiet by number (text_said (facts h) said) said n)
 
--- a play may end between two turns
-pub holds-leaves : {D : Type 0} {G : Ghosts D} (d : Driver D G) (first : ℕ → ℕ) → Holds d first → Leaves d first
-holds-leaves {G = G} d first met =
-    metered-counts (fused_meter G.meter) first (map (λ (n : NodeSpec). n.sid) (nodes_of d.volume.clusters)) d.shared.stations.items d.shared.log.events met
+-- the faults are counted where a play ended
+pub leaves-counted : {D : Type 0} {G : Ghosts D} (d : Driver D G) (first : ℕ → ℕ) → Leaves d first → AreCounted (fused_meter G.meter) (numbers_in d) d.shared.stations.items d.shared.log.events first
+leaves-counted {G = G} d first (inl met) = metered-counts (fused_meter G.meter) first (numbers_in d) d.shared.stations.items d.shared.log.events met
+leaves-counted {G = G} d first (inr counted) = counted

@@ -1,5 +1,5 @@
 -- The world of a play that a driver stands for.
-use Rattle.std.specs.Prelude.{ℕ, Bool, true, false, ◌≡◌, ◌+◌, ◌-◌, ◌≤◌, ◌&&◌, nat_le, map, List, length, Option, Some, None, slice_get}
+use Rattle.std.specs.Prelude.{ℕ, Bool, true, false, ◌≡◌, ◌+◌, ◌-◌, ◌≤◌, ◌⊎◌, ◌&&◌, nat_le, map, List, length, Option, Some, None, slice_get}
 use Rattle.std.specs.List.{AllByRecursion}
 use Rattle.std.specs.FinMap.{get}
 use Rattle.mj_angles.specs.Layout.{max_bins_of}
@@ -73,10 +73,16 @@ pub record IsDriver {D : Type 0} {G : Ghosts D} (d : Driver D G) : Type 0 where
   pub locks : AreLocks d.shared.locks d.seats.items
   pub no_locks : HaveNoLocks d.seats.items
 
--- Where the disks had counted so many faults at first: what is so of disks and log between two turns, and where a play ended.
+-- Where the disks had counted so many faults at first.
 
+-- the numbers of the volume's nodes
+abbrev pub numbers_in : {D : Type 0} {G : Ghosts D} → Driver D G → List ℕ
+numbers_in d = map (λ (n : NodeSpec). n.sid) (nodes_of d.volume.clusters)
+
+-- between two turns each word of the log goes with its disk's meter
 abbrev pub Holds : {D : Type 0} {G : Ghosts D} → Driver D G → (ℕ → ℕ) → Type 0
-Holds {G = G} d = AreMetered (fused_meter G.meter) (map (λ (n : NodeSpec). n.sid) (nodes_of d.volume.clusters)) d.shared.stations.items d.shared.log.events
+Holds {G = G} d = AreMetered (fused_meter G.meter) (numbers_in d) d.shared.stations.items d.shared.log.events
 
+-- where a play ended they do, or the faults of each word are counted
 abbrev pub Leaves : {D : Type 0} {G : Ghosts D} → Driver D G → (ℕ → ℕ) → Type 0
-Leaves {G = G} d = AreCounted (fused_meter G.meter) (map (λ (n : NodeSpec). n.sid) (nodes_of d.volume.clusters)) d.shared.stations.items d.shared.log.events
+Leaves {G = G} d first = Holds d first ⊎ AreCounted (fused_meter G.meter) (numbers_in d) d.shared.stations.items d.shared.log.events first

@@ -9,7 +9,7 @@ use rz_link::Link;
 
 impl<D: Disk> Stage for Driver<D> {
     ghost use Rattle.rz_driver.specs.Worlds.{world_of, IsDriver, Holds, Leaves};
-    ghost use Rattle.rz_driver.proofs.MeterLemmas.{holds-leaves};
+    ghost use Rattle.std.specs.Prelude.{inl};
 
     ghost tells = { D.tells };
 
@@ -23,7 +23,7 @@ impl<D: Disk> Stage for Driver<D> {
 
     ghost leaves = { λ d. Leaves d };
 
-    ghost ends = { λ d. holds-leaves d };
+    ghost ends = { λ d first held. inl held };
 
     fn turns(&self) -> u32 {
         self.turns
