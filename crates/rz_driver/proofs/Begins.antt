@@ -1,5 +1,5 @@
 -- A write is found by its stamp.
-use Rattle.std.proofs.Common.{◌≡◌, ◌⊎◌, inl, inr, ⊎_elim, ℕ, zero, suc, ◌+◌, ◌-◌, ◌<◌, ◌≤◌, Bool, true, false, cond, List, [], ◌∷◌, ◌++◌, reverse, Option, Some, None, refl, sym, ◌∙◌, ap, subst, arith, eq-eqb}
+use Rattle.std.proofs.Common.{◌≡◌, inl, inr, ℕ, zero, suc, ◌-◌, ◌<◌, ◌≤◌, Bool, true, false, cond, List, [], ◌∷◌, ◌++◌, reverse, Option, Some, None, refl, sym, ◌∙◌, ap, subst, arith, eq-eqb}
 use Rattle.std.specs.Prelude.{◌==◌, slice_get, if◌then◌else◌}
 use Rattle.std.proofs.lemmas.List.{reverse-append}
 use Rattle.std.proofs.lemmas.Bool.Decides.{nat_tests}

@@ -1,10 +1,9 @@
 -- Where a machine does not go on to say that the records fit no block, it was told as if they fit.
-use Rattle.std.proofs.Common.{◌≡◌, ◌⊎◌, inl, inr, ⊎_elim, ℕ, Bool, true, false, cond, List, Option, Some, None, refl, sym, ◌∙◌, ap, subst}
+use Rattle.std.proofs.Common.{◌≡◌, ◌⊎◌, inl, inr, ⊎_elim, ℕ, Bool, true, false, cond, List, refl, sym, ◌∙◌, ap}
 use Rattle.std.specs.Prelude.{◌==◌, nat_lt}
 use Rattle.mj_angles.specs.declared.layout.Layout.{Layout}
 use Rattle.mj_angles.specs.Layout.{inverse_of}
 use Rattle.rz_events.specs.declared.ends.Seen.TheVariants as seen
-use Rattle.rz_events.specs.declared.ends.ReadMark.{ReadMark}
 use Rattle.rz_events.specs.declared.ends.ReadMark.TheVariants as mark
 use Rattle.rz_events.specs.declared.nodes.FetchAnswer.{FetchAnswer}
 use Rattle.rz_events.specs.declared.nodes.FetchAnswer.TheVariants as fetch
@@ -16,12 +15,12 @@ use Rattle.rz_client_model.specs.declared.reading.ReaderState.{ReaderState}
 use Rattle.rz_client_model.specs.declared.reading.ReadStage.{ReadStage}
 use Rattle.rz_client_model.specs.declared.reading.ReadStage.TheVariants.{Looking, Fetching, Ended}
 use Rattle.rz_client_model.specs.declared.reading.Fetches.{Fetches}
-use Rattle.rz_client_model.specs.Read.{after_answer, after_fetch, unless_enough, with_record, with_seen, reader_told, reader_end, end_at, ask_at}
+use Rattle.rz_client_model.specs.Read.{after_answer, after_fetch, unless_enough, with_record, with_seen, reader_told, end_at, ask_at}
 use Rattle.rz_operation.specs.Machine.{Machine}
-use Rattle.rz_operation.specs.Answers.{IsAnswered, Goes}
+use Rattle.rz_operation.specs.Answers.{IsAnswered}
 use Rattle.rz_operation_model.specs.Ask.{ask_of, read_asks, is_part, rebuild_asks}
-use Rattle.rz_operation_model.specs.Rebuild.{RebuildState, Probing, Enrolling, Replacing, Listing, Copying, Refilling, Leaving, Tally, Going, after_read, base_told, rebuild_ask}
-use Rattle.rz_operation_model.specs.Steps.{Answered, told, in_rebuild}
+use Rattle.rz_operation_model.specs.Rebuild.{RebuildState, Copying, Tally, after_read, base_told, rebuild_ask}
+use Rattle.rz_operation_model.specs.Steps.{Answered, told}
 use Rattle.rz_operation_model.specs.Work.{Work, Course, Calling, Dropping, Opening, Locking, Writing, Reading, Rebuilding, Ending, Over}
 use Rattle.rz_driver.specs.Parts.{IsTold, is_bad}
 

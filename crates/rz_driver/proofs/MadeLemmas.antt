@@ -1,5 +1,5 @@
 -- The nodes of a new driver, and its actors.
-use Rattle.std.proofs.Common.{◌≡◌, ◌⊎◌, inl, inr, ⊎_elim, ℕ, zero, suc, ◌+◌, ◌<◌, ◌≤◌, Bool, true, false, IsTrue, cond, List, [], ◌∷◌, ◌++◌, map, length, Option, Some, None, refl, sym, ◌∙◌, ap, subst, arith, eq-eqb}
+use Rattle.std.proofs.Common.{◌≡◌, inl, inr, ℕ, zero, suc, Bool, true, false, cond, List, [], ◌∷◌, map, length, Option, Some, None, refl, sym, ◌∙◌, ap, subst, arith, eq-eqb}
 use Rattle.std.specs.Prelude.{◌==◌, nat_eq, slice_get, All}
 use Rattle.std.specs.List.{AllByRecursion, AllZip, zip, IsDistinct}
 use Rattle.std.specs.FinMap as maps
@@ -7,29 +7,27 @@ use Rattle.std.proofs.Math.Path.{fun_ext}
 use Rattle.std.proofs.lemmas.List.Elements.{All-append}
 use Rattle.mj_angles.specs.declared.layout.Layout.{Layout}
 use Rattle.mj_angles.specs.Layout.{max_bins_of, safe_of}
-use Rattle.rz_disk.specs.Meter.{Meter, faults}
+use Rattle.rz_disk.specs.Meter.{Meter}
 use Rattle.rz_disk.specs.declared.disk.Disk.{Ghosts}
 use Rattle.rz_disk.specs.UnderFuse.{UnderFuse}
 use Rattle.rz_events.specs.Volume.{Volume, Cluster, IsNode, IsCluster, IsVolume, nodes_of}
 use Rattle.rz_events.specs.declared.files.NodeSpec.{NodeSpec}
 use Rattle.rz_events.specs.declared.keys.Actor.{Actor}
-use Rattle.rz_events.specs.declared.keys.Actor.TheVariants.{Client, Rebuilder, Admin}
-use Rattle.rz_cells.specs.Stands.{IsShut, StandsFor}
-use Rattle.rz_cells.specs.Held.{nothing}
+use Rattle.rz_events.specs.declared.keys.Actor.TheVariants.{Client, Rebuilder}
 use Rattle.rz_core.specs.NodeRows.{cells_among, cells_of}
 use Rattle.rz_export_model.specs.Export.{new_export}
-use Rattle.rz_locks.specs.declared.conflict.Lock.{Lock}
 use Rattle.rz_node_model.specs.States.{NodeState, fresh}
-use Rattle.rz_operation.specs.Machine.{Machine}
-use Rattle.rz_play.specs.World.{World, Seat as APlayer, empty_seat, new_world}
+use Rattle.rz_play.specs.World.{Seat as APlayer, empty_seat, new_world}
 use Rattle.rz_driver.specs.declared.driver.Driver.{Driver}
 use Rattle.rz_driver.specs.declared.seat.Seat.{Seat}
+use Rattle.rz_driver.specs.declared.station.Shared.{Shared}
 use Rattle.rz_driver.specs.declared.station.Station.{Station}
 use Rattle.rz_driver.specs.Locking.{lock_of}
-use Rattle.rz_driver.specs.Made.{IsNew, AreNew, IsBack, AreBack, geometry_of}
+use Rattle.rz_driver.specs.Made.{IsNew, AreNew, IsBack, AreBack}
 use Rattle.rz_driver.specs.Seats.{work_in, seat_of, HasLayout, IsSeat, IsEmptySeat}
-use Rattle.rz_driver.specs.Stations.{state_in, numbers_of, disks_of, IsStation}
-use Rattle.rz_driver.specs.Worlds.{place_of, seat_there, seat_at, seat_in, world_of, IsDriver}
+use Rattle.rz_driver.specs.Stations.{state_in, numbers_of, IsStation}
+use Rattle.rz_driver.proofs.Rowwise.{zip-same}
+use Rattle.rz_driver.specs.Worlds.{place_of, seat_there, seat_at, seat_in, world, IsDriver}
 
 -- ---- disks
 
@@ -41,6 +39,9 @@ module _ {D : Type 0} (tells : Bool) (meter : D → Meter) (image : D → List �
   -- and one that was not touched
   pub same-back : (n : NodeSpec) (d : D) → IsBack tells meter image layout (n, d) d
   same-back n d = record { count = omega arith; images = λ told c is. inl is }
+
+  pub untouched : (nodes : List NodeSpec) (disks : List D) → length disks ≡ length nodes → AreBack tells meter image layout nodes disks disks
+  untouched nodes disks count = zip-same (IsBack tells meter image layout) nodes disks count same-back
 
   -- ---- nodes
 
@@ -141,22 +142,24 @@ module _ {D : Type 0} {G : Ghosts D} (tells : Bool) (meter : D → Meter) (image
     bins = let same : max_bins_of d.volume.layout ≡ max_bins_of v.layout = ap (λ (u : Volume). max_bins_of u.layout) volume in omega (arith, same, bins);
     seats = empty-seats d.volume.layout d.seats.items seats;
     count = eighty;
-    locks = λ n. ap (λ h. maps.get h n) locks ∙ sym (ap (λ (s : APlayer). s.lock) (empty-in d.seats.items seats (Client n)));
+    locks = λ n. ap (λ h. maps.get h n) locks ∙ maps.get-empty _ n ∙ sym (ap (λ (s : APlayer). s.lock) (empty-in d.seats.items seats (Client n)));
     no_locks = λ n. ap (λ (s : APlayer). s.lock) (empty-in d.seats.items seats (Rebuilder n));
   }
 
-  pub new-is : d.shared.export ≡ new_export v 0 → d.turns ≡ 0 → d.shared.lost ≡ 0 → d.shared.log.events ≡ [] → world_of d ≡ new_world v
-  new-is export turns lost log = λ i. record {
-    nodes = states i;
-    export = export i;
-    seats = actors i;
-    turns = turns i;
-    lost = lost i;
-    log = log i;
-  }
-    where
-      states : state_in d.shared.stations.items ≡ (λ n. fresh)
-      states = fun_ext (new-states tells meter image v.layout (zip (nodes_of v.clusters) disks) d.shared.stations.items made)
+-- and its world is that of a play that is new
+pub new-is : {D : Type 0} (tells : Bool) (meter : D → Meter) (image : D → List ℕ → Type 0) (v : Volume) (disks : List D) (q : Shared (UnderFuse D)) (ss : List Seat) → AreNew tells meter image v.layout (nodes_of v.clusters) disks q.stations.items → AllByRecursion IsEmptySeat ss
+    → q.export ≡ new_export v 0 → q.lost ≡ 0 → q.log.events ≡ [] → world q ss 0 ≡ new_world v
+new-is tells meter image v disks q ss made seats export lost log = λ i. record {
+  nodes = states i;
+  export = export i;
+  seats = actors i;
+  turns = 0;
+  lost = lost i;
+  log = log i;
+}
+  where
+    states : state_in q.stations.items ≡ (λ n. fresh)
+    states = fun_ext (new-states tells meter image v.layout (zip (nodes_of v.clusters) disks) q.stations.items made)
 
-      actors : seat_in d.seats.items ≡ (λ by. empty_seat)
-      actors = fun_ext (empty-in d.seats.items seats)
+    actors : seat_in ss ≡ (λ by. empty_seat)
+    actors = fun_ext (empty-in ss seats)

@@ -1,5 +1,5 @@
 -- What the script orders of a node.
-use Rattle.std.proofs.Common.{◌≡◌, ℕ, ◌<◌, ◌≤◌, Bool, true, false, cond, List, [], ◌∷◌, map, length, set, get_or, Option, Some, None, refl, sym, ◌∙◌, ap, subst, arith}
+use Rattle.std.proofs.Common.{◌≡◌, ℕ, ◌≤◌, Bool, true, false, cond, List, ◌∷◌, map, length, set, Option, Some, refl, sym, ◌∙◌, ap, subst}
 use Rattle.std.specs.Prelude.{◌==◌, slice_get}
 use Rattle.std.specs.Global.{Vec}
 use Rattle.std.specs.List.{AllByRecursion}
@@ -22,15 +22,14 @@ use Rattle.rz_node_model.specs.States.{NodeState}
 use Rattle.rz_node_model.specs.Answers.{IsNodeAnswer}
 use Rattle.rz_node_model.specs.Afterwards.{after_answer}
 use Rattle.rz_node_model.specs.NodeEvents.{node_event}
-use Rattle.rz_play.specs.World.{World}
 use Rattle.rz_play.specs.Lines.{IsAdminCall, noted}
 use Rattle.rz_driver.specs.declared.driver.Driver.{Driver}
-use Rattle.rz_driver.specs.declared.seat.Seat.{Seat}
+use Rattle.rz_driver.specs.declared.station.Shared.{Shared}
 use Rattle.rz_driver.specs.declared.station.Station.{Station}
 use Rattle.rz_driver.specs.Administration.{IsOrdered, IsCalledAt, IsArming}
 use Rattle.rz_driver.specs.Seats.{IsSeat}
-use Rattle.rz_driver.specs.Stations.{state_in, numbers_of, IsStation, IsCalled}
-use Rattle.rz_driver.specs.Worlds.{seat_in, world_of, AreLocks, HaveNoLocks, IsDriver}
+use Rattle.rz_driver.specs.Stations.{state_in, numbers_of, IsStation}
+use Rattle.rz_driver.specs.Worlds.{seat_in, world, world_of, AreLocks, HaveNoLocks, IsDriver}
 use Rattle.rz_driver.proofs.ReadyLemmas.{all-set, all-at, numbers-kept}
 use Rattle.rz_driver.proofs.WorldLemmas.{state-at, state-set}
 
@@ -61,21 +60,21 @@ module _ {D : Type 0} where
 
 -- ---- the vector of nodes, of which a slice was written
 
-module _ {X Z : Type 0} where
-  pub in-vector : (v : Vec (Station X) Z) (xs ys : List (Station X)) (place : ℕ) (after : Station X) → xs ≡ v.items → ys ≡ set xs place after → (with_items v ys).items ≡ ys
+module _ {X : Type 0} where
+  pub in-vector : (v : Vec (Station X)) (xs ys : List (Station X)) (place : ℕ) (after : Station X) → xs ≡ v.items → ys ≡ set xs place after → (with_items v ys).items ≡ ys
   in-vector v xs ys place after same is = with_items_is v ys (ap length is ∙ length-set xs place after ∙ ap length same ∙ sym v.ok.0)
 
-  pub ordered-in : (question : NodeAsk) (n : ℕ) (v : Vec (Station X) Z) (xs ys : List (Station X)) (log log' : List Event) → xs ≡ v.items → IsOrdered question n xs ys log log' → IsOrdered question n v.items (with_items v ys).items log log'
+  pub ordered-in : (question : NodeAsk) (n : ℕ) (v : Vec (Station X)) (xs ys : List (Station X)) (log log' : List Event) → xs ≡ v.items → IsOrdered question n xs ys log log' → IsOrdered question n v.items (with_items v ys).items log log'
   ordered-in question n v xs ys log log' same o =
       subst (λ (zs : List (Station X)). IsOrdered question n zs (with_items v ys).items log log') same
       (subst (λ (zs : List (Station X)). IsOrdered question n xs zs log log') (sym (in-vector v xs ys o.place o.after same o.stations)) o)
 
-  pub called-in : (n : ℕ) (v : Vec (Station X) Z) (xs ys : List (Station X)) → xs ≡ v.items → IsCalledAt n xs ys → IsCalledAt n v.items (with_items v ys).items
+  pub called-in : (n : ℕ) (v : Vec (Station X)) (xs ys : List (Station X)) → xs ≡ v.items → IsCalledAt n xs ys → IsCalledAt n v.items (with_items v ys).items
   called-in n v xs ys same c =
       subst (λ (zs : List (Station X)). IsCalledAt n zs (with_items v ys).items) same
       (subst (λ (zs : List (Station X)). IsCalledAt n xs zs) (sym (in-vector v xs ys c.place c.after same c.stations)) c)
 
-  pub arming-in : (passes pick n : ℕ) (v : Vec (Station X) Z) (xs ys : List (Station X)) (log log' : List Event) → xs ≡ v.items → IsArming passes pick n xs ys log log' → IsArming passes pick n v.items (with_items v ys).items log log'
+  pub arming-in : (passes pick n : ℕ) (v : Vec (Station X)) (xs ys : List (Station X)) (log log' : List Event) → xs ≡ v.items → IsArming passes pick n xs ys log log' → IsArming passes pick n v.items (with_items v ys).items log log'
   arming-in passes pick n v xs ys log log' same a =
       subst (λ (zs : List (Station X)). IsArming passes pick n zs (with_items v ys).items log log') same
       (subst (λ (zs : List (Station X)). IsArming passes pick n xs zs log log') (sym (in-vector v xs ys a.place a.after same a.stations)) a)
@@ -104,55 +103,57 @@ module _ {D : Type 0} {G : Ghosts D} (d e : Driver D G) (ready : IsDriver d) (vo
       (stations-kept d.volume d.shared.stations.items e.shared.stations.items a.place a.station a.after a.is a.stations a.armed.sid a.armed.geometry ready.stations)
       (numbers-kept d.shared.stations.items e.shared.stations.items a.place a.station a.after a.is a.stations a.armed.sid) locks bins
 
-  module _ (export : e.shared.export ≡ d.shared.export) (lost : e.shared.lost ≡ d.shared.lost) (turns : e.turns ≡ d.turns) where
-    abbrev xs : List (Station (UnderFuse D))
-    xs = d.shared.stations.items
+-- ---- the world after it
 
-    -- it is a call of the administrator in the world of the play
-    pub admin-call : (question : NodeAsk) (n : ℕ) → IsOrdered question n d.shared.stations.items e.shared.stations.items d.shared.log.events e.shared.log.events → IsAdminCall d.volume n question (world_of d) (world_of e)
-    admin-call question n o =
-        let s = o.station in
-        let here = state-at xs n o.place s o.at o.is in
-        let shape = all-at (IsStation d.volume) xs o.place s ready.stations o.is in
-        let cells : s.node.geometry.cells ≡ cells_of d.volume n = shape.cells ∙ ap (cells_of d.volume) here.0 in
-        let given = o.order.given in
-        let after : o.after.node.state ≡ after_answer question given (state_in xs n) = o.order.after ∙ ap (after_answer question given) (sym here.1) in
-        let nodes : state_in e.shared.stations.items ≡ (λ m. cond (m == n) (after_answer question given (state_in xs n)) (state_in xs m)) =
-        ap (λ (ys : List (Station (UnderFuse D))). state_in ys) o.stations
-        ∙ fun_ext (λ m. state-set xs n o.place o.after o.at (o.order.called.sid ∙ here.0) m ∙ ap (λ (x : NodeState). cond (m == n) x (state_in xs m)) after)
-        in
-        let log : e.shared.log.events ≡ noted (node_event Admin n question given) d.shared.log.events =
-        o.log_is ∙ ap (λ (x : Option Event). noted x d.shared.log.events) (o.order.event_is ∙ ap (λ (k : ℕ). node_event Admin k question given) here.0)
-        in
-        record {
-          given = given;
-          given_is = subst (λ (k : ℕ). IsNodeAnswer k (state_in xs n) question given) cells
-              (subst (λ (x : NodeState). IsNodeAnswer s.node.geometry.cells x question given) (sym here.1) o.order.given_is);
-          told = o.order.told;
-          next_is = λ i. record {
-            nodes = nodes i;
-            export = export i;
-            seats = seat_in (seats i);
-            turns = turns i;
-            lost = lost i;
-            log = log i;
-          };
-        }
+module _ {D : Type 0} {G : Ghosts D} (d : Driver D G) (ready : IsDriver d) (q : Shared (UnderFuse D)) (export : q.export ≡ d.shared.export) (lost : q.lost ≡ d.shared.lost) where
+  abbrev xs : List (Station (UnderFuse D))
+  xs = d.shared.stations.items
 
-    -- the states of all nodes stay where a disk is armed
-    pub armed-world : (passes pick n : ℕ) → IsArming passes pick n d.shared.stations.items e.shared.stations.items d.shared.log.events e.shared.log.events
-        → world_of e ≡ record (world_of d) { log = event.Armed n passes pick ∷ d.shared.log.events }
-    armed-world passes pick n a =
-        let here = state-at xs n a.place a.station a.at a.is in
-        let nodes : state_in e.shared.stations.items ≡ state_in xs =
-        ap (λ (ys : List (Station (UnderFuse D))). state_in ys) a.stations
-        ∙ fun_ext (λ m. state-set xs n a.place a.after a.at (a.armed.sid ∙ here.0) m ∙ state-same xs n m a.after.node.state (a.armed.state ∙ sym here.1))
-        in
-        λ i. record {
+  -- it is a call of the administrator in the world of the play
+  pub admin-call : (question : NodeAsk) (n : ℕ) → IsOrdered question n d.shared.stations.items q.stations.items d.shared.log.events q.log.events → IsAdminCall d.volume n question (world_of d) (world q d.seats.items d.turns)
+  admin-call question n o =
+      let s = o.station in
+      let here = state-at xs n o.place s o.at o.is in
+      let shape = all-at (IsStation d.volume) xs o.place s ready.stations o.is in
+      let cells : s.node.geometry.cells ≡ cells_of d.volume n = shape.cells ∙ ap (cells_of d.volume) here.0 in
+      let given = o.order.given in
+      let after : o.after.node.state ≡ after_answer question given (state_in xs n) = o.order.after ∙ ap (after_answer question given) (sym here.1) in
+      let nodes : state_in q.stations.items ≡ (λ m. cond (m == n) (after_answer question given (state_in xs n)) (state_in xs m)) =
+      ap (λ (ys : List (Station (UnderFuse D))). state_in ys) o.stations
+      ∙ fun_ext (λ m. state-set xs n o.place o.after o.at (o.order.called.sid ∙ here.0) m ∙ ap (λ (x : NodeState). cond (m == n) x (state_in xs m)) after)
+      in
+      let log : q.log.events ≡ noted (node_event Admin n question given) d.shared.log.events =
+      o.log_is ∙ ap (λ (x : Option Event). noted x d.shared.log.events) (o.order.event_is ∙ ap (λ (k : ℕ). node_event Admin k question given) here.0)
+      in
+      record {
+        given = given;
+        given_is = subst (λ (k : ℕ). IsNodeAnswer k (state_in xs n) question given) cells
+            (subst (λ (x : NodeState). IsNodeAnswer s.node.geometry.cells x question given) (sym here.1) o.order.given_is);
+        told = o.order.told;
+        next_is = λ i. record {
           nodes = nodes i;
           export = export i;
-          seats = seat_in (seats i);
-          turns = turns i;
+          seats = seat_in d.seats.items;
+          turns = d.turns;
           lost = lost i;
-          log = a.log_is i;
-        }
+          log = log i;
+        };
+      }
+
+  -- the states of all nodes stay where a disk is armed
+  pub armed-world : (passes pick n : ℕ) → IsArming passes pick n d.shared.stations.items q.stations.items d.shared.log.events q.log.events
+      → world q d.seats.items d.turns ≡ record (world_of d) { log = event.Armed n passes pick ∷ d.shared.log.events }
+  armed-world passes pick n a =
+      let here = state-at xs n a.place a.station a.at a.is in
+      let nodes : state_in q.stations.items ≡ state_in xs =
+      ap (λ (ys : List (Station (UnderFuse D))). state_in ys) a.stations
+      ∙ fun_ext (λ m. state-set xs n a.place a.after a.at (a.armed.sid ∙ here.0) m ∙ state-same xs n m a.after.node.state (a.armed.state ∙ sym here.1))
+      in
+      λ i. record {
+        nodes = nodes i;
+        export = export i;
+        seats = seat_in d.seats.items;
+        turns = d.turns;
+        lost = lost i;
+        log = a.log_is i;
+      }

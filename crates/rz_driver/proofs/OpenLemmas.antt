@@ -1,5 +1,5 @@
 -- A file that was opened with a lock.
-use Rattle.std.proofs.Common.{◌≡◌, ℕ, Bool, true, false, List, Option, Some, None, refl, sym, ◌∙◌, ap, subst}
+use Rattle.std.proofs.Common.{◌≡◌, ℕ, Bool, false, List, Option, Some, None, refl, sym, ◌∙◌, ap, subst}
 use Rattle.std.specs.Option.{is_some}
 use Rattle.rz_events.specs.declared.keys.Actor.{Actor}
 use Rattle.rz_events.specs.declared.keys.Actor.TheVariants.{Client}
@@ -10,7 +10,7 @@ use Rattle.rz_events.specs.declared.export.Call.TheVariants as call
 use Rattle.rz_events.specs.declared.export.Reply.{Reply}
 use Rattle.rz_events.specs.declared.export.Reply.TheVariants as reply
 use Rattle.rz_events.specs.declared.events.Event.{Event}
-use Rattle.rz_export_model.specs.Export.{Export, export_reply, export_after, new_places, after_tree}
+use Rattle.rz_export_model.specs.Export.{Export, export_reply, new_places, after_tree}
 use Rattle.rz_export_model.specs.ExportEvents.{export_event}
 use Rattle.rz_export_model.specs.TreeCalls.{reply_to}
 use Rattle.rz_locks.specs.declared.conflict.Lock.{Lock}

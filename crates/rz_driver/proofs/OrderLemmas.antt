@@ -1,5 +1,5 @@
 -- An actor was ordered to do something more.
-use Rattle.std.proofs.Common.{◌≡◌, ℕ, ◌<◌, ◌≤◌, Bool, true, false, cond, List, [], ◌∷◌, ◌++◌, map, length, set, Option, Some, None, refl, sym, ◌∙◌, ap, subst}
+use Rattle.std.proofs.Common.{◌≡◌, ℕ, ◌<◌, ◌≤◌, cond, List, [], ◌∷◌, ◌++◌, map, length, set, Some, sym, ◌∙◌, ap, subst}
 use Rattle.std.specs.Prelude.{slice_get}
 use Rattle.std.specs.List.{AllByRecursion}
 use Rattle.std.proofs.Math.Path.{fun_ext}
@@ -14,17 +14,15 @@ use Rattle.rz_events.specs.declared.keys.Actor.{Actor}
 use Rattle.rz_events.specs.declared.operations.Operation.{Operation}
 use Rattle.rz_events.specs.Events.{same_actor}
 use Rattle.rz_operation.specs.Answers.{IsOperation}
-use Rattle.rz_play.specs.World.{World, Seat as APlayer, with_seat}
-use Rattle.rz_play.specs.Lines.{with_operation, with_miss}
+use Rattle.rz_play.specs.World.{Seat as APlayer, with_seat}
 use Rattle.rz_driver.specs.declared.driver.Driver.{Driver}
 use Rattle.rz_driver.specs.declared.seat.Seat.{Seat}
 use Rattle.rz_driver.specs.declared.station.Shared.{Shared}
-use Rattle.rz_driver.specs.Locking.{lock_of}
 use Rattle.rz_driver.specs.Seats.{seat_of, IsSeat}
 use Rattle.rz_driver.specs.Stations.{numbers_of, IsStation}
-use Rattle.rz_driver.specs.Worlds.{place_of, seat_in, world, world_of, AreLocks, HaveNoLocks, IsDriver}
+use Rattle.rz_driver.specs.Worlds.{place_of, seat_in, world, AreLocks, HaveNoLocks, IsDriver}
 use Rattle.rz_driver.proofs.WorldLemmas.{seat-here, seat-set}
-use Rattle.rz_driver.proofs.ReadyLemmas.{all-set, all-at, locks-stay}
+use Rattle.rz_driver.proofs.ReadyLemmas.{all-set, locks-stay}
 
 -- the world with one actor changed
 pub ordered : {D : Type 0} (p : Shared D) (ss : List Seat) (turns : ℕ) (by : Actor) (place : ℕ) (s b : Seat) (t : APlayer → APlayer) → place_of by ≡ Some place → place < length ss → slice_get ss place ≡ Some s → seat_of b ≡ t (seat_of s)

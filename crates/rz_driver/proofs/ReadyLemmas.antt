@@ -1,5 +1,5 @@
 -- A driver stands between two turns again.
-use Rattle.std.proofs.Common.{◌≡◌, ◌≢◌, ℕ, zero, suc, ◌<◌, ◌≤◌, Bool, true, false, cond, List, [], ◌∷◌, length, set, Option, Some, None, refl, sym, ◌∙◌, ap, subst, arith}
+use Rattle.std.proofs.Common.{◌≡◌, ℕ, zero, suc, ◌<◌, Bool, true, false, cond, List, [], ◌∷◌, length, set, Option, Some, None, refl, sym, ◌∙◌, ap, subst}
 use Rattle.std.specs.Prelude.{◌==◌, slice_get}
 use Rattle.std.specs.List.{AllByRecursion}
 use Rattle.std.specs.Cmp.{nat_cmp_total, unsigned_tied}
@@ -12,10 +12,7 @@ use Rattle.rz_events.specs.declared.keys.Actor.TheVariants.{Client, Rebuilder, A
 use Rattle.rz_events.specs.Events.{same_actor}
 use Rattle.mj_angles.specs.declared.layout.Layout.{Layout}
 use Rattle.rz_core.specs.NodeRows.{cells_of}
-use Rattle.rz_events.specs.declared.operations.Operation.{Operation}
 use Rattle.rz_locks.specs.declared.conflict.Lock.{Lock}
-use Rattle.rz_locks.specs.declared.conflict.LockKind.{LockKind}
-use Rattle.rz_locks.specs.declared.conflict.Range.{Range}
 use Rattle.rz_locks.specs.Held.{Held}
 use Rattle.rz_operation.specs.Machine.{Machine}
 use Rattle.rz_operation.specs.Answers.{IsOperation}
@@ -23,11 +20,10 @@ use Rattle.rz_play.specs.World.{Seat as APlayer}
 use Rattle.rz_driver.specs.declared.seat.Seat.{Seat}
 use Rattle.rz_driver.specs.declared.station.Shared.{Shared}
 use Rattle.rz_driver.specs.declared.station.Station.{Station}
-use Rattle.rz_driver.specs.Acts.{IsAct, Rests, Exports, Opens, Sends, Says, IsSameActor, IsMessage, IsFate, Through, ReplyLost, RequestLost, IsReleased, lock_left, locks_after}
-use Rattle.rz_driver.specs.Locking.{lock_of, lock_if, Grants, IsOpened, IsOpenPart}
-use Rattle.rz_driver.specs.Parts.{IsTold, IsExportPart, IsSayPart}
+use Rattle.rz_driver.specs.Acts.{IsAct, Rests, Exports, Opens, Sends, Says, IsSameActor, IsFate, Through, ReplyLost, RequestLost, IsReleased, locks_after}
+use Rattle.rz_driver.specs.Locking.{lock_of, lock_if, Grants}
 use Rattle.rz_driver.specs.Seats.{seat_of, HasLayout, IsSeat}
-use Rattle.rz_driver.specs.Stations.{numbers_of, IsStation, IsCalled}
+use Rattle.rz_driver.specs.Stations.{numbers_of, IsStation}
 use Rattle.rz_driver.specs.Worlds.{place_of, seat_in, AreLocks, HaveNoLocks}
 use Rattle.rz_driver.proofs.WorldLemmas.{seat-here, seat-set, actor-is}
 

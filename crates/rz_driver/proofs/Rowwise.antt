@@ -1,5 +1,6 @@
 -- Two lists, place by place.
-use Rattle.std.proofs.Common.{◌≡◌, ℕ, suc, ◌+◌, ◌<◌, List, [], ◌∷◌, ◌++◌, map, length, Option, Some, None, refl, sym, ◌∙◌, ap, subst, arith}
+use Rattle.std.proofs.Common.{◌≡◌, ℕ, zero, suc, ◌<◌, List, [], ◌∷◌, ◌++◌, map, reverse, length, get_or, Some, refl, sym, ◌∙◌, ap, arith, append_assoc}
+use Rattle.std.proofs.lemmas.List.{map-append, reverse-append}
 use Rattle.std.specs.Prelude.{slice_get}
 use Rattle.std.specs.List.{AllByRecursion, AllZip, zip}
 
@@ -42,3 +43,17 @@ get-behind (a ∷ xs) x ys = get-behind xs x ys
 pub all-push : {A : Type 0} (P : A → Type 0) (xs : List A) (x : A) → AllByRecursion P xs → P x → AllByRecursion P (xs ++ x ∷ [])
 all-push P [] x all holds = (holds, tt)
 all-push P (a ∷ xs) x all holds = (all.0, all-push P xs x all.1 holds)
+
+pub all-get : {A : Type 0} (P : A → Type 0) (xs : List A) (i : ℕ) (d : A) → AllByRecursion P xs → i < length xs → P (get_or xs i d)
+all-get P [] i d all low = absurd (omega (arith, low))
+all-get P (x ∷ xs) zero d all low = all.0
+all-get P (x ∷ xs) (suc i) d all low = all-get P xs i d all.1 (omega (arith, low))
+
+-- one goes back from the end of a row to the end of a pile
+pub one-back : {A B : Type 0} (f : A → B) (row rest : List A) (x : A) (pile pile' : List B) (whole : List B) → row ≡ rest ++ x ∷ [] → pile' ≡ pile ++ f x ∷ [] → map f row ++ reverse pile ≡ whole → map f rest ++ reverse pile' ≡ whole
+one-back f row rest x pile pile' whole row_is pile_is all =
+    let shape : map f row ≡ map f rest ++ f x ∷ [] = ap (map f) row_is ∙ map-append f rest (x ∷ []) in
+    ap (λ ys. map f rest ++ ys) (ap reverse pile_is ∙ reverse-append pile (f x ∷ []))
+    ∙ sym (append_assoc (map f rest) (f x ∷ []) (reverse pile))
+    ∙ ap (λ ys. ys ++ reverse pile) (sym shape)
+    ∙ all

@@ -4,7 +4,7 @@ use Rattle.rz_events.specs.declared.operations.Operation.{Operation}
 use Rattle.rz_events.specs.declared.operations.Operation.TheVariants as operation
 use Rattle.rz_operation_model.specs.Work.{Work, Calling, Dropping, Opening, Locking, Writing, Reading, Rebuilding, Ending, Over}
 use Rattle.rz_operation_model.specs.Steps.{begun}
-use Rattle.rz_play.specs.World.{Seat, take_up, at_work, is_over, has_work}
+use Rattle.rz_play.specs.World.{Seat, take_up, at_work, is_over}
 
 -- an operation in hand stays
 pub same-work : (s : Seat) (work : Work) (ops : List Operation) → is_over work ≡ false → take_up s work ops ≡ s

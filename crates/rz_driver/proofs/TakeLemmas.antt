@@ -1,5 +1,5 @@
 -- An actor took a turn.
-use Rattle.std.proofs.Common.{◌≡◌, ℕ, ◌+◌, ◌<◌, ◌≤◌, List, [], ◌∷◌, map, length, set, get_or, Option, Some, None, refl, sym, ◌∙◌, ap, subst, arith}
+use Rattle.std.proofs.Common.{◌≡◌, ℕ, ◌+◌, ◌<◌, ◌≤◌, List, [], ◌∷◌, map, length, set, get_or, Some, refl, sym, ◌∙◌, ap, subst, arith}
 use Rattle.std.specs.Prelude.{slice_get}
 use Rattle.std.specs.List.{AllByRecursion}
 use Rattle.std.specs.FinMap.{get}
@@ -76,10 +76,14 @@ module _ {D : Type 0} {G : Ghosts D} (by : Actor) (place : ℕ) (d e : Driver D 
     no_locks = subst HaveNoLocks (sym seats) locks.1;
   }
 
-  pub turned : (f : Driver D G) → d ≡ f → e.turns ≡ d.turns + 1 → IsTurn f.volume by (world_of f) (world_of e)
-  turned f is turns =
-      let first : world p ss d.turns ≡ world_of d = ap (λ (h : List Event). record (world_of d) { log = h }) events in
-      let last : world e.shared (set ss place b) (d.turns + 1) ≡ world_of e = ap (λ (xs : List Seat). world e.shared xs (d.turns + 1)) (sym seats) ∙ ap (world e.shared e.seats.items) (sym turns) in
-      subst (λ (x : Driver D G). IsTurn x.volume by (world_of x) (world_of e)) is
-      (subst (λ (w : World). IsTurn d.volume by w (world_of e)) first
-      (subst (IsTurn d.volume by (world p ss d.turns)) last (turn-is d.volume by ss place d.turns at low a0 a here taken fits.machine p e.shared ready.locks ready.no_locks ready.stations kept b acts)))
+-- and the world is that after the turn
+pub turned : {D : Type 0} {G : Ghosts D} (by : Actor) (place : ℕ) (d : Driver D G) (q : Shared (UnderFuse D)) (log : Logged) (a0 a b : Seat) → IsDriver d → place_of by ≡ Some place → slice_get d.seats.items place ≡ Some a0 → place < length d.seats.items
+    → seat_of a ≡ at_work (seat_of a0) → IsSeat d.volume.layout a → a.lock ≡ a0.lock → log.events ≡ d.shared.log.events → IsAct d.volume.layout by a b (record d.shared { log = log }) q
+    → (f : Driver D G) → d ≡ f → IsTurn f.volume by (world_of f) (world q (set d.seats.items place b) (d.turns + 1))
+turned {D = D} {G = G} by place d q log a0 a b ready at here low taken fits kept events acts f is =
+    let p : Shared (UnderFuse D) = record d.shared { log = log } in
+    let next : World = world q (set d.seats.items place b) (d.turns + 1) in
+    let first : world p d.seats.items d.turns ≡ world_of d = ap (λ (h : List Event). record (world_of d) { log = h }) events in
+    subst (λ (x : Driver D G). IsTurn x.volume by (world_of x) next) is
+    (subst (λ (w : World). IsTurn d.volume by w next) first
+    (turn-is d.volume by d.seats.items place d.turns at low a0 a here taken fits.machine p q ready.locks ready.no_locks ready.stations kept b acts))

@@ -1,18 +1,13 @@
 -- What an actor did is its turn in the world of the play.
-use Rattle.std.proofs.Common.{◌≡◌, ◌≢◌, ◌⊎◌, inl, inr, ⊎_elim, ℕ, zero, suc, ◌+◌, ◌<◌, ◌≤◌, Bool, true, false, cond, List, [], ◌∷◌, length, set, Option, Some, None, refl, sym, ◌∙◌, ap, subst, arith}
+use Rattle.std.proofs.Common.{◌≡◌, ℕ, zero, suc, ◌+◌, ◌<◌, ◌≤◌, Bool, true, false, cond, List, [], ◌∷◌, length, set, Option, Some, None, refl, sym, ◌∙◌, ap, subst}
 use Rattle.std.specs.Prelude.{◌==◌, slice_get, IsSomeAnd}
 use Rattle.std.specs.List.{AllByRecursion}
-use Rattle.std.specs.FinMap.{get}
-use Rattle.std.specs.Ordering.{nat_cmp}
 use Rattle.std.proofs.Math.Path.{fun_ext}
 use Rattle.mj_angles.specs.declared.layout.Layout.{Layout}
 use Rattle.rz_events.specs.Volume.{Volume}
 use Rattle.rz_events.specs.declared.keys.Actor.{Actor}
-use Rattle.rz_events.specs.declared.keys.Actor.TheVariants.{Client, Rebuilder, Admin}
+use Rattle.rz_events.specs.declared.keys.Actor.TheVariants.{Client}
 use Rattle.rz_events.specs.declared.events.Event.{Event}
-use Rattle.rz_events.specs.declared.export.Call.{Call}
-use Rattle.rz_events.specs.declared.export.Call.TheVariants as call
-use Rattle.rz_events.specs.declared.tree.TreeCall.TheVariants as tree
 use Rattle.rz_events.specs.declared.nodes.NodeAsk.{NodeAsk}
 use Rattle.rz_events.specs.declared.nodes.NodeAnswer.{NodeAnswer}
 use Rattle.rz_events.specs.declared.operations.Operation.{Operation}
@@ -22,7 +17,7 @@ use Rattle.rz_node_model.specs.States.{NodeState}
 use Rattle.rz_node_model.specs.Answers.{IsNodeAnswer}
 use Rattle.rz_node_model.specs.Afterwards.{after_answer}
 use Rattle.rz_node_model.specs.NodeEvents.{node_event}
-use Rattle.rz_export_model.specs.Export.{Export, export_reply, export_after}
+use Rattle.rz_export_model.specs.Export.{export_reply}
 use Rattle.rz_core.specs.History.{facts}
 use Rattle.rz_core.specs.NodeRows.{cells_of}
 use Rattle.rz_locks.specs.declared.conflict.Lock.{Lock}
@@ -31,21 +26,20 @@ use Rattle.rz_locks.specs.declared.conflict.Range.{Range}
 use Rattle.rz_locks.specs.Conflicts.{Conflict}
 use Rattle.rz_locks.specs.Held.{Held, Blocks}
 use Rattle.rz_operation.specs.Machine.{Machine}
-use Rattle.rz_operation_model.specs.Ask.{Ask, AskExport, AskNode, AskLock, Say, Rest, Saying, SayGot, SayGave, SayLeft, SayDone, ask_of, lock_asks}
-use Rattle.rz_operation_model.specs.Work.{Work, RangePlan, WriteBytes, ReadBytes, Over, Calling, Dropping, Opening, Locking, Writing, Reading, Rebuilding, Ending}
+use Rattle.rz_operation_model.specs.Ask.{Ask, AskExport, AskNode, AskLock, Say, Rest, Saying, SayGot, SayGave, SayLeft, SayDone, ask_of}
+use Rattle.rz_operation_model.specs.Work.{Work, Over, Calling, Dropping, Opening, Locking, Writing, Reading, Rebuilding, Ending}
 use Rattle.rz_operation_model.specs.Steps.{Told, Replied, Locked, Answered, Missed, Noted, told, begun}
-use Rattle.rz_operation_model.specs.Turns.{said_event}
-use Rattle.rz_play.specs.World.{World, Seat as APlayer, with_seat, with_node, with_work, at_work, take_up, Bars, IsFree, actors}
-use Rattle.rz_play.specs.Turns.{IsTurn, IsAskTurn, IsExportTurn, IsNodeTurn, Through as ComesThrough, ReplyLost as LosesReply, RequestLost as LosesRequest, IsLockTurn, IsGranted, IsSayTurn, IsGiven, IsThrough, IsLost, lost_after, lock_after, lock_on, locked, moved, advanced, answered, no_miss, with_lost, counted, text_said}
+use Rattle.rz_play.specs.World.{World, Seat as APlayer, at_work, take_up, Bars, IsFree}
+use Rattle.rz_play.specs.Turns.{IsTurn, IsAskTurn, Through as ComesThrough, ReplyLost as LosesReply, RequestLost as LosesRequest, IsGranted, IsGiven, lock_after, lock_on, locked, advanced, no_miss, counted, text_said}
 use Rattle.rz_driver.specs.declared.seat.Seat.{Seat}
 use Rattle.rz_driver.specs.declared.station.Shared.{Shared}
 use Rattle.rz_driver.specs.declared.station.Station.{Station}
 use Rattle.rz_driver.specs.Acts.{IsAct, Rests, Exports, Opens, Sends, Says, IsSameActor, IsMessage, IsFate, Through, ReplyLost, RequestLost, IsReleased, lock_left}
-use Rattle.rz_driver.specs.Locking.{lock_of, lock_if, open_reply, Grants, IsOpened, IsOpenPart}
+use Rattle.rz_driver.specs.Locking.{lock_of, lock_if, open_reply, Grants, IsOpenPart}
 use Rattle.rz_driver.specs.Nodes.{IsServed, IsAsked}
 use Rattle.rz_driver.specs.Parts.{IsTold, IsExportPart, IsSayPart, is_done}
 use Rattle.rz_driver.specs.Seats.{work_in, seat_of, HasLayout}
-use Rattle.rz_driver.specs.Stations.{state_in, IsAt, IsStation}
+use Rattle.rz_driver.specs.Stations.{state_in, IsStation}
 use Rattle.rz_driver.specs.Worlds.{place_of, seat_at, seat_in, world, AreLocks, HaveNoLocks}
 use Rattle.rz_driver.proofs.WorldLemmas.{state-at, state-set, set-same, seat-here, seat-set, seat-same, actor-is, all-actors, at-client, client-place}
 

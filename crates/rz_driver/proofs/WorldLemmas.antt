@@ -8,7 +8,7 @@ use Rattle.rz_events.specs.declared.keys.Actor.{Actor}
 use Rattle.rz_events.specs.declared.keys.Actor.TheVariants.{Client, Rebuilder, Admin}
 use Rattle.rz_events.specs.Events.{same_actor}
 use Rattle.rz_node_model.specs.States.{NodeState}
-use Rattle.rz_play.specs.World.{Seat as APlayer, empty_seat, actors}
+use Rattle.rz_play.specs.World.{actors}
 use Rattle.rz_driver.specs.declared.seat.Seat.{Seat}
 use Rattle.rz_driver.specs.declared.station.Station.{Station}
 use Rattle.rz_driver.specs.Seats.{seat_of}

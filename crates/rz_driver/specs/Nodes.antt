@@ -1,5 +1,5 @@
 -- What a message to a node makes of the parts that it uses.
-use Rattle.std.specs.Prelude.{ℕ, Bool, true, false, ◌≡◌, ◌<◌, List, ◌∷◌, Option, Some, None}
+use Rattle.std.specs.Prelude.{ℕ, Bool, true, false, ◌≡◌, ◌<◌, List, ◌∷◌, Option, Some}
 use Rattle.mj_angles.specs.declared.layout.Layout.{Layout}
 use Rattle.mj_angles.specs.Layout.{safe_of}
 use Rattle.rz_link.specs.declared.Sent.{Sent}

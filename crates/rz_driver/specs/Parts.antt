@@ -1,12 +1,11 @@
 -- What one turn makes of the parts that it uses: the machine, the export, the locks and the log.
-use Rattle.std.specs.Prelude.{ℕ, Bool, true, false, ◌≡◌, List, [], ◌∷◌, Option, Some, None}
+use Rattle.std.specs.Prelude.{ℕ, Bool, true, false, ◌≡◌, List, ◌∷◌, Option, Some}
 use Rattle.rz_events.specs.declared.keys.Actor.{Actor}
 use Rattle.rz_events.specs.declared.ends.LeftWhy.{LeftWhy}
 use Rattle.rz_events.specs.declared.ends.LeftWhy.TheVariants as left
 use Rattle.rz_events.specs.declared.ends.ReadMark.{ReadMark}
 use Rattle.rz_events.specs.declared.ends.ReadMark.TheVariants as mark
 use Rattle.rz_events.specs.declared.export.Call.{Call}
-use Rattle.rz_events.specs.declared.export.Reply.{Reply}
 use Rattle.rz_events.specs.declared.events.Event.{Event}
 use Rattle.rz_export_model.specs.Export.{Export, export_reply, export_after}
 use Rattle.rz_export_model.specs.ExportEvents.{export_event}

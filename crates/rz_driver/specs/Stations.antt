@@ -1,6 +1,5 @@
 -- The nodes of a volume in a row.
 use Rattle.std.specs.Prelude.{ℕ, ◌≡◌, ◌≢◌, ◌==◌, zero, suc, cond, map, List, [], ◌∷◌}
-use Rattle.mj_angles.specs.declared.layout.Layout.{Layout}
 use Rattle.rz_disk.specs.UnderFuse.{UnderFuse}
 use Rattle.rz_events.specs.Volume.{Volume}
 use Rattle.rz_node_model.specs.States.{NodeState, fresh}

@@ -8,7 +8,6 @@ use Rattle.rz_events.specs.Volume.{nodes_of}
 use Rattle.rz_events.specs.declared.files.NodeSpec.{NodeSpec}
 use Rattle.rz_events.specs.declared.keys.Actor.{Actor}
 use Rattle.rz_events.specs.declared.keys.Actor.TheVariants.{Client, Rebuilder, Admin}
-use Rattle.rz_locks.specs.declared.conflict.Lock.{Lock}
 use Rattle.rz_locks.specs.Held.{Held}
 use Rattle.rz_play.specs.World.{World, Seat as APlayer, empty_seat}
 use Rattle.rz_driver.specs.declared.seat.Seat.{Seat}

@@ -42,6 +42,8 @@ impl<D: Disk> Driver<D> {
         let Ok(parts) = new_parts(alloc, volume) else {
             return Err((disks, DriverFault::NoMemory));
         };
+        let locks = Locks::new();
+        let log = Log::new(alloc);
         match new_stations(alloc, volume.layout, parts.nodes.as_slice(), disks) {
             Ok((stations, home)) => Ok(Driver {
                 alloc,
@@ -49,9 +51,9 @@ impl<D: Disk> Driver<D> {
                 shared: Shared {
                     stations,
                     export: parts.export,
-                    locks: Locks::new(),
+                    locks,
                     lost: 0,
-                    log: Log::new(alloc),
+                    log,
                     bins: parts.bins,
                 },
                 seats: parts.seats,

@@ -1,15 +1,15 @@
-use Rattle.std.proofs.Common.{◌≡◌, ℕ, ◌+◌, ◌-◌, ◌<◌, ◌≤◌, List, [], ◌∷◌, ◌++◌, length, get_or, reverse, drop, true, refl, sym, ◌∙◌, ap, subst, arith, append_assoc, length-append, vec_len}
-use Rattle.std.specs.Vec.{vec_capacity}
+use Rattle.std.proofs.Common.{◌≡◌, ℕ, ◌+◌, List, [], ◌∷◌, ◌++◌, length, reverse, refl, sym, ◌∙◌, ap, subst, arith, append_assoc, length-append, vec_len}
 use Rattle.std.specs.List.{AllZip, zip}
 use Rattle.std.specs.Prelude.{slice_get, Some}
 use Rattle.rz_driver.specs.declared.station.Station.{Station}
 use Rattle.rz_disk.specs.UnderFuse.{UnderFuse}
 use Rattle.rz_disk.specs.Meter.{Meter, Rises, faults}
-use Rattle.rz_events.specs.declared.files.NodeSpec.{NodeSpec}
+use Rattle.rz_events.specs.Volume.{IsNode}
+use Rattle.std.proofs.lemmas.List.{reverse-reverse}
 use Rattle.rz_cells.specs.declared.formatting.FormatFault.{FormatFault}
 use Rattle.rz_cells.specs.declared.formatting.FormatFault.TheVariants as format
-use Rattle.rz_driver.specs.Made.{AreBack, IsBack, IsCause, IsNew, fault_at}
-use Rattle.rz_driver.proofs.Rowwise.{zip-length, zip-more, zip-same}
+use Rattle.rz_driver.specs.Made.{IsBack, IsCause, IsNew, fault_at}
+use Rattle.rz_driver.proofs.Rowwise.{all-get, zip-length, zip-more, zip-same}
 use Rattle.rz_driver.proofs.FormatLemmas.{pushed, next-taken, disk-at, all-back, failed-at, all-new}
 use Rattle.rz_driver.proofs.MadeLemmas.{new-back, same-back}
 use Rattle.rz_driver.proofs.formatting.new_stations.Goals as goal
@@ -21,6 +21,25 @@ cause-of meter disks back format.DiskFault index old new at at' risen = (old, ne
 
 pub returns-in_default-clause-back : goal.returns-in_default-clause-back
 returns-in_default-clause-back g c = zip-same (IsBack g.D.Disk.tells g.D.Disk.meter g.D.Disk.image c.args.layout) c.args.nodes.now c.args.disks.items c.requires.count (same-back g.D.Disk.tells g.D.Disk.meter g.D.Disk.image c.args.layout)
+
+pub loop-index-init : goal.loop-index-init
+loop-index-init g c =
+    let turned : reverse c.reverse.new.self.items ≡ c.args.disks.items = ap reverse c.reverse.ensures.items ∙ reverse-reverse c.args.disks.items in
+    let same = c.reverse.ensures.len in
+    let len : vec_len c.args.disks ≡ length c.args.disks.items = c.args.disks.ok.0 in
+    let count = c.requires.count in
+    let capacity = c.reverse.ensures.capacity in
+    let fits = c.args.disks.ok.1 in
+    let more = c.in-Ok.ensures.capacity in
+    record {
+      made = ([], ap (zip c.args.nodes.now) (sym turned), refl, subst (AllZip (IsNew g.D.Disk.tells g.D.Disk.meter g.D.Disk.image c.args.layout) []) (sym c.in-Ok.ensures.items) tt);
+      count = omega (arith, same, len, count);
+      room = omega (arith, capacity, len, count, fits);
+      more = omega (arith, more);
+    }
+
+pub new_station-requires : goal.new_station-requires
+new_station-requires g c = record { node = all-get IsNode c.args.nodes.now c.loop-index.index (record { sid = 0; cells = 0 }) c.requires.nodes c.loop-index-test.true }
 
 pub hand_back-requires-in-Err : goal.hand_back-requires-in-Err
 hand_back-requires-in-Err g c =

@@ -1,7 +1,5 @@
-use Rattle.std.proofs.Common.{ℕ, ◌≡◌, ◌≢◌, ◌⊎◌, ◌<◌, ⊎_elim, Some, refl, length, sym, ◌∙◌, ap, subst, arith, rules}
+use Rattle.std.proofs.Common.{refl, length}
 use Rattle.std.proofs.lemmas.Option.{slice_get_read}
-use Rattle.std.specs.Prelude.{slice_get}
-use Rattle.rz_driver.specs.declared.station.Station.{Station}
 use Rattle.rz_driver.proofs.Rows.{first-at, none-more}
 use Rattle.rz_driver.proofs.station.find.Goals as goal
 

@@ -1,13 +1,10 @@
-use Rattle.std.proofs.Common.{◌≡◌, ℕ, ◌<◌, List, [], ◌∷◌, ◌++◌, length, Some, refl, sym, ◌∙◌, ap, subst, arith}
-use Rattle.std.specs.Prelude.{slice_get, OnOk}
+use Rattle.std.proofs.Common.{◌≡◌, ◌<◌, [], ◌∷◌, ◌++◌, length, Some, refl, sym, ◌∙◌, ap, subst, arith}
+use Rattle.std.specs.Prelude.{slice_get}
 use Rattle.std.specs.List.{AllByRecursion}
 use Rattle.std.proofs.lemmas.Option.{slice_get_read}
 use Rattle.rz_events.specs.declared.operations.Operation.{Operation}
 use Rattle.rz_operation.specs.Answers.{IsOperation}
-use Rattle.rz_operation.specs.Machine.{Machine}
 use Rattle.rz_play.specs.Lines.{with_operation}
-use Rattle.rz_play.specs.World.{Seat as APlayer}
-use Rattle.std.specs.Prelude.{Option}
 use Rattle.rz_driver.specs.declared.seat.Seat.{Seat}
 use Rattle.rz_driver.specs.Locking.{lock_of}
 use Rattle.rz_driver.specs.Seats.{IsSeat, HasLayout, work_in, seat_of}

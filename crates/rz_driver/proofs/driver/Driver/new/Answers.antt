@@ -1,6 +1,7 @@
 use Rattle.std.proofs.Common.{◌≡◌, List, length, refl, sym, ◌∙◌, ap, subst}
 use Rattle.std.specs.List.{AllByRecursion}
-use Rattle.rz_events.specs.Volume.{IsNode, nodes_of}
+use Rattle.mj_angles.specs.declared.layout.Layout.{Layout}
+use Rattle.rz_events.specs.Volume.{Volume, IsNode, nodes_of}
 use Rattle.rz_events.specs.declared.files.NodeSpec.{NodeSpec}
 use Rattle.rz_driver.specs.Made.{AreNew, AreBack}
 use Rattle.rz_driver.proofs.MadeLemmas.{untouched, proper-nodes, new-ready, new-is}
@@ -15,18 +16,25 @@ new_stations-requires-clause-nodes g c = subst (AllByRecursion IsNode) (sym (c.a
 pub new_stations-requires-clause-count : goal.new_stations-requires-clause-count
 new_stations-requires-clause-count g c = c.requires.count ∙ ap length (sym (c.as_slice.ensures.value ∙ c.in-Ok.ensures.nodes))
 
+pub returns-in-Ok-new_stations-clause-made : goal.returns-in-Ok-new_stations-clause-made
+returns-in-Ok-new_stations-clause-made g c =
+    let layout : c.volume.inside.layout ≡ c.args.volume.now.layout = ap (λ (v : Volume). v.layout) c.volume.view_is in
+    subst (λ (y : Layout). AreNew g.D.Disk.tells g.D.Disk.meter g.D.Disk.image y (nodes_of c.args.volume.now.clusters) c.args.disks.items c.in-Ok-new_stations.stations.items) layout
+    (subst (λ (ns : List NodeSpec). AreNew g.D.Disk.tells g.D.Disk.meter g.D.Disk.image c.volume.inside.layout ns c.args.disks.items c.in-Ok-new_stations.stations.items) (c.as_slice.ensures.value ∙ c.in-Ok.ensures.nodes) c.in-Ok-new_stations.ensures.made)
+
 pub returns-in-Ok-new_stations-clause-ready : goal.returns-in-Ok-new_stations-clause-ready
 returns-in-Ok-new_stations-clause-ready g c =
-    let made = subst (λ (ns : List NodeSpec). AreNew g.D.Disk.tells g.D.Disk.meter g.D.Disk.image c.args.volume.now.layout ns c.args.disks.items c.in-Ok-new_stations.stations.items) (c.as_slice.ensures.value ∙ c.in-Ok.ensures.nodes) c.in-Ok-new_stations.ensures.made in
-    new-ready g.D.Disk.tells g.D.Disk.meter g.D.Disk.image c.args.volume.now c.new_parts.ensures.rules c.args.disks.items c.requires.count _ c.in-Ok.ensures.volume made c.in-Ok.ensures.seats c.in-Ok.ensures.count c.in-Ok.ensures.bins c.new.ensures
+    new-ready g.D.Disk.tells g.D.Disk.meter g.D.Disk.image c.args.volume.now c.new_parts.ensures.rules c.args.disks.items c.requires.count _ c.in-Ok.ensures.volume (returns-in-Ok-new_stations-clause-made g c)
+    c.in-Ok.ensures.seats c.in-Ok.ensures.count c.in-Ok.ensures.bins c.new-locks.ensures
 
 pub returns-in-Ok-new_stations-clause-world : goal.returns-in-Ok-new_stations-clause-world
 returns-in-Ok-new_stations-clause-world g c =
-    let made = subst (λ (ns : List NodeSpec). AreNew g.D.Disk.tells g.D.Disk.meter g.D.Disk.image c.args.volume.now.layout ns c.args.disks.items c.in-Ok-new_stations.stations.items) (c.as_slice.ensures.value ∙ c.in-Ok.ensures.nodes) c.in-Ok-new_stations.ensures.made in
-    new-is g.D.Disk.tells g.D.Disk.meter g.D.Disk.image c.args.volume.now c.new_parts.ensures.rules c.args.disks.items c.requires.count _ c.in-Ok.ensures.volume made c.in-Ok.ensures.seats c.in-Ok.ensures.export refl refl c.new-log.ensures
-
-pub returns-in-Ok-new_stations-clause-made : goal.returns-in-Ok-new_stations-clause-made
-returns-in-Ok-new_stations-clause-made g c = subst (λ (ns : List NodeSpec). AreNew g.D.Disk.tells g.D.Disk.meter g.D.Disk.image c.args.volume.now.layout ns c.args.disks.items c.in-Ok-new_stations.stations.items) (c.as_slice.ensures.value ∙ c.in-Ok.ensures.nodes) c.in-Ok-new_stations.ensures.made
+    new-is g.D.Disk.tells g.D.Disk.meter g.D.Disk.image c.args.volume.now c.args.disks.items
+    (record { stations = c.in-Ok-new_stations.stations; export = c.in-Ok.parts.export; locks = c.new-locks.result; lost = 0; log = c.new-log.result; bins = c.in-Ok.parts.bins }) c.in-Ok.parts.seats.items (returns-in-Ok-new_stations-clause-made g c)
+    c.in-Ok.ensures.seats c.in-Ok.ensures.export refl c.new-log.ensures
 
 pub returns-in-Err-clause-back : goal.returns-in-Err-clause-back
-returns-in-Err-clause-back g c = subst (λ (ns : List NodeSpec). AreBack g.D.Disk.tells g.D.Disk.meter g.D.Disk.image c.args.volume.now.layout ns c.args.disks.items c.in-Err.back.0.items) (c.as_slice.ensures.value ∙ c.in-Ok.ensures.nodes) c.in-Err.ensures.back
+returns-in-Err-clause-back g c =
+    let layout : c.volume.inside.layout ≡ c.args.volume.now.layout = ap (λ (v : Volume). v.layout) c.volume.view_is in
+    subst (λ (y : Layout). AreBack g.D.Disk.tells g.D.Disk.meter g.D.Disk.image y (nodes_of c.args.volume.now.clusters) c.args.disks.items c.in-Err.back.0.items) layout
+    (subst (λ (ns : List NodeSpec). AreBack g.D.Disk.tells g.D.Disk.meter g.D.Disk.image c.volume.inside.layout ns c.args.disks.items c.in-Err.back.0.items) (c.as_slice.ensures.value ∙ c.in-Ok.ensures.nodes) c.in-Err.ensures.back)

@@ -1,4 +1,5 @@
-use Rattle.std.proofs.Common.{List, refl}
+use Rattle.std.proofs.Common.{refl}
+use Rattle.std.specs.Vec.{with_items}
 use Rattle.std.proofs.lemmas.Result.{on_ok_weaker}
 use Rattle.rz_events.specs.declared.nodes.NodeAsk.TheVariants as ask
 use Rattle.rz_driver.specs.Administration.{IsOrdered}
@@ -20,5 +21,5 @@ returns-clause-called g c =
     on_ok_weaker c.stop_node.result
     (λ (o : IsOrdered ask.Stop c.args.sid c.as_mut_slice.result.now c.stop_node.new.stations d.shared.log.events c.stop_node.new.log.events).
     let there = ordered-in ask.Stop c.args.sid d.shared.stations c.as_mut_slice.result.now c.stop_node.new.stations d.shared.log.events c.stop_node.new.log.events c.as_mut_slice.ensures.value o in
-    admin-call d _ c.requires.ready refl refl refl refl refl ask.Stop c.args.sid there)
+    admin-call d c.requires.ready (record d.shared { stations = with_items d.shared.stations c.stop_node.new.stations; log = c.stop_node.new.log }) refl refl ask.Stop c.args.sid there)
     c.stop_node.ensures.ok

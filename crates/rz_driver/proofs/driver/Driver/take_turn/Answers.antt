@@ -1,5 +1,4 @@
-use Rattle.std.proofs.Common.{◌+◌, refl, sym, ◌∙◌, ap, subst}
-use Rattle.std.specs.Vec.{with_item}
+use Rattle.std.proofs.Common.{refl, sym, ◌∙◌, subst}
 use Rattle.rz_driver.specs.declared.driver.Driver.{Driver}
 use Rattle.rz_driver.specs.Worlds.{IsDriver}
 use Rattle.rz_driver.proofs.TakeLemmas.{seat-there, have-layouts, tied-at, drives, turned}
@@ -35,8 +34,5 @@ returns-clause-taken g c =
     let ready = subst (λ (x : Driver g.row.D.Denot g.D.Disk). IsDriver x) (sym c.self.view_is) c.requires.ready in
     let at = sym c.place.ensures ∙ c.in-Some.is in
     let there = seat-there c.args.by c.in-Some.place c.index_mut-seat.result.now _ ready at c.index_mut-seat.ensures.value in
-    turned c.args.by c.in-Some.place _
-    (record c.args.self.now { shared = c.act.new.shared; seats = with_item c.self.inside.0.1.1.1.0 c.in-Some.place c.act.new.seat; turns = c.self.inside.0.1.1.1.1.0 + 1 })
-    c.make_room.new.self c.index_mut-seat.result.now c.take_up.new.self c.act.new.seat ready at there.0 there.1
-    c.in_ok-take_up.ensures.ok c.in_ok-take_up.ensures.seat c.take_up.ensures.lock c.make_room.ensures.same c.in_ok-act.ensures.ok
-    (ap (λ (x : Driver g.row.D.Denot g.D.Disk). x.volume) (sym c.self.view_is)) refl c.args.self.now c.self.view_is refl
+    turned c.args.by c.in-Some.place _ c.act.new.shared c.make_room.new.self c.index_mut-seat.result.now c.take_up.new.self c.act.new.seat ready at there.0 there.1
+    c.in_ok-take_up.ensures.ok c.in_ok-take_up.ensures.seat c.take_up.ensures.lock c.make_room.ensures.same c.in_ok-act.ensures.ok c.args.self.now c.self.view_is
