@@ -1,9 +1,13 @@
 -- Words beside meters, node by node along the row.
-use Rattle.std.proofs.Common.{ℕ, zero, suc, Bool, true, false, ◌≡◌, ◌≢◌, ◌+◌, ◌-◌, ◌<◌, ◌≤◌, nat_eq, map, List, [], ◌∷◌, Option, Some, None, IfSome, IsTrue, if◌then◌else◌, inl, inr, refl, sym, ◌∙◌, ap, subst, arith}
-use Rattle.std.specs.Prelude.{slice_get, slice_set}
+use Rattle.std.proofs.Common.{ℕ, zero, suc, Bool, true, false, ◌≡◌, ◌≢◌, ◌⊎◌, ◌+◌, ◌-◌, ◌<◌, ◌≤◌, nat_eq, map, length, List, [], ◌∷◌, Option, Some, None, IfSome, IsTrue, if◌then◌else◌, inl, inr, refl, sym, ◌∙◌, ap, subst, arith}
+use Rattle.std.specs.Global.{Vec}
+use Rattle.std.specs.Vec.{with_items}
+use Rattle.std.proofs.lemmas.List.{length-map, with_items_is}
+use Rattle.std.specs.Prelude.{slice_get, slice_set, Result, Ok, Err, OnErr}
 use Rattle.std.specs.List.{AllByRecursion, IsDistinct}
 use Rattle.std.proofs.lemmas.Bool.{eq-eqb}
-use Rattle.rz_disk.specs.Meter.{Meter, Lasts, armed}
+use Rattle.std.proofs.lemmas.Map.Keys.{IsDistinct-head, IsDistinct-tail}
+use Rattle.rz_disk.specs.Meter.{Meter, armed, faults}
 use Rattle.rz_events.specs.declared.keys.Actor.{Actor}
 use Rattle.rz_events.specs.declared.keys.Actor.TheVariants.{Admin}
 use Rattle.rz_events.specs.declared.nodes.Phase.{Phase}
@@ -36,20 +40,28 @@ use Rattle.rz_node.specs.Opens.{Opens, IfStarted, UnlessStarted}
 use Rattle.rz_node.specs.Spends.{Spends, keep_used, fetch_used, refill_used, drop_used}
 use Rattle.rz_calls.specs.Calls as calls
 use Rattle.rz_calls.specs.Calls.{Counts}
-use Rattle.rz_play.specs.Faults.{AreFaultsCounted}
+use Rattle.rz_play.specs.Faults.{unplanned}
 use Rattle.rz_play.specs.Lines.{noted}
 use Rattle.rz_disk_laws.specs.Metered.{IsMetered, IsNoStart, IsFaultLaw, IsArmLaw, IsStartLaw, IsOpening}
 use Rattle.rz_disk.specs.declared.disk.Disk.{Ghosts}
-use Rattle.rz_disk.specs.UnderFuse.{fused_meter}
+use Rattle.rz_disk.specs.UnderFuse.{UnderFuse, fused_meter}
 use Rattle.rz_driver.specs.declared.driver.Driver.{Driver}
 use Rattle.rz_driver.specs.declared.station.Station.{Station}
-use Rattle.rz_driver.specs.Worlds.{numbers_in, Holds, Leaves}
+use Rattle.rz_lines.specs.Ends.{Carries}
+use Rattle.rz_driver.specs.Worlds.{numbers_in, IsDriver, Holds, Leaves}
 use Rattle.rz_driver.specs.Parts.{IsNoted}
-use Rattle.rz_driver.specs.Stations.{IsAt, numbers_of}
-use Rattle.rz_driver.specs.Meters.{IsExact, GoesWith, CountsWith, OfEach, AreMetered, AreCounted, GoesOn, Goes}
+use Rattle.rz_driver.specs.Stations.{IsAt, numbers_of, disks_of}
+use Rattle.mj_angles.specs.declared.layout.Layout.{Layout}
+use Rattle.rz_events.specs.declared.files.NodeSpec.{NodeSpec}
+use Rattle.rz_events.specs.Volume.{Volume, IsVolume, nodes_of}
+use Rattle.rz_driver.specs.Made.{AreNew, faults_in, faults_at}
+use Rattle.rz_driver.specs.Meters.{IsExact, GoesWith, CountsWith, OfEach, AreMetered, AreCounted, AreDisksCounted, GoesOn, Goes}
 use Rattle.rz_driver.proofs.EventWords.{word-stays, word-grows, word-apart, node-word, export-quiet, said-quiet, noted-own, noted-others}
 
 -- Along the row.
+
+differ : (n m : ℕ) → nat_eq n m ≡ false → n ≢ m
+differ n m apart same = let yes : nat_eq n m ≡ true = eq-eqb n m same in cc
 
 module _ {D : Type 0} where
   the-one : (x s : Station D) → Some x ≡ Some s → x ≡ s
@@ -59,9 +71,6 @@ module _ {D : Type 0} where
   sid-at [] n i s at is = absurd at
   sid-at (x ∷ xs) n zero s at is = ap (λ (y : Station D). y.sid) (sym (the-one x s is)) ∙ at
   sid-at (x ∷ xs) n (suc i) s at is = sid-at xs n i s at.1 is
-
-  differ : (n m : ℕ) → nat_eq n m ≡ false → n ≢ m
-  differ n m apart same = let yes : nat_eq n m ≡ true = eq-eqb n m same in cc
 
   apart-at : (n place : ℕ) (row : List (Station D)) (s : Station D) → slice_get row place ≡ Some s → AllByRecursion (λ m. nat_eq n m ≡ false) (numbers_of row) → n ≢ s.sid
   apart-at n place [] s at apart = absurd (cc)
@@ -96,17 +105,18 @@ module _ {D : Type 0} where
     one-goes i zero (r ∷ more) s s' at same apart stay goes o =
         let here = the-one r s at in
         let now = goes (first i) (subst (λ (t : Station D). P (first i) (of_word (Node t.sid) h) t.node) here o.0) in
-        let far = subst (λ (t : Station D). AllByRecursion (λ m. nat_eq t.sid m ≡ false) (numbers_of more)) here apart.0 in
+        let first_apart = IsDistinct-head nat_eq r.sid (numbers_of more) apart in
+        let far = subst (λ (t : Station D). AllByRecursion (λ m. nat_eq t.sid m ≡ false) (numbers_of more)) here first_apart in
         (subst (λ (n : ℕ). P (first i) (of_word (Node n) h') s'.node) (sym same) now, others-stay (i + 1) s.sid more stay far o.1)
     one-goes i (suc place) (r ∷ more) s s' at same apart stay goes o =
-        let far = apart-at r.sid place more s at apart.0 in
-        (subst (λ (w : List Event). P (first i) w r.node) (sym (stay r.sid far)) o.0, one-goes (i + 1) place more s s' at same apart.1 stay goes o.1)
+        let far = apart-at r.sid place more s at (IsDistinct-head nat_eq r.sid (numbers_of more) apart) in
+        (subst (λ (w : List Event). P (first i) w r.node) (sym (stay r.sid far)) o.0, one-goes (i + 1) place more s s' at same (IsDistinct-tail nat_eq r.sid (numbers_of more) apart) stay goes o.1)
 
   -- another statement of each
   pub each-then : (P Q : ℕ → List Event → NodeView D → Type 0) (first : ℕ → ℕ) (h : List Event) (i : ℕ) (row : List (Station D)) → ((f : ℕ) (w : List Event) (n : NodeView D) → P f w n → Q f w n)
       → OfEach P first i row h → OfEach Q first i row h
-  each-then P Q first h i [] then o = tt
-  each-then P Q first h i (s ∷ more) then o = (then (first i) (of_word (Node s.sid) h) s.node o.0, each-then P Q first h (i + 1) more then o.1)
+  each-then P Q first h i [] turns o = tt
+  each-then P Q first h i (s ∷ more) turns o = (turns (first i) (of_word (Node s.sid) h) s.node o.0, each-then P Q first h (i + 1) more turns o.1)
 
 -- One node.
 
@@ -246,7 +256,7 @@ pub armed-own : (fuse : Bool) (passes : Option ℕ) (old new : Meter) → new �
 armed-own true passes old new is = ap (λ (m : Meter). m.own) is
 armed-own false passes old new is = ap (λ (m : Meter). m.own) is
 
-armed-there : (fuse : Bool) (passes : Option ℕ) (old new : Meter) → IsTrue fuse → new ≡ (if fuse then armed passes old else old) → new ≡ armed passes old
+pub armed-there : (fuse : Bool) (passes : Option ℕ) (old new : Meter) → IsTrue fuse → new ≡ (if fuse then armed passes old else old) → new ≡ armed passes old
 armed-there true passes old new has is = is
 armed-there false passes old new has is = cc
 
@@ -367,3 +377,97 @@ said-stays by number said h h' log_is n =
 pub leaves-counted : {D : Type 0} {G : Ghosts D} (d : Driver D G) (first : ℕ → ℕ) → Leaves d first → AreCounted (fused_meter G.meter) (numbers_in d) d.shared.stations.items d.shared.log.events first
 leaves-counted {G = G} d first (inl met) = metered-counts (fused_meter G.meter) first (numbers_in d) d.shared.stations.items d.shared.log.events met
 leaves-counted {G = G} d first (inr counted) = counted
+
+-- The disks that are handed in, and those that are handed back.
+
+module _ {D : Type 0} (meter : D → Meter) (first : ℕ → ℕ) where
+  disks-counted : (i : ℕ) (row : List (Station (UnderFuse D))) (h : List Event) → OfEach (CountsWith (fused_meter meter)) first i row h → AreDisksCounted meter first i (numbers_of row) (disks_of row) h
+  disks-counted i [] h o = tt
+  disks-counted i (s ∷ more) h o = (o.0.0, o.0.1, disks-counted (i + 1) more h o.1)
+
+  pub counted-disks : (numbers : List ℕ) (row : List (Station (UnderFuse D))) (h : List Event) → AreCounted (fused_meter meter) numbers row h first → AreDisksCounted meter first 0 numbers (disks_of row) h
+  counted-disks numbers row h c = subst (λ (ns : List ℕ). AreDisksCounted meter first 0 ns (disks_of row) h) c.named (disks-counted 0 row h c.each)
+
+  -- a disk that is not armed goes with an empty word
+  unarmed-goes : (f : ℕ) (n : NodeView (UnderFuse D)) → n.disk.fuse ≡ None → f ≤ faults (meter n.disk.disk) → GoesWith (fused_meter meter) f [] n
+  unarmed-goes f n none low = (
+    low,
+    λ exact. record {
+      few = (let nothing : unplanned [] ≡ 0 = refl in omega (arith, low, nothing));
+      unarmed = λ is. none;
+      least = λ left is. absurd (cc);
+      most = λ same left l is at. absurd (cc);
+      effect = λ same. refl;
+    },
+  )
+
+  pub new-each : (tells : Bool) (image : D → List ℕ → Type 0) (layout : Layout) (i : ℕ) (nodes : List NodeSpec) (disks : List D) (row : List (Station (UnderFuse D)))
+      → ((k : ℕ) (d : D) → slice_get disks k ≡ Some d → first (i + k) ≡ faults (meter d)) → AreNew tells meter image layout nodes disks row → OfEach (GoesWith (fused_meter meter)) first i row []
+  new-each tells image layout i nodes disks [] at new = tt
+  new-each tells image layout i [] disks (s ∷ row) at new = absurd new
+  new-each tells image layout i (n ∷ nodes) [] (s ∷ row) at new = absurd new
+  new-each tells image layout i (n ∷ nodes) (d ∷ disks) (s ∷ row) at new =
+      let here = at 0 d refl in
+      let plain : i + 0 ≡ i = omega arith in
+      let low = new.0.count in
+      let first_is : first i ≡ faults (meter d) = ap first (sym plain) ∙ here in (
+        unarmed-goes (first i) s.node new.0.unarmed (omega (arith, first_is, low)),
+        new-each tells image layout (i + 1) nodes disks row (λ k e is. let shift : i + 1 + k ≡ i + suc k = omega arith in ap first shift ∙ at (suc k) e is) new.1,
+      )
+
+-- a new driver
+pub new-holds : {D : Type 0} (tells : Bool) (meter : D → Meter) (image : D → List ℕ → Type 0) (v : Volume) → IsVolume v → (disks : List D) (numbers : List ℕ) (row : List (Station (UnderFuse D))) (h : List Event)
+    → numbers_of row ≡ numbers → numbers ≡ map (λ (n : NodeSpec). n.sid) (nodes_of v.clusters) → AreNew tells meter image v.layout (nodes_of v.clusters) disks row → h ≡ []
+    → AreMetered (fused_meter meter) numbers row h (faults_at meter disks)
+new-holds tells meter image v rules disks numbers row h named same new none = subst (λ (k : List Event). AreMetered (fused_meter meter) numbers row k (faults_at meter disks)) (sym none) (record {
+  named = named;
+  apart = subst (IsDistinct nat_eq) (sym same) rules.distinct_sids;
+  each = new-each meter (faults_at meter disks) tells image v.layout 0 (nodes_of v.clusters) disks row
+      (λ k d is. let plain : 0 + k ≡ k = omega arith in ap (faults_at meter disks) plain ∙ ap (faults_in meter) is) new;
+})
+
+-- The vector of nodes, of which a slice was written.
+
+module _ {X : Type 0} (meter : X → Meter) (numbers : List ℕ) (first : ℕ → ℕ) (v : Vec (Station X)) (xs ys : List (Station X)) (same : xs ≡ v.items) where
+  named-vector : numbers_of ys ≡ numbers_of xs → (with_items v ys).items ≡ ys
+  named-vector named = with_items_is v ys (sym (length-map ys (λ (s : Station X). s.sid)) ∙ ap length named ∙ length-map xs (λ (s : Station X). s.sid) ∙ ap length same ∙ sym v.ok.0)
+
+  pub metered-in : (h h' : List Event) → (AreMetered meter numbers xs h first → AreMetered meter numbers ys h' first) → AreMetered meter numbers v.items h first → AreMetered meter numbers (with_items v ys).items h' first
+  metered-in h h' held met =
+      let before = subst (λ (zs : List (Station X)). AreMetered meter numbers zs h first) (sym same) met in
+      let now = held before in
+      subst (λ (zs : List (Station X)). AreMetered meter numbers zs h' first) (sym (named-vector (now.named ∙ sym before.named))) now
+
+  pub counted-in : (h h' : List Event) → (AreMetered meter numbers xs h first → AreCounted meter numbers ys h' first) → AreMetered meter numbers v.items h first → AreCounted meter numbers (with_items v ys).items h' first
+  counted-in h h' left met =
+      let before = subst (λ (zs : List (Station X)). AreMetered meter numbers zs h first) (sym same) met in
+      let now = left before in
+      subst (λ (zs : List (Station X)). AreCounted meter numbers zs h' first) (sym (named-vector (now.named ∙ sym before.named))) now
+
+-- After an error.
+
+on-err : {T E P : Type 0} (r : Result T E) → P → OnErr r P
+on-err (Ok x) p = tt
+on-err (Err e) p = p
+
+module _ {T E D : Type 0} (r : Result T E) (meter : D → Meter) (row : List (Station D)) where
+  pub still-err : (h h' : List Event) → h' ≡ h → OnErr r ((numbers : List ℕ) → Carries (AreMetered meter numbers row h) (AreCounted meter numbers row h'))
+  still-err h h' same =
+      let P : Type 0 = (numbers : List ℕ) → Carries (AreMetered meter numbers row h) (AreCounted meter numbers row h') in
+      on-err {P = P} r (λ numbers first met. still-left meter first numbers row h h' same met)
+
+  pub order-err : (place : ℕ) (s s' : Station D) (h h' : List Event) → slice_get row place ≡ Some s → s'.sid ≡ s.sid → (meter s.node.disk).own ≤ (meter s'.node.disk).own → h' ≡ h
+      → OnErr r ((numbers : List ℕ) → Carries (AreMetered meter numbers row h) (AreCounted meter numbers (slice_set row place s') h'))
+  order-err place s s' h h' at named rose same =
+      let P : Type 0 = (numbers : List ℕ) → Carries (AreMetered meter numbers row h) (AreCounted meter numbers (slice_set row place s') h') in
+      on-err {P = P} r (λ numbers first met. order-left meter first numbers row place s s' h h' at named rose same met)
+
+-- the log of a driver was not changed
+pub log-kept : {D : Type 0} {G : Ghosts D} (d : Driver D G) → IsDriver d → (h : List Event) (first : ℕ → ℕ) → h ≡ d.shared.log.events → Holds d first
+    → AreMetered (fused_meter G.meter) (numbers_in d) d.shared.stations.items h first
+log-kept {G = G} d ready h first same met = subst (λ (k : List Event). AreMetered (fused_meter G.meter) (numbers_in d) d.shared.stations.items k first) (sym same) met
+
+pub turn-err : {T E D : Type 0} (r : Result T E) (meter : D → Meter) (numbers : List ℕ) (row : List (Station D)) (h : List Event) (before : (ℕ → ℕ) → Type 0)
+    → ((first : ℕ → ℕ) → before first → AreCounted meter numbers row h first) → OnErr r (Carries before (λ first. AreMetered meter numbers row h first ⊎ AreCounted meter numbers row h first))
+turn-err (Ok x) meter numbers row h before left = tt
+turn-err (Err x) meter numbers row h before left = λ first met. inr (left first met)

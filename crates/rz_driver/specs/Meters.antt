@@ -1,7 +1,7 @@
 -- The nodes of a driver, each with its word of the log beside the meter of its disk.
 use Rattle.std.specs.Prelude.{ℕ, ◌≡◌, ◌≢◌, ◌+◌, ◌-◌, ◌^◌, ◌<◌, ◌≤◌, nat_eq, List, [], ◌∷◌, Option}
 use Rattle.std.specs.List.{IsDistinct}
-use Rattle.rz_disk.specs.Meter.{Meter}
+use Rattle.rz_disk.specs.Meter.{Meter, faults}
 use Rattle.rz_events.specs.declared.events.Word.TheVariants.{Node}
 use Rattle.rz_events.specs.declared.events.Event.{Event}
 use Rattle.rz_core.specs.History.{of_word}
@@ -51,3 +51,12 @@ pub record GoesOn {D : Type 0} (meter : D → Meter) (n : ℕ) (node node' : Nod
 -- the station went on, and this event of it, if there is one, is to be noted
 abbrev pub Goes : {D : Type 0} → (D → Meter) → Station D → Station D → Option Event → Type 0
 Goes meter s s' event = (h : List Event) → GoesOn meter s.sid s.node s'.node h (noted event h)
+
+-- Of the disks that are handed back, one for each node in order, from place i on: the count did not fall, and the faults of the
+-- node's word are counted by its rise.
+abbrev pub AreDisksCounted : {D : Type 0} → (D → Meter) → (ℕ → ℕ) → ℕ → List ℕ → List D → List Event → Type 0
+AreDisksCounted meter first i [] [] h = Unit {0}
+AreDisksCounted meter first i (n ∷ numbers) (d ∷ disks) h =
+    (first i ≤ faults (meter d)) × (faults (meter d) < 2 ^ 64 - 1 → AreFaultsCounted (of_word (Node n) h) (faults (meter d) - first i))
+    × AreDisksCounted meter first (i + 1) numbers disks h
+AreDisksCounted meter first i _ _ h = ⊥

@@ -9,7 +9,7 @@ use rz_link::Link;
 
 impl<D: Disk> Stage for Driver<D> {
     ghost use Rattle.rz_driver.specs.Worlds.{world_of, IsDriver, Holds, Leaves};
-    ghost use Rattle.std.specs.Prelude.{inl};
+    ghost use Rattle.std.proofs.Common.{inl};
 
     ghost tells = { D.tells };
 

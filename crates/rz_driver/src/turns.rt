@@ -38,7 +38,7 @@ impl<D: Disk> Driver<D> {
         ensures held { OnOk result (Carries (Holds self.old) (Holds self.new)) }
         ensures left { OnErr result (Carries (Holds self.old) (Leaves self.new)) }
     {
-            let Some(place) = place(by) else {
+        let Some(place) = place(by) else {
             return Err(NoMemory);
         };
         self.shared.log.make_room()?;

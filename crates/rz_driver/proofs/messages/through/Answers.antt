@@ -17,7 +17,7 @@ returns-clause-metered g c =
     let s = c.in_ok-answer.ensures in
     let goes = call-goes meter c.faults.ensures c.args.by c.args.number (opening_calls node.geometry) node.geometry.cells c.args.ask c.in_ok-answer.answer node c.serve.new.node s.no_start s.served.given_is s.served.after s.counts h in
     on_ok_weaker c.note.result (λ (n : IsNoted c.node_event.result h c.note.new.log.events).
-        noted-goes meter c.args.number node c.serve.new.node h c.note.new.log.events c.node_event.result (node_event c.args.by c.args.number c.args.ask c.in_ok-answer.answer) c.node_event.ensures n goes) c.note.ensures.ok
+    noted-goes meter c.args.number node c.serve.new.node h c.note.new.log.events c.node_event.result (node_event c.args.by c.args.number c.args.ask c.in_ok-answer.answer) c.node_event.ensures n goes) c.note.ensures.ok
 
 pub returns-clause-counted : goal.returns-clause-counted
 returns-clause-counted g c =

@@ -20,7 +20,7 @@ returns-clause-metered g c =
     let s = c.in_ok-answer.ensures in
     let goes = call-goes meter c.faults.ensures c.args.by c.args.number (opening_calls node.geometry) node.geometry.cells c.args.ask c.in_ok-answer.answer node c.serve.new.node s.no_start s.served.given_is s.served.after s.counts h in
     on_ok_weaker c.note_two.result (λ (n : c.note_two.new.self.events ≡ e.Missed c.args.by c.args.number true ∷ c.in-Some.event ∷ h).
-        missed-goes meter c.args.number node c.serve.new.node h c.note_two.new.self.events c.in-Some.event c.args.by (node_event c.args.by c.args.number c.args.ask c.in_ok-answer.answer) (sym c.node_event.ensures ∙ c.in-Some.is) n goes) c.note_two.ensures.ok
+    missed-goes meter c.args.number node c.serve.new.node h c.note_two.new.self.events c.in-Some.event c.args.by (node_event c.args.by c.args.number c.args.ask c.in_ok-answer.answer) (sym c.node_event.ensures ∙ c.in-Some.is) n goes) c.note_two.ensures.ok
 
 pub returns-clause-counted : goal.returns-clause-counted
 returns-clause-counted g c =
