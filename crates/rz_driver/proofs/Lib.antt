@@ -13,3 +13,5 @@ mod ActorOrders
 mod MadeLemmas
 mod FormatLemmas
 mod NodeOrders
+mod EventWords
+mod MeterLemmas

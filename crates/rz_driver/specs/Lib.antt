@@ -5,3 +5,4 @@ pub mod Acts
 pub mod Administration
 pub mod Worlds
 pub mod Made
+pub mod Meters
