@@ -3,7 +3,7 @@ ghost use Rattle.std.specs.Prelude.{◌≡◌, ◌+◌, ◌<◌, ◌≤◌, Some
 ghost use Rattle.rz_export_model.specs.Export.{export_reply, export_after};
 ghost use Rattle.rz_export_model.specs.ExportEvents.{export_event};
 ghost use Rattle.rz_operation.specs.Meaning.{call_of};
-ghost use Rattle.rz_driver.specs.Parts.{AreWords, IsNoted, IsExportPart};
+ghost use Rattle.rz_asks.specs.Parts.{AreWords, IsNoted, IsExportPart};
 
 use crate::NoMemory;
 use crate::log::Log;
@@ -21,7 +21,7 @@ pub(crate) enum Words {
 }
 
 /// Asks the export what a machine asks of it, tells the machine the reply, and notes it.
-pub(crate) fn ask_export(
+pub fn ask_export(
     alloc: Global,
     by: Actor,
     machine: &mut Machine,
@@ -124,7 +124,7 @@ fn note_reply(
 }
 
 /// Notes an event, where there is one.
-pub(crate) fn note(event: Option<Event>, log: &mut Log) -> Result<(), NoMemory>
+pub fn note(event: Option<Event>, log: &mut Log) -> Result<(), NoMemory>
     requires room { 0 < log.old.room }
     ensures ok { OnOk result (IsNoted event log.old.events log.new.events) }
     ensures err { OnErr result (log.new.events ≡ log.old.events) }

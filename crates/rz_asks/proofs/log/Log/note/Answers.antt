@@ -1,8 +1,8 @@
 use Rattle.std.proofs.Common.{◌<◌, ◌-◌, length, sym, ◌∙◌, subst, arith}
 use Rattle.std.specs.Vec.{vec_capacity}
-use Rattle.rz_driver.specs.Logged.{Logged}
-use Rattle.rz_driver.proofs.Begins.{pushed, rises-noted}
-use Rattle.rz_driver.proofs.log.Log.note.Goals as goal
+use Rattle.rz_asks.specs.Logged.{Logged}
+use Rattle.rz_asks.proofs.Begins.{pushed, rises-noted}
+use Rattle.rz_asks.proofs.log.Log.note.Goals as goal
 
 pub invariant_of-self-else-stamp-self-14 : goal.invariant_of-self-else-stamp-self-14
 invariant_of-self-else-stamp-self-14 c =

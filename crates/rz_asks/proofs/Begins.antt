@@ -7,7 +7,7 @@ use Rattle.rz_events.specs.declared.events.Event.{Event}
 use Rattle.rz_events.specs.declared.events.Event.TheVariants as e
 use Rattle.rz_core.specs.History.{Has, Begun, begun_by, first_some, wrote}
 use Rattle.rz_play.specs.Turns.{text_in}
-use Rattle.rz_driver.specs.Logged.{stamp_begun, HasBegun, rises_by, Rises}
+use Rattle.rz_asks.specs.Logged.{stamp_begun, HasBegun, rises_by, Rises}
 
 -- ---- stamps that rise
 

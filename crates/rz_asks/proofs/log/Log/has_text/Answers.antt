@@ -5,9 +5,9 @@ use Rattle.std.proofs.lemmas.Option.{slice_get_read}
 use Rattle.rz_events.specs.declared.events.Event.{Event}
 use Rattle.rz_core.specs.History.{wrote}
 use Rattle.rz_play.specs.Turns.{text_in}
-use Rattle.rz_driver.specs.Logged.{Logged}
-use Rattle.rz_driver.proofs.Begins.{text-found}
-use Rattle.rz_driver.proofs.log.Log.has_text.Goals as goal
+use Rattle.rz_asks.specs.Logged.{Logged}
+use Rattle.rz_asks.proofs.Begins.{text-found}
+use Rattle.rz_asks.proofs.log.Log.has_text.Goals as goal
 
 pub returns-in-Some : goal.returns-in-Some
 returns-in-Some c found =

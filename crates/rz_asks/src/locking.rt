@@ -5,7 +5,7 @@ ghost use Rattle.rz_events.specs.declared.keys.Actor.TheVariants as actor;
 ghost use Rattle.rz_events.specs.declared.tree.TreeCall.TheVariants as tree;
 ghost use Rattle.rz_operation.specs.Meaning.{path_in};
 ghost use Rattle.rz_play.specs.Turns.{lock_on};
-ghost use Rattle.rz_driver.specs.Locking.{lock_of, Grants, lock_if, IsOpenPart};
+ghost use Rattle.rz_asks.specs.Locking.{lock_of, Grants, lock_if, IsOpenPart};
 
 use crate::NoMemory;
 use crate::log::Log;
@@ -17,7 +17,7 @@ use rz_operation::{Ask, Machine};
 use std::alloc::Global;
 
 /// Opens the file that a machine asks for, and takes its lock where no held lock conflicts.
-pub(crate) fn open(
+pub fn open(
     alloc: Global,
     by: Actor,
     machine: &mut Machine,

@@ -18,7 +18,7 @@ use Rattle.rz_operation.specs.Machine.{Machine}
 use Rattle.rz_operation_model.specs.Ask.{AskLock, ask_of}
 use Rattle.rz_operation_model.specs.Steps.{Locked}
 use Rattle.rz_play.specs.Turns.{lock_on}
-use Rattle.rz_driver.specs.Parts.{IsTold, IsNoted}
+use Rattle.rz_asks.specs.Parts.{IsTold, IsNoted}
 
 -- the lock that an actor notes as its own
 abbrev pub lock_of : Option (Range × LockKind) → Option Lock

@@ -1,8 +1,8 @@
 use Rattle.std.proofs.Common.{sym, ◌∙◌}
 use Rattle.rz_operation.specs.Meaning.{path_in}
-use Rattle.rz_driver.specs.Locking.{lock_of}
-use Rattle.rz_driver.proofs.OpenLemmas.{none-lock, opened}
-use Rattle.rz_driver.proofs.locking.open.Goals as goal
+use Rattle.rz_asks.specs.Locking.{lock_of}
+use Rattle.rz_asks.proofs.OpenLemmas.{none-lock, opened}
+use Rattle.rz_asks.proofs.locking.open.Goals as goal
 
 pub returns-clause-ok : goal.returns-clause-ok
 returns-clause-ok c =

@@ -2,7 +2,7 @@
 ghost use Rattle.std.specs.Prelude.{◌≡◌, ◌+◌, ◌<◌, ◌≤◌, [], ◌∷◌, reverse, OnOk, OnErr, IsTrue, Option};
 ghost use Rattle.rz_core.specs.History.{wrote};
 ghost use Rattle.rz_play.specs.Turns.{text_in};
-ghost use Rattle.rz_driver.specs.Logged.{stamp_begun, HasBegun};
+ghost use Rattle.rz_asks.specs.Logged.{stamp_begun, HasBegun};
 
 use crate::NoMemory;
 use rz_events::Event;
@@ -13,7 +13,7 @@ use std::marker::Model;
 ///
 /// The stamps of writes rise, so that a text is found by its stamp.
 #[derive(Drop)]
-pub(crate) struct Log {
+pub struct Log {
     events: Vec<Event>,
     /// The stamps of the writes that began, ascending, and where their events stand.
     begins: Vec<(u64, usize)>,
@@ -24,7 +24,7 @@ pub(crate) struct Log {
 impl Model for Log {
     ghost use Rattle.std.specs.Prelude.{reverse, ◌-◌, length};
     ghost use Rattle.std.specs.Vec.{vec_capacity};
-    ghost use Rattle.rz_driver.specs.Logged.{Logged, logged_code, Rises};
+    ghost use Rattle.rz_asks.specs.Logged.{Logged, logged_code, Rises};
 
     ghost Value = { Logged };
 
@@ -37,7 +37,7 @@ impl Model for Log {
 
 impl Log {
     /// A log with no event.
-    pub(crate) fn new(alloc: Global) -> Log
+    pub fn new(alloc: Global) -> Log
         ensures { result.events ≡ [] }
     {
         Log {
@@ -48,7 +48,7 @@ impl Log {
     }
 
     /// Makes room for two events.
-    pub(crate) fn make_room(&mut self) -> Result<(), AllocError>
+    pub fn make_room(&mut self) -> Result<(), AllocError>
         ensures same { self.new.events ≡ self.old.events }
         ensures ok { OnOk result (2 ≤ self.new.room) }
     {
@@ -58,7 +58,7 @@ impl Log {
     }
 
     /// Adds an event. A write whose stamp does not rise is not added.
-    pub(crate) fn note(&mut self, event: Event) -> Result<(), NoMemory>
+    pub fn note(&mut self, event: Event) -> Result<(), NoMemory>
         requires room { 0 < self.old.room }
         ensures ok { OnOk result (self.new.events ≡ event ∷ self.old.events) }
         ensures err { OnErr result (self.new.events ≡ self.old.events) }
@@ -84,7 +84,7 @@ impl Log {
     }
 
     /// Adds two events, or none.
-    pub(crate) fn note_two(&mut self, first: Event, second: Event) -> Result<(), NoMemory>
+    pub fn note_two(&mut self, first: Event, second: Event) -> Result<(), NoMemory>
         requires room { 2 ≤ self.old.room }
         ensures ok { OnOk result (self.new.events ≡ second ∷ first ∷ self.old.events) }
         ensures err { OnErr result (self.new.events ≡ self.old.events) }
@@ -100,7 +100,7 @@ impl Log {
     }
 
     /// Whether the write of a stamp began with this text. It finds it in logarithmic time.
-    pub(crate) fn has_text(&self, stamp: u64, text: &[u8]) -> bool
+    pub fn has_text(&self, stamp: u64, text: &[u8]) -> bool
         ensures { IsTrue result → text_in (wrote self.now.events stamp) ≡ text.now }
     {
         match self.begins.binary_search_by_key(&stamp, |begun| begun.0) {
@@ -116,14 +116,14 @@ impl Log {
     }
 
     /// The events, the oldest first.
-    pub(crate) fn events(&self) -> &[Event]
+    pub fn events(&self) -> &[Event]
         ensures { result.now ≡ reverse self.now.events }
     {
         self.events.as_slice()
     }
 
     /// The events, the oldest first.
-    pub(crate) fn close(self) -> Vec<Event>
+    pub fn close(self) -> Vec<Event>
         ensures { result.items ≡ reverse self.events }
     {
         self.events

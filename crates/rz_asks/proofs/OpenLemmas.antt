@@ -20,8 +20,8 @@ use Rattle.rz_locks.specs.Held.{Held}
 use Rattle.rz_operation.specs.Machine.{Machine}
 use Rattle.rz_operation_model.specs.Steps.{Locked, told}
 use Rattle.rz_play.specs.Turns.{lock_on}
-use Rattle.rz_driver.specs.Locking.{lock_of, Grants, lock_if, open_reply, IsOpened}
-use Rattle.rz_driver.specs.Parts.{IsNoted}
+use Rattle.rz_asks.specs.Locking.{lock_of, Grants, lock_if, open_reply, IsOpened}
+use Rattle.rz_asks.specs.Parts.{IsNoted}
 
 pub none-lock : (held : Option (Range × LockKind)) → is_some held ≡ false → lock_of held ≡ None
 none-lock None is = refl

@@ -6,7 +6,7 @@ ghost use Rattle.rz_operation_model.specs.Ask.{ask_of, Say, SayGot};
 ghost use Rattle.rz_operation_model.specs.Steps.{read_end};
 ghost use Rattle.rz_operation.specs.Machine.{text_of};
 ghost use Rattle.rz_play.specs.Turns.{found_text};
-ghost use Rattle.rz_driver.specs.Parts.{IsSayPart, is_bad};
+ghost use Rattle.rz_asks.specs.Parts.{IsSayPart, is_bad};
 
 use crate::NoMemory;
 use crate::log::Log;
@@ -17,7 +17,7 @@ use std::alloc::Global;
 /// Says what a machine is about to say, and answers whether that was the answer of its operation.
 ///
 /// A text that was found is that of the write which it names.
-pub(crate) fn say(
+pub fn say(
     alloc: Global,
     by: Actor,
     number: u32,
@@ -96,7 +96,7 @@ fn end_of(alloc: Global, machine: &Machine, mark: ReadMark, log: &Log) -> Result
 }
 
 /// Whether a machine is about to say that the records which came fit no block.
-pub(crate) fn is_bad(machine: &Machine) -> bool
+pub fn is_bad(machine: &Machine) -> bool
     ensures { result ≡ is_bad (ask_of machine.now.layout machine.now.work) }
 {
     match machine.next() {

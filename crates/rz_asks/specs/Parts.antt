@@ -17,8 +17,8 @@ use Rattle.rz_operation_model.specs.Turns.{said_event}
 use Rattle.rz_operation.specs.declared.ask.ExportAsk.{ExportAsk}
 use Rattle.rz_operation.specs.declared.ask.ExportAsk.TheVariants as export
 use Rattle.rz_play.specs.Turns.{text_said}
-use Rattle.rz_driver.specs.declared.replies.Words.{Words}
-use Rattle.rz_driver.specs.declared.replies.Words.TheVariants as words
+use Rattle.rz_asks.specs.declared.replies.Words.{Words}
+use Rattle.rz_asks.specs.declared.replies.Words.TheVariants as words
 
 -- the texts of what is asked, for the log
 abbrev pub AreWords : ExportAsk → Words → Type 0
