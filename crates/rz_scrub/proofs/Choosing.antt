@@ -1,15 +1,14 @@
 -- What the positions that were chosen say of the blocks that are left.
-use Rattle.std.proofs.Common.{◌≡◌, ◌≢◌, ℕ, ◌+◌, ◌-◌, ◌<◌, ◌≤◌, Bool, true, false, List, [], ◌∷◌, ◌++◌, length, map, get_or, take, set, min, ℤ, refl, sym, arith, ap, ◌∙◌, subst, inl, inr, ◌⊎◌, Option, Some}
+use Rattle.std.proofs.Common.{◌≡◌, ◌≢◌, ℕ, ◌+◌, ◌-◌, ◌<◌, ◌≤◌, Bool, true, false, List, [], ◌∷◌, ◌++◌, length, map, get_or, take, set, ℤ, refl, sym, arith, ap, ◌∙◌, subst, Option}
 use Rattle.std.specs.Prelude.{All, count_by, unwrap_or, IsTrue}
-use Rattle.std.specs.List.{AllPairs, range_with_len}
-use Rattle.std.proofs.lemmas.Bool.{cases_Bool}
+use Rattle.std.specs.List.{range_with_len}
 use Rattle.std.proofs.lemmas.List.{length_push, length-take, get_or-take, get_or_default, take-take, take-set, take_more_set}
 use Rattle.std.proofs.lemmas.List.Elements.{All-nil, All-push, All-weaker, All-map}
 use Rattle.std.proofs.lemmas.List.Quantifiers.{all_pairs_push}
 use Rattle.mj_angles.specs.Layout.{inverse_of, angle_of}
 use Rattle.rz_words.specs.Grid.{Grid, word}
 use Rattle.mj_angles.specs.Projection.{projection}
-use Rattle.mj_inverse.specs.Fits.{Pair, Search, IsFound}
+use Rattle.mj_inverse.specs.Fits.{Pair, IsFound}
 use Rattle.rz_scrub.specs.Records.{Records, bins_at, has_bins, added}
 use Rattle.rz_scrub.specs.Misfits.{IsBlock, IsWithinReach, is_fit, projection_at}
 use Rattle.rz_scrub.specs.Choice.{IsChoice, IsNoneLeft, FitsAll, pair_at, search_for}

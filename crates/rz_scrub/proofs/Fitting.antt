@@ -1,6 +1,6 @@
 -- Which positions a block fits.
-use Rattle.std.proofs.Common.{◌≡◌, ℕ, ◌+◌, ◌-◌, ◌≤◌, Bool, true, false, not, ◌&&◌, List, Option, Some, None, length, refl, sym, arith, ap, ◌∙◌, inl, inr, ◌<◌}
-use Rattle.std.specs.Prelude.{count_by, is_some, nat_eq, IsTrue}
+use Rattle.std.proofs.Common.{◌≡◌, ℕ, ◌+◌, ◌≤◌, Bool, true, false, not, ◌&&◌, List, Option, Some, None, length, refl, sym, arith, ap, ◌∙◌, inl, inr}
+use Rattle.std.specs.Prelude.{count_by, is_some, nat_eq}
 use Rattle.std.specs.Cmp.Lexicographic.{pointwise}
 use Rattle.std.proofs.lemmas.Bool.{false≢true, and_parts, cases_Bool}
 use Rattle.std.proofs.lemmas.List.Sums.{length-filter}
@@ -9,7 +9,7 @@ use Rattle.std.proofs.lemmas.Slice.Eq.{bytes_eq-Decides}
 use Rattle.mj_angles.specs.Layout.{inverse_of}
 use Rattle.rz_words.specs.Grid.{Grid}
 use Rattle.rz_scrub.specs.Records.{Records, positions, bins_at, has_bins, added}
-use Rattle.rz_scrub.specs.Misfits.{IsWithinReach, are_same, are_other, projection_at, is_fit, is_misfit, misfits, reach}
+use Rattle.rz_scrub.specs.Misfits.{IsWithinReach, are_same, are_other, projection_at, is_fit, is_misfit, misfits}
 use Rattle.rz_scrub.proofs.Counting.{one, count-le, count-split}
 
 -- bins that are there are the projection or are not

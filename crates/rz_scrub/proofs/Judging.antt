@@ -1,8 +1,8 @@
 -- From the search to the verdict.
-use Rattle.std.proofs.Common.{◌≡◌, ◌≢◌, ℕ, ◌≤◌, List, [], length, refl, sym, arith, ap, subst, ◌↔◌}
+use Rattle.std.proofs.Common.{◌≡◌, ◌≢◌, ℕ, [], length, refl, arith, ap, subst, ◌↔◌}
 use Rattle.rz_words.specs.Grid.{Grid}
 use Rattle.rz_scrub.specs.Records.{Records}
-use Rattle.rz_scrub.specs.Misfits.{IsBlock, IsWithinReach, SomeFits, SomeIsWithinReach, misfits, reach}
+use Rattle.rz_scrub.specs.Misfits.{IsBlock, IsWithinReach, SomeFits, SomeIsWithinReach, misfits}
 use Rattle.rz_scrub.specs.Verdicts.{IsAltered, NamesMisfits, SaysOf}
 use Rattle.rz_scrub.specs.declared.verdict.Verdict.{Verdict}
 use Rattle.rz_scrub.specs.declared.verdict.Verdict.TheVariants.{Clean, Altered, Unsure}

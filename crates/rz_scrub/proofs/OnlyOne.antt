@@ -1,6 +1,6 @@
 -- No two blocks are within the reach.
-use Rattle.std.proofs.Common.{◌≡◌, ◌≢◌, ℕ, ◌+◌, ◌/◌, ◌<◌, ◌≤◌, min, Bool, true, List, length, map, take, get_or, refl, sym, arith, ap, ◌∙◌, ℤ, pos}
-use Rattle.std.specs.Prelude.{All, filter, count_by, ◌-ℤ◌}
+use Rattle.std.proofs.Common.{◌≡◌, ◌≢◌, ℕ, ◌/◌, ◌<◌, ◌≤◌, true, List, length, map, take, get_or, sym, arith, ◌∙◌, ℤ, pos}
+use Rattle.std.specs.Prelude.{filter, ◌-ℤ◌}
 use Rattle.std.specs.List.{AllPairs, range_with_len}
 use Rattle.std.proofs.lemmas.Int.{ints}
 use Rattle.std.proofs.lemmas.List.{length-map, length-take, length-take-le, get_or-take, get_or-map}

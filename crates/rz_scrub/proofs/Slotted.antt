@@ -1,11 +1,11 @@
 -- What the slots say of the bins.
-use Rattle.std.proofs.Common.{◌≡◌, ◌≢◌, ℕ, zero, suc, ◌<◌, ◌≤◌, Bool, true, false, cond, List, [], ◌∷◌, length, map, get_or, set, replicate, Option, Some, None, refl, sym, arith, ap, ◌∙◌, subst, inl, inr, ◌⊎◌, vec_len}
-use Rattle.std.specs.Prelude.{All, is_some, IfSome, IsTrue}
+use Rattle.std.proofs.Common.{◌≡◌, ℕ, zero, suc, ◌<◌, ◌≤◌, Bool, true, false, cond, List, [], ◌∷◌, length, map, get_or, set, replicate, Option, Some, None, refl, sym, arith, ap, ◌∙◌, subst, inl, inr, ◌⊎◌, vec_len}
+use Rattle.std.specs.Prelude.{All, is_some, IfSome}
 use Rattle.std.proofs.lemmas.Bool.{cases_lt, cases_eq, false≢true}
 use Rattle.std.proofs.lemmas.List.{get_or-map, get_or_past, get_or-set_same, get_or-set_other, length-map, length-set, map-set}
 use Rattle.std.proofs.lemmas.List.Elements.{All-head, All-tail}
 use Rattle.mj_angles.specs.declared.layout.Layout.{Layout}
-use Rattle.mj_angles.specs.Layout.{safe_of, bins_at_of}
+use Rattle.mj_angles.specs.Layout.{bins_at_of}
 use Rattle.rz_scrub.specs.Records.{Records, IsRecords, bins_at, has_bins, no_records, with_bins}
 use Rattle.rz_scrub.specs.Inside.{bins_in, records_of, IsSlots}
 use Rattle.rz_scrub.specs.declared.slots.Slot.{Slot}

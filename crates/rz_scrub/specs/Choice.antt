@@ -1,11 +1,11 @@
 -- Positions that were chosen to find a block by.
-use Rattle.std.specs.Prelude.{ℕ, ◌≡◌, ◌≢◌, ◌+◌, ◌-◌, ◌<◌, IsTrue, List, length, map, All, count_by, unwrap_or, []}
+use Rattle.std.specs.Prelude.{ℕ, ◌≢◌, ◌+◌, ◌-◌, ◌<◌, IsTrue, List, length, map, All, count_by, unwrap_or, []}
 use Rattle.std.specs.List.{AllPairs, range_with_len}
 use Rattle.mj_angles.specs.Layout.{inverse_of, cols_of, angle_of}
 use Rattle.rz_words.specs.Grid.{Grid}
 use Rattle.mj_inverse.specs.Fits.{Pair, Search}
 use Rattle.rz_scrub.specs.Records.{Records, bins_at, has_bins}
-use Rattle.rz_scrub.specs.Misfits.{IsBlock, IsWithinReach, is_fit}
+use Rattle.rz_scrub.specs.Misfits.{IsWithinReach, is_fit}
 
 -- distinct positions below `from`, each with bins
 pub record IsChoice (s : Records) (from : ℕ) (chosen : List ℕ) : Type 0 where

@@ -1,4 +1,4 @@
-use Rattle.std.proofs.Common.{◌≡◌, ℕ, ◌<◌, List, None, length, get_or, vec_len}
+use Rattle.std.proofs.Common.{◌≡◌, ℕ, ◌<◌, None, length, get_or, vec_len}
 use Rattle.std.specs.Prelude.{All}
 use Rattle.mj_angles.specs.Layout.{bins_at_of}
 use Rattle.rz_scrub.specs.Inside.{bins_in}

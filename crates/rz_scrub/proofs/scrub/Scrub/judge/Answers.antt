@@ -1,4 +1,4 @@
-use Rattle.std.proofs.Common.{rules, arith, ◌≡◌, ◌≤◌, true, false, sym, ap, ◌∙◌, subst, [], refl}
+use Rattle.std.proofs.Common.{rules, arith, ◌≡◌, ◌≤◌, true, false, subst, []}
 use Rattle.std.proofs.lemmas.Grind.{common_steps}
 use Rattle.mj_angles.specs.Layout.{inverse_of}
 use Rattle.rz_words.specs.Grid.{Grid}

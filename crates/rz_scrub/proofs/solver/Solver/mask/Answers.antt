@@ -1,4 +1,4 @@
-use Rattle.std.proofs.Common.{◌≡◌, ◌+◌, ◌<◌, ℕ, Bool, true, false, length, sym, ap, ◌∙◌, subst, arith}
+use Rattle.std.proofs.Common.{◌≡◌, ◌+◌, ℕ, Bool, length, sym, ap, ◌∙◌, subst, arith}
 use Rattle.mj_angles.specs.Layout.{safe_of}
 use Rattle.rz_words.specs.Grid.{Grid}
 use Rattle.rz_scrub.specs.Records.{Records}
