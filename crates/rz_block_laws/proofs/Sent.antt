@@ -1,5 +1,5 @@
 -- A message to a node.
-use Rattle.std.proofs.Common.{◌≡◌, ◌⊎◌, inl, inr, ℕ, Bool, true, false, cond, ◌==◌, List, [], ◌∷◌, Option, Some, None, refl, sym, ◌∙◌, ap, subst}
+use Rattle.std.proofs.Common.{◌≡◌, inl, inr, ℕ, Bool, true, false, cond, ◌==◌, List, [], ◌∷◌, Option, Some, None, refl, sym, ◌∙◌, ap, subst}
 use Rattle.std.proofs.lemmas.Bool.{eqb-true}
 use Rattle.mj_angles.specs.declared.layout.Layout.{Layout}
 use Rattle.rz_events.specs.Volume.{Volume}
@@ -27,9 +27,9 @@ use Rattle.rz_operation_model.specs.Work.{Work, Over}
 use Rattle.rz_operation_model.specs.Ask.{Ask, AskNode, ask_of}
 use Rattle.rz_operation_model.specs.Steps.{Answered, told}
 use Rattle.rz_operation_model.specs.Turns.{IsStep, Through}
-use Rattle.rz_operation.specs.Answers.{Goes, IsAnswered}
+use Rattle.rz_operation.specs.Answers.{Goes}
 use Rattle.rz_operation.specs.Machine.{Machine}
-use Rattle.rz_core.specs.History.{Facts, IsPlace}
+use Rattle.rz_core.specs.History.{Facts}
 use Rattle.rz_play_laws.specs.Own.{IsOwn, IsUnderWay, IsProper, IsOwnProper}
 use Rattle.rz_image_laws.specs.Images.{IsImaged}
 use Rattle.rz_image_laws.specs.Laws.{IsCallLaw, IsFetchLaw, IsReadBack}

@@ -1,6 +1,5 @@
 pub mod Rowwise
 pub mod Asks
-pub mod Begins
 pub mod Fits
 pub mod SeatLemmas
 pub mod WorldLemmas
@@ -9,9 +8,10 @@ pub mod ReadyLemmas
 pub mod OrderLemmas
 mod Rows
 mod MessageLemmas
-mod OpenLemmas
 mod TakeLemmas
 mod ActorOrders
 mod MadeLemmas
 mod FormatLemmas
 mod NodeOrders
+mod EventWords
+mod MeterLemmas

@@ -22,7 +22,7 @@ use Rattle.rz_driver.specs.declared.driver.Driver.{Driver}
 use Rattle.rz_driver.specs.declared.seat.Seat.{Seat}
 use Rattle.rz_driver.specs.declared.station.Shared.{Shared}
 use Rattle.rz_driver.specs.declared.station.Station.{Station}
-use Rattle.rz_driver.specs.Locking.{lock_of}
+use Rattle.rz_asks.specs.Locking.{lock_of}
 use Rattle.rz_driver.specs.Made.{IsNew, AreNew, IsBack, AreBack}
 use Rattle.rz_driver.specs.Seats.{work_in, seat_of, HasLayout, IsSeat, IsEmptySeat}
 use Rattle.rz_driver.specs.Stations.{state_in, numbers_of, IsStation}

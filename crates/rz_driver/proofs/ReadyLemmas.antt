@@ -21,7 +21,7 @@ use Rattle.rz_driver.specs.declared.seat.Seat.{Seat}
 use Rattle.rz_driver.specs.declared.station.Shared.{Shared}
 use Rattle.rz_driver.specs.declared.station.Station.{Station}
 use Rattle.rz_driver.specs.Acts.{IsAct, Rests, Exports, Opens, Sends, Says, IsSameActor, IsFate, Through, ReplyLost, RequestLost, IsReleased, locks_after}
-use Rattle.rz_driver.specs.Locking.{lock_of, lock_if, Grants}
+use Rattle.rz_asks.specs.Locking.{lock_of, lock_if, Grants}
 use Rattle.rz_driver.specs.Seats.{seat_of, HasLayout, IsSeat}
 use Rattle.rz_driver.specs.Stations.{numbers_of, IsStation}
 use Rattle.rz_driver.specs.Worlds.{place_of, seat_in, AreLocks, HaveNoLocks}

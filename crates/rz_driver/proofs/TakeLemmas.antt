@@ -20,8 +20,8 @@ use Rattle.rz_driver.specs.declared.seat.Seat.{Seat}
 use Rattle.rz_driver.specs.declared.station.Shared.{Shared}
 use Rattle.rz_driver.specs.declared.station.Station.{Station}
 use Rattle.rz_driver.specs.Acts.{IsAct, HasLayouts}
-use Rattle.rz_driver.specs.Locking.{lock_of}
-use Rattle.rz_driver.specs.Logged.{Logged}
+use Rattle.rz_asks.specs.Locking.{lock_of}
+use Rattle.rz_asks.specs.Logged.{Logged}
 use Rattle.rz_driver.specs.Seats.{seat_of, IsSeat}
 use Rattle.rz_driver.specs.Stations.{IsStation}
 use Rattle.rz_driver.specs.Worlds.{place_of, seat_in, world, world_of, AreLocks, HaveNoLocks, IsDriver}

@@ -1,10 +1,8 @@
-pub mod Logged
-pub mod Parts
 pub mod Nodes
-pub mod Locking
 pub mod Seats
 pub mod Stations
 pub mod Acts
 pub mod Administration
 pub mod Worlds
 pub mod Made
+pub mod Meters

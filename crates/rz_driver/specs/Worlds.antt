@@ -1,5 +1,5 @@
 -- The world of a play that a driver stands for.
-use Rattle.std.specs.Prelude.{ℕ, Bool, true, false, ◌≡◌, ◌+◌, ◌-◌, ◌≤◌, ◌&&◌, nat_le, map, List, length, Option, Some, None, slice_get}
+use Rattle.std.specs.Prelude.{ℕ, Bool, true, false, ◌≡◌, ◌+◌, ◌-◌, ◌≤◌, ◌⊎◌, ◌&&◌, nat_le, map, List, length, Option, Some, None, slice_get}
 use Rattle.std.specs.List.{AllByRecursion}
 use Rattle.std.specs.FinMap.{get}
 use Rattle.mj_angles.specs.Layout.{max_bins_of}
@@ -14,6 +14,8 @@ use Rattle.rz_driver.specs.declared.seat.Seat.{Seat}
 use Rattle.rz_driver.specs.declared.station.Shared.{Shared}
 use Rattle.rz_driver.specs.declared.driver.Driver.{Driver}
 use Rattle.rz_driver.specs.Seats.{seat_of, IsSeat}
+use Rattle.rz_disk.specs.UnderFuse.{fused_meter}
+use Rattle.rz_driver.specs.Meters.{AreMetered, AreCounted}
 use Rattle.rz_driver.specs.Stations.{state_in, numbers_of, IsStation}
 
 -- Actors stand in a row, the clients 1 to 64 and then the rebuilders 1 to 16.
@@ -69,3 +71,17 @@ pub record IsDriver {D : Type 0} {G : Ghosts D} (d : Driver D G) : Type 0 where
   pub count : length d.seats.items ≡ 80
   pub locks : AreLocks d.shared.locks d.seats.items
   pub no_locks : HaveNoLocks d.seats.items
+
+-- Where the disks had counted so many faults at first.
+
+-- the numbers of the volume's nodes
+abbrev pub numbers_in : {D : Type 0} {G : Ghosts D} → Driver D G → List ℕ
+numbers_in d = map (λ (n : NodeSpec). n.sid) (nodes_of d.volume.clusters)
+
+-- between two turns each word of the log goes with its disk's meter
+abbrev pub Holds : {D : Type 0} {G : Ghosts D} → Driver D G → (ℕ → ℕ) → Type 0
+Holds {G = G} d = AreMetered (fused_meter G.meter) (numbers_in d) d.shared.stations.items d.shared.log.events
+
+-- where a play ended they do, or the faults of each word are counted
+abbrev pub Leaves : {D : Type 0} {G : Ghosts D} → Driver D G → (ℕ → ℕ) → Type 0
+Leaves {G = G} d first = Holds d first ⊎ AreCounted (fused_meter G.meter) (numbers_in d) d.shared.stations.items d.shared.log.events first

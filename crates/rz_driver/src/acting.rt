@@ -1,24 +1,24 @@
 //! What an actor does in its turn.
-ghost use Rattle.std.specs.Prelude.{◌≡◌, ◌+◌, ◌≤◌, ℕ, length, IfSome, OnOk, OnErr};
+ghost use Rattle.std.specs.Prelude.{◌≡◌, ◌+◌, ◌≤◌, ℕ, length, IfSome, OnOk, OnErr, List};
 ghost use Rattle.std.specs.FinMap as map;
 ghost use Rattle.std.specs.Vec.{vec_len};
 ghost use Rattle.mj_angles.specs.Layout.{max_bins_of};
 ghost use Rattle.rz_events.specs.declared.keys.Actor.TheVariants as actor;
 ghost use Rattle.rz_operation_model.specs.Ask.{ask_of};
 ghost use Rattle.rz_play.specs.Turns as model;
-ghost use Rattle.rz_driver.specs.Locking.{lock_of};
+ghost use Rattle.rz_asks.specs.Locking.{lock_of};
 ghost use Rattle.rz_driver.specs.Nodes.{IsAsked};
 ghost use Rattle.rz_driver.specs.Seats.{HasLayout};
+ghost use Rattle.rz_lines.specs.Ends.{Carries};
+ghost use Rattle.rz_driver.specs.Meters.{AreMetered, AreCounted};
 ghost use Rattle.rz_driver.specs.Acts.{IsKind, IsMessage, IsReleased, IsAct, HasLayouts};
 
 use crate::NoMemory;
-use crate::locking::open;
 use crate::messages::{fate, through, without_reply, without_request};
-use crate::replies::ask_export;
 use crate::seat::Seat;
 use crate::station::{Shared, find};
-use crate::words::say;
 use mj_angles::Layout;
+use rz_asks::{ask_export, open, say};
 use rz_disk::Disk;
 use rz_events::{Actor, NodeAsk};
 use rz_link::{Link, Sent};
@@ -68,6 +68,8 @@ pub(crate) fn act<D: Disk, L: Link>(
     ensures link { shared.new.lost + L.lost link.old ≤ shared.old.lost + L.lost link.new }
     ensures bins { length shared.new.bins.items ≡ length shared.old.bins.items }
     ensures count { vec_len shared.new.stations ≡ vec_len shared.old.stations }
+    ensures held { OnOk result ((numbers : List ℕ) → Carries (AreMetered D.meter numbers shared.old.stations.items shared.old.log.events) (AreMetered D.meter numbers shared.new.stations.items shared.new.log.events)) }
+    ensures left { OnErr result ((numbers : List ℕ) → Carries (AreMetered D.meter numbers shared.old.stations.items shared.old.log.events) (AreCounted D.meter numbers shared.new.stations.items shared.new.log.events)) }
 {
     let Some(machine) = &mut seat.machine else {
         return Ok(());
@@ -138,6 +140,8 @@ fn message<D: Disk, L: Link>(
     ensures link { shared.new.lost + L.lost link.old ≤ shared.old.lost + L.lost link.new }
     ensures bins { length shared.new.bins.items ≡ length shared.old.bins.items }
     ensures count { vec_len shared.new.stations ≡ vec_len shared.old.stations }
+    ensures held { OnOk result ((numbers : List ℕ) → Carries (AreMetered D.meter numbers shared.old.stations.items shared.old.log.events) (AreMetered D.meter numbers shared.new.stations.items shared.new.log.events)) }
+    ensures left { OnErr result ((numbers : List ℕ) → Carries (AreMetered D.meter numbers shared.old.stations.items shared.old.log.events) (AreCounted D.meter numbers shared.new.stations.items shared.new.log.events)) }
 {
     let Some(place) = find(shared.stations.as_slice(), number) else {
         return Err(NoMemory);

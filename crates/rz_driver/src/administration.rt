@@ -1,13 +1,16 @@
 //! The administrator's lines: a node stops, starts or loses its disk, or its disk is armed.
-ghost use Rattle.std.specs.Prelude.{◌≡◌, ◌<◌, IfOk, OnOk, OnErr, IsTrue};
+ghost use Rattle.std.specs.Prelude.{◌≡◌, ◌<◌, ◌≤◌, ℕ, List, Some, IfOk, OnOk, OnErr, IsTrue};
 ghost use Rattle.rz_events.specs.declared.nodes.NodeAsk.TheVariants as ask;
+ghost use Rattle.rz_events.specs.declared.events.Event.TheVariants as e;
 ghost use Rattle.rz_play.specs.Lines.{noted};
+ghost use Rattle.rz_lines.specs.Ends.{Carries};
+ghost use Rattle.rz_driver.specs.Meters.{AreMetered, AreCounted, Goes};
 ghost use Rattle.rz_driver.specs.Stations.{IsCalled};
 ghost use Rattle.rz_driver.specs.Administration.{IsOrdered, IsOrder, IsArmed, IsArming, IsCalledAt};
 
 use crate::NoMemory;
-use crate::log::Log;
 use crate::station::{Station, find};
+use rz_asks::Log;
 use rz_calls::node_event;
 use rz_disk::Disk;
 use rz_events::{Actor, Event, NodeAnswer, NodeAsk, Phase, StartAnswer};
@@ -21,6 +24,8 @@ pub(crate) fn stop_node<D: Disk>(
 ) -> Result<(), NoMemory>
     ensures ok { OnOk result (IsOrdered ask.Stop sid stations.old stations.new log.old.events log.new.events) }
     ensures err { OnErr result (log.new.events ≡ log.old.events) }
+    ensures held { OnOk result ((numbers : List ℕ) → Carries (AreMetered D.meter numbers stations.old log.old.events) (AreMetered D.meter numbers stations.new log.new.events)) }
+    ensures left { OnErr result ((numbers : List ℕ) → Carries (AreMetered D.meter numbers stations.old log.old.events) (AreCounted D.meter numbers stations.new log.new.events)) }
 {
     let Some(place) = find(stations, sid) else {
         return Err(NoMemory);
@@ -38,6 +43,8 @@ pub(crate) fn lose_node<D: Disk>(
 ) -> Result<(), NoMemory>
     ensures ok { OnOk result (IsOrdered ask.Lose sid stations.old stations.new log.old.events log.new.events) }
     ensures err { OnErr result (log.new.events ≡ log.old.events) }
+    ensures held { OnOk result ((numbers : List ℕ) → Carries (AreMetered D.meter numbers stations.old log.old.events) (AreMetered D.meter numbers stations.new log.new.events)) }
+    ensures left { OnErr result ((numbers : List ℕ) → Carries (AreMetered D.meter numbers stations.old log.old.events) (AreCounted D.meter numbers stations.new log.new.events)) }
 {
     let Some(place) = find(stations, sid) else {
         return Err(NoMemory);
@@ -54,9 +61,12 @@ pub(crate) fn start_node<D: Disk>(
     log: &mut Log,
     sid: u16,
 ) -> Result<(), NoMemory>
+    requires fuse { IsTrue D.has_fuse }
     ensures called { OnOk result (IsCalledAt sid stations.old stations.new) }
     ensures ok { OnOk result (IsTrue D.tells → IsOrdered ask.Start sid stations.old stations.new log.old.events log.new.events) }
     ensures err { OnErr result (log.new.events ≡ log.old.events) }
+    ensures held { OnOk result ((numbers : List ℕ) → Carries (AreMetered D.meter numbers stations.old log.old.events) (AreMetered D.meter numbers stations.new log.new.events)) }
+    ensures left { OnErr result ((numbers : List ℕ) → Carries (AreMetered D.meter numbers stations.old log.old.events) (AreCounted D.meter numbers stations.new log.new.events)) }
 {
     let Some(place) = find(stations, sid) else {
         return Err(NoMemory);
@@ -75,8 +85,11 @@ pub(crate) fn arm_node<D: Disk>(
     passes: u64,
     pick: u64,
 ) -> Result<(), NoMemory>
+    requires fuse { IsTrue D.has_fuse }
     ensures ok { OnOk result (IsArming passes pick sid stations.old stations.new log.old.events log.new.events) }
     ensures err { OnErr result (log.new.events ≡ log.old.events) }
+    ensures held { OnOk result ((numbers : List ℕ) → Carries (AreMetered D.meter numbers stations.old log.old.events) (AreMetered D.meter numbers stations.new log.new.events)) }
+    ensures left { OnErr result ((numbers : List ℕ) → Carries (AreMetered D.meter numbers stations.old log.old.events) (AreCounted D.meter numbers stations.new log.new.events)) }
 {
     let Some(place) = find(stations, sid) else {
         return Err(NoMemory);
@@ -103,27 +116,38 @@ fn note(log: &mut Log, event: Option<Event>) -> Result<(), NoMemory>
 }
 
 fn stop<D: Disk>(station: &mut Station<D>) -> Option<Event>
-    ensures { IsOrder ask.Stop station.old station.new result }
+    ensures order { IsOrder ask.Stop station.old station.new result }
+    ensures metered { Goes D.meter station.old station.new result }
+    ensures counted { (D.meter station.old.node.disk).own ≤ (D.meter station.new.node.disk).own }
 {
+    rz_disk_laws::faults();
     let answer = NodeAnswer::Stop(station.node.stop());
     node_event(Actor::Admin, station.sid, &NodeAsk::Stop, &answer)
 }
 
 fn lose<D: Disk>(station: &mut Station<D>) -> Option<Event>
-    ensures { IsOrder ask.Lose station.old station.new result }
+    ensures order { IsOrder ask.Lose station.old station.new result }
+    ensures metered { Goes D.meter station.old station.new result }
+    ensures counted { (D.meter station.old.node.disk).own ≤ (D.meter station.new.node.disk).own }
 {
+    rz_disk_laws::faults();
     let answer = NodeAnswer::Lose(station.node.lose());
     node_event(Actor::Admin, station.sid, &NodeAsk::Lose, &answer)
 }
 
-/// A node that is down is disarmed first, and its disk loses what a loss of power may lose.
+/// A node that is down first loses what a loss of power may lose of its disk, which is then disarmed.
 fn start<D: Disk>(alloc: Global, station: &mut Station<D>) -> Result<Option<Event>, NoMemory>
+    requires fuse { IsTrue D.has_fuse }
     ensures called { IsCalled station.old station.new }
     ensures ok { IfOk result (λ event. IsTrue D.tells → IsOrder ask.Start station.old station.new event) }
+    ensures crashed { station.old.node.state.phase ≡ Phase.Down → D.picks station.old.node.disk station.old.pick (D.text station.new.node.disk) }
+    ensures metered { IfOk result (λ event. Goes D.meter station.old station.new event) }
+    ensures counted { (D.meter station.old.node.disk).own ≤ (D.meter station.new.node.disk).own }
 {
+    rz_disk_laws::started();
     if station.node.phase() == Phase::Down {
-        station.node.arm(None);
         station.node.crash(station.pick);
+        station.node.arm(None);
     }
     match station.node.start(alloc) {
         StartAnswer::NoMemory => Err(NoMemory),
@@ -135,8 +159,12 @@ fn start<D: Disk>(alloc: Global, station: &mut Station<D>) -> Result<Option<Even
 }
 
 fn arm<D: Disk>(station: &mut Station<D>, passes: u64, pick: u64)
-    ensures { IsArmed pick station.old station.new }
+    requires fuse { IsTrue D.has_fuse }
+    ensures armed { IsArmed pick station.old station.new }
+    ensures metered { Goes D.meter station.old station.new (Some (e.Armed station.old.sid passes pick)) }
+    ensures counted { (D.meter station.old.node.disk).own ≤ (D.meter station.new.node.disk).own }
 {
+    rz_disk_laws::armed();
     station.node.arm(Some(passes));
     station.pick = pick;
 }

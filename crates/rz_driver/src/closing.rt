@@ -1,7 +1,9 @@
 //! The end of a driver: the log and the disks go back.
-ghost use Rattle.std.specs.Prelude.{◌≡◌, ◌+◌, ◌≤◌, ◌++◌, reverse};
+ghost use Rattle.std.specs.Prelude.{◌≡◌, ◌+◌, ◌≤◌, ◌++◌, reverse, ℕ};
 ghost use Rattle.std.specs.Vec.{vec_len, vec_capacity};
+ghost use Rattle.rz_driver.specs.Meters.{AreDisksCounted};
 ghost use Rattle.rz_driver.specs.Stations.{disks_of};
+ghost use Rattle.rz_driver.specs.Worlds.{numbers_in, Leaves};
 
 use crate::driver::Driver;
 use crate::station::Station;
@@ -28,6 +30,7 @@ impl<D: Disk> Driver<D> {
     pub fn close(self) -> (Vec<Event>, Vec<D>)
         ensures log { result.0.items ≡ reverse self.shared.log.events }
         ensures disks { result.1.items ≡ disks_of self.shared.stations.items }
+        ensures counted { (first : ℕ → ℕ) → Leaves self first → AreDisksCounted D.meter first 0 (numbers_in self) result.1.items self.shared.log.events }
     {
         let Driver {
             shared,

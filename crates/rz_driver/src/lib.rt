@@ -1,4 +1,13 @@
 //! The driver: it plays a script over nodes, their disks and the export.
+//!
+//! [`Driver::new`] formats the disks, each for its node and in a fuse; as a stage the driver plays the lines
+//! of a script; [`Driver::close`] gives the log and the disks back, in their order. The contracts say that
+//! each turn and each line is one of the play's relation, that the log stays as it was where memory is
+//! wanting, and that the faults of each node's word are counted by its disk. They say nothing of the images
+//! of a disk after a play, nor that there is memory.
+//!
+//! In reading order: `station`, `seat`, `messages`, `acting`, `administration`, `driver`, `turns`, `orders`,
+//! `nodes`, `parts`, `formatting`, `making`, `stage`, `asking`, `closing`.
 #![tactic(auto)]
 
 mod acting;
@@ -7,19 +16,15 @@ mod asking;
 mod closing;
 mod driver;
 mod formatting;
-mod locking;
-mod log;
 mod making;
 mod messages;
 mod nodes;
 mod orders;
 mod parts;
-mod replies;
 mod seat;
 mod stage;
 mod station;
 mod turns;
-mod words;
 
 pub use driver::Driver;
 pub use making::DriverFault;

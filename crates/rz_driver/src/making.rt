@@ -2,14 +2,14 @@
 ghost use Rattle.std.specs.Prelude.{◌≡◌, IfOk, IfErr, length};
 ghost use Rattle.rz_events.specs.Volume.{nodes_of};
 ghost use Rattle.rz_play.specs.World.{new_world};
-ghost use Rattle.rz_driver.specs.Made.{AreBack, AreNew, IsCause};
-ghost use Rattle.rz_driver.specs.Worlds.{world_of, IsDriver};
+ghost use Rattle.rz_driver.specs.Made.{AreBack, AreNew, IsCause, faults_at};
+ghost use Rattle.rz_driver.specs.Worlds.{world_of, IsDriver, Holds};
 
 use crate::driver::Driver;
 use crate::formatting::new_stations;
-use crate::log::Log;
 use crate::parts::new_parts;
 use crate::station::Shared;
+use rz_asks::Log;
 use rz_config::Volume;
 use rz_disk::Disk;
 use rz_locks::Locks;
@@ -36,6 +36,7 @@ impl<D: Disk> Driver<D> {
         ensures volume { IfOk result (λ d. d.volume ≡ volume.now) }
         ensures world { IfOk result (λ d. world_of d ≡ new_world volume.now) }
         ensures made { IfOk result (λ d. AreNew D.tells D.meter D.image volume.now.layout (nodes_of volume.now.clusters) disks.items d.shared.stations.items) }
+        ensures held { IfOk result (λ d. Holds d (faults_at D.meter disks.items)) }
         ensures back { IfErr result (λ r. AreBack D.tells D.meter D.image volume.now.layout (nodes_of volume.now.clusters) disks.items r.0.items) }
         ensures cause { IfErr result (λ r. IsCause D.meter disks.items r.0.items r.1) }
     {

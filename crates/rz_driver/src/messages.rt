@@ -1,17 +1,17 @@
 //! Messages to nodes.
 ghost use Rattle.std.specs.Prelude.{◌≡◌, ◌≢◌, ◌<◌, ◌≤◌, ℕ, true, None, IsTrue, OnOk, OnErr, IfOk, length};
+ghost use Rattle.rz_cells.specs.Opening.{opening_calls};
 ghost use Rattle.mj_angles.specs.Layout.{max_bins_of};
-ghost use Rattle.rz_calls.specs.Calls.{IsRecord};
+ghost use Rattle.rz_calls.specs.Calls.{Counts, IsNoStart, IsRecord};
 ghost use Rattle.rz_operation_model.specs.Steps.{Answered};
 ghost use Rattle.rz_operation_model.specs.Turns.{goes_by_link};
 ghost use Rattle.rz_driver.specs.Nodes.{Fares, IsServed, IsAsked, IsPlaced, IsThroughPart, IsReplyLostPart, IsRequestLostPart};
-ghost use Rattle.rz_driver.specs.Parts.{IsTold};
+ghost use Rattle.rz_driver.specs.Meters.{GoesOn};
+ghost use Rattle.rz_asks.specs.Parts.{IsTold};
 
 use crate::NoMemory;
-use crate::log::Log;
-use crate::replies::note;
-use crate::words::is_bad;
 use mj_angles::Layout;
+use rz_asks::{Log, is_bad, note};
 use rz_calls::{answer_node, node_event};
 use rz_disk::Disk;
 use rz_events::{Actor, Event, Head, NodeAnswer, NodeAsk};
@@ -76,6 +76,9 @@ fn serve<D: Disk>(
     requires room { max_bins_of layout ≤ length bins.old }
     ensures served { IfOk result (λ a. IsServed node.old.geometry.cells ask.now a node.old.state node.new.state) }
     ensures geometry { node.new.geometry ≡ node.old.geometry }
+    ensures no_start { OnOk result (IsNoStart ask.now) }
+    ensures counts { IfOk result (λ a. Counts (opening_calls node.old.geometry) a (D.meter node.old.disk) (D.meter node.new.disk)) }
+    ensures same { OnErr result (node.new ≡ node.old) }
 {
     match ask {
         NodeAsk::Keep(head) | NodeAsk::Refill { head, .. } => {
@@ -149,7 +152,10 @@ pub(crate) fn through<D: Disk>(
     ensures ok { OnOk result (IsThroughPart by number node.old.geometry.cells ask node.old.state node.new.state machine.old machine.new log.old.events log.new.events) }
     ensures err { OnErr result (log.new.events ≡ log.old.events) }
     ensures geometry { node.new.geometry ≡ node.old.geometry }
+    ensures metered { OnOk result (GoesOn D.meter number node.old node.new log.old.events log.new.events) }
+    ensures counted { (D.meter node.old.disk).own ≤ (D.meter node.new.disk).own }
 {
+    rz_disk_laws::faults();
     let answer = serve(alloc, layout, machine, &ask, node, bins)?;
     tell(layout, machine, &ask, answer, bins)?;
     note(node_event(by, number, &ask, &answer), log)
@@ -175,7 +181,10 @@ pub(crate) fn without_reply<D: Disk>(
     ensures ok { OnOk result (IsReplyLostPart by number node.old.geometry.cells ask node.old.state node.new.state machine.old machine.new log.old.events log.new.events) }
     ensures err { OnErr result (log.new.events ≡ log.old.events) }
     ensures geometry { node.new.geometry ≡ node.old.geometry }
+    ensures metered { OnOk result (GoesOn D.meter number node.old node.new log.old.events log.new.events) }
+    ensures counted { (D.meter node.old.disk).own ≤ (D.meter node.new.disk).own }
 {
+    rz_disk_laws::faults();
     if !machine.has_room() {
         return Err(NoMemory);
     }

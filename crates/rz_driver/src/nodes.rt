@@ -3,7 +3,8 @@ ghost use Rattle.std.specs.Prelude.{◌≡◌, ◌∷◌, OnOk, OnErr, IsTrue};
 ghost use Rattle.rz_events.specs.declared.nodes.NodeAsk.TheVariants as ask;
 ghost use Rattle.rz_events.specs.declared.events.Event.TheVariants as e;
 ghost use Rattle.rz_play.specs.Lines.{IsAdminCall};
-ghost use Rattle.rz_driver.specs.Worlds.{world_of, IsDriver};
+ghost use Rattle.rz_lines.specs.Ends.{Carries};
+ghost use Rattle.rz_driver.specs.Worlds.{world_of, IsDriver, Holds, Leaves};
 
 use crate::NoMemory;
 use crate::administration::{arm_node, lose_node, start_node, stop_node};
@@ -19,6 +20,8 @@ impl<D: Disk> Driver<D> {
         ensures called { OnOk result (IsAdminCall self.old.volume sid ask.Stop (world_of self.old) (world_of self.new)) }
         ensures lost { self.new.shared.lost ≡ self.old.shared.lost }
         ensures log { OnErr result (self.new.shared.log.events ≡ self.old.shared.log.events) }
+        ensures held { OnOk result (Carries (Holds self.old) (Holds self.new)) }
+        ensures left { OnErr result (Carries (Holds self.old) (Leaves self.new)) }
     {
         let shared = &mut self.shared;
         stop_node(shared.stations.as_mut_slice(), &mut shared.log, sid)
@@ -33,6 +36,8 @@ impl<D: Disk> Driver<D> {
         ensures turns { self.new.turns ≡ self.old.turns }
         ensures lost { self.new.shared.lost ≡ self.old.shared.lost }
         ensures log { OnErr result (self.new.shared.log.events ≡ self.old.shared.log.events) }
+        ensures held { OnOk result (Carries (Holds self.old) (Holds self.new)) }
+        ensures left { OnErr result (Carries (Holds self.old) (Leaves self.new)) }
     {
         let shared = &mut self.shared;
         start_node(
@@ -51,6 +56,8 @@ impl<D: Disk> Driver<D> {
         ensures called { OnOk result (IsAdminCall self.old.volume sid ask.Lose (world_of self.old) (world_of self.new)) }
         ensures lost { self.new.shared.lost ≡ self.old.shared.lost }
         ensures log { OnErr result (self.new.shared.log.events ≡ self.old.shared.log.events) }
+        ensures held { OnOk result (Carries (Holds self.old) (Holds self.new)) }
+        ensures left { OnErr result (Carries (Holds self.old) (Leaves self.new)) }
     {
         let shared = &mut self.shared;
         lose_node(shared.stations.as_mut_slice(), &mut shared.log, sid)
@@ -64,6 +71,8 @@ impl<D: Disk> Driver<D> {
         ensures armed { OnOk result (world_of self.new ≡ record (world_of self.old) { log = e.Armed sid passes pick ∷ self.old.shared.log.events }) }
         ensures lost { self.new.shared.lost ≡ self.old.shared.lost }
         ensures log { OnErr result (self.new.shared.log.events ≡ self.old.shared.log.events) }
+        ensures held { OnOk result (Carries (Holds self.old) (Holds self.new)) }
+        ensures left { OnErr result (Carries (Holds self.old) (Leaves self.new)) }
     {
         let shared = &mut self.shared;
         arm_node(

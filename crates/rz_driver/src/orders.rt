@@ -3,7 +3,8 @@ ghost use Rattle.std.specs.Prelude.{◌≡◌, IfOk, OnOk, OnErr};
 ghost use Rattle.rz_script.specs.Lines.{IsLine};
 ghost use Rattle.rz_script.specs.declared.line.Line.TheVariants as line;
 ghost use Rattle.rz_play.specs.Lines.{PlaysLine};
-ghost use Rattle.rz_driver.specs.Worlds.{world_of, IsDriver};
+ghost use Rattle.rz_lines.specs.Ends.{Carries};
+ghost use Rattle.rz_driver.specs.Worlds.{world_of, IsDriver, Holds, Leaves};
 
 use crate::NoMemory;
 use crate::driver::Driver;
@@ -22,6 +23,8 @@ impl<D: Disk> Driver<D> {
         ensures played { OnOk result (PlaysLine self.old.volume (line.Op by op.now) (world_of self.old) (world_of self.new)) }
         ensures lost { self.new.shared.lost ≡ self.old.shared.lost }
         ensures log { OnErr result (self.new.shared.log.events ≡ self.old.shared.log.events) }
+        ensures held { OnOk result (Carries (Holds self.old) (Holds self.new)) }
+        ensures left { OnErr result (Carries (Holds self.old) (Leaves self.new)) }
     {
         let Some(place) = place(by) else {
             return Err(NoMemory);
@@ -39,6 +42,7 @@ impl<D: Disk> Driver<D> {
         ensures ready { IsDriver self.new }
         ensures played { PlaysLine self.old.volume (line.Miss by reply) (world_of self.old) (world_of self.new) }
         ensures lost { self.new.shared.lost ≡ self.old.shared.lost }
+        ensures held { Carries (Holds self.old) (Holds self.new) }
     {
         if let Some(place) = place(by) {
             self.seats[place].miss = Some(reply);

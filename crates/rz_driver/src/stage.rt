@@ -8,7 +8,8 @@ use rz_lines::{LoggedStage, NoMemory, Stage};
 use rz_link::Link;
 
 impl<D: Disk> Stage for Driver<D> {
-    ghost use Rattle.rz_driver.specs.Worlds.{world_of, IsDriver};
+    ghost use Rattle.rz_driver.specs.Worlds.{world_of, IsDriver, Holds, Leaves};
+    ghost use Rattle.std.proofs.Common.{inl};
 
     ghost tells = { D.tells };
 
@@ -18,11 +19,11 @@ impl<D: Disk> Stage for Driver<D> {
 
     ghost is_ready = { λ d. IsDriver d };
 
-    ghost holds = { λ d first. Unit {0} };
+    ghost holds = { λ d. Holds d };
 
-    ghost leaves = { λ d first. Unit {0} };
+    ghost leaves = { λ d. Leaves d };
 
-    ghost ends = { λ d first held. tt };
+    ghost ends = { λ d first held. inl held };
 
     fn turns(&self) -> u32 {
         self.turns

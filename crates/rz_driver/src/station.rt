@@ -2,7 +2,7 @@
 ghost use Rattle.std.specs.Prelude.{◌≡◌, ◌≢◌, ◌<◌, ℕ, IfSome, length, slice_get, Some};
 ghost use Rattle.rz_driver.specs.Stations.{IsAt};
 
-use crate::log::Log;
+use rz_asks::Log;
 use rz_disk::Disk;
 use rz_export::Export;
 use rz_locks::Locks;

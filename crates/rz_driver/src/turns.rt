@@ -3,7 +3,8 @@ ghost use Rattle.std.specs.Prelude.{◌≡◌, ◌+◌, ◌<◌, ◌≤◌, OnOk
 ghost use Rattle.rz_play.specs.Stops.{most_turns};
 ghost use Rattle.rz_play.specs.Turns.{IsTurn};
 ghost use Rattle.rz_play.specs.World.{has_work};
-ghost use Rattle.rz_driver.specs.Worlds.{place_of, world_of, IsDriver};
+ghost use Rattle.rz_lines.specs.Ends.{Carries};
+ghost use Rattle.rz_driver.specs.Worlds.{place_of, world_of, IsDriver, Holds, Leaves};
 
 use crate::NoMemory;
 use crate::acting::act;
@@ -34,6 +35,8 @@ impl<D: Disk> Driver<D> {
         ensures link { self.new.shared.lost + L.lost link.old ≤ self.old.shared.lost + L.lost link.new }
         ensures log { OnErr result (self.new.shared.log.events ≡ self.old.shared.log.events) }
         ensures lost { OnErr result (self.new.shared.lost ≡ self.old.shared.lost) }
+        ensures held { OnOk result (Carries (Holds self.old) (Holds self.new)) }
+        ensures left { OnErr result (Carries (Holds self.old) (Leaves self.new)) }
     {
         let Some(place) = place(by) else {
             return Err(NoMemory);

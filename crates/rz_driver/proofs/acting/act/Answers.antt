@@ -1,8 +1,12 @@
-use Rattle.std.proofs.Common.{refl}
-use Rattle.std.proofs.lemmas.Result.{on_ok_weaker}
+use Rattle.std.proofs.Common.{◌≡◌, refl}
+use Rattle.std.proofs.lemmas.Result.{on_ok_weaker, on_err_weaker}
 use Rattle.rz_driver.specs.Acts.{IsMessage, Exports, Opens, Sends, Says}
-use Rattle.rz_driver.specs.Locking.{IsOpenPart}
-use Rattle.rz_driver.specs.Parts.{IsExportPart}
+use Rattle.rz_events.specs.declared.export.Call.TheVariants as call
+use Rattle.rz_events.specs.declared.tree.TreeCall.TheVariants as tree
+use Rattle.rz_export_model.specs.Export.{export_reply}
+use Rattle.rz_driver.proofs.MeterLemmas.{still-err, metered-stays, still-left, export-stays, said-stays}
+use Rattle.rz_asks.specs.Locking.{IsOpenPart, open_reply}
+use Rattle.rz_asks.specs.Parts.{IsExportPart}
 use Rattle.rz_driver.proofs.acting.act.Goals as goal
 
 pub returns-in-Export-clause-ok : goal.returns-in-Export-clause-ok
@@ -37,3 +41,45 @@ returns-in-Node-clause-ok g c =
 pub returns-in_ok-done-in-Say-clause-ok : goal.returns-in_ok-done-in-Say-clause-ok
 returns-in_ok-done-in-Say-clause-ok g c =
     Says c.in-Some.machine c.say.new.machine c.in-Some.is refl (record { todo = refl; number = refl }) refl c.in_ok-done-in-Say.done c.in_ok-done-in-Say.ensures.ok c.release_if.ensures refl refl refl
+
+-- The words beside the meters.
+
+pub returns-in-Export-clause-held : goal.returns-in-Export-clause-held
+returns-in-Export-clause-held g c =
+    let p = c.args.shared.now in
+    let h = p.log.events in
+    let h' = c.ask_export.new.log.events in
+    on_ok_weaker c.ask_export.result (λ (part : IsExportPart c.args.by c.in-Some.machine c.ask_export.new.machine p.export c.ask_export.new.export h h'). λ numbers first met.
+    metered-stays g.D.Disk.meter first numbers p.stations.items h h' (export-stays c.args.by part.0 (export_reply p.export part.0) h h' part.2.noted) met) c.ask_export.ensures.ok
+
+pub returns-in-Export-clause-left : goal.returns-in-Export-clause-left
+returns-in-Export-clause-left g c =
+    let p = c.args.shared.now in
+    on_err_weaker c.ask_export.result (λ (same : c.ask_export.new.log.events ≡ p.log.events). λ numbers first met.
+    still-left g.D.Disk.meter first numbers p.stations.items p.log.events c.ask_export.new.log.events same met) c.ask_export.ensures.err
+
+pub returns-in-Lock-clause-held : goal.returns-in-Lock-clause-held
+returns-in-Lock-clause-held g c =
+    let p = c.args.shared.now in
+    let h = p.log.events in
+    let h' = c.open.new.log.events in
+    on_ok_weaker c.open.result
+    (λ (part : IsOpenPart c.args.by c.in-Some.machine c.open.new.machine p.export c.open.new.export p.locks c.open.new.locks c.args.seat.now.lock c.open.new.held h h'). λ numbers first met.
+    metered-stays g.D.Disk.meter first numbers p.stations.items h h' (export-stays c.args.by (call.Tree (tree.OpenFile part.0)) (open_reply p.export part.0) h h' part.5.1.noted) met) c.open.ensures.ok
+
+pub returns-in-Lock-clause-left : goal.returns-in-Lock-clause-left
+returns-in-Lock-clause-left g c =
+    let p = c.args.shared.now in
+    on_err_weaker c.open.result (λ (same : c.open.new.log.events ≡ p.log.events). λ numbers first met.
+    still-left g.D.Disk.meter first numbers p.stations.items p.log.events c.open.new.log.events same met) c.open.ensures.err
+
+pub returns-in_ok-done-in-Say-clause-held : goal.returns-in_ok-done-in-Say-clause-held
+returns-in_ok-done-in-Say-clause-held g c = λ numbers first met.
+    let p = c.args.shared.now in
+    let part = c.in_ok-done-in-Say.ensures.ok in
+    metered-stays g.D.Disk.meter first numbers p.stations.items p.log.events c.say.new.log.events (said-stays c.args.by c.args.seat.now.number part.0 p.log.events c.say.new.log.events part.2.noted) met
+
+pub returns-in_err-done-in-Say-clause-left : goal.returns-in_err-done-in-Say-clause-left
+returns-in_err-done-in-Say-clause-left g c =
+    let p = c.args.shared.now in
+    still-err c.from_residual.result g.D.Disk.meter p.stations.items p.log.events c.say.new.log.events c.in_err-done-in-Say.ensures.err

@@ -1,7 +1,10 @@
-use Rattle.std.proofs.Common.{refl}
-use Rattle.std.proofs.lemmas.Result.{on_ok_weaker}
+use Rattle.std.proofs.Common.{◌≡◌, ℕ, refl, sym, subst}
+use Rattle.std.proofs.Math.Nat.{le_refl}
+use Rattle.std.proofs.lemmas.Result.{on_ok_weaker, on_err_weaker}
 use Rattle.rz_driver.specs.Acts.{Through, ReplyLost, RequestLost}
 use Rattle.rz_driver.specs.Nodes.{IsThroughPart}
+use Rattle.rz_driver.specs.Meters.{GoesOn}
+use Rattle.rz_driver.proofs.MeterLemmas.{order-err, sid-at, metered-counts, metered-step, order-left, unheard-goes}
 use Rattle.rz_driver.proofs.MessageLemmas.{read-at, within-len, layout-at}
 use Rattle.rz_driver.proofs.acting.message.Goals as goal
 
@@ -71,3 +74,73 @@ returns-in_ok-without_request-in-RequestLost-clause-ok g c =
       export = refl;
       locks = refl;
     }
+
+-- The words beside the meters.
+
+pub returns-in-Through-clause-held : goal.returns-in-Through-clause-held
+returns-in-Through-clause-held g c =
+    let meter = g.D.Disk.meter in
+    let row = c.args.shared.now.stations.items in
+    let h = c.args.shared.now.log.events in
+    let s = c.index_mut.result.now in
+    let there = read-at row c.as_slice.result.now c.args.number c.in-Some.place s c.as_slice.ensures.value c.in-Some.ensures c.index_mut.ensures.value in
+    let named = sid-at row c.args.number c.in-Some.place s there.0 there.1 in
+    on_ok_weaker c.through.result (λ (goes : GoesOn meter c.args.number s.node c.through.new.node h c.through.new.log.events). λ numbers first met.
+    metered-step meter first numbers row c.in-Some.place s (record { sid = s.sid; node = c.through.new.node; pick = s.pick }) h c.through.new.log.events there.1 refl
+    (subst (λ (n : ℕ). GoesOn meter n s.node c.through.new.node h c.through.new.log.events) (sym named) goes) met) c.through.ensures.metered
+
+pub returns-in-Through-clause-left : goal.returns-in-Through-clause-left
+returns-in-Through-clause-left g c =
+    let meter = g.D.Disk.meter in
+    let row = c.args.shared.now.stations.items in
+    let h = c.args.shared.now.log.events in
+    let s = c.index_mut.result.now in
+    let there = read-at row c.as_slice.result.now c.args.number c.in-Some.place s c.as_slice.ensures.value c.in-Some.ensures c.index_mut.ensures.value in
+    on_err_weaker c.through.result (λ (same : c.through.new.log.events ≡ h). λ numbers first met.
+    order-left meter first numbers row c.in-Some.place s (record { sid = s.sid; node = c.through.new.node; pick = s.pick }) h c.through.new.log.events there.1 refl
+    c.through.ensures.counted same met) c.through.ensures.err
+
+pub returns-in_ok-without_reply-in-ReplyLost-clause-held : goal.returns-in_ok-without_reply-in-ReplyLost-clause-held
+returns-in_ok-without_reply-in-ReplyLost-clause-held g c = λ numbers first met.
+    let meter = g.D.Disk.meter in
+    let row = c.args.shared.now.stations.items in
+    let h = c.args.shared.now.log.events in
+    let s = c.index_mut.result.now in
+    let there = read-at row c.as_slice.result.now c.args.number c.in-Some.place s c.as_slice.ensures.value c.in-Some.ensures c.index_mut.ensures.value in
+    let named = sid-at row c.args.number c.in-Some.place s there.0 there.1 in
+    metered-step meter first numbers row c.in-Some.place s (record { sid = s.sid; node = c.without_reply.new.node; pick = s.pick }) h c.without_reply.new.log.events there.1 refl
+    (subst (λ (n : ℕ). GoesOn meter n s.node c.without_reply.new.node h c.without_reply.new.log.events) (sym named) c.in_ok-without_reply-in-ReplyLost.ensures.metered) met
+
+pub returns-in_ok-without_request-in-RequestLost-clause-held : goal.returns-in_ok-without_request-in-RequestLost-clause-held
+returns-in_ok-without_request-in-RequestLost-clause-held g c = λ numbers first met.
+    let meter = g.D.Disk.meter in
+    let row = c.args.shared.now.stations.items in
+    let h = c.args.shared.now.log.events in
+    let s = c.index_mut.result.now in
+    let there = read-at row c.as_slice.result.now c.args.number c.in-Some.place s c.as_slice.ensures.value c.in-Some.ensures c.index_mut.ensures.value in
+    metered-step meter first numbers row c.in-Some.place s (record { sid = s.sid; node = s.node; pick = s.pick }) h c.without_request.new.log.events there.1 refl
+    (unheard-goes meter s.sid s.node c.args.by c.args.number h c.without_request.new.log.events c.in_ok-without_request-in-RequestLost.ensures.ok.noted) met
+
+pub returns-in_default-clause-left : goal.returns-in_default-clause-left
+returns-in_default-clause-left g c = λ numbers first met. metered-counts g.D.Disk.meter first numbers c.args.shared.now.stations.items c.args.shared.now.log.events met
+
+pub returns-in_default-lost_after-clause-left : goal.returns-in_default-lost_after-clause-left
+returns-in_default-lost_after-clause-left g c = λ numbers first met. metered-counts g.D.Disk.meter first numbers c.args.shared.now.stations.items c.args.shared.now.log.events met
+
+pub returns-in_err-without_reply-in-ReplyLost-clause-left : goal.returns-in_err-without_reply-in-ReplyLost-clause-left
+returns-in_err-without_reply-in-ReplyLost-clause-left g c =
+    let row = c.args.shared.now.stations.items in
+    let h = c.args.shared.now.log.events in
+    let s = c.index_mut.result.now in
+    let there = read-at row c.as_slice.result.now c.args.number c.in-Some.place s c.as_slice.ensures.value c.in-Some.ensures c.index_mut.ensures.value in
+    order-err c.from_residual.result g.D.Disk.meter row c.in-Some.place s (record { sid = s.sid; node = c.without_reply.new.node; pick = s.pick }) h c.without_reply.new.log.events there.1 refl
+    c.without_reply.ensures.counted c.in_err-without_reply-in-ReplyLost.ensures.err
+
+pub returns-in_err-without_request-in-RequestLost-clause-left : goal.returns-in_err-without_request-in-RequestLost-clause-left
+returns-in_err-without_request-in-RequestLost-clause-left g c =
+    let row = c.args.shared.now.stations.items in
+    let h = c.args.shared.now.log.events in
+    let s = c.index_mut.result.now in
+    let there = read-at row c.as_slice.result.now c.args.number c.in-Some.place s c.as_slice.ensures.value c.in-Some.ensures c.index_mut.ensures.value in
+    order-err c.from_residual-in_err-without_request-in-RequestLost.result g.D.Disk.meter row c.in-Some.place s (record { sid = s.sid; node = s.node; pick = s.pick }) h c.without_request.new.log.events there.1 refl
+    (le_refl (g.D.Disk.meter s.node.disk).own) c.in_err-without_request-in-RequestLost.ensures.err

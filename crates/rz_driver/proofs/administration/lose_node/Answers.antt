@@ -1,7 +1,8 @@
 use Rattle.std.proofs.Common.{◌≡◌, ◌<◌, ◌∙◌, get_or, length, refl, ap, rules}
 use Rattle.std.proofs.lemmas.Option.{slice_get-get_or}
-use Rattle.std.proofs.lemmas.Result.{on_ok_weaker}
+use Rattle.std.proofs.lemmas.Result.{on_ok_weaker, on_err_weaker}
 use Rattle.rz_play.specs.Lines.{noted}
+use Rattle.rz_driver.proofs.MeterLemmas.{metered-counts, still-err, order-held, order-left}
 use Rattle.rz_driver.proofs.Rows.{at-within}
 use Rattle.rz_driver.proofs.administration.lose_node.Goals as goal
 
@@ -22,6 +23,30 @@ returns-clause-ok g c =
       at = c.in-Some.ensures;
       is = slice_get-get_or c.args.stations.now c.in-Some.place c.index-stations-place.result low;
       stations = refl;
-      order = c.lose-event.ensures;
+      order = c.lose-event.ensures.order;
       log_is = h ∙ ap (noted c.lose-event.result) c.make_room.ensures.same;
     }) c.note.ensures.ok
+
+pub returns-clause-held : goal.returns-clause-held
+returns-clause-held g c =
+    let row = c.args.stations.now in
+    let low = at-within row c.args.sid c.in-Some.place c.in-Some.ensures in
+    let s = get_or row c.in-Some.place c.index-stations-place.result in
+    let at = slice_get-get_or row c.in-Some.place c.index-stations-place.result low in
+    on_ok_weaker c.note.result (λ (h : c.note.new.log.events ≡ noted c.lose-event.result c.make_room.new.self.events). λ numbers first met.
+    order-held g.D.Disk.meter first numbers row c.in-Some.place s c.lose-event.new.station c.lose-event.result c.args.log.now.events c.note.new.log.events at c.lose-event.ensures.order.called.sid c.lose-event.ensures.metered (h ∙ ap (noted c.lose-event.result) c.make_room.ensures.same) met) c.note.ensures.ok
+
+pub returns-clause-left : goal.returns-clause-left
+returns-clause-left g c =
+    let row = c.args.stations.now in
+    let low = at-within row c.args.sid c.in-Some.place c.in-Some.ensures in
+    let s = get_or row c.in-Some.place c.index-stations-place.result in
+    let at = slice_get-get_or row c.in-Some.place c.index-stations-place.result low in
+    on_err_weaker c.note.result (λ (h : c.note.new.log.events ≡ c.make_room.new.self.events). λ numbers first met.
+    order-left g.D.Disk.meter first numbers row c.in-Some.place s c.lose-event.new.station c.args.log.now.events c.note.new.log.events at c.lose-event.ensures.order.called.sid c.lose-event.ensures.counted (h ∙ c.make_room.ensures.same) met) c.note.ensures.err
+
+pub returns-in_default-clause-left : goal.returns-in_default-clause-left
+returns-in_default-clause-left g c = λ numbers first met. metered-counts g.D.Disk.meter first numbers c.args.stations.now c.args.log.now.events met
+
+pub returns-in_err-make_room-clause-left : goal.returns-in_err-make_room-clause-left
+returns-in_err-make_room-clause-left g c = still-err c.from_residual.result g.D.Disk.meter c.args.stations.now c.args.log.now.events c.make_room.new.self.events c.make_room.ensures.same

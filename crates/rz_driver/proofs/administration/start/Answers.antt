@@ -1,18 +1,23 @@
-use Rattle.std.proofs.Common.{◌≡◌, ap, refl, ◌∙◌, subst}
+use Rattle.std.proofs.Common.{◌≡◌, List, None, ap, refl, sym, ◌∙◌, subst, rules}
 use Rattle.rz_events.specs.declared.nodes.NodeAsk.TheVariants as ask
 use Rattle.rz_events.specs.declared.nodes.NodeAnswer.TheVariants as answer
 use Rattle.rz_events.specs.declared.nodes.StartAnswer.{StartAnswer}
 use Rattle.rz_events.specs.declared.nodes.StartAnswer.TheVariants as start
 use Rattle.rz_events.specs.declared.nodes.OpenFault.TheVariants as fault
-use Rattle.rz_node.specs.Opens.{IfUnopened}
-use Rattle.rz_play.specs.Lines.{IsTold}
+use Rattle.rz_disk.specs.Meter.{Meter, armed}
+use Rattle.rz_cells.specs.Opening.{opening_calls}
+use Rattle.rz_events.specs.declared.nodes.Phase.TheVariants.{Down}
+use Rattle.rz_node.specs.Opens.{Opens, IfStarted, UnlessStarted, IfUnopened}
+use Rattle.rz_play.specs.Lines.{IsTold, noted}
+use Rattle.rz_driver.specs.Meters.{GoesOn}
+use Rattle.rz_driver.proofs.MeterLemmas.{armed-own, armed-there, start-down, start-still, start-lasts}
 use Rattle.std.specs.Prelude.{ℕ, Bool, IsTrue, Option}
 use Rattle.rz_events.specs.declared.keys.Actor.TheVariants.{Admin}
 use Rattle.rz_events.specs.declared.events.Event.{Event}
-use Rattle.rz_node_model.specs.States.{NodeState}
-use Rattle.rz_node_model.specs.Answers.{IsNodeAnswer}
+use Rattle.rz_node_model.specs.States.{NodeState, opened}
+use Rattle.rz_node_model.specs.Answers.{IsNodeAnswer, IsStartAnswer}
 use Rattle.rz_node_model.specs.Afterwards.{after_answer}
-use Rattle.rz_node_model.specs.NodeEvents.{node_event}
+use Rattle.rz_node_model.specs.NodeEvents.{node_event, start_event}
 use Rattle.rz_cells.specs.declared.geometry.Geometry.{Geometry}
 use Rattle.rz_node.specs.Seen.{NodeView}
 use Rattle.rz_driver.specs.declared.station.Station.{Station}
@@ -55,24 +60,72 @@ exact-told b (start.Unopened cause) told fits = fits told
 
 pub returns-in_default : goal.returns-in_default
 returns-in_default g c =
+    let meter = g.D.Disk.meter in
     let old = c.args.station.now in
     let mid = c.if-eq.station in
+    let new = c.start.new.self in
+    let given = c.start.result in
+    let calls = opening_calls mid.node.geometry in
     let first : IsArmed old.pick old mid = elim c.if-eq.branch [
-      | then-eq w ↦ rw w.station-is (record { sid = refl; geometry = w.crash.ensures.geometry ∙ w.arm.ensures.geometry; state = w.crash.ensures.state ∙ w.arm.ensures.state; pick_is = refl })
+      | then-eq w ↦ rw w.station-is (record { sid = refl; geometry = w.arm.ensures.geometry ∙ w.crash.ensures.geometry; state = w.arm.ensures.state ∙ w.crash.ensures.state; pick_is = refl })
       | else-eq w ↦ rw w.station-is (record { sid = refl; geometry = refl; state = refl; pick_is = refl })
     ] in
+    let answer = subst (λ (s : NodeState). IsStartAnswer s given) first.state c.start.ensures.answer in
+    let started = subst (λ (s : NodeState). IfStarted given (new.state ≡ opened s.losses new.state.fence new.state.held)) first.state c.start.ensures.started in
+    let unstarted = subst (λ (s : NodeState). UnlessStarted given (new.state ≡ s)) first.state c.start.ensures.unstarted in
+    let event_is : c.node_event.result ≡ start_event old.sid given = c.node_event.ensures ∙ ap (λ (n : ℕ). start_event n given) first.sid in
+    let same : (meter mid.node.disk).own ≡ (meter old.node.disk).own = elim c.if-eq.branch [
+      | then-eq w ↦ ap (λ (s : Station g.row.D.Denot). (meter s.node.disk).own) w.station-is
+          ∙ armed-own g.D.Disk.has_fuse None (meter w.crash.new.self.disk) (meter w.arm.new.self.disk) w.arm.ensures.meter ∙ ap (λ (m : Meter). m.own) w.crash.ensures.meter
+      | else-eq w ↦ ap (λ (s : Station g.row.D.Denot). (meter s.node.disk).own) w.station-is
+    ] in
     record {
-      called = disarmed-first old mid c.start.new.self first c.start.ensures.geometry;
-      ok = λ told. order-of old mid c.start.new.self c.start.result c.node_event.result first c.start.ensures.geometry c.start.ensures.answer
-          (start-told c.start.result c.in_default.not-NoMemory (exact-told g.D.Disk.tells c.start.result told c.start.ensures.exact)) (c.start.ensures.after told) c.node_event.ensures;
+      called = disarmed-first old mid new first c.start.ensures.geometry;
+      ok = λ told. order-of old mid new given c.node_event.result first c.start.ensures.geometry c.start.ensures.answer
+          (start-told given c.in_default.not-NoMemory (exact-told g.D.Disk.tells given told c.start.ensures.exact)) (c.start.ensures.after told) c.node_event.ensures;
+      crashed = λ down. elim c.if-eq.branch [
+        | then-eq w ↦ subst (λ (t : List ℕ). g.D.Disk.picks old.node.disk old.pick t)
+            (sym (c.start.ensures.text ∙ ap (λ (s : Station g.row.D.Denot). g.D.Disk.text s.node.disk) w.station-is ∙ w.arm.ensures.text)) w.crash.ensures.by_pick
+        | else-eq w ↦ let other : old.node.state.phase ≡ Down → ⊥ = search rules in absurd (other down)
+      ];
+      metered = λ h. subst (λ (o : Option Event). GoesOn meter old.sid old.node new h (noted o h)) (sym event_is) (elim c.if-eq.branch [
+        | then-eq w ↦
+            let down : old.node.state.phase ≡ Down = search rules in
+            let disarmed : meter mid.node.disk ≡ armed None (meter old.node.disk) = ap (λ (s : Station g.row.D.Denot). meter s.node.disk) w.station-is
+            ∙ armed-there g.D.Disk.has_fuse None (meter w.crash.new.self.disk) (meter w.arm.new.self.disk) c.requires.fuse w.arm.ensures.meter ∙ ap (armed None) w.crash.ensures.meter
+            in
+            start-down meter c.started.ensures old.sid calls given old.node new (meter mid.node.disk) down answer c.in_default.not-NoMemory disarmed c.start.ensures.opens started unstarted h
+        | else-eq w ↦
+            let other : old.node.state.phase ≡ Down → ⊥ = search rules in
+            let opens = subst (λ (m : Meter). Opens calls given m (meter new.disk)) (ap (λ (s : Station g.row.D.Denot). meter s.node.disk) w.station-is) c.start.ensures.opens in
+            start-still meter old.sid calls given old.node new other answer opens unstarted h
+      ]);
+      counted = start-lasts meter calls given old.node new (meter mid.node.disk) same c.start.ensures.opens;
     }
 
 pub returns-in-NoMemory : goal.returns-in-NoMemory
 returns-in-NoMemory g c =
+    let meter = g.D.Disk.meter in
     let old = c.args.station.now in
     let mid = c.if-eq.station in
+    let new = c.start.new.self in
     let first : IsArmed old.pick old mid = elim c.if-eq.branch [
-      | then-eq w ↦ rw w.station-is (record { sid = refl; geometry = w.crash.ensures.geometry ∙ w.arm.ensures.geometry; state = w.crash.ensures.state ∙ w.arm.ensures.state; pick_is = refl })
+      | then-eq w ↦ rw w.station-is (record { sid = refl; geometry = w.arm.ensures.geometry ∙ w.crash.ensures.geometry; state = w.arm.ensures.state ∙ w.crash.ensures.state; pick_is = refl })
       | else-eq w ↦ rw w.station-is (record { sid = refl; geometry = refl; state = refl; pick_is = refl })
     ] in
-    record { called = disarmed-first old mid c.start.new.self first c.start.ensures.geometry; ok = tt }
+    let same : (meter mid.node.disk).own ≡ (meter old.node.disk).own = elim c.if-eq.branch [
+      | then-eq w ↦ ap (λ (s : Station g.row.D.Denot). (meter s.node.disk).own) w.station-is
+          ∙ armed-own g.D.Disk.has_fuse None (meter w.crash.new.self.disk) (meter w.arm.new.self.disk) w.arm.ensures.meter ∙ ap (λ (m : Meter). m.own) w.crash.ensures.meter
+      | else-eq w ↦ ap (λ (s : Station g.row.D.Denot). (meter s.node.disk).own) w.station-is
+    ] in
+    record {
+      called = disarmed-first old mid new first c.start.ensures.geometry;
+      ok = tt;
+      crashed = λ down. elim c.if-eq.branch [
+        | then-eq w ↦ subst (λ (t : List ℕ). g.D.Disk.picks old.node.disk old.pick t)
+            (sym (c.start.ensures.text ∙ ap (λ (s : Station g.row.D.Denot). g.D.Disk.text s.node.disk) w.station-is ∙ w.arm.ensures.text)) w.crash.ensures.by_pick
+        | else-eq w ↦ let other : old.node.state.phase ≡ Down → ⊥ = search rules in absurd (other down)
+      ];
+      metered = tt;
+      counted = start-lasts meter (opening_calls mid.node.geometry) c.start.result old.node new (meter mid.node.disk) same c.start.ensures.opens;
+    }

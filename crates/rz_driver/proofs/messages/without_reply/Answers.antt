@@ -1,6 +1,28 @@
+use Rattle.std.proofs.Common.{◌≡◌, ℕ, true, List, ◌∷◌, Option, Some, refl, sym, ◌∙◌, subst, ap}
+use Rattle.std.proofs.lemmas.Result.{on_ok_weaker}
+use Rattle.rz_events.specs.declared.events.Event.{Event}
+use Rattle.rz_events.specs.declared.events.Event.TheVariants as e
+use Rattle.rz_cells.specs.Opening.{opening_calls}
+use Rattle.rz_node_model.specs.NodeEvents.{node_event}
+use Rattle.rz_driver.proofs.MeterLemmas.{call-goes, call-lasts, missed-goes}
 use Rattle.rz_operation_model.specs.Ask.{ask_of}
 use Rattle.rz_driver.proofs.Asks.{may-miss}
 use Rattle.rz_driver.proofs.messages.without_reply.Goals as goal
 
 pub tell_missed-requires-clause-asked : goal.tell_missed-requires-clause-asked
 tell_missed-requires-clause-asked g c = may-miss (ask_of c.args.machine.now.layout c.args.machine.now.work) c.args.number c.args.ask c.requires.asked c.requires.lossy
+
+pub returns-clause-metered : goal.returns-clause-metered
+returns-clause-metered g c =
+    let meter = g.D.Disk.meter in
+    let node = c.args.node.now in
+    let h = c.args.log.now.events in
+    let s = c.in_ok-answer.ensures in
+    let goes = call-goes meter c.faults.ensures c.args.by c.args.number (opening_calls node.geometry) node.geometry.cells c.args.ask c.in_ok-answer.answer node c.serve.new.node s.no_start s.served.given_is s.served.after s.counts h in
+    on_ok_weaker c.note_two.result (λ (n : c.note_two.new.self.events ≡ e.Missed c.args.by c.args.number true ∷ c.in-Some.event ∷ h).
+    missed-goes meter c.args.number node c.serve.new.node h c.note_two.new.self.events c.in-Some.event c.args.by (node_event c.args.by c.args.number c.args.ask c.in_ok-answer.answer) (sym c.node_event.ensures ∙ c.in-Some.is) n goes) c.note_two.ensures.ok
+
+pub returns-clause-counted : goal.returns-clause-counted
+returns-clause-counted g c =
+    let s = c.in_ok-answer.ensures in
+    call-lasts (opening_calls c.args.node.now.geometry) c.args.node.now.geometry.cells c.args.ask c.in_ok-answer.answer c.args.node.now.state (g.D.Disk.meter c.args.node.now.disk) (g.D.Disk.meter c.serve.new.node.disk) s.no_start s.served.given_is s.counts

@@ -6,7 +6,7 @@ use Rattle.rz_events.specs.declared.operations.Operation.{Operation}
 use Rattle.rz_operation.specs.Answers.{IsOperation}
 use Rattle.rz_play.specs.Lines.{with_operation}
 use Rattle.rz_driver.specs.declared.seat.Seat.{Seat}
-use Rattle.rz_driver.specs.Locking.{lock_of}
+use Rattle.rz_asks.specs.Locking.{lock_of}
 use Rattle.rz_driver.specs.Seats.{IsSeat, HasLayout, work_in, seat_of}
 use Rattle.rz_driver.specs.Worlds.{place_of}
 use Rattle.rz_driver.proofs.ReadyLemmas.{all-at}

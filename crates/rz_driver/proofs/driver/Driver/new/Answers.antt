@@ -1,9 +1,10 @@
-use Rattle.std.proofs.Common.{◌≡◌, List, length, refl, sym, ◌∙◌, ap, subst}
+use Rattle.std.proofs.Common.{◌≡◌, List, length, map, refl, sym, ◌∙◌, ap, subst}
 use Rattle.std.specs.List.{AllByRecursion}
 use Rattle.mj_angles.specs.declared.layout.Layout.{Layout}
 use Rattle.rz_events.specs.Volume.{Volume, IsNode, nodes_of}
 use Rattle.rz_events.specs.declared.files.NodeSpec.{NodeSpec}
 use Rattle.rz_driver.specs.Made.{AreNew, AreBack}
+use Rattle.rz_driver.proofs.MeterLemmas.{new-holds}
 use Rattle.rz_driver.proofs.MadeLemmas.{untouched, proper-nodes, new-ready, new-is}
 use Rattle.rz_driver.proofs.driver.Driver.new.Goals as goal
 
@@ -38,3 +39,9 @@ returns-in-Err-clause-back g c =
     let layout : c.volume.inside.layout ≡ c.args.volume.now.layout = ap (λ (v : Volume). v.layout) c.volume.view_is in
     subst (λ (y : Layout). AreBack g.D.Disk.tells g.D.Disk.meter g.D.Disk.image y (nodes_of c.args.volume.now.clusters) c.args.disks.items c.in-Err.back.0.items) layout
     (subst (λ (ns : List NodeSpec). AreBack g.D.Disk.tells g.D.Disk.meter g.D.Disk.image c.volume.inside.layout ns c.args.disks.items c.in-Err.back.0.items) (c.as_slice.ensures.value ∙ c.in-Ok.ensures.nodes) c.in-Err.ensures.back)
+
+pub returns-in-Ok-new_stations-clause-held : goal.returns-in-Ok-new_stations-clause-held
+returns-in-Ok-new_stations-clause-held g c =
+    let ready = returns-in-Ok-new_stations-clause-ready g c in
+    new-holds g.D.Disk.tells g.D.Disk.meter g.D.Disk.image c.args.volume.now c.new_parts.ensures.rules c.args.disks.items _ _ _ ready.numbers
+    (ap (λ (v : Volume). map (λ (n : NodeSpec). n.sid) (nodes_of v.clusters)) c.in-Ok.ensures.volume) (returns-in-Ok-new_stations-clause-made g c) c.new-log.ensures

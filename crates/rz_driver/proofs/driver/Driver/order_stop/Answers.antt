@@ -1,8 +1,13 @@
-use Rattle.std.proofs.Common.{refl}
+use Rattle.std.proofs.Common.{refl, ℕ, List, inr}
 use Rattle.std.specs.Vec.{with_items}
-use Rattle.std.proofs.lemmas.Result.{on_ok_weaker}
+use Rattle.std.proofs.lemmas.Result.{on_ok_weaker, on_err_weaker}
 use Rattle.rz_events.specs.declared.nodes.NodeAsk.TheVariants as ask
 use Rattle.rz_driver.specs.Administration.{IsOrdered}
+use Rattle.rz_disk.specs.UnderFuse.{fused_meter}
+use Rattle.rz_lines.specs.Ends.{Carries}
+use Rattle.rz_driver.specs.Meters.{AreMetered, AreCounted}
+use Rattle.rz_driver.specs.Worlds.{numbers_in}
+use Rattle.rz_driver.proofs.MeterLemmas.{metered-in, counted-in}
 use Rattle.rz_driver.proofs.NodeOrders.{called-of, ordered-in, called-ready, admin-call}
 use Rattle.rz_driver.proofs.driver.Driver.order_stop.Goals as goal
 
@@ -23,3 +28,21 @@ returns-clause-called g c =
     let there = ordered-in ask.Stop c.args.sid d.shared.stations c.as_mut_slice.result.now c.stop_node.new.stations d.shared.log.events c.stop_node.new.log.events c.as_mut_slice.ensures.value o in
     admin-call d c.requires.ready (record d.shared { stations = with_items d.shared.stations c.stop_node.new.stations; log = c.stop_node.new.log }) refl refl ask.Stop c.args.sid there)
     c.stop_node.ensures.ok
+
+pub returns-clause-held : goal.returns-clause-held
+returns-clause-held g c =
+    let d = c.args.self.now in
+    let meter = fused_meter g.D.Disk.meter in
+    on_ok_weaker c.stop_node.result
+    (λ (held : (numbers : List ℕ) → Carries (AreMetered meter numbers c.as_mut_slice.result.now d.shared.log.events) (AreMetered meter numbers c.stop_node.new.stations c.stop_node.new.log.events)).
+    λ first met. metered-in meter (numbers_in d) first d.shared.stations c.as_mut_slice.result.now c.stop_node.new.stations c.as_mut_slice.ensures.value d.shared.log.events c.stop_node.new.log.events (held (numbers_in d) first) met)
+    c.stop_node.ensures.held
+
+pub returns-clause-left : goal.returns-clause-left
+returns-clause-left g c =
+    let d = c.args.self.now in
+    let meter = fused_meter g.D.Disk.meter in
+    on_err_weaker c.stop_node.result
+    (λ (left : (numbers : List ℕ) → Carries (AreMetered meter numbers c.as_mut_slice.result.now d.shared.log.events) (AreCounted meter numbers c.stop_node.new.stations c.stop_node.new.log.events)).
+    λ first met. inr (counted-in meter (numbers_in d) first d.shared.stations c.as_mut_slice.result.now c.stop_node.new.stations c.as_mut_slice.ensures.value d.shared.log.events c.stop_node.new.log.events (left (numbers_in d) first) met))
+    c.stop_node.ensures.left

@@ -1,6 +1,8 @@
 use Rattle.std.proofs.Common.{refl, sym, ◌∙◌, subst}
+use Rattle.rz_disk.specs.UnderFuse.{fused_meter}
 use Rattle.rz_driver.specs.declared.driver.Driver.{Driver}
-use Rattle.rz_driver.specs.Worlds.{IsDriver}
+use Rattle.rz_driver.specs.Worlds.{IsDriver, Holds}
+use Rattle.rz_driver.proofs.MeterLemmas.{log-kept, turn-err}
 use Rattle.rz_driver.proofs.TakeLemmas.{seat-there, have-layouts, tied-at, drives, turned}
 use Rattle.rz_driver.proofs.driver.Driver.take_turn.Goals as goal
 
@@ -36,3 +38,15 @@ returns-clause-taken g c =
     let there = seat-there c.args.by c.in-Some.place c.index_mut-seat.result.now _ ready at c.index_mut-seat.ensures.value in
     turned c.args.by c.in-Some.place _ c.act.new.shared c.make_room.new.self c.index_mut-seat.result.now c.take_up.new.self c.act.new.seat ready at there.0 there.1
     c.in_ok-take_up.ensures.ok c.in_ok-take_up.ensures.seat c.take_up.ensures.lock c.make_room.ensures.same c.in_ok-act.ensures.ok c.args.self.now c.self.view_is
+
+pub returns-clause-held : goal.returns-clause-held
+returns-clause-held g c = λ first met.
+    let ready = subst (λ (x : Driver g.row.D.Denot g.D.Disk). IsDriver x) (sym c.self.view_is) c.requires.ready in
+    let here = subst (λ (x : Driver g.row.D.Denot g.D.Disk). Holds x first) (sym c.self.view_is) met in
+    c.in_ok-act.ensures.held _ first (log-kept _ ready c.make_room.new.self.events first c.make_room.ensures.same here)
+
+pub returns-in_err-act-clause-left : goal.returns-in_err-act-clause-left
+returns-in_err-act-clause-left g c = turn-err c.from_residual-in_err-act.result (fused_meter g.D.Disk.meter) _ c.act.new.shared.stations.items c.act.new.shared.log.events (Holds c.args.self.now) (λ first met.
+    let ready = subst (λ (x : Driver g.row.D.Denot g.D.Disk). IsDriver x) (sym c.self.view_is) c.requires.ready in
+    let here = subst (λ (x : Driver g.row.D.Denot g.D.Disk). Holds x first) (sym c.self.view_is) met in
+    c.in_err-act.ensures.left _ first (log-kept _ ready c.make_room.new.self.events first c.make_room.ensures.same here))

@@ -1,0 +1,24 @@
+use Rattle.std.proofs.Common.{sym, ◌∙◌}
+use Rattle.rz_operation.specs.Meaning.{path_in}
+use Rattle.rz_asks.specs.Locking.{lock_of}
+use Rattle.rz_asks.proofs.OpenLemmas.{none-lock, opened}
+use Rattle.rz_asks.proofs.locking.open.Goals as goal
+
+pub returns-clause-ok : goal.returns-clause-ok
+returns-clause-ok c =
+    let tree_call = c.in-Lock.call.now in (
+      path_in tree_call,
+      c.in-Lock.exclusive,
+      c.in-Lock.from,
+      c.in-Lock.count,
+      sym c.in-Lock.ensures.value,
+      (
+        c.in-Client.owner,
+        opened c.args.by c.in-Client.owner tree_call c.in_ok-copy.copy (path_in tree_call) c.in_ok-name.field-0 c.in-Lock.exclusive c.in-Lock.from c.in-Lock.count
+            (lock_of c.wanted-wanted.result) c.take-granted.result c.args.machine.now c.tell_locked.new.self c.args.export.now c.name.new.self c.args.locks.now c.take-granted.new.locks
+            (lock_of c.args.held.now) (lock_of c.take-granted.new.held) c.args.log.now.events c.note_names.new.log.events
+            c.in-Client.is c.in_ok-copy.ensures (c.opens.ensures c.if-not-opens.false) c.in_ok-name.ensures.reply c.in_ok-note_names.ensures.ok c.in_ok-name.ensures.ok
+            (none-lock c.args.held.now (sym c.is_some.ensures ∙ c.if-is_some.false)) c.wanted-wanted.ensures c.take-granted.ensures.grants c.take-granted.ensures.held
+            c.tell_locked.ensures.layout c.tell_locked.ensures.work,
+      ),
+    )

@@ -1,0 +1,13 @@
+use Rattle.std.proofs.Common.{◌<◌, ◌-◌, length, sym, ◌∙◌, subst, arith}
+use Rattle.std.specs.Vec.{vec_capacity}
+use Rattle.rz_asks.specs.Logged.{Logged}
+use Rattle.rz_asks.proofs.Begins.{pushed, rises-noted}
+use Rattle.rz_asks.proofs.log.Log.note.Goals as goal
+
+pub invariant_of-self-else-stamp-self-14 : goal.invariant_of-self-else-stamp-self-14
+invariant_of-self-else-stamp-self-14 c =
+    let l = c.self.inside in
+    let room : 0 < vec_capacity l.events - length l.events.items = subst (λ (v : Logged). 0 < v.room) (sym c.self.view_is) c.requires.room in
+    rises-noted l.last c.in-Some.stamp c.args.event l.events.items c.push-noted-in-Some.new.self.items
+    (pushed l.events.items c.push-noted-in-Some.new.self.items c.args.event _ c.push-noted-in-Some.ensures.items (c.push-noted-in-Some.ensures.succeeds (omega (arith, room))))
+    (sym c.stamp_of.ensures ∙ c.in-Some.is) (omega (arith, c.if-stamp-self.false)) c.self.invariant

@@ -1,0 +1,288 @@
+//! Calls of the export.
+ghost use Rattle.std.specs.Prelude.{◌≡◌, ◌+◌, ◌<◌, ◌≤◌, Some, IfOk, OnOk, OnErr};
+ghost use Rattle.rz_export_model.specs.Export.{export_reply, export_after};
+ghost use Rattle.rz_export_model.specs.ExportEvents.{export_event};
+ghost use Rattle.rz_operation.specs.Meaning.{call_of};
+ghost use Rattle.rz_asks.specs.Parts.{AreWords, IsNoted, IsExportPart};
+
+use crate::NoMemory;
+use crate::log::Log;
+use rz_events::{Actor, Asked, Call, Denial, Event, Key, Published, Reply, Text, TreeCall};
+use rz_export::Export;
+use rz_operation::{Ask, ExportAsk, Machine};
+use std::alloc::{AllocError, Global};
+
+/// The texts of a call, for the log.
+#[derive(Drop)]
+pub(crate) enum Words {
+    Call(TreeCall),
+    Text(Text),
+    Nothing,
+}
+
+/// Asks the export what a machine asks of it, tells the machine the reply, and notes it.
+pub fn ask_export(
+    alloc: Global,
+    by: Actor,
+    machine: &mut Machine,
+    export: &mut Export,
+    log: &mut Log,
+) -> Result<(), NoMemory>
+    requires room { 0 < log.old.room }
+    ensures ok { OnOk result (IsExportPart by machine.old machine.new export.old export.new log.old.events log.new.events) }
+    ensures err { OnErr result (log.new.events ≡ log.old.events) }
+{
+    let Ask::Export(ask) = machine.next() else {
+        return Err(NoMemory);
+    };
+    let words = words_of(alloc, ask)?;
+    let reply = reply_to(export, ask)?;
+    if !machine.takes_reply(&reply) {
+        return Err(NoMemory);
+    }
+    note_reply(alloc, by, ask, words, &reply, log)?;
+    machine.tell_reply(reply);
+    Ok(())
+}
+
+/// The texts of a call, in new memory.
+fn words_of(alloc: Global, ask: ExportAsk<'_>) -> Result<Words, AllocError>
+    ensures { IfOk result (λ w. AreWords ask.entry w) }
+{
+    match ask {
+        ExportAsk::Tree(call) => Ok(Words::Call(call.copy(alloc)?)),
+        ExportAsk::Begin { text, .. } => Ok(Words::Text(Text::from_bytes(alloc, text)?)),
+        ExportAsk::Publish { .. }
+        | ExportAsk::Look { .. }
+        | ExportAsk::Recheck { .. }
+        | ExportAsk::Enroll { .. }
+        | ExportAsk::Next { .. } => Ok(Words::Nothing),
+    }
+}
+
+/// The reply of the export. Where it does not take the call, the play ends as for want of memory.
+pub(crate) fn reply_to(export: &mut Export, ask: ExportAsk<'_>) -> Result<Reply, NoMemory>
+    ensures reply { IfOk result (λ r. r ≡ export_reply export.old (call_of ask.entry)) }
+    ensures after { OnOk result (export.new ≡ export_after export.old (call_of ask.entry)) }
+{
+    match ask {
+        ExportAsk::Tree(call) => Ok(Reply::Tree(export.name(call)?)),
+        ExportAsk::Begin { key, .. } => Ok(export.begin(key)?),
+        ExportAsk::Publish { key, published } => publish(export, key, published),
+        ExportAsk::Look { key } => Ok(export.look(key)),
+        ExportAsk::Recheck { key } => Ok(export.recheck(key)),
+        ExportAsk::Enroll { node, loss } => enroll(export, node, loss),
+        ExportAsk::Next { node, after } => Ok(export.next(node, after)),
+    }
+}
+
+fn publish(export: &mut Export, key: Key, published: Published) -> Result<Reply, NoMemory>
+    ensures reply { IfOk result (λ r. r ≡ export_reply export.old (Call.Publish key published.stamp published.mask published.length)) }
+    ensures after { OnOk result (export.new ≡ export_after export.old (Call.Publish key published.stamp published.mask published.length)) }
+{
+    let call = Call::Publish {
+        key,
+        stamp: published.stamp,
+        mask: published.mask,
+        length: published.length,
+    };
+    if !export.takes(&call) {
+        return Err(NoMemory);
+    }
+    Ok(export.publish(key, published))
+}
+
+fn enroll(export: &mut Export, node: u16, loss: u64) -> Result<Reply, NoMemory>
+    ensures reply { IfOk result (λ r. r ≡ export_reply export.old (Call.Enroll node loss)) }
+    ensures after { OnOk result (export.new ≡ export_after export.old (Call.Enroll node loss)) }
+{
+    if !export.takes(&Call::Enroll { node, loss }) {
+        return Err(NoMemory);
+    }
+    Ok(export.enroll(node, loss))
+}
+
+/// Notes the event of a reply.
+fn note_reply(
+    alloc: Global,
+    by: Actor,
+    ask: ExportAsk<'_>,
+    words: Words,
+    reply: &Reply,
+    log: &mut Log,
+) -> Result<(), NoMemory>
+    requires words { AreWords ask words }
+    requires room { 0 < log.old.room }
+    ensures ok { OnOk result (IsNoted (export_event by (call_of ask.entry) reply.now) log.old.events log.new.events) }
+    ensures err { OnErr result (log.new.events ≡ log.old.events) }
+{
+    match words {
+        Words::Call(call) => note_names(alloc, by, call, reply, log),
+        Words::Text(text) => note(begin_event(by, ask, text, reply), log),
+        Words::Nothing => note(plain_event(by, ask, reply), log),
+    }
+}
+
+/// Notes an event, where there is one.
+pub fn note(event: Option<Event>, log: &mut Log) -> Result<(), NoMemory>
+    requires room { 0 < log.old.room }
+    ensures ok { OnOk result (IsNoted event log.old.events log.new.events) }
+    ensures err { OnErr result (log.new.events ≡ log.old.events) }
+    ensures room { log.old.room ≤ log.new.room + 1 }
+{
+    match event {
+        Some(event) => log.note(event),
+        None => Err(NoMemory),
+    }
+}
+
+/// Notes a call on names, with a copy of its reply.
+pub(crate) fn note_names(
+    alloc: Global,
+    by: Actor,
+    call: TreeCall,
+    reply: &Reply,
+    log: &mut Log,
+) -> Result<(), NoMemory>
+    requires room { 0 < log.old.room }
+    ensures ok { OnOk result (IsNoted (export_event by (Call.Tree call) reply.now) log.old.events log.new.events) }
+    ensures err { OnErr result (log.new.events ≡ log.old.events) }
+{
+    match reply {
+        Reply::Tree(answer) => {
+            let reply = answer.copy(alloc)?;
+            log.note(Event::Meta { by, call, reply })
+        }
+        _ => Err(NoMemory),
+    }
+}
+
+/// The event of the reply to a begin.
+fn begin_event(by: Actor, ask: ExportAsk<'_>, text: Text, reply: &Reply) -> Option<Event>
+    requires { AreWords ask (Words.Text text) }
+    ensures { result ≡ export_event by (call_of ask.entry) reply.now }
+{
+    let ExportAsk::Begin { key, .. } = ask else {
+        return None;
+    };
+    match reply {
+        Reply::Begun { stamp, base } => Some(Event::Begin {
+            by,
+            key,
+            stamp: *stamp,
+            base: *base,
+            text,
+        }),
+        Reply::Denied(why) => denied(by, Asked::Begin { key }, *why),
+        _ => None,
+    }
+}
+
+/// The event of a reply that has no texts.
+fn plain_event(by: Actor, ask: ExportAsk<'_>, reply: &Reply) -> Option<Event>
+    requires { AreWords ask Words.Nothing }
+    ensures { result ≡ export_event by (call_of ask.entry) reply.now }
+{
+    match ask {
+        ExportAsk::Publish { key, published } => publish_event(by, key, published, reply),
+        ExportAsk::Look { key } => look_event(by, key, reply),
+        ExportAsk::Recheck { key } => recheck_event(by, key, reply),
+        ExportAsk::Enroll { node, loss } => enroll_event(by, node, loss, reply),
+        ExportAsk::Next { node, after } => next_event(by, node, after, reply),
+        ExportAsk::Tree(_) | ExportAsk::Begin { .. } => None,
+    }
+}
+
+fn publish_event(by: Actor, key: Key, published: Published, reply: &Reply) -> Option<Event>
+    ensures { result ≡ export_event by (Call.Publish key published.stamp published.mask published.length) reply.now }
+{
+    let stamp = published.stamp;
+    let mask = published.mask;
+    match reply {
+        Reply::Accepted => Some(Event::Publish {
+            by,
+            key,
+            stamp,
+            mask,
+            refused: None,
+        }),
+        Reply::Enrolled { position, fence } => Some(Event::Publish {
+            by,
+            key,
+            stamp,
+            mask,
+            refused: Some((*position, *fence)),
+        }),
+        Reply::Revoked { later } => Some(Event::Revoked {
+            by,
+            key,
+            stamp,
+            later: *later,
+        }),
+        Reply::Denied(why) => denied(by, Asked::Publish { key }, *why),
+        _ => None,
+    }
+}
+
+fn look_event(by: Actor, key: Key, reply: &Reply) -> Option<Event>
+    ensures { result ≡ export_event by (Call.Look key) reply.now }
+{
+    match reply {
+        Reply::Looked(answer) => Some(Event::Look {
+            by,
+            key,
+            answer: *answer,
+        }),
+        Reply::Denied(why) => denied(by, Asked::Look { key }, *why),
+        _ => None,
+    }
+}
+
+fn recheck_event(by: Actor, key: Key, reply: &Reply) -> Option<Event>
+    ensures { result ≡ export_event by (Call.Recheck key) reply.now }
+{
+    match reply {
+        Reply::Looked(answer) => Some(Event::Recheck {
+            by,
+            key,
+            answer: *answer,
+        }),
+        Reply::Denied(why) => denied(by, Asked::Recheck { key }, *why),
+        _ => None,
+    }
+}
+
+fn enroll_event(by: Actor, node: u16, loss: u64, reply: &Reply) -> Option<Event>
+    ensures { result ≡ export_event by (Call.Enroll node loss) reply.now }
+{
+    match reply {
+        Reply::Fence { fence } => Some(Event::Enroll {
+            by,
+            node,
+            loss,
+            fence: *fence,
+        }),
+        Reply::Denied(why) => denied(by, Asked::Enroll { node, loss }, *why),
+        _ => None,
+    }
+}
+
+fn next_event(by: Actor, node: u16, after: Option<Key>, reply: &Reply) -> Option<Event>
+    ensures { result ≡ export_event by (Call.Next node after) reply.now }
+{
+    match reply {
+        Reply::Listed(answer) => Some(Event::Next {
+            by,
+            node,
+            after,
+            answer: *answer,
+        }),
+        _ => None,
+    }
+}
+
+fn denied(by: Actor, asked: Asked, why: Denial) -> Option<Event>
+    ensures { result ≡ Some (Event.Denied by asked why) }
+{
+    Some(Event::Denied { by, asked, why })
+}

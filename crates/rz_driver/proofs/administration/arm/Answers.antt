@@ -1,0 +1,16 @@
+use Rattle.std.proofs.Common.{◌≡◌, ℕ, Bool, true, Option, Some, IsTrue, if◌then◌else◌, refl, sym, ◌∙◌, ap, subst, arith}
+use Rattle.rz_disk.specs.Meter.{Meter, armed}
+use Rattle.rz_node_model.specs.States.{NodeState}
+use Rattle.rz_driver.proofs.MeterLemmas.{arm-goes, armed-own}
+use Rattle.rz_driver.proofs.administration.arm.Goals as goal
+
+pub returns-clause-metered : goal.returns-clause-metered
+returns-clause-metered g c = λ h.
+    let meter = g.D.Disk.meter in
+    let s = c.args.station.now in
+    arm-goes meter c.armed.ensures g.D.Disk.has_fuse c.requires.fuse s.sid c.args.passes c.args.pick s.node c.arm.new.self (ap (λ (t : NodeState). t.phase) c.arm.ensures.state) c.arm.ensures.meter h
+
+pub returns-clause-counted : goal.returns-clause-counted
+returns-clause-counted g c =
+    let same = armed-own g.D.Disk.has_fuse (Some c.args.passes) (g.D.Disk.meter c.args.station.now.node.disk) (g.D.Disk.meter c.arm.new.self.disk) c.arm.ensures.meter in
+    omega (arith, same)

@@ -1,2 +1,0 @@
-pub mod NodeCalls
-pub mod ExportCalls
