@@ -20,11 +20,13 @@ ghost use Rattle.rz_safety.specs.Rebuilt.{AreRebuilt};
 ghost use Rattle.rz_script.specs.declared.line.Line.{Line as ALine};
 ghost use Rattle.rz_play.specs.World.{World, world_after};
 ghost use Rattle.rz_play.specs.Turns.{IsTurn};
+ghost use Rattle.rz_script.specs.Lines.{IsLine};
+ghost use Rattle.rz_play.specs.Lines.{PlaysLine};
 ghost use Rattle.rz_play.specs.Stops.{StopCause};
 ghost use Rattle.rz_play.specs.Faults.{missed, misses};
 ghost use Rattle.rz_play.specs.Played.{IsPlayedFrom, IsStoppedFrom, IsBegunFrom, IsBegun};
 ghost use Rattle.rz_play_laws.specs.Own.{IsOwnTurn, IsOwnKept, IsOwnProper};
-ghost use Rattle.rz_play_laws.specs.Fine.{MayBegin, IsSeated, IsFine, IsTelling};
+ghost use Rattle.rz_play_laws.specs.Fine.{MayBegin, IsSeated, IsFine, IsFineIfShort, IsTelling};
 ghost use Rattle.rz_play_laws.specs.Runs.{IsScript, IsRunAfter};
 
 /// What an operation asks is proper, where its own events say how far it has come.
@@ -106,6 +108,20 @@ pub fn in_order()
     ensures { (v : Volume) (script : List ALine) → IsScript v script
         → (nodes : ℕ → NodeState) (export : ExportState) (old : List AnEvent) → MayBegin v nodes export old
         → (log : List AnEvent) (p : IsBegunFrom v (world_after nodes export old) script log) → IsFine v old p.last }
+{
+    facts_told();
+}
+
+/// A turn of an actor keeps a world in order, while the log has room.
+pub fn turned()
+    ensures { (v : Volume) → IsVolume v → (old : List AnEvent) (by : AnActor) → IsSeated by → (w next : World) → IsTurn v by w next → IsFine v old w → IsFineIfShort v old next }
+{
+    facts_told();
+}
+
+/// So does a line of a script.
+pub fn lined()
+    ensures { (v : Volume) → IsVolume v → (old : List AnEvent) (l : ALine) → IsLine v l → (w next : World) → PlaysLine v l w next → IsFine v old w → IsFineIfShort v old next }
 {
     facts_told();
 }

@@ -1,0 +1,7 @@
+mod Hands
+mod Fetching
+mod Records
+mod Others
+mod Marks
+mod Takes
+mod Sent

@@ -1,0 +1,5 @@
+use Rattle.rz_block_laws.proofs.Others as laws
+use Rattle.rz_block_laws.proofs.going.Goals as goal
+
+pub returns : goal.returns
+returns c = laws.going-law

@@ -1,0 +1,4 @@
+mod Held
+mod Records
+mod Calls
+mod Words

@@ -1,0 +1,2 @@
+pub mod NodeCalls
+pub mod ExportCalls
