@@ -1,12 +1,13 @@
 //! How many projections determine a block: the criterion of Katz.
 //!
-//! `two_blocks_equal` is a law: as many projections as rows, at distinct angles, belong to one block.
+//! `two_blocks_equal` and `projections_determine` are a law: as many projections as rows, at distinct
+//! angles, belong to one block.
 //! `phantom` shows that fewer do not: it makes a block that is not zero and whose bins at these angles
 //! are all zero, wherever it fits the columns. Its contract gives every word of that block.
 #![tactic(auto)]
 
-ghost use Rattle.std.specs.Prelude.{◌≡◌, ◌≢◌, ◌<◌, ◌≤◌, ◌+◌, ◌*◌, ℕ, length, unsigned_abs, IfOk, All};
-ghost use Rattle.rz_words.specs.Grid.{IsShape, zero_grid};
+ghost use Rattle.std.specs.Prelude.{◌≡◌, ◌≢◌, ◌<◌, ◌≤◌, ◌+◌, ◌*◌, ℕ, ℤ, List, length, unsigned_abs, IfOk, All};
+ghost use Rattle.rz_words.specs.Grid.{Grid, IsGrid, IsShape, zero_grid};
 ghost use Rattle.mj_angles.specs.Projection.{word_at};
 ghost use Rattle.mj_katz.specs.Factor.{moved, factor};
 ghost use Rattle.mj_katz.specs.Phantom.{total_size, IsProduct, IsUnseen};
@@ -24,6 +25,12 @@ pub fn two_blocks_equal(a: &Block, b: &Block, angles: &[i32])
 {
     let _ = (a.rows(), b.rows(), angles.len());
 }
+
+/// The same law for all blocks and all angles, for those who have no two blocks at hand.
+pub fn projections_determine()
+    ensures { (a b : Grid) (angles : List ℤ) → IsGrid a → IsGrid b → a.rows ≡ b.rows → a.cols ≡ b.cols →
+        length angles ≡ a.rows → AreDistinct angles → HaveSameProjections angles a b → a ≡ b }
+{}
 
 /// The product of the factors `x^p + y`, for an angle `p` from 0 on, and `1 + x^|p| y`, for one below 0,
 /// where `x` is a step to the next column and `y` a step to the next row. No angle of `angles` sees it.

@@ -1,5 +1,3 @@
-pub mod Streams
-pub mod Texts
-pub mod Lines
-pub mod ReplayLaws
-pub mod Histories
+pub mod Asked
+pub mod Lent
+pub mod Untold

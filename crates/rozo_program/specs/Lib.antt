@@ -1,5 +1,2 @@
-pub mod Words
-pub mod Input
-pub mod Script
-pub mod Output
-pub mod Replay
+pub mod Disks
+pub mod Replays

@@ -1,25 +1,34 @@
-//! The program `rozo`: it plays a script over a small store in memory, and prints what came of each
-//! operation.
+//! The program `rozo`: it plays a script over a store whose disks lie in memory or in files, and prints
+//! what came of each operation.
 //!
-//! The contract of `replay` says which status comes when, that the source was read to its end, that
-//! the log is the play of the script, that it is legal and sound, and which bytes the sink took: the
-//! text of that log, or the one line of a refusal. It does not say what a real file or a terminal
-//! holds, or that memory is there, whose want is status 70.
+//! The contract of `replay` says which status comes when, that the source was read to its end, that the
+//! log is that of the script's play, that it is legal and sound, which bytes the sink took, and that the
+//! disks are handed back in their order. It does not say what a real file or a terminal holds, or that
+//! memory is there, whose want is status 70.
 //!
-//! In reading order: `replay`, `words`, `input`, `script`, `output`.
+//! In reading order: `replay`, `disks`.
 #![tactic(auto)]
 
-mod input;
-mod output;
+mod disks;
 mod replay;
-mod script;
-mod words;
+#[cfg(test)]
+mod tests;
 
+use disks::{files, memory};
 use replay::replay;
+use rz_command::{Wanted, WordsError, wanted};
+use rz_disk::Disk;
+use rz_link::PlainLink;
 use rz_ports::{StdSink, StdSource};
 use std::io::ErrorKind;
 use std::process::ExitCode;
 use std::{env, io};
+
+/// There was no memory.
+const NO_MEMORY: u8 = 70;
+
+/// The system did not give the words.
+const NO_WORDS: u8 = 71;
 
 /// The words of the command line.
 fn words_of(rt: &HostRuntime) -> io::Result<Vec<String>> {
@@ -27,14 +36,55 @@ fn words_of(rt: &HostRuntime) -> io::Result<Vec<String>> {
     Ok(words)
 }
 
-fn main(rt: HostRuntime) -> ExitCode {
-    let words = match words_of(&rt) {
-        Ok(words) => words,
-        Err(error) if error.kind() == ErrorKind::OutOfMemory => return ExitCode::from(70),
-        Err(_) => return ExitCode::from(71),
-    };
+/// Plays what the words ask for, and gives the status.
+fn play<D: Disk>(rt: &HostRuntime, words: &[String], mut disks: Vec<D>) -> u8 {
     let mut input = StdSource::new(rt.reader());
-    let mut output = StdSink::new(io::writer(&rt));
-    let played = replay(rt.alloc(), &words, &mut input, &mut output);
-    ExitCode::from(played.status)
+    let mut output = StdSink::new(io::writer(rt));
+    let mut link = PlainLink::new();
+    let played = replay(
+        rt.alloc(),
+        words,
+        &mut input,
+        &mut output,
+        &mut disks,
+        &mut link,
+    );
+    played.status
+}
+
+/// Plays over disks in memory.
+fn play_in_memory(rt: &HostRuntime, words: &[String], count: u16) -> u8 {
+    match memory(rt.alloc(), count) {
+        Ok(disks) => play(rt, words, disks),
+        Err(_) => NO_MEMORY,
+    }
+}
+
+/// Plays over the disks that the words want.
+fn play_wanted(rt: &HostRuntime, words: &[String], wanted: &Wanted) -> u8 {
+    let Some(folder) = &wanted.folder else {
+        return play_in_memory(rt, words, wanted.disks);
+    };
+    match files(rt, rt.alloc(), folder.as_str(), wanted.disks) {
+        Ok(disks) => play(rt, words, disks),
+        Err(_) => NO_MEMORY,
+    }
+}
+
+/// Does what the words ask for, and gives the status. Words of no meaning are refused by the call.
+fn perform(rt: &HostRuntime, words: &[String]) -> u8 {
+    match wanted(rt.alloc(), words) {
+        Ok(wanted) => play_wanted(rt, words, &wanted),
+        Err(WordsError::Usage) => play_in_memory(rt, words, 0),
+        Err(WordsError::NoMemory) => NO_MEMORY,
+    }
+}
+
+fn main(rt: HostRuntime) -> ExitCode {
+    let status = match words_of(&rt) {
+        Ok(words) => perform(&rt, &words),
+        Err(error) if error.kind() == ErrorKind::OutOfMemory => NO_MEMORY,
+        Err(_) => NO_WORDS,
+    };
+    ExitCode::from(status)
 }

@@ -76,7 +76,7 @@ pub record IsOfRecord (v : Volume) (n stamp : ℕ) (b : Option Begun) (p : Optio
   pub head_is : head_at v.layout stamp begun (position_in n 0 places) ≡ head
   pub bins_are : bins_at v.layout (block_of v.layout begun.text) (position_in n 0 places) ≡ bins
 
-of-record : (v : Volume) (n stamp : ℕ) (b : Option Begun) (p : Option (List ℕ)) (head : Head) (its : List ℕ) → record_on v.layout n stamp b p ≡ Some (head, its) → IsOfRecord v n stamp b p head its
+pub of-record : (v : Volume) (n stamp : ℕ) (b : Option Begun) (p : Option (List ℕ)) (head : Head) (its : List ℕ) → record_on v.layout n stamp b p ≡ Some (head, its) → IsOfRecord v n stamp b p head its
 of-record v n stamp (Some begun) (Some places) head its is =
     let same : record_at v.layout stamp begun (position_in n 0 places) ≡ (head, its) = cc in
     record { begun = begun; places = places; wrote = refl; placed = refl; head_is = ap (λ (r : Head × List ℕ). r.0) same; bins_are = ap (λ (r : Head × List ℕ). r.1) same }

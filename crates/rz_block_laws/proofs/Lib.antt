@@ -2,3 +2,6 @@ mod Hands
 mod Fetching
 mod Records
 mod Others
+mod Marks
+mod Takes
+mod Sent

@@ -1,23 +1,35 @@
 -- What an operation has in hand stays true, and what it hands to a node is the record of its write. The own events of an
 -- actor say how far its operation has come.
-use Rattle.std.specs.Prelude.{ℕ, true, ◌≡◌, List}
+use Rattle.std.specs.Prelude.{ℕ, Bool, true, ◌≡◌, ◌≢◌, List, Some}
 use Rattle.rz_events.specs.Volume.{Volume}
 use Rattle.rz_events.specs.declared.keys.Key.{Key}
 use Rattle.rz_events.specs.declared.keys.Actor.{Actor}
+use Rattle.rz_events.specs.declared.records.Held.{Held}
+use Rattle.rz_events.specs.declared.ends.ReadMark.TheVariants as mark
+use Rattle.rz_events.specs.declared.ends.LeftWhy.TheVariants as left
 use Rattle.rz_events.specs.declared.nodes.FetchAnswer.{FetchAnswer}
+use Rattle.rz_events.specs.declared.nodes.FetchAnswer.TheVariants as fetch
 use Rattle.rz_events.specs.declared.nodes.NodeAsk.{NodeAsk}
 use Rattle.rz_events.specs.declared.nodes.NodeAsk.TheVariants as ask
+use Rattle.rz_events.specs.declared.nodes.NodeAnswer.{NodeAnswer}
 use Rattle.rz_events.specs.declared.nodes.NodeAnswer.TheVariants as answer
 use Rattle.rz_events.specs.declared.events.Event.{Event}
 use Rattle.rz_events.specs.declared.operations.Operation.{Operation}
+use Rattle.rz_node_model.specs.Answers.{IsNodeAnswer}
+use Rattle.rz_node_model.specs.Afterwards.{after_answer}
+use Rattle.rz_node_model.specs.NodeEvents.{node_event}
+use Rattle.rz_node_model.specs.States.{NodeState}
+use Rattle.rz_cells.specs.declared.geometry.Geometry.{Geometry}
+use Rattle.rz_calls.specs.Leaves.{Leaves}
 use Rattle.rz_node.specs.Gives.{IfHeld}
-use Rattle.rz_operation_model.specs.Ask.{AskNode, ask_of}
+use Rattle.rz_operation_model.specs.Ask.{AskNode, Say, SayGot, SayLeft, ask_of}
 use Rattle.rz_operation_model.specs.Steps.{Told, Answered, begun, told}
 use Rattle.rz_operation_model.specs.Turns.{IsStep}
-use Rattle.rz_operation.specs.Answers.{Goes, IsAnswered}
+use Rattle.rz_operation.specs.Answers.{Goes, IsAnswer, IsAnswered}
 use Rattle.rz_operation.specs.Machine.{Machine, HasBinsFor, AreBinsFor}
 use Rattle.rz_core.specs.History.{Facts, IsPlace}
-use Rattle.rz_play_laws.specs.Own.{GrowsTo, IsOwn}
+use Rattle.rz_play_laws.specs.Own.{GrowsTo, IsOfActor, IsOwn, IsUnderWay}
+use Rattle.rz_image_laws.specs.Images.{IsImaged}
 use Rattle.rz_image_laws.specs.Records.{HandsRecord}
 use Rattle.rz_image_laws.specs.Laws.{IsReadBack}
 use Rattle.rz_block_laws.specs.InHand.{IsInHand}
@@ -62,3 +74,39 @@ IsGrowingLaw v = (f g : Facts) → GrowsTo f g → (m : Machine) → IsInHand v.
 -- it begins
 abbrev pub IsBeginningLaw : Volume → Type 0
 IsBeginningLaw v = (f : Facts) (op : Operation) (m : Machine) → m.work ≡ begun op → IsInHand v.layout f m.work m.pairs m.block
+
+-- It never says that the records which came fit no block.
+abbrev pub IsFittingLaw : Volume → Type 0
+IsFittingLaw v = (f : Facts) (o run : List Event) (by : Actor) (m : Machine) → IsTrueTo v f o run by m → (key : Key)
+    → ((part : Bool) → ask_of m.layout m.work ≢ Say (SayGot key part mark.Inconsistent)) × (ask_of m.layout m.work ≢ Say (SayLeft key left.Inconsistent))
+
+-- A node's answer belongs to what was asked of it, where each record that it gives is that of its write.
+abbrev pub IsTakenLaw : Volume → Type 0
+IsTakenLaw v = (f : Facts) (m : Machine) (n cells : ℕ) (s : NodeState) (question : NodeAsk) (given : NodeAnswer) (before bins : List ℕ)
+    → m.layout ≡ v.layout → ask_of m.layout m.work ≡ AskNode n question → IsOfActor question → IsNodeAnswer cells s question given
+    → ((r : Held) → given ≡ answer.Fetch (fetch.Held r) → (key : Key) × IsReadBack v f n key r before bins)
+    → IsAnswer m.layout (ask_of m.layout m.work) given
+
+-- A message to node n, with its disk before and after it: the bins are those that were handed to it, and those that came
+-- back.
+pub record IsMessage {D : Type 0} (text : D → List ℕ) (image : D → List ℕ → Type 0) (m : Machine) (n : ℕ) (cells : ℕ) (g : Geometry) (s : NodeState) (question : NodeAsk) (given : NodeAnswer) (handed bins : List ℕ) (before after : D) : Type 0 where
+  pub asked : ask_of m.layout m.work ≡ AskNode n question
+  pub handed_are : HasBinsFor question → AreBinsFor m question handed
+  pub given_is : IsNodeAnswer cells s question given
+  pub leaves : Leaves g s question given handed bins (text before) (text after) (image before) (image after)
+
+-- The machine was told the answer, which has this event.
+pub record IsAnswerTold (by : Actor) (m : Machine) (n : ℕ) (question : NodeAsk) (given : NodeAnswer) (bins : List ℕ) (x : Event) (new : Machine) : Type 0 where
+  pub event : node_event by n question given ≡ Some x
+  pub answered : IsAnswered m given bins new
+
+-- What comes of a message: the images of the disk are the node's again, and where the machine was told the answer, it goes on
+-- as the model says and what it has in hand is true again.
+abbrev pub IsMessageLaw : {D : Type 0} → (D → List ℕ) → (D → List ℕ → Type 0) → Volume → Type 0
+IsMessageLaw {D = D} text image v =
+    (f : Facts) (o run : List Event) (by : Actor) (number : ℕ) (m : Machine) (n cells : ℕ) (g : Geometry) (s : NodeState) (question : NodeAsk) (given : NodeAnswer) (handed bins : List ℕ) (before after : D)
+    → IsTrueTo v f o run by m → IsUnderWay v by number run m.work
+    → IsMessage text image m n cells g s question given handed bins before after → IsImaged v f n s g (image before)
+    → IsImaged v f n (after_answer question given s) g (image after)
+    × ((x : Event) (new : Machine) → IsAnswerTold by m n question given bins x new
+    → (new.work ≡ told m.layout m.work (Answered true given)) × IsInHand v.layout f new.work new.pairs new.block)

@@ -3,14 +3,19 @@
 //! While an operation reads a block, its machine has the records that nodes gave, and then the block that
 //! fits them. `InHand` says when these are the records and the block of the write that is read.
 //! `beginning`, `fetched`, `going` and `growing` say that this lasts, as long as the records that nodes
-//! give are those of their writes: so the records never fit no block. `handing` says that each record
-//! that the machine hands to a node, a writer's or a rebuilder's, is then that of its write.
+//! give are those of their writes; `fitting` that the records then never fit no block, and `taken` that
+//! each answer is one that the machine takes. `handing` says that each record that the machine hands to
+//! a node, a writer's or a rebuilder's, is then that of its write. `message` has all of it for one message
+//! to a node, with the images of the node's disk.
 //!
 //! The functions have no code. What each one says is its clause, which is proved of every operation.
 #![tactic(auto)]
 
+ghost use Rattle.std.specs.Prelude.{IsTrue};
 ghost use Rattle.rz_events.specs.Volume.{Volume};
-ghost use Rattle.rz_block_laws.specs.Laws.{IsHandingLaw, IsFetchedLaw, IsGoingLaw, IsGrowingLaw, IsBeginningLaw};
+ghost use Rattle.rz_block_laws.specs.Laws.{IsHandingLaw, IsFetchedLaw, IsGoingLaw, IsGrowingLaw, IsBeginningLaw, IsFittingLaw, IsTakenLaw, IsMessageLaw};
+
+use rz_disk::Disk;
 
 /// What an operation hands to a node is the record of its write.
 pub fn handing()
@@ -40,3 +45,26 @@ pub fn growing()
 pub fn beginning()
     ensures { (v : Volume) → IsBeginningLaw v }
 {}
+
+/// An operation never says that the records which came fit no block.
+pub fn fitting()
+    ensures { (v : Volume) → IsFittingLaw v }
+{}
+
+/// The machine of an operation takes each answer of a node.
+pub fn taken()
+    ensures { (v : Volume) → IsTakenLaw v }
+{}
+
+/// A message of an operation to a node whose disk tells its text: the images of the disk stay the node's
+/// own, and what the operation has in hand stays true.
+pub fn message<D: Disk>()
+    ensures { IsTrue D.tells → (v : Volume) → IsMessageLaw D.text D.image v }
+{
+    rz_image_laws::called::<D>();
+    rz_image_laws::fetched::<D>();
+    rz_play_laws::own_proper();
+    handing();
+    fetched();
+    going();
+}

@@ -1,9 +1,10 @@
 -- The images by the log: what a longer log leaves, and the records that the events of a word give.
-use Rattle.std.proofs.Common.{ℕ, zero, suc, Bool, true, false, ◌≡◌, ◌⊎◌, inl, inr, ◌+◌, ◌==◌, List, [], ◌∷◌, ◌++◌, map, Option, Some, None, is_some, cond, refl, sym, ap, ◌∙◌, subst, arith, eq-eqb}
+use Rattle.std.proofs.Common.{ℕ, zero, suc, Bool, true, false, ◌≡◌, ◌⊎◌, inl, inr, ◌+◌, ◌*◌, ◌<◌, ◌≤◌, ◌==◌, List, [], ◌∷◌, ◌++◌, map, length, get_or, Option, Some, None, is_some, cond, refl, sym, ap, ◌∙◌, subst, arith, eq-eqb}
 use Rattle.std.specs.Prelude.{slice_get}
 use Rattle.std.specs.Option.{option_map}
 use Rattle.std.proofs.Math.Path.{fun_ext}
-use Rattle.std.proofs.lemmas.Bool.{eqb-true}
+use Rattle.std.proofs.lemmas.Bool.{eqb-true, cases_lt}
+use Rattle.std.proofs.lemmas.List.{get_or_past}
 use Rattle.rz_events.specs.Volume.{Volume}
 use Rattle.rz_events.specs.Events.{same_key}
 use Rattle.rz_events.specs.declared.keys.Key.{Key}
@@ -12,7 +13,8 @@ use Rattle.rz_events.specs.declared.records.Change.TheVariants as change
 use Rattle.rz_events.specs.declared.records.Head.{Head}
 use Rattle.rz_events.specs.declared.records.Held.{Held}
 use Rattle.rz_events.specs.declared.events.Event.{Event}
-use Rattle.rz_record.specs.Slot.{Rec}
+use Rattle.rz_record.specs.Record.{IsRecord, IsValid}
+use Rattle.rz_record.specs.Slot.{Rec, Reads}
 use Rattle.rz_node_model.specs.declared.pending.Pending.{Pending}
 use Rattle.rz_node_model.specs.Afterwards.{taken}
 use Rattle.rz_node_model.specs.Records.{Records, held_of, with_held, carried, stamp_of}
@@ -20,7 +22,8 @@ use Rattle.rz_node_model.specs.States.{NodeState}
 use Rattle.rz_node_model.specs.Versions.{kept, refilled, without, has_stamp}
 use Rattle.rz_cells.specs.declared.geometry.Geometry.{Geometry}
 use Rattle.rz_cells.specs.Held as cells
-use Rattle.rz_cells.specs.Stands.{StandsFor}
+use Rattle.rz_cells.specs.Shape.{picked}
+use Rattle.rz_cells.specs.Stands.{HoldsCells, StandsFor}
 use Rattle.rz_node.specs.Change.{AreHeld}
 use Rattle.rz_operation_model.specs.Rebuild.{position_in}
 use Rattle.rz_core.specs.History.{Facts, Begun, facts}
@@ -181,6 +184,21 @@ from-disk (Some p) r is =
     let same : it ≡ r = cc in
     ap (λ (q : Rec). Some (q.head, q.bins)) same
 
+-- a cell that has a record is one of them
+in-cells : (cells : List (Option Rec)) (c : ℕ) (r : Rec) → get_or cells c None ≡ Some r → c < length cells
+in-cells cells c r is = go (cases_lt c (length cells))
+  where
+    go : (c < length cells) ⊎ (length cells ≤ c) → c < length cells
+    go (inl within) = within
+    go (inr past) = let none : get_or cells c None ≡ None = get_or_past cells c None past in absurd (cc)
+
+-- the head of a record that a text stands for may be one of a record
+valid-head : (g : Geometry) (fence : ℕ) (text : List ℕ) (cells : List (Option Rec)) → HoldsCells g fence text cells → (c : ℕ) (r : Rec) → get_or cells c None ≡ Some r → IsValid r.head
+valid-head g fence text cells holds c r is =
+    let few : c < 2 * g.cells = (let within = in-cells cells c r is in let count = holds.count in omega (arith, within, count)) in
+    let it : IsRecord (picked g text c) r.head r.bins = subst (λ (o : Option Rec). Reads (picked g text c) o) is (holds.each c few) in
+    it.head.valid
+
 pub fetch-law : {D : Type 0} (text : D → List ℕ) (image : D → List ℕ → Type 0) → ((d : D) → image d (text d)) → IsFetchLaw text image
 fetch-law text image at v f n cells g s key position stamp told bins bins' old new given leaves imaged =
     let stands = text-stands v f n g s (text old) (image old) (at old) (fetch-up s.phase _ told (sym given)) imaged in
@@ -195,6 +213,7 @@ fetch-law text image at v f n cells g s key position stamp told bins bins' old n
       bins = r.bins;
       it = subst (λ (k : Key). record_on v.layout n r.head.stamp (f.wrote r.head.stamp) (f.places k.fid) ≡ Some (r.head, r.bins)) (sym there.2)
           (subst (λ (t : ℕ). record_on v.layout n t (f.wrote t) (f.places key.fid) ≡ Some (r.head, r.bins)) (sym there.3) is);
+      valid = valid-head g s.fence (text old) stands.0 stands.1 there.0 r there.1;
       key_is = there.2;
       told_is = sym read.2;
       bins_are = read.3;

@@ -12,6 +12,7 @@ use Rattle.rz_events.specs.declared.nodes.NodeAnswer.{NodeAnswer}
 use Rattle.rz_events.specs.declared.nodes.NodeAnswer.TheVariants as answer
 use Rattle.rz_events.specs.declared.nodes.FetchAnswer.TheVariants as fetch
 use Rattle.rz_events.specs.declared.events.Event.{Event}
+use Rattle.rz_record.specs.Record.{IsValid}
 use Rattle.rz_node_model.specs.Answers.{IsNodeAnswer}
 use Rattle.rz_node_model.specs.Afterwards.{after_answer}
 use Rattle.rz_node_model.specs.Records.{record_of}
@@ -67,6 +68,7 @@ pub record IsReadBack (v : Volume) (f : Facts) (n : ℕ) (key : Key) (told : Hel
   pub head : Head
   pub bins : List ℕ
   pub it : IsRecordOf v f n head bins
+  pub valid : IsValid head
   pub key_is : head.key ≡ key
   pub told_is : told ≡ record_of head
   pub bins_are : new ≡ bins ++ drop (length bins) old

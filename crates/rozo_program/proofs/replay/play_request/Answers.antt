@@ -1,0 +1,61 @@
+use Rattle.std.proofs.Common.{◌≡◌, ◌-◌, ℕ, List, [], length, reverse, refl, sym, ap, ◌∙◌, subst, inl, inr}
+use Rattle.std.proofs.lemmas.List.{reverse-reverse}
+use Rattle.rz_events.specs.Volume.{Volume, nodes_of}
+use Rattle.rz_events.specs.declared.events.Event.{Event}
+use Rattle.rz_script.specs.declared.line.Line.{Line}
+use Rattle.rz_events.specs.declared.files.NodeSpec.{NodeSpec}
+use Rattle.rz_driver.specs.Made.{IsCause}
+use Rattle.rz_play.specs.World.{new_world}
+use Rattle.rz_perform.specs.Told.{IsTold}
+use Rattle.rz_perform.specs.Telling.{Performs}
+use Rattle.rz_perform.specs.Output.{Sunk}
+use Rattle.rozo_program.specs.Disks.{AreBack}
+use Rattle.rozo_program.proofs.Lent.{are-back, not-opened}
+use Rattle.rozo_program.proofs.Untold.{told-none}
+use Rattle.rozo_program.proofs.replay.play_request.Given as given
+use Rattle.rozo_program.proofs.replay.play_request.Goals as goal
+
+pub perform-status-requires-clause-new : goal.perform-status-requires-clause-new
+perform-status-requires-clause-new g c = c.in-Ok.ensures.world ∙ ap new_world c.volume-volume.ensures
+
+pub returns-in-Ok : goal.returns-in-Ok
+returns-in-Ok g c =
+    let v : Volume = c.args.request.now.script.volume in
+    let lines : List Line = c.args.request.now.script.lines in
+    let lost : ℕ = g.L.Link.lost c.perform-status.new.link - g.L.Link.lost c.args.link.now in
+    let sink : Sunk = record {
+      before = g.O.Sink.taken c.args.output.now;
+      after = g.O.Sink.taken c.perform-status.new.output;
+      old = g.O.Sink.faults c.args.output.now;
+      new = g.O.Sink.faults c.perform-status.new.output;
+    } in
+    let log_is : reverse c.close-log.result.0.items ≡ c.perform-status.new.stage.shared.log.events = ap reverse c.close-log.ensures.log ∙ reverse-reverse c.perform-status.new.stage.shared.log.events in
+    let P : List Event → Type 0 = λ x. Performs g.D.Disk.tells v lines c.args.request.now.wish lost x sink c.perform-status.result in
+    let Q : List Event → Type 0 = λ x. IsTold v lines lost x in
+    record { played = (inr (inr (subst P (sym log_is) c.perform-status.ensures.performed)), λ told. subst Q (sym log_is) (c.perform-status.ensures.told told)) }
+
+lent_is : (g : given.Over) (c : goal.After-unplayed g) → c.replace-lent.result.items ≡ c.args.disks.now.items
+lent_is g c = rw c.replace-lent.ensures.value refl
+
+-- where there is no driver, the disks are back
+back_is : (g : given.Over) (c : goal.After-unplayed g) → AreBack g.D.Disk.meter c.args.disks.now.items c.in-Err.back.items
+back_is g c =
+    let nodes : List NodeSpec = nodes_of c.volume-volume.result.now.clusters in
+    let count : length c.args.disks.now.items ≡ length nodes = rw c.volume-volume.ensures c.requires in
+    are-back g.D.Disk.tells g.D.Disk.meter g.D.Disk.image c.volume-volume.result.now.layout nodes c.args.disks.now.items c.in-Err.back.items count
+      (rw (← lent_is g c) c.in-Err.ensures.back)
+
+pub returns-in-Err : goal.returns-in-Err
+returns-in-Err g c =
+    let sink : Sunk = record {
+      before = g.O.Sink.taken c.args.output.now;
+      after = g.O.Sink.taken c.refuse_disks-status.new.output;
+      old = g.O.Sink.faults c.args.output.now;
+      new = g.O.Sink.faults c.refuse_disks-status.new.output;
+    } in
+    let lost : ℕ = g.L.Link.lost c.args.link.now - g.L.Link.lost c.args.link.now in
+    let none : reverse c.unplayed.result.log.items ≡ [] = ap reverse c.unplayed.ensures.log in
+    let cause : IsCause g.D.Disk.meter c.args.disks.now.items c.in-Err.back.items c.in-Err.fault = rw (← lent_is g c) c.in-Err.ensures.cause in
+    record { played = (not-opened g.D.Disk.tells g.D.Disk.meter c.args.request.now c.args.disks.now.items c.in-Err.back.items lost sink c.unplayed.result.status
+      (reverse c.unplayed.result.log.items) c.in-Err.fault (back_is g c) cause (rw c.unplayed.ensures.status c.refuse_disks-status.ensures) none,
+     λ told. told-none c.args.request.now.script.volume c.args.request.now.script.lines lost (reverse c.unplayed.result.log.items) none) }

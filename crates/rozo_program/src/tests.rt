@@ -1,0 +1,164 @@
+//! One script of each kind with its output, faults of the source, the sink and a disk, and what stands on
+//! a disk after a play.
+
+use super::disks::memory;
+use super::replay::replay;
+use rz_disk::{Disk, MemDisk, PlainDisk};
+use rz_link::{MemLink, PlainLink, Sent};
+use rz_ports::{MemSource, PlainSink, PlainSource};
+use std::alloc::{AllocError, Global};
+use std::test::Fail;
+
+const LINE: &str = "rozo replay --disks 4";
+
+const ORDINARY: &str = "op c1 create /f\nop c1 put /f 0 t:hello\nop c1 get /f 0\nrest\n";
+
+const ORDINARY_TOLD: &str = "0 with 4 disks: c1 1 created 00000000-0000-0000-0000-000000000001
+c1 2 acked 1 1110
+c1 3 data 1 5 x:68656c6c6f
+end 14
+";
+
+const LOST: &str = "op c1 create /f\nop c1 put /f 0 t:hello\nrest\nlose n1\nop r1 rebuild n1\nturn r1 7\nlose n1\nop r2 rebuild n1\nturn r2 3\nturn r1 2\nrest\n";
+
+const LOST_TOLD: &str = "0 with 4 disks: c1 1 created 00000000-0000-0000-0000-000000000001
+c1 2 acked 1 1110
+r1 1 otherfence 3
+r2 1 rebuilt 3 1
+end 30
+";
+
+const STOPPED: &str = "op c1 create /f\nop c1 put /f 0 t:old\nrest\nop c1 put /f 0 t:new\nturn c1 2\nbreak n1 2 1\nturn c1 1\nstart n1\nrest\nop c1 get /f 0\nrest\n";
+
+const STOPPED_TOLD: &str = "0 with 4 disks: c1 1 created 00000000-0000-0000-0000-000000000001
+c1 2 acked 1 1110
+n1 started 1
+c1 3 acked 2 0111
+c1 4 data 2 3 x:6e6577
+end 24
+";
+
+const LOCKED: &str = "op c1 create /f\nrest\nop c1 update /f 0 t:ab\nop c2 update /f 2 t:cd\nrest\nop c1 get /f 0\nrest\n";
+
+const LOCKED_TOLD: &str = "0 with 4 disks: c1 1 created 00000000-0000-0000-0000-000000000001
+c1 2 wrote 2
+c2 1 wrote 2
+c1 3 data 2 4 x:61626364
+end 38
+";
+
+const LOST_REPLY: &str = "op c1 create /f\nop c1 put /f 0 t:hello\nrest\n";
+
+const LOST_REPLY_TOLD: &str = "0 with 4 disks: c1 1 created 00000000-0000-0000-0000-000000000001
+c1 2 acked 1 0111
+end 11
+";
+
+/// The words between single spaces.
+fn words_of(alloc: Global, line: &str) -> Result<Vec<String>, AllocError> {
+    let mut words = Vec::new(alloc);
+    for word in line.split(' ') {
+        words.push(String::from_str(alloc, word)?)?;
+    }
+    Ok(words)
+}
+
+/// The status, how many disks are back, and what was written.
+fn told<D: Disk>(
+    alloc: Global,
+    line: &str,
+    script: &str,
+    disks: &mut Vec<D>,
+    mut link: MemLink,
+) -> Result<String, Fail> {
+    let words = words_of(alloc, line)?;
+    let mut input = PlainSource::new(Vec::from_slice(alloc, script.as_bytes())?);
+    let mut output = PlainSink::with_room(alloc, 4096)?;
+    let played = replay(alloc, &words, &mut input, &mut output, disks, &mut link);
+    let text = String::from_utf8_lossy(alloc, output.taken())?;
+    let status = played.status;
+    let back = disks.len();
+    Ok(format!(in alloc; "{status} with {back} disks: {text}")?)
+}
+
+#[test]
+fn rows(rt: HostRuntime) -> Result<(), Fail> {
+    for (line, script, want) in [
+        (LINE, ORDINARY, ORDINARY_TOLD),
+        (LINE, LOST, LOST_TOLD),
+        (LINE, STOPPED, STOPPED_TOLD),
+        (LINE, LOCKED, LOCKED_TOLD),
+        (LINE, "op c1 put /f 0", "3 with 4 disks: refused script 1 MissingWord\n"),
+        ("rozo load 1 --disks 4", "", "10 with 4 disks: refused disks 4 16\n"),
+        ("rozo", "", "2 with 4 disks: refused usage\n"),
+    ] {
+        let mut disks = memory(rt.alloc(), 4)?;
+        let link = MemLink::new(Vec::new(rt.alloc()));
+        let told = told(rt.alloc(), line, script, &mut disks, link)?;
+        assert_eq!(rt; told.as_str(), want);
+    }
+    Ok(())
+}
+
+#[test]
+fn a_message_or_a_disk_fails(rt: HostRuntime) -> Result<(), Fail> {
+    let alloc = rt.alloc();
+
+    // The link loses the reply to the first keep.
+    let mut disks = memory(alloc, 4)?;
+    let link = MemLink::new(vec![in alloc; (0, Sent::ReplyLost)]?);
+    let lost = told(alloc, LINE, LOST_REPLY, &mut disks, link)?;
+    assert_eq!(rt; lost.as_str(), LOST_REPLY_TOLD);
+
+    // The second disk fails at its reset.
+    let mut disks = Vec::new(alloc);
+    for failing in [99, 0, 99, 99] {
+        disks.push(MemDisk::new(alloc, vec![in alloc; failing]?))?;
+    }
+    let link = MemLink::new(Vec::new(alloc));
+    let refused = told(alloc, LINE, ORDINARY, &mut disks, link)?;
+    assert_eq!(rt; refused.as_str(), "11 with 4 disks: refused disk 1\n");
+    Ok(())
+}
+
+#[test]
+fn the_source_or_the_sink_fails(rt: HostRuntime) -> Result<(), Fail> {
+    let alloc = rt.alloc();
+    let words = words_of(alloc, LINE)?;
+    let mut link = PlainLink::new();
+    let mut disks = memory(alloc, 4)?;
+
+    // The source fails at its first read.
+    let mut input = MemSource::new(Vec::from_slice(alloc, b"rest\n")?, vec![in alloc; 0]?);
+    let mut output = PlainSink::with_room(alloc, 4096)?;
+    let played = replay(alloc, &words, &mut input, &mut output, &mut disks, &mut link);
+    assert_eq!(rt; played.status, 4);
+    assert_eq!(rt; output.taken().len(), 0);
+
+    // The sink has no room for all of the text.
+    let mut input = PlainSource::new(Vec::from_slice(alloc, b"rest\n")?);
+    let mut output = PlainSink::with_room(alloc, 4)?;
+    let played = replay(alloc, &words, &mut input, &mut output, &mut disks, &mut link);
+    assert_eq!(rt; played.status, 5);
+    assert_eq!(rt; output.taken(), b"end ".as_slice());
+    Ok(())
+}
+
+/// The first bytes of a record: stamp 1, file 1, block 0, layout 0, position 0, five bytes, base 0, and
+/// three bins, of which the third is the first word of the text.
+const RECORD: [u8; 72] = *b"\x01\0\0\0\0\0\0\0\x01\0\0\0\0\0\0\0\0\0\0\0\0\0\0\0\0\0\0\0\0\0\0\0\0\0\0\0\x05\0\0\0\0\0\0\0\0\0\0\0\0\0\0\0\0\0\0\0\0\0\0\0\0\0\0\0hello\0\0\0";
+
+#[test]
+fn a_record_stands_on_its_disk(rt: HostRuntime) -> Result<(), Fail> {
+    let mut disks: Vec<PlainDisk> = memory(rt.alloc(), 4)?;
+    let link = MemLink::new(Vec::new(rt.alloc()));
+    let _told = told(rt.alloc(), LINE, ORDINARY, &mut disks, link)?;
+    let mut found = [0; 72];
+    if let Some(disk) = disks.get_mut(0) {
+        if disk.size() == 540_864 {
+            assert_eq!(rt; disk.read(2304, &mut found), Ok(()));
+        }
+    }
+    assert_eq!(rt; found, RECORD);
+    Ok(())
+}

@@ -1,0 +1,276 @@
+//! The book: one log to which each call and each act adds one event. No call waits for another.
+ghost use Rattle.std.specs.Prelude.{◌≡◌, ◌+◌, ◌<◌, ◌^◌, ◌++◌, [], ◌∷◌, length, map, Some};
+ghost use Rattle.std.specs.List.{AllByRecursion};
+ghost use Rattle.rz_events.specs.declared.events.Word.{Word as AWord};
+ghost use Rattle.rz_events.specs.declared.events.Word.TheVariants as w;
+ghost use Rattle.rz_events.specs.Events.{word_of as word_at, by_of};
+ghost use Rattle.rz_chronicle.specs.Keys.{count_at, word_key, rows, owner, key_at, moves_of, sids_of, IsLater};
+ghost use Rattle.rz_chronicle.specs.Kinds.{IsFit, MayCome, history, volume_in};
+ghost use Rattle.rz_chronicle.specs.Rules.{named, AreWords};
+ghost use Rattle.rz_chronicle.specs.Holds.{Commits, Stays, IsHand, IsSettled, keys};
+
+use crate::hand::{Asks, Hand, Itself, Law};
+use crate::passes::{Desk, Naming, Pass, Post};
+use crate::places::{key_of, owner_at, place_of};
+use crate::steps::{append, append_both, view, view_both};
+use crate::told::Told;
+use logbook::{Seen, Word};
+use rz_events::Event;
+use std::marker::{Model, PhantomData};
+
+/// The words that all threads share.
+#[derive(Drop)]
+pub struct Book<J: Naming> {
+    words: Vec<Word<Event, Told, Law>>,
+    nodes: Vec<u16>,
+    of: PhantomData<J>,
+}
+
+impl<J: Naming> Model for Book<J> {
+    ghost use Rattle.std.specs.Prelude.{◌≡◌, length};
+    ghost use Rattle.rz_events.specs.Volume.{Volume};
+    ghost use Rattle.rz_chronicle.specs.Keys.{sids_of};
+    ghost use Rattle.rz_chronicle.specs.Kinds.{volume_in};
+    ghost use Rattle.rz_chronicle.specs.Rules.{AreWords};
+
+    ghost Value = { Volume };
+
+    ghost view = { λ b. volume_in J.kind };
+
+    ghost invariant = { λ b. (b.nodes.items ≡ sids_of (volume_in J.kind)) × (length b.words.items ≡ 338)
+        × AreWords J.book (sids_of (volume_in J.kind)) b.words.items };
+}
+
+impl<J: Naming> Book<J> {
+    // The book of these words.
+    pub(crate) fn of_words(words: Vec<Word<Event, Told, Law>>, nodes: Vec<u16>) -> Book<J>
+        requires nodes { nodes.items ≡ sids_of (volume_in J.kind) }
+        requires words { (length words.items ≡ 338) × AreWords J.book nodes.items words.items }
+        ensures { result ≡ volume_in J.kind }
+    {
+        Book {
+            words,
+            nodes,
+            of: PhantomData,
+        }
+    }
+
+    fn row(&self, place: u16) -> &Word<Event, Told, Law>
+        requires { place < 338 }
+        ensures { result.now ≡ named J.book (key_at (sids_of (volume_in J.kind)) place) }
+    {
+        &self.words[place as usize]
+    }
+
+    /// Adds an event of the caller's own word. It waits for nobody.
+    #[tactic(auto, using(crate::proofs::Histories::count_history))]
+    pub fn finish(&self, pass: &mut Pass<J>, event: &Event)
+        requires word { word_at event.now ≡ w.Own pass.old.actor }
+        requires actor { by_of event.now ≡ pass.old.actor }
+        requires legal { MayCome J.kind pass.old.log event.now }
+        requires room { count_at (word_key (w.Own pass.old.actor)) pass.old.log + 1 < 2 ^ 64 }
+        ensures same { (pass.new.actor ≡ pass.old.actor) × (pass.new.keys ≡ pass.old.keys) }
+        ensures commits { Commits pass.old.keys pass.old.log event.now pass.new.log }
+        ensures fit { IsFit J.kind pass.new.log }
+    {
+        if let Some(hand) = pass.hand.take() {
+            let word = self.row(place_of(pass.actor));
+            let hand = append::<Event, Itself>(word, &mut pass.seen, hand, pass.moved, event);
+            pass.hand = Some(hand);
+            pass.moved += 1;
+        }
+    }
+
+    /// Lets a pass and the post of a word see one log, which has what both have seen. The caller is under
+    /// the word's lock.
+    pub fn enter(&self, pass: &mut Pass<J>, post: &mut Post<J>)
+        ensures same { (pass.new.actor ≡ pass.old.actor) × (pass.new.keys ≡ pass.old.keys) × (post.new.word ≡ post.old.word) }
+        ensures one { post.new.log ≡ pass.new.log }
+        ensures later { IsLater pass.old.log pass.new.log × IsLater post.old.log pass.new.log }
+        ensures stays { Stays pass.old.keys pass.old.log pass.new.log }
+        ensures serves { Stays (word_key post.old.word ∷ []) post.old.log pass.new.log }
+        ensures fit { IsFit J.kind pass.new.log }
+    {
+        if let Some(mine) = pass.hand.take() {
+            if let Some(its) = post.hand.take() {
+                pass.seen.learn(&post.seen);
+                let word = self.row(post.place);
+                let key = key_of(&post.word);
+                let (its, mine) = view_both(word, &mut pass.seen, its, mine, key, post.moved);
+                post.seen = pass.seen.again();
+                post.hand = Some(its);
+                pass.hand = Some(mine);
+            }
+        }
+    }
+
+    /// Adds the event of a value, of the word whose post the caller holds too, under the word's lock. The
+    /// two have entered.
+    #[tactic(auto, using(crate::proofs::Histories::count_history))]
+    pub fn commit<X, N: Asks<X>>(&self, pass: &mut Pass<J>, post: &mut Post<J>, about: &X)
+        requires one { post.old.log ≡ pass.old.log }
+        requires word { word_at (N.event about.now) ≡ post.old.word }
+        requires actor { by_of (N.event about.now) ≡ pass.old.actor }
+        requires legal { MayCome J.kind pass.old.log (N.event about.now) }
+        requires room { count_at (word_key post.old.word) post.old.log + 1 < 2 ^ 64 }
+        ensures same { (pass.new.actor ≡ pass.old.actor) × (pass.new.keys ≡ pass.old.keys) × (post.new.word ≡ post.old.word) }
+        ensures one { post.new.log ≡ pass.new.log }
+        ensures commits { Commits (word_key post.old.word ∷ pass.old.keys) pass.old.log (N.event about.now) pass.new.log }
+        ensures fit { IsFit J.kind pass.new.log }
+    {
+        if let Some(mine) = pass.hand.take() {
+            if let Some(its) = post.hand.take() {
+                let word = self.row(post.place);
+                let key = key_of(&post.word);
+                let moved = post.moved;
+                let (its, mine) = append_both::<X, N>(
+                    word,
+                    &mut pass.seen,
+                    its,
+                    mine,
+                    key,
+                    moved,
+                    about,
+                );
+                post.seen = pass.seen.again();
+                post.hand = Some(its);
+                post.moved += 1;
+                pass.hand = Some(mine);
+            }
+        }
+    }
+
+    /// Lets `pass` see what `other` has seen.
+    pub fn meet(&self, pass: &mut Pass<J>, other: &Pass<J>)
+        ensures same { (pass.new.actor ≡ pass.old.actor) × (pass.new.keys ≡ pass.old.keys) }
+        ensures later { IsLater pass.old.log pass.new.log × IsLater other.now.log pass.new.log }
+        ensures stays { Stays pass.old.keys pass.old.log pass.new.log }
+        ensures fit { IsFit J.kind pass.new.log }
+    {
+        if let Some(hand) = pass.hand.take() {
+            pass.seen.learn(&other.seen);
+            let word = self.row(place_of(pass.actor));
+            let (hand, _) = view(word, &mut pass.seen, hand);
+            pass.hand = Some(hand);
+        }
+    }
+
+    // Lets `front` see a log and gives it the tallies that were kept with it.
+    fn absorb(&self, front: &mut Pass<J>, theirs: Hand, seen: &Seen<Event, Told, Law>)
+        requires book { seen.now.book ≡ J.book }
+        requires theirs { IsHand J.tallies J.copy J.kind seen.now.log theirs }
+        ensures same { (front.new.actor ≡ front.old.actor) × (front.new.keys ≡ front.old.keys ++ keys theirs.held) }
+        ensures later { IsLater front.old.log front.new.log × IsLater (history seen.now.log) front.new.log }
+        ensures stays { Stays front.old.keys front.old.log front.new.log }
+        ensures gathers { Stays (keys theirs.held) (history seen.now.log) front.new.log }
+        ensures fit { IsFit J.kind front.new.log }
+    {
+        if let Some(mine) = front.hand.take() {
+            front.seen.learn(seen);
+            let word = self.row(place_of(front.actor));
+            let (hand, _) = view(word, &mut front.seen, mine.join(theirs));
+            front.hand = Some(hand);
+        }
+    }
+
+    /// Lets `front` see what `other` has seen, and hands it the tallies of `other`.
+    pub fn gather(&self, front: &mut Pass<J>, other: Pass<J>)
+        ensures same { (front.new.actor ≡ front.old.actor) × (front.new.keys ≡ front.old.keys ++ other.keys) }
+        ensures later { IsLater front.old.log front.new.log × IsLater other.log front.new.log }
+        ensures stays { Stays front.old.keys front.old.log front.new.log }
+        ensures gathers { Stays other.keys other.log front.new.log }
+        ensures fit { IsFit J.kind front.new.log }
+    {
+        let Pass {
+            actor: _,
+            moved: _,
+            hand,
+            seen,
+            of: _,
+        } = other;
+        if let Some(theirs) = hand {
+            self.absorb(front, theirs, &seen);
+        }
+    }
+
+    // Lets `front` see what a word's events are, and hands it the word's tally.
+    fn settle_one(&self, front: &mut Pass<J>, post: Post<J>)
+        ensures same { (front.new.actor ≡ front.old.actor) × (front.new.keys ≡ front.old.keys ++ word_key post.word ∷ []) }
+        ensures later { IsLater front.old.log front.new.log }
+        ensures stays { Stays front.old.keys front.old.log front.new.log }
+        ensures settles { IsSettled post front.new.log }
+        ensures fit { IsFit J.kind front.new.log }
+    {
+        let Post {
+            word: _,
+            place: _,
+            moved: _,
+            hand,
+            seen,
+            of: _,
+        } = post;
+        if let Some(theirs) = hand {
+            self.absorb(front, theirs, &seen);
+        }
+    }
+
+    /// Lets `front` see the events of the export's and of the nodes' words, and hands it their tallies.
+    pub fn settle(&self, front: &mut Pass<J>, desk: Desk<J>)
+        ensures same { (front.new.actor ≡ front.old.actor) × (front.new.keys ≡ front.old.keys ++ map (λ p. word_key p.word) (desk.export ∷ desk.nodes.items)) }
+        ensures later { IsLater front.old.log front.new.log }
+        ensures stays { Stays front.old.keys front.old.log front.new.log }
+        ensures settles { AllByRecursion (λ p. IsSettled p front.new.log) (desk.export ∷ desk.nodes.items) }
+        ensures fit { IsFit J.kind front.new.log }
+    {
+        let Desk { export, nodes } = desk;
+        self.settle_one(front, export);
+        'nodes: for post in nodes {
+            self.settle_one(front, post);
+        }
+    }
+
+    // How often the word at a place has moved, in the log that the pass has then seen.
+    #[tactic(auto, using(crate::proofs::Histories::count_history))]
+    fn load(&self, pass: &mut Pass<J>, place: u16) -> u64
+        requires place { place < 338 }
+        requires owner { (v : AWord) × (owner (sids_of (volume_in J.kind)) place ≡ Some v) × (word_key v < rows) }
+        ensures same { (pass.new.actor ≡ pass.old.actor) × (pass.new.keys ≡ pass.old.keys) }
+        ensures later { IsLater pass.old.log pass.new.log }
+        ensures stays { Stays pass.old.keys pass.old.log pass.new.log }
+        ensures count { result ≡ moves_of (owner (sids_of (volume_in J.kind)) place) pass.new.log }
+        ensures fit { IsFit J.kind pass.new.log }
+    {
+        match pass.hand.take() {
+            Some(hand) => {
+                let word = self.row(place);
+                let (hand, found) = view(word, &mut pass.seen, hand);
+                pass.hand = Some(hand);
+                found
+            }
+            None => 0,
+        }
+    }
+
+    /// How many events the owner of a word has of it, in the log that the pass has then seen. The words
+    /// are the export's, those of the nodes in the order of the description from 1 on, of the clients from
+    /// 257, of the rebuilders from 321, and the administrator's, 337.
+    pub fn count(&self, pass: &mut Pass<J>, word: u16) -> u64
+        requires { word < 338 }
+        ensures same { (pass.new.actor ≡ pass.old.actor) × (pass.new.keys ≡ pass.old.keys) }
+        ensures later { IsLater pass.old.log pass.new.log }
+        ensures stays { Stays pass.old.keys pass.old.log pass.new.log }
+        ensures count { result ≡ moves_of (owner (sids_of self.now) word) pass.new.log }
+        ensures fit { IsFit J.kind pass.new.log }
+    {
+        match owner_at(self.nodes.as_slice(), word) {
+            Some(owner) => {
+                let _key = key_of(&owner);
+                self.load(pass, word)
+            }
+            None => {
+                let _member = pass.actor();
+                0
+            }
+        }
+    }
+}

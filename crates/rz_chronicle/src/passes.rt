@@ -1,0 +1,175 @@
+//! What callers hold: a pass for each actor, and a post for each word that many callers move.
+ghost use Rattle.std.specs.Prelude.{◌≡◌, ◌+◌, ◌<◌, ◌^◌, [], ◌∷◌, IsTrue, ◌↔◌, Some};
+ghost use Rattle.rz_events.specs.declared.events.Word.TheVariants as w;
+ghost use Rattle.rz_chronicle.specs.Keys.{count_at, word_key, actor_key, rows, IsOneOf, IsMember, own_keys, owner, sids_of};
+ghost use Rattle.rz_chronicle.specs.Kinds.{IsFit, volume_in};
+ghost use Rattle.rz_chronicle.specs.Holds.{IsShared};
+
+use crate::hand::{Hand, Law};
+use crate::told::Told;
+use logbook::Seen;
+use rz_events::{Actor, Event};
+use std::marker::{Brand, Model, PhantomData};
+
+/// Which book it is, and of which kind. Each call of a program picks it.
+pub trait Naming {
+    ghost use Rattle.std.specs.Prelude.{ℕ, List};
+    ghost use Rattle.logbook.specs.Pages.{Book};
+
+    ghost book: { Book };
+
+    ghost tallies: { ℕ };
+
+    ghost copy: { ℕ };
+
+    ghost kind: { List ℕ };
+}
+
+impl Naming for Brand {
+    ghost use Rattle.std.specs.Prelude.{[]};
+
+    ghost book = { record { number = 0; log_name = 0; cells_name = 0 } };
+
+    ghost tallies = { 0 };
+
+    ghost copy = { 0 };
+
+    ghost kind = { [] };
+}
+
+/// What an actor has seen of the log, with the tallies of its own events and of its own word.
+#[derive(Drop)]
+pub struct Pass<J: Naming> {
+    pub(crate) actor: Actor,
+    pub(crate) moved: u64,
+    pub(crate) hand: Option<Hand>,
+    pub(crate) seen: Seen<Event, Told, Law>,
+    pub(crate) of: PhantomData<J>,
+}
+
+impl<J: Naming> Model for Pass<J> {
+    ghost use Rattle.std.specs.Prelude.{◌≡◌, ◌<◌, ◌∷◌, IsSomeAnd};
+    ghost use Rattle.rz_events.specs.declared.events.Word.TheVariants as w;
+    ghost use Rattle.rz_chronicle.specs.Keys.{count_at, word_key, IsMember};
+    ghost use Rattle.rz_chronicle.specs.Kinds.{history, IsFit};
+    ghost use Rattle.rz_chronicle.specs.Holds.{keys_in, IsHand, IsOwn};
+    ghost use Rattle.rz_chronicle.specs.Rules.{PassView};
+
+    ghost Value = { PassView };
+
+    ghost view = { λ p. record { actor = p.actor; log = history p.seen.log; keys = keys_in p.hand } };
+
+    ghost invariant = { λ p. (p.seen.book ≡ J.book) × (p.seen.names ≡ J.tallies ∷ J.copy ∷ J.kind)
+        × IsSomeAnd p.hand (λ h. IsHand J.tallies J.copy J.kind p.seen.log h × IsOwn p.actor h.held)
+        × (p.moved ≡ count_at (word_key (w.Own p.actor)) p.seen.log)
+        × IsMember p.actor
+        × IsFit J.kind (history p.seen.log) };
+}
+
+impl<J: Naming> Pass<J> {
+    // The pass of an actor that has done nothing yet.
+    pub(crate) fn of_hand(actor: Actor, hand: Hand, seen: Seen<Event, Told, Law>) -> Pass<J>
+        requires seen { (seen.book ≡ J.book) × (seen.names ≡ J.tallies ∷ J.copy ∷ J.kind) × (seen.log ≡ []) }
+        requires names { (hand.tallies ≡ J.tallies) × (hand.copy ≡ J.copy) × (hand.kind ≡ J.kind) × (hand.log ≡ []) }
+        requires held { hand.held ≡ (word_key (w.Own actor), 0) ∷ (actor_key actor, 0) ∷ [] }
+        requires member { IsMember actor }
+        ensures { result ≡ record { actor = actor; log = []; keys = own_keys actor } }
+    {
+        Pass {
+            actor,
+            moved: 0,
+            hand: Some(hand),
+            seen,
+            of: PhantomData,
+        }
+    }
+
+    /// Whose it is. A pass holds the tally of its actor's events.
+    pub fn actor(&self) -> Actor
+        ensures value { result ≡ self.now.actor }
+        ensures member { IsMember self.now.actor }
+        ensures own { IsOneOf (actor_key self.now.actor) self.now.keys }
+        ensures fit { IsFit J.kind self.now.log }
+    {
+        self.actor
+    }
+
+    /// Whether its word can move once more.
+    pub fn room(&self) -> bool
+        ensures { IsTrue result ↔ (count_at (word_key (w.Own self.now.actor)) self.now.log + 1 < 2 ^ 64) }
+    {
+        self.moved < u64::MAX
+    }
+}
+
+/// The tally of a word that is moved under a lock, with the log in which it moved last.
+#[derive(Drop)]
+pub struct Post<J: Naming> {
+    pub(crate) word: rz_events::Word,
+    pub(crate) place: u16,
+    pub(crate) moved: u64,
+    pub(crate) hand: Option<Hand>,
+    pub(crate) seen: Seen<Event, Told, Law>,
+    pub(crate) of: PhantomData<J>,
+}
+
+impl<J: Naming> Model for Post<J> {
+    ghost use Rattle.std.specs.Prelude.{◌≡◌, ◌<◌, [], ◌∷◌, IsSomeAnd, Some};
+    ghost use Rattle.rz_chronicle.specs.Keys.{word_key, owner, sids_of, rows};
+    ghost use Rattle.rz_chronicle.specs.Kinds.{history, IsFit, volume_in};
+    ghost use Rattle.rz_chronicle.specs.Holds.{IsHand, IsShared};
+    ghost use Rattle.rz_chronicle.specs.Rules.{PostView};
+
+    ghost Value = { PostView };
+
+    ghost view = { λ p. record { word = p.word; log = history p.seen.log } };
+
+    ghost invariant = { λ p. (p.seen.book ≡ J.book) × (p.seen.names ≡ J.tallies ∷ J.copy ∷ J.kind)
+        × IsSomeAnd p.hand (λ h. IsHand J.tallies J.copy J.kind p.seen.log h × (h.held ≡ (word_key p.word, p.moved) ∷ []))
+        × (owner (sids_of (volume_in J.kind)) p.place ≡ Some p.word)
+        × IsShared p.word
+        × IsFit J.kind (history p.seen.log)
+        × (p.place < 338)
+        × (word_key p.word < rows) };
+}
+
+impl<J: Naming> Post<J> {
+    // The post of a word that has no event yet.
+    pub(crate) fn of_hand(
+        word: rz_events::Word,
+        place: u16,
+        hand: Hand,
+        seen: Seen<Event, Told, Law>,
+    ) -> Post<J>
+        requires seen { (seen.book ≡ J.book) × (seen.names ≡ J.tallies ∷ J.copy ∷ J.kind) × (seen.log ≡ []) }
+        requires names { (hand.tallies ≡ J.tallies) × (hand.copy ≡ J.copy) × (hand.kind ≡ J.kind) × (hand.log ≡ []) }
+        requires held { hand.held ≡ (word_key word, 0) ∷ [] }
+        requires place { (place < 338) × (owner (sids_of (volume_in J.kind)) place ≡ Some word) }
+        requires word { IsShared word × (word_key word < rows) }
+        ensures { result ≡ record { word = word; log = [] } }
+    {
+        Post {
+            word,
+            place,
+            moved: 0,
+            hand: Some(hand),
+            seen,
+            of: PhantomData,
+        }
+    }
+
+    /// Whether its word can move once more.
+    pub fn room(&self) -> bool
+        ensures room { IsTrue result ↔ (count_at (word_key self.now.word) self.now.log + 1 < 2 ^ 64) }
+        ensures fit { IsFit J.kind self.now.log }
+    {
+        self.moved < u64::MAX
+    }
+}
+
+/// The posts of a book: the export's, and those of the nodes in the order of the description.
+#[derive(Drop)]
+pub struct Desk<J: Naming> {
+    pub export: Post<J>,
+    pub nodes: Vec<Post<J>>,
+}

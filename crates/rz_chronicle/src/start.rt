@@ -1,0 +1,196 @@
+//! How a book is made, and what it deals out.
+ghost use Rattle.std.specs.Prelude.{◌≡◌, ◌+◌, ◌≤◌, ◌++◌, [], ◌∷◌, map, length, nat_eq, OnOk, IfOk};
+ghost use Rattle.std.specs.List.{IsDistinct};
+ghost use Rattle.std.proofs.lemmas.Map.Keys.{IsDistinct-prop};
+ghost use Rattle.logbook.specs.Pages.{Book as ABook};
+ghost use Rattle.rz_events.specs.declared.files.NodeSpec.{NodeSpec as ANodeSpec};
+ghost use Rattle.rz_events.specs.declared.keys.Actor.TheVariants as a;
+ghost use Rattle.rz_events.specs.declared.events.Word.TheVariants as w;
+ghost use Rattle.rz_events.specs.Volume.{nodes_of};
+ghost use Rattle.rz_chronicle.specs.Keys.{rows, sids_of};
+ghost use Rattle.rz_chronicle.specs.Kinds.{kind_of, volume_in};
+ghost use Rattle.rz_chronicle.specs.Tally.{zeros};
+ghost use Rattle.rz_chronicle.specs.Rules.{AreWords};
+ghost use Rattle.rz_chronicle.specs.Deals.{new_pass, new_post, ArePasses, AreFresh};
+
+use crate::book::Book;
+use crate::deal::{Deal, clients, posts, rebuilders};
+use crate::hand::{Hand, Law, begin};
+use crate::kinds::{Kind, read_back};
+use crate::passes::{Desk, Naming, Pass};
+use crate::places::{WORDS, key_at};
+use crate::told::Told;
+use logbook::{Opening, Pen, Pens, Seen, Word};
+use rz_config::{ClusterSpec, NodeSpec, Volume};
+use rz_events::{Actor, Event};
+use std::alloc::{AllocError, Global};
+use std::marker::PhantomData;
+
+/// The empty log.
+pub struct Empty;
+
+impl Opening<Empty, Event> for Empty {
+    ghost use Rattle.std.specs.Prelude.{[]};
+
+    ghost log = { λ count about. [] };
+}
+
+/// How many keys there are.
+#[tactic(auto, unfolding(crate::specs::Keys::rows))]
+fn key_count() -> usize
+    ensures { result ≡ rows }
+{
+    262_144
+}
+
+/// Adds the numbers of these nodes.
+fn add_numbers(numbers: &mut Vec<u16>, nodes: &[NodeSpec]) -> Result<(), AllocError>
+    ensures { OnOk result (numbers.new.items ≡ numbers.old.items ++ map (λ (n : ANodeSpec). n.sid) nodes.now) }
+{
+    for node in nodes {
+        numbers.push(node.sid)?;
+    }
+    Ok(())
+}
+
+/// The nodes of a cluster.
+fn nodes_in(cluster: &ClusterSpec) -> &[NodeSpec]
+    ensures { result.now ≡ cluster.now.nodes }
+{
+    cluster.nodes.as_slice()
+}
+
+/// The numbers of the nodes of these clusters.
+fn numbers(alloc: Global, clusters: &[ClusterSpec]) -> Result<Vec<u16>, AllocError>
+    ensures { IfOk result (λ ns. ns.items ≡ map (λ (n : ANodeSpec). n.sid) (nodes_of clusters.now)) }
+{
+    let mut numbers = Vec::new(alloc);
+    for cluster in clusters {
+        add_numbers(&mut numbers, nodes_in(cluster))?;
+    }
+    Ok(numbers)
+}
+
+/// The rights to make a word for each key. They have no bytes, so that this list takes no memory.
+fn all_pens(alloc: Global, pens: Pens, count: usize) -> Result<Vec<Pen>, AllocError>
+    requires { (pens.next ≡ 0) × (pens.left ≡ count) }
+    ensures { IfOk result (λ ps. (length ps.items ≡ count) × AreFresh pens.book ps.items) }
+{
+    let mut pens = pens;
+    let mut all = Vec::new(alloc);
+    'keys: for key in 0..count {
+        let _ = key;
+        all.push(pens.take())?;
+    }
+    Ok(all)
+}
+
+/// The words of a book of these nodes, by their places.
+fn words(
+    alloc: Global,
+    pens: Vec<Pen>,
+    nodes: &[u16],
+) -> Result<Vec<Word<Event, Told, Law>>, AllocError>
+    requires pens { (length pens.items ≡ rows) × ((b : ABook) × AreFresh b pens.items) }
+    requires nodes { IsDistinct nat_eq nodes.now }
+    ensures { (b : ABook) → AreFresh b pens.items → IfOk result (λ ws. (length ws.items ≡ 338) × AreWords b nodes.now ws.items) }
+{
+    let mut pens = pens;
+    let mut words = Vec::with_capacity(alloc, WORDS as usize)?;
+    for place in 0..WORDS {
+        let key = key_at(nodes, place) as usize;
+        words.push(Word::tracked(0, &mut pens[key]))?;
+    }
+    Ok(words)
+}
+
+/// A new book with an empty log, which has no name yet.
+#[derive(Drop)]
+pub struct Opened {
+    words: Vec<Word<Event, Told, Law>>,
+    nodes: Vec<u16>,
+    pub seen: Seen<Event, Told, Law>,
+    pub hand: Hand,
+    ghost long: { length words.items ≡ 338 },
+    ghost are: { AreWords seen.book nodes.items words.items },
+    ghost few: { length nodes.items ≤ 256 },
+    ghost distinct: { IsDistinct nat_eq nodes.items } by { IsDistinct-prop nat_eq nodes.items },
+    ghost numbers: { nodes.items ≡ sids_of (volume_in hand.kind) },
+    ghost names: { seen.names ≡ hand.tallies ∷ hand.copy ∷ hand.kind },
+    ghost empty: { seen.log ≡ [] },
+    ghost all: { hand.held ≡ zeros 0 rows },
+    ghost none: { hand.log ≡ [] },
+}
+
+/// What a new book deals out: a pass for the administrator, for each of 64 clients and of 16
+/// rebuilders, and the posts of the other words.
+#[derive(Drop)]
+pub struct Crew<J: Naming> {
+    pub admin: Pass<J>,
+    pub clients: Vec<Pass<J>>,
+    pub rebuilders: Vec<Pass<J>>,
+    pub desk: Desk<J>,
+}
+
+impl Opened {
+    /// A new book of this volume, honest or not. It takes all the memory that the book will ever need
+    /// but that of its crew's lists.
+    pub fn start(alloc: Global, volume: &Volume, honest: bool) -> Result<Opened, AllocError>
+        ensures { IfOk result (λ o. o.hand.kind ≡ kind_of honest volume.now) }
+    {
+        let nodes = numbers(alloc, volume.clusters.as_slice())?;
+        let _few = volume.node_count();
+        let kind = Kind::of(volume.copy(alloc)?, honest);
+        read_back();
+        let (start, hand) = begin(&kind);
+        let count = key_count();
+        let (seen, pens) = Seen::open_row::<Empty, Empty>(&Empty, start, count);
+        let pens = all_pens(alloc, pens, count)?;
+        let words = words(alloc, pens, nodes.as_slice())?;
+        Ok(Opened {
+            words,
+            nodes,
+            seen,
+            hand,
+        })
+    }
+
+    /// The book under a name, and its crew.
+    pub fn named<J: Naming>(self, alloc: Global) -> Result<(Book<J>, Crew<J>), AllocError>
+        requires { (self.seen.book ≡ J.book) × (self.hand.tallies ≡ J.tallies) × (self.hand.copy ≡ J.copy) × (self.hand.kind ≡ J.kind) }
+        ensures book { IfOk result (λ r. r.0 ≡ volume_in J.kind) }
+        ensures admin { IfOk result (λ r. r.1.admin ≡ new_pass a.Admin) }
+        ensures clients { IfOk result (λ r. ArePasses 64 (λ i. a.Client (i + 1)) r.1.clients.items) }
+        ensures rebuilders { IfOk result (λ r. ArePasses 16 (λ i. a.Rebuilder (i + 1)) r.1.rebuilders.items) }
+        ensures export { IfOk result (λ r. r.1.desk.export ≡ new_post w.Export) }
+        ensures nodes { IfOk result (λ r. r.1.desk.nodes.items ≡ map (λ n. new_post (w.Node n)) (sids_of (volume_in J.kind))) }
+    {
+        let Opened {
+            words,
+            nodes,
+            seen,
+            hand,
+        } = self;
+        let deal = Deal {
+            hand,
+            seen,
+            of: PhantomData,
+        };
+        let (export, deal) = deal.post(rz_events::Word::Export, 0);
+        let (posts, deal) = posts(alloc, deal, nodes.as_slice())?;
+        let (admin, deal) = deal.pass(Actor::Admin);
+        let (clients, deal) = clients(alloc, deal)?;
+        let (rebuilders, _) = rebuilders(alloc, deal)?;
+        let desk = Desk {
+            export,
+            nodes: posts,
+        };
+        let crew = Crew {
+            admin,
+            clients,
+            rebuilders,
+            desk,
+        };
+        Ok((Book::of_words(words, nodes), crew))
+    }
+}

@@ -1,4 +1,0 @@
-pub mod BinLaws
-pub mod Fronts
-pub mod Kept
-pub mod Stores

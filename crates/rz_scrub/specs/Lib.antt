@@ -1,0 +1,5 @@
+pub mod Records
+pub mod Misfits
+pub mod Verdicts
+pub mod Choice
+pub mod Inside
