@@ -49,5 +49,10 @@ pub not-opened : {D : Type 0} (tells : Bool) (meter : D → Meter) (r : Request)
     → AreBack meter old new → IsCause meter old new fault → Fails fault sink status → h ≡ [] → Opens tells r (faulted meter old new) lost sink status h
 not-opened tells meter r old new lost sink status h NoMemory back cause fails none = inl (fails, none)
 not-opened tells meter r old new lost sink status h (Disk index) back cause fails none =
-    inr (inl (index, risen (faults_at meter old index) (faults_at meter new index) (faults (meter cause.0)) (faults (meter cause.1))
-      (ap (faults_in meter) cause.2) (ap (faults_in meter) cause.3) (back.faults index) cause.4, fails, none))
+    inr (inl (
+      index,
+      risen (faults_at meter old index) (faults_at meter new index) (faults (meter cause.0)) (faults (meter cause.1))
+          (ap (faults_in meter) cause.2) (ap (faults_in meter) cause.3) (back.faults index) cause.4,
+      fails,
+      none,
+    ))

@@ -19,7 +19,8 @@ c1 3 data 1 5 x:68656c6c6f
 end 14
 ";
 
-const LOST: &str = "op c1 create /f\nop c1 put /f 0 t:hello\nrest\nlose n1\nop r1 rebuild n1\nturn r1 7\nlose n1\nop r2 rebuild n1\nturn r2 3\nturn r1 2\nrest\n";
+const LOST: &str =
+    "op c1 create /f\nop c1 put /f 0 t:hello\nrest\nlose n1\nop r1 rebuild n1\nturn r1 7\nlose n1\nop r2 rebuild n1\nturn r2 3\nturn r1 2\nrest\n";
 
 const LOST_TOLD: &str = "0 with 4 disks: c1 1 created 00000000-0000-0000-0000-000000000001
 c1 2 acked 1 1110
@@ -28,7 +29,8 @@ r2 1 rebuilt 3 1
 end 30
 ";
 
-const STOPPED: &str = "op c1 create /f\nop c1 put /f 0 t:old\nrest\nop c1 put /f 0 t:new\nturn c1 2\nbreak n1 2 1\nturn c1 1\nstart n1\nrest\nop c1 get /f 0\nrest\n";
+const STOPPED: &str =
+    "op c1 create /f\nop c1 put /f 0 t:old\nrest\nop c1 put /f 0 t:new\nturn c1 2\nbreak n1 2 1\nturn c1 1\nstart n1\nrest\nop c1 get /f 0\nrest\n";
 
 const STOPPED_TOLD: &str = "0 with 4 disks: c1 1 created 00000000-0000-0000-0000-000000000001
 c1 2 acked 1 1110
@@ -38,7 +40,8 @@ c1 4 data 2 3 x:6e6577
 end 24
 ";
 
-const LOCKED: &str = "op c1 create /f\nrest\nop c1 update /f 0 t:ab\nop c2 update /f 2 t:cd\nrest\nop c1 get /f 0\nrest\n";
+const LOCKED: &str =
+    "op c1 create /f\nrest\nop c1 update /f 0 t:ab\nop c2 update /f 2 t:cd\nrest\nop c1 get /f 0\nrest\n";
 
 const LOCKED_TOLD: &str = "0 with 4 disks: c1 1 created 00000000-0000-0000-0000-000000000001
 c1 2 wrote 2
@@ -88,8 +91,16 @@ fn rows(rt: HostRuntime) -> Result<(), Fail> {
         (LINE, LOST, LOST_TOLD),
         (LINE, STOPPED, STOPPED_TOLD),
         (LINE, LOCKED, LOCKED_TOLD),
-        (LINE, "op c1 put /f 0", "3 with 4 disks: refused script 1 MissingWord\n"),
-        ("rozo load 1 --disks 4", "", "10 with 4 disks: refused disks 4 16\n"),
+        (
+            LINE,
+            "op c1 put /f 0",
+            "3 with 4 disks: refused script 1 MissingWord\n",
+        ),
+        (
+            "rozo load 1 --disks 4",
+            "",
+            "10 with 4 disks: refused disks 4 16\n",
+        ),
         ("rozo", "", "2 with 4 disks: refused usage\n"),
     ] {
         let mut disks = memory(rt.alloc(), 4)?;
@@ -131,14 +142,28 @@ fn the_source_or_the_sink_fails(rt: HostRuntime) -> Result<(), Fail> {
     // The source fails at its first read.
     let mut input = MemSource::new(Vec::from_slice(alloc, b"rest\n")?, vec![in alloc; 0]?);
     let mut output = PlainSink::with_room(alloc, 4096)?;
-    let played = replay(alloc, &words, &mut input, &mut output, &mut disks, &mut link);
+    let played = replay(
+        alloc,
+        &words,
+        &mut input,
+        &mut output,
+        &mut disks,
+        &mut link,
+    );
     assert_eq!(rt; played.status, 4);
     assert_eq!(rt; output.taken().len(), 0);
 
     // The sink has no room for all of the text.
     let mut input = PlainSource::new(Vec::from_slice(alloc, b"rest\n")?);
     let mut output = PlainSink::with_room(alloc, 4)?;
-    let played = replay(alloc, &words, &mut input, &mut output, &mut disks, &mut link);
+    let played = replay(
+        alloc,
+        &words,
+        &mut input,
+        &mut output,
+        &mut disks,
+        &mut link,
+    );
     assert_eq!(rt; played.status, 5);
     assert_eq!(rt; output.taken(), b"end ".as_slice());
     Ok(())
@@ -146,7 +171,8 @@ fn the_source_or_the_sink_fails(rt: HostRuntime) -> Result<(), Fail> {
 
 /// The first bytes of a record: stamp 1, file 1, block 0, layout 0, position 0, five bytes, base 0, and
 /// three bins, of which the third is the first word of the text.
-const RECORD: [u8; 72] = *b"\x01\0\0\0\0\0\0\0\x01\0\0\0\0\0\0\0\0\0\0\0\0\0\0\0\0\0\0\0\0\0\0\0\0\0\0\0\x05\0\0\0\0\0\0\0\0\0\0\0\0\0\0\0\0\0\0\0\0\0\0\0\0\0\0\0hello\0\0\0";
+const RECORD: [u8; 72] =
+    *b"\x01\0\0\0\0\0\0\0\x01\0\0\0\0\0\0\0\0\0\0\0\0\0\0\0\0\0\0\0\0\0\0\0\0\0\0\0\x05\0\0\0\0\0\0\0\0\0\0\0\0\0\0\0\0\0\0\0\0\0\0\0\0\0\0\0hello\0\0\0";
 
 #[test]
 fn a_record_stands_on_its_disk(rt: HostRuntime) -> Result<(), Fail> {

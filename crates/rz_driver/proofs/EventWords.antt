@@ -17,7 +17,7 @@ use Rattle.rz_events.specs.declared.nodes.NodeAsk.TheVariants as ask
 use Rattle.rz_events.specs.declared.nodes.NodeAnswer.{NodeAnswer}
 use Rattle.rz_events.specs.declared.nodes.NodeAnswer.TheVariants as answer
 use Rattle.rz_events.specs.declared.events.Word.{Word}
-use Rattle.rz_events.specs.declared.events.Word.TheVariants.{Export, Node, Own}
+use Rattle.rz_events.specs.declared.events.Word.TheVariants.{Node}
 use Rattle.rz_events.specs.declared.events.Event.{Event}
 use Rattle.rz_events.specs.Events.{word_of, same_word}
 use Rattle.rz_node_model.specs.NodeEvents.{node_event}

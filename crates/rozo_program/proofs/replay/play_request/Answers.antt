@@ -43,7 +43,7 @@ back_is g c =
     let nodes : List NodeSpec = nodes_of c.volume-volume.result.now.clusters in
     let count : length c.args.disks.now.items ≡ length nodes = rw c.volume-volume.ensures c.requires in
     are-back g.D.Disk.tells g.D.Disk.meter g.D.Disk.image c.volume-volume.result.now.layout nodes c.args.disks.now.items c.in-Err.back.items count
-      (rw (← lent_is g c) c.in-Err.ensures.back)
+    (rw (← lent_is g c) c.in-Err.ensures.back)
 
 pub returns-in-Err : goal.returns-in-Err
 returns-in-Err g c =
@@ -56,6 +56,10 @@ returns-in-Err g c =
     let lost : ℕ = g.L.Link.lost c.args.link.now - g.L.Link.lost c.args.link.now in
     let none : reverse c.unplayed.result.log.items ≡ [] = ap reverse c.unplayed.ensures.log in
     let cause : IsCause g.D.Disk.meter c.args.disks.now.items c.in-Err.back.items c.in-Err.fault = rw (← lent_is g c) c.in-Err.ensures.cause in
-    record { played = (not-opened g.D.Disk.tells g.D.Disk.meter c.args.request.now c.args.disks.now.items c.in-Err.back.items lost sink c.unplayed.result.status
-      (reverse c.unplayed.result.log.items) c.in-Err.fault (back_is g c) cause (rw c.unplayed.ensures.status c.refuse_disks-status.ensures) none,
-     λ told. told-none c.args.request.now.script.volume c.args.request.now.script.lines lost (reverse c.unplayed.result.log.items) none) }
+    record {
+      played = (
+        not-opened g.D.Disk.tells g.D.Disk.meter c.args.request.now c.args.disks.now.items c.in-Err.back.items lost sink c.unplayed.result.status
+            (reverse c.unplayed.result.log.items) c.in-Err.fault (back_is g c) cause (rw c.unplayed.ensures.status c.refuse_disks-status.ensures) none,
+        λ told. told-none c.args.request.now.script.volume c.args.request.now.script.lines lost (reverse c.unplayed.result.log.items) none,
+      );
+    }

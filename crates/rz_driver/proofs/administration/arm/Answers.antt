@@ -1,5 +1,4 @@
-use Rattle.std.proofs.Common.{◌≡◌, ℕ, Bool, true, Option, Some, IsTrue, if◌then◌else◌, refl, sym, ◌∙◌, ap, subst, arith}
-use Rattle.rz_disk.specs.Meter.{Meter, armed}
+use Rattle.std.proofs.Common.{Some, ap, arith}
 use Rattle.rz_node_model.specs.States.{NodeState}
 use Rattle.rz_driver.proofs.MeterLemmas.{arm-goes, armed-own}
 use Rattle.rz_driver.proofs.administration.arm.Goals as goal

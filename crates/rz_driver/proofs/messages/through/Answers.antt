@@ -1,10 +1,6 @@
-use Rattle.std.proofs.Common.{◌≡◌, ℕ, List, ◌∷◌, Option, Some, refl, sym, subst, ap}
 use Rattle.std.proofs.lemmas.Result.{on_ok_weaker}
-use Rattle.rz_events.specs.declared.events.Event.{Event}
 use Rattle.rz_cells.specs.Opening.{opening_calls}
 use Rattle.rz_node_model.specs.NodeEvents.{node_event}
-use Rattle.rz_play.specs.Lines.{noted}
-use Rattle.rz_driver.specs.Meters.{GoesOn}
 use Rattle.rz_asks.specs.Parts.{IsNoted}
 use Rattle.rz_driver.proofs.MeterLemmas.{call-goes, call-lasts, noted-goes}
 use Rattle.rz_driver.proofs.messages.through.Goals as goal
