@@ -24,4 +24,4 @@ Fails (faults.Disk index) sink status = Refuses (refusals.Disk index) sink statu
 abbrev pub Replays : {D : Type 0} → Bool → (D → Meter) → Option Meaning → Reading → List D → List D → (lost : ℕ) → Sunk → ℕ → List Event → Type 0
 Replays tells meter words source old new lost sink status h =
     (r : Result Request Stop) × Asks words source (length old) r
-    × Ensues tells r (faulted meter old new) lost sink status h × HandsBack meter r old new
+    × Ensues tells r (faulted meter old new) lost sink status h × HandsBack meter r old new h

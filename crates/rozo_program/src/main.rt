@@ -2,9 +2,9 @@
 //! what came of each operation.
 //!
 //! The contract of `replay` says which status comes when, that the source was read to its end, that the
-//! log is that of the script's play and what it says is true, which bytes the sink took, and that the disks
-//! are as they came where nothing is played. It does not say what a real file or a terminal holds, or that
-//! memory is there, whose want is status 70.
+//! log is that of the script's play and what it says is true, which bytes the sink took, that the disks are
+//! back in their order, and that their counts of faults go with the faults in the log. It does not say what
+//! a real file or a terminal holds, or that memory is there, whose want is status 70.
 //!
 //! In reading order: `replay`, `disks`.
 #![tactic(auto)]

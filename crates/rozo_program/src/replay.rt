@@ -4,7 +4,7 @@ ghost use Rattle.std.specs.Prelude.{◌≡◌, ◌-◌, [], length, map, reverse
 ghost use Rattle.rz_command.specs.Line.{meaning};
 ghost use Rattle.rz_request.specs.Requests.{nodes_in};
 ghost use Rattle.rz_perform.specs.Replays.{Follows};
-ghost use Rattle.rozo_program.specs.Disks.{faulted};
+ghost use Rattle.rozo_program.specs.Disks.{AreBack, faulted};
 ghost use Rattle.rozo_program.specs.Replays.{Fails, Replays};
 
 use rz_disk::Disk;
@@ -55,6 +55,7 @@ fn play_request<D: Disk, L: Link, O: Sink>(
 ) -> Played
     requires { length disks.old.items ≡ nodes_in request.now.script }
     ensures played { Follows D.tells request.now (faulted D.meter disks.old.items disks.new.items) (L.lost link.new - L.lost link.old) (record { before = O.taken output.old; after = O.taken output.new; old = O.faults output.old; new = O.faults output.new }) result.status (reverse result.log.items) }
+    ensures back { AreBack D.meter request.now.script.volume disks.old.items disks.new.items (reverse result.log.items) }
 {
     let volume = request.script.volume();
     let _nodes = volume.node_count();

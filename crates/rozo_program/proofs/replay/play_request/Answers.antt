@@ -1,22 +1,29 @@
-use Rattle.std.proofs.Common.{◌≡◌, ◌-◌, ℕ, List, [], length, reverse, refl, sym, ap, ◌∙◌, subst, inl, inr}
+use Rattle.std.proofs.Common.{◌≡◌, ◌-◌, ℕ, List, [], length, reverse, refl, sym, ap, ◌∙◌, subst, inl, inr, ◌+◌, arith}
 use Rattle.std.proofs.lemmas.List.{reverse-reverse}
 use Rattle.rz_events.specs.Volume.{Volume, nodes_of}
 use Rattle.rz_events.specs.declared.events.Event.{Event}
 use Rattle.rz_script.specs.declared.line.Line.{Line}
 use Rattle.rz_events.specs.declared.files.NodeSpec.{NodeSpec}
-use Rattle.rz_driver.specs.Made.{IsCause}
+use Rattle.rz_driver.specs.Made.{IsCause, faults_at}
+use Rattle.rz_driver.specs.Made as made
 use Rattle.rz_play.specs.World.{new_world}
 use Rattle.rz_perform.specs.Told.{IsTold}
 use Rattle.rz_perform.specs.Telling.{Performs}
 use Rattle.rz_perform.specs.Output.{Sunk}
 use Rattle.rozo_program.specs.Disks.{AreBack}
-use Rattle.rozo_program.proofs.Lent.{are-back, not-opened}
+use Rattle.rozo_program.proofs.Lent.{back-faults, counted-none, not-opened}
 use Rattle.rozo_program.proofs.Untold.{told-none}
 use Rattle.rozo_program.proofs.replay.play_request.Given as given
 use Rattle.rozo_program.proofs.replay.play_request.Goals as goal
 
 pub perform-status-requires-clause-new : goal.perform-status-requires-clause-new
 perform-status-requires-clause-new g c = c.in-Ok.ensures.world ∙ ap new_world c.volume-volume.ensures
+
+plain : (k : ℕ) → 0 + k ≡ k
+plain k = omega arith
+
+lent_in : (g : given.Over) (c : goal.After-drop g) → c.replace-lent.result.items ≡ c.args.disks.now.items
+lent_in g c = rw c.replace-lent.ensures.value refl
 
 pub returns-in-Ok : goal.returns-in-Ok
 returns-in-Ok g c =
@@ -32,18 +39,24 @@ returns-in-Ok g c =
     let log_is : reverse c.close-log.result.0.items ≡ c.perform-status.new.stage.shared.log.events = ap reverse c.close-log.ensures.log ∙ reverse-reverse c.perform-status.new.stage.shared.log.events in
     let P : List Event → Type 0 = λ x. Performs g.D.Disk.tells v lines c.args.request.now.wish lost x sink c.perform-status.result in
     let Q : List Event → Type 0 = λ x. IsTold v lines lost x in
-    record { played = (inr (inr (subst P (sym log_is) c.perform-status.ensures.performed)), λ told. subst Q (sym log_is) (c.perform-status.ensures.told told)) }
+    let first : ℕ → ℕ = faults_at g.D.Disk.meter c.args.disks.now.items in
+    let volume_is : c.perform-status.new.stage.volume ≡ v = c.perform-status.ensures.volume ∙ c.in-Ok.ensures.volume ∙ c.volume-volume.ensures in
+    let counted : AreBack g.D.Disk.meter c.perform-status.new.stage.volume c.args.disks.now.items c.close-log.result.1.items c.perform-status.new.stage.shared.log.events =
+    c.close-log.ensures.counted first (c.perform-status.ensures.left first (rw (← lent_in g c) c.in-Ok.ensures.held)) in
+    let B : Volume → Type 0 = λ x. AreBack g.D.Disk.meter x c.args.disks.now.items c.close-log.result.1.items c.perform-status.new.stage.shared.log.events in
+    let R : List Event → Type 0 = λ x. AreBack g.D.Disk.meter v c.args.disks.now.items c.close-log.result.1.items x in
+    record {
+      played = (inr (inr (subst P (sym log_is) c.perform-status.ensures.performed)), λ told. subst Q (sym log_is) (c.perform-status.ensures.told told));
+      back = subst R (sym log_is) (subst B volume_is counted);
+    }
 
 lent_is : (g : given.Over) (c : goal.After-unplayed g) → c.replace-lent.result.items ≡ c.args.disks.now.items
 lent_is g c = rw c.replace-lent.ensures.value refl
 
--- where there is no driver, the disks are back
-back_is : (g : given.Over) (c : goal.After-unplayed g) → AreBack g.D.Disk.meter c.args.disks.now.items c.in-Err.back.items
-back_is g c =
-    let nodes : List NodeSpec = nodes_of c.volume-volume.result.now.clusters in
-    let count : length c.args.disks.now.items ≡ length nodes = rw c.volume-volume.ensures c.requires in
-    are-back g.D.Disk.tells g.D.Disk.meter g.D.Disk.image c.volume-volume.result.now.layout nodes c.args.disks.now.items c.in-Err.back.items count
-    (rw (← lent_is g c) c.in-Err.ensures.back)
+-- where there is no driver, the disks come back
+back_is : (g : given.Over) (c : goal.After-unplayed g) → made.AreBack g.D.Disk.tells g.D.Disk.meter g.D.Disk.image c.args.request.now.script.volume.layout
+    (nodes_of c.args.request.now.script.volume.clusters) c.args.disks.now.items c.in-Err.back.items
+back_is g c = rw (← lent_is g c, ← c.volume-volume.ensures) c.in-Err.ensures.back
 
 pub returns-in-Err : goal.returns-in-Err
 returns-in-Err g c =
@@ -55,11 +68,19 @@ returns-in-Err g c =
     } in
     let lost : ℕ = g.L.Link.lost c.args.link.now - g.L.Link.lost c.args.link.now in
     let none : reverse c.unplayed.result.log.items ≡ [] = ap reverse c.unplayed.ensures.log in
+    let v : Volume = c.args.request.now.script.volume in
+    let nodes : List NodeSpec = nodes_of v.clusters in
+    let old : List g.row.D.Denot = c.args.disks.now.items in
+    let new : List g.row.D.Denot = c.in-Err.back.items in
+    let kept = back-faults g.D.Disk.tells g.D.Disk.meter g.D.Disk.image v.layout nodes old new c.requires (back_is g c) in
+    let R : List Event → Type 0 = λ x. AreBack g.D.Disk.meter v old new x in
+    let counted : R [] = counted-none g.D.Disk.tells g.D.Disk.meter g.D.Disk.image v.layout (faults_at g.D.Disk.meter old) 0 nodes old new (λ k. ap (faults_at g.D.Disk.meter old) (plain k)) c.requires (back_is g c) in
     let cause : IsCause g.D.Disk.meter c.args.disks.now.items c.in-Err.back.items c.in-Err.fault = rw (← lent_is g c) c.in-Err.ensures.cause in
     record {
       played = (
         not-opened g.D.Disk.tells g.D.Disk.meter c.args.request.now c.args.disks.now.items c.in-Err.back.items lost sink c.unplayed.result.status
-            (reverse c.unplayed.result.log.items) c.in-Err.fault (back_is g c) cause (rw c.unplayed.ensures.status c.refuse_disks-status.ensures) none,
+            (reverse c.unplayed.result.log.items) c.in-Err.fault kept cause (rw c.unplayed.ensures.status c.refuse_disks-status.ensures) none,
         λ told. told-none c.args.request.now.script.volume c.args.request.now.script.lines lost (reverse c.unplayed.result.log.items) none,
       );
+      back = subst R (sym none) counted;
     }
