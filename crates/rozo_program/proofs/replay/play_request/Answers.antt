@@ -22,9 +22,6 @@ perform-status-requires-clause-new g c = c.in-Ok.ensures.world ∙ ap new_world 
 plain : (k : ℕ) → 0 + k ≡ k
 plain k = omega arith
 
-lent_in : (g : given.Over) (c : goal.After-drop g) → c.replace-lent.result.items ≡ c.args.disks.now.items
-lent_in g c = rw c.replace-lent.ensures.value refl
-
 pub returns-in-Ok : goal.returns-in-Ok
 returns-in-Ok g c =
     let v : Volume = c.args.request.now.script.volume in
@@ -39,10 +36,11 @@ returns-in-Ok g c =
     let log_is : reverse c.close-log.result.0.items ≡ c.perform-status.new.stage.shared.log.events = ap reverse c.close-log.ensures.log ∙ reverse-reverse c.perform-status.new.stage.shared.log.events in
     let P : List Event → Type 0 = λ x. Performs g.D.Disk.tells v lines c.args.request.now.wish lost x sink c.perform-status.result in
     let Q : List Event → Type 0 = λ x. IsTold v lines lost x in
+    let lent : c.replace-lent.result.items ≡ c.args.disks.now.items = rw c.replace-lent.ensures.value refl in
     let first : ℕ → ℕ = faults_at g.D.Disk.meter c.args.disks.now.items in
     let volume_is : c.perform-status.new.stage.volume ≡ v = c.perform-status.ensures.volume ∙ c.in-Ok.ensures.volume ∙ c.volume-volume.ensures in
     let counted : AreBack g.D.Disk.meter c.perform-status.new.stage.volume c.args.disks.now.items c.close-log.result.1.items c.perform-status.new.stage.shared.log.events =
-    c.close-log.ensures.counted first (c.perform-status.ensures.left first (rw (← lent_in g c) c.in-Ok.ensures.held)) in
+    c.close-log.ensures.counted first (c.perform-status.ensures.left first (rw (← lent) c.in-Ok.ensures.held)) in
     let B : Volume → Type 0 = λ x. AreBack g.D.Disk.meter x c.args.disks.now.items c.close-log.result.1.items c.perform-status.new.stage.shared.log.events in
     let R : List Event → Type 0 = λ x. AreBack g.D.Disk.meter v c.args.disks.now.items c.close-log.result.1.items x in
     record {
