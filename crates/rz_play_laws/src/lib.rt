@@ -14,18 +14,19 @@ ghost use Rattle.rz_events.specs.declared.keys.Actor.{Actor as AnActor};
 ghost use Rattle.rz_events.specs.declared.events.Event.{Event as AnEvent};
 ghost use Rattle.rz_node_model.specs.States.{NodeState};
 ghost use Rattle.rz_export_model.specs.Export.{Export as ExportState};
+ghost use Rattle.rz_core.specs.History.{facts, of_actor};
 ghost use Rattle.rz_core.specs.Legal.{IsLegal};
 ghost use Rattle.rz_safety.specs.Sound.{IsSound};
 ghost use Rattle.rz_safety.specs.Rebuilt.{AreRebuilt};
 ghost use Rattle.rz_script.specs.declared.line.Line.{Line as ALine};
-ghost use Rattle.rz_play.specs.World.{World, world_after};
+ghost use Rattle.rz_play.specs.World.{World, world_after, at_work};
 ghost use Rattle.rz_play.specs.Turns.{IsTurn};
 ghost use Rattle.rz_script.specs.Lines.{IsLine};
 ghost use Rattle.rz_play.specs.Lines.{PlaysLine};
 ghost use Rattle.rz_play.specs.Stops.{StopCause};
 ghost use Rattle.rz_play.specs.Faults.{missed, misses};
 ghost use Rattle.rz_play.specs.Played.{IsPlayedFrom, IsStoppedFrom, IsBegunFrom, IsBegun};
-ghost use Rattle.rz_play_laws.specs.Own.{IsOwnTurn, IsOwnKept, IsOwnProper};
+ghost use Rattle.rz_play_laws.specs.Own.{IsOwn, IsUnderWay, IsOwnTurn, IsOwnKept, IsOwnProper};
 ghost use Rattle.rz_play_laws.specs.Fine.{MayBegin, IsSeated, IsFine, IsFineIfShort, IsTelling};
 ghost use Rattle.rz_play_laws.specs.Runs.{IsScript, IsRunAfter};
 
@@ -125,6 +126,13 @@ pub fn lined()
 {
     facts_told();
 }
+
+/// In such a world the events of an actor say how far the operation has come that its next turn is of.
+pub fn working()
+    ensures { (v : Volume) (old : List AnEvent) (w : World) → (fine : IsFine v old w) → (by : AnActor) → IsSeated by
+        → IsOwn v (facts w.log) (of_actor by w.log) (of_actor by fine.run) by (at_work (w.seats by)).work
+        × IsUnderWay v by (at_work (w.seats by)).number (of_actor by fine.run) (at_work (w.seats by)).work }
+{}
 
 /// In such a world each actor has a turn, whatever it asks.
 pub fn goes_on()
