@@ -84,6 +84,7 @@ impl Batch {
         ensures value { result.now ≡ slice_index_or (slice_index_or self.now.blocks block []) position [] }
         ensures projection { (y : Layout) (bytes : List ℕ) → self.now ≡ batch_of y bytes →
             result.now ≡ projection_of (block_at y bytes block) (angle_of y position) }
+        ensures count { length result.now ≡ bins_at_of self.now.layout position }
     {
         part_at(&self.blocks[block], self.layout, position)
     }
@@ -93,7 +94,8 @@ impl Batch {
 fn part_at(bins: &[u64], layout: Layout, position: u8) -> &[u64]
     requires position { position < safe_of layout }
     requires all { length bins.now ≡ start_of layout (safe_of layout) }
-    ensures { result.now ≡ slice_range bins.now (start_of layout position) (start_of layout position + bins_at_of layout position) }
+    ensures part { result.now ≡ slice_range bins.now (start_of layout position) (start_of layout position + bins_at_of layout position) }
+    ensures count { length result.now ≡ bins_at_of layout position }
 {
     let from = start_of(layout, position);
     let to = from + layout.bins_at(position);

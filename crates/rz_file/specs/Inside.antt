@@ -11,7 +11,8 @@ use Rattle.rz_client_model.specs.declared.reading.ReaderState.{ReaderState}
 use Rattle.rz_client_model.specs.declared.reading.ReadStage.TheVariants.{Looking}
 use Rattle.rz_client_model.specs.declared.writing.WriterState.{WriterState}
 use Rattle.rz_reader.specs.Machine.{Machine as ReaderMachine}
-use Rattle.rz_writer.specs.Machine.{Machine as WriterMachine, block_of}
+use Rattle.rz_writer.specs.Machine.{block_of}
+use Rattle.rz_batch.specs.Batch.{Projections, batch_of, block_at}
 use Rattle.rz_operation_model.specs.Ranges.{Aim as AimOf, Taking, Giving, Range as RangeOf}
 use Rattle.rz_operation_model.specs.Work.{RangePlan, WriteBytes, ReadBytes}
 use Rattle.rz_operation_model.specs.Files.{FileState, Reads, Writes, Ended}
@@ -20,7 +21,8 @@ use Rattle.rz_file.specs.declared.span.Aim.{Aim}
 use Rattle.rz_file.specs.declared.span.Aim.TheVariants as aim
 use Rattle.rz_file.specs.declared.span.Step.{Step}
 use Rattle.rz_file.specs.declared.span.Step.TheVariants as step
-use Rattle.rz_file.specs.Ranges.{range_of, InRange}
+use Rattle.rz_file.specs.Ranges.{range_of, from_first_block, InRange}
+use Rattle.rz_file.specs.Writing.{BlockWrite}
 use Rattle.rz_file.specs.Machine.{Machine, IsEnd}
 
 -- What contracts see.
@@ -45,7 +47,7 @@ abbrev pub block_in : Step → Option Grid → Option Grid
 block_in step.Reading block = block
 block_in s block = None
 
-abbrev pub machine_of : Layout → Span → ReaderMachine → WriterMachine → Step → Machine
+abbrev pub machine_of : Layout → Span → ReaderMachine → BlockWrite → Step → Machine
 machine_of layout s r w at = record {
   layout = layout;
   state = state_of s r.state w.state at;
@@ -60,27 +62,44 @@ abbrev pub IsAimed : Aim → Span → Type 0
 IsAimed aim.Taking s = (vec_len s.bytes ≡ s.range.done) × (s.range.size ≤ vec_capacity s.bytes)
 IsAimed aim.Giving s = vec_len s.bytes ≡ s.range.size
 
+-- the batch has the bins of the blocks that the bytes to be written cover whole
+abbrev pub IsBatched : Layout → Aim → ℕ → List ℕ → Projections → Type 0
+IsBatched layout aim.Taking offset bytes batch = Unit {0}
+IsBatched layout aim.Giving offset bytes batch = batch ≡ batch_of layout (from_first_block layout offset bytes)
+
 pub record IsSpan (layout : Layout) (s : Span) : Type 0 where
   pub places : length s.range.info.places ≡ safe_of layout
   pub range : InRange s.range
   pub found : vec_len s.found ≡ block_bytes_of layout
   pub text : 2 * block_bytes_of layout ≤ vec_capacity s.text
   pub aimed : IsAimed s.aim s
+  pub batched : IsBatched layout s.aim s.range.offset s.bytes.items s.batch
 
 -- the reader and the writer are of the layout, and a range that is written has a writer with bins
 abbrev pub CanWrite : Aim → Option Grid → Type 0
 CanWrite aim.Taking block = Unit {0}
 CanWrite aim.Giving block = IsSome block
 
-pub record AreHands (layout : Layout) (a : Aim) (r : ReaderMachine) (w : WriterMachine) : Type 0 where
+pub record AreHands (layout : Layout) (a : Aim) (r : ReaderMachine) (w : BlockWrite) : Type 0 where
   pub reader : r.state.layout ≡ layout
-  pub writer : w.state.layout ≡ layout
-  pub bins : CanWrite a w.block
+  pub writer : w.layout ≡ layout
+  pub bins : CanWrite a w.own
+
+-- the text is that of this block of the batch
+pub record IsPlaced (layout : Layout) (s : Span) (place : ℕ) : Type 0 where
+  pub within : place < length s.batch.blocks
+  pub same : block_at layout (from_first_block layout s.range.offset s.bytes.items) place ≡ block_of layout s.text.items
+
+-- the bins of the text are those of the batch at this place, or else those of the writer's own block
+abbrev pub HasBinsOf : Layout → Span → Option ℕ → Option Grid → Type 0
+HasBinsOf layout s None own = own ≡ Some (block_of layout s.text.items)
+HasBinsOf layout s (Some place) own = IsPlaced layout s place
 
 -- the writer writes the text
-pub record IsWritten (layout : Layout) (s : Span) (w : WriterMachine) : Type 0 where
+pub record IsWritten (layout : Layout) (s : Span) (w : BlockWrite) : Type 0 where
   pub giving : s.aim ≡ aim.Giving
-  pub block : w.block ≡ Some (block_of layout s.text.items)
+  pub state : w.state.layout ≡ layout
+  pub bins : HasBinsOf layout s w.place w.own
   pub length : w.state.length ≡ length s.text.items
 
 -- the first of these bytes are the text that was found
@@ -88,12 +107,12 @@ abbrev pub IsFoundText : Option ReadMark → Option Grid → List ℕ → Type 0
 IsFoundText (Some (mark.Found stamp size)) block found = IsSomeAnd block (λ g. take size found ≡ take size (bytes_from g.words))
 IsFoundText end block found = Unit {0}
 
-abbrev pub IsStep : Layout → Span → ReaderMachine → WriterMachine → Step → Type 0
+abbrev pub IsStep : Layout → Span → ReaderMachine → BlockWrite → Step → Type 0
 IsStep layout s r w step.Reading = IsFoundText (reader_end r.state) r.block s.found.items
 IsStep layout s r w step.Writing = IsWritten layout s w
 IsStep layout s r w (step.Ended end) = IsEnd end
 
-pub record IsFile (layout : Layout) (s : Span) (r : ReaderMachine) (w : WriterMachine) (at : Step) : Type 0 where
+pub record IsFile (layout : Layout) (s : Span) (r : ReaderMachine) (w : BlockWrite) (at : Step) : Type 0 where
   pub span : IsSpan layout s
   pub hands : AreHands layout s.aim r w
   pub step : IsStep layout s r w at
@@ -125,8 +144,9 @@ abbrev pub IsPlanned : Aim → ℕ → Span → ℕ → Type 0
 IsPlanned aim.Taking offset s count = (s.bytes.items ≡ []) × (count ≤ vec_capacity s.bytes)
 IsPlanned aim.Giving offset s count = (vec_len s.bytes ≡ count) × (offset + count < 2 ^ 64)
 
-pub record IsFilePlan (layout : Layout) (offset count : ℕ) (s : Span) (r : ReaderMachine) (w : WriterMachine) : Type 0 where
+pub record IsFilePlan (layout : Layout) (offset count : ℕ) (s : Span) (r : ReaderMachine) (w : BlockWrite) : Type 0 where
   pub found : vec_len s.found ≡ block_bytes_of layout
   pub text : 2 * block_bytes_of layout ≤ vec_capacity s.text
   pub planned : IsPlanned s.aim offset s count
+  pub batched : IsBatched layout s.aim offset s.bytes.items s.batch
   pub hands : AreHands layout s.aim r w

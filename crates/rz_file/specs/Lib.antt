@@ -1,4 +1,5 @@
 pub mod Ranges
 pub mod Machine
 pub mod Told
+pub mod Writing
 pub mod Inside

@@ -1,5 +1,7 @@
 -- A range in code.
-use Rattle.std.specs.Prelude.{◌≤◌, ◌<◌, ◌+◌, ◌^◌, []}
+use Rattle.std.specs.Prelude.{ℕ, ◌≤◌, ◌<◌, ◌+◌, ◌-◌, ◌%◌, ◌^◌, List, [], drop}
+use Rattle.mj_angles.specs.declared.layout.Layout.{Layout}
+use Rattle.mj_angles.specs.Layout.{block_bytes_of}
 use Rattle.rz_operation_model.specs.Ranges.{Aim, Taking, Range as RangeOf}
 use Rattle.rz_file.specs.declared.range.Range.{Range}
 
@@ -14,3 +16,11 @@ bare r = range_of (Taking []) r
 pub record InRange (r : Range) : Type 0 where
   pub done : r.done ≤ r.size
   pub ends : r.offset + r.size < 2 ^ 64
+
+-- so many bytes of a range come before the first block that begins in it
+abbrev pub lead_of : Layout → ℕ → ℕ
+lead_of layout offset = (block_bytes_of layout - offset % block_bytes_of layout) % block_bytes_of layout
+
+-- the bytes from that block on
+abbrev pub from_first_block : Layout → ℕ → List ℕ → List ℕ
+from_first_block layout offset bytes = drop (lead_of layout offset) bytes

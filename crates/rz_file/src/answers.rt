@@ -11,12 +11,12 @@ ghost use Rattle.rz_file.specs.Told.{IsFetchAsk, IsOtherTold, IsFetchedInto};
 ghost use Rattle.rz_file.specs.Inside.{IsFile, IsFoundText, machine_of, state_of};
 
 use crate::asks::found_size;
+use crate::block_writer::BlockWriter;
 use crate::span::{Span, Step};
 use crate::steps::{after_block, after_part};
 use mj_angles::Layout;
 use rz_events::{FetchAnswer, FileAnswer, ReadMark, ReaderAnswer};
 use rz_reader::Reader;
-use rz_writer::Writer;
 
 /// How a range goes on after the answer to what it asked.
 pub fn after(
@@ -26,7 +26,7 @@ pub fn after(
     answer: FileAnswer,
     bins: &[u64],
     reader: &mut Reader,
-    writer: &mut Writer,
+    writer: &mut BlockWriter,
 ) -> Step
     requires inside { IsFile layout span.old reader.old writer.old step }
     requires asked { IsFileAnswer layout (file_ask (state_of span.old reader.old.state writer.old.state step)) answer }
@@ -48,7 +48,7 @@ fn after_reading(
     answer: FileAnswer,
     bins: &[u64],
     reader: &mut Reader,
-    writer: &mut Writer,
+    writer: &mut BlockWriter,
 ) -> Step
     requires inside { IsFile layout span.old reader.old writer.old Step.Reading }
     requires asked { IsFileAnswer layout (ask_to_read reader.old.state.key.block (reader_end reader.old.state) (reader_ask reader.old.state)) answer }
@@ -114,7 +114,7 @@ fn after_writing(
     span: &mut Span,
     answer: FileAnswer,
     reader: &mut Reader,
-    writer: &mut Writer,
+    writer: &mut BlockWriter,
 ) -> Step
     requires inside { IsFile layout span.old reader.old writer.old Step.Writing }
     requires asked { IsFileAnswer layout (ask_to_write writer.old.state.key.block (writer_end writer.old.state) (writer_ask writer.old.state)) answer }

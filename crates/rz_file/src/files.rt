@@ -10,6 +10,7 @@ use mj_angles::Layout;
 use rz_events::{FileAnswer, FileAsk, FileEnd, FileInfo};
 use std::alloc::{AllocError, Global};
 use std::marker::Model;
+use std::thread::Threads;
 
 /// The write of bytes into a file.
 #[derive(Drop)]
@@ -39,6 +40,25 @@ impl FileWrite {
         ensures { IfOk result (λ f. f ≡ machine_with layout (write_start layout info.now offset text.now)) }
     {
         let plan = FilePlan::write(alloc, layout, offset, text.to_vec(alloc)?)?;
+        Ok(FileWrite {
+            machine: plan.open(info),
+        })
+    }
+
+    /// The same, where the bins of whole blocks are made in as many threads as there are processors.
+    pub fn start_par(
+        rt: &(impl Threads + Sync),
+        alloc: Global,
+        layout: Layout,
+        info: &FileInfo,
+        offset: u64,
+        text: &[u8],
+    ) -> Result<FileWrite, AllocError>
+        requires places { length info.now.places ≡ safe_of layout }
+        requires ends { offset + length text.now < 2 ^ 64 }
+        ensures { IfOk result (λ f. f ≡ machine_with layout (write_start layout info.now offset text.now)) }
+    {
+        let plan = FilePlan::write_par(rt, alloc, layout, offset, text.to_vec(alloc)?)?;
         Ok(FileWrite {
             machine: plan.open(info),
         })

@@ -6,11 +6,13 @@
 //! open, as the machine of an operation needs it. Its contracts say that it is the machine of `rz_operation_model` for ranges, for every list
 //! of answers that belong to what was asked. They say nothing of which answers a node or the export gives.
 //!
-//! In reading order: `range`, `texts`, `span`, `plan`, `machine`, `asks`, `answers`, `steps`, `files`.
+//! In reading order: `range`, `texts`, `block_writer`, `span`, `plan`, `machine`, `asks`, `answers`, `steps`,
+//! `files`.
 #![tactic(auto)]
 
 mod answers;
 mod asks;
+mod block_writer;
 mod files;
 mod machine;
 mod plan;

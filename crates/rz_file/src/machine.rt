@@ -6,14 +6,14 @@ ghost use Rattle.rz_file.specs.Machine.{IsAnswered, IsUnderWay, IsLaidOut, IsAsk
 ghost use Rattle.rz_file.specs.Inside.{IsSpan, AreHands, range_in};
 
 use crate::answers::after;
-use crate::asks::{found_size, read_ask, write_ask};
+use crate::asks::{bins_in, found_size, read_ask, write_ask};
+use crate::block_writer::BlockWriter;
 use crate::span::{Aim, Span, Step};
 use crate::steps::go_on;
 use mj_angles::Layout;
 use rz_client_model::{ReaderState, WriterState};
 use rz_events::{FileAnswer, FileAsk, FileEnd};
 use rz_reader::Reader;
-use rz_writer::Writer;
 use std::marker::Model;
 
 /// The write or read of a range of bytes of a file.
@@ -26,7 +26,7 @@ pub struct FileMachine {
     span: Span,
     step: Step,
     reader: Reader,
-    writer: Writer,
+    writer: BlockWriter,
 }
 
 impl Model for FileMachine {
@@ -62,7 +62,7 @@ impl FileMachine {
         ensures bins { AreBins self.now result.now }
         ensures count { IsCountIn self.now.layout (file_ask self.now.state) result.now }
     {
-        self.writer.bins()
+        bins_in(self.layout, &self.span, &self.writer)
     }
 
     /// The text of the block in hand: the one that was found, or that is written.
@@ -152,7 +152,12 @@ impl FileMachine {
 }
 
 /// The machine that begins with a range.
-pub fn begin(layout: Layout, mut span: Span, mut reader: Reader, mut writer: Writer) -> FileMachine
+pub fn begin(
+    layout: Layout,
+    mut span: Span,
+    mut reader: Reader,
+    mut writer: BlockWriter,
+) -> FileMachine
     requires span { IsSpan layout span }
     requires hands { AreHands layout span.aim reader writer }
     ensures { result ≡ machine_with layout (go_on layout (range_in span)) }

@@ -2,19 +2,23 @@
 
 ghost use Rattle.std.specs.Prelude.{◌≡◌, ◌≤◌, ◌<◌, ◌+◌, ◌*◌, ◌^◌, IfOk, length, vec_len, vec_capacity};
 ghost use Rattle.mj_angles.specs.Layout.{safe_of, block_bytes_of};
+ghost use Rattle.rz_batch.specs.Batch.{batch_of};
 ghost use Rattle.rz_operation_model.specs.Work.{WriteBytes, ReadBytes};
 ghost use Rattle.rz_file.specs.Machine.{begun, count_in, is_write, machine_with, offset_in};
+ghost use Rattle.rz_file.specs.Ranges.{from_first_block};
 
 use crate::FileMachine;
+use crate::block_writer::BlockWriter;
 use crate::machine::begin;
-use crate::range::Range;
+use crate::range::{Range, from_first_block};
 use crate::span::{Aim, Span};
 use mj_angles::Layout;
+use rz_batch::Batch;
 use rz_events::{FileInfo, Places};
 use rz_reader::Reader;
-use rz_writer::Writer;
 use std::alloc::{AllocError, Global};
 use std::marker::Model;
+use std::thread::Threads;
 
 /// The write or the read of a range that waits for its file, with all the memory that it needs.
 #[derive(Drop)]
@@ -24,7 +28,7 @@ pub struct FilePlan {
     count: u64,
     span: Span,
     reader: Reader,
-    writer: Writer,
+    writer: BlockWriter,
 }
 
 impl Model for FilePlan {
@@ -50,11 +54,43 @@ impl FilePlan {
         requires { offset + vec_len bytes < 2 ^ 64 }
         ensures { IfOk result (λ p. p ≡ record { layout = layout; plan = WriteBytes offset bytes.items }) }
     {
+        let batch = Batch::forward(alloc, layout, from_first_block(layout, offset, &bytes))?;
+        FilePlan::with_batch(alloc, layout, offset, bytes, batch)
+    }
+
+    /// The same, where the bins of whole blocks are made in as many threads as there are processors.
+    pub fn write_par(
+        rt: &(impl Threads + Sync),
+        alloc: Global,
+        layout: Layout,
+        offset: u64,
+        bytes: Vec<u8>,
+    ) -> Result<FilePlan, AllocError>
+        requires { offset + vec_len bytes < 2 ^ 64 }
+        ensures { IfOk result (λ p. p ≡ record { layout = layout; plan = WriteBytes offset bytes.items }) }
+    {
+        let whole = from_first_block(layout, offset, &bytes);
+        let batch = Batch::forward_par(rt, alloc, layout, whole)?;
+        FilePlan::with_batch(alloc, layout, offset, bytes, batch)
+    }
+
+    /// The write of bytes, with the bins of the blocks that they cover whole.
+    fn with_batch(
+        alloc: Global,
+        layout: Layout,
+        offset: u64,
+        bytes: Vec<u8>,
+        batch: Batch,
+    ) -> Result<FilePlan, AllocError>
+        requires fits { offset + vec_len bytes < 2 ^ 64 }
+        requires batch { batch ≡ batch_of layout (from_first_block layout offset bytes.items) }
+        ensures { IfOk result (λ p. p ≡ record { layout = layout; plan = WriteBytes offset bytes.items }) }
+    {
         let info = blank(layout);
         let count = bytes.len() as u64;
-        let span = with_buffers(alloc, layout, Aim::Giving, bytes)?;
+        let span = with_buffers(alloc, layout, Aim::Giving, bytes, batch)?;
         let reader = Reader::start(alloc, layout, &info, 0)?;
-        let writer = Writer::start(alloc, layout, &info, 0, b"")?;
+        let writer = BlockWriter::start(alloc, layout, &info)?;
         Ok(FilePlan {
             layout,
             offset,
@@ -76,9 +112,10 @@ impl FilePlan {
     {
         let info = blank(layout);
         let bytes = Vec::with_capacity(alloc, count as usize)?;
-        let span = with_buffers(alloc, layout, Aim::Taking, bytes)?;
+        let batch = Batch::forward(alloc, layout, b"")?;
+        let span = with_buffers(alloc, layout, Aim::Taking, bytes, batch)?;
         let reader = Reader::start(alloc, layout, &info, 0)?;
-        let writer = Writer::start_bare(alloc, layout, &info, 0, 0)?;
+        let writer = BlockWriter::start_bare(alloc, layout, &info)?;
         Ok(FilePlan {
             layout,
             offset,
@@ -138,9 +175,16 @@ impl FilePlan {
 }
 
 /// A range that waits for its file, with room for the texts of a block.
-fn with_buffers(alloc: Global, layout: Layout, aim: Aim, bytes: Vec<u8>) -> Result<Span, AllocError>
+fn with_buffers(
+    alloc: Global,
+    layout: Layout,
+    aim: Aim,
+    bytes: Vec<u8>,
+    batch: Batch,
+) -> Result<Span, AllocError>
     ensures aim { IfOk result (λ s. s.aim ≡ aim) }
     ensures bytes { IfOk result (λ s. s.bytes ≡ bytes) }
+    ensures batch { IfOk result (λ s. s.batch ≡ batch) }
     ensures found { IfOk result (λ s. vec_len s.found ≡ block_bytes_of layout) }
     ensures text { IfOk result (λ s. 2 * block_bytes_of layout ≤ vec_capacity s.text) }
 {
@@ -156,6 +200,7 @@ fn with_buffers(alloc: Global, layout: Layout, aim: Aim, bytes: Vec<u8>) -> Resu
         range,
         aim,
         bytes,
+        batch,
         text,
         found,
     })

@@ -1,9 +1,9 @@
 //! A range of bytes of a file.
 
-ghost use Rattle.std.specs.Prelude.{◌≡◌, ◌≤◌, ◌<◌, ◌+◌};
+ghost use Rattle.std.specs.Prelude.{◌≡◌, ◌≤◌, ◌<◌, ◌+◌, ◌*◌, length, true};
 ghost use Rattle.mj_angles.specs.Layout.{block_bytes_of};
 ghost use Rattle.rz_operation_model.specs.Ranges.{key_in, start_in, count_in, is_whole};
-ghost use Rattle.rz_file.specs.Ranges.{bare, InRange};
+ghost use Rattle.rz_file.specs.Ranges.{bare, from_first_block, lead_of, InRange};
 
 use mj_angles::Layout;
 use rz_events::{FileInfo, Key};
@@ -55,5 +55,35 @@ impl Range {
         ensures { result ≡ is_whole layout (bare self.now) }
     {
         self.start(layout) == 0 && self.count(layout) == layout.block_bytes()
+    }
+
+    /// The place of the block in hand among the blocks that begin in the range, where the range covers it
+    /// whole.
+    pub fn place(&self, layout: Layout) -> usize
+        requires range { InRange self.now }
+        requires whole { is_whole layout (bare self.now) ≡ true }
+        ensures { lead_of layout self.now.offset + result * block_bytes_of layout ≡ self.now.done }
+    {
+        (self.done as usize - lead(layout, self.offset)) / layout.block_bytes()
+    }
+}
+
+/// So many bytes of a range come before the first block that begins in it.
+fn lead(layout: Layout, offset: u64) -> usize
+    ensures { result ≡ lead_of layout offset }
+{
+    let size = layout.block_bytes() as u64;
+    ((size - offset % size) % size) as usize
+}
+
+/// The bytes of a range from the first block on that begins in it.
+pub fn from_first_block(layout: Layout, offset: u64, bytes: &[u8]) -> &[u8]
+    ensures { result.now ≡ from_first_block layout offset bytes.now }
+{
+    let lead = lead(layout, offset);
+    if lead < bytes.len() {
+        &bytes[lead..]
+    } else {
+        &[]
     }
 }

@@ -1,6 +1,7 @@
 //! A range in hand, with its bytes and the texts of its block.
 
 use crate::range::Range;
+use rz_batch::Batch;
 use rz_events::FileEnd;
 
 /// What is done with a range.
@@ -18,6 +19,8 @@ pub struct Span {
     pub range: Range,
     pub aim: Aim,
     pub bytes: Vec<u8>,
+    /// The bins of the blocks that the bytes to be written cover whole.
+    pub batch: Batch,
     /// The text of the block that is written.
     pub text: Vec<u8>,
     /// Room for the text of the block that was found.

@@ -1,24 +1,26 @@
 //! How a range goes on.
 
-ghost use Rattle.std.specs.Prelude.{◌≡◌, ◌≤◌, ◌<◌, ◌+◌, ◌/◌, length, take};
+ghost use Rattle.std.specs.Prelude.{◌≡◌, ◌≤◌, ◌<◌, ◌+◌, ◌/◌, Some, length, take, true};
 ghost use Rattle.mj_angles.specs.Layout.{safe_of, block_bytes_of};
 ghost use Rattle.rz_reader.specs.Machine.{machine_for};
-ghost use Rattle.rz_writer.specs.Machine.{machine_with};
+ghost use Rattle.rz_writer.specs.Machine.{key_in};
+ghost use Rattle.rz_client_model.specs.Write.{writer_start};
 ghost use Rattle.rz_operation_model.specs.Ranges.{Giving};
 ghost use Rattle.rz_operation_model.specs.Files.{go_on, next_block, with_text, after_part, after_block};
 ghost use Rattle.rz_file.specs.Ranges.{InRange};
+ghost use Rattle.rz_file.specs.Writing.{own_write};
 ghost use Rattle.rz_file.specs.Inside.{IsSpan, AreHands, IsFile, IsFresh, CanWrite, IsShortMark, size_of, range_in, state_of};
 
+use crate::block_writer::BlockWriter;
 use crate::range::Range;
 use crate::span::{Aim, Span, Step};
 use crate::texts::{patch, push_cut};
 use mj_angles::Layout;
 use rz_events::{FileEnd, ReadMark, WriteEnd};
 use rz_reader::Reader;
-use rz_writer::Writer;
 
 /// The range goes on with its next block, if one is left.
-pub fn go_on(layout: Layout, span: &mut Span, reader: &mut Reader, writer: &mut Writer) -> Step
+pub fn go_on(layout: Layout, span: &mut Span, reader: &mut Reader, writer: &mut BlockWriter) -> Step
     requires span { IsSpan layout span.old }
     requires hands { AreHands layout span.old.aim reader.old writer.old }
     ensures state { state_of span.new reader.new.state writer.new.state result ≡ go_on layout (range_in span.old) }
@@ -36,7 +38,7 @@ pub fn go_on(layout: Layout, span: &mut Span, reader: &mut Reader, writer: &mut 
 }
 
 /// The block in hand is written, or is read first where the range does not cover it whole.
-fn give(layout: Layout, span: &mut Span, reader: &mut Reader, writer: &mut Writer) -> Step
+fn give(layout: Layout, span: &mut Span, reader: &mut Reader, writer: &mut BlockWriter) -> Step
     requires span { IsSpan layout span.old }
     requires aim { span.old.aim ≡ Aim.Giving }
     requires hands { AreHands layout span.old.aim reader.old writer.old }
@@ -55,7 +57,7 @@ fn give(layout: Layout, span: &mut Span, reader: &mut Reader, writer: &mut Write
         range.done as usize,
         layout.block_bytes(),
     );
-    write_block(layout, span, writer)
+    write_whole(layout, span, range.place(layout), writer)
 }
 
 /// The block in hand is read.
@@ -71,16 +73,32 @@ fn read_block(layout: Layout, range: Range, reader: &mut Reader) -> Step
 }
 
 /// The block in hand is written with the text.
-fn write_block(layout: Layout, span: &Span, writer: &mut Writer) -> Step
-    requires layout { writer.old.state.layout ≡ layout }
-    requires bins { CanWrite Aim.Giving writer.old.block }
+fn write_block(layout: Layout, span: &Span, writer: &mut BlockWriter) -> Step
+    requires layout { writer.old.layout ≡ layout }
+    requires bins { CanWrite Aim.Giving writer.old.own }
     requires places { length span.now.range.info.places ≡ safe_of layout }
     requires range { InRange span.now.range }
     requires short { length span.now.text.items ≤ block_bytes_of layout }
     ensures step { result ≡ Step.Writing }
-    ensures writer { writer.new ≡ machine_with layout span.now.range.info ((span.now.range.offset + span.now.range.done) / block_bytes_of layout) span.now.text.items }
+    ensures writer { writer.new ≡ own_write layout span.now.range.info ((span.now.range.offset + span.now.range.done) / block_bytes_of layout) span.now.text.items }
 {
     writer.again(&span.range.info, span.range.key(layout).block, &span.text);
+    Step::Writing
+}
+
+/// The block in hand is written with the text, which is that of the block at this place in the batch.
+fn write_whole(layout: Layout, span: &Span, place: usize, writer: &mut BlockWriter) -> Step
+    requires layout { writer.old.layout ≡ layout }
+    requires places { length span.now.range.info.places ≡ safe_of layout }
+    requires range { InRange span.now.range }
+    requires short { length span.now.text.items ≤ block_bytes_of layout }
+    ensures step { result ≡ Step.Writing }
+    ensures writer { writer.new ≡ record writer.old {
+        state = writer_start layout (key_in span.now.range.info ((span.now.range.offset + span.now.range.done) / block_bytes_of layout)) span.now.range.info.places (length span.now.text.items);
+        place = Some place } }
+{
+    let block = span.range.key(layout).block;
+    writer.again_at(&span.range.info, block, span.text.len() as u32, place);
     Step::Writing
 }
 
@@ -90,7 +108,7 @@ fn with_text(
     span: &mut Span,
     size: usize,
     reader: &mut Reader,
-    writer: &mut Writer,
+    writer: &mut BlockWriter,
 ) -> Step
     requires span { IsSpan layout span.old }
     requires short { size ≤ block_bytes_of layout }
@@ -129,7 +147,7 @@ pub fn after_part(
     span: &mut Span,
     mark: ReadMark,
     reader: &mut Reader,
-    writer: &mut Writer,
+    writer: &mut BlockWriter,
 ) -> Step
     requires span { IsSpan layout span.old }
     requires short { IsShortMark layout mark }
@@ -154,7 +172,7 @@ pub fn after_block(
     span: &mut Span,
     end: WriteEnd,
     reader: &mut Reader,
-    writer: &mut Writer,
+    writer: &mut BlockWriter,
 ) -> Step
     requires span { IsSpan layout span.old }
     requires aim { span.old.aim ≡ Aim.Giving }

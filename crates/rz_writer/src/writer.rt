@@ -130,6 +130,16 @@ impl Writer {
         self.state = begun(self.state.layout, info, block, text.len() as u32);
         reload(self.state.layout, &mut self.sheet, text);
     }
+
+    /// Begins to write another text, of this length, without bins.
+    pub fn again_bare(&mut self, info: &FileInfo, block: u64, length: u32)
+        requires places { HasPlaces self.old.state.layout info.now }
+        requires fits { length ≤ block_bytes_of self.old.state.layout }
+        ensures { self.new ≡ bare_machine self.old.state.layout info.now block length }
+    {
+        self.state = begun(self.state.layout, info, block, length);
+        self.sheet = None;
+    }
 }
 
 /// The write of a text of this length, of which nothing was asked yet.

@@ -4,7 +4,7 @@ use Rattle.rz_operation_model.specs.Ranges.{Aim as AimOf, Taking, cut, patched, 
 use Rattle.rz_operation_model.specs.Files.{FileState, Writes, go_on, with_text, writes_block}
 use Rattle.rz_file.specs.declared.span.Aim.{Aim}
 use Rattle.rz_file.specs.declared.span.Span.{Span}
-use Rattle.rz_writer.specs.Machine.{Machine as WriterMachine}
+use Rattle.rz_file.specs.Writing.{BlockWrite}
 use Rattle.rz_file.specs.Inside.{aim_of, range_in, state_of}
 use Rattle.rz_file.proofs.Lengths.{length-take_le, length-patched_le}
 use Rattle.rz_file.proofs.steps.with_text.Goals as goal
@@ -50,7 +50,7 @@ returns-in-Giving-clause-state c =
     let same : c.deref-in-Giving.result.now ≡ c.args.span.now.found.items = search rules in
     let given : c.deref-in-Giving-2.result.now ≡ bytes = search rules in
     ap (state_of span c.args.reader.now.state c.write_block.new.writer.state) c.write_block.ensures.step
-    ∙ ap (λ (w : WriterMachine). Writes r c.patch.new.out.items w.state) c.write_block.ensures.writer
+    ∙ ap (λ (w : BlockWrite). Writes r c.patch.new.out.items w.state) c.write_block.ensures.writer
     ∙ ap (writes_block layout r) (c.patch.ensures.items
     ∙ ap (λ (l : List ℕ). patched c.start-start.result (cut r.done c.count-count.result c.deref-in-Giving-2.result.now) (take c.args.size l)) same
     ∙ ap (λ (l : List ℕ). patched c.start-start.result (cut r.done c.count-count.result l) found) given

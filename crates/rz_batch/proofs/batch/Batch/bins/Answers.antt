@@ -19,7 +19,7 @@ returns-clause-value c =
     let block : c.args.block < length s.blocks.items = (let h = c.requires.block in omega (arith, long, same, h)) in
     let P : Layout → Type 0 = λ y. c.args.position < safe_of y in
     let position : c.args.position < safe_of s.layout = subst P (sym layout) c.requires.position in
-    c.part_at.ensures
+    c.part_at.ensures.part
     ∙ ap (λ xs. slice_range xs (start_of s.layout c.args.position) (start_of s.layout c.args.position + bins_at_of s.layout c.args.position)) c.deref.ensures.value
     ∙ ap (λ (u : Vec ℕ Global). slice_range u.items (start_of s.layout c.args.position) (start_of s.layout c.args.position + bins_at_of s.layout c.args.position)) c.index.ensures
     ∙ sym (part_of_view (λ (v : Vec ℕ Global). v.items) s.layout s.blocks.items v c.args.block c.args.position block position)
@@ -31,3 +31,7 @@ returns-clause-projection c = λ y bytes is.
     let Q : Projections → Type 0 = λ s. c.args.position < safe_of s.layout in
     returns-clause-value c ∙ ap (λ (s : Projections). slice_index_or (slice_index_or s.blocks c.args.block []) c.args.position []) is
     ∙ part_of_batch y bytes c.args.block c.args.position (subst P is c.requires.block) (subst Q is c.requires.position)
+
+pub returns-clause-count : goal.returns-clause-count
+returns-clause-count c =
+    c.part_at.ensures.count ∙ ap (λ (s : Projections). bins_at_of s.layout c.args.position) c.self.view_is
