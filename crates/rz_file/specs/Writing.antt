@@ -26,8 +26,8 @@ write_of layout place own bare =
 
 -- both are of the layout
 pub record AreWriters (layout : Layout) (own bare : WriterMachine) : Type 0 where
-  pub own : own.state.layout ≡ layout
-  pub bare : bare.state.layout ≡ layout
+  pub of_own : own.state.layout ≡ layout
+  pub of_bare : bare.state.layout ≡ layout
 
 -- the write of this text, with bins of its own
 abbrev pub own_write : Layout → FileInfo → ℕ → List ℕ → BlockWrite

@@ -62,7 +62,8 @@ impl Range {
     pub fn place(&self, layout: Layout) -> usize
         requires range { InRange self.now }
         requires whole { is_whole layout (bare self.now) ≡ true }
-        ensures { lead_of layout self.now.offset + result * block_bytes_of layout ≡ self.now.done }
+        ensures at { lead_of layout self.now.offset + result * block_bytes_of layout ≡ self.now.done }
+        ensures ends { self.now.done + block_bytes_of layout ≤ self.now.size }
     {
         (self.done as usize - lead(layout, self.offset)) / layout.block_bytes()
     }

@@ -94,8 +94,9 @@ fn write_whole(layout: Layout, span: &Span, place: usize, writer: &mut BlockWrit
     requires short { length span.now.text.items ≤ block_bytes_of layout }
     ensures step { result ≡ Step.Writing }
     ensures writer { writer.new ≡ record writer.old {
-        state = writer_start layout (key_in span.now.range.info ((span.now.range.offset + span.now.range.done) / block_bytes_of layout)) span.now.range.info.places (length span.now.text.items);
-        place = Some place } }
+      state = writer_start layout (key_in span.now.range.info ((span.now.range.offset + span.now.range.done) / block_bytes_of layout)) span.now.range.info.places (length span.now.text.items);
+      place = Some place;
+    } }
 {
     let block = span.range.key(layout).block;
     writer.again_at(&span.range.info, block, span.text.len() as u32, place);
