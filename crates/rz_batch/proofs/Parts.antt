@@ -5,7 +5,6 @@ use Rattle.std.specs.List.{AllZip}
 use Rattle.std.proofs.Math.Seq.{take-append_seam}
 use Rattle.std.proofs.lemmas.Bool.{cases_lt}
 use Rattle.std.proofs.lemmas.List.Elements.{All-append}
-use Rattle.std.proofs.lemmas.Slice.Zip.{AllZip-map}
 use Rattle.std.specs.List.{range_with_len}
 use Rattle.std.proofs.lemmas.List.{ext_get_or, get_or-map}
 use Rattle.std.proofs.lemmas.List.{map-append}
@@ -14,7 +13,7 @@ use Rattle.rz_words.specs.Grid.{Grid}
 use Rattle.mj_angles.specs.declared.layout.Layout.{Layout}
 use Rattle.mj_angles.specs.Layout.{safe_of, angle_of, bins_at_of, block_bytes_of}
 use Rattle.mj_forward.specs.Forward.{projection_of, start_of}
-use Rattle.rz_batch.specs.Batch.{batch_of, block_at, parts_of, projections_of, IsProjected}
+use Rattle.rz_batch.specs.Batch.{batch_of, block_at, parts_of, projections_of}
 
 pub map_range-same : {X : Type 0} (f g : ℕ → X) (n : ℕ) (d : X) → ((i : ℕ) → i < n → f i ≡ g i) → map f (range_with_len 0 n) ≡ map g (range_with_len 0 n)
 map_range-same f g n d same =

@@ -6,7 +6,7 @@ ghost use Rattle.rz_events.specs.declared.machines.FileAnswer.{FileAnswer as AnA
 ghost use Rattle.rz_client_model.specs.Read.{IsReaderAnswer, IsTold};
 ghost use Rattle.rz_client_model.specs.Write.{IsWriterAnswer};
 ghost use Rattle.rz_operation_model.specs.Files.{IsFileAnswer};
-ghost use Rattle.rz_file.specs.Machine.{ComeWith};
+ghost use Rattle.rz_file.specs.Machine.{ComeWith, IsKeep};
 
 use mj_angles::Layout;
 use rz_events::{
@@ -200,6 +200,33 @@ fn check_end(rt: &impl Abort, machine: &FileMachine, end: FileEnd) {
     assert_eq!(rt; machine.end(), Some(end));
 }
 
+/// Whether a node is asked to keep a record.
+fn is_keep(ask: FileAsk) -> bool
+    ensures { IsTrue result → IsKeep ask }
+{
+    matches!(
+        ask,
+        FileAsk::Write {
+            ask: WriterAsk::Keep { .. },
+            ..
+        }
+    )
+}
+
+/// The second of two whole blocks begins with a word 1, and the rest of the bytes of both are zeros.
+fn keep_second(rt: &impl Abort, machine: &mut FileMachine)
+    requires { machine.old.layout ≡ L0 }
+{
+    acknowledge(rt, machine, 1, 4096);
+    let ask = WriterAsk::Begin { length: 4096 };
+    let begun = FileAnswer::Write(WriterAnswer::Begun { stamp: 12, base: 9 });
+    step(rt, machine, FileAsk::Write { block: 2, ask }, begun);
+    assert!(rt; is_keep(machine.next()));
+    let bins = machine.bins();
+    assert_eq!(rt; bins.get(FIRST[0]), Some(&1));
+    assert_eq!(rt; bins.get(SECOND[0]), Some(&0));
+}
+
 /// A file of this size.
 fn file(size: u64) -> FileInfo
     ensures { length result.places ≡ 4 }
@@ -245,6 +272,22 @@ fn three_blocks(rt: HostRuntime) -> Result<(), Fail> {
     find_hole(&rt, &mut machine, 2);
     acknowledge(&rt, &mut machine, 2, 2);
     check_end(&rt, &machine, FileEnd::Whole { bytes: 4100 });
+    Ok(())
+}
+
+#[test]
+fn whole_blocks(rt: HostRuntime) -> Result<(), Fail> {
+    let mut bytes = vec![in rt.alloc(); 0u8; 8193]?;
+    bytes[4097] = 1;
+    let other = bytes.clone()?;
+    let one = FilePlan::write(rt.alloc(), Layout::L0, 4095, bytes)?;
+    let many = FilePlan::write_par(&rt, rt.alloc(), Layout::L0, 4095, other)?;
+    for plan in [one, many] {
+        let mut machine = plan.open(&file(0));
+        find_hole(&rt, &mut machine, 0);
+        acknowledge(&rt, &mut machine, 0, 4096);
+        keep_second(&rt, &mut machine);
+    }
     Ok(())
 }
 
@@ -308,6 +351,8 @@ fn nothing(rt: HostRuntime) -> Result<(), Fail> {
     let whole = Some(FileEnd::Whole { bytes: 0 });
     let write = FileWrite::start(rt.alloc(), Layout::L0, &file(0), 4096, b"")?;
     assert_eq!(rt; write.end(), whole);
+    let many = FileWrite::start_par(&rt, rt.alloc(), Layout::L0, &file(0), 4096, b"")?;
+    assert_eq!(rt; many.end(), whole);
     let read = FileRead::start(rt.alloc(), Layout::L0, &file(4096), 4096, 1)?;
     assert_eq!(rt; read.end(), whole);
     assert_eq!(rt; read.bytes().len(), 0);

@@ -1,6 +1,6 @@
-use Rattle.std.proofs.Common.{rules, arith, ◌≡◌, ◌*◌, ◌<◌, ℕ, List, length, sym, ap, ◌∙◌, subst}
+use Rattle.std.proofs.Common.{rules, arith, ◌≡◌, ◌*◌, ◌<◌, ℕ, List, sym, ap, ◌∙◌, subst}
 use Rattle.rz_words.specs.Grid.{Grid, grid_from_bytes, words_from}
-use Rattle.mj_angles.specs.Layout.{inverse_of, cols_of, safe_of, angle_of}
+use Rattle.mj_angles.specs.Layout.{inverse_of, cols_of, angle_of}
 use Rattle.mj_angles.specs.Projection.{projection, word_at}
 use Rattle.rz_batch.specs.Batch.{parts_of, projections_of}
 use Rattle.rz_batch.proofs.Parts.{parts-of_block, taken_back}

@@ -1,8 +1,8 @@
-use Rattle.std.proofs.Common.{rules, arith, ◌≡◌, ◌+◌, ◌<◌, ℕ, List, [], length, map, sym, ap, ◌∙◌, subst, Vec, Global}
+use Rattle.std.proofs.Common.{arith, ◌≡◌, ◌+◌, ◌<◌, ℕ, [], length, map, sym, ap, ◌∙◌, subst, Vec, Global}
 use Rattle.std.specs.Prelude.{slice_index_or, slice_range}
-use Rattle.mj_angles.specs.Layout.{safe_of, angle_of, bins_at_of}
-use Rattle.mj_forward.specs.Forward.{projection_of, start_of}
-use Rattle.rz_batch.specs.Batch.{Projections, batch_of, block_at, parts_of}
+use Rattle.mj_angles.specs.Layout.{safe_of, bins_at_of}
+use Rattle.mj_forward.specs.Forward.{start_of}
+use Rattle.rz_batch.specs.Batch.{Projections, parts_of}
 use Rattle.mj_angles.specs.declared.layout.Layout.{Layout}
 use Rattle.std.proofs.lemmas.List.{length-map}
 use Rattle.rz_batch.proofs.Parts.{part_of_view, part_of_batch}

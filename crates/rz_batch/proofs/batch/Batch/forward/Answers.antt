@@ -1,4 +1,4 @@
-use Rattle.std.proofs.Common.{◌≡◌, ◌+◌, ℕ, length, Vec, Global}
+use Rattle.std.proofs.Common.{◌≡◌, ℕ, length, Vec, Global}
 use Rattle.mj_angles.specs.Layout.{safe_of}
 use Rattle.mj_forward.specs.Forward.{start_of}
 use Rattle.rz_batch.specs.Batch.{block_at, parts_of, projections_of}
