@@ -213,14 +213,18 @@ fn is_keep(ask: FileAsk) -> bool
     )
 }
 
-/// The second of two whole blocks begins with a word 1, and the rest of the bytes of both are zeros.
-fn keep_second(rt: &impl Abort, machine: &mut FileMachine)
-    requires { machine.old.layout ≡ L0 }
+/// The range begins with the last byte of block 0 and covers two whole blocks, of which the second one begins
+/// with a word 1, and has zeros else.
+fn keep_second(rt: &impl Abort, plan: FilePlan)
+    requires { plan.layout ≡ L0 }
 {
-    acknowledge(rt, machine, 1, 4096);
+    let mut machine = plan.open(&file(0));
+    find_hole(rt, &mut machine, 0);
+    acknowledge(rt, &mut machine, 0, 4096);
+    acknowledge(rt, &mut machine, 1, 4096);
     let ask = WriterAsk::Begin { length: 4096 };
     let begun = FileAnswer::Write(WriterAnswer::Begun { stamp: 12, base: 9 });
-    step(rt, machine, FileAsk::Write { block: 2, ask }, begun);
+    step(rt, &mut machine, FileAsk::Write { block: 2, ask }, begun);
     assert!(rt; is_keep(machine.next()));
     let bins = machine.bins();
     assert_eq!(rt; bins.get(FIRST[0]), Some(&1));
@@ -281,13 +285,9 @@ fn whole_blocks(rt: HostRuntime) -> Result<(), Fail> {
     bytes[4097] = 1;
     let other = bytes.clone()?;
     let one = FilePlan::write(rt.alloc(), Layout::L0, 4095, bytes)?;
+    keep_second(&rt, one);
     let many = FilePlan::write_par(&rt, rt.alloc(), Layout::L0, 4095, other)?;
-    for plan in [one, many] {
-        let mut machine = plan.open(&file(0));
-        find_hole(&rt, &mut machine, 0);
-        acknowledge(&rt, &mut machine, 0, 4096);
-        keep_second(&rt, &mut machine);
-    }
+    keep_second(&rt, many);
     Ok(())
 }
 
