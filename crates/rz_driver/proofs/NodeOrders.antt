@@ -1,5 +1,5 @@
 -- What the script orders of a node.
-use Rattle.std.proofs.Common.{◌≡◌, ℕ, ◌≤◌, Bool, true, false, cond, List, ◌∷◌, map, length, set, Option, Some, refl, sym, ◌∙◌, ap, subst}
+use Rattle.std.proofs.Common.{◌≡◌, ℕ, ◌≤◌, Bool, true, false, IsTrue, cond, List, ◌∷◌, map, length, set, Option, Some, refl, sym, ◌∙◌, ap, subst}
 use Rattle.std.specs.Prelude.{◌==◌, slice_get}
 use Rattle.std.specs.Global.{Vec}
 use Rattle.std.specs.List.{AllByRecursion}
@@ -14,6 +14,7 @@ use Rattle.rz_events.specs.Volume.{Volume, nodes_of}
 use Rattle.rz_events.specs.declared.files.NodeSpec.{NodeSpec}
 use Rattle.rz_events.specs.declared.keys.Actor.TheVariants.{Admin}
 use Rattle.rz_events.specs.declared.nodes.NodeAsk.{NodeAsk}
+use Rattle.rz_events.specs.declared.nodes.NodeAsk.TheVariants as ask
 use Rattle.rz_events.specs.declared.events.Event.{Event}
 use Rattle.rz_events.specs.declared.events.Event.TheVariants as event
 use Rattle.rz_core.specs.NodeRows.{cells_of}
@@ -22,11 +23,14 @@ use Rattle.rz_node_model.specs.States.{NodeState}
 use Rattle.rz_node_model.specs.Answers.{IsNodeAnswer}
 use Rattle.rz_node_model.specs.Afterwards.{after_answer}
 use Rattle.rz_node_model.specs.NodeEvents.{node_event}
+use Rattle.rz_script.specs.declared.line.Line.TheVariants as line
+use Rattle.rz_play.specs.World.{World}
 use Rattle.rz_play.specs.Lines.{IsAdminCall, noted}
+use Rattle.rz_lines.specs.Free.{IsFreeStart, PlaysLineOver}
 use Rattle.rz_driver.specs.declared.driver.Driver.{Driver}
 use Rattle.rz_driver.specs.declared.station.Shared.{Shared}
 use Rattle.rz_driver.specs.declared.station.Station.{Station}
-use Rattle.rz_driver.specs.Administration.{IsOrdered, IsCalledAt, IsArming}
+use Rattle.rz_driver.specs.Administration.{IsOrdered, IsStarted, IsCalledAt, IsArming}
 use Rattle.rz_driver.specs.Seats.{IsSeat}
 use Rattle.rz_driver.specs.Stations.{state_in, numbers_of, IsStation}
 use Rattle.rz_driver.specs.Worlds.{seat_in, world, world_of, AreLocks, HaveNoLocks, IsDriver}
@@ -58,6 +62,12 @@ module _ {D : Type 0} where
       go true same = is ∙ ap (λ (k : ℕ). state_in xs k) (sym (eqb-true m n same))
       go false apart = refl
 
+-- ---- a start, over disks that tell their texts or that do not
+
+pub start-over : (v : Volume) (n : ℕ) (tells : Bool) (w next : World) → (IsTrue tells → IsAdminCall v n ask.Start w next) → IsFreeStart v n w next → PlaysLineOver v (line.Start n) tells w next
+start-over v n true w next told free = told tt
+start-over v n false w next told free = free
+
 -- ---- the vector of nodes, of which a slice was written
 
 module _ {X : Type 0} where
@@ -68,6 +78,11 @@ module _ {X : Type 0} where
   ordered-in question n v xs ys log log' same o =
       subst (λ (zs : List (Station X)). IsOrdered question n zs (with_items v ys).items log log') same
       (subst (λ (zs : List (Station X)). IsOrdered question n xs zs log log') (sym (in-vector v xs ys o.place o.after same o.stations)) o)
+
+  pub started-in : (n : ℕ) (v : Vec (Station X)) (xs ys : List (Station X)) (log log' : List Event) → xs ≡ v.items → IsStarted n xs ys log log' → IsStarted n v.items (with_items v ys).items log log'
+  started-in n v xs ys log log' same o =
+      subst (λ (zs : List (Station X)). IsStarted n zs (with_items v ys).items log log') same
+      (subst (λ (zs : List (Station X)). IsStarted n xs zs log log') (sym (in-vector v xs ys o.place o.after same o.stations)) o)
 
   pub called-in : (n : ℕ) (v : Vec (Station X)) (xs ys : List (Station X)) → xs ≡ v.items → IsCalledAt n xs ys → IsCalledAt n v.items (with_items v ys).items
   called-in n v xs ys same c =
@@ -130,6 +145,37 @@ module _ {D : Type 0} {G : Ghosts D} (d : Driver D G) (ready : IsDriver d) (q : 
         given_is = subst (λ (k : ℕ). IsNodeAnswer k (state_in xs n) question given) cells
             (subst (λ (x : NodeState). IsNodeAnswer s.node.geometry.cells x question given) (sym here.1) o.order.given_is);
         told = o.order.told;
+        next_is = λ i. record {
+          nodes = nodes i;
+          export = export i;
+          seats = seat_in d.seats.items;
+          turns = d.turns;
+          lost = lost i;
+          log = log i;
+        };
+      }
+
+  -- it is a start in the world of a play over disks that need not tell their texts
+  pub free-start : (n : ℕ) → IsStarted n d.shared.stations.items q.stations.items d.shared.log.events q.log.events → IsFreeStart d.volume n (world_of d) (world q d.seats.items d.turns)
+  free-start n o =
+      let s = o.station in
+      let here = state-at xs n o.place s o.at o.is in
+      let shape = all-at (IsStation d.volume) xs o.place s ready.stations o.is in
+      let cells : s.node.geometry.cells ≡ cells_of d.volume n = shape.cells ∙ ap (cells_of d.volume) here.0 in
+      let given = o.order.given in
+      let nodes : state_in q.stations.items ≡ (λ m. cond (m == n) o.after.node.state (state_in xs m)) =
+      ap (λ (ys : List (Station (UnderFuse D))). state_in ys) o.stations
+      ∙ fun_ext (λ m. state-set xs n o.place o.after o.at (o.order.called.sid ∙ here.0) m)
+      in
+      let log : q.log.events ≡ noted (node_event Admin n ask.Start given) d.shared.log.events =
+      o.log_is ∙ ap (λ (x : Option Event). noted x d.shared.log.events) (o.order.event_is ∙ ap (λ (k : ℕ). node_event Admin k ask.Start given) here.0)
+      in
+      record {
+        given = given;
+        given_is = subst (λ (k : ℕ). IsNodeAnswer k (state_in xs n) ask.Start given) cells
+            (subst (λ (x : NodeState). IsNodeAnswer s.node.geometry.cells x ask.Start given) (sym here.1) o.order.given_is);
+        answered = o.order.answered;
+        state = o.after.node.state;
         next_is = λ i. record {
           nodes = nodes i;
           export = export i;

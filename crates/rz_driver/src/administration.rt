@@ -6,7 +6,7 @@ ghost use Rattle.rz_play.specs.Lines.{noted};
 ghost use Rattle.rz_lines.specs.Ends.{Carries};
 ghost use Rattle.rz_driver.specs.Meters.{AreMetered, AreCounted, Goes};
 ghost use Rattle.rz_driver.specs.Stations.{IsCalled};
-ghost use Rattle.rz_driver.specs.Administration.{IsOrdered, IsOrder, IsArmed, IsArming, IsCalledAt};
+ghost use Rattle.rz_driver.specs.Administration.{IsOrdered, IsOrder, IsFreeOrder, IsStarted, IsArmed, IsArming, IsCalledAt};
 
 use crate::NoMemory;
 use crate::station::{Station, find};
@@ -64,6 +64,7 @@ pub(crate) fn start_node<D: Disk>(
     requires fuse { IsTrue D.has_fuse }
     ensures called { OnOk result (IsCalledAt sid stations.old stations.new) }
     ensures ok { OnOk result (IsTrue D.tells → IsOrdered ask.Start sid stations.old stations.new log.old.events log.new.events) }
+    ensures started { OnOk result (IsStarted sid stations.old stations.new log.old.events log.new.events) }
     ensures err { OnErr result (log.new.events ≡ log.old.events) }
     ensures held { OnOk result ((numbers : List ℕ) → Carries (AreMetered D.meter numbers stations.old log.old.events) (AreMetered D.meter numbers stations.new log.new.events)) }
     ensures left { OnErr result ((numbers : List ℕ) → Carries (AreMetered D.meter numbers stations.old log.old.events) (AreCounted D.meter numbers stations.new log.new.events)) }
@@ -140,6 +141,7 @@ fn start<D: Disk>(alloc: Global, station: &mut Station<D>) -> Result<Option<Even
     requires fuse { IsTrue D.has_fuse }
     ensures called { IsCalled station.old station.new }
     ensures ok { IfOk result (λ event. IsTrue D.tells → IsOrder ask.Start station.old station.new event) }
+    ensures started { IfOk result (λ event. IsFreeOrder station.old station.new event) }
     ensures crashed { station.old.node.state.phase ≡ Phase.Down → D.picks station.old.node.disk station.old.pick (D.text station.new.node.disk) }
     ensures metered { IfOk result (λ event. Goes D.meter station.old station.new event) }
     ensures counted { (D.meter station.old.node.disk).own ≤ (D.meter station.new.node.disk).own }

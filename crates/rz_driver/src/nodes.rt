@@ -1,9 +1,11 @@
 //! What the script orders of a node.
-ghost use Rattle.std.specs.Prelude.{◌≡◌, ◌∷◌, OnOk, OnErr, IsTrue};
+ghost use Rattle.std.specs.Prelude.{◌≡◌, ◌∷◌, OnOk, OnErr};
 ghost use Rattle.rz_events.specs.declared.nodes.NodeAsk.TheVariants as ask;
 ghost use Rattle.rz_events.specs.declared.events.Event.TheVariants as e;
 ghost use Rattle.rz_play.specs.Lines.{IsAdminCall};
+ghost use Rattle.rz_script.specs.declared.line.Line.TheVariants as line;
 ghost use Rattle.rz_lines.specs.Ends.{Carries};
+ghost use Rattle.rz_lines.specs.Free.{PlaysLineOver};
 ghost use Rattle.rz_driver.specs.Worlds.{world_of, IsDriver, Holds, Leaves};
 
 use crate::NoMemory;
@@ -32,7 +34,7 @@ impl<D: Disk> Driver<D> {
         requires ready { IsDriver self.old }
         ensures volume { self.new.volume ≡ self.old.volume }
         ensures ready { OnOk result (IsDriver self.new) }
-        ensures called { OnOk result (IsTrue D.tells → IsAdminCall self.old.volume sid ask.Start (world_of self.old) (world_of self.new)) }
+        ensures called { OnOk result (PlaysLineOver self.old.volume (line.Start sid) D.tells (world_of self.old) (world_of self.new)) }
         ensures turns { self.new.turns ≡ self.old.turns }
         ensures lost { self.new.shared.lost ≡ self.old.shared.lost }
         ensures log { OnErr result (self.new.shared.log.events ≡ self.old.shared.log.events) }

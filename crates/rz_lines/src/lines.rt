@@ -2,7 +2,8 @@
 ghost use Rattle.std.specs.Prelude.{◌≡◌, ◌≤◌, ◌+◌, ◌-◌, IsTrue, OnOk, OnErr};
 ghost use Rattle.rz_script.specs.Lines.{IsLine, AreLines};
 ghost use Rattle.rz_play.specs.Stops.{most_turns};
-ghost use Rattle.rz_lines.specs.Ends.{Carries, IsLinePlayed, IsEnded, ended_by};
+ghost use Rattle.rz_lines.specs.Ends.{Carries, IsEnded, ended_by};
+ghost use Rattle.rz_lines.specs.Free.{IsLinePlayedOver, IsEndedOver};
 
 use crate::rounds::{play_rounds, play_to_rest};
 use crate::stage::Stage;
@@ -42,7 +43,7 @@ fn play_line<S: Stage, L: Link>(stage: &mut S, line: &Line, link: &mut L) -> Res
     ensures lost { (S.world stage.new).lost + L.lost link.old ≤ (S.world stage.old).lost + L.lost link.new }
     ensures held { OnOk result (Carries (S.holds stage.old) (S.holds stage.new)) }
     ensures left { OnErr result (Carries (S.holds stage.old) (S.leaves stage.new)) }
-    ensures played { IsTrue S.tells → IsLinePlayed (S.volume stage.old) line.now (S.world stage.old) result (S.world stage.new) }
+    ensures played { IsLinePlayedOver (S.volume stage.old) line.now S.tells (S.world stage.old) result (S.world stage.new) }
 {
     match line {
         Line::Op { by, op } => stage.add(*by, op)?,
@@ -66,6 +67,9 @@ pub fn play<S: Stage, L: Link>(stage: &mut S, lines: &[Line], link: &mut L) -> P
     ensures volume { S.volume stage.new ≡ S.volume stage.old }
     ensures left { Carries (S.holds stage.old) (S.leaves stage.new) }
     ensures played { IsTrue S.tells → IsEnded (S.volume stage.old) (S.world stage.old) lines.now result ((S.world stage.old).lost + (L.lost link.new - L.lost link.old)) (S.world stage.new).log }
+
+    // Where a disk does not tell its text, only what a start finds on it is not said.
+    ensures over { IsEndedOver S.tells (S.volume stage.old) (S.world stage.old) lines.now result ((S.world stage.old).lost + (L.lost link.new - L.lost link.old)) (S.world stage.new).log }
 {
     for line in lines {
         if let Err(cut) = play_line(stage, line, link) {

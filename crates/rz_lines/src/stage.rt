@@ -1,5 +1,5 @@
 //! What a script is played on.
-ghost use Rattle.std.specs.Prelude.{◌≡◌, ◌<◌, ◌≤◌, ◌+◌, ℕ, Bool, IsTrue, OnOk, OnErr, reverse};
+ghost use Rattle.std.specs.Prelude.{◌≡◌, ◌<◌, ◌≤◌, ◌+◌, ℕ, Bool, OnOk, OnErr, reverse};
 ghost use Rattle.rz_events.specs.Volume.{Volume};
 ghost use Rattle.rz_script.specs.Lines.{IsActor, IsLine};
 ghost use Rattle.rz_script.specs.declared.line.Line.{Line};
@@ -9,6 +9,7 @@ ghost use Rattle.rz_play.specs.Turns.{IsTurn};
 ghost use Rattle.rz_play.specs.Lines.{PlaysLine};
 ghost use Rattle.rz_play.specs.Stops.{most_turns};
 ghost use Rattle.rz_lines.specs.Ends.{Carries, TellsOf};
+ghost use Rattle.rz_lines.specs.Free.{PlaysLineOver};
 
 use rz_events::{Actor, Event, Operation};
 use rz_link::Link;
@@ -112,7 +113,7 @@ pub trait Stage {
         requires line { IsLine (volume self.old) (line.Start node) }
         ensures volume { volume self.new ≡ volume self.old }
         ensures ready { OnOk result (is_ready self.new) }
-        ensures played { OnOk result (IsTrue Self.tells → PlaysLine (volume self.old) (line.Start node) (world self.old) (world self.new)) }
+        ensures played { OnOk result (PlaysLineOver (volume self.old) (line.Start node) Self.tells (world self.old) (world self.new)) }
         ensures turns { OnOk result ((world self.new).turns ≡ (world self.old).turns) }
         ensures lost { (world self.new).lost ≡ (world self.old).lost }
         ensures log { OnErr result ((world self.new).log ≡ (world self.old).log) }

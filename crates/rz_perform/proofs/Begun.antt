@@ -7,6 +7,7 @@ use Rattle.rz_play.specs.World.{World, new_world}
 use Rattle.rz_play.specs.Stops.{StopCause, TurnsSpent}
 use Rattle.rz_play.specs.Played.{IsPlayedFrom, IsStoppedFrom, IsBegunFrom, IsBegun}
 use Rattle.rz_lines.specs.Ends.{IsEnded}
+use Rattle.rz_lines.specs.Free.{IsEndedOver}
 use Rattle.rz_lines.specs.declared.lines.PlayEnd.{PlayEnd}
 use Rattle.rz_lines.specs.declared.lines.PlayEnd.TheVariants.{Ended, TooManyTurns, NoMemory}
 
@@ -29,3 +30,14 @@ ended_play tells v own first lines given end lost log volume_is world_is lines_a
     let S : ℕ → Type 0 = λ x. IsEnded v (new_world v) lines end x log in
     let none : 0 + lost ≡ lost = omega arith in
     subst S none (subst R lines_are (subst Q world_is (subst P volume_is (played told))))
+
+-- the same of a stage over disks that need not tell
+pub ended_over : (tells : Bool) (v own : Volume) (first : World) (lines given : List Line) (end : PlayEnd) (lost : ℕ) (log : List Event) → own ≡ v → first ≡ new_world v → given ≡ lines
+    → IsEndedOver tells own first given end (first.lost + lost) log → IsEndedOver tells v (new_world v) lines end lost log
+ended_over tells v own first lines given end lost log volume_is world_is lines_are played =
+    let P : Volume → Type 0 = λ x. IsEndedOver tells x first given end (first.lost + lost) log in
+    let Q : World → Type 0 = λ x. IsEndedOver tells v x given end (x.lost + lost) log in
+    let R : List Line → Type 0 = λ x. IsEndedOver tells v (new_world v) x end (0 + lost) log in
+    let S : ℕ → Type 0 = λ x. IsEndedOver tells v (new_world v) lines end x log in
+    let none : 0 + lost ≡ lost = omega arith in
+    subst S none (subst R lines_are (subst Q world_is (subst P volume_is played)))

@@ -22,7 +22,7 @@ use Rattle.rz_cells.specs.declared.geometry.Geometry.{Geometry}
 use Rattle.rz_node.specs.Seen.{NodeView}
 use Rattle.rz_driver.specs.declared.station.Station.{Station}
 use Rattle.rz_driver.specs.Stations.{IsCalled}
-use Rattle.rz_driver.specs.Administration.{IsOrder, IsArmed}
+use Rattle.rz_driver.specs.Administration.{IsOrder, IsFreeOrder, IsArmed}
 use Rattle.rz_driver.proofs.administration.start.Goals as goal
 use Rattle.rz_driver.proofs.administration.start.Goals.{then-eq, else-eq}
 
@@ -31,6 +31,9 @@ start-told (start.Started took) other fits = tt
 start-told start.NotDown other fits = tt
 start-told start.NoMemory other fits = other refl
 start-told (start.Unopened cause) other fits = fits
+
+the-start : (a : StartAnswer) → answer.Start a ≡ answer.Start start.NoMemory → a ≡ start.NoMemory
+the-start a same = grind same
 
 -- a start leaves the node as it is before it starts
 disarmed-first : {D : Type 0} (old mid : Station D) (n : NodeView D) → IsArmed old.pick old mid → n.geometry ≡ mid.node.geometry
@@ -47,6 +50,19 @@ order-of old mid n given event first kept is told after noted = record {
       (subst (λ (k : Geometry). IsNodeAnswer k.cells mid.node.state ask.Start (answer.Start given)) first.geometry is);
   told = told;
   after = after ∙ ap (after_answer ask.Start (answer.Start given)) first.state;
+  event_is = noted ∙ ap (λ (n : ℕ). node_event Admin n ask.Start (answer.Start given)) first.sid;
+  called = disarmed-first old mid n first kept;
+}
+
+free-order : {D : Type 0} (old mid : Station D) (n : NodeView D) (given : StartAnswer) (event : Option Event) → IsArmed old.pick old mid → n.geometry ≡ mid.node.geometry
+    → IsNodeAnswer mid.node.geometry.cells mid.node.state ask.Start (answer.Start given) → (given ≡ start.NoMemory → ⊥)
+    → event ≡ node_event Admin mid.sid ask.Start (answer.Start given)
+    → IsFreeOrder old (record { sid = mid.sid; node = n; pick = mid.pick }) event
+free-order old mid n given event first kept is answered noted = record {
+  given = answer.Start given;
+  given_is = subst (λ (s : NodeState). IsNodeAnswer old.node.geometry.cells s ask.Start (answer.Start given)) first.state
+      (subst (λ (k : Geometry). IsNodeAnswer k.cells mid.node.state ask.Start (answer.Start given)) first.geometry is);
+  answered = λ same. answered (the-start given same);
   event_is = noted ∙ ap (λ (n : ℕ). node_event Admin n ask.Start (answer.Start given)) first.sid;
   called = disarmed-first old mid n first kept;
 }
@@ -81,6 +97,7 @@ returns-in_default g c =
     ] in
     record {
       called = disarmed-first old mid new first c.start.ensures.geometry;
+      started = free-order old mid new given c.node_event.result first c.start.ensures.geometry c.start.ensures.answer c.in_default.not-NoMemory c.node_event.ensures;
       ok = λ told. order-of old mid new given c.node_event.result first c.start.ensures.geometry c.start.ensures.answer
           (start-told given c.in_default.not-NoMemory (exact-told g.D.Disk.tells given told c.start.ensures.exact)) (c.start.ensures.after told) c.node_event.ensures;
       crashed = λ down. elim c.if-eq.branch [
@@ -121,6 +138,7 @@ returns-in-NoMemory g c =
     record {
       called = disarmed-first old mid new first c.start.ensures.geometry;
       ok = tt;
+      started = tt;
       crashed = λ down. elim c.if-eq.branch [
         | then-eq w ↦ subst (λ (t : List ℕ). g.D.Disk.picks old.node.disk old.pick t)
             (sym (c.start.ensures.text ∙ ap (λ (s : Station g.row.D.Denot). g.D.Disk.text s.node.disk) w.station-is ∙ w.arm.ensures.text)) w.crash.ensures.by_pick

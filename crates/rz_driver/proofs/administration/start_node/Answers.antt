@@ -27,6 +27,21 @@ returns-clause-ok g c =
       log_is = h ∙ ap (noted c.in_ok-event.event) c.make_room.ensures.same;
     }) c.note.ensures.ok
 
+pub returns-clause-started : goal.returns-clause-started
+returns-clause-started g c =
+    let low = at-within c.args.stations.now c.args.sid c.in-Some.place c.in-Some.ensures in
+    on_ok_weaker c.note.result (λ (h : c.note.new.log.events ≡ noted c.in_ok-event.event c.make_room.new.self.events). record {
+      place = c.in-Some.place;
+      station = get_or c.args.stations.now c.in-Some.place c.index-stations-place.result;
+      after = c.start.new.station;
+      event = c.in_ok-event.event;
+      at = c.in-Some.ensures;
+      is = slice_get-get_or c.args.stations.now c.in-Some.place c.index-stations-place.result low;
+      stations = refl;
+      order = c.in_ok-event.ensures.started;
+      log_is = h ∙ ap (noted c.in_ok-event.event) c.make_room.ensures.same;
+    }) c.note.ensures.ok
+
 pub returns-clause-called : goal.returns-clause-called
 returns-clause-called g c =
     let low = at-within c.args.stations.now c.args.sid c.in-Some.place c.in-Some.ensures in

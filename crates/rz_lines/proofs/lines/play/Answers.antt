@@ -1,28 +1,38 @@
 use Rattle.std.proofs.Common.{Err, ◌≤◌, ◌+◌, ◌-◌, ◌∙◌, List, take_all, refl, subst, arith}
 use Rattle.rz_events.specs.Volume.{Volume}
 use Rattle.rz_script.specs.declared.line.Line.{Line}
-use Rattle.rz_play.specs.Lines.{PlaysLine}
-use Rattle.rz_play.specs.Played.{PlaysLines}
-use Rattle.rz_lines.specs.Ends.{IsLinePlayed}
-use Rattle.rz_lines.proofs.Scripts.{lines-at, script-cut}
+use Rattle.rz_lines.specs.Free.{PlaysLineOver, PlaysLinesOver, IsLinePlayedOver, IsEndedOver}
+use Rattle.rz_lines.proofs.Scripts.{lines-at, script-cut, told}
+use Rattle.rz_lines.proofs.lines.play.Given as given
 use Rattle.rz_lines.proofs.lines.play.Goals as goal
 
-pub returns-in-Err-clause-played : goal.returns-in-Err-clause-played
-returns-in-Err-clause-played g c told =
+cut-over : goal.returns-in-Err-clause-over
+cut-over g c =
+    let tells = g.S.Stage.tells in
     let volume = g.S.Stage.volume in
     let world = g.S.Stage.world in
     let i = c.loop-line.invariant in
-    let cut = subst (λ (v : Volume). IsLinePlayed v c.line-item.result (world c.loop-line.stage) (Err c.in-Err.cut) (world c.play_line.new.stage)) i.volume (c.in-Err.ensures.played told) in
-    let cut_at = subst (λ (x : Line). IsLinePlayed (volume c.args.stage.now) x (world c.loop-line.stage) (Err c.in-Err.cut) (world c.play_line.new.stage)) c.line-item.is cut in
+    let cut = subst (λ (v : Volume). IsLinePlayedOver v c.line-item.result tells (world c.loop-line.stage) (Err c.in-Err.cut) (world c.play_line.new.stage)) i.volume c.in-Err.ensures.played in
+    let cut_at = subst (λ (x : Line). IsLinePlayedOver (volume c.args.stage.now) x tells (world c.loop-line.stage) (Err c.in-Err.cut) (world c.play_line.new.stage)) c.line-item.is cut in
     let lost = g.L.Link.lost in
     let so_far = i.lost in
     let then = c.in-Err.ensures.lost in
     let few : (world c.play_line.new.stage).lost ≤ (world c.args.stage.now).lost + (lost c.play_line.new.link - lost c.args.link.now) = omega (arith, so_far, then) in
-    rw c.from.ensures (script-cut (volume c.args.stage.now) c.args.lines.now c.loop-line.line-index c.line-item.result (world c.args.stage.now) (world c.loop-line.stage) (world c.play_line.new.stage)
-    c.in-Err.cut ((world c.args.stage.now).lost + (lost c.play_line.new.link - lost c.args.link.now)) c.loop-line-test.true (i.played told) cut_at few)
+    rw c.from.ensures (script-cut (volume c.args.stage.now) tells c.args.lines.now c.loop-line.line-index c.line-item.result (world c.args.stage.now) (world c.loop-line.stage) (world c.play_line.new.stage)
+    c.in-Err.cut ((world c.args.stage.now).lost + (lost c.play_line.new.link - lost c.args.link.now)) c.loop-line-test.true i.played cut_at few)
+
+pub returns-in-Err-clause-over : goal.returns-in-Err-clause-over
+returns-in-Err-clause-over = cut-over
+
+pub returns-in-Err-clause-played : goal.returns-in-Err-clause-played
+returns-in-Err-clause-played g c is =
+    let world = g.S.Stage.world in
+    let lost = g.L.Link.lost in
+    told g.S.Stage.tells (g.S.Stage.volume c.args.stage.now) (world c.args.stage.now) c.args.lines.now c.from.result ((world c.args.stage.now).lost + (lost c.play_line.new.link - lost c.args.link.now)) (world c.play_line.new.stage).log is (cut-over g c)
 
 pub loop-line-preserved : goal.loop-line-preserved
 loop-line-preserved g c =
+    let tells = g.S.Stage.tells in
     let volume = g.S.Stage.volume in
     let world = g.S.Stage.world in
     let i = c.loop-line.invariant in
@@ -33,24 +43,29 @@ loop-line-preserved g c =
       few = e.few;
       lost = (let so_far = i.lost in let then = e.lost in omega (arith, so_far, then));
       held = λ first held. e.held first (i.held first held);
-      played = λ told.
-          let played = rw i.volume at (e.played told).0 in
-          let played_at = subst (λ (x : Line). PlaysLine (volume c.args.stage.now) x (world c.loop-line.stage) (world c.play_line.new.stage)) c.line-item.is played in
-          lines-at (volume c.args.stage.now) c.args.lines.now c.loop-line.line-index c.line-item.result (world c.args.stage.now) (world c.loop-line.stage) (world c.play_line.new.stage)
-          c.loop-line-test.true (i.played told) played_at;
+      played = (
+          let played = rw i.volume at e.played.0 in
+          let played_at = subst (λ (x : Line). PlaysLineOver (volume c.args.stage.now) x tells (world c.loop-line.stage) (world c.play_line.new.stage)) c.line-item.is played in
+          lines-at (volume c.args.stage.now) tells c.args.lines.now c.loop-line.line-index c.line-item.result (world c.args.stage.now) (world c.loop-line.stage) (world c.play_line.new.stage)
+          c.loop-line-test.true i.played played_at);
     }
 
-pub returns-clause-played : goal.returns-clause-played
-returns-clause-played g c told =
+whole-over : goal.returns-clause-over
+whole-over g c =
+    let tells = g.S.Stage.tells in
     let world = g.S.Stage.world in
     let i = c.loop-line.invariant in
     let whole = take_all c.loop-line.line-index c.args.lines.now c.loop-line-test.false in
-    let so_far = i.lost in (
-      record {
-        last = world c.loop-line.stage;
-        played = subst (λ (xs : List Line). PlaysLines (g.S.Stage.volume c.args.stage.now) xs (world c.args.stage.now) (world c.loop-line.stage)) whole (i.played told);
-        few = i.few;
-        log_is = refl;
-      },
-      omega (arith, so_far),
-    )
+    let so_far = i.lost in
+    record {
+      last = world c.loop-line.stage;
+      played = (subst (λ (xs : List Line). PlaysLinesOver (g.S.Stage.volume c.args.stage.now) xs tells (world c.args.stage.now) (world c.loop-line.stage)) whole i.played, i.few);
+      losses = omega (arith, so_far);
+      log_is = refl;
+    }
+
+pub returns-clause-over : goal.returns-clause-over
+returns-clause-over = whole-over
+
+pub returns-clause-played : goal.returns-clause-played
+returns-clause-played g c is = told _ _ _ _ _ _ _ is (whole-over g c)

@@ -1,7 +1,7 @@
-use Rattle.std.proofs.Common.{◌≡◌, ◌≤◌, IsTrue, take, ◌+◌}
+use Rattle.std.proofs.Common.{◌≡◌, ◌≤◌, take, ◌+◌}
 use Rattle.rz_play.specs.Stops.{most_turns}
-use Rattle.rz_play.specs.Played.{PlaysLines}
 use Rattle.rz_lines.specs.Ends.{Carries}
+use Rattle.rz_lines.specs.Free.{PlaysLinesOver}
 use Rattle.rz_lines.proofs.lines.play.Given as goal
 
 abbrev pub invariant-loop-line : goal.invariant-loop-line
@@ -11,5 +11,5 @@ invariant-loop-line g l = record {
   few : (g.S.Stage.world l.stage).turns ≤ most_turns;
   lost : (g.S.Stage.world l.stage).lost + g.L.Link.lost l.fn.link ≤ (g.S.Stage.world l.fn.stage).lost + g.L.Link.lost l.link;
   held : Carries (g.S.Stage.holds l.fn.stage) (g.S.Stage.holds l.stage);
-  played : IsTrue g.S.Stage.tells → PlaysLines (g.S.Stage.volume l.fn.stage) (take l.line-index l.lines) (g.S.Stage.world l.fn.stage) (g.S.Stage.world l.stage);
+  played : PlaysLinesOver (g.S.Stage.volume l.fn.stage) (take l.line-index l.lines) g.S.Stage.tells (g.S.Stage.world l.fn.stage) (g.S.Stage.world l.stage);
 }

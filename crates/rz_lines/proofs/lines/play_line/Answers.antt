@@ -5,24 +5,24 @@ use Rattle.rz_lines.proofs.lines.play_line.Goals as goal
 pub returns-in_err-add-in-Op-clause-played : goal.returns-in_err-add-in-Op-clause-played
 returns-in_err-add-in-Op-clause-played g c =
     let p = err_from_is_err_and c.from_residual.result c.from_residual.ensures.1 in
-    λ told. rw (c.in-Op.is, p.1, p.2) (g.S.Stage.world c.args.stage.now, refl, c.requires.few, (c.in_err-add-in-Op.ensures.log, c.in_err-add-in-Op.ensures.lost))
+    rw (c.in-Op.is, p.1, p.2) (g.S.Stage.world c.args.stage.now, refl, c.requires.few, (c.in_err-add-in-Op.ensures.log, c.in_err-add-in-Op.ensures.lost))
 
 pub returns-in_err-stop-in-Stop-clause-played : goal.returns-in_err-stop-in-Stop-clause-played
 returns-in_err-stop-in-Stop-clause-played g c =
     let p = err_from_is_err_and c.from_residual-in_err-stop-in-Stop.result c.from_residual-in_err-stop-in-Stop.ensures.1 in
-    λ told. rw (c.in-Stop.is, p.1, p.2) (g.S.Stage.world c.args.stage.now, refl, c.requires.few, (c.in_err-stop-in-Stop.ensures.log, c.in_err-stop-in-Stop.ensures.lost))
+    rw (c.in-Stop.is, p.1, p.2) (g.S.Stage.world c.args.stage.now, refl, c.requires.few, (c.in_err-stop-in-Stop.ensures.log, c.in_err-stop-in-Stop.ensures.lost))
 
 pub returns-in_err-start-in-Start-clause-played : goal.returns-in_err-start-in-Start-clause-played
 returns-in_err-start-in-Start-clause-played g c =
     let p = err_from_is_err_and c.from_residual-in_err-start-in-Start.result c.from_residual-in_err-start-in-Start.ensures.1 in
-    λ told. rw (c.in-Start.is, p.1, p.2) (g.S.Stage.world c.args.stage.now, refl, c.requires.few, (c.in_err-start-in-Start.ensures.log, c.in_err-start-in-Start.ensures.lost))
+    rw (c.in-Start.is, p.1, p.2) (g.S.Stage.world c.args.stage.now, refl, c.requires.few, (c.in_err-start-in-Start.ensures.log, c.in_err-start-in-Start.ensures.lost))
 
 pub returns-in_err-lose-in-Lose-clause-played : goal.returns-in_err-lose-in-Lose-clause-played
 returns-in_err-lose-in-Lose-clause-played g c =
     let p = err_from_is_err_and c.from_residual-in_err-lose-in-Lose.result c.from_residual-in_err-lose-in-Lose.ensures.1 in
-    λ told. rw (c.in-Lose.is, p.1, p.2) (g.S.Stage.world c.args.stage.now, refl, c.requires.few, (c.in_err-lose-in-Lose.ensures.log, c.in_err-lose-in-Lose.ensures.lost))
+    rw (c.in-Lose.is, p.1, p.2) (g.S.Stage.world c.args.stage.now, refl, c.requires.few, (c.in_err-lose-in-Lose.ensures.log, c.in_err-lose-in-Lose.ensures.lost))
 
 pub returns-in_err-arm-in-Break-clause-played : goal.returns-in_err-arm-in-Break-clause-played
 returns-in_err-arm-in-Break-clause-played g c =
     let p = err_from_is_err_and c.from_residual-in_err-arm-in-Break.result c.from_residual-in_err-arm-in-Break.ensures.1 in
-    λ told. rw (c.in-Break.is, p.1, p.2) (g.S.Stage.world c.args.stage.now, refl, c.requires.few, (c.in_err-arm-in-Break.ensures.log, c.in_err-arm-in-Break.ensures.lost))
+    rw (c.in-Break.is, p.1, p.2) (g.S.Stage.world c.args.stage.now, refl, c.requires.few, (c.in_err-arm-in-Break.ensures.log, c.in_err-arm-in-Break.ensures.lost))

@@ -3,9 +3,10 @@ use Rattle.rz_events.specs.declared.events.Event.{Event}
 use Rattle.rz_play.specs.World.{new_world}
 use Rattle.rz_play_laws.specs.Runs.{IsScript}
 use Rattle.rz_lines.specs.Ends.{IsEnded}
+use Rattle.rz_lines.specs.Free.{IsEndedOver}
 use Rattle.rz_perform.specs.Output.{Sunk}
 use Rattle.rz_perform.specs.Telling.{Tells}
-use Rattle.rz_perform.proofs.Begun.{ended_play}
+use Rattle.rz_perform.proofs.Begun.{ended_play, ended_over}
 use Rattle.rz_perform.proofs.performing.perform.Given as given
 use Rattle.rz_perform.proofs.performing.perform.Goals as goal
 
@@ -20,6 +21,12 @@ ended g c = ended_play g.S.Stage.tells c.args.script.now.volume (g.S.Stage.volum
     c.args.script.now.lines c.lines.result.now c.play-end.result (lost g c) (g.S.Stage.world c.play-end.new.stage).log
     c.requires.volume c.requires.new c.lines.ensures.value c.play-end.ensures.played
 
+over : (g : given.Over) (c : goal.After-tell g)
+    → IsEndedOver g.S.Stage.tells c.args.script.now.volume (new_world c.args.script.now.volume) c.args.script.now.lines c.play-end.result (lost g c) (g.S.Stage.world c.play-end.new.stage).log
+over g c = ended_over g.S.Stage.tells c.args.script.now.volume (g.S.Stage.volume c.args.stage.now) (g.S.Stage.world c.args.stage.now)
+    c.args.script.now.lines c.lines.result.now c.play-end.result (lost g c) (g.S.Stage.world c.play-end.new.stage).log
+    c.requires.volume c.requires.new c.lines.ensures.value c.play-end.ensures.over
+
 pub returns-clause-performed : goal.returns-clause-performed
 returns-clause-performed g c =
     let sink : Sunk = record {
@@ -29,7 +36,7 @@ returns-clause-performed g c =
       new = g.O.Sink.faults c.tell.new.output;
     } in
     let P : List Event → Type 0 = λ log. Tells c.play-end.result c.args.wish log sink c.tell.result in
-    (c.play-end.result, ended g c, subst P c.log.ensures c.tell.ensures)
+    (c.play-end.result, ended g c, over g c, subst P c.log.ensures c.tell.ensures)
 
 pub returns-clause-told : goal.returns-clause-told
 returns-clause-told g c told =
