@@ -3,7 +3,7 @@ ghost use Rattle.std.specs.Prelude.{◌≡◌, ◌≤◌, ◌+◌, ◌-◌, IsTr
 ghost use Rattle.rz_script.specs.Lines.{IsLine, AreLines};
 ghost use Rattle.rz_play.specs.Stops.{most_turns};
 ghost use Rattle.rz_lines.specs.Ends.{Carries, IsEnded, ended_by};
-ghost use Rattle.rz_lines.specs.Free.{IsLinePlayedOver, IsEndedOver};
+ghost use Rattle.rz_lines.specs.Free.{IsLinePlayedOver, IsEndedOver, PlaysLinesOver};
 
 use crate::rounds::{play_rounds, play_to_rest};
 use crate::stage::Stage;
@@ -67,6 +67,11 @@ pub fn play<S: Stage, L: Link>(stage: &mut S, lines: &[Line], link: &mut L) -> P
     ensures volume { S.volume stage.new ≡ S.volume stage.old }
     ensures left { Carries (S.holds stage.old) (S.leaves stage.new) }
     ensures played { IsTrue S.tells → IsEnded (S.volume stage.old) (S.world stage.old) lines.now result ((S.world stage.old).lost + (L.lost link.new - L.lost link.old)) (S.world stage.new).log }
+
+    // After the last line the stage can be played on further.
+    ensures ready { result ≡ PlayEnd.Ended → S.is_ready stage.new }
+    ensures held { result ≡ PlayEnd.Ended → Carries (S.holds stage.old) (S.holds stage.new) }
+    ensures whole { result ≡ PlayEnd.Ended → PlaysLinesOver (S.volume stage.old) lines.now S.tells (S.world stage.old) (S.world stage.new) }
 
     // Where a disk does not tell its text, only what a start finds on it is not said.
     ensures over { IsEndedOver S.tells (S.volume stage.old) (S.world stage.old) lines.now result ((S.world stage.old).lost + (L.lost link.new - L.lost link.old)) (S.world stage.new).log }

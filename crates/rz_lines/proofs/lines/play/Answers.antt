@@ -1,9 +1,12 @@
-use Rattle.std.proofs.Common.{Err, ◌≤◌, ◌+◌, ◌-◌, ◌∙◌, List, take_all, refl, subst, arith}
+use Rattle.std.proofs.Common.{Err, ◌≡◌, ◌≤◌, ◌+◌, ◌-◌, ◌∙◌, List, take_all, refl, sym, subst, arith}
 use Rattle.rz_events.specs.Volume.{Volume}
 use Rattle.rz_script.specs.declared.line.Line.{Line}
 use Rattle.rz_lines.specs.Free.{PlaysLineOver, PlaysLinesOver, IsLinePlayedOver, IsEndedOver}
+use Rattle.rz_lines.specs.declared.turns.Cut.{Cut}
+use Rattle.rz_lines.specs.declared.turns.Cut.TheVariants as cut
+use Rattle.rz_lines.specs.declared.lines.PlayEnd.TheVariants as end
+use Rattle.rz_lines.specs.Ends.{ended_by}
 use Rattle.rz_lines.proofs.Scripts.{lines-at, script-cut, told}
-use Rattle.rz_lines.proofs.lines.play.Given as given
 use Rattle.rz_lines.proofs.lines.play.Goals as goal
 
 cut-over : goal.returns-in-Err-clause-over
@@ -69,3 +72,22 @@ returns-clause-over = whole-over
 
 pub returns-clause-played : goal.returns-clause-played
 returns-clause-played g c is = told _ _ _ _ _ _ _ is (whole-over g c)
+
+pub returns-clause-whole : goal.returns-clause-whole
+returns-clause-whole g c ended =
+    let whole = take_all c.loop-line.line-index c.args.lines.now c.loop-line-test.false in
+    subst (λ (xs : List Line). PlaysLinesOver (g.S.Stage.volume c.args.stage.now) xs g.S.Stage.tells (g.S.Stage.world c.args.stage.now) (g.S.Stage.world c.loop-line.stage)) whole c.loop-line.invariant.played
+
+-- a play that was cut off did not end
+not-ended : (cause : Cut) → ended_by cause ≡ end.Ended → ⊥
+not-ended cut.TooManyTurns same = absurd same
+not-ended cut.NoMemory same = absurd same
+
+pub returns-in-Err-clause-whole : goal.returns-in-Err-clause-whole
+returns-in-Err-clause-whole g c ended = absurd (not-ended c.in-Err.cut (sym c.from.ensures ∙ ended))
+
+pub returns-in-Err-clause-ready : goal.returns-in-Err-clause-ready
+returns-in-Err-clause-ready g c ended = absurd (not-ended c.in-Err.cut (sym c.from.ensures ∙ ended))
+
+pub returns-in-Err-clause-held : goal.returns-in-Err-clause-held
+returns-in-Err-clause-held g c ended = absurd (not-ended c.in-Err.cut (sym c.from.ensures ∙ ended))
