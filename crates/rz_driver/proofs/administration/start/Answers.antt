@@ -33,7 +33,7 @@ start-told start.NoMemory other fits = other refl
 start-told (start.Unopened cause) other fits = fits
 
 the-start : (a : StartAnswer) → answer.Start a ≡ answer.Start start.NoMemory → a ≡ start.NoMemory
-the-start a same = grind same
+the-start a same = grind (arith, same)
 
 -- a start leaves the node as it is before it starts
 disarmed-first : {D : Type 0} (old mid : Station D) (n : NodeView D) → IsArmed old.pick old mid → n.geometry ≡ mid.node.geometry

@@ -80,8 +80,8 @@ returns-clause-whole g c ended =
 
 -- a play that was cut off did not end
 not-ended : (cause : Cut) → ended_by cause ≡ end.Ended → ⊥
-not-ended cut.TooManyTurns same = absurd same
-not-ended cut.NoMemory same = absurd same
+not-ended cut.TooManyTurns same = grind (arith, same)
+not-ended cut.NoMemory same = grind (arith, same)
 
 pub returns-in-Err-clause-whole : goal.returns-in-Err-clause-whole
 returns-in-Err-clause-whole g c ended = absurd (not-ended c.in-Err.cut (sym c.from.ensures ∙ ended))
