@@ -1,12 +1,13 @@
 //! One script of each kind with its output, faults of the source, the sink and a disk, and what stands on
-//! a disk after a play.
+//! a disk, and in the files of a folder, after a play.
 
-use super::disks::memory;
+use super::disks::{files, memory};
 use super::replay::replay;
 use rz_disk::{Disk, MemDisk, PlainDisk};
 use rz_link::{MemLink, PlainLink, Sent};
 use rz_ports::{MemSource, PlainSink, PlainSource};
 use std::alloc::{AllocError, Global};
+use std::fs;
 use std::test::Fail;
 
 const LINE: &str = "rozo replay --disks 4";
@@ -186,5 +187,49 @@ fn a_record_stands_on_its_disk(rt: HostRuntime) -> Result<(), Fail> {
         }
     }
     assert_eq!(rt; found, RECORD);
+    Ok(())
+}
+
+const FOLDER: &str = "rozo_program_test";
+
+/// All that a read of a disk gives.
+fn bytes_of<D: Disk>(alloc: Global, disk: &mut D) -> Result<Vec<u8>, Fail> {
+    let mut bytes = vec![in alloc; 0; disk.size() as usize]?;
+    disk.read(0, &mut bytes)?;
+    Ok(bytes)
+}
+
+/// No row has a crash that loses what was written: a file keeps it.
+#[test]
+fn files_have_the_bytes_of_disks_in_memory(rt: HostRuntime) -> Result<(), Fail> {
+    let alloc = rt.alloc();
+    let _ = fs::create_dir(&rt, FOLDER);
+    for script in [ORDINARY, LOST, STOPPED, LOCKED] {
+        let mut kept: Vec<PlainDisk> = memory(alloc, 4)?;
+        let mut filed = files(&rt, alloc, FOLDER, 4)?;
+        let in_memory = told(
+            alloc,
+            LINE,
+            script,
+            &mut kept,
+            MemLink::new(Vec::new(alloc)),
+        )?;
+        let in_files = told(
+            alloc,
+            LINE,
+            script,
+            &mut filed,
+            MemLink::new(Vec::new(alloc)),
+        )?;
+        assert_eq!(rt; in_memory.as_str(), in_files.as_str());
+        for (index, disk) in kept.iter_mut().enumerate() {
+            let path = format!(in alloc; "{FOLDER}/disk.{index}")?;
+            let found = fs::read(&rt, path.as_str())?;
+            let bytes = bytes_of(alloc, disk)?;
+            assert!(rt; found == bytes, "disk {index} of {script}");
+            fs::remove_file(&rt, path.as_str())?;
+        }
+    }
+    fs::remove_dir(&rt, FOLDER)?;
     Ok(())
 }
