@@ -14,7 +14,7 @@ use Rattle.rz_driver.specs.declared.making.DriverFault.{DriverFault}
 use Rattle.rz_driver.specs.declared.making.DriverFault.TheVariants.{NoMemory, Disk}
 use Rattle.rz_request.specs.declared.wishes.Request.{Request}
 use Rattle.rz_perform.specs.Output.{Sunk}
-use Rattle.rz_perform.specs.Replays.{Opens}
+use Rattle.rz_perform.specs.Replays.{Unplayed, Opens}
 use Rattle.rozo_program.specs.Disks.{faulted}
 use Rattle.rozo_program.specs.Replays.{Fails}
 
@@ -54,13 +54,13 @@ risen x y o n x_is y_is lasts rises = omega (arith, x_is, y_is, lasts, rises)
 
 -- why there is no driver, as a request that was not played
 pub not-opened : {D : Type 0} (tells : Bool) (meter : D → Meter) (r : Request) (old new : List D) (lost : ℕ) (sink : Sunk) (status : ℕ) (h : List Event) (fault : DriverFault)
-    → ((i : ℕ) → faults_at meter old i ≤ faults_at meter new i) → IsCause meter old new fault → Fails fault sink status → h ≡ [] → Opens tells r (faulted meter old new) lost sink status h
+    → ((i : ℕ) → faults_at meter old i ≤ faults_at meter new i) → IsCause meter old new fault → Fails fault sink status → h ≡ [] → Opens tells Unplayed r (faulted meter old new) lost sink status h
 not-opened tells meter r old new lost sink status h NoMemory back cause fails none = inl (fails, none)
 not-opened tells meter r old new lost sink status h (Disk index) back cause fails none =
-    inr (inl (
+    inr (
       index,
       risen (faults_at meter old index) (faults_at meter new index) (faults (meter cause.0)) (faults (meter cause.1))
           (ap (faults_in meter) cause.2) (ap (faults_in meter) cause.3) (back index) cause.4,
       fails,
       none,
-    ))
+    )

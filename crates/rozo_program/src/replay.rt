@@ -1,10 +1,10 @@
 //! The replay of what words and an input ask for, over disks that are lent to it.
 
-ghost use Rattle.std.specs.Prelude.{◌≡◌, ◌-◌, [], length, map, reverse, string_bytes};
+ghost use Rattle.std.specs.Prelude.{◌≡◌, ◌-◌, [], Ok, length, map, reverse, string_bytes};
 ghost use Rattle.rz_command.specs.Line.{meaning};
 ghost use Rattle.rz_request.specs.Requests.{nodes_in};
-ghost use Rattle.rz_perform.specs.Replays.{Follows};
-ghost use Rattle.rozo_program.specs.Disks.{AreBack, faulted};
+ghost use Rattle.rz_perform.specs.Replays.{Course, Follows};
+ghost use Rattle.rozo_program.specs.Disks.{HandsBack, faulted};
 ghost use Rattle.rozo_program.specs.Replays.{Fails, Replays};
 
 use rz_disk::Disk;
@@ -54,8 +54,8 @@ fn play_request<D: Disk, L: Link, O: Sink>(
     output: &mut O,
 ) -> Played
     requires { length disks.old.items ≡ nodes_in request.now.script }
-    ensures played { Follows D.tells request.now (faulted D.meter disks.old.items disks.new.items) (L.lost link.new - L.lost link.old) (record { before = O.taken output.old; after = O.taken output.new; old = O.faults output.old; new = O.faults output.new }) result.status (reverse result.log.items) }
-    ensures back { AreBack D.meter request.now.script.volume disks.old.items disks.new.items (reverse result.log.items) }
+    ensures { (course : Course) × Follows D.tells course request.now (faulted D.meter disks.old.items disks.new.items) (L.lost link.new - L.lost link.old) (record { before = O.taken output.old; after = O.taken output.new; old = O.faults output.old; new = O.faults output.new }) result.status (reverse result.log.items)
+        × HandsBack D.tells D.meter D.image course (Ok request.now) disks.old.items disks.new.items (reverse result.log.items) }
 {
     let volume = request.script.volume();
     let _nodes = volume.node_count();
@@ -93,7 +93,7 @@ pub fn replay<I: Source, O: Sink, D: Disk, L: Link>(
     disks: &mut Vec<D>,
     link: &mut L,
 ) -> Played
-    ensures { Replays D.tells D.meter (meaning (map string_bytes words.now)) (record { before = I.left input.old; after = I.left input.new; old = I.faults input.old; new = I.faults input.new }) disks.old.items disks.new.items (L.lost link.new - L.lost link.old) (record { before = O.taken output.old; after = O.taken output.new; old = O.faults output.old; new = O.faults output.new }) result.status (reverse result.log.items) }
+    ensures { Replays D.tells D.meter D.image (meaning (map string_bytes words.now)) (record { before = I.left input.old; after = I.left input.new; old = I.faults input.old; new = I.faults input.new }) disks.old.items disks.new.items (L.lost link.new - L.lost link.old) (record { before = O.taken output.old; after = O.taken output.new; old = O.faults output.old; new = O.faults output.new }) result.status (reverse result.log.items) }
 {
     let count = disks.len() as u64;
     match request(alloc, words, input, count) {

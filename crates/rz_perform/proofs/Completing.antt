@@ -23,7 +23,7 @@ use Rattle.rz_request.specs.declared.wishes.Wish.{Wish}
 use Rattle.rz_request.specs.declared.wishes.Wish.TheVariants as wishes
 use Rattle.rz_perform.specs.Output.{Sunk}
 use Rattle.rz_perform.specs.Telling.{Tells, Performs}
-use Rattle.rz_perform.specs.Replays.{Faulted, Opens, Ensues}
+use Rattle.rz_perform.specs.Replays.{Faulted, Course, Unplayed, Performed, Opens, Ensues}
 use Rattle.rz_perform.specs.Clear.{Means, IsFinished, IsComplete}
 
 -- What is asked for.
@@ -57,13 +57,13 @@ module _ (read : Result Script ScriptError) (disks : ℕ) (s : Script) (wish : W
 module _ (source : Reading) (disks : ℕ) (s : Script) (whole : ¬ Rises source.old source.new) (text : List ℕ) (left : source.before ≡ Some text) (short : length text ≤ limit)
     (means : script forms.Replay text ≡ Ok s) (small : is_large s ≡ false) (fits : disks ≡ nodes_in s) where
   -- the text that was read is the one that was left
-  came-read : (result : Result Request Stop) → (t : List ℕ) × IsRead source t × Judges (script forms.Replay t) disks result → IsFor wishes.Replay result → Came s wishes.Replay result
+  came-read : (result : Result Request Stop) → (t : List ℕ) × IsRead source t × Judges (script forms.Replay t) disks result → IsFor wishes.Replay result → Came s wishes.Replay course result
   came-read result h for =
       let same = subst (λ (b : Option (List ℕ)). IfSome b (λ x. (x ≡ h.0) × (source.after ≡ Some []))) left h.1.0 in
       let is : script forms.Replay h.0 ≡ Ok s = subst (λ (t : List ℕ). script forms.Replay t ≡ Ok s) same.0 means in
       judged (script forms.Replay h.0) disks s wishes.Replay is small fits result h.2 for
 
-  came-source : (result : Result Request Stop) → Reads source disks result → IsFor wishes.Replay result → Came s wishes.Replay result
+  came-source : (result : Result Request Stop) → Reads source disks result → IsFor wishes.Replay result → Came s wishes.Replay course result
   came-source (Ok r) h for = came-read (Ok r) h for
   came-source (Err stops.NoMemory) h for = tt
   came-source (Err stops.Source) h for = absurd (whole h)
@@ -88,30 +88,30 @@ module _ (disks : Faulted) (lost : ℕ) (sink : Sunk) (status : ℕ) (h : List E
   told-end wish ends.TooManyTurns ended t = absurd (turns h ended.0)
   told-end wish ends.NoMemory ended t = inr t.0
 
-  followed : (wish : Wish) (r : Request) → r.script ≡ s → r.wish ≡ wish → Opens true r disks lost sink status h → IsFinished (Some wish) s sink status h ⊎ (status ≡ 70)
-  followed wish r script_is wish_is (inl lacks) = inr lacks.0.0
-  followed wish r script_is wish_is (inr (inl failed)) = absurd (disks_whole failed.0 failed.1)
-  followed wish r script_is wish_is (inr (inr performed)) =
+  followed : (wish : Wish) (course : Course) (r : Request) → r.script ≡ s → r.wish ≡ wish → Opens true course r disks lost sink status h → IsFinished (Some wish) s sink status h ⊎ (status ≡ 70)
+  followed wish Unplayed r script_is wish_is (inl lacks) = inr lacks.0.0
+  followed wish Unplayed r script_is wish_is (inr failed) = absurd (disks_whole failed.0 failed.1)
+  followed wish Performed r script_is wish_is performed =
       let P : Script → Type 0 = λ x. Performs true x.volume x.lines r.wish lost h sink status in
       let Q : Wish → Type 0 = λ x. Performs true s.volume s.lines x lost h sink status in
       let p = subst Q wish_is (subst P script_is performed) in
       told-end wish p.0 (p.1 refl) p.3
 
-  ensued : (wish : Wish) (result : Result Request Stop) → Came s wish result → Ensues true result disks lost sink status h → IsFinished (Some wish) s sink status h ⊎ (status ≡ 70)
-  ensued wish (Ok r) came e = followed wish r came.0 came.1 e.0
-  ensued wish (Err stops.NoMemory) came e = inr e.0.0
-  ensued wish (Err stops.Source) came e = absurd came
-  ensued wish (Err (stops.Refused refusal)) came e = absurd came
+  ensued : (wish : Wish) (course : Course) (result : Result Request Stop) → Came s wish result → Ensues true course result disks lost sink status h → IsFinished (Some wish) s sink status h ⊎ (status ≡ 70)
+  ensued wish course (Ok r) came e = followed wish course r came.0 came.1 e.0
+  ensued wish course (Err stops.NoMemory) came e = inr e.0.0
+  ensued wish course (Err stops.Source) came e = absurd came
+  ensued wish course (Err (stops.Refused refusal)) came e = absurd came
 
 pub complete : IsComplete
-complete words source count disks lost sink status h result asks ensues s clear = go (wished words) clear.means asks
+complete words source count disks lost sink status h course result asks ensues s clear = go (wished words) clear.means asks
   where
     go : (w : Option Wish) → Means w source.before s → AsksFor w words source count result → IsFinished w s sink status h ⊎ (status ≡ 70)
     go None means asked = absurd means
     go (Some wishes.Replay) (text, left, short, means) asked =
-        ensued disks lost sink status h s clear.turns clear.disks_whole clear.sink_whole wishes.Replay result
+        ensued disks lost sink status h s clear.turns clear.disks_whole clear.sink_whole wishes.Replay course result
         (came-source source count s clear.source_whole text left short means clear.small clear.fits result asked.0 asked.1) ensues
     go (Some (wishes.Load seed)) means asked =
         let is : ◌≡◌ {A = Result Script ScriptError} (Ok (workload seed)) (Ok s) = ap (λ (x : Script). Ok x) means in
-        ensued disks lost sink status h s clear.turns clear.disks_whole clear.sink_whole (wishes.Load seed) result
+        ensued disks lost sink status h s clear.turns clear.disks_whole clear.sink_whole (wishes.Load seed) course result
         (judged (Ok (workload seed)) count s (wishes.Load seed) is clear.small clear.fits result asked.0 asked.1) ensues

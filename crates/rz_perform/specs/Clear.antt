@@ -17,7 +17,7 @@ use Rattle.rz_request.specs.declared.wishes.Request.{Request}
 use Rattle.rz_request.specs.declared.wishes.Wish.{Wish}
 use Rattle.rz_request.specs.declared.wishes.Wish.TheVariants as wishes
 use Rattle.rz_perform.specs.Output.{Sunk}
-use Rattle.rz_perform.specs.Replays.{Faulted, Ensues}
+use Rattle.rz_perform.specs.Replays.{Faulted, Course, Ensues}
 use Rattle.rz_perform.specs.Telling.{text_told}
 
 -- what is wished for is this script: the text of the source, which is in the grammar and within the limit, means it, or it is the
@@ -47,6 +47,6 @@ IsFinished (Some wish) s sink status h =
 -- Where nothing stands in its way, a replay over so many disks that tell their texts plays the script to its end, or memory is
 -- wanting: the answer to what is asked for, and what comes of it, leave nothing else.
 abbrev pub IsComplete : Type 0
-IsComplete = (words : Option Meaning) (source : Reading) (count : ℕ) (disks : Faulted) (lost : ℕ) (sink : Sunk) (status : ℕ) (h : List Event) (r : Result Request Stop)
-    → Asks words source count r → Ensues true r disks lost sink status h
+IsComplete = (words : Option Meaning) (source : Reading) (count : ℕ) (disks : Faulted) (lost : ℕ) (sink : Sunk) (status : ℕ) (h : List Event) (course : Course) (r : Result Request Stop)
+    → Asks words source count r → Ensues true course r disks lost sink status h
     → (s : Script) → IsClear words source count disks sink s → IsFinished (wished words) s sink status h ⊎ (status ≡ 70)

@@ -14,20 +14,25 @@ pub record Faulted : Type 0 where
   pub old : ℕ → ℕ
   pub new : ℕ → ℕ
 
--- A request, with so many messages lost by the link: memory was wanting before the play; or a disk failed while it was formatted,
--- and its faults rose; or the script was performed.
-abbrev pub Opens : Bool → Request → Faulted → (lost : ℕ) → Sunk → ℕ → List Event → Type 0
-Opens tells r disks lost sink status h =
+-- how far a request came: no play of it began, or its script was performed
+pub data Course : Type 0 where
+  Unplayed : Course
+  Performed : Course
+
+-- A request that came so far, with so many messages lost by the link. No play began where memory was wanting, or where a disk
+-- failed while it was formatted, and its faults rose.
+abbrev pub Opens : Bool → Course → Request → Faulted → (lost : ℕ) → Sunk → ℕ → List Event → Type 0
+Opens tells Unplayed r disks lost sink status h =
     (Lacks sink status × (h ≡ []))
-    ⊎ (((index : ℕ) × Rises (disks.old index) (disks.new index) × Refuses (refusals.Disk index) sink status × (h ≡ []))
-    ⊎ Performs tells r.script.volume r.script.lines r.wish lost h sink status)
+    ⊎ ((index : ℕ) × Rises (disks.old index) (disks.new index) × Refuses (refusals.Disk index) sink status × (h ≡ []))
+Opens tells Performed r disks lost sink status h = Performs tells r.script.volume r.script.lines r.wish lost h sink status
 
 -- A request is played. Over disks that tell their texts the log is true.
-abbrev pub Follows : Bool → Request → Faulted → (lost : ℕ) → Sunk → ℕ → List Event → Type 0
-Follows tells r disks lost sink status h =
-    Opens tells r disks lost sink status h × (IsTrue tells → IsTold r.script.volume r.script.lines lost h)
+abbrev pub Follows : Bool → Course → Request → Faulted → (lost : ℕ) → Sunk → ℕ → List Event → Type 0
+Follows tells course r disks lost sink status h =
+    Opens tells course r disks lost sink status h × (IsTrue tells → IsTold r.script.volume r.script.lines lost h)
 
 -- there is nothing to play, or a request that is played
-abbrev pub Ensues : Bool → Result Request Stop → Faulted → (lost : ℕ) → Sunk → ℕ → List Event → Type 0
-Ensues tells (Ok r) disks lost sink status h = Follows tells r disks lost sink status h
-Ensues tells (Err stop) disks lost sink status h = Stops stop sink status × (h ≡ [])
+abbrev pub Ensues : Bool → Course → Result Request Stop → Faulted → (lost : ℕ) → Sunk → ℕ → List Event → Type 0
+Ensues tells course (Ok r) disks lost sink status h = Follows tells course r disks lost sink status h
+Ensues tells course (Err stop) disks lost sink status h = Stops stop sink status × (h ≡ []) × (course ≡ Unplayed)

@@ -10,7 +10,8 @@ use Rattle.rz_play.specs.World.{new_world}
 use Rattle.rz_perform.specs.Told.{IsTold}
 use Rattle.rz_perform.specs.Telling.{Performs}
 use Rattle.rz_perform.specs.Output.{Sunk}
-use Rattle.rozo_program.specs.Disks.{AreBack}
+use Rattle.rozo_program.specs.Disks.{AreFaultsTold, AreImagesTold}
+use Rattle.rz_perform.specs.Replays.{Unplayed, Performed}
 use Rattle.rozo_program.proofs.Lent.{back-faults, counted-none, not-opened}
 use Rattle.rozo_program.proofs.Untold.{told-none}
 use Rattle.rozo_program.proofs.replay.play_request.Given as given
@@ -39,14 +40,19 @@ returns-in-Ok g c =
     let lent : c.replace-lent.result.items ≡ c.args.disks.now.items = rw c.replace-lent.ensures.value refl in
     let first : ℕ → ℕ = faults_at g.D.Disk.meter c.args.disks.now.items in
     let volume_is : c.perform-status.new.stage.volume ≡ v = c.perform-status.ensures.volume ∙ c.in-Ok.ensures.volume ∙ c.volume-volume.ensures in
-    let counted : AreBack g.D.Disk.meter c.perform-status.new.stage.volume c.args.disks.now.items c.close-log.result.1.items c.perform-status.new.stage.shared.log.events =
+    let counted : AreFaultsTold g.D.Disk.meter c.perform-status.new.stage.volume c.args.disks.now.items c.close-log.result.1.items c.perform-status.new.stage.shared.log.events =
     c.close-log.ensures.counted first (c.perform-status.ensures.left first (rw (← lent) c.in-Ok.ensures.held)) in
-    let B : Volume → Type 0 = λ x. AreBack g.D.Disk.meter x c.args.disks.now.items c.close-log.result.1.items c.perform-status.new.stage.shared.log.events in
-    let R : List Event → Type 0 = λ x. AreBack g.D.Disk.meter v c.args.disks.now.items c.close-log.result.1.items x in
-    record {
-      played = (inr (inr (subst P (sym log_is) c.perform-status.ensures.performed)), λ told. subst Q (sym log_is) (c.perform-status.ensures.told told));
-      back = subst R (sym log_is) (subst B volume_is counted);
-    }
+    let left = c.perform-status.ensures.left first (rw (← lent) c.in-Ok.ensures.held) in
+    let images : AreImagesTold g.D.Disk.tells g.D.Disk.meter g.D.Disk.image Performed c.perform-status.new.stage.volume c.args.disks.now.items c.close-log.result.1.items c.perform-status.new.stage.shared.log.events =
+    c.close-log.ensures.imaged first left in
+    let B : Volume → Type 0 = λ x. AreFaultsTold g.D.Disk.meter x c.args.disks.now.items c.close-log.result.1.items c.perform-status.new.stage.shared.log.events in
+    let R : List Event → Type 0 = λ x. AreFaultsTold g.D.Disk.meter v c.args.disks.now.items c.close-log.result.1.items x in
+    let I : Volume → Type 0 = λ x. AreImagesTold g.D.Disk.tells g.D.Disk.meter g.D.Disk.image Performed x c.args.disks.now.items c.close-log.result.1.items c.perform-status.new.stage.shared.log.events in
+    let J : List Event → Type 0 = λ x. AreImagesTold g.D.Disk.tells g.D.Disk.meter g.D.Disk.image Performed v c.args.disks.now.items c.close-log.result.1.items x in (
+      Performed,
+      (subst P (sym log_is) c.perform-status.ensures.performed, λ told. subst Q (sym log_is) (c.perform-status.ensures.told told)),
+      (subst R (sym log_is) (subst B volume_is counted), subst J (sym log_is) (subst I volume_is images)),
+    )
 
 lent_is : (g : given.Over) (c : goal.After-unplayed g) → c.replace-lent.result.items ≡ c.args.disks.now.items
 lent_is g c = rw c.replace-lent.ensures.value refl
@@ -71,14 +77,14 @@ returns-in-Err g c =
     let old : List g.row.D.Denot = c.args.disks.now.items in
     let new : List g.row.D.Denot = c.in-Err.back.items in
     let kept = back-faults g.D.Disk.tells g.D.Disk.meter g.D.Disk.image v.layout nodes old new c.requires (back_is g c) in
-    let R : List Event → Type 0 = λ x. AreBack g.D.Disk.meter v old new x in
+    let R : List Event → Type 0 = λ x. AreFaultsTold g.D.Disk.meter v old new x in
     let counted : R [] = counted-none g.D.Disk.tells g.D.Disk.meter g.D.Disk.image v.layout (faults_at g.D.Disk.meter old) 0 nodes old new (λ k. ap (faults_at g.D.Disk.meter old) (plain k)) c.requires (back_is g c) in
-    let cause : IsCause g.D.Disk.meter c.args.disks.now.items c.in-Err.back.items c.in-Err.fault = rw (← lent_is g c) c.in-Err.ensures.cause in
-    record {
-      played = (
+    let cause : IsCause g.D.Disk.meter c.args.disks.now.items c.in-Err.back.items c.in-Err.fault = rw (← lent_is g c) c.in-Err.ensures.cause in (
+      Unplayed,
+      (
         not-opened g.D.Disk.tells g.D.Disk.meter c.args.request.now c.args.disks.now.items c.in-Err.back.items lost sink c.unplayed.result.status
             (reverse c.unplayed.result.log.items) c.in-Err.fault kept cause (rw c.unplayed.ensures.status c.refuse_disks-status.ensures) none,
         λ told. told-none c.args.request.now.script.volume c.args.request.now.script.lines lost (reverse c.unplayed.result.log.items) none,
-      );
-      back = subst R (sym none) counted;
-    }
+      ),
+      (subst R (sym none) counted, back_is g c),
+    )
