@@ -26,7 +26,7 @@ use Rattle.rz_node_model.specs.NodeEvents.{node_event}
 use Rattle.rz_script.specs.declared.line.Line.TheVariants as line
 use Rattle.rz_play.specs.World.{World}
 use Rattle.rz_play.specs.Lines.{IsAdminCall, noted}
-use Rattle.rz_lines.specs.Free.{IsFreeStart, PlaysLineOver}
+use Rattle.rz_play.specs.Free.{IsFreeStart, PlaysLineOver}
 use Rattle.rz_driver.specs.declared.driver.Driver.{Driver}
 use Rattle.rz_driver.specs.declared.station.Shared.{Shared}
 use Rattle.rz_driver.specs.declared.station.Station.{Station}

@@ -5,7 +5,7 @@ ghost use Rattle.rz_events.specs.declared.events.Event.TheVariants as e;
 ghost use Rattle.rz_play.specs.Lines.{IsAdminCall};
 ghost use Rattle.rz_script.specs.declared.line.Line.TheVariants as line;
 ghost use Rattle.rz_lines.specs.Ends.{Carries};
-ghost use Rattle.rz_lines.specs.Free.{PlaysLineOver};
+ghost use Rattle.rz_play.specs.Free.{PlaysLineOver};
 ghost use Rattle.rz_driver.specs.Worlds.{world_of, IsDriver, Holds, Leaves};
 
 use crate::NoMemory;

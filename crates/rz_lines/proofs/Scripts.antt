@@ -15,7 +15,8 @@ use Rattle.rz_lines.specs.declared.turns.Cut.TheVariants as cut
 use Rattle.rz_lines.specs.declared.lines.PlayEnd.{PlayEnd}
 use Rattle.rz_lines.specs.declared.lines.PlayEnd.TheVariants as end
 use Rattle.rz_lines.specs.Ends.{IsEnded, ended_by}
-use Rattle.rz_lines.specs.Free.{PlaysLineOver, IsLinePlayedOver, PlaysLinesOver, StopsLinesOver, BeginsLinesOver, IsEndedOver}
+use Rattle.rz_play.specs.Free.{PlaysLineOver, PlaysLinesOver, StopsLinesOver, BeginsLinesOver}
+use Rattle.rz_lines.specs.Free.{IsLinePlayedOver, IsEndedOver}
 
 pub line-at : (v : Volume) (xs : List Line) (i : ℕ) (d : Line) → AreLines v xs → i < length xs → IsLine v (get_or xs i d)
 line-at v [] i d all lt = absurd (omega arith)

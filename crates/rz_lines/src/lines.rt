@@ -3,7 +3,8 @@ ghost use Rattle.std.specs.Prelude.{◌≡◌, ◌≤◌, ◌+◌, ◌-◌, IsTr
 ghost use Rattle.rz_script.specs.Lines.{IsLine, AreLines};
 ghost use Rattle.rz_play.specs.Stops.{most_turns};
 ghost use Rattle.rz_lines.specs.Ends.{Carries, IsEnded, ended_by};
-ghost use Rattle.rz_lines.specs.Free.{IsLinePlayedOver, IsEndedOver, PlaysLinesOver};
+ghost use Rattle.rz_play.specs.Free.{PlaysLinesOver};
+ghost use Rattle.rz_lines.specs.Free.{IsLinePlayedOver, IsEndedOver};
 
 use crate::rounds::{play_rounds, play_to_rest};
 use crate::stage::Stage;

@@ -9,7 +9,7 @@ ghost use Rattle.rz_play.specs.Turns.{IsTurn};
 ghost use Rattle.rz_play.specs.Lines.{PlaysLine};
 ghost use Rattle.rz_play.specs.Stops.{most_turns};
 ghost use Rattle.rz_lines.specs.Ends.{Carries, TellsOf};
-ghost use Rattle.rz_lines.specs.Free.{PlaysLineOver};
+ghost use Rattle.rz_play.specs.Free.{PlaysLineOver};
 
 use rz_events::{Actor, Event, Operation};
 use rz_link::Link;

@@ -1,13 +1,18 @@
 -- However a play ended, it has begun.
-use Rattle.std.proofs.Common.{ℕ, ◌≡◌, ◌≤◌, ◌+◌, Bool, IsTrue, List, subst, sym, arith}
+use Rattle.std.proofs.Common.{ℕ, ◌≡◌, ◌⊎◌, inl, inr, ◌≤◌, ◌+◌, Bool, IsTrue, List, [], refl, subst, sym, arith}
 use Rattle.rz_events.specs.Volume.{Volume}
 use Rattle.rz_events.specs.declared.events.Event.{Event}
 use Rattle.rz_script.specs.declared.line.Line.{Line}
-use Rattle.rz_play.specs.World.{World, new_world}
+use Rattle.rz_node_model.specs.States.{NodeState, fresh}
+use Rattle.rz_export_model.specs.Export.{Export as ExportState, new_export}
+use Rattle.rz_play.specs.World.{World, new_world, world_after}
+use Rattle.rz_play.specs.Faults.{missed, misses}
+use Rattle.rz_play_laws.specs.Runs.{IsReached}
 use Rattle.rz_play.specs.Stops.{StopCause, TurnsSpent}
 use Rattle.rz_play.specs.Played.{IsPlayedFrom, IsStoppedFrom, IsBegunFrom, IsBegun}
 use Rattle.rz_lines.specs.Ends.{IsEnded}
-use Rattle.rz_lines.specs.Free.{IsEndedOver}
+use Rattle.rz_lines.specs.Free.{ComesTo, IsEndedOver}
+use Rattle.rz_perform.specs.Told.{AreLossesTold}
 use Rattle.rz_lines.specs.declared.lines.PlayEnd.{PlayEnd}
 use Rattle.rz_lines.specs.declared.lines.PlayEnd.TheVariants.{Ended, TooManyTurns, NoMemory}
 
@@ -41,3 +46,17 @@ ended_over tells v own first lines given end lost log volume_is world_is lines_a
     let S : ℕ → Type 0 = λ x. IsEndedOver tells v (new_world v) lines end x log in
     let none : 0 + lost ≡ lost = omega arith in
     subst S none (subst R lines_are (subst Q world_is (subst P volume_is played)))
+
+-- the lost messages of a play that came so far, over any disks
+reached : (tells : Bool) (v : Volume) (lines : List Line) (end : PlayEnd) (first last : World) → ComesTo v lines tells end first last → IsReached v lines tells first last
+reached tells v lines Ended first last is = inl is.0
+reached tells v lines TooManyTurns first last is = inr (inl is)
+reached tells v lines NoMemory first last is = inr (inr is.0)
+
+pub losses_told : ((v : Volume) (lines : List Line) (tells : Bool) (nodes : ℕ → NodeState) (s : ExportState) (old : List Event) (last : World) → IsReached v lines tells (world_after nodes s old) last → missed last.log ≤ missed old + misses lines + last.lost)
+    → AreLossesTold
+losses_told law tells v lines end lost log over =
+    let none : missed [] ≡ 0 = refl in
+    let bound = law v lines tells (λ n. fresh) (new_export v 0) [] over.last (reached tells v lines end (new_world v) over.last over.played) in
+    let few = over.losses in
+    subst (λ (h : List Event). missed h ≤ misses lines + lost) over.log_is (omega (arith, bound, few, none))

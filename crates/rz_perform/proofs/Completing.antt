@@ -95,7 +95,7 @@ module _ (disks : Faulted) (lost : ℕ) (sink : Sunk) (status : ℕ) (h : List E
       let P : Script → Type 0 = λ x. Performs true x.volume x.lines r.wish lost h sink status in
       let Q : Wish → Type 0 = λ x. Performs true s.volume s.lines x lost h sink status in
       let p = subst Q wish_is (subst P script_is performed) in
-      told-end wish p.0 (p.1 refl) p.3
+      told-end wish p.0 (p.1 refl) p.4
 
   ensued : (wish : Wish) (course : Course) (result : Result Request Stop) → Came s wish result → Ensues true course result disks lost sink status h → IsFinished (Some wish) s sink status h ⊎ (status ≡ 70)
   ensued wish course (Ok r) came e = followed wish course r came.0 came.1 e.0

@@ -1,9 +1,10 @@
 -- What is told of a play.
-use Rattle.std.specs.Prelude.{ℕ, Bool, true, false, ◌≡◌, ◌⊎◌, IsTrue, List, ◌++◌, reverse}
+use Rattle.std.specs.Prelude.{ℕ, Bool, true, false, ◌≡◌, ◌⊎◌, ◌≤◌, ◌+◌, IsTrue, List, ◌++◌, reverse}
 use Rattle.rz_events.specs.Volume.{Volume}
 use Rattle.rz_events.specs.declared.events.Event.{Event}
 use Rattle.rz_script.specs.declared.line.Line.{Line}
 use Rattle.rz_play.specs.World.{new_world}
+use Rattle.rz_play.specs.Faults.{missed, misses}
 use Rattle.rz_lines.specs.Ends.{IsEnded}
 use Rattle.rz_lines.specs.Free.{IsEndedOver}
 use Rattle.rz_lines.specs.declared.lines.PlayEnd.{PlayEnd}
@@ -37,10 +38,10 @@ Tells NoMemory wish log sink status = Lacks sink status
 
 -- A script was played to some end, with so many messages lost by the link, and told with its log, the newest event first. Over
 -- disks that tell their texts the log is that of the script's play; over others it is that of a play in which a start may find
--- anything.
+-- anything. Each lost message was lost by a line or by the link.
 abbrev pub Performs : Bool → Volume → List Line → Wish → (lost : ℕ) → List Event → Sunk → ℕ → Type 0
 Performs tells v lines wish lost h sink status =
-    (end : PlayEnd) × (IsTrue tells → IsEnded v (new_world v) lines end lost h) × IsEndedOver tells v (new_world v) lines end lost h × Tells end wish (reverse h) sink status
+    (end : PlayEnd) × (IsTrue tells → IsEnded v (new_world v) lines end lost h) × IsEndedOver tells v (new_world v) lines end lost h × (missed h ≤ misses lines + lost) × Tells end wish (reverse h) sink status
 
 -- the line of a refusal was to be written with its status, or there was no memory
 abbrev pub Refuses : Refusal → Sunk → ℕ → Type 0

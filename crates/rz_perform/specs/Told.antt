@@ -1,5 +1,5 @@
 -- What the log of a play says is true.
-use Rattle.std.specs.Prelude.{ℕ, ◌≤◌, ◌+◌, List}
+use Rattle.std.specs.Prelude.{ℕ, Bool, ◌≤◌, ◌+◌, List}
 use Rattle.rz_core.specs.Legal.{IsLegal}
 use Rattle.rz_events.specs.Volume.{Volume}
 use Rattle.rz_events.specs.declared.events.Event.{Event}
@@ -12,6 +12,7 @@ use Rattle.rz_play.specs.Faults.{missed, misses}
 use Rattle.rz_play_laws.specs.Runs.{IsScript}
 use Rattle.rz_play_locks.specs.Kept.{NoUpdateLost, AreViewsWhole}
 use Rattle.rz_lines.specs.Ends.{IsEnded}
+use Rattle.rz_lines.specs.Free.{IsEndedOver}
 use Rattle.rz_lines.specs.declared.lines.PlayEnd.{PlayEnd}
 
 -- The log of a play of these lines, in which the link lost at most so many messages. Each event is allowed after those before it.
@@ -32,3 +33,8 @@ pub record IsTold (v : Volume) (lines : List Line) (lost : ℕ) (h : List Event)
 abbrev pub AreTold : Type 0
 AreTold = (v : Volume) (lines : List Line) → IsScript v lines
     → (end : PlayEnd) (lost : ℕ) (h : List Event) → IsEnded v (new_world v) lines end lost h → IsTold v lines lost h
+
+-- each lost message was lost by a line or by the link, over disks that tell their texts or that do not
+abbrev pub AreLossesTold : Type 0
+AreLossesTold = (tells : Bool) (v : Volume) (lines : List Line) (end : PlayEnd) (lost : ℕ) (h : List Event)
+    → IsEndedOver tells v (new_world v) lines end lost h → missed h ≤ misses lines + lost

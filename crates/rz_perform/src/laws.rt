@@ -1,7 +1,7 @@
 //! Laws without code: what the log of a performance says is true, and when a replay comes to its end.
 
 ghost use Rattle.rz_perform.specs.Clear.{IsComplete};
-ghost use Rattle.rz_perform.specs.Told.{AreTold};
+ghost use Rattle.rz_perform.specs.Told.{AreLossesTold, AreTold};
 
 /// What the log of a script's play says is true, however the play ended: what is proved of each play that
 /// has begun holds of one that stopped or came to its end.
@@ -19,6 +19,13 @@ pub(crate) fn true_logs()
     rz_core::one_run();
     rz_safety::answering();
     rz_safety::written();
+}
+
+/// So each lost message is accounted for, also over disks that do not tell what a start finds on them.
+pub(crate) fn told_losses()
+    ensures { AreLossesTold }
+{
+    rz_play_laws::losses_over();
 }
 
 /// A replay comes to its end where nothing stands in its way: the words and the source mean a script

@@ -7,7 +7,7 @@ ghost use Rattle.rz_lines.specs.Ends.{Carries};
 ghost use Rattle.rz_perform.specs.Telling.{Performs};
 ghost use Rattle.rz_perform.specs.Told.{IsTold};
 
-use crate::laws::true_logs;
+use crate::laws::{told_losses, true_logs};
 use crate::telling::tell;
 use rz_lines::{LoggedStage, play};
 use rz_link::Link;
@@ -36,6 +36,7 @@ pub fn perform<S: LoggedStage, L: Link, O: Sink>(
     ensures told { IsTrue S.tells → IsTold script.now.volume script.now.lines (L.lost link.new - L.lost link.old) (S.world stage.new).log }
 {
     true_logs();
+    told_losses();
     let end = play(stage, script.lines(), link);
     tell(alloc, end, wish, stage.log(), output)
 }

@@ -3,4 +3,5 @@ pub mod Turns
 pub mod Lines
 pub mod Stops
 pub mod Played
+pub mod Free
 pub mod Faults

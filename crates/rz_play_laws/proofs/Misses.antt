@@ -30,7 +30,10 @@ use Rattle.rz_export_model.specs.Export.{Export as ExportState}
 use Rattle.rz_play.specs.World.{World, Seat, world_after, at_work, take_up, has_work, actors}
 use Rattle.rz_play.specs.Turns.{IsTurn, IsAskTurn, IsNodeTurn, Through, ReplyLost, RequestLost, text_said, lost_after}
 use Rattle.rz_play.specs.Lines.{IsTurns, IsTurnOr, IsRound, IsRounds, IsAdminCall, noted, PlaysLine}
-use Rattle.rz_play.specs.Stops.{BeginsLine}
+use Rattle.rz_play.specs.Stops.{StopCause, TurnsSpent, BeginsLine}
+use Rattle.rz_play.specs.Free.{IsFreeStart, PlaysLineOver, PlaysLinesOver, StopsLinesOver, BeginsLinesOver}
+use Rattle.rz_play_laws.specs.Runs.{IsReached}
+use Rattle.rz_play_laws.proofs.Plays.{stop-begins}
 use Rattle.rz_play.specs.Played.{BeginsLines}
 use Rattle.rz_play.specs.Faults.{is_missed, missed, is_miss, misses}
 use Rattle.rz_play_laws.proofs.Frames.{same_actor-true, same_actor-refl}
@@ -339,4 +342,52 @@ pub losses-counted : (v : Volume) (lines : List Line) (nodes : ℕ → NodeState
 losses-counted v lines nodes s old last is =
     let o : Owes (missed old) (world_after nodes s old) = record { waiting = []; all = λ a reply at. cc; few = omega arith } in
     let now = owes-lines v (missed old) lines (world_after nodes s old) last is o in
+    let f = now.few in omega (arith, f)
+
+-- Over disks that need not tell what a start finds on them.
+
+module _ (v : Volume) where
+  owes-start : (k n : ℕ) (w next : World) → IsFreeStart v n w next → Owes k w → Owes k next
+  owes-start k n w next is o =
+      let c = ap (λ (z : World). missed z.log) is.next_is ∙ noted-quiet v (node_event Admin n ask.Start is.given) w.log (λ x at. node-quiet Admin n ask.Start is.given x at) in
+      let l : next.lost ≡ w.lost = ap (λ (z : World). z.lost) is.next_is in
+      owes-still k w next (λ a reply at. ap (λ (z : World). (z.seats a).miss) (sym is.next_is) ∙ at) (omega (arith, c, l)) o
+
+  owes-line-over : (k : ℕ) (l : Line) (tells : Bool) (w next : World) → PlaysLineOver v l tells w next → Owes k w → Owes (with_line v k l) next
+  owes-line-over k (line.Start n) true w next is o = owes-line v k (line.Start n) w next is o
+  owes-line-over k (line.Start n) false w next is o = owes-start k n w next is o
+  owes-line-over k (line.Op by op) tells w next is o = owes-line v k (line.Op by op) w next is o
+  owes-line-over k (line.Turn by j) tells w next is o = owes-line v k (line.Turn by j) w next is o
+  owes-line-over k (line.Rounds j) tells w next is o = owes-line v k (line.Rounds j) w next is o
+  owes-line-over k line.Rest tells w next is o = owes-line v k line.Rest w next is o
+  owes-line-over k (line.Stop n) tells w next is o = owes-line v k (line.Stop n) w next is o
+  owes-line-over k (line.Lose n) tells w next is o = owes-line v k (line.Lose n) w next is o
+  owes-line-over k (line.Break n j pick) tells w next is o = owes-line v k (line.Break n j pick) w next is o
+  owes-line-over k (line.Miss by reply) tells w next is o = owes-line v k (line.Miss by reply) w next is o
+
+  owes-lines-over : (k : ℕ) (lines : List Line) (tells : Bool) (w next : World) → BeginsLinesOver v lines tells w next → Owes k w → Owes (k + misses lines) next
+  owes-lines-over k [] tells w next is o = owes-more v k (k + misses []) next (omega arith) (subst (Owes k) (sym is) o)
+  owes-lines-over k (l ∷ lines) tells w next (inl begun) o = owes-more v k (k + misses (l ∷ lines)) next (omega arith) (owes-begun v k l w next begun o)
+  owes-lines-over k (l ∷ lines) tells w next (inr (mid, first, more)) o =
+      subst (λ j. Owes j next) (line-by-line v k l lines) (owes-lines-over (with_line v k l) lines tells mid next more (owes-line-over k l tells w mid first o))
+
+  plays-begin-over : (lines : List Line) (tells : Bool) (w next : World) → PlaysLinesOver v lines tells w next → BeginsLinesOver v lines tells w next
+  plays-begin-over [] tells w next is = is
+  plays-begin-over (l ∷ lines) tells w next (mid, first, more) = inr (mid, first, plays-begin-over lines tells mid next more)
+
+  stops-begin-over : (cause : StopCause) (lines : List Line) (tells : Bool) (w next : World) → StopsLinesOver v cause lines tells w next → BeginsLinesOver v lines tells w next
+  stops-begin-over cause [] tells w next is = absurd is
+  stops-begin-over cause (l ∷ lines) tells w next (inl stops) = inl (stop-begins v cause l w next stops)
+  stops-begin-over cause (l ∷ lines) tells w next (inr (mid, first, more)) = inr (mid, first, stops-begin-over cause lines tells mid next more)
+
+  begun-over : (lines : List Line) (tells : Bool) (w next : World) → IsReached v lines tells w next → BeginsLinesOver v lines tells w next
+  begun-over lines tells w next (inl played) = plays-begin-over lines tells w next played
+  begun-over lines tells w next (inr (inl stopped)) = stops-begin-over TurnsSpent lines tells w next stopped
+  begun-over lines tells w next (inr (inr begun)) = begun
+
+pub losses-over : (v : Volume) (lines : List Line) (tells : Bool) (nodes : ℕ → NodeState) (s : ExportState) (old : List Event) (last : World)
+    → IsReached v lines tells (world_after nodes s old) last → missed last.log ≤ missed old + misses lines + last.lost
+losses-over v lines tells nodes s old last is =
+    let o : Owes (missed old) (world_after nodes s old) = record { waiting = []; all = λ a reply at. cc; few = omega arith } in
+    let now = owes-lines-over v (missed old) lines tells (world_after nodes s old) last (begun-over v lines tells (world_after nodes s old) last is) o in
     let f = now.few in omega (arith, f)

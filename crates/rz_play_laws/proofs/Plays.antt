@@ -429,7 +429,7 @@ module _ (v : Volume) (tells : IsTelling v) (old : List Event) where
 
 -- Where a play stopped it has begun, and so it has where it came to its end.
 
-stop-begins : (v : Volume) (cause : StopCause) (l : Line) (w next : World) → StopsLine v cause l w next → BeginsLine v l w next
+pub stop-begins : (v : Volume) (cause : StopCause) (l : Line) (w next : World) → StopsLine v cause l w next → BeginsLine v l w next
 stop-begins v cause (line.Turn by k) w next (j, low, turns, why) = (j, omega (arith, low), turns)
 stop-begins v cause (line.Rounds k) w next (j, low, (mid, rounds, s)) = (j, low, (mid, rounds, (s.done, s.by ∷ s.more, s.order, s.played)))
 stop-begins v cause line.Rest w next (j, mid, rounds, s) = (j, mid, rounds, (s.done, s.by ∷ s.more, s.order, s.played))

@@ -1,10 +1,13 @@
 -- What is promised of the plays of a script.
-use Rattle.std.specs.Prelude.{◌≡◌, ◌<◌, ◌^◌, List, ◌++◌, length}
+use Rattle.std.specs.Prelude.{◌≡◌, ◌<◌, ◌^◌, ◌⊎◌, Bool, List, ◌++◌, length}
 use Rattle.rz_events.specs.Volume.{Volume, IsVolume}
 use Rattle.rz_events.specs.declared.events.Event.{Event}
 use Rattle.rz_script.specs.declared.line.Line.{Line}
 use Rattle.rz_script.specs.Lines.{AreLines}
 use Rattle.rz_core.specs.Legal.{IsLegalAfter}
+use Rattle.rz_play.specs.World.{World}
+use Rattle.rz_play.specs.Stops.{TurnsSpent}
+use Rattle.rz_play.specs.Free.{PlaysLinesOver, StopsLinesOver, BeginsLinesOver}
 use Rattle.rz_safety.specs.Sound.{IsSound}
 use Rattle.rz_safety.specs.Rebuilt.{AreRebuilt}
 
@@ -22,3 +25,8 @@ pub record IsRunAfter (v : Volume) (old h : List Event) : Type 0 where
   pub legal : IsLegalAfter v old run
   pub sound : IsSound v h
   pub rebuilt : AreRebuilt h
+
+-- A play came to this world, over disks that tell their texts or that do not: at its end, before a turn too many, or between two
+-- turns.
+abbrev pub IsReached : Volume → List Line → Bool → World → World → Type 0
+IsReached v lines tells first last = PlaysLinesOver v lines tells first last ⊎ (StopsLinesOver v TurnsSpent lines tells first last ⊎ BeginsLinesOver v lines tells first last)

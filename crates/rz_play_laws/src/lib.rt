@@ -8,7 +8,7 @@
 //! which scripts are meant and what is promised of a play that goes on.
 #![tactic(auto)]
 
-ghost use Rattle.std.specs.Prelude.{ℕ, ◌≡◌, ◌+◌, ◌≤◌, List};
+ghost use Rattle.std.specs.Prelude.{ℕ, Bool, ◌≡◌, ◌+◌, ◌≤◌, List};
 ghost use Rattle.rz_events.specs.Volume.{Volume, IsVolume};
 ghost use Rattle.rz_events.specs.declared.keys.Actor.{Actor as AnActor};
 ghost use Rattle.rz_events.specs.declared.events.Event.{Event as AnEvent};
@@ -28,7 +28,7 @@ ghost use Rattle.rz_play.specs.Faults.{missed, misses};
 ghost use Rattle.rz_play.specs.Played.{IsPlayedFrom, IsStoppedFrom, IsBegunFrom, IsBegun};
 ghost use Rattle.rz_play_laws.specs.Own.{IsOwn, IsUnderWay, IsOwnTurn, IsOwnKept, IsOwnProper};
 ghost use Rattle.rz_play_laws.specs.Fine.{MayBegin, IsSeated, IsFine, IsFineIfShort, IsTelling};
-ghost use Rattle.rz_play_laws.specs.Runs.{IsScript, IsRunAfter};
+ghost use Rattle.rz_play_laws.specs.Runs.{IsScript, IsRunAfter, IsReached};
 
 /// What an operation asks is proper, where its own events say how far it has come.
 pub fn own_proper()
@@ -143,4 +143,10 @@ pub fn goes_on()
 pub fn losses()
     ensures { (v : Volume) (script : List ALine) (nodes : ℕ → NodeState) (export : ExportState) (old log : List AnEvent)
         → (p : IsBegunFrom v (world_after nodes export old) script log) → missed log ≤ missed old + misses script + p.last.lost }
+{}
+
+/// So was each one over disks that need not tell what a start finds on them.
+pub fn losses_over()
+    ensures { (v : Volume) (script : List ALine) (tells : Bool) (nodes : ℕ → NodeState) (export : ExportState) (old : List AnEvent) (last : World)
+        → IsReached v script tells (world_after nodes export old) last → missed last.log ≤ missed old + misses script + last.lost }
 {}

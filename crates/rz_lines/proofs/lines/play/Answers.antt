@@ -1,7 +1,8 @@
 use Rattle.std.proofs.Common.{Err, ◌≡◌, ◌≤◌, ◌+◌, ◌-◌, ◌∙◌, List, take_all, refl, sym, subst, arith}
 use Rattle.rz_events.specs.Volume.{Volume}
 use Rattle.rz_script.specs.declared.line.Line.{Line}
-use Rattle.rz_lines.specs.Free.{PlaysLineOver, PlaysLinesOver, IsLinePlayedOver, IsEndedOver}
+use Rattle.rz_play.specs.Free.{PlaysLineOver, PlaysLinesOver}
+use Rattle.rz_lines.specs.Free.{IsLinePlayedOver, IsEndedOver}
 use Rattle.rz_lines.specs.declared.turns.Cut.{Cut}
 use Rattle.rz_lines.specs.declared.turns.Cut.TheVariants as cut
 use Rattle.rz_lines.specs.declared.lines.PlayEnd.TheVariants as end

@@ -1,7 +1,7 @@
 use Rattle.std.proofs.Common.{◌≡◌, ◌≤◌, take, ◌+◌}
 use Rattle.rz_play.specs.Stops.{most_turns}
 use Rattle.rz_lines.specs.Ends.{Carries}
-use Rattle.rz_lines.specs.Free.{PlaysLinesOver}
+use Rattle.rz_play.specs.Free.{PlaysLinesOver}
 use Rattle.rz_lines.proofs.lines.play.Given as goal
 
 abbrev pub invariant-loop-line : goal.invariant-loop-line

@@ -36,7 +36,13 @@ returns-clause-performed g c =
       new = g.O.Sink.faults c.tell.new.output;
     } in
     let P : List Event → Type 0 = λ log. Tells c.play-end.result c.args.wish log sink c.tell.result in
-    (c.play-end.result, ended g c, over g c, subst P c.log.ensures c.tell.ensures)
+    (
+      c.play-end.result,
+      ended g c,
+      over g c,
+      c.told_losses.ensures g.S.Stage.tells c.args.script.now.volume c.args.script.now.lines c.play-end.result (lost g c) (g.S.Stage.world c.play-end.new.stage).log (over g c),
+      subst P c.log.ensures c.tell.ensures,
+    )
 
 pub returns-clause-told : goal.returns-clause-told
 returns-clause-told g c told =
