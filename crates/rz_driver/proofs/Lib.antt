@@ -15,3 +15,8 @@ mod FormatLemmas
 mod NodeOrders
 mod EventWords
 mod MeterLemmas
+mod PictureLemmas
+mod MessagePictures
+mod ActPictures
+mod DriverPictures
+mod NewPictures

@@ -427,7 +427,7 @@ new-holds tells meter image v rules disks numbers row h named same new none = su
 -- The vector of nodes, of which a slice was written.
 
 module _ {X : Type 0} (meter : X → Meter) (numbers : List ℕ) (first : ℕ → ℕ) (v : Vec (Station X)) (xs ys : List (Station X)) (same : xs ≡ v.items) where
-  named-vector : numbers_of ys ≡ numbers_of xs → (with_items v ys).items ≡ ys
+  pub named-vector : numbers_of ys ≡ numbers_of xs → (with_items v ys).items ≡ ys
   named-vector named = with_items_is v ys (sym (length-map ys (λ (s : Station X). s.sid)) ∙ ap length named ∙ length-map xs (λ (s : Station X). s.sid) ∙ ap length same ∙ sym v.ok.0)
 
   pub metered-in : (h h' : List Event) → (AreMetered meter numbers xs h first → AreMetered meter numbers ys h' first) → AreMetered meter numbers v.items h first → AreMetered meter numbers (with_items v ys).items h' first
