@@ -132,7 +132,8 @@ impl Log {
     }
 }
 
-fn let_go(_event: Event) {}
+/// Lets an event go that is not noted.
+pub fn let_go(_event: Event) {}
 
 /// The stamp of the write that an event begins.
 fn stamp_of(event: &Event) -> Option<u64>

@@ -1,22 +1,21 @@
 //! Messages to nodes.
-ghost use Rattle.std.specs.Prelude.{◌≡◌, ◌≢◌, ◌↔◌, ◌<◌, ◌≤◌, ℕ, List, true, None, IsTrue, OnOk, OnErr, IfOk, length};
+ghost use Rattle.std.specs.Prelude.{◌≡◌, ◌≢◌, ◌↔◌, ◌<◌, ◌≤◌, ℕ, List, true, None, IsTrue, OnOk, OnErr, IfOk, length, not};
 ghost use Rattle.rz_cells.specs.Opening.{opening_calls};
 ghost use Rattle.mj_angles.specs.Layout.{max_bins_of};
 ghost use Rattle.rz_block_laws.specs.Laws as laws;
 ghost use Rattle.rz_calls.specs.Calls.{Counts, IsNoStart, IsRecord};
 ghost use Rattle.rz_operation.specs.Answers.{HasRoom, IsAnswered, IsAnswerTo};
 ghost use Rattle.rz_operation_model.specs.Ask.{ask_of};
-ghost use Rattle.rz_operation_model.specs.Steps.{Answered};
 ghost use Rattle.rz_operation_model.specs.Turns.{goes_by_link};
 ghost use Rattle.rz_play_laws.specs.Own.{IsOfActor};
 ghost use Rattle.rz_driver.specs.Nodes.{Fares, IsServed, IsAsked, IsFetchOf, IsPlaced, IsThroughPart, IsReplyLostPart, IsRequestLostPart};
 ghost use Rattle.rz_driver.specs.Meters.{GoesOn};
 ghost use Rattle.rz_driver.specs.Pictures.{KeepsNode, SparesNode};
-ghost use Rattle.rz_asks.specs.Parts.{IsTold, is_bad};
+ghost use Rattle.rz_asks.specs.Parts.{is_bad};
 
 use crate::NoMemory;
 use mj_angles::Layout;
-use rz_asks::{Log, is_bad};
+use rz_asks::{Log, is_bad, let_go};
 use rz_calls::{answer_node, node_event};
 use rz_disk::Disk;
 use rz_events::{Actor, Event, FetchAnswer, Head, NodeAnswer, NodeAsk};
@@ -126,30 +125,26 @@ fn is_fetch_of(layout: Layout, answer: &NodeAnswer) -> bool
     }
 }
 
-/// Tells a machine an answer. It does not go on where the records that came fit no block.
+/// Tells a machine an answer, and whether it goes on: it does not where the records that came fit no block.
 fn tell(
     layout: Layout,
     machine: &mut Machine,
     ask: &NodeAsk,
     answer: NodeAnswer,
     bins: &[u64],
-) -> Result<(), NoMemory>
+) -> bool
     requires machine { machine.old.layout ≡ layout }
     requires asked { (n : ℕ) × IsAsked machine.old n ask.now }
     requires placed { IsPlaced layout ask.now }
     requires answers { IsAnswerTo layout ask.now answer }
     requires room { HasRoom machine.old.work }
     requires bins { max_bins_of layout ≤ length bins.now }
-    ensures told { OnOk result (IsTold machine.old machine.new (Answered true answer)) }
+    ensures goes { result ≡ not (is_bad (ask_of machine.new.layout machine.new.work)) }
     ensures answered { IsAnswered machine.old answer bins.now machine.new }
-    ensures bad { OnErr result (is_bad (ask_of machine.new.layout machine.new.work) ≡ true) }
 {
     let _most = layout.max_bins();
     machine.tell_answer(answer, bins);
-    if is_bad(machine) {
-        return Err(NoMemory);
-    }
-    Ok(())
+    !is_bad(machine)
 }
 
 /// The message comes through.
@@ -184,13 +179,16 @@ pub(crate) fn through<D: Disk>(
         return Err(NoMemory);
     }
     let answer = serve(alloc, layout, machine, &ask, node, bins)?;
-    let Some(event) = node_event(by, number, &ask, &answer) else {
-        return Err(NoMemory);
-    };
     if !is_fetch_of(layout, &answer) {
         return Err(NoMemory);
     }
-    tell(layout, machine, &ask, answer, bins)?;
+    let Some(event) = node_event(by, number, &ask, &answer) else {
+        return Err(NoMemory);
+    };
+    if !tell(layout, machine, &ask, answer, bins) {
+        let_go(event);
+        return Err(NoMemory);
+    }
     log.note(event)
 }
 
