@@ -25,13 +25,12 @@ use Rattle.rz_lines.specs.Ends.{Carries}
 use Rattle.rz_block_laws.specs.Turns.{IsLastingLaw}
 use Rattle.rz_driver.specs.declared.driver.Driver.{Driver}
 use Rattle.rz_driver.specs.declared.seat.Seat.{Seat}
-use Rattle.rz_driver.specs.declared.station.Shared.{Shared}
 use Rattle.rz_driver.specs.declared.station.Station.{Station}
 use Rattle.rz_driver.specs.Meters.{AreMetered, AreCounted}
 use Rattle.rz_driver.specs.Pictures.{AreImaged, HasTrueHand, IsTrueSeat, IsPicture, IsRight, KeepsPicture, KeepsRow, SparesPicture, SparesRow, fused_image}
 use Rattle.rz_driver.specs.Seats.{HasLayout, seat_of, work_in}
 use Rattle.rz_driver.specs.Stations.{state_in, numbers_of}
-use Rattle.rz_driver.specs.Worlds.{place_of, world_of, numbers_in, HasPicture, HasRightDisks, Holds, Leaves}
+use Rattle.rz_driver.specs.Worlds.{place_of, world, world_of, numbers_in, HasPicture, HasRightDisks, Holds, Leaves}
 use Rattle.rz_driver.proofs.MeterLemmas.{metered-counts, named-vector}
 use Rattle.rz_driver.proofs.PictureLemmas.{GrowsBy, grown-short, all-then, are-right, hands-last}
 use Rattle.rz_driver.proofs.ReadyLemmas.{all-set, all-at}
@@ -67,7 +66,7 @@ true-seat v f own run by number (Some m) layout is way hand = record {
 
 -- ---- a turn
 
-module _ {D : Type 0} {G : Ghosts D} (by : Actor) (place : ℕ) (d : Driver D G) (log : Logged) (a0 a : Seat) (at : place_of by ≡ Some place) (here : slice_get d.seats.items place ≡ Some a0) (layout : HasLayout d.volume.layout a.machine)
+module _ {D : Type 0} {G : Ghosts D} (by : Actor) (place : ℕ) (d f : Driver D G) (is : d ≡ f) (log : Logged) (a0 a : Seat) (at : place_of by ≡ Some place) (here : slice_get d.seats.items place ≡ Some a0) (layout : HasLayout d.volume.layout a.machine)
     (taken : seat_of a ≡ at_work (seat_of a0)) (events : log.events ≡ d.shared.log.events) (hand : (v : Volume) (f : Facts) → HasTrueHand v f a0.machine → HasTrueHand v f a.machine) (working : WorkingLaw) where
   abbrev image : UnderFuse D → List ℕ → Type 0
   image = fused_image G.image
@@ -75,11 +74,11 @@ module _ {D : Type 0} {G : Ghosts D} (by : Actor) (place : ℕ) (d : Driver D G)
   abbrev h : List Event
   h = d.shared.log.events
 
-  abbrev Known : Type 0
-  Known = IsTrueSeat d.volume (facts log.events) by a.machine × AreImaged image d.volume (facts log.events) d.shared.stations.items
+  abbrev Picture : Type 0
+  Picture = IsPicture image d.volume (world_of d) d.seats.items d.shared.stations.items
 
   -- what is true of the actor at work and of the disks
-  known : IsPicture image d.volume (world_of d) d.seats.items d.shared.stations.items → Known
+  known : Picture → IsTrueSeat d.volume (facts log.events) by a.machine × AreImaged image d.volume (facts log.events) d.shared.stations.items
   known was =
       let v = d.volume in
       let own = of_actor by h in
@@ -92,69 +91,61 @@ module _ {D : Type 0} {G : Ghosts D} (by : Actor) (place : ℕ) (d : Driver D G)
         subst (λ (k : List Event). AreImaged image v (facts k) d.shared.stations.items) (sym events) was.disks,
       )
 
-  abbrev p : Shared (UnderFuse D)
-  p = record d.shared { log = log }
-
-  pub turn-picture : (b : Seat) (e : Driver D G) → TurnedLaw → ((v : Volume) → IsLastingLaw v) → IsTurn d.volume by (world_of d) (world_of e) → (IsTrue G.tells → KeepsPicture image by a.machine b.machine p e.shared) → GrowsBy h e.shared.log.events
-      → e.volume ≡ d.volume → e.seats.items ≡ set d.seats.items place b → HasPicture d → HasPicture e
-  turn-picture b e turned lasting turn keeps grown volume seats picture = λ told few.
+  pub turn-picture : (b : Seat) (next : World) (ys : List (Station (UnderFuse D))) → TurnedLaw → ((v : Volume) → IsLastingLaw v) → IsTurn d.volume by (world_of d) next
+      → (IsTrue G.tells → KeepsPicture image by a.machine b.machine d.shared.stations.items log.events ys next.log) → GrowsBy h next.log → HasPicture f
+      → IsTrue G.tells → length next.log < 2 ^ 64 - 1 → IsPicture image d.volume next (set d.seats.items place b) ys
+  turn-picture b next ys turned lasting turn keeps grown picture told few =
       let v = d.volume in
-      let h' = e.shared.log.events in
-      let was = picture told (grown-short h h' grown few) in
+      let was = subst (λ (x : Driver D G). HasPicture x) (sym is) picture told (grown-short h next.log grown few) in
       let k = known was in
       let kept = keeps told v k.0 k.1 in
-      let hands = all-set (λ (s : Seat). HasTrueHand v (facts h') s.machine) d.seats.items place b (hands-last v (lasting v) h h' grown d.seats.items was.hands) kept.0 in
-      let now : IsPicture image v (world_of e) (set d.seats.items place b) e.shared.stations.items = record {
+      record {
         rules = was.rules;
-        fine = turned v was.rules [] by (seated-at by place at) (world_of d) (world_of e) turn was.fine few;
-        hands = hands;
+        fine = turned v was.rules [] by (seated-at by place at) (world_of d) next turn was.fine few;
+        hands = all-set (λ (s : Seat). HasTrueHand v (facts next.log) s.machine) d.seats.items place b (hands-last v (lasting v) h next.log grown d.seats.items was.hands) kept.0;
         disks = kept.1;
-      } in
-      subst (λ (ss : List Seat). IsPicture image e.volume (world_of e) ss e.shared.stations.items) (sym seats)
-      (subst (λ (u : Volume). IsPicture image u (world_of e) (set d.seats.items place b) e.shared.stations.items) (sym volume) now)
+      }
 
   -- where the turn ended for want of memory
-  pub turn-spares : (q : Shared (UnderFuse D)) → (IsTrue G.tells → SparesPicture image by a.machine p q) → IsTrue G.tells → IsPicture image d.volume (world_of d) d.seats.items d.shared.stations.items
-      → AreImaged image d.volume (facts h) q.stations.items × (state_in q.stations.items ≡ state_in d.shared.stations.items)
-  turn-spares q spares told was =
+  pub turn-spares : (ys : List (Station (UnderFuse D))) → (IsTrue G.tells → SparesPicture image by a.machine d.shared.stations.items log.events ys) → IsTrue G.tells → Picture
+      → AreImaged image d.volume (facts h) ys × (state_in ys ≡ state_in d.shared.stations.items)
+  turn-spares ys spares told was =
       let k = known was in
       let s = spares told d.volume k.0 k.1 in
-      (subst (λ (x : List Event). AreImaged image d.volume (facts x) q.stations.items) events s.0, s.1)
+      (subst (λ (x : List Event). AreImaged image d.volume (facts x) ys) events s.0, s.1)
 
 -- ---- where a play ended
 
-module _ {D : Type 0} {G : Ghosts D} (d e : Driver D G) (volume : e.volume ≡ d.volume) (log : e.shared.log.events ≡ d.shared.log.events) where
+module _ {D : Type 0} {G : Ghosts D} (d f : Driver D G) (is : d ≡ f) (h' : List Event) (log : h' ≡ d.shared.log.events) (first : ℕ → ℕ) (held : Holds f first) where
   abbrev image : UnderFuse D → List ℕ → Type 0
   image = fused_image G.image
 
+  before : Holds d first
+  before = subst (λ (x : Driver D G). Holds x first) (sym is) held
+
   -- the states of all nodes are as before, and so is the log
-  pub right-disks : (first : ℕ → ℕ) → numbers_of e.shared.stations.items ≡ numbers_of d.shared.stations.items
-      → (IsTrue G.tells → IsPicture image d.volume (world_of d) d.seats.items d.shared.stations.items → AreImaged image d.volume (facts d.shared.log.events) e.shared.stations.items × (state_in e.shared.stations.items ≡ state_in d.shared.stations.items))
-      → Holds d first → HasRightDisks e
-  right-disks first numbers spares held = λ told few.
+  pub right-disks : (ys : List (Station (UnderFuse D))) → numbers_of ys ≡ numbers_of d.shared.stations.items
+      → (IsTrue G.tells → IsPicture image d.volume (world_of d) d.seats.items d.shared.stations.items → AreImaged image d.volume (facts d.shared.log.events) ys × (state_in ys ≡ state_in d.shared.stations.items))
+      → IsTrue G.tells → length h' < 2 ^ 64 - 1 → AllByRecursion (IsRight image d.volume h') ys
+  right-disks ys numbers spares told few =
       let h = d.shared.log.events in
-      let was = held.1 told (subst (λ (k : List Event). length k < 2 ^ 64 - 1) log few) in
+      let was = before.1 told (subst (λ (k : List Event). length k < 2 ^ 64 - 1) log few) in
       let s = spares told was in
-      let apart = subst (IsDistinct nat_eq) (sym (numbers ∙ held.0.named)) held.0.apart in
-      let all = are-right image d.volume h (state_in d.shared.stations.items) was.fine.nodes_are e.shared.stations.items s.1 apart s.0 in
-      subst (λ (u : Volume). AllByRecursion (IsRight image u e.shared.log.events) e.shared.stations.items) (sym volume)
-      (subst (λ (k : List Event). AllByRecursion (IsRight image d.volume k) e.shared.stations.items) (sym log) all)
+      let apart = subst (IsDistinct nat_eq) (sym (numbers ∙ before.0.named)) before.0.apart in
+      subst (λ (k : List Event). AllByRecursion (IsRight image d.volume k) ys) (sym log)
+      (are-right image d.volume h (state_in d.shared.stations.items) was.fine.nodes_are ys s.1 apart s.0)
 
   -- no node was called
-  pub still-leaves : (first : ℕ → ℕ) → e.shared.stations.items ≡ d.shared.stations.items → Holds d first → Leaves e first
-  still-leaves first same held =
-      let met = metered-counts (fused_meter G.meter) first (numbers_in d) d.shared.stations.items d.shared.log.events held.0 in
-      let row = subst (λ (xs : List (Station (UnderFuse D))). AreCounted (fused_meter G.meter) (numbers_in d) xs d.shared.log.events first) (sym same) met in
-      let counted = subst (λ (k : List Event). AreCounted (fused_meter G.meter) (numbers_in d) e.shared.stations.items k first) (sym log) row in
-      let numbers = ap numbers_of same in
-      inr (
-        subst (λ (u : Volume). AreCounted (fused_meter G.meter) (map (λ (n : NodeSpec). n.sid) (nodes_of u.clusters)) e.shared.stations.items e.shared.log.events first) (sym volume) counted,
-        right-disks first numbers (λ told was. (subst (AreImaged image d.volume (facts d.shared.log.events)) (sym same) was.disks, ap state_in same)) held,
-      )
+  pub still-right : IsTrue G.tells → length h' < 2 ^ 64 - 1 → AllByRecursion (IsRight image d.volume h') d.shared.stations.items
+  still-right = right-disks d.shared.stations.items refl (λ told was. (was.disks, refl))
+
+  pub still-counted : AreCounted (fused_meter G.meter) (numbers_in d) d.shared.stations.items h' first
+  still-counted = subst (λ (k : List Event). AreCounted (fused_meter G.meter) (numbers_in d) d.shared.stations.items k first) (sym log)
+      (metered-counts (fused_meter G.meter) first (numbers_in d) d.shared.stations.items d.shared.log.events before.0)
 
 -- however it ended
 pub leaves-right : {D : Type 0} {G : Ghosts D} (d : Driver D G) (first : ℕ → ℕ) → Leaves d first → HasRightDisks d
-leaves-right d first (inl held) = right-disks d d refl refl first refl (λ told was. (was.disks, refl)) held
+leaves-right d first (inl held) = still-right d d refl d.shared.log.events refl first held
 leaves-right d first (inr left) = left.1
 
 pub leaves-named : {D : Type 0} {G : Ghosts D} (d : Driver D G) (first : ℕ → ℕ) → Leaves d first → numbers_of d.shared.stations.items ≡ numbers_in d
@@ -163,64 +154,59 @@ leaves-named d first (inr left) = left.0.named
 
 -- ---- an order
 
-module _ {D : Type 0} {G : Ghosts D} (d e : Driver D G) (volume : e.volume ≡ d.volume) where
+module _ {D : Type 0} {G : Ghosts D} (d : Driver D G) where
   abbrev image : UnderFuse D → List ℕ → Type 0
   image = fused_image G.image
 
-  pub picture-then : GrowsBy d.shared.log.events e.shared.log.events
-      → (IsTrue G.tells → IsVolume d.volume → IsFine d.volume [] (world_of d) → IsFineIfShort d.volume [] (world_of e))
-      → (AllByRecursion (λ (s : Seat). HasTrueHand d.volume (facts d.shared.log.events) s.machine) d.seats.items → AllByRecursion (λ (s : Seat). HasTrueHand d.volume (facts e.shared.log.events) s.machine) e.seats.items)
-      → (IsTrue G.tells → AreImaged image d.volume (facts d.shared.log.events) d.shared.stations.items → AreImaged image d.volume (facts e.shared.log.events) e.shared.stations.items)
-      → HasPicture d → HasPicture e
-  picture-then grown fine hands disks picture = λ told few.
-      let was = picture told (grown-short d.shared.log.events e.shared.log.events grown few) in
-      subst (λ (u : Volume). IsPicture image u (world_of e) e.seats.items e.shared.stations.items) (sym volume) (record {
+  pub picture-then : (next : World) (seats : List Seat) (ys : List (Station (UnderFuse D))) → GrowsBy d.shared.log.events next.log
+      → (IsTrue G.tells → IsVolume d.volume → IsFine d.volume [] (world_of d) → IsFineIfShort d.volume [] next)
+      → (AllByRecursion (λ (s : Seat). HasTrueHand d.volume (facts d.shared.log.events) s.machine) d.seats.items → AllByRecursion (λ (s : Seat). HasTrueHand d.volume (facts next.log) s.machine) seats)
+      → (IsTrue G.tells → AreImaged image d.volume (facts d.shared.log.events) d.shared.stations.items → AreImaged image d.volume (facts next.log) ys)
+      → HasPicture d → IsTrue G.tells → length next.log < 2 ^ 64 - 1 → IsPicture image d.volume next seats ys
+  picture-then next seats ys grown fine hands disks picture told few =
+      let was = picture told (grown-short d.shared.log.events next.log grown few) in
+      record {
         rules = was.rules;
         fine = fine told was.rules was.fine few;
         hands = hands was.hands;
         disks = disks told was.disks;
-      })
+      }
 
   -- an actor has more to do, or another plan for its next message
-  pub actor-picture : (place : ℕ) (s b : Seat) → slice_get d.seats.items place ≡ Some s → b.machine ≡ s.machine → e.seats.items ≡ set d.seats.items place b
-      → e.shared.stations.items ≡ d.shared.stations.items → e.shared.log.events ≡ d.shared.log.events
-      → (IsVolume d.volume → IsFine d.volume [] (world_of d) → IsFineIfShort d.volume [] (world_of e)) → HasPicture d → HasPicture e
-  actor-picture place s b here machine seats stations log fine picture =
+  pub actor-picture : (place : ℕ) (s b : Seat) (turns : ℕ) → slice_get d.seats.items place ≡ Some s → b.machine ≡ s.machine
+      → (IsVolume d.volume → IsFine d.volume [] (world_of d) → IsFineIfShort d.volume [] (world d.shared (set d.seats.items place b) turns)) → HasPicture d
+      → IsTrue G.tells → length d.shared.log.events < 2 ^ 64 - 1 → IsPicture image d.volume (world d.shared (set d.seats.items place b) turns) (set d.seats.items place b) d.shared.stations.items
+  actor-picture place s b turns here machine fine =
       let v = d.volume in
-      let h = d.shared.log.events in
-      let grown : GrowsBy h e.shared.log.events = ([], log) in
-      picture-then grown (λ told. fine)
-      (λ hands. subst (λ (k : List Event). AllByRecursion (λ (t : Seat). HasTrueHand v (facts k) t.machine) e.seats.items) (sym log)
-          (subst (AllByRecursion (λ (t : Seat). HasTrueHand v (facts h) t.machine)) (sym seats)
-              (all-set (λ (t : Seat). HasTrueHand v (facts h) t.machine) d.seats.items place b hands
-                  (subst (HasTrueHand v (facts h)) (sym machine) (all-at (λ (t : Seat). HasTrueHand v (facts h) t.machine) d.seats.items place s hands here)))))
-      (λ told disks. subst (λ (k : List Event). AreImaged image v (facts k) e.shared.stations.items) (sym log) (subst (AreImaged image v (facts h)) (sym stations) disks))
-      picture
+      let f = facts d.shared.log.events in
+      picture-then (world d.shared (set d.seats.items place b) turns) (set d.seats.items place b) d.shared.stations.items ([], refl) (λ told. fine)
+      (λ hands. all-set (λ (t : Seat). HasTrueHand v f t.machine) d.seats.items place b hands
+          (subst (HasTrueHand v f) (sym machine) (all-at (λ (t : Seat). HasTrueHand v f t.machine) d.seats.items place s hands here)))
+      (λ told disks. disks)
 
   -- ---- of a node, of which the slice of the vector was written
 
-  module _ (xs ys : List (Station (UnderFuse D))) (h' : List Event) (same : xs ≡ d.shared.stations.items) (seats : e.seats.items ≡ d.seats.items) (stations : e.shared.stations.items ≡ (with_items d.shared.stations ys).items) (log : e.shared.log.events ≡ h') where
-    written : numbers_of ys ≡ numbers_of xs → e.shared.stations.items ≡ ys
-    written named = stations ∙ named-vector (fused_meter G.meter) (numbers_in d) (λ i. i) d.shared.stations xs ys same named
+  module _ (xs ys : List (Station (UnderFuse D))) (same : xs ≡ d.shared.stations.items) (named : numbers_of ys ≡ numbers_of xs) where
+    pub written : (with_items d.shared.stations ys).items ≡ ys
+    written = named-vector (fused_meter G.meter) (numbers_in d) (λ i. i) d.shared.stations xs ys same named
 
-    pub order-picture : ((v : Volume) → IsLastingLaw v) → numbers_of ys ≡ numbers_of xs → GrowsBy d.shared.log.events h' → (IsTrue G.tells → KeepsRow image xs ys d.shared.log.events h')
-        → (IsTrue G.tells → IsVolume d.volume → IsFine d.volume [] (world_of d) → IsFineIfShort d.volume [] (world_of e)) → HasPicture d → HasPicture e
-    order-picture lasting named grown keeps fine picture =
+    pub order-picture : ((v : Volume) → IsLastingLaw v) → (next : World) → GrowsBy d.shared.log.events next.log → (IsTrue G.tells → KeepsRow image xs d.shared.log.events ys next.log)
+        → (IsTrue G.tells → IsVolume d.volume → IsFine d.volume [] (world_of d) → IsFineIfShort d.volume [] next) → HasPicture d
+        → IsTrue G.tells → length next.log < 2 ^ 64 - 1 → IsPicture image d.volume next d.seats.items (with_items d.shared.stations ys).items
+    order-picture lasting next grown keeps fine =
         let v = d.volume in
         let h = d.shared.log.events in
-        let grew = subst (GrowsBy h) (sym log) grown in
-        picture-then grew fine
-        (λ hands. subst (AllByRecursion (λ (t : Seat). HasTrueHand v (facts e.shared.log.events) t.machine)) (sym seats) (hands-last v (lasting v) h e.shared.log.events grew d.seats.items hands))
-        (λ told disks. subst (λ (k : List Event). AreImaged image v (facts k) e.shared.stations.items) (sym log)
-            (subst (AreImaged image v (facts h')) (sym (written named)) (keeps told v (subst (AreImaged image v (facts h)) (sym same) disks))))
-        picture
+        picture-then next d.seats.items (with_items d.shared.stations ys).items grown fine
+        (λ hands. hands-last v (lasting v) h next.log grown d.seats.items hands)
+        (λ told disks. subst (AreImaged image v (facts next.log)) (sym written) (keeps told v (subst (AreImaged image v (facts h)) (sym same) disks)))
 
-    pub order-right : (first : ℕ → ℕ) → numbers_of ys ≡ numbers_of xs → h' ≡ d.shared.log.events → (IsTrue G.tells → SparesRow image xs ys d.shared.log.events) → Holds d first → HasRightDisks e
-    order-right first named still spares held =
+    pub order-right : (h' : List Event) → h' ≡ d.shared.log.events → (IsTrue G.tells → SparesRow image xs d.shared.log.events ys) → (first : ℕ → ℕ) → Holds d first
+        → IsTrue G.tells → length h' < 2 ^ 64 - 1 → AllByRecursion (IsRight image d.volume h') (with_items d.shared.stations ys).items
+    order-right h' still spares first held =
         let v = d.volume in
         let h = d.shared.log.events in
-        right-disks d e volume (log ∙ still) first (ap numbers_of (written named) ∙ named ∙ ap numbers_of same) (λ told was.
+        right-disks d d refl h' still first held (with_items d.shared.stations ys).items (ap numbers_of written ∙ named ∙ ap numbers_of same) (λ told was.
         let s = spares told v (subst (AreImaged image v (facts h)) (sym same) was.disks) in (
-          subst (AreImaged image v (facts h)) (sym (written named)) s.0,
-          ap state_in (written named) ∙ s.1 ∙ ap state_in same,
-        )) held
+          subst (AreImaged image v (facts h)) (sym written) s.0,
+          ap state_in written ∙ s.1 ∙ ap state_in same,
+        ))

@@ -20,3 +20,4 @@ mod MessagePictures
 mod ActPictures
 mod DriverPictures
 mod NewPictures
+mod OrderPictures

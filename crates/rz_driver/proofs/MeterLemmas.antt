@@ -373,8 +373,8 @@ said-stays by number said h h' log_is n =
 
 -- the faults are counted where a play ended
 pub leaves-counted : {D : Type 0} {G : Ghosts D} (d : Driver D G) (first : ℕ → ℕ) → Leaves d first → AreCounted (fused_meter G.meter) (numbers_in d) d.shared.stations.items d.shared.log.events first
-leaves-counted {G = G} d first (inl met) = metered-counts (fused_meter G.meter) first (numbers_in d) d.shared.stations.items d.shared.log.events met
-leaves-counted {G = G} d first (inr counted) = counted
+leaves-counted {G = G} d first (inl held) = metered-counts (fused_meter G.meter) first (numbers_in d) d.shared.stations.items d.shared.log.events held.0
+leaves-counted {G = G} d first (inr left) = left.0
 
 -- The disks that are handed in, and those that are handed back.
 
@@ -463,9 +463,4 @@ module _ {T E D : Type 0} (r : Result T E) (meter : D → Meter) (row : List (St
 -- the log of a driver was not changed
 pub log-kept : {D : Type 0} {G : Ghosts D} (d : Driver D G) → IsDriver d → (h : List Event) (first : ℕ → ℕ) → h ≡ d.shared.log.events → Holds d first
     → AreMetered (fused_meter G.meter) (numbers_in d) d.shared.stations.items h first
-log-kept {G = G} d ready h first same met = subst (λ (k : List Event). AreMetered (fused_meter G.meter) (numbers_in d) d.shared.stations.items k first) (sym same) met
-
-pub turn-err : {T E D : Type 0} (r : Result T E) (meter : D → Meter) (numbers : List ℕ) (row : List (Station D)) (h : List Event) (before : (ℕ → ℕ) → Type 0)
-    → ((first : ℕ → ℕ) → before first → AreCounted meter numbers row h first) → OnErr r (Carries before (λ first. AreMetered meter numbers row h first ⊎ AreCounted meter numbers row h first))
-turn-err (Ok x) meter numbers row h before left = tt
-turn-err (Err x) meter numbers row h before left = λ first met. inr (left first met)
+log-kept {G = G} d ready h first same met = subst (λ (k : List Event). AreMetered (fused_meter G.meter) (numbers_in d) d.shared.stations.items k first) (sym same) met.0

@@ -1,12 +1,11 @@
 -- The picture of a new driver.
-use Rattle.std.proofs.Common.{◌≡◌, inl, ℕ, Bool, false, true, IsTrue, List, [], ◌∷◌, Option, None, refl, sym, ◌∙◌, ap, subst, arith}
+use Rattle.std.proofs.Common.{◌≡◌, inl, ℕ, ◌-◌, ◌^◌, ◌<◌, Bool, IsTrue, List, [], ◌∷◌, length, Option, None, refl, sym, ◌∙◌, ap, subst}
 use Rattle.std.specs.FinMap as maps
 use Rattle.std.specs.FinMap.{get-empty}
 use Rattle.std.specs.List.{AllByRecursion}
 use Rattle.mj_angles.specs.Layout.{bsize_of}
 use Rattle.rz_disk.specs.Meter.{Meter}
 use Rattle.rz_disk.specs.UnderFuse.{UnderFuse}
-use Rattle.rz_disk.specs.declared.disk.Disk.{Ghosts}
 use Rattle.rz_events.specs.Keys.{key_cmp}
 use Rattle.rz_events.specs.Volume.{Volume, IsVolume, nodes_of}
 use Rattle.rz_events.specs.declared.files.NodeSpec.{NodeSpec}
@@ -23,14 +22,12 @@ use Rattle.rz_play.specs.World.{World, new_world}
 use Rattle.rz_play_laws.specs.Fine.{IsFine}
 use Rattle.rz_image_laws.specs.Images.{IsImaged}
 use Rattle.rz_image_laws.specs.Laws.{IsFreshLaw}
-use Rattle.rz_driver.specs.declared.driver.Driver.{Driver}
 use Rattle.rz_driver.specs.declared.seat.Seat.{Seat}
 use Rattle.rz_driver.specs.declared.station.Station.{Station}
 use Rattle.rz_driver.specs.Made.{AreNew, IsNew, geometry_of}
 use Rattle.rz_driver.specs.Pictures.{AreImaged, HasImages, HasTrueHand, IsPicture, fused_image, geometry_in}
 use Rattle.rz_driver.specs.Seats.{IsEmptySeat}
 use Rattle.rz_driver.specs.Stations.{IsStation}
-use Rattle.rz_driver.specs.Worlds.{world_of, HasPicture}
 
 -- nothing was played
 none-held : (key : Key) → held_of maps.empty key ≡ []
@@ -78,13 +75,14 @@ module _ {D : Type 0} (tells : Bool) (meter : D → Meter) (image : D → List �
   new-images (n ∷ nodes) [] (s ∷ row) new all = absurd new
   new-images (n ∷ nodes) (d ∷ disks) (s ∷ row) new all = (new-has n d s new.0 all.0, new-images nodes disks row new.1 all.1)
 
-pub new-picture : {D : Type 0} {G : Ghosts D} (d : Driver D G) (v : Volume) → IsFreshLaw G.image → IsVolume v → (disks : List D) → d.volume ≡ v → world_of d ≡ new_world v
-    → AllByRecursion (IsStation v) d.shared.stations.items → AreNew G.tells G.meter G.image v.layout (nodes_of v.clusters) disks d.shared.stations.items → AllByRecursion IsEmptySeat d.seats.items → HasPicture d
-new-picture {G = G} d v law rules disks volume world stations new empty = λ told few.
-    let f = facts (world_of d).log in
-    subst (λ (u : Volume). IsPicture (fused_image G.image) u (world_of d) d.seats.items d.shared.stations.items) (sym volume) (record {
+pub new-picture : {D : Type 0} (tells : Bool) (meter : D → Meter) (image : D → List ℕ → Type 0) → IsFreshLaw image → (v : Volume) → IsVolume v → (disks : List D) (w : World) → w ≡ new_world v → (seats : List Seat) → AllByRecursion IsEmptySeat seats
+    → (row : List (Station (UnderFuse D))) → AllByRecursion (IsStation v) row → AreNew tells meter image v.layout (nodes_of v.clusters) disks row → (u : Volume) → u ≡ v
+    → IsTrue tells → length w.log < 2 ^ 64 - 1 → IsPicture (fused_image image) u w seats row
+new-picture tells meter image law v rules disks w world seats empty row stations new u volume told few =
+    let f = facts w.log in
+    subst (λ (x : Volume). IsPicture (fused_image image) x w seats row) (sym volume) (record {
       rules = rules;
       fine = subst (IsFine v []) (sym world) (new-fine v);
-      hands = no-hands v f d.seats.items empty;
-      disks = new-images G.tells G.meter G.image law told v f (nodes_of v.clusters) disks d.shared.stations.items new stations;
+      hands = no-hands v f seats empty;
+      disks = new-images tells meter image law told v f (nodes_of v.clusters) disks row new stations;
     })

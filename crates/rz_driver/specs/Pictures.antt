@@ -18,7 +18,6 @@ use Rattle.rz_play_laws.specs.Fine.{IsFine}
 use Rattle.rz_image_laws.specs.Images.{AreImages, IsImaged}
 use Rattle.rz_block_laws.specs.Turns.{HasInHand, IsTrueActor}
 use Rattle.rz_driver.specs.declared.seat.Seat.{Seat}
-use Rattle.rz_driver.specs.declared.station.Shared.{Shared}
 use Rattle.rz_driver.specs.declared.station.Station.{Station}
 use Rattle.rz_driver.specs.Stations.{state_in}
 
@@ -62,18 +61,16 @@ abbrev pub SparesNode : {D : Type 0} → (D → List ℕ → Type 0) → Actor �
 SparesNode image by n m node node' h =
     (v : Volume) → IsTrueActor v (facts h) by m → HasImages image v (facts h) n node → HasImages image v (facts h) n node' × (node'.state ≡ node.state)
 
--- What a turn of an actor keeps.
+-- What a turn of an actor keeps, which makes of the nodes xs and the log h the nodes ys and the log h'.
 
-abbrev pub KeepsPicture : {D : Type 0} → (D → List ℕ → Type 0) → Actor → Option Machine → Option Machine → Shared D → Shared D → Type 0
-KeepsPicture image by m m' p q =
-    (v : Volume) → IsTrueSeat v (facts p.log.events) by m → AreImaged image v (facts p.log.events) p.stations.items
-    → HasTrueHand v (facts q.log.events) m' × AreImaged image v (facts q.log.events) q.stations.items
+abbrev pub KeepsPicture : {D : Type 0} → (D → List ℕ → Type 0) → Actor → Option Machine → Option Machine → List (Station D) → List Event → List (Station D) → List Event → Type 0
+KeepsPicture image by m m' xs h ys h' =
+    (v : Volume) → IsTrueSeat v (facts h) by m → AreImaged image v (facts h) xs → HasTrueHand v (facts h') m' × AreImaged image v (facts h') ys
 
 -- where it ends for want of memory, the states of all nodes are as before
-abbrev pub SparesPicture : {D : Type 0} → (D → List ℕ → Type 0) → Actor → Option Machine → Shared D → Shared D → Type 0
-SparesPicture image by m p q =
-    (v : Volume) → IsTrueSeat v (facts p.log.events) by m → AreImaged image v (facts p.log.events) p.stations.items
-    → AreImaged image v (facts p.log.events) q.stations.items × (state_in q.stations.items ≡ state_in p.stations.items)
+abbrev pub SparesPicture : {D : Type 0} → (D → List ℕ → Type 0) → Actor → Option Machine → List (Station D) → List Event → List (Station D) → Type 0
+SparesPicture image by m xs h ys =
+    (v : Volume) → IsTrueSeat v (facts h) by m → AreImaged image v (facts h) xs → AreImaged image v (facts h) ys × (state_in ys ≡ state_in xs)
 
 -- What an order to a node keeps, whatever the facts are.
 abbrev pub KeepsImages : {D : Type 0} → (D → List ℕ → Type 0) → Station D → Station D → Type 0
@@ -81,11 +78,11 @@ KeepsImages image s s' = (v : Volume) (f : Facts) → HasImages image v f s.sid 
 
 -- And of all nodes, with the log.
 
-abbrev pub KeepsRow : {D : Type 0} → (D → List ℕ → Type 0) → List (Station D) → List (Station D) → List Event → List Event → Type 0
-KeepsRow image xs ys h h' = (v : Volume) → AreImaged image v (facts h) xs → AreImaged image v (facts h') ys
+abbrev pub KeepsRow : {D : Type 0} → (D → List ℕ → Type 0) → List (Station D) → List Event → List (Station D) → List Event → Type 0
+KeepsRow image xs h ys h' = (v : Volume) → AreImaged image v (facts h) xs → AreImaged image v (facts h') ys
 
-abbrev pub SparesRow : {D : Type 0} → (D → List ℕ → Type 0) → List (Station D) → List (Station D) → List Event → Type 0
-SparesRow image xs ys h = (v : Volume) → AreImaged image v (facts h) xs → AreImaged image v (facts h) ys × (state_in ys ≡ state_in xs)
+abbrev pub SparesRow : {D : Type 0} → (D → List ℕ → Type 0) → List (Station D) → List Event → List (Station D) → Type 0
+SparesRow image xs h ys = (v : Volume) → AreImaged image v (facts h) xs → AreImaged image v (facts h) ys × (state_in ys ≡ state_in xs)
 
 -- Between two turns: the world of the play is in order, what each actor has in hand is true, and the images of each disk are
 -- those of its node's state.

@@ -71,8 +71,8 @@ pub(crate) fn act<D: Disk, L: Link>(
     ensures count { vec_len shared.new.stations ≡ vec_len shared.old.stations }
     ensures held { OnOk result ((numbers : List ℕ) → Carries (AreMetered D.meter numbers shared.old.stations.items shared.old.log.events) (AreMetered D.meter numbers shared.new.stations.items shared.new.log.events)) }
     ensures left { OnErr result ((numbers : List ℕ) → Carries (AreMetered D.meter numbers shared.old.stations.items shared.old.log.events) (AreCounted D.meter numbers shared.new.stations.items shared.new.log.events)) }
-    ensures pictured { OnOk result (IsTrue D.tells → KeepsPicture D.image by seat.old.machine seat.new.machine shared.old shared.new) }
-    ensures spared { OnErr result (IsTrue D.tells → SparesPicture D.image by seat.old.machine shared.old shared.new) }
+    ensures pictured { OnOk result (IsTrue D.tells → KeepsPicture D.image by seat.old.machine seat.new.machine shared.old.stations.items shared.old.log.events shared.new.stations.items shared.new.log.events) }
+    ensures spared { OnErr result (IsTrue D.tells → SparesPicture D.image by seat.old.machine shared.old.stations.items shared.old.log.events shared.new.stations.items) }
 {
     rz_block_laws::told();
     rz_image_laws::longer::<D>();
@@ -147,8 +147,8 @@ fn message<D: Disk, L: Link>(
     ensures count { vec_len shared.new.stations ≡ vec_len shared.old.stations }
     ensures held { OnOk result ((numbers : List ℕ) → Carries (AreMetered D.meter numbers shared.old.stations.items shared.old.log.events) (AreMetered D.meter numbers shared.new.stations.items shared.new.log.events)) }
     ensures left { OnErr result ((numbers : List ℕ) → Carries (AreMetered D.meter numbers shared.old.stations.items shared.old.log.events) (AreCounted D.meter numbers shared.new.stations.items shared.new.log.events)) }
-    ensures pictured { OnOk result (IsTrue D.tells → KeepsPicture D.image by (Some machine.old) (Some machine.new) shared.old shared.new) }
-    ensures spared { OnErr result (IsTrue D.tells → SparesPicture D.image by (Some machine.old) shared.old shared.new) }
+    ensures pictured { OnOk result (IsTrue D.tells → KeepsPicture D.image by (Some machine.old) (Some machine.new) shared.old.stations.items shared.old.log.events shared.new.stations.items shared.new.log.events) }
+    ensures spared { OnErr result (IsTrue D.tells → SparesPicture D.image by (Some machine.old) shared.old.stations.items shared.old.log.events shared.new.stations.items) }
 {
     rz_block_laws::told();
     rz_image_laws::longer::<D>();

@@ -1,5 +1,5 @@
 //! The administrator's lines: a node stops, starts or loses its disk, or its disk is armed.
-ghost use Rattle.std.specs.Prelude.{◌≡◌, ◌≢◌, ◌<◌, ◌≤◌, ℕ, List, Some, None, IfOk, IfSome, OnOk, OnErr, IsTrue};
+ghost use Rattle.std.specs.Prelude.{◌≡◌, ◌≢◌, ◌<◌, ◌≤◌, ℕ, List, Some, None, IfOk, IsSomeAnd, OnOk, OnErr, IsTrue};
 ghost use Rattle.rz_events.specs.declared.nodes.NodeAsk.TheVariants as ask;
 ghost use Rattle.rz_events.specs.declared.events.Event.TheVariants as e;
 ghost use Rattle.rz_play.specs.Lines.{noted};
@@ -28,8 +28,8 @@ pub(crate) fn stop_node<D: Disk>(
     ensures err { OnErr result (log.new.events ≡ log.old.events) }
     ensures held { OnOk result ((numbers : List ℕ) → Carries (AreMetered D.meter numbers stations.old log.old.events) (AreMetered D.meter numbers stations.new log.new.events)) }
     ensures left { OnErr result ((numbers : List ℕ) → Carries (AreMetered D.meter numbers stations.old log.old.events) (AreCounted D.meter numbers stations.new log.new.events)) }
-    ensures pictured { OnOk result (IsTrue D.tells → KeepsRow D.image stations.old stations.new log.old.events log.new.events) }
-    ensures spared { OnErr result (IsTrue D.tells → SparesRow D.image stations.old stations.new log.old.events) }
+    ensures pictured { OnOk result (IsTrue D.tells → KeepsRow D.image stations.old log.old.events stations.new log.new.events) }
+    ensures spared { OnErr result (IsTrue D.tells → SparesRow D.image stations.old log.old.events stations.new) }
 {
     rz_image_laws::longer::<D>();
     let Some(place) = find(stations, sid) else {
@@ -50,8 +50,8 @@ pub(crate) fn lose_node<D: Disk>(
     ensures err { OnErr result (log.new.events ≡ log.old.events) }
     ensures held { OnOk result ((numbers : List ℕ) → Carries (AreMetered D.meter numbers stations.old log.old.events) (AreMetered D.meter numbers stations.new log.new.events)) }
     ensures left { OnErr result ((numbers : List ℕ) → Carries (AreMetered D.meter numbers stations.old log.old.events) (AreCounted D.meter numbers stations.new log.new.events)) }
-    ensures pictured { OnOk result (IsTrue D.tells → KeepsRow D.image stations.old stations.new log.old.events log.new.events) }
-    ensures spared { OnErr result (IsTrue D.tells → SparesRow D.image stations.old stations.new log.old.events) }
+    ensures pictured { OnOk result (IsTrue D.tells → KeepsRow D.image stations.old log.old.events stations.new log.new.events) }
+    ensures spared { OnErr result (IsTrue D.tells → SparesRow D.image stations.old log.old.events stations.new) }
 {
     rz_image_laws::longer::<D>();
     let Some(place) = find(stations, sid) else {
@@ -76,8 +76,8 @@ pub(crate) fn start_node<D: Disk>(
     ensures err { OnErr result (log.new.events ≡ log.old.events) }
     ensures held { OnOk result ((numbers : List ℕ) → Carries (AreMetered D.meter numbers stations.old log.old.events) (AreMetered D.meter numbers stations.new log.new.events)) }
     ensures left { OnErr result ((numbers : List ℕ) → Carries (AreMetered D.meter numbers stations.old log.old.events) (AreCounted D.meter numbers stations.new log.new.events)) }
-    ensures pictured { OnOk result (IsTrue D.tells → KeepsRow D.image stations.old stations.new log.old.events log.new.events) }
-    ensures spared { OnErr result (IsTrue D.tells → SparesRow D.image stations.old stations.new log.old.events) }
+    ensures pictured { OnOk result (IsTrue D.tells → KeepsRow D.image stations.old log.old.events stations.new log.new.events) }
+    ensures spared { OnErr result (IsTrue D.tells → SparesRow D.image stations.old log.old.events stations.new) }
 {
     rz_image_laws::longer::<D>();
     let Some(place) = find(stations, sid) else {
@@ -102,8 +102,8 @@ pub(crate) fn arm_node<D: Disk>(
     ensures err { OnErr result (log.new.events ≡ log.old.events) }
     ensures held { OnOk result ((numbers : List ℕ) → Carries (AreMetered D.meter numbers stations.old log.old.events) (AreMetered D.meter numbers stations.new log.new.events)) }
     ensures left { OnErr result ((numbers : List ℕ) → Carries (AreMetered D.meter numbers stations.old log.old.events) (AreCounted D.meter numbers stations.new log.new.events)) }
-    ensures pictured { OnOk result (IsTrue D.tells → KeepsRow D.image stations.old stations.new log.old.events log.new.events) }
-    ensures spared { OnErr result (IsTrue D.tells → SparesRow D.image stations.old stations.new log.old.events) }
+    ensures pictured { OnOk result (IsTrue D.tells → KeepsRow D.image stations.old log.old.events stations.new log.new.events) }
+    ensures spared { OnErr result (IsTrue D.tells → SparesRow D.image stations.old log.old.events stations.new) }
 {
     rz_image_laws::longer::<D>();
     let Some(place) = find(stations, sid) else {
@@ -123,7 +123,7 @@ fn note(log: &mut Log, event: Option<Event>) -> Result<(), NoMemory>
     requires room { 0 < log.old.room }
     ensures ok { OnOk result (log.new.events ≡ noted event log.old.events) }
     ensures err { OnErr result (log.new.events ≡ log.old.events) }
-    ensures begins { OnErr result (IfSome event (λ x. stamp_begun x ≢ None)) }
+    ensures begins { OnErr result (IsSomeAnd event (λ x. stamp_begun x ≢ None)) }
 {
     match event {
         Some(event) => log.note(event),
