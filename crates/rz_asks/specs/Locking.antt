@@ -14,11 +14,12 @@ use Rattle.rz_locks.specs.declared.conflict.Lock.{Lock}
 use Rattle.rz_locks.specs.declared.conflict.LockKind.{LockKind}
 use Rattle.rz_locks.specs.declared.conflict.Range.{Range}
 use Rattle.rz_locks.specs.Held.{Held, Blocks}
+use Rattle.rz_operation.specs.Answers.{Goes}
 use Rattle.rz_operation.specs.Machine.{Machine}
 use Rattle.rz_operation_model.specs.Ask.{AskLock, ask_of}
 use Rattle.rz_operation_model.specs.Steps.{Locked}
 use Rattle.rz_play.specs.Turns.{lock_on}
-use Rattle.rz_asks.specs.Parts.{IsTold, IsNoted}
+use Rattle.rz_asks.specs.Parts.{IsNoted}
 
 -- the lock that an actor notes as its own
 abbrev pub lock_of : Option (Range × LockKind) → Option Lock
@@ -47,7 +48,7 @@ pub record IsOpened (by : Actor) (owner : ℕ) (path : List ℕ) (asked : Option
   pub none_held : held ≡ None
   pub grants : Grants locks owner asked granted locks'
   pub held_is : held' ≡ lock_if granted asked held
-  pub goes : IsTold old new (Locked granted (open_reply s path))
+  pub goes : Goes old old.pairs (Locked granted (open_reply s path)) new
 
 abbrev pub IsOpenPart : Actor → Machine → Machine → Export → Export → Held → Held → Option (Range × LockKind) → Option (Range × LockKind) → List Event → List Event → Type 0
 IsOpenPart by old new s s' locks locks' held held' log log' =

@@ -10,6 +10,7 @@ use Rattle.rz_events.specs.declared.events.Event.{Event}
 use Rattle.rz_export_model.specs.Export.{Export, export_reply, export_after}
 use Rattle.rz_export_model.specs.ExportEvents.{export_event}
 use Rattle.rz_core.specs.History.{facts}
+use Rattle.rz_operation.specs.Answers.{Goes}
 use Rattle.rz_operation.specs.Machine.{Machine}
 use Rattle.rz_operation_model.specs.Ask.{Ask, AskExport, Say, Saying, SayGot, SayLeft, SayDone, ask_of}
 use Rattle.rz_operation_model.specs.Steps.{Told, Replied, Noted, told}
@@ -42,7 +43,7 @@ IsNoted event old new = (x : Event) × (event ≡ Some x) × (new ≡ x ∷ old)
 pub record IsReplied (by : Actor) (c : Call) (old new : Machine) (s s' : Export) (log log' : List Event) : Type 0 where
   pub noted : IsNoted (export_event by c (export_reply s c)) log log'
   pub after : s' ≡ export_after s c
-  pub goes : IsTold old new (Replied (export_reply s c))
+  pub goes : Goes old old.pairs (Replied (export_reply s c)) new
 
 abbrev pub IsExportPart : Actor → Machine → Machine → Export → Export → List Event → List Event → Type 0
 IsExportPart by old new s s' log log' = (c : Call) × (ask_of old.layout old.work ≡ AskExport c) × IsReplied by c old new s s' log log'
@@ -56,7 +57,7 @@ is_done said = false
 pub record IsSaid (by : Actor) (number : ℕ) (said : Saying) (done : Bool) (old new : Machine) (log log' : List Event) : Type 0 where
   pub done_is : done ≡ is_done said
   pub noted : log' ≡ said_event by number (text_said (facts log) said) said ∷ log
-  pub goes : IsTold old new (Noted (text_said (facts log) said))
+  pub goes : Goes old old.pairs (Noted (text_said (facts log) said)) new
 
 abbrev pub IsSayPart : Actor → ℕ → Bool → Machine → Machine → List Event → List Event → Type 0
 IsSayPart by number done old new log log' = (said : Saying) × (ask_of old.layout old.work ≡ Say said) × IsSaid by number said done old new log log'

@@ -14,7 +14,7 @@ mod replies;
 mod words;
 
 pub use locking::open;
-pub use log::Log;
+pub use log::{Log, let_go};
 pub use replies::{ask_export, note};
 pub(crate) use rz_lines::NoMemory;
 pub use words::{is_bad, say};

@@ -1,5 +1,5 @@
 //! The log of a play.
-ghost use Rattle.std.specs.Prelude.{◌≡◌, ◌+◌, ◌<◌, ◌≤◌, [], ◌∷◌, reverse, OnOk, OnErr, IsTrue, Option};
+ghost use Rattle.std.specs.Prelude.{◌≡◌, ◌≢◌, ◌+◌, ◌<◌, ◌≤◌, [], ◌∷◌, reverse, OnOk, OnErr, IsTrue, Option, None};
 ghost use Rattle.rz_core.specs.History.{wrote};
 ghost use Rattle.rz_play.specs.Turns.{text_in};
 ghost use Rattle.rz_asks.specs.Logged.{stamp_begun, HasBegun};
@@ -62,6 +62,7 @@ impl Log {
         requires room { 0 < self.old.room }
         ensures ok { OnOk result (self.new.events ≡ event ∷ self.old.events) }
         ensures err { OnErr result (self.new.events ≡ self.old.events) }
+        ensures begins { OnErr result (stamp_begun event ≢ None) }
         ensures room { self.old.room ≤ self.new.room + 1 }
     {
         match stamp_of(&event) {
@@ -83,11 +84,12 @@ impl Log {
         }
     }
 
-    /// Adds two events, or none.
+    /// Adds two events, or none where one of them begins a write.
     pub fn note_two(&mut self, first: Event, second: Event) -> Result<(), NoMemory>
         requires room { 2 ≤ self.old.room }
         ensures ok { OnOk result (self.new.events ≡ second ∷ first ∷ self.old.events) }
         ensures err { OnErr result (self.new.events ≡ self.old.events) }
+        ensures begins { OnErr result (stamp_begun first ≡ None → stamp_begun second ≢ None) }
     {
         if stamp_of(&first).is_some() || stamp_of(&second).is_some() {
             let_go(first);
@@ -130,7 +132,8 @@ impl Log {
     }
 }
 
-fn let_go(_event: Event) {}
+/// Lets an event go that is not noted.
+pub fn let_go(_event: Event) {}
 
 /// The stamp of the write that an event begins.
 fn stamp_of(event: &Event) -> Option<u64>

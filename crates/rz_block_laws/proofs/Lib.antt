@@ -5,3 +5,4 @@ mod Others
 mod Marks
 mod Takes
 mod Sent
+mod Turns

@@ -105,7 +105,7 @@ module _ (y : Layout) (f : Facts) (pairs : List Pair) (block : Option Grid) (s :
   fits z Over hand is = absurd (cc)
 
 pub fitting-law : (v : Volume) → IsFittingLaw v
-fitting-law v f o run by m true_to key = (
-  λ part is. fits v.layout f m.pairs m.block (SayGot key part mark.Inconsistent) (bad-got key part) m.layout m.work true_to.hand is,
-  λ is. fits v.layout f m.pairs m.block (SayLeft key left.Inconsistent) (bad-left key) m.layout m.work true_to.hand is,
+fitting-law v f m hand key = (
+  λ part is. fits v.layout f m.pairs m.block (SayGot key part mark.Inconsistent) (bad-got key part) m.layout m.work hand is,
+  λ is. fits v.layout f m.pairs m.block (SayLeft key left.Inconsistent) (bad-left key) m.layout m.work hand is,
 )

@@ -55,7 +55,7 @@ of-up Down o r is = absurd (cc)
 of-up Lost o r is = absurd (cc)
 
 -- an operation that asks something of a node is under way
-at-node : (v : Volume) (y : Layout) (f : Facts) (o run : List Event) (by : Actor) (number : ℕ) (work : Work) (n : ℕ) (question : NodeAsk) → IsOwnProper v → y ≡ v.layout → IsOwn v f o run by work → IsUnderWay v by number run work
+pub at-node : (v : Volume) (y : Layout) (f : Facts) (o run : List Event) (by : Actor) (number : ℕ) (work : Work) (n : ℕ) (question : NodeAsk) → IsOwnProper v → y ≡ v.layout → IsOwn v f o run by work → IsUnderWay v by number run work
     → ask_of y work ≡ AskNode n question → IsProper v f o run by number (AskNode n question)
 at-node v y f o run by number work n question proper layout own (inl over) asked =
     let never : ask_of y Over ≡ AskNode n question = ap (ask_of y) (sym over) ∙ asked in absurd (cc)

@@ -77,7 +77,7 @@ IsBeginningLaw v = (f : Facts) (op : Operation) (m : Machine) → m.work ≡ beg
 
 -- It never says that the records which came fit no block.
 abbrev pub IsFittingLaw : Volume → Type 0
-IsFittingLaw v = (f : Facts) (o run : List Event) (by : Actor) (m : Machine) → IsTrueTo v f o run by m → (key : Key)
+IsFittingLaw v = (f : Facts) (m : Machine) → IsInHand v.layout f m.work m.pairs m.block → (key : Key)
     → ((part : Bool) → ask_of m.layout m.work ≢ Say (SayGot key part mark.Inconsistent)) × (ask_of m.layout m.work ≢ Say (SayLeft key left.Inconsistent))
 
 -- A node's answer belongs to what was asked of it, where each record that it gives is that of its write.

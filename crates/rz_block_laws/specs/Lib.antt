@@ -1,2 +1,3 @@
 pub mod InHand
 pub mod Laws
+pub mod Turns

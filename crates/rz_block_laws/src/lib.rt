@@ -6,7 +6,8 @@
 //! give are those of their writes; `fitting` that the records then never fit no block, and `taken` that
 //! each answer is one that the machine takes. `handing` says that each record that the machine hands to
 //! a node, a writer's or a rebuilder's, is then that of its write. `message` has all of it for one message
-//! to a node, with the images of the node's disk.
+//! to a node, with the images of the node's disk. `lasting`, `told` and `heard` say the same of an actor
+//! and a log that grows.
 //!
 //! The functions have no code. What each one says is its clause, which is proved of every operation.
 #![tactic(auto)]
@@ -14,6 +15,7 @@
 ghost use Rattle.std.specs.Prelude.{IsTrue};
 ghost use Rattle.rz_events.specs.Volume.{Volume};
 ghost use Rattle.rz_block_laws.specs.Laws.{IsHandingLaw, IsFetchedLaw, IsGoingLaw, IsGrowingLaw, IsBeginningLaw, IsFittingLaw, IsTakenLaw, IsMessageLaw};
+ghost use Rattle.rz_block_laws.specs.Turns.{IsLastingLaw, IsToldLaw, IsHeardLaw};
 
 use rz_disk::Disk;
 
@@ -67,4 +69,36 @@ pub fn message<D: Disk>()
     handing();
     fetched();
     going();
+}
+
+/// What an operation has in hand stays true while others act.
+pub fn lasting()
+    ensures { (v : Volume) → IsLastingLaw v }
+{
+    rz_core::permanent();
+    growing();
+}
+
+/// It is true after the operation was told anything but a record.
+pub fn told()
+    ensures { (v : Volume) → IsToldLaw v }
+{
+    rz_core::permanent();
+    going();
+    growing();
+}
+
+/// A message of an actor to a node whose disk tells its text: after the answer the images of the disk are
+/// the node's own, the answer is one to what was asked, and what the operation that is told it has in hand
+/// is true.
+pub fn heard<D: Disk>()
+    ensures { IsTrue D.tells → (v : Volume) → IsHeardLaw D.text D.image v }
+{
+    rz_core::permanent();
+    rz_image_laws::fetched::<D>();
+    rz_image_laws::longer::<D>();
+    rz_play_laws::own_proper();
+    taken();
+    growing();
+    message::<D>();
 }

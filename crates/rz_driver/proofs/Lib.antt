@@ -15,3 +15,9 @@ mod FormatLemmas
 mod NodeOrders
 mod EventWords
 mod MeterLemmas
+mod PictureLemmas
+mod MessagePictures
+mod ActPictures
+mod DriverPictures
+mod NewPictures
+mod OrderPictures

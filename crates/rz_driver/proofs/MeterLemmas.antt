@@ -373,8 +373,8 @@ said-stays by number said h h' log_is n =
 
 -- the faults are counted where a play ended
 pub leaves-counted : {D : Type 0} {G : Ghosts D} (d : Driver D G) (first : ℕ → ℕ) → Leaves d first → AreCounted (fused_meter G.meter) (numbers_in d) d.shared.stations.items d.shared.log.events first
-leaves-counted {G = G} d first (inl met) = metered-counts (fused_meter G.meter) first (numbers_in d) d.shared.stations.items d.shared.log.events met
-leaves-counted {G = G} d first (inr counted) = counted
+leaves-counted {G = G} d first (inl held) = metered-counts (fused_meter G.meter) first (numbers_in d) d.shared.stations.items d.shared.log.events held.0
+leaves-counted {G = G} d first (inr left) = left.0
 
 -- The disks that are handed in, and those that are handed back.
 
@@ -427,7 +427,7 @@ new-holds tells meter image v rules disks numbers row h named same new none = su
 -- The vector of nodes, of which a slice was written.
 
 module _ {X : Type 0} (meter : X → Meter) (numbers : List ℕ) (first : ℕ → ℕ) (v : Vec (Station X)) (xs ys : List (Station X)) (same : xs ≡ v.items) where
-  named-vector : numbers_of ys ≡ numbers_of xs → (with_items v ys).items ≡ ys
+  pub named-vector : numbers_of ys ≡ numbers_of xs → (with_items v ys).items ≡ ys
   named-vector named = with_items_is v ys (sym (length-map ys (λ (s : Station X). s.sid)) ∙ ap length named ∙ length-map xs (λ (s : Station X). s.sid) ∙ ap length same ∙ sym v.ok.0)
 
   pub metered-in : (h h' : List Event) → (AreMetered meter numbers xs h first → AreMetered meter numbers ys h' first) → AreMetered meter numbers v.items h first → AreMetered meter numbers (with_items v ys).items h' first
@@ -463,9 +463,4 @@ module _ {T E D : Type 0} (r : Result T E) (meter : D → Meter) (row : List (St
 -- the log of a driver was not changed
 pub log-kept : {D : Type 0} {G : Ghosts D} (d : Driver D G) → IsDriver d → (h : List Event) (first : ℕ → ℕ) → h ≡ d.shared.log.events → Holds d first
     → AreMetered (fused_meter G.meter) (numbers_in d) d.shared.stations.items h first
-log-kept {G = G} d ready h first same met = subst (λ (k : List Event). AreMetered (fused_meter G.meter) (numbers_in d) d.shared.stations.items k first) (sym same) met
-
-pub turn-err : {T E D : Type 0} (r : Result T E) (meter : D → Meter) (numbers : List ℕ) (row : List (Station D)) (h : List Event) (before : (ℕ → ℕ) → Type 0)
-    → ((first : ℕ → ℕ) → before first → AreCounted meter numbers row h first) → OnErr r (Carries before (λ first. AreMetered meter numbers row h first ⊎ AreCounted meter numbers row h first))
-turn-err (Ok x) meter numbers row h before left = tt
-turn-err (Err x) meter numbers row h before left = λ first met. inr (left first met)
+log-kept {G = G} d ready h first same met = subst (λ (k : List Event). AreMetered (fused_meter G.meter) (numbers_in d) d.shared.stations.items k first) (sym same) met.0

@@ -25,6 +25,7 @@ use Rattle.rz_locks.specs.declared.conflict.LockKind.{LockKind}
 use Rattle.rz_locks.specs.declared.conflict.Range.{Range}
 use Rattle.rz_locks.specs.Conflicts.{Conflict}
 use Rattle.rz_locks.specs.Held.{Held, Blocks}
+use Rattle.rz_operation.specs.Answers.{Goes}
 use Rattle.rz_operation.specs.Machine.{Machine}
 use Rattle.rz_operation_model.specs.Ask.{Ask, AskExport, AskNode, AskLock, Say, Rest, Saying, SayGot, SayGave, SayLeft, SayDone, ask_of}
 use Rattle.rz_operation_model.specs.Work.{Work, Over, Calling, Dropping, Opening, Locking, Writing, Reading, Rebuilding, Ending}
@@ -74,6 +75,9 @@ player-is : (s : APlayer) (a b : Seat) → IsSameActor a b → seat_of a ≡ s �
 player-is s a b same is work work_is lock lock_is miss miss_is =
     (λ i. record { todo = same.todo i; number = same.number i; work = work_is i; lock = lock_is i; miss = miss_is i })
     ∙ ap (λ (x : APlayer). record x { work = work; lock = lock; miss = miss }) is
+
+told-of : (m new : Machine) (t : Told) → Goes m m.pairs t new → IsTold m new t
+told-of m new t goes = record { layout = goes.layout; work = goes.work }
 
 -- ---- the turn
 
@@ -130,7 +134,7 @@ module _ {D : Type 0} (v : Volume) (by : Actor) (ss : List Seat) (place turns : 
       → IsExportPart by old new p.export q.export p.log.events q.log.events → q.stations.items ≡ p.stations.items → q.lost ≡ p.lost → IsTurn v by (world p ss turns) (next b)
   exports b old new was is same lock miss (c, asks, replied) stations lost =
       let x = replied.noted.0 in
-      let seats = seats-are b (advanced v s (Replied (export_reply p.export c))) (goes-on old new b (Replied (export_reply p.export c)) was is same replied.goes s.lock (ap lock_of lock) s.miss miss) in
+      let seats = seats-are b (advanced v s (Replied (export_reply p.export c))) (goes-on old new b (Replied (export_reply p.export c)) was is same (told-of old new (Replied (export_reply p.export c)) replied.goes) s.lock (ap lock_of lock) s.miss miss) in
       lift (AskExport c) b (asked old (AskExport c) was asks) (
         x,
         replied.noted.1,
@@ -195,7 +199,7 @@ module _ {D : Type 0} (v : Volume) (by : Actor) (ss : List Seat) (place turns : 
         let lock = lock_on answer exclusive from count in
         let x = o.noted.0 in
         let seats = seats-are b (locked o.granted lock (advanced v s (Locked o.granted answer)))
-        (goes-on old new b (Locked o.granted answer) was is same o.goes (cond o.granted lock s.lock) (o.held_is ∙ if-cond o.granted lock (lock_of a.lock)) s.miss miss) in
+        (goes-on old new b (Locked o.granted answer) was is same (told-of old new (Locked o.granted answer) o.goes) (cond o.granted lock s.lock) (o.held_is ∙ if-cond o.granted lock (lock_of a.lock)) s.miss miss) in
         lift (AskLock path exclusive from count) b (asked old (AskLock path exclusive from count) was asks) (
           x,
           o.noted.1,
@@ -265,7 +269,7 @@ module _ {D : Type 0} (v : Volume) (by : Actor) (ss : List Seat) (place turns : 
       sent (ReplyLost part lost_so miss lost) =
           let given = part.given in
           let nodes = states given part.served.after in
-          let seats = seats-are b (no_miss (advanced v s Missed)) (goes-on old new b Missed was is same part.goes s.lock (ap lock_of lock) None miss) in
+          let seats = seats-are b (no_miss (advanced v s Missed)) (goes-on old new b Missed was is same (told-of old new Missed part.goes) s.lock (ap lock_of lock) None miss) in
           lift (AskNode n question) b (asked old (AskNode n question) was asks) (LosesReply (
             given,
             part.event,
@@ -283,7 +287,7 @@ module _ {D : Type 0} (v : Volume) (by : Actor) (ss : List Seat) (place turns : 
       sent (RequestLost stays part lost_so miss lost) =
           let nodes : state_in q.stations.items ≡ state_in p.stations.items =
           ap state_in (m.stations ∙ ap (set p.stations.items m.place) stays ∙ set-same p.stations.items m.place m.station m.is) in
-          let seats = seats-are b (no_miss (advanced v s Missed)) (goes-on old new b Missed was is same part.goes s.lock (ap lock_of lock) None miss) in
+          let seats = seats-are b (no_miss (advanced v s Missed)) (goes-on old new b Missed was is same (told-of old new Missed part.goes) s.lock (ap lock_of lock) None miss) in
           lift (AskNode n question) b (asked old (AskNode n question) was asks) (LosesRequest (
             lost_so,
             λ i. record {
@@ -310,7 +314,7 @@ module _ {D : Type 0} (v : Volume) (by : Actor) (ss : List Seat) (place turns : 
   says b old new was is same miss done (said, asks, part) released stations export lost =
       let text = text_said (facts p.log.events) said in
       let seats = seats-are b (record (advanced v s (Noted text)) { lock = lock_after said s.lock })
-      (goes-on old new b (Noted text) was is same part.goes (lock_after said s.lock) (lock-said said done a.lock b.lock part.done_is released.lock_is) s.miss miss) in
+      (goes-on old new b (Noted text) was is same (told-of old new (Noted text) part.goes) (lock_after said s.lock) (lock-said said done a.lock b.lock part.done_is released.lock_is) s.miss miss) in
       lift (Say said) b (asked old (Say said) was asks) (λ i. record {
         nodes = state_in (stations i);
         export = export i;

@@ -6,3 +6,4 @@ pub mod Administration
 pub mod Worlds
 pub mod Made
 pub mod Meters
+pub mod Pictures

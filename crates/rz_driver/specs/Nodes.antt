@@ -8,12 +8,15 @@ use Rattle.rz_events.specs.declared.keys.Actor.{Actor}
 use Rattle.rz_events.specs.declared.nodes.NodeAsk.{NodeAsk}
 use Rattle.rz_events.specs.declared.nodes.NodeAsk.TheVariants as ask
 use Rattle.rz_events.specs.declared.nodes.NodeAnswer.{NodeAnswer}
+use Rattle.rz_events.specs.declared.nodes.NodeAnswer.TheVariants as answer
 use Rattle.rz_events.specs.declared.events.Event.{Event}
 use Rattle.rz_events.specs.declared.events.Event.TheVariants as e
 use Rattle.rz_node_model.specs.States.{NodeState}
 use Rattle.rz_node_model.specs.Answers.{IsNodeAnswer}
 use Rattle.rz_node_model.specs.Afterwards.{after_answer}
 use Rattle.rz_node_model.specs.NodeEvents.{node_event}
+use Rattle.rz_client_model.specs.Read.{IsFetched}
+use Rattle.rz_operation.specs.Answers.{Goes}
 use Rattle.rz_operation.specs.Machine.{Machine}
 use Rattle.rz_operation_model.specs.Ask.{AskNode, ask_of}
 use Rattle.rz_operation_model.specs.Steps.{Answered, Missed}
@@ -35,6 +38,11 @@ abbrev pub IsPlaced : Layout → NodeAsk → Type 0
 IsPlaced layout (ask.Fetch key position stamp) = position < safe_of layout
 IsPlaced layout question = Unit {0}
 
+-- a record that was fetched is one of the layout, as far as its answer tells
+abbrev pub IsFetchOf : Layout → NodeAnswer → Type 0
+IsFetchOf layout (answer.Fetch a) = IsFetched layout a
+IsFetchOf layout given = Unit {0}
+
 -- a node answered, in the state that it had, and has the state after it
 pub record IsServed (cells : ℕ) (question : NodeAsk) (given : NodeAnswer) (s s' : NodeState) : Type 0 where
   pub given_is : IsNodeAnswer cells s question given
@@ -54,9 +62,9 @@ pub record IsReplyLostPart (by : Actor) (n cells : ℕ) (question : NodeAsk) (s 
   pub event : Event
   pub event_is : node_event by n question given ≡ Some event
   pub noted : log' ≡ e.Missed by n true ∷ event ∷ log
-  pub goes : IsTold old new Missed
+  pub goes : Goes old old.pairs Missed new
 
 -- it was lost itself
 pub record IsRequestLostPart (by : Actor) (n : ℕ) (old new : Machine) (log log' : List Event) : Type 0 where
   pub noted : log' ≡ e.Missed by n false ∷ log
-  pub goes : IsTold old new Missed
+  pub goes : Goes old old.pairs Missed new

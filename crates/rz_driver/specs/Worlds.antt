@@ -1,5 +1,5 @@
 -- The world of a play that a driver stands for.
-use Rattle.std.specs.Prelude.{ℕ, Bool, true, false, ◌≡◌, ◌+◌, ◌-◌, ◌≤◌, ◌⊎◌, ◌&&◌, nat_le, map, List, length, Option, Some, None, slice_get}
+use Rattle.std.specs.Prelude.{ℕ, Bool, true, false, IsTrue, ◌≡◌, ◌+◌, ◌-◌, ◌^◌, ◌<◌, ◌≤◌, ◌⊎◌, ◌&&◌, nat_le, map, List, length, Option, Some, None, slice_get}
 use Rattle.std.specs.List.{AllByRecursion}
 use Rattle.std.specs.FinMap.{get}
 use Rattle.mj_angles.specs.Layout.{max_bins_of}
@@ -16,6 +16,7 @@ use Rattle.rz_driver.specs.declared.driver.Driver.{Driver}
 use Rattle.rz_driver.specs.Seats.{seat_of, IsSeat}
 use Rattle.rz_disk.specs.UnderFuse.{fused_meter}
 use Rattle.rz_driver.specs.Meters.{AreMetered, AreCounted}
+use Rattle.rz_driver.specs.Pictures.{IsPicture, IsRight, fused_image}
 use Rattle.rz_driver.specs.Stations.{state_in, numbers_of, IsStation}
 
 -- Actors stand in a row, the clients 1 to 64 and then the rebuilders 1 to 16.
@@ -78,10 +79,18 @@ pub record IsDriver {D : Type 0} {G : Ghosts D} (d : Driver D G) : Type 0 where
 abbrev pub numbers_in : {D : Type 0} {G : Ghosts D} → Driver D G → List ℕ
 numbers_in d = map (λ (n : NodeSpec). n.sid) (nodes_of d.volume.clusters)
 
+-- where disks tell their texts, and the log has room for an event more, actors and disks are right beside it
+abbrev pub HasPicture : {D : Type 0} {G : Ghosts D} → Driver D G → Type 0
+HasPicture {G = G} d = IsTrue G.tells → length d.shared.log.events < 2 ^ 64 - 1 → IsPicture (fused_image G.image) d.volume (world_of d) d.seats.items d.shared.stations.items
+
+-- then each disk is right by the log
+abbrev pub HasRightDisks : {D : Type 0} {G : Ghosts D} → Driver D G → Type 0
+HasRightDisks {G = G} d = IsTrue G.tells → length d.shared.log.events < 2 ^ 64 - 1 → AllByRecursion (IsRight (fused_image G.image) d.volume d.shared.log.events) d.shared.stations.items
+
 -- between two turns each word of the log goes with its disk's meter
 abbrev pub Holds : {D : Type 0} {G : Ghosts D} → Driver D G → (ℕ → ℕ) → Type 0
-Holds {G = G} d = AreMetered (fused_meter G.meter) (numbers_in d) d.shared.stations.items d.shared.log.events
+Holds {G = G} d first = AreMetered (fused_meter G.meter) (numbers_in d) d.shared.stations.items d.shared.log.events first × HasPicture d
 
 -- where a play ended they do, or the faults of each word are counted
 abbrev pub Leaves : {D : Type 0} {G : Ghosts D} → Driver D G → (ℕ → ℕ) → Type 0
-Leaves {G = G} d first = Holds d first ⊎ AreCounted (fused_meter G.meter) (numbers_in d) d.shared.stations.items d.shared.log.events first
+Leaves {G = G} d first = Holds d first ⊎ (AreCounted (fused_meter G.meter) (numbers_in d) d.shared.stations.items d.shared.log.events first × HasRightDisks d)

@@ -1,5 +1,5 @@
 //! What an actor does in its turn.
-ghost use Rattle.std.specs.Prelude.{◌≡◌, ◌+◌, ◌≤◌, ℕ, length, IfSome, OnOk, OnErr, List};
+ghost use Rattle.std.specs.Prelude.{◌≡◌, ◌+◌, ◌≤◌, ℕ, length, IfSome, IsTrue, OnOk, OnErr, List, Some};
 ghost use Rattle.std.specs.FinMap as map;
 ghost use Rattle.std.specs.Vec.{vec_len};
 ghost use Rattle.mj_angles.specs.Layout.{max_bins_of};
@@ -11,6 +11,7 @@ ghost use Rattle.rz_driver.specs.Nodes.{IsAsked};
 ghost use Rattle.rz_driver.specs.Seats.{HasLayout};
 ghost use Rattle.rz_lines.specs.Ends.{Carries};
 ghost use Rattle.rz_driver.specs.Meters.{AreMetered, AreCounted};
+ghost use Rattle.rz_driver.specs.Pictures.{KeepsPicture, SparesPicture};
 ghost use Rattle.rz_driver.specs.Acts.{IsKind, IsMessage, IsReleased, IsAct, HasLayouts};
 
 use crate::NoMemory;
@@ -70,7 +71,11 @@ pub(crate) fn act<D: Disk, L: Link>(
     ensures count { vec_len shared.new.stations ≡ vec_len shared.old.stations }
     ensures held { OnOk result ((numbers : List ℕ) → Carries (AreMetered D.meter numbers shared.old.stations.items shared.old.log.events) (AreMetered D.meter numbers shared.new.stations.items shared.new.log.events)) }
     ensures left { OnErr result ((numbers : List ℕ) → Carries (AreMetered D.meter numbers shared.old.stations.items shared.old.log.events) (AreCounted D.meter numbers shared.new.stations.items shared.new.log.events)) }
+    ensures pictured { OnOk result (IsTrue D.tells → KeepsPicture D.image by seat.old.machine seat.new.machine shared.old.stations.items shared.old.log.events shared.new.stations.items shared.new.log.events) }
+    ensures spared { OnErr result (IsTrue D.tells → SparesPicture D.image by seat.old.machine shared.old.stations.items shared.old.log.events shared.new.stations.items) }
 {
+    rz_block_laws::told();
+    rz_image_laws::longer::<D>();
     let Some(machine) = &mut seat.machine else {
         return Ok(());
     };
@@ -142,7 +147,11 @@ fn message<D: Disk, L: Link>(
     ensures count { vec_len shared.new.stations ≡ vec_len shared.old.stations }
     ensures held { OnOk result ((numbers : List ℕ) → Carries (AreMetered D.meter numbers shared.old.stations.items shared.old.log.events) (AreMetered D.meter numbers shared.new.stations.items shared.new.log.events)) }
     ensures left { OnErr result ((numbers : List ℕ) → Carries (AreMetered D.meter numbers shared.old.stations.items shared.old.log.events) (AreCounted D.meter numbers shared.new.stations.items shared.new.log.events)) }
+    ensures pictured { OnOk result (IsTrue D.tells → KeepsPicture D.image by (Some machine.old) (Some machine.new) shared.old.stations.items shared.old.log.events shared.new.stations.items shared.new.log.events) }
+    ensures spared { OnErr result (IsTrue D.tells → SparesPicture D.image by (Some machine.old) shared.old.stations.items shared.old.log.events shared.new.stations.items) }
 {
+    rz_block_laws::told();
+    rz_image_laws::longer::<D>();
     let Some(place) = find(shared.stations.as_slice(), number) else {
         return Err(NoMemory);
     };

@@ -1,9 +1,11 @@
 //! The administrator's lines: a node stops, starts or loses its disk, or its disk is armed.
-ghost use Rattle.std.specs.Prelude.{◌≡◌, ◌<◌, ◌≤◌, ℕ, List, Some, IfOk, OnOk, OnErr, IsTrue};
+ghost use Rattle.std.specs.Prelude.{◌≡◌, ◌≢◌, ◌<◌, ◌≤◌, ℕ, List, Some, None, IfOk, IsSomeAnd, OnOk, OnErr, IsTrue};
 ghost use Rattle.rz_events.specs.declared.nodes.NodeAsk.TheVariants as ask;
 ghost use Rattle.rz_events.specs.declared.events.Event.TheVariants as e;
 ghost use Rattle.rz_play.specs.Lines.{noted};
+ghost use Rattle.rz_asks.specs.Logged.{stamp_begun};
 ghost use Rattle.rz_lines.specs.Ends.{Carries};
+ghost use Rattle.rz_driver.specs.Pictures.{KeepsImages, KeepsRow, SparesRow};
 ghost use Rattle.rz_driver.specs.Meters.{AreMetered, AreCounted, Goes};
 ghost use Rattle.rz_driver.specs.Stations.{IsCalled};
 ghost use Rattle.rz_driver.specs.Administration.{IsOrdered, IsOrder, IsFreeOrder, IsStarted, IsArmed, IsArming, IsCalledAt};
@@ -26,7 +28,10 @@ pub(crate) fn stop_node<D: Disk>(
     ensures err { OnErr result (log.new.events ≡ log.old.events) }
     ensures held { OnOk result ((numbers : List ℕ) → Carries (AreMetered D.meter numbers stations.old log.old.events) (AreMetered D.meter numbers stations.new log.new.events)) }
     ensures left { OnErr result ((numbers : List ℕ) → Carries (AreMetered D.meter numbers stations.old log.old.events) (AreCounted D.meter numbers stations.new log.new.events)) }
+    ensures pictured { OnOk result (IsTrue D.tells → KeepsRow D.image stations.old log.old.events stations.new log.new.events) }
+    ensures spared { OnErr result (IsTrue D.tells → SparesRow D.image stations.old log.old.events stations.new) }
 {
+    rz_image_laws::longer::<D>();
     let Some(place) = find(stations, sid) else {
         return Err(NoMemory);
     };
@@ -45,7 +50,10 @@ pub(crate) fn lose_node<D: Disk>(
     ensures err { OnErr result (log.new.events ≡ log.old.events) }
     ensures held { OnOk result ((numbers : List ℕ) → Carries (AreMetered D.meter numbers stations.old log.old.events) (AreMetered D.meter numbers stations.new log.new.events)) }
     ensures left { OnErr result ((numbers : List ℕ) → Carries (AreMetered D.meter numbers stations.old log.old.events) (AreCounted D.meter numbers stations.new log.new.events)) }
+    ensures pictured { OnOk result (IsTrue D.tells → KeepsRow D.image stations.old log.old.events stations.new log.new.events) }
+    ensures spared { OnErr result (IsTrue D.tells → SparesRow D.image stations.old log.old.events stations.new) }
 {
+    rz_image_laws::longer::<D>();
     let Some(place) = find(stations, sid) else {
         return Err(NoMemory);
     };
@@ -68,7 +76,10 @@ pub(crate) fn start_node<D: Disk>(
     ensures err { OnErr result (log.new.events ≡ log.old.events) }
     ensures held { OnOk result ((numbers : List ℕ) → Carries (AreMetered D.meter numbers stations.old log.old.events) (AreMetered D.meter numbers stations.new log.new.events)) }
     ensures left { OnErr result ((numbers : List ℕ) → Carries (AreMetered D.meter numbers stations.old log.old.events) (AreCounted D.meter numbers stations.new log.new.events)) }
+    ensures pictured { OnOk result (IsTrue D.tells → KeepsRow D.image stations.old log.old.events stations.new log.new.events) }
+    ensures spared { OnErr result (IsTrue D.tells → SparesRow D.image stations.old log.old.events stations.new) }
 {
+    rz_image_laws::longer::<D>();
     let Some(place) = find(stations, sid) else {
         return Err(NoMemory);
     };
@@ -91,7 +102,10 @@ pub(crate) fn arm_node<D: Disk>(
     ensures err { OnErr result (log.new.events ≡ log.old.events) }
     ensures held { OnOk result ((numbers : List ℕ) → Carries (AreMetered D.meter numbers stations.old log.old.events) (AreMetered D.meter numbers stations.new log.new.events)) }
     ensures left { OnErr result ((numbers : List ℕ) → Carries (AreMetered D.meter numbers stations.old log.old.events) (AreCounted D.meter numbers stations.new log.new.events)) }
+    ensures pictured { OnOk result (IsTrue D.tells → KeepsRow D.image stations.old log.old.events stations.new log.new.events) }
+    ensures spared { OnErr result (IsTrue D.tells → SparesRow D.image stations.old log.old.events stations.new) }
 {
+    rz_image_laws::longer::<D>();
     let Some(place) = find(stations, sid) else {
         return Err(NoMemory);
     };
@@ -109,6 +123,7 @@ fn note(log: &mut Log, event: Option<Event>) -> Result<(), NoMemory>
     requires room { 0 < log.old.room }
     ensures ok { OnOk result (log.new.events ≡ noted event log.old.events) }
     ensures err { OnErr result (log.new.events ≡ log.old.events) }
+    ensures begins { OnErr result (IsSomeAnd event (λ x. stamp_begun x ≢ None)) }
 {
     match event {
         Some(event) => log.note(event),
@@ -120,7 +135,9 @@ fn stop<D: Disk>(station: &mut Station<D>) -> Option<Event>
     ensures order { IsOrder ask.Stop station.old station.new result }
     ensures metered { Goes D.meter station.old station.new result }
     ensures counted { (D.meter station.old.node.disk).own ≤ (D.meter station.new.node.disk).own }
+    ensures images { IsTrue D.tells → KeepsImages D.image station.old station.new }
 {
+    rz_image_laws::called::<D>();
     rz_disk_laws::faults();
     let answer = NodeAnswer::Stop(station.node.stop());
     node_event(Actor::Admin, station.sid, &NodeAsk::Stop, &answer)
@@ -130,7 +147,9 @@ fn lose<D: Disk>(station: &mut Station<D>) -> Option<Event>
     ensures order { IsOrder ask.Lose station.old station.new result }
     ensures metered { Goes D.meter station.old station.new result }
     ensures counted { (D.meter station.old.node.disk).own ≤ (D.meter station.new.node.disk).own }
+    ensures images { IsTrue D.tells → KeepsImages D.image station.old station.new }
 {
+    rz_image_laws::called::<D>();
     rz_disk_laws::faults();
     let answer = NodeAnswer::Lose(station.node.lose());
     node_event(Actor::Admin, station.sid, &NodeAsk::Lose, &answer)
@@ -145,7 +164,12 @@ fn start<D: Disk>(alloc: Global, station: &mut Station<D>) -> Result<Option<Even
     ensures crashed { station.old.node.state.phase ≡ Phase.Down → D.picks station.old.node.disk station.old.pick (D.text station.new.node.disk) }
     ensures metered { IfOk result (λ event. Goes D.meter station.old station.new event) }
     ensures counted { (D.meter station.old.node.disk).own ≤ (D.meter station.new.node.disk).own }
+    ensures images { IsTrue D.tells → KeepsImages D.image station.old station.new }
+    ensures same { OnErr result (station.new.node.state ≡ station.old.node.state) }
 {
+    rz_image_laws::called::<D>();
+    rz_image_laws::crashed::<D>();
+    rz_image_laws::fewer::<D>();
     rz_disk_laws::started();
     if station.node.phase() == Phase::Down {
         station.node.crash(station.pick);
@@ -165,7 +189,9 @@ fn arm<D: Disk>(station: &mut Station<D>, passes: u64, pick: u64)
     ensures armed { IsArmed pick station.old station.new }
     ensures metered { Goes D.meter station.old station.new (Some (e.Armed station.old.sid passes pick)) }
     ensures counted { (D.meter station.old.node.disk).own ≤ (D.meter station.new.node.disk).own }
+    ensures images { IsTrue D.tells → KeepsImages D.image station.old station.new }
 {
+    rz_image_laws::fewer::<D>();
     rz_disk_laws::armed();
     station.node.arm(Some(passes));
     station.pick = pick;

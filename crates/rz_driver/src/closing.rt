@@ -1,7 +1,8 @@
 //! The end of a driver: the log and the disks go back.
-ghost use Rattle.std.specs.Prelude.{◌≡◌, ◌+◌, ◌≤◌, ◌++◌, reverse, ℕ};
+ghost use Rattle.std.specs.Prelude.{◌≡◌, ◌+◌, ◌≤◌, ◌++◌, reverse, ℕ, IsTrue};
 ghost use Rattle.std.specs.Vec.{vec_len, vec_capacity};
 ghost use Rattle.rz_driver.specs.Meters.{AreDisksCounted};
+ghost use Rattle.rz_driver.specs.Pictures.{AreDisksImaged};
 ghost use Rattle.rz_driver.specs.Stations.{disks_of};
 ghost use Rattle.rz_driver.specs.Worlds.{numbers_in, Leaves};
 
@@ -31,7 +32,9 @@ impl<D: Disk> Driver<D> {
         ensures log { result.0.items ≡ reverse self.shared.log.events }
         ensures disks { result.1.items ≡ disks_of self.shared.stations.items }
         ensures counted { (first : ℕ → ℕ) → Leaves self first → AreDisksCounted D.meter first 0 (numbers_in self) result.1.items self.shared.log.events }
+        ensures imaged { (first : ℕ → ℕ) → Leaves self first → IsTrue D.tells → AreDisksImaged D.image self.volume (numbers_in self) result.1.items self.shared.log.events }
     {
+        rz_image_laws::logged::<D>();
         let Driver {
             shared,
             mut home,

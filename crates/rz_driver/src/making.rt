@@ -40,6 +40,7 @@ impl<D: Disk> Driver<D> {
         ensures back { IfErr result (λ r. AreBack D.tells D.meter D.image volume.now.layout (nodes_of volume.now.clusters) disks.items r.0.items) }
         ensures cause { IfErr result (λ r. IsCause D.meter disks.items r.0.items r.1) }
     {
+        rz_image_laws::fresh::<D>();
         let Ok(parts) = new_parts(alloc, volume) else {
             return Err((disks, DriverFault::NoMemory));
         };

@@ -1,20 +1,24 @@
 //! Messages to nodes.
-ghost use Rattle.std.specs.Prelude.{◌≡◌, ◌≢◌, ◌<◌, ◌≤◌, ℕ, true, None, IsTrue, OnOk, OnErr, IfOk, length};
+ghost use Rattle.std.specs.Prelude.{◌≡◌, ◌≢◌, ◌↔◌, ◌<◌, ◌≤◌, ℕ, List, true, None, IsTrue, OnOk, OnErr, IfOk, length, not};
 ghost use Rattle.rz_cells.specs.Opening.{opening_calls};
 ghost use Rattle.mj_angles.specs.Layout.{max_bins_of};
+ghost use Rattle.rz_block_laws.specs.Laws as laws;
 ghost use Rattle.rz_calls.specs.Calls.{Counts, IsNoStart, IsRecord};
-ghost use Rattle.rz_operation_model.specs.Steps.{Answered};
+ghost use Rattle.rz_operation.specs.Answers.{HasRoom, IsAnswered, IsAnswerTo};
+ghost use Rattle.rz_operation_model.specs.Ask.{ask_of};
 ghost use Rattle.rz_operation_model.specs.Turns.{goes_by_link};
-ghost use Rattle.rz_driver.specs.Nodes.{Fares, IsServed, IsAsked, IsPlaced, IsThroughPart, IsReplyLostPart, IsRequestLostPart};
+ghost use Rattle.rz_play_laws.specs.Own.{IsOfActor};
+ghost use Rattle.rz_driver.specs.Nodes.{Fares, IsServed, IsAsked, IsFetchOf, IsPlaced, IsThroughPart, IsReplyLostPart, IsRequestLostPart};
 ghost use Rattle.rz_driver.specs.Meters.{GoesOn};
-ghost use Rattle.rz_asks.specs.Parts.{IsTold};
+ghost use Rattle.rz_driver.specs.Pictures.{KeepsNode, SparesNode};
+ghost use Rattle.rz_asks.specs.Parts.{is_bad};
 
 use crate::NoMemory;
 use mj_angles::Layout;
-use rz_asks::{Log, is_bad, note};
+use rz_asks::{Log, is_bad, let_go};
 use rz_calls::{answer_node, node_event};
 use rz_disk::Disk;
-use rz_events::{Actor, Event, Head, NodeAnswer, NodeAsk};
+use rz_events::{Actor, Event, FetchAnswer, Head, NodeAnswer, NodeAsk};
 use rz_link::{Link, Sent};
 use rz_node::Node;
 use rz_operation::Machine;
@@ -77,6 +81,9 @@ fn serve<D: Disk>(
     ensures served { IfOk result (λ a. IsServed node.old.geometry.cells ask.now a node.old.state node.new.state) }
     ensures geometry { node.new.geometry ≡ node.old.geometry }
     ensures no_start { OnOk result (IsNoStart ask.now) }
+    ensures actor { OnOk result (IsOfActor ask.now) }
+    ensures message { IfOk result (λ a. IsTrue D.tells → (n : ℕ) → IsAsked machine.now n ask.now → (handed : List ℕ) × laws.IsMessage D.text D.image machine.now n node.old.geometry.cells node.old.geometry node.old.state ask.now a handed bins.new node.old.disk node.new.disk) }
+    ensures room { length bins.new ≡ length bins.old }
     ensures counts { IfOk result (λ a. Counts (opening_calls node.old.geometry) a (D.meter node.old.disk) (D.meter node.new.disk)) }
     ensures same { OnErr result (node.new ≡ node.old) }
 {
@@ -106,30 +113,38 @@ fn is_placed(layout: Layout, ask: &NodeAsk) -> bool
     }
 }
 
-/// Tells a machine an answer. It does not go on where the records that came fit no block.
+/// Whether a record that a node gave is one of the layout, as far as the answer tells.
+fn is_fetch_of(layout: Layout, answer: &NodeAnswer) -> bool
+    ensures { IsTrue result ↔ IsFetchOf layout answer.now }
+{
+    match answer {
+        NodeAnswer::Fetch(FetchAnswer::Held(held)) => {
+            held.base < held.stamp && held.length as usize <= layout.block_bytes()
+        }
+        _ => true,
+    }
+}
+
+/// Tells a machine an answer, and whether it goes on: it does not where the records that came fit no block.
 fn tell(
     layout: Layout,
     machine: &mut Machine,
     ask: &NodeAsk,
     answer: NodeAnswer,
     bins: &[u64],
-) -> Result<(), NoMemory>
+) -> bool
     requires machine { machine.old.layout ≡ layout }
     requires asked { (n : ℕ) × IsAsked machine.old n ask.now }
-    ensures { OnOk result (IsTold machine.old machine.new (Answered true answer)) }
+    requires placed { IsPlaced layout ask.now }
+    requires answers { IsAnswerTo layout ask.now answer }
+    requires room { HasRoom machine.old.work }
+    requires bins { max_bins_of layout ≤ length bins.now }
+    ensures goes { result ≡ not (is_bad (ask_of machine.new.layout machine.new.work)) }
+    ensures answered { IsAnswered machine.old answer bins.now machine.new }
 {
-    let most = layout.max_bins();
-    if bins.len() < most || !is_placed(layout, ask) {
-        return Err(NoMemory);
-    }
-    if !machine.takes_answer(&answer) || !machine.has_room() {
-        return Err(NoMemory);
-    }
+    let _most = layout.max_bins();
     machine.tell_answer(answer, bins);
-    if is_bad(machine) {
-        return Err(NoMemory);
-    }
-    Ok(())
+    !is_bad(machine)
 }
 
 /// The message comes through.
@@ -154,11 +169,27 @@ pub(crate) fn through<D: Disk>(
     ensures geometry { node.new.geometry ≡ node.old.geometry }
     ensures metered { OnOk result (GoesOn D.meter number node.old node.new log.old.events log.new.events) }
     ensures counted { (D.meter node.old.disk).own ≤ (D.meter node.new.disk).own }
+    ensures pictured { OnOk result (IsTrue D.tells → KeepsNode D.image by number machine.old machine.new node.old node.new log.old.events log.new.events) }
+    ensures spared { OnErr result (IsTrue D.tells → SparesNode D.image by number machine.old node.old node.new log.old.events) }
 {
     rz_disk_laws::faults();
+    rz_block_laws::heard::<D>();
+    rz_block_laws::fitting();
+    if !machine.has_room() || !is_placed(layout, &ask) {
+        return Err(NoMemory);
+    }
     let answer = serve(alloc, layout, machine, &ask, node, bins)?;
-    tell(layout, machine, &ask, answer, bins)?;
-    note(node_event(by, number, &ask, &answer), log)
+    if !is_fetch_of(layout, &answer) {
+        return Err(NoMemory);
+    }
+    let Some(event) = node_event(by, number, &ask, &answer) else {
+        return Err(NoMemory);
+    };
+    if !tell(layout, machine, &ask, answer, bins) {
+        let_go(event);
+        return Err(NoMemory);
+    }
+    log.note(event)
 }
 
 /// The node is given the call, and its answer is lost.
@@ -183,8 +214,12 @@ pub(crate) fn without_reply<D: Disk>(
     ensures geometry { node.new.geometry ≡ node.old.geometry }
     ensures metered { OnOk result (GoesOn D.meter number node.old node.new log.old.events log.new.events) }
     ensures counted { (D.meter node.old.disk).own ≤ (D.meter node.new.disk).own }
+    ensures pictured { OnOk result (IsTrue D.tells → KeepsNode D.image by number machine.old machine.new node.old node.new log.old.events log.new.events) }
+    ensures spared { OnErr result (IsTrue D.tells → SparesNode D.image by number machine.old node.old node.new log.old.events) }
 {
     rz_disk_laws::faults();
+    rz_block_laws::heard::<D>();
+    rz_block_laws::told();
     if !machine.has_room() {
         return Err(NoMemory);
     }

@@ -2,6 +2,8 @@
 ghost use Rattle.std.specs.Prelude.{◌≡◌, ◌∷◌, OnOk, OnErr};
 ghost use Rattle.rz_events.specs.declared.nodes.NodeAsk.TheVariants as ask;
 ghost use Rattle.rz_events.specs.declared.events.Event.TheVariants as e;
+ghost use Rattle.rz_script.specs.Lines.{IsLine};
+ghost use Rattle.rz_script.specs.declared.line.Line.TheVariants as line;
 ghost use Rattle.rz_play.specs.Lines.{IsAdminCall};
 ghost use Rattle.rz_script.specs.declared.line.Line.TheVariants as line;
 ghost use Rattle.rz_lines.specs.Ends.{Carries};
@@ -17,6 +19,7 @@ impl<D: Disk> Driver<D> {
     /// The node stops.
     pub(crate) fn order_stop(&mut self, sid: u16) -> Result<(), NoMemory>
         requires ready { IsDriver self.old }
+        requires line { IsLine self.old.volume (line.Stop sid) }
         ensures volume { self.new.volume ≡ self.old.volume }
         ensures ready { OnOk result (IsDriver self.new) }
         ensures called { OnOk result (IsAdminCall self.old.volume sid ask.Stop (world_of self.old) (world_of self.new)) }
@@ -25,6 +28,8 @@ impl<D: Disk> Driver<D> {
         ensures held { OnOk result (Carries (Holds self.old) (Holds self.new)) }
         ensures left { OnErr result (Carries (Holds self.old) (Leaves self.new)) }
     {
+        rz_play_laws::lined();
+        rz_block_laws::lasting();
         let shared = &mut self.shared;
         stop_node(shared.stations.as_mut_slice(), &mut shared.log, sid)
     }
@@ -32,6 +37,7 @@ impl<D: Disk> Driver<D> {
     /// The node starts again. What it finds is said of a disk that tells its text.
     pub(crate) fn order_start(&mut self, sid: u16) -> Result<(), NoMemory>
         requires ready { IsDriver self.old }
+        requires line { IsLine self.old.volume (line.Start sid) }
         ensures volume { self.new.volume ≡ self.old.volume }
         ensures ready { OnOk result (IsDriver self.new) }
         ensures called { OnOk result (PlaysLineOver self.old.volume (line.Start sid) D.tells (world_of self.old) (world_of self.new)) }
@@ -41,6 +47,8 @@ impl<D: Disk> Driver<D> {
         ensures held { OnOk result (Carries (Holds self.old) (Holds self.new)) }
         ensures left { OnErr result (Carries (Holds self.old) (Leaves self.new)) }
     {
+        rz_play_laws::lined();
+        rz_block_laws::lasting();
         let shared = &mut self.shared;
         start_node(
             self.alloc,
@@ -53,6 +61,7 @@ impl<D: Disk> Driver<D> {
     /// The node loses its disk.
     pub(crate) fn order_loss(&mut self, sid: u16) -> Result<(), NoMemory>
         requires ready { IsDriver self.old }
+        requires line { IsLine self.old.volume (line.Lose sid) }
         ensures volume { self.new.volume ≡ self.old.volume }
         ensures ready { OnOk result (IsDriver self.new) }
         ensures called { OnOk result (IsAdminCall self.old.volume sid ask.Lose (world_of self.old) (world_of self.new)) }
@@ -61,6 +70,8 @@ impl<D: Disk> Driver<D> {
         ensures held { OnOk result (Carries (Holds self.old) (Holds self.new)) }
         ensures left { OnErr result (Carries (Holds self.old) (Leaves self.new)) }
     {
+        rz_play_laws::lined();
+        rz_block_laws::lasting();
         let shared = &mut self.shared;
         lose_node(shared.stations.as_mut_slice(), &mut shared.log, sid)
     }
@@ -68,6 +79,7 @@ impl<D: Disk> Driver<D> {
     /// The node's disk lets so many device calls pass, and its next crash picks by `pick`.
     pub(crate) fn order_break(&mut self, sid: u16, passes: u64, pick: u64) -> Result<(), NoMemory>
         requires ready { IsDriver self.old }
+        requires line { IsLine self.old.volume (line.Break sid passes pick) }
         ensures volume { self.new.volume ≡ self.old.volume }
         ensures ready { OnOk result (IsDriver self.new) }
         ensures armed { OnOk result (world_of self.new ≡ record (world_of self.old) { log = e.Armed sid passes pick ∷ self.old.shared.log.events }) }
@@ -76,6 +88,8 @@ impl<D: Disk> Driver<D> {
         ensures held { OnOk result (Carries (Holds self.old) (Holds self.new)) }
         ensures left { OnErr result (Carries (Holds self.old) (Leaves self.new)) }
     {
+        rz_play_laws::lined();
+        rz_block_laws::lasting();
         let shared = &mut self.shared;
         arm_node(
             shared.stations.as_mut_slice(),

@@ -26,6 +26,7 @@ impl<D: Disk> Driver<D> {
         ensures held { OnOk result (Carries (Holds self.old) (Holds self.new)) }
         ensures left { OnErr result (Carries (Holds self.old) (Leaves self.new)) }
     {
+        rz_play_laws::lined();
         let Some(place) = place(by) else {
             return Err(NoMemory);
         };
@@ -44,6 +45,7 @@ impl<D: Disk> Driver<D> {
         ensures lost { self.new.shared.lost ≡ self.old.shared.lost }
         ensures held { Carries (Holds self.old) (Holds self.new) }
     {
+        rz_play_laws::lined();
         if let Some(place) = place(by) {
             self.seats[place].miss = Some(reply);
         }

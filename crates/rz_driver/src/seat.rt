@@ -1,6 +1,9 @@
 //! An actor of a play.
 ghost use Rattle.std.specs.Prelude.{◌≡◌, ◌++◌, ◌∷◌, [], not, OnOk};
+ghost use Rattle.rz_core.specs.History.{Facts};
+ghost use Rattle.rz_events.specs.Volume.{Volume};
 ghost use Rattle.rz_play.specs.World.{at_work, has_work, is_over};
+ghost use Rattle.rz_driver.specs.Pictures.{HasTrueHand};
 ghost use Rattle.rz_driver.specs.Seats.{seat_of, IsSeat, IsEmptySeat};
 
 use crate::NoMemory;
@@ -64,7 +67,9 @@ impl Seat {
         ensures ok { OnOk result (seat_of self.new ≡ at_work (seat_of self.old)) }
         ensures seat { OnOk result (IsSeat layout self.new) }
         ensures lock { self.new.lock ≡ self.old.lock }
+        ensures hand { OnOk result ((v : Volume) (f : Facts) → HasTrueHand v f self.old.machine → HasTrueHand v f self.new.machine) }
     {
+        rz_block_laws::beginning();
         if self.is_at_work() {
             return Ok(());
         }

@@ -38,6 +38,9 @@ impl<D: Disk> Driver<D> {
         ensures held { OnOk result (Carries (Holds self.old) (Holds self.new)) }
         ensures left { OnErr result (Carries (Holds self.old) (Leaves self.new)) }
     {
+        rz_play_laws::working();
+        rz_play_laws::turned();
+        rz_block_laws::lasting();
         let Some(place) = place(by) else {
             return Err(NoMemory);
         };

@@ -188,15 +188,18 @@ module _ (v : Volume) (f : Facts) (n : ℕ) where
   none-there = fun_ext (λ key. fun_ext (λ stamp.
       sym (at-stamp v f n maps.empty key stamp ∙ ap (λ (rs : List Held). cond (has_stamp stamp_of stamp rs) (written v f n key stamp) None) (none-held key))))
 
+  -- each image of its disk stands for nothing
+  pub emptied : (g : Geometry) (losses fence : ℕ) (image' : List ℕ → Type 0) → ((c : List ℕ) → image' c → StandsFor g fence c nothing) → IsImaged v f n (opened losses fence maps.empty) g image'
+  emptied g losses fence image' stand = record {
+    decided = λ never. refl;
+    held = known-held v f n maps.empty none-known;
+    pending = known-held v f n maps.empty none-known;
+    each = λ there c left. inl (subst (StandsFor g fence c) none-there (stand c left));
+  }
+
   pub renewed : (g : Geometry) (losses fence : ℕ) (text' : List ℕ) (image' : List ℕ → Type 0) → StandsFor g fence text' nothing → Only text' image' → IsImaged v f n (opened losses fence maps.empty) g image'
   renewed g losses fence text' image' stand only =
-      let now : StandsFor g fence text' (records_in v f n maps.empty) = subst (StandsFor g fence text') none-there stand in
-      record {
-        decided = λ never. refl;
-        held = known-held v f n maps.empty none-known;
-        pending = known-held v f n maps.empty none-known;
-        each = λ there c left. inl (subst (λ (t : List ℕ). StandsFor g fence t (records_in v f n maps.empty)) (sym (only c left)) now);
-      }
+      emptied g losses fence image' (λ c left. subst (λ (t : List ℕ). StandsFor g fence t nothing) (sym (only c left)) stand)
 
 -- ---- a start
 
@@ -257,8 +260,8 @@ lost v f n g s losses image = record {
   each = λ there c left. absurd (there refl);
 }
 
-pub fresh-law : {D : Type 0} (text : D → List ℕ) (image : D → List ℕ → Type 0) → IsFreshLaw text image
-fresh-law text image v f n g d stand only = renewed v f n g 0 0 (text d) (image d) stand only
+pub fresh-law : {D : Type 0} (image : D → List ℕ → Type 0) → IsFreshLaw image
+fresh-law image v f n g d stand = emptied v f n g 0 0 (image d) stand
 
 pub fewer-law : {D : Type 0} (image : D → List ℕ → Type 0) → IsFewerLaw image
 fewer-law image v f n g s old new fewer imaged = within v f n g s (image old) (image new) fewer imaged

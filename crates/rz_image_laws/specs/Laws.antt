@@ -26,10 +26,10 @@ use Rattle.rz_core.specs.Tied.{IsNode}
 use Rattle.rz_image_laws.specs.Records.{HandsRecord, IsRecordOf, IsWritten}
 use Rattle.rz_image_laws.specs.Images.{AreImages, IsImaged}
 
--- a disk that was formatted is that of a new node
-abbrev pub IsFreshLaw : {D : Type 0} → (D → List ℕ) → (D → List ℕ → Type 0) → Type 0
-IsFreshLaw {D = D} text image = (v : Volume) (f : Facts) (n : ℕ) (g : Geometry) (d : D)
-    → StandsFor g 0 (text d) nothing → Only (text d) (image d) → IsImaged v f n fresh g (image d)
+-- a disk of which each image stands for nothing is that of a new node
+abbrev pub IsFreshLaw : {D : Type 0} → (D → List ℕ → Type 0) → Type 0
+IsFreshLaw {D = D} image = (v : Volume) (f : Facts) (n : ℕ) (g : Geometry) (d : D)
+    → ((c : List ℕ) → image d c → StandsFor g 0 c nothing) → IsImaged v f n fresh g (image d)
 
 -- any call of the node
 abbrev pub IsCallLaw : {D : Type 0} → (D → List ℕ) → (D → List ℕ → Type 0) → Type 0

@@ -18,9 +18,9 @@ ghost use Rattle.rz_image_laws.specs.Laws.{IsFreshLaw, IsCallLaw, IsFewerLaw, Is
 
 use rz_disk::Disk;
 
-/// A disk that was formatted has the images of a new node.
+/// A disk of which each image stands for nothing, as one that was formatted, has the images of a new node.
 pub fn fresh<D: Disk>()
-    ensures { IsTrue D.tells → IsFreshLaw D.text D.image }
+    ensures { IsFreshLaw D.image }
 {}
 
 /// After any call the disk has the images of the node's new state.

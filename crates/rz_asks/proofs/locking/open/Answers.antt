@@ -19,6 +19,6 @@ returns-clause-ok c =
             (lock_of c.args.held.now) (lock_of c.take-granted.new.held) c.args.log.now.events c.note_names.new.log.events
             c.in-Client.is c.in_ok-copy.ensures (c.opens.ensures c.if-not-opens.false) c.in_ok-name.ensures.reply c.in_ok-note_names.ensures.ok c.in_ok-name.ensures.ok
             (none-lock c.args.held.now (sym c.is_some.ensures ∙ c.if-is_some.false)) c.wanted-wanted.ensures c.take-granted.ensures.grants c.take-granted.ensures.held
-            c.tell_locked.ensures.layout c.tell_locked.ensures.work,
+            c.tell_locked.ensures,
       ),
     )

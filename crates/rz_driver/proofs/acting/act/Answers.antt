@@ -1,4 +1,4 @@
-use Rattle.std.proofs.Common.{◌≡◌, refl}
+use Rattle.std.proofs.Common.{◌≡◌, IsTrue, Some, None, refl, sym, subst}
 use Rattle.std.proofs.lemmas.Result.{on_ok_weaker, on_err_weaker}
 use Rattle.rz_driver.specs.Acts.{IsMessage, Exports, Opens, Sends, Says}
 use Rattle.rz_events.specs.declared.export.Call.TheVariants as call
@@ -7,6 +7,9 @@ use Rattle.rz_export_model.specs.Export.{export_reply}
 use Rattle.rz_driver.proofs.MeterLemmas.{still-err, metered-stays, still-left, export-stays, said-stays}
 use Rattle.rz_asks.specs.Locking.{IsOpenPart, open_reply}
 use Rattle.rz_asks.specs.Parts.{IsExportPart}
+use Rattle.rz_driver.specs.Pictures.{KeepsPicture, SparesPicture}
+use Rattle.rz_driver.proofs.ActPictures.{still-keeps, still-spares, at-machine, at-spares, export-keeps, open-keeps, say-keeps}
+use Rattle.rz_driver.proofs.PictureLemmas.{on-err}
 use Rattle.rz_driver.proofs.acting.act.Goals as goal
 
 pub returns-in-Export-clause-ok : goal.returns-in-Export-clause-ok
@@ -83,3 +86,79 @@ pub returns-in_err-done-in-Say-clause-left : goal.returns-in_err-done-in-Say-cla
 returns-in_err-done-in-Say-clause-left g c =
     let p = c.args.shared.now in
     still-err c.from_residual.result g.D.Disk.meter p.stations.items p.log.events c.say.new.log.events c.in_err-done-in-Say.ensures.err
+
+-- Beside the log.
+
+pub returns-in_default-clause-pictured : goal.returns-in_default-clause-pictured
+returns-in_default-clause-pictured g c = λ told. still-keeps g.D.Disk.image c.args.by c.args.shared.now.stations.items c.args.seat.now.machine c.args.shared.now.log.events
+
+pub returns-in-Rest-clause-pictured : goal.returns-in-Rest-clause-pictured
+returns-in-Rest-clause-pictured g c = λ told.
+    let row = c.args.shared.now.stations.items in
+    let h = c.args.shared.now.log.events in
+    let m = c.in-Some.machine in
+    at-machine g.D.Disk.image c.args.by row c.args.seat.now.machine m m c.in-Some.is h row h (still-keeps g.D.Disk.image c.args.by row (Some m) h)
+
+pub returns-in-Export-clause-pictured : goal.returns-in-Export-clause-pictured
+returns-in-Export-clause-pictured g c =
+    let p = c.args.shared.now in
+    let h = p.log.events in
+    let h' = c.ask_export.new.log.events in
+    let m = c.in-Some.machine in
+    let new = c.ask_export.new.machine in
+    on_ok_weaker c.ask_export.result (λ (part : IsExportPart c.args.by m new p.export c.ask_export.new.export h h'). λ told.
+    export-keeps g.D.Disk.image c.args.by p.stations.items c.longer.ensures c.told.ensures c.args.seat.now.machine m new c.in-Some.is h h' p.export c.ask_export.new.export part) c.ask_export.ensures.ok
+
+pub returns-in-Lock-clause-pictured : goal.returns-in-Lock-clause-pictured
+returns-in-Lock-clause-pictured g c =
+    let p = c.args.shared.now in
+    let h = p.log.events in
+    let h' = c.open.new.log.events in
+    let m = c.in-Some.machine in
+    let new = c.open.new.machine in
+    on_ok_weaker c.open.result
+    (λ (part : IsOpenPart c.args.by m new p.export c.open.new.export p.locks c.open.new.locks c.args.seat.now.lock c.open.new.held h h'). λ told.
+    open-keeps g.D.Disk.image c.args.by p.stations.items c.longer.ensures c.told.ensures c.args.seat.now.machine m new c.in-Some.is h h' p.export c.open.new.export p.locks c.open.new.locks c.args.seat.now.lock c.open.new.held part) c.open.ensures.ok
+
+pub returns-in-Node-clause-pictured : goal.returns-in-Node-clause-pictured
+returns-in-Node-clause-pictured g c =
+    let p = c.args.shared.now in
+    let q = c.message.new.shared in
+    let m = c.in-Some.machine in
+    let new = c.message.new.machine in
+    on_ok_weaker c.message.result (λ (keeps : IsTrue g.D.Disk.tells → KeepsPicture g.D.Disk.image c.args.by (Some m) (Some new) p.stations.items p.log.events q.stations.items q.log.events). λ told.
+    at-machine g.D.Disk.image c.args.by p.stations.items c.args.seat.now.machine m new c.in-Some.is p.log.events q.stations.items q.log.events (keeps told)) c.message.ensures.pictured
+
+pub returns-in_ok-done-in-Say-clause-pictured : goal.returns-in_ok-done-in-Say-clause-pictured
+returns-in_ok-done-in-Say-clause-pictured g c = λ told.
+    let p = c.args.shared.now in
+    say-keeps g.D.Disk.image c.args.by p.stations.items c.longer.ensures c.told.ensures c.args.seat.now.machine c.in-Some.machine c.say.new.machine c.in-Some.is p.log.events c.say.new.log.events c.args.seat.now.number c.in_ok-done-in-Say.done c.in_ok-done-in-Say.ensures.ok
+
+pub returns-in-Export-clause-spared : goal.returns-in-Export-clause-spared
+returns-in-Export-clause-spared g c =
+    let row = c.args.shared.now.stations.items in
+    let h = c.args.shared.now.log.events in
+    let P : Type 0 = IsTrue g.D.Disk.tells → SparesPicture g.D.Disk.image c.args.by c.args.seat.now.machine row h row in
+    on-err {P = P} c.ask_export.result (λ told. still-spares g.D.Disk.image c.args.by row c.args.seat.now.machine h)
+
+pub returns-in-Lock-clause-spared : goal.returns-in-Lock-clause-spared
+returns-in-Lock-clause-spared g c =
+    let row = c.args.shared.now.stations.items in
+    let h = c.args.shared.now.log.events in
+    let P : Type 0 = IsTrue g.D.Disk.tells → SparesPicture g.D.Disk.image c.args.by c.args.seat.now.machine row h row in
+    on-err {P = P} c.open.result (λ told. still-spares g.D.Disk.image c.args.by row c.args.seat.now.machine h)
+
+pub returns-in-Node-clause-spared : goal.returns-in-Node-clause-spared
+returns-in-Node-clause-spared g c =
+    let p = c.args.shared.now in
+    let q = c.message.new.shared in
+    let m = c.in-Some.machine in
+    on_err_weaker c.message.result (λ (spares : IsTrue g.D.Disk.tells → SparesPicture g.D.Disk.image c.args.by (Some m) p.stations.items p.log.events q.stations.items). λ told.
+    at-spares g.D.Disk.image c.args.by p.stations.items c.args.seat.now.machine m c.in-Some.is p.log.events q.stations.items (spares told)) c.message.ensures.spared
+
+pub returns-in_err-done-in-Say-clause-spared : goal.returns-in_err-done-in-Say-clause-spared
+returns-in_err-done-in-Say-clause-spared g c =
+    let row = c.args.shared.now.stations.items in
+    let h = c.args.shared.now.log.events in
+    let P : Type 0 = IsTrue g.D.Disk.tells → SparesPicture g.D.Disk.image c.args.by c.args.seat.now.machine row h row in
+    on-err {P = P} c.from_residual.result (λ told. still-spares g.D.Disk.image c.args.by row c.args.seat.now.machine h)

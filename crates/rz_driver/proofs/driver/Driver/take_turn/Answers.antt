@@ -1,8 +1,11 @@
-use Rattle.std.proofs.Common.{refl, sym, ◌∙◌, subst}
-use Rattle.rz_disk.specs.UnderFuse.{fused_meter}
+use Rattle.std.proofs.Common.{inr, List, ◌++◌, refl, sym, ◌∙◌, ap, subst}
+use Rattle.rz_events.specs.declared.events.Event.{Event}
 use Rattle.rz_driver.specs.declared.driver.Driver.{Driver}
 use Rattle.rz_driver.specs.Worlds.{IsDriver, Holds}
-use Rattle.rz_driver.proofs.MeterLemmas.{log-kept, turn-err}
+use Rattle.rz_driver.proofs.DriverPictures.{turn-picture, turn-spares, right-disks, still-right, still-counted}
+use Rattle.rz_driver.proofs.MeterLemmas.{log-kept}
+use Rattle.rz_driver.proofs.PictureLemmas.{on-err}
+use Rattle.rz_driver.proofs.ActPictures.{act-grows}
 use Rattle.rz_driver.proofs.TakeLemmas.{seat-there, have-layouts, tied-at, drives, turned}
 use Rattle.rz_driver.proofs.driver.Driver.take_turn.Goals as goal
 
@@ -43,10 +46,41 @@ pub returns-clause-held : goal.returns-clause-held
 returns-clause-held g c = λ first met.
     let ready = subst (λ (x : Driver g.row.D.Denot g.D.Disk). IsDriver x) (sym c.self.view_is) c.requires.ready in
     let here = subst (λ (x : Driver g.row.D.Denot g.D.Disk). Holds x first) (sym c.self.view_is) met in
-    c.in_ok-act.ensures.held _ first (log-kept _ ready c.make_room.new.self.events first c.make_room.ensures.same here)
+    let at = sym c.place.ensures ∙ c.in-Some.is in
+    let a0 = c.index_mut-seat.result.now in
+    let there = seat-there c.args.by c.in-Some.place a0 _ ready at c.index_mut-seat.ensures.value in
+    let turn = turned c.args.by c.in-Some.place _ c.act.new.shared c.make_room.new.self a0 c.take_up.new.self c.act.new.seat ready at there.0 there.1
+    c.in_ok-take_up.ensures.ok c.in_ok-take_up.ensures.seat c.take_up.ensures.lock c.make_room.ensures.same c.in_ok-act.ensures.ok _ refl
+    in
+    let grown = act-grows _ c.args.by c.take_up.new.self c.act.new.seat _ c.act.new.shared c.in_ok-act.ensures.ok in (
+      c.in_ok-act.ensures.held _ first (log-kept _ ready c.make_room.new.self.events first c.make_room.ensures.same here),
+      turn-picture c.args.by c.in-Some.place _ c.args.self.now c.self.view_is c.make_room.new.self a0 c.take_up.new.self at there.0 c.in_ok-take_up.ensures.seat.machine
+          c.in_ok-take_up.ensures.ok c.make_room.ensures.same c.in_ok-take_up.ensures.hand c.working.ensures c.act.new.seat _ c.act.new.shared.stations.items c.turned.ensures c.lasting.ensures turn
+          c.in_ok-act.ensures.pictured (grown.0, grown.1 ∙ ap (λ (k : List Event). grown.0 ++ k) c.make_room.ensures.same) met.1,
+    )
+
+pub returns-in_err-make_room-clause-left : goal.returns-in_err-make_room-clause-left
+returns-in_err-make_room-clause-left g c = on-err c.from_residual.result (λ first met. inr (
+  still-counted _ c.args.self.now c.self.view_is c.make_room.new.self.events c.make_room.ensures.same first met,
+  still-right _ c.args.self.now c.self.view_is c.make_room.new.self.events c.make_room.ensures.same first met,
+))
+
+pub returns-in_err-take_up-clause-left : goal.returns-in_err-take_up-clause-left
+returns-in_err-take_up-clause-left g c = on-err c.from_residual-in_err-take_up.result (λ first met. inr (
+  still-counted _ c.args.self.now c.self.view_is c.make_room.new.self.events c.make_room.ensures.same first met,
+  still-right _ c.args.self.now c.self.view_is c.make_room.new.self.events c.make_room.ensures.same first met,
+))
 
 pub returns-in_err-act-clause-left : goal.returns-in_err-act-clause-left
-returns-in_err-act-clause-left g c = turn-err c.from_residual-in_err-act.result (fused_meter g.D.Disk.meter) _ c.act.new.shared.stations.items c.act.new.shared.log.events (Holds c.args.self.now) (λ first met.
+returns-in_err-act-clause-left g c = on-err c.from_residual-in_err-act.result (λ first met.
     let ready = subst (λ (x : Driver g.row.D.Denot g.D.Disk). IsDriver x) (sym c.self.view_is) c.requires.ready in
     let here = subst (λ (x : Driver g.row.D.Denot g.D.Disk). Holds x first) (sym c.self.view_is) met in
-    c.in_err-act.ensures.left _ first (log-kept _ ready c.make_room.new.self.events first c.make_room.ensures.same here))
+    let at = sym c.place.ensures ∙ c.in-Some.is in
+    let a0 = c.index_mut-seat.result.now in
+    let there = seat-there c.args.by c.in-Some.place a0 _ ready at c.index_mut-seat.ensures.value in
+    let counted = c.in_err-act.ensures.left _ first (log-kept _ ready c.make_room.new.self.events first c.make_room.ensures.same here) in
+    let ys = c.act.new.shared.stations.items in
+    let spares = turn-spares c.args.by c.in-Some.place _ c.args.self.now c.self.view_is c.make_room.new.self a0 c.take_up.new.self at there.0 c.in_ok-take_up.ensures.seat.machine
+    c.in_ok-take_up.ensures.ok c.make_room.ensures.same c.in_ok-take_up.ensures.hand c.working.ensures ys c.in_err-act.ensures.spared
+    in
+    inr (counted, right-disks _ c.args.self.now c.self.view_is c.act.new.shared.log.events (c.in_err-act.ensures.err ∙ c.make_room.ensures.same) first met ys (counted.named ∙ sym here.0.named) spares))

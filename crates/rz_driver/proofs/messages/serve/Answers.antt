@@ -1,0 +1,1 @@
+use Rattle.rz_driver.proofs.messages.serve.Goals as goal
