@@ -54,7 +54,7 @@ module _ {D : Type 0} (text : D → List ℕ) (image : D → List ℕ → Type 0
       let of_actor = (at-node v m.layout f actor.own actor.run by actor.number m.work n question proper actor.true_to.layout_is actor.true_to.own actor.way sent.asked).2 in
       let back : (r : Held) → given ≡ answer.Fetch (fetch.Held r) → (key : Key) × IsReadBack v f n key r handed bins = λ r same.
       read-back question r (subst (IsNodeAnswer cells s question) same sent.given_is)
-          (subst (λ (a : NodeAnswer). Leaves g s question a handed bins (text before) (text after) (image before) (image after)) same sent.leaves)
+      (subst (λ (a : NodeAnswer). Leaves g s question a handed bins (text before) (text after) (image before) (image after)) same sent.leaves)
       in
       let fits = taken f m n cells s question given handed bins actor.true_to.layout_is sent.asked of_actor sent.given_is back in
       subst (λ (y : Layout). IsAnswerTo y question given) actor.true_to.layout_is (subst (λ (a : Ask). IsAnswer m.layout a given) sent.asked fits)

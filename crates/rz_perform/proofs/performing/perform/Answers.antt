@@ -35,8 +35,7 @@ returns-clause-performed g c =
       old = g.O.Sink.faults c.args.output.now;
       new = g.O.Sink.faults c.tell.new.output;
     } in
-    let P : List Event → Type 0 = λ log. Tells c.play-end.result c.args.wish log sink c.tell.result in
-    (
+    let P : List Event → Type 0 = λ log. Tells c.play-end.result c.args.wish log sink c.tell.result in (
       c.play-end.result,
       ended g c,
       over g c,
