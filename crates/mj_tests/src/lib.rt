@@ -9,3 +9,5 @@ mod batches;
 mod inversions;
 #[cfg(test)]
 mod projections;
+#[cfg(test)]
+mod verdicts;
