@@ -1,0 +1,5 @@
+pub mod Verdicts
+pub mod Whole
+pub mod Going
+pub mod Gathered
+pub mod Walked

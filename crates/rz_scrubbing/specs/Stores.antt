@@ -1,0 +1,50 @@
+-- What there is to be scrubbed, and what asking a node for a record makes of it.
+use Rattle.std.specs.Prelude.{ℕ, ◌==◌, ◌≡◌, cond, List, ◌∷◌, ◌++◌}
+use Rattle.mj_angles.specs.declared.layout.Layout.{Layout}
+use Rattle.rz_events.specs.declared.keys.Key.{Key}
+use Rattle.rz_events.specs.declared.keys.Actor.TheVariants.{Admin}
+use Rattle.rz_events.specs.declared.records.Held.{Held}
+use Rattle.rz_events.specs.declared.nodes.FetchAnswer.{FetchAnswer}
+use Rattle.rz_events.specs.declared.nodes.FetchAnswer.TheVariants as fetch
+use Rattle.rz_events.specs.declared.nodes.NodeAsk.TheVariants as ask
+use Rattle.rz_events.specs.declared.nodes.NodeAnswer.TheVariants as answer
+use Rattle.rz_events.specs.declared.events.Event.{Event}
+use Rattle.rz_node_model.specs.States.{NodeState}
+use Rattle.rz_node_model.specs.Answers.{IsFetchAnswer, fetch_answer}
+use Rattle.rz_node_model.specs.Afterwards.{after_answer}
+use Rattle.rz_node_model.specs.NodeEvents.{fetch_event}
+use Rattle.rz_export_model.specs.Export.{Export}
+
+-- the export, the nodes by their numbers, and the events, the newest first
+pub record State : Type 0 where
+  pub export : Export
+  pub nodes : ℕ → NodeState
+  pub events : List Event
+
+-- A node was asked for its record of a key with this stamp: it answers as its model says, or with a disk fault in the place of a
+-- record.
+pub record IsFetched (n : ℕ) (key : Key) (position stamp : ℕ) (given : FetchAnswer) (w next : State) : Type 0 where
+  pub given_is : IsFetchAnswer (fetch_answer (w.nodes n) key stamp) given
+  pub export : next.export ≡ w.export
+  pub nodes : next.nodes ≡ (λ m. cond (m == n) (after_answer (ask.Fetch key position stamp) (answer.Fetch given) (w.nodes n)) (w.nodes m))
+  pub events : next.events ≡ fetch_event Admin n key position stamp given ∷ w.events
+
+-- where a record is told, what is read of it lies in the room
+abbrev pub IsRead : (Held → List ℕ → List ℕ → Type 0) → FetchAnswer → List ℕ → List ℕ → Type 0
+IsRead reads (fetch.Held told) old room = reads told old room
+IsRead reads _ old room = Unit {0}
+
+-- the events stand, with others after them
+abbrev pub IsOnTop : List Event → List Event → Type 0
+IsOnTop old new = (later : List Event) × (new ≡ later ++ old)
+
+-- A store goes on: it can be asked again, its disks give no other records than before, events were added, and what was so of its
+-- disks is so still.
+pub record GoesOn {S : Type 0} (is_ready : S → Type 0) (layout : S → Layout) (gives : S → ℕ → Key → Held → List ℕ → List ℕ → Type 0)
+    (state : S → State) (holds : S → (ℕ → ℕ) → Type 0) (old new : S) : Type 0 where
+  pub ready : is_ready new
+  pub layout_is : layout new ≡ layout old
+  pub given : (n : ℕ) (key : Key) (told : Held) (before room : List ℕ) → gives new n key told before room → gives old n key told before room
+  pub export_is : (state new).export ≡ (state old).export
+  pub events : IsOnTop (state old).events (state new).events
+  pub held : (first : ℕ → ℕ) → holds old first → holds new first

@@ -1,0 +1,24 @@
+//! What the records of a store's published blocks are found to be, in lines.
+//!
+//! A [`Store`] is what a scrub looks at: it lists its published blocks, and a node of it can be asked for a
+//! record. The contract of [`scrub`] says that there is one line for each published block of a live file, in
+//! the order of keys; that each node of a block was asked once for its record of the published stamp, and
+//! answered as its model says; and that the line says `few` exactly where fewer records came than give a
+//! block back, and otherwise the verdict on those that came. The asks are events of the administrator on
+//! top of those that the store had. [`whole_records`] is the law that records of one block are clean. It is
+//! not said here that the disks of a store hold such records.
+//!
+//! In reading order: `finding`, `laws`, `line`, `store`, `asking`, `scrubbing`.
+#![tactic(auto)]
+
+mod asking;
+mod finding;
+mod laws;
+mod line;
+mod scrubbing;
+mod store;
+
+pub use finding::Finding;
+pub use laws::whole_records;
+pub use scrubbing::scrub;
+pub use store::Store;

@@ -1,0 +1,30 @@
+//! The scrub of a store.
+
+ghost use Rattle.std.specs.Prelude.{ℕ, IfOk};
+ghost use Rattle.rz_scrubbing.specs.Scrubs.{IsScrubbed};
+ghost use Rattle.rz_scrubbing.specs.Stores.{IsOnTop};
+
+use crate::asking::{Desk, find};
+use crate::line::push_line;
+use crate::store::Store;
+use std::alloc::{AllocError, Global};
+
+/// The lines of what is found of each published block of a live file, in the order of their keys. Each
+/// node of a block is asked once for its record of the published stamp, and nothing is written back.
+pub fn scrub<S: Store>(alloc: Global, store: &mut S) -> Result<Vec<u8>, AllocError>
+    requires { S.is_ready store.old }
+    ensures lines { IfOk result (λ text. IsScrubbed (S.layout store.old) (S.gives store.old) (S.state store.old) text.items (S.state store.new)) }
+    ensures events { IsOnTop (S.state store.old).events (S.state store.new).events }
+    ensures left { (first : ℕ → ℕ) → S.holds store.old first → S.leaves store.new first }
+{
+    let layout = store.layout();
+    let mut desk = Desk::new(alloc, layout)?;
+    let mut text = Vec::new(alloc);
+    let mut after = None;
+    'blocks: while let Some(listed) = store.published(after) {
+        let finding = find(store, &mut desk, &listed)?;
+        push_line(alloc, &mut text, layout, listed.key, finding)?;
+        after = Some(listed.key);
+    }
+    Ok(text)
+}

@@ -1,0 +1,64 @@
+//! What is scrubbed.
+
+ghost use Rattle.std.specs.Prelude.{◌≡◌, ◌≤◌, ℕ, List, IfOk, OnOk, OnErr, length};
+ghost use Rattle.mj_angles.specs.declared.layout.Layout.{Layout};
+ghost use Rattle.mj_angles.specs.Layout.{max_bins_of};
+ghost use Rattle.rz_events.specs.declared.keys.Key.{Key};
+ghost use Rattle.rz_events.specs.declared.records.Held.{Held};
+ghost use Rattle.rz_export_model.specs.Export.{published_after};
+ghost use Rattle.rz_scrubbing.specs.Stores.{GoesOn, IsFetched, IsRead, State};
+
+use mj_angles::Layout;
+use rz_events::{FetchAnswer, Key, Listed};
+use std::alloc::AllocError;
+
+/// A store whose published blocks can be listed, and whose nodes can be asked for records.
+///
+/// After want of memory the events are as they were, and the rest may be anything.
+pub trait Store {
+    ghost layout: { Self → Layout };
+
+    /// The export, the nodes and the events.
+    ghost state: { Self → State };
+
+    /// It can be asked.
+    ghost is_ready: { Self → Type 0 };
+
+    /// What the disk of a node gives of a record of a key: what is told of the record, what lay in the room
+    /// for its bins, and what lies there then.
+    ghost gives: { Self → ℕ → Key → Held → List ℕ → List ℕ → Type 0 };
+
+    /// What is so of the disks and the events, where each disk, by its place, had counted so many faults at
+    /// first.
+    ghost holds: { Self → (ℕ → ℕ) → Type 0 };
+
+    /// What is so of them at the end, want of memory or not.
+    ghost leaves: { Self → (ℕ → ℕ) → Type 0 };
+
+    ghost ends: { (s : Self) (first : ℕ → ℕ) → holds s first → leaves s first };
+
+    fn layout(&self) -> Layout
+        ensures { result ≡ layout self.now };
+
+    /// The least published block of a live file above a key.
+    fn published(&self, after: Option<Key>) -> Option<Listed>
+        ensures { result ≡ published_after (state self.now).export after };
+
+    /// Asks a node, which has this position of the block, for its record of the stamp. The bins come to the
+    /// front of the room. The call is an event of the administrator.
+    fn fetch(
+        &mut self,
+        node: u16,
+        key: Key,
+        position: u8,
+        stamp: u64,
+        room: &mut [u64],
+    ) -> Result<FetchAnswer, AllocError>
+        requires ready { is_ready self.old }
+        requires room { max_bins_of (layout self.old) ≤ length room.old }
+        ensures fetched { IfOk result (λ given. IsFetched node key position stamp given (state self.old) (state self.new)) }
+        ensures read { IfOk result (λ given. IsRead (gives self.old node key) given room.old room.new) }
+        ensures onward { OnOk result (GoesOn is_ready layout gives state holds self.old self.new) }
+        ensures events { OnErr result ((state self.new).events ≡ (state self.old).events) }
+        ensures left { OnErr result ((first : ℕ → ℕ) → holds self.old first → leaves self.new first) };
+}
