@@ -2,7 +2,7 @@
 use Rattle.std.proofs.Common.{ℕ, zero, suc, ◌≡◌, ◌≢◌, ◌<◌, ◌≤◌, ◌+◌, ◌∙◌, List, [], ◌∷◌, length, get_or, drop, replicate, take, Option, Some, None, refl, sym, ap, arith, subst}
 use Rattle.std.proofs.lemmas.List.{drop_more, get_or-set_other}
 use Rattle.mj_angles.specs.declared.layout.Layout.{Layout}
-use Rattle.mj_angles.specs.Layout.{bins_at_of}
+use Rattle.mj_angles.specs.Layout.{bins_at_of, safe_of}
 use Rattle.rz_events.specs.declared.keys.Key.{Key}
 use Rattle.rz_events.specs.declared.files.Listed.{Listed}
 use Rattle.rz_events.specs.declared.records.Held.{Held}
@@ -20,7 +20,7 @@ nones (suc n) (suc p) = nones n p
 
 -- no position has bins at first
 pub bare : (layout : Layout) (p : ℕ) → bins_at (no_records layout) p ≡ None
-bare layout p = nones (length (no_records layout).bins) p ∙ refl
+bare layout p = nones (safe_of layout) p
 
 -- and one that is asked leaves the others
 pub others : (s : Records) (position p : ℕ) (given : FetchAnswer) (room : List ℕ) → p ≢ position → bins_at (with_given s position given room) p ≡ bins_at s p
@@ -71,11 +71,16 @@ pub found-before : {gives earlier : ℕ → Key → Held → List ℕ → List �
     → IsFound layout gives l w finding next → IsFound layout earlier l w finding next
 found-before layout l w next finding to found = (found.0, all-asked-before l to l.info.places 0 w next (no_records layout) found.0 found.1, found.2)
 
+-- an ask at another spelling of its position and its node
+pub asked-at : {gives : ℕ → Key → Held → List ℕ → List ℕ → Type 0} {l : Listed} {k m : ℕ} {w next : State} {s s' : Records} → (position n : ℕ)
+    → IsAsked gives l k m w next s s' → k ≡ position → m ≡ n → IsAsked gives l position n w next s s'
+asked-at {gives = gives} {l = l} {m = m} {w = w} {next = next} {s = s} {s' = s'} position n asked at is =
+    subst (λ (x : ℕ). IsAsked gives l position x w next s s') is (subst (λ (x : ℕ). IsAsked gives l x m w next s s') at asked)
+
 -- one node is asked, and then the rest
-pub asked-next : (gives : ℕ → Key → Held → List ℕ → List ℕ → Type 0) (l : Listed) (nodes : List ℕ) (i n : ℕ) (w mid next : State) (s s' t : Records)
-    → i < length nodes → n ≡ get_or nodes i n → IsAsked gives l i n w mid s s' → AreAsked gives l (i + 1) (drop (i + 1) nodes) mid next s' t
+pub asked-next : (gives : ℕ → Key → Held → List ℕ → List ℕ → Type 0) (l : Listed) (nodes : List ℕ) (i : ℕ) (w mid next : State) (s s' t : Records)
+    → i < length nodes → IsAsked gives l i (get_or nodes i 0) w mid s s' → AreAsked gives l (i + 1) (drop (i + 1) nodes) mid next s' t
     → AreAsked gives l i (drop i nodes) w next s t
-asked-next gives l nodes i n w mid next s s' t h e asked rest =
-    let at : drop i nodes ≡ n ∷ drop (i + 1) nodes = drop_more nodes i n h ∙ ap (λ (m : ℕ). m ∷ drop (i + 1) nodes) (sym e) in
+asked-next gives l nodes i w mid next s s' t h asked rest =
     let P : List ℕ → Type 0 = λ xs. AreAsked gives l i xs w next s t in
-    subst P (sym at) (mid, s', asked, rest)
+    subst P (sym (drop_more nodes i 0 h)) (mid, s', asked, rest)

@@ -38,11 +38,11 @@ after_count after es = count_by (λ e. is_after after e.0) es
 abbrev pub given : Export → Option Key → Key × Block → Option Listed
 given s after e = cond (is_after after e.0) (option_and_then (λ l. given_if true l) (listed_at s.tree e.0 e.1)) None
 
-one : Bool → ℕ
-one b = cond b 1 0
+abbrev pub bit : Bool → ℕ
+bit b = cond b 1 0
 
-count-cons : (after : Option Key) (e : Key × Block) (es : Entries) → after_count after (e ∷ es) ≡ cond (is_after after e.0) 1 0 + after_count after es
-count-cons after e es = sum_by-cons (λ (x : Key × Block). cond (is_after after x.0) 1 0) e es
+count-cons : (after : Option Key) (e : Key × Block) (es : Entries) → after_count after (e ∷ es) ≡ bit (is_after after e.0) + after_count after es
+count-cons after e es = sum_by-cons (λ (x : Key × Block). bit (is_after after x.0)) e es
 
 -- A key above another one.
 
@@ -58,8 +58,8 @@ later (Some a) k q h h' = ap is_lt (keys_total.trans a k q (is-less (key_cmp a k
 not-itself : (k : Key) → is_after (Some k) k ≡ false
 not-itself k = ap is_lt (tied_itself keys_total k)
 
-fewer-of : (a b : Bool) → (a ≡ true → b ≡ true) → cond a 1 0 ≤ cond b 1 0
-fewer-of true b h = let e = ap (λ (x : Bool). cond x 1 0) (h refl) in omega (arith, e)
+fewer-of : (a b : Bool) → (a ≡ true → b ≡ true) → bit a ≤ bit b
+fewer-of true b h = let e : bit b ≡ bit true = ap bit (h refl) in omega (arith, e)
 fewer-of false b h = omega arith
 
 fewer : (after : Option Key) (k : Key) → is_after after k ≡ true → (es : Entries) → after_count (Some k) es ≤ after_count after es
@@ -85,31 +85,36 @@ given-is s after e l h = by_test (is_after after e.0) refl h
     by_test true is h' = (is, key-of e.0 (file_of s.tree e.0.fid) e.1.published l h')
     by_test false is h' = cc
 
--- the first block that is listed stands after the key, and fewer entries stand after it
-pub first-after : (s : Export) (after : Option Key) (l : Listed) (es : Entries) → first_given (given s after) es ≡ Some l
-    → (is_after after l.key ≡ true) × (after_count (Some l.key) es < after_count after es)
-first-after s after l [] h = cc
-first-after s after l (e ∷ es) h = by_first (given s after e) refl h
-  where
-    here : (e.0 ≡ l.key) → is_after after e.0 ≡ true → (is_after after l.key ≡ true) × (after_count (Some l.key) (e ∷ es) < after_count after (e ∷ es))
-    here at is =
-        let above : is_after after l.key ≡ true = subst (λ (k : Key). is_after after k ≡ true) at is in
-        let none : cond (is_after (Some l.key) e.0) 1 0 ≡ 0 = subst (λ (k : Key). cond (is_after (Some l.key) k) 1 0 ≡ 0) (sym at) (ap (λ (b : Bool). cond b 1 0) (not-itself l.key)) in
-        let some : cond (is_after after e.0) 1 0 ≡ 1 = ap (λ (b : Bool). cond b 1 0) is in
-        (above, omega (arith, none, some, count-cons (Some l.key) e es, count-cons after e es, fewer after l.key above es))
-    there : (is_after after l.key ≡ true) × (after_count (Some l.key) es < after_count after es)
-        → (is_after after l.key ≡ true) × (after_count (Some l.key) (e ∷ es) < after_count after (e ∷ es))
-    there both =
-        let less = both.1 in
-        (both.0, omega (arith, less, count-cons (Some l.key) e es, count-cons after e es, fewer-of (is_after (Some l.key) e.0) (is_after after e.0) (later after l.key e.0 both.0)))
-    by_first : (o : Option Listed) → given s after e ≡ o → option_or o (first_given (given s after) es) ≡ Some l
-        → (is_after after l.key ≡ true) × (after_count (Some l.key) (e ∷ es) < after_count after (e ∷ es))
-    by_first (Some x) is h' = let at = given-is s after e l (is ∙ h') in here at.1 at.0
-    by_first None is h' = there (first-after s after l es h')
+-- The first block that is listed stands after the key, and fewer entries stand after it.
+
+abbrev Falls : Option Key → Listed → Entries → Type 0
+Falls after l es = (is_after after l.key ≡ true) × (after_count (Some l.key) es < after_count after es)
+
+falls-here : (after : Option Key) (l : Listed) (e : Key × Block) (es : Entries) → e.0 ≡ l.key → is_after after e.0 ≡ true → Falls after l (e ∷ es)
+falls-here after l e es at is =
+    let above : is_after after l.key ≡ true = subst (λ (k : Key). is_after after k ≡ true) at is in
+    let none : is_after (Some l.key) e.0 ≡ false = subst (λ (k : Key). is_after (Some l.key) k ≡ false) (sym at) (not-itself l.key) in
+    let zero_is : bit (is_after (Some l.key) e.0) ≡ bit false = ap bit none in
+    let one_is : bit (is_after after e.0) ≡ bit true = ap bit is in
+    (above, omega (arith, zero_is, one_is, count-cons (Some l.key) e es, count-cons after e es, fewer after l.key above es))
+
+falls-later : (after : Option Key) (l : Listed) (e : Key × Block) (es : Entries) → Falls after l es → Falls after l (e ∷ es)
+falls-later after l e es both =
+    let less = both.1 in
+    (both.0, omega (arith, less, count-cons (Some l.key) e es, count-cons after e es, fewer-of (is_after (Some l.key) e.0) (is_after after e.0) (later after l.key e.0 both.0)))
+
+falls-by : (s : Export) (after : Option Key) (l : Listed) (e : Key × Block) (es : Entries) (o : Option Listed) → given s after e ≡ o
+    → (first_given (given s after) es ≡ Some l → Falls after l es) → option_or o (first_given (given s after) es) ≡ Some l → Falls after l (e ∷ es)
+falls-by s after l e es (Some x) is rest h = let at = given-is s after e l (is ∙ h) in falls-here after l e es at.1 at.0
+falls-by s after l e es None is rest h = falls-later after l e es (rest h)
+
+falls-among : (s : Export) (after : Option Key) (l : Listed) (es : Entries) → first_given (given s after) es ≡ Some l → Falls after l es
+falls-among s after l [] h = cc
+falls-among s after l (e ∷ es) h = falls-by s after l e es (given s after e) refl (falls-among s after l es) h
 
 pub falls : (s : Export) (after : Option Key) (l : Listed) → published_after s after ≡ Some l
     → after_count (Some l.key) (maps.entries s.blocks) < after_count after (maps.entries s.blocks)
-falls s after l h = (first-after s after l (maps.entries s.blocks) h).1
+falls s after l h = (falls-among s after l (maps.entries s.blocks) h).1
 
 -- The lines so far, and the line of one block more: whatever the rest comes to.
 

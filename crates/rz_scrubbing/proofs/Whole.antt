@@ -19,8 +19,8 @@ not-other xs (Some bins) h =
     ap (λ (ys : List ℕ). not (pointwise nat_eq ys xs)) (same_Some bins xs (h refl)) ∙ ap not (nat_list_eq_equiv.refl xs)
 
 none-passes : (p : ℕ → Bool) → ((x : ℕ) → p x ≡ false) → (xs : List ℕ) → filter p xs ≡ []
-none-passes p no [] = refl
-none-passes p no (x ∷ xs) = ap (λ (b : Bool). cond b (x ∷ filter p xs) (filter p xs)) (no x) ∙ none-passes p no xs
+none-passes p fails [] = refl
+none-passes p fails (x ∷ xs) = ap (λ (b : Bool). cond b (x ∷ filter p xs) (filter p xs)) (fails x) ∙ none-passes p fails xs
 
 no-misfits : (s : Records) (g : Grid) → AreOf s g → misfits s g ≡ []
 no-misfits s g of = none-passes (is_misfit s g) (λ position. not-other (projection_at s g position) (bins_at s position) (of.each position)) (positions s)

@@ -4,13 +4,13 @@ use Rattle.rz_scrubbing.specs.Stores.{GoesOn}
 use Rattle.rz_scrubbing.proofs.Walked.{IsSoFar, after_count}
 use Rattle.rz_scrubbing.proofs.scrubbing.scrub.Given as goal
 
-abbrev pub invariant-loop-blocks : goal.invariant-loop-blocks
-invariant-loop-blocks g l = record {
+abbrev pub invariant-blocks-2 : goal.invariant-blocks-2
+invariant-blocks-2 g l = record {
   desk : l.desk.layout ≡ l.layout;
   layout : l.layout ≡ g.S.Store.layout l.fn.store;
   onward : GoesOn g.S.Store.is_ready g.S.Store.layout g.S.Store.gives g.S.Store.state g.S.Store.holds l.fn.store l.store;
   told : IsSoFar (g.S.Store.layout l.fn.store) (g.S.Store.gives l.fn.store) (g.S.Store.state l.fn.store) l.text.items l.after (g.S.Store.state l.store);
 }
 
-abbrev pub decreases-loop-blocks : goal.decreases-loop-blocks
-decreases-loop-blocks g l = after_count l.after (maps.entries (g.S.Store.state l.fn.store).export.blocks)
+abbrev pub decreases-blocks-2 : goal.decreases-blocks-2
+decreases-blocks-2 g l = after_count l.after (maps.entries (g.S.Store.state l.fn.store).export.blocks)
