@@ -20,7 +20,7 @@ use Rattle.rz_events.specs.declared.files.Published.{Published}
 use Rattle.rz_events.specs.declared.records.Held.{Held}
 use Rattle.rz_export_model.specs.Export.{Block, Export, is_after, listed_at, published_after}
 use Rattle.rz_export_model.specs.Firsts.{first_given, given_if}
-use Rattle.rz_export_model.specs.Tree.{Tree, file_of}
+use Rattle.rz_export_model.specs.Tree.{file_of}
 use Rattle.rz_scrubbing.specs.declared.finding.Finding.{Finding}
 use Rattle.rz_scrubbing.specs.Asks.{IsFound}
 use Rattle.rz_scrubbing.specs.Lines.{line_of}

@@ -17,6 +17,8 @@ mod laws;
 mod line;
 mod scrubbing;
 mod store;
+#[cfg(test)]
+mod tests;
 
 pub use finding::Finding;
 pub use laws::whole_records;

@@ -1,4 +1,4 @@
-use Rattle.std.proofs.Common.{ℕ, get_or, refl, rules, arith, ◌∙◌}
+use Rattle.std.proofs.Common.{get_or, rules, arith, ◌∙◌}
 use Rattle.rz_scrubbing.proofs.Going.{goes-then, on-top}
 use Rattle.rz_scrubbing.proofs.Gathered.{asked-at, asked-before, asked-next, bare-after}
 use Rattle.rz_scrubbing.proofs.asking.gather.Goals as goal

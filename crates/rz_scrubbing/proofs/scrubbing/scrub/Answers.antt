@@ -1,4 +1,4 @@
-use Rattle.std.proofs.Common.{ℕ, ◌≡◌, ◌++◌, ◌∙◌, Some, None, rules, arith, sym, ap, subst}
+use Rattle.std.proofs.Common.{◌≡◌, ◌++◌, ◌∙◌, None, rules, arith, sym, ap, subst}
 use Rattle.std.proofs.lemmas.Grind.{common_steps}
 use Rattle.mj_angles.specs.declared.layout.Layout.{Layout}
 use Rattle.rz_export_model.specs.Export.{Export, published_after}
