@@ -13,16 +13,7 @@ use Rattle.rz_scrubbing.specs.declared.finding.Finding.{Finding}
 use Rattle.rz_scrubbing.specs.Stores.{State, IsRead}
 use Rattle.rz_scrubbing.specs.Asks.{AreAsked, IsAsked, IsFound, with_given}
 
-nones : (n p : ℕ) → get_or (replicate n (let o : Option (List ℕ) = None in o)) p None ≡ None
-nones zero p = refl
-nones (suc n) zero = refl
-nones (suc n) (suc p) = nones n p
-
--- no position has bins at first
-pub bare : (layout : Layout) (p : ℕ) → bins_at (no_records layout) p ≡ None
-bare layout p = nones (safe_of layout) p
-
--- and one that is asked leaves the others
+-- a position that is asked leaves the others
 pub others : (s : Records) (position p : ℕ) (given : FetchAnswer) (room : List ℕ) → p ≢ position → bins_at (with_given s position given room) p ≡ bins_at s p
 others s position p (fetch.Held told) room h = get_or-set_other s.bins position p (Some (take (bins_at_of s.layout position) room)) None h
 others s position p fetch.Nothing room h = refl

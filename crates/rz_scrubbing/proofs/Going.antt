@@ -6,26 +6,12 @@ use Rattle.rz_events.specs.declared.records.Held.{Held}
 use Rattle.rz_events.specs.declared.events.Event.{Event}
 use Rattle.rz_scrubbing.specs.Stores.{State, IsOnTop, GoesOn}
 
-pub on-top-none : (a b : List Event) → b ≡ a → IsOnTop a b
-on-top-none a b e = ([], e)
-
 pub on-top : (a b c : List Event) → IsOnTop a b → IsOnTop b c → IsOnTop a c
 on-top a b c p q = (q.0 ++ p.0, q.1 ∙ ap (λ (h : List Event). q.0 ++ h) p.1 ∙ sym (append_assoc q.0 p.0 a))
 
-pub goes-self : {S : Type 0} {is_ready : S → Type 0} {layout : S → Layout} {gives : S → ℕ → Key → Held → List ℕ → List ℕ → Type 0}
-    {state : S → State} {holds : S → (ℕ → ℕ) → Type 0} → (s : S) → is_ready s → GoesOn is_ready layout gives state holds s s
-goes-self s ready = record {
-  ready = ready;
-  layout_is = refl;
-  given = λ n key told before room h. h;
-  export_is = refl;
-  events = ([], refl);
-  held = λ first h. h;
-}
-
-pub goes-then : {S : Type 0} {is_ready : S → Type 0} {layout : S → Layout} {gives : S → ℕ → Key → Held → List ℕ → List ℕ → Type 0}
-    {state : S → State} {holds : S → (ℕ → ℕ) → Type 0} → (a b c : S)
-    → GoesOn is_ready layout gives state holds a b → GoesOn is_ready layout gives state holds b c → GoesOn is_ready layout gives state holds a c
+pub goes-then : {S : Type 0} {is_open : S → Type 0} {layout : S → Layout} {gives : S → ℕ → Key → Held → List ℕ → List ℕ → Type 0}
+    {state : S → State} {counts : S → (ℕ → ℕ) → Type 0} → (a b c : S)
+    → GoesOn is_open layout gives state counts a b → GoesOn is_open layout gives state counts b c → GoesOn is_open layout gives state counts a c
 goes-then {state = state} a b c p q = record {
   ready = q.ready;
   layout_is = q.layout_is ∙ p.layout_is;

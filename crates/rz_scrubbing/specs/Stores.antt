@@ -40,11 +40,11 @@ IsOnTop old new = (later : List Event) × (new ≡ later ++ old)
 
 -- A store goes on: it can be asked again, its disks give no other records than before, events were added, and what was so of its
 -- disks is so still.
-pub record GoesOn {S : Type 0} (is_ready : S → Type 0) (layout : S → Layout) (gives : S → ℕ → Key → Held → List ℕ → List ℕ → Type 0)
-    (state : S → State) (holds : S → (ℕ → ℕ) → Type 0) (old new : S) : Type 0 where
-  pub ready : is_ready new
+pub record GoesOn {S : Type 0} (is_open : S → Type 0) (layout : S → Layout) (gives : S → ℕ → Key → Held → List ℕ → List ℕ → Type 0)
+    (state : S → State) (counts : S → (ℕ → ℕ) → Type 0) (old new : S) : Type 0 where
+  pub ready : is_open new
   pub layout_is : layout new ≡ layout old
   pub given : (n : ℕ) (key : Key) (told : Held) (before room : List ℕ) → gives new n key told before room → gives old n key told before room
   pub export_is : (state new).export ≡ (state old).export
   pub events : IsOnTop (state old).events (state new).events
-  pub held : (first : ℕ → ℕ) → holds old first → holds new first
+  pub held : (first : ℕ → ℕ) → counts old first → counts new first

@@ -80,15 +80,15 @@ fn ask<S: Store>(
     position: u8,
     node: u16,
 ) -> Result<(), AllocError>
-    requires ready { S.is_ready store.old }
+    requires ready { S.is_open store.old }
     requires layout { S.layout store.old ≡ desk.old.layout }
     requires place { position < safe_of desk.old.layout }
     requires bare { bins_at desk.old.scrub position ≡ None }
     ensures desk { desk.new.layout ≡ desk.old.layout }
     ensures asked { OnOk result (IsAsked (S.gives store.old) listed.now position node (S.state store.old) (S.state store.new) desk.old.scrub desk.new.scrub) }
-    ensures onward { OnOk result (GoesOn S.is_ready S.layout S.gives S.state S.holds store.old store.new) }
+    ensures onward { OnOk result (GoesOn S.is_open S.layout S.gives S.state S.counts store.old store.new) }
     ensures events { IsOnTop (S.state store.old).events (S.state store.new).events }
-    ensures left { (first : ℕ → ℕ) → S.holds store.old first → S.leaves store.new first }
+    ensures left { (first : ℕ → ℕ) → S.counts store.old first → S.counted store.new first }
 {
     let stamp = listed.published.stamp;
     let answer = store.fetch(node, listed.key, position, stamp, &mut desk.room)?;
@@ -100,14 +100,14 @@ fn ask<S: Store>(
 
 /// Asks each node of a block for its record.
 fn gather<S: Store>(store: &mut S, desk: &mut Desk, listed: &Listed) -> Result<(), AllocError>
-    requires ready { S.is_ready store.old }
+    requires ready { S.is_open store.old }
     requires layout { S.layout store.old ≡ desk.old.layout }
     requires bare { desk.old.scrub ≡ no_records desk.old.layout }
     ensures desk { desk.new.layout ≡ desk.old.layout }
     ensures asked { OnOk result (AreAsked (S.gives store.old) listed.now 0 listed.now.info.places (S.state store.old) (S.state store.new) (no_records desk.old.layout) desk.new.scrub) }
-    ensures onward { OnOk result (GoesOn S.is_ready S.layout S.gives S.state S.holds store.old store.new) }
+    ensures onward { OnOk result (GoesOn S.is_open S.layout S.gives S.state S.counts store.old store.new) }
     ensures events { IsOnTop (S.state store.old).events (S.state store.new).events }
-    ensures left { (first : ℕ → ℕ) → S.holds store.old first → S.leaves store.new first }
+    ensures left { (first : ℕ → ℕ) → S.counts store.old first → S.counted store.new first }
 {
     let nodes = listed.info.places.list();
     if desk.layout.safe() < nodes.len() {
@@ -126,13 +126,13 @@ pub(crate) fn find<S: Store>(
     desk: &mut Desk,
     listed: &Listed,
 ) -> Result<Finding, AllocError>
-    requires ready { S.is_ready store.old }
+    requires ready { S.is_open store.old }
     requires layout { S.layout store.old ≡ desk.old.layout }
     ensures desk { desk.new.layout ≡ desk.old.layout }
     ensures found { IfOk result (λ finding. IsFound desk.old.layout (S.gives store.old) listed.now (S.state store.old) finding (S.state store.new)) }
-    ensures onward { OnOk result (GoesOn S.is_ready S.layout S.gives S.state S.holds store.old store.new) }
+    ensures onward { OnOk result (GoesOn S.is_open S.layout S.gives S.state S.counts store.old store.new) }
     ensures events { IsOnTop (S.state store.old).events (S.state store.new).events }
-    ensures left { (first : ℕ → ℕ) → S.holds store.old first → S.leaves store.new first }
+    ensures left { (first : ℕ → ℕ) → S.counts store.old first → S.counted store.new first }
 {
     desk.clear();
     gather(store, desk, listed)?;

@@ -12,10 +12,10 @@ use std::alloc::{AllocError, Global};
 /// The lines of what is found of each published block of a live file, in the order of their keys. Each
 /// node of a block is asked once for its record of the published stamp, and nothing is written back.
 pub fn scrub<S: Store>(alloc: Global, store: &mut S) -> Result<Vec<u8>, AllocError>
-    requires { S.is_ready store.old }
+    requires { S.is_open store.old }
     ensures lines { IfOk result (λ text. IsScrubbed (S.layout store.old) (S.gives store.old) (S.state store.old) text.items (S.state store.new)) }
     ensures events { IsOnTop (S.state store.old).events (S.state store.new).events }
-    ensures left { (first : ℕ → ℕ) → S.holds store.old first → S.leaves store.new first }
+    ensures left { (first : ℕ → ℕ) → S.counts store.old first → S.counted store.new first }
 {
     let layout = store.layout();
     let mut desk = Desk::new(alloc, layout)?;

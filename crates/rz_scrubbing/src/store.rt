@@ -22,7 +22,7 @@ pub trait Store {
     ghost state: { Self → State };
 
     /// It can be asked.
-    ghost is_ready: { Self → Type 0 };
+    ghost is_open: { Self → Type 0 };
 
     /// What the disk of a node gives of a record of a key: what is told of the record, what lay in the room
     /// for its bins, and what lies there then.
@@ -30,12 +30,12 @@ pub trait Store {
 
     /// What is so of the disks and the events, where each disk, by its place, had counted so many faults at
     /// first.
-    ghost holds: { Self → (ℕ → ℕ) → Type 0 };
+    ghost counts: { Self → (ℕ → ℕ) → Type 0 };
 
     /// What is so of them at the end, want of memory or not.
-    ghost leaves: { Self → (ℕ → ℕ) → Type 0 };
+    ghost counted: { Self → (ℕ → ℕ) → Type 0 };
 
-    ghost ends: { (s : Self) (first : ℕ → ℕ) → holds s first → leaves s first };
+    ghost closes: { (s : Self) (first : ℕ → ℕ) → counts s first → counted s first };
 
     fn layout(&self) -> Layout
         ensures { result ≡ layout self.now };
@@ -54,11 +54,11 @@ pub trait Store {
         stamp: u64,
         room: &mut [u64],
     ) -> Result<FetchAnswer, AllocError>
-        requires ready { is_ready self.old }
+        requires ready { is_open self.old }
         requires room { max_bins_of (layout self.old) ≤ length room.old }
         ensures fetched { IfOk result (λ given. IsFetched node key position stamp given (state self.old) (state self.new)) }
         ensures read { IfOk result (λ given. IsRead (gives self.old node key) given room.old room.new) }
-        ensures onward { OnOk result (GoesOn is_ready layout gives state holds self.old self.new) }
+        ensures onward { OnOk result (GoesOn is_open layout gives state counts self.old self.new) }
         ensures events { OnErr result ((state self.new).events ≡ (state self.old).events) }
-        ensures left { OnErr result ((first : ℕ → ℕ) → holds self.old first → leaves self.new first) };
+        ensures left { OnErr result ((first : ℕ → ℕ) → counts self.old first → counted self.new first) };
 }
