@@ -57,13 +57,13 @@ module _ (read : Result Script ScriptError) (disks : ℕ) (s : Script) (wish : W
 module _ (source : Reading) (disks : ℕ) (s : Script) (whole : ¬ Rises source.old source.new) (text : List ℕ) (left : source.before ≡ Some text) (short : length text ≤ limit)
     (means : script forms.Replay text ≡ Ok s) (small : is_large s ≡ false) (fits : disks ≡ nodes_in s) where
   -- the text that was read is the one that was left
-  came-read : (result : Result Request Stop) → (t : List ℕ) × IsRead source t × Judges (script forms.Replay t) disks result → IsFor wishes.Replay result → Came s wishes.Replay course result
+  came-read : (result : Result Request Stop) → (t : List ℕ) × IsRead source t × Judges (script forms.Replay t) disks result → IsFor wishes.Replay result → Came s wishes.Replay result
   came-read result h for =
       let same = subst (λ (b : Option (List ℕ)). IfSome b (λ x. (x ≡ h.0) × (source.after ≡ Some []))) left h.1.0 in
       let is : script forms.Replay h.0 ≡ Ok s = subst (λ (t : List ℕ). script forms.Replay t ≡ Ok s) same.0 means in
       judged (script forms.Replay h.0) disks s wishes.Replay is small fits result h.2 for
 
-  came-source : (result : Result Request Stop) → Reads source disks result → IsFor wishes.Replay result → Came s wishes.Replay course result
+  came-source : (result : Result Request Stop) → Reads source disks result → IsFor wishes.Replay result → Came s wishes.Replay result
   came-source (Ok r) h for = came-read (Ok r) h for
   came-source (Err stops.NoMemory) h for = tt
   came-source (Err stops.Source) h for = absurd (whole h)
