@@ -5,6 +5,7 @@ use Rattle.std.specs.Global.{Vec}
 use Rattle.std.specs.List.{AllByRecursion, IsDistinct}
 use Rattle.std.specs.Vec.{with_items}
 use Rattle.rz_disk.specs.declared.disk.Disk.{Ghosts}
+use Rattle.rz_disk.specs.Meter.{Meter}
 use Rattle.rz_disk.specs.UnderFuse.{UnderFuse, fused_meter}
 use Rattle.rz_events.specs.Volume.{Volume, IsVolume, nodes_of}
 use Rattle.rz_events.specs.declared.files.NodeSpec.{NodeSpec}
@@ -186,27 +187,46 @@ module _ {D : Type 0} {G : Ghosts D} (d : Driver D G) where
 
   -- ---- of a node, of which the slice of the vector was written
 
-  module _ (xs ys : List (Station (UnderFuse D))) (same : xs ≡ d.shared.stations.items) (named : numbers_of ys ≡ numbers_of xs) where
-    pub written : (with_items d.shared.stations ys).items ≡ ys
-    written = named-vector (fused_meter G.meter) (numbers_in d) (λ i. i) d.shared.stations xs ys same named
+  module _ (xs ys : List (Station (UnderFuse D))) (same : xs ≡ d.shared.stations.items) where
+    abbrev items : List (Station (UnderFuse D))
+    items = (with_items d.shared.stations ys).items
 
-    pub order-picture : ((v : Volume) → IsLastingLaw v) → (next : World) → GrowsBy d.shared.log.events next.log → (IsTrue G.tells → KeepsRow image xs d.shared.log.events ys next.log)
-        → (IsTrue G.tells → IsVolume d.volume → IsFine d.volume [] (world_of d) → IsFineIfShort d.volume [] next) → HasPicture d
-        → IsTrue G.tells → length next.log < 2 ^ 64 - 1 → IsPicture image d.volume next d.seats.items (with_items d.shared.stations ys).items
-    order-picture lasting next grown keeps fine =
-        let v = d.volume in
-        let h = d.shared.log.events in
-        picture-then next d.seats.items (with_items d.shared.stations ys).items grown fine
-        (λ hands. hands-last v (lasting v) h next.log grown d.seats.items hands)
-        (λ told disks. subst (AreImaged image v (facts next.log)) (sym written) (keeps told v (subst (AreImaged image v (facts h)) (sym same) disks)))
+    abbrev meter : UnderFuse D → Meter
+    meter = fused_meter G.meter
 
-    pub order-right : (h' : List Event) → h' ≡ d.shared.log.events → (IsTrue G.tells → SparesRow image xs d.shared.log.events ys) → (first : ℕ → ℕ) → Holds d first
-        → IsTrue G.tells → length h' < 2 ^ 64 - 1 → AllByRecursion (IsRight image d.volume h') (with_items d.shared.stations ys).items
-    order-right h' still spares first held =
+    abbrev h : List Event
+    h = d.shared.log.events
+
+    written : numbers_of ys ≡ numbers_of xs → items ≡ ys
+    written named = named-vector meter (numbers_in d) (λ i. i) d.shared.stations xs ys same named
+
+    before : (first : ℕ → ℕ) → Holds d first → AreMetered meter (numbers_in d) xs h first
+    before first held = subst (λ (zs : List (Station (UnderFuse D))). AreMetered meter (numbers_in d) zs h first) (sym same) held.0
+
+    pub order-holds : ((v : Volume) → IsLastingLaw v) → (next : World) → GrowsBy h next.log → (IsTrue G.tells → KeepsRow image xs h ys next.log)
+        → (IsTrue G.tells → IsVolume d.volume → IsFine d.volume [] (world_of d) → IsFineIfShort d.volume [] next)
+        → ((numbers : List ℕ) → Carries (AreMetered meter numbers xs h) (AreMetered meter numbers ys next.log)) → (first : ℕ → ℕ) → Holds d first
+        → AreMetered meter (numbers_in d) items next.log first × (IsTrue G.tells → length next.log < 2 ^ 64 - 1 → IsPicture image d.volume next d.seats.items items)
+    order-holds lasting next grown keeps fine holds first held =
         let v = d.volume in
-        let h = d.shared.log.events in
-        right-disks d d refl h' still first held (with_items d.shared.stations ys).items (ap numbers_of written ∙ named ∙ ap numbers_of same) (λ told was.
-        let s = spares told v (subst (AreImaged image v (facts h)) (sym same) was.disks) in (
-          subst (AreImaged image v (facts h)) (sym written) s.0,
-          ap state_in written ∙ s.1 ∙ ap state_in same,
-        ))
+        let was = before first held in
+        let now = holds (numbers_in d) first was in
+        let is : items ≡ ys = written (now.named ∙ sym was.named) in (
+          subst (λ (zs : List (Station (UnderFuse D))). AreMetered meter (numbers_in d) zs next.log first) (sym is) now,
+          picture-then next d.seats.items items grown fine (λ hands. hands-last v (lasting v) h next.log grown d.seats.items hands)
+              (λ told disks. subst (AreImaged image v (facts next.log)) (sym is) (keeps told v (subst (AreImaged image v (facts h)) (sym same) disks))) held.1,
+        )
+
+    pub order-leaves : (h' : List Event) → h' ≡ h → (IsTrue G.tells → SparesRow image xs h ys) → ((numbers : List ℕ) → Carries (AreMetered meter numbers xs h) (AreCounted meter numbers ys h')) → (first : ℕ → ℕ) → Holds d first
+        → AreCounted meter (numbers_in d) items h' first × (IsTrue G.tells → length h' < 2 ^ 64 - 1 → AllByRecursion (IsRight image d.volume h') items)
+    order-leaves h' still spares leaves first held =
+        let v = d.volume in
+        let was = before first held in
+        let now = leaves (numbers_in d) first was in
+        let named = now.named ∙ sym was.named in
+        let is : items ≡ ys = written named in (
+          subst (λ (zs : List (Station (UnderFuse D))). AreCounted meter (numbers_in d) zs h' first) (sym is) now,
+          right-disks d d refl h' still first held items (ap numbers_of is ∙ named ∙ ap numbers_of same) (λ told picture.
+          let s = spares told v (subst (AreImaged image v (facts h)) (sym same) picture.disks) in
+          (subst (AreImaged image v (facts h)) (sym is) s.0, ap state_in is ∙ s.1 ∙ ap state_in same)),
+        )

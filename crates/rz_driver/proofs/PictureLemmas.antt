@@ -35,9 +35,9 @@ pub three-ok : {T E P Q R S : Type 0} (r : Result T E) → (P → Q → R → S)
 three-ok (Ok x) f p q s = f p q s
 three-ok (Err e) f p q s = tt
 
-pub both-err : {T E P Q R : Type 0} (r : Result T E) → (P → Q → R) → OnErr r P → OnErr r Q → OnErr r R
-both-err (Ok x) f p q = tt
-both-err (Err e) f p q = f p q
+pub three-err : {T E P Q R S : Type 0} (r : Result T E) → (P → Q → R → S) → OnErr r P → OnErr r Q → OnErr r R → OnErr r S
+three-err (Ok x) f p q s = tt
+three-err (Err e) f p q s = f p q s
 
 pub on-err : {T E P : Type 0} (r : Result T E) → P → OnErr r P
 on-err (Ok x) p = tt

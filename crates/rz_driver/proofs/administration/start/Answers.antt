@@ -23,6 +23,8 @@ use Rattle.rz_node.specs.Seen.{NodeView}
 use Rattle.rz_driver.specs.declared.station.Station.{Station}
 use Rattle.rz_driver.specs.Stations.{IsCalled}
 use Rattle.rz_driver.specs.Administration.{IsOrder, IsFreeOrder, IsArmed}
+use Rattle.rz_driver.specs.Pictures.{KeepsImages}
+use Rattle.rz_driver.proofs.OrderPictures.{both-keep, call-keeps, crash-keeps, fewer-keeps, starts}
 use Rattle.rz_driver.proofs.administration.start.Goals as goal
 use Rattle.rz_driver.proofs.administration.start.Goals.{then-eq, else-eq}
 
@@ -95,6 +97,21 @@ returns-in_default g c =
           ∙ armed-own g.D.Disk.has_fuse None (meter w.crash.new.self.disk) (meter w.arm.new.self.disk) w.arm.ensures.meter ∙ ap (λ (m : Meter). m.own) w.crash.ensures.meter
       | else-eq w ↦ ap (λ (s : Station g.row.D.Denot). (meter s.node.disk).own) w.station-is
     ] in
+    let keeps : IsTrue g.D.Disk.tells → KeepsImages g.D.Disk.image old mid = λ told. elim c.if-eq.branch [
+      | then-eq w ↦
+          let crashed : Station g.row.D.Denot = record { sid = old.sid; node = w.crash.new.self; pick = old.pick } in
+          let disarmed : Station g.row.D.Denot = record { sid = old.sid; node = w.arm.new.self; pick = old.pick } in
+          rw w.station-is (both-keep g.D.Disk.image old crashed disarmed
+          (crash-keeps g.D.Disk.image g.D.Disk.text c.crashed.ensures old crashed refl w.crash.ensures.geometry w.crash.ensures.state (w.crash.ensures.left told) w.crash.ensures.only)
+          (fewer-keeps g.D.Disk.image c.fewer.ensures crashed disarmed refl w.arm.ensures.geometry w.arm.ensures.state w.arm.ensures.within))
+      | else-eq w ↦ rw w.station-is (λ v f has. has)
+    ] in
+    let after : Station g.row.D.Denot = record { sid = mid.sid; node = new; pick = mid.pick } in
+    let images : IsTrue g.D.Disk.tells → KeepsImages g.D.Disk.image old after = λ told. both-keep g.D.Disk.image old mid after (keeps told)
+    (call-keeps g.D.Disk.image g.D.Disk.text (c.called.ensures told) ask.Start (answer.Start c.start.result) (λ v f n. tt) mid after refl c.start.ensures.geometry (c.start.ensures.after told) c.start.ensures.answer
+    (starts mid.node.geometry mid.node.state g.D.Disk.tells told (g.D.Disk.text mid.node.disk) (g.D.Disk.text new.disk) (g.D.Disk.image mid.node.disk) (g.D.Disk.image new.disk)
+    c.start.result c.start.ensures.branch c.start.ensures.settled c.start.ensures.text c.start.ensures.within))
+    in
     record {
       called = disarmed-first old mid new first c.start.ensures.geometry;
       started = free-order old mid new given c.node_event.result first c.start.ensures.geometry c.start.ensures.answer c.in_default.not-NoMemory c.node_event.ensures;
@@ -118,6 +135,8 @@ returns-in_default g c =
             start-still meter old.sid calls given old.node new other answer opens unstarted h
       ]);
       counted = start-lasts meter calls given old.node new (meter mid.node.disk) same c.start.ensures.opens;
+      images = images;
+      same = tt;
     }
 
 pub returns-in-NoMemory : goal.returns-in-NoMemory
@@ -135,6 +154,21 @@ returns-in-NoMemory g c =
           ∙ armed-own g.D.Disk.has_fuse None (meter w.crash.new.self.disk) (meter w.arm.new.self.disk) w.arm.ensures.meter ∙ ap (λ (m : Meter). m.own) w.crash.ensures.meter
       | else-eq w ↦ ap (λ (s : Station g.row.D.Denot). (meter s.node.disk).own) w.station-is
     ] in
+    let keeps : IsTrue g.D.Disk.tells → KeepsImages g.D.Disk.image old mid = λ told. elim c.if-eq.branch [
+      | then-eq w ↦
+          let crashed : Station g.row.D.Denot = record { sid = old.sid; node = w.crash.new.self; pick = old.pick } in
+          let disarmed : Station g.row.D.Denot = record { sid = old.sid; node = w.arm.new.self; pick = old.pick } in
+          rw w.station-is (both-keep g.D.Disk.image old crashed disarmed
+          (crash-keeps g.D.Disk.image g.D.Disk.text c.crashed.ensures old crashed refl w.crash.ensures.geometry w.crash.ensures.state (w.crash.ensures.left told) w.crash.ensures.only)
+          (fewer-keeps g.D.Disk.image c.fewer.ensures crashed disarmed refl w.arm.ensures.geometry w.arm.ensures.state w.arm.ensures.within))
+      | else-eq w ↦ rw w.station-is (λ v f has. has)
+    ] in
+    let after : Station g.row.D.Denot = record { sid = mid.sid; node = new; pick = mid.pick } in
+    let images : IsTrue g.D.Disk.tells → KeepsImages g.D.Disk.image old after = λ told. both-keep g.D.Disk.image old mid after (keeps told)
+    (call-keeps g.D.Disk.image g.D.Disk.text (c.called.ensures told) ask.Start (answer.Start c.start.result) (λ v f n. tt) mid after refl c.start.ensures.geometry (c.start.ensures.after told) c.start.ensures.answer
+    (starts mid.node.geometry mid.node.state g.D.Disk.tells told (g.D.Disk.text mid.node.disk) (g.D.Disk.text new.disk) (g.D.Disk.image mid.node.disk) (g.D.Disk.image new.disk)
+    c.start.result c.start.ensures.branch c.start.ensures.settled c.start.ensures.text c.start.ensures.within))
+    in
     record {
       called = disarmed-first old mid new first c.start.ensures.geometry;
       ok = tt;
@@ -146,4 +180,6 @@ returns-in-NoMemory g c =
       ];
       metered = tt;
       counted = start-lasts meter (opening_calls mid.node.geometry) c.start.result old.node new (meter mid.node.disk) same c.start.ensures.opens;
+      images = images;
+      same = subst (λ (a : StartAnswer). UnlessStarted a (new.state ≡ mid.node.state)) c.in-NoMemory.is c.start.ensures.unstarted ∙ first.state;
     }
