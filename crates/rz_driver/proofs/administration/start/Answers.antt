@@ -1,4 +1,4 @@
-use Rattle.std.proofs.Common.{◌≡◌, List, None, ap, refl, sym, ◌∙◌, subst, rules}
+use Rattle.std.proofs.Common.{◌≡◌, List, None, ap, refl, sym, ◌∙◌, subst, rules, arith}
 use Rattle.rz_events.specs.declared.nodes.NodeAsk.TheVariants as ask
 use Rattle.rz_events.specs.declared.nodes.NodeAnswer.TheVariants as answer
 use Rattle.rz_events.specs.declared.nodes.StartAnswer.{StartAnswer}
@@ -88,7 +88,7 @@ returns-in_default g c =
       | then-eq w ↦ rw w.station-is (record { sid = refl; geometry = w.arm.ensures.geometry ∙ w.crash.ensures.geometry; state = w.arm.ensures.state ∙ w.crash.ensures.state; pick_is = refl })
       | else-eq w ↦ rw w.station-is (record { sid = refl; geometry = refl; state = refl; pick_is = refl })
     ] in
-    let answer = subst (λ (s : NodeState). IsStartAnswer s given) first.state c.start.ensures.answer in
+    let replied = subst (λ (s : NodeState). IsStartAnswer s given) first.state c.start.ensures.answer in
     let started = subst (λ (s : NodeState). IfStarted given (new.state ≡ opened s.losses new.state.fence new.state.held)) first.state c.start.ensures.started in
     let unstarted = subst (λ (s : NodeState). UnlessStarted given (new.state ≡ s)) first.state c.start.ensures.unstarted in
     let event_is : c.node_event.result ≡ start_event old.sid given = c.node_event.ensures ∙ ap (λ (n : ℕ). start_event n given) first.sid in
@@ -128,11 +128,11 @@ returns-in_default g c =
             let disarmed : meter mid.node.disk ≡ armed None (meter old.node.disk) = ap (λ (s : Station g.row.D.Denot). meter s.node.disk) w.station-is
             ∙ armed-there g.D.Disk.has_fuse None (meter w.crash.new.self.disk) (meter w.arm.new.self.disk) c.requires.fuse w.arm.ensures.meter ∙ ap (armed None) w.crash.ensures.meter
             in
-            start-down meter c.started.ensures old.sid calls given old.node new (meter mid.node.disk) down answer c.in_default.not-NoMemory disarmed c.start.ensures.opens started unstarted h
+            start-down meter c.started.ensures old.sid calls given old.node new (meter mid.node.disk) down replied c.in_default.not-NoMemory disarmed c.start.ensures.opens started unstarted h
         | else-eq w ↦
             let other : old.node.state.phase ≡ Down → ⊥ = search rules in
             let opens = subst (λ (m : Meter). Opens calls given m (meter new.disk)) (ap (λ (s : Station g.row.D.Denot). meter s.node.disk) w.station-is) c.start.ensures.opens in
-            start-still meter old.sid calls given old.node new other answer opens unstarted h
+            start-still meter old.sid calls given old.node new other replied opens unstarted h
       ]);
       counted = start-lasts meter calls given old.node new (meter mid.node.disk) same c.start.ensures.opens;
       images = images;

@@ -24,5 +24,5 @@ returns-else-bins-given-clause-message g c =
       asked = asked;
       handed_are = λ has. subst (λ (a : Ask). AreBins c.args.machine.now a given) asked c.bins-given.ensures.bins;
       given_is = c.answer_node-in-Keep.ensures.answer;
-      leaves = any-bins node.geometry node.state c.args.ask.now c.answer_node-in-Keep.result binful _ given _ _ _ _ _ _ c.copy_from_slice.ensures (c.answer_node-in-Keep.ensures.leaves told);
+      leaves = any-bins node.geometry node.state c.args.ask.now c.answer_node-in-Keep.result binful _ given _ _ _ _ _ _ c.copy_from_slice.ensures.after (c.answer_node-in-Keep.ensures.leaves told);
     })

@@ -11,8 +11,8 @@ use Rattle.rz_driver.proofs.PictureLemmas.{on-err}
 use Rattle.rz_driver.proofs.messages.through.Goals as goal
 
 negated : (b c : Bool) → c ≡ not b → c ≡ true → b ≡ false
-negated true c is yes = let never : false ≡ true = sym is ∙ yes in cc
-negated false c is yes = refl
+negated true c is holds = let never : false ≡ true = sym is ∙ holds in cc
+negated false c is holds = refl
 
 negated-not : (b c : Bool) → c ≡ not b → c ≡ false → b ≡ true
 negated-not true c is no_ = refl
@@ -95,7 +95,7 @@ returns-then-not-is_fetch_of-clause-spared g c = λ told.
     let s = c.in_ok-answer.ensures in
     fits-always g.D.Disk.text g.D.Disk.image (c.heard.ensures told) c.args.by c.args.number c.args.machine.now c.args.ask c.in_ok-answer.answer c.args.node.now c.serve.new.node c.serve.new.bins c.args.log.now.events
     (s.message told c.args.number c.requires.asked) c.serve.ensures.geometry s.served.after c.args.layout c.requires.machine
-    (λ fits. subst IsTrue c.if-not-is_fetch_of.true (c.is_fetch_of.ensures.1 fits))
+    (λ fits. let never : false ≡ true = sym c.if-not-is_fetch_of.true ∙ c.is_fetch_of.ensures.1 fits in cc)
 
 pub returns-in_default-clause-spared : goal.returns-in_default-clause-spared
 returns-in_default-clause-spared g c = λ told.

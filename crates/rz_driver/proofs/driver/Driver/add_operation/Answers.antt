@@ -1,4 +1,4 @@
-use Rattle.std.proofs.Common.{◌≡◌, ◌<◌, inr, [], ◌∷◌, ◌++◌, length, set, Some, refl, sym, ◌∙◌, ap, subst, arith}
+use Rattle.std.proofs.Common.{◌≡◌, ◌<◌, inl, inr, [], ◌∷◌, ◌++◌, length, set, Some, refl, sym, ◌∙◌, ap, subst, arith}
 use Rattle.std.specs.Prelude.{slice_get}
 use Rattle.std.specs.List.{AllByRecursion}
 use Rattle.std.proofs.lemmas.Option.{slice_get_read}
@@ -70,3 +70,6 @@ pub returns-in_err-add-clause-left : goal.returns-in_err-add-clause-left
 returns-in_err-add-clause-left g c = on-err c.from_residual-in_err-add.result (λ first met.
     let d = c.args.self.now in
     inr (still-counted d d refl d.shared.log.events refl first met, still-right d d refl d.shared.log.events refl first met))
+
+pub returns-in_err-op-clause-left : goal.returns-in_err-op-clause-left
+returns-in_err-op-clause-left g c = on-err c.from_residual.result (λ first held. inl held)
