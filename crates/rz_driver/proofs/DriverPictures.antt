@@ -5,6 +5,7 @@ use Rattle.std.specs.Global.{Vec}
 use Rattle.std.specs.List.{AllByRecursion, IsDistinct}
 use Rattle.std.specs.Vec.{with_items}
 use Rattle.rz_disk.specs.declared.disk.Disk.{Ghosts}
+use Rattle.rz_disk.specs.Meter.{Meter}
 use Rattle.rz_disk.specs.UnderFuse.{UnderFuse, fused_meter}
 use Rattle.rz_events.specs.Volume.{Volume, IsVolume, nodes_of}
 use Rattle.rz_events.specs.declared.files.NodeSpec.{NodeSpec}
@@ -117,31 +118,28 @@ module _ {D : Type 0} {G : Ghosts D} (by : Actor) (place : ℕ) (d f : Driver D 
 -- ---- where a play ended
 
 module _ {D : Type 0} {G : Ghosts D} (d f : Driver D G) (is : d ≡ f) (h' : List Event) (log : h' ≡ d.shared.log.events) (first : ℕ → ℕ) (held : Holds f first) where
-  abbrev image : UnderFuse D → List ℕ → Type 0
-  image = fused_image G.image
-
-  before : Holds d first
-  before = subst (λ (x : Driver D G). Holds x first) (sym is) held
+  held-there : Holds d first
+  held-there = subst (λ (x : Driver D G). Holds x first) (sym is) held
 
   -- the states of all nodes are as before, and so is the log
   pub right-disks : (ys : List (Station (UnderFuse D))) → numbers_of ys ≡ numbers_of d.shared.stations.items
-      → (IsTrue G.tells → IsPicture image d.volume (world_of d) d.seats.items d.shared.stations.items → AreImaged image d.volume (facts d.shared.log.events) ys × (state_in ys ≡ state_in d.shared.stations.items))
-      → IsTrue G.tells → length h' < 2 ^ 64 - 1 → AllByRecursion (IsRight image d.volume h') ys
+      → (IsTrue G.tells → IsPicture (fused_image G.image) d.volume (world_of d) d.seats.items d.shared.stations.items → AreImaged (fused_image G.image) d.volume (facts d.shared.log.events) ys × (state_in ys ≡ state_in d.shared.stations.items))
+      → IsTrue G.tells → length h' < 2 ^ 64 - 1 → AllByRecursion (IsRight (fused_image G.image) d.volume h') ys
   right-disks ys numbers spares told few =
       let h = d.shared.log.events in
-      let was = before.1 told (subst (λ (k : List Event). length k < 2 ^ 64 - 1) log few) in
+      let was = held-there.1 told (subst (λ (k : List Event). length k < 2 ^ 64 - 1) log few) in
       let s = spares told was in
-      let apart = subst (IsDistinct nat_eq) (sym (numbers ∙ before.0.named)) before.0.apart in
-      subst (λ (k : List Event). AllByRecursion (IsRight image d.volume k) ys) (sym log)
-      (are-right image d.volume h (state_in d.shared.stations.items) was.fine.nodes_are ys s.1 apart s.0)
+      let apart = subst (IsDistinct nat_eq) (sym (numbers ∙ held-there.0.named)) held-there.0.apart in
+      subst (λ (k : List Event). AllByRecursion (IsRight (fused_image G.image) d.volume k) ys) (sym log)
+      (are-right (fused_image G.image) d.volume h (state_in d.shared.stations.items) was.fine.nodes_are ys s.1 apart s.0)
 
   -- no node was called
-  pub still-right : IsTrue G.tells → length h' < 2 ^ 64 - 1 → AllByRecursion (IsRight image d.volume h') d.shared.stations.items
+  pub still-right : IsTrue G.tells → length h' < 2 ^ 64 - 1 → AllByRecursion (IsRight (fused_image G.image) d.volume h') d.shared.stations.items
   still-right = right-disks d.shared.stations.items refl (λ told was. (was.disks, refl))
 
   pub still-counted : AreCounted (fused_meter G.meter) (numbers_in d) d.shared.stations.items h' first
   still-counted = subst (λ (k : List Event). AreCounted (fused_meter G.meter) (numbers_in d) d.shared.stations.items k first) (sym log)
-      (metered-counts (fused_meter G.meter) first (numbers_in d) d.shared.stations.items d.shared.log.events before.0)
+      (metered-counts (fused_meter G.meter) first (numbers_in d) d.shared.stations.items d.shared.log.events held-there.0)
 
 -- however it ended
 pub leaves-right : {D : Type 0} {G : Ghosts D} (d : Driver D G) (first : ℕ → ℕ) → Leaves d first → HasRightDisks d
@@ -155,14 +153,11 @@ leaves-named d first (inr left) = left.0.named
 -- ---- an order
 
 module _ {D : Type 0} {G : Ghosts D} (d : Driver D G) where
-  abbrev image : UnderFuse D → List ℕ → Type 0
-  image = fused_image G.image
-
   pub picture-then : (next : World) (seats : List Seat) (ys : List (Station (UnderFuse D))) → GrowsBy d.shared.log.events next.log
       → (IsTrue G.tells → IsVolume d.volume → IsFine d.volume [] (world_of d) → IsFineIfShort d.volume [] next)
       → (AllByRecursion (λ (s : Seat). HasTrueHand d.volume (facts d.shared.log.events) s.machine) d.seats.items → AllByRecursion (λ (s : Seat). HasTrueHand d.volume (facts next.log) s.machine) seats)
-      → (IsTrue G.tells → AreImaged image d.volume (facts d.shared.log.events) d.shared.stations.items → AreImaged image d.volume (facts next.log) ys)
-      → HasPicture d → IsTrue G.tells → length next.log < 2 ^ 64 - 1 → IsPicture image d.volume next seats ys
+      → (IsTrue G.tells → AreImaged (fused_image G.image) d.volume (facts d.shared.log.events) d.shared.stations.items → AreImaged (fused_image G.image) d.volume (facts next.log) ys)
+      → HasPicture d → IsTrue G.tells → length next.log < 2 ^ 64 - 1 → IsPicture (fused_image G.image) d.volume next seats ys
   picture-then next seats ys grown fine hands disks picture told few =
       let was = picture told (grown-short d.shared.log.events next.log grown few) in
       record {
@@ -175,7 +170,7 @@ module _ {D : Type 0} {G : Ghosts D} (d : Driver D G) where
   -- an actor has more to do, or another plan for its next message
   pub actor-picture : (place : ℕ) (s b : Seat) (turns : ℕ) → slice_get d.seats.items place ≡ Some s → b.machine ≡ s.machine
       → (IsVolume d.volume → IsFine d.volume [] (world_of d) → IsFineIfShort d.volume [] (world d.shared (set d.seats.items place b) turns)) → HasPicture d
-      → IsTrue G.tells → length d.shared.log.events < 2 ^ 64 - 1 → IsPicture image d.volume (world d.shared (set d.seats.items place b) turns) (set d.seats.items place b) d.shared.stations.items
+      → IsTrue G.tells → length d.shared.log.events < 2 ^ 64 - 1 → IsPicture (fused_image G.image) d.volume (world d.shared (set d.seats.items place b) turns) (set d.seats.items place b) d.shared.stations.items
   actor-picture place s b turns here machine fine =
       let v = d.volume in
       let f = facts d.shared.log.events in
@@ -186,27 +181,43 @@ module _ {D : Type 0} {G : Ghosts D} (d : Driver D G) where
 
   -- ---- of a node, of which the slice of the vector was written
 
-  module _ (xs ys : List (Station (UnderFuse D))) (same : xs ≡ d.shared.stations.items) (named : numbers_of ys ≡ numbers_of xs) where
-    pub written : (with_items d.shared.stations ys).items ≡ ys
-    written = named-vector (fused_meter G.meter) (numbers_in d) (λ i. i) d.shared.stations xs ys same named
+  module _ (xs ys : List (Station (UnderFuse D))) (same : xs ≡ d.shared.stations.items) where
+    abbrev items : List (Station (UnderFuse D))
+    items = (with_items d.shared.stations ys).items
 
-    pub order-picture : ((v : Volume) → IsLastingLaw v) → (next : World) → GrowsBy d.shared.log.events next.log → (IsTrue G.tells → KeepsRow image xs d.shared.log.events ys next.log)
-        → (IsTrue G.tells → IsVolume d.volume → IsFine d.volume [] (world_of d) → IsFineIfShort d.volume [] next) → HasPicture d
-        → IsTrue G.tells → length next.log < 2 ^ 64 - 1 → IsPicture image d.volume next d.seats.items (with_items d.shared.stations ys).items
-    order-picture lasting next grown keeps fine =
-        let v = d.volume in
-        let h = d.shared.log.events in
-        picture-then next d.seats.items (with_items d.shared.stations ys).items grown fine
-        (λ hands. hands-last v (lasting v) h next.log grown d.seats.items hands)
-        (λ told disks. subst (AreImaged image v (facts next.log)) (sym written) (keeps told v (subst (AreImaged image v (facts h)) (sym same) disks)))
+    abbrev meter : UnderFuse D → Meter
+    meter = fused_meter G.meter
 
-    pub order-right : (h' : List Event) → h' ≡ d.shared.log.events → (IsTrue G.tells → SparesRow image xs d.shared.log.events ys) → (first : ℕ → ℕ) → Holds d first
-        → IsTrue G.tells → length h' < 2 ^ 64 - 1 → AllByRecursion (IsRight image d.volume h') (with_items d.shared.stations ys).items
-    order-right h' still spares first held =
+    written : numbers_of ys ≡ numbers_of xs → items ≡ ys
+    written named = named-vector meter (numbers_in d) (λ i. i) d.shared.stations xs ys same named
+
+    then-metered : (first : ℕ → ℕ) → Holds d first → AreMetered meter (numbers_in d) xs d.shared.log.events first
+    then-metered first held = subst (λ (zs : List (Station (UnderFuse D))). AreMetered meter (numbers_in d) zs d.shared.log.events first) (sym same) held.0
+
+    pub order-holds : ((v : Volume) → IsLastingLaw v) → (next : World) → GrowsBy d.shared.log.events next.log → (IsTrue G.tells → KeepsRow (fused_image G.image) xs d.shared.log.events ys next.log)
+        → (IsTrue G.tells → IsVolume d.volume → IsFine d.volume [] (world_of d) → IsFineIfShort d.volume [] next)
+        → ((numbers : List ℕ) → Carries (AreMetered meter numbers xs d.shared.log.events) (AreMetered meter numbers ys next.log)) → (first : ℕ → ℕ) → Holds d first
+        → AreMetered meter (numbers_in d) items next.log first × (IsTrue G.tells → length next.log < 2 ^ 64 - 1 → IsPicture (fused_image G.image) d.volume next d.seats.items items)
+    order-holds lasting next grown keeps fine holds first held =
         let v = d.volume in
-        let h = d.shared.log.events in
-        right-disks d d refl h' still first held (with_items d.shared.stations ys).items (ap numbers_of written ∙ named ∙ ap numbers_of same) (λ told was.
-        let s = spares told v (subst (AreImaged image v (facts h)) (sym same) was.disks) in (
-          subst (AreImaged image v (facts h)) (sym written) s.0,
-          ap state_in written ∙ s.1 ∙ ap state_in same,
-        ))
+        let was = then-metered first held in
+        let now = holds (numbers_in d) first was in
+        let is : items ≡ ys = written (now.named ∙ sym was.named) in (
+          subst (λ (zs : List (Station (UnderFuse D))). AreMetered meter (numbers_in d) zs next.log first) (sym is) now,
+          picture-then next d.seats.items items grown fine (λ hands. hands-last v (lasting v) d.shared.log.events next.log grown d.seats.items hands)
+              (λ told disks. subst (AreImaged (fused_image G.image) v (facts next.log)) (sym is) (keeps told v (subst (AreImaged (fused_image G.image) v (facts d.shared.log.events)) (sym same) disks))) held.1,
+        )
+
+    pub order-leaves : (h' : List Event) → h' ≡ d.shared.log.events → (IsTrue G.tells → SparesRow (fused_image G.image) xs d.shared.log.events ys) → ((numbers : List ℕ) → Carries (AreMetered meter numbers xs d.shared.log.events) (AreCounted meter numbers ys h')) → (first : ℕ → ℕ) → Holds d first
+        → AreCounted meter (numbers_in d) items h' first × (IsTrue G.tells → length h' < 2 ^ 64 - 1 → AllByRecursion (IsRight (fused_image G.image) d.volume h') items)
+    order-leaves h' still spares leaves first held =
+        let v = d.volume in
+        let was = then-metered first held in
+        let now = leaves (numbers_in d) first was in
+        let named = now.named ∙ sym was.named in
+        let is : items ≡ ys = written named in (
+          subst (λ (zs : List (Station (UnderFuse D))). AreCounted meter (numbers_in d) zs h' first) (sym is) now,
+          right-disks d d refl h' still first held items (ap numbers_of is ∙ named ∙ ap numbers_of same) (λ told picture.
+          let s = spares told v (subst (AreImaged (fused_image G.image) v (facts d.shared.log.events)) (sym same) picture.disks) in
+          (subst (AreImaged (fused_image G.image) v (facts d.shared.log.events)) (sym is) s.0, ap state_in is ∙ s.1 ∙ ap state_in same)),
+        )

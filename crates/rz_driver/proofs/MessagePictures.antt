@@ -23,9 +23,10 @@ use Rattle.rz_node_model.specs.NodeEvents.{node_event}
 use Rattle.rz_node_model.specs.States.{NodeState}
 use Rattle.rz_cells.specs.declared.geometry.Geometry.{Geometry}
 use Rattle.rz_node.specs.Seen.{NodeView}
+use Rattle.rz_calls.specs.Leaves.{Leaves}
 use Rattle.rz_core.specs.History.{Facts, facts}
 use Rattle.rz_operation.specs.Answers.{Goes, IsAnswerTo, IsAnswered}
-use Rattle.rz_operation.specs.Machine.{Machine}
+use Rattle.rz_operation.specs.Machine.{Machine, HasBinsFor}
 use Rattle.rz_operation_model.specs.Ask.{Ask, AskExport, AskNode, AskLock, Say, Rest, SayGot, SayGave, SayLeft, SayDone, ask_of}
 use Rattle.rz_operation_model.specs.Steps.{Missed}
 use Rattle.rz_operation_model.specs.Turns.{IsStep, ReplyLost, goes_by_link}
@@ -117,6 +118,33 @@ bad-said (Say (SayLeft key _)) is got leaves = cc
 
 pub never-bad : (v : Volume) → IsFittingLaw v → (f : Facts) (m : Machine) → HasInHand v f m → is_bad (ask_of m.layout m.work) ≡ true → ⊥
 never-bad v fitting f m hand is = bad-said (ask_of m.layout m.work) is (λ key part. (fitting f m hand key).0 part) (λ key. (fitting f m hand key).1)
+
+-- ---- the bins that are handed to a node
+
+-- what a node is not to keep comes without bins
+abbrev pub IsBinless : NodeAsk → Type 0
+IsBinless (ask.Keep head) = ⊥
+IsBinless (ask.Refill fence head) = ⊥
+IsBinless question = Unit {0}
+
+abbrev pub IsBinful : NodeAsk → Type 0
+IsBinful (ask.Keep head) = Unit {0}
+IsBinful (ask.Refill fence head) = Unit {0}
+IsBinful question = ⊥
+
+pub no-bins : (question : NodeAsk) → IsBinless question → HasBinsFor question → ⊥
+no-bins (ask.Keep head) none has = none
+no-bins (ask.Refill fence head) none has = none
+no-bins question none has = has
+
+-- what a node leaves of its disk when it is to keep a record does not depend on the bins afterwards
+pub any-bins : (g : Geometry) (s : NodeState) (question : NodeAsk) (given : NodeAnswer) → IsBinful question → (own handed after after' text text' : List ℕ) (image image' : List ℕ → Type 0) → own ≡ handed
+    → Leaves g s question given own after text text' image image' → Leaves g s question given handed after' text text' image image'
+any-bins g s (ask.Keep head) (answer.Keep a) bins own handed after after' text text' image image' same leaves = subst (λ (bs : List ℕ). Leaves g s (ask.Keep head) (answer.Keep a) bs after' text text' image image') same leaves
+any-bins g s (ask.Refill fence head) (answer.Refill a) bins own handed after after' text text' image image' same leaves = subst (λ (bs : List ℕ). Leaves g s (ask.Refill fence head) (answer.Refill a) bs after' text text' image image') same leaves
+any-bins g s (ask.Keep head) given bins own handed after after' text text' image image' same leaves = leaves
+any-bins g s (ask.Refill fence head) given bins own handed after after' text text' image image' same leaves = leaves
+any-bins g s question given bins own handed after after' text text' image image' same leaves = absurd bins
 
 -- ---- a node that was called
 

@@ -65,7 +65,7 @@ module _ {D : Type 0} where
 -- ---- a start, over disks that tell their texts or that do not
 
 pub start-over : (v : Volume) (n : ℕ) (tells : Bool) (w next : World) → (IsTrue tells → IsAdminCall v n ask.Start w next) → IsFreeStart v n w next → PlaysLineOver v (line.Start n) tells w next
-start-over v n true w next told free = told tt
+start-over v n true w next told free = told refl
 start-over v n false w next told free = free
 
 -- ---- the vector of nodes, of which a slice was written

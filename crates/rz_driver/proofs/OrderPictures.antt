@@ -97,7 +97,7 @@ module _ (g : Geometry) (s : NodeState) (tells : Bool) (told : IsTrue tells) (te
 
 -- an event of a node begins no write
 pub order-quiet : {P : Type 0} (n : ℕ) (question : NodeAsk) (given : NodeAnswer) (o : Option Event) → o ≡ node_event Admin n question given → IsSomeAnd o (λ x. stamp_begun x ≢ None) → P
-order-quiet n question given o same begins = go o refl begins
+order-quiet {P = P} n question given o same begins = go o refl begins
   where
     go : (p : Option Event) → o ≡ p → IsSomeAnd p (λ x. stamp_begun x ≢ None) → P
     go None is never = absurd never

@@ -35,9 +35,9 @@ pub three-ok : {T E P Q R S : Type 0} (r : Result T E) → (P → Q → R → S)
 three-ok (Ok x) f p q s = f p q s
 three-ok (Err e) f p q s = tt
 
-pub both-err : {T E P Q R : Type 0} (r : Result T E) → (P → Q → R) → OnErr r P → OnErr r Q → OnErr r R
-both-err (Ok x) f p q = tt
-both-err (Err e) f p q = f p q
+pub three-err : {T E P Q R S : Type 0} (r : Result T E) → (P → Q → R → S) → OnErr r P → OnErr r Q → OnErr r R → OnErr r S
+three-err (Ok x) f p q s = tt
+three-err (Err e) f p q s = f p q s
 
 pub on-err : {T E P : Type 0} (r : Result T E) → P → OnErr r P
 on-err (Ok x) p = tt
@@ -92,6 +92,13 @@ module _ {D : Type 0} (image : D → List ℕ → Type 0) where
     pub row-at : (row : List (Station D)) (place : ℕ) (s : Station D) → slice_get row place ≡ Some s → AreImaged image v f row → HasImages image v f s.sid s.node
     row-at row place s is all = all-at (λ (t : Station D). HasImages image v f t.sid t.node) row place s all is
 
+unlike : (n m : ℕ) → nat_eq m n ≡ false → (n == m) ≡ false
+unlike n m apart = go (n == m) refl
+  where
+    go : (b : Bool) → (n == m) ≡ b → (n == m) ≡ false
+    go false is = is
+    go true is = let same : nat_eq m n ≡ true = eq-eqb m n (sym (eqb-true n m is)) in absurd (cc)
+
 module _ {D : Type 0} where
   the-one : (x s : Station D) → Some x ≡ Some s → x ≡ s
   the-one x s is = cc
@@ -108,13 +115,6 @@ module _ {D : Type 0} where
   -- where a node keeps its state, all do
   pub states-stay : (row : List (Station D)) (place : ℕ) (s s' : Station D) → slice_get row place ≡ Some s → s'.sid ≡ s.sid → s'.node.state ≡ s.node.state → state_in (slice_set row place s') ≡ state_in row
   states-stay row place s s' at sid state = fun_ext (state-stays row place s s' at sid state)
-
-  unlike : (n m : ℕ) → nat_eq m n ≡ false → (n == m) ≡ false
-  unlike n m apart = go (n == m) refl
-    where
-      go : (b : Bool) → (n == m) ≡ b → (n == m) ≡ false
-      go false is = is
-      go true is = let same : nat_eq m n ≡ true = eq-eqb m n (sym (eqb-true n m is)) in absurd (cc)
 
   -- each node of a row without a number twice has the state of its number
   behind : (x : Station D) (more row : List (Station D)) → AllByRecursion (λ m. nat_eq x.sid m ≡ false) (numbers_of row) → AllByRecursion (λ (s : Station D). state_in more s.sid ≡ s.node.state) row

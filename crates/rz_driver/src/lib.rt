@@ -3,8 +3,9 @@
 //! [`Driver::new`] formats the disks, each for its node and in a fuse; as a stage the driver plays the lines
 //! of a script; [`Driver::close`] gives the log and the disks back, in their order. The contracts say that
 //! each turn and each line is one of the play's relation, that the log stays as it was where memory is
-//! wanting, and that the faults of each node's word are counted by its disk. They say nothing of the images
-//! of a disk after a play, nor that there is memory.
+//! wanting, and that the faults of each node's word are counted by its disk. Over disks that tell their
+//! texts they say what each image of each disk stands for, by the log, however a play ended. They do not
+//! say that there is memory.
 //!
 //! In reading order: `station`, `seat`, `messages`, `acting`, `administration`, `driver`, `turns`, `orders`,
 //! `nodes`, `parts`, `formatting`, `making`, `stage`, `asking`, `closing`.

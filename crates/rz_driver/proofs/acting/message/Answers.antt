@@ -2,6 +2,7 @@ use Rattle.std.proofs.Common.{◌≡◌, ℕ, IsTrue, Some, refl, sym, subst}
 use Rattle.std.specs.Prelude.{slice_set}
 use Rattle.std.proofs.Math.Nat.{le_refl}
 use Rattle.std.proofs.lemmas.Result.{on_ok_weaker, on_err_weaker}
+use Rattle.rz_driver.specs.declared.station.Station.{Station}
 use Rattle.rz_driver.specs.Acts.{Through, ReplyLost, RequestLost}
 use Rattle.rz_driver.specs.Nodes.{IsThroughPart}
 use Rattle.rz_driver.specs.Meters.{GoesOn}
@@ -197,7 +198,7 @@ returns-in_err-without_reply-in-ReplyLost-clause-spared g c =
     let h = c.args.shared.now.log.events in
     let m = c.args.machine.now in
     let s = c.index_mut.result.now in
-    let after = record { sid = s.sid; node = c.without_reply.new.node; pick = s.pick } in
+    let after : Station g.row.D.Denot = record { sid = s.sid; node = c.without_reply.new.node; pick = s.pick } in
     let there = read-at row c.as_slice.result.now c.args.number c.in-Some.place s c.as_slice.ensures.value c.in-Some.ensures c.index_mut.ensures.value in
     let named = sid-at row c.args.number c.in-Some.place s there.0 there.1 in
     let P : Type 0 = IsTrue g.D.Disk.tells → SparesPicture image c.args.by (Some m) row h (slice_set row c.in-Some.place after) in

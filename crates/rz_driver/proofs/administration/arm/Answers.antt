@@ -1,6 +1,7 @@
-use Rattle.std.proofs.Common.{Some, ap, arith}
+use Rattle.std.proofs.Common.{Some, refl, ap, arith}
 use Rattle.rz_node_model.specs.States.{NodeState}
 use Rattle.rz_driver.proofs.MeterLemmas.{arm-goes, armed-own}
+use Rattle.rz_driver.proofs.OrderPictures.{fewer-keeps}
 use Rattle.rz_driver.proofs.administration.arm.Goals as goal
 
 pub returns-clause-metered : goal.returns-clause-metered
@@ -13,3 +14,8 @@ pub returns-clause-counted : goal.returns-clause-counted
 returns-clause-counted g c =
     let same = armed-own g.D.Disk.has_fuse (Some c.args.passes) (g.D.Disk.meter c.args.station.now.node.disk) (g.D.Disk.meter c.arm.new.self.disk) c.arm.ensures.meter in
     omega (arith, same)
+
+pub returns-clause-images : goal.returns-clause-images
+returns-clause-images g c = λ told.
+    let s = c.args.station.now in
+    fewer-keeps g.D.Disk.image c.fewer.ensures s (record { sid = s.sid; node = c.arm.new.self; pick = c.args.pick }) refl c.arm.ensures.geometry c.arm.ensures.state c.arm.ensures.within

@@ -1,4 +1,4 @@
-use Rattle.std.proofs.Common.{◌≡◌, List, None, ap, refl, sym, ◌∙◌, subst, rules}
+use Rattle.std.proofs.Common.{◌≡◌, List, None, ap, refl, sym, ◌∙◌, subst, rules, arith}
 use Rattle.rz_events.specs.declared.nodes.NodeAsk.TheVariants as ask
 use Rattle.rz_events.specs.declared.nodes.NodeAnswer.TheVariants as answer
 use Rattle.rz_events.specs.declared.nodes.StartAnswer.{StartAnswer}
@@ -23,6 +23,8 @@ use Rattle.rz_node.specs.Seen.{NodeView}
 use Rattle.rz_driver.specs.declared.station.Station.{Station}
 use Rattle.rz_driver.specs.Stations.{IsCalled}
 use Rattle.rz_driver.specs.Administration.{IsOrder, IsFreeOrder, IsArmed}
+use Rattle.rz_driver.specs.Pictures.{KeepsImages}
+use Rattle.rz_driver.proofs.OrderPictures.{both-keep, call-keeps, crash-keeps, fewer-keeps, starts}
 use Rattle.rz_driver.proofs.administration.start.Goals as goal
 use Rattle.rz_driver.proofs.administration.start.Goals.{then-eq, else-eq}
 
@@ -86,7 +88,7 @@ returns-in_default g c =
       | then-eq w ↦ rw w.station-is (record { sid = refl; geometry = w.arm.ensures.geometry ∙ w.crash.ensures.geometry; state = w.arm.ensures.state ∙ w.crash.ensures.state; pick_is = refl })
       | else-eq w ↦ rw w.station-is (record { sid = refl; geometry = refl; state = refl; pick_is = refl })
     ] in
-    let answer = subst (λ (s : NodeState). IsStartAnswer s given) first.state c.start.ensures.answer in
+    let replied = subst (λ (s : NodeState). IsStartAnswer s given) first.state c.start.ensures.answer in
     let started = subst (λ (s : NodeState). IfStarted given (new.state ≡ opened s.losses new.state.fence new.state.held)) first.state c.start.ensures.started in
     let unstarted = subst (λ (s : NodeState). UnlessStarted given (new.state ≡ s)) first.state c.start.ensures.unstarted in
     let event_is : c.node_event.result ≡ start_event old.sid given = c.node_event.ensures ∙ ap (λ (n : ℕ). start_event n given) first.sid in
@@ -95,6 +97,21 @@ returns-in_default g c =
           ∙ armed-own g.D.Disk.has_fuse None (meter w.crash.new.self.disk) (meter w.arm.new.self.disk) w.arm.ensures.meter ∙ ap (λ (m : Meter). m.own) w.crash.ensures.meter
       | else-eq w ↦ ap (λ (s : Station g.row.D.Denot). (meter s.node.disk).own) w.station-is
     ] in
+    let keeps : IsTrue g.D.Disk.tells → KeepsImages g.D.Disk.image old mid = λ told. elim c.if-eq.branch [
+      | then-eq w ↦
+          let crashed : Station g.row.D.Denot = record { sid = old.sid; node = w.crash.new.self; pick = old.pick } in
+          let disarmed : Station g.row.D.Denot = record { sid = old.sid; node = w.arm.new.self; pick = old.pick } in
+          rw w.station-is (both-keep g.D.Disk.image old crashed disarmed
+          (crash-keeps g.D.Disk.image g.D.Disk.text c.crashed.ensures old crashed refl w.crash.ensures.geometry w.crash.ensures.state (w.crash.ensures.left told) w.crash.ensures.only)
+          (fewer-keeps g.D.Disk.image c.fewer.ensures crashed disarmed refl w.arm.ensures.geometry w.arm.ensures.state w.arm.ensures.within))
+      | else-eq w ↦ rw w.station-is (λ v f has. has)
+    ] in
+    let after : Station g.row.D.Denot = record { sid = mid.sid; node = new; pick = mid.pick } in
+    let images : IsTrue g.D.Disk.tells → KeepsImages g.D.Disk.image old after = λ told. both-keep g.D.Disk.image old mid after (keeps told)
+    (call-keeps g.D.Disk.image g.D.Disk.text (c.called.ensures told) ask.Start (answer.Start c.start.result) (λ v f n. tt) mid after refl c.start.ensures.geometry (c.start.ensures.after told) c.start.ensures.answer
+    (starts mid.node.geometry mid.node.state g.D.Disk.tells told (g.D.Disk.text mid.node.disk) (g.D.Disk.text new.disk) (g.D.Disk.image mid.node.disk) (g.D.Disk.image new.disk)
+    c.start.result c.start.ensures.branch c.start.ensures.settled c.start.ensures.text c.start.ensures.within))
+    in
     record {
       called = disarmed-first old mid new first c.start.ensures.geometry;
       started = free-order old mid new given c.node_event.result first c.start.ensures.geometry c.start.ensures.answer c.in_default.not-NoMemory c.node_event.ensures;
@@ -111,13 +128,15 @@ returns-in_default g c =
             let disarmed : meter mid.node.disk ≡ armed None (meter old.node.disk) = ap (λ (s : Station g.row.D.Denot). meter s.node.disk) w.station-is
             ∙ armed-there g.D.Disk.has_fuse None (meter w.crash.new.self.disk) (meter w.arm.new.self.disk) c.requires.fuse w.arm.ensures.meter ∙ ap (armed None) w.crash.ensures.meter
             in
-            start-down meter c.started.ensures old.sid calls given old.node new (meter mid.node.disk) down answer c.in_default.not-NoMemory disarmed c.start.ensures.opens started unstarted h
+            start-down meter c.started.ensures old.sid calls given old.node new (meter mid.node.disk) down replied c.in_default.not-NoMemory disarmed c.start.ensures.opens started unstarted h
         | else-eq w ↦
             let other : old.node.state.phase ≡ Down → ⊥ = search rules in
             let opens = subst (λ (m : Meter). Opens calls given m (meter new.disk)) (ap (λ (s : Station g.row.D.Denot). meter s.node.disk) w.station-is) c.start.ensures.opens in
-            start-still meter old.sid calls given old.node new other answer opens unstarted h
+            start-still meter old.sid calls given old.node new other replied opens unstarted h
       ]);
       counted = start-lasts meter calls given old.node new (meter mid.node.disk) same c.start.ensures.opens;
+      images = images;
+      same = tt;
     }
 
 pub returns-in-NoMemory : goal.returns-in-NoMemory
@@ -135,6 +154,21 @@ returns-in-NoMemory g c =
           ∙ armed-own g.D.Disk.has_fuse None (meter w.crash.new.self.disk) (meter w.arm.new.self.disk) w.arm.ensures.meter ∙ ap (λ (m : Meter). m.own) w.crash.ensures.meter
       | else-eq w ↦ ap (λ (s : Station g.row.D.Denot). (meter s.node.disk).own) w.station-is
     ] in
+    let keeps : IsTrue g.D.Disk.tells → KeepsImages g.D.Disk.image old mid = λ told. elim c.if-eq.branch [
+      | then-eq w ↦
+          let crashed : Station g.row.D.Denot = record { sid = old.sid; node = w.crash.new.self; pick = old.pick } in
+          let disarmed : Station g.row.D.Denot = record { sid = old.sid; node = w.arm.new.self; pick = old.pick } in
+          rw w.station-is (both-keep g.D.Disk.image old crashed disarmed
+          (crash-keeps g.D.Disk.image g.D.Disk.text c.crashed.ensures old crashed refl w.crash.ensures.geometry w.crash.ensures.state (w.crash.ensures.left told) w.crash.ensures.only)
+          (fewer-keeps g.D.Disk.image c.fewer.ensures crashed disarmed refl w.arm.ensures.geometry w.arm.ensures.state w.arm.ensures.within))
+      | else-eq w ↦ rw w.station-is (λ v f has. has)
+    ] in
+    let after : Station g.row.D.Denot = record { sid = mid.sid; node = new; pick = mid.pick } in
+    let images : IsTrue g.D.Disk.tells → KeepsImages g.D.Disk.image old after = λ told. both-keep g.D.Disk.image old mid after (keeps told)
+    (call-keeps g.D.Disk.image g.D.Disk.text (c.called.ensures told) ask.Start (answer.Start c.start.result) (λ v f n. tt) mid after refl c.start.ensures.geometry (c.start.ensures.after told) c.start.ensures.answer
+    (starts mid.node.geometry mid.node.state g.D.Disk.tells told (g.D.Disk.text mid.node.disk) (g.D.Disk.text new.disk) (g.D.Disk.image mid.node.disk) (g.D.Disk.image new.disk)
+    c.start.result c.start.ensures.branch c.start.ensures.settled c.start.ensures.text c.start.ensures.within))
+    in
     record {
       called = disarmed-first old mid new first c.start.ensures.geometry;
       ok = tt;
@@ -146,4 +180,6 @@ returns-in-NoMemory g c =
       ];
       metered = tt;
       counted = start-lasts meter (opening_calls mid.node.geometry) c.start.result old.node new (meter mid.node.disk) same c.start.ensures.opens;
+      images = images;
+      same = subst (λ (a : StartAnswer). UnlessStarted a (new.state ≡ mid.node.state)) c.in-NoMemory.is c.start.ensures.unstarted ∙ first.state;
     }

@@ -1,9 +1,15 @@
 use Rattle.std.proofs.Common.{◌≡◌, ◌<◌, ◌∙◌, IsTrue, get_or, length, refl, ap, rules}
+use Rattle.std.specs.Prelude.{◌≢◌, IsSomeAnd, None}
 use Rattle.std.proofs.lemmas.Option.{slice_get-get_or}
 use Rattle.std.proofs.lemmas.Result.{on_ok_weaker, on_err_weaker}
+use Rattle.rz_events.specs.declared.nodes.NodeAsk.TheVariants as ask
+use Rattle.rz_events.specs.declared.events.Event.{Event}
+use Rattle.rz_asks.specs.Logged.{stamp_begun}
 use Rattle.rz_play.specs.Lines.{noted}
 use Rattle.rz_driver.proofs.MeterLemmas.{metered-counts, still-err, order-err, order-held, order-left}
 use Rattle.rz_driver.proofs.Rows.{at-within}
+use Rattle.rz_driver.proofs.OrderPictures.{order-quiet, row-keeps, row-spares, still-row}
+use Rattle.rz_driver.proofs.PictureLemmas.{noted-grows, on-err}
 use Rattle.rz_driver.proofs.administration.start_node.Goals as goal
 
 pub offset_bounds-stations-place : goal.offset_bounds-stations-place
@@ -86,3 +92,37 @@ returns-in_err-event-clause-left g c =
     let s = get_or row c.in-Some.place c.index-stations-place.result in
     let at = slice_get-get_or row c.in-Some.place c.index-stations-place.result low in
     order-err c.from_residual-in_err-event.result g.D.Disk.meter row c.in-Some.place s c.start.new.station c.args.log.now.events c.make_room.new.self.events at c.start.ensures.called.sid c.start.ensures.counted c.make_room.ensures.same
+
+-- Beside the log.
+
+pub returns-clause-pictured : goal.returns-clause-pictured
+returns-clause-pictured g c =
+    let row = c.args.stations.now in
+    let low = at-within row c.args.sid c.in-Some.place c.in-Some.ensures in
+    let s = get_or row c.in-Some.place c.index-stations-place.result in
+    let at = slice_get-get_or row c.in-Some.place c.index-stations-place.result low in
+    let event = c.in_ok-event.event in
+    on_ok_weaker c.note.result (λ (h : c.note.new.log.events ≡ noted event c.make_room.new.self.events). λ told.
+    row-keeps g.D.Disk.image row c.in-Some.place s c.start.new.station at (c.start.ensures.images told) c.args.log.now.events c.longer.ensures c.note.new.log.events
+    (noted-grows event c.args.log.now.events c.note.new.log.events (h ∙ ap (noted event) c.make_room.ensures.same))) c.note.ensures.ok
+
+pub returns-clause-spared : goal.returns-clause-spared
+returns-clause-spared g c =
+    let s = get_or c.args.stations.now c.in-Some.place c.index-stations-place.result in
+    let order = c.in_ok-event.ensures.started in
+    on_err_weaker c.note.result (λ (begins : IsSomeAnd c.in_ok-event.event (λ (x : Event). stamp_begun x ≢ None)). order-quiet s.sid ask.Start order.given c.in_ok-event.event order.event_is begins) c.note.ensures.begins
+
+pub returns-in_default-clause-spared : goal.returns-in_default-clause-spared
+returns-in_default-clause-spared g c = λ told. still-row g.D.Disk.image c.args.stations.now c.args.log.now.events
+
+pub returns-in_err-make_room-clause-spared : goal.returns-in_err-make_room-clause-spared
+returns-in_err-make_room-clause-spared g c = on-err c.from_residual.result (λ told. still-row g.D.Disk.image c.args.stations.now c.args.log.now.events)
+
+pub returns-in_err-event-clause-spared : goal.returns-in_err-event-clause-spared
+returns-in_err-event-clause-spared g c =
+    let row = c.args.stations.now in
+    let low = at-within row c.args.sid c.in-Some.place c.in-Some.ensures in
+    let s = get_or row c.in-Some.place c.index-stations-place.result in
+    let at = slice_get-get_or row c.in-Some.place c.index-stations-place.result low in
+    on-err c.from_residual-in_err-event.result (λ told.
+    row-spares g.D.Disk.image row c.in-Some.place s c.start.new.station at (c.start.ensures.images told) c.args.log.now.events c.start.ensures.called.sid c.in_err-event.ensures.same)

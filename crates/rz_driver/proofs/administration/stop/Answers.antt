@@ -7,6 +7,7 @@ use Rattle.rz_events.specs.declared.nodes.NodeAsk.TheVariants as ask
 use Rattle.rz_play.specs.Lines.{noted}
 use Rattle.rz_driver.specs.Meters.{GoesOn}
 use Rattle.rz_driver.proofs.MeterLemmas.{call-goes}
+use Rattle.rz_driver.proofs.OrderPictures.{call-keeps, same-disk}
 use Rattle.rz_driver.proofs.administration.stop.Goals as goal
 
 pub returns-clause-order : goal.returns-clause-order
@@ -33,3 +34,11 @@ pub returns-clause-counted : goal.returns-clause-counted
 returns-clause-counted g c =
     let same = ap (λ (n : NodeView g.row.D.Denot). (g.D.Disk.meter n.disk).own) c.stop.ensures.after in
     omega (arith, same)
+
+pub returns-clause-images : goal.returns-clause-images
+returns-clause-images g c = λ told.
+    let s = c.args.station.now in
+    let node' = c.stop.new.self in
+    let after = c.stop.ensures.after in
+    call-keeps g.D.Disk.image g.D.Disk.text (c.called.ensures told) ask.Stop (answer.Stop c.stop.result) (λ v f n. tt) s (record { sid = s.sid; node = node'; pick = s.pick }) refl
+    (ap (λ (n : NodeView g.row.D.Denot). n.geometry) after) (ap (λ (n : NodeView g.row.D.Denot). n.state) after) c.stop.ensures.answer (same-disk g.D.Disk.image s.node node' _ after)

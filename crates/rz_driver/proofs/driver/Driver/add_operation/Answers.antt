@@ -1,17 +1,20 @@
-use Rattle.std.proofs.Common.{◌≡◌, ◌<◌, [], ◌∷◌, ◌++◌, length, Some, refl, sym, ◌∙◌, ap, subst, arith}
+use Rattle.std.proofs.Common.{◌≡◌, ◌<◌, inl, inr, [], ◌∷◌, ◌++◌, length, set, Some, refl, sym, ◌∙◌, ap, subst, arith}
 use Rattle.std.specs.Prelude.{slice_get}
 use Rattle.std.specs.List.{AllByRecursion}
 use Rattle.std.proofs.lemmas.Option.{slice_get_read}
 use Rattle.rz_events.specs.declared.operations.Operation.{Operation}
 use Rattle.rz_operation.specs.Answers.{IsOperation}
 use Rattle.rz_play.specs.Lines.{with_operation}
+use Rattle.rz_script.specs.declared.line.Line.TheVariants as line
 use Rattle.rz_driver.specs.declared.seat.Seat.{Seat}
 use Rattle.rz_asks.specs.Locking.{lock_of}
 use Rattle.rz_driver.specs.Seats.{IsSeat, HasLayout, work_in, seat_of}
-use Rattle.rz_driver.specs.Worlds.{place_of}
+use Rattle.rz_driver.specs.Worlds.{place_of, world, world_of}
 use Rattle.rz_driver.proofs.ReadyLemmas.{all-at}
 use Rattle.rz_driver.proofs.OrderLemmas.{ordered, still-ready, all-more}
 use Rattle.rz_driver.proofs.ActorOrders.{place-low, operation-fits}
+use Rattle.rz_driver.proofs.DriverPictures.{actor-picture, still-counted, still-right}
+use Rattle.rz_driver.proofs.PictureLemmas.{on-err}
 use Rattle.rz_driver.proofs.driver.Driver.add_operation.Goals as goal
 
 added : (s b : Seat) (op : Operation) → b.todo.items ≡ s.todo.items ++ op ∷ [] → b.number ≡ s.number → b.machine ≡ s.machine → b.lock ≡ s.lock → b.miss ≡ s.miss → seat_of b ≡ with_operation (seat_of s) op
@@ -49,3 +52,24 @@ returns-clause-played g c =
     let e = c.in_ok-add.ensures in
     ordered d.shared d.seats.items d.turns c.args.by c.in-Some.place s b (λ x. with_operation x c.args.op.now) at low here
     (added s b c.args.op.now (e.todo ∙ ap (λ (o : Operation). s.todo.items ++ o ∷ []) c.in_ok-op.ensures) e.number e.machine e.lock e.miss)
+
+pub returns-clause-held : goal.returns-clause-held
+returns-clause-held g c = λ first met.
+    let d = c.args.self.now in
+    let s = c.index_mut.result.now in
+    let b = c.add.new.self in
+    let at : place_of c.args.by ≡ Some c.in-Some.place = sym c.place.ensures ∙ c.in-Some.is in
+    let row = place-low c.args.by c.in-Some.place at in
+    let count : length d.seats.items ≡ 80 = c.requires.ready.count in
+    let low : c.in-Some.place < length d.seats.items = omega (arith, row, count) in
+    let here : slice_get d.seats.items c.in-Some.place ≡ Some s = slice_get_read d.seats.items (length d.seats.items) c.in-Some.place s refl low c.index_mut.ensures.value in
+    (met.0, actor-picture d c.in-Some.place s b d.turns here c.in_ok-add.ensures.machine (λ rules fine.
+    c.lined.ensures d.volume rules [] (line.Op c.args.by c.args.op.now) c.requires.line (world_of d) (world d.shared (set d.seats.items c.in-Some.place b) d.turns) (returns-clause-played g c) fine) met.1)
+
+pub returns-in_err-add-clause-left : goal.returns-in_err-add-clause-left
+returns-in_err-add-clause-left g c = on-err c.from_residual-in_err-add.result (λ first met.
+    let d = c.args.self.now in
+    inr (still-counted d d refl d.shared.log.events refl first met, still-right d d refl d.shared.log.events refl first met))
+
+pub returns-in_err-op-clause-left : goal.returns-in_err-op-clause-left
+returns-in_err-op-clause-left g c = on-err c.from_residual.result (λ first held. inl held)

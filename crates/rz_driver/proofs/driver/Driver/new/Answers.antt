@@ -6,6 +6,8 @@ use Rattle.rz_events.specs.declared.files.NodeSpec.{NodeSpec}
 use Rattle.rz_driver.specs.Made.{AreNew, AreBack}
 use Rattle.rz_driver.proofs.MeterLemmas.{new-holds}
 use Rattle.rz_driver.proofs.MadeLemmas.{untouched, proper-nodes, new-ready, new-is}
+use Rattle.rz_driver.specs.Stations.{IsStation}
+use Rattle.rz_driver.proofs.NewPictures.{new-picture}
 use Rattle.rz_driver.proofs.driver.Driver.new.Goals as goal
 
 pub returns-in_default-clause-back : goal.returns-in_default-clause-back
@@ -42,6 +44,13 @@ returns-in-Err-clause-back g c =
 
 pub returns-in-Ok-new_stations-clause-held : goal.returns-in-Ok-new_stations-clause-held
 returns-in-Ok-new_stations-clause-held g c =
+    let v = c.args.volume.now in
     let ready = returns-in-Ok-new_stations-clause-ready g c in
-    new-holds g.D.Disk.tells g.D.Disk.meter g.D.Disk.image c.args.volume.now c.new_parts.ensures.rules c.args.disks.items _ _ _ ready.numbers
-    (ap (λ (v : Volume). map (λ (n : NodeSpec). n.sid) (nodes_of v.clusters)) c.in-Ok.ensures.volume) (returns-in-Ok-new_stations-clause-made g c) c.new-log.ensures
+    let made = returns-in-Ok-new_stations-clause-made g c in
+    let row = c.in-Ok-new_stations.stations.items in
+    let stations : AllByRecursion (IsStation v) row = subst (λ (u : Volume). AllByRecursion (IsStation u) row) c.in-Ok.ensures.volume ready.stations in (
+      new-holds g.D.Disk.tells g.D.Disk.meter g.D.Disk.image v c.new_parts.ensures.rules c.args.disks.items _ _ _ ready.numbers
+          (ap (λ (u : Volume). map (λ (n : NodeSpec). n.sid) (nodes_of u.clusters)) c.in-Ok.ensures.volume) made c.new-log.ensures,
+      new-picture g.D.Disk.tells g.D.Disk.meter g.D.Disk.image c.fresh.ensures v c.new_parts.ensures.rules c.args.disks.items _ (returns-in-Ok-new_stations-clause-world g c) c.in-Ok.parts.seats.items c.in-Ok.ensures.seats row stations made
+          c.in-Ok.parts.volume c.in-Ok.ensures.volume,
+    )

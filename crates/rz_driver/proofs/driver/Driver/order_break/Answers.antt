@@ -1,12 +1,17 @@
-use Rattle.std.proofs.Common.{refl, ℕ, List, inr}
+use Rattle.std.proofs.Common.{◌≡◌, IsTrue, refl, ap, ℕ, List, [], ◌∷◌, inr}
 use Rattle.std.specs.Vec.{with_items}
-use Rattle.std.proofs.lemmas.Result.{on_ok_weaker, on_err_weaker}
+use Rattle.std.proofs.lemmas.Result.{on_ok_weaker}
+use Rattle.rz_events.specs.declared.events.Event.TheVariants as e
 use Rattle.rz_driver.specs.Administration.{IsArming}
 use Rattle.rz_disk.specs.UnderFuse.{fused_meter}
 use Rattle.rz_lines.specs.Ends.{Carries}
+use Rattle.rz_play.specs.World.{World}
+use Rattle.rz_script.specs.declared.line.Line.TheVariants as line
 use Rattle.rz_driver.specs.Meters.{AreMetered, AreCounted}
-use Rattle.rz_driver.specs.Worlds.{numbers_in}
-use Rattle.rz_driver.proofs.MeterLemmas.{metered-in, counted-in}
+use Rattle.rz_driver.specs.Pictures.{KeepsRow, SparesRow, fused_image}
+use Rattle.rz_driver.specs.Worlds.{world, world_of}
+use Rattle.rz_driver.proofs.DriverPictures.{order-holds, order-leaves}
+use Rattle.rz_driver.proofs.PictureLemmas.{three-ok, three-err}
 use Rattle.rz_driver.proofs.NodeOrders.{arming-in, armed-ready, armed-world}
 use Rattle.rz_driver.proofs.driver.Driver.order_break.Goals as goal
 
@@ -32,16 +37,28 @@ pub returns-clause-held : goal.returns-clause-held
 returns-clause-held g c =
     let d = c.args.self.now in
     let meter = fused_meter g.D.Disk.meter in
-    on_ok_weaker c.arm_node.result
-    (λ (held : (numbers : List ℕ) → Carries (AreMetered meter numbers c.as_mut_slice.result.now d.shared.log.events) (AreMetered meter numbers c.arm_node.new.stations c.arm_node.new.log.events)).
-    λ first met. metered-in meter (numbers_in d) first d.shared.stations c.as_mut_slice.result.now c.arm_node.new.stations c.as_mut_slice.ensures.value d.shared.log.events c.arm_node.new.log.events (held (numbers_in d) first) met)
-    c.arm_node.ensures.held
+    let image = fused_image g.D.Disk.image in
+    let xs = c.as_mut_slice.result.now in
+    let ys = c.arm_node.new.stations in
+    let h = d.shared.log.events in
+    let h' = c.arm_node.new.log.events in
+    let next : World = world (record d.shared { stations = with_items d.shared.stations ys; log = c.arm_node.new.log }) d.seats.items d.turns in
+    three-ok c.arm_node.result
+    (λ (holds : (numbers : List ℕ) → Carries (AreMetered meter numbers xs h) (AreMetered meter numbers ys h')) (keeps : IsTrue g.D.Disk.tells → KeepsRow image xs h ys h') (armed : next ≡ record (world_of d) { log = e.Armed c.args.sid c.args.passes c.args.pick ∷ h }).
+    order-holds d xs ys c.as_mut_slice.ensures.value c.lasting.ensures next (e.Armed c.args.sid c.args.passes c.args.pick ∷ [], ap (λ (w : World). w.log) armed) keeps
+    (λ told rules fine. c.lined.ensures d.volume rules [] (line.Break c.args.sid c.args.passes c.args.pick) c.requires.line (world_of d) next armed fine) holds)
+    c.arm_node.ensures.held c.arm_node.ensures.pictured (returns-clause-armed g c)
 
 pub returns-clause-left : goal.returns-clause-left
 returns-clause-left g c =
     let d = c.args.self.now in
     let meter = fused_meter g.D.Disk.meter in
-    on_err_weaker c.arm_node.result
-    (λ (left : (numbers : List ℕ) → Carries (AreMetered meter numbers c.as_mut_slice.result.now d.shared.log.events) (AreCounted meter numbers c.arm_node.new.stations c.arm_node.new.log.events)).
-    λ first met. inr (counted-in meter (numbers_in d) first d.shared.stations c.as_mut_slice.result.now c.arm_node.new.stations c.as_mut_slice.ensures.value d.shared.log.events c.arm_node.new.log.events (left (numbers_in d) first) met))
-    c.arm_node.ensures.left
+    let image = fused_image g.D.Disk.image in
+    let xs = c.as_mut_slice.result.now in
+    let ys = c.arm_node.new.stations in
+    let h = d.shared.log.events in
+    let h' = c.arm_node.new.log.events in
+    three-err c.arm_node.result
+    (λ (leaves : (numbers : List ℕ) → Carries (AreMetered meter numbers xs h) (AreCounted meter numbers ys h')) (spares : IsTrue g.D.Disk.tells → SparesRow image xs h ys) (still : h' ≡ h). λ first held.
+    inr (order-leaves d xs ys c.as_mut_slice.ensures.value h' still spares leaves first held))
+    c.arm_node.ensures.left c.arm_node.ensures.spared c.arm_node.ensures.err

@@ -1,13 +1,18 @@
-use Rattle.std.proofs.Common.{refl, ℕ, List, inr}
+use Rattle.std.proofs.Common.{◌≡◌, IsTrue, refl, ap, ℕ, List, [], inr}
 use Rattle.std.specs.Vec.{with_items}
-use Rattle.std.proofs.lemmas.Result.{on_ok_weaker, on_err_weaker}
+use Rattle.std.proofs.lemmas.Result.{on_ok_weaker}
 use Rattle.rz_events.specs.declared.nodes.NodeAsk.TheVariants as ask
 use Rattle.rz_driver.specs.Administration.{IsOrdered}
 use Rattle.rz_disk.specs.UnderFuse.{fused_meter}
 use Rattle.rz_lines.specs.Ends.{Carries}
+use Rattle.rz_play.specs.Lines.{IsAdminCall}
+use Rattle.rz_play.specs.World.{World}
+use Rattle.rz_script.specs.declared.line.Line.TheVariants as line
 use Rattle.rz_driver.specs.Meters.{AreMetered, AreCounted}
-use Rattle.rz_driver.specs.Worlds.{numbers_in}
-use Rattle.rz_driver.proofs.MeterLemmas.{metered-in, counted-in}
+use Rattle.rz_driver.specs.Pictures.{KeepsRow, SparesRow, fused_image}
+use Rattle.rz_driver.specs.Worlds.{world, world_of}
+use Rattle.rz_driver.proofs.DriverPictures.{order-holds, order-leaves}
+use Rattle.rz_driver.proofs.PictureLemmas.{noted-grows, three-ok, three-err}
 use Rattle.rz_driver.proofs.NodeOrders.{called-of, ordered-in, called-ready, admin-call}
 use Rattle.rz_driver.proofs.driver.Driver.order_stop.Goals as goal
 
@@ -33,16 +38,28 @@ pub returns-clause-held : goal.returns-clause-held
 returns-clause-held g c =
     let d = c.args.self.now in
     let meter = fused_meter g.D.Disk.meter in
-    on_ok_weaker c.stop_node.result
-    (λ (held : (numbers : List ℕ) → Carries (AreMetered meter numbers c.as_mut_slice.result.now d.shared.log.events) (AreMetered meter numbers c.stop_node.new.stations c.stop_node.new.log.events)).
-    λ first met. metered-in meter (numbers_in d) first d.shared.stations c.as_mut_slice.result.now c.stop_node.new.stations c.as_mut_slice.ensures.value d.shared.log.events c.stop_node.new.log.events (held (numbers_in d) first) met)
-    c.stop_node.ensures.held
+    let image = fused_image g.D.Disk.image in
+    let xs = c.as_mut_slice.result.now in
+    let ys = c.stop_node.new.stations in
+    let h = d.shared.log.events in
+    let h' = c.stop_node.new.log.events in
+    let next : World = world (record d.shared { stations = with_items d.shared.stations ys; log = c.stop_node.new.log }) d.seats.items d.turns in
+    three-ok c.stop_node.result
+    (λ (holds : (numbers : List ℕ) → Carries (AreMetered meter numbers xs h) (AreMetered meter numbers ys h')) (keeps : IsTrue g.D.Disk.tells → KeepsRow image xs h ys h') (called : IsAdminCall d.volume c.args.sid ask.Stop (world_of d) next).
+    order-holds d xs ys c.as_mut_slice.ensures.value c.lasting.ensures next (noted-grows _ h h' (ap (λ (w : World). w.log) called.next_is)) keeps
+    (λ told rules fine. c.lined.ensures d.volume rules [] (line.Stop c.args.sid) c.requires.line (world_of d) next called fine) holds)
+    c.stop_node.ensures.held c.stop_node.ensures.pictured (returns-clause-called g c)
 
 pub returns-clause-left : goal.returns-clause-left
 returns-clause-left g c =
     let d = c.args.self.now in
     let meter = fused_meter g.D.Disk.meter in
-    on_err_weaker c.stop_node.result
-    (λ (left : (numbers : List ℕ) → Carries (AreMetered meter numbers c.as_mut_slice.result.now d.shared.log.events) (AreCounted meter numbers c.stop_node.new.stations c.stop_node.new.log.events)).
-    λ first met. inr (counted-in meter (numbers_in d) first d.shared.stations c.as_mut_slice.result.now c.stop_node.new.stations c.as_mut_slice.ensures.value d.shared.log.events c.stop_node.new.log.events (left (numbers_in d) first) met))
-    c.stop_node.ensures.left
+    let image = fused_image g.D.Disk.image in
+    let xs = c.as_mut_slice.result.now in
+    let ys = c.stop_node.new.stations in
+    let h = d.shared.log.events in
+    let h' = c.stop_node.new.log.events in
+    three-err c.stop_node.result
+    (λ (leaves : (numbers : List ℕ) → Carries (AreMetered meter numbers xs h) (AreCounted meter numbers ys h')) (spares : IsTrue g.D.Disk.tells → SparesRow image xs h ys) (still : h' ≡ h). λ first held.
+    inr (order-leaves d xs ys c.as_mut_slice.ensures.value h' still spares leaves first held))
+    c.stop_node.ensures.left c.stop_node.ensures.spared c.stop_node.ensures.err

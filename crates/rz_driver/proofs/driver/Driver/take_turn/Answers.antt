@@ -1,4 +1,4 @@
-use Rattle.std.proofs.Common.{inr, List, ◌++◌, refl, sym, ◌∙◌, ap, subst}
+use Rattle.std.proofs.Common.{inl, inr, List, ◌++◌, refl, sym, ◌∙◌, ap, subst}
 use Rattle.rz_events.specs.declared.events.Event.{Event}
 use Rattle.rz_driver.specs.declared.driver.Driver.{Driver}
 use Rattle.rz_driver.specs.Worlds.{IsDriver, Holds}
@@ -58,6 +58,9 @@ returns-clause-held g c = λ first met.
           c.in_ok-take_up.ensures.ok c.make_room.ensures.same c.in_ok-take_up.ensures.hand c.working.ensures c.act.new.seat _ c.act.new.shared.stations.items c.turned.ensures c.lasting.ensures turn
           c.in_ok-act.ensures.pictured (grown.0, grown.1 ∙ ap (λ (k : List Event). grown.0 ++ k) c.make_room.ensures.same) met.1,
     )
+
+pub returns-in_default-clause-left : goal.returns-in_default-clause-left
+returns-in_default-clause-left g c = λ first met. inl met
 
 pub returns-in_err-make_room-clause-left : goal.returns-in_err-make_room-clause-left
 returns-in_err-make_room-clause-left g c = on-err c.from_residual.result (λ first met. inr (
