@@ -176,7 +176,7 @@ module _ {D : Type 0} {G : Ghosts D} (d : Driver D G) where
       let f = facts d.shared.log.events in
       picture-then (world d.shared (set d.seats.items place b) turns) (set d.seats.items place b) d.shared.stations.items ([], refl) (λ told. fine)
       (λ hands. all-set (λ (t : Seat). HasTrueHand v f t.machine) d.seats.items place b hands
-          (subst (HasTrueHand v f) (sym machine) (all-at (λ (t : Seat). HasTrueHand v f t.machine) d.seats.items place s hands here)))
+      (subst (HasTrueHand v f) (sym machine) (all-at (λ (t : Seat). HasTrueHand v f t.machine) d.seats.items place s hands here)))
       (λ told disks. disks)
 
   -- ---- of a node, of which the slice of the vector was written
@@ -218,6 +218,6 @@ module _ {D : Type 0} {G : Ghosts D} (d : Driver D G) where
         let is : items ≡ ys = written named in (
           subst (λ (zs : List (Station (UnderFuse D))). AreCounted meter (numbers_in d) zs h' first) (sym is) now,
           right-disks d d refl h' still first held items (ap numbers_of is ∙ named ∙ ap numbers_of same) (λ told picture.
-          let s = spares told v (subst (AreImaged (fused_image G.image) v (facts d.shared.log.events)) (sym same) picture.disks) in
-          (subst (AreImaged (fused_image G.image) v (facts d.shared.log.events)) (sym is) s.0, ap state_in is ∙ s.1 ∙ ap state_in same)),
+              let s = spares told v (subst (AreImaged (fused_image G.image) v (facts d.shared.log.events)) (sym same) picture.disks) in
+              (subst (AreImaged (fused_image G.image) v (facts d.shared.log.events)) (sym is) s.0, ap state_in is ∙ s.1 ∙ ap state_in same)),
         )

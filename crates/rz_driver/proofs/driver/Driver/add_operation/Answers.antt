@@ -62,9 +62,11 @@ returns-clause-held g c = λ first met.
     let row = place-low c.args.by c.in-Some.place at in
     let count : length d.seats.items ≡ 80 = c.requires.ready.count in
     let low : c.in-Some.place < length d.seats.items = omega (arith, row, count) in
-    let here : slice_get d.seats.items c.in-Some.place ≡ Some s = slice_get_read d.seats.items (length d.seats.items) c.in-Some.place s refl low c.index_mut.ensures.value in
-    (met.0, actor-picture d c.in-Some.place s b d.turns here c.in_ok-add.ensures.machine (λ rules fine.
-    c.lined.ensures d.volume rules [] (line.Op c.args.by c.args.op.now) c.requires.line (world_of d) (world d.shared (set d.seats.items c.in-Some.place b) d.turns) (returns-clause-played g c) fine) met.1)
+    let here : slice_get d.seats.items c.in-Some.place ≡ Some s = slice_get_read d.seats.items (length d.seats.items) c.in-Some.place s refl low c.index_mut.ensures.value in (
+      met.0,
+      actor-picture d c.in-Some.place s b d.turns here c.in_ok-add.ensures.machine (λ rules fine.
+          c.lined.ensures d.volume rules [] (line.Op c.args.by c.args.op.now) c.requires.line (world_of d) (world d.shared (set d.seats.items c.in-Some.place b) d.turns) (returns-clause-played g c) fine) met.1,
+    )
 
 pub returns-in_err-add-clause-left : goal.returns-in_err-add-clause-left
 returns-in_err-add-clause-left g c = on-err c.from_residual-in_err-add.result (λ first met.

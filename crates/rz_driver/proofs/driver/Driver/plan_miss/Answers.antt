@@ -44,6 +44,8 @@ returns-in-Some-clause-held g c = λ first met.
     let row = place-low c.args.by c.in-Some.place at in
     let count : length d.seats.items ≡ 80 = c.requires.ready.count in
     let low : c.in-Some.place < length d.seats.items = omega (arith, row, count) in
-    let here : slice_get d.seats.items c.in-Some.place ≡ Some s = slice_get_read d.seats.items (length d.seats.items) c.in-Some.place s refl low c.index_mut.ensures.value in
-    (met.0, actor-picture d c.in-Some.place s b d.turns here refl (λ rules fine.
-    c.lined.ensures d.volume rules [] (line.Miss c.args.by c.args.reply) c.requires.line (world_of d) (world d.shared (set d.seats.items c.in-Some.place b) d.turns) (returns-in-Some-clause-played g c) fine) met.1)
+    let here : slice_get d.seats.items c.in-Some.place ≡ Some s = slice_get_read d.seats.items (length d.seats.items) c.in-Some.place s refl low c.index_mut.ensures.value in (
+      met.0,
+      actor-picture d c.in-Some.place s b d.turns here refl (λ rules fine.
+          c.lined.ensures d.volume rules [] (line.Miss c.args.by c.args.reply) c.requires.line (world_of d) (world d.shared (set d.seats.items c.in-Some.place b) d.turns) (returns-in-Some-clause-played g c) fine) met.1,
+    )
