@@ -98,7 +98,11 @@ fn counted(alloc: Global, layout: Layout) -> Result<Block, AllocError>
 ///
 /// The bins of each altered record have another sum, the same for all of them. So a block fits none but
 /// those, or none of them, and past the reach there is none that fits enough.
-fn alters(rt: &(impl Abort + AllocGlobal), layout: Layout, wants: &[Verdict]) -> Result<(), AllocError> {
+fn alters(
+    rt: &(impl Abort + AllocGlobal),
+    layout: Layout,
+    wants: &[Verdict],
+) -> Result<(), AllocError> {
     let altered = [0u8, 2, 4, 6, 8];
     let block = counted(rt.alloc(), layout)?;
     let mut scrub = Scrub::start(rt.alloc(), layout)?;
@@ -124,7 +128,11 @@ fn up_to_the_reach(rt: HostRuntime) -> Result<(), Fail> {
     let three = Verdict::Altered { mask: 0b10101 };
     let four = Verdict::Altered { mask: 0b1010101 };
     alters(&rt, Layout::L0, &[Verdict::Clean, one, Verdict::Unsure])?;
-    alters(&rt, Layout::L1, &[Verdict::Clean, one, two, Verdict::Unsure])?;
+    alters(
+        &rt,
+        Layout::L1,
+        &[Verdict::Clean, one, two, Verdict::Unsure],
+    )?;
     let wants = [Verdict::Clean, one, two, three, four, Verdict::Unsure];
     alters(&rt, Layout::L2, &wants)?;
     Ok(())
