@@ -104,10 +104,7 @@ fn an_old_disk_is_carried_over(rt: HostRuntime) -> Result<(), Fail> {
         }
     }
     let mut new = cells.into_disk();
-    assert_eq!(rt;
-        bytes_of(rt.alloc(), &mut new)?,
-        new_bytes(rt.alloc())?
-    );
+    assert_eq!(rt; bytes_of(rt.alloc(), &mut new)?, new_bytes(rt.alloc())?);
     assert_eq!(rt; bytes_of(rt.alloc(), &mut old)?, bytes);
     assert!(rt; Cells::reopen(rt.alloc(), THREE, new).is_ok());
     Ok(())
@@ -197,10 +194,7 @@ fn an_old_disk_of_another_size_is_refused(rt: HostRuntime) -> Result<(), Fail> {
             need: 12691,
         };
         let part = &bytes[..(797 * have as usize).min(bytes.len())];
-        assert_eq!(rt;
-            refused(rt.alloc(), part)?,
-            Some(MigrateFault::Old(short))
-        );
+        assert_eq!(rt; refused(rt.alloc(), part)?, Some(MigrateFault::Old(short)));
     }
     Ok(())
 }
