@@ -1,6 +1,6 @@
 //! Verdicts on blocks some of whose records were altered.
 
-ghost use Rattle.std.specs.Prelude.{◌≡◌, ◌≤◌, ◌<◌, IfOk};
+ghost use Rattle.std.specs.Prelude.{◌≡◌, ◌≤◌, ◌<◌, IfOk, length};
 ghost use Rattle.mj_angles.specs.Layout.{inverse_of, cols_of, safe_of};
 
 use mj_angles::Layout;
@@ -98,11 +98,17 @@ fn counted(alloc: Global, layout: Layout) -> Result<Block, AllocError>
 ///
 /// The bins of each altered record have another sum, the same for all of them. So a block fits none but
 /// those, or none of them, and past the reach there is none that fits enough.
-fn alters(rt: &(impl Abort + AllocGlobal), layout: Layout, wants: &[Verdict]) -> Result<(), AllocError> {
+fn alters(
+    rt: &(impl Abort + AllocGlobal),
+    layout: Layout,
+    wants: &[Verdict],
+) -> Result<(), AllocError>
+    requires { length wants.now ≤ 6 }
+{
     let altered = [0u8, 2, 4, 6, 8];
     let block = counted(rt.alloc(), layout)?;
     let mut scrub = Scrub::start(rt.alloc(), layout)?;
-    for (want, number) in wants.iter().zip(0..6usize) {
+    for (number, want) in wants.iter().enumerate() {
         let found = verdict_on(
             rt,
             &mut scrub,
