@@ -20,6 +20,6 @@ pub fn whole_records()
 /// The law that too few records are found of a block, or that it is clean, where the nodes give the
 /// projections of one block of words.
 pub fn whole_blocks<S: Store>()
-    ensures { (s : S) (l : Listed) (g : Grid) (w next : State) (finding : Finding) → AreGiven (S.layout s) (S.gives s) l g
-        → IsFound (S.layout s) (S.gives s) l w finding next → (finding ≡ Finding.Few) ⊎ (finding ≡ Finding.Judged Verdict.Clean) }
+    ensures { (s : S) (l : Listed) (g : Grid) (w next : State) (finding : Finding) → AreGiven (S.described s).layout (S.gives s) l g
+        → IsFound (S.described s).layout (S.gives s) l w finding next → (finding ≡ Finding.Few) ⊎ (finding ≡ Finding.Judged Verdict.Clean) }
 {}
