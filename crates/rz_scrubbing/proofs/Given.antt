@@ -1,5 +1,5 @@
 -- Nodes that give the projections of one block.
-use Rattle.std.proofs.Common.{ℕ, zero, suc, ◌≡◌, ◌+◌, ◌∙◌, ◌⊎◌, inl, inr, Bool, true, List, [], ◌∷◌, get_or, set, replicate, take, Option, Some, None, refl, sym, ap, arith, subst}
+use Rattle.std.proofs.Common.{ℕ, zero, suc, ◌≡◌, ◌+◌, ◌∙◌, ◌⊎◌, inl, inr, true, List, [], ◌∷◌, get_or, set, replicate, take, Option, Some, None, refl, sym, ap, arith, subst}
 use Rattle.std.specs.Prelude.{is_some, slice_get}
 use Rattle.std.proofs.lemmas.Option.{same_Some}
 use Rattle.mj_angles.specs.declared.layout.Layout.{Layout}

@@ -1,5 +1,5 @@
 -- A store that goes on.
-use Rattle.std.proofs.Common.{ℕ, ◌≡◌, ◌∙◌, List, [], ◌++◌, refl, sym, ap, append_assoc}
+use Rattle.std.proofs.Common.{ℕ, ◌∙◌, List, ◌++◌, sym, ap, append_assoc}
 use Rattle.rz_events.specs.Volume.{Volume}
 use Rattle.rz_events.specs.declared.keys.Key.{Key}
 use Rattle.rz_events.specs.declared.records.Held.{Held}
