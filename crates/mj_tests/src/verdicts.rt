@@ -1,6 +1,6 @@
 //! Verdicts on blocks some of whose records were altered.
 
-ghost use Rattle.std.specs.Prelude.{◌≡◌, ◌≤◌, ◌<◌, IfOk};
+ghost use Rattle.std.specs.Prelude.{◌≡◌, ◌≤◌, ◌<◌, IfOk, length};
 ghost use Rattle.mj_angles.specs.Layout.{inverse_of, cols_of, safe_of};
 
 use mj_angles::Layout;
@@ -102,11 +102,13 @@ fn alters(
     rt: &(impl Abort + AllocGlobal),
     layout: Layout,
     wants: &[Verdict],
-) -> Result<(), AllocError> {
+) -> Result<(), AllocError>
+    requires { length wants.now ≤ 6 }
+{
     let altered = [0u8, 2, 4, 6, 8];
     let block = counted(rt.alloc(), layout)?;
     let mut scrub = Scrub::start(rt.alloc(), layout)?;
-    for (want, number) in wants.iter().zip(0..6usize) {
+    for (number, want) in wants.iter().enumerate() {
         let found = verdict_on(
             rt,
             &mut scrub,

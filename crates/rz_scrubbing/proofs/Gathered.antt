@@ -1,8 +1,8 @@
 -- The nodes of a block, asked one after the other.
-use Rattle.std.proofs.Common.{ℕ, zero, suc, ◌≡◌, ◌≢◌, ◌<◌, ◌≤◌, ◌+◌, ◌∙◌, List, [], ◌∷◌, length, get_or, drop, replicate, take, Option, Some, None, refl, sym, ap, arith, subst}
+use Rattle.std.proofs.Common.{ℕ, ◌≡◌, ◌≢◌, ◌<◌, ◌≤◌, ◌+◌, ◌∙◌, List, [], ◌∷◌, length, get_or, drop, take, Some, None, refl, sym, ap, arith, subst}
 use Rattle.std.proofs.lemmas.List.{drop_more, get_or-set_other}
 use Rattle.mj_angles.specs.declared.layout.Layout.{Layout}
-use Rattle.mj_angles.specs.Layout.{bins_at_of, safe_of}
+use Rattle.mj_angles.specs.Layout.{bins_at_of}
 use Rattle.rz_events.specs.declared.keys.Key.{Key}
 use Rattle.rz_events.specs.declared.files.Listed.{Listed}
 use Rattle.rz_events.specs.declared.records.Held.{Held}

@@ -3,3 +3,4 @@ pub mod Whole
 pub mod Going
 pub mod Gathered
 pub mod Walked
+pub mod Given

@@ -1,12 +1,15 @@
 -- What the nodes are asked of a published block, and what is found of it.
-use Rattle.std.specs.Prelude.{ℕ, ◌≡◌, ◌+◌, List, [], ◌∷◌, take}
+use Rattle.std.specs.Prelude.{ℕ, ◌≡◌, ◌+◌, List, [], ◌∷◌, Some, take, slice_get}
 use Rattle.mj_angles.specs.declared.layout.Layout.{Layout}
-use Rattle.mj_angles.specs.Layout.{bins_at_of}
+use Rattle.mj_angles.specs.Layout.{angle_of, bins_at_of}
+use Rattle.mj_forward.specs.Forward.{projection_of}
 use Rattle.rz_events.specs.declared.keys.Key.{Key}
 use Rattle.rz_events.specs.declared.files.Listed.{Listed}
 use Rattle.rz_events.specs.declared.records.Held.{Held}
 use Rattle.rz_events.specs.declared.nodes.FetchAnswer.{FetchAnswer}
 use Rattle.rz_events.specs.declared.nodes.FetchAnswer.TheVariants as fetch
+use Rattle.rz_words.specs.Grid.{Grid}
+use Rattle.rz_scrub.specs.Misfits.{IsBlock}
 use Rattle.rz_scrub.specs.Records.{Records, no_records, with_bins}
 use Rattle.rz_scrubbing.specs.declared.finding.Finding.{Finding}
 use Rattle.rz_scrubbing.specs.Findings.{IsFinding}
@@ -36,3 +39,9 @@ AreAsked gives l position (n ∷ nodes) w next s s' =
 abbrev pub IsFound : Layout → (ℕ → Key → Held → List ℕ → List ℕ → Type 0) → Listed → State → Finding → State → Type 0
 IsFound layout gives l w finding next =
     (s : Records) × AreAsked gives l 0 l.info.places w next (no_records layout) s × IsFinding s finding
+
+-- the records that the nodes of the block give are the projections of this block of words
+pub record AreGiven (layout : Layout) (gives : ℕ → Key → Held → List ℕ → List ℕ → Type 0) (l : Listed) (g : Grid) : Type 0 where
+  pub block : IsBlock layout g
+  pub each : (position n : ℕ) (told : Held) (before room : List ℕ) → slice_get l.info.places position ≡ Some n → gives n l.key told before room
+      → take (bins_at_of layout position) room ≡ projection_of g (angle_of layout position)

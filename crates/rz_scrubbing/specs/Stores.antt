@@ -1,6 +1,6 @@
 -- What there is to be scrubbed, and what asking a node for a record makes of it.
 use Rattle.std.specs.Prelude.{ℕ, ◌==◌, ◌≡◌, cond, List, ◌∷◌, ◌++◌}
-use Rattle.mj_angles.specs.declared.layout.Layout.{Layout}
+use Rattle.rz_events.specs.Volume.{Volume}
 use Rattle.rz_events.specs.declared.keys.Key.{Key}
 use Rattle.rz_events.specs.declared.keys.Actor.TheVariants.{Admin}
 use Rattle.rz_events.specs.declared.records.Held.{Held}
@@ -40,10 +40,10 @@ IsOnTop old new = (later : List Event) × (new ≡ later ++ old)
 
 -- A store goes on: it can be asked again, its disks give no other records than before, events were added, and what was so of its
 -- disks is so still.
-pub record GoesOn {S : Type 0} (is_open : S → Type 0) (layout : S → Layout) (gives : S → ℕ → Key → Held → List ℕ → List ℕ → Type 0)
+pub record GoesOn {S : Type 0} (is_open : S → Type 0) (described : S → Volume) (gives : S → ℕ → Key → Held → List ℕ → List ℕ → Type 0)
     (state : S → State) (counts : S → (ℕ → ℕ) → Type 0) (old new : S) : Type 0 where
   pub ready : is_open new
-  pub layout_is : layout new ≡ layout old
+  pub described_is : described new ≡ described old
   pub given : (n : ℕ) (key : Key) (told : Held) (before room : List ℕ) → gives new n key told before room → gives old n key told before room
   pub export_is : (state new).export ≡ (state old).export
   pub events : IsOnTop (state old).events (state new).events

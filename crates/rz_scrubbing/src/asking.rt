@@ -81,12 +81,13 @@ fn ask<S: Store>(
     node: u16,
 ) -> Result<(), AllocError>
     requires ready { S.is_open store.old }
-    requires layout { S.layout store.old ≡ desk.old.layout }
+    requires layout { (S.described store.old).layout ≡ desk.old.layout }
     requires place { position < safe_of desk.old.layout }
     requires bare { bins_at desk.old.scrub position ≡ None }
     ensures desk { desk.new.layout ≡ desk.old.layout }
     ensures asked { OnOk result (IsAsked (S.gives store.old) listed.now position node (S.state store.old) (S.state store.new) desk.old.scrub desk.new.scrub) }
-    ensures onward { OnOk result (GoesOn S.is_open S.layout S.gives S.state S.counts store.old store.new) }
+    ensures onward { OnOk result (GoesOn S.is_open S.described S.gives S.state S.counts store.old store.new) }
+    ensures described { S.described store.new ≡ S.described store.old }
     ensures events { IsOnTop (S.state store.old).events (S.state store.new).events }
     ensures left { (first : ℕ → ℕ) → S.counts store.old first → S.counted store.new first }
 {
@@ -101,11 +102,12 @@ fn ask<S: Store>(
 /// Asks each node of a block for its record.
 fn gather<S: Store>(store: &mut S, desk: &mut Desk, listed: &Listed) -> Result<(), AllocError>
     requires ready { S.is_open store.old }
-    requires layout { S.layout store.old ≡ desk.old.layout }
+    requires layout { (S.described store.old).layout ≡ desk.old.layout }
     requires bare { desk.old.scrub ≡ no_records desk.old.layout }
     ensures desk { desk.new.layout ≡ desk.old.layout }
     ensures asked { OnOk result (AreAsked (S.gives store.old) listed.now 0 listed.now.info.places (S.state store.old) (S.state store.new) (no_records desk.old.layout) desk.new.scrub) }
-    ensures onward { OnOk result (GoesOn S.is_open S.layout S.gives S.state S.counts store.old store.new) }
+    ensures onward { OnOk result (GoesOn S.is_open S.described S.gives S.state S.counts store.old store.new) }
+    ensures described { S.described store.new ≡ S.described store.old }
     ensures events { IsOnTop (S.state store.old).events (S.state store.new).events }
     ensures left { (first : ℕ → ℕ) → S.counts store.old first → S.counted store.new first }
 {
@@ -127,10 +129,11 @@ pub(crate) fn find<S: Store>(
     listed: &Listed,
 ) -> Result<Finding, AllocError>
     requires ready { S.is_open store.old }
-    requires layout { S.layout store.old ≡ desk.old.layout }
+    requires layout { (S.described store.old).layout ≡ desk.old.layout }
     ensures desk { desk.new.layout ≡ desk.old.layout }
     ensures found { IfOk result (λ finding. IsFound desk.old.layout (S.gives store.old) listed.now (S.state store.old) finding (S.state store.new)) }
-    ensures onward { OnOk result (GoesOn S.is_open S.layout S.gives S.state S.counts store.old store.new) }
+    ensures onward { OnOk result (GoesOn S.is_open S.described S.gives S.state S.counts store.old store.new) }
+    ensures described { S.described store.new ≡ S.described store.old }
     ensures events { IsOnTop (S.state store.old).events (S.state store.new).events }
     ensures left { (first : ℕ → ℕ) → S.counts store.old first → S.counted store.new first }
 {

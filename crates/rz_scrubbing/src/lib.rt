@@ -5,10 +5,11 @@
 //! the order of keys; that each node of a block was asked once for its record of the published stamp, and
 //! answered as its model says; and that the line says `few` exactly where fewer records came than give a
 //! block back, and otherwise the verdict on those that came. The asks are events of the administrator on
-//! top of those that the store had. [`whole_records`] is the law that records of one block are clean. It is
-//! not said here that the disks of a store hold such records.
+//! top of those that the store had. [`whole_records`] is the law that records of one block are clean, and
+//! [`whole_blocks`] that a block is, or has too few records, where its nodes give such records. It is not said
+//! here that the disks of a store do.
 //!
-//! In reading order: `finding`, `laws`, `line`, `store`, `asking`, `scrubbing`.
+//! In reading order: `finding`, `line`, `store`, `asking`, `scrubbing`, `laws`.
 #![tactic(auto)]
 
 mod asking;
@@ -21,6 +22,6 @@ mod store;
 mod tests;
 
 pub use finding::Finding;
-pub use laws::whole_records;
+pub use laws::{whole_blocks, whole_records};
 pub use scrubbing::scrub;
 pub use store::Store;

@@ -1,6 +1,6 @@
 //! The scrub of a store.
 
-ghost use Rattle.std.specs.Prelude.{ℕ, IfOk};
+ghost use Rattle.std.specs.Prelude.{◌≡◌, ℕ, IfOk};
 ghost use Rattle.rz_scrubbing.specs.Scrubs.{IsScrubbed};
 ghost use Rattle.rz_scrubbing.specs.Stores.{IsOnTop};
 
@@ -13,7 +13,8 @@ use std::alloc::{AllocError, Global};
 /// node of a block is asked once for its record of the published stamp, and nothing is written back.
 pub fn scrub<S: Store>(alloc: Global, store: &mut S) -> Result<Vec<u8>, AllocError>
     requires { S.is_open store.old }
-    ensures lines { IfOk result (λ text. IsScrubbed (S.layout store.old) (S.gives store.old) (S.state store.old) text.items (S.state store.new)) }
+    ensures lines { IfOk result (λ text. IsScrubbed (S.described store.old).layout (S.gives store.old) (S.state store.old) text.items (S.state store.new)) }
+    ensures described { S.described store.new ≡ S.described store.old }
     ensures events { IsOnTop (S.state store.old).events (S.state store.new).events }
     ensures left { (first : ℕ → ℕ) → S.counts store.old first → S.counted store.new first }
 {

@@ -1,8 +1,8 @@
 //! What is scrubbed.
 
 ghost use Rattle.std.specs.Prelude.{◌≡◌, ◌≤◌, ℕ, List, IfOk, OnOk, OnErr, length};
-ghost use Rattle.mj_angles.specs.declared.layout.Layout.{Layout};
 ghost use Rattle.mj_angles.specs.Layout.{max_bins_of};
+ghost use Rattle.rz_events.specs.Volume.{Volume};
 ghost use Rattle.rz_events.specs.declared.keys.Key.{Key};
 ghost use Rattle.rz_events.specs.declared.records.Held.{Held};
 ghost use Rattle.rz_export_model.specs.Export.{published_after};
@@ -16,7 +16,8 @@ use std::alloc::AllocError;
 ///
 /// After want of memory the events are as they were, and the rest may be anything.
 pub trait Store {
-    ghost layout: { Self → Layout };
+    /// The volume that it is a store of.
+    ghost described: { Self → Volume };
 
     /// The export, the nodes and the events.
     ghost state: { Self → State };
@@ -38,7 +39,7 @@ pub trait Store {
     ghost closes: { (s : Self) (first : ℕ → ℕ) → counts s first → counted s first };
 
     fn layout(&self) -> Layout
-        ensures { result ≡ layout self.now };
+        ensures { result ≡ (described self.now).layout };
 
     /// The least published block of a live file above a key.
     fn published(&self, after: Option<Key>) -> Option<Listed>
@@ -55,10 +56,11 @@ pub trait Store {
         room: &mut [u64],
     ) -> Result<FetchAnswer, AllocError>
         requires ready { is_open self.old }
-        requires room { max_bins_of (layout self.old) ≤ length room.old }
+        requires room { max_bins_of (described self.old).layout ≤ length room.old }
         ensures fetched { IfOk result (λ given. IsFetched node key position stamp given (state self.old) (state self.new)) }
         ensures read { IfOk result (λ given. IsRead (gives self.old node key) given room.old room.new) }
-        ensures onward { OnOk result (GoesOn is_open layout gives state counts self.old self.new) }
+        ensures onward { OnOk result (GoesOn is_open described gives state counts self.old self.new) }
+        ensures described { described self.new ≡ described self.old }
         ensures events { OnErr result ((state self.new).events ≡ (state self.old).events) }
         ensures left { OnErr result ((first : ℕ → ℕ) → counts self.old first → counted self.new first) };
 }

@@ -31,7 +31,7 @@ blocks-2-preserved g c =
     let gives = g.S.Store.gives in
     let first = c.args.store.now in
     let last = c.blocks-2.store in
-    let layout = g.S.Store.layout first in
+    let layout = (g.S.Store.described first).layout in
     let i = c.blocks-2.invariant in
     let e = c.in_ok-finding.ensures in
     let l = c.in-Some.listed in
@@ -54,4 +54,4 @@ returns-clause-lines g c =
     let i = c.blocks-2.invariant in
     let none : c.published.result ≡ None = first_of (cc, search rules, grind (arith, common_steps)) in
     let at = ap (λ (s : Export). published_after s c.blocks-2.after) (sym i.onward.export_is) ∙ sym c.published.ensures ∙ none in
-    all-told (g.S.Store.layout first) (g.S.Store.gives first) (state first) c.blocks-2.text.items c.blocks-2.after (state c.blocks-2.store) at i.told
+    all-told (g.S.Store.described first).layout (g.S.Store.gives first) (state first) c.blocks-2.text.items c.blocks-2.after (state c.blocks-2.store) at i.told

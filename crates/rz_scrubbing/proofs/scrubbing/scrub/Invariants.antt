@@ -7,9 +7,9 @@ use Rattle.rz_scrubbing.proofs.scrubbing.scrub.Given as goal
 abbrev pub invariant-blocks-2 : goal.invariant-blocks-2
 invariant-blocks-2 g l = record {
   desk : l.desk.layout ≡ l.layout;
-  layout : l.layout ≡ g.S.Store.layout l.fn.store;
-  onward : GoesOn g.S.Store.is_open g.S.Store.layout g.S.Store.gives g.S.Store.state g.S.Store.counts l.fn.store l.store;
-  told : IsSoFar (g.S.Store.layout l.fn.store) (g.S.Store.gives l.fn.store) (g.S.Store.state l.fn.store) l.text.items l.after (g.S.Store.state l.store);
+  layout : l.layout ≡ (g.S.Store.described l.fn.store).layout;
+  onward : GoesOn g.S.Store.is_open g.S.Store.described g.S.Store.gives g.S.Store.state g.S.Store.counts l.fn.store l.store;
+  told : IsSoFar (g.S.Store.described l.fn.store).layout (g.S.Store.gives l.fn.store) (g.S.Store.state l.fn.store) l.text.items l.after (g.S.Store.state l.store);
 }
 
 abbrev pub decreases-blocks-2 : goal.decreases-blocks-2
