@@ -1,0 +1,5 @@
+mod Logs
+mod Laws
+mod OfficeLaws
+mod Events
+mod Replies
