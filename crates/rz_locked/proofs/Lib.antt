@@ -1,5 +1,5 @@
 mod Logs
-mod Laws
+mod Lasting
 mod OfficeLaws
 mod Events
 mod Replies

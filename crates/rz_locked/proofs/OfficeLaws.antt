@@ -15,7 +15,7 @@ use Rattle.rz_core.specs.Tied.{IsExport, IsProperCall, IsExportStep, IsExportLaw
 use Rattle.rz_log_laws.specs.Beside.{IsExportKept, IsCallKept}
 use Rattle.rz_chronicle.specs.Keys.{IsLater, events_at, count_at, word_key, actor_key}
 use Rattle.rz_locked.specs.Laws.{IsOfficeKept, IsCallerKept, IsOfficeStep, IsReplyLaw}
-use Rattle.rz_locked.proofs.Laws.{AreWordsKept, AreActorsKept, AreWordsCounted}
+use Rattle.rz_locked.proofs.Lasting.{AreWordsKept, AreActorsKept, AreWordsCounted}
 
 pub office-kept : (v : Volume) → IsOneRun v → IsExportKept v → AreWordsKept → IsOfficeKept v
 office-kept v one kept words old new s legal later same tied =

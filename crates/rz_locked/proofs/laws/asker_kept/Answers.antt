@@ -1,4 +1,4 @@
-use Rattle.rz_locked.proofs.Laws as laws
+use Rattle.rz_locked.proofs.Lasting as laws
 use Rattle.rz_locked.proofs.laws.asker_kept.Goals as goal
 
 pub returns : goal.returns

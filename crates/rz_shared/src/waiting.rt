@@ -1,0 +1,20 @@
+//! Calls that wait for ever.
+ghost use Rattle.std.specs.Prelude.{◌≡◌};
+
+use rz_events::NodeAnswer;
+use std::sync::Wait;
+
+/// Gives no answer, ever.
+pub(crate) fn stalled<R: Wait>(rt: &R) -> NodeAnswer
+    ensures never { ⊥ }
+{
+    for _ in rt.forever() {}
+    unreachable!()
+}
+
+/// Does not return.
+pub(crate) fn unanswered<R: Wait>(rt: &R)
+    ensures never { ⊥ }
+{
+    let _answer = stalled(rt);
+}
