@@ -2,4 +2,5 @@ mod Logs
 mod Lasting
 mod OfficeLaws
 mod Events
+mod Seats
 mod Replies
