@@ -59,7 +59,7 @@ pub record Served (kind : List ℕ) (h : List Event) (by : Actor) (n : ℕ) (que
   pub opening : IsTrue (is_honest kind) → IsOpening given
 
 module _ (kind : List ℕ) (h : List Event) (by : Actor) (n : ℕ) (question : NodeAsk) (given : NodeAnswer) (s : NodeState) (bins : List ℕ) (answers : IsAnswerLaw (volume_in kind)) (it : Served kind h by n question given s) (may : IsTrue (is_honest kind) → MayAsk (volume_in kind) h by n question bins) where
-  step-of : (x : Event) → node_event by n question given ≡ Some x → IsTrue (is_honest kind) → IsStep (volume_in kind) h by n x (after_answer question given s)
+  pub step-of : (x : Event) → node_event by n question given ≡ Some x → IsTrue (is_honest kind) → IsStep (volume_in kind) h by n x (after_answer question given s)
   step-of x is honest = answers h by n question s given x (record { legal = it.fit honest; of_volume = it.of_volume; tied = it.tied honest; room = it.room }) (may honest).proper it.right (it.opening honest) is
 
   -- the event may be added

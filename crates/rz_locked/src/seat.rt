@@ -188,6 +188,7 @@ impl<D: Disk, J: Naming> Seat<D, J> {
         crate::laws::seat_kept::<D>();
         crate::laws::read_kept();
         crate::laws::answers();
+        rz_image_laws::longer::<D>();
         let by = pass.actor();
         let answer = serve(self.alloc, self.pick, &mut self.node, ask, bins);
         let event = node_event(by, self.sid, ask, &answer);
