@@ -23,7 +23,7 @@ pub stays-fewer : (j : ℕ) (ks : List ℕ) (a b : List Event) → Stays (j ∷ 
 stays-fewer j ks a b p k one = p k (inr one)
 
 -- an addition after a beginning that goes on
-pub adds-after : (ks : List ℕ) (a b c : List Event) (event : Option Event) → IsLater a b → Stays ks a b → Adds ks b event c → Adds ks a event c
+abbrev pub adds-after : (ks : List ℕ) (a b c : List Event) (event : Option Event) → IsLater a b → Stays ks a b → Adds ks b event c → Adds ks a event c
 adds-after ks a b c event later stays adds = record {
   before = adds.before;
   later = later-trans a b adds.before later adds.later;
@@ -31,7 +31,7 @@ adds-after ks a b c event later stays adds = record {
   last = adds.last;
 }
 
-pub adds-fewer : (j : ℕ) (ks : List ℕ) (a c : List Event) (event : Option Event) → Adds (j ∷ ks) a event c → Adds ks a event c
+abbrev pub adds-fewer : (j : ℕ) (ks : List ℕ) (a c : List Event) (event : Option Event) → Adds (j ∷ ks) a event c → Adds ks a event c
 adds-fewer j ks a c event adds = record {
   before = adds.before;
   later = adds.later;
@@ -45,3 +45,11 @@ adds-commits ks a c x adds = record { before = adds.before; later = adds.later; 
 
 pub commits-adds : (ks : List ℕ) (a c : List Event) (x : Event) → Commits ks a x c → Adds ks a (Some x) c
 commits-adds ks a c x it = record { before = it.before; later = it.later; stays = it.stays; last = it.last }
+
+pub commits-after : (ks : List ℕ) (a b c : List Event) (x : Event) → IsLater a b → Stays ks a b → Commits ks b x c → Commits ks a x c
+commits-after ks a b c x later stays it = record {
+  before = it.before;
+  later = later-trans a b it.before later it.later;
+  stays = stays-trans ks a b it.before stays it.stays;
+  last = it.last;
+}

@@ -100,3 +100,18 @@ module _ (kind : List ℕ) (h : List Event) (by : Actor) (n : ℕ) (question : N
 
     pub answered : Answered kind n question given (node_event by n question given) ks h new
     answered = record { adds = adds-fewer (word_key (Node n)) ks h new (node_event by n question given) adds; right = right-at }
+
+-- A fuse that was armed leaves the node as the log gives it.
+pub armed-logged : {D : Type 0} (image : D → List ℕ → Type 0) (v : Volume) (h : List Event) (by : Actor) (n : ℕ) (x : Event) (was after : NodeView D) → IsStep v h by n x was.state → IsLongerLaw image
+    → IsImaged v (facts h) n was.state was.geometry (image after.disk) → after.state ≡ was.state → after.geometry ≡ was.geometry → (ks : List ℕ) (new : List Event) → Adds (word_key (Node n) ∷ ks) h (Some x) new
+    → IsOneOf (actor_key by) ks → IsLegal v new → IsLogged image v new n after
+armed-logged image v h by n x was after step longer imaged state geometry ks new adds own legal =
+    let later = later-adds (word_key (Node n) ∷ ks) h (Some x) new adds in record {
+      tied = subst (IsNode (facts new) (of_word (Node n) new)) (sym state)
+          (subst (λ (g : List Event). IsNode (facts g) (of_word (Node n) g) was.state) (sym adds.last)
+          (step.tied adds.before adds.later (adds.stays (word_key (Node n)) (inl refl)) (adds.stays (actor_key by) (inr own)) (subst (IsLegal v) adds.last legal)));
+      imaged = subst (λ (s : NodeState). IsImaged v (facts new) n s after.geometry (image after.disk)) (sym state)
+          (subst (λ (k : Geometry). IsImaged v (facts new) n was.state k (image after.disk)) (sym geometry)
+          (subst (λ (g : List Event). IsImaged v (facts g) n was.state was.geometry (image after.disk)) (sym later.1)
+          (longer v h later.0 n was.geometry was.state after.disk imaged)));
+    }

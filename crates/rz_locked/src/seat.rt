@@ -209,6 +209,7 @@ impl<D: Disk, J: Naming> Seat<D, J> {
         crate::laws::arming();
         rz_image_laws::fewer::<D>();
         rz_image_laws::longer::<D>();
+        let _by = pass.actor();
         self.node.arm(Some(passes));
         self.pick = pick;
         let event = Event::Armed {
