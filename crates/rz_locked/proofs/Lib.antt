@@ -2,6 +2,6 @@ mod Logs
 mod Lasting
 mod OfficeLaws
 mod Events
-mod Serving
+mod Disks
 mod Seats
 mod Replies

@@ -4,7 +4,7 @@ use Rattle.rz_events.specs.declared.nodes.NodeAnswer.TheVariants as answer
 use Rattle.rz_cells.specs.declared.geometry.Geometry.{Geometry}
 use Rattle.rz_node_model.specs.States.{NodeState}
 use Rattle.rz_image_laws.specs.Images.{IsImaged}
-use Rattle.rz_locked.proofs.Serving.{starts}
+use Rattle.rz_locked.proofs.Disks.{starts}
 use Rattle.rz_locked.proofs.serving.open_disk.Goals as goal
 
 pub returns-clause-imaged : goal.returns-clause-imaged

@@ -1,4 +1,4 @@
-use Rattle.rz_locked.proofs.Serving.{read}
+use Rattle.rz_locked.proofs.Disks.{read}
 use Rattle.rz_locked.proofs.serving.serve.Goals as goal
 
 pub returns-then-matches-clause-imaged : goal.returns-then-matches-clause-imaged
