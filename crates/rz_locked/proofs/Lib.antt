@@ -5,3 +5,4 @@ mod Events
 mod Disks
 mod Seats
 mod Replies
+mod Offices

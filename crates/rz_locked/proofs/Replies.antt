@@ -1,11 +1,12 @@
 -- Whose the event of a reply is, and which replies have one.
-use Rattle.std.proofs.Common.{◌≡◌, ℕ, Bool, true, false, List, [], ◌∷◌, Option, Some, None, sym, refl, subst, cond, ap, ◌∙◌, ◌+◌, ◌&&◌}
+use Rattle.std.proofs.Common.{◌≡◌, ℕ, Bool, true, false, List, [], ◌∷◌, Option, Some, None, sym, refl, subst, cond, ap, ◌∙◌, ◌+◌, ◌==◌}
 use Rattle.std.specs.Prelude.{unwrap_or, nat_lt, nat_le}
 use Rattle.std.specs.Option.{option_map, option_map_or, option_and_then, option_or}
 use Rattle.rz_events.specs.declared.keys.Key.{Key}
 use Rattle.rz_events.specs.declared.keys.Actor.{Actor}
 use Rattle.rz_events.specs.declared.files.FileInfo.{FileInfo}
 use Rattle.rz_events.specs.declared.ends.Denial.{Denial}
+use Rattle.rz_events.specs.declared.ends.Denial.TheVariants as denial
 use Rattle.rz_events.specs.declared.export.Call.{Call}
 use Rattle.rz_events.specs.declared.export.Call.TheVariants as call
 use Rattle.rz_events.specs.declared.export.Reply.{Reply}
@@ -85,10 +86,11 @@ cond-event : (by : Actor) (question : Call) (b : Bool) (p q : Reply) → HasEven
 cond-event by question true p q one two = one
 cond-event by question false p q one two = two
 
-enroll-event : (by : Actor) (node loss : ℕ) (s : State) (o : Option _) → HasEvent by (call.Enroll node loss) (enroll_reply s loss o)
-enroll-event by node loss s None = fence-event by node loss _ (spent s)
+enroll-event : (by : Actor) (node loss : ℕ) (s : State) (o : Option model.Enrolled) → HasEvent by (call.Enroll node loss) (enroll_reply s loss o)
+enroll-event by node loss s None = fence-event by node loss (s.last + 1) (spent s)
 enroll-event by node loss s (Some e) =
-    cond-event by (call.Enroll node loss) _ _ _ (_, refl) (cond-event by (call.Enroll node loss) _ _ _ (_, refl) (fence-event by node loss _ (spent s)))
+    cond-event by (call.Enroll node loss) (nat_lt loss e.loss) (reply.Denied (denial.OldLoss e.loss)) (cond (loss == e.loss) (reply.Fence e.fence) (new_fence s)) (_, refl)
+    (cond-event by (call.Enroll node loss) (loss == e.loss) (reply.Fence e.fence) (new_fence s) (_, refl) (fence-event by node loss (s.last + 1) (spent s)))
 
 module _ (by : Actor) (key : Key) (stamp mask size : ℕ) where
   -- what stands against a publish has an event, if it is anything

@@ -1,6 +1,8 @@
-use Rattle.std.proofs.Common.{◌≡◌, List, [], sym, ap, subst}
+use Rattle.std.proofs.Common.{◌≡◌, ℕ, List, [], sym, ap, subst}
 use Rattle.rz_events.specs.declared.events.Word.TheVariants as w
 use Rattle.rz_events.specs.declared.events.Event.{Event}
+use Rattle.rz_cells.specs.Held.{nothing}
+use Rattle.rz_cells.specs.Stands.{StandsFor}
 use Rattle.rz_node_model.specs.States.{NodeState}
 use Rattle.rz_core.specs.History.{facts, of_word}
 use Rattle.rz_core.specs.Tied.{IsNode}
@@ -25,7 +27,8 @@ invariant_of-result g c =
           tied = subst (λ (h : List Event). IsNode (facts h) (of_word (w.Node n) h) node.state) (sym empty)
               (subst (IsNode (facts []) []) (sym c.requires.fresh) (c.beginning.ensures v (facts [])).0);
           imaged = subst (λ (s : NodeState). IsImaged v (facts l) n s node.geometry (g.D.Disk.image node.disk)) (sym c.requires.fresh)
-              (c.fresh.ensures (c.requires.tells honest) v (facts l) n node.geometry node.disk (c.requires.stands (c.requires.tells honest)) c.requires.settled);
+              (c.fresh.ensures v (facts l) n node.geometry node.disk
+              (λ t left. subst (λ (u : List ℕ). StandsFor node.geometry 0 u nothing) (sym (c.requires.settled t left)) (c.requires.stands (c.requires.tells honest))));
         },
       ),
     )
