@@ -1,5 +1,5 @@
 -- What a call of a node leaves of its disk, and what it reads.
-use Rattle.std.proofs.Common.{◌≡◌, ℕ, List, refl}
+use Rattle.std.proofs.Common.{◌≡◌, ℕ, List}
 use Rattle.rz_events.specs.Volume.{Volume}
 use Rattle.rz_events.specs.declared.nodes.FetchAnswer.TheVariants as fetch
 use Rattle.rz_events.specs.declared.nodes.StartAnswer.{StartAnswer}

@@ -1,13 +1,11 @@
 -- What lasts while others act, and what may be added, by the laws of the log.
-use Rattle.std.proofs.Common.{◌≡◌, ◌≤◌, ◌<◌, ◌+◌, ◌-◌, ◌^◌, ℕ, List, [], ◌∷◌, ◌++◌, Option, Some, None, length, refl, sym, ap, ◌∙◌, subst, arith}
+use Rattle.std.proofs.Common.{◌≡◌, ◌≤◌, ◌<◌, ◌-◌, ◌^◌, ℕ, List, ◌++◌, Option, Some, None, length, refl, sym, ap, ◌∙◌, subst, arith}
 use Rattle.rz_events.specs.Volume.{Volume}
 use Rattle.rz_events.specs.declared.keys.Actor.{Actor}
 use Rattle.rz_events.specs.declared.records.Head.{Head}
-use Rattle.rz_events.specs.declared.nodes.FetchAnswer.{FetchAnswer}
 use Rattle.rz_events.specs.declared.nodes.FetchAnswer.TheVariants as fetch
 use Rattle.rz_events.specs.declared.nodes.NodeAsk.{NodeAsk}
 use Rattle.rz_events.specs.declared.nodes.NodeAsk.TheVariants as ask
-use Rattle.rz_events.specs.declared.nodes.NodeAnswer.{NodeAnswer}
 use Rattle.rz_events.specs.declared.nodes.NodeAnswer.TheVariants as answer
 use Rattle.rz_events.specs.declared.events.Word.{Word}
 use Rattle.rz_events.specs.declared.events.Word.TheVariants.{Node}
@@ -16,11 +14,8 @@ use Rattle.rz_events.specs.declared.events.Event.TheVariants as e
 use Rattle.rz_events.specs.Events.{by_of}
 use Rattle.rz_node_model.specs.States.{NodeState}
 use Rattle.rz_node_model.specs.Afterwards.{after_answer}
-use Rattle.rz_node_model.specs.NodeEvents.{node_event}
-use Rattle.rz_node.specs.Seen.{NodeView}
-use Rattle.rz_core.specs.History.{Facts, Begun, facts, of_word, of_actor}
-use Rattle.rz_core.specs.NodeRows.{cells_of}
-use Rattle.rz_core.specs.Legal.{IsLegal, IsLegalInRuns}
+use Rattle.rz_core.specs.History.{Begun, facts, of_word, of_actor}
+use Rattle.rz_core.specs.Legal.{IsLegal}
 use Rattle.rz_core.specs.HeldRecords.{record_on}
 use Rattle.rz_core.specs.Longer.{IsOneRun, IsPermanent}
 use Rattle.rz_core.specs.Tied.{IsNode, IsProperAsk, IsNodeStep, IsNodeLaw}
@@ -28,9 +23,7 @@ use Rattle.rz_log_laws.specs.Beside.{IsNodeKept, IsAskKept, IsArming}
 use Rattle.rz_image_laws.specs.Records.{IsRecordOf, HandsRecord}
 use Rattle.rz_image_laws.specs.Laws.{IsLongerLaw}
 use Rattle.rz_chronicle.specs.Keys.{IsLater, events_at, count_at, word_key, actor_key}
-use Rattle.rz_locked.specs.Seats.{IsLogged, MayAsk, IsRead}
-use Rattle.rz_locked.specs.Laws.{IsSeatKept, IsAskerKept, IsReadKept, IsStep, IsSeatAt, IsAnswerLaw, IsArmLaw}
-use Rattle.rz_locked.proofs.Logs.{later-event}
+use Rattle.rz_locked.specs.Laws.{IsSeatKept, IsAskerKept, IsReadKept, IsAnswerLaw, IsArmLaw}
 
 abbrev pub AreWordsKept : Type 0
 AreWordsKept = (w : Word) (h g : List Event) → events_at (word_key w) h ≡ events_at (word_key w) g → of_word w h ≡ of_word w g
@@ -49,7 +42,7 @@ node-later : (v : Volume) → IsOneRun v → IsNodeKept v → AreWordsKept → (
     → events_at (word_key (Node n)) new ≡ events_at (word_key (Node n)) old → IsNode (facts old) (of_word (Node n) old) s → IsNode (facts new) (of_word (Node n) new) s
 node-later v one kept words old new n s legal later same tied =
     let it : of_word (Node n) (later.0 ++ old) ≡ of_word (Node n) old =
-        subst (λ (h : List Event). of_word (Node n) h ≡ of_word (Node n) old) later.1 (words (Node n) new old same) in
+    subst (λ (h : List Event). of_word (Node n) h ≡ of_word (Node n) old) later.1 (words (Node n) new old same) in
     subst (λ (h : List Event). IsNode (facts h) (of_word (Node n) h) s) (sym later.1) (kept old later.0 n s (one old legal) it tied)
 
 -- so does what makes a call proper
@@ -57,7 +50,7 @@ ask-later : (v : Volume) → IsOneRun v → IsAskKept v → AreActorsKept → (o
     → events_at (actor_key by) new ≡ events_at (actor_key by) old → IsProperAsk v (facts old) (of_actor by old) by n question → IsProperAsk v (facts new) (of_actor by new) by n question
 ask-later v one kept actors old new by n question legal later same proper =
     let it : of_actor by (later.0 ++ old) ≡ of_actor by old =
-        subst (λ (h : List Event). of_actor by h ≡ of_actor by old) later.1 (actors by new old same) in
+    subst (λ (h : List Event). of_actor by h ≡ of_actor by old) later.1 (actors by new old same) in
     subst (λ (h : List Event). IsProperAsk v (facts h) (of_actor by h) by n question) (sym later.1) (kept old later.0 by n question (one old legal) it proper)
 
 pub seat-kept : {D : Type 0} (image : D → List ℕ → Type 0) (v : Volume) → IsOneRun v → IsNodeKept v → IsLongerLaw image → AreWordsKept → IsSeatKept image v

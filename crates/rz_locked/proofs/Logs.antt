@@ -1,8 +1,7 @@
 -- Logs that go on from one another.
-use Rattle.std.proofs.Common.{◌≡◌, ℕ, List, [], ◌∷◌, ◌++◌, Option, Some, refl, sym, ap, ◌∙◌, append_assoc, inl, inr}
+use Rattle.std.proofs.Common.{ℕ, List, [], ◌∷◌, ◌++◌, Option, Some, refl, sym, ap, ◌∙◌, append_assoc, inr}
 use Rattle.rz_events.specs.declared.events.Event.{Event}
-use Rattle.rz_play.specs.Lines.{noted}
-use Rattle.rz_chronicle.specs.Keys.{IsLater, IsOneOf}
+use Rattle.rz_chronicle.specs.Keys.{IsLater}
 use Rattle.rz_chronicle.specs.Holds.{Stays, Commits}
 use Rattle.rz_locked.specs.Adding.{Adds}
 

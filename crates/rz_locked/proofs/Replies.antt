@@ -1,6 +1,6 @@
 -- Whose the event of a reply is, and which replies have one.
-use Rattle.std.proofs.Common.{◌≡◌, ℕ, Bool, true, false, List, [], ◌∷◌, Option, Some, None, sym, refl, subst, cond, ap, ◌∙◌, ◌+◌, ◌==◌}
-use Rattle.std.specs.Prelude.{unwrap_or, nat_lt, nat_le}
+use Rattle.std.proofs.Common.{◌≡◌, ℕ, Bool, true, false, List, [], ◌∷◌, Option, Some, None, refl, subst, cond, ◌+◌, ◌==◌}
+use Rattle.std.specs.Prelude.{unwrap_or, nat_lt}
 use Rattle.std.specs.Option.{option_map, option_map_or, option_and_then, option_or}
 use Rattle.rz_events.specs.declared.keys.Key.{Key}
 use Rattle.rz_events.specs.declared.keys.Actor.{Actor}
@@ -14,8 +14,7 @@ use Rattle.rz_events.specs.declared.export.Reply.TheVariants as reply
 use Rattle.rz_events.specs.declared.events.Word.TheVariants.{Export}
 use Rattle.rz_events.specs.declared.events.Event.{Event}
 use Rattle.rz_events.specs.Events.{by_of, word_of}
-use Rattle.rz_events.specs.Volume.{Volume}
-use Rattle.rz_export_model.specs.Firsts.{first_of, given_if}
+use Rattle.rz_export_model.specs.Firsts.{given_if}
 use Rattle.rz_export_model.specs.Tree.{file_of}
 use Rattle.rz_export_model.specs.Export.{Export as State, export_reply, export_after, unknown_file, latest_of, published_of, published_stamp, no_begin, no_look, no_publish, barred, fence_of, spent, new_fence, enroll_reply, after_begin, after_publish, after_enroll, draws}
 use Rattle.rz_export_model.specs.ExportEvents.{export_event}

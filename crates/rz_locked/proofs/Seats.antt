@@ -1,10 +1,9 @@
 -- A call under the lock of a node: the log before it, its event, and the node after it.
-use Rattle.std.proofs.Common.{◌≡◌, ◌+◌, ◌<◌, ◌^◌, ℕ, Bool, IsTrue, IfSome, List, [], ◌∷◌, ◌++◌, Option, Some, None, refl, sym, ap, ◌∙◌, subst, inl, inr}
+use Rattle.std.proofs.Common.{◌≡◌, ◌+◌, ◌<◌, ◌^◌, ℕ, IsTrue, IfSome, List, [], ◌∷◌, Option, Some, None, refl, sym, ◌∙◌, subst, inl, inr}
 use Rattle.rz_events.specs.Volume.{Volume}
 use Rattle.rz_events.specs.declared.keys.Actor.{Actor}
 use Rattle.rz_events.specs.declared.nodes.NodeAsk.{NodeAsk}
 use Rattle.rz_events.specs.declared.nodes.NodeAnswer.{NodeAnswer}
-use Rattle.rz_events.specs.declared.events.Word.{Word}
 use Rattle.rz_events.specs.declared.events.Word.TheVariants.{Node}
 use Rattle.rz_events.specs.declared.events.Event.{Event}
 use Rattle.rz_events.specs.Events.{by_of, word_of}
@@ -14,7 +13,7 @@ use Rattle.rz_node_model.specs.Answers.{IsNodeAnswer}
 use Rattle.rz_node_model.specs.Afterwards.{after_answer}
 use Rattle.rz_node_model.specs.NodeEvents.{node_event}
 use Rattle.rz_node.specs.Seen.{NodeView}
-use Rattle.rz_core.specs.History.{facts, of_word, of_actor}
+use Rattle.rz_core.specs.History.{facts, of_word}
 use Rattle.rz_core.specs.NodeRows.{cells_of, IsNodeOf}
 use Rattle.rz_core.specs.Legal.{IsLegal}
 use Rattle.rz_core.specs.Tied.{IsNode, IsOpening}
@@ -23,11 +22,10 @@ use Rattle.rz_image_laws.specs.Images.{IsImaged}
 use Rattle.rz_image_laws.specs.Laws.{IsLongerLaw}
 use Rattle.rz_chronicle.specs.Keys.{IsLater, IsOneOf, events_at, count_at, word_key, actor_key}
 use Rattle.rz_chronicle.specs.Kinds.{IsFit, MayCome, is_honest, volume_in}
-use Rattle.rz_chronicle.specs.Holds.{Stays}
 use Rattle.rz_locked.specs.Adding.{Adds}
-use Rattle.rz_locked.specs.Seats.{IsLogged, MayAsk, IsFor, IsAnswerAt, Answered, IsRead}
-use Rattle.rz_locked.specs.Laws.{IsSeatKept, IsReadKept, IsStep, IsAnswerLaw}
-use Rattle.rz_locked.proofs.Logs.{later-trans, later-event, stays-fewer, adds-fewer}
+use Rattle.rz_locked.specs.Seats.{IsLogged, MayAsk, IsFor, IsAnswerAt, Answered}
+use Rattle.rz_locked.specs.Laws.{IsSeatKept, IsStep, IsAnswerLaw}
+use Rattle.rz_locked.proofs.Logs.{later-trans, later-event, adds-fewer}
 use Rattle.rz_locked.proofs.Events.{event-of, event-none}
 
 pub if-some : {A : Type 0} (P : A → Type 0) (o : Option A) → ((x : A) → o ≡ Some x → P x) → IfSome o P

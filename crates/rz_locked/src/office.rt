@@ -127,13 +127,7 @@ impl<J: Naming> Office<J> {
     }
 
     // The call where its pass and the office have entered, and the word can move.
-    fn replied<R: Wait>(
-        &mut self,
-        rt: &R,
-        book: &Book<J>,
-        pass: &mut Pass<J>,
-        call: &Call,
-    ) -> Reply
+    fn replied<R: Wait>(&mut self, rt: &R, book: &Book<J>, pass: &mut Pass<J>, call: &Call) -> Reply
         requires one { self.old ≡ pass.old.log }
         requires room { count_at (word_key w.Export) self.old + 1 < 2 ^ 64 }
         requires may { IsTrue (is_honest J.kind) → IsProperCall (volume_in J.kind) (facts pass.old.log) (of_actor pass.old.actor pass.old.log) pass.old.actor call.now }

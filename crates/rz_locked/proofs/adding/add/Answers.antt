@@ -1,4 +1,4 @@
-use Rattle.std.proofs.Common.{◌≡◌, ◌∷◌, Option, Some, None, refl, sym, subst}
+use Rattle.std.proofs.Common.{◌∷◌, Option, Some, None, refl, sym, subst}
 use Rattle.rz_events.specs.declared.events.Event.{Event}
 use Rattle.rz_chronicle.specs.Keys.{word_key}
 use Rattle.rz_chronicle.specs.Rules.{PassView}

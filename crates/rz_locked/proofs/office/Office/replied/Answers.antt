@@ -1,4 +1,4 @@
-use Rattle.std.proofs.Common.{◌≡◌, ◌+◌, ◌<◌, ◌^◌, ℕ, IsTrue, List, ◌∷◌, refl, sym, ap, ◌∙◌, subst, rules}
+use Rattle.std.proofs.Common.{◌≡◌, ◌+◌, ◌<◌, ◌^◌, IsTrue, List, ◌∷◌, sym, ap, ◌∙◌, subst}
 use Rattle.rz_events.specs.declared.keys.Actor.{Actor}
 use Rattle.rz_events.specs.declared.export.Reply.TheVariants as reply
 use Rattle.rz_events.specs.declared.events.Word.{Word}
@@ -124,9 +124,8 @@ invariant_of-self-2 g c =
     let new = c.add_reply.new.pass.log in
     let ks = c.args.pass.now.keys in
     let it : Commits (word_key w.Export ∷ ks) h (event_given by q given) new =
-        subst (λ (a : Actor). Commits (word_key w.Export ∷ ks) h (event_given a q given) new) c.actor-by.ensures.value
-        (subst (λ (u : Word). Commits (word_key u ∷ ks) h (event_given c.actor-by.result q given) new) inv.0 c.add_reply.ensures.commits) in
-    (
+    subst (λ (a : Actor). Commits (word_key w.Export ∷ ks) h (event_given a q given) new) c.actor-by.ensures.value
+    (subst (λ (u : Word). Commits (word_key u ∷ ks) h (event_given c.actor-by.result q given) new) inv.0 c.add_reply.ensures.commits) in (
       c.add_reply.ensures.same.2 ∙ inv.0,
       volume-kept kind h by q given s new_s (c.replies.ensures v) (c.office_kept.ensures v) c.actor-by.ensures.fit inv.1 tied room c.requires.may done,
       λ honest. subst (λ (l : List Event). IsExport v (facts l) (of_word w.Export l) new_s) (sym c.add_reply.ensures.one)
@@ -155,6 +154,6 @@ returns-clause-replied g c =
     let new = c.add_reply.new.pass.log in
     let ks = c.args.pass.now.keys in
     let it : Commits (word_key w.Export ∷ ks) h (event_given by q given) new =
-        subst (λ (a : Actor). Commits (word_key w.Export ∷ ks) h (event_given a q given) new) c.actor-by.ensures.value
-        (subst (λ (u : Word). Commits (word_key u ∷ ks) h (event_given c.actor-by.result q given) new) inv.0 c.add_reply.ensures.commits) in
+    subst (λ (a : Actor). Commits (word_key w.Export ∷ ks) h (event_given a q given) new) c.actor-by.ensures.value
+    (subst (λ (u : Word). Commits (word_key u ∷ ks) h (event_given c.actor-by.result q given) new) inv.0 c.add_reply.ensures.commits) in
     replied-so kind h by q given s new_s (c.replies.ensures v) (c.office_kept.ensures v) c.actor-by.ensures.fit inv.1 tied room c.requires.may done ks new it c.actor-by.ensures.own c.add_reply.ensures.fit

@@ -1,5 +1,4 @@
 use Rattle.std.proofs.Common.{◌≡◌, ◌+◌, ◌<◌, ◌^◌, ℕ, IsTrue, IfSome, List, ◌∷◌, Option, refl, sym, ap, ◌∙◌, subst}
-use Rattle.mj_angles.specs.declared.layout.Layout.{Layout}
 use Rattle.rz_events.specs.declared.keys.Actor.{Actor}
 use Rattle.rz_events.specs.declared.events.Word.{Word}
 use Rattle.rz_events.specs.declared.events.Word.TheVariants as w
@@ -8,7 +7,6 @@ use Rattle.rz_events.specs.Events.{by_of, word_of}
 use Rattle.rz_cells.specs.declared.geometry.Geometry.{Geometry}
 use Rattle.rz_node_model.specs.Answers.{IsNodeAnswer}
 use Rattle.rz_node_model.specs.NodeEvents.{node_event}
-use Rattle.rz_calls.specs.Calls.{Takes}
 use Rattle.rz_core.specs.History.{facts}
 use Rattle.rz_chronicle.specs.Keys.{count_at, word_key}
 use Rattle.rz_chronicle.specs.Kinds.{MayCome, is_honest, volume_in}
@@ -109,9 +107,8 @@ invariant_of-self g c =
     let after = c.serve-answer.new.node in
     let ks = c.args.pass.now.keys in
     let adds : Adds (word_key (w.Node n) ∷ ks) h (node_event by n q given) new =
-        subst (λ (u : Word). Adds (word_key u ∷ ks) h (node_event by n q given) new) inv.0
-        (subst (λ (o : Option Event). Adds (word_key c.self.inside.post.word ∷ ks) h o new) event c.add.ensures.adds) in
-    (
+    subst (λ (u : Word). Adds (word_key u ∷ ks) h (node_event by n q given) new) inv.0
+    (subst (λ (o : Option Event). Adds (word_key c.self.inside.post.word ∷ ks) h o new) event c.add.ensures.adds) in (
       c.add.ensures.same.2 ∙ inv.0,
       inv.1,
       c.serve-answer.ensures.geometry ∙ inv.2,
@@ -155,8 +152,8 @@ returns-clause-answered g c =
     let after = c.serve-answer.new.node in
     let ks = c.args.pass.now.keys in
     let adds : Adds (word_key (w.Node n) ∷ ks) h (node_event by n q given) new =
-        subst (λ (u : Word). Adds (word_key u ∷ ks) h (node_event by n q given) new) inv.0
-        (subst (λ (o : Option Event). Adds (word_key c.self.inside.post.word ∷ ks) h o new) event c.add.ensures.adds) in
+    subst (λ (u : Word). Adds (word_key u ∷ ks) h (node_event by n q given) new) inv.0
+    (subst (λ (o : Option Event). Adds (word_key c.self.inside.post.word ∷ ks) h o new) event c.add.ensures.adds) in
     subst (λ (m : ℕ). Answered kind m q given (node_event by m q given) ks h new) node
     (answered kind h by n q given was.state c.args.bins.now (c.answers.ensures v) it may image (c.seat_kept.ensures v) c.longer.ensures was after refl logged ks new adds c.actor-by.ensures.own c.add.ensures.fit)
 
@@ -191,8 +188,8 @@ returns-clause-read g c =
     let after = c.serve-answer.new.node in
     let ks = c.args.pass.now.keys in
     let adds : Adds (word_key (w.Node n) ∷ ks) h (node_event by n q given) new =
-        subst (λ (u : Word). Adds (word_key u ∷ ks) h (node_event by n q given) new) inv.0
-        (subst (λ (o : Option Event). Adds (word_key c.self.inside.post.word ∷ ks) h o new) event c.add.ensures.adds) in
+    subst (λ (u : Word). Adds (word_key u ∷ ks) h (node_event by n q given) new) inv.0
+    (subst (λ (o : Option Event). Adds (word_key c.self.inside.post.word ∷ ks) h o new) event c.add.ensures.adds) in
     λ honest. subst (λ (m : ℕ). IsRead v (facts new) m q given c.args.bins.now c.serve-answer.new.bins) node
     (c.read_kept.ensures v h new n q given c.args.bins.now c.serve-answer.new.bins (later-adds (word_key (w.Node n) ∷ ks) h (node_event by n q given) new adds)
     (c.serve-answer.ensures.read (inv.3 honest).0 v (facts h) n (logged honest).imaged))

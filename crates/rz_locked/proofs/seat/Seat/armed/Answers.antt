@@ -1,4 +1,4 @@
-use Rattle.std.proofs.Common.{◌≡◌, ◌+◌, ◌<◌, ◌^◌, ℕ, IsTrue, List, ◌∷◌, Some, refl, sym, ap, ◌∙◌, subst}
+use Rattle.std.proofs.Common.{◌≡◌, ◌+◌, ◌<◌, ◌^◌, ℕ, IsTrue, List, ◌∷◌, Some, sym, ap, ◌∙◌, subst}
 use Rattle.rz_events.specs.declared.events.Word.{Word}
 use Rattle.rz_events.specs.declared.events.Word.TheVariants as w
 use Rattle.rz_events.specs.declared.events.Event.{Event}
@@ -26,9 +26,9 @@ add-requires-clause-legal g c =
     let log : c.self.inside.post.log ≡ h = ap (λ (x : SeatView). x.log) c.self.view_is ∙ c.requires.one in
     let logged : IsTrue (is_honest kind) → IsLogged image v h n was = λ honest. subst (λ (l : List Event). IsLogged image v l n was) log (inv.3 honest).1 in
     let room : count_at (word_key (w.Node n)) h + 1 < 2 ^ 64 = subst (λ (m : ℕ). count_at (word_key (w.Node m)) h + 1 < 2 ^ 64) (sym node)
-        (subst (λ (l : List Event). count_at (word_key (w.Node c.args.self.now.node)) l + 1 < 2 ^ 64) c.requires.one c.requires.room) in
+    (subst (λ (l : List Event). count_at (word_key (w.Node c.args.self.now.node)) l + 1 < 2 ^ 64) c.requires.one c.requires.room) in
     let step : IsTrue (is_honest kind) → IsStep v h by n (e.Armed n c.args.passes c.args.pick) was.state = λ honest.
-        c.arming.ensures v h by n c.args.passes c.args.pick was.state (record { legal = c.actor-by.ensures.fit honest; of_volume = inv.1; tied = (logged honest).tied; room = room }) in
+    c.arming.ensures v h by n c.args.passes c.args.pick was.state (record { legal = c.actor-by.ensures.fit honest; of_volume = inv.1; tied = (logged honest).tied; room = room }) in
     λ honest. (step honest).allowed
 
 pub invariant_of-self : goal.invariant_of-self
@@ -45,9 +45,9 @@ invariant_of-self g c =
     let log : c.self.inside.post.log ≡ h = ap (λ (x : SeatView). x.log) c.self.view_is ∙ c.requires.one in
     let logged : IsTrue (is_honest kind) → IsLogged image v h n was = λ honest. subst (λ (l : List Event). IsLogged image v l n was) log (inv.3 honest).1 in
     let room : count_at (word_key (w.Node n)) h + 1 < 2 ^ 64 = subst (λ (m : ℕ). count_at (word_key (w.Node m)) h + 1 < 2 ^ 64) (sym node)
-        (subst (λ (l : List Event). count_at (word_key (w.Node c.args.self.now.node)) l + 1 < 2 ^ 64) c.requires.one c.requires.room) in
+    (subst (λ (l : List Event). count_at (word_key (w.Node c.args.self.now.node)) l + 1 < 2 ^ 64) c.requires.one c.requires.room) in
     let step : IsTrue (is_honest kind) → IsStep v h by n (e.Armed n c.args.passes c.args.pick) was.state = λ honest.
-        c.arming.ensures v h by n c.args.passes c.args.pick was.state (record { legal = c.actor-by.ensures.fit honest; of_volume = inv.1; tied = (logged honest).tied; room = room }) in
+    c.arming.ensures v h by n c.args.passes c.args.pick was.state (record { legal = c.actor-by.ensures.fit honest; of_volume = inv.1; tied = (logged honest).tied; room = room }) in
     let new = c.add.new.pass.log in
     let after = c.arm.new.self in
     let x = e.Armed n c.args.passes c.args.pick in

@@ -1,4 +1,4 @@
-use Rattle.std.proofs.Common.{◌≡◌, ℕ, IsTrue, List, sym, subst, rules}
+use Rattle.std.proofs.Common.{◌≡◌, ℕ, List, sym, subst, rules}
 use Rattle.rz_events.specs.declared.keys.Actor.{Actor}
 use Rattle.rz_node_model.specs.NodeEvents.{node_event}
 use Rattle.rz_chronicle.specs.Keys.{actor_key}
@@ -29,7 +29,7 @@ returns-clause-answered g c =
     let given = c.answered.result in
     let node : c.enter.new.self.node ≡ c.args.node = search rules in
     let it : Answered kind c.args.node q given (node_event old.actor c.args.node q given) old.keys mid.log new =
-        subst (λ (ks : List ℕ). Answered kind c.args.node q given (node_event old.actor c.args.node q given) ks mid.log new) c.enter.ensures.same.1
-        (subst (λ (a : Actor). Answered kind c.args.node q given (node_event a c.args.node q given) mid.keys mid.log new) c.enter.ensures.same.0
-        (subst (λ (m : ℕ). Answered kind m q given (node_event mid.actor m q given) mid.keys mid.log new) node c.answered.ensures.answered)) in
+    subst (λ (ks : List ℕ). Answered kind c.args.node q given (node_event old.actor c.args.node q given) ks mid.log new) c.enter.ensures.same.1
+    (subst (λ (a : Actor). Answered kind c.args.node q given (node_event a c.args.node q given) mid.keys mid.log new) c.enter.ensures.same.0
+    (subst (λ (m : ℕ). Answered kind m q given (node_event mid.actor m q given) mid.keys mid.log new) node c.answered.ensures.answered)) in
     record { adds = adds-after old.keys old.log mid.log new (node_event old.actor c.args.node q given) c.enter.ensures.later c.enter.ensures.stays it.adds; right = it.right }

@@ -1,10 +1,10 @@
-use Rattle.std.proofs.Common.{◌≡◌, ℕ, IsTrue, List, [], ◌∷◌, refl, sym, ap, ◌∙◌, subst, inl}
+use Rattle.std.proofs.Common.{◌≡◌, List, refl, sym, ◌∙◌, subst, inl}
 use Rattle.rz_events.specs.declared.events.Word.{Word}
 use Rattle.rz_events.specs.declared.events.Word.TheVariants as w
 use Rattle.rz_events.specs.declared.events.Event.{Event}
 use Rattle.rz_chronicle.specs.Keys.{events_at, word_key}
-use Rattle.rz_chronicle.specs.Kinds.{is_honest, volume_in}
-use Rattle.rz_locked.specs.Seats.{SeatView, IsLogged}
+use Rattle.rz_chronicle.specs.Kinds.{volume_in}
+use Rattle.rz_locked.specs.Seats.{IsLogged}
 use Rattle.rz_locked.proofs.Seats.{entered}
 use Rattle.rz_locked.proofs.seat.Seat.enter.Goals as goal
 
@@ -19,7 +19,7 @@ invariant_of-self g c =
     let old = c.self.inside.post.log in
     let new = c.enter.new.pass.log in
     let same : events_at (word_key (w.Node n)) new ≡ events_at (word_key (w.Node n)) old =
-        subst (λ (u : Word). events_at (word_key u) new ≡ events_at (word_key u) old) inv.0 (c.enter.ensures.serves (word_key c.self.inside.post.word) (inl refl)) in (
+    subst (λ (u : Word). events_at (word_key u) new ≡ events_at (word_key u) old) inv.0 (c.enter.ensures.serves (word_key c.self.inside.post.word) (inl refl)) in (
       c.enter.ensures.same.2 ∙ inv.0,
       inv.1,
       inv.2,
