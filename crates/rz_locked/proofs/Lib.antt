@@ -1,0 +1,8 @@
+mod Logs
+mod Lasting
+mod OfficeLaws
+mod Events
+mod Disks
+mod Seats
+mod Replies
+mod Offices

@@ -1,0 +1,4 @@
+pub mod Adding
+pub mod Seats
+pub mod Offices
+pub mod Laws
