@@ -12,7 +12,7 @@ use Rattle.std.specs.FinMap.Entries.{find, put, is_sorted, where_key, is_sorted-
 use Rattle.rz_export_model.specs.Paths.{Name, Path, path_cmp, names_total, paths_total, exact_paths, above, is_root, right_under}
 use Rattle.rz_export_model.specs.Tree.{names_under}
 use Rattle.rz_names.specs.Entries.{run}
-use Rattle.rz_names.specs.Names.{with_root, IsClosed, IsNameMap, root_alone}
+use Rattle.rz_names.specs.Names.{with_root, IsClosed, IsNameMap, root_alone, below_root}
 use Rattle.rz_names.proofs.Sorted.{so, unso, right, insert-run, remove-run}
 use Rattle.rz_names.proofs.PathOrder.{eq_true}
 
@@ -273,3 +273,7 @@ module _ (q : Path) (es : Entries) (h : IsNameMap es) (there : is_some (maps.get
 
   pub removed-is : (new : Entries) (at : ℕ) → new ≡ remove es at → at ≡ place q es → maps.from_sorted {R = path_cmp} (with_root new) ≡ maps.remove (maps.from_sorted (with_root es)) q
   removed-is new at made is = ap (λ l. maps.from_sorted {R = path_cmp} (with_root l)) (made ∙ ap (remove es) is) ∙ removed-map q es h there other
+
+-- the kept entries are those below the root's
+pub below-kept : (es : Entries) → IsNameMap es → below_root (maps.from_sorted (with_root es)) ≡ es
+below-kept es h = ap (drop 1) (entries-from_sorted path_cmp (with_root es) (so _ h.sorted))

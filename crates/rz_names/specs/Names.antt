@@ -1,5 +1,5 @@
 -- What a map of names is, and what is found in it.
-use Rattle.std.specs.Prelude.{ℕ, Bool, true, false, not, ◌||◌, List, [], ◌∷◌, take, Option, Some, None, IsTrue, is_some}
+use Rattle.std.specs.Prelude.{ℕ, Bool, true, false, not, ◌||◌, List, [], ◌∷◌, take, drop, Option, Some, None, IsTrue, is_some}
 use Rattle.std.specs.List as lists
 use Rattle.std.specs.Ordering.{is_lt}
 use Rattle.std.specs.declared.cmp.Ordering.{Ordering}
@@ -38,6 +38,10 @@ next_name names path after = lists.find (is_after after) (names_under names path
 -- the least path above the given one, with its number
 abbrev pub entry_after : FinMap path_cmp ℕ → Path → Option (Path × ℕ)
 entry_after names path = lists.find (λ e. is_lt (path_cmp path e.0)) (maps.entries names)
+
+-- all paths but the root's, with their numbers, in order
+abbrev pub below_root : FinMap path_cmp ℕ → List (Path × ℕ)
+below_root names = drop 1 (maps.entries names)
 
 -- whether a path is at most `front`, or begins with it
 abbrev pub is_within : Path → Path → Bool

@@ -5,7 +5,8 @@ ghost use Rattle.std.specs.Option.{option_copied, unwrap_or};
 ghost use Rattle.std.specs.FinMap as maps;
 ghost use Rattle.rz_export_model.specs.Paths.{above, is_root, begins_with};
 ghost use Rattle.rz_export_model.specs.Tree.{names_under, moved};
-ghost use Rattle.rz_names.specs.Names.{root_alone, next_name, entry_after};
+ghost use Rattle.std.specs.List.{slice_get};
+ghost use Rattle.rz_names.specs.Names.{root_alone, next_name, entry_after, below_root};
 
 use crate::Path;
 use crate::entries::{
@@ -136,6 +137,23 @@ impl NameMap {
         match self.entries.get(at) {
             None => Ok(None),
             Some(found) => Ok(Some((found.path().copy(self.alloc)?, found.fid()))),
+        }
+    }
+
+    /// How many paths there are below the root's.
+    pub fn count(&self) -> usize
+        ensures { result ≡ length (below_root self.now) }
+    {
+        self.entries.len()
+    }
+
+    /// The path at a place in the order of all paths below the root's, with its number.
+    pub fn nth(&self, at: usize) -> Result<Option<(Path, u128)>, AllocError>
+        ensures { IfOk result (λ found. found ≡ slice_get (below_root self.now) at) }
+    {
+        match self.entries.get(at) {
+            None => Ok(None),
+            Some(entry) => Ok(Some((entry.path().copy(self.alloc)?, entry.fid()))),
         }
     }
 }

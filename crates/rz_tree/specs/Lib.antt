@@ -1,3 +1,4 @@
 pub mod Inodes
 pub mod Trees
 pub mod Calls
+pub mod Parts

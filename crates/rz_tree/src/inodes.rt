@@ -2,6 +2,7 @@
 
 ghost use Rattle.std.specs.Prelude.{◌≡◌, None, OnOk, OnErr};
 ghost use Rattle.std.specs.Option.{option_copied, option_map};
+ghost use Rattle.std.specs.List.{slice_get};
 ghost use Rattle.std.specs.FinMap as maps;
 ghost use Rattle.rz_export_model.specs.Tree.{info_of};
 ghost use Rattle.rz_tree.specs.Inodes.{found_of, attr_kept, with_attributes, with_size_of, greater_of, with_links, changed_at, released, file_past};
@@ -104,6 +105,15 @@ impl Inodes {
         ensures { option_copied result ≡ maps.get self.now fid }
     {
         self.entries.get(&fid)
+    }
+
+    /// The object at a place in the order of the numbers, with its number. Those before it are passed
+    /// over one by one.
+    pub fn nth(&self, at: usize) -> Option<(u128, &Inode)>
+        ensures { option_map (λ p. (p.0, p.1.now)) result ≡ slice_get (maps.entries self.now) at }
+    {
+        let (fid, inode) = self.entries.iter().nth(at)?;
+        Some((*fid, inode))
     }
 
     /// The file with the least greater number.

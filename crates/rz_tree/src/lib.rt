@@ -5,7 +5,7 @@
 //! function on these maps: what it replies, and which maps it leaves. A refused call changes nothing,
 //! and neither does one for which memory is wanting. Nothing is said of the blocks of files.
 //!
-//! In reading order: `inodes`, `tree`, `faults`, `looks`, `makes`, `changes`, `renames`, `answer`.
+//! In reading order: `inodes`, `tree`, `faults`, `looks`, `makes`, `changes`, `renames`, `answer`, `parts`.
 #![tactic(auto)]
 
 mod answer;
@@ -14,7 +14,9 @@ mod faults;
 mod inodes;
 mod looks;
 mod makes;
+mod parts;
 mod renames;
 mod tree;
 
+pub use parts::Part;
 pub use tree::Tree;

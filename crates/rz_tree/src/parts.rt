@@ -1,0 +1,92 @@
+//! The parts that a tree is made of, one by one.
+
+ghost use Rattle.std.specs.Prelude.{◌≡◌, ◌-◌, nat_le, length, IfOk};
+ghost use Rattle.std.specs.List.{slice_get};
+ghost use Rattle.std.specs.Option.{option_map};
+ghost use Rattle.std.specs.FinMap as maps;
+ghost use Rattle.rz_export_model.specs.Firsts.{given_if};
+ghost use Rattle.rz_names.specs.Names.{below_root};
+ghost use Rattle.rz_tree.specs.Parts.{object_part, name_part, tree_parts};
+
+use crate::tree::Tree;
+use rz_events::{Key, Kind, Places, Published, Text};
+use rz_names::Path;
+use std::alloc::AllocError;
+
+/// A part of what an export knows. All its parts together are the export.
+#[derive(Debug, Drop)]
+pub enum Part {
+    /// The last number drawn, and the number of the object that was made last.
+    Counters { last: u64, made: u128 },
+    /// An object: `places` and `cid` are those of a file, and `target` is that of a symbolic link.
+    Object {
+        fid: u128,
+        kind: Kind,
+        mode: u16,
+        mtime: u64,
+        size: u64,
+        cid: u16,
+        places: Places,
+        target: Text,
+    },
+    /// A path other than the root's, and the number of the object to which it leads.
+    Name { path: Path, fid: u128 },
+    /// A block that was begun: the newest stamp begun, and what is published.
+    Block {
+        key: Key,
+        latest: u64,
+        published: Option<Published>,
+    },
+    /// The greatest loss of a node that was enrolled, and its fence.
+    Enrolled { node: u16, loss: u64, fence: u64 },
+}
+
+impl Tree {
+    /// The part at a place: first come the objects by their numbers, then the names by their paths.
+    pub fn part(&self, i: usize) -> Result<Option<Part>, AllocError>
+        ensures { IfOk result (λ part. part ≡ slice_get (tree_parts self.now) i) }
+    {
+        let objects = self.inodes.len();
+        if i < objects {
+            return self.object_part(i);
+        }
+        self.name_part(i - objects)
+    }
+
+    /// How far a place is behind the last part, or none where a part stands at it.
+    pub fn past_parts(&self, i: usize) -> Option<usize>
+        ensures { result ≡ given_if (nat_le (length (tree_parts self.now)) i) (i - length (tree_parts self.now)) }
+    {
+        let past_objects = i.checked_sub(self.inodes.len())?;
+        past_objects.checked_sub(self.names.count())
+    }
+
+    // The object at a place in the order of the numbers.
+    fn object_part(&self, i: usize) -> Result<Option<Part>, AllocError>
+        ensures { IfOk result (λ part. part ≡ option_map object_part (slice_get (maps.entries self.now.objects) i)) }
+    {
+        match self.inodes.nth(i) {
+            None => Ok(None),
+            Some((fid, inode)) => Ok(Some(Part::Object {
+                fid,
+                kind: inode.kind,
+                mode: inode.mode,
+                mtime: inode.mtime,
+                size: inode.size,
+                cid: inode.cid,
+                places: inode.places,
+                target: inode.target.copy(self.alloc)?,
+            })),
+        }
+    }
+
+    // The name at a place in the order of the paths.
+    fn name_part(&self, i: usize) -> Result<Option<Part>, AllocError>
+        ensures { IfOk result (λ part. part ≡ option_map name_part (slice_get (below_root self.now.names) i)) }
+    {
+        match self.names.nth(i)? {
+            None => Ok(None),
+            Some((path, fid)) => Ok(Some(Part::Name { path, fid })),
+        }
+    }
+}
