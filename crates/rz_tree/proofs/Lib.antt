@@ -16,3 +16,4 @@ mod Renamings
 mod Calls
 mod Replacing
 mod Replies
+mod PartPlaces

@@ -1,13 +1,14 @@
 //! The parts that a tree is made of, one by one.
 
-ghost use Rattle.std.specs.Prelude.{◌≡◌, ◌-◌, nat_le, length, IfOk};
+ghost use Rattle.std.specs.Prelude.{◌≡◌, ◌+◌, ◌<◌, length, IfOk, MatchOption};
 ghost use Rattle.std.specs.List.{slice_get};
 ghost use Rattle.std.specs.Option.{option_map};
 ghost use Rattle.std.specs.FinMap as maps;
-ghost use Rattle.rz_export_model.specs.Firsts.{given_if};
 ghost use Rattle.rz_names.specs.Names.{below_root};
+ghost use Rattle.rz_tree.specs.Inodes.{object_of};
 ghost use Rattle.rz_tree.specs.Parts.{object_part, name_part, tree_parts};
 
+use crate::inodes::Inode;
 use crate::tree::Tree;
 use rz_events::{Key, Kind, Places, Published, Text};
 use rz_names::Path;
@@ -55,10 +56,20 @@ impl Tree {
 
     /// How far a place is behind the last part, or none where a part stands at it.
     pub fn past_parts(&self, i: usize) -> Option<usize>
-        ensures { result ≡ given_if (nat_le (length (tree_parts self.now)) i) (i - length (tree_parts self.now)) }
+        ensures { MatchOption result
+            (i < length (tree_parts self.now))
+            (λ past. i ≡ length (tree_parts self.now) + past) }
     {
-        let past_objects = i.checked_sub(self.inodes.len())?;
-        past_objects.checked_sub(self.names.count())
+        let objects = self.inodes.len();
+        if i < objects {
+            return None;
+        }
+        let past_objects = i - objects;
+        let names = self.names.count();
+        if past_objects < names {
+            return None;
+        }
+        Some(past_objects - names)
     }
 
     // The object at a place in the order of the numbers.
@@ -67,16 +78,10 @@ impl Tree {
     {
         match self.inodes.nth(i) {
             None => Ok(None),
-            Some((fid, inode)) => Ok(Some(Part::Object {
-                fid,
-                kind: inode.kind,
-                mode: inode.mode,
-                mtime: inode.mtime,
-                size: inode.size,
-                cid: inode.cid,
-                places: inode.places,
-                target: inode.target.copy(self.alloc)?,
-            })),
+            Some((fid, inode)) => {
+                let target = inode.target.copy(self.alloc)?;
+                Ok(Some(object_part(fid, inode, target)))
+            }
         }
     }
 
@@ -88,5 +93,22 @@ impl Tree {
             None => Ok(None),
             Some((path, fid)) => Ok(Some(Part::Name { path, fid })),
         }
+    }
+}
+
+// The part of an object, with a copy of its target.
+fn object_part(fid: u128, inode: &Inode, target: Text) -> Part
+    requires { target ≡ inode.now.target }
+    ensures { result ≡ object_part (fid, object_of inode.now) }
+{
+    Part::Object {
+        fid,
+        kind: inode.kind,
+        mode: inode.mode,
+        mtime: inode.mtime,
+        size: inode.size,
+        cid: inode.cid,
+        places: inode.places,
+        target,
     }
 }
