@@ -34,6 +34,10 @@ abbrev pub entry_above : Blocks → Option Key → Option (Key × ℕ × Option 
 entry_above blocks key =
     option_map (λ e. (e.0, e.1.latest, e.1.published)) (lists.find (λ e. is_after key e.0) (maps.entries blocks))
 
+-- an entry by its place in the order of the keys
+abbrev pub nth_entry : Blocks → ℕ → Option (Key × ℕ × Option Published)
+nth_entry blocks at = option_map (λ e. (e.0, e.1.latest, e.1.published)) (lists.slice_get (maps.entries blocks) at)
+
 -- a bound from which on all keys stand that are above `after`
 abbrev pub IsStartAbove : Bound Key → Option Key → Type 0
 IsStartAbove start after = (key : Key) → is_from_start key_cmp start key ≡ is_after after key

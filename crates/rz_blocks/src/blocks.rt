@@ -5,7 +5,7 @@ ghost use Rattle.std.specs.Option.{option_map};
 ghost use Rattle.std.specs.FinMap as maps;
 ghost use Rattle.rz_export_model.specs.Firsts.{given_if, first_given};
 ghost use Rattle.rz_export_model.specs.Export.{prepared, begun, latest_of, with_published, published_of, next_of_file, without_file, newer_of, is_after};
-ghost use Rattle.rz_blocks.specs.Shown.{added, shown, first_published, entry_above, IsStartAbove, IsStartOf, IsEndOf, IsWithin, IsPast};
+ghost use Rattle.rz_blocks.specs.Shown.{added, shown, first_published, entry_above, nth_entry, IsStartAbove, IsStartOf, IsEndOf, IsWithin, IsPast};
 
 use rz_events::{Key, Published};
 use rz_marks::Marks;
@@ -172,6 +172,21 @@ impl Blocks {
             None => None,
             Some((key, entry)) => Some((*key, entry.latest, entry.published)),
         }
+    }
+
+    /// How many keys have an entry.
+    pub fn len(&self) -> usize
+        ensures { result ≡ maps.len self.now }
+    {
+        self.entries.len()
+    }
+
+    /// The entry at a place in the order of the keys. Those before it are passed over one by one.
+    pub fn nth(&self, at: usize) -> Option<(Key, u64, Option<Published>)>
+        ensures { result ≡ nth_entry self.now at }
+    {
+        let (key, entry) = self.entries.iter().nth(at)?;
+        Some((*key, entry.latest, entry.published))
     }
 
     /// Takes every entry of a file away.
