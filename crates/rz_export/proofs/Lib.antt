@@ -10,3 +10,4 @@ pub mod Firsts
 pub mod Replies
 pub mod Released
 pub mod TreeStates
+mod PartPlaces

@@ -1,3 +1,4 @@
 pub mod Nodes
 pub mod Kept
 pub mod Calls
+pub mod Parts

@@ -6,15 +6,18 @@
 //! model's next state. Only want of memory is an answer beside it, and then nothing changes. What a
 //! caller did at the nodes before is not asked here.
 //!
-//! In reading order: `nodes`, `lists`, `export`, `refusals`, `blocks`, `listings`, `releases`, `calls`.
+//! In reading order: `nodes`, `lists`, `export`, `refusals`, `blocks`, `listings`, `releases`,
+//! `calls`, `enrolments`, `parts`.
 #![tactic(auto)]
 
 mod blocks;
 mod calls;
+mod enrolments;
 mod export;
 mod listings;
 mod lists;
 mod nodes;
+mod parts;
 mod refusals;
 mod releases;
 

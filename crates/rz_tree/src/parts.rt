@@ -18,7 +18,10 @@ use std::alloc::AllocError;
 #[derive(Debug, Drop)]
 pub enum Part {
     /// The last number drawn, and the number of the object that was made last.
-    Counters { last: u64, made: u128 },
+    Counters {
+        last: u64,
+        made: u128,
+    },
     /// An object: `places` and `cid` are those of a file, and `target` is that of a symbolic link.
     Object {
         fid: u128,
@@ -31,7 +34,10 @@ pub enum Part {
         target: Text,
     },
     /// A path other than the root's, and the number of the object to which it leads.
-    Name { path: Path, fid: u128 },
+    Name {
+        path: Path,
+        fid: u128,
+    },
     /// A block that was begun: the newest stamp begun, and what is published.
     Block {
         key: Key,
@@ -39,7 +45,11 @@ pub enum Part {
         published: Option<Published>,
     },
     /// The greatest loss of a node that was enrolled, and its fence.
-    Enrolled { node: u16, loss: u64, fence: u64 },
+    Enrolled {
+        node: u16,
+        loss: u64,
+        fence: u64,
+    },
 }
 
 impl Tree {
