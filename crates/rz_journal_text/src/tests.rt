@@ -29,8 +29,9 @@ fn a_publish(rt: HostRuntime) -> Result<(), Fail> {
     };
     let mut bytes = Vec::new(rt.alloc());
     write(&entry, &mut bytes)?;
-    assert_eq!(rt; bytes.len(), 39);
-    assert_eq!(rt; bytes.as_slice()[..4], [3, 2, 1, 0]);
-    assert_eq!(rt; bytes.as_slice()[33..], [5, 0, 1, 2, 0, 0]);
+    assert_eq!(rt;
+        bytes.as_slice(),
+        b"\x03\x02\x01\0\0\0\0\0\0\0\0\0\0\0\0\0\0\x03\0\0\0\0\0\0\0\x04\0\0\0\0\0\0\0\x05\0\x01\x02\0\0".as_slice()
+    );
     Ok(())
 }
