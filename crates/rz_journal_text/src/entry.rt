@@ -1,0 +1,24 @@
+//! What an entry of a journal says.
+
+use rz_events::{Key, TreeCall};
+
+/// A call that changed the export.
+#[derive(Debug, Drop)]
+pub enum Entry {
+    Tree(TreeCall),
+    /// A write of a block began, whose text has so many bytes.
+    Begin {
+        key: Key,
+        bytes: u32,
+    },
+    Publish {
+        key: Key,
+        stamp: u64,
+        mask: u16,
+        bytes: u32,
+    },
+    Enroll {
+        node: u16,
+        loss: u64,
+    },
+}

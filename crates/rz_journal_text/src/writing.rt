@@ -1,0 +1,82 @@
+//! Entries.
+
+ghost use Rattle.std.specs.Prelude.{◌≡◌, ◌++◌, OnOk};
+ghost use Rattle.byteorder.specs.Endian.{little_bytes};
+ghost use Rattle.rz_journal_text.specs.Spelling.{key_bytes, kind_of, entry_fields, entry_bytes, MayStand};
+
+use crate::Entry;
+use crate::calls::write_call;
+use crate::numbers::{write_key, write_u16, write_u32, write_u64};
+use rz_events::Key;
+use std::alloc::AllocError;
+
+/// Adds the bytes of an entry at the end. After want of memory, a part of them may stand there.
+pub fn write(entry: &Entry, out: &mut Vec<u8>) -> Result<(), AllocError>
+    requires { MayStand entry.now }
+    ensures { OnOk result (out.new.items ≡ out.old.items ++ entry_bytes entry.now) }
+{
+    out.push(kind_of(entry))?;
+    write_fields(entry, out)
+}
+
+// The kind of an entry.
+fn kind_of(entry: &Entry) -> u8
+    ensures { result ≡ kind_of entry.now }
+{
+    match entry {
+        Entry::Tree(_) => 1,
+        Entry::Begin { .. } => 2,
+        Entry::Publish { .. } => 3,
+        Entry::Enroll { .. } => 4,
+    }
+}
+
+// Adds the fields of an entry.
+fn write_fields(entry: &Entry, out: &mut Vec<u8>) -> Result<(), AllocError>
+    requires { MayStand entry.now }
+    ensures { OnOk result (out.new.items ≡ out.old.items ++ entry_fields entry.now) }
+{
+    match entry {
+        Entry::Tree(call) => write_call(call, out),
+        Entry::Begin { key, bytes } => write_begin(*key, *bytes, out),
+        Entry::Publish {
+            key,
+            stamp,
+            mask,
+            bytes,
+        } => write_publish(*key, *stamp, *mask, *bytes, out),
+        Entry::Enroll { node, loss } => write_enroll(*node, *loss, out),
+    }
+}
+
+// Adds the fields of a begin.
+fn write_begin(key: Key, bytes: u32, out: &mut Vec<u8>) -> Result<(), AllocError>
+    ensures { OnOk result (out.new.items ≡ out.old.items ++ (key_bytes key ++ little_bytes 4 bytes)) }
+{
+    write_key(key, out)?;
+    write_u32(bytes, out)
+}
+
+// Adds the fields of a publish.
+fn write_publish(
+    key: Key,
+    stamp: u64,
+    mask: u16,
+    bytes: u32,
+    out: &mut Vec<u8>,
+) -> Result<(), AllocError>
+    ensures { OnOk result (out.new.items ≡ out.old.items ++ (key_bytes key ++ (little_bytes 8 stamp ++ (little_bytes 2 mask ++ little_bytes 4 bytes)))) }
+{
+    write_key(key, out)?;
+    write_u64(stamp, out)?;
+    write_u16(mask, out)?;
+    write_u32(bytes, out)
+}
+
+// Adds the fields of an enrolment.
+fn write_enroll(node: u16, loss: u64, out: &mut Vec<u8>) -> Result<(), AllocError>
+    ensures { OnOk result (out.new.items ≡ out.old.items ++ (little_bytes 2 node ++ little_bytes 8 loss)) }
+{
+    write_u16(node, out)?;
+    write_u64(loss, out)
+}
