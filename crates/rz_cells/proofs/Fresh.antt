@@ -19,7 +19,7 @@ use Rattle.rz_cells.proofs.Slots.{header-same}
 abbrev pub blank : ℕ → List ℕ
 blank n = replicate n 0
 
-zero_at : (n i : ℕ) → get_or (blank n) i 0 ≡ 0
+pub zero_at : (n i : ℕ) → get_or (blank n) i 0 ≡ 0
 zero_at n i = ⊎_elim (λ (lt : i < n). get_or-replicate n i 0 0 lt) (λ (le : n ≤ i). get_or_past (blank n) i 0 (omega (arith, length-replicate {A = ℕ} n 0))) (cases_lt i n)
 
 module _ (g : Geometry) (fence : ℕ) (header : List ℕ) (is : IsHeader g fence header) (long : length header ≡ 32) where
@@ -60,7 +60,7 @@ zero_from i zero xs zeros = refl
 zero_from i (suc n) xs zeros = omega (arith, zeros i, zero_from (suc i) n xs zeros)
 
 -- bytes of zeros are the number 0
-number_zero : (at n : ℕ) (xs : List ℕ) → ((k : ℕ) → get_or xs k 0 ≡ 0) → number_at at n xs ≡ 0
+pub number_zero : (at n : ℕ) (xs : List ℕ) → ((k : ℕ) → get_or xs k 0 ≡ 0) → number_at at n xs ≡ 0
 unfolding number_at
 number_zero at n xs zeros = zero_from 0 n (drop at xs) (λ k. get_or-drop at xs k 0 ∙ zeros (at + k))
 

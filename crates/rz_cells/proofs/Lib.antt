@@ -8,3 +8,9 @@ mod Meters
 mod Opened
 mod Refused
 mod Slots
+mod Based
+mod Copied
+mod OldOpened
+mod Pairs
+mod Carried
+mod Copies

@@ -1,16 +1,16 @@
 -- From cells to the records that they stand for.
-use Rattle.std.proofs.Common.{◌≡◌, ◌≢◌, inl, inr, ⊎_elim, ℕ, ◌*◌, ◌^◌, ◌<◌, ◌≤◌, Bool, IsTrue, Option, Some, None, List, [], ◌∷◌, length, length-set, set, sym, ◌∙◌, ap, subst, arith}
+use Rattle.std.proofs.Common.{◌≡◌, ◌≢◌, inl, inr, ⊎_elim, ℕ, ◌*◌, ◌^◌, ◌<◌, ◌≤◌, Bool, IsTrue, Option, Some, None, List, [], ◌∷◌, length, length-set, take, set, sym, ◌∙◌, ap, subst, arith}
 use Rattle.std.proofs.Math.Nat.{mul-le-mul_left}
 use Rattle.std.proofs.lemmas.Bool.{cases_eq}
-use Rattle.std.proofs.lemmas.List.{ext_get_or, get_or-set_same, get_or-set_other, map-set}
+use Rattle.std.proofs.lemmas.List.{ext_get_or, length-take-le, get_or-set_same, get_or-set_other, map-set}
 use Rattle.rz_disk.specs.Images.{Only, Within}
 use Rattle.rz_events.specs.declared.records.Head.{Head}
 use Rattle.rz_record.specs.Fields.{number_at}
 use Rattle.mj_angles.specs.declared.layout.Layout.{Layout}
-use Rattle.rz_record.specs.Record.{IsValid, record_bytes, slot_bytes}
+use Rattle.rz_record.specs.Record.{IsRecord, IsValid, record_bytes, slot_bytes}
 use Rattle.rz_record.specs.Slot.{Rec, Spells}
 use Rattle.rz_record.proofs.Codec.{few_bins, number_at-take}
-use Rattle.rz_record.proofs.Laws.{one_reading, record-fits}
+use Rattle.rz_record.proofs.Laws.{one_reading, record-fits, record-spells}
 use Rattle.rz_cells.specs.declared.geometry.Geometry.{Geometry}
 use Rattle.rz_cells.specs.Held.{Records, Made, Goes, in_cell, heads_of, head_in, changed}
 use Rattle.rz_cells.specs.Shape.{IsGeometry, picked, slot_of, disk_bytes}
@@ -36,6 +36,13 @@ disk_small g is =
 -- any record of the geometry's layout fits a slot
 pub fits_slot : (g : Geometry) (h : Head) → IsValid h → h.layout ≡ g.layout → record_bytes h ≤ slot_of g
 fits_slot g h valid same = subst (λ (y : Layout). record_bytes h ≤ slot_bytes y) same (record-fits h valid)
+
+-- the front of the buffer spells the record
+pub spelled : (g : Geometry) (r : Rec) (size : ℕ) (buffer bytes : List ℕ) → IsValid r.head → r.head.layout ≡ g.layout → size ≡ record_bytes r.head → length buffer ≡ slot_of g → IsRecord (take size buffer) r.head r.bins → bytes ≡ buffer → Spells (slot_of g) (take size bytes) (Some r)
+spelled g r size buffer bytes valid layout is long rec same =
+    let room = fits_slot g r.head valid layout in
+    subst (λ (l : List ℕ). Spells (slot_of g) (take size l) (Some r)) (sym same)
+    (record-spells (slot_of g) (take size buffer) r rec (length-take-le size buffer (omega (arith, room, is, long)) ∙ is) room)
 
 pub some_is : (P : Head → Type 0) (a b : Head) → Some a ≡ Some b → P a → P b
 some_is P a b same p = let one : a ≡ b = cc in subst P one p

@@ -1,13 +1,17 @@
 -- One cell of a map changes.
-use Rattle.std.proofs.Common.{◌≡◌, ◌≢◌, ◌⊎◌, inl, inr, ⊎_elim, ℕ, ◌<◌, ◌≤◌, ◌==◌, ◌&&◌, Bool, true, false, if◌then◌else◌, Option, Some, None, List, length, set, refl, sym, ◌∙◌, ap, subst, arith}
+use Rattle.std.proofs.Common.{◌≡◌, ◌≢◌, ◌⊎◌, inl, inr, ⊎_elim, ℕ, ◌<◌, ◌≤◌, ◌==◌, ◌&&◌, Bool, true, false, if◌then◌else◌, Option, Some, None, List, length, set, refl, sym, ◌∙◌, ap, subst, arith, get_or}
 use Rattle.std.proofs.lemmas.Bool.{cases_eq}
 use Rattle.std.proofs.lemmas.Bool.{cases_lt}
 use Rattle.std.proofs.lemmas.Bool.Decides.{nat_tests}
-use Rattle.std.proofs.lemmas.List.{get_or-set_same, get_or-set_other, get_or-map, get_or_past, map-set, length-map}
+use Rattle.std.proofs.lemmas.List.{get_or_read, get_or-set_same, get_or-set_other, get_or-map, get_or_past, map-set, length-map}
 use Rattle.rz_events.specs.declared.keys.Key.{Key}
 use Rattle.rz_events.specs.declared.records.Head.{Head}
 use Rattle.rz_record.specs.Slot.{Rec}
 use Rattle.rz_cells.specs.Held.{Records, Together, Apart, Made, Goes, in_cell, heads_of, head_in, names, changed, nothing}
+
+-- what a read of a list gives is what stands there
+pub stands_there : {A : Type 0} (xs : List (Option A)) (i n : ℕ) (x : Option A) (a : A) → i < n → length xs ≡ n → x ≡ get_or xs i x → x ≡ Some a → in_cell xs i ≡ Some a
+stands_there xs i n x a lt long is some = sym (get_or_read xs i x (omega arith) is None) ∙ some
 
 -- a head has its own key and stamp
 pub names_own : (h : Head) → names (Some h) h.key h.stamp ≡ true

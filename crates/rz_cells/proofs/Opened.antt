@@ -13,9 +13,11 @@ use Rattle.rz_record.specs.Fields.{number_at}
 use Rattle.rz_record.specs.Record.{IsValid}
 use Rattle.rz_record.proofs.Codec.{number_at-front, byte-front, head-front}
 use Rattle.rz_cells.specs.declared.geometry.Geometry.{Geometry}
+use Rattle.rz_cells.specs.declared.geometry.Version.{Version}
+use Rattle.rz_cells.specs.declared.geometry.Version.TheVariants.{Two}
 use Rattle.rz_cells.specs.Held.{in_cell}
 use Rattle.rz_cells.specs.Shape.{picked, slot_at, slot_of, disk_bytes, gate_at}
-use Rattle.rz_cells.specs.Stands.{IsHeader, IsFormatted}
+use Rattle.rz_cells.specs.Stands.{IsHeaderOf, IsFormatted}
 use Rattle.rz_cells.specs.Open.{Knows}
 use Rattle.rz_cells.specs.Opening.{Agrees, CellFault, CellRefused, CellsFault, FieldFault, FineTo, FitTo, GoesNext, HeaderFault, ReadTo, ReadsHead, Refuses, Unreadable, Wrong, value_at}
 use Rattle.rz_cells.proofs.Slots.{picked_is, slot_within}
@@ -44,8 +46,8 @@ module _ (g : Geometry) (header text : List ℕ) (same : take 33 header ≡ take
   formatted is = formatted_there (omega (arith, is))
 
   -- the header of a text from the bytes that were read
-  pub header_of : (fence : ℕ) → Agrees g header → fence ≡ number_at 16 8 header → IsHeader g fence text
-  header_of fence agrees is = record {
+  pub header_of : (v : Version) (fence : ℕ) → Agrees v g header → fence ≡ number_at 16 8 header → IsHeaderOf v g fence text
+  header_of v fence agrees is = record {
     magic_is = sym (values_same header text same Magic) ∙ agrees Magic;
     layout = sym (values_same header text same Layout) ∙ agrees Layout;
     bsize = sym (values_same header text same Bsize) ∙ agrees Bsize;
@@ -55,8 +57,8 @@ module _ (g : Geometry) (header text : List ℕ) (same : take 33 header ≡ take
     reserved = sym (values_same header text same Reserved) ∙ agrees Reserved;
   }
 
-  pub field_fault : IsFormatted text → (e : OpenFault) → FieldFault g header e → HeaderFault g text e
-  field_fault is_formatted (BadHeader field value) bad = (
+  pub field_fault : (v : Version) → IsFormatted text → (e : OpenFault) → FieldFault v g header e → HeaderFault v g text e
+  field_fault v is_formatted (BadHeader field value) bad = (
     is_formatted,
     record {
       found = bad.found ∙ values_same header text same field;
@@ -64,21 +66,21 @@ module _ (g : Geometry) (header text : List ℕ) (same : take 33 header ≡ take
       before = λ other lt. sym (values_same header text same other) ∙ bad.before other lt;
     },
   )
-  field_fault is_formatted (Damaged cell) bad = absurd bad
-  field_fault is_formatted DiskFault bad = absurd bad
-  field_fault is_formatted NoMemory bad = absurd bad
-  field_fault is_formatted (WrongSize have need) bad = absurd bad
-  field_fault is_formatted Unformatted bad = absurd bad
-  field_fault is_formatted (Twice first second) bad = absurd bad
+  field_fault v is_formatted (Damaged cell) bad = absurd bad
+  field_fault v is_formatted DiskFault bad = absurd bad
+  field_fault v is_formatted NoMemory bad = absurd bad
+  field_fault v is_formatted (WrongSize have need) bad = absurd bad
+  field_fault v is_formatted Unformatted bad = absurd bad
+  field_fault v is_formatted (Twice first second) bad = absurd bad
 
 -- a header agrees with its geometry
-pub agrees_of : (g : Geometry) (fence : ℕ) (text : List ℕ) → IsHeader g fence text → Agrees g text
-agrees_of g fence text is Magic = is.magic_is
-agrees_of g fence text is Layout = is.layout
-agrees_of g fence text is Bsize = is.bsize
-agrees_of g fence text is Node = is.node
-agrees_of g fence text is Cells = is.cells
-agrees_of g fence text is Reserved = is.reserved
+pub agrees_of : (v : Version) (g : Geometry) (fence : ℕ) (text : List ℕ) → IsHeaderOf v g fence text → Agrees v g text
+agrees_of v g fence text is Magic = is.magic_is
+agrees_of v g fence text is Layout = is.layout
+agrees_of v g fence text is Bsize = is.bsize
+agrees_of v g fence text is Node = is.node
+agrees_of v g fence text is Cells = is.cells
+agrees_of v g fence text is Reserved = is.reserved
 
 -- the head that was read begins the picked slot
 pub head_at : (g : Geometry) (text : List ℕ) (cell gate : ℕ) (bytes : List ℕ) → gate % 2 ≡ get_or text (gate_at cell) 0 % 2 → bytes ≡ window (slot_at g cell (gate % 2)) 48 text → take 48 (picked g text cell) ≡ take 48 bytes
@@ -172,7 +174,7 @@ pub gates_read : (g : Geometry) (text gates : List ℕ) → gates ≡ window 64 
 gates_read g text gates is c lt = ap (λ (b : ℕ). b % 2) (ap (λ (l : List ℕ). get_or l c 0) is ∙ window-byte 64 (2 * g.cells) text c lt)
 
 -- the faults of the parts are those of the whole
-pub header_refuses : (g : Geometry) (text : List ℕ) → length text ≡ disk_bytes g → (e : OpenFault) → HeaderFault g text e → Refuses g text e
+pub header_refuses : (g : Geometry) (text : List ℕ) → length text ≡ disk_bytes g → (e : OpenFault) → HeaderFault Two g text e → Refuses g text e
 header_refuses g text size (BadHeader field value) bad = (size, bad.0, bad.1)
 header_refuses g text size Unformatted bad = (size, bad)
 header_refuses g text size DiskFault bad = size
@@ -181,7 +183,7 @@ header_refuses g text size NoMemory bad = absurd bad
 header_refuses g text size (WrongSize have need) bad = absurd bad
 header_refuses g text size (Twice first second) bad = absurd bad
 
-pub cells_refuse : (g : Geometry) (text : List ℕ) → length text ≡ disk_bytes g → IsFormatted text → Agrees g text → (e : OpenFault) → CellsFault g text e → Refuses g text e
+pub cells_refuse : (g : Geometry) (text : List ℕ) → length text ≡ disk_bytes g → IsFormatted text → Agrees Two g text → (e : OpenFault) → CellsFault g text e → Refuses g text e
 cells_refuse g text size is_formatted agrees (Damaged cell) bad = (size, is_formatted, agrees, bad)
 cells_refuse g text size is_formatted agrees (Twice first second) bad = (size, is_formatted, agrees, bad)
 cells_refuse g text size is_formatted agrees DiskFault bad = size

@@ -1,5 +1,5 @@
 -- Which cells a text holds, and that a text that is refused stands for nothing.
-use Rattle.std.proofs.Common.{◌≡◌, ◌≢◌, ◌⊎◌, inl, inr, ⊎_elim, ℕ, zero, suc, ◌*◌, ◌/◌, ◌<◌, ◌≤◌, Bool, true, false, IsTrue, if◌then◌else◌, Option, Some, None, List, [], ◌∷◌, map, length, refl, sym, ◌∙◌, ap, subst, arith}
+use Rattle.std.proofs.Common.{◌≡◌, ◌≢◌, ◌⊎◌, inl, inr, ⊎_elim, ℕ, zero, suc, ◌*◌, ◌/◌, ◌<◌, ◌≤◌, Bool, true, false, IsTrue, if◌then◌else◌, Option, Some, None, Result, Err, IfErr, List, [], ◌∷◌, map, length, refl, sym, ◌∙◌, ap, subst, arith}
 use Rattle.std.proofs.lemmas.Bool.{cases_lt, cases_eq}
 use Rattle.std.proofs.lemmas.List.{ext_get_or, get_or_past, length-map}
 use Rattle.std.proofs.lemmas.List.FromFn.{length-map-range_with_len, get_or-map-range_with_len}
@@ -13,15 +13,20 @@ use Rattle.rz_record.specs.Record.{bins_of}
 use Rattle.rz_record.specs.Slot.{Rec, Reads}
 use Rattle.rz_record.proofs.Laws.{numbers_behind, record-of_head, one_head}
 use Rattle.rz_cells.specs.declared.geometry.Geometry.{Geometry}
+use Rattle.rz_cells.specs.declared.geometry.Version.TheVariants.{Two}
 use Rattle.rz_cells.specs.Held.{Records, Together, Apart, Made, in_cell, heads_of, head_in, names}
 use Rattle.std.proofs.Props.{props}
-use Rattle.rz_cells.specs.Shape.{IsGeometry, picked, disk_bytes}
-use Rattle.rz_cells.specs.Stands.{IsHeader, IsFormatted, HoldsCells, StandsFor}
+use Rattle.rz_cells.specs.Shape.{IsGeometry, picked, disk_bytes, slot_of}
+use Rattle.rz_cells.specs.Stands.{IsHeader, IsFormatted, StandsFor, Suits}
 use Rattle.rz_cells.specs.Open.{Finds, IsOpen, HoldsHeads, Knows}
 use Rattle.rz_cells.specs.Opening.{CellRefused, FineTo, FitTo, GoesNext, ReadTo, ReadsHead, Refuses, Unreadable}
 use Rattle.rz_cells.proofs.Lifts.{fits_slot, same_cells}
 use Rattle.rz_cells.proofs.Made.{head_in-cell, head_some, has_head, named, names_own, bool_cases, chosen, passed}
 use Rattle.rz_cells.proofs.Opened.{agrees_of, slot_room}
+
+-- what is true of a fault is true of the result that has it
+pub on_fault : {T E : Type 0} (r : Result T E) (e : E) (P : E → Type 0) → r ≡ Err e → P e → IfErr r P
+on_fault r e P is holds = subst (λ (q : Result _ _). IfErr q P) (sym is) holds
 
 -- keys are equal or not
 pub key_cases : (a b : Key) → (a ≡ b) ⊎ (a ≢ b)
@@ -64,55 +69,64 @@ record_of : Option Head → List ℕ → Option Rec
 record_of None slot = None
 record_of (Some h) slot = Some record { head = h; bins = numbers_behind slot (bins_of h) }
 
-module _ (g : Geometry) (fence : ℕ) (text : List ℕ) (heads : List (Option Head)) (size : length text ≡ disk_bytes g) (header : IsHeader g fence text) (is_formatted : IsFormatted text) (count : length heads ≡ 2 * g.cells) (reads : ReadTo g text heads (2 * g.cells)) where
-  cells : List (Option Rec)
-  cells = map (λ c. record_of (in_cell heads c) (picked g text c)) (range_with_len 0 (2 * g.cells))
+-- the records of heads in slots
+module _ (g : Geometry) (n : ℕ) (slot : ℕ → List ℕ) (heads : List (Option Head)) (count : length heads ≡ n) (room : (c : ℕ) → c < n → length (slot c) ≡ slot_of g) (reads : (c : ℕ) → c < n → ReadsHead g (slot c) (in_cell heads c)) where
+  pub cells : List (Option Rec)
+  cells = map (λ c. record_of (in_cell heads c) (slot c)) (range_with_len 0 n)
 
-  long : length cells ≡ 2 * g.cells
+  pub cells_long : length cells ≡ n
   unfolding cells
-  long = length-map-range_with_len (λ (c : ℕ). record_of (in_cell heads c) (picked g text c)) 0 (2 * g.cells)
+  cells_long = length-map-range_with_len (λ (c : ℕ). record_of (in_cell heads c) (slot c)) 0 n
 
-  at : (c : ℕ) → c < 2 * g.cells → in_cell cells c ≡ record_of (in_cell heads c) (picked g text c)
+  at : (c : ℕ) → c < n → in_cell cells c ≡ record_of (in_cell heads c) (slot c)
   unfolding cells
-  at c lt = get_or-map-range_with_len (λ (c : ℕ). record_of (in_cell heads c) (picked g text c)) 0 (2 * g.cells) c c None lt (omega arith)
+  at c lt = get_or-map-range_with_len (λ (c : ℕ). record_of (in_cell heads c) (slot c)) 0 n c c None lt (omega arith)
 
-  spelled : (c : ℕ) → c < 2 * g.cells → (o : Option Head) → ReadsHead g (picked g text c) o → Reads (picked g text c) (record_of o (picked g text c))
+  spelled : (c : ℕ) → c < n → (o : Option Head) → ReadsHead g (slot c) o → Reads (slot c) (record_of o (slot c))
   unfolding record_of
   spelled c lt None is = is
-  spelled c lt (Some h) is = record-of_head (picked g text c) h is.0 (omega (arith, fits_slot g h is.0.valid is.1, slot_room g text c size lt))
+  spelled c lt (Some h) is = record-of_head (slot c) h is.0 (omega (arith, fits_slot g h is.0.valid is.1, room c lt))
 
-  suited : (c : ℕ) (o : Option Head) → ReadsHead g (picked g text c) o → (r : Rec) → record_of o (picked g text c) ≡ Some r → r.head.layout ≡ g.layout
+  suited : (c : ℕ) (o : Option Head) → ReadsHead g (slot c) o → (r : Rec) → record_of o (slot c) ≡ Some r → r.head.layout ≡ g.layout
   unfolding record_of
   suited c None is r same = absurd (cc)
   suited c (Some h) is r same = let one : h ≡ r.head = cc in ap (λ (k : Head). k.layout) (sym one) ∙ is.1
 
-  own_head : (o : Option Head) (slot : List ℕ) → head_in (record_of o slot) ≡ o
+  own_head : (o : Option Head) (bytes : List ℕ) → head_in (record_of o bytes) ≡ o
   unfolding record_of
-  own_head None slot = refl
-  own_head (Some h) slot = refl
+  own_head None bytes = refl
+  own_head (Some h) bytes = refl
 
-  holds : HoldsCells g fence text cells
-  holds = record {
-    size = size;
-    header = header;
-    formatted = is_formatted;
-    count = long;
-    each = λ c lt. subst (Reads (picked g text c)) (sym (at c lt)) (spelled c lt (in_cell heads c) (reads c lt));
-    suits = λ c r is. ⊎_elim
-        (λ (lt : c < 2 * g.cells). suited c (in_cell heads c) (reads c lt) r (sym (at c lt) ∙ is))
-        (λ (le : 2 * g.cells ≤ c). let none : None ≡ Some r = sym (get_or_past cells c None (omega (arith, long))) ∙ is in absurd (cc))
-        (cases_lt c (2 * g.cells));
-  }
+  pub cells_read : (c : ℕ) → c < n → Reads (slot c) (in_cell cells c)
+  cells_read c lt = subst (Reads (slot c)) (sym (at c lt)) (spelled c lt (in_cell heads c) (reads c lt))
 
-  same_heads : heads_of cells ≡ heads
-  same_heads = ext_get_or None (heads_of cells) heads (length-heads ∙ sym count)
-      (λ c lt. let below : c < 2 * g.cells = omega (arith, length-heads) in head_in-cell cells c ∙ ap head_in (at c below) ∙ own_head (in_cell heads c) (picked g text c))
+  pub cells_suit : (c : ℕ) → Suits g (in_cell cells c)
+  cells_suit c r is = ⊎_elim
+      (λ (lt : c < n). suited c (in_cell heads c) (reads c lt) r (sym (at c lt) ∙ is))
+      (λ (le : n ≤ c). let none : None ≡ Some r = sym (get_or_past cells c None (omega (arith, cells_long))) ∙ is in absurd (cc))
+      (cases_lt c n)
+
+  pub cells_heads : heads_of cells ≡ heads
+  cells_heads = ext_get_or None (heads_of cells) heads (length-heads ∙ sym count)
+      (λ c lt. let below : c < n = omega (arith, length-heads) in head_in-cell cells c ∙ ap head_in (at c below) ∙ own_head (in_cell heads c) (slot c))
     where
-      length-heads : length (heads_of cells) ≡ 2 * g.cells
-      length-heads = length-map cells head_in ∙ long
+      length-heads : length (heads_of cells) ≡ n
+      length-heads = length-map cells head_in ∙ cells_long
 
-  pub holds_heads : HoldsHeads g fence text heads
-  holds_heads = (cells, holds, same_heads)
+pub holds_heads : (g : Geometry) (fence : ℕ) (text : List ℕ) (heads : List (Option Head)) → length text ≡ disk_bytes g → IsHeader g fence text → IsFormatted text → length heads ≡ 2 * g.cells → ReadTo g text heads (2 * g.cells) → HoldsHeads g fence text heads
+holds_heads g fence text heads size header is_formatted count reads =
+    let room : (c : ℕ) → c < 2 * g.cells → length (picked g text c) ≡ slot_of g = λ c lt. slot_room g text c size lt in (
+      cells g (2 * g.cells) (picked g text) heads count room reads,
+      record {
+        size = size;
+        header = header;
+        formatted = is_formatted;
+        count = cells_long g (2 * g.cells) (picked g text) heads count room reads;
+        each = cells_read g (2 * g.cells) (picked g text) heads count room reads;
+        suits = cells_suit g (2 * g.cells) (picked g text) heads count room reads;
+      },
+      cells_heads g (2 * g.cells) (picked g text) heads count room reads,
+    )
 
 -- the record with a key and a stamp in the first cell that has it
 held_by : List (Option Rec) → Records
@@ -178,22 +192,23 @@ stands_of g fence text heads known apart =
     (made.0, (known.0, known.1, made.1))
 
 -- A text that stands for records is not refused.
-one_head_read : (g : Geometry) (slot : List ℕ) (o p : Option Head) → ReadsHead g slot o → ReadsHead g slot p → o ≡ p
+pub one_head_read : (g : Geometry) (slot : List ℕ) (o p : Option Head) → ReadsHead g slot o → ReadsHead g slot p → o ≡ p
 one_head_read g slot None None a b = refl
 one_head_read g slot None (Some h) a b = absurd (b.0.valid.some (b.0.stamp ∙ a))
 one_head_read g slot (Some h) None a b = absurd (a.0.valid.some (a.0.stamp ∙ b))
 one_head_read g slot (Some h) (Some k) a b = ap (λ (q : Head). Some q) (one_head slot h k a.0 b.0)
 
+-- a record is read by its head
+pub head_read : (g : Geometry) (o : Option Rec) (slot : List ℕ) → Reads slot o → Suits g o → ReadsHead g slot (head_in o)
+head_read g None slot is suits = is
+head_read g (Some r) slot is suits = (is.head, suits r refl)
+
 module _ (g : Geometry) (fence : ℕ) (text : List ℕ) (held : Records) (stands : StandsFor g fence text held) where
   whole : List (Option Head)
   whole = heads_of stands.0
 
-  head_read : (o : Option Rec) (slot : List ℕ) → Reads slot o → ((r : Rec) → o ≡ Some r → r.head.layout ≡ g.layout) → ReadsHead g slot (head_in o)
-  head_read None slot is suits = is
-  head_read (Some r) slot is suits = (is.head, suits r refl)
-
   reads_whole : (c : ℕ) → c < 2 * g.cells → ReadsHead g (picked g text c) (in_cell (heads_of stands.0) c)
-  reads_whole c lt = subst (ReadsHead g (picked g text c)) (sym (head_in-cell stands.0 c)) (head_read (in_cell stands.0 c) (picked g text c) (stands.1.each c lt) (stands.1.suits c))
+  reads_whole c lt = subst (ReadsHead g (picked g text c)) (sym (head_in-cell stands.0 c)) (head_read g (in_cell stands.0 c) (picked g text c) (stands.1.each c lt) (stands.1.suits c))
 
   -- the heads of the first cells are those of all
   agree : (heads : List (Option Head)) (k c : ℕ) → k < 2 * g.cells → FineTo g text heads k → c < k → in_cell heads c ≡ in_cell (heads_of stands.0) c
@@ -229,7 +244,7 @@ module _ (g : Geometry) (fence : ℕ) (text : List ℕ) (held : Records) (stands
   only_faults DiskFault bad = inr refl
   only_faults (WrongSize have need) bad = absurd (bad.2 (bad.0 ∙ stands.1.size ∙ sym bad.1))
   only_faults Unformatted bad = absurd (bad.1 stands.1.formatted)
-  only_faults (BadHeader field value) bad = absurd (bad.2.differs (bad.2.found ∙ agrees_of g fence text stands.1.header field))
+  only_faults (BadHeader field value) bad = absurd (bad.2.differs (bad.2.found ∙ agrees_of Two g fence text stands.1.header field))
   only_faults (Damaged cell) bad = absurd (⊎_elim
       (λ (refused : CellRefused g text cell (Damaged cell)). not_cell cell (Damaged cell) refused)
       (λ (unread : (cell < 2 * g.cells) × ((heads : List (Option Head)) × FineTo g text heads cell × Unreadable g (picked g text cell))). not_unread cell unread.0 unread.1.2)

@@ -18,7 +18,7 @@ pub idle_bit : (gate b : ℕ) → gate % 2 ≡ b % 2 → 1 - gate % 2 ≢ b % 2
 idle_bit gate b is same = omega arith
 
 -- slots with different numbers do not meet
-steps_apart : (s x y : ℕ) → x < y → x * s + s ≤ y * s
+pub steps_apart : (s x y : ℕ) → x < y → x * s + s ≤ y * s
 steps_apart s x y lt = let le : (x + 1) * s ≤ y * s = mul-le-mul_right s (omega arith) in omega (arith, le)
 
 slots_apart : (s x y : ℕ) → x ≢ y → (x * s + s ≤ y * s) ⊎ (y * s + s ≤ x * s)

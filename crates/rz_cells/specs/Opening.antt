@@ -11,12 +11,14 @@ use Rattle.rz_events.specs.declared.nodes.OpenFault.TheVariants.{NoMemory, Wrong
 use Rattle.rz_record.specs.Fields.{number_at}
 use Rattle.rz_record.specs.Record.{IsEmpty, IsHead}
 use Rattle.rz_cells.specs.declared.geometry.Geometry.{Geometry}
+use Rattle.rz_cells.specs.declared.geometry.Version.{Version}
+use Rattle.rz_cells.specs.declared.geometry.Version.TheVariants.{Two}
 use Rattle.rz_cells.specs.Held.{in_cell}
 use Rattle.rz_cells.specs.Shape.{disk_bytes, picked}
 use Rattle.rz_disk.specs.Images.{Within}
 use Rattle.rz_disk.specs.Meter.{Meter, Lasts}
 use Rattle.rz_record.specs.Record.{IsValid}
-use Rattle.rz_cells.specs.Stands.{IsFormatted, magic}
+use Rattle.rz_cells.specs.Stands.{IsFormatted, magic_of}
 
 -- what stands in a field of the header
 abbrev pub value_at : List ℕ → HeaderField → ℕ
@@ -28,13 +30,13 @@ value_at text Cells = number_at 12 4 text
 value_at text Reserved = number_at 24 8 text
 
 -- what is to stand there
-abbrev pub wanted : Geometry → HeaderField → ℕ
-wanted g Magic = magic
-wanted g Layout = number_of g.layout
-wanted g Bsize = g.bsize
-wanted g Node = g.node
-wanted g Cells = g.cells
-wanted g Reserved = 0
+abbrev pub wanted : Version → Geometry → HeaderField → ℕ
+wanted v g Magic = magic_of v
+wanted v g Layout = number_of g.layout
+wanted v g Bsize = g.bsize
+wanted v g Node = g.node
+wanted v g Cells = g.cells
+wanted v g Reserved = 0
 
 -- the order in which fields are looked at
 abbrev pub place : HeaderField → ℕ
@@ -45,15 +47,15 @@ place Node = 3
 place Cells = 4
 place Reserved = 5
 
--- the header is the geometry's, with any fence
-abbrev pub Agrees : Geometry → List ℕ → Type 0
-Agrees g text = (field : HeaderField) → value_at text field ≡ wanted g field
+-- the header is the geometry's in a version, with any fence
+abbrev pub Agrees : Version → Geometry → List ℕ → Type 0
+Agrees v g text = (field : HeaderField) → value_at text field ≡ wanted v g field
 
 -- the first field that differs, and what stands there
-pub record FirstDiffers (g : Geometry) (text : List ℕ) (field : HeaderField) (value : ℕ) : Type 0 where
+pub record FirstDiffers (v : Version) (g : Geometry) (text : List ℕ) (field : HeaderField) (value : ℕ) : Type 0 where
   pub found : value ≡ value_at text field
-  pub differs : value ≢ wanted g field
-  pub before : (other : HeaderField) → place other < place field → value_at text other ≡ wanted g other
+  pub differs : value ≢ wanted v g field
+  pub before : (other : HeaderField) → place other < place field → value_at text other ≡ wanted v g other
 
 -- a slot begins with this head, of the geometry's layout and block size, or with a zero stamp
 abbrev pub ReadsHead : Geometry → List ℕ → Option Head → Type 0
@@ -167,24 +169,24 @@ CellsFault g text Unformatted = ⊥
 CellsFault g text (BadHeader field value) = ⊥
 
 -- the first field of a header that differs
-abbrev pub FieldFault : Geometry → List ℕ → OpenFault → Type 0
-FieldFault g text (BadHeader field value) = FirstDiffers g text field value
-FieldFault g text (Damaged cell) = ⊥
-FieldFault g text DiskFault = ⊥
-FieldFault g text NoMemory = ⊥
-FieldFault g text (WrongSize have need) = ⊥
-FieldFault g text Unformatted = ⊥
-FieldFault g text (Twice first second) = ⊥
+abbrev pub FieldFault : Version → Geometry → List ℕ → OpenFault → Type 0
+FieldFault v g text (BadHeader field value) = FirstDiffers v g text field value
+FieldFault v g text (Damaged cell) = ⊥
+FieldFault v g text DiskFault = ⊥
+FieldFault v g text NoMemory = ⊥
+FieldFault v g text (WrongSize have need) = ⊥
+FieldFault v g text Unformatted = ⊥
+FieldFault v g text (Twice first second) = ⊥
 
 -- why a header was not read
-abbrev pub HeaderFault : Geometry → List ℕ → OpenFault → Type 0
-HeaderFault g text (BadHeader field value) = IsFormatted text × FirstDiffers g text field value
-HeaderFault g text Unformatted = ¬ IsFormatted text
-HeaderFault g text DiskFault = Unit {0}
-HeaderFault g text (Damaged cell) = ⊥
-HeaderFault g text NoMemory = ⊥
-HeaderFault g text (WrongSize have need) = ⊥
-HeaderFault g text (Twice first second) = ⊥
+abbrev pub HeaderFault : Version → Geometry → List ℕ → OpenFault → Type 0
+HeaderFault v g text (BadHeader field value) = IsFormatted text × FirstDiffers v g text field value
+HeaderFault v g text Unformatted = ¬ IsFormatted text
+HeaderFault v g text DiskFault = Unit {0}
+HeaderFault v g text (Damaged cell) = ⊥
+HeaderFault v g text NoMemory = ⊥
+HeaderFault v g text (WrongSize have need) = ⊥
+HeaderFault v g text (Twice first second) = ⊥
 
 -- the fault is not of the size
 abbrev pub NotSize : OpenFault → Type 0
@@ -212,10 +214,10 @@ Refuses g text NoMemory = Unit {0}
 Refuses g text (WrongSize have need) = (have ≡ length text) × (need ≡ disk_bytes g) × (have ≢ need)
 Refuses g text DiskFault = length text ≡ disk_bytes g
 Refuses g text Unformatted = (length text ≡ disk_bytes g) × (¬ IsFormatted text)
-Refuses g text (BadHeader field value) = (length text ≡ disk_bytes g) × IsFormatted text × FirstDiffers g text field value
+Refuses g text (BadHeader field value) = (length text ≡ disk_bytes g) × IsFormatted text × FirstDiffers Two g text field value
 Refuses g text (Damaged cell) =
-    (length text ≡ disk_bytes g) × IsFormatted text × Agrees g text
+    (length text ≡ disk_bytes g) × IsFormatted text × Agrees Two g text
     × (CellRefused g text cell (Damaged cell)
     ⊎ ((cell < 2 * g.cells) × ((heads : List (Option Head)) × FineTo g text heads cell × Unreadable g (picked g text cell))))
 Refuses g text (Twice first second) =
-    (length text ≡ disk_bytes g) × IsFormatted text × Agrees g text × CellRefused g text second (Twice first second)
+    (length text ≡ disk_bytes g) × IsFormatted text × Agrees Two g text × CellRefused g text second (Twice first second)

@@ -5,12 +5,22 @@ use Rattle.rz_events.specs.declared.records.Head.{Head}
 use Rattle.rz_record.specs.Fields.{number_at}
 use Rattle.rz_record.specs.Slot.{Rec, Reads}
 use Rattle.rz_cells.specs.declared.geometry.Geometry.{Geometry}
+use Rattle.rz_cells.specs.declared.geometry.Version.{Version}
+use Rattle.rz_cells.specs.declared.geometry.Version.TheVariants.{One, Two}
 use Rattle.rz_cells.specs.Held.{Records, Made, changed, in_cell}
 use Rattle.rz_cells.specs.Shape.{disk_bytes, picked}
 
 -- what the first 8 bytes are as a number
 unfoldable pub magic : ℕ
 magic = number_at 0 8 (codes "MJROZO02")
+
+-- and in version 1
+unfoldable pub old_magic : ℕ
+old_magic = number_at 0 8 (codes "MJROZO01")
+
+abbrev pub magic_of : Version → ℕ
+magic_of One = old_magic
+magic_of Two = magic
 
 -- the header's gate is open
 abbrev pub IsFormatted : List ℕ → Type 0
@@ -20,15 +30,18 @@ IsFormatted text = slice_index text 32 % 2 ≡ 1
 abbrev pub IsShut : List ℕ → Type 0
 IsShut text = slice_index text 32 % 2 ≡ 0
 
--- the header of a geometry and a fence, before its gate
-pub record IsHeader (g : Geometry) (fence : ℕ) (text : List ℕ) : Type 0 where
-  pub magic_is : number_at 0 8 text ≡ magic
+-- the header of a geometry and a fence in a version, before its gate
+pub record IsHeaderOf (v : Version) (g : Geometry) (fence : ℕ) (text : List ℕ) : Type 0 where
+  pub magic_is : number_at 0 8 text ≡ magic_of v
   pub layout : slice_index text 8 ≡ number_of g.layout
   pub bsize : slice_index text 9 ≡ g.bsize
   pub node : number_at 10 2 text ≡ g.node
   pub cells : number_at 12 4 text ≡ g.cells
   pub fence_is : number_at 16 8 text ≡ fence
   pub reserved : number_at 24 8 text ≡ 0
+
+abbrev pub IsHeader : Geometry → ℕ → List ℕ → Type 0
+IsHeader g fence text = IsHeaderOf Two g fence text
 
 -- a record of the geometry's layout and block size, or none
 abbrev pub Suits : Geometry → Option Rec → Type 0

@@ -217,7 +217,7 @@ impl<D: Disk> Cells<D> {
 }
 
 /// Writes a record into the front of a buffer, and answers its size.
-fn spell(head: &Head, bins: &[u64], buffer: &mut Vec<u8>) -> usize
+pub fn spell(head: &Head, bins: &[u64], buffer: &mut Vec<u8>) -> usize
     requires valid { IsValid head.now }
     requires bins { length bins.now ≡ bins_of head.now }
     requires room { record_bytes head.now ≤ length buffer.old.items }
@@ -241,7 +241,7 @@ fn spell_into(head: &Head, bins: &[u64], out: &mut [u8]) -> usize
 }
 
 /// Reads so many bins from an address on.
-fn read_bins<D: Disk>(
+pub fn read_bins<D: Disk>(
     disk: &mut D,
     at: u64,
     buffer: &mut Vec<u8>,

@@ -7,14 +7,12 @@ ghost use Rattle.rz_cells.specs.Shape.{IsGeometry, disk_bytes};
 ghost use Rattle.rz_cells.specs.Stands.{IsFresh, IsShut, ShutOrFresh, StandsFor, IsHeader};
 ghost use Rattle.rz_cells.specs.Open.{IsOpen};
 
+use crate::geometry::Version;
 use crate::room::{Room, empty};
 use crate::{Cells, Geometry};
 use rz_disk::{Disk, DiskError, Failed, store};
 use rz_record::fields::{put_u16, put_u32, put_u64};
 use std::alloc::Global;
-
-/// The text MJROZO02 as a number.
-pub const MAGIC: u64 = 0x3230_4f5a_4f52_4a4d;
 
 /// Why a disk was not formatted.
 #[derive(Clone, Copy, Debug, PartialEq, Eq, Drop)]
@@ -159,11 +157,11 @@ fn write_header<D: Disk>(disk: &mut D, geometry: &Geometry, fence: u64) -> Resul
 }
 
 /// The header without its gate.
-fn spell_header(geometry: &Geometry, fence: u64, out: &mut [u8])
+pub fn spell_header(geometry: &Geometry, fence: u64, out: &mut [u8])
     requires { length out.old ≡ 32 }
     ensures { IsHeader geometry.now fence out.new }
 {
-    put_u64(out, 0, MAGIC);
+    put_u64(out, 0, Version::Two.magic());
     out[8] = geometry.layout.number();
     out[9] = geometry.bsize;
     put_u16(out, 10, geometry.node);

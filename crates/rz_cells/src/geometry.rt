@@ -1,10 +1,31 @@
 //! How a disk is laid out.
 ghost use Rattle.std.specs.Prelude.{◌≡◌, ◌+◌, ◌*◌, ◌^◌, ◌<◌, ◌≤◌};
+ghost use Rattle.rz_cells.specs.Stands.{magic_of};
 
 use rz_events::Layout;
 
 /// The bytes of the header.
 pub const HEADER_BYTES: u64 = 64;
+
+/// The forms of a disk: one cell where there is now a pair, and pairs.
+#[derive(Clone, Copy, Debug, PartialEq, Eq, Drop)]
+pub enum Version {
+    One,
+    Two,
+}
+
+impl Version {
+    /// The text MJROZO01, or MJROZO02, as a number.
+    #[tactic(auto, using(crate::proofs::Magic::magic_is, crate::proofs::Magic::old_magic_is))]
+    pub fn magic(self) -> u64
+        ensures { result ≡ magic_of self }
+    {
+        match self {
+            Version::One => 0x3130_4f5a_4f52_4a4d,
+            Version::Two => 0x3230_4f5a_4f52_4a4d,
+        }
+    }
+}
 
 /// The layout of a node's records, the node, and its pairs of cells, 1 to 1,048,576.
 #[derive(Clone, Copy, Debug, PartialEq, Eq, Drop)]

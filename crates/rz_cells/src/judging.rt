@@ -1,8 +1,8 @@
 //! Whether a head may stand behind others.
-ghost use Rattle.std.specs.Prelude.{◌≡◌, ◌≢◌, ◌⊎◌, ◌↔◌, ◌/◌, ◌+◌, ◌<◌, ◌≤◌, ℕ, false, IsTrue, OnOk, IfErr, length, Some, slice_set};
-ghost use Rattle.std.specs.HashMap.{spare};
+ghost use Rattle.std.specs.Prelude.{◌≡◌, ◌≢◌, ◌⊎◌, ◌↔◌, ◌/◌, ◌+◌, ◌<◌, ◌≤◌, ℕ, false, IsTrue, OnOk, IfErr, length, Some, None, slice_set};
+ghost use Rattle.std.specs.HashMap.{get, spare};
 ghost use Rattle.rz_events.specs.declared.records.Head.{Head};
-ghost use Rattle.rz_cells.specs.Opening.{GoesNext, KnowsFirsts, NoOtherKey, Notes, OtherKey, Wrong};
+ghost use Rattle.rz_cells.specs.Opening.{GoesNext, KnowsFirsts, NoOtherKey, Notes, OtherKey, Wrong, same_key};
 
 use rz_events::{Head, OpenFault};
 use std::collections::HashMap;
@@ -57,6 +57,29 @@ fn judge(heads: &[Option<Head>], firsts: &Firsts, cell: u32, head: &Head) -> Res
         first,
         second: cell,
     })
+}
+
+/// Notes what was read of a cell, where its key stands in no earlier one.
+pub fn note_once(firsts: &mut Firsts, cell: u32, head: &Option<Head>) -> Result<(), OpenFault>
+    requires { 0 < spare firsts.old }
+    ensures none { OnOk result (head.now ≡ None → firsts.new ≡ firsts.old) }
+    ensures some { OnOk result ((h : Head) → head.now ≡ Some h → (get same_key firsts.old (h.key.fid, h.key.block) ≡ None) × Notes firsts.old firsts.new h.key cell) }
+    ensures twice { IfErr result (λ e. (h : Head) × (first : ℕ) × (head.now ≡ Some h) × (get same_key firsts.old (h.key.fid, h.key.block) ≡ Some first) × (e ≡ OpenFault.Twice first cell)) }
+    ensures spare { spare firsts.old ≤ spare firsts.new + 1 }
+{
+    let Some(head) = head else {
+        return Ok(());
+    };
+    match firsts.get(&(head.key.fid, head.key.block)).copied() {
+        Some(first) => Err(OpenFault::Twice {
+            first,
+            second: cell,
+        }),
+        None => {
+            note(firsts, cell, head);
+            Ok(())
+        }
+    }
 }
 
 /// Notes the cell as the first of the head's key, where none was.

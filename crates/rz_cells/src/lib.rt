@@ -10,18 +10,25 @@
 //! what the images of the disk stand for. They say nothing of a disk that swaps old contents in, and
 //! nothing of what an untold disk holds.
 //!
+//! A disk of version 1, with one cell where there is now a pair, is carried over onto a new disk. The old
+//! disk is only read, and the gate of the new one's header is opened last, so that a stop leaves the old
+//! disk whole, and the new one is opened exactly where it is whole.
+//!
 //! A change makes four device calls, and a read of bins one. An opening reads the header, the gates and
 //! 48 bytes of each cell, and looks up each record's key once. Open cells can crash their disk, read it
 //! anew and make it anew, and keep what they know where that fails.
 //!
 //! In reading order: `geometry`, `room`, `switching`, `cells`, `formatting`, `judging`, `reading`,
-//! `opening`.
+//! `opening`, `old`, `copying`, `migrating`.
 #![tactic(auto)]
 
 mod cells;
+mod copying;
 mod formatting;
 mod geometry;
 mod judging;
+mod migrating;
+mod old;
 mod opening;
 mod reading;
 mod room;
@@ -32,4 +39,5 @@ mod tests;
 pub use cells::{Cells, DiskFault};
 pub use formatting::FormatFault;
 pub use geometry::Geometry;
+pub use migrating::MigrateFault;
 pub use rz_events::{HeaderField, OpenFault};

@@ -10,7 +10,7 @@ ghost use Rattle.rz_cells.specs.Stands.{StandsFor};
 ghost use Rattle.rz_cells.specs.Open.{Finds, IsOpen};
 ghost use Rattle.rz_cells.specs.Opening.{NotSize, OnlyRead, Refuses, opening_calls};
 
-use crate::geometry::HEADER_BYTES;
+use crate::geometry::{HEADER_BYTES, Version};
 use crate::judging::Firsts;
 use crate::reading::{read_header, read_heads};
 use crate::room::Room;
@@ -196,7 +196,7 @@ fn read_all<D: Disk>(
     let Ok(()) = disk.sync() else {
         return Err(OpenFault::DiskFault);
     };
-    let fence = read_header(disk, geometry)?;
+    let fence = read_header(disk, geometry, Version::Two)?;
     let Room {
         gates,
         heads,

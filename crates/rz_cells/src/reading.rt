@@ -6,23 +6,27 @@ ghost use Rattle.rz_disk.specs.Meter.{Took, Rises, HasPasses, faults};
 ghost use Rattle.rz_record.specs.Record.{IsValid};
 ghost use Rattle.rz_cells.specs.Held.{in_cell};
 ghost use Rattle.rz_cells.specs.Shape.{IsGeometry, disk_bytes, picked, gate_at};
-ghost use Rattle.rz_cells.specs.Stands.{IsHeader, IsFormatted};
+ghost use Rattle.rz_cells.specs.Stands.{IsHeaderOf, IsFormatted};
 ghost use Rattle.rz_cells.specs.Open.{Knows};
 ghost use Rattle.rz_cells.specs.Opening.{Agrees, CellFault, CellsFault, FieldFault, FitTo, HeaderFault, NotSize, OnlyRead, ReadTo, ReadsHead};
 
 use crate::Geometry;
-use crate::formatting::MAGIC;
+use crate::geometry::Version;
 use crate::judging::{Firsts, admit};
 use rz_disk::Disk;
 use rz_events::{Head, HeaderField, OpenFault};
 use rz_record::fields::{u16_at, u32_at, u64_at};
 use rz_record::{HEAD_BYTES, RecordFault, head_of};
 
-/// The fence of a header that is the geometry's.
-pub fn read_header<D: Disk>(disk: &mut D, geometry: &Geometry) -> Result<u64, OpenFault>
+/// The fence of a header that is the geometry's, in this version.
+pub fn read_header<D: Disk>(
+    disk: &mut D,
+    geometry: &Geometry,
+    version: Version,
+) -> Result<u64, OpenFault>
     requires size { 64 ≤ length (D.text disk.old) }
-    ensures ok { IfOk result (λ fence. IsTrue D.tells → IsHeader geometry.now fence (D.text disk.old) × IsFormatted (D.text disk.old)) }
-    ensures refused { IfErr result (λ e. IsTrue D.tells → HeaderFault geometry.now (D.text disk.old) e) }
+    ensures ok { IfOk result (λ fence. IsTrue D.tells → IsHeaderOf version geometry.now fence (D.text disk.old) × IsFormatted (D.text disk.old)) }
+    ensures refused { IfErr result (λ e. IsTrue D.tells → HeaderFault version geometry.now (D.text disk.old) e) }
     ensures not_size { IfErr result NotSize }
     ensures read { OnlyRead (D.text disk.old) (D.text disk.new) (D.image disk.old) (D.image disk.new) (D.meter disk.old) (D.meter disk.new) }
     ensures took { Took 1 result (D.meter disk.old) (D.meter disk.new) }
@@ -36,18 +40,17 @@ pub fn read_header<D: Disk>(disk: &mut D, geometry: &Geometry) -> Result<u64, Op
     if header[32] % 2 == 0 {
         return Err(OpenFault::Unformatted);
     }
-    check_fields(&header, geometry)?;
+    check_fields(&header, geometry, version)?;
     Ok(u64_at(&header, 16))
 }
 
-/// Whether the fields of a header are the geometry's.
-#[tactic(auto, using(crate::proofs::Magic::magic_is))]
-fn check_fields(header: &[u8], geometry: &Geometry) -> Result<(), OpenFault>
+/// Whether the fields of a header are the version's and the geometry's.
+fn check_fields(header: &[u8], geometry: &Geometry, version: Version) -> Result<(), OpenFault>
     requires { 32 ≤ length header.now }
-    ensures ok { OnOk result (Agrees geometry.now header.now) }
-    ensures err { IfErr result (FieldFault geometry.now header.now) }
+    ensures ok { OnOk result (Agrees version geometry.now header.now) }
+    ensures err { IfErr result (FieldFault version geometry.now header.now) }
 {
-    check(HeaderField::Magic, u64_at(header, 0), MAGIC)?;
+    check(HeaderField::Magic, u64_at(header, 0), version.magic())?;
     check(
         HeaderField::Layout,
         header[8] as u64,
@@ -146,7 +149,7 @@ fn read_head<D: Disk>(
 }
 
 /// The head that the bytes begin with, if there is one of this geometry, or that there is none.
-fn find(bytes: &[u8], geometry: &Geometry) -> Option<Option<Head>>
+pub fn find(bytes: &[u8], geometry: &Geometry) -> Option<Option<Head>>
     requires { length bytes.now ≡ 48 }
     ensures some { IfSome result (ReadsHead geometry.now bytes.now) }
     ensures none { IfNone result ((o : Option Head) → ReadsHead geometry.now bytes.now o → ⊥) }

@@ -1,8 +1,7 @@
 -- Each field stays as it was written, since all later ones stand behind it.
-use Rattle.std.proofs.Common.{◌≡◌, ℕ, List, length, take, set, sym, ◌∙◌, arith, length-set}
+use Rattle.std.proofs.Common.{◌≡◌, ℕ, List, length, take, set, ◌∙◌, arith, length-set}
 use Rattle.std.proofs.lemmas.List.{get_or-set_same, take-set-le}
 use Rattle.rz_record.proofs.Codec.{lower, number_at-front, byte-front}
-use Rattle.rz_cells.proofs.Magic.{magic_is}
 use Rattle.rz_cells.proofs.formatting.spell_header.Goals as goal
 
 pub returns : goal.returns
@@ -23,7 +22,7 @@ returns c =
     let z9 : take 9 z ≡ take 9 b8 = lower 9 10 z b9 z10 (omega arith) ∙ take-set-le 9 b8 9 g.bsize (omega arith) in
     let z8 : take 8 z ≡ take 8 a = lower 8 9 z b8 z9 (omega arith) ∙ take-set-le 8 a 8 c.number.result (omega arith) in
     record {
-      magic_is = number_at-front 0 8 8 z a z8 (omega arith) ∙ c.put_u64.ensures.there ∙ sym magic_is;
+      magic_is = number_at-front 0 8 8 z a z8 (omega arith) ∙ c.put_u64.ensures.there ∙ c.magic.ensures;
       layout = byte-front 8 9 z b8 z9 (omega arith) ∙ get_or-set_same a 8 c.number.result 0 (omega arith) ∙ c.number.ensures.value;
       bsize = byte-front 9 10 z b9 z10 (omega arith) ∙ get_or-set_same b8 9 g.bsize 0 (omega (arith, long8));
       node = number_at-front 10 2 12 z w z12 (omega arith) ∙ c.put_u16.ensures.there;

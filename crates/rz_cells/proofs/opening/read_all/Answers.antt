@@ -4,6 +4,7 @@ use Rattle.std.proofs.lemmas.List.{with_items_is}
 use Rattle.rz_disk.specs.Images.{window}
 use Rattle.rz_disk.specs.Meter.{Rises}
 use Rattle.rz_disk.proofs.Passes.{took_one, took_then}
+use Rattle.rz_cells.specs.declared.geometry.Version.TheVariants.{Two}
 use Rattle.rz_cells.specs.Open.{Knows}
 use Rattle.rz_cells.specs.Shape.{disk_bytes}
 use Rattle.rz_cells.specs.Stands.{IsHeader, IsFormatted}
@@ -32,7 +33,7 @@ returns-in_err-heads-clause-refused g c =
     let bad : IsTrue g.D.Disk.tells → Refuses s text c.in_err-heads.field-0.0 = λ told.
     let header = subst (λ (t : List ℕ). IsHeader s c.in_ok-fence.fence t × IsFormatted t) c.sync.ensures.text (c.in_ok-fence.ensures.ok told) in
     let same = c.read.ensures.text ∙ c.read_header.ensures.read.same ∙ c.sync.ensures.text in
-    cells_refuse s text size header.1 (agrees_of s c.in_ok-fence.fence text header.0) c.in_err-heads.field-0.0
+    cells_refuse s text size header.1 (agrees_of Two s c.in_ok-fence.fence text header.0) c.in_err-heads.field-0.0
     (subst (λ (t : List ℕ). CellsFault s t c.in_err-heads.field-0.0) same (c.in_err-heads.ensures.refused told)) in
     search rules
 

@@ -1,5 +1,5 @@
 -- The record of the cell fits its slot.
-use Rattle.std.proofs.Common.{rules, IsErr, OnErr, Result, Ok, Err, refl, ◌≡◌, ◌+◌, ◌*◌, ◌%◌, ◌<◌, ℕ, Option, Some, None, List, ◌++◌, length, drop, get_or, sym, ◌∙◌, ap, subst, arith}
+use Rattle.std.proofs.Common.{rules, IsErr, OnErr, Result, Ok, Err, refl, ◌≡◌, ◌+◌, ◌*◌, ◌%◌, ℕ, Option, Some, List, ◌++◌, length, drop, get_or, sym, ◌∙◌, ap, subst, arith}
 use Rattle.std.proofs.lemmas.List.{get_or_read, length-take-le, take_at, take-append-drop}
 use Rattle.byteorder.specs.Endian.{IsRead, little_number}
 use Rattle.mj_angles.specs.Layout.{bins_at_of}
@@ -8,13 +8,9 @@ use Rattle.rz_events.specs.declared.records.Head.{Head}
 use Rattle.rz_record.specs.Record.{bins_of}
 use Rattle.rz_cells.specs.Held.{in_cell}
 use Rattle.rz_cells.proofs.Bins.{bins_here}
-use Rattle.rz_cells.proofs.Made.{has_head}
+use Rattle.rz_cells.proofs.Made.{has_head, stands_there}
 use Rattle.rz_cells.proofs.Lifts.{fits_slot, heads_are, open_same}
 use Rattle.rz_cells.proofs.cells.Cells.bins_into.Goals as goal
-
--- what a read of a list gives is what stands there
-stands_there : {A : Type 0} (xs : List (Option A)) (i n : ℕ) (x : Option A) (a : A) → i < n → length xs ≡ n → x ≡ get_or xs i x → x ≡ Some a → in_cell xs i ≡ Some a
-stands_there xs i n x a lt long is some = sym (get_or_read xs i x (omega arith) is None) ∙ some
 
 on_err : {T E : Type 0} {P : Type 0} (result : Result T E) → P → OnErr result P
 on_err (Ok x) p = tt

@@ -1,10 +1,10 @@
 -- What was read makes open cells, and a refusal before the first device call leaves all as it was.
-use Rattle.std.proofs.Common.{rules, ◌≡◌, ℕ, ◌*◌, List, Result, Err, IfErr, length, sym, subst}
+use Rattle.std.proofs.Common.{rules, ◌≡◌, ℕ, ◌*◌, List, Err, length, subst}
 use Rattle.std.proofs.Math.Nat.{ℕ_set}
 use Rattle.rz_cells.specs.declared.cells.Cells.{Cells}
 use Rattle.rz_cells.specs.Shape.{IsGeometry, slot_of}
 use Rattle.rz_cells.specs.Open.{Finds}
-use Rattle.rz_cells.proofs.Refused.{finds_of, only_faults, stands_of, geometry_prop}
+use Rattle.rz_cells.proofs.Refused.{finds_of, only_faults, on_fault, stands_of, geometry_prop}
 use Rattle.rz_cells.proofs.cells.Cells.open_again.Given.{Over}
 use Rattle.rz_cells.proofs.cells.Cells.open_again.Goals as goal
 
@@ -19,10 +19,6 @@ returns-clause-found g c told =
     let s = c.args.self.now.geometry in
     subst (λ (t : List ℕ). Finds s t c.in_ok-fence.fence c.in_ok-fence.room.heads.items) c.in_ok-fence.ensures.read.same
     (finds_of s (g.D.Disk.text c.read_disk.new.disk) c.in_ok-fence.fence c.in_ok-fence.room.heads.items (c.in_ok-fence.ensures.open.holds told))
-
--- what is true of a fault is true of the result that has it
-on_fault : {T E : Type 0} (r : Result T E) (e : E) (P : E → Type 0) → r ≡ Err e → P e → IfErr r P
-on_fault r e P is holds = subst (λ (q : Result _ _). IfErr q P) (sym is) holds
 
 -- cells of which only the disk may differ are the same where it is
 remade : (g : Over) (s : Cells g.row.D.Denot g.D.Disk) (disk : g.row.D.Denot) (a : IsGeometry s.geometry) (b : length s.gates.items ≡ 2 * s.geometry.cells) (c : length s.heads.items ≡ 2 * s.geometry.cells) (d : length s.buffer.items ≡ slot_of s.geometry) → disk ≡ s.disk

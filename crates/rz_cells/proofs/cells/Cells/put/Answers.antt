@@ -1,22 +1,11 @@
 -- The bytes of a record spell it in the slot.
-use Rattle.std.proofs.Common.{◌≡◌, ◌-◌, ◌%◌, ℕ, Some, List, length, take, set, sym, ◌∙◌, subst, arith}
-use Rattle.std.proofs.lemmas.List.{length-take-le}
+use Rattle.std.proofs.Common.{◌≡◌, ◌-◌, ◌%◌, Some, set, ◌∙◌, arith}
 use Rattle.rz_events.specs.declared.records.Head.{Head}
-use Rattle.rz_record.specs.Record.{IsValid, IsRecord, record_bytes}
-use Rattle.rz_record.specs.Slot.{Rec, Spells}
-use Rattle.rz_record.proofs.Laws.{record-spells}
-use Rattle.rz_cells.specs.declared.geometry.Geometry.{Geometry}
+use Rattle.rz_record.specs.Record.{IsValid}
+use Rattle.rz_record.specs.Slot.{Rec}
 use Rattle.rz_cells.specs.Held.{Goes}
-use Rattle.rz_cells.specs.Shape.{slot_of}
-use Rattle.rz_cells.proofs.Lifts.{fits_slot, some_is, suits_one, stands_either, stands_changed, open_after}
+use Rattle.rz_cells.proofs.Lifts.{fits_slot, some_is, spelled, suits_one, stands_either, stands_changed, open_after}
 use Rattle.rz_cells.proofs.cells.Cells.put.Goals as goal
-
--- the front of the buffer spells the record
-spelled : (g : Geometry) (r : Rec) (size : ℕ) (buffer bytes : List ℕ) → IsValid r.head → r.head.layout ≡ g.layout → size ≡ record_bytes r.head → length buffer ≡ slot_of g → IsRecord (take size buffer) r.head r.bins → bytes ≡ buffer → Spells (slot_of g) (take size bytes) (Some r)
-spelled g r size buffer bytes valid layout is long rec same =
-    let room = fits_slot g r.head valid layout in
-    subst (λ (l : List ℕ). Spells (slot_of g) (take size l) (Some r)) (sym same)
-    (record-spells (slot_of g) (take size buffer) r rec (length-take-le size buffer (omega (arith, room, is, long)) ∙ is) room)
 
 pub spell-size-requires-clause-room : goal.spell-size-requires-clause-room
 spell-size-requires-clause-room g c =

@@ -1,0 +1,23 @@
+-- Both disks hold the same cells.
+use Rattle.std.proofs.Common.{sym, subst}
+use Rattle.rz_cells.specs.Old.{CarriesOver}
+use Rattle.rz_cells.proofs.Carried.{carried, found, over}
+use Rattle.rz_cells.proofs.OldOpened.{only_old_faults}
+use Rattle.rz_cells.proofs.cells.Cells.migrate.Goals as goal
+
+pub returns-in-Ok-clause-carried : goal.returns-in-Ok-clause-carried
+returns-in-Ok-clause-carried g c told =
+    carried c.args.geometry c.in-Ok.fence (g.D.Disk.text c.args.old.now) (g.D.Disk.text c.carry.new.new) (c.in-Ok.ensures.pairs told)
+
+pub returns-in-Ok-clause-found : goal.returns-in-Ok-clause-found
+returns-in-Ok-clause-found g c told =
+    found c.args.geometry c.in-Ok.fence (g.D.Disk.text c.args.old.now) (g.D.Disk.text c.carry.new.new) (c.in-Ok.ensures.pairs told)
+
+pub returns-in-Ok-clause-crash : goal.returns-in-Ok-clause-crash
+returns-in-Ok-clause-crash g c told t left =
+    subst (CarriesOver c.args.geometry (g.D.Disk.text c.args.old.now)) (sym (c.in-Ok.ensures.open.settled t left))
+    (over c.args.geometry c.in-Ok.fence (g.D.Disk.text c.args.old.now) (g.D.Disk.text c.carry.new.new) (c.in-Ok.ensures.pairs told))
+
+pub returns-in-Err-clause-exact : goal.returns-in-Err-clause-exact
+returns-in-Err-clause-exact g c fault is told fence held stands =
+    only_old_faults c.args.geometry fence (g.D.Disk.text c.args.old.now) held stands fault (c.in-Err.ensures.old_fault fault is told)

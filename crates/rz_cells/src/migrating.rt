@@ -1,0 +1,195 @@
+//! An old disk carried over onto a new one.
+ghost use Rattle.std.specs.Prelude.{◌≡◌, ◌≢◌, ◌⊎◌, ◌+◌, ◌*◌, ◌≤◌, ℕ, List, Option, None, length, slice_index, IsTrue, IsErrOf, OnErr, IfOk, IfErr, MatchResult};
+ghost use Rattle.std.specs.HashMap.{IsEmpty, spare};
+ghost use Rattle.mj_angles.specs.Layout.{bsize_of};
+ghost use Rattle.rz_disk.specs.Images.{Within};
+ghost use Rattle.rz_disk.specs.Meter.{Lasts, Rises, faults};
+ghost use Rattle.rz_record.specs.Slot.{Rec};
+ghost use Rattle.rz_cells.specs.Held.{in_cell, Apart, Records, heads_of};
+ghost use Rattle.rz_cells.specs.Shape.{IsGeometry, slot_of};
+ghost use Rattle.rz_cells.specs.Stands.{IsShut, StandsFor};
+ghost use Rattle.rz_cells.specs.Open.{IsOpen};
+ghost use Rattle.rz_cells.specs.Copied.{HoldsBoth};
+ghost use Rattle.rz_cells.specs.Opening.{NotSize, OnlyRead};
+ghost use Rattle.rz_cells.specs.Old.{CarriesOver, HoldsOld, OldStandsFor, old_disk_bytes, paired};
+ghost use Rattle.rz_cells.specs.OldOpening.{OldRefuses};
+
+use crate::copying::{copy, pair_up};
+use crate::judging::Firsts;
+use crate::old::{OldCells, open_old};
+use crate::room::Room;
+use crate::{Cells, Geometry};
+use rz_disk::Disk;
+use rz_events::OpenFault;
+use std::alloc::{AllocError, Global};
+use std::collections::HashMap;
+
+/// Why an old disk was not carried over.
+#[derive(Clone, Copy, Debug, PartialEq, Eq, Drop)]
+pub enum MigrateFault {
+    NoMemory,
+    /// The old disk was not opened, or a later read of it failed.
+    Old(OpenFault),
+    /// A call of the new disk failed.
+    New,
+}
+
+impl<D: Disk> Cells<D> {
+    /// Carries a disk of version 1 over: makes the new disk anew, with the fence and the records of
+    /// the old one, each with a base of 0. The geometry's cells are the cells of the old disk, and the
+    /// pairs of the new one. The old disk is only read.
+    ///
+    /// All memory but that of the new disk's reset is taken before a disk is looked at. The new disk
+    /// is not called before the old one is open.
+    pub fn migrate(
+        alloc: Global,
+        geometry: Geometry,
+        old: &mut D,
+        new: D,
+    ) -> Result<Cells<D>, (D, MigrateFault)>
+        requires geometry { IsGeometry geometry }
+        requires small { bsize_of geometry.layout ≡ 0 }
+        ensures open { IfOk result (λ c. IsOpen D.tells (D.text c.disk) (D.image c.disk) c.geometry c.fence c.gates.items c.heads.items) }
+        ensures geometry { IfOk result (λ c. c.geometry ≡ geometry) }
+
+        // The old text stands for a fence and some records, and the new one for these.
+        ensures carried { IfOk result (λ c. IsTrue D.tells → (held : Records) × OldStandsFor geometry c.fence (D.text old.old) held × StandsFor geometry c.fence (D.text c.disk) held) }
+
+        // It stands for no others.
+        ensures found { IfOk result (λ c. IsTrue D.tells → (fence : ℕ) (held : Records) → OldStandsFor geometry fence (D.text old.old) held → (fence ≡ c.fence) × StandsFor geometry c.fence (D.text c.disk) held) }
+
+        // On every exit the old disk is as it was, and each image of the new one is one from before, or its header is
+        // shut, or it stands for the fence and the records of the old one.
+        ensures old_text { D.text old.new ≡ D.text old.old }
+        ensures old_images { Within (D.image old.old) (D.image old.new) }
+        ensures crash { MatchResult result (λ c. IsTrue D.tells → (t : List ℕ) → D.image c.disk t → CarriesOver geometry (D.text old.old) t)
+            (λ e. IsTrue D.tells → (t : List ℕ) → D.image e.0 t → D.image new t ⊎ IsShut t ⊎ CarriesOver geometry (D.text old.old) t) }
+
+        // Each fault of the old disk is the first that its text has.
+        ensures refused { IfErr result (λ e. (fault : OpenFault) → e.1 ≡ MigrateFault.Old fault → IsTrue D.tells → OldRefuses geometry (D.text old.old) fault) }
+
+        // A wrong size is refused as such also of a disk that does not tell what it holds.
+        ensures size { IfErr result (λ e. (fault : OpenFault) → e.1 ≡ MigrateFault.Old fault → NotSize fault ⊎ OldRefuses geometry (D.text old.old) fault) }
+        ensures fits { IfErr result (λ e. (fault : OpenFault) → e.1 ≡ MigrateFault.Old fault → NotSize fault → length (D.text old.old) ≡ old_disk_bytes geometry) }
+
+        // A text that stands for records is refused by a failed device call alone.
+        ensures exact { IfErr result (λ e. (fault : OpenFault) → e.1 ≡ MigrateFault.Old fault → IsTrue D.tells → (fence : ℕ) (held : Records) → OldStandsFor geometry fence (D.text old.old) held → fault ≡ OpenFault.DiskFault) }
+
+        // The new disk is not called where the old one does not open.
+        ensures untouched { IfErr result (λ e. (fault : OpenFault) → e.1 ≡ MigrateFault.Old fault → fault ≢ OpenFault.DiskFault → e.0 ≡ new) }
+        ensures old_meter { Lasts (D.meter old.old) (D.meter old.new) }
+        ensures meter { MatchResult result (λ c. Lasts (D.meter new) (D.meter c.disk)) (λ e. Lasts (D.meter new) (D.meter e.0)) }
+        ensures old_risen { IfErr result (λ e. e.1 ≡ MigrateFault.Old OpenFault.DiskFault → Rises (faults (D.meter old.old)) (faults (D.meter old.new))) }
+        ensures risen { IfErr result (λ e. e.1 ≡ MigrateFault.New → Rises (faults (D.meter new)) (faults (D.meter e.0))) }
+    {
+        let mut disk = new;
+        match carry(alloc, &geometry, old, &mut disk) {
+            Ok((fence, room)) => {
+                let Room {
+                    gates,
+                    heads,
+                    buffer,
+                } = room;
+                Ok(Cells {
+                    disk,
+                    geometry,
+                    fence,
+                    gates,
+                    heads,
+                    buffer,
+                })
+            }
+            Err(fault) => Err((disk, fault)),
+        }
+    }
+}
+
+/// The fence, and the gates and heads of all cells of the new disk in new memory.
+fn carry<D: Disk>(
+    alloc: Global,
+    geometry: &Geometry,
+    old: &mut D,
+    new: &mut D,
+) -> Result<(u64, Room), MigrateFault>
+    requires { IsGeometry geometry.now }
+    ensures open { IfOk result (λ r. IsOpen D.tells (D.text new.new) (D.image new.new) geometry.now r.0 r.1.gates.items r.1.heads.items) }
+    ensures gates { IfOk result (λ r. length r.1.gates.items ≡ 2 * geometry.now.cells) }
+    ensures heads { IfOk result (λ r. length r.1.heads.items ≡ 2 * geometry.now.cells) }
+    ensures buffer { IfOk result (λ r. length r.1.buffer.items ≡ slot_of geometry.now) }
+    ensures pairs { IfOk result (λ r. IsTrue D.tells → HoldsBoth geometry.now r.0 (D.text old.old) (D.text new.new)) }
+    ensures crash { IfErr result (λ e. IsTrue D.tells → (t : List ℕ) → D.image new.new t → D.image new.old t ⊎ IsShut t ⊎ CarriesOver geometry.now (D.text old.old) t) }
+    ensures refused { IfErr result (λ e. (fault : OpenFault) → e ≡ MigrateFault.Old fault → (fault ≡ OpenFault.DiskFault) ⊎ (new.new ≡ new.old)) }
+    ensures old_fault { IfErr result (λ e. (fault : OpenFault) → e ≡ MigrateFault.Old fault → IsTrue D.tells → OldRefuses geometry.now (D.text old.old) fault) }
+    ensures wrong_size { IfErr result (λ e. (fault : OpenFault) → e ≡ MigrateFault.Old fault → NotSize fault ⊎ OldRefuses geometry.now (D.text old.old) fault) }
+    ensures fits { IfErr result (λ e. (fault : OpenFault) → e ≡ MigrateFault.Old fault → NotSize fault → length (D.text old.old) ≡ old_disk_bytes geometry.now) }
+    ensures read { OnlyRead (D.text old.old) (D.text old.new) (D.image old.old) (D.image old.new) (D.meter old.old) (D.meter old.new) }
+    ensures meter { Lasts (D.meter new.old) (D.meter new.new) }
+    ensures old_risen { IsErrOf result (MigrateFault.Old OpenFault.DiskFault) → Rises (faults (D.meter old.old)) (faults (D.meter old.new)) }
+    ensures risen { IsErrOf result MigrateFault.New → Rises (faults (D.meter new.old)) (faults (D.meter new.new)) }
+{
+    let Ok(reserved) = reserve(alloc, geometry) else {
+        return Err(MigrateFault::NoMemory);
+    };
+    let Reserved {
+        room,
+        cells,
+        firsts,
+        bins,
+    } = reserved;
+    let cells = match open_old(old, geometry, cells, firsts) {
+        Ok(cells) => cells,
+        Err(fault) => return Err(MigrateFault::Old(fault)),
+    };
+    let Room {
+        gates,
+        heads,
+        buffer,
+    } = room;
+    let mut heads = heads;
+    let mut buffer = buffer;
+    let mut bins = bins;
+    copy(alloc, geometry, &cells, old, new, &mut buffer, &mut bins)?;
+    pair_up(&cells.heads, &mut heads);
+    Ok((
+        cells.fence,
+        Room {
+            gates,
+            heads,
+            buffer,
+        },
+    ))
+}
+
+/// The memory of a migration.
+#[derive(Drop)]
+struct Reserved {
+    /// Of the new disk.
+    room: Room,
+    /// Of the old disk.
+    cells: OldCells,
+    firsts: Firsts,
+    /// Of one record.
+    bins: Vec<u64>,
+}
+
+fn reserve(alloc: Global, geometry: &Geometry) -> Result<Reserved, AllocError>
+    requires { IsGeometry geometry.now }
+    ensures gates { IfOk result (λ r. length r.room.gates.items ≡ 2 * geometry.now.cells) }
+    ensures shut { IfOk result (λ r. (c : ℕ) → slice_index r.room.gates.items c ≡ 0) }
+    ensures heads { IfOk result (λ r. length r.room.heads.items ≡ 2 * geometry.now.cells) }
+    ensures empty { IfOk result (λ r. (c : ℕ) → in_cell r.room.heads.items c ≡ None) }
+    ensures buffer { IfOk result (λ r. length r.room.buffer.items ≡ slot_of geometry.now) }
+    ensures old_gates { IfOk result (λ r. length r.cells.gates.items ≡ geometry.now.cells) }
+    ensures old_heads { IfOk result (λ r. length r.cells.heads.items ≡ geometry.now.cells) }
+    ensures old_empty { IfOk result (λ r. (c : ℕ) → in_cell r.cells.heads.items c ≡ None) }
+    ensures firsts { IfOk result (λ r. IsEmpty r.firsts) }
+    ensures spare { IfOk result (λ r. geometry.now.cells ≤ spare r.firsts) }
+    ensures bins { IfOk result (λ r. 48 + 8 * length r.bins.items ≡ slot_of geometry.now) }
+{
+    Ok(Reserved {
+        room: Room::new(alloc, geometry)?,
+        cells: OldCells::new(alloc, geometry)?,
+        firsts: HashMap::with_capacity(alloc, geometry.cells as usize)?,
+        bins: Vec::from_elem(alloc, 0, geometry.layout.max_bins())?,
+    })
+}
