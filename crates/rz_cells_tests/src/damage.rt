@@ -52,7 +52,7 @@ fn opened(alloc: Global, geometry: Geometry, bytes: &[u8]) -> Result<Opened, Fai
             let stamps = [stamp_of(cells.head(0)), stamp_of(cells.head(1))];
             Ok((stamps, None))
         }
-        Err((_disk, fault)) => Ok(([0, 0], Some(fault))),
+        Err((_, fault)) => Ok(([0, 0], Some(fault))),
     }
 }
 

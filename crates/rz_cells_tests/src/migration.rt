@@ -104,33 +104,24 @@ fn an_old_disk_is_carried_over(rt: HostRuntime) -> Result<(), Fail> {
         }
     }
     let mut new = cells.into_disk();
-    assert_eq!(rt;
-        bytes_of(rt.alloc(), &mut new)?,
-        new_bytes(rt.alloc())?
-    );
+    assert_eq!(rt; bytes_of(rt.alloc(), &mut new)?, new_bytes(rt.alloc())?);
     assert_eq!(rt; bytes_of(rt.alloc(), &mut old)?, bytes);
     assert!(rt; Cells::reopen(rt.alloc(), THREE, new).is_ok());
     Ok(())
 }
 
-/// The new disk and the fault, where a migration fails.
-fn failed<D: Disk>(alloc: Global, old: &mut D, new: D) -> Option<(D, MigrateFault)> {
-    match Cells::migrate(alloc, THREE, old, new) {
-        Ok(_cells) => None,
-        Err(left) => Some(left),
-    }
-}
-
 /// Why these bytes are not carried over. The new disk stays without bytes.
 fn refused(alloc: Global, bytes: &[u8]) -> Result<Option<MigrateFault>, Fail> {
     let mut old = disk_of(alloc, bytes)?;
-    let Some((new, fault)) = failed(alloc, &mut old, PlainDisk::new(alloc)) else {
-        return Ok(None);
-    };
-    if new.size() == 0 {
-        Ok(Some(fault))
-    } else {
-        Err("the new disk was called")?
+    match Cells::migrate(alloc, THREE, &mut old, PlainDisk::new(alloc)) {
+        Ok(_) => Ok(None),
+        Err((new, fault)) => {
+            if new.size() == 0 {
+                Ok(Some(fault))
+            } else {
+                Err("the new disk was called")?
+            }
+        }
     }
 }
 
@@ -203,10 +194,7 @@ fn an_old_disk_of_another_size_is_refused(rt: HostRuntime) -> Result<(), Fail> {
             need: 12691,
         };
         let part = &bytes[..(797 * have as usize).min(bytes.len())];
-        assert_eq!(rt;
-            refused(rt.alloc(), part)?,
-            Some(MigrateFault::Old(short))
-        );
+        assert_eq!(rt; refused(rt.alloc(), part)?, Some(MigrateFault::Old(short)));
     }
     Ok(())
 }
@@ -224,8 +212,8 @@ fn opened(alloc: Global, new: Fused<PlainDisk>, pick: u64) -> Result<bool, Fail>
     new.crash(pick);
     let cells = match Cells::reopen(alloc, THREE, new) {
         Ok(cells) => cells,
-        Err((_disk, OpenFault::Unformatted)) => return Ok(false),
-        Err(_left) => return Err("refused otherwise")?,
+        Err((_, OpenFault::Unformatted)) => return Ok(false),
+        Err(_) => return Err("refused otherwise")?,
     };
     let mut disk = cells.into_disk();
     let left = bytes_of(alloc, &mut disk)?;
@@ -245,16 +233,16 @@ fn a_stop_of_the_new_disk_leaves_it_whole_or_shut(rt: HostRuntime) -> Result<(),
             let mut old = Fused::new(disk_of(rt.alloc(), &bytes)?);
             let mut new = Fused::new(PlainDisk::new(rt.alloc()));
             new.arm(Some(passes));
-            if let Some((new, fault)) = failed(rt.alloc(), &mut old, new) {
-                assert_eq!(rt; fault, MigrateFault::New);
-                let opens = opened(rt.alloc(), new, pick)?;
-                assert_eq!(rt;
-                    opens,
-                    opens_after(passes, pick),
-                    "passes {passes}, pick {pick}"
-                );
-            } else {
-                assert_eq!(rt; passes, 6);
+            match Cells::migrate(rt.alloc(), THREE, &mut old, new) {
+                Ok(_) => assert_eq!(rt; passes, 6),
+                Err((new, fault)) => {
+                    assert_eq!(rt; fault, MigrateFault::New);
+                    assert_eq!(rt;
+                        opened(rt.alloc(), new, pick)?,
+                        opens_after(passes, pick),
+                        "passes {passes}, pick {pick}"
+                    );
+                }
             }
             assert_eq!(rt; bytes_of(rt.alloc(), &mut old)?, bytes);
         }
@@ -271,14 +259,15 @@ fn a_stop_of_the_old_disk_leaves_it_as_it_is(rt: HostRuntime) -> Result<(), Fail
         let mut old = Fused::new(disk_of(rt.alloc(), &bytes)?);
         old.arm(Some(passes));
         let new = Fused::new(PlainDisk::new(rt.alloc()));
-        if let Some((new, fault)) = failed(rt.alloc(), &mut old, new) {
-            assert_eq!(rt; fault, MigrateFault::Old(OpenFault::DiskFault));
-            assert_eq!(rt; new.size() == 0, passes < 6);
-            if passes >= 6 {
-                assert!(rt; !opened(rt.alloc(), new, 1)?);
+        match Cells::migrate(rt.alloc(), THREE, &mut old, new) {
+            Ok(_) => assert_eq!(rt; passes, 8),
+            Err((new, fault)) => {
+                assert_eq!(rt; fault, MigrateFault::Old(OpenFault::DiskFault));
+                assert_eq!(rt; new.size() == 0, passes < 6);
+                if passes >= 6 {
+                    assert!(rt; !opened(rt.alloc(), new, 1)?);
+                }
             }
-        } else {
-            assert_eq!(rt; passes, 8);
         }
         old.arm(None);
         assert_eq!(rt; bytes_of(rt.alloc(), &mut old)?, bytes);

@@ -25,11 +25,7 @@ fn geometry_for(node: &OldNode) -> Geometry
 }
 
 /// Carries the first of two disks over onto the second.
-fn carry_in<D: Disk>(
-    alloc: Global,
-    node: &OldNode,
-    disks: &mut Vec<D>,
-) -> Result<Migrated, Stop>
+fn carry_in<D: Disk>(alloc: Global, node: &OldNode, disks: &mut Vec<D>) -> Result<Migrated, Stop>
     requires two { length disks.old.items ≡ 2 }
     requires rules { IsNode node.now.node }
     requires small { bsize_of node.now.layout ≡ 0 }
