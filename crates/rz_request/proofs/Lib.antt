@@ -1,1 +1,2 @@
 pub mod Stopped
+mod Nodes

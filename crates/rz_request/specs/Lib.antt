@@ -2,3 +2,4 @@ pub mod Causes
 pub mod Refusals
 pub mod Input
 pub mod Requests
+pub mod Migrations

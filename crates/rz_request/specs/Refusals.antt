@@ -16,6 +16,8 @@ status_of refusals.Turns = 8
 status_of refusals.Large = 9
 status_of (refusals.Disks have need) = 10
 status_of (refusals.Disk index) = 11
+status_of (refusals.Node sid) = 12
+status_of (refusals.Old cause) = 13
 
 unfoldable pub script_line : ℕ → ScriptCause → List ℕ
 script_line line cause = codes "refused script " ++ decimal line ++ codes " " ++ script_cause cause ++ codes "\n"
@@ -29,6 +31,12 @@ disks_line have need = codes "refused disks " ++ (decimal have ++ (codes " " ++ 
 unfoldable pub disk_line : ℕ → List ℕ
 disk_line index = codes "refused disk " ++ (decimal index ++ codes "\n")
 
+unfoldable pub node_line : ℕ → List ℕ
+node_line sid = codes "refused node " ++ (decimal sid ++ codes "\n")
+
+unfoldable pub old_line : ℕ → List ℕ
+old_line cause = codes "refused old " ++ (decimal cause ++ codes "\n")
+
 -- the line that says what is refused, and how
 abbrev pub line_of : Refusal → List ℕ
 line_of refusals.Usage = codes "refused usage\n"
@@ -39,3 +47,5 @@ line_of refusals.Turns = codes "refused turns\n"
 line_of refusals.Large = codes "refused large\n"
 line_of (refusals.Disks have need) = disks_line have need
 line_of (refusals.Disk index) = disk_line index
+line_of (refusals.Node sid) = node_line sid
+line_of (refusals.Old cause) = old_line cause

@@ -7,17 +7,22 @@
 //! the line of each refusal, those of a disk and of too many turns too, which come later. It says
 //! nothing of what playing a script comes to, nor that there is memory.
 //!
-//! In reading order: `refusal`, `causes`, `input`, `wishes`, `asking`.
+//! [`migration`] asks for another thing: the node of which an old disk is carried over. It reads a volume
+//! alone.
+//!
+//! In reading order: `refusal`, `causes`, `input`, `wishes`, `asking`, `old`.
 #![tactic(auto)]
 
 mod asking;
 mod causes;
 mod input;
+mod old;
 mod refusal;
 #[cfg(test)]
 mod tests;
 mod wishes;
 
 pub use asking::request;
+pub use old::{OldNode, migration};
 pub use refusal::{Refusal, Stop};
 pub use wishes::{Request, Wish};

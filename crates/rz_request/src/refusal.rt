@@ -1,7 +1,7 @@
 //! Refusals: their statuses and their lines.
 
 ghost use Rattle.std.specs.Prelude.{◌≡◌, IfOk};
-ghost use Rattle.rz_request.specs.Refusals.{line_of, script_line, status_of, volume_line, disks_line, disk_line};
+ghost use Rattle.rz_request.specs.Refusals.{line_of, script_line, status_of, volume_line, disks_line, disk_line, node_line, old_line};
 
 use crate::causes::{script_cause, volume_cause};
 use rz_script::{ScriptCause, VolumeFault};
@@ -24,8 +24,12 @@ pub enum Refusal {
     Large,
     /// There are other disks than the volume has nodes.
     Disks { have: u64, need: u64 },
-    /// A disk failed while it was formatted.
+    /// A disk failed while it was formatted, or carried over.
     Disk { index: u64 },
+    /// The volume has no such node, or other blocks than an old disk.
+    Node { sid: u16 },
+    /// The old disk does not open, for a cause with this number.
+    Old { cause: u8 },
 }
 
 /// Why there is nothing to play.
@@ -81,6 +85,24 @@ fn disk_line(alloc: Global, index: u64) -> Result<Vec<u8>, AllocError>
     Vec::from_slice(alloc, line.as_bytes())
 }
 
+/// The line of a node of which no old disk is carried over.
+#[tactic(auto, unfolding(crate::specs::Refusals::node_line))]
+fn node_line(alloc: Global, sid: u16) -> Result<Vec<u8>, AllocError>
+    ensures { IfOk result (λ l. l.items ≡ node_line sid) }
+{
+    let line = format!(in alloc; "refused node {sid}\n")?;
+    Vec::from_slice(alloc, line.as_bytes())
+}
+
+/// The line of an old disk that does not open.
+#[tactic(auto, unfolding(crate::specs::Refusals::old_line))]
+fn old_line(alloc: Global, cause: u8) -> Result<Vec<u8>, AllocError>
+    ensures { IfOk result (λ l. l.items ≡ old_line cause) }
+{
+    let line = format!(in alloc; "refused old {cause}\n")?;
+    Vec::from_slice(alloc, line.as_bytes())
+}
+
 impl Refusal {
     /// The status with which the program ends.
     pub fn status(&self) -> u8
@@ -95,6 +117,8 @@ impl Refusal {
             Refusal::Large => 9,
             Refusal::Disks { .. } => 10,
             Refusal::Disk { .. } => 11,
+            Refusal::Node { .. } => 12,
+            Refusal::Old { .. } => 13,
         }
     }
 
@@ -111,6 +135,8 @@ impl Refusal {
             Refusal::Large => Vec::from_slice(alloc, b"refused large\n"),
             Refusal::Disks { have, need } => disks_line(alloc, *have, *need),
             Refusal::Disk { index } => disk_line(alloc, *index),
+            Refusal::Node { sid } => node_line(alloc, *sid),
+            Refusal::Old { cause } => old_line(alloc, *cause),
         }
     }
 }

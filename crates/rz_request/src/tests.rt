@@ -76,6 +76,7 @@ fn later_refusals(rt: HostRuntime) -> Result<(), Fail> {
         (Refusal::Long, "7 refused long\n"),
         (Refusal::Turns, "8 refused turns\n"),
         (Refusal::Disk { index: 3 }, "11 refused disk 3\n"),
+        (Refusal::Old { cause: 3 }, "13 refused old 3\n"),
     ] {
         let told = told(rt.alloc(), &refusal)?;
         assert_eq!(rt; told.as_str(), want);

@@ -1,0 +1,9 @@
+use Rattle.std.proofs.Common.{◌≡◌, ◌≤◌, take}
+use Rattle.rz_migrate.specs.Migrations.{records_in}
+use Rattle.rz_migrate.proofs.carrying.count.Given as goal
+
+abbrev pub invariant-loop-cell : goal.invariant-loop-cell
+invariant-loop-cell g l = record {
+  counted : l.records ≡ records_in (take l.cell l.cells.heads.items);
+  few : l.records ≤ l.cell;
+}
