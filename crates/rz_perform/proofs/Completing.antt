@@ -53,6 +53,8 @@ module _ (read : Result Script ScriptError) (disks : ℕ) (s : Script) (wish : W
       let need_is : need ≡ nodes_in s = subst (λ (x : Script). need ≡ nodes_in x) (ok-same read h.0 s h.1 is) h.4 in
       absurd (h.5 (h.3 ∙ fits ∙ sym need_is))
   judged (Err (stops.Refused (refusals.Disk index))) h for = absurd h
+  judged (Err (stops.Refused (refusals.Node sid))) h for = absurd h
+  judged (Err (stops.Refused (refusals.Old cause))) h for = absurd h
 
 module _ (source : Reading) (disks : ℕ) (s : Script) (whole : ¬ Rises source.old source.new) (text : List ℕ) (left : source.before ≡ Some text) (short : length text ≤ limit)
     (means : script forms.Replay text ≡ Ok s) (small : is_large s ≡ false) (fits : disks ≡ nodes_in s) where
@@ -76,6 +78,8 @@ module _ (source : Reading) (disks : ℕ) (s : Script) (whole : ¬ Rises source.
   came-source (Err (stops.Refused refusals.Large)) h for = came-read (Err (stops.Refused refusals.Large)) h for
   came-source (Err (stops.Refused (refusals.Disks have need))) h for = came-read (Err (stops.Refused (refusals.Disks have need))) h for
   came-source (Err (stops.Refused (refusals.Disk index))) h for = came-read (Err (stops.Refused (refusals.Disk index))) h for
+  came-source (Err (stops.Refused (refusals.Node sid))) h for = came-read (Err (stops.Refused (refusals.Node sid))) h for
+  came-source (Err (stops.Refused (refusals.Old cause))) h for = came-read (Err (stops.Refused (refusals.Old cause))) h for
 
 -- What comes of it.
 
