@@ -1,0 +1,115 @@
+-- A node is asked for a record.
+use Rattle.std.proofs.Common.{◌≡◌, ℕ, zero, suc, List, [], ◌∷◌, ◌∙◌, set, Option, Some, None, refl, sym, ap, subst}
+use Rattle.std.specs.Prelude.{Bool, IsTrue, slice_get}
+use Rattle.rz_cells.specs.declared.geometry.Geometry.{Geometry}
+use Rattle.rz_events.specs.declared.keys.Key.{Key}
+use Rattle.rz_events.specs.declared.keys.Actor.TheVariants.{Admin}
+use Rattle.rz_events.specs.declared.records.Held.{Held}
+use Rattle.rz_events.specs.declared.nodes.FetchAnswer.{FetchAnswer}
+use Rattle.rz_events.specs.declared.nodes.FetchAnswer.TheVariants as fetch
+use Rattle.rz_events.specs.declared.nodes.NodeAsk.TheVariants as ask
+use Rattle.rz_events.specs.declared.nodes.NodeAnswer.TheVariants as answer
+use Rattle.rz_events.specs.declared.events.Event.{Event}
+use Rattle.rz_node.specs.Gives.{Gives, IfHeld}
+use Rattle.rz_node_model.specs.States.{NodeState}
+use Rattle.rz_node_model.specs.Afterwards.{after_answer}
+use Rattle.rz_node_model.specs.NodeEvents.{fetch_event}
+use Rattle.rz_scrubbing.specs.Stores.{IsRead}
+use Rattle.rz_driver.specs.declared.station.Station.{Station}
+use Rattle.rz_driver.specs.Administration.{IsOrdered}
+use Rattle.rz_driver.specs.Fetches.{IsFetch, IsFetchedAt, GivesAt, GivesIn}
+use Rattle.rz_driver.specs.Stations.{IsAt}
+use Rattle.rz_driver.proofs.WorldLemmas.{state-at}
+
+-- what a fetch leaves of a node's fence
+fence-after : (given : FetchAnswer) (key : Key) (position stamp : ℕ) (s : NodeState) → (after_answer (ask.Fetch key position stamp) (answer.Fetch given) s).fence ≡ s.fence
+fence-after (fetch.Held told) key position stamp s = refl
+fence-after fetch.Nothing key position stamp s = refl
+fence-after fetch.Lost key position stamp s = refl
+fence-after fetch.Down key position stamp s = refl
+fence-after fetch.DiskFault key position stamp s = refl
+
+-- what is read where a record is told
+pub read-of : {P : Held → List ℕ → List ℕ → Type 0} (given : FetchAnswer) (a b : List ℕ) → IfHeld given (λ told. P told a b) → IsRead P given a b
+read-of (fetch.Held told) a b h = h
+read-of fetch.Nothing a b h = tt
+read-of fetch.Lost a b h = tt
+read-of fetch.Down a b h = tt
+read-of fetch.DiskFault a b h = tt
+
+pub read-then : {P Q : Held → List ℕ → List ℕ → Type 0} → ((told : Held) (a b : List ℕ) → P told a b → Q told a b) → (given : FetchAnswer) (a b : List ℕ) → IsRead P given a b → IsRead Q given a b
+read-then to (fetch.Held told) a b h = to told a b h
+read-then to fetch.Nothing a b h = h
+read-then to fetch.Lost a b h = h
+read-then to fetch.Down a b h = h
+read-then to fetch.DiskFault a b h = h
+
+module _ {D : Type 0} where
+  the-one : (x s : Station D) → Some x ≡ Some s → x ≡ s
+  the-one x s is = cc
+
+  -- the first node of a number is one
+  at-once : (xs : List (Station D)) (n p q : ℕ) (s t : Station D) → IsAt xs n p → slice_get xs p ≡ Some s → IsAt xs n q → slice_get xs q ≡ Some t → s ≡ t
+  at-once [] n p q s t at is at' is' = absurd at
+  at-once (x ∷ xs) n zero zero s t at is at' is' = sym (the-one x s is) ∙ the-one x t is'
+  at-once (x ∷ xs) n zero (suc q) s t at is at' is' = absurd (at'.0 at)
+  at-once (x ∷ xs) n (suc p) zero s t at is at' is' = absurd (at.0 at')
+  at-once (x ∷ xs) n (suc p) (suc q) s t at is at' is' = at-once xs n p q s t at.1 is at'.1 is'
+
+  -- what that node gives is what the node of its number gives
+  pub gives-in : (tells : Bool) (text : D → List ℕ) (xs : List (Station D)) (n place : ℕ) (s : Station D) (key : Key) → IsAt xs n place → slice_get xs place ≡ Some s
+      → (told : Held) (a b : List ℕ) → GivesAt tells text s key told a b → GivesIn tells text xs n key told a b
+  gives-in tells text xs n place s key at is told a b gives place' t at' is' = subst (λ (y : Station D). GivesAt tells text y key told a b) (at-once xs n place place' s t at is at' is') gives
+
+  -- what is so of the node of a number after the call, was so before
+  before-set : (P : Station D → Type 0) (xs : List (Station D)) (place : ℕ) (station after : Station D) → slice_get xs place ≡ Some station → after.sid ≡ station.sid → (P after → P station)
+      → (m : ℕ) → ((p : ℕ) (s : Station D) → IsAt (set xs place after) m p → slice_get (set xs place after) p ≡ Some s → P s)
+      → (p : ℕ) (s : Station D) → IsAt xs m p → slice_get xs p ≡ Some s → P s
+  before-set P [] place station after there sid back m all p s at is = absurd at
+  before-set P (x ∷ xs) zero station after there sid back m all zero s at is =
+      let same = the-one x station there in
+      subst P (sym same ∙ the-one x s is) (back (all zero after (sid ∙ ap (λ (y : Station D). y.sid) (sym same) ∙ at) refl))
+  before-set P (x ∷ xs) zero station after there sid back m all (suc p) s at is =
+      let same = the-one x station there in
+      all (suc p) s ((λ e. at.0 (ap (λ (y : Station D). y.sid) same ∙ sym sid ∙ e)), at.1) is
+  before-set P (x ∷ xs) (suc place) station after there sid back m all zero s at is = all zero s at is
+  before-set P (x ∷ xs) (suc place) station after there sid back m all (suc p) s at is =
+      before-set P xs place station after there sid back m (λ q t at' is'. all (suc q) t (at.0, at') is') p s at.1 is
+
+  back-at : (tells : Bool) (text : D → List ℕ) (key' : Key) (position stamp : ℕ) (given : FetchAnswer) (s s' : Station D) → IsFetch text key' position stamp given s s'
+      → (key : Key) (told : Held) (a b : List ℕ) → GivesAt tells text s' key told a b → GivesAt tells text s key told a b
+  back-at tells text key' position stamp given s s' f key told a b gives yes =
+      let fence : s'.node.state.fence ≡ s.node.state.fence = ap (λ (t : NodeState). t.fence) f.after ∙ fence-after given key' position stamp s.node.state in
+      subst (λ (x : List ℕ). Gives s.node.geometry s.node.state.fence x key told a b) f.text_is
+      (subst (λ (k : ℕ). Gives s.node.geometry k (text s'.node.disk) key told a b) fence
+      (subst (λ (y : Geometry). Gives y s'.node.state.fence (text s'.node.disk) key told a b) f.called.geometry (gives yes)))
+
+  pub gives-before : (tells : Bool) (text : D → List ℕ) (key' : Key) (position stamp : ℕ) (given : FetchAnswer) (n : ℕ) (xs ys : List (Station D)) (log log' : List Event)
+      → IsFetchedAt text key' position stamp given n xs ys log log'
+      → (m : ℕ) (key : Key) (told : Held) (a b : List ℕ) → GivesIn tells text ys m key told a b → GivesIn tells text xs m key told a b
+  gives-before tells text key' position stamp given n xs ys log log' o m key told a b gives =
+      before-set (λ (s : Station D). GivesAt tells text s key told a b) xs o.place o.station o.after o.is o.fetch.called.sid
+      (back-at tells text key' position stamp given o.station o.after o.fetch key told a b) m
+      (subst (λ (zs : List (Station D)). GivesIn tells text zs m key told a b) o.stations gives)
+
+  -- it is an order of the administrator
+  pub fetch-ordered : (text : D → List ℕ) (key : Key) (position stamp : ℕ) (given : FetchAnswer) (n : ℕ) (xs ys : List (Station D)) (log log' : List Event)
+      → IsFetchedAt text key position stamp given n xs ys log log' → IsOrdered (ask.Fetch key position stamp) n xs ys log log'
+  fetch-ordered text key position stamp given n xs ys log log' o = record {
+    place = o.place;
+    station = o.station;
+    after = o.after;
+    event = Some (fetch_event Admin n key position stamp given);
+    at = o.at;
+    is = o.is;
+    stations = o.stations;
+    order = record {
+      given = answer.Fetch given;
+      given_is = o.fetch.given_is;
+      told = tt;
+      after = o.fetch.after;
+      event_is = ap (λ (k : ℕ). Some (fetch_event Admin k key position stamp given)) (sym (state-at xs n o.place o.station o.at o.is).0);
+      called = o.fetch.called;
+    };
+    log_is = o.log_is;
+  }
