@@ -1,6 +1,9 @@
 -- A node is asked for a record.
 use Rattle.std.proofs.Common.{◌≡◌, ℕ, zero, suc, List, [], ◌∷◌, ◌∙◌, set, Option, Some, None, refl, sym, ap, subst}
-use Rattle.std.specs.Prelude.{Bool, IsTrue, slice_get}
+use Rattle.std.specs.Global.{Vec}
+use Rattle.std.specs.Prelude.{Bool, IsTrue, slice_get, ◌==◌, cond}
+use Rattle.std.specs.Vec.{with_items}
+use Rattle.std.proofs.Math.Path.{fun_ext}
 use Rattle.rz_cells.specs.declared.geometry.Geometry.{Geometry}
 use Rattle.rz_events.specs.declared.keys.Key.{Key}
 use Rattle.rz_events.specs.declared.keys.Actor.TheVariants.{Admin}
@@ -14,12 +17,18 @@ use Rattle.rz_node.specs.Gives.{Gives, IfHeld}
 use Rattle.rz_node_model.specs.States.{NodeState}
 use Rattle.rz_node_model.specs.Afterwards.{after_answer}
 use Rattle.rz_node_model.specs.NodeEvents.{fetch_event}
-use Rattle.rz_scrubbing.specs.Stores.{IsRead}
+use Rattle.rz_node_model.specs.Answers.{IsFetchAnswer, fetch_answer}
+use Rattle.rz_disk.specs.UnderFuse.{UnderFuse}
+use Rattle.rz_disk.specs.declared.disk.Disk.{Ghosts}
+use Rattle.rz_scrubbing.specs.Stores.{IsFetched, IsRead}
+use Rattle.rz_driver.specs.declared.driver.Driver.{Driver}
+use Rattle.rz_driver.specs.declared.station.Shared.{Shared}
 use Rattle.rz_driver.specs.declared.station.Station.{Station}
 use Rattle.rz_driver.specs.Administration.{IsOrdered}
-use Rattle.rz_driver.specs.Fetches.{IsFetch, IsFetchedAt, GivesAt, GivesIn}
-use Rattle.rz_driver.specs.Stations.{IsAt}
-use Rattle.rz_driver.proofs.WorldLemmas.{state-at}
+use Rattle.rz_driver.specs.Fetches.{IsFetch, IsFetchedAt, GivesAt, GivesIn, state_of}
+use Rattle.rz_driver.specs.Stations.{IsAt, state_in}
+use Rattle.rz_driver.proofs.NodeOrders.{in-vector}
+use Rattle.rz_driver.proofs.WorldLemmas.{state-at, state-set}
 
 -- what a fetch leaves of a node's fence
 fence-after : (given : FetchAnswer) (key : Key) (position stamp : ℕ) (s : NodeState) → (after_answer (ask.Fetch key position stamp) (answer.Fetch given) s).fence ≡ s.fence
@@ -113,3 +122,31 @@ module _ {D : Type 0} where
     };
     log_is = o.log_is;
   }
+
+-- the vector of nodes, of which a slice was written
+module _ {X : Type 0} where
+  pub fetched-in : (text : X → List ℕ) (key : Key) (position stamp : ℕ) (given : FetchAnswer) (n : ℕ) (v : Vec (Station X)) (xs ys : List (Station X)) (log log' : List Event) → xs ≡ v.items
+      → IsFetchedAt text key position stamp given n xs ys log log' → IsFetchedAt text key position stamp given n v.items (with_items v ys).items log log'
+  fetched-in text key position stamp given n v xs ys log log' same o =
+      subst (λ (zs : List (Station X)). IsFetchedAt text key position stamp given n zs (with_items v ys).items log log') same
+      (subst (λ (zs : List (Station X)). IsFetchedAt text key position stamp given n xs zs log log') (sym (in-vector v xs ys o.place o.after same o.stations)) o)
+
+-- a driver as one sees it who scrubs it
+module _ {D : Type 0} {G : Ghosts D} (d e : Driver D G) (export : e.shared.export ≡ d.shared.export) where
+  abbrev xs : List (Station (UnderFuse D))
+  xs = d.shared.stations.items
+
+  pub fetched-of : (text : UnderFuse D → List ℕ) (key : Key) (position stamp : ℕ) (given : FetchAnswer) (n : ℕ)
+      → IsFetchedAt text key position stamp given n xs e.shared.stations.items d.shared.log.events e.shared.log.events → IsFetched n key position stamp given (state_of d) (state_of e)
+  fetched-of text key position stamp given n o =
+      let here = state-at xs n o.place o.station o.at o.is in
+      let after : o.after.node.state ≡ after_answer (ask.Fetch key position stamp) (answer.Fetch given) (state_in xs n) =
+      o.fetch.after ∙ ap (after_answer (ask.Fetch key position stamp) (answer.Fetch given)) (sym here.1)
+      in
+      record {
+        given_is = subst (λ (x : NodeState). IsFetchAnswer (fetch_answer x key stamp) given) (sym here.1) o.fetch.given_is;
+        export = export;
+        nodes = ap (λ (ys : List (Station (UnderFuse D))). state_in ys) o.stations
+            ∙ fun_ext (λ m. state-set xs n o.place o.after o.at (o.fetch.called.sid ∙ here.0) m ∙ ap (λ (x : NodeState). cond (m == n) x (state_in xs m)) after);
+        events = o.log_is;
+      }

@@ -44,7 +44,8 @@ impl<D: Disk> Driver<D> {
         requires room { max_bins_of self.old.volume.layout ≤ length room.old }
         ensures fetched { IfOk result (λ given. IsFetched sid key position stamp given (state_of self.old) (state_of self.new)) }
         ensures read { IfOk result (λ given. IsRead (GivesOf self.old sid key) given room.old room.new) }
-        ensures onward { OnOk result (GoesOn (λ d. IsDriver d) (λ d. d.volume.layout) (λ d. GivesOf d) (λ d. state_of d) (λ d. Metered d) self.old self.new) }
+        ensures onward { OnOk result (GoesOn (λ d. IsDriver d) (λ d. d.volume) (λ d. GivesOf d) (λ d. state_of d) (λ d. Metered d) self.old self.new) }
+        ensures volume { self.new.volume ≡ self.old.volume }
         ensures events { OnErr result (self.new.shared.log.events ≡ self.old.shared.log.events) }
         ensures left { OnErr result (Carries (Metered self.old) (Counted self.new)) }
     {
@@ -68,7 +69,7 @@ impl<D: Disk> Store for Driver<D> {
     ghost use Rattle.rz_driver.specs.Worlds.{IsDriver};
     ghost use Rattle.rz_driver.specs.Fetches.{GivesOf, Metered, Spent, state_of};
 
-    ghost layout = { λ d. d.volume.layout };
+    ghost described = { λ d. d.volume };
 
     ghost state = { λ d. state_of d };
 
