@@ -17,7 +17,10 @@ use Rattle.rz_node.specs.Gives.{Gives, IfHeld}
 use Rattle.rz_node_model.specs.States.{NodeState}
 use Rattle.rz_node_model.specs.Afterwards.{after_answer}
 use Rattle.rz_node_model.specs.NodeEvents.{fetch_event}
-use Rattle.rz_node_model.specs.Answers.{IsFetchAnswer, fetch_answer}
+use Rattle.std.specs.Prelude.{Result, Ok, Err, IfOk, OnOk}
+use Rattle.rz_core.specs.NodeRows.{cells_of}
+use Rattle.rz_events.specs.Volume.{Volume}
+use Rattle.rz_node_model.specs.Answers.{IsFetchAnswer, IsNodeAnswer, fetch_answer}
 use Rattle.rz_disk.specs.UnderFuse.{UnderFuse}
 use Rattle.rz_disk.specs.declared.disk.Disk.{Ghosts}
 use Rattle.rz_scrubbing.specs.Stores.{IsFetched, IsRead}
@@ -25,8 +28,10 @@ use Rattle.rz_driver.specs.declared.driver.Driver.{Driver}
 use Rattle.rz_driver.specs.declared.station.Shared.{Shared}
 use Rattle.rz_driver.specs.declared.station.Station.{Station}
 use Rattle.rz_driver.specs.Administration.{IsOrdered}
-use Rattle.rz_driver.specs.Fetches.{IsFetch, IsFetchedAt, GivesAt, GivesIn, state_of}
-use Rattle.rz_driver.specs.Stations.{IsAt, state_in}
+use Rattle.rz_driver.specs.Fetches.{IsFetch, IsFetchCall, IsFetchedAt, GivesAt, GivesIn, state_of}
+use Rattle.rz_driver.specs.Stations.{IsAt, IsStation, state_in}
+use Rattle.rz_driver.specs.Worlds.{IsDriver, seat_in, world, world_of}
+use Rattle.rz_driver.proofs.ReadyLemmas.{all-at}
 use Rattle.rz_driver.proofs.NodeOrders.{in-vector}
 use Rattle.rz_driver.proofs.WorldLemmas.{state-at, state-set}
 
@@ -150,3 +155,42 @@ module _ {D : Type 0} {G : Ghosts D} (d e : Driver D G) (export : e.shared.expor
             ∙ fun_ext (λ m. state-set xs n o.place o.after o.at (o.fetch.called.sid ∙ here.0) m ∙ ap (λ (x : NodeState). cond (m == n) x (state_in xs m)) after);
         events = o.log_is;
       }
+
+-- it is a call of the administrator in the world of the play
+module _ {D : Type 0} {G : Ghosts D} (d : Driver D G) (ready : IsDriver d) (q : Shared (UnderFuse D)) (export : q.export ≡ d.shared.export) (lost : q.lost ≡ d.shared.lost) where
+  pub fetch-call : (text : UnderFuse D → List ℕ) (key : Key) (position stamp : ℕ) (given : FetchAnswer) (n : ℕ)
+      → IsFetchedAt text key position stamp given n d.shared.stations.items q.stations.items d.shared.log.events q.log.events
+      → IsFetchCall d.volume n key position stamp given (world_of d) (world q d.seats.items d.turns)
+  fetch-call text key position stamp given n o =
+      let xs : List (Station (UnderFuse D)) = d.shared.stations.items in
+      let s = o.station in
+      let here = state-at xs n o.place s o.at o.is in
+      let shape = all-at (IsStation d.volume) xs o.place s ready.stations o.is in
+      let cells : s.node.geometry.cells ≡ cells_of d.volume n = shape.cells ∙ ap (cells_of d.volume) here.0 in
+      let after : o.after.node.state ≡ after_answer (ask.Fetch key position stamp) (answer.Fetch given) (state_in xs n) =
+      o.fetch.after ∙ ap (after_answer (ask.Fetch key position stamp) (answer.Fetch given)) (sym here.1)
+      in
+      let nodes : state_in q.stations.items ≡ (λ m. cond (m == n) (after_answer (ask.Fetch key position stamp) (answer.Fetch given) (state_in xs n)) (state_in xs m)) =
+      ap (λ (ys : List (Station (UnderFuse D))). state_in ys) o.stations
+      ∙ fun_ext (λ m. state-set xs n o.place o.after o.at (o.fetch.called.sid ∙ here.0) m ∙ ap (λ (x : NodeState). cond (m == n) x (state_in xs m)) after)
+      in (
+        record {
+          given = answer.Fetch given;
+          given_is = subst (λ (k : ℕ). IsNodeAnswer k (state_in xs n) (ask.Fetch key position stamp) (answer.Fetch given)) cells
+              (subst (λ (x : NodeState). IsNodeAnswer s.node.geometry.cells x (ask.Fetch key position stamp) (answer.Fetch given)) (sym here.1) o.fetch.given_is);
+          told = tt;
+          next_is = λ i. record {
+            nodes = nodes i;
+            export = export i;
+            seats = seat_in d.seats.items;
+            turns = d.turns;
+            lost = lost i;
+            log = o.log_is i;
+          };
+        },
+        refl,
+      )
+
+pub ok-both : {T E : Type 0} {P : T → Type 0} {Q R : Type 0} → (r : Result T E) → IfOk r P → OnOk r Q → ((x : T) → P x → Q → R) → OnOk r R
+ok-both (Ok x) p q f = f x p q
+ok-both (Err e) p q f = tt

@@ -13,6 +13,9 @@ use Rattle.rz_node.specs.Gives.{Gives}
 use Rattle.rz_node_model.specs.Answers.{IsNodeAnswer}
 use Rattle.rz_node_model.specs.Afterwards.{after_answer}
 use Rattle.rz_node_model.specs.NodeEvents.{fetch_event}
+use Rattle.rz_events.specs.Volume.{Volume}
+use Rattle.rz_play.specs.Lines.{IsAdminCall}
+use Rattle.rz_play.specs.World.{World}
 use Rattle.rz_scrubbing.specs.Stores.{State}
 use Rattle.rz_driver.specs.declared.driver.Driver.{Driver}
 use Rattle.rz_driver.specs.declared.station.Station.{Station}
@@ -37,6 +40,10 @@ pub record IsFetchedAt {D : Type 0} (text : D → List ℕ) (key : Key) (positio
   pub stations : new ≡ slice_set old place after
   pub fetch : IsFetch text key position stamp given station after
   pub log_is : log' ≡ fetch_event Admin n key position stamp given ∷ log
+
+-- it is a call of the administrator in the world of a play, with this answer
+abbrev pub IsFetchCall : Volume → ℕ → Key → ℕ → ℕ → FetchAnswer → World → World → Type 0
+IsFetchCall v n key position stamp given w next = (c : IsAdminCall v n (ask.Fetch key position stamp) w next) × (c.given ≡ answer.Fetch given)
 
 -- what a disk that tells its text stands for is what is read of a record: what is told of it, what lay in the room, what lies there
 abbrev pub GivesAt : {D : Type 0} → Bool → (D → List ℕ) → Station D → Key → Held → List ℕ → List ℕ → Type 0

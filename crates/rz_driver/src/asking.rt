@@ -8,8 +8,8 @@ ghost use Rattle.rz_lines.specs.Ends.{Carries};
 ghost use Rattle.rz_scrubbing.specs.Stores.{GoesOn, IsFetched, IsRead};
 ghost use Rattle.rz_driver.specs.Acts.{HasLayouts};
 ghost use Rattle.rz_driver.specs.Meters.{AreMetered, AreCounted, Goes};
-ghost use Rattle.rz_driver.specs.Worlds.{IsDriver};
-ghost use Rattle.rz_driver.specs.Fetches.{Counted, GivesAt, GivesIn, GivesOf, IsFetch, IsFetchedAt, Metered, state_of};
+ghost use Rattle.rz_driver.specs.Worlds.{IsDriver, world_of};
+ghost use Rattle.rz_driver.specs.Fetches.{Counted, GivesAt, GivesIn, GivesOf, IsFetch, IsFetchCall, IsFetchedAt, Metered, state_of};
 
 use crate::NoMemory;
 use crate::administration::note;
@@ -31,8 +31,9 @@ impl<D: Disk> Driver<D> {
         self.shared.export.published(after)
     }
 
-    /// Asks a node for its record of a key with this stamp. The bins come to the front of the room.
-    pub(crate) fn order_fetch(
+    /// Asks a node for its record of a key with this stamp, as the administrator. The bins come to the front of the
+    /// room. The event of the call is in the log.
+    pub fn fetch_record(
         &mut self,
         sid: u16,
         key: Key,
@@ -42,6 +43,7 @@ impl<D: Disk> Driver<D> {
     ) -> Result<FetchAnswer, NoMemory>
         requires ready { IsDriver self.old }
         requires room { max_bins_of self.old.volume.layout ≤ length room.old }
+        ensures called { IfOk result (λ given. IsFetchCall self.old.volume sid key position stamp given (world_of self.old) (world_of self.new)) }
         ensures fetched { IfOk result (λ given. IsFetched sid key position stamp given (state_of self.old) (state_of self.new)) }
         ensures read { IfOk result (λ given. IsRead (GivesOf self.old sid key) given room.old room.new) }
         ensures onward { OnOk result (GoesOn (λ d. IsDriver d) (λ d. d.volume) (λ d. GivesOf d) (λ d. state_of d) (λ d. Metered d) self.old self.new) }
@@ -99,7 +101,7 @@ impl<D: Disk> Store for Driver<D> {
         stamp: u64,
         room: &mut [u64],
     ) -> Result<FetchAnswer, AllocError> {
-        match self.order_fetch(node, key, position, stamp, room) {
+        match self.fetch_record(node, key, position, stamp, room) {
             Ok(given) => Ok(given),
             Err(NoMemory) => Err(AllocError),
         }
