@@ -1,5 +1,5 @@
 -- A node is asked for a record.
-use Rattle.std.proofs.Common.{◌≡◌, ℕ, zero, suc, List, [], ◌∷◌, ◌∙◌, set, Option, Some, None, refl, sym, ap, subst}
+use Rattle.std.proofs.Common.{◌≡◌, ◌≤◌, ℕ, zero, suc, List, [], ◌∷◌, ◌∙◌, set, Option, Some, None, refl, sym, ap, subst}
 use Rattle.std.specs.Global.{Vec}
 use Rattle.std.specs.Prelude.{Bool, IsTrue, slice_get, ◌==◌, cond}
 use Rattle.std.specs.Vec.{with_items}
@@ -18,6 +18,9 @@ use Rattle.rz_node_model.specs.States.{NodeState}
 use Rattle.rz_node_model.specs.Afterwards.{after_answer}
 use Rattle.rz_node_model.specs.NodeEvents.{fetch_event}
 use Rattle.std.specs.Prelude.{Result, Ok, Err, IfOk, OnOk}
+use Rattle.std.specs.List.{AllByRecursion}
+use Rattle.mj_angles.specs.declared.layout.Layout.{Layout}
+use Rattle.mj_angles.specs.Layout.{max_bins_of}
 use Rattle.rz_core.specs.NodeRows.{cells_of}
 use Rattle.rz_events.specs.Volume.{Volume}
 use Rattle.rz_node_model.specs.Answers.{IsFetchAnswer, IsNodeAnswer, fetch_answer}
@@ -28,7 +31,7 @@ use Rattle.rz_driver.specs.declared.driver.Driver.{Driver}
 use Rattle.rz_driver.specs.declared.station.Shared.{Shared}
 use Rattle.rz_driver.specs.declared.station.Station.{Station}
 use Rattle.rz_driver.specs.Administration.{IsOrdered}
-use Rattle.rz_driver.specs.Fetches.{IsFetch, IsFetchCall, IsFetchedAt, GivesAt, GivesIn, state_of}
+use Rattle.rz_driver.specs.Fetches.{HaveRoom, IsFetch, IsFetchCall, IsFetchedAt, GivesAt, GivesIn, state_of}
 use Rattle.rz_driver.specs.Stations.{IsAt, IsStation, state_in}
 use Rattle.rz_driver.specs.Worlds.{IsDriver, seat_in, world, world_of}
 use Rattle.rz_driver.proofs.ReadyLemmas.{all-at}
@@ -45,11 +48,11 @@ fence-after fetch.DiskFault key position stamp s = refl
 
 -- what is read where a record is told
 pub read-of : {P : Held → List ℕ → List ℕ → Type 0} (given : FetchAnswer) (a b : List ℕ) → IfHeld given (λ told. P told a b) → IsRead P given a b
-read-of (fetch.Held told) a b h = h
-read-of fetch.Nothing a b h = tt
-read-of fetch.Lost a b h = tt
-read-of fetch.Down a b h = tt
-read-of fetch.DiskFault a b h = tt
+read-of P (fetch.Held told) a b h = h
+read-of P fetch.Nothing a b h = tt
+read-of P fetch.Lost a b h = tt
+read-of P fetch.Down a b h = tt
+read-of P fetch.DiskFault a b h = tt
 
 pub read-then : {P Q : Held → List ℕ → List ℕ → Type 0} → ((told : Held) (a b : List ℕ) → P told a b → Q told a b) → (given : FetchAnswer) (a b : List ℕ) → IsRead P given a b → IsRead Q given a b
 read-then to (fetch.Held told) a b h = to told a b h
@@ -92,11 +95,11 @@ module _ {D : Type 0} where
 
   back-at : (tells : Bool) (text : D → List ℕ) (key' : Key) (position stamp : ℕ) (given : FetchAnswer) (s s' : Station D) → IsFetch text key' position stamp given s s'
       → (key : Key) (told : Held) (a b : List ℕ) → GivesAt tells text s' key told a b → GivesAt tells text s key told a b
-  back-at tells text key' position stamp given s s' f key told a b gives yes =
+  back-at tells text key' position stamp given s s' f key told a b gives tells_it =
       let fence : s'.node.state.fence ≡ s.node.state.fence = ap (λ (t : NodeState). t.fence) f.after ∙ fence-after given key' position stamp s.node.state in
       subst (λ (x : List ℕ). Gives s.node.geometry s.node.state.fence x key told a b) f.text_is
       (subst (λ (k : ℕ). Gives s.node.geometry k (text s'.node.disk) key told a b) fence
-      (subst (λ (y : Geometry). Gives y s'.node.state.fence (text s'.node.disk) key told a b) f.called.geometry (gives yes)))
+      (subst (λ (y : Geometry). Gives y s'.node.state.fence (text s'.node.disk) key told a b) f.called.geometry (gives tells_it)))
 
   pub gives-before : (tells : Bool) (text : D → List ℕ) (key' : Key) (position stamp : ℕ) (given : FetchAnswer) (n : ℕ) (xs ys : List (Station D)) (log log' : List Event)
       → IsFetchedAt text key' position stamp given n xs ys log log'
@@ -190,6 +193,11 @@ module _ {D : Type 0} {G : Ghosts D} (d : Driver D G) (ready : IsDriver d) (q : 
         },
         refl,
       )
+
+-- there is room for the records of each node
+pub have-room : {D : Type 0} (v : Volume) (count : ℕ) (xs : List (Station D)) → max_bins_of v.layout ≤ count → AllByRecursion (IsStation v) xs → HaveRoom count xs
+have-room v count [] room all = tt
+have-room v count (x ∷ xs) room all = (subst (λ (y : Layout). max_bins_of y ≤ count) (sym all.0.layout) room, have-room v count xs room all.1)
 
 pub ok-both : {T E : Type 0} {P : T → Type 0} {Q R : Type 0} → (r : Result T E) → IfOk r P → OnOk r Q → ((x : T) → P x → Q → R) → OnOk r R
 ok-both (Ok x) p q f = f x p q

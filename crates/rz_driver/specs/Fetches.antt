@@ -1,5 +1,7 @@
 -- What asking a node for a record makes of the nodes and of the log.
-use Rattle.std.specs.Prelude.{ℕ, Bool, ◌≡◌, ◌⊎◌, IsTrue, List, ◌∷◌, Some, slice_get, slice_set}
+use Rattle.std.specs.List.{AllByRecursion}
+use Rattle.mj_angles.specs.Layout.{max_bins_of}
+use Rattle.std.specs.Prelude.{ℕ, Bool, ◌≡◌, ◌≤◌, ◌⊎◌, IsTrue, List, ◌∷◌, Some, slice_get, slice_set}
 use Rattle.rz_disk.specs.UnderFuse.{UnderFuse, fused_meter}
 use Rattle.rz_disk.specs.declared.disk.Disk.{Ghosts}
 use Rattle.rz_events.specs.declared.keys.Key.{Key}
@@ -22,6 +24,10 @@ use Rattle.rz_driver.specs.declared.station.Station.{Station}
 use Rattle.rz_driver.specs.Meters.{AreMetered, AreCounted}
 use Rattle.rz_driver.specs.Stations.{state_in, IsAt, IsCalled}
 use Rattle.rz_driver.specs.Worlds.{numbers_in}
+
+-- there is room for the bins of the records of each node
+abbrev pub HaveRoom : {D : Type 0} → ℕ → List (Station D) → Type 0
+HaveRoom {D = D} count stations = AllByRecursion (λ (s : Station D). max_bins_of s.node.geometry.layout ≤ count) stations
 
 -- a node answered a fetch, and its disk holds what it held
 pub record IsFetch {D : Type 0} (text : D → List ℕ) (key : Key) (position stamp : ℕ) (given : FetchAnswer) (s s' : Station D) : Type 0 where

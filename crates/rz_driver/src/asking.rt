@@ -6,16 +6,14 @@ ghost use Rattle.rz_export_model.specs.Export.{published_after};
 ghost use Rattle.rz_node_model.specs.NodeEvents.{fetch_event};
 ghost use Rattle.rz_lines.specs.Ends.{Carries};
 ghost use Rattle.rz_scrubbing.specs.Stores.{GoesOn, IsFetched, IsRead};
-ghost use Rattle.rz_driver.specs.Acts.{HasLayouts};
 ghost use Rattle.rz_driver.specs.Meters.{AreMetered, AreCounted, Goes};
 ghost use Rattle.rz_driver.specs.Worlds.{IsDriver, world_of};
-ghost use Rattle.rz_driver.specs.Fetches.{Counted, GivesAt, GivesIn, GivesOf, IsFetch, IsFetchCall, IsFetchedAt, Metered, state_of};
+ghost use Rattle.rz_driver.specs.Fetches.{Counted, GivesAt, GivesIn, GivesOf, HaveRoom, IsFetch, IsFetchCall, IsFetchedAt, Metered, state_of};
 
 use crate::NoMemory;
 use crate::administration::note;
 use crate::driver::Driver;
 use crate::station::{Station, find};
-use mj_angles::Layout;
 use rz_asks::Log;
 use rz_calls::node_event;
 use rz_disk::Disk;
@@ -51,10 +49,8 @@ impl<D: Disk> Driver<D> {
         ensures events { OnErr result (self.new.shared.log.events ≡ self.old.shared.log.events) }
         ensures left { OnErr result (Carries (Metered self.old) (Counted self.new)) }
     {
-        let layout = self.volume.layout;
         let shared = &mut self.shared;
         fetch_node(
-            layout,
             shared.stations.as_mut_slice(),
             &mut shared.log,
             sid,
@@ -110,7 +106,6 @@ impl<D: Disk> Store for Driver<D> {
 
 /// Asks the node of this number.
 fn fetch_node<D: Disk>(
-    layout: Layout,
     stations: &mut [Station<D>],
     log: &mut Log,
     sid: u16,
@@ -119,8 +114,7 @@ fn fetch_node<D: Disk>(
     stamp: u64,
     room: &mut [u64],
 ) -> Result<FetchAnswer, NoMemory>
-    requires layouts { HasLayouts layout stations.old }
-    requires room { max_bins_of layout ≤ length room.old }
+    requires { HaveRoom (length room.old) stations.old }
     ensures fetched { IfOk result (λ given. IsFetchedAt D.text key position stamp given sid stations.old stations.new log.old.events log.new.events) }
     ensures read { IfOk result (λ given. IsRead (GivesIn D.tells D.text stations.old sid key) given room.old room.new) }
     ensures err { OnErr result (log.new.events ≡ log.old.events) }

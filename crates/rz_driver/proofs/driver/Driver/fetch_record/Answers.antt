@@ -1,4 +1,4 @@
-use Rattle.std.proofs.Common.{◌≡◌, ◌∙◌, ℕ, List, [], ◌∷◌, refl, sym, subst}
+use Rattle.std.proofs.Common.{◌≡◌, ◌∙◌, ℕ, List, [], ◌∷◌, length, refl, sym, subst}
 use Rattle.std.specs.Prelude.{IfOk}
 use Rattle.std.specs.Vec.{with_items}
 use Rattle.std.proofs.lemmas.Result.{IfOk-weaker, on_err_weaker}
@@ -10,25 +10,24 @@ use Rattle.rz_node_model.specs.NodeEvents.{fetch_event}
 use Rattle.rz_lines.specs.Ends.{Carries}
 use Rattle.rz_scrubbing.specs.Stores.{IsFetched, IsRead}
 use Rattle.rz_driver.specs.declared.station.Station.{Station}
-use Rattle.rz_driver.specs.Acts.{HasLayouts}
-use Rattle.rz_driver.specs.Fetches.{IsFetchCall, IsFetchedAt, GivesIn, fused_text, state_of}
+use Rattle.rz_driver.specs.Fetches.{HaveRoom, IsFetchCall, IsFetchedAt, GivesIn, fused_text, state_of}
 use Rattle.rz_driver.specs.Meters.{AreMetered, AreCounted}
 use Rattle.rz_driver.specs.Worlds.{numbers_in, world, world_of}
-use Rattle.rz_driver.proofs.FetchLemmas.{fetch-call, fetch-ordered, fetched-in, fetched-of, gives-before, ok-both}
+use Rattle.rz_driver.proofs.FetchLemmas.{fetch-call, fetch-ordered, fetched-in, fetched-of, gives-before, have-room, ok-both}
 use Rattle.rz_driver.proofs.MeterLemmas.{counted-in, metered-in}
 use Rattle.rz_driver.proofs.NodeOrders.{called-of, called-ready}
-use Rattle.rz_driver.proofs.TakeLemmas.{have-layouts}
 use Rattle.rz_driver.proofs.driver.Driver.fetch_record.Given as given
 use Rattle.rz_driver.proofs.driver.Driver.fetch_record.Goals as goal
+use Rattle.rz_driver.proofs.driver.Driver.fetch_record.Goals.{After-fetch_node}
 
-pub fetch_node-requires-clause-layouts : goal.fetch_node-requires-clause-layouts
-fetch_node-requires-clause-layouts g c =
+pub fetch_node-requires : goal.fetch_node-requires
+fetch_node-requires g c =
     let d = c.args.self.now in
-    subst (λ (xs : List (Station (UnderFuse g.row.D.Denot))). HasLayouts d.volume.layout xs) (sym c.as_mut_slice.ensures.value)
-    (have-layouts d.volume d.shared.stations.items c.requires.ready.stations)
+    subst (λ (xs : List (Station (UnderFuse g.row.D.Denot))). HaveRoom (length c.args.room.now) xs) (sym c.as_mut_slice.ensures.value)
+    (have-room d.volume (length c.args.room.now) d.shared.stations.items c.requires.room c.requires.ready.stations)
 
 -- the node of this number was asked, in the row of the driver
-there : (g : given.Over) (c : goal.After-fetch_node g) (a : FetchAnswer)
+there : (g : given.Over) (c : After-fetch_node g) (a : FetchAnswer)
     → IsFetchedAt (fused_text g.D.Disk.text) c.args.key c.args.position c.args.stamp a c.args.sid c.as_mut_slice.result.now c.fetch_node.new.stations c.args.self.now.shared.log.events c.fetch_node.new.log.events
     → IsFetchedAt (fused_text g.D.Disk.text) c.args.key c.args.position c.args.stamp a c.args.sid c.args.self.now.shared.stations.items
         (with_items c.args.self.now.shared.stations c.fetch_node.new.stations).items c.args.self.now.shared.log.events c.fetch_node.new.log.events
