@@ -47,7 +47,7 @@ fence-after fetch.Down key position stamp s = refl
 fence-after fetch.DiskFault key position stamp s = refl
 
 -- what is read where a record is told
-pub read-of : {P : Held → List ℕ → List ℕ → Type 0} (given : FetchAnswer) (a b : List ℕ) → IfHeld given (λ told. P told a b) → IsRead P given a b
+pub read-of : (P : Held → List ℕ → List ℕ → Type 0) (given : FetchAnswer) (a b : List ℕ) → IfHeld given (λ told. P told a b) → IsRead P given a b
 read-of P (fetch.Held told) a b h = h
 read-of P fetch.Nothing a b h = tt
 read-of P fetch.Lost a b h = tt

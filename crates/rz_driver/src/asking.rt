@@ -14,6 +14,7 @@ use crate::NoMemory;
 use crate::administration::note;
 use crate::driver::Driver;
 use crate::station::{Station, find};
+use mj_angles::Layout;
 use rz_asks::Log;
 use rz_calls::node_event;
 use rz_disk::Disk;

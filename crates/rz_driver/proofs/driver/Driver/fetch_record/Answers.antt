@@ -18,7 +18,6 @@ use Rattle.rz_driver.proofs.MeterLemmas.{counted-in, metered-in}
 use Rattle.rz_driver.proofs.NodeOrders.{called-of, called-ready}
 use Rattle.rz_driver.proofs.driver.Driver.fetch_record.Given as given
 use Rattle.rz_driver.proofs.driver.Driver.fetch_record.Goals as goal
-use Rattle.rz_driver.proofs.driver.Driver.fetch_record.Goals.{After-fetch_node}
 
 pub fetch_node-requires : goal.fetch_node-requires
 fetch_node-requires g c =
@@ -27,10 +26,10 @@ fetch_node-requires g c =
     (have-room d.volume (length c.args.room.now) d.shared.stations.items c.requires.room c.requires.ready.stations)
 
 -- the node of this number was asked, in the row of the driver
-there : (g : given.Over) (c : After-fetch_node g) (a : FetchAnswer)
+there : (g : given.Over) (c : goal.After-slice_known-2-1 g) (a : FetchAnswer)
     → IsFetchedAt (fused_text g.D.Disk.text) c.args.key c.args.position c.args.stamp a c.args.sid c.as_mut_slice.result.now c.fetch_node.new.stations c.args.self.now.shared.log.events c.fetch_node.new.log.events
     → IsFetchedAt (fused_text g.D.Disk.text) c.args.key c.args.position c.args.stamp a c.args.sid c.args.self.now.shared.stations.items
-        (with_items c.args.self.now.shared.stations c.fetch_node.new.stations).items c.args.self.now.shared.log.events c.fetch_node.new.log.events
+    (with_items c.args.self.now.shared.stations c.fetch_node.new.stations).items c.args.self.now.shared.log.events c.fetch_node.new.log.events
 there g c a o = fetched-in (fused_text g.D.Disk.text) c.args.key c.args.position c.args.stamp a c.args.sid c.args.self.now.shared.stations c.as_mut_slice.result.now c.fetch_node.new.stations
     c.args.self.now.shared.log.events c.fetch_node.new.log.events c.as_mut_slice.ensures.value o
 
