@@ -1,7 +1,7 @@
 -- A node is asked for a record.
-use Rattle.std.proofs.Common.{◌≡◌, ◌≤◌, ℕ, zero, suc, List, [], ◌∷◌, ◌∙◌, set, Option, Some, None, refl, sym, ap, subst}
+use Rattle.std.proofs.Common.{◌≡◌, ◌≤◌, ℕ, zero, suc, List, [], ◌∷◌, ◌∙◌, set, Some, refl, sym, ap, subst}
 use Rattle.std.specs.Global.{Vec}
-use Rattle.std.specs.Prelude.{Bool, IsTrue, slice_get, ◌==◌, cond}
+use Rattle.std.specs.Prelude.{Bool, slice_get, ◌==◌, cond}
 use Rattle.std.specs.Vec.{with_items}
 use Rattle.std.proofs.Math.Path.{fun_ext}
 use Rattle.rz_cells.specs.declared.geometry.Geometry.{Geometry}

@@ -1,4 +1,4 @@
-use Rattle.std.proofs.Common.{◌≡◌, ◌≤◌, ◌<◌, ◌∙◌, ℕ, List, ◌∷◌, Option, get_or, length, refl, sym, ap, subst, rules}
+use Rattle.std.proofs.Common.{◌≤◌, ◌<◌, ◌∙◌, ℕ, List, ◌∷◌, Option, get_or, length, refl, ap, rules}
 use Rattle.std.proofs.lemmas.Option.{slice_get-get_or}
 use Rattle.mj_angles.specs.Layout.{max_bins_of}
 use Rattle.rz_driver.specs.declared.station.Station.{Station}

@@ -1,4 +1,4 @@
-use Rattle.std.proofs.Common.{◌≡◌, ◌∙◌, ℕ, List, [], ◌∷◌, length, refl, sym, subst}
+use Rattle.std.proofs.Common.{ℕ, List, [], ◌∷◌, length, refl, sym, subst}
 use Rattle.std.specs.Prelude.{IfOk}
 use Rattle.std.specs.Vec.{with_items}
 use Rattle.std.proofs.lemmas.Result.{IfOk-weaker, on_err_weaker}
