@@ -15,7 +15,7 @@ use Rattle.rz_locks.specs.Held.{Held}
 use Rattle.rz_core.specs.History.{facts}
 use Rattle.rz_operation.specs.Answers.{Goes}
 use Rattle.rz_operation.specs.Machine.{Machine}
-use Rattle.rz_operation_model.specs.Ask.{Ask, AskNode, ask_of}
+use Rattle.rz_operation_model.specs.Ask.{Ask, ask_of}
 use Rattle.rz_operation_model.specs.Steps.{Told, Replied, Locked, Missed, Noted}
 use Rattle.rz_operation_model.specs.Turns.{IsStep, RequestLost as StepLost, goes_by_link, said_event}
 use Rattle.rz_play.specs.Turns.{IsLost, text_said}
@@ -23,13 +23,13 @@ use Rattle.rz_asks.specs.Locking.{IsOpenPart, open_reply}
 use Rattle.rz_asks.specs.Parts.{IsExportPart, IsSayPart}
 use Rattle.rz_image_laws.specs.Laws.{IsLongerLaw}
 use Rattle.rz_block_laws.specs.Laws.{IsNoFetch}
-use Rattle.rz_block_laws.specs.Turns.{HasInHand, IsTrueActor, IsToldLaw}
+use Rattle.rz_block_laws.specs.Turns.{HasInHand, IsToldLaw}
 use Rattle.rz_driver.specs.declared.seat.Seat.{Seat}
 use Rattle.rz_driver.specs.declared.station.Shared.{Shared}
 use Rattle.rz_driver.specs.declared.station.Station.{Station}
 use Rattle.rz_driver.specs.Acts.{IsAct, IsFate, Rests, Exports, Opens, Sends, Says, Through, ReplyLost, RequestLost}
 use Rattle.rz_driver.specs.Nodes.{IsAsked, IsThroughPart, IsReplyLostPart, IsRequestLostPart}
-use Rattle.rz_driver.specs.Pictures.{HasImages, AreImaged, HasTrueHand, IsTrueSeat, KeepsNode, SparesNode, KeepsPicture, SparesPicture}
+use Rattle.rz_driver.specs.Pictures.{HasImages, HasTrueHand, IsTrueSeat, KeepsNode, SparesNode, KeepsPicture, SparesPicture}
 use Rattle.rz_driver.proofs.PictureLemmas.{GrowsBy, row-longer, row-set, row-at, states-stay}
 
 -- a message that was lost goes through the link

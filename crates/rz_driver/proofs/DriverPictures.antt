@@ -1,14 +1,12 @@
 -- A driver's picture, from one turn or order to the next.
-use Rattle.std.proofs.Common.{◌≡◌, ◌⊎◌, inl, inr, ℕ, ◌-◌, ◌^◌, ◌<◌, false, IsTrue, nat_eq, List, [], ◌∷◌, map, length, set, Option, Some, None, refl, sym, ◌∙◌, ap, subst}
+use Rattle.std.proofs.Common.{◌≡◌, inl, inr, ℕ, ◌-◌, ◌^◌, ◌<◌, IsTrue, nat_eq, List, [], length, set, Option, Some, None, refl, sym, ◌∙◌, ap, subst}
 use Rattle.std.specs.Prelude.{slice_get}
-use Rattle.std.specs.Global.{Vec}
 use Rattle.std.specs.List.{AllByRecursion, IsDistinct}
 use Rattle.std.specs.Vec.{with_items}
 use Rattle.rz_disk.specs.declared.disk.Disk.{Ghosts}
 use Rattle.rz_disk.specs.Meter.{Meter}
 use Rattle.rz_disk.specs.UnderFuse.{UnderFuse, fused_meter}
-use Rattle.rz_events.specs.Volume.{Volume, IsVolume, nodes_of}
-use Rattle.rz_events.specs.declared.files.NodeSpec.{NodeSpec}
+use Rattle.rz_events.specs.Volume.{Volume, IsVolume}
 use Rattle.rz_events.specs.declared.keys.Actor.{Actor}
 use Rattle.rz_events.specs.declared.keys.Actor.TheVariants.{Client, Rebuilder, Admin}
 use Rattle.rz_events.specs.declared.events.Event.{Event}
@@ -33,7 +31,7 @@ use Rattle.rz_driver.specs.Seats.{HasLayout, seat_of, work_in}
 use Rattle.rz_driver.specs.Stations.{state_in, numbers_of}
 use Rattle.rz_driver.specs.Worlds.{place_of, world, world_of, numbers_in, HasPicture, HasRightDisks, Holds, Leaves}
 use Rattle.rz_driver.proofs.MeterLemmas.{metered-counts, named-vector}
-use Rattle.rz_driver.proofs.PictureLemmas.{GrowsBy, grown-short, all-then, are-right, hands-last}
+use Rattle.rz_driver.proofs.PictureLemmas.{GrowsBy, grown-short, are-right, hands-last}
 use Rattle.rz_driver.proofs.ReadyLemmas.{all-set, all-at}
 use Rattle.rz_driver.proofs.WorldLemmas.{seat-here}
 

@@ -21,3 +21,4 @@ mod ActPictures
 mod DriverPictures
 mod NewPictures
 mod OrderPictures
+pub mod FetchLemmas

@@ -11,7 +11,6 @@ use Rattle.rz_events.specs.Volume.{Volume, IsVolume, nodes_of}
 use Rattle.rz_events.specs.declared.files.NodeSpec.{NodeSpec}
 use Rattle.rz_events.specs.declared.keys.Key.{Key}
 use Rattle.rz_events.specs.declared.records.Held.{Held}
-use Rattle.rz_events.specs.declared.events.Event.{Event}
 use Rattle.rz_node_model.specs.Records.{IsWhole, held_of, listed}
 use Rattle.rz_node_model.specs.States.{NodeState, fresh}
 use Rattle.rz_cells.specs.declared.geometry.Geometry.{Geometry}

@@ -1,5 +1,5 @@
 -- An order to a node, beside the log.
-use Rattle.std.proofs.Common.{◌≡◌, ◌≢◌, ℕ, Bool, IsTrue, List, [], ◌∷◌, Option, Some, None, refl, sym, ◌∙◌, ap, subst}
+use Rattle.std.proofs.Common.{◌≡◌, ◌≢◌, ℕ, Bool, IsTrue, List, [], Option, Some, None, refl, sym, ◌∙◌, ap, subst}
 use Rattle.std.specs.Prelude.{IsSomeAnd, slice_get, slice_set}
 use Rattle.rz_disk.specs.Images.{Only, Within}
 use Rattle.rz_events.specs.Volume.{Volume}
@@ -26,7 +26,7 @@ use Rattle.rz_image_laws.specs.Images.{IsImaged}
 use Rattle.rz_image_laws.specs.Laws.{IsCallLaw, IsCrashLaw, IsFewerLaw, IsLongerLaw}
 use Rattle.rz_image_laws.specs.Records.{HandsRecord}
 use Rattle.rz_driver.specs.declared.station.Station.{Station}
-use Rattle.rz_driver.specs.Pictures.{HasImages, AreImaged, KeepsImages, KeepsRow, SparesRow, geometry_in}
+use Rattle.rz_driver.specs.Pictures.{HasImages, KeepsImages, KeepsRow, SparesRow, geometry_in}
 use Rattle.rz_driver.proofs.MessagePictures.{node-quiet}
 use Rattle.rz_driver.proofs.PictureLemmas.{GrowsBy, row-longer, row-set, row-at, states-stay}
 

@@ -7,3 +7,4 @@ pub mod Worlds
 pub mod Made
 pub mod Meters
 pub mod Pictures
+pub mod Fetches

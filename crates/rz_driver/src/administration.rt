@@ -119,7 +119,7 @@ pub(crate) fn arm_node<D: Disk>(
 }
 
 /// Notes the event of a line that applies.
-fn note(log: &mut Log, event: Option<Event>) -> Result<(), NoMemory>
+pub(crate) fn note(log: &mut Log, event: Option<Event>) -> Result<(), NoMemory>
     requires room { 0 < log.old.room }
     ensures ok { OnOk result (log.new.events ≡ noted event log.old.events) }
     ensures err { OnErr result (log.new.events ≡ log.old.events) }

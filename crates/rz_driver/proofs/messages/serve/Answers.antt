@@ -1,5 +1,4 @@
-use Rattle.std.proofs.Common.{◌≡◌, ℕ, List, sym, subst, rules}
-use Rattle.rz_events.specs.declared.nodes.NodeAsk.{NodeAsk}
+use Rattle.std.proofs.Common.{subst, rules}
 use Rattle.rz_operation.specs.Machine.{AreBins}
 use Rattle.rz_operation_model.specs.Ask.{Ask}
 use Rattle.rz_driver.proofs.MessagePictures.{IsBinless, IsBinful, no-bins, any-bins}

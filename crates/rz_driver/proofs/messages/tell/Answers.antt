@@ -1,4 +1,4 @@
-use Rattle.std.proofs.Common.{sym, ◌∙◌, subst, arith}
+use Rattle.std.proofs.Common.{sym, subst, arith}
 use Rattle.mj_angles.specs.declared.layout.Layout.{Layout}
 use Rattle.rz_operation.specs.Answers.{ComeWith, IsAnswer}
 use Rattle.rz_operation_model.specs.Ask.{Ask, ask_of}
