@@ -225,6 +225,21 @@ fn opened(alloc: Global, new: Fused<PlainDisk>, pick: u64) -> Result<bool, Fail>
     }
 }
 
+/// What comes back of a migration that fails.
+fn failed(
+    alloc: Global,
+    old: &mut Fused<PlainDisk>,
+    new: Fused<PlainDisk>,
+) -> Option<(Fused<PlainDisk>, MigrateFault)> {
+    match Cells::migrate(alloc, THREE, old, new) {
+        Ok(cells) => {
+            drop(cells);
+            None
+        }
+        Err(back) => Some(back),
+    }
+}
+
 #[test]
 fn a_stop_of_the_new_disk_leaves_it_whole_or_shut(rt: HostRuntime) -> Result<(), Fail> {
     let bytes = old_bytes(rt.alloc())?;
@@ -233,9 +248,9 @@ fn a_stop_of_the_new_disk_leaves_it_whole_or_shut(rt: HostRuntime) -> Result<(),
             let mut old = Fused::new(disk_of(rt.alloc(), &bytes)?);
             let mut new = Fused::new(PlainDisk::new(rt.alloc()));
             new.arm(Some(passes));
-            match Cells::migrate(rt.alloc(), THREE, &mut old, new) {
-                Ok(_) => assert_eq!(rt; passes, 6),
-                Err((new, fault)) => {
+            match failed(rt.alloc(), &mut old, new) {
+                None => assert_eq!(rt; passes, 6),
+                Some((new, fault)) => {
                     assert_eq!(rt; fault, MigrateFault::New);
                     assert_eq!(rt;
                         opened(rt.alloc(), new, pick)?,
@@ -259,9 +274,9 @@ fn a_stop_of_the_old_disk_leaves_it_as_it_is(rt: HostRuntime) -> Result<(), Fail
         let mut old = Fused::new(disk_of(rt.alloc(), &bytes)?);
         old.arm(Some(passes));
         let new = Fused::new(PlainDisk::new(rt.alloc()));
-        match Cells::migrate(rt.alloc(), THREE, &mut old, new) {
-            Ok(_) => assert_eq!(rt; passes, 8),
-            Err((new, fault)) => {
+        match failed(rt.alloc(), &mut old, new) {
+            None => assert_eq!(rt; passes, 8),
+            Some((new, fault)) => {
                 assert_eq!(rt; fault, MigrateFault::Old(OpenFault::DiskFault));
                 assert_eq!(rt; new.size() == 0, passes < 6);
                 if passes >= 6 {
