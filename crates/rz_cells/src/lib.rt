@@ -7,8 +7,8 @@
 //!
 //! The contracts say what the text of a disk stands for: a geometry, a fence and a map from key and
 //! stamp to the record that is held. Each call says on every exit, also where a device call failed,
-//! what the images of the disk stand for. They say nothing of a disk that swaps old contents in, and
-//! nothing of what an untold disk holds.
+//! what the images of the disk stand for. They say nothing of a disk that gives back bytes from before a
+//! later write, and nothing of what an untold disk holds.
 //!
 //! A disk of version 1, with one cell where there is now a pair, is carried over onto a new disk. The old
 //! disk is only read, and the gate of the new one's header is opened last, so that a stop leaves the old

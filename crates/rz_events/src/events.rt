@@ -186,7 +186,8 @@ pub enum Event {
     },
 }
 
-/// Who owns a word. An event moves the word of its owner by one.
+/// Which stream of the log an event belongs to: the export's, a node's, or an actor's own. An event moves
+/// its stream's word by one.
 #[derive(Clone, Copy, Debug, PartialEq, Eq, Drop)]
 pub enum Word {
     Export,
