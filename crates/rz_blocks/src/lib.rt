@@ -10,6 +10,3 @@
 mod blocks;
 
 pub use blocks::Blocks;
-
-#[cfg(test)]
-mod tests;

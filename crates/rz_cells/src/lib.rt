@@ -33,8 +33,6 @@ mod opening;
 mod reading;
 mod room;
 mod switching;
-#[cfg(test)]
-mod tests;
 
 pub use cells::{Cells, DiskFault};
 pub use formatting::FormatFault;

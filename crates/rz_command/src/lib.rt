@@ -16,8 +16,6 @@ mod line;
 mod numbers;
 mod parser;
 mod reading;
-#[cfg(test)]
-mod tests;
 
 pub use command::{Command, Wanted, WordsError};
 pub use reading::wanted;

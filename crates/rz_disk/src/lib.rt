@@ -17,8 +17,6 @@ mod mem;
 mod plain;
 mod rot;
 mod storing;
-#[cfg(test)]
-mod tests;
 
 pub use disk::{Disk, DiskError, Failed};
 pub use file::FileDisk;

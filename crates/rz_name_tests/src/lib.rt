@@ -13,3 +13,5 @@ mod metadata;
 mod objects;
 #[cfg(test)]
 mod paths;
+#[cfg(test)]
+mod published;

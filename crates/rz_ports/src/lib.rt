@@ -15,8 +15,6 @@ mod memory_source;
 mod plan;
 mod sink;
 mod source;
-#[cfg(test)]
-mod tests;
 
 pub use adapter::{StdSink, StdSource};
 pub use memory_sink::{MemSink, PlainSink};

@@ -15,8 +15,6 @@
 mod faults;
 pub mod fields;
 mod reading;
-#[cfg(test)]
-mod tests;
 mod writing;
 
 pub use faults::{Field, RecordFault};

@@ -4,8 +4,12 @@
 #![tactic(auto)]
 
 #[cfg(test)]
+mod disks;
+#[cfg(test)]
 mod index;
 #[cfg(test)]
 mod nodes;
+#[cfg(test)]
+mod records;
 #[cfg(test)]
 mod versions;

@@ -6,8 +6,12 @@
 #[cfg(test)]
 mod placement;
 #[cfg(test)]
+mod ports;
+#[cfg(test)]
 mod printed;
 #[cfg(test)]
 mod scripts;
 #[cfg(test)]
 mod volumes;
+#[cfg(test)]
+mod words;

@@ -1,6 +1,6 @@
 //! Lines of the form, and lines near it that are refused, of which `clap` alone takes many.
 
-use crate::{Command, WordsError, wanted};
+use rz_command::{Command, WordsError, wanted};
 use std::alloc::{AllocError, Global};
 use std::test::Fail;
 

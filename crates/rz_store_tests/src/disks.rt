@@ -1,4 +1,4 @@
-use crate::{Disk, DiskError, FileDisk, Fused, MemDisk, PlainDisk, RotDisk, store};
+use rz_disk::{Disk, DiskError, FileDisk, Fused, MemDisk, PlainDisk, RotDisk, store};
 use std::alloc::Global;
 use std::fs;
 use std::test::Fail;

@@ -1,7 +1,7 @@
 //! The bytes of a header, and each call that takes memory, with ample memory.
 ghost use Rattle.std.specs.Prelude.{◌≡◌, IfOk, vec_len};
 
-use crate::{Cells, Geometry};
+use rz_cells::{Cells, Geometry};
 use rz_disk::{Disk, PlainDisk};
 use rz_events::{Key, Layout};
 use rz_record::Head;
@@ -78,7 +78,7 @@ fn words(alloc: Global, word: u64) -> Result<Vec<u64>, AllocError>
 }
 
 #[test]
-#[tactic(auto, using(crate::proofs::Made::goes_alone), unfolding(rz_record::specs::Record::bins_of))]
+#[tactic(auto, using(crate::proofs::Alone::goes_alone), unfolding(rz_record::specs::Record::bins_of))]
 fn bins_are_read(rt: HostRuntime) -> Result<(), Fail> {
     let Ok(mut cells) = Cells::format(rt.alloc(), ONE, 7, PlainDisk::new(rt.alloc())) else {
         return Err("not formatted")?;

@@ -1,6 +1,6 @@
 //! Keys of a few files, prepared, published, looked up, gone through and forgotten.
 
-use crate::Blocks;
+use rz_blocks::Blocks;
 use rz_events::{Key, Published};
 use std::alloc::AllocError;
 use std::test::Fail;

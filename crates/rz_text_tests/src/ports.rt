@@ -1,5 +1,7 @@
 //! Calls that fail by their numbers, and the adapters over a reader and a writer that falter.
-use crate::{Failed, MemSink, MemSource, PlainSink, PlainSource, Sink, Source, StdSink, StdSource};
+use rz_ports::{
+    Failed, MemSink, MemSource, PlainSink, PlainSource, Sink, Source, StdSink, StdSource,
+};
 use std::io;
 use std::io::{Error, ErrorKind, Read, Write};
 

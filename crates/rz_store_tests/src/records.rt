@@ -1,8 +1,8 @@
 //! The record of a small file's first write, and each refusal.
 ghost use Rattle.std.specs.Prelude.{◌≡◌, IfOk, vec_len};
 
-use crate::{Field, Head, RecordFault, decode_into, encode_into, head_of};
 use rz_events::{Key, Layout};
+use rz_record::{Field, Head, RecordFault, decode_into, encode_into, head_of};
 use std::alloc::{AllocError, Global};
 use std::test::Fail;
 
@@ -39,7 +39,7 @@ fn front(bytes: &[u8], size: usize) -> &[u8] {
 }
 
 /// The first write's record at position 0.
-#[tactic(auto, unfolding(crate::specs::Record::bins_of))]
+#[tactic(auto, unfolding(rz_record::specs::Record::bins_of))]
 fn spelled(alloc: Global) -> Result<Vec<u8>, AllocError> {
     let mut bins = words(alloc, 258, 0)?;
     bins[2] = u64::from_le_bytes(*b"hello\0\0\0");
@@ -63,7 +63,7 @@ fn writes_the_first_record(rt: HostRuntime) -> Result<(), Fail> {
 }
 
 /// Reads a record into so many words of 7.
-#[tactic(auto, using(crate::proofs::Codec::few_bins))]
+#[tactic(auto, using(crate::proofs::Bins::few_bins))]
 fn read(alloc: Global, bytes: &[u8]) -> Result<(Result<Head, RecordFault>, Vec<u64>), AllocError> {
     let mut bins = words(alloc, 2050, 7)?;
     let head = decode_into(bytes, &mut bins);
