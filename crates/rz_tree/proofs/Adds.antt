@@ -159,8 +159,8 @@ module _ (names : FinMap path_cmp ℕ) (table : Table) (made : ℕ) (kept : IsKe
         leads = leads_still;
         under = under_still;
         single = λ fid o at dir. elim (one-or-two nat_cmp_total nat_cmp-IsAntisymmetric fid (made + 1)) [
-          | inl same ↦ ap (paths_to (maps.insert names path (made + 1))) same ∙ count_new
-          | inr other ↦ count_old fid other ∙ kept.tree.single fid o (sym (old_object fid other) ∙ at) dir
+          | inl same ↦ let one : paths_to (maps.insert names path (made + 1)) fid ≡ 1 = ap (paths_to (maps.insert names path (made + 1))) same ∙ count_new in omega (arith, one)
+          | inr other ↦ subst (λ n. n ≤ 1) (sym (count_old fid other)) (kept.tree.single fid o (sym (old_object fid other) ∙ at) dir)
         ];
         drawn = λ fid there. elim (one-or-two nat_cmp_total nat_cmp-IsAntisymmetric fid (made + 1)) [
           | inl same ↦ omega arith

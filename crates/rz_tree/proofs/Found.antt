@@ -1,5 +1,5 @@
 -- What is found in kept names and objects is what the tree has.
-use Rattle.std.proofs.Common.{◌≡◌, ℕ, Bool, true, false, cond, List, [], ◌∷◌, Option, Some, None, sym, ap, ◌∙◌, refl}
+use Rattle.std.proofs.Common.{◌≡◌, ℕ, ◌≤◌, Bool, true, false, cond, List, [], ◌∷◌, Option, Some, None, sym, ap, ◌∙◌, refl, arith}
 use Rattle.std.specs.Option.{option_map, option_and_then, option_map_or}
 use Rattle.std.specs.Ordering.{nat_cmp}
 use Rattle.std.specs.FinMap as maps
@@ -17,6 +17,7 @@ use Rattle.rz_export_model.specs.TreeCalls.{attr_of}
 use Rattle.rz_tree.specs.Trees.{tree_of, IsKept}
 use Rattle.rz_tree.proofs.Tables.{get-objects, objects-changed}
 use Rattle.rz_tree.proofs.Files.{other-kind}
+use Rattle.rz_tree.proofs.Counts.{some-path}
 
 module _ (names : FinMap path_cmp ℕ) (table : Table) (made : ℕ) where
   map-then : (fid : ℕ) (o : Option Inode) → option_and_then (file_from fid) (option_map object_of o) ≡ option_and_then (λ i. file_from fid (object_of i)) o
@@ -46,13 +47,19 @@ module _ (names : FinMap path_cmp ℕ) (table : Table) (made : ℕ) where
       → tree_of names (changed_at table fid f) made ≡ with_object (tree_of names table made) fid g
   changed-kept fid f g same = ap (λ os. (let t : Tree = record { names = names; objects = os; made = made } in t)) (objects-changed table fid f g same)
 
-  links_step : (fid : ℕ) (i : Inode) (d : Bool) → is_dir i.kind ≡ d → maps.get table fid ≡ Some i → IsKept names table made → i.links ≡ cond d 1 (paths_to names fid)
-  links_step fid i true dir at kept = kept.counted fid i at ∙ kept.tree.single fid (object_of i) (get-objects table fid ∙ ap (option_map object_of) at) dir
-  links_step fid i false dir at kept = kept.counted fid i at
+  links_step : (path : Path) (fid : ℕ) (i : Inode) (d : Bool) → is_dir i.kind ≡ d → maps.get names path ≡ Some fid → maps.get table fid ≡ Some i → IsKept names table made
+      → i.links ≡ cond d 1 (paths_to names fid)
+  links_step path fid i true dir to at kept =
+      let most : paths_to names fid ≤ 1 = kept.tree.single fid (object_of i) (get-objects table fid ∙ ap (option_map object_of) at) dir in
+      let some : 1 ≤ paths_to names fid = some-path names path fid to in
+      let count : i.links ≡ paths_to names fid = kept.counted fid i at in
+      omega (arith, most, some, count)
+  links_step path fid i false dir to at kept = kept.counted fid i at
 
-  -- the kept count is the number of links
-  pub links-kept : (fid : ℕ) (i : Inode) → maps.get table fid ≡ Some i → IsKept names table made → i.links ≡ links_of (tree_of names table made) (found_of fid i)
-  links-kept fid i at kept = links_step fid i (is_dir i.kind) refl at kept
+  -- of an object at a path the kept count is the number of links
+  pub links-kept : (path : Path) (fid : ℕ) (i : Inode) → maps.get names path ≡ Some fid → maps.get table fid ≡ Some i → IsKept names table made
+      → i.links ≡ links_of (tree_of names table made) (found_of fid i)
+  links-kept path fid i to at kept = links_step path fid i (is_dir i.kind) refl to at kept
 
 -- the attributes of a found object
 pub attr-found : (t : Tree) (fid : ℕ) (i : Inode) → i.links ≡ links_of t (found_of fid i) → attr_kept fid i ≡ attr_of t (found_of fid i)

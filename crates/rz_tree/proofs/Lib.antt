@@ -17,3 +17,6 @@ mod Calls
 mod Replacing
 mod Replies
 mod PartPlaces
+pub mod Lasts
+pub mod PartLaws
+mod Adding

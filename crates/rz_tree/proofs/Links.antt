@@ -21,7 +21,7 @@ use Rattle.rz_tree.proofs.Takes.{insert-same}
 zero_plus : (n : ℕ) → 0 + n ≡ n
 zero_plus n = omega arith
 
-module _ (t : Tree) (rules : IsTree t) (to : Path) (fid : ℕ) (object : Object) (is : maps.get t.objects fid ≡ Some object) (leaf : is_dir object.kind ≡ false)
+module _ (t : Tree) (rules : IsTree t) (to : Path) (fid : ℕ) (object : Object) (is : maps.get t.objects fid ≡ Some object) (free : is_dir object.kind ≡ true → paths_to t.names fid ≡ 0)
     (absent : maps.get t.names to ≡ None) (parent : is_at t (above to) is_dir ≡ true) where
   dir_stays : (q : Path) → is_at t q is_dir ≡ true → is_at (with_name t to fid) q is_dir ≡ true
   dir_stays q h =
@@ -53,15 +53,24 @@ module _ (t : Tree) (rules : IsTree t) (to : Path) (fid : ℕ) (object : Object)
     root = dir_stays [] rules.root;
     leads = leads_still;
     under = under_still;
-    single = λ f o at dir.
-        count-insert t.names to fid f absent
-        ∙ ap (λ n. n + paths_to t.names f) (one_if-other fid f (λ same. false-true (sym leaf ∙ ap (λ (x : Object). is_dir x.kind) (same_some object o (sym is ∙ ap (maps.get t.objects) same ∙ at)) ∙ dir)))
-        ∙ zero_plus (paths_to t.names f) ∙ rules.single f o at dir;
+    single = λ f o at dir. elim (one-or-two nat_cmp_total nat_cmp-IsAntisymmetric f fid) [
+      | inl same ↦
+          let first : paths_to t.names fid ≡ 0 = free (ap (λ (x : Object). is_dir x.kind) (same_some object o (sym is ∙ ap (maps.get t.objects) (sym same) ∙ at)) ∙ dir) in
+          let one : paths_to (maps.insert t.names to fid) f ≡ 1 + 0 =
+          ap (paths_to (maps.insert t.names to fid)) same ∙ count-insert t.names to fid fid absent ∙ ap (λ n. n + paths_to t.names fid) (one_if-same fid) ∙ ap (λ n. 1 + n) first in
+          omega (arith, one)
+      | inr other ↦
+          let as_before : paths_to (maps.insert t.names to fid) f ≡ paths_to t.names f =
+          count-insert t.names to fid f absent
+          ∙ ap (λ n. n + paths_to t.names f) (one_if-other fid f (λ same. false-true (sym other ∙ ap (λ n. eq_by_cmp nat_cmp n fid) (sym same) ∙ ties-itself nat_cmp_total nat_cmp-IsAntisymmetric fid)))
+          ∙ zero_plus (paths_to t.names f) in
+          subst (λ n. n ≤ 1) (sym as_before) (rules.single f o at dir)
+    ];
     drawn = rules.drawn;
   }
 
 module _ (names : FinMap path_cmp ℕ) (table : Table) (made : ℕ) (kept : IsKept names table made) (to : Path) (fid : ℕ) (i : Inode)
-    (is : maps.get table fid ≡ Some i) (leaf : is_dir i.kind ≡ false)
+    (is : maps.get table fid ≡ Some i) (free : is_dir i.kind ≡ true → paths_to names fid ≡ 0)
     (absent : maps.get names to ≡ None) (parent : is_at (tree_of names table made) (above to) is_dir ≡ true) where
   abbrev next : Table
   next = changed_at table fid (with_links (i.links + 1))
@@ -99,6 +108,6 @@ module _ (names : FinMap path_cmp ℕ) (table : Table) (made : ℕ) (kept : IsKe
 
   pub linked-kept : IsKept (maps.insert names to fid) next made
   linked-kept = record {
-    tree = subst IsTree (sym linked-tree) (named-rules (tree_of names table made) kept.tree to fid (object_of i) seen leaf absent parent);
+    tree = subst IsTree (sym linked-tree) (named-rules (tree_of names table made) kept.tree to fid (object_of i) seen free absent parent);
     counted = counted_still;
   }

@@ -1,5 +1,5 @@
 -- A tree in which a path, and all below it, go to another.
-use Rattle.std.proofs.Common.{◌≡◌, ℕ, suc, ◌+◌, ◌<◌, Bool, true, false, cond, ◌&&◌, [], ◌∷◌, ◌++◌, length, drop, Option, Some, None, is_some, sym, ap, ◌∙◌, refl, arith, inl, inr, ◌⊎◌, append_assoc}
+use Rattle.std.proofs.Common.{◌≡◌, ℕ, suc, ◌+◌, ◌<◌, ◌≤◌, Bool, true, false, cond, ◌&&◌, [], ◌∷◌, ◌++◌, length, drop, Option, Some, None, is_some, sym, ap, ◌∙◌, subst, refl, arith, inl, inr, ◌⊎◌, append_assoc}
 use Rattle.std.specs.Ordering.{eq_by_cmp}
 use Rattle.std.specs.FinMap as maps
 use Rattle.std.specs.FinMap.{FinMap, same_map}
@@ -154,7 +154,7 @@ module _ (t : Tree) (rules : IsTree t) (p to : Path) (away : begins_with p to �
     root = dir_stays [] not_to_root not_from_root rules.root;
     leads = leads_still;
     under = under_still;
-    single = λ f o at dir. count-moved t.names p to clear f ∙ rules.single f o at dir;
+    single = λ f o at dir. subst (λ n. n ≤ 1) (sym (count-moved t.names p to clear f)) (rules.single f o at dir);
     drawn = rules.drawn;
   }
 

@@ -186,7 +186,7 @@ module _ (i : Inode) (object : object_of i ≡ new_dir) (links : i.links ≡ 1) 
           ∙ ap is_some (get-objects (alone i) 0 ∙ ap (option_map object_of) at_root);
       under = λ path name there. absurd (false-true (sym (ap is_some (
           get-beside paths_total exact_paths maps.empty [] 0 (path ++ name ∷ []) (more_apart path name) ∙ get-empty path_cmp (path ++ name ∷ []))) ∙ there));
-      single = λ fid o at dir. ap (paths_to root_alone) (only_root fid (ap is_some at)) ∙ one_root;
+      single = λ fid o at dir. let one : paths_to root_alone fid ≡ 1 = ap (paths_to root_alone) (only_root fid (ap is_some at)) ∙ one_root in omega (arith, one);
       drawn = λ fid there. let none : fid ≡ 0 = only_root fid there in omega arith;
     };
     counted = λ fid x at.

@@ -14,7 +14,7 @@ use Rattle.rz_tree.specs.Inodes.{Table, object_of, found_of, objects_of, with_li
 use Rattle.rz_tree.specs.Trees.{tree_of, IsKept}
 use Rattle.rz_tree.proofs.Keys.{same_some, not_none, false-true, one-or-two, ties-itself, apart, get-inserted, get-beside, get-removed, get-left}
 use Rattle.rz_tree.proofs.Tables.{get-objects, objects-insert, objects-remove}
-use Rattle.rz_tree.proofs.Counts.{one_if, count-remove, two-paths, one_if-same, one_if-other}
+use Rattle.rz_tree.proofs.Counts.{one_if, count-remove, two-paths, some-path, one_if-same, one_if-other}
 use Rattle.rz_tree.proofs.Fronts.{not-root-more}
 use Rattle.rz_tree.proofs.Found.{found-kept, links-kept}
 use Rattle.rz_tree.proofs.Rules.{DirAt, dir-found, dir-is, from-map}
@@ -54,9 +54,9 @@ module _ (names : FinMap path_cmp ℕ) (table : Table) (made : ℕ) (kept : IsKe
   -- no directory has two paths
   single_dir : (q : Path) (f : ℕ) (o : Object) → maps.get names q ≡ Some f → maps.get (objects_of table) f ≡ Some o → is_dir o.kind ≡ true → eq_by_cmp path_cmp q path ≡ false → f ≡ fid → ⊥
   single_dir q f o at_q is_q dir apart_q same =
-      let one : paths_to names f ≡ 1 = kept.tree.single f o is_q dir in
+      let one : paths_to names f ≤ 1 = kept.tree.single f o is_q dir in
       let two : 2 ≤ paths_to names fid = two-paths names path q fid at (at_q ∙ ap Some same) apart_q in
-      let one_fid : paths_to names fid ≡ 1 = ap (paths_to names) (sym same) ∙ one in
+      let one_fid : paths_to names fid ≤ 1 = subst (λ n. paths_to names n ≤ 1) same one in
       omega (arith, two, one_fid)
 
   dir_left : (b : Bool) (q : Path) → eq_by_cmp path_cmp q path ≡ false → is_at (tree_of names table made) q is_dir ≡ true → is_at (tree_of (maps.remove names path) (next b) made) q is_dir ≡ true
@@ -108,17 +108,19 @@ module _ (names : FinMap path_cmp ℕ) (table : Table) (made : ℕ) (kept : IsKe
   count_less : paths_to names fid ≡ 1 + paths_to (maps.remove names path) fid
   count_less = count-remove names path fid fid at ∙ ap (λ n. n + paths_to (maps.remove names path) fid) (one_if-same fid)
 
-  single_left : (b : Bool) → (i.links == 1) ≡ b → (f : ℕ) (o : Object) → maps.get (objects_of (next b)) f ≡ Some o → is_dir o.kind ≡ true → paths_to (maps.remove names path) f ≡ 1
+  single_left : (b : Bool) → (i.links == 1) ≡ b → (f : ℕ) (o : Object) → maps.get (objects_of (next b)) f ≡ Some o → is_dir o.kind ≡ true → paths_to (maps.remove names path) f ≤ 1
   single_left b h f o there dir = elim (one-or-two nat_cmp_total nat_cmp-IsAntisymmetric f fid) [
     | inl same ↦ same_single b h (sym (ap (maps.get (objects_of (next b))) same) ∙ there)
-    | inr apart_f ↦ count_beside f apart_f ∙ kept.tree.single f o (sym (seen_beside b f apart_f) ∙ there) dir
+    | inr apart_f ↦ subst (λ n. n ≤ 1) (sym (count_beside f apart_f)) (kept.tree.single f o (sym (seen_beside b f apart_f) ∙ there) dir)
   ]
     where
-      same_single : (b : Bool) → (i.links == 1) ≡ b → maps.get (objects_of (next b)) fid ≡ Some o → paths_to (maps.remove names path) f ≡ 1
+      same_single : (b : Bool) → (i.links == 1) ≡ b → maps.get (objects_of (next b)) fid ≡ Some o → paths_to (maps.remove names path) f ≤ 1
       same_single true h gone = absurd (not_none o (sym gone ∙ get-objects (maps.remove table fid) fid ∙ ap (option_map object_of) (get-removed nat_cmp_total nat_cmp-IsAntisymmetric table fid)))
       same_single false h there =
           let seen : object_of i ≡ o = same_some (object_of i) o (sym (get-objects (next false) fid ∙ ap (option_map object_of) (get-inserted nat_cmp_total nat_cmp-IsAntisymmetric table fid (with_links (i.links - 1) i))) ∙ there) in
-          let one : paths_to names fid ≡ 1 = kept.tree.single fid (object_of i) seen_before (ap (λ (x : Object). is_dir x.kind) seen ∙ dir) in
+          let most : paths_to names fid ≤ 1 = kept.tree.single fid (object_of i) seen_before (ap (λ (x : Object). is_dir x.kind) seen ∙ dir) in
+          let some : 1 ≤ paths_to names fid = some-path names path fid at in
+          let one : paths_to names fid ≡ 1 = omega (arith, most, some) in
           absurd (false-true (sym h ∙ eq-eqb i.links 1 (count ∙ one)))
 
   drawn_left : (b : Bool) (f : ℕ) → is_some (maps.get (objects_of (next b)) f) ≡ true → f ≤ made
@@ -166,7 +168,7 @@ module _ (names : FinMap path_cmp ℕ) (table : Table) (made : ℕ) (kept : IsKe
   taken-tree =
       let t : Tree = tree_of names table made in
       let found : found_at t path ≡ Some (found_of fid i) = sym (found-kept names table made path fid (Some i) (sym at) (sym is)) in
-      let links : i.links ≡ links_of t (found_of fid i) = links-kept names table made fid i is kept in
+      let links : i.links ≡ links_of t (found_of fid i) = links-kept names table made path fid i at is kept in
       let with_objects : FinMap nat_cmp Object → Tree = λ os. record { names = maps.remove names path; objects = os; made = made } in
       ap (λ m. with_objects (objects_of m)) release-is ∙ ap with_objects (objects_left (i.links == 1))
       ∙ ap (λ n. with_objects (cond (n == 1) (maps.remove (objects_of table) fid) (objects_of table))) links

@@ -2,3 +2,4 @@ pub mod Inodes
 pub mod Trees
 pub mod Calls
 pub mod Parts
+pub mod Added

@@ -19,8 +19,8 @@ pub record IsTree (t : Tree) : Type 0 where
   pub leads : (path : Path) (fid : ℕ) → maps.get t.names path ≡ Some fid → IsSome (maps.get t.objects fid)
   -- each path but the root stands right under a directory
   pub under : (path : Path) (name : Name) → IsSome (maps.get t.names (path ++ name ∷ [])) → IsTrue (is_at t path is_dir)
-  -- one path leads to a directory
-  pub single : (fid : ℕ) (o : Object) → maps.get t.objects fid ≡ Some o → IsTrue (is_dir o.kind) → paths_to t.names fid ≡ 1
+  -- no two paths lead to one directory
+  pub single : (fid : ℕ) (o : Object) → maps.get t.objects fid ≡ Some o → IsTrue (is_dir o.kind) → paths_to t.names fid ≤ 1
   -- no object has a number above the one that was made last
   pub drawn : (fid : ℕ) → IsSome (maps.get t.objects fid) → fid ≤ t.made
 

@@ -5,10 +5,11 @@
 //! function on these maps: what it replies, and which maps it leaves. A refused call changes nothing,
 //! and neither does one for which memory is wanting. Nothing is said of the blocks of files.
 //!
-//! In reading order: `inodes`, `tree`, `faults`, `looks`, `makes`, `changes`, `renames`, `answer`, `parts`.
+//! In reading order: `inodes`, `tree`, `faults`, `looks`, `makes`, `changes`, `renames`, `answer`, `parts`, `building`.
 #![tactic(auto)]
 
 mod answer;
+mod building;
 mod changes;
 mod faults;
 mod inodes;

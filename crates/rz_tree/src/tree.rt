@@ -12,7 +12,7 @@ use std::alloc::{AllocError, Global};
 use std::marker::Model;
 
 /// The number of the root.
-const ROOT: u128 = 0;
+pub const ROOT: u128 = 0;
 
 /// The mode of a new directory.
 pub const DIRECTORY_MODE: u16 = 0o755;

@@ -13,6 +13,7 @@ use Rattle.rz_tree.specs.Trees.{tree_of, IsKept}
 use Rattle.rz_tree.proofs.Adds.{above-there, above-dir, absent-name}
 use Rattle.rz_tree.proofs.Calls.{whole-path, no-links, seen, at-dir, link-leaf, link-walk, link-absent}
 use Rattle.rz_tree.proofs.Links.{linked-kept, linked-tree}
+use Rattle.rz_tree.proofs.Keys.{false-true}
 use Rattle.rz_tree.proofs.Rules.{from-map}
 use Rattle.rz_tree.proofs.tree.Tree.add_name.Goals as goal
 
@@ -46,7 +47,7 @@ invariant_of-self-2 c =
     subst (λ n. IsKept n c.set_links.new.self c.self.inside.made) (sym c.in_ok-add.ensures.ok)
     (subst (λ m. IsKept (maps.insert c.self.inside.names q fid) m c.self.inside.made)
     (sym (c.set_links.ensures ∙ ap (λ n. changed_at c.self.inside.inodes fid (with_links (n + 1))) (sym object.2)))
-    (linked-kept c.self.inside.names c.self.inside.inodes c.self.inside.made c.self.invariant q fid object.0 object.1 leaf
+    (linked-kept c.self.inside.names c.self.inside.inodes c.self.inside.made c.self.invariant q fid object.0 object.1 (λ dir. absurd (false-true (sym leaf ∙ dir)))
     (absent-name t c.self.invariant.tree q (link-absent t p q free)) (above-dir t c.self.invariant.tree q c.requires.below (link-walk t p q free))))
 
 pub returns-clause-ok : goal.returns-clause-ok
@@ -63,6 +64,6 @@ returns-clause-ok c =
     sym (at-dir t p fid (object_of object.0) at (seen c.self.inside.names c.self.inside.inodes c.self.inside.made c.self.invariant fid object.0 object.1)) ∙ link-leaf t p q free in
     ap (λ n. tree_of n c.set_links.new.self c.self.inside.made) c.in_ok-add.ensures.ok
     ∙ ap (λ m. tree_of (maps.insert c.self.inside.names q fid) m c.self.inside.made) (c.set_links.ensures ∙ ap (λ n. changed_at c.self.inside.inodes fid (with_links (n + 1))) (sym object.2))
-    ∙ linked-tree c.self.inside.names c.self.inside.inodes c.self.inside.made c.self.invariant q fid object.0 object.1 leaf
+    ∙ linked-tree c.self.inside.names c.self.inside.inodes c.self.inside.made c.self.invariant q fid object.0 object.1 (λ dir. absurd (false-true (sym leaf ∙ dir)))
     (absent-name t c.self.invariant.tree q (link-absent t p q free)) (above-dir t c.self.invariant.tree q c.requires.below (link-walk t p q free))
     ∙ sym (ap (λ f. option_map_or (λ x. with_name t q x) f t) at) ∙ ap (λ s. with_name_of s p q) c.self.view_is

@@ -20,5 +20,5 @@ returns-clause-found c =
 
 pub returns-clause-links : goal.returns-clause-links
 returns-clause-links c =
-    links-kept c.self.inside.names c.self.inside.inodes c.self.inside.made c.in_ok-fid.fid c.in_ok-inode.inode.now (sym c.get.ensures ∙ ap option_copied c.in_ok-inode.was) c.self.invariant
+    links-kept c.self.inside.names c.self.inside.inodes c.self.inside.made (take c.args.count c.args.path.now) c.in_ok-fid.fid c.in_ok-inode.inode.now (sym c.find.ensures ∙ c.in_ok-fid.was) (sym c.get.ensures ∙ ap option_copied c.in_ok-inode.was) c.self.invariant
     ∙ ap (λ t. links_of t (found_of c.in_ok-fid.fid c.in_ok-inode.inode.now)) c.self.view_is
