@@ -11,3 +11,6 @@ pub mod Replies
 pub mod Released
 pub mod TreeStates
 mod PartPlaces
+mod Built
+pub mod Joined
+pub mod SameParts

@@ -2,7 +2,7 @@
 use Rattle.std.proofs.Common.{◌≡◌, ℕ, ◌+◌, ◌-◌, ◌≤◌, Bool, true, false, cond, List, map, Option, Some, None, is_some, sym, ap, ◌∙◌, refl, arith, eqb-true}
 use Rattle.std.specs.Option.{option_and_then}
 use Rattle.std.specs.FinMap as maps
-use Rattle.std.specs.FinMap.{get-entries, len-remove}
+use Rattle.std.specs.FinMap.{get-entries}
 use Rattle.std.proofs.lemmas.List.Elements.{All-map, All-weaker}
 use Rattle.std.proofs.lemmas.Option.{same_Some}
 use Rattle.rz_events.specs.Keys.{keys_total}
@@ -48,14 +48,6 @@ counted-out t m ns info k first lies all =
         = counts-view t node k b.0 ∙ ap (λ o. counts_at node o b.0.published) there ∙ ap (is_named node info.places) (sym (ap (option_and_then (λ (x : Block). x.published)) b.1)) in
         moved-down (is_named node info.places (published_of m k)) old (used_in t (maps.remove m k) node)
         (ap (λ (x : Bool). used_in t (maps.remove m k) node + one_if x) (sym told) ∙ count-remove (lies_on t node) m k b.0 b.1 ∙ sym is)
-
--- a block less is not more
-pub fewer-left : (m : Blocks) (k : Key) → maps.len (maps.remove m k) ≤ maps.len m
-fewer-left m k = go (is_some (maps.get m k)) (len-remove keys_total m k)
-  where
-    go : (b : Bool) → maps.len (maps.remove m k) ≡ cond b (maps.len m - 1) (maps.len m) → maps.len (maps.remove m k) ≤ maps.len m
-    go true e = omega arith
-    go false e = omega arith
 
 -- the blocks of a file that goes are taken away
 pub settled-some : (m : Blocks) (r : TreeReply) (info : FileInfo) → gone_in r ≡ Some info → without_file m info.fid ≡ blocks_after m r

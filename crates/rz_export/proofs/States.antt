@@ -77,10 +77,6 @@ begun-prepared m k n = same_map keys_total exact_keys _ _ (λ q.
 
 -- ---- the rules
 
-at_most : (b : Bool) (n l : ℕ) → n ≤ l → cond b n (n + 1) ≤ l + 1
-at_most true n l low = omega arith
-at_most false n l low = omega arith
-
 cancel : (a b x y : ℕ) → a + x ≡ b + y → x ≡ y → a ≡ b
 cancel a b x y e is = omega arith
 
@@ -114,7 +110,6 @@ module _ (v : Volume) (t : Tree) (m : Blocks) (ns : List KeptNode) (rs : Marks) 
     room = room-kept t m rs more w.kept h.room;
     made = h.made;
     each_block = h.each_block;
-    few = h.few;
   }
 
   -- no number above the last one was drawn
@@ -167,10 +162,9 @@ module _ (v : Volume) (t : Tree) (m : Blocks) (ns : List KeptNode) (rs : Marks) 
       room = room-set t m rs key newly_begun places lies roomy h.room;
       made = h.made;
       each_block = λ k b at. begun_block k b (eq_by_cmp key_cmp k key) refl (sym (get-insert keys_total m key newly_begun k) ∙ at);
-      few = subst (λ n. n ≤ last + 1) (sym (len-insert keys_total m key newly_begun)) (at_most (is_some (maps.get m key)) (maps.len m) last h.few);
     }
 
-  module _ (key : Key) (info : FileInfo) (p : Published) (size : ℕ) (live : file_of t key.fid ≡ Some info) (b0 : Block) (there : maps.get m key ≡ Some b0) (word : last < 2 ^ 64)
+  module _ (key : Key) (info : FileInfo) (p : Published) (size : ℕ) (live : file_of t key.fid ≡ Some info) (b0 : Block) (there : maps.get m key ≡ Some b0) (short : maps.len m < 2 ^ 64)
       (new : Marks) (remarked : IsRemarked rs new key info.places (published_of (with_published m key p) key)) where
     abbrev u : Tree
     u = grown t key.fid size
@@ -188,10 +182,8 @@ module _ (v : Volume) (t : Tree) (m : Blocks) (ns : List KeptNode) (rs : Marks) 
     after-is : published_of after key ≡ Some (newer_of (published_of m key) p)
     after-is = ap (option_and_then (λ (b : Block). b.published)) (get-own m key w)
 
-    len_after : maps.len after ≤ last
-    len_after =
-        let e : maps.len after ≡ maps.len m = len-insert keys_total m key w ∙ ap (λ o. cond (is_some o) (maps.len m) (maps.len m + 1)) there in
-        let low = h.few in omega (arith, e, low)
+    len_after : maps.len after ≡ maps.len m
+    len_after = len-insert keys_total m key w ∙ ap (λ o. cond (is_some o) (maps.len m) (maps.len m + 1)) there
 
     used_after : (node old : ℕ) → old ≡ used_in t m node → moved (is_named node info.places (published_of m key)) (is_named node info.places (published_of after key)) old ≡ used_in u after node
     used_after node old is =
@@ -204,7 +196,7 @@ module _ (v : Volume) (t : Tree) (m : Blocks) (ns : List KeptNode) (rs : Marks) 
         let total = moved_sum (used_in t after node) (used_in t m node) (one_if (at_key (lies_on t node) key (maps.get m key))) (one_if (lies_on t node (key, w)))
         (one_if (is_named node info.places (published_of m key))) (one_if (is_named node info.places (published_of after key))) count (ap one_if was) (ap one_if now) in
         let few : used_in t after node ≤ maps.len after = count-len (lies_on t node) after in
-        let low : used_in t after node < 2 ^ 64 = (let most = len_after in omega (arith, few, most, word)) in
+        let low : used_in t after node < 2 ^ 64 = (let most = len_after in omega (arith, few, most, short)) in
         ap (moved (is_named node info.places (published_of m key)) (is_named node info.places (published_of after key))) is
         ∙ moved-count (is_named node info.places (published_of m key)) (is_named node info.places (published_of after key)) (used_in t m node) (used_in t after node) total low
         ∙ sym kept
@@ -243,7 +235,6 @@ module _ (v : Volume) (t : Tree) (m : Blocks) (ns : List KeptNode) (rs : Marks) 
               (room-set t m new key w info.places lies roomy (room-kept t m rs new (λ l q had. remarked.room l q ∙ had) h.room));
           made = (grows t key.fid size h.made).blank;
           each_block = λ k b at. same-block t u last k b (same k.fid) (after_block k b (eq_by_cmp key_cmp k key) refl (sym (get-insert keys_total m key w k) ∙ at));
-          few = len_after;
         }
 
   -- after a fence
@@ -257,7 +248,6 @@ module _ (v : Volume) (t : Tree) (m : Blocks) (ns : List KeptNode) (rs : Marks) 
     room = h.room;
     made = h.made;
     each_block = λ k b at. later-block t last k b (h.each_block k b at);
-    few = (let low = h.few in omega (arith, low));
   }
 
 abbrev no_blocks : Blocks
@@ -277,7 +267,6 @@ kept-new v rs last none = record {
   made = λ fid up. get-insert nat_cmp_total no_objects 0 new_dir fid
       ∙ ap (λ b. cond b (Some new_dir) (maps.get no_objects fid)) (apart fid 0 (λ is. omega (arith, is, up))) ∙ get-empty nat_cmp fid;
   each_block = λ k b at. (let none : maps.get no_blocks k ≡ None = get-empty key_cmp k in cc);
-  few = (let e : maps.len no_blocks ≡ 0 = len-empty key_cmp Block in omega (arith, e));
 }
   where
     none_used : (node : ℕ) → (let n : ℕ = 0 in n) ≡ used_in empty_tree no_blocks node

@@ -75,9 +75,9 @@ stays m (_) k b at = (at, refl)
 
 -- after a call on names
 pub kept-name : (v : Volume) (t u : Tree) (m after : Blocks) (r : TreeReply) (ns new : List KeptNode) (rs marks : Marks) (last : ℕ) → IsKept v t m ns rs last → IsStep t u r
-    → after ≡ blocks_after m r → maps.len after ≤ maps.len m → map (λ (n : KeptNode). n.spec) new ≡ map (λ (n : KeptNode). n.spec) ns → AreCounted t after new
+    → after ≡ blocks_after m r → map (λ (n : KeptNode). n.spec) new ≡ map (λ (n : KeptNode). n.spec) ns → AreCounted t after new
     → AreMarked t after marks → HaveRoom t after marks → IsKept v u after new marks last
-kept-name v t u m after r ns new rs marks last h s is few specs counted marked room = record {
+kept-name v t u m after r ns new rs marks last h s is specs counted marked room = record {
   all_nodes = specs ∙ h.all_nodes;
   counted = All-weaker (λ (n : KeptNode). n.used ≡ used_in t after n.spec.sid) (λ (n : KeptNode). n.used ≡ used_in u after n.spec.sid)
       (λ n e. e ∙ sym (used-alike t u after n.spec.sid lies)) new counted;
@@ -85,7 +85,6 @@ kept-name v t u m after r ns new rs marks last h s is few specs counted marked r
   room = room-alike t u after marks lies room;
   made = s.blank;
   each_block = λ k b at. same-block t u last k b (lies k b at) (h.each_block k b (stays m r k b (ap (λ x. maps.get x k) (sym is) ∙ at)).0);
-  few = (let low = h.few in omega (arith, low, few));
 }
   where
     lies : (k : Key) (b : Block) → maps.get after k ≡ Some b → view u.objects k.fid ≡ view t.objects k.fid

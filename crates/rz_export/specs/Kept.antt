@@ -66,8 +66,6 @@ pub record IsKept (volume : Volume) (t : Tree) (blocks : Blocks) (nodes : List K
   -- no object has a number above the one that was made last
   pub made : (fid : ℕ) → t.made < fid → maps.get t.objects fid ≡ None
   pub each_block : (key : Key) (b : Block) → maps.get blocks key ≡ Some b → IsBlock t last key b
-  -- each begin drew a number
-  pub few : maps.len blocks ≤ last
 
 -- whether a node is one of these
 abbrev pub is_place : ℕ → List ℕ → Bool

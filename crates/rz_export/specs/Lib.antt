@@ -2,3 +2,4 @@ pub mod Nodes
 pub mod Kept
 pub mod Calls
 pub mod Parts
+pub mod Building

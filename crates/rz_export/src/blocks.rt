@@ -125,6 +125,8 @@ impl Export {
         requires fits { published.length ≤ block_bytes_of self.old.volume.layout }
         ensures { self.new ≡ after_publish self.old key published }
     {
+        // The number of all blocks fits a word, and so the number of those on a node does.
+        let _count = self.blocks.len();
         let size = self.end_of(key, published.length);
         self.tree.grow(key.fid, size);
         let before = self.blocks.look(key);

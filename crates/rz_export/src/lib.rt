@@ -7,10 +7,11 @@
 //! caller did at the nodes before is not asked here.
 //!
 //! In reading order: `nodes`, `lists`, `export`, `refusals`, `blocks`, `listings`, `releases`,
-//! `calls`, `enrolments`, `parts`.
+//! `calls`, `enrolments`, `parts`, `building`.
 #![tactic(auto)]
 
 mod blocks;
+mod building;
 mod calls;
 mod enrolments;
 mod export;

@@ -1,7 +1,6 @@
 //! The blocks of a file that goes, with what is counted and marked of them.
 
-ghost use Rattle.std.specs.Prelude.{◌≡◌, ◌≤◌, map, Some};
-ghost use Rattle.std.specs.FinMap as maps;
+ghost use Rattle.std.specs.Prelude.{◌≡◌, map, Some};
 ghost use Rattle.rz_export_model.specs.Tree.{Tree};
 ghost use Rattle.rz_export_model.specs.Export.{without_file, blocks_after};
 ghost use Rattle.rz_export.specs.Nodes.{enrolments_of};
@@ -16,7 +15,6 @@ use rz_marks::Marks;
 /// Takes all blocks of a file away, and counts them out one by one.
 fn release(nodes: &mut [KeptNode], blocks: &mut Blocks, info: &FileInfo)
     ensures blocks { blocks.new ≡ without_file blocks.old info.now.fid }
-    ensures few { maps.len blocks.new ≤ maps.len blocks.old }
     ensures specs { map (λ n. n.spec) nodes.new ≡ map (λ n. n.spec) nodes.old }
     ensures enrolled { enrolments_of nodes.new ≡ enrolments_of nodes.old }
     ensures counted { (t : Tree) → lies_at t info.now.fid ≡ Some info.now.places → AreCounted t blocks.old nodes.old → AreCounted t blocks.new nodes.new }
@@ -33,7 +31,6 @@ fn release(nodes: &mut [KeptNode], blocks: &mut Blocks, info: &FileInfo)
 /// Takes the blocks of the file away that a reply says to be gone, and its marks.
 pub fn settle(nodes: &mut [KeptNode], blocks: &mut Blocks, listed: &mut Marks, reply: &TreeReply)
     ensures blocks { blocks.new ≡ blocks_after blocks.old reply.now }
-    ensures few { maps.len blocks.new ≤ maps.len blocks.old }
     ensures specs { map (λ n. n.spec) nodes.new ≡ map (λ n. n.spec) nodes.old }
     ensures enrolled { enrolments_of nodes.new ≡ enrolments_of nodes.old }
     ensures counted { (t : Tree) → LayThere t reply.now → AreCounted t blocks.old nodes.old → AreCounted t blocks.new nodes.new }

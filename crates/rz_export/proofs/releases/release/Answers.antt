@@ -1,4 +1,4 @@
-use Rattle.std.proofs.Common.{◌≡◌, ◌<◌, ◌≤◌, None, List, map, sym, ap, ◌∙◌, subst, refl, arith}
+use Rattle.std.proofs.Common.{◌≡◌, ◌<◌, None, List, map, sym, ap, ◌∙◌, subst, refl}
 use Rattle.std.specs.FinMap as maps
 use Rattle.rz_export_model.specs.Export.{Blocks, without_file, published_of}
 use Rattle.rz_export.specs.declared.nodes.KeptNode.{KeptNode}
@@ -6,7 +6,7 @@ use Rattle.rz_export.specs.Nodes.{enrolments_of, recounted}
 use Rattle.rz_export.specs.Kept.{AreCounted}
 use Rattle.rz_export.proofs.Enrolled.{map-same, enrolments-same}
 use Rattle.rz_export.proofs.Forgets.{forget-step, forget-end, forget-smaller}
-use Rattle.rz_export.proofs.Released.{counted-out, fewer-left}
+use Rattle.rz_export.proofs.Released.{counted-out}
 use Rattle.rz_export.proofs.releases.release.Goals as goal
 
 pub loop-key-smaller : goal.loop-key-smaller
@@ -26,7 +26,6 @@ loop-key-preserved c =
     = c.recount.ensures ∙ ap (λ ps. map (recounted ps c.look-before.result None) ns) c.list.ensures.value ∙ ap (λ o. map (recounted info.places o None) ns) c.look-before.ensures in
     record {
       rest = ap (λ x. without_file x info.fid) c.take_out.ensures ∙ forget-step m info.fid key first ∙ c.loop-key.invariant.rest;
-      few = (let e = ap maps.len c.take_out.ensures in let low = fewer-left m key in let before = c.loop-key.invariant.few in omega (arith, e, low, before));
       specs = ap (map (λ (n : KeptNode). n.spec)) nodes ∙ map-same (λ (n : KeptNode). n.spec) f (λ n. refl) ns ∙ c.loop-key.invariant.specs;
       enrolled = ap enrolments_of nodes ∙ enrolments-same f (λ n. refl) ns ∙ c.loop-key.invariant.enrolled;
       counted = λ t lies all.
@@ -41,7 +40,6 @@ returns c =
     let same : c.forget.new.self ≡ left = c.forget.ensures ∙ sym done in
     record {
       blocks = c.forget.ensures ∙ c.loop-key.invariant.rest;
-      few = subst (λ (x : Blocks). maps.len x ≤ maps.len c.args.blocks.now) (sym same) c.loop-key.invariant.few;
       specs = c.loop-key.invariant.specs;
       enrolled = c.loop-key.invariant.enrolled;
       counted = λ t lies all. subst (λ (x : Blocks). AreCounted t x c.loop-key.nodes) (sym same) (c.loop-key.invariant.counted t lies all);

@@ -1,4 +1,4 @@
-use Rattle.std.proofs.Common.{◌≡◌, ◌≤◌, map, Some}
+use Rattle.std.proofs.Common.{◌≡◌, map, Some}
 use Rattle.std.specs.FinMap as maps
 use Rattle.rz_export_model.specs.Tree.{Tree}
 use Rattle.rz_export_model.specs.Export.{without_file}
@@ -11,7 +11,6 @@ use Rattle.rz_export.proofs.releases.release.Given as goal
 abbrev pub invariant-loop-key : goal.invariant-loop-key
 invariant-loop-key l = record {
   rest : without_file l.blocks l.info.fid ≡ without_file l.initial.blocks l.info.fid;
-  few : maps.len l.blocks ≤ maps.len l.initial.blocks;
   specs : map (λ (n : KeptNode). n.spec) l.nodes ≡ map (λ (n : KeptNode). n.spec) l.initial.nodes;
   enrolled : enrolments_of l.nodes ≡ enrolments_of l.initial.nodes;
   counted : (t : Tree) → lies_at t l.info.fid ≡ Some l.info.places → AreCounted t l.initial.blocks l.initial.nodes → AreCounted t l.blocks l.nodes;

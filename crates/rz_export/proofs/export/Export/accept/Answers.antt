@@ -47,7 +47,8 @@ invariant_of-self c =
     let items = with_items_is s.nodes c.recount.new.nodes (c.recount.auto.nodes ∙ c.as_mut_slice.ensures.len) in
     let live : file_of s.tree key.fid ≡ Some info = ap (λ (x : Export). file_of x.tree key.fid) c.self.view_is ∙ c.requires.live in
     let b = held-block (maps.get s.blocks key) (ap (λ (x : Export). is_some (maps.get x.blocks key)) c.self.view_is ∙ c.requires.begun) in
-    let word : s.last < 2 ^ 64 = omega arith in
+    let count : c.len-count.result ≡ maps.len s.blocks = c.len-count.ensures in
+    let short : maps.len s.blocks < 2 ^ 64 = omega (arith, count) in
     let marks = c.mark.new.listed in
     let remarked : IsRemarked s.listed marks key info.places new = record {
       marks = λ l q.
@@ -59,7 +60,7 @@ invariant_of-self c =
     subst (λ (ns : List KeptNode). IsKept s.volume c.grow.new.self c.publish.new.self ns marks s.last) (sym (items ∙ nodes))
     (subst (λ (t : Tree). IsKept s.volume t c.publish.new.self (map f s.nodes.items) marks s.last) (sym c.grow.ensures)
     (subst (λ (m : Blocks). IsKept s.volume (grown s.tree key.fid size) m (map f s.nodes.items) marks s.last) (sym c.publish.ensures)
-    (kept-publish s.volume s.tree s.blocks s.nodes.items s.listed s.last c.self.invariant key info p size live b.0 b.1 word marks remarked)))
+    (kept-publish s.volume s.tree s.blocks s.nodes.items s.listed s.last c.self.invariant key info p size live b.0 b.1 short marks remarked)))
 
 pub returns : goal.returns
 returns c =

@@ -35,7 +35,7 @@ invariant_of-self-2 c =
     let specs = c.settle.ensures.specs ∙ ap (map (λ (n : KeptNode). n.spec)) c.as_mut_slice.ensures.value in
     let items = with_items_is s.nodes c.settle.new.nodes (c.settle.auto.nodes ∙ c.as_mut_slice.ensures.len) in
     subst (λ (ns : List KeptNode). IsKept s.volume u c.settle.new.blocks ns c.settle.new.listed s.last) (sym items)
-    (kept-name s.volume s.tree u s.blocks c.settle.new.blocks r s.nodes.items c.settle.new.nodes s.listed c.settle.new.listed s.last c.self.invariant stepped c.settle.ensures.blocks c.settle.ensures.few specs counted
+    (kept-name s.volume s.tree u s.blocks c.settle.new.blocks r s.nodes.items c.settle.new.nodes s.listed c.settle.new.listed s.last c.self.invariant stepped c.settle.ensures.blocks specs counted
     (c.settle.ensures.marked s.tree there c.self.invariant.marked) (c.settle.ensures.room s.tree c.self.invariant.room))
 
 pub returns-clause-reply : goal.returns-clause-reply
