@@ -1,0 +1,11 @@
+use Rattle.std.proofs.Common.{◌∷◌, [], subst, sym}
+use Rattle.rz_tree.specs.declared.parts.Part.{Part}
+use Rattle.rz_tree.specs.declared.parts.Part.TheVariants as part
+use Rattle.rz_export.specs.Building.{ArePartsOf}
+use Rattle.rz_export.proofs.Joined.{two-are}
+use Rattle.rz_name_tests.proofs.built.builds_the_root.Goals as goal
+
+pub build-requires : goal.build-requires
+build-requires g c =
+    subst (λ (p : Part). ArePartsOf c.in_ok-volume.volume (part.Counters 5 9 ∷ p ∷ [])) (sym c.root_part.ensures)
+    (two-are c.in_ok-volume.volume 5 9 448 7)
