@@ -1,7 +1,7 @@
 -- Parts one after another, and the export that they make.
 use Rattle.std.proofs.Common.{◌≡◌, ℕ, ◌+◌, ◌<◌, ◌≤◌, Bool, true, false, cond, List, [], ◌∷◌, ◌++◌, drop, get_or, length, map, Option, Some, is_some, eqb-true, eq-eqb, sym, ap, ◌∙◌, subst, refl, arith, inl, inr, append_assoc}
 use Rattle.std.proofs.lemmas.List.{map-append, append-nil, drop_more}
-use Rattle.std.specs.Prelude.{◌==◌, count_by}
+use Rattle.std.specs.Prelude.{◌==◌}
 use Rattle.std.specs.declared.cmp.Ordering.{Ordering}
 use Rattle.std.specs.Ordering.{nat_cmp, eq_by_cmp}
 use Rattle.std.specs.Cmp.{nat_cmp_total}
@@ -20,6 +20,7 @@ use Rattle.rz_tree.specs.declared.parts.Part.{Part}
 use Rattle.rz_tree.specs.declared.parts.Part.TheVariants as part
 use Rattle.rz_tree.specs.Parts.{object_part, name_part, tree_parts}
 use Rattle.rz_tree.specs.Added.{IsRoot}
+use Rattle.rz_tree.proofs.Counts.{some-path}
 use Rattle.rz_tree.proofs.Lasts.{entries-last}
 use Rattle.rz_tree.proofs.PartLaws.{object-added, name-added}
 use Rattle.rz_export.specs.Parts.{counters, block_part, enrolled_part, flat_parts, export_parts}
@@ -181,9 +182,6 @@ rest-at ps i p low is = drop_more ps i p low ∙ ap (λ x. x ∷ drop (i + 1) ps
 only_root : (o : Object) (fid : ℕ) → is_some (maps.get (maps.insert empty_tree.objects 0 o) fid) ≡ true → fid ≡ 0
 only_root o fid there = go (fid == 0) refl
   where
-    no_objects : FinMap nat_cmp Object
-    no_objects = maps.empty
-
     go : (b : Bool) → (fid == 0) ≡ b → fid ≡ 0
     go true is = eqb-true fid 0 is
     go false is =
@@ -193,14 +191,13 @@ only_root o fid there = go (fid == 0) refl
         let made : fid ≤ 0 = root-only 0 fid (sym (ap is_some low) ∙ there) in
         omega (arith, made)
 
-one_name : paths_to empty_tree.names 0 ≡ 1
-one_name =
-    ap (λ es. count_by (λ f. f == 0) (map (λ e. e.1) es)) (entries-insert paths_total maps.empty [] 0 ∙ ap (put path_cmp [] 0) (no-entries maps.empty refl))
+one_name : 1 ≤ paths_to empty_tree.names 0
+one_name = some-path empty_tree.names [] 0 (get-insert paths_total maps.empty [] 0 [])
 
 -- the counters and the root alone are the parts of an export
 pub two-are : (volume : Volume) (last made mode mtime : ℕ) → ArePartsOf volume (part.Counters last made ∷ part.Object 0 Dir mode mtime 0 0 [] [] ∷ [])
 two-are volume last made mode mtime = record {
   each = (tt, (record { number = refl; kind = refl; fits = record { empty = refl; no_target = refl; nowhere = record { no_cluster = refl; no_places = refl } } }, tt));
   rooted = omega arith;
-  named = λ fid there. subst (λ n. 1 ≤ paths_to empty_tree.names n) (sym (only_root (record { kind = Dir; mode = mode; mtime = mtime; target = []; size = 0; cid = 0; places = [] }) fid there)) (let one = one_name in omega (arith, one));
+  named = λ fid there. subst (λ n. 1 ≤ paths_to empty_tree.names n) (sym (only_root (record { kind = Dir; mode = mode; mtime = mtime; target = []; size = 0; cid = 0; places = [] }) fid there)) one_name;
 }

@@ -139,7 +139,7 @@ root-first m root = first_name (maps.entries m) (entries_sorted m) (sym (get-ent
 pub same-parts : (s u : Export) → maps.get s.tree.names [] ≡ Some 0 → maps.get u.tree.names [] ≡ Some 0 → s.volume ≡ u.volume → export_parts s ≡ export_parts u → s ≡ u
 same-parts s u root_s root_u volume parts =
     let names : s.tree.names ≡ u.tree.names = same_entries_map s.tree.names u.tree.names (
-    root-first s.tree.names root_s ∙ ap (λ l. ([], 0) ∷ l) (sym (names-told s) ∙ ap (filter_map as_name) parts ∙ names-told u) ∙ sym (root-first u.tree.names root_u)) in
+    root-first s.tree.names root_s ∙ ap (λ (l : List (Path × ℕ)). ([], 0) ∷ l) (sym (names-told s) ∙ ap (filter_map as_name) parts ∙ names-told u) ∙ sym (root-first u.tree.names root_u)) in
     let objects : s.tree.objects ≡ u.tree.objects = same_entries_map s.tree.objects u.tree.objects (sym (objects-told s) ∙ ap (filter_map as_object) parts ∙ objects-told u) in
     let blocks : s.blocks ≡ u.blocks = same_entries_map s.blocks u.blocks (sym (blocks-told s) ∙ ap (filter_map as_block) parts ∙ blocks-told u) in
     let enrolled : s.enrolled ≡ u.enrolled = same_entries_map s.enrolled u.enrolled (sym (enrolled-told s) ∙ ap (filter_map as_enrolled) parts ∙ enrolled-told u) in

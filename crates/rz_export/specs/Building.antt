@@ -7,6 +7,7 @@ use Rattle.mj_angles.specs.Layout.{block_bytes_of, safe_of}
 use Rattle.rz_events.specs.Volume.{Volume, Cluster}
 use Rattle.rz_events.specs.declared.keys.Key.{Key}
 use Rattle.rz_events.specs.declared.files.Published.{Published}
+use Rattle.rz_export_model.specs.Paths.{Path}
 use Rattle.rz_export_model.specs.Tree.{Object, file_of, is_file}
 use Rattle.rz_export_model.specs.Export.{Export, new_export, file_blocks, is_mask, is_drawn, is_node}
 use Rattle.rz_blocks.specs.Shown.{added}
@@ -60,7 +61,7 @@ pub record MayBeObject (s : Export) (fid : ℕ) (o : Object) : Type 0 where
   pub before_blocks : IsBlockless s
 
 -- the next name
-pub record MayBeName (s : Export) (path : List (List ℕ)) (fid : ℕ) : Type 0 where
+pub record MayBeName (s : Export) (path : Path) (fid : ℕ) : Type 0 where
   pub next : IsNextName s.tree path fid
   pub before_blocks : IsBlockless s
 

@@ -1,6 +1,6 @@
 //! An export built of the least parts, and what it knows of them.
 
-ghost use Rattle.std.specs.Prelude.{◌≡◌, [], IfOk};
+ghost use Rattle.std.specs.Prelude.{◌≡◌, []};
 ghost use Rattle.rz_events.specs.declared.files.Kind.{Kind};
 ghost use Rattle.rz_tree.specs.declared.parts.Part.{Part};
 
@@ -35,10 +35,13 @@ fn builds_the_root(rt: HostRuntime) -> Result<(), Fail> {
         Part::Counters { last: 5, made: 9 },
         root_part(alloc, 0o700, 7),
     ];
-    let mut export = Export::build(alloc, volume, parts.as_slice())?;
-    assert!(rt; matches!(&export.part(0)?, Some(Part::Counters { last: 5, made: 9 })));
-    assert!(rt; matches!(&export.part(1)?, Some(Part::Object { fid: 0, mode: 0o700, mtime: 7, .. })));
-    assert!(rt; export.part(2)?.is_none());
+    let mut export = Export::build(alloc, volume, &parts)?;
+    let first = export.part(0)?;
+    assert!(rt; matches!(&first, Some(Part::Counters { last: 5, made: 9 })));
+    let second = export.part(1)?;
+    assert!(rt; matches!(&second, Some(Part::Object { fid: 0, mode: 0o700, mtime: 7, .. })));
+    let third = export.part(2)?;
+    assert!(rt; third.is_none());
     let path = Text::from_bytes(alloc, b"/d")?;
     let reply = export.name(&TreeCall::Mkdir { path })?;
     assert!(rt; matches!(&reply, TreeReply::Made { fid: 10 }));

@@ -1,7 +1,7 @@
 mod Rows
 mod Tables
 mod Keys
-mod Counts
+pub mod Counts
 mod Fronts
 mod Moves
 mod Files
