@@ -27,7 +27,6 @@ use Rattle.rz_export.specs.declared.nodes.KeptNode.{KeptNode}
 use Rattle.rz_export.specs.Nodes.{is_named, moved, recounted, with_enrolment}
 use Rattle.rz_export.specs.Kept.{lies_on, lies_at, used_in, is_place, AreRoomy, HaveRoom, IsBlock, IsKept}
 use Rattle.rz_export.proofs.Files.{IsBlank, apart}
-
 use Rattle.rz_export.proofs.Counts.{one_if, at_key, eq_true, count-insert, count-len}
 use Rattle.rz_export.proofs.Used.{live-view, file-view, counts-live, counts-published, moved-count}
 use Rattle.rz_export.proofs.Enrolled.{map-same, specs-set, use-set}

@@ -44,9 +44,10 @@ next-add s (part.Enrolled node loss fence) may = may
 
 rest-add : (volume : Volume) (c r : Part) (before rest : List Part) → AllFollow volume (c ∷ r ∷ before) rest → AllAdd (made_of volume (c ∷ r ∷ before)) rest
 rest-add volume c r before [] all = tt
-rest-add volume c r before (p ∷ rest) all =
-    (next-add (made_of volume (c ∷ r ∷ before)) p all.0,
-    subst (λ s. AllAdd s rest) (made-more (new_export volume 0) (c ∷ r ∷ before) p) (rest-add volume c r (before ++ p ∷ []) rest all.1))
+rest-add volume c r before (p ∷ rest) all = (
+  next-add (made_of volume (c ∷ r ∷ before)) p all.0,
+  subst (λ s. AllAdd s rest) (made-more (new_export volume 0) (c ∷ r ∷ before) p) (rest-add volume c r (before ++ p ∷ []) rest all.1),
+)
 
 root-add : (volume : Volume) (last made : ℕ) (parts : List Part) → AllFollow volume (part.Counters last made ∷ []) parts
     → AllAdd (made_of volume (part.Counters last made ∷ [])) parts

@@ -39,7 +39,17 @@ fn builds_the_root(rt: HostRuntime) -> Result<(), Fail> {
     let first = export.part(0)?;
     assert!(rt; matches!(&first, Some(Part::Counters { last: 5, made: 9 })));
     let second = export.part(1)?;
-    assert!(rt; matches!(&second, Some(Part::Object { fid: 0, mode: 0o700, mtime: 7, .. })));
+    assert!(rt;
+        matches!(
+            &second,
+            Some(Part::Object {
+                fid: 0,
+                mode: 0o700,
+                mtime: 7,
+                ..
+            })
+        )
+    );
     let third = export.part(2)?;
     assert!(rt; third.is_none());
     let path = Text::from_bytes(alloc, b"/d")?;
