@@ -1,8 +1,8 @@
 -- The nodes of a block, asked one after the other.
-use Rattle.std.proofs.Common.{ℕ, ◌≡◌, ◌≢◌, ◌<◌, ◌≤◌, ◌+◌, ◌∙◌, List, [], ◌∷◌, length, get_or, drop, take, Some, None, refl, sym, ap, arith, subst}
+use Rattle.std.proofs.Common.{ℕ, zero, suc, ◌≡◌, ◌≢◌, ◌<◌, ◌≤◌, ◌+◌, ◌∙◌, List, [], ◌∷◌, length, get_or, drop, take, replicate, Option, Some, None, refl, sym, ap, arith, subst}
 use Rattle.std.proofs.lemmas.List.{drop_more, get_or-set_other}
 use Rattle.mj_angles.specs.declared.layout.Layout.{Layout}
-use Rattle.mj_angles.specs.Layout.{bins_at_of}
+use Rattle.mj_angles.specs.Layout.{bins_at_of, safe_of}
 use Rattle.rz_events.specs.declared.keys.Key.{Key}
 use Rattle.rz_events.specs.declared.files.Listed.{Listed}
 use Rattle.rz_events.specs.declared.records.Held.{Held}
@@ -12,6 +12,15 @@ use Rattle.rz_scrub.specs.Records.{Records, bins_at, no_records}
 use Rattle.rz_scrubbing.specs.declared.finding.Finding.{Finding}
 use Rattle.rz_scrubbing.specs.Stores.{State, IsRead}
 use Rattle.rz_scrubbing.specs.Asks.{AreAsked, IsAsked, IsFound, with_given}
+
+-- at first no position has bins
+none-in : (n p : ℕ) → get_or (replicate n (let o : Option (List ℕ) = None in o)) p None ≡ None
+none-in zero p = refl
+none-in (suc n) zero = refl
+none-in (suc n) (suc p) = none-in n p
+
+pub bare-at-first : (layout : Layout) (p : ℕ) → bins_at (no_records layout) p ≡ None
+bare-at-first layout p = none-in (safe_of layout) p
 
 -- a position that is asked leaves the others
 pub others : (s : Records) (position p : ℕ) (given : FetchAnswer) (room : List ℕ) → p ≢ position → bins_at (with_given s position given room) p ≡ bins_at s p
