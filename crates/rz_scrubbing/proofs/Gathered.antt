@@ -71,12 +71,6 @@ pub found-before : {gives earlier : ℕ → Key → Held → List ℕ → List �
     → IsFound layout gives l w finding next → IsFound layout earlier l w finding next
 found-before layout l w next finding to found = (found.0, all-asked-before l to l.info.places 0 w next (no_records layout) found.0 found.1, found.2)
 
--- an ask at another spelling of its position and its node
-pub asked-at : {gives : ℕ → Key → Held → List ℕ → List ℕ → Type 0} {l : Listed} {k m : ℕ} {w next : State} {s s' : Records} → (position n : ℕ)
-    → IsAsked gives l k m w next s s' → k ≡ position → m ≡ n → IsAsked gives l position n w next s s'
-asked-at {gives = gives} {l = l} {m = m} {w = w} {next = next} {s = s} {s' = s'} position n asked at is =
-    subst (λ (x : ℕ). IsAsked gives l position x w next s s') is (subst (λ (x : ℕ). IsAsked gives l x m w next s s') at asked)
-
 -- one node is asked, and then the rest
 pub asked-next : (gives : ℕ → Key → Held → List ℕ → List ℕ → Type 0) (l : Listed) (nodes : List ℕ) (i : ℕ) (w mid next : State) (s s' t : Records)
     → i < length nodes → IsAsked gives l i (get_or nodes i 0) w mid s s' → AreAsked gives l (i + 1) (drop (i + 1) nodes) mid next s' t

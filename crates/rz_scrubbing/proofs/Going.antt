@@ -1,6 +1,5 @@
 -- A store of which more records are asked.
-use Rattle.std.proofs.Common.{ℕ, ◌≡◌, ◌∙◌, List, [], ◌∷◌, ◌++◌, refl, sym, ap, subst, append_assoc}
-use Rattle.std.specs.List.{AllByRecursion}
+use Rattle.std.proofs.Common.{ℕ, ◌≡◌, ◌∙◌, List, [], ◌∷◌, ◌++◌, refl, sym, subst, append_assoc}
 use Rattle.rz_events.specs.Volume.{Volume}
 use Rattle.rz_events.specs.declared.keys.Key.{Key}
 use Rattle.rz_events.specs.declared.records.Held.{Held}
@@ -53,3 +52,8 @@ module _ {S : Type 0} {is_open : S → Type 0} {described : S → Volume} {gives
   -- one ask
   pub has-one : (a b : S) (x : Event) → AreAsks (x ∷ []) → GoesOn is_open described gives state counts only_asked a b (x ∷ []) → (T : State → State → Type 0) → ((h : List Event) → T (state a h) (state b (x ∷ h))) → HasAsked is_open described gives state counts only_asked a b T
   has-one a b x asks onward T told = record { later = x ∷ []; asks = asks; onward = onward; told = told }
+
+  -- what else is told of the same asks
+  pub has-so : (a b : S) (T U : State → State → Type 0) → (p : HasAsked is_open described gives state counts only_asked a b T)
+      → ((h : List Event) → T (state a h) (state b (p.later ++ h)) → U (state a h) (state b (p.later ++ h))) → HasAsked is_open described gives state counts only_asked a b U
+  has-so a b T U p to = record { later = p.later; asks = p.asks; onward = p.onward; told = λ h. to h (p.told h) }

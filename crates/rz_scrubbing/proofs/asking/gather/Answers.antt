@@ -1,8 +1,8 @@
-use Rattle.std.proofs.Common.{ℕ, ◌≡◌, get_or, None, drop, rules, arith, ◌∙◌, ap, sym, subst, List}
+use Rattle.std.proofs.Common.{get_or, drop, ◌∙◌, ◌+◌, [], refl, ap, subst}
 use Rattle.rz_scrub.specs.Records.{Records, bins_at, no_records}
 use Rattle.rz_scrubbing.specs.Asks.{AreAsked, IsAsked}
 use Rattle.rz_scrubbing.specs.Stores.{State}
-use Rattle.rz_scrubbing.proofs.Gathered.{asked-at, asked-before, asked-next, bare-after, bare-at-first}
+use Rattle.rz_scrubbing.proofs.Gathered.{asked-before, asked-next, bare-after, bare-at-first}
 use Rattle.rz_scrubbing.proofs.Going.{has-none, has-then}
 use Rattle.rz_scrubbing.proofs.asking.gather.Goals as goal
 
@@ -22,7 +22,6 @@ loop-i-init g c =
 
 pub loop-i-preserved : goal.loop-i-preserved
 loop-i-preserved g c =
-    let state = g.S.Store.state in
     let first = c.args.store.now in
     let gives = g.S.Store.gives first in
     let l = c.args.listed.now in
@@ -32,9 +31,13 @@ loop-i-preserved g c =
     let n = get_or nodes c.loop-i.i 0 in
     let s = c.loop-i.desk.scrub in
     let s' = c.ask.new.desk.scrub in
-    let here = e.asked.told [] in
     record {
       desk = e.desk ∙ i.desk;
-      bare = ?;
-      asked = ?;
+      bare = bare-after (e.asked.told []) i.bare;
+      asked = has-then g.S.Store.then first c.loop-i.store c.ask.new.store
+          (λ w mid. (next : State) (t : Records) → AreAsked gives l c.loop-i.i (drop c.loop-i.i nodes) mid next s t → AreAsked gives l 0 nodes w next (no_records c.args.desk.now.layout) t)
+          (λ w next. IsAsked (g.S.Store.gives c.loop-i.store) l c.loop-i.i n w next s s')
+          (λ w mid. (next : State) (t : Records) → AreAsked gives l (c.loop-i.i + 1) (drop (c.loop-i.i + 1) nodes) mid next s' t → AreAsked gives l 0 nodes w next (no_records c.args.desk.now.layout) t)
+          i.asked e.asked
+          (λ h mid now same before asked next t rest. before next t (asked-next gives l nodes c.loop-i.i mid now next s s' t c.loop-i-test.true (asked-before i.asked.onward.given asked) rest));
     }
