@@ -7,4 +7,5 @@ pub mod Worlds
 pub mod Made
 pub mod Meters
 pub mod Pictures
+pub mod OnlyAsked
 pub mod Fetches
