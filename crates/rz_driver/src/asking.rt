@@ -41,13 +41,7 @@ impl<D: Disk> Driver<D> {
         ensures ready { IsDriver self.new }
         ensures metered { (position : ℕ) (h : List Event) → Carries (Metered self.old h) (Metered self.new (fetch_event Admin node key position stamp result ∷ h)) }
     {
-        fetch_node(
-            self.shared.stations.as_mut_slice(),
-            node,
-            key,
-            stamp,
-            out,
-        )
+        fetch_node(self.shared.stations.as_mut_slice(), node, key, stamp, out)
     }
 }
 
@@ -105,12 +99,7 @@ fn fetch_node<D: Disk>(
     }
 }
 
-fn fetch<D: Disk>(
-    station: &mut Station<D>,
-    key: Key,
-    stamp: u64,
-    room: &mut [u64],
-) -> FetchAnswer
+fn fetch<D: Disk>(station: &mut Station<D>, key: Key, stamp: u64, room: &mut [u64]) -> FetchAnswer
     requires { max_bins_of station.old.node.geometry.layout ≤ length room.old }
     ensures given { IsFetchAnswer (fetch_answer station.old.node.state key stamp) result }
     ensures after { station.new.node.state ≡ after_fetch result station.old.node.state }
