@@ -1,10 +1,11 @@
 -- A node is asked for a record.
-use Rattle.std.proofs.Common.{◌≡◌, ◌≢◌, ◌≤◌, ℕ, zero, suc, Bool, true, false, nat_eq, List, [], ◌∷◌, ◌∙◌, inl, inr, length, set, Option, Some, refl, sym, ap, subst}
+use Rattle.std.proofs.Common.{◌≡◌, ◌≢◌, ◌≤◌, ◌+◌, ◌-◌, ℕ, zero, suc, Bool, true, false, nat_eq, List, [], ◌∷◌, ◌∙◌, inl, inr, drop, length, set, Option, Some, refl, sym, ap, arith, subst}
 use Rattle.std.specs.Prelude.{slice_get, ◌==◌, cond}
 use Rattle.std.specs.FinMap.{get-empty}
 use Rattle.std.specs.Global.{Vec}
 use Rattle.std.specs.List.{AllByRecursion}
 use Rattle.std.proofs.Math.Path.{fun_ext}
+use Rattle.std.proofs.Math.Seq.{drop-nil}
 use Rattle.std.proofs.lemmas.Bool.{eqb-true}
 use Rattle.mj_angles.specs.declared.layout.Layout.{Layout}
 use Rattle.mj_angles.specs.Layout.{max_bins_of}
@@ -68,6 +69,18 @@ read-then to fetch.Nothing a b h = h
 read-then to fetch.Lost a b h = h
 read-then to fetch.Down a b h = h
 read-then to fetch.DiskFault a b h = h
+
+-- what is the same behind fewer is the same behind more
+
+drop-sum : (m k : ℕ) (xs : List ℕ) → drop (m + k) xs ≡ drop k (drop m xs)
+drop-sum zero k xs = let plain : 0 + k ≡ k = omega arith in ap (λ (n : ℕ). drop n xs) plain
+drop-sum (suc m) k [] = drop-nil (suc m + k) ∙ sym (drop-nil k)
+drop-sum (suc m) k (x ∷ xs) = let shift : suc m + k ≡ suc (m + k) = omega arith in ap (λ (n : ℕ). drop n (x ∷ xs)) shift ∙ drop-sum m k xs
+
+pub behind-more : (m count : ℕ) (xs ys : List ℕ) → m ≤ count → drop m xs ≡ drop m ys → drop count xs ≡ drop count ys
+behind-more m count xs ys low same =
+    let parts : count ≡ m + (count - m) = omega (arith, low) in
+    ap (λ (n : ℕ). drop n xs) parts ∙ drop-sum m (count - m) xs ∙ ap (drop (count - m)) same ∙ sym (drop-sum m (count - m) ys) ∙ ap (λ (n : ℕ). drop n ys) (sym parts)
 
 -- a node that holds nothing
 nothing-held : (key : Key) (stamp : ℕ) → fetch_answer fresh key stamp ≡ fetch.Nothing

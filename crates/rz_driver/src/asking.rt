@@ -1,9 +1,10 @@
 //! What is published after a play, and the records that its nodes give.
-ghost use Rattle.std.specs.Prelude.{◌≡◌, ◌≤◌, ◌∷◌, ℕ, List, Some, length};
+ghost use Rattle.std.specs.Prelude.{◌≡◌, ◌≢◌, ◌≤◌, ◌∷◌, ℕ, List, Some, true, drop, length};
 ghost use Rattle.mj_angles.specs.Layout.{max_bins_of};
 ghost use Rattle.rz_events.specs.declared.keys.Actor.TheVariants.{Admin};
 ghost use Rattle.rz_events.specs.declared.events.Event.{Event};
 ghost use Rattle.rz_export_model.specs.Export.{published_after};
+ghost use Rattle.rz_node.specs.Spends.{fetch_used};
 ghost use Rattle.rz_node_model.specs.Afterwards.{after_fetch};
 ghost use Rattle.rz_node_model.specs.Answers.{IsFetchAnswer, fetch_answer};
 ghost use Rattle.rz_node_model.specs.NodeEvents.{fetch_event};
@@ -37,6 +38,10 @@ impl<D: Disk> Driver<D> {
         requires room { max_bins_of self.old.volume.layout ≤ length out.old }
         ensures fetched { IsFetch key stamp result node self.old.shared.stations.items self.new.shared.stations.items }
         ensures read { IsRead (GivesOf self.old node key) result out.old out.new }
+        ensures unread { fetch_used result ≢ Some true → out.new ≡ out.old }
+
+        // Behind the most bins that a record has nothing is written, also where a disk does not tell what it holds.
+        ensures behind { drop (max_bins_of self.old.volume.layout) out.new ≡ drop (max_bins_of self.old.volume.layout) out.old }
         ensures asked { WasOnlyAsked self.old self.new }
         ensures ready { IsDriver self.new }
         ensures metered { (position : ℕ) (h : List Event) → Carries (Metered self.old h) (Metered self.new (fetch_event Admin node key position stamp result ∷ h)) }
@@ -91,6 +96,8 @@ fn fetch_node<D: Disk>(
     ensures fetched { IsFetch key stamp result sid stations.old stations.new }
     ensures asked { AreOnlyAsked D.text D.image stations.old stations.new }
     ensures read { IsRead (GivesIn D.tells D.text stations.old sid key) result room.old room.new }
+    ensures unread { fetch_used result ≢ Some true → room.new ≡ room.old }
+    ensures behind { (count : ℕ) → HaveRoom count stations.old → drop count room.new ≡ drop count room.old }
     ensures metered { (position : ℕ) (numbers : List ℕ) (h : List Event) → Carries (AreMetered D.meter numbers stations.old h) (AreMetered D.meter numbers stations.new (fetch_event Admin sid key position stamp result ∷ h)) }
 {
     match find(stations, sid) {
@@ -105,6 +112,8 @@ fn fetch<D: Disk>(station: &mut Station<D>, key: Key, stamp: u64, room: &mut [u6
     ensures after { station.new.node.state ≡ after_fetch result station.old.node.state }
     ensures asked { IsOnlyAsked D.text D.image station.old station.new }
     ensures read { IsRead (GivesAt D.tells D.text station.old key) result room.old room.new }
+    ensures unread { fetch_used result ≢ Some true → room.new ≡ room.old }
+    ensures behind { drop (max_bins_of station.old.node.geometry.layout) room.new ≡ drop (max_bins_of station.old.node.geometry.layout) room.old }
     ensures metered { (position : ℕ) → Goes D.meter station.old station.new (Some (fetch_event Admin station.old.sid key position stamp result)) }
 {
     rz_disk_laws::faults();

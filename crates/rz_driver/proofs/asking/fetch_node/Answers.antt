@@ -5,7 +5,7 @@ use Rattle.rz_events.specs.declared.keys.Actor.TheVariants.{Admin}
 use Rattle.rz_node_model.specs.NodeEvents.{fetch_event}
 use Rattle.rz_driver.specs.declared.station.Station.{Station}
 use Rattle.rz_driver.specs.OnlyAsked.{all-themselves}
-use Rattle.rz_driver.proofs.FetchLemmas.{at-fetch, at-metered, gives-in, nowhere-fetch, nowhere-metered, only-set, read-then}
+use Rattle.rz_driver.proofs.FetchLemmas.{at-fetch, at-metered, behind-more, gives-in, nowhere-fetch, nowhere-metered, only-set, read-then}
 use Rattle.rz_driver.proofs.ReadyLemmas.{all-at}
 use Rattle.rz_driver.proofs.Rows.{at-within}
 use Rattle.rz_driver.proofs.asking.fetch_node.Goals as goal
@@ -47,6 +47,15 @@ returns-in-Some-clause-read g c =
     let s = get_or row c.in-Some.place c.index-stations-place.result in
     let is = slice_get-get_or row c.in-Some.place c.index-stations-place.result low in
     read-then (gives-in g.D.Disk.tells g.D.Disk.text row c.args.sid c.in-Some.place s c.args.key c.in-Some.ensures is) c.fetch.result c.args.room.now c.fetch.new.room c.fetch.ensures.read
+
+pub returns-in-Some-clause-behind : goal.returns-in-Some-clause-behind
+returns-in-Some-clause-behind g c = λ count rooms.
+    let row = c.args.stations.now in
+    let low = at-within row c.args.sid c.in-Some.place c.in-Some.ensures in
+    let s = get_or row c.in-Some.place c.index-stations-place.result in
+    let is = slice_get-get_or row c.in-Some.place c.index-stations-place.result low in
+    behind-more (max_bins_of s.node.geometry.layout) count c.fetch.new.room c.args.room.now
+    (all-at (λ (x : Station g.row.D.Denot). max_bins_of x.node.geometry.layout ≤ count) row c.in-Some.place s rooms is) c.fetch.ensures.behind
 
 pub returns-in-Some-clause-metered : goal.returns-in-Some-clause-metered
 returns-in-Some-clause-metered g c = λ position numbers h first met.

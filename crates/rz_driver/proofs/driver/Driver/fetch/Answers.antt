@@ -1,5 +1,6 @@
-use Rattle.std.proofs.Common.{ℕ, ◌≡◌, List, [], ◌∷◌, length, refl, sym, subst}
+use Rattle.std.proofs.Common.{ℕ, ◌≡◌, ◌≤◌, List, [], ◌∷◌, length, refl, arith, sym, subst}
 use Rattle.std.specs.Vec.{with_items}
+use Rattle.mj_angles.specs.Layout.{max_bins_of}
 use Rattle.rz_disk.specs.UnderFuse.{UnderFuse, fused_meter}
 use Rattle.rz_scrubbing.specs.Stores.{IsRead}
 use Rattle.rz_node_model.specs.NodeEvents.{fetch_event}
@@ -45,6 +46,13 @@ pub returns-clause-read : goal.returns-clause-read
 returns-clause-read g c =
     subst (λ (xs : List (Station (UnderFuse g.row.D.Denot))). IsRead (GivesIn g.D.Disk.tells (fused_text g.D.Disk.text) xs c.args.node c.args.key) c.fetch_node.result c.args.out.now c.fetch_node.new.room)
     c.as_mut_slice.ensures.value c.fetch_node.ensures.read
+
+pub returns-clause-behind : goal.returns-clause-behind
+returns-clause-behind g c =
+    let d = c.args.self.now in
+    let count = max_bins_of d.volume.layout in
+    c.fetch_node.ensures.behind count
+    (subst (λ (xs : List (Station (UnderFuse g.row.D.Denot))). HaveRoom count xs) (sym c.as_mut_slice.ensures.value) (have-room d.volume count d.shared.stations.items (let same : count ≤ count = omega arith in same) c.requires.ready.stations))
 
 pub returns-clause-asked : goal.returns-clause-asked
 returns-clause-asked g c = record { volume = refl; seats = refl; turns = refl; shared = refl; nodes = nodes-asked g c }
