@@ -38,10 +38,11 @@ use Rattle.rz_driver.specs.declared.station.Station.{Station}
 use Rattle.rz_driver.specs.Administration.{IsCalledAt}
 use Rattle.rz_driver.specs.Fetches.{HaveRoom, IsFetch, GivesAt, GivesIn, GivesOf, Metered, state_of}
 use Rattle.rz_driver.specs.Meters.{AreMetered, Goes}
-use Rattle.rz_driver.specs.OnlyAsked.{IsOnlyAsked, AreOnlyAsked, WasOnlyAsked, all-themselves, fused_text, one-itself}
+use Rattle.rz_driver.specs.OnlyAsked.{IsOnlyAsked, AreOnlyAsked, WasOnlyAsked, fused_text}
 use Rattle.rz_driver.specs.Pictures.{AreDisksImaged, fused_image}
 use Rattle.rz_driver.specs.Stations.{IsAt, IsCalled, IsNowhere, IsStation, disks_of, numbers_of, state_in}
 use Rattle.rz_driver.specs.Worlds.{IsDriver}
+use Rattle.rz_driver.specs.AskedLaws.{all-themselves, one-itself}
 use Rattle.rz_driver.proofs.EventWords.{node-word, noted-others}
 use Rattle.rz_driver.proofs.MeterLemmas.{metered-apart, metered-step}
 use Rattle.rz_driver.proofs.NodeOrders.{ready-with, state-same}
@@ -90,18 +91,10 @@ module _ {D : Type 0} where
   the-one : (x s : Station D) → Some x ≡ Some s → x ≡ s
   the-one x s is = cc
 
-  -- the first node of a number is one
-  at-once : (xs : List (Station D)) (n p q : ℕ) (s t : Station D) → IsAt xs n p → slice_get xs p ≡ Some s → IsAt xs n q → slice_get xs q ≡ Some t → s ≡ t
-  at-once [] n p q s t at is at' is' = absurd at
-  at-once (x ∷ xs) n zero zero s t at is at' is' = sym (the-one x s is) ∙ the-one x t is'
-  at-once (x ∷ xs) n zero (suc q) s t at is at' is' = absurd (at'.0 at)
-  at-once (x ∷ xs) n (suc p) zero s t at is at' is' = absurd (at.0 at')
-  at-once (x ∷ xs) n (suc p) (suc q) s t at is at' is' = at-once xs n p q s t at.1 is at'.1 is'
-
   -- what that node gives is what the node of its number gives
   pub gives-in : (tells : Bool) (text : D → List ℕ) (xs : List (Station D)) (n place : ℕ) (s : Station D) (key : Key) → IsAt xs n place → slice_get xs place ≡ Some s
       → (told : Held) (a b : List ℕ) → GivesAt tells text s key told a b → GivesIn tells text xs n key told a b
-  gives-in tells text xs n place s key at is told a b gives place' t at' is' = subst (λ (y : Station D). GivesAt tells text y key told a b) (at-once xs n place place' s t at is at' is') gives
+  gives-in tells text xs n place s key at is told a b gives = (place, s, at, is, gives)
 
   -- ---- a number that no node has
 
@@ -181,14 +174,14 @@ module _ {D : Type 0} where
   )
 
   -- where a node stands afterwards one stood before
-  before-at : (text : D → List ℕ) (image : D → List ℕ → Type 0) (xs ys : List (Station D)) (n p : ℕ) (s : Station D) → AreOnlyAsked text image xs ys → IsAt xs n p → slice_get xs p ≡ Some s
-      → (t : Station D) × IsAt ys n p × (slice_get ys p ≡ Some t) × IsOnlyAsked text image s t
-  before-at text image [] ys n p s all at is = absurd at
-  before-at text image (x ∷ xs) [] n p s all at is = absurd all
-  before-at text image (x ∷ xs) (y ∷ ys) n zero s all at is = (y, all.0.called.sid ∙ at, refl, subst (λ (z : Station D). IsOnlyAsked text image z y) (the-one x s is) all.0)
-  before-at text image (x ∷ xs) (y ∷ ys) n (suc p) s all at is =
-      let more = before-at text image xs ys n p s all.1 at.1 is in
-      (more.0, ((λ same. at.0 (sym all.0.called.sid ∙ same)), more.1), more.2, more.3)
+  before-at : (text : D → List ℕ) (image : D → List ℕ → Type 0) (xs ys : List (Station D)) (n p : ℕ) (t : Station D) → AreOnlyAsked text image xs ys → IsAt ys n p → slice_get ys p ≡ Some t
+      → (s : Station D) × IsAt xs n p × (slice_get xs p ≡ Some s) × IsOnlyAsked text image s t
+  before-at text image xs [] n p t all at is = absurd at
+  before-at text image [] (y ∷ ys) n p t all at is = absurd all
+  before-at text image (x ∷ xs) (y ∷ ys) n zero t all at is = (x, sym all.0.called.sid ∙ at, refl, subst (λ (z : Station D). IsOnlyAsked text image x z) (the-one y t is) all.0)
+  before-at text image (x ∷ xs) (y ∷ ys) n (suc p) t all at is =
+      let more = before-at text image xs ys n p t all.1 at.1 is in
+      (more.0, ((λ same. at.0 (all.0.called.sid ∙ same)), more.1), more.2, more.3)
 
   back-at : (tells : Bool) (text : D → List ℕ) (image : D → List ℕ → Type 0) (s t : Station D) → IsOnlyAsked text image s t → (key : Key) (told : Held) (a b : List ℕ) → GivesAt tells text t key told a b
       → GivesAt tells text s key told a b
@@ -199,9 +192,9 @@ module _ {D : Type 0} where
 
   pub gives-before : (tells : Bool) (text : D → List ℕ) (image : D → List ℕ → Type 0) (xs ys : List (Station D)) → AreOnlyAsked text image xs ys
       → (n : ℕ) (key : Key) (told : Held) (a b : List ℕ) → GivesIn tells text ys n key told a b → GivesIn tells text xs n key told a b
-  gives-before tells text image xs ys all n key told a b gives p s at is =
-      let t = before-at text image xs ys n p s all at is in
-      back-at tells text image s t.0 t.3 key told a b (gives p t.0 t.1 t.2)
+  gives-before tells text image xs ys all n key told a b (p, t, at, is, gives) =
+      let s = before-at text image xs ys n p t all at is in
+      (p, s.0, s.1, s.2, back-at tells text image s.0 t s.3 key told a b gives)
 
 -- ---- a driver
 

@@ -35,10 +35,10 @@ pub record IsFetch {D : Type 0} (key : Key) (stamp : ℕ) (given : FetchAnswer) 
 abbrev pub GivesAt : {D : Type 0} → Bool → (D → List ℕ) → Station D → Key → Held → List ℕ → List ℕ → Type 0
 GivesAt tells text s key told before room = IsTrue tells → Gives s.node.geometry s.node.state.fence (text s.node.disk) key told before room
 
--- so it is of the node of this number
+-- a node has this number, and so it is of the first
 abbrev pub GivesIn : {D : Type 0} → Bool → (D → List ℕ) → List (Station D) → ℕ → Key → Held → List ℕ → List ℕ → Type 0
 GivesIn {D = D} tells text stations n key told before room =
-    (place : ℕ) (s : Station D) → IsAt stations n place → slice_get stations place ≡ Some s → GivesAt tells text s key told before room
+    (place : ℕ) × (s : Station D) × IsAt stations n place × (slice_get stations place ≡ Some s) × GivesAt tells text s key told before room
 
 -- a driver as one who scrubs it sees it
 

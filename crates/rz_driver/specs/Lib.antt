@@ -8,4 +8,5 @@ pub mod Made
 pub mod Meters
 pub mod Pictures
 pub mod OnlyAsked
+pub mod AskedLaws
 pub mod Fetches

@@ -53,7 +53,8 @@ impl<D: Disk> Driver<D> {
 impl<D: Disk> Store for Driver<D> {
     ghost use Rattle.rz_driver.specs.Worlds.{IsDriver};
     ghost use Rattle.rz_driver.specs.Fetches.{GivesOf, Metered, state_of};
-    ghost use Rattle.rz_driver.specs.OnlyAsked.{WasOnlyAsked, asked-itself, asked-then};
+    ghost use Rattle.rz_driver.specs.OnlyAsked.{WasOnlyAsked};
+    ghost use Rattle.rz_driver.specs.AskedLaws.{asked-itself, asked-then};
 
     ghost described = { λ d. d.volume };
 

@@ -8,7 +8,8 @@
 //! memory: the contract names the events that the administrator's asks would be, so that what was counted
 //! of the disks beside a log is counted beside the log with these on top. [`whole_records`] is the law that
 //! records of one block are clean, and [`whole_blocks`] that a block is, or has too few records, where its
-//! nodes give such records. It is not said here that the disks of a store do.
+//! nodes give such records; [`whole_scrubs`] says it of all lines. It is not said here that the disks of a
+//! store do.
 //!
 //! In reading order: `finding`, `line`, `store`, `asking`, `scrubbing`, `laws`.
 #![tactic(auto)]
@@ -23,6 +24,6 @@ mod store;
 mod tests;
 
 pub use finding::Finding;
-pub use laws::{whole_blocks, whole_records};
+pub use laws::{whole_blocks, whole_records, whole_scrubs};
 pub use scrubbing::scrub;
 pub use store::Store;
