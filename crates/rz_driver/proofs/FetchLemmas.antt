@@ -1,5 +1,5 @@
 -- A node is asked for a record.
-use Rattle.std.proofs.Common.{◌≡◌, ◌≢◌, ◌≤◌, ◌+◌, ◌-◌, ℕ, zero, suc, Bool, true, false, nat_eq, List, [], ◌∷◌, ◌∙◌, inl, inr, drop, length, set, Option, Some, refl, sym, ap, arith, subst}
+use Rattle.std.proofs.Common.{◌≡◌, ◌≤◌, ◌+◌, ◌-◌, ℕ, zero, suc, Bool, true, false, nat_eq, List, [], ◌∷◌, ◌∙◌, inl, inr, drop, set, Option, Some, refl, sym, ap, arith, subst}
 use Rattle.std.specs.Prelude.{slice_get, ◌==◌, cond}
 use Rattle.std.specs.FinMap.{get-empty}
 use Rattle.std.specs.Global.{Vec}
@@ -9,7 +9,7 @@ use Rattle.std.proofs.Math.Seq.{drop-nil}
 use Rattle.std.proofs.lemmas.Bool.{eqb-true}
 use Rattle.mj_angles.specs.declared.layout.Layout.{Layout}
 use Rattle.mj_angles.specs.Layout.{max_bins_of}
-use Rattle.rz_disk.specs.UnderFuse.{UnderFuse, fused_meter}
+use Rattle.rz_disk.specs.UnderFuse.{UnderFuse}
 use Rattle.rz_disk.specs.Meter.{Meter}
 use Rattle.rz_disk.specs.declared.disk.Disk.{Ghosts}
 use Rattle.rz_events.specs.Volume.{Volume}
@@ -35,7 +35,6 @@ use Rattle.rz_driver.specs.declared.driver.Driver.{Driver}
 use Rattle.rz_driver.specs.declared.seat.Seat.{Seat}
 use Rattle.rz_driver.specs.declared.station.Shared.{Shared}
 use Rattle.rz_driver.specs.declared.station.Station.{Station}
-use Rattle.rz_driver.specs.Administration.{IsCalledAt}
 use Rattle.rz_driver.specs.Fetches.{HaveRoom, IsFetch, GivesAt, GivesIn, GivesOf, Metered, state_of}
 use Rattle.rz_driver.specs.Meters.{AreMetered, Goes}
 use Rattle.rz_driver.specs.OnlyAsked.{IsOnlyAsked, AreOnlyAsked, WasOnlyAsked, fused_text}

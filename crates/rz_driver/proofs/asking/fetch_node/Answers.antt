@@ -1,4 +1,4 @@
-use Rattle.std.proofs.Common.{ℕ, ◌≤◌, ◌<◌, List, get_or, length, rules}
+use Rattle.std.proofs.Common.{◌≤◌, ◌<◌, get_or, length, rules}
 use Rattle.std.proofs.lemmas.Option.{slice_get-get_or}
 use Rattle.mj_angles.specs.Layout.{max_bins_of}
 use Rattle.rz_events.specs.declared.keys.Actor.TheVariants.{Admin}

@@ -1,4 +1,4 @@
-use Rattle.std.proofs.Common.{ℕ, ◌≡◌, ◌≤◌, List, [], ◌∷◌, length, refl, arith, sym, subst}
+use Rattle.std.proofs.Common.{◌≡◌, ◌≤◌, List, [], ◌∷◌, length, refl, arith, sym, subst}
 use Rattle.std.specs.Vec.{with_items}
 use Rattle.mj_angles.specs.Layout.{max_bins_of}
 use Rattle.rz_disk.specs.UnderFuse.{UnderFuse, fused_meter}
