@@ -1,5 +1,5 @@
 -- The record of a write at a node, and its bins.
-use Rattle.std.proofs.Common.{◌≡◌, ℕ, zero, suc, Bool, true, false, cond, ◌+◌, List, [], ◌∷◌, ◌++◌, length, take, drop, Option, Some, None, refl, sym, ◌∙◌, ap, subst, arith, eq-eqb}
+use Rattle.std.proofs.Common.{◌≡◌, ℕ, zero, suc, Bool, true, false, cond, ◌+◌, List, [], ◌∷◌, ◌++◌, length, take, drop, Option, Some, None, refl, ap, subst, arith, eq-eqb}
 use Rattle.std.specs.Prelude.{slice_get, ◌*◌, ◌==◌}
 use Rattle.std.proofs.Math.Seq.{take-append_seam}
 use Rattle.std.proofs.lemmas.Bool.{eqb-true}
@@ -9,12 +9,12 @@ use Rattle.mj_angles.specs.declared.layout.Layout.{Layout}
 use Rattle.mj_angles.specs.declared.layout.Layout.TheVariants as layouts
 use Rattle.mj_angles.specs.Layout.{inverse_of, cols_of, angle_of, bins_at_of}
 use Rattle.mj_angles.specs.Projection.{projection, bins, bin}
-use Rattle.rz_words.specs.Grid.{Grid, IsGrid, IsShape, word, words_from}
+use Rattle.rz_words.specs.Grid.{IsShape, word, words_from}
 use Rattle.rz_scrub.specs.Misfits.{IsBlock}
 use Rattle.rz_events.specs.declared.records.Head.{Head}
 use Rattle.rz_operation_model.specs.Rebuild.{position_in}
 use Rattle.rz_core.specs.History.{Begun}
-use Rattle.rz_core.specs.HeldRecords.{block_of, bins_at, head_at, record_at, record_on}
+use Rattle.rz_core.specs.HeldRecords.{block_of, bins_at, record_at, record_on}
 use Rattle.rz_log_laws.specs.Places.{IsApart}
 
 length-projection : (f : ℕ → ℕ → ℕ) (rows cols : ℕ) (p : _) → length (projection f rows cols p) ≡ bins p rows cols

@@ -1,7 +1,6 @@
 -- What a node gives of a published record.
-use Rattle.std.proofs.Common.{◌≡◌, ℕ, Bool, true, false, cond, IsTrue, List, [], ◌∷◌, ◌++◌, length, take, drop, Option, Some, None, refl, sym, ◌∙◌, ap, subst, arith}
+use Rattle.std.proofs.Common.{◌≡◌, ℕ, Bool, true, false, cond, IsTrue, List, [], ◌∷◌, length, take, drop, Option, Some, None, refl, sym, ◌∙◌, ap, subst, arith}
 use Rattle.std.specs.Prelude.{slice_get, ◌==◌}
-use Rattle.std.specs.List.{AllByRecursion}
 use Rattle.std.proofs.lemmas.Bool.{eqb-true}
 use Rattle.std.proofs.lemmas.Option.{same_Some}
 use Rattle.mj_angles.specs.Layout.{angle_of, bins_at_of}
@@ -15,16 +14,12 @@ use Rattle.rz_events.specs.declared.records.Held.{Held}
 use Rattle.rz_events.specs.declared.nodes.Phase.{Phase}
 use Rattle.rz_events.specs.declared.nodes.Phase.TheVariants.{Up, Down, Lost}
 use Rattle.rz_events.specs.declared.nodes.FetchAnswer.TheVariants as fetch
-use Rattle.rz_events.specs.declared.events.Event.{Event}
-use Rattle.rz_events.specs.declared.events.Word.TheVariants.{Export}
-use Rattle.rz_node.specs.Gives.{Gives}
 use Rattle.rz_node_model.specs.Answers.{IsFetchAnswer, fetch_answer, fetch_found, fetch_in}
 use Rattle.rz_node_model.specs.Records.{found, held_of}
 use Rattle.rz_node_model.specs.States.{NodeState}
 use Rattle.rz_export_model.specs.Export.{Export as ExportState}
 use Rattle.rz_export_model.specs.Tree.{file_of}
-use Rattle.rz_core.specs.ExportWord.{export_of}
-use Rattle.rz_core.specs.History.{Begun, Facts, facts, of_word}
+use Rattle.rz_core.specs.History.{Facts, facts}
 use Rattle.rz_core.specs.HeldRecords.{block_of, bins_at}
 use Rattle.rz_core.specs.Legal.{IsLegalInRuns}
 use Rattle.rz_core.proofs.Locality.{next-run}
@@ -38,13 +33,13 @@ use Rattle.rz_scrubbing.specs.Asks.{AreGiven}
 use Rattle.rz_scrubbing.specs.Scrubs.{EachListed}
 use Rattle.rz_driver.specs.declared.seat.Seat.{Seat}
 use Rattle.rz_driver.specs.declared.station.Station.{Station}
-use Rattle.rz_driver.specs.Fetches.{GivesAt, GivesIn}
+use Rattle.rz_driver.specs.Fetches.{GivesIn}
 use Rattle.rz_driver.specs.OnlyAsked.{fused_text}
 use Rattle.rz_driver.specs.Pictures.{AreImaged, HasImages, IsPicture, fused_image}
-use Rattle.rz_driver.specs.Stations.{IsAt, state_in}
+use Rattle.rz_driver.specs.Stations.{state_in}
 use Rattle.rz_driver.proofs.ReadyLemmas.{all-at}
 use Rattle.rz_driver.proofs.WorldLemmas.{state-at}
-use Rattle.rz_scrub_laws.specs.Untouched.{IsUntouchedLaw, text_in}
+use Rattle.rz_scrub_laws.specs.Untouched.{text_in}
 use Rattle.rz_scrub_laws.proofs.Blocks.{front, is-block, length-bins, of-record, position-is}
 use Rattle.rz_scrub_laws.proofs.Listed.{listed-file}
 
