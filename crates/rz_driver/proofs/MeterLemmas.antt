@@ -87,7 +87,7 @@ module _ {D : Type 0} where
     all-stay i (s ∷ more) stay o = (subst (λ (w : List Event). P (first i) w s.node) (sym (stay s.sid)) o.0, all-stay (i + 1) more stay o.1)
 
     -- where those of other nodes stay
-    others-stay : (i n : ℕ) (row : List (Station D)) → ((m : ℕ) → m ≢ n → of_word (Node m) h' ≡ of_word (Node m) h) → AllByRecursion (λ m. nat_eq n m ≡ false) (numbers_of row)
+    pub others-stay : (i n : ℕ) (row : List (Station D)) → ((m : ℕ) → m ≢ n → of_word (Node m) h' ≡ of_word (Node m) h) → AllByRecursion (λ m. nat_eq n m ≡ false) (numbers_of row)
         → OfEach P first i row h → OfEach P first i row h'
     others-stay i n [] stay apart o = tt
     others-stay i n (s ∷ more) stay apart o =
@@ -218,6 +218,11 @@ module _ {D : Type 0} (meter : D → Meter) where
     -- the row, where an event of no node came
     pub metered-stays : (row : List (Station D)) (h h' : List Event) → ((n : ℕ) → of_word (Node n) h' ≡ of_word (Node n) h) → AreMetered meter numbers row h first → AreMetered meter numbers row h' first
     metered-stays row h h' stay met = record { named = met.named; apart = met.apart; each = all-stay (GoesWith meter) first h h' 0 row stay met.each }
+
+    -- the row, where an event came of a number that none has
+    pub metered-apart : (n : ℕ) (row : List (Station D)) (h h' : List Event) → AllByRecursion (λ m. nat_eq n m ≡ false) (numbers_of row) → ((m : ℕ) → m ≢ n → of_word (Node m) h' ≡ of_word (Node m) h)
+        → AreMetered meter numbers row h first → AreMetered meter numbers row h' first
+    metered-apart n row h h' apart stay met = record { named = met.named; apart = met.apart; each = others-stay (GoesWith meter) first h h' 0 n row stay apart met.each }
 
     pub metered-counts : (row : List (Station D)) (h : List Event) → AreMetered meter numbers row h first → AreCounted meter numbers row h first
     metered-counts row h met = record { named = met.named; each = each-then (GoesWith meter) (CountsWith meter) first h 0 row (λ f w n. counts-one f w n) met.each }

@@ -19,12 +19,12 @@ use Rattle.rz_core.specs.NodeRows.{cells_of}
 use Rattle.rz_operation.specs.Machine.{Machine}
 use Rattle.rz_play.specs.World.{World, new_world}
 use Rattle.rz_play_laws.specs.Fine.{IsFine}
-use Rattle.rz_image_laws.specs.Images.{IsImaged}
+use Rattle.rz_image_laws.specs.Images.{IsImaged, geometry_in}
 use Rattle.rz_image_laws.specs.Laws.{IsFreshLaw}
 use Rattle.rz_driver.specs.declared.seat.Seat.{Seat}
 use Rattle.rz_driver.specs.declared.station.Station.{Station}
 use Rattle.rz_driver.specs.Made.{AreNew, IsNew, geometry_of}
-use Rattle.rz_driver.specs.Pictures.{AreImaged, HasImages, HasTrueHand, IsPicture, fused_image, geometry_in}
+use Rattle.rz_driver.specs.Pictures.{AreImaged, HasImages, HasTrueHand, IsPicture, fused_image}
 use Rattle.rz_driver.specs.Seats.{IsEmptySeat}
 use Rattle.rz_driver.specs.Stations.{IsStation}
 

@@ -55,7 +55,7 @@ module _ {D : Type 0} where
       (all-set (IsStation v) xs place after all (call-keeps v s after sid geometry (all-at (IsStation v) xs place s all is)))
 
   -- a node that has its state
-  state-same : (xs : List (Station D)) (n m : ℕ) (x : NodeState) → x ≡ state_in xs n → cond (m == n) x (state_in xs m) ≡ state_in xs m
+  pub state-same : (xs : List (Station D)) (n m : ℕ) (x : NodeState) → x ≡ state_in xs n → cond (m == n) x (state_in xs m) ≡ state_in xs m
   state-same xs n m x is = go (m == n) refl
     where
       go : (b : Bool) → (m == n) ≡ b → cond b x (state_in xs m) ≡ state_in xs m
@@ -97,7 +97,7 @@ module _ {X : Type 0} where
 -- ---- a driver of which a node was called
 
 module _ {D : Type 0} {G : Ghosts D} (d e : Driver D G) (ready : IsDriver d) (volume : e.volume ≡ d.volume) (seats : e.seats.items ≡ d.seats.items) where
-  ready-with : AllByRecursion (IsStation d.volume) e.shared.stations.items → numbers_of e.shared.stations.items ≡ numbers_of d.shared.stations.items → e.shared.locks ≡ d.shared.locks → e.shared.bins.items ≡ d.shared.bins.items → IsDriver e
+  pub ready-with : AllByRecursion (IsStation d.volume) e.shared.stations.items → numbers_of e.shared.stations.items ≡ numbers_of d.shared.stations.items → e.shared.locks ≡ d.shared.locks → e.shared.bins.items ≡ d.shared.bins.items → IsDriver e
   ready-with stations numbers locks bins = record {
     stations = subst (λ (v : Volume). AllByRecursion (IsStation v) e.shared.stations.items) (sym volume) stations;
     numbers = numbers ∙ ready.numbers ∙ ap (λ (v : Volume). map (λ (n : NodeSpec). n.sid) (nodes_of v.clusters)) (sym volume);

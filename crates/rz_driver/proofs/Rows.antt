@@ -3,7 +3,7 @@ use Rattle.std.proofs.Common.{ℕ, zero, suc, ◌≡◌, ◌≢◌, ◌+◌, ◌
 use Rattle.std.specs.Prelude.{slice_get}
 use Rattle.std.proofs.lemmas.Bool.{cases_lt}
 use Rattle.rz_driver.specs.declared.station.Station.{Station}
-use Rattle.rz_driver.specs.Stations.{IsAt}
+use Rattle.rz_driver.specs.Stations.{IsAt, IsNowhere}
 
 module _ {D : Type 0} where
   the-one : (x s : Station D) → Some x ≡ Some s → x ≡ s
@@ -26,6 +26,11 @@ module _ {D : Type 0} where
       let same = the-one x s (sym at ∙ ap (slice_get xs) here ∙ is) in
       λ named. other (ap (λ (y : Station D). y.sid) (sym same) ∙ named))
       (cases_lt k i)
+
+  -- none has it, where none does at any place
+  pub none-at : (xs : List (Station D)) (n : ℕ) → ((k : ℕ) (x : Station D) → k < length xs → slice_get xs k ≡ Some x → x.sid ≢ n) → IsNowhere xs n
+  none-at [] n others = tt
+  none-at (x ∷ xs) n others = (others 0 x (omega arith) refl, none-at xs n (λ k y low at. others (suc k) y (omega (arith, low)) at))
 
   pub at-within : (xs : List (Station D)) (n i : ℕ) → IsAt xs n i → i < length xs
   at-within [] n i at = absurd at

@@ -7,4 +7,6 @@ pub mod Worlds
 pub mod Made
 pub mod Meters
 pub mod Pictures
+pub mod OnlyAsked
+pub mod AskedLaws
 pub mod Fetches

@@ -1,29 +1,22 @@
 -- What is true beside the log of the nodes' disks and of what actors have in hand, where disks tell their texts.
 use Rattle.std.specs.Prelude.{ℕ, ◌≡◌, List, [], ◌∷◌, Option, Some, None}
 use Rattle.std.specs.List.{AllByRecursion}
-use Rattle.mj_angles.specs.Layout.{bsize_of}
 use Rattle.rz_disk.specs.UnderFuse.{UnderFuse}
 use Rattle.rz_events.specs.Volume.{Volume, IsVolume}
 use Rattle.rz_events.specs.declared.keys.Actor.{Actor}
 use Rattle.rz_events.specs.declared.events.Word.TheVariants.{Node}
 use Rattle.rz_events.specs.declared.events.Event.{Event}
-use Rattle.rz_cells.specs.declared.geometry.Geometry.{Geometry}
 use Rattle.rz_node.specs.Seen.{NodeView}
 use Rattle.rz_core.specs.History.{Facts, facts, of_word}
-use Rattle.rz_core.specs.NodeRows.{cells_of}
 use Rattle.rz_core.specs.Tied.{IsNode}
 use Rattle.rz_operation.specs.Machine.{Machine}
 use Rattle.rz_play.specs.World.{World}
 use Rattle.rz_play_laws.specs.Fine.{IsFine}
-use Rattle.rz_image_laws.specs.Images.{AreImages, IsImaged}
+use Rattle.rz_image_laws.specs.Images.{AreImages, IsImaged, geometry_in}
 use Rattle.rz_block_laws.specs.Turns.{HasInHand, IsTrueActor}
 use Rattle.rz_driver.specs.declared.seat.Seat.{Seat}
 use Rattle.rz_driver.specs.declared.station.Station.{Station}
 use Rattle.rz_driver.specs.Stations.{state_in}
-
--- how the disk of a volume's node is laid out
-abbrev pub geometry_in : Volume → ℕ → Geometry
-geometry_in v n = record { layout = v.layout; bsize = bsize_of v.layout; node = n; cells = cells_of v n }
 
 -- a disk in a fuse has the images of the disk
 abbrev pub fused_image : {D : Type 0} → (D → List ℕ → Type 0) → UnderFuse D → List ℕ → Type 0

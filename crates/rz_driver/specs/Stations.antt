@@ -1,5 +1,5 @@
 -- The nodes of a volume in a row.
-use Rattle.std.specs.Prelude.{ℕ, ◌≡◌, ◌≢◌, ◌==◌, zero, suc, cond, map, List, [], ◌∷◌}
+use Rattle.std.specs.Prelude.{ℕ, ◌≡◌, ◌≢◌, ◌==◌, zero, suc, cond, map, List, [], ◌∷◌, Option, Some, None}
 use Rattle.rz_disk.specs.UnderFuse.{UnderFuse}
 use Rattle.rz_events.specs.Volume.{Volume}
 use Rattle.rz_node_model.specs.States.{NodeState, fresh}
@@ -16,6 +16,16 @@ abbrev pub IsAt : {D : Type 0} → List (Station D) → ℕ → ℕ → Type 0
 IsAt [] n i = ⊥
 IsAt (s ∷ more) n zero = s.sid ≡ n
 IsAt (s ∷ more) n (suc i) = (s.sid ≢ n) × IsAt more n i
+
+-- no node has this number
+abbrev pub IsNowhere : {D : Type 0} → List (Station D) → ℕ → Type 0
+IsNowhere [] n = Unit {0}
+IsNowhere (s ∷ more) n = (s.sid ≢ n) × IsNowhere more n
+
+-- where the first node with the number stands, if one has it
+abbrev pub IsPlace : {D : Type 0} → List (Station D) → ℕ → Option ℕ → Type 0
+IsPlace stations n None = IsNowhere stations n
+IsPlace stations n (Some i) = IsAt stations n i
 
 -- the numbers of the nodes, in order
 abbrev pub numbers_of : {D : Type 0} → List (Station D) → List ℕ

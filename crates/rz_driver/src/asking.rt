@@ -1,26 +1,26 @@
 //! What is published after a play, and the records that its nodes give.
-ghost use Rattle.std.specs.Prelude.{◌≡◌, ◌≤◌, ℕ, List, Some, IfOk, OnOk, OnErr, length};
+ghost use Rattle.std.specs.Prelude.{◌≡◌, ◌≢◌, ◌≤◌, ◌∷◌, ℕ, List, Some, true, drop, length};
 ghost use Rattle.mj_angles.specs.Layout.{max_bins_of};
 ghost use Rattle.rz_events.specs.declared.keys.Actor.TheVariants.{Admin};
+ghost use Rattle.rz_events.specs.declared.events.Event.{Event};
 ghost use Rattle.rz_export_model.specs.Export.{published_after};
+ghost use Rattle.rz_node.specs.Spends.{fetch_used};
+ghost use Rattle.rz_node_model.specs.Afterwards.{after_fetch};
+ghost use Rattle.rz_node_model.specs.Answers.{IsFetchAnswer, fetch_answer};
 ghost use Rattle.rz_node_model.specs.NodeEvents.{fetch_event};
 ghost use Rattle.rz_lines.specs.Ends.{Carries};
-ghost use Rattle.rz_scrubbing.specs.Stores.{GoesOn, IsFetched, IsRead};
-ghost use Rattle.rz_driver.specs.Meters.{AreMetered, AreCounted, Goes};
-ghost use Rattle.rz_driver.specs.Worlds.{IsDriver, world_of};
-ghost use Rattle.rz_driver.specs.Fetches.{Counted, GivesAt, GivesIn, GivesOf, HaveRoom, IsFetch, IsFetchCall, IsFetchedAt, Metered, state_of};
+ghost use Rattle.rz_scrubbing.specs.Stores.{IsRead};
+ghost use Rattle.rz_driver.specs.Meters.{AreMetered, Goes};
+ghost use Rattle.rz_driver.specs.Worlds.{IsDriver};
+ghost use Rattle.rz_driver.specs.Fetches.{GivesAt, GivesIn, GivesOf, HaveRoom, IsFetch, Metered};
+ghost use Rattle.rz_driver.specs.OnlyAsked.{IsOnlyAsked, AreOnlyAsked, WasOnlyAsked};
 
-use crate::NoMemory;
-use crate::administration::note;
 use crate::driver::Driver;
 use crate::station::{Station, find};
 use mj_angles::Layout;
-use rz_asks::Log;
-use rz_calls::node_event;
 use rz_disk::Disk;
-use rz_events::{Actor, Event, FetchAnswer, Key, Listed, NodeAnswer, NodeAsk};
+use rz_events::{FetchAnswer, Key, Listed};
 use rz_scrubbing::Store;
-use std::alloc::AllocError;
 
 impl<D: Disk> Driver<D> {
     /// The least published block of a live file above `after`.
@@ -30,57 +30,47 @@ impl<D: Disk> Driver<D> {
         self.shared.export.published(after)
     }
 
-    /// Asks a node for its record of a key with this stamp, as the administrator. The bins come to the front of the
-    /// room. The event of the call is in the log.
-    pub fn fetch_record(
-        &mut self,
-        sid: u16,
-        key: Key,
-        position: u8,
-        stamp: u64,
-        room: &mut [u64],
-    ) -> Result<FetchAnswer, NoMemory>
+    /// Asks a node for its record of a key with this stamp. The bins come to the front of `out`. The log stays as it
+    /// is: the faults of the disk are those of a log with the event of the call on top. A node that the volume does
+    /// not have has no record.
+    pub fn fetch(&mut self, node: u16, key: Key, stamp: u64, out: &mut [u64]) -> FetchAnswer
         requires ready { IsDriver self.old }
-        requires room { max_bins_of self.old.volume.layout ≤ length room.old }
-        ensures called { IfOk result (λ given. IsFetchCall self.old.volume sid key position stamp given (world_of self.old) (world_of self.new)) }
-        ensures fetched { IfOk result (λ given. IsFetched sid key position stamp given (state_of self.old) (state_of self.new)) }
-        ensures read { IfOk result (λ given. IsRead (GivesOf self.old sid key) given room.old room.new) }
-        ensures onward { OnOk result (GoesOn (λ d. IsDriver d) (λ d. d.volume) (λ d. GivesOf d) (λ d. state_of d) (λ d. Metered d) self.old self.new) }
-        ensures volume { self.new.volume ≡ self.old.volume }
-        ensures events { OnErr result (self.new.shared.log.events ≡ self.old.shared.log.events) }
-        ensures left { OnErr result (Carries (Metered self.old) (Counted self.new)) }
+        requires room { max_bins_of self.old.volume.layout ≤ length out.old }
+        ensures fetched { IsFetch key stamp result node self.old.shared.stations.items self.new.shared.stations.items }
+        ensures read { IsRead (GivesOf self.old node key) result out.old out.new }
+        ensures unread { fetch_used result ≢ Some true → out.new ≡ out.old }
+
+        // Behind the most bins that a record has nothing is written, also where a disk does not tell what it holds.
+        ensures behind { drop (max_bins_of self.old.volume.layout) out.new ≡ drop (max_bins_of self.old.volume.layout) out.old }
+        ensures asked { WasOnlyAsked self.old self.new }
+        ensures ready { IsDriver self.new }
+        ensures metered { (position : ℕ) (h : List Event) → Carries (Metered self.old h) (Metered self.new (fetch_event Admin node key position stamp result ∷ h)) }
     {
-        let shared = &mut self.shared;
-        fetch_node(
-            shared.stations.as_mut_slice(),
-            &mut shared.log,
-            sid,
-            key,
-            position,
-            stamp,
-            room,
-        )
+        fetch_node(self.shared.stations.as_mut_slice(), node, key, stamp, out)
     }
 }
 
 impl<D: Disk> Store for Driver<D> {
-    ghost use Rattle.std.proofs.Common.{inl};
     ghost use Rattle.rz_driver.specs.Worlds.{IsDriver};
-    ghost use Rattle.rz_driver.specs.Fetches.{GivesOf, Metered, Spent, state_of};
+    ghost use Rattle.rz_driver.specs.Fetches.{GivesOf, Metered, state_of};
+    ghost use Rattle.rz_driver.specs.OnlyAsked.{WasOnlyAsked};
+    ghost use Rattle.rz_driver.specs.AskedLaws.{asked-itself, asked-then};
 
     ghost described = { λ d. d.volume };
 
-    ghost state = { λ d. state_of d };
+    ghost state = { λ d h. state_of d h };
 
     ghost is_open = { λ d. IsDriver d };
 
     ghost gives = { λ d. GivesOf d };
 
-    ghost counts = { λ d. Metered d };
+    ghost counts = { λ d h. Metered d h };
 
-    ghost counted = { λ d. Spent d };
+    ghost only_asked = { λ d e. WasOnlyAsked d e };
 
-    ghost closes = { λ d first met. inl met };
+    ghost itself = { λ d. asked-itself d };
+
+    ghost then = { λ a b c. asked-then a b c };
 
     fn layout(&self) -> Layout {
         self.volume.layout
@@ -90,68 +80,43 @@ impl<D: Disk> Store for Driver<D> {
         self.shared.export.published(after)
     }
 
-    fn fetch(
-        &mut self,
-        node: u16,
-        key: Key,
-        position: u8,
-        stamp: u64,
-        room: &mut [u64],
-    ) -> Result<FetchAnswer, AllocError> {
-        match self.fetch_record(node, key, position, stamp, room) {
-            Ok(given) => Ok(given),
-            Err(NoMemory) => Err(AllocError),
-        }
+    fn fetch(&mut self, node: u16, key: Key, stamp: u64, room: &mut [u64]) -> FetchAnswer {
+        Driver::fetch(self, node, key, stamp, room)
     }
 }
 
 /// Asks the node of this number.
 fn fetch_node<D: Disk>(
     stations: &mut [Station<D>],
-    log: &mut Log,
     sid: u16,
     key: Key,
-    position: u8,
     stamp: u64,
     room: &mut [u64],
-) -> Result<FetchAnswer, NoMemory>
+) -> FetchAnswer
     requires { HaveRoom (length room.old) stations.old }
-    ensures fetched { IfOk result (λ given. IsFetchedAt D.text key position stamp given sid stations.old stations.new log.old.events log.new.events) }
-    ensures read { IfOk result (λ given. IsRead (GivesIn D.tells D.text stations.old sid key) given room.old room.new) }
-    ensures err { OnErr result (log.new.events ≡ log.old.events) }
-    ensures held { OnOk result ((numbers : List ℕ) → Carries (AreMetered D.meter numbers stations.old log.old.events) (AreMetered D.meter numbers stations.new log.new.events)) }
-    ensures left { OnErr result ((numbers : List ℕ) → Carries (AreMetered D.meter numbers stations.old log.old.events) (AreCounted D.meter numbers stations.new log.new.events)) }
+    ensures fetched { IsFetch key stamp result sid stations.old stations.new }
+    ensures asked { AreOnlyAsked D.text D.image stations.old stations.new }
+    ensures read { IsRead (GivesIn D.tells D.text stations.old sid key) result room.old room.new }
+    ensures unread { fetch_used result ≢ Some true → room.new ≡ room.old }
+    ensures behind { (count : ℕ) → HaveRoom count stations.old → drop count room.new ≡ drop count room.old }
+    ensures metered { (position : ℕ) (numbers : List ℕ) (h : List Event) → Carries (AreMetered D.meter numbers stations.old h) (AreMetered D.meter numbers stations.new (fetch_event Admin sid key position stamp result ∷ h)) }
 {
-    let Some(place) = find(stations, sid) else {
-        return Err(NoMemory);
-    };
-    log.make_room()?;
-    let (given, event) = fetch(&mut stations[place], key, position, stamp, room);
-    note(log, event)?;
-    Ok(given)
+    match find(stations, sid) {
+        Some(place) => fetch(&mut stations[place], key, stamp, room),
+        None => FetchAnswer::Nothing,
+    }
 }
 
-fn fetch<D: Disk>(
-    station: &mut Station<D>,
-    key: Key,
-    position: u8,
-    stamp: u64,
-    room: &mut [u64],
-) -> (FetchAnswer, Option<Event>)
+fn fetch<D: Disk>(station: &mut Station<D>, key: Key, stamp: u64, room: &mut [u64]) -> FetchAnswer
     requires { max_bins_of station.old.node.geometry.layout ≤ length room.old }
-    ensures fetched { IsFetch D.text key position stamp result.0 station.old station.new }
-    ensures event { result.1 ≡ Some (fetch_event Admin station.old.sid key position stamp result.0) }
-    ensures read { IsRead (GivesAt D.tells D.text station.old key) result.0 room.old room.new }
-    ensures metered { Goes D.meter station.old station.new result.1 }
-    ensures counted { (D.meter station.old.node.disk).own ≤ (D.meter station.new.node.disk).own }
+    ensures given { IsFetchAnswer (fetch_answer station.old.node.state key stamp) result }
+    ensures after { station.new.node.state ≡ after_fetch result station.old.node.state }
+    ensures asked { IsOnlyAsked D.text D.image station.old station.new }
+    ensures read { IsRead (GivesAt D.tells D.text station.old key) result room.old room.new }
+    ensures unread { fetch_used result ≢ Some true → room.new ≡ room.old }
+    ensures behind { drop (max_bins_of station.old.node.geometry.layout) room.new ≡ drop (max_bins_of station.old.node.geometry.layout) room.old }
+    ensures metered { (position : ℕ) → Goes D.meter station.old station.new (Some (fetch_event Admin station.old.sid key position stamp result)) }
 {
     rz_disk_laws::faults();
-    let given = station.node.fetch_into(key, stamp, room);
-    let ask = NodeAsk::Fetch {
-        key,
-        position,
-        stamp,
-    };
-    let event = node_event(Actor::Admin, station.sid, &ask, &NodeAnswer::Fetch(given));
-    (given, event)
+    station.node.fetch_into(key, stamp, room)
 }

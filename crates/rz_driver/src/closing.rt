@@ -1,7 +1,10 @@
 //! The end of a driver: the log and the disks go back.
-ghost use Rattle.std.specs.Prelude.{◌≡◌, ◌+◌, ◌≤◌, ◌++◌, reverse, ℕ, IsTrue};
+ghost use Rattle.std.specs.Prelude.{◌≡◌, ◌+◌, ◌≤◌, ◌++◌, reverse, ℕ, List, IsTrue};
 ghost use Rattle.std.specs.Vec.{vec_len, vec_capacity};
+ghost use Rattle.rz_events.specs.declared.events.Event.{Event};
+ghost use Rattle.rz_driver.specs.Fetches.{Metered};
 ghost use Rattle.rz_driver.specs.Meters.{AreDisksCounted};
+ghost use Rattle.rz_driver.specs.OnlyAsked.{IsLeftSince};
 ghost use Rattle.rz_driver.specs.Pictures.{AreDisksImaged};
 ghost use Rattle.rz_driver.specs.Stations.{disks_of};
 ghost use Rattle.rz_driver.specs.Worlds.{numbers_in, Leaves};
@@ -33,6 +36,11 @@ impl<D: Disk> Driver<D> {
         ensures disks { result.1.items ≡ disks_of self.shared.stations.items }
         ensures counted { (first : ℕ → ℕ) → Leaves self first → AreDisksCounted D.meter first 0 (numbers_in self) result.1.items self.shared.log.events }
         ensures imaged { (first : ℕ → ℕ) → Leaves self first → IsTrue D.tells → AreDisksImaged D.image self.volume (numbers_in self) result.1.items self.shared.log.events }
+
+        // Where records were asked after the play, the faults are counted with those asks, and the images are told by
+        // the log of the play still.
+        ensures asked { (h : List Event) (first : ℕ → ℕ) → Metered self h first → AreDisksCounted D.meter first 0 (numbers_in self) result.1.items h }
+        ensures since { (first : ℕ → ℕ) → IsLeftSince self first → IsTrue D.tells → AreDisksImaged D.image self.volume (numbers_in self) result.1.items self.shared.log.events }
     {
         rz_image_laws::logged::<D>();
         let Driver {

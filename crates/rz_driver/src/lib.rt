@@ -7,6 +7,9 @@
 //! texts they say what each image of each disk stands for, by the log, however a play ended. They do not
 //! say that there is memory.
 //!
+//! After a play [`Driver::published`] and [`Driver::fetch`] show what is published and what the nodes hold,
+//! without an event: so a driver is a `Store` to scrub.
+//!
 //! In reading order: `station`, `seat`, `messages`, `acting`, `administration`, `driver`, `turns`, `orders`,
 //! `nodes`, `parts`, `formatting`, `making`, `stage`, `asking`, `closing`.
 #![tactic(auto)]

@@ -1,6 +1,6 @@
 //! The nodes of a volume, and what all actors share.
-ghost use Rattle.std.specs.Prelude.{◌≡◌, ◌≢◌, ◌<◌, ℕ, IfSome, length, slice_get, Some};
-ghost use Rattle.rz_driver.specs.Stations.{IsAt};
+ghost use Rattle.std.specs.Prelude.{◌≡◌, ◌≢◌, ◌<◌, ℕ, length, slice_get, Some};
+ghost use Rattle.rz_driver.specs.Stations.{IsPlace};
 
 use rz_asks::Log;
 use rz_disk::Disk;
@@ -28,9 +28,9 @@ pub(crate) struct Shared<D: Disk> {
     pub(crate) bins: Vec<u64>,
 }
 
-/// Where the node of a number stands.
+/// Where the node of a number stands, if there is one.
 pub(crate) fn find<D: Disk>(stations: &[Station<D>], sid: u16) -> Option<usize>
-    ensures { IfSome result (λ i. IsAt stations.now sid i) }
+    ensures { IsPlace stations.now sid result }
 {
     for (i, station) in stations.iter().enumerate() {
         if station.sid == sid {

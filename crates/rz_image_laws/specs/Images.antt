@@ -1,5 +1,6 @@
 -- The images of a node's disk, beside the log.
 use Rattle.std.specs.Prelude.{ℕ, ◌≡◌, ◌≢◌, ◌⊎◌, List, None}
+use Rattle.mj_angles.specs.Layout.{bsize_of}
 use Rattle.rz_events.specs.Volume.{Volume}
 use Rattle.rz_events.specs.declared.nodes.Phase.TheVariants.{Down, Lost}
 use Rattle.rz_events.specs.declared.events.Event.{Event}
@@ -9,9 +10,14 @@ use Rattle.rz_cells.specs.declared.geometry.Geometry.{Geometry}
 use Rattle.rz_cells.specs.Stands.{StandsFor}
 use Rattle.rz_node.specs.Change.{AreHeld}
 use Rattle.rz_core.specs.History.{Facts}
+use Rattle.rz_core.specs.NodeRows.{cells_of}
 use Rattle.rz_core.specs.NodeWord.{phase, last_fence}
 use Rattle.rz_core.specs.HeldRecords.{held_records, settled_records}
 use Rattle.rz_image_laws.specs.Records.{on_disk, records_in}
+
+-- how the disk of a volume's node is laid out
+abbrev pub geometry_in : Volume → ℕ → Geometry
+geometry_in v n = record { layout = v.layout; bsize = bsize_of v.layout; node = n; cells = cells_of v n }
 
 -- Each image of the disk of node n, where that is not lost, stands for its fence and the records that it holds by the
 -- events of its word; where a change is undecided, for these or for those with the change.

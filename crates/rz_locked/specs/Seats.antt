@@ -1,6 +1,5 @@
 -- A node under its lock: what it is by the log, what a caller must have done, and what a call adds to the log.
 use Rattle.std.specs.Prelude.{ℕ, ◌≡◌, IsTrue, List, Option}
-use Rattle.mj_angles.specs.Layout.{bsize_of}
 use Rattle.rz_events.specs.Volume.{Volume}
 use Rattle.rz_events.specs.declared.keys.Actor.{Actor}
 use Rattle.rz_events.specs.declared.keys.Actor.TheVariants.{Admin}
@@ -11,7 +10,6 @@ use Rattle.rz_events.specs.declared.nodes.NodeAnswer.TheVariants as answer
 use Rattle.rz_events.specs.declared.nodes.FetchAnswer.TheVariants as fetch
 use Rattle.rz_events.specs.declared.events.Word.TheVariants.{Node}
 use Rattle.rz_events.specs.declared.events.Event.{Event}
-use Rattle.rz_cells.specs.declared.geometry.Geometry.{Geometry}
 use Rattle.rz_node_model.specs.States.{NodeState}
 use Rattle.rz_node_model.specs.Answers.{IsNodeAnswer}
 use Rattle.rz_node.specs.Seen.{NodeView}
@@ -28,10 +26,6 @@ use Rattle.rz_locked.specs.Adding.{Adds}
 pub record SeatView : Type 0 where
   pub node : ℕ
   pub log : List Event
-
--- how the disk of node n is laid out
-abbrev pub geometry_in : Volume → ℕ → Geometry
-geometry_in v n = record { layout = v.layout; bsize = bsize_of v.layout; node = n; cells = cells_of v n }
 
 -- The node is the one that the log gives, and each image of its disk is one of its word.
 pub record IsLogged {D : Type 0} (image : D → List ℕ → Type 0) (v : Volume) (h : List Event) (n : ℕ) (node : NodeView D) : Type 0 where

@@ -10,12 +10,12 @@ ghost use Rattle.rz_node_model.specs.NodeEvents as model;
 ghost use Rattle.rz_calls.specs.Calls.{Takes};
 ghost use Rattle.rz_core.specs.History.{facts, of_word};
 ghost use Rattle.rz_core.specs.NodeRows.{IsNodeOf};
-ghost use Rattle.rz_image_laws.specs.Images.{AreImages};
+ghost use Rattle.rz_image_laws.specs.Images.{AreImages, geometry_in};
 ghost use Rattle.rz_chronicle.specs.Keys.{count_at, word_key, IsLater};
 ghost use Rattle.rz_chronicle.specs.Kinds.{IsFit, is_honest, volume_in};
 ghost use Rattle.rz_chronicle.specs.Holds.{Commits, Stays};
 ghost use Rattle.rz_chronicle.specs.Deals.{new_post};
-ghost use Rattle.rz_locked.specs.Seats.{geometry_in, MayAsk, IsFor, Answered, IsRead};
+ghost use Rattle.rz_locked.specs.Seats.{MayAsk, IsFor, Answered, IsRead};
 
 use crate::adding::add;
 use crate::serving::serve;
@@ -45,7 +45,8 @@ impl<D: Disk, J: Naming> Model for Seat<D, J> {
     ghost use Rattle.rz_events.specs.declared.events.Word.TheVariants as w;
     ghost use Rattle.rz_core.specs.NodeRows.{IsNodeOf};
     ghost use Rattle.rz_chronicle.specs.Kinds.{is_honest, volume_in};
-    ghost use Rattle.rz_locked.specs.Seats.{SeatView, geometry_in, IsLogged};
+    ghost use Rattle.rz_image_laws.specs.Images.{geometry_in};
+    ghost use Rattle.rz_locked.specs.Seats.{SeatView, IsLogged};
 
     ghost Value = { SeatView };
 

@@ -1,8 +1,8 @@
 -- The nodes of a block, asked one after the other.
-use Rattle.std.proofs.Common.{ℕ, ◌≡◌, ◌≢◌, ◌<◌, ◌≤◌, ◌+◌, ◌∙◌, List, [], ◌∷◌, length, get_or, drop, take, Some, None, refl, sym, ap, arith, subst}
+use Rattle.std.proofs.Common.{ℕ, zero, suc, ◌≡◌, ◌≢◌, ◌<◌, ◌≤◌, ◌+◌, ◌∙◌, List, [], ◌∷◌, length, get_or, drop, take, replicate, Option, Some, None, refl, sym, ap, arith, subst}
 use Rattle.std.proofs.lemmas.List.{drop_more, get_or-set_other}
 use Rattle.mj_angles.specs.declared.layout.Layout.{Layout}
-use Rattle.mj_angles.specs.Layout.{bins_at_of}
+use Rattle.mj_angles.specs.Layout.{bins_at_of, safe_of}
 use Rattle.rz_events.specs.declared.keys.Key.{Key}
 use Rattle.rz_events.specs.declared.files.Listed.{Listed}
 use Rattle.rz_events.specs.declared.records.Held.{Held}
@@ -12,6 +12,15 @@ use Rattle.rz_scrub.specs.Records.{Records, bins_at, no_records}
 use Rattle.rz_scrubbing.specs.declared.finding.Finding.{Finding}
 use Rattle.rz_scrubbing.specs.Stores.{State, IsRead}
 use Rattle.rz_scrubbing.specs.Asks.{AreAsked, IsAsked, IsFound, with_given}
+
+-- at first no position has bins
+none-in : (n p : ℕ) → get_or (replicate n (let o : Option (List ℕ) = None in o)) p None ≡ None
+none-in zero p = refl
+none-in (suc n) zero = refl
+none-in (suc n) (suc p) = none-in n p
+
+pub bare-at-first : (layout : Layout) (p : ℕ) → bins_at (no_records layout) p ≡ None
+bare-at-first layout p = none-in (safe_of layout) p
 
 -- a position that is asked leaves the others
 pub others : (s : Records) (position p : ℕ) (given : FetchAnswer) (room : List ℕ) → p ≢ position → bins_at (with_given s position given room) p ≡ bins_at s p
@@ -61,12 +70,6 @@ pub found-before : {gives earlier : ℕ → Key → Held → List ℕ → List �
     → ((m : ℕ) (key : Key) (told : Held) (a b : List ℕ) → gives m key told a b → earlier m key told a b)
     → IsFound layout gives l w finding next → IsFound layout earlier l w finding next
 found-before layout l w next finding to found = (found.0, all-asked-before l to l.info.places 0 w next (no_records layout) found.0 found.1, found.2)
-
--- an ask at another spelling of its position and its node
-pub asked-at : {gives : ℕ → Key → Held → List ℕ → List ℕ → Type 0} {l : Listed} {k m : ℕ} {w next : State} {s s' : Records} → (position n : ℕ)
-    → IsAsked gives l k m w next s s' → k ≡ position → m ≡ n → IsAsked gives l position n w next s s'
-asked-at {gives = gives} {l = l} {m = m} {w = w} {next = next} {s = s} {s' = s'} position n asked at is =
-    subst (λ (x : ℕ). IsAsked gives l position x w next s s') is (subst (λ (x : ℕ). IsAsked gives l x m w next s s') at asked)
 
 -- one node is asked, and then the rest
 pub asked-next : (gives : ℕ → Key → Held → List ℕ → List ℕ → Type 0) (l : Listed) (nodes : List ℕ) (i : ℕ) (w mid next : State) (s s' t : Records)

@@ -8,6 +8,8 @@ use Rattle.rz_events.specs.declared.files.Listed.{Listed}
 use Rattle.rz_events.specs.declared.records.Held.{Held}
 use Rattle.rz_events.specs.declared.nodes.FetchAnswer.{FetchAnswer}
 use Rattle.rz_events.specs.declared.nodes.FetchAnswer.TheVariants as fetch
+use Rattle.rz_node_model.specs.Answers.{IsFetchAnswer, fetch_answer}
+use Rattle.rz_node_model.specs.States.{NodeState}
 use Rattle.rz_words.specs.Grid.{Grid}
 use Rattle.rz_scrub.specs.Misfits.{IsBlock}
 use Rattle.rz_scrub.specs.Records.{Records, no_records, with_bins}
@@ -40,8 +42,10 @@ abbrev pub IsFound : Layout → (ℕ → Key → Held → List ℕ → List ℕ 
 IsFound layout gives l w finding next =
     (s : Records) × AreAsked gives l 0 l.info.places w next (no_records layout) s × IsFinding s finding
 
--- the records that the nodes of the block give are the projections of this block of words
-pub record AreGiven (layout : Layout) (gives : ℕ → Key → Held → List ℕ → List ℕ → Type 0) (l : Listed) (g : Grid) : Type 0 where
+-- What the nodes of the block tell by these states of its published record, and give of it, are the projections of this block of
+-- words.
+pub record AreGiven (layout : Layout) (gives : ℕ → Key → Held → List ℕ → List ℕ → Type 0) (nodes : ℕ → NodeState) (l : Listed) (g : Grid) : Type 0 where
   pub block : IsBlock layout g
-  pub each : (position n : ℕ) (told : Held) (before room : List ℕ) → slice_get l.info.places position ≡ Some n → gives n l.key told before room
+  pub each : (position n : ℕ) (told : Held) (before room : List ℕ) → slice_get l.info.places position ≡ Some n
+      → IsFetchAnswer (fetch_answer (nodes n) l.key l.published.stamp) (fetch.Held told) → gives n l.key told before room
       → take (bins_at_of layout position) room ≡ projection_of g (angle_of layout position)

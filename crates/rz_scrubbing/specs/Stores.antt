@@ -1,5 +1,6 @@
 -- What there is to be scrubbed, and what asking a node for a record makes of it.
 use Rattle.std.specs.Prelude.{ℕ, ◌==◌, ◌≡◌, cond, List, ◌∷◌, ◌++◌}
+use Rattle.std.specs.List.{AllByRecursion}
 use Rattle.rz_events.specs.Volume.{Volume}
 use Rattle.rz_events.specs.declared.keys.Key.{Key}
 use Rattle.rz_events.specs.declared.keys.Actor.TheVariants.{Admin}
@@ -34,17 +35,27 @@ abbrev pub IsRead : (Held → List ℕ → List ℕ → Type 0) → FetchAnswer 
 IsRead reads (fetch.Held told) old room = reads told old room
 IsRead reads _ old room = Unit {0}
 
--- the events stand, with others after them
-abbrev pub IsOnTop : List Event → List Event → Type 0
-IsOnTop old new = (later : List Event) × (new ≡ later ++ old)
+-- these are events of the administrator's asks for records
+abbrev pub AreAsks : List Event → Type 0
+AreAsks later =
+    AllByRecursion (λ x. (n : ℕ) × (key : Key) × (position : ℕ) × (stamp : ℕ) × (given : FetchAnswer) × (x ≡ fetch_event Admin n key position stamp given)) later
 
--- A store goes on: it can be asked again, its disks give no other records than before, events were added, and what was so of its
--- disks is so still.
+-- A store of which records were asked, by these events: it can be asked again, its disks give no other records than before, and what
+-- was so of its disks beside any events is so with the asks after them.
 pub record GoesOn {S : Type 0} (is_open : S → Type 0) (described : S → Volume) (gives : S → ℕ → Key → Held → List ℕ → List ℕ → Type 0)
-    (state : S → State) (counts : S → (ℕ → ℕ) → Type 0) (old new : S) : Type 0 where
+    (state : S → List Event → State) (counts : S → List Event → (ℕ → ℕ) → Type 0) (only_asked : S → S → Type 0) (old new : S) (later : List Event) : Type 0 where
   pub ready : is_open new
   pub described_is : described new ≡ described old
   pub given : (n : ℕ) (key : Key) (told : Held) (before room : List ℕ) → gives new n key told before room → gives old n key told before room
-  pub export_is : (state new).export ≡ (state old).export
-  pub events : IsOnTop (state old).events (state new).events
-  pub held : (first : ℕ → ℕ) → counts old first → counts new first
+  pub export_is : (h : List Event) → (state new h).export ≡ (state old h).export
+  pub counted : (h : List Event) (first : ℕ → ℕ) → counts old h first → counts new (later ++ h) first
+  pub asked : only_asked old new
+
+-- and this was told of its state, whatever events there were before
+pub record HasAsked {S : Type 0} (is_open : S → Type 0) (described : S → Volume) (gives : S → ℕ → Key → Held → List ℕ → List ℕ → Type 0)
+    (state : S → List Event → State) (counts : S → List Event → (ℕ → ℕ) → Type 0) (only_asked : S → S → Type 0) (old new : S) (Tells : State → State → Type 0)
+    : Type 0 where
+  pub later : List Event
+  pub asks : AreAsks later
+  pub onward : GoesOn is_open described gives state counts only_asked old new later
+  pub told : (h : List Event) → Tells (state old h) (state new (later ++ h))

@@ -1,12 +1,12 @@
 //! The records of a block, as its nodes give them.
 
-ghost use Rattle.std.specs.Prelude.{◌≡◌, ◌<◌, ℕ, None, IfOk, OnOk, take};
+ghost use Rattle.std.specs.Prelude.{◌≡◌, None, IfOk, length, take};
 ghost use Rattle.std.specs.Vec.{vec_len};
 ghost use Rattle.mj_angles.specs.Layout.{safe_of, inverse_of, cols_of, bins_at_of, max_bins_of};
 ghost use Rattle.rz_scrub.specs.Records.{bins_at, no_records, with_bins};
 ghost use Rattle.rz_scrubbing.specs.Asks.{AreAsked, IsAsked, IsFound};
 ghost use Rattle.rz_scrubbing.specs.Findings.{IsFinding};
-ghost use Rattle.rz_scrubbing.specs.Stores.{GoesOn, IsOnTop};
+ghost use Rattle.rz_scrubbing.specs.Stores.{HasAsked};
 
 use crate::finding::{Finding, finding_of};
 use crate::store::Store;
@@ -24,6 +24,7 @@ pub(crate) struct Desk {
     block: Block,
     room: Vec<u64>,
     ghost scrubs: { scrub.layout ≡ layout },
+    ghost places: { length scrub.bins ≡ safe_of layout },
     ghost rows: { block.rows ≡ inverse_of layout },
     ghost cols: { block.cols ≡ cols_of layout },
     ghost full: { vec_len room ≡ max_bins_of layout },
@@ -52,15 +53,17 @@ impl Desk {
         self.scrub.clear();
     }
 
-    /// Adds the bins in front of the room as the record at a position that has none yet.
+    /// Adds the bins in front of the room as the record at a position that has none yet. At a position that
+    /// the layout does not have nothing is added.
     fn add(&mut self, position: u8)
-        requires place { position < safe_of self.old.layout }
         requires bare { bins_at self.old.scrub position ≡ None }
         ensures layout { self.new.layout ≡ self.old.layout }
         ensures added { self.new.scrub ≡ with_bins self.old.scrub position (take (bins_at_of self.old.layout position) self.old.room.items) }
     {
-        let count = self.layout.bins_at(position);
-        self.scrub.add(position, &self.room[..count]);
+        if (position as usize) < self.layout.safe() {
+            let count = self.layout.bins_at(position);
+            self.scrub.add(position, &self.room[..count]);
+        }
     }
 
     /// What is found of the records.
@@ -73,71 +76,42 @@ impl Desk {
 }
 
 /// Asks one node of a block for its record, and adds what it gives.
-fn ask<S: Store>(
-    store: &mut S,
-    desk: &mut Desk,
-    listed: &Listed,
-    position: u8,
-    node: u16,
-) -> Result<(), AllocError>
+fn ask<S: Store>(store: &mut S, desk: &mut Desk, listed: &Listed, position: u8, node: u16)
     requires ready { S.is_open store.old }
     requires layout { (S.described store.old).layout ≡ desk.old.layout }
-    requires place { position < safe_of desk.old.layout }
     requires bare { bins_at desk.old.scrub position ≡ None }
     ensures desk { desk.new.layout ≡ desk.old.layout }
-    ensures asked { OnOk result (IsAsked (S.gives store.old) listed.now position node (S.state store.old) (S.state store.new) desk.old.scrub desk.new.scrub) }
-    ensures onward { OnOk result (GoesOn S.is_open S.described S.gives S.state S.counts store.old store.new) }
-    ensures described { S.described store.new ≡ S.described store.old }
-    ensures events { IsOnTop (S.state store.old).events (S.state store.new).events }
-    ensures left { (first : ℕ → ℕ) → S.counts store.old first → S.counted store.new first }
+    ensures asked { HasAsked S.is_open S.described S.gives S.state S.counts S.only_asked store.old store.new (λ w next. IsAsked (S.gives store.old) listed.now position node w next desk.old.scrub desk.new.scrub) }
 {
     let stamp = listed.published.stamp;
-    let answer = store.fetch(node, listed.key, position, stamp, &mut desk.room)?;
+    let answer = store.fetch(node, listed.key, stamp, &mut desk.room);
     if let FetchAnswer::Held(_) = answer {
         desk.add(position);
     }
-    Ok(())
 }
 
 /// Asks each node of a block for its record.
-fn gather<S: Store>(store: &mut S, desk: &mut Desk, listed: &Listed) -> Result<(), AllocError>
+fn gather<S: Store>(store: &mut S, desk: &mut Desk, listed: &Listed)
     requires ready { S.is_open store.old }
     requires layout { (S.described store.old).layout ≡ desk.old.layout }
     requires bare { desk.old.scrub ≡ no_records desk.old.layout }
     ensures desk { desk.new.layout ≡ desk.old.layout }
-    ensures asked { OnOk result (AreAsked (S.gives store.old) listed.now 0 listed.now.info.places (S.state store.old) (S.state store.new) (no_records desk.old.layout) desk.new.scrub) }
-    ensures onward { OnOk result (GoesOn S.is_open S.described S.gives S.state S.counts store.old store.new) }
-    ensures described { S.described store.new ≡ S.described store.old }
-    ensures events { IsOnTop (S.state store.old).events (S.state store.new).events }
-    ensures left { (first : ℕ → ℕ) → S.counts store.old first → S.counted store.new first }
+    ensures asked { HasAsked S.is_open S.described S.gives S.state S.counts S.only_asked store.old store.new (λ w next. AreAsked (S.gives store.old) listed.now 0 listed.now.info.places w next (no_records desk.old.layout) desk.new.scrub) }
 {
     let nodes = listed.info.places.list();
-    if desk.layout.safe() < nodes.len() {
-        return Err(AllocError);
-    }
     for (i, node) in nodes.iter().enumerate() {
-        ask(store, desk, listed, i as u8, *node)?;
+        ask(store, desk, listed, i as u8, *node);
     }
-    Ok(())
 }
 
-/// Asks the nodes of a block, and judges what they give. A block with more nodes than the layout has
-/// positions, which no store has, counts as want of memory.
-pub(crate) fn find<S: Store>(
-    store: &mut S,
-    desk: &mut Desk,
-    listed: &Listed,
-) -> Result<Finding, AllocError>
+/// Asks the nodes of a block, and judges what they give.
+pub(crate) fn find<S: Store>(store: &mut S, desk: &mut Desk, listed: &Listed) -> Finding
     requires ready { S.is_open store.old }
     requires layout { (S.described store.old).layout ≡ desk.old.layout }
     ensures desk { desk.new.layout ≡ desk.old.layout }
-    ensures found { IfOk result (λ finding. IsFound desk.old.layout (S.gives store.old) listed.now (S.state store.old) finding (S.state store.new)) }
-    ensures onward { OnOk result (GoesOn S.is_open S.described S.gives S.state S.counts store.old store.new) }
-    ensures described { S.described store.new ≡ S.described store.old }
-    ensures events { IsOnTop (S.state store.old).events (S.state store.new).events }
-    ensures left { (first : ℕ → ℕ) → S.counts store.old first → S.counted store.new first }
+    ensures found { HasAsked S.is_open S.described S.gives S.state S.counts S.only_asked store.old store.new (λ w next. IsFound desk.old.layout (S.gives store.old) listed.now w result next) }
 {
     desk.clear();
-    gather(store, desk, listed)?;
-    Ok(desk.finding())
+    gather(store, desk, listed);
+    desk.finding()
 }

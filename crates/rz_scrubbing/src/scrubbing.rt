@@ -1,8 +1,8 @@
 //! The scrub of a store.
 
-ghost use Rattle.std.specs.Prelude.{◌≡◌, ℕ, IfOk};
+ghost use Rattle.std.specs.Prelude.{IfOk};
 ghost use Rattle.rz_scrubbing.specs.Scrubs.{IsScrubbed};
-ghost use Rattle.rz_scrubbing.specs.Stores.{IsOnTop};
+ghost use Rattle.rz_scrubbing.specs.Stores.{HasAsked};
 
 use crate::asking::{Desk, find};
 use crate::line::push_line;
@@ -13,17 +13,14 @@ use std::alloc::{AllocError, Global};
 /// node of a block is asked once for its record of the published stamp, and nothing is written back.
 pub fn scrub<S: Store>(alloc: Global, store: &mut S) -> Result<Vec<u8>, AllocError>
     requires { S.is_open store.old }
-    ensures lines { IfOk result (λ text. IsScrubbed (S.described store.old).layout (S.gives store.old) (S.state store.old) text.items (S.state store.new)) }
-    ensures described { S.described store.new ≡ S.described store.old }
-    ensures events { IsOnTop (S.state store.old).events (S.state store.new).events }
-    ensures left { (first : ℕ → ℕ) → S.counts store.old first → S.counted store.new first }
+    ensures { HasAsked S.is_open S.described S.gives S.state S.counts S.only_asked store.old store.new (λ w next. IfOk result (λ text. IsScrubbed (S.described store.old).layout (S.gives store.old) w text.items next)) }
 {
     let layout = store.layout();
     let mut desk = Desk::new(alloc, layout)?;
     let mut text = Vec::new(alloc);
     let mut after = None;
     'blocks: while let Some(listed) = store.published(after) {
-        let finding = find(store, &mut desk, &listed)?;
+        let finding = find(store, &mut desk, &listed);
         push_line(alloc, &mut text, layout, listed.key, finding)?;
         after = Some(listed.key);
     }

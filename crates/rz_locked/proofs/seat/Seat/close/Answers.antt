@@ -2,9 +2,9 @@ use Rattle.std.proofs.Common.{sym, subst}
 use Rattle.rz_events.specs.declared.events.Word.TheVariants as w
 use Rattle.rz_cells.specs.declared.geometry.Geometry.{Geometry}
 use Rattle.rz_core.specs.History.{facts, of_word}
-use Rattle.rz_image_laws.specs.Images.{AreImages}
+use Rattle.rz_image_laws.specs.Images.{AreImages, geometry_in}
 use Rattle.rz_chronicle.specs.Kinds.{volume_in}
-use Rattle.rz_locked.specs.Seats.{SeatView, geometry_in}
+use Rattle.rz_locked.specs.Seats.{SeatView}
 use Rattle.rz_locked.proofs.seat.Seat.close.Goals as goal
 
 pub returns-clause-images : goal.returns-clause-images

@@ -2,7 +2,7 @@ use Rattle.std.proofs.Common.{◌≡◌, true, is_some, sym, subst}
 use Rattle.std.specs.FinMap as maps
 use Rattle.rz_export_model.specs.Export.{Blocks}
 use Rattle.rz_blocks.proofs.Prepared.{prepared-there}
-use Rattle.rz_blocks.proofs.tests.begin.Goals as goal
+use Rattle.rz_name_tests.proofs.published.begin.Goals as goal
 
 pub begin-requires-clause-prepared : goal.begin-requires-clause-prepared
 begin-requires-clause-prepared c =

@@ -1,0 +1,45 @@
+-- One ask more of a driver's nodes, or none: the laws of a driver as a store. They stand here since an impl can cite the specs of its
+-- crate alone.
+use Rattle.std.proofs.Common.{◌∙◌, ap, refl, ℕ, List, [], ◌∷◌}
+use Rattle.rz_disk.specs.UnderFuse.{UnderFuse}
+use Rattle.rz_disk.specs.declared.disk.Disk.{Ghosts}
+use Rattle.rz_driver.specs.declared.driver.Driver.{Driver}
+use Rattle.rz_driver.specs.declared.station.Shared.{Shared}
+use Rattle.rz_driver.specs.declared.station.Station.{Station}
+use Rattle.rz_driver.specs.OnlyAsked.{IsOnlyAsked, AreOnlyAsked, WasOnlyAsked, fused_text}
+use Rattle.rz_driver.specs.Pictures.{fused_image}
+
+pub one-itself : {D : Type 0} (text : D → List ℕ) (image : D → List ℕ → Type 0) (s : Station D) → IsOnlyAsked text image s s
+one-itself text image s = record { called = record { sid = refl; pick = refl; geometry = refl }; fence = refl; text_is = refl; within = λ c has. has }
+
+pub all-themselves : {D : Type 0} (text : D → List ℕ) (image : D → List ℕ → Type 0) (xs : List (Station D)) → AreOnlyAsked text image xs xs
+all-themselves text image [] = tt
+all-themselves text image (s ∷ xs) = (one-itself text image s, all-themselves text image xs)
+
+one-then : {D : Type 0} (text : D → List ℕ) (image : D → List ℕ → Type 0) (a b c : Station D) → IsOnlyAsked text image a b → IsOnlyAsked text image b c → IsOnlyAsked text image a c
+one-then text image a b c p q = record {
+  called = record { sid = q.called.sid ∙ p.called.sid; pick = q.called.pick ∙ p.called.pick; geometry = q.called.geometry ∙ p.called.geometry };
+  fence = q.fence ∙ p.fence;
+  text_is = q.text_is ∙ p.text_is;
+  within = λ c' has. p.within c' (q.within c' has);
+}
+
+all-then : {D : Type 0} (text : D → List ℕ) (image : D → List ℕ → Type 0) (xs ys zs : List (Station D)) → AreOnlyAsked text image xs ys → AreOnlyAsked text image ys zs → AreOnlyAsked text image xs zs
+all-then text image [] [] [] p q = tt
+all-then text image [] [] (z ∷ zs) p q = q
+all-then text image [] (y ∷ ys) zs p q = absurd p
+all-then text image (x ∷ xs) [] zs p q = absurd p
+all-then text image (x ∷ xs) (y ∷ ys) [] p q = q
+all-then text image (x ∷ xs) (y ∷ ys) (z ∷ zs) p q = (one-then text image x y z p.0 q.0, all-then text image xs ys zs p.1 q.1)
+
+pub asked-itself : {D : Type 0} {G : Ghosts D} (d : Driver D G) → WasOnlyAsked d d
+asked-itself {G = G} d = record { volume = refl; seats = refl; turns = refl; shared = refl; nodes = all-themselves (fused_text G.text) (fused_image G.image) d.shared.stations.items }
+
+pub asked-then : {D : Type 0} {G : Ghosts D} (a b c : Driver D G) → WasOnlyAsked a b → WasOnlyAsked b c → WasOnlyAsked a c
+asked-then {D = D} {G = G} a b c p q = record {
+  volume = q.volume ∙ p.volume;
+  seats = q.seats ∙ p.seats;
+  turns = q.turns ∙ p.turns;
+  shared = q.shared ∙ ap (λ (s : Shared (UnderFuse D)). let r : Shared (UnderFuse D) = record s { stations = c.shared.stations } in r) p.shared;
+  nodes = all-then (fused_text G.text) (fused_image G.image) a.shared.stations.items b.shared.stations.items c.shared.stations.items p.nodes q.nodes;
+}

@@ -1,0 +1,27 @@
+-- What the nodes give of published blocks, between two turns of a play.
+use Rattle.std.specs.Prelude.{ℕ, ◌≡◌, Bool, IsTrue, List, [], Option, Some, None}
+use Rattle.rz_disk.specs.UnderFuse.{UnderFuse}
+use Rattle.rz_events.specs.Volume.{Volume}
+use Rattle.rz_core.specs.HeldRecords.{block_of}
+use Rattle.rz_core.specs.History.{Begun, facts}
+use Rattle.rz_play.specs.World.{World}
+use Rattle.rz_scrubbing.specs.Asks.{AreGiven}
+use Rattle.rz_scrubbing.specs.Scrubs.{EachListed}
+use Rattle.rz_driver.specs.declared.seat.Seat.{Seat}
+use Rattle.rz_driver.specs.declared.station.Station.{Station}
+use Rattle.rz_driver.specs.Fetches.{GivesIn}
+use Rattle.rz_driver.specs.OnlyAsked.{fused_text}
+use Rattle.rz_driver.specs.Pictures.{IsPicture, fused_image}
+use Rattle.rz_driver.specs.Stations.{state_in}
+
+-- the text of a write, or none
+abbrev pub text_in : Option Begun → List ℕ
+text_in None = []
+text_in (Some b) = b.text
+
+-- Of each published block the nodes give the projections of the text with which the write of its stamp began.
+abbrev pub IsUntouchedLaw : {D : Type 0} → Bool → (D → List ℕ) → (D → List ℕ → Type 0) → Type 0
+IsUntouchedLaw {D = D} tells text image =
+    (v : Volume) (w : World) (seats : List Seat) (stations : List (Station (UnderFuse D))) → w.nodes ≡ state_in stations
+    → IsPicture (fused_image image) v w seats stations → IsTrue tells
+    → EachListed w.export (λ l. AreGiven v.layout (GivesIn tells (fused_text text) stations) w.nodes l (block_of v.layout (text_in ((facts w.log).wrote l.published.stamp))))
