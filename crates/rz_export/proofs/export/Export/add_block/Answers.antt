@@ -4,7 +4,7 @@ use Rattle.std.specs.FinMap.{FinMap}
 use Rattle.std.specs.Ordering.{nat_cmp, is_eq}
 use Rattle.std.proofs.lemmas.List.{with_items_is}
 use Rattle.rz_events.specs.Keys.{key_cmp, keys_total}
-use Rattle.rz_events.specs.declared.files.FileInfo.{FileInfo}
+use Rattle.rz_events.specs.declared.keys.Key.{Key}
 use Rattle.rz_marks.specs.Marks.{is_marked}
 use Rattle.rz_export_model.specs.Tree.{file_of}
 use Rattle.rz_export_model.specs.Export.{Export, Block, Blocks, Enrolled}
@@ -59,7 +59,8 @@ invariant_of-self-2 c =
     let items = with_items_is s.nodes c.recount.new.nodes (c.recount.auto.nodes ∙ c.as_mut_slice.ensures.len) in
     let count : c.len-count.result ≡ maps.len (added s.blocks key c.args.latest published) = c.len-count.ensures ∙ ap maps.len c.in_ok-add.ensures.ok in
     let short : maps.len (added s.blocks key c.args.latest published) < 2 ^ 64 = omega (arith, count) in
-    let remarked = λ l q.
+    let remarked : (l : ℕ) (q : Key) → is_marked marks l q ≡ cond (is_place l info.places && is_eq (key_cmp key q)) (is_named l info.places published) (is_marked more l q)
+    = λ l q.
     c.mark.ensures.marks l q
     ∙ ap (λ (ps : List ℕ). cond (is_place l ps && is_eq (key_cmp key q)) (is_named l ps published) (is_marked more l q)) c.list-places.ensures.value in
     subst (λ (ns : List KeptNode). IsKept s.volume s.tree c.add.new.self ns marks s.last) (sym (items ∙ nodes))
