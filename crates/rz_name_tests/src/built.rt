@@ -31,11 +31,9 @@ fn root_part(alloc: Global, mode: u16, mtime: u64) -> Part
 fn builds_the_root(rt: HostRuntime) -> Result<(), Fail> {
     let alloc = rt.alloc();
     let volume = Volume::plain(alloc)?;
-    let parts = [
-        Part::Counters { last: 5, made: 9 },
-        root_part(alloc, 0o700, 7),
-    ];
-    let mut export = Export::build(alloc, volume, &parts)?;
+    let counters = Part::Counters { last: 5, made: 9 };
+    let parts = vec![in alloc; counters, root_part(alloc, 0o700, 7)]?;
+    let mut export = Export::build(alloc, volume, parts.as_slice())?;
     let first = export.part(0)?;
     assert!(rt; matches!(&first, Some(Part::Counters { last: 5, made: 9 })));
     let second = export.part(1)?;

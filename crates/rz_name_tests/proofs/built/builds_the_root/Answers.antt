@@ -1,4 +1,4 @@
-use Rattle.std.proofs.Common.{◌∷◌, [], subst, sym}
+use Rattle.std.proofs.Common.{◌∷◌, [], List, ap, subst, sym, ◌∙◌}
 use Rattle.rz_tree.specs.declared.parts.Part.{Part}
 use Rattle.rz_tree.specs.declared.parts.Part.TheVariants as part
 use Rattle.rz_export.specs.Building.{ArePartsOf}
@@ -7,5 +7,6 @@ use Rattle.rz_name_tests.proofs.built.builds_the_root.Goals as goal
 
 pub build-requires : goal.build-requires
 build-requires g c =
-    subst (λ (p : Part). ArePartsOf c.in_ok-volume.volume (part.Counters 5 9 ∷ p ∷ [])) (sym c.root_part.ensures)
+    subst (λ (ps : List Part). ArePartsOf c.in_ok-volume.volume ps)
+    (sym (c.as_slice.ensures.value ∙ c.in_ok-parts.ensures ∙ ap (λ (p : Part). part.Counters 5 9 ∷ p ∷ []) c.root_part.ensures))
     (two-are c.in_ok-volume.volume 5 9 448 7)
