@@ -8,5 +8,5 @@ use Rattle.rz_name_tests.proofs.built.builds_the_root.Goals as goal
 pub build-requires : goal.build-requires
 build-requires g c =
     subst (λ (ps : List Part). ArePartsOf c.in_ok-volume.volume ps)
-    (sym (c.as_slice.ensures.value ∙ c.in_ok-parts.ensures ∙ ap (λ (p : Part). part.Counters 5 9 ∷ p ∷ []) c.root_part.ensures))
+    (sym (c.as_slice.ensures.value ∙ c.in_ok-parts.ensures.items ∙ ap (λ (p : Part). part.Counters 5 9 ∷ p ∷ []) c.root_part.ensures))
     (two-are c.in_ok-volume.volume 5 9 448 7)
