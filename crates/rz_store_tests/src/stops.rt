@@ -79,13 +79,13 @@ fn held<D: Disk>(alloc: Global, node: &mut Node<D>) -> Result<[bool; 3], Fail>
             _ => Err("not fetched")?,
         };
         if *is_held && out != words(alloc, stamp)? {
-            Err("other bins")?;
+            return Err("other bins")?;
         }
     }
     Ok(held)
 }
 
-#[derive(Clone, Copy, PartialEq, Eq)]
+#[derive(Clone, Copy, PartialEq, Eq, Drop)]
 enum Change {
     Keep,
     Refill,
@@ -94,6 +94,7 @@ enum Change {
 
 /// A change of a node that was asked to keep the first so many versions, the address of the gate that it
 /// flips and what stood there, and which versions are held before and after.
+#[derive(Drop)]
 struct Row {
     earlier: u8,
     change: Change,
@@ -143,7 +144,7 @@ fn stopped<D: Disk>(alloc: Global, disk: D, row: &Row, passes: u64) -> Result<No
     let mut node = formatted(alloc, disk)?;
     for number in 0..row.earlier {
         if !keeps(alloc, &mut node, number)? {
-            Err("stopped too early")?;
+            return Err("stopped too early")?;
         }
     }
     node.arm(Some(passes));
@@ -234,11 +235,11 @@ fn lost<D: Disk>(alloc: Global, disk: D, passes: u64) -> Result<Node<D>, Fail>
 {
     let mut node = formatted(alloc, disk)?;
     if !keeps(alloc, &mut node, 0)? || node.lose() != Some(1) {
-        Err("stopped too early")?;
+        return Err("stopped too early")?;
     }
     node.arm(Some(passes));
     if node.replace(alloc, 1, 7) != ReplaceAnswer::DiskFault || node.probe() != Some(1) {
-        Err("it did not stop")?;
+        return Err("it did not stop")?;
     }
     node.arm(None);
     Ok(node)
