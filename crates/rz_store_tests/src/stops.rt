@@ -95,7 +95,7 @@ enum Change {
 /// A change of a node that was asked to keep the first so many versions, the address of the gate that it
 /// flips and what stood there, and which versions are held before and after.
 #[derive(Drop)]
-struct Row {
+struct Stop {
     earlier: u8,
     change: Change,
     gate_at: u64,
@@ -111,8 +111,8 @@ fn row(
     gate: u8,
     before: [bool; 3],
     after: [bool; 3],
-) -> Row {
-    Row {
+) -> Stop {
+    Stop {
         earlier,
         change,
         gate_at: cell.wrapping_add(64),
@@ -123,7 +123,7 @@ fn row(
 }
 
 /// The third version takes the place of the first, since it was made on the second.
-fn rows() -> [Row; 5] {
+fn rows() -> [Stop; 5] {
     let none = [false; 3];
     let first = [true, false, false];
     let second = [false, true, false];
@@ -138,7 +138,7 @@ fn rows() -> [Row; 5] {
 }
 
 /// The node after a change that stopped.
-fn stopped<D: Disk>(alloc: Global, disk: D, row: &Row, passes: u64) -> Result<Node<D>, Fail>
+fn stopped<D: Disk>(alloc: Global, disk: D, row: &Stop, passes: u64) -> Result<Node<D>, Fail>
     ensures { IfOk result (λ n. n.geometry ≡ ONE) }
 {
     let mut node = formatted(alloc, disk)?;
