@@ -63,26 +63,35 @@ fn refills<D: Disk>(alloc: Global, node: &mut Node<D>, number: u8) -> Result<boo
     }
 }
 
-/// Which of the first three versions a node gives back, each with its bins.
+/// Whether a node gives back the version of a stamp, and then its bins.
 #[tactic(auto, unfolding(rz_record::specs::Record::bins_of))]
+fn is_held<D: Disk>(alloc: Global, node: &mut Node<D>, stamp: u64) -> Result<bool, Fail>
+    requires { node.old.geometry ≡ ONE }
+    ensures { node.new.geometry ≡ node.old.geometry }
+{
+    let mut out = words(alloc, 77)?;
+    match node.fetch_into(KEY, stamp, &mut out) {
+        FetchAnswer::Held(_) => {
+            if out == words(alloc, stamp)? {
+                Ok(true)
+            } else {
+                Err("other bins")?
+            }
+        }
+        FetchAnswer::Nothing => Ok(false),
+        _ => Err("not fetched")?,
+    }
+}
+
+/// Which of the first three versions a node gives back.
 fn held<D: Disk>(alloc: Global, node: &mut Node<D>) -> Result<[bool; 3], Fail>
     requires { node.old.geometry ≡ ONE }
     ensures { node.new.geometry ≡ node.old.geometry }
 {
-    let mut held = [false; 3];
-    for (number, is_held) in held.iter_mut().enumerate() {
-        let stamp = number as u64 + 1;
-        let mut out = words(alloc, 77)?;
-        *is_held = match node.fetch_into(KEY, stamp, &mut out) {
-            FetchAnswer::Held(_) => true,
-            FetchAnswer::Nothing => false,
-            _ => Err("not fetched")?,
-        };
-        if *is_held && out != words(alloc, stamp)? {
-            return Err("other bins")?;
-        }
-    }
-    Ok(held)
+    let first = is_held(alloc, node, 1)?;
+    let second = is_held(alloc, node, 2)?;
+    let third = is_held(alloc, node, 3)?;
+    Ok([first, second, third])
 }
 
 #[derive(Clone, Copy, PartialEq, Eq, Drop)]
@@ -142,10 +151,11 @@ fn stopped<D: Disk>(alloc: Global, disk: D, row: &Stop, passes: u64) -> Result<N
     ensures { IfOk result (λ n. n.geometry ≡ ONE) }
 {
     let mut node = formatted(alloc, disk)?;
-    for number in 0..row.earlier {
-        if !keeps(alloc, &mut node, number)? {
-            return Err("stopped too early")?;
-        }
+    if row.earlier >= 1 && !keeps(alloc, &mut node, 0)? {
+        return Err("stopped too early")?;
+    }
+    if row.earlier >= 2 && !keeps(alloc, &mut node, 1)? {
+        return Err("stopped too early")?;
     }
     node.arm(Some(passes));
     let is_done = match row.change {
