@@ -1,14 +1,15 @@
 //! Disks of which bytes are altered, one at a time and together, and shorter disks.
 ghost use Rattle.rz_cells.specs.Shape.{IsGeometry};
 
-use crate::making::{alter, disk_of, fill, write, zeros};
+use crate::making::{alter, disk_of, failing_at, fill, write, zeros};
 use rz_cells::{Cells, Geometry, OpenFault};
+use rz_disk::Disk;
 use rz_events::{Head, HeaderField, Layout};
 use std::alloc::{AllocError, Global};
 use std::test::Fail;
 
 /// One pair of cells of node 1.
-const ONE: Geometry = Geometry {
+pub const ONE: Geometry = Geometry {
     layout: Layout::L0,
     bsize: 0,
     node: 1,
@@ -16,7 +17,7 @@ const ONE: Geometry = Geometry {
 };
 
 /// Two pairs.
-const TWO: Geometry = Geometry {
+pub const TWO: Geometry = Geometry {
     layout: Layout::L0,
     bsize: 0,
     node: 1,
@@ -24,15 +25,15 @@ const TWO: Geometry = Geometry {
 };
 
 /// The bytes of a disk of one pair, and of two.
-const ONE_SIZE: usize = 8514;
+pub const ONE_SIZE: usize = 8514;
 
-const TWO_SIZE: usize = 16964;
+pub const TWO_SIZE: usize = 16964;
 
 /// Where the picked slots of the two pairs begin.
-const SLOTS: [usize; 4] = [68, 6404, 8516, 12740];
+pub const SLOTS: [usize; 4] = [68, 6404, 8516, 12740];
 
 /// A formatted disk with these bytes, zeros but for a header with fence 0.
-fn blank(alloc: Global, size: usize, pairs: u8) -> Result<Vec<u8>, AllocError> {
+pub fn blank(alloc: Global, size: usize, pairs: u8) -> Result<Vec<u8>, AllocError> {
     let mut bytes = zeros(alloc, size)?;
     write(&mut bytes, 0, b"MJROZO02");
     alter(&mut bytes, 10, 1);
@@ -41,19 +42,39 @@ fn blank(alloc: Global, size: usize, pairs: u8) -> Result<Vec<u8>, AllocError> {
     Ok(bytes)
 }
 
-/// The stamps of the first pair, and why the bytes are not opened.
-type Opened = ([u64; 2], Option<OpenFault>);
+/// The stamps of the first four cells, and why the bytes are not opened.
+pub type Opened = ([u64; 4], Option<OpenFault>);
 
-fn opened(alloc: Global, geometry: Geometry, bytes: &[u8]) -> Result<Opened, Fail>
+pub fn opened(alloc: Global, geometry: Geometry, bytes: &[u8]) -> Result<Opened, Fail>
     requires { IsGeometry geometry }
 {
-    match Cells::reopen(alloc, geometry, disk_of(alloc, bytes)?) {
+    let (_, opened) = reopened(alloc, geometry, disk_of(alloc, bytes)?);
+    Ok(opened)
+}
+
+/// Opens a disk, and gives it back.
+pub fn reopened<D: Disk>(alloc: Global, geometry: Geometry, disk: D) -> (D, Opened)
+    requires { IsGeometry geometry }
+{
+    match Cells::reopen(alloc, geometry, disk) {
         Ok(cells) => {
-            let stamps = [stamp_of(cells.head(0)), stamp_of(cells.head(1))];
-            Ok((stamps, None))
+            let stamps = stamps_of(&cells);
+            (cells.into_disk(), (stamps, None))
         }
-        Err((_, fault)) => Ok(([0, 0], Some(fault))),
+        Err((disk, fault)) => (disk, ([0; 4], Some(fault))),
     }
+}
+
+/// The stamps of the first four cells, and 0 for a cell that holds nothing or is not there.
+pub fn stamps_of<D: Disk>(cells: &Cells<D>) -> [u64; 4] {
+    let count = 2 * cells.geometry().cells;
+    let mut stamps = [0; 4];
+    for (cell, stamp) in stamps.iter_mut().enumerate() {
+        if (cell as u32) < count {
+            *stamp = stamp_of(cells.head(cell as u32));
+        }
+    }
+    stamps
 }
 
 /// The stamp of a head, or 0.
@@ -64,15 +85,15 @@ fn stamp_of(head: Option<Head>) -> u64 {
     }
 }
 
-fn bad(field: HeaderField, value: u64) -> OpenFault {
+pub fn bad(field: HeaderField, value: u64) -> OpenFault {
     OpenFault::BadHeader { field, value }
 }
 
-fn damaged(cell: u32) -> OpenFault {
+pub fn damaged(cell: u32) -> OpenFault {
     OpenFault::Damaged { cell }
 }
 
-fn twice(first: u32, second: u32) -> OpenFault {
+pub fn twice(first: u32, second: u32) -> OpenFault {
     OpenFault::Twice { first, second }
 }
 
@@ -81,16 +102,16 @@ fn a_blank_disk_is_opened_by_what_stands_on_it(rt: HostRuntime) -> Result<(), Fa
     let magic = bad(HeaderField::Magic, 0x3230_4f5a_4f52_4a00);
     let good = blank(rt.alloc(), ONE_SIZE, 1)?;
     let table = [
-        (32, 0, 0, 0, Some(OpenFault::Unformatted), [0, 0]),
-        (32, 2, 0, b'M', Some(OpenFault::Unformatted), [0, 0]),
-        (32, 3, 0, b'M', None, [0, 0]),
-        (0, 0, 33, 9, Some(magic), [0, 0]),
-        (8, 3, 33, 9, Some(bad(HeaderField::Layout, 3)), [0, 0]),
-        (24, 1, 33, 9, Some(bad(HeaderField::Reserved, 1)), [0, 0]),
-        (66, 1, 33, 9, None, [1, 0]),
-        (66, 1, 101, 1, Some(damaged(0)), [0, 0]),
-        (66, 1, 4290, 2, None, [1, 2]),
-        (66, 1, 4290, 1, Some(twice(0, 1)), [0, 0]),
+        (32, 0, 0, 0, Some(OpenFault::Unformatted), [0; 4]),
+        (32, 2, 0, b'M', Some(OpenFault::Unformatted), [0; 4]),
+        (32, 3, 0, b'M', None, [0; 4]),
+        (0, 0, 33, 9, Some(magic), [0; 4]),
+        (8, 3, 33, 9, Some(bad(HeaderField::Layout, 3)), [0; 4]),
+        (24, 1, 33, 9, Some(bad(HeaderField::Reserved, 1)), [0; 4]),
+        (66, 1, 33, 9, None, [1, 0, 0, 0]),
+        (66, 1, 101, 1, Some(damaged(0)), [0; 4]),
+        (66, 1, 4290, 2, None, [1, 2, 0, 0]),
+        (66, 1, 4290, 1, Some(twice(0, 1)), [0; 4]),
     ];
     for (at, byte, at_too, byte_too, fault, stamps) in table {
         let mut bytes = good.clone()?;
@@ -159,25 +180,57 @@ fn damages() -> [(usize, u8, OpenFault); 20] {
 #[test]
 fn a_disk_is_refused_for_its_first_damage(rt: HostRuntime) -> Result<(), Fail> {
     let good = two_pairs(rt.alloc())?;
-    assert_eq!(rt; opened(rt.alloc(), TWO, &good)?, ([5, 9], None));
-    let mut all = good.clone()?;
+    assert_eq!(rt; opened(rt.alloc(), TWO, &good)?, ([5, 9, 6, 0], None));
+    let mut all = good;
     for (at, byte, fault) in damages() {
-        let mut one = good.clone()?;
-        alter(&mut one, at, byte);
-        let wanted = ([0, 0], Some(fault));
-        assert_eq!(rt; opened(rt.alloc(), TWO, &one)?, wanted, "alone, at {at}");
         alter(&mut all, at, byte);
-        assert_eq!(rt;
-            opened(rt.alloc(), TWO, &all)?,
-            wanted,
-            "before later ones, at {at}"
-        );
+        let wanted = ([0; 4], Some(fault));
+        assert_eq!(rt; opened(rt.alloc(), TWO, &all)?, wanted, "at {at}");
     }
     Ok(())
 }
 
+/// Each damage alone, and each with each that is found before it.
 #[test]
-fn no_shorter_disk_is_opened(rt: HostRuntime) -> Result<(), Fail> {
+fn of_two_damages_the_first_is_told(rt: HostRuntime) -> Result<(), Fail> {
+    let good = two_pairs(rt.alloc())?;
+    for (later, (at, byte, _)) in damages().iter().enumerate() {
+        let mut one = good.clone()?;
+        alter(&mut one, *at, *byte);
+        for (at_too, byte_too, fault) in damages().iter().skip(later) {
+            let mut two = one.clone()?;
+            alter(&mut two, *at_too, *byte_too);
+            let wanted = ([0; 4], Some(*fault));
+            assert_eq!(rt;
+                opened(rt.alloc(), TWO, &two)?,
+                wanted,
+                "at {at} and {at_too}"
+            );
+        }
+    }
+    Ok(())
+}
+
+/// Every length up to the disk's and a little more, each on a disk whose next call fails.
+#[test]
+fn a_wrong_size_is_told_before_any_call(rt: HostRuntime) -> Result<(), Fail> {
+    for have in 0..8517 {
+        let mut disk = failing_at(rt.alloc(), 1)?;
+        disk.reset(rt.alloc(), have)?;
+        let wanted = if have == 8514 {
+            OpenFault::DiskFault
+        } else {
+            OpenFault::WrongSize { have, need: 8514 }
+        };
+        let (_, (_, fault)) = reopened(rt.alloc(), ONE, disk);
+        assert_eq!(rt; fault, Some(wanted), "{have}");
+    }
+    Ok(())
+}
+
+/// The first bytes of a disk, of every hundredth length.
+#[test]
+fn no_part_of_a_disk_is_opened(rt: HostRuntime) -> Result<(), Fail> {
     let good = blank(rt.alloc(), ONE_SIZE, 1)?;
     for have in (0..ONE_SIZE).step_by(129) {
         let short = OpenFault::WrongSize {
@@ -185,7 +238,7 @@ fn no_shorter_disk_is_opened(rt: HostRuntime) -> Result<(), Fail> {
             need: 8514,
         };
         let part = &good[..have.min(good.len())];
-        let wanted = ([0, 0], Some(short));
+        let wanted = ([0; 4], Some(short));
         assert_eq!(rt; opened(rt.alloc(), ONE, part)?, wanted, "{have}");
     }
     Ok(())

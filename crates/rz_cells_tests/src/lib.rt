@@ -4,6 +4,8 @@
 #![tactic(auto)]
 
 #[cfg(test)]
+mod bytes;
+#[cfg(test)]
 mod calls;
 #[cfg(test)]
 mod damage;
@@ -11,3 +13,7 @@ mod damage;
 mod making;
 #[cfg(test)]
 mod migration;
+#[cfg(test)]
+mod stops;
+#[cfg(test)]
+mod wide;

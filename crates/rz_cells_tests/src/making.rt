@@ -1,7 +1,7 @@
 //! Disks made of bytes.
 ghost use Rattle.std.specs.Prelude.{◌≡◌, ◌<◌, IfOk, vec_len};
 
-use rz_disk::{Disk, DiskError, PlainDisk};
+use rz_disk::{Disk, DiskError, Failed, MemDisk, PlainDisk};
 use std::alloc::{AllocError, Global};
 use std::test::Fail;
 
@@ -44,6 +44,30 @@ pub fn disk_of(alloc: Global, bytes: &[u8]) -> Result<PlainDisk, DiskError> {
     disk.write_at(0, bytes).map_err(|_| DiskError::Failed)?;
     disk.sync().map_err(|_| DiskError::Failed)?;
     Ok(disk)
+}
+
+/// Writes a byte and syncs it, where there is room for it.
+pub fn store_byte<D: Disk>(disk: &mut D, at: u64, byte: u8) -> Result<(), Failed> {
+    if at < disk.size() {
+        disk.write_at(at, &[byte])?;
+        disk.sync()?;
+    }
+    Ok(())
+}
+
+/// A disk in memory whose call of this number is the one that fails.
+pub fn failing_at(alloc: Global, number: u64) -> Result<MemDisk, AllocError> {
+    let fails = vec![in alloc; number; 1]?;
+    Ok(MemDisk::new(alloc, fails))
+}
+
+/// What a crash with a pick leaves of a byte that was written since the last sync.
+pub fn left(old: u8, new: u8, at: u64, pick: u64) -> u8 {
+    match pick {
+        0 => old,
+        1 => new,
+        _ => (pick.wrapping_mul(at.wrapping_add(1)) % 256) as u8,
+    }
 }
 
 /// What a disk reads.

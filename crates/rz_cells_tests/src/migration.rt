@@ -133,10 +133,9 @@ fn damaged(cell: u32) -> OpenFault {
     OpenFault::Damaged { cell }
 }
 
-#[test]
-fn an_old_disk_is_refused_for_its_first_fault(rt: HostRuntime) -> Result<(), Fail> {
-    let good = old_bytes(rt.alloc())?;
-    let table = [
+/// Bytes that are altered, and the fault of each: it is found before those above it.
+fn faults() -> [(usize, u8, OpenFault); 14] {
+    [
         (OLD_SLOTS[2], 1, damaged(2)),
         (OLD_SLOTS[1] + 34, 4, damaged(1)),
         (OLD_SLOTS[0] + 37, 16, damaged(0)),
@@ -151,19 +150,33 @@ fn an_old_disk_is_refused_for_its_first_fault(rt: HostRuntime) -> Result<(), Fai
         (8, 1, bad(HeaderField::Layout, 1)),
         (0, 0, bad(HeaderField::Magic, 0x3130_4f5a_4f52_4a00)),
         (32, 2, OpenFault::Unformatted),
-    ];
-    let mut all = good.clone()?;
-    for (at, byte, fault) in table {
-        let mut one = good.clone()?;
-        alter(&mut one, at, byte);
-        let wanted = Some(MigrateFault::Old(fault));
-        assert_eq!(rt; refused(rt.alloc(), &one)?, wanted, "alone, at {at}");
+    ]
+}
+
+#[test]
+fn an_old_disk_is_refused_for_its_first_fault(rt: HostRuntime) -> Result<(), Fail> {
+    let mut all = old_bytes(rt.alloc())?;
+    for (at, byte, fault) in faults() {
         alter(&mut all, at, byte);
-        assert_eq!(rt;
-            refused(rt.alloc(), &all)?,
-            wanted,
-            "before later ones, at {at}"
-        );
+        let wanted = Some(MigrateFault::Old(fault));
+        assert_eq!(rt; refused(rt.alloc(), &all)?, wanted, "at {at}");
+    }
+    Ok(())
+}
+
+/// Each fault alone, and each with each that is found before it.
+#[test]
+fn of_two_faults_of_an_old_disk_the_first_is_told(rt: HostRuntime) -> Result<(), Fail> {
+    let good = old_bytes(rt.alloc())?;
+    for (later, (at, byte, _)) in faults().iter().enumerate() {
+        let mut one = good.clone()?;
+        alter(&mut one, *at, *byte);
+        for (at_too, byte_too, fault) in faults().iter().skip(later) {
+            let mut two = one.clone()?;
+            alter(&mut two, *at_too, *byte_too);
+            let wanted = Some(MigrateFault::Old(*fault));
+            assert_eq!(rt; refused(rt.alloc(), &two)?, wanted, "at {at} and {at_too}");
+        }
     }
     Ok(())
 }
@@ -195,6 +208,34 @@ fn an_old_disk_of_another_size_is_refused(rt: HostRuntime) -> Result<(), Fail> {
         };
         let part = &bytes[..(797 * have as usize).min(bytes.len())];
         assert_eq!(rt; refused(rt.alloc(), part)?, Some(MigrateFault::Old(short)));
+    }
+    Ok(())
+}
+
+/// One cell of layout 2.
+const SMALL: Geometry = Geometry {
+    layout: Layout::L2,
+    bsize: 0,
+    node: 1,
+    cells: 1,
+};
+
+#[test]
+fn an_old_disk_of_any_other_length_is_refused(rt: HostRuntime) -> Result<(), Fail> {
+    for have in 0..2068 {
+        let mut old = PlainDisk::new(rt.alloc());
+        old.reset(rt.alloc(), have)?;
+        let wanted = if have == 2065 {
+            OpenFault::Unformatted
+        } else {
+            OpenFault::WrongSize { have, need: 2065 }
+        };
+        let new = PlainDisk::new(rt.alloc());
+        let fault = match Cells::migrate(rt.alloc(), SMALL, &mut old, new) {
+            Ok(_) => None,
+            Err((_, fault)) => Some(fault),
+        };
+        assert_eq!(rt; fault, Some(MigrateFault::Old(wanted)), "{have}");
     }
     Ok(())
 }

@@ -12,4 +12,8 @@ mod nodes;
 #[cfg(test)]
 mod records;
 #[cfg(test)]
+mod rot;
+#[cfg(test)]
+mod stops;
+#[cfg(test)]
 mod versions;

@@ -11,14 +11,14 @@ use std::alloc::{AllocError, Global};
 use std::test::Fail;
 
 /// One pair of cells of node 1.
-const ONE: Geometry = Geometry {
+pub const ONE: Geometry = Geometry {
     layout: Layout::L0,
     bsize: 0,
     node: 1,
     cells: 1,
 };
 
-const KEY: Key = Key { fid: 1, block: 2 };
+pub const KEY: Key = Key { fid: 1, block: 2 };
 
 const FIRST: Head = Head {
     stamp: 1,
@@ -31,7 +31,7 @@ const FIRST: Head = Head {
 };
 
 /// A node with one pair.
-fn formatted<D: Disk>(alloc: Global, disk: D) -> Result<Node<D>, Fail>
+pub fn formatted<D: Disk>(alloc: Global, disk: D) -> Result<Node<D>, Fail>
     ensures { IfOk result (λ n. n.geometry ≡ ONE) }
 {
     match Node::format(alloc, ONE, disk) {
@@ -40,7 +40,7 @@ fn formatted<D: Disk>(alloc: Global, disk: D) -> Result<Node<D>, Fail>
     }
 }
 
-fn words(alloc: Global, word: u64) -> Result<Vec<u64>, AllocError>
+pub fn words(alloc: Global, word: u64) -> Result<Vec<u64>, AllocError>
     ensures { IfOk result (λ v. vec_len v ≡ 258) }
 {
     vec![in alloc; word; 258]
