@@ -1,5 +1,5 @@
 -- Each entry is spelled in one way.
-use Rattle.std.proofs.Common.{◌≡◌, ℕ, ◌+◌, ◌^◌, ◌<◌, ◌==◌, Bool, true, false, cond, List, [], ◌∷◌, ◌++◌, length, Option, Some, None, refl, sym, ◌∙◌, ap, subst}
+use Rattle.std.proofs.Common.{◌≡◌, ℕ, ◌+◌, ◌^◌, ◌<◌, ◌==◌, Bool, true, false, cond, List, [], ◌∷◌, ◌++◌, length, Option, Some, None, Result, Ok, Err, IfOk, refl, sym, ◌∙◌, ap, subst}
 use Rattle.std.proofs.lemmas.Bool.{eqb-true}
 use Rattle.std.proofs.lemmas.List.{append-nil}
 use Rattle.byteorder.specs.Endian.{little_bytes}
@@ -9,8 +9,10 @@ use Rattle.rz_tree.specs.declared.parts.Part.{Part}
 use Rattle.rz_tree.specs.declared.parts.Part.TheVariants.{Counters, Object, Name, Block, Enrolled}
 use Rattle.rz_journal_text.specs.declared.entry.Entry.{Entry}
 use Rattle.rz_journal_text.specs.declared.entry.Entry.TheVariants.{Tree, Begin, Publish, Enroll, Built}
+use Rattle.rz_journal_text.specs.declared.fault.EntryFault.{EntryFault}
+use Rattle.rz_journal_text.specs.declared.fault.EntryFault.TheVariants.{NoMemory, BadEntry}
 use Rattle.rz_journal_text.specs.Spelling.{key_bytes, number_of, field_bytes, call_bytes, part_kind, part_fields, kind_of, entry_fields, entry_bytes, MayStand, IsWide, IsKey, IsEntry, Spells}
-use Rattle.rz_journal_text.specs.Fronts.{Front, ◌>>=◌, done, byte, number, key, call_numbered, part_of_kind, tree, begin, publish, enroll, built, fields, entry}
+use Rattle.rz_journal_text.specs.Fronts.{Front, ◌>>=◌, done, byte, number, key, call_numbered, part_of_kind, tree, begin, publish, enroll, built, fields, entry, ended, whole, Gives, IsThis}
 use Rattle.rz_journal_text.proofs.Steps.{Bytes, none_some, IsLawful, Step, step_again, last_again, step_found, joined, carried, either_way}
 use Rattle.rz_journal_text.proofs.FieldLaws.{one_byte, byte_law, number_law, key_law}
 use Rattle.rz_journal_text.proofs.CallLaws.{call_again, call_found}
@@ -167,28 +169,55 @@ fields_found n bytes rest e small is =
     is
 
 -- an entry is read from its bytes
-pub entry_again : (e : Entry) (rest : List ℕ) → EntryFits e → entry (entry_bytes e ++ rest) ≡ Some (e, rest)
+entry_again : (e : Entry) (rest : List ℕ) → EntryFits e → entry (entry_bytes e ++ rest) ≡ Some (e, rest)
 unfolding entry
 entry_again e rest fits = step_again one_byte (λ b. Unit {0}) byte byte_law fields (kind_of e) (entry_fields e) rest tt ∙ fields_again e rest fits
 
 -- and an entry that was read has these bytes
-pub entry_found : (bytes rest : List ℕ) (e : Entry) → Bytes bytes → entry bytes ≡ Some (e, rest) → EntryFits e × (entry_bytes e ++ rest ≡ bytes)
+entry_found : (bytes rest : List ℕ) (e : Entry) → Bytes bytes → entry bytes ≡ Some (e, rest) → EntryFits e × (entry_bytes e ++ rest ≡ bytes)
 unfolding entry
 entry_found bytes rest e small is =
     let a = step_found one_byte (λ b. Unit {0}) byte byte_law fields bytes rest e small is in
     let b = fields_found a.x a.middle rest e a.small a.then in
     (b.1, ap (λ (n : ℕ). n ∷ (entry_fields e ++ rest)) b.0 ∙ ap (λ (l : List ℕ). a.x ∷ l) b.2 ∙ a.spelled)
 
+entry_law : IsLawful entry_bytes EntryFits entry
+entry_law = record { again = entry_again; found = entry_found }
+
+abbrev whole_of : List ℕ → Option (Entry × List ℕ)
+whole_of = entry >>= ended
+
+ended_so : (x : Entry) (middle rest : List ℕ) (e : Entry) (bytes : List ℕ) → EntryFits x → entry_bytes x ++ middle ≡ bytes → ended x middle ≡ Some (e, rest) → Spells bytes e
+ended_so x [] rest e bytes fits spelled is =
+    carried (λ d l. Spells bytes d) x e [] rest is record { value = fits.0; stands = fits.1; spelled = sym (append-nil (entry_bytes x)) ∙ spelled }
+ended_so x (b ∷ middle) rest e bytes fits spelled is = absurd (none_some (e, rest) is)
+
 -- bytes from which all was read spell what was read
-pub spells : (bytes : List ℕ) (e : Entry) → Bytes bytes → entry bytes ≡ Some (e, []) → Spells bytes e
-spells bytes e small is =
-    let at = entry_found bytes [] e small is in
-    record { value = at.0.0; stands = at.0.1; spelled = sym (append-nil (entry_bytes e)) ∙ at.1 }
+spells : (bytes rest : List ℕ) (e : Entry) → Bytes bytes → whole bytes ≡ Some (e, rest) → Spells bytes e
+unfolding whole
+spells bytes rest e small is =
+    let a = step_found entry_bytes EntryFits entry entry_law ended bytes rest e small is in
+    ended_so a.x a.middle rest e bytes a.fits a.spelled a.then
 
--- the bytes of an entry are read so
-pub read_so : (bytes : List ℕ) (e : Entry) → Spells bytes e → entry bytes ≡ Some (e, [])
-read_so bytes e is = ap entry (sym is.spelled ∙ sym (append-nil (entry_bytes e))) ∙ entry_again e [] (is.value, is.stands)
+-- no two entries have the same bytes, and each is read from its own
+pub read_so : (bytes : List ℕ) (e : Entry) → Spells bytes e → whole bytes ≡ Some (e, [])
+unfolding whole
+read_so bytes e is =
+    ap whole_of (sym is.spelled ∙ sym (append-nil (entry_bytes e))) ∙ last_again entry_bytes EntryFits entry entry_law ended e [] (is.value, is.stands)
 
--- no two entries have the same bytes
 pub one_entry : (bytes : List ℕ) (d e : Entry) → Spells bytes d → Spells bytes e → d ≡ e
-one_entry bytes d e is-d is-e = let same : ◌≡◌ {A = Option (Entry × List ℕ)} (Some (d, [])) (Some (e, [])) = sym (read_so bytes d is-d) ∙ read_so bytes e is-e in carried (λ x l. d ≡ x) d e [] [] same refl
+one_entry bytes d e is-d is-e =
+    let same : ◌≡◌ {A = Option (Entry × List ℕ)} (Some (d, [])) (Some (e, [])) = sym (read_so bytes d is-d) ∙ read_so bytes e is-e in
+    carried (λ x l. d ≡ x) d e [] [] same refl
+
+-- what reading answers, by the entries that have these bytes
+pub found_so : (r : Result Entry EntryFault) (bytes rest : List ℕ) → Bytes bytes → Gives r rest (whole bytes) → IfOk r (Spells bytes)
+found_so (Ok e) bytes rest small gives = spells bytes rest e small gives
+found_so (Err e) bytes rest small gives = tt
+
+pub exact_so : (r : Result Entry EntryFault) (bytes rest : List ℕ) (e : Entry) → Gives r rest (whole bytes) → Spells bytes e → IsThis e r
+exact_so (Ok d) bytes rest e gives is =
+    let same : ◌≡◌ {A = Option (Entry × List ℕ)} (Some (d, rest)) (Some (e, [])) = sym gives ∙ read_so bytes e is in
+    carried (λ x l. d ≡ x) d e rest [] same refl
+exact_so (Err BadEntry) bytes rest e gives is = none_some (e, []) (sym gives ∙ read_so bytes e is)
+exact_so (Err NoMemory) bytes rest e gives is = tt

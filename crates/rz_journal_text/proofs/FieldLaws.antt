@@ -1,5 +1,5 @@
 -- Each field is spelled in one way.
-use Rattle.std.proofs.Common.{◌≡◌, ℕ, zero, suc, ◌+◌, ◌*◌, ◌/◌, ◌%◌, ◌^◌, ◌<◌, ◌≤◌, ◌==◌, nat_le, Bool, true, false, cond, All, List, [], ◌∷◌, ◌++◌, length, take, drop, get_or, Option, Some, None, refl, sym, ◌∙◌, ap, subst, arith, append_assoc, length-append}
+use Rattle.std.proofs.Common.{◌≡◌, ℕ, zero, suc, ◌+◌, ◌-◌, ◌*◌, ◌/◌, ◌%◌, ◌^◌, ◌<◌, ◌≤◌, ◌==◌, nat_le, Bool, true, false, cond, All, List, [], ◌∷◌, ◌++◌, length, take, drop, get_or, Option, Some, None, refl, sym, ◌∙◌, ap, subst, arith, append_assoc, length-append}
 use Rattle.std.proofs.Math.Nat.{pow-succ', div-div-eq-div-mul, div-one}
 use Rattle.std.proofs.Math.Seq.{take-append_seam, drop-append_seam}
 use Rattle.std.proofs.lemmas.Bool.{eqb-true, le-leb, leb-true, cond-true}
@@ -16,7 +16,7 @@ use Rattle.rz_events.specs.declared.files.Kind.TheVariants.{File, Dir, Link}
 use Rattle.rz_events.specs.declared.files.Published.{Published}
 use Rattle.rz_export_model.specs.Paths.{Path, after_slash, all_names, is_name, long_path_of, parts_of}
 use Rattle.rz_journal_text.specs.Spelling.{text_bytes, key_bytes, path_text, path_bytes, places_bytes, published_bytes, maybe_published_bytes, kind_number, IsShort, IsSpelled, IsWide, IsKey, ArePlaces, IsPublished}
-use Rattle.rz_journal_text.specs.Fronts.{Front, ◌>>=◌, done, given, nothing, first, byte, number, text, path, key, numbered_kind, kind, nodes, places, published, some_published, maybe_published}
+use Rattle.rz_journal_text.specs.Fronts.{Front, and_then, ◌>>=◌, done, given, nothing, first, byte, number, text, path, key, numbered_kind, kind, nodes, places, published, some_published, maybe_published}
 use Rattle.rz_journal_text.proofs.Steps.{Bytes, none_some, IsLawful, Step, step_again, last_again, step_found, joined, carried, given_is, either_way, either_value, front_small}
 
 -- ---- bytes and numbers
@@ -255,6 +255,27 @@ nodes_found (suc n) before bytes rest all small is =
 
 abbrev counted : ℕ → Front (List ℕ)
 counted n = cond (nat_le n 16) (nodes [] n) nothing
+
+-- the nodes that are read, one by one
+pub nodes_none : (before : List ℕ) (n : ℕ) (bytes : List ℕ) → n ≡ 0 → nodes before n bytes ≡ Some (before, bytes)
+unfolding nodes
+nodes_none before n bytes none = ap (λ (k : ℕ). nodes before k bytes) none
+
+pub nodes_read : (before : List ℕ) (n : ℕ) (bytes middle : List ℕ) (x : ℕ) → 1 ≤ n → number 2 bytes ≡ Some (x, middle) → nodes before n bytes ≡ nodes (before ++ x ∷ []) (n - 1) middle
+unfolding nodes
+nodes_read before zero bytes middle x some read = absurd (omega arith)
+nodes_read before (suc n) bytes middle x some read =
+    ap (λ (o : Option (ℕ × List ℕ)). and_then o (λ node. nodes (before ++ node ∷ []) n)) read ∙ ap (λ (k : ℕ). nodes (before ++ x ∷ []) k middle) (omega arith)
+
+pub nodes_stop : (before : List ℕ) (n : ℕ) (bytes : List ℕ) → 1 ≤ n → number 2 bytes ≡ None → nodes before n bytes ≡ None
+unfolding nodes
+nodes_stop before zero bytes some none = absurd (omega arith)
+nodes_stop before (suc n) bytes some none = ap (λ (o : Option (ℕ × List ℕ)). and_then o (λ node. nodes (before ++ node ∷ []) n)) none
+
+pub places_are : (old rest : List ℕ) (n : ℕ) → byte old ≡ Some (n, rest) → n ≤ 16 → places old ≡ nodes [] n rest
+unfolding places
+places_are old rest n read few =
+    ap (λ (o : Option (ℕ × List ℕ)). and_then o counted) read ∙ ap (λ (b : Bool). cond b (nodes [] n) nothing rest) (le-leb n 16 few)
 
 places_again : (ns rest : List ℕ) → ArePlaces ns → places (places_bytes ns ++ rest) ≡ Some (ns, rest)
 unfolding places byte

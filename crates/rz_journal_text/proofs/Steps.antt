@@ -1,7 +1,9 @@
 -- One field at the front of bytes, and then the next ones.
-use Rattle.std.proofs.Common.{◌≡◌, ℕ, zero, suc, ◌+◌, ◌<◌, Bool, true, false, cond, List, [], ◌∷◌, ◌++◌, length, drop, get_or, Option, Some, None, refl, sym, ◌∙◌, ap, subst, append_assoc, arith}
+use Rattle.std.proofs.Common.{◌≡◌, ℕ, zero, suc, ◌+◌, ◌<◌, Bool, true, false, cond, List, [], ◌∷◌, ◌++◌, length, drop, get_or, Option, Some, None, Result, Ok, Err, refl, sym, ◌∙◌, ap, subst, append_assoc, arith}
 use Rattle.std.proofs.lemmas.List.{get_or-append-add, get_or-drop}
-use Rattle.rz_journal_text.specs.Fronts.{Front, and_then, ◌>>=◌, done, given}
+use Rattle.rz_journal_text.specs.declared.fault.EntryFault.{EntryFault}
+use Rattle.rz_journal_text.specs.declared.fault.EntryFault.TheVariants.{NoMemory, BadEntry}
+use Rattle.rz_journal_text.specs.Fronts.{Front, and_then, ◌>>=◌, done, given, Gives}
 
 -- nothing but bytes
 abbrev pub Bytes : List ℕ → Type 0
@@ -70,12 +72,24 @@ pub given_is : {A : Type 0} (o : Option A) (x : A) (xs rest : List ℕ) → give
 given_is None x xs rest is = absurd (none_some (x, rest) is)
 given_is (Some y) x xs rest is = carried (λ z l. (Some y ≡ Some z) × (xs ≡ l)) y x xs rest is (refl, refl)
 
+-- an error of a field
+abbrev pub Fails : {A B : Type 0} → Result A EntryFault → Option B → Type 0
+Fails (Ok x) found = ⊥
+Fails (Err BadEntry) found = found ≡ None
+Fails (Err NoMemory) found = Unit {0}
+
+-- where a field fails, so does what it belongs to
+pub gives_on : {A B : Type 0} (r : Result A EntryFault) (rest : List ℕ) (found : Option B) (wanted : Option (A × List ℕ)) → Fails r found → (found ≡ None → wanted ≡ None) → Gives r rest wanted
+gives_on (Ok x) rest found wanted fails stop = absurd fails
+gives_on (Err BadEntry) rest found wanted fails stop = stop fails
+gives_on (Err NoMemory) rest found wanted fails stop = tt
+
 -- one of two ways to read
-pub either_way : {A : Type 0} (b : Bool) (one two : Front A) (bytes rest : List ℕ) (x : A) (G : Type 0) → (b ≡ true → one bytes ≡ Some (x, rest) → G) → (two bytes ≡ Some (x, rest) → G) → cond b yes two bytes ≡ Some (x, rest) → G
+pub either_way : {A : Type 0} (b : Bool) (one two : Front A) (bytes rest : List ℕ) (x : A) (G : Type 0) → (b ≡ true → one bytes ≡ Some (x, rest) → G) → (two bytes ≡ Some (x, rest) → G) → cond b one two bytes ≡ Some (x, rest) → G
 either_way true one two bytes rest x G f g is = f refl is
 either_way false one two bytes rest x G f g is = g is
 
 -- one of two values
-pub either_value : {A : Type 0} (b : Bool) (one two : Option A) (x : A) (G : Type 0) → (b ≡ true → one ≡ Some x → G) → (two ≡ Some x → G) → cond b yes two ≡ Some x → G
+pub either_value : {A : Type 0} (b : Bool) (one two : Option A) (x : A) (G : Type 0) → (b ≡ true → one ≡ Some x → G) → (two ≡ Some x → G) → cond b one two ≡ Some x → G
 either_value true one two x G f g is = f refl is
 either_value false one two x G f g is = g is

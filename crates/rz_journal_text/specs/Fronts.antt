@@ -1,5 +1,5 @@
 -- What stands at the front of bytes, field by field: a value, and the bytes behind it.
-use Rattle.std.specs.Prelude.{◌≡◌, ◌≢◌, ℕ, zero, suc, nat_lt, nat_le, ◌==◌, if◌then◌else◌, List, [], ◌∷◌, ◌++◌, length, take, drop, Option, Some, None, Result, Ok, Err, ⊤}
+use Rattle.std.specs.Prelude.{◌≡◌, ℕ, zero, suc, nat_lt, nat_le, ◌==◌, if◌then◌else◌, List, [], ◌∷◌, ◌++◌, length, take, drop, Option, Some, None, Result, Ok, Err, ⊤}
 use Rattle.std.specs.Borrow.{Bor}
 use Rattle.byteorder.specs.Endian.{little_number}
 use Rattle.rz_events.specs.declared.keys.Key.{Key}
@@ -254,6 +254,16 @@ entry = do
   n ← byte
   fields n
 
+-- nothing stands behind it
+abbrev pub ended : {A : Type 0} → A → Front A
+ended x [] = Some (x, [])
+ended x (b ∷ rest) = None
+
+unfoldable pub whole : Front Entry
+whole = do
+  e ← entry
+  ended e
+
 -- ---- what reading answers
 
 -- the value at the front, with the bytes behind it; or that there is none; memory may be wanting
@@ -267,11 +277,6 @@ abbrev pub GivesBytes : Result (Bor (List ℕ)) EntryFault → List ℕ → Opti
 GivesBytes (Ok bytes) rest found = found ≡ Some (bytes.now, rest)
 GivesBytes (Err BadEntry) rest found = found ≡ None
 GivesBytes (Err NoMemory) rest found = ⊥
-
--- no bytes are left, or the entry is bad
-abbrev pub MustEnd : Result (Unit {0}) EntryFault → List ℕ → Type 0
-MustEnd (Ok u) rest = rest ≡ []
-MustEnd (Err e) rest = (e ≡ BadEntry) × (rest ≢ [])
 
 -- this entry, unless memory is wanting
 abbrev pub IsThis : Entry → Result Entry EntryFault → Type 0

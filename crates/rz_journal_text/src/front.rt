@@ -1,7 +1,7 @@
 //! Numbers and texts at the front of bytes.
 
-ghost use Rattle.std.specs.Prelude.{◌≡◌, length, IfOk};
-ghost use Rattle.rz_journal_text.specs.Fronts.{Gives, GivesBytes, MustEnd, first, byte, number, text, key};
+ghost use Rattle.std.specs.Prelude.{◌≡◌, ◌↔◌, [], length, IfOk, IsTrue};
+ghost use Rattle.rz_journal_text.specs.Fronts.{Gives, GivesBytes, first, byte, number, text, key};
 
 use crate::EntryFault;
 use byteorder::{ByteOrder, LittleEndian};
@@ -110,14 +110,10 @@ impl<'a> Front<'a> {
         Ok(Key { fid, block })
     }
 
-    /// Nothing may be left.
-    pub fn end(&self) -> Result<(), EntryFault>
-        ensures { MustEnd result self.now }
+    /// Whether nothing is left.
+    pub fn is_empty(&self) -> bool
+        ensures { IsTrue result ↔ (self.now ≡ []) }
     {
-        if self.rest.is_empty() {
-            Ok(())
-        } else {
-            Err(EntryFault::BadEntry)
-        }
+        self.rest.is_empty()
     }
 }

@@ -139,11 +139,20 @@ fn path_text(alloc: Global, path: &Path) -> Result<Vec<u8>, AllocError>
     ensures { IfOk result (λ text. text.items ≡ path_text path.now) }
 {
     let mut text = Vec::new(alloc);
-    if path.names().is_empty() {
-        text.push(b'/')?;
-    }
-    push_names(path.names(), &mut text)?;
+    push_path(path.names(), &mut text)?;
     Ok(text)
+}
+
+// Adds the text of a path with these names.
+#[tactic(auto, using(crate::proofs::Slashes::slashed_names, crate::proofs::Slashes::no_names))]
+fn push_path(names: &[Text], text: &mut Vec<u8>) -> Result<(), AllocError>
+    ensures { OnOk result (text.new.items ≡ text.old.items ++ path_text names.now) }
+{
+    if names.is_empty() {
+        text.push(b'/')?;
+        return Ok(());
+    }
+    push_names(names, text)
 }
 
 // Adds a slash before each name, and the name.

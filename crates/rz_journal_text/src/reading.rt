@@ -3,7 +3,7 @@
 ghost use Rattle.std.specs.Prelude.{◌≡◌, IfOk};
 ghost use Rattle.rz_journal_text.specs.declared.entry.Entry.{Entry};
 ghost use Rattle.rz_journal_text.specs.Spelling.{Spells};
-ghost use Rattle.rz_journal_text.specs.Fronts.{Gives, IsThis, call_numbered, on_path, on_pair, setattr, tree, begin, publish, enroll, built, fields, entry};
+ghost use Rattle.rz_journal_text.specs.Fronts.{Gives, IsThis, call_numbered, on_path, on_pair, setattr, tree, begin, publish, enroll, built, fields, entry, whole};
 
 use crate::front::Front;
 use crate::part_reading::read_part;
@@ -19,8 +19,18 @@ pub fn read(alloc: Global, bytes: &[u8]) -> Result<Entry, EntryFault>
     ensures exact { (e : Entry) → Spells bytes.now e → IsThis e result }
 {
     let mut front = Front::of(bytes);
-    let entry = read_entry(alloc, &mut front)?;
-    front.end()?;
+    read_whole(alloc, &mut front)
+}
+
+// The entry at the front, where nothing stands behind it.
+#[tactic(auto, unfolding(crate::specs::Fronts::whole))]
+fn read_whole(alloc: Global, front: &mut Front) -> Result<Entry, EntryFault>
+    ensures { Gives result front.new (whole front.old) }
+{
+    let entry = read_entry(alloc, front)?;
+    if !front.is_empty() {
+        return Err(EntryFault::BadEntry);
+    }
     Ok(entry)
 }
 
