@@ -1,6 +1,7 @@
 -- The two changes of a disk: each image holds the entries from before, or the new ones.
-use Rattle.std.proofs.Common.{◌≡◌, ◌⊎◌, inl, inr, ⊎_elim, ℕ, ◌+◌, ◌-◌, ◌*◌, ◌%◌, ◌^◌, ◌<◌, ◌≤◌, Bool, IsTrue, List, [], ◌∷◌, ◌++◌, length, drop, get_or, refl, sym, ◌∙◌, ap, subst, arith, length-append}
+use Rattle.std.proofs.Common.{◌≡◌, ◌⊎◌, inl, inr, ⊎_elim, ℕ, ◌+◌, ◌-◌, ◌*◌, ◌%◌, ◌^◌, ◌<◌, ◌≤◌, Bool, IsTrue, List, [], ◌∷◌, ◌++◌, length, take, drop, get_or, refl, sym, ◌∙◌, ap, subst, arith, length-append, length-drop}
 use Rattle.std.proofs.lemmas.Bool.{cases_lt}
+use Rattle.std.proofs.lemmas.List.{take_all}
 use Rattle.byteorder.specs.Endian.{little_bytes}
 use Rattle.byteorder.specs.Numbers.{length-bytes_low_first}
 use Rattle.rz_disk.specs.Images.{window, Torn, Written}
@@ -38,6 +39,10 @@ holds_kept half entries new old size header same is = record {
   ends = ends_kept half entries new old (half_small half old is.journal) size is.journal.size is.room same is.ends;
   room = is.room;
 }
+
+-- all of a row but its first gate
+pub rest_all : (row : List ℕ) → take (length row - 1) (drop 1 row) ≡ drop 1 row
+rest_all row = take_all (length row - 1) (drop 1 row) (omega (arith, length-drop 1 row))
 
 -- ---- an entry is added
 
@@ -169,7 +174,7 @@ module _ (half : ℕ) (entries new : Entries) (text row : List ℕ) (spelled : r
         (cases_lt (get_or c 33 0 % 2) 1)
 
   -- and then
-  pub replace_done : (mid c : List ℕ) → Written (half_at (1 - half)) row text mid → Written 33 (1 - half ∷ []) mid c → Holds (1 - half) new c
+  pub replace_done : (mid c : List ℕ) → Written (half_at (1 - half)) row text mid → Written 33 ((1 - half) ∷ []) mid c → Holds (1 - half) new c
   replace_done mid c written gate =
       let byte : get_or c 33 0 ≡ 1 - half = sym (window-byte 33 1 c 0 (omega arith)) ∙ ap (λ (l : List ℕ). get_or l 0 0) gate.there in
       half_new mid written c gate.torn (omega (arith, byte))

@@ -5,7 +5,7 @@ use Rattle.std.proofs.lemmas.List.{get_or-replicate, get_or_past, length-replica
 use Rattle.rz_disk.specs.Images.{window, Torn, Written}
 use Rattle.rz_disk.proofs.Images.{apart, window-byte}
 use Rattle.rz_journal_disk.specs.Row.{EndsAt}
-use Rattle.rz_journal_disk.specs.Stands.{disk_bytes, header_bytes, Holds, IsShut}
+use Rattle.rz_journal_disk.specs.Stands.{disk_bytes, header_bytes, Holds, StandsFor, IsShut}
 use Rattle.rz_journal_disk.proofs.Changes.{size_is}
 
 abbrev blank : ℕ → List ℕ
@@ -13,6 +13,13 @@ blank n = replicate n 0
 
 zero_at : (n i : ℕ) → get_or (blank n) i 0 ≡ 0
 zero_at n i = ⊎_elim (λ (lt : i < n). get_or-replicate n i 0 0 lt) (λ (le : n ≤ i). get_or_past (blank n) i 0 (omega (arith, length-replicate {A = ℕ} n 0))) (cases_lt i n)
+
+-- zeros are a disk whose header is shut
+pub zeros_shut : (n : ℕ) (c : List ℕ) → c ≡ replicate n 0 → IsShut c
+zeros_shut n c is = ap (λ (l : List ℕ). get_or l 32 0 % 2) is ∙ ap (λ (b : ℕ). b % 2) (zero_at n 32)
+
+pub shut_or_none : (Was : Type 0) (c : List ℕ) → Was ⊎ IsShut c ⊎ Holds 0 [] c → Was ⊎ IsShut c ⊎ StandsFor c []
+shut_or_none Was c left = ⊎_elim (λ (was : Was). inl was) (λ (new : IsShut c ⊎ Holds 0 [] c). inr (⊎_elim (λ (shut : IsShut c). inl shut) (λ (none : Holds 0 [] c). inr (0, none)) new)) left
 
 module _ (header : List ℕ) (is : header ≡ header_bytes) where
   header-length : length header ≡ 32

@@ -43,6 +43,7 @@ impl<D: Disk> Entries<D> {
             → Becomes (with_last entry) (D.text self.old.disk) (D.text self.new.disk)) }
         ensures open { OnOk result ((entry : List ℕ) → row.now ≡ row_bytes (entry ∷ [])
             → IsOpen D.tells (D.text self.new.disk) (D.image self.new.disk) self.new.half self.new.used) }
+        ensures size { length (D.text self.new.disk) ≡ length (D.text self.old.disk) }
         ensures half { self.new.half ≡ self.old.half }
         ensures used { OnOk result (self.new.used + 1 ≡ self.old.used + length row.now) }
         ensures kept { IsErr result → self.new.used ≡ self.old.used }
@@ -73,6 +74,7 @@ impl<D: Disk> Entries<D> {
             → Becomes (instead new) (D.text self.old.disk) (D.text self.new.disk)) }
         ensures open { OnOk result ((new : List (List ℕ)) → row.now ≡ row_bytes new
             → IsOpen D.tells (D.text self.new.disk) (D.image self.new.disk) self.new.half self.new.used) }
+        ensures size { length (D.text self.new.disk) ≡ length (D.text self.old.disk) }
         ensures half { OnOk result (self.new.half ≡ 1 - self.old.half) }
         ensures used { OnOk result (self.new.used + 1 ≡ length row.now) }
 

@@ -18,6 +18,8 @@ mod entries;
 mod formatting;
 mod framing;
 mod shape;
+#[cfg(test)]
+mod tests;
 
 pub use entries::Entries;
 pub use framing::{close_row, push_entry};

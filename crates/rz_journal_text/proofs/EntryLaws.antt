@@ -48,7 +48,7 @@ tree_found bytes rest e small is =
     let a = step_found one_byte (λ b. Unit {0}) byte byte_law call_from bytes rest e small is in
     let b = step_found (λ c. field_bytes c) (λ x. (number_of x ≡ a.x) × IsEntry (Tree x) × MayStand (Tree x)) (call_numbered a.x) (call_law a.x) (λ call. done (Tree call)) a.middle rest e a.small a.then in
     carried (EntryFound 1 bytes) (Tree b.x) e b.middle rest b.then
-    (refl, (b.fits.1, b.fits.2), ap (λ (n : ℕ). n ∷ (field_bytes b.x ++ b.middle)) b.fits.0 ∙ ap (λ (l : List ℕ). a.x ∷ l) b.spelled ∙ a.spelled)
+    (refl {a = 1}, (b.fits.1, b.fits.2), ap (λ (n : ℕ). n ∷ (field_bytes b.x ++ b.middle)) b.fits.0 ∙ ap (λ (l : List ℕ). a.x ∷ l) b.spelled ∙ a.spelled)
 
 -- ---- begins
 
@@ -67,7 +67,7 @@ begin_found bytes rest e small is =
     let a = step_found key_bytes IsKey key key_law bytes_from bytes rest e small is in
     let b = step_found (little_bytes 4) (IsWide 4) (number 4) (number_law 4) (λ n. done (Begin a.x n)) a.middle rest e a.small a.then in
     carried (EntryFound 2 bytes) (Begin a.x b.x) e b.middle rest b.then
-    (refl, ((a.fits, b.fits), tt), joined (key_bytes a.x) (little_bytes 4 b.x) a.middle b.middle bytes b.spelled a.spelled)
+    (refl {a = 2}, ((a.fits, b.fits), tt), joined (key_bytes a.x) (little_bytes 4 b.x) a.middle b.middle bytes b.spelled a.spelled)
 
 -- ---- publishes
 
@@ -98,7 +98,7 @@ publish_found bytes rest e small is =
     let at-c = joined (little_bytes 2 c.x) (little_bytes 4 d.x) c.middle d.middle b.middle d.spelled c.spelled in
     let at-b = joined (little_bytes 8 b.x) (little_bytes 2 c.x ++ little_bytes 4 d.x) b.middle d.middle a.middle at-c b.spelled in
     carried (EntryFound 3 bytes) (Publish a.x b.x c.x d.x) e d.middle rest d.then
-    (refl, ((a.fits, b.fits, c.fits, d.fits), tt), joined (key_bytes a.x) (little_bytes 8 b.x ++ (little_bytes 2 c.x ++ little_bytes 4 d.x)) a.middle d.middle bytes at-b a.spelled)
+    (refl {a = 3}, ((a.fits, b.fits, c.fits, d.fits), tt), joined (key_bytes a.x) (little_bytes 8 b.x ++ (little_bytes 2 c.x ++ little_bytes 4 d.x)) a.middle d.middle bytes at-b a.spelled)
 
 -- ---- enrolments
 
@@ -117,7 +117,7 @@ enroll_found bytes rest e small is =
     let a = step_found (little_bytes 2) (IsWide 2) (number 2) (number_law 2) loss_from bytes rest e small is in
     let b = step_found (little_bytes 8) (IsWide 8) (number 8) (number_law 8) (λ loss. done (Enroll a.x loss)) a.middle rest e a.small a.then in
     carried (EntryFound 4 bytes) (Enroll a.x b.x) e b.middle rest b.then
-    (refl, ((a.fits, b.fits), tt), joined (little_bytes 2 a.x) (little_bytes 8 b.x) a.middle b.middle bytes b.spelled a.spelled)
+    (refl {a = 4}, ((a.fits, b.fits), tt), joined (little_bytes 2 a.x) (little_bytes 8 b.x) a.middle b.middle bytes b.spelled a.spelled)
 
 -- ---- parts
 

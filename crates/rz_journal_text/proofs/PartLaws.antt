@@ -37,7 +37,7 @@ counters_found bytes rest part small is =
     let a = step_found (little_bytes 8) (IsWide 8) (number 8) (number_law 8) made_from bytes rest part small is in
     let b = step_found (little_bytes 16) (IsWide 16) (number 16) (number_law 16) (λ made. done (Counters a.x made)) a.middle rest part a.small a.then in
     carried (PartFound 5 bytes) (Counters a.x b.x) part b.middle rest b.then
-    (refl, ((a.fits, b.fits), tt), joined (little_bytes 8 a.x) (little_bytes 16 b.x) a.middle b.middle bytes b.spelled a.spelled)
+    (refl {a = 5}, ((a.fits, b.fits), tt), joined (little_bytes 8 a.x) (little_bytes 16 b.x) a.middle b.middle bytes b.spelled a.spelled)
 
 -- ---- objects: what is read after each field
 
@@ -95,6 +95,52 @@ object_again fid k mode mtime size cid ns target rest fits =
     ∙ step_again places_bytes ArePlaces places places_law (target_from fid k mode mtime size cid) ns (text_bytes target) rest fits.0.5
     ∙ last_again text_bytes IsShort text text_law (λ target. done (Object fid k mode mtime size cid ns target)) target rest fits.1
 
+-- what an object holds, behind its times
+record Content (fid : ℕ) (k : Kind) (mode mtime : ℕ) (bytes : List ℕ) (part : Part) (rest : List ℕ) : Type 0 where
+  size : ℕ
+  cid : ℕ
+  ns : List ℕ
+  target : List ℕ
+  wide-size : IsWide 8 size
+  wide-cid : IsWide 2 cid
+  fit : ArePlaces ns
+  short : IsShort target
+  is : part ≡ Object fid k mode mtime size cid ns target
+  spelled : after_mtime size cid ns target ++ rest ≡ bytes
+
+content_found : (fid : ℕ) (k : Kind) (mode mtime : ℕ) (bytes rest : List ℕ) (part : Part) → Bytes bytes → size_from fid k mode mtime bytes ≡ Some (part, rest) → Content fid k mode mtime bytes part rest
+content_found fid k mode mtime bytes rest part small is =
+    let e = step_found (little_bytes 8) (IsWide 8) (number 8) (number_law 8) (cid_from fid k mode mtime) bytes rest part small is in
+    let f = step_found (little_bytes 2) (IsWide 2) (number 2) (number_law 2) (places_from fid k mode mtime e.x) e.middle rest part e.small e.then in
+    let g = step_found places_bytes ArePlaces places places_law (target_from fid k mode mtime e.x f.x) f.middle rest part f.small f.then in
+    let h = step_found text_bytes IsShort text text_law (λ target. done (Object fid k mode mtime e.x f.x g.x target)) g.middle rest part g.small g.then in
+    carried (Content fid k mode mtime bytes) (Object fid k mode mtime e.x f.x g.x h.x) part h.middle rest h.then
+    record {
+      size = e.x;
+      cid = f.x;
+      ns = g.x;
+      target = h.x;
+      wide-size = e.fits;
+      wide-cid = f.fits;
+      fit = g.fits;
+      short = h.fits;
+      is = refl {a = Object fid k mode mtime e.x f.x g.x h.x};
+      spelled = content_spelled e.x f.x g.x h.x e.middle f.middle g.middle h.middle bytes h.spelled g.spelled f.spelled e.spelled;
+    }
+  where
+    content_spelled : (size cid : ℕ) (ns target behind_size behind_cid behind_ns end bytes : List ℕ) → text_bytes target ++ end ≡ behind_ns → places_bytes ns ++ behind_ns ≡ behind_cid → little_bytes 2 cid ++ behind_cid ≡ behind_size → little_bytes 8 size ++ behind_size ≡ bytes → after_mtime size cid ns target ++ end ≡ bytes
+    content_spelled size cid ns target behind_size behind_cid behind_ns end bytes at-target at-ns at-cid at-size =
+        joined (little_bytes 8 size) (after_size cid ns target) behind_size end bytes
+        (joined (little_bytes 2 cid) (after_cid ns target) behind_cid end behind_size (joined (places_bytes ns) (text_bytes target) behind_ns end behind_cid at-target at-ns) at-cid) at-size
+
+object_spelled : (fid : ℕ) (k : Kind) (mode mtime : ℕ) (content behind_fid behind_kind behind_mode behind_mtime end bytes : List ℕ)
+    → content ++ end ≡ behind_mtime → little_bytes 8 mtime ++ behind_mtime ≡ behind_mode → little_bytes 2 mode ++ behind_mode ≡ behind_kind → kind_byte k ++ behind_kind ≡ behind_fid → little_bytes 16 fid ++ behind_fid ≡ bytes
+    → (little_bytes 16 fid ++ (kind_byte k ++ (little_bytes 2 mode ++ (little_bytes 8 mtime ++ content)))) ++ end ≡ bytes
+object_spelled fid k mode mtime content behind_fid behind_kind behind_mode behind_mtime end bytes at-content at-mtime at-mode at-kind at-fid =
+    joined (little_bytes 16 fid) (kind_byte k ++ (little_bytes 2 mode ++ (little_bytes 8 mtime ++ content))) behind_fid end bytes
+    (joined (kind_byte k) (little_bytes 2 mode ++ (little_bytes 8 mtime ++ content)) behind_kind end behind_fid
+    (joined (little_bytes 2 mode) (little_bytes 8 mtime ++ content) behind_mode end behind_kind (joined (little_bytes 8 mtime) content behind_mtime end behind_mode at-content at-mtime) at-mode) at-kind) at-fid
+
 object_found : (bytes rest : List ℕ) (part : Part) → Bytes bytes → object bytes ≡ Some (part, rest) → PartFound 6 bytes part rest
 unfolding object
 object_found bytes rest part small is =
@@ -102,18 +148,14 @@ object_found bytes rest part small is =
     let b = step_found kind_byte (λ k. Unit {0}) kind kind_law (mode_from a.x) a.middle rest part a.small a.then in
     let c = step_found (little_bytes 2) (IsWide 2) (number 2) (number_law 2) (mtime_from a.x b.x) b.middle rest part b.small b.then in
     let d = step_found (little_bytes 8) (IsWide 8) (number 8) (number_law 8) (size_from a.x b.x c.x) c.middle rest part c.small c.then in
-    let e = step_found (little_bytes 8) (IsWide 8) (number 8) (number_law 8) (cid_from a.x b.x c.x d.x) d.middle rest part d.small d.then in
-    let f = step_found (little_bytes 2) (IsWide 2) (number 2) (number_law 2) (places_from a.x b.x c.x d.x e.x) e.middle rest part e.small e.then in
-    let g = step_found places_bytes ArePlaces places places_law (target_from a.x b.x c.x d.x e.x f.x) f.middle rest part f.small f.then in
-    let h = step_found text_bytes IsShort text text_law (λ target. done (Object a.x b.x c.x d.x e.x f.x g.x target)) g.middle rest part g.small g.then in
-    let at-g = joined (places_bytes g.x) (text_bytes h.x) g.middle h.middle f.middle h.spelled g.spelled in
-    let at-f = joined (little_bytes 2 f.x) (after_cid g.x h.x) f.middle h.middle e.middle at-g f.spelled in
-    let at-e = joined (little_bytes 8 e.x) (after_size f.x g.x h.x) e.middle h.middle d.middle at-f e.spelled in
-    let at-d = joined (little_bytes 8 d.x) (after_mtime e.x f.x g.x h.x) d.middle h.middle c.middle at-e d.spelled in
-    let at-c = joined (little_bytes 2 c.x) (after_mode d.x e.x f.x g.x h.x) c.middle h.middle b.middle at-d c.spelled in
-    let at-b = joined (kind_byte b.x) (after_kind c.x d.x e.x f.x g.x h.x) b.middle h.middle a.middle at-c b.spelled in
-    carried (PartFound 6 bytes) (Object a.x b.x c.x d.x e.x f.x g.x h.x) part h.middle rest h.then
-    (refl, ((a.fits, c.fits, d.fits, e.fits, f.fits, g.fits), h.fits), joined (little_bytes 16 a.x) (after_fid b.x c.x d.x e.x f.x g.x h.x) a.middle h.middle bytes at-b a.spelled)
+    object_of a.x b.x c.x d.x a.middle b.middle c.middle d.middle bytes rest part a.fits c.fits d.fits d.spelled c.spelled b.spelled a.spelled (content_found a.x b.x c.x d.x d.middle rest part d.small d.then)
+  where
+    object_of : (fid : ℕ) (k : Kind) (mode mtime : ℕ) (behind_fid behind_kind behind_mode behind_mtime bytes rest : List ℕ) (part : Part) → IsWide 16 fid → IsWide 2 mode → IsWide 8 mtime
+        → little_bytes 8 mtime ++ behind_mtime ≡ behind_mode → little_bytes 2 mode ++ behind_mode ≡ behind_kind → kind_byte k ++ behind_kind ≡ behind_fid → little_bytes 16 fid ++ behind_fid ≡ bytes
+        → Content fid k mode mtime behind_mtime part rest → PartFound 6 bytes part rest
+    object_of fid k mode mtime behind_fid behind_kind behind_mode behind_mtime bytes rest part wide-fid wide-mode wide-mtime at-mtime at-mode at-kind at-fid e =
+        subst (λ (p : Part). PartFound 6 bytes p rest) (sym e.is)
+        (refl {a = 6}, ((wide-fid, wide-mode, wide-mtime, e.wide-size, e.wide-cid, e.fit), e.short), object_spelled fid k mode mtime (after_mtime e.size e.cid e.ns e.target) behind_fid behind_kind behind_mode behind_mtime rest bytes e.spelled at-mtime at-mode at-kind at-fid)
 
 -- ---- names
 
@@ -132,7 +174,7 @@ name_found bytes rest part small is =
     let a = step_found path_bytes IsSpelled path path_law fid_from bytes rest part small is in
     let b = step_found (little_bytes 16) (IsWide 16) (number 16) (number_law 16) (λ fid. done (Name a.x fid)) a.middle rest part a.small a.then in
     carried (PartFound 7 bytes) (Name a.x b.x) part b.middle rest b.then
-    (refl, (b.fits, a.fits), joined (path_bytes a.x) (little_bytes 16 b.x) a.middle b.middle bytes b.spelled a.spelled)
+    (refl {a = 7}, (b.fits, a.fits), joined (path_bytes a.x) (little_bytes 16 b.x) a.middle b.middle bytes b.spelled a.spelled)
 
 -- ---- blocks
 
@@ -156,7 +198,7 @@ block_found bytes rest part small is =
     let b = step_found (little_bytes 8) (IsWide 8) (number 8) (number_law 8) (published_from a.x) a.middle rest part a.small a.then in
     let c = step_found maybe_published_bytes IsPublished maybe_published maybe_law (λ o. done (Block a.x b.x o)) b.middle rest part b.small b.then in
     carried (PartFound 8 bytes) (Block a.x b.x c.x) part c.middle rest c.then
-    (refl, ((a.fits, b.fits, c.fits), tt), joined (key_bytes a.x) (little_bytes 8 b.x ++ maybe_published_bytes c.x) a.middle c.middle bytes (joined (little_bytes 8 b.x) (maybe_published_bytes c.x) b.middle c.middle a.middle c.spelled b.spelled) a.spelled)
+    (refl {a = 8}, ((a.fits, b.fits, c.fits), tt), joined (key_bytes a.x) (little_bytes 8 b.x ++ maybe_published_bytes c.x) a.middle c.middle bytes (joined (little_bytes 8 b.x) (maybe_published_bytes c.x) b.middle c.middle a.middle c.spelled b.spelled) a.spelled)
 
 -- ---- enrolments
 
@@ -180,7 +222,7 @@ enrolled_found bytes rest part small is =
     let b = step_found (little_bytes 8) (IsWide 8) (number 8) (number_law 8) (fence_from a.x) a.middle rest part a.small a.then in
     let c = step_found (little_bytes 8) (IsWide 8) (number 8) (number_law 8) (λ fence. done (Enrolled a.x b.x fence)) b.middle rest part b.small b.then in
     carried (PartFound 9 bytes) (Enrolled a.x b.x c.x) part c.middle rest c.then
-    (refl, ((a.fits, b.fits, c.fits), tt), joined (little_bytes 2 a.x) (little_bytes 8 b.x ++ little_bytes 8 c.x) a.middle c.middle bytes (joined (little_bytes 8 b.x) (little_bytes 8 c.x) b.middle c.middle a.middle c.spelled b.spelled) a.spelled)
+    (refl {a = 9}, ((a.fits, b.fits, c.fits), tt), joined (little_bytes 2 a.x) (little_bytes 8 b.x ++ little_bytes 8 c.x) a.middle c.middle bytes (joined (little_bytes 8 b.x) (little_bytes 8 c.x) b.middle c.middle a.middle c.spelled b.spelled) a.spelled)
 
 -- ---- all parts
 

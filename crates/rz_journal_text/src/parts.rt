@@ -6,7 +6,7 @@ ghost use Rattle.byteorder.specs.Endian.{little_bytes};
 ghost use Rattle.rz_journal_text.specs.Spelling.{key_bytes, text_bytes, path_text, path_bytes, places_bytes, published_bytes, maybe_published_bytes, kind_number, part_kind, part_fields, PartMayStand, IsShort, IsSpelled};
 
 use crate::numbers::{write_key, write_text, write_u16, write_u32, write_u64, write_u128};
-use rz_events::{Kind, Places, Published, Text};
+use rz_events::{Key, Kind, Places, Published, Text};
 use rz_names::Path;
 use rz_tree::Part;
 use std::alloc::{AllocError, Global};
@@ -30,10 +30,7 @@ pub fn write_part(alloc: Global, part: &Part, out: &mut Vec<u8>) -> Result<(), A
     ensures { OnOk result (out.new.items ≡ out.old.items ++ part_fields part.now) }
 {
     match part {
-        Part::Counters { last, made } => {
-            write_u64(*last, out)?;
-            write_u128(*made, out)
-        }
+        Part::Counters { last, made } => write_counters(*last, *made, out),
         Part::Object {
             fid,
             kind,
@@ -46,32 +43,92 @@ pub fn write_part(alloc: Global, part: &Part, out: &mut Vec<u8>) -> Result<(), A
         } => {
             write_u128(*fid, out)?;
             out.push(kind_number(*kind))?;
-            write_u16(*mode, out)?;
-            write_u64(*mtime, out)?;
-            write_u64(*size, out)?;
-            write_u16(*cid, out)?;
-            write_places(places, out)?;
-            write_text(target, out)
+            write_attributes(*mode, *mtime, *size, *cid, places, target, out)
         }
-        Part::Name { path, fid } => {
-            write_path(alloc, path, out)?;
-            write_u128(*fid, out)
-        }
+        Part::Name { path, fid } => write_name(alloc, path, *fid, out),
         Part::Block {
             key,
             latest,
             published,
-        } => {
-            write_key(*key, out)?;
-            write_u64(*latest, out)?;
-            write_maybe_published(published, out)
-        }
-        Part::Enrolled { node, loss, fence } => {
-            write_u16(*node, out)?;
-            write_u64(*loss, out)?;
-            write_u64(*fence, out)
-        }
+        } => write_block(*key, *latest, published, out),
+        Part::Enrolled { node, loss, fence } => write_enrolled(*node, *loss, *fence, out),
     }
+}
+
+fn write_counters(last: u64, made: u128, out: &mut Vec<u8>) -> Result<(), AllocError>
+    ensures { OnOk result (out.new.items ≡ out.old.items ++ (little_bytes 8 last ++ little_bytes 16 made)) }
+{
+    write_u64(last, out)?;
+    write_u128(made, out)
+}
+
+// Adds the fields of an object behind its kind.
+fn write_attributes(
+    mode: u16,
+    mtime: u64,
+    size: u64,
+    cid: u16,
+    places: &Places,
+    target: &Text,
+    out: &mut Vec<u8>,
+) -> Result<(), AllocError>
+    requires { IsShort target.now }
+    ensures { OnOk result (out.new.items ≡ out.old.items ++ (little_bytes 2 mode ++ (little_bytes 8 mtime ++ (little_bytes 8 size ++ (little_bytes 2 cid ++ (places_bytes places.now ++ text_bytes target.now)))))) }
+{
+    write_u16(mode, out)?;
+    write_u64(mtime, out)?;
+    write_content(size, cid, places, target, out)
+}
+
+// Adds what an object holds: its size, where it lies, and to what it leads.
+fn write_content(
+    size: u64,
+    cid: u16,
+    places: &Places,
+    target: &Text,
+    out: &mut Vec<u8>,
+) -> Result<(), AllocError>
+    requires { IsShort target.now }
+    ensures { OnOk result (out.new.items ≡ out.old.items ++ (little_bytes 8 size ++ (little_bytes 2 cid ++ (places_bytes places.now ++ text_bytes target.now)))) }
+{
+    write_u64(size, out)?;
+    write_u16(cid, out)?;
+    write_places(places, out)?;
+    write_text(target, out)
+}
+
+fn write_name(
+    alloc: Global,
+    path: &Path,
+    fid: u128,
+    out: &mut Vec<u8>,
+) -> Result<(), AllocError>
+    requires { IsSpelled path.now }
+    ensures { OnOk result (out.new.items ≡ out.old.items ++ (path_bytes path.now ++ little_bytes 16 fid)) }
+{
+    write_path(alloc, path, out)?;
+    write_u128(fid, out)
+}
+
+fn write_block(
+    key: Key,
+    latest: u64,
+    published: &Option<Published>,
+    out: &mut Vec<u8>,
+) -> Result<(), AllocError>
+    ensures { OnOk result (out.new.items ≡ out.old.items ++ (key_bytes key ++ (little_bytes 8 latest ++ maybe_published_bytes published.now))) }
+{
+    write_key(key, out)?;
+    write_u64(latest, out)?;
+    write_maybe_published(published, out)
+}
+
+fn write_enrolled(node: u16, loss: u64, fence: u64, out: &mut Vec<u8>) -> Result<(), AllocError>
+    ensures { OnOk result (out.new.items ≡ out.old.items ++ (little_bytes 2 node ++ (little_bytes 8 loss ++ little_bytes 8 fence))) }
+{
+    write_u16(node, out)?;
+    write_u64(loss, out)?;
+    write_u64(fence, out)
 }
 
 // The number of a kind of objects.

@@ -2,7 +2,7 @@
 use Rattle.std.proofs.Common.{rules, IsErr, ◌≡◌, ◌+◌, ℕ, inl, Ok, is_ok, List, [], ◌∷◌, length, drop, ap, subst, arith, length-drop}
 use Rattle.rz_disk.specs.Images.{Torn, Written}
 use Rattle.rz_disk.proofs.Passes.{took_then, took_failed}
-use Rattle.rz_journal_disk.proofs.Changes.{add_staged, add_flipped, add_done}
+use Rattle.rz_journal_disk.proofs.Changes.{rest_all, add_staged, add_flipped, add_done}
 use Rattle.rz_journal_disk.proofs.changing.add.Goals as goal
 
 pub store-requires-clause-range : goal.store-requires-clause-range
@@ -12,14 +12,14 @@ pub returns-in_err-store-clause-crash : goal.returns-in_err-store-clause-crash
 returns-in_err-store-clause-crash g c told half entries entry image spelled place fits holds left =
     let text = g.D.Disk.text c.args.disk.now in
     let row = c.args.row.now in
-    inl (add_staged half entries text entry row spelled fits holds image (subst (λ (k : ℕ). Torn (k + 1) (length (drop 1 row)) text image) place (c.store.ensures.crash image left)))
+    inl (add_staged half entries text entry row spelled fits holds image (subst (λ (k : ℕ). Torn (k + 1) (length (drop 1 row)) text image) place (subst (λ (l : List ℕ). Torn (c.args.at + 1) (length l) text image) (rest_all row) (c.store.ensures.crash image left))))
 
 pub returns-in_err-store-2-clause-crash : goal.returns-in_err-store-2-clause-crash
 returns-in_err-store-2-clause-crash g c told half entries entry image spelled place fits holds left =
     let text = g.D.Disk.text c.args.disk.now in
     let mid = g.D.Disk.text c.store.new.disk in
     let row = c.args.row.now in
-    let written = subst (λ (k : ℕ). Written (k + 1) (drop 1 row) text mid) place (c.in_ok-store.ensures.written told) in
+    let written = subst (λ (k : ℕ). Written (k + 1) (drop 1 row) text mid) place (subst (λ (l : List ℕ). Written (c.args.at + 1) l text mid) (rest_all row) (c.in_ok-store.ensures.written told)) in
     add_flipped half entries text entry row spelled fits holds mid written image (subst (λ (k : ℕ). Torn k 1 mid image) place (c.store-2.ensures.crash image left))
 
 pub returns-in_err-store-2-clause-took : goal.returns-in_err-store-2-clause-took
@@ -33,7 +33,7 @@ returns-clause-crash g c told half entries entry image spelled place fits holds 
     let text = g.D.Disk.text c.args.disk.now in
     let mid = g.D.Disk.text c.store.new.disk in
     let row = c.args.row.now in
-    let written = subst (λ (k : ℕ). Written (k + 1) (drop 1 row) text mid) place (c.in_ok-store.ensures.written told) in
+    let written = subst (λ (k : ℕ). Written (k + 1) (drop 1 row) text mid) place (subst (λ (l : List ℕ). Written (c.args.at + 1) l text mid) (rest_all row) (c.in_ok-store.ensures.written told)) in
     add_flipped half entries text entry row spelled fits holds mid written image (subst (λ (k : ℕ). Torn k 1 mid image) place (c.store-2.ensures.crash image left))
 
 pub returns-clause-done : goal.returns-clause-done
@@ -42,7 +42,7 @@ returns-clause-done g c told half entries entry spelled place fits holds =
     let mid = g.D.Disk.text c.store.new.disk in
     let end = g.D.Disk.text c.store-2.new.disk in
     let row = c.args.row.now in
-    let written = subst (λ (k : ℕ). Written (k + 1) (drop 1 row) text mid) place (c.in_ok-store.ensures.written told) in
+    let written = subst (λ (k : ℕ). Written (k + 1) (drop 1 row) text mid) place (subst (λ (l : List ℕ). Written (c.args.at + 1) l text mid) (rest_all row) (c.in_ok-store.ensures.written told)) in
     let gate = subst (λ (k : ℕ). Written k (1 ∷ []) mid end) place (c.in_ok-store-2.ensures.written told) in
     add_done half entries text entry row spelled fits holds mid end written gate
 

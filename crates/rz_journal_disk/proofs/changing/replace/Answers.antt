@@ -8,8 +8,8 @@ use Rattle.rz_journal_disk.proofs.changing.replace.Goals as goal
 pub store-requires-clause-range : goal.store-requires-clause-range
 store-requires-clause-range g c = omega (arith, c.half_at-start.ensures, c.requires.half, c.requires.room, c.requires.size, size_is)
 
-pub store-2-requires-clause-range : goal.store-2-requires-clause-range
-store-2-requires-clause-range g c = omega (arith, c.store.ensures.size, c.requires.size, size_is)
+pub store-requires-2-clause-range : goal.store-requires-2-clause-range
+store-requires-2-clause-range g c = omega (arith, c.store.ensures.size, c.requires.size, size_is)
 
 pub returns-in_err-store-clause-crash : goal.returns-in_err-store-clause-crash
 returns-in_err-store-clause-crash g c told entries new image spelled fits holds left =

@@ -10,8 +10,8 @@ use Rattle.rz_journal_disk.proofs.formatting.write_header.Goals as goal
 pub store-requires-clause-range : goal.store-requires-clause-range
 store-requires-clause-range g c = omega (arith, ap length c.requires.zeros, length-replicate {A = ℕ} disk_bytes 0, size_is, ap length c.header.ensures)
 
-pub store-2-requires-clause-range : goal.store-2-requires-clause-range
-store-2-requires-clause-range g c = omega (arith, c.store.ensures.size, ap length c.requires.zeros, length-replicate {A = ℕ} disk_bytes 0, size_is)
+pub store-requires-2-clause-range : goal.store-requires-2-clause-range
+store-requires-2-clause-range g c = omega (arith, c.store.ensures.size, ap length c.requires.zeros, length-replicate {A = ℕ} disk_bytes 0, size_is)
 
 pub returns-in_err-store-clause-crash : goal.returns-in_err-store-clause-crash
 returns-in_err-store-clause-crash g c told image left =
