@@ -1,2 +1,3 @@
 pub mod JournalText
+pub mod Listed
 pub mod Said

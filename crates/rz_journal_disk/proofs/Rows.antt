@@ -12,7 +12,7 @@ abbrev pub SameIn : ℕ → ℕ → List ℕ → List ℕ → Type 0
 SameIn from to new old = (i : ℕ) → from ≤ i → i < to → get_or new i 0 ≡ get_or old i 0
 
 -- a number reads its own bytes alone
-number_in : (at : ℕ) (text : List ℕ) → little_number 4 (window at 4 text) ≡ little_number 4 (drop at text)
+pub number_in : (at : ℕ) (text : List ℕ) → little_number 4 (window at 4 text) ≡ little_number 4 (drop at text)
 number_in at text = little_from-take 0 4 4 (drop at text) (omega arith)
 
 entry_kept : (at : ℕ) (e new old : List ℕ) → length new ≡ length old → at + (5 + length e) ≤ length old → SameIn at (at + (5 + length e)) new old → IsEntryAt at e old → IsEntryAt at e new

@@ -10,7 +10,7 @@
 //! image of the disk stands for the list from before or for the new one. An entry here is any bytes:
 //! nothing is said of what they mean.
 //!
-//! In reading order: `shape`, `framing`, `entries`, `changing`, `formatting`.
+//! In reading order: `shape`, `framing`, `entries`, `changing`, `formatting`, `walking`.
 #![tactic(auto)]
 
 mod changing;
@@ -20,7 +20,9 @@ mod framing;
 mod shape;
 #[cfg(test)]
 mod tests;
+mod walking;
 
 pub use entries::Entries;
 pub use framing::{close_row, push_entry};
 pub use shape::HALF_BYTES;
+pub use walking::{Place, place_at};

@@ -1,6 +1,6 @@
 //! The parts of an export.
 
-ghost use Rattle.std.specs.Prelude.{◌≡◌, ◌++◌, ◌∷◌, OnOk, IfOk};
+ghost use Rattle.std.specs.Prelude.{◌≡◌, [], ◌++◌, ◌∷◌, OnOk, IfOk};
 ghost use Rattle.std.specs.List.{flat_map};
 ghost use Rattle.byteorder.specs.Endian.{little_bytes};
 ghost use Rattle.rz_journal_text.specs.Spelling.{key_bytes, text_bytes, path_text, path_bytes, places_bytes, published_bytes, maybe_published_bytes, kind_number, part_kind, part_fields, PartMayStand, IsShort, IsSpelled};
@@ -40,11 +40,9 @@ pub fn write_part(alloc: Global, part: &Part, out: &mut Vec<u8>) -> Result<(), A
             cid,
             places,
             target,
-        } => {
-            write_u128(*fid, out)?;
-            out.push(kind_number(*kind))?;
-            write_attributes(*mode, *mtime, *size, *cid, places, target, out)
-        }
+        } => write_object(
+            *fid, *kind, *mode, *mtime, *size, *cid, places, target, out,
+        ),
         Part::Name { path, fid } => write_name(alloc, path, *fid, out),
         Part::Block {
             key,
@@ -60,6 +58,33 @@ fn write_counters(last: u64, made: u128, out: &mut Vec<u8>) -> Result<(), AllocE
 {
     write_u64(last, out)?;
     write_u128(made, out)
+}
+
+fn write_object(
+    fid: u128,
+    kind: Kind,
+    mode: u16,
+    mtime: u64,
+    size: u64,
+    cid: u16,
+    places: &Places,
+    target: &Text,
+    out: &mut Vec<u8>,
+) -> Result<(), AllocError>
+    requires { IsShort target.now }
+    ensures { OnOk result (out.new.items ≡ out.old.items ++ (little_bytes 16 fid ++ (kind_number kind ∷ (little_bytes 2 mode ++ (little_bytes 8 mtime ++ (little_bytes 8 size ++ (little_bytes 2 cid ++ (places_bytes places.now ++ text_bytes target.now)))))))) }
+{
+    write_identity(fid, kind, out)?;
+    write_attributes(mode, mtime, size, cid, places, target, out)
+}
+
+// Adds the number and the kind of an object.
+fn write_identity(fid: u128, kind: Kind, out: &mut Vec<u8>) -> Result<(), AllocError>
+    ensures { OnOk result (out.new.items ≡ out.old.items ++ (little_bytes 16 fid ++ kind_number kind ∷ [])) }
+{
+    write_u128(fid, out)?;
+    out.push(kind_number(kind))?;
+    Ok(())
 }
 
 // Adds the fields of an object behind its kind.
