@@ -1,12 +1,12 @@
 -- Each call on names is spelled in one way.
-use Rattle.std.proofs.Common.{◌≡◌, ℕ, ◌+◌, ◌^◌, ◌<◌, ◌==◌, nat_lt, Bool, true, false, cond, List, [], ◌∷◌, ◌++◌, length, Option, Some, None, refl, sym, ◌∙◌, ap, subst}
+use Rattle.std.proofs.Common.{◌≡◌, ℕ, ◌==◌, nat_lt, true, cond, List, ◌++◌, Option, Some, refl, sym, ◌∙◌, ap, subst}
 use Rattle.std.proofs.lemmas.Bool.{eqb-true}
 use Rattle.byteorder.specs.Endian.{little_bytes}
 use Rattle.rz_events.specs.declared.tree.TreeCall.{TreeCall}
 use Rattle.rz_events.specs.declared.tree.TreeCall.TheVariants.{Lookup, Getattr, Rmdir, Mkdir, Create, Unlink, Readlink, Readdir, OpenFile, Setattr, Rename, Link, Symlink}
 use Rattle.rz_journal_text.specs.Spelling.{text_bytes, number_of, field_bytes, HasShortTexts, IsShort, IsWide, IsCall}
 use Rattle.rz_journal_text.specs.Fronts.{Front, ◌>>=◌, done, given, number, text, path_call, pair_call, on_path, on_pair, setattr, call_numbered}
-use Rattle.rz_journal_text.proofs.Steps.{Bytes, none_some, IsLawful, Step, step_again, last_again, step_found, joined, carried, given_is, either_way, either_value}
+use Rattle.rz_journal_text.proofs.Steps.{Bytes, none_some, step_again, last_again, step_found, joined, carried, given_is, either_way, either_value}
 use Rattle.rz_journal_text.proofs.FieldLaws.{number_law, text_law}
 
 abbrev pub CallFits : TreeCall → Type 0
@@ -34,9 +34,9 @@ one_value n xs call is =
     let G : Type 0 = OnPath n xs call in
     let shown : (m : ℕ) (it : TreeCall) → OnPath m xs it → (n == m) ≡ true → Some it ≡ Some call → G =
     λ m it holds at same.
-      let one : it ≡ call = cc in
-      let number : n ≡ m = eqb-true n m at in
-      subst (λ (c : TreeCall). OnPath n xs c) one (subst (λ (k : ℕ). OnPath k xs it) (sym number) holds) in
+    let one : it ≡ call = cc in
+    let number : n ≡ m = eqb-true n m at in
+    subst (λ (c : TreeCall). OnPath n xs c) one (subst (λ (k : ℕ). OnPath k xs it) (sym number) holds) in
     either_value (n == 0) _ _ call G (shown 0 (Lookup xs) record { number = refl; fields = refl; fits = λ s. (tt, s) })
     (either_value (n == 1) _ _ call G (shown 1 (Getattr xs) record { number = refl; fields = refl; fits = λ s. (tt, s) })
     (either_value (n == 2) _ _ call G (shown 2 (Rmdir xs) record { number = refl; fields = refl; fits = λ s. (tt, s) })
@@ -79,9 +79,9 @@ two_value n xs ys call is =
     let G : Type 0 = OnPair n xs ys call in
     let shown : (m : ℕ) (it : TreeCall) → OnPair m xs ys it → (n == m) ≡ true → Some it ≡ Some call → G =
     λ m it holds at same.
-      let one : it ≡ call = cc in
-      let number : n ≡ m = eqb-true n m at in
-      subst (λ (c : TreeCall). OnPair n xs ys c) one (subst (λ (k : ℕ). OnPair k xs ys it) (sym number) holds) in
+    let one : it ≡ call = cc in
+    let number : n ≡ m = eqb-true n m at in
+    subst (λ (c : TreeCall). OnPair n xs ys c) one (subst (λ (k : ℕ). OnPair k xs ys it) (sym number) holds) in
     either_value (n == 10) _ _ call G (shown 10 (Rename xs ys) record { number = refl; fields = refl; fits = λ s t. (tt, (s, t)) })
     (either_value (n == 11) _ _ call G (shown 11 (Link xs ys) record { number = refl; fields = refl; fits = λ s t. (tt, (s, t)) })
     (either_value (n == 12) _ _ call G (shown 12 (Symlink xs ys) record { number = refl; fields = refl; fits = λ s t. (tt, (s, t)) })

@@ -1,5 +1,5 @@
 -- Each entry is spelled in one way.
-use Rattle.std.proofs.Common.{◌≡◌, ℕ, ◌+◌, ◌^◌, ◌<◌, ◌==◌, Bool, true, false, cond, List, [], ◌∷◌, ◌++◌, length, Option, Some, None, Result, Ok, Err, IfOk, refl, sym, ◌∙◌, ap, subst}
+use Rattle.std.proofs.Common.{◌≡◌, ℕ, ◌==◌, true, List, [], ◌∷◌, ◌++◌, Option, Some, Result, Ok, Err, IfOk, refl, sym, ◌∙◌, ap, subst}
 use Rattle.std.proofs.lemmas.Bool.{eqb-true}
 use Rattle.std.proofs.lemmas.List.{append-nil}
 use Rattle.byteorder.specs.Endian.{little_bytes}
@@ -13,7 +13,7 @@ use Rattle.rz_journal_text.specs.declared.fault.EntryFault.{EntryFault}
 use Rattle.rz_journal_text.specs.declared.fault.EntryFault.TheVariants.{NoMemory, BadEntry}
 use Rattle.rz_journal_text.specs.Spelling.{key_bytes, number_of, field_bytes, call_bytes, part_kind, part_fields, kind_of, entry_fields, entry_bytes, MayStand, IsWide, IsKey, IsEntry, Spells}
 use Rattle.rz_journal_text.specs.Fronts.{Front, ◌>>=◌, done, byte, number, key, call_numbered, part_of_kind, tree, begin, publish, enroll, built, fields, entry, ended, whole, Gives, IsThis}
-use Rattle.rz_journal_text.proofs.Steps.{Bytes, none_some, IsLawful, Step, step_again, last_again, step_found, joined, carried, either_way}
+use Rattle.rz_journal_text.proofs.Steps.{Bytes, none_some, IsLawful, step_again, last_again, step_found, joined, carried, either_way}
 use Rattle.rz_journal_text.proofs.FieldLaws.{one_byte, byte_law, number_law, key_law}
 use Rattle.rz_journal_text.proofs.CallLaws.{call_again, call_found}
 use Rattle.rz_journal_text.proofs.PartLaws.{part_again, part_found}

@@ -1,5 +1,5 @@
 -- Each field is spelled in one way.
-use Rattle.std.proofs.Common.{◌≡◌, ℕ, zero, suc, ◌+◌, ◌-◌, ◌*◌, ◌/◌, ◌%◌, ◌^◌, ◌<◌, ◌≤◌, ◌==◌, nat_le, Bool, true, false, cond, All, List, [], ◌∷◌, ◌++◌, length, take, drop, get_or, Option, Some, None, refl, sym, ◌∙◌, ap, subst, arith, append_assoc, length-append}
+use Rattle.std.proofs.Common.{◌≡◌, ℕ, zero, suc, ◌+◌, ◌-◌, ◌*◌, ◌/◌, ◌%◌, ◌^◌, ◌<◌, ◌≤◌, ◌==◌, nat_le, Bool, true, cond, All, List, [], ◌∷◌, ◌++◌, length, take, drop, Option, Some, None, refl, sym, ◌∙◌, ap, subst, arith, append_assoc, length-append}
 use Rattle.std.proofs.Math.Nat.{pow-succ', div-div-eq-div-mul, div-one}
 use Rattle.std.proofs.Math.Seq.{take-append_seam, drop-append_seam}
 use Rattle.std.proofs.lemmas.Bool.{eqb-true, le-leb, leb-true, cond-true}
@@ -8,16 +8,16 @@ use Rattle.std.proofs.lemmas.List.{append-nil, take-append-drop, length-take-le}
 use Rattle.std.proofs.lemmas.List.Splits.{join_with_byte-slice_split}
 use Rattle.std.specs.Int.{byte_at, bytes_low_first}
 use Rattle.std.specs.List.{flat_map, join_with_byte, list_all}
-use Rattle.byteorder.specs.Endian.{little_from, little_number, little_bytes}
+use Rattle.byteorder.specs.Endian.{little_number, little_bytes}
 use Rattle.byteorder.specs.Numbers.{length-bytes_low_first, little_from-cons, little_from-lt, little_number-reads_back}
 use Rattle.rz_events.specs.declared.keys.Key.{Key}
 use Rattle.rz_events.specs.declared.files.Kind.{Kind}
 use Rattle.rz_events.specs.declared.files.Kind.TheVariants.{File, Dir, Link}
 use Rattle.rz_events.specs.declared.files.Published.{Published}
-use Rattle.rz_export_model.specs.Paths.{Path, after_slash, all_names, is_name, long_path_of, parts_of}
+use Rattle.rz_export_model.specs.Paths.{Path, after_slash, is_name, long_path_of, parts_of}
 use Rattle.rz_journal_text.specs.Spelling.{text_bytes, key_bytes, path_text, path_bytes, places_bytes, published_bytes, maybe_published_bytes, kind_number, IsShort, IsSpelled, IsWide, IsKey, ArePlaces, IsPublished}
 use Rattle.rz_journal_text.specs.Fronts.{Front, and_then, ◌>>=◌, done, given, nothing, first, byte, number, text, path, key, numbered_kind, kind, nodes, places, published, some_published, maybe_published}
-use Rattle.rz_journal_text.proofs.Steps.{Bytes, none_some, IsLawful, Step, step_again, last_again, step_found, joined, carried, given_is, either_way, either_value, front_small}
+use Rattle.rz_journal_text.proofs.Steps.{Bytes, none_some, IsLawful, step_again, last_again, step_found, joined, carried, given_is, either_way, either_value, front_small}
 
 -- ---- bytes and numbers
 
@@ -290,11 +290,11 @@ places_found bytes rest ns small is =
     let G : Type 0 = ArePlaces ns × (places_bytes ns ++ rest ≡ bytes) in
     either_way (nat_le a.x 16) (nodes [] a.x) nothing a.middle rest ns G
     (λ few read.
-      let b = nodes_found a.x [] a.middle rest ns a.small read in
-      let le = leb-true a.x 16 few in
-      let all : ArePlaces b.more × (places_bytes b.more ++ rest ≡ bytes) =
-      ((omega (arith, b.count), b.wide), ap (λ (n : ℕ). n ∷ (flat_map (little_bytes 2) b.more ++ rest)) b.count ∙ ap (λ (l : List ℕ). a.x ∷ l) b.spelled ∙ a.spelled) in
-      subst (λ (l : List ℕ). ArePlaces l × (places_bytes l ++ rest ≡ bytes)) (sym b.is) all)
+    let b = nodes_found a.x [] a.middle rest ns a.small read in
+    let le = leb-true a.x 16 few in
+    let all : ArePlaces b.more × (places_bytes b.more ++ rest ≡ bytes) =
+    ((omega (arith, b.count), b.wide), ap (λ (n : ℕ). n ∷ (flat_map (little_bytes 2) b.more ++ rest)) b.count ∙ ap (λ (l : List ℕ). a.x ∷ l) b.spelled ∙ a.spelled) in
+    subst (λ (l : List ℕ). ArePlaces l × (places_bytes l ++ rest ≡ bytes)) (sym b.is) all)
     (λ none. absurd (none_some (ns, rest) none))
     a.then
 
@@ -341,13 +341,13 @@ maybe_found bytes rest o small is =
     let G : Type 0 = IsPublished o × (maybe_published_bytes o ++ rest ≡ bytes) in
     either_way (a.x == 0) (done None) (cond (a.x == 1) some_published nothing) a.middle rest o G
     (λ at read.
-      carried (λ o l. IsPublished o × (maybe_published_bytes o ++ l ≡ bytes)) None o a.middle rest read
-      (tt, ap (λ (n : ℕ). n ∷ a.middle) (sym (eqb-true a.x 0 at)) ∙ a.spelled))
+    carried (λ o l. IsPublished o × (maybe_published_bytes o ++ l ≡ bytes)) None o a.middle rest read
+    (tt, ap (λ (n : ℕ). n ∷ a.middle) (sym (eqb-true a.x 0 at)) ∙ a.spelled))
     (either_way (a.x == 1) some_published nothing a.middle rest o G
     (λ at read.
-      let b = step_found published_bytes FitsPublished published published_law (λ p. done (Some p)) a.middle rest o a.small read in
-      carried (λ o l. IsPublished o × (maybe_published_bytes o ++ l ≡ bytes)) (Some b.x) o b.middle rest b.then
-      (b.fits, ap (λ (n : ℕ). n ∷ (published_bytes b.x ++ b.middle)) (sym (eqb-true a.x 1 at)) ∙ ap (λ (l : List ℕ). a.x ∷ l) b.spelled ∙ a.spelled))
+    let b = step_found published_bytes FitsPublished published published_law (λ p. done (Some p)) a.middle rest o a.small read in
+    carried (λ o l. IsPublished o × (maybe_published_bytes o ++ l ≡ bytes)) (Some b.x) o b.middle rest b.then
+    (b.fits, ap (λ (n : ℕ). n ∷ (published_bytes b.x ++ b.middle)) (sym (eqb-true a.x 1 at)) ∙ ap (λ (l : List ℕ). a.x ∷ l) b.spelled ∙ a.spelled))
     (λ none. absurd (none_some (o, rest) none)))
     a.then
 

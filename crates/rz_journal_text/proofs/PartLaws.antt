@@ -1,5 +1,5 @@
 -- Each part is spelled in one way.
-use Rattle.std.proofs.Common.{◌≡◌, ℕ, ◌+◌, ◌^◌, ◌<◌, ◌==◌, Bool, true, false, cond, List, [], ◌∷◌, ◌++◌, length, Option, Some, None, refl, sym, ◌∙◌, ap, subst}
+use Rattle.std.proofs.Common.{◌≡◌, ℕ, ◌==◌, true, List, ◌++◌, Option, Some, refl, sym, ◌∙◌, subst}
 use Rattle.std.proofs.lemmas.Bool.{eqb-true}
 use Rattle.byteorder.specs.Endian.{little_bytes}
 use Rattle.rz_events.specs.declared.keys.Key.{Key}
@@ -10,7 +10,7 @@ use Rattle.rz_tree.specs.declared.parts.Part.{Part}
 use Rattle.rz_tree.specs.declared.parts.Part.TheVariants.{Counters, Object, Name, Block, Enrolled}
 use Rattle.rz_journal_text.specs.Spelling.{text_bytes, key_bytes, path_bytes, places_bytes, maybe_published_bytes, part_kind, part_fields, PartMayStand, IsShort, IsSpelled, IsWide, IsKey, ArePlaces, IsPublished, IsPart}
 use Rattle.rz_journal_text.specs.Fronts.{Front, ◌>>=◌, done, nothing, number, text, path, key, kind, places, maybe_published, counters, object, name, block, enrolled, part_of_kind}
-use Rattle.rz_journal_text.proofs.Steps.{Bytes, none_some, IsLawful, Step, step_again, last_again, step_found, joined, carried, either_way}
+use Rattle.rz_journal_text.proofs.Steps.{Bytes, none_some, step_again, last_again, step_found, joined, carried, either_way}
 use Rattle.rz_journal_text.proofs.FieldLaws.{number_law, text_law, path_law, key_law, kind_byte, kind_law, places_law, maybe_law}
 
 abbrev pub PartFits : Part → Type 0

@@ -3,7 +3,7 @@ use Rattle.std.proofs.Common.{◌≡◌, ℕ, zero, suc, ◌+◌, ◌<◌, Bool,
 use Rattle.std.proofs.lemmas.List.{get_or-append-add, get_or-drop}
 use Rattle.rz_journal_text.specs.declared.fault.EntryFault.{EntryFault}
 use Rattle.rz_journal_text.specs.declared.fault.EntryFault.TheVariants.{NoMemory, BadEntry}
-use Rattle.rz_journal_text.specs.Fronts.{Front, and_then, ◌>>=◌, done, given, Gives}
+use Rattle.rz_journal_text.specs.Fronts.{Front, and_then, ◌>>=◌, given, Gives}
 
 -- nothing but bytes
 abbrev pub Bytes : List ℕ → Type 0

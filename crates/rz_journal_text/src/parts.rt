@@ -40,9 +40,7 @@ pub fn write_part(alloc: Global, part: &Part, out: &mut Vec<u8>) -> Result<(), A
             cid,
             places,
             target,
-        } => write_object(
-            *fid, *kind, *mode, *mtime, *size, *cid, places, target, out,
-        ),
+        } => write_object(*fid, *kind, *mode, *mtime, *size, *cid, places, target, out),
         Part::Name { path, fid } => write_name(alloc, path, *fid, out),
         Part::Block {
             key,
@@ -122,12 +120,7 @@ fn write_content(
     write_text(target, out)
 }
 
-fn write_name(
-    alloc: Global,
-    path: &Path,
-    fid: u128,
-    out: &mut Vec<u8>,
-) -> Result<(), AllocError>
+fn write_name(alloc: Global, path: &Path, fid: u128, out: &mut Vec<u8>) -> Result<(), AllocError>
     requires { IsSpelled path.now }
     ensures { OnOk result (out.new.items ≡ out.old.items ++ (path_bytes path.now ++ little_bytes 16 fid)) }
 {
@@ -180,10 +173,7 @@ fn write_places(places: &Places, out: &mut Vec<u8>) -> Result<(), AllocError>
 }
 
 // Adds what is published of a block, or that nothing is.
-fn write_maybe_published(
-    published: &Option<Published>,
-    out: &mut Vec<u8>,
-) -> Result<(), AllocError>
+fn write_maybe_published(published: &Option<Published>, out: &mut Vec<u8>) -> Result<(), AllocError>
     ensures { OnOk result (out.new.items ≡ out.old.items ++ maybe_published_bytes published.now) }
 {
     match published {

@@ -1,5 +1,5 @@
 -- The nodes are read one by one.
-use Rattle.std.proofs.Common.{◌≡◌, ℕ, ◌+◌, ◌-◌, ◌≤◌, List, [], ◌∷◌, ◌++◌, length, None, sym, ◌∙◌, ap, arith, rules, length-append}
+use Rattle.std.proofs.Common.{◌≡◌, ℕ, ◌+◌, ◌-◌, List, [], ◌∷◌, ◌++◌, length, None, sym, ◌∙◌, ap, arith, rules, length-append}
 use Rattle.rz_journal_text.specs.Fronts.{number, nodes, places}
 use Rattle.rz_journal_text.proofs.Steps.{Fails, gives_on}
 use Rattle.rz_journal_text.proofs.FieldLaws.{nodes_none, nodes_read, nodes_stop, places_are}
@@ -15,8 +15,8 @@ pub returns-in_err-u16 : goal.returns-in_err-u16
 returns-in_err-u16 c =
     let stop : number 2 c.loop.front ≡ None → places c.args.front.now ≡ None =
     λ none. places_are c.args.front.now c.byte.new.self c.in_ok-count.count c.in_ok-count.ensures (omega arith)
-      ∙ sym c.loop.invariant.so_far
-      ∙ nodes_stop c.loop.places (c.in_ok-count.count - c.loop.counter) c.loop.front (omega arith) none in
+    ∙ sym c.loop.invariant.so_far
+    ∙ nodes_stop c.loop.places (c.in_ok-count.count - c.loop.counter) c.loop.front (omega arith) none in
     let fails : Fails c.from_residual-in_err-u16.result (number 2 c.loop.front) = first_of (search rules, grind arith) in
     gives_on c.from_residual-in_err-u16.result c.u16.new.self (number 2 c.loop.front) (places c.args.front.now) fails stop
 

@@ -1,5 +1,5 @@
 -- What stands at the front with nothing behind it is all.
-use Rattle.std.proofs.Common.{ℕ, ◌<◌, List, IfOk, get_or, sym, subst, arith}
+use Rattle.std.proofs.Common.{ℕ, List, IfOk, sym, subst, arith}
 use Rattle.rz_journal_text.specs.Spelling.{Spells}
 use Rattle.rz_journal_text.proofs.Steps.{Bytes}
 use Rattle.rz_journal_text.proofs.EntryLaws.{found_so, exact_so}
