@@ -1,13 +1,13 @@
 -- The two changes of a disk: each image holds the entries from before, or the new ones.
-use Rattle.std.proofs.Common.{◌≡◌, ◌⊎◌, inl, inr, ⊎_elim, ℕ, ◌+◌, ◌-◌, ◌*◌, ◌%◌, ◌^◌, ◌<◌, ◌≤◌, Bool, IsTrue, List, [], ◌∷◌, ◌++◌, length, take, drop, get_or, refl, sym, ◌∙◌, ap, subst, arith, length-append, length-drop}
+use Rattle.std.proofs.Common.{◌≡◌, ◌⊎◌, inl, inr, ⊎_elim, ℕ, ◌+◌, ◌-◌, ◌%◌, ◌<◌, ◌≤◌, Bool, IsTrue, List, [], ◌∷◌, ◌++◌, length, take, drop, get_or, refl, sym, ◌∙◌, ap, subst, arith, length-append, length-drop}
 use Rattle.std.proofs.lemmas.Bool.{cases_lt}
 use Rattle.std.proofs.lemmas.List.{take_all}
 use Rattle.byteorder.specs.Endian.{little_bytes}
 use Rattle.byteorder.specs.Numbers.{length-bytes_low_first}
 use Rattle.rz_disk.specs.Images.{window, Torn, Written}
 use Rattle.rz_disk.proofs.Images.{apart, apart_byte, same_window, window-byte}
-use Rattle.rz_journal_disk.specs.Row.{Entries, taken, framed, row_bytes, IsEntryAt, Row, EndsAt}
-use Rattle.rz_journal_disk.specs.Stands.{disk_bytes, half_at, header_bytes, IsJournal, Holds, StandsFor, IsOpen, with_last}
+use Rattle.rz_journal_disk.specs.Row.{Entries, taken, row_bytes, EndsAt}
+use Rattle.rz_journal_disk.specs.Stands.{disk_bytes, half_at, IsJournal, Holds, StandsFor, IsOpen, with_last}
 use Rattle.rz_journal_disk.proofs.Rows.{SameIn, row_kept, row_more, taken_more, window_split, entry_there, row_written, one_row, length-row_bytes}
 
 pub size_is : disk_bytes ≡ 16_777_216

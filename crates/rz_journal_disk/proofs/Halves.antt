@@ -1,11 +1,11 @@
 -- What the bytes of a half hold, the disk holds there.
-use Rattle.std.proofs.Common.{◌≡◌, ℕ, ◌+◌, ◌%◌, ◌<◌, ◌≤◌, List, [], ◌∷◌, length, drop, get_or, refl, sym, ◌∙◌, ap, subst, arith}
+use Rattle.std.proofs.Common.{◌≡◌, ℕ, ◌+◌, ◌%◌, ◌<◌, ◌≤◌, List, [], ◌∷◌, length, drop, get_or, sym, ◌∙◌, ap, subst, arith}
 use Rattle.std.proofs.lemmas.List.{ext_get_or}
 use Rattle.byteorder.specs.Endian.{little_number}
 use Rattle.rz_disk.specs.Images.{window}
 use Rattle.rz_disk.proofs.Images.{window-byte, window-length}
 use Rattle.rz_journal_disk.specs.Row.{Entries, taken, IsEntryAt, Row, EndsAt}
-use Rattle.rz_journal_disk.proofs.Rows.{number_in, row_more, taken_more}
+use Rattle.rz_journal_disk.proofs.Rows.{number_in}
 
 -- an entry that stands at its place
 pub entry_at_place : (half : List ℕ) (at count : ℕ) → get_or half at 0 % 2 ≡ 1 → little_number 4 (drop (at + 1) half) ≡ count → at + (5 + count) < length half → IsEntryAt at (window (at + 5) count half) half
@@ -24,11 +24,11 @@ module _ (from n : ℕ) (half text : List ℕ) (is : half ≡ window from n text
   window_moved at m le = ext_get_or 0 (window at m half) (window (from + at) m text)
       (window-length at m half (omega (arith, half-length)) ∙ sym (window-length (from + at) m text (omega arith)))
       (λ i lt.
-        let near : i < m = omega (arith, window-length at m half (omega (arith, half-length))) in
-        window-byte at m half i near
-        ∙ byte_moved (at + i) (omega arith)
-        ∙ ap (λ (k : ℕ). get_or text k 0) (omega arith)
-        ∙ sym (window-byte (from + at) m text i near))
+      let near : i < m = omega (arith, window-length at m half (omega (arith, half-length))) in
+      window-byte at m half i near
+      ∙ byte_moved (at + i) (omega arith)
+      ∙ ap (λ (k : ℕ). get_or text k 0) (omega arith)
+      ∙ sym (window-byte (from + at) m text i near))
 
   entry_moved : (at : ℕ) (e : List ℕ) → at + (5 + length e) ≤ n → IsEntryAt at e half → IsEntryAt (from + at) e text
   entry_moved at e le there =

@@ -1,6 +1,6 @@
 -- Entries in a text: which bytes they are, and what leaves them as they are.
-use Rattle.std.proofs.Common.{◌≡◌, ℕ, zero, suc, ◌+◌, ◌%◌, ◌^◌, ◌<◌, ◌≤◌, List, [], ◌∷◌, ◌++◌, length, take, drop, get_or, refl, sym, ◌∙◌, ap, subst, arith, length-append}
-use Rattle.std.proofs.lemmas.List.{append-nil, append_assoc, drop-drop, drop-take, drop_at, take-take, take_at}
+use Rattle.std.proofs.Common.{◌≡◌, ℕ, ◌+◌, ◌%◌, ◌^◌, ◌<◌, ◌≤◌, List, [], ◌∷◌, ◌++◌, length, take, drop, get_or, refl, sym, ◌∙◌, ap, subst, arith, length-append}
+use Rattle.std.proofs.lemmas.List.{append-nil, drop-drop, drop-take, drop_at, take-take, take_at}
 use Rattle.byteorder.specs.Endian.{little_number, little_bytes}
 use Rattle.byteorder.specs.Numbers.{length-bytes_low_first, little_from-take, little_number-reads_back}
 use Rattle.rz_disk.specs.Images.{window}

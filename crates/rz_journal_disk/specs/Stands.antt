@@ -1,7 +1,7 @@
 -- What the text of a journal's disk stands for.
 use Rattle.std.specs.Prelude.{◌≡◌, ◌⊎◌, ℕ, ◌+◌, ◌*◌, ◌%◌, ◌<◌, Bool, IsTrue, List, [], ◌∷◌, ◌++◌, length, replicate, slice_index, codes}
 use Rattle.rz_disk.specs.Images.{window, Only}
-use Rattle.rz_journal_disk.specs.Row.{Entries, taken, row_bytes, EndsAt}
+use Rattle.rz_journal_disk.specs.Row.{Entries, taken, EndsAt}
 
 -- the size of the disk, which no proof is to count up to
 unfoldable pub disk_bytes : ℕ

@@ -6,7 +6,8 @@ use std::test::Fail;
 
 // The front of a disk with the one entry `ab`: the header, whose gate is open and picks the first half,
 // and then the entry behind its gate and its length, with a shut gate behind it.
-const FRONT: &[u8] = b"MJROZJ01\0\0\0\0\0\0\0\0\0\0\0\0\0\0\0\0\0\0\0\0\0\0\0\0\x01\0\0\0\0\0\0\0\0\0\0\0\0\0\0\0\0\0\0\0\0\0\0\0\0\0\0\0\0\0\0\0\x01\x02\0\0\0ab\0";
+const FRONT: &[u8] =
+    b"MJROZJ01\0\0\0\0\0\0\0\0\0\0\0\0\0\0\0\0\0\0\0\0\0\0\0\0\x01\0\0\0\0\0\0\0\0\0\0\0\0\0\0\0\0\0\0\0\0\0\0\0\0\0\0\0\0\0\0\0\x01\x02\0\0\0ab\0";
 
 #[test]
 fn one_entry_on_a_new_disk(rt: HostRuntime) -> Result<(), Fail> {

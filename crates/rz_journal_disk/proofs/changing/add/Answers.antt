@@ -1,5 +1,5 @@
 -- Each exit is one case of the argument of `Changes`.
-use Rattle.std.proofs.Common.{rules, IsErr, ◌≡◌, ◌+◌, ℕ, inl, Ok, is_ok, List, [], ◌∷◌, length, drop, ap, subst, arith, length-drop}
+use Rattle.std.proofs.Common.{rules, IsErr, ◌+◌, ℕ, inl, Ok, is_ok, List, [], ◌∷◌, length, drop, ap, subst, arith, length-drop}
 use Rattle.rz_disk.specs.Images.{Torn, Written}
 use Rattle.rz_disk.proofs.Passes.{took_then, took_failed}
 use Rattle.rz_journal_disk.proofs.Changes.{rest_all, add_staged, add_flipped, add_done}

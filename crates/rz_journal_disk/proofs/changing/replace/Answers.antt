@@ -1,5 +1,5 @@
 -- Each exit is one case of the argument of `Changes`.
-use Rattle.std.proofs.Common.{rules, IsErr, ◌≡◌, ◌+◌, ◌-◌, ℕ, inl, Ok, is_ok, List, length, ap, subst, arith}
+use Rattle.std.proofs.Common.{rules, IsErr, ℕ, inl, Ok, is_ok, length, ap, subst, arith}
 use Rattle.rz_disk.specs.Images.{Torn, Written}
 use Rattle.rz_disk.proofs.Passes.{took_then, took_failed}
 use Rattle.rz_journal_disk.proofs.Changes.{size_is, replace_staged, replace_flipped, replace_done}

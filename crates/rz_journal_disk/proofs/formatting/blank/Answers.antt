@@ -1,5 +1,5 @@
 -- A reset that failed leaves an old image or zeros.
-use Rattle.std.proofs.Common.{◌≡◌, ◌⊎◌, inl, inr, ⊎_elim, ℕ, List, replicate}
+use Rattle.std.proofs.Common.{◌≡◌, inl, inr, ⊎_elim, replicate}
 use Rattle.rz_journal_disk.proofs.Fresh.{zeros_shut}
 use Rattle.rz_journal_disk.proofs.formatting.blank.Goals as goal
 

@@ -1,5 +1,5 @@
 -- The header, and then its gate.
-use Rattle.std.proofs.Common.{◌≡◌, ℕ, List, length, replicate, inl, ap, subst, arith, sym, ◌∙◌}
+use Rattle.std.proofs.Common.{ℕ, List, length, inl, ap, subst, arith}
 use Rattle.std.proofs.lemmas.List.{length-replicate}
 use Rattle.rz_disk.specs.Images.{Torn, Written}
 use Rattle.rz_journal_disk.specs.Stands.{disk_bytes}

@@ -1,7 +1,6 @@
 -- The entries are those whose bytes are counted, and the new one stands behind them.
-use Rattle.std.proofs.Common.{◌≡◌, ◌⊎◌, ℕ, ◌+◌, ◌<◌, IsTrue, List, length, sym, ◌∙◌, ap, arith}
-use Rattle.rz_journal_disk.specs.Row.{Entries, taken, row_bytes}
-use Rattle.rz_journal_disk.specs.Stands.{half_at, Holds, StandsFor, with_last}
+use Rattle.std.proofs.Common.{◌∙◌, arith}
+use Rattle.rz_journal_disk.specs.Stands.{with_last}
 use Rattle.rz_journal_disk.proofs.Rows.{taken_more}
 use Rattle.rz_journal_disk.proofs.Changes.{size_is, known_list, either_half, length-one}
 use Rattle.rz_journal_disk.proofs.entries.Entries.append.Goals as goal
@@ -41,8 +40,7 @@ returns-clause-open g c entry spelled =
       small = c.requires.open.small;
       room = omega (arith, c.requires.room, c.requires.some);
       holds = λ told.
-          let mine = c.requires.open.holds told in
-          (
+          let mine = c.requires.open.holds told in (
             with_last entry mine.0,
             c.in_ok-add.ensures.done told self.half mine.0 entry spelled (omega (arith, c.half_at-start.ensures, mine.2)) (omega (arith, c.requires.room, mine.2, length-one c.args.row.now entry spelled)) mine.1,
             omega (arith, taken_more mine.0 entry, mine.2, length-one c.args.row.now entry spelled),

@@ -1,7 +1,5 @@
 -- The new entries stand in the other half.
-use Rattle.std.proofs.Common.{◌≡◌, ◌⊎◌, ℕ, ◌+◌, ◌-◌, ◌<◌, IsTrue, List, length, sym, ◌∙◌, ap, arith}
-use Rattle.rz_journal_disk.specs.Row.{Entries, taken, row_bytes}
-use Rattle.rz_journal_disk.specs.Stands.{Holds, StandsFor, instead}
+use Rattle.std.proofs.Common.{◌-◌, length, ◌∙◌, ap, arith}
 use Rattle.rz_journal_disk.proofs.Rows.{length-row_bytes}
 use Rattle.rz_journal_disk.proofs.Changes.{known_list, either_half}
 use Rattle.rz_journal_disk.proofs.entries.Entries.compact.Goals as goal
@@ -33,8 +31,7 @@ returns-clause-open g c new spelled = record {
   small = omega arith;
   room = omega (arith, c.requires.room, c.requires.some);
   holds = λ told.
-      let mine = c.requires.open.holds told in
-      (
+      let mine = c.requires.open.holds told in (
         new,
         c.in_ok-replace.ensures.done told mine.0 new spelled (omega (arith, c.requires.room, ap length spelled, length-row_bytes new)) mine.1,
         omega (arith, ap length spelled, length-row_bytes new),
