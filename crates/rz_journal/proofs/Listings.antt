@@ -1,19 +1,19 @@
 -- Entries that are read one by one.
-use Rattle.std.proofs.Common.{◌≡◌, ◌⊎◌, inl, inr, ℕ, ◌+◌, ◌-◌, ◌%◌, ◌<◌, ◌≤◌, List, [], ◌∷◌, ◌++◌, length, take, drop, get_or, Result, Ok, Err, IfOk, refl, sym, ◌∙◌, ap, subst, arith}
+use Rattle.std.proofs.Common.{◌≡◌, inr, ℕ, ◌+◌, ◌-◌, ◌%◌, ◌<◌, List, [], ◌∷◌, ◌++◌, length, take, drop, get_or, true, false, Result, Ok, Err, IfOk, refl, sym, ◌∙◌, ap, subst, arith}
 use Rattle.byteorder.specs.Endian.{little_number}
 use Rattle.rz_disk.specs.Images.{window}
 use Rattle.rz_journal_text.specs.declared.entry.Entry.{Entry as Said}
 use Rattle.rz_journal_text.specs.declared.fault.EntryFault.{EntryFault}
-use Rattle.rz_journal_text.specs.declared.fault.EntryFault.TheVariants.{NoMemory, BadEntry}
+use Rattle.rz_journal_text.specs.declared.fault.EntryFault.TheVariants.{BadEntry}
 use Rattle.rz_journal_text.specs.Spelling.{Spells}
 use Rattle.rz_journal_text.specs.Fronts.{IsThis}
-use Rattle.rz_journal_disk.specs.Row.{Entries, taken, IsEntryAt, Row}
+use Rattle.rz_journal_disk.specs.Row.{Entries, taken, IsEntryAt}
 use Rattle.rz_journal_disk.proofs.Rows.{row_more, taken_more}
 use Rattle.rz_journal_disk.proofs.Halves.{entry_at_place}
 use Rattle.rz_journal.specs.declared.reading.Step.{Step}
 use Rattle.rz_journal.specs.declared.reading.Step.TheVariants.{End, Entry, Damaged}
 use Rattle.rz_journal.specs.JournalText.{AreSpelled}
-use Rattle.rz_journal.specs.Listed.{length_at, IsDamaged, IsStep, SoFar}
+use Rattle.rz_journal.specs.Listed.{length_at, IsStep, SoFar, IsListing}
 
 -- the range that is read is that of the entry
 pub range_is : (half : List ℕ) (from count : ℕ) → take (from + count - from) (drop from half) ≡ window from count half
@@ -48,10 +48,33 @@ none_so_far half = ([], tt, tt, refl)
 -- one entry more
 pub one_more : (half : List ℕ) (entries : List Said) (at : ℕ) (e : Said) (next : ℕ) → SoFar half entries at → IsStep half at (Entry e next) → SoFar half (entries ++ e ∷ []) next
 one_more half entries at e next so_far step =
-    let place : at ≡ 0 + taken so_far.0 = omega (arith, so_far.3) in
-    (
+    let place : at ≡ 0 + taken so_far.0 = omega (arith, so_far.3) in (
       so_far.0 ++ step.0 ∷ [],
       row_more so_far.0 0 step.0 half so_far.1 (subst (λ (k : ℕ). IsEntryAt k step.0 half) place step.1),
       spelled_more so_far.0 entries step.0 e so_far.2 step.2,
       omega (arith, taken_more so_far.0 step.0, so_far.3, step.3),
     )
+
+-- where the entries end, and where one is damaged
+pub listing_ends : (half : List ℕ) (entries : List Said) (at : ℕ) (step : Step) → step ≡ End → SoFar half entries at → IsStep half at step → IsListing half entries at true
+listing_ends half entries at step is so_far stands = record {
+  so_far = so_far;
+  ends = λ yes. subst (IsStep half at) is stands;
+  breaks = λ no. absurd (let wrong : true ≡ false = no in cc);
+}
+
+pub listing_breaks : (half : List ℕ) (entries : List Said) (at : ℕ) (step : Step) → step ≡ Damaged → SoFar half entries at → IsStep half at step → IsListing half entries at false
+listing_breaks half entries at step is so_far stands = record {
+  so_far = so_far;
+  ends = λ no. absurd (let wrong : false ≡ true = no in cc);
+  breaks = λ yes. subst (IsStep half at) is stands;
+}
+
+pub listing_more : (half : List ℕ) (entries items : List Said) (at : ℕ) (step : Step) (e : Said) (next : ℕ) → step ≡ Entry e next → SoFar half entries at → IsStep half at step → items ≡ entries ++ e ∷ [] → SoFar half items next
+listing_more half entries items at step e next is so_far stands same =
+    subst (λ (es : List Said). SoFar half es next) (sym same) (one_more half entries at e next so_far (subst (IsStep half at) is stands))
+
+pub next_is : (half : List ℕ) (at : ℕ) (step : Step) (e : Said) (next : ℕ) → step ≡ Entry e next → IsStep half at step → (at < next) × (next < length half)
+next_is half at step e next is stands =
+    let there : IsStep half at (Entry e next) = subst (IsStep half at) is stands in
+    (omega (arith, there.3), there.4)

@@ -1,5 +1,5 @@
 -- What the text of a journal's disk stands for: a list of accepted calls.
-use Rattle.std.specs.Prelude.{◌≡◌, ℕ, Bool, true, List, [], ◌∷◌, ◌++◌, map, Option, Some, None, IsSome}
+use Rattle.std.specs.Prelude.{◌≡◌, ℕ, true, List, [], ◌∷◌, ◌++◌, map, Some, IsSome}
 use Rattle.rz_events.specs.Volume.{Volume}
 use Rattle.rz_events.specs.declared.export.Call.{Call}
 use Rattle.rz_export_model.specs.Export.{Export, new_export, is_proper, export_reply, export_after}

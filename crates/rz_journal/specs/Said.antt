@@ -1,5 +1,5 @@
 -- Which calls a journal keeps, and what its entries say of them.
-use Rattle.std.specs.Prelude.{◌≡◌, ℕ, ◌<◌, ◌^◌, Bool, true, false, cond, List, [], length, replicate, Option, Some, None}
+use Rattle.std.specs.Prelude.{◌<◌, ◌^◌, Bool, true, false, cond, length, replicate, Option, Some, None}
 use Rattle.rz_events.specs.declared.tree.TreeCall.{TreeCall}
 use Rattle.rz_events.specs.declared.tree.TreeCall.TheVariants.{Lookup, Getattr, Rmdir, Mkdir, Create, Unlink, Readlink, Readdir, OpenFile, Setattr, Rename, Link, Symlink}
 use Rattle.rz_events.specs.declared.tree.TreeReply.TheVariants as told

@@ -38,7 +38,8 @@ pub fn read_entries(alloc: Global, half: &[u8]) -> Result<Listing, AllocError>
     let mut entries = Vec::new(alloc);
     let mut at = 0;
     loop {
-        match next_entry(alloc, half, at)? {
+        let step = next_entry(alloc, half, at)?;
+        match step {
             Step::End => {
                 return Ok(Listing {
                     entries,

@@ -1,7 +1,6 @@
 -- The bytes of the entry are those that are read.
-use Rattle.std.proofs.Common.{◌≡◌, ℕ, ◌+◌, List, Err, sym, subst, arith}
+use Rattle.std.proofs.Common.{ℕ, ◌+◌, List, sym, subst, arith}
 use Rattle.rz_journal_text.specs.Spelling.{Spells}
-use Rattle.rz_journal_text.specs.Fronts.{IsThis}
 use Rattle.rz_journal.proofs.Listings.{range_is, read_there, none_there}
 use Rattle.rz_journal.proofs.reading.entry_there.Goals as goal
 
