@@ -1,8 +1,9 @@
 //! What an entry of a journal says.
 
 use rz_events::{Key, TreeCall};
+use rz_tree::Part;
 
-/// A call that changed the export.
+/// A call that changed the export, or a part of the export from which the calls go on.
 #[derive(Debug, Drop)]
 pub enum Entry {
     Tree(TreeCall),
@@ -21,4 +22,6 @@ pub enum Entry {
         node: u16,
         loss: u64,
     },
+    /// The export has this part.
+    Built(Part),
 }

@@ -45,8 +45,8 @@ pub fn write_u64(number: u64, out: &mut Vec<u8>) -> Result<(), AllocError>
     out.extend_from_slice(number.to_le_bytes().as_slice())
 }
 
-// Adds a number of 16 bytes.
-fn write_u128(number: u128, out: &mut Vec<u8>) -> Result<(), AllocError>
+/// Adds a number of 16 bytes.
+pub fn write_u128(number: u128, out: &mut Vec<u8>) -> Result<(), AllocError>
     ensures { OnOk result (out.new.items ≡ out.old.items ++ little_bytes 16 number) }
 {
     out.extend_from_slice(number.to_le_bytes().as_slice())

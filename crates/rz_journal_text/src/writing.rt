@@ -1,4 +1,4 @@
-//! Entries.
+//! Entries, written.
 
 ghost use Rattle.std.specs.Prelude.{◌≡◌, ◌++◌, OnOk};
 ghost use Rattle.byteorder.specs.Endian.{little_bytes};
@@ -7,16 +7,17 @@ ghost use Rattle.rz_journal_text.specs.Spelling.{key_bytes, kind_of, entry_field
 use crate::Entry;
 use crate::calls::write_call;
 use crate::numbers::{write_key, write_u16, write_u32, write_u64};
+use crate::parts::{part_kind, write_part};
 use rz_events::Key;
-use std::alloc::AllocError;
+use std::alloc::{AllocError, Global};
 
 /// Adds the bytes of an entry at the end. After want of memory, a part of them may stand there.
-pub fn write(entry: &Entry, out: &mut Vec<u8>) -> Result<(), AllocError>
+pub fn write(alloc: Global, entry: &Entry, out: &mut Vec<u8>) -> Result<(), AllocError>
     requires { MayStand entry.now }
     ensures { OnOk result (out.new.items ≡ out.old.items ++ entry_bytes entry.now) }
 {
     out.push(kind_of(entry))?;
-    write_fields(entry, out)
+    write_fields(alloc, entry, out)
 }
 
 // The kind of an entry.
@@ -28,11 +29,12 @@ fn kind_of(entry: &Entry) -> u8
         Entry::Begin { .. } => 2,
         Entry::Publish { .. } => 3,
         Entry::Enroll { .. } => 4,
+        Entry::Built(part) => part_kind(part),
     }
 }
 
 // Adds the fields of an entry.
-fn write_fields(entry: &Entry, out: &mut Vec<u8>) -> Result<(), AllocError>
+fn write_fields(alloc: Global, entry: &Entry, out: &mut Vec<u8>) -> Result<(), AllocError>
     requires { MayStand entry.now }
     ensures { OnOk result (out.new.items ≡ out.old.items ++ entry_fields entry.now) }
 {
@@ -46,6 +48,7 @@ fn write_fields(entry: &Entry, out: &mut Vec<u8>) -> Result<(), AllocError>
             bytes,
         } => write_publish(*key, *stamp, *mask, *bytes, out),
         Entry::Enroll { node, loss } => write_enroll(*node, *loss, out),
+        Entry::Built(part) => write_part(alloc, part, out),
     }
 }
 

@@ -1,0 +1,61 @@
+-- What the text of a journal's disk stands for: a list of accepted calls.
+use Rattle.std.specs.Prelude.{◌≡◌, ℕ, true, List, [], ◌∷◌, ◌++◌, map, Some, IsSome}
+use Rattle.rz_events.specs.Volume.{Volume}
+use Rattle.rz_events.specs.declared.export.Call.{Call}
+use Rattle.rz_export_model.specs.Export.{Export, new_export, is_proper, export_reply, export_after}
+use Rattle.rz_tree.specs.declared.parts.Part.{Part}
+use Rattle.rz_journal_text.specs.declared.entry.Entry.{Entry}
+use Rattle.rz_journal_text.specs.declared.entry.Entry.TheVariants.{Built}
+use Rattle.rz_journal_text.specs.Spelling.{Spells}
+use Rattle.rz_journal_disk.specs.Row.{Entries}
+use Rattle.rz_journal_disk.specs.Stands.{StandsFor}
+use Rattle.rz_journal.specs.Said.{entry_of, call_said, accepts}
+
+-- a call that has an entry, that the export may be asked, and that it accepts
+pub record IsAccepted (s : Export) (c : Call) : Type 0 where
+  pub kept : IsSome (entry_of c)
+  pub proper : is_proper s c ≡ true
+  pub accepted : accepts (export_reply s c) ≡ true
+
+-- each call is accepted after those before it
+abbrev pub AreAccepted : Export → List Call → Type 0
+AreAccepted s [] = Unit {0}
+AreAccepted s (c ∷ calls) = IsAccepted s c × AreAccepted (export_after s c) calls
+
+-- the export after calls
+abbrev pub after_all : Export → List Call → Export
+after_all s [] = s
+after_all s (c ∷ calls) = after_all (export_after s c) calls
+
+-- the export from which the calls go on: that of these parts, or that of a new store where there are none
+abbrev pub BeginsWith : (Export → List Part) → Volume → List Part → Export → Type 0
+BeginsWith parts_of volume [] s = s ≡ new_export volume 0
+BeginsWith parts_of volume (part ∷ parts) s = (s.volume ≡ volume) × (parts_of s ≡ part ∷ parts)
+
+-- The entries are parts, and then calls that are accepted, and make this export.
+pub record Makes (parts_of : Export → List Part) (volume : Volume) (entries : List Entry) (s : Export) : Type 0 where
+  pub parts : List Part
+  pub first : Export
+  pub begins : BeginsWith parts_of volume parts first
+  pub later : List Entry
+  pub calls : List Call
+  pub are : entries ≡ map Built parts ++ later
+  pub said : map call_said later ≡ map Some calls
+  pub accepted : AreAccepted first calls
+  pub made : s ≡ after_all first calls
+
+-- these are the bytes of these entries
+abbrev pub AreSpelled : Entries → List Entry → Type 0
+AreSpelled [] [] = Unit {0}
+AreSpelled [] (entry ∷ entries) = ⊥
+AreSpelled (bytes ∷ others) [] = ⊥
+AreSpelled (bytes ∷ others) (entry ∷ entries) = Spells bytes entry × AreSpelled others entries
+
+-- The text stands for calls that a new store accepted: its entries make the export after them.
+pub record IsTextOf (parts_of : Export → List Part) (volume : Volume) (text : List ℕ) (calls : List Call) : Type 0 where
+  pub bytes : Entries
+  pub entries : List Entry
+  pub stands : StandsFor text bytes
+  pub spelled : AreSpelled bytes entries
+  pub accepted : AreAccepted (new_export volume 0) calls
+  pub makes : Makes parts_of volume entries (after_all (new_export volume 0) calls)

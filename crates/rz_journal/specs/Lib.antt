@@ -1,0 +1,3 @@
+pub mod JournalText
+pub mod Listed
+pub mod Said

@@ -1,0 +1,100 @@
+//! The entries of a half, read.
+
+ghost use Rattle.std.specs.Prelude.{◌≡◌, ◌+◌, ◌%◌, ◌<◌, ◌≤◌, length, drop, slice_index, IfOk};
+ghost use Rattle.byteorder.specs.Endian.{little_number};
+ghost use Rattle.rz_journal.specs.Listed.{IsStep, IsListing};
+
+use rz_journal_disk::{Place, place_at};
+use rz_journal_text::{Entry, EntryFault, read};
+use std::alloc::{AllocError, Global};
+
+/// What a half holds.
+#[derive(Debug, Drop)]
+pub struct Listing {
+    /// The entries before the end, or before the first that is damaged.
+    pub entries: Vec<Entry>,
+    /// How many bytes they take, with their gates and lengths.
+    pub used: usize,
+    /// Whether they end, and none is damaged.
+    pub whole: bool,
+}
+
+/// What stands at an address of a half.
+#[derive(Debug, Drop)]
+pub enum Step {
+    /// The entries before are all.
+    End,
+    /// An entry, and the address behind it.
+    Entry { entry: Entry, next: usize },
+    /// There is no room for an entry, or no entry has the bytes.
+    Damaged,
+}
+
+/// The entries of a half, up to their end or to the first that is damaged.
+pub fn read_entries(alloc: Global, half: &[u8]) -> Result<Listing, AllocError>
+    requires { 1 ≤ length half.now }
+    ensures { IfOk result (λ l. IsListing half.now l.entries.items l.used l.whole) }
+{
+    let mut entries = Vec::new(alloc);
+    let mut at = 0;
+    loop {
+        let step = next_entry(alloc, half, at)?;
+        match step {
+            Step::End => {
+                return Ok(Listing {
+                    entries,
+                    used: at,
+                    whole: true,
+                });
+            }
+            Step::Damaged => {
+                return Ok(Listing {
+                    entries,
+                    used: at,
+                    whole: false,
+                });
+            }
+            Step::Entry { entry, next } => {
+                entries.push(entry).map_err(AllocError::from)?;
+                at = next;
+            }
+        }
+    }
+}
+
+// What stands at an address of a half.
+fn next_entry(alloc: Global, half: &[u8], at: usize) -> Result<Step, AllocError>
+    requires { at < length half.now }
+    ensures { IfOk result (IsStep half.now at) }
+{
+    match place_at(half, at) {
+        Place::End => Ok(Step::End),
+        Place::NoRoom => Ok(Step::Damaged),
+        Place::Entry { count } => entry_there(alloc, half, at, count),
+    }
+}
+
+// The entry behind an open gate and its length.
+fn entry_there(alloc: Global, half: &[u8], at: usize, count: usize) -> Result<Step, AllocError>
+    requires gate { slice_index half.now at % 2 ≡ 1 }
+    requires count { little_number 4 (drop (at + 1) half.now) ≡ count }
+    requires room { at + (5 + count) < length half.now }
+    ensures { IfOk result (IsStep half.now at) }
+{
+    let from = at + 5;
+    let next = from + count;
+    match read(alloc, &half[from..next]) {
+        Ok(entry) => Ok(Step::Entry { entry, next }),
+        Err(fault) => damaged(fault),
+    }
+}
+
+// A damaged entry, unless memory is wanting.
+fn damaged(fault: EntryFault) -> Result<Step, AllocError>
+    ensures { IfOk result (λ step. (step ≡ Step.Damaged) × (fault ≡ EntryFault.BadEntry)) }
+{
+    match fault {
+        EntryFault::NoMemory => Err(AllocError),
+        EntryFault::BadEntry => Ok(Step::Damaged),
+    }
+}

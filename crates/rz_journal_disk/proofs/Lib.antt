@@ -1,0 +1,4 @@
+pub mod Changes
+pub mod Fresh
+pub mod Halves
+pub mod Rows

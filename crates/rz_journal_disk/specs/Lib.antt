@@ -1,0 +1,3 @@
+pub mod Row
+pub mod Stands
+pub mod Walk
