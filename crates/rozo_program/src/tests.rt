@@ -1,5 +1,5 @@
-//! One script of each kind with its output, faults of the source, the sink and a disk, and what stands on
-//! a disk, and in the files of a folder, after a play.
+//! One script of each kind with its output, faults of the source, the sink and a disk, what stands on a
+//! disk, and in the files of a folder, after a play, and an old disk that is carried over.
 
 use super::disks::{files, memory};
 use super::replay::replay;
@@ -190,6 +190,54 @@ fn a_record_stands_on_its_disk(rt: HostRuntime) -> Result<(), Fail> {
     Ok(())
 }
 
+const SMALL: &str =
+    "volume {\"layout\":0,\"bsize\":4096,\"clusters\":[{\"cid\":1,\"nodes\":[{\"sid\":1,\"cells\":1},{\"sid\":2,\"cells\":1},{\"sid\":3,\"cells\":1},{\"sid\":4,\"cells\":1}]}]}\n";
+
+/// An old disk of node 1 with one cell and fence 3, which holds a record of stamp 5; and a new one. At 32
+/// stands the gate of the header.
+fn old_and_new(alloc: Global, gate: u8) -> Result<Vec<PlainDisk>, Fail> {
+    let mut bytes = [0; 72];
+    bytes[..8].copy_from_slice(b"MJROZO01");
+    bytes[10] = 1;
+    bytes[12] = 1;
+    bytes[16] = 3;
+    bytes[32] = gate;
+    bytes[65] = 5;
+    let mut disks = memory(alloc, 2)?;
+    if let Some(old) = disks.get_mut(0) {
+        old.reset(alloc, 4273)?;
+        if old.size() == 4273 {
+            old.write_at(0, &bytes)?;
+            old.sync()?;
+        }
+    }
+    Ok(disks)
+}
+
+#[test]
+fn an_old_disk(rt: HostRuntime) -> Result<(), Fail> {
+    for (gate, sid, script, want) in [
+        (1, 1, "", "0 with 2 disks: migrated 3 1\n"),
+        (0, 1, "", "13 with 2 disks: refused old 3\n"),
+        (1, 5, "", "12 with 2 disks: refused node 5\n"),
+        (1, 0, "", "2 with 2 disks: refused usage\n"),
+        (
+            1,
+            1,
+            "rest",
+            "3 with 2 disks: refused script 2 UnknownLine\n",
+        ),
+    ] {
+        let mut disks = old_and_new(rt.alloc(), gate)?;
+        let line = format!(in rt.alloc(); "rozo migrate {sid} --disks 2")?;
+        let script = format!(in rt.alloc(); "{SMALL}{script}")?;
+        let link = MemLink::new(Vec::new(rt.alloc()));
+        let told = told(rt.alloc(), line.as_str(), script.as_str(), &mut disks, link)?;
+        assert_eq!(rt; told.as_str(), want);
+    }
+    Ok(())
+}
+
 const FOLDER: &str = "rozo_program_test";
 
 /// All that a read of a disk gives.
@@ -206,7 +254,7 @@ fn files_have_the_bytes_of_disks_in_memory(rt: HostRuntime) -> Result<(), Fail> 
     let _ = fs::create_dir(&rt, FOLDER);
     for script in [ORDINARY, LOST, STOPPED, LOCKED] {
         let mut kept: Vec<PlainDisk> = memory(alloc, 4)?;
-        let mut filed = files(&rt, alloc, FOLDER, 4)?;
+        let mut filed = files(&rt, alloc, FOLDER, 0, 4)?;
         let in_memory = told(
             alloc,
             LINE,

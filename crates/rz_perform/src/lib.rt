@@ -19,6 +19,7 @@ mod performing;
 mod telling;
 
 pub use laws::completes;
+pub use output::finish;
 pub use performing::perform;
 pub use rz_lines::LoggedStage;
 pub use telling::{refuse, stop, tell};
