@@ -1,6 +1,6 @@
 //! The play of a script and what is told of it.
 
-ghost use Rattle.std.specs.Prelude.{◌≡◌, ◌-◌, IsTrue, List};
+ghost use Rattle.std.specs.Prelude.{◌≡◌, ◌-◌, ℕ, IsTrue, List};
 ghost use Rattle.rz_events.specs.Volume.{IsVolume};
 ghost use Rattle.rz_events.specs.declared.events.Event.{Event};
 ghost use Rattle.rz_play.specs.World.{new_world};
@@ -34,7 +34,8 @@ pub fn perform<S: LoggedStage + Store, L: Link, O: Sink>(
     requires volume { S.volume stage.old ≡ script.now.volume }
     requires rules { IsVolume script.now.volume }
     requires new { S.world stage.old ≡ new_world script.now.volume }
-    requires stage { IsScrubbable S.volume S.world S.is_ready S.holds S.described S.state S.is_open S.counts S.only_asked }
+    requires held { (first : ℕ → ℕ) × S.holds stage.old first }
+    requires stage { IsScrubbable S.tells S.volume S.world S.is_ready S.holds S.described S.state S.is_open S.gives S.counts S.only_asked }
     ensures volume { S.volume stage.new ≡ S.volume stage.old }
     ensures performed { (later : List Event) × Leaves S.world S.holds S.leaves S.counts S.only_asked stage.old stage.new later
         × Performs S.tells script.now.volume script.now.lines wish later (L.lost link.new - L.lost link.old) (S.world stage.new).log (record { before = O.taken output.old; after = O.taken output.new; old = O.faults output.old; new = O.faults output.new }) result }

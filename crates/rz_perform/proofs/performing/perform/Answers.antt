@@ -8,6 +8,9 @@ use Rattle.rz_perform.proofs.Begun.{ended_play, ended_over}
 use Rattle.rz_perform.proofs.Seeking.{performed_so, whole_play}
 use Rattle.rz_perform.proofs.performing.perform.Goals as goal
 
+pub find-requires-clause-held : goal.find-requires-clause-held
+find-requires-clause-held g c ended = (c.requires.held.0, c.play-end.ensures.held ended c.requires.held.0 c.requires.held.1)
+
 pub returns-in-Ok-clause-performed : goal.returns-in-Ok-clause-performed
 returns-in-Ok-clause-performed g c =
     let lost : ℕ = g.L.Link.lost c.play-end.new.link - g.L.Link.lost c.args.link.now in
