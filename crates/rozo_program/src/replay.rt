@@ -74,6 +74,7 @@ fn play_request<D: Disk, L: Link, O: Sink>(
     ensures { (course : Course) × Follows D.tells course request.now (faulted D.meter disks.old.items disks.new.items) (L.lost link.new - L.lost link.old) (record { before = O.taken output.old; after = O.taken output.new; old = O.faults output.old; new = O.faults output.new }) result.status (reverse result.log.items)
         × HandsBack D.tells D.meter D.image course (Ok request.now) disks.old.items disks.new.items (reverse result.log.items) }
 {
+    rz_scrub_laws::untouched::<D>();
     let volume = request.script.volume();
     let _nodes = volume.node_count();
     let lent = mem::replace(disks, Vec::new(alloc));

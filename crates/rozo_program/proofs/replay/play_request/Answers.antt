@@ -8,6 +8,10 @@ use Rattle.rz_script.specs.declared.line.Line.{Line}
 use Rattle.rz_events.specs.declared.files.NodeSpec.{NodeSpec}
 use Rattle.rz_driver.specs.Made.{IsCause, faults_at}
 use Rattle.rz_driver.specs.Made as made
+use Rattle.rz_driver.specs.Worlds.{Holds, world_of}
+use Rattle.rz_core.specs.HeldRecords.{block_of}
+use Rattle.rz_core.specs.History.{facts}
+use Rattle.rz_scrub_laws.specs.Untouched.{text_in}
 use Rattle.rz_play.specs.World.{new_world}
 use Rattle.rz_perform.specs.Told.{IsTold}
 use Rattle.rz_perform.specs.Telling.{Performs}
@@ -29,7 +33,13 @@ perform-status-requires-clause-stage g c = record {
   open_is = λ d ready. ready;
   counted = λ d first held. held.0;
   log_is = λ d e asked. ap (λ (s : Shared (UnderFuse g.row.D.Denot)). s.log.events) asked.shared;
+  whole = λ d first ready held tells few after l is.
+  (block_of d.volume.layout (text_in ((facts d.shared.log.events).wrote l.published.stamp)),
+      c.untouched.ensures d.volume (world_of d) d.seats.items d.shared.stations.items refl (held.1 tells few) tells after l is);
 }
+
+pub perform-status-requires-clause-held : goal.perform-status-requires-clause-held
+perform-status-requires-clause-held g c = (faults_at g.D.Disk.meter c.replace-lent.result.items, c.in-Ok.ensures.held)
 
 plain : (k : ℕ) → 0 + k ≡ k
 plain k = omega arith
@@ -53,7 +63,7 @@ returns-in-Ok g c =
     let lent : c.replace-lent.result.items ≡ c.args.disks.now.items = rw c.replace-lent.ensures.value refl in
     let first : ℕ → ℕ = faults_at g.D.Disk.meter c.args.disks.now.items in
     let volume_is : c.perform-status.new.stage.volume ≡ v = c.perform-status.ensures.volume ∙ c.in-Ok.ensures.volume ∙ c.volume-volume.ensures in
-    let held = rw (← lent) c.in-Ok.ensures.held in
+    let held : Holds c.in-Ok.driver first = rw (← lent) c.in-Ok.ensures.held in
     let F : List Event → Type 0 = λ x. AreFaultsTold g.D.Disk.meter c.perform-status.new.stage.volume c.args.disks.now.items c.close-log.result.1.items (x ++ log) in
     let none_asked : later ≡ [] → F [] → F later = λ none counted. subst F (sym none) counted in
     let counted : F later = elim c.perform-status.ensures.performed.1 [
