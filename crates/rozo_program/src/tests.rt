@@ -1,9 +1,10 @@
 //! One script of each kind with its output, faults of the source, the sink and a disk, what stands on a
-//! disk, and in the files of a folder, after a play, and an old disk that is carried over.
+//! disk, and in the files of a folder, after a play, an old disk that is carried over, and what a scrub
+//! finds.
 
 use super::disks::{files, memory};
 use super::replay::replay;
-use rz_disk::{Disk, MemDisk, PlainDisk};
+use rz_disk::{Disk, MemDisk, PlainDisk, RotDisk};
 use rz_link::{MemLink, PlainLink, Sent};
 use rz_ports::{MemSource, PlainSink, PlainSource};
 use std::alloc::{AllocError, Global};
@@ -51,7 +52,12 @@ c1 3 data 2 4 x:61626364
 end 38
 ";
 
-const LOST_REPLY: &str = "op c1 create /f\nop c1 put /f 0 t:hello\nrest\n";
+const WRITTEN: &str = "op c1 create /f\nop c1 put /f 0 t:hello\nrest\n";
+
+const WRITTEN_TOLD: &str = "0 with 4 disks: c1 1 created 00000000-0000-0000-0000-000000000001
+c1 2 acked 1 1110
+end 9
+scrub 00000000-0000-0000-0000-000000000001 0 ";
 
 const LOST_REPLY_TOLD: &str = "0 with 4 disks: c1 1 created 00000000-0000-0000-0000-000000000001
 c1 2 acked 1 0111
@@ -119,7 +125,7 @@ fn a_message_or_a_disk_fails(rt: HostRuntime) -> Result<(), Fail> {
     // The link loses the reply to the first keep.
     let mut disks = memory(alloc, 4)?;
     let link = MemLink::new(vec![in alloc; (0, Sent::ReplyLost)]?);
-    let lost = told(alloc, LINE, LOST_REPLY, &mut disks, link)?;
+    let lost = told(alloc, LINE, WRITTEN, &mut disks, link)?;
     assert_eq!(rt; lost.as_str(), LOST_REPLY_TOLD);
 
     // The second disk fails at its reset.
@@ -234,6 +240,24 @@ fn an_old_disk(rt: HostRuntime) -> Result<(), Fail> {
         let link = MemLink::new(Vec::new(rt.alloc()));
         let told = told(rt.alloc(), line.as_str(), script.as_str(), &mut disks, link)?;
         assert_eq!(rt; told.as_str(), want);
+    }
+    Ok(())
+}
+
+#[test]
+fn what_a_scrub_finds(rt: HostRuntime) -> Result<(), Fail> {
+    let alloc = rt.alloc();
+
+    // A byte of node 1's record is read wrong, or none is: the last address is on no disk.
+    for (at, found) in [(u64::MAX, "clean"), (2368, "unsure")] {
+        let mut disks = Vec::new(alloc);
+        for at in [at, u64::MAX, u64::MAX, u64::MAX] {
+            disks.push(RotDisk::new(PlainDisk::new(alloc), at, 1))?;
+        }
+        let link = MemLink::new(Vec::new(alloc));
+        let told = told(alloc, "rozo scrub --disks 4", WRITTEN, &mut disks, link)?;
+        let want = format!(in alloc; "{WRITTEN_TOLD}{found}\n")?;
+        assert_eq!(rt; told.as_str(), want.as_str());
     }
     Ok(())
 }

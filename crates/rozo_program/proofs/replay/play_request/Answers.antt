@@ -33,9 +33,10 @@ perform-status-requires-clause-stage g c = record {
   open_is = λ d ready. ready;
   counted = λ d first held. held.0;
   log_is = λ d e asked. ap (λ (s : Shared (UnderFuse g.row.D.Denot)). s.log.events) asked.shared;
-  whole = λ d first ready held tells few after l is.
-  (block_of d.volume.layout (text_in ((facts d.shared.log.events).wrote l.published.stamp)),
-      c.untouched.ensures d.volume (world_of d) d.seats.items d.shared.stations.items refl (held.1 tells few) tells after l is);
+  whole = λ d first ready held tells few after l is. (
+    block_of d.volume.layout (text_in ((facts d.shared.log.events).wrote l.published.stamp)),
+    c.untouched.ensures d.volume (world_of d) d.seats.items d.shared.stations.items refl (held.1 tells few) tells after l is,
+  );
 }
 
 pub perform-status-requires-clause-held : goal.perform-status-requires-clause-held
@@ -67,12 +68,12 @@ returns-in-Ok g c =
     let F : List Event → Type 0 = λ x. AreFaultsTold g.D.Disk.meter c.perform-status.new.stage.volume c.args.disks.now.items c.close-log.result.1.items (x ++ log) in
     let none_asked : later ≡ [] → F [] → F later = λ none counted. subst F (sym none) counted in
     let counted : F later = elim c.perform-status.ensures.performed.1 [
-      inl plays ↦ none_asked plays.0 (c.close-log.ensures.counted first (plays.1 first held))
-    | inr asks ↦ c.close-log.ensures.asked (later ++ log) first (asks.3 first held)
+      | inl plays ↦ none_asked plays.0 (c.close-log.ensures.counted first (plays.1 first held))
+      | inr asks ↦ c.close-log.ensures.asked (later ++ log) first (asks.3 first held)
     ] in
     let images : AreImagesTold g.D.Disk.tells g.D.Disk.meter g.D.Disk.image (Performed later) c.perform-status.new.stage.volume c.args.disks.now.items c.close-log.result.1.items log = elim c.perform-status.ensures.performed.1 [
-      inl plays ↦ c.close-log.ensures.imaged first (plays.1 first held)
-    | inr asks ↦ c.close-log.ensures.since first (asks.0, inl (asks.1 first held), asks.2)
+      | inl plays ↦ c.close-log.ensures.imaged first (plays.1 first held)
+      | inr asks ↦ c.close-log.ensures.since first (asks.0, inl (asks.1 first held), asks.2)
     ] in
     let B : Volume → Type 0 = λ x. AreFaultsTold g.D.Disk.meter x c.args.disks.now.items c.close-log.result.1.items (later ++ log) in
     let R : List Event → Type 0 = λ x. AreFaultsTold g.D.Disk.meter v c.args.disks.now.items c.close-log.result.1.items (later ++ x) in
