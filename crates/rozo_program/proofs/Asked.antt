@@ -10,6 +10,7 @@ fits-for : (w : Option Wish) (m : Option Meaning) (source : Reading) (disks : �
 fits-for None m source disks r h = cc
 fits-for (Some wishes.Replay) m source disks r h = h.0.2.2
 fits-for (Some (wishes.Load seed)) m source disks r h = h.0.2
+fits-for (Some wishes.Scrub) m source disks r h = h.0.2.2
 
 pub asks-fits : (m : Option Meaning) (source : Reading) (disks : ℕ) (r : Request) → Asks m source disks (Ok r) → disks ≡ nodes_in r.script
 asks-fits m source disks r h = fits-for (wished m) m source disks r h

@@ -1,5 +1,5 @@
 -- Disks as they were lent, and as they are handed back.
-use Rattle.std.specs.Prelude.{ℕ, Bool, IsTrue, ◌≡◌, map, List, Result, Ok, Err}
+use Rattle.std.specs.Prelude.{ℕ, Bool, IsTrue, ◌≡◌, map, List, [], ◌++◌, Result, Ok, Err}
 use Rattle.rz_disk.specs.Meter.{Meter}
 use Rattle.rz_driver.specs.Made.{faults_at}
 use Rattle.rz_driver.specs.Made as made
@@ -29,9 +29,15 @@ AreFaultsTold meter v old new h = AreDisksCounted meter (faults_at meter old) 0 
 -- with its log, each stands for what the log says that its node holds.
 abbrev pub AreImagesTold : {D : Type 0} → Bool → (D → Meter) → (D → List ℕ → Type 0) → Course → Volume → List D → List D → List Event → Type 0
 AreImagesTold tells meter image Unplayed v old new h = made.AreBack tells meter image v.layout (nodes_of v.clusters) old new
-AreImagesTold tells meter image Performed v old new h = IsTrue tells → AreDisksImaged image v (numbers_of_volume v) new h
+AreImagesTold tells meter image (Performed later) v old new h = IsTrue tells → AreDisksImaged image v (numbers_of_volume v) new h
 
--- where there is nothing to play the disks are as they came, and otherwise they are told by the log
+-- the events of the records that were asked for after a play
+abbrev pub asked_in : Course → List Event
+asked_in Unplayed = []
+asked_in (Performed later) = later
+
+-- Where there is nothing to play the disks are as they came. Otherwise their images are told by the log, and their faults by the log
+-- with the records that were asked for after it.
 abbrev pub HandsBack : {D : Type 0} → Bool → (D → Meter) → (D → List ℕ → Type 0) → Course → Result Request Stop → List D → List D → List Event → Type 0
-HandsBack tells meter image course (Ok r) old new h = AreFaultsTold meter r.script.volume old new h × AreImagesTold tells meter image course r.script.volume old new h
+HandsBack tells meter image course (Ok r) old new h = AreFaultsTold meter r.script.volume old new (asked_in course ++ h) × AreImagesTold tells meter image course r.script.volume old new h
 HandsBack tells meter image course (Err stop) old new h = new ≡ old

@@ -1,25 +1,29 @@
 //! The program `rozo`: it plays a script over a store whose disks lie in memory or in files, and prints
-//! what came of each operation.
+//! what came of each operation; or it carries an old disk of a node over onto a new one.
 //!
 //! The contract of `replay` says which status comes when, that the source was read to its end, that the
 //! log is that of the script's play and what it says is true, which bytes the sink took, that the disks are
-//! back in their order, and that their counts of faults go with the faults in the log. It does not say what
-//! a real file or a terminal holds, or that memory is there, whose want is status 70.
+//! back in their order, and that their counts of faults go with the faults in the log. Of an old disk it
+//! says that it is as it was, and what stands on the new one. It does not say what a real file or a
+//! terminal holds, or that memory is there, whose want is status 70.
 //!
-//! In reading order: `replay`, `disks`.
+//! In reading order: `replay`, `migrating`, `disks`.
 #![tactic(auto)]
 
 mod disks;
+mod migrating;
 mod replay;
 #[cfg(test)]
 mod tests;
 
-use disks::{files, memory};
+use disks::{FilesFault, files, memory};
 use replay::replay;
-use rz_command::{Wanted, WordsError, wanted};
+use rz_command::{Command, Wanted, WordsError, wanted};
 use rz_disk::Disk;
 use rz_link::PlainLink;
+use rz_perform::refuse;
 use rz_ports::{StdSink, StdSource};
+use rz_request::Refusal;
 use std::io::ErrorKind;
 use std::process::ExitCode;
 use std::{env, io};
@@ -60,14 +64,31 @@ fn play_in_memory(rt: &HostRuntime, words: &[String], count: u16) -> u8 {
     }
 }
 
+/// Writes that the file of a disk was not opened, and gives the status.
+fn refuse_file(rt: &HostRuntime, index: u16) -> u8 {
+    let mut output = StdSink::new(io::writer(rt));
+    let index = u64::from(index);
+    refuse(rt.alloc(), &Refusal::Disk { index }, &mut output)
+}
+
+/// How many of the disks stand in files that are there already.
+fn kept(command: Command) -> u16 {
+    match command {
+        Command::Migrate { .. } => 1,
+        _ => 0,
+    }
+}
+
 /// Plays over the disks that the words want.
 fn play_wanted(rt: &HostRuntime, words: &[String], wanted: &Wanted) -> u8 {
     let Some(folder) = &wanted.folder else {
         return play_in_memory(rt, words, wanted.disks);
     };
-    match files(rt, rt.alloc(), folder.as_str(), wanted.disks) {
+    let kept = kept(wanted.command);
+    match files(rt, rt.alloc(), folder.as_str(), kept, wanted.disks) {
         Ok(disks) => play(rt, words, disks),
-        Err(_) => NO_MEMORY,
+        Err(FilesFault::Unopened { index }) => refuse_file(rt, index),
+        Err(FilesFault::NoMemory) => NO_MEMORY,
     }
 }
 

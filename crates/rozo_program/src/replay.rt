@@ -1,12 +1,14 @@
-//! The replay of what words and an input ask for, over disks that are lent to it.
+//! What words and an input ask for, done over disks that are lent to it.
 
-ghost use Rattle.std.specs.Prelude.{◌≡◌, ◌-◌, [], Ok, length, map, reverse, string_bytes};
+ghost use Rattle.std.specs.Prelude.{◌≡◌, ◌-◌, [], IsSome, MatchResult, Ok, length, map, reverse, string_bytes};
 ghost use Rattle.rz_command.specs.Line.{meaning};
 ghost use Rattle.rz_request.specs.Requests.{nodes_in};
 ghost use Rattle.rz_perform.specs.Replays.{Course, Follows};
 ghost use Rattle.rozo_program.specs.Disks.{HandsBack, faulted};
-ghost use Rattle.rozo_program.specs.Replays.{Fails, Replays};
+ghost use Rattle.rozo_program.specs.Replays.{Fails, Plays, Replays, old_node_of};
 
+use crate::migrating::carry;
+use rz_command::{Command, WordsError, wanted};
 use rz_disk::Disk;
 use rz_driver::{Driver, DriverFault};
 use rz_events::Event;
@@ -14,7 +16,7 @@ use rz_link::Link;
 use rz_perform::{perform, refuse, stop};
 use rz_ports::{Sink, Source};
 use rz_request::{Refusal, Request, request};
-use std::alloc::Global;
+use std::alloc::{AllocError, Global};
 use std::mem;
 
 /// What a replay came to: its status, and the log of the play, the oldest event first.
@@ -32,6 +34,21 @@ fn unplayed(alloc: Global, status: u8) -> Played
     Played {
         status,
         log: Vec::new(alloc),
+    }
+}
+
+/// The node of which the words want the old disk carried over, if they want that. Memory is wanted only
+/// for words that mean something.
+fn old_node(alloc: Global, words: &[String]) -> Result<Option<u16>, AllocError>
+    ensures { MatchResult result (λ node. node ≡ old_node_of (meaning (map string_bytes words.now))) (λ _. IsSome (meaning (map string_bytes words.now))) }
+{
+    match wanted(alloc, words) {
+        Ok(wanted) => match wanted.command {
+            Command::Migrate { sid } => Ok(Some(sid)),
+            _ => Ok(None),
+        },
+        Err(WordsError::Usage) => Ok(None),
+        Err(WordsError::NoMemory) => Err(AllocError),
     }
 }
 
@@ -57,6 +74,7 @@ fn play_request<D: Disk, L: Link, O: Sink>(
     ensures { (course : Course) × Follows D.tells course request.now (faulted D.meter disks.old.items disks.new.items) (L.lost link.new - L.lost link.old) (record { before = O.taken output.old; after = O.taken output.new; old = O.faults output.old; new = O.faults output.new }) result.status (reverse result.log.items)
         × HandsBack D.tells D.meter D.image course (Ok request.now) disks.old.items disks.new.items (reverse result.log.items) }
 {
+    rz_scrub_laws::untouched::<D>();
     let volume = request.script.volume();
     let _nodes = volume.node_count();
     let lent = mem::replace(disks, Vec::new(alloc));
@@ -82,10 +100,10 @@ fn play_request<D: Disk, L: Link, O: Sink>(
     }
 }
 
-/// Reads the words, and for a replay the input; plays what they ask for over the disks, of which there
-/// is one for each node in the order of the description; and writes what is to be told of it. The disks
-/// are back in their order afterwards.
-pub fn replay<I: Source, O: Sink, D: Disk, L: Link>(
+/// Plays what words and an input ask for over the disks, of which there is one for each node in the
+/// order of the description, and writes what is to be told of it. The disks are back in their order
+/// afterwards.
+fn play_words<I: Source, O: Sink, D: Disk, L: Link>(
     alloc: Global,
     words: &[String],
     input: &mut I,
@@ -93,7 +111,7 @@ pub fn replay<I: Source, O: Sink, D: Disk, L: Link>(
     disks: &mut Vec<D>,
     link: &mut L,
 ) -> Played
-    ensures { Replays D.tells D.meter D.image (meaning (map string_bytes words.now)) (record { before = I.left input.old; after = I.left input.new; old = I.faults input.old; new = I.faults input.new }) disks.old.items disks.new.items (L.lost link.new - L.lost link.old) (record { before = O.taken output.old; after = O.taken output.new; old = O.faults output.old; new = O.faults output.new }) result.status (reverse result.log.items) }
+    ensures { Plays D.tells D.meter D.image (meaning (map string_bytes words.now)) (record { before = I.left input.old; after = I.left input.new; old = I.faults input.old; new = I.faults input.new }) disks.old.items disks.new.items (L.lost link.new - L.lost link.old) (record { before = O.taken output.old; after = O.taken output.new; old = O.faults output.old; new = O.faults output.new }) result.status (reverse result.log.items) }
 {
     let count = disks.len() as u64;
     match request(alloc, words, input, count) {
@@ -102,5 +120,27 @@ pub fn replay<I: Source, O: Sink, D: Disk, L: Link>(
             let status = stop(alloc, &why, output);
             unplayed(alloc, status)
         }
+    }
+}
+
+/// Does what the words ask for: carries an old disk over onto a new one, or plays a script over the
+/// disks. Writes what is to be told of it. The disks are back in their order afterwards.
+pub fn replay<I: Source, O: Sink, D: Disk, L: Link>(
+    alloc: Global,
+    words: &[String],
+    input: &mut I,
+    output: &mut O,
+    disks: &mut Vec<D>,
+    link: &mut L,
+) -> Played
+    ensures { Replays D.tells D.text D.meter D.image (meaning (map string_bytes words.now)) (record { before = I.left input.old; after = I.left input.new; old = I.faults input.old; new = I.faults input.new }) disks.old.items disks.new.items (L.lost link.new - L.lost link.old) (record { before = O.taken output.old; after = O.taken output.new; old = O.faults output.old; new = O.faults output.new }) result.status (reverse result.log.items) }
+{
+    match old_node(alloc, words) {
+        Ok(Some(sid)) => {
+            let status = carry(alloc, sid, input, output, disks);
+            unplayed(alloc, status)
+        }
+        Ok(None) => play_words(alloc, words, input, output, disks, link),
+        Err(_) => unplayed(alloc, 70),
     }
 }

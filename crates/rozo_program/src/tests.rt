@@ -1,9 +1,10 @@
-//! One script of each kind with its output, faults of the source, the sink and a disk, and what stands on
-//! a disk, and in the files of a folder, after a play.
+//! One script of each kind with its output, faults of the source, the sink and a disk, what stands on a
+//! disk, and in the files of a folder, after a play, an old disk that is carried over, and what a scrub
+//! finds.
 
 use super::disks::{files, memory};
 use super::replay::replay;
-use rz_disk::{Disk, MemDisk, PlainDisk};
+use rz_disk::{Disk, MemDisk, PlainDisk, RotDisk};
 use rz_link::{MemLink, PlainLink, Sent};
 use rz_ports::{MemSource, PlainSink, PlainSource};
 use std::alloc::{AllocError, Global};
@@ -51,7 +52,12 @@ c1 3 data 2 4 x:61626364
 end 38
 ";
 
-const LOST_REPLY: &str = "op c1 create /f\nop c1 put /f 0 t:hello\nrest\n";
+const WRITTEN: &str = "op c1 create /f\nop c1 put /f 0 t:hello\nrest\n";
+
+const WRITTEN_TOLD: &str = "0 with 4 disks: c1 1 created 00000000-0000-0000-0000-000000000001
+c1 2 acked 1 1110
+end 9
+scrub 00000000-0000-0000-0000-000000000001 0 ";
 
 const LOST_REPLY_TOLD: &str = "0 with 4 disks: c1 1 created 00000000-0000-0000-0000-000000000001
 c1 2 acked 1 0111
@@ -119,7 +125,7 @@ fn a_message_or_a_disk_fails(rt: HostRuntime) -> Result<(), Fail> {
     // The link loses the reply to the first keep.
     let mut disks = memory(alloc, 4)?;
     let link = MemLink::new(vec![in alloc; (0, Sent::ReplyLost)]?);
-    let lost = told(alloc, LINE, LOST_REPLY, &mut disks, link)?;
+    let lost = told(alloc, LINE, WRITTEN, &mut disks, link)?;
     assert_eq!(rt; lost.as_str(), LOST_REPLY_TOLD);
 
     // The second disk fails at its reset.
@@ -190,6 +196,72 @@ fn a_record_stands_on_its_disk(rt: HostRuntime) -> Result<(), Fail> {
     Ok(())
 }
 
+const SMALL: &str =
+    "volume {\"layout\":0,\"bsize\":4096,\"clusters\":[{\"cid\":1,\"nodes\":[{\"sid\":1,\"cells\":1},{\"sid\":2,\"cells\":1},{\"sid\":3,\"cells\":1},{\"sid\":4,\"cells\":1}]}]}\n";
+
+/// An old disk of node 1 with one cell and fence 3, which holds a record of stamp 5; and a new one. At 32
+/// stands the gate of the header.
+fn old_and_new(alloc: Global, gate: u8) -> Result<Vec<PlainDisk>, Fail> {
+    let mut bytes = [0; 72];
+    bytes[..8].copy_from_slice(b"MJROZO01");
+    bytes[10] = 1;
+    bytes[12] = 1;
+    bytes[16] = 3;
+    bytes[32] = gate;
+    bytes[65] = 5;
+    let mut disks = memory(alloc, 2)?;
+    if let Some(old) = disks.get_mut(0) {
+        old.reset(alloc, 4273)?;
+        if old.size() == 4273 {
+            old.write_at(0, &bytes)?;
+            old.sync()?;
+        }
+    }
+    Ok(disks)
+}
+
+#[test]
+fn an_old_disk(rt: HostRuntime) -> Result<(), Fail> {
+    for (gate, sid, script, want) in [
+        (1, 1, "", "0 with 2 disks: migrated 3 1\n"),
+        (0, 1, "", "13 with 2 disks: refused old 3\n"),
+        (1, 5, "", "12 with 2 disks: refused node 5\n"),
+        (1, 0, "", "2 with 2 disks: refused usage\n"),
+        (
+            1,
+            1,
+            "rest",
+            "3 with 2 disks: refused script 2 UnknownLine\n",
+        ),
+    ] {
+        let mut disks = old_and_new(rt.alloc(), gate)?;
+        let line = format!(in rt.alloc(); "rozo migrate {sid} --disks 2")?;
+        let script = format!(in rt.alloc(); "{SMALL}{script}")?;
+        let link = MemLink::new(Vec::new(rt.alloc()));
+        let told = told(rt.alloc(), line.as_str(), script.as_str(), &mut disks, link)?;
+        assert_eq!(rt; told.as_str(), want);
+    }
+    Ok(())
+}
+
+#[test]
+fn what_a_scrub_finds(rt: HostRuntime) -> Result<(), Fail> {
+    let alloc = rt.alloc();
+
+    // A byte of node 1's record is read wrong, or none is: the last address is on no disk.
+    for (at, found) in [(u64::MAX, "clean"), (2368, "unsure")] {
+        let mut disks = Vec::new(alloc);
+        for at in [at, u64::MAX, u64::MAX, u64::MAX] {
+            disks.push(RotDisk::new(PlainDisk::new(alloc), at, 1))?;
+        }
+        let link = MemLink::new(Vec::new(alloc));
+        let told = told(alloc, "rozo scrub --disks 4", WRITTEN, &mut disks, link)?;
+        let want = format!(in alloc; "{WRITTEN_TOLD}{found}\n")?;
+        assert_eq!(rt; told.as_str(), want.as_str());
+    }
+    Ok(())
+}
+
 const FOLDER: &str = "rozo_program_test";
 
 /// All that a read of a disk gives.
@@ -206,7 +278,7 @@ fn files_have_the_bytes_of_disks_in_memory(rt: HostRuntime) -> Result<(), Fail> 
     let _ = fs::create_dir(&rt, FOLDER);
     for script in [ORDINARY, LOST, STOPPED, LOCKED] {
         let mut kept: Vec<PlainDisk> = memory(alloc, 4)?;
-        let mut filed = files(&rt, alloc, FOLDER, 4)?;
+        let mut filed = files(&rt, alloc, FOLDER, 0, 4)?;
         let in_memory = told(
             alloc,
             LINE,

@@ -56,16 +56,16 @@ module _ (read : Result Script ScriptError) (disks : ℕ) (s : Script) (wish : W
   judged (Err (stops.Refused (refusals.Node sid))) h for = absurd h
   judged (Err (stops.Refused (refusals.Old cause))) h for = absurd h
 
-module _ (source : Reading) (disks : ℕ) (s : Script) (whole : ¬ Rises source.old source.new) (text : List ℕ) (left : source.before ≡ Some text) (short : length text ≤ limit)
+module _ (wish : Wish) (source : Reading) (disks : ℕ) (s : Script) (whole : ¬ Rises source.old source.new) (text : List ℕ) (left : source.before ≡ Some text) (short : length text ≤ limit)
     (means : script forms.Replay text ≡ Ok s) (small : is_large s ≡ false) (fits : disks ≡ nodes_in s) where
   -- the text that was read is the one that was left
-  came-read : (result : Result Request Stop) → (t : List ℕ) × IsRead source t × Judges (script forms.Replay t) disks result → IsFor wishes.Replay result → Came s wishes.Replay result
+  came-read : (result : Result Request Stop) → (t : List ℕ) × IsRead source t × Judges (script forms.Replay t) disks result → IsFor wish result → Came s wish result
   came-read result h for =
       let same = subst (λ (b : Option (List ℕ)). IfSome b (λ x. (x ≡ h.0) × (source.after ≡ Some []))) left h.1.0 in
       let is : script forms.Replay h.0 ≡ Ok s = subst (λ (t : List ℕ). script forms.Replay t ≡ Ok s) same.0 means in
-      judged (script forms.Replay h.0) disks s wishes.Replay is small fits result h.2 for
+      judged (script forms.Replay h.0) disks s wish is small fits result h.2 for
 
-  came-source : (result : Result Request Stop) → Reads source disks result → IsFor wishes.Replay result → Came s wishes.Replay result
+  came-source : (result : Result Request Stop) → Reads source disks result → IsFor wish result → Came s wish result
   came-source (Ok r) h for = came-read (Ok r) h for
   came-source (Err stops.NoMemory) h for = tt
   came-source (Err stops.Source) h for = absurd (whole h)
@@ -85,21 +85,22 @@ module _ (source : Reading) (disks : ℕ) (s : Script) (whole : ¬ Rises source.
 
 module _ (disks : Faulted) (lost : ℕ) (sink : Sunk) (status : ℕ) (h : List Event) (s : Script)
     (turns : (g : List Event) → ¬ IsStopped s.volume TurnsSpent s.lines g) (disks_whole : (i : ℕ) → ¬ Rises (disks.old i) (disks.new i)) (sink_whole : ¬ Rises sink.old sink.new) where
-  told-end : (wish : Wish) (end : PlayEnd) → IsEnded s.volume (new_world s.volume) s.lines end lost h → Tells end wish (reverse h) sink status → IsFinished (Some wish) s sink status h ⊎ (status ≡ 70)
-  told-end wish ends.Ended ended (inl (inl took)) = inl (took.0, ended.0, took.1)
-  told-end wish ends.Ended ended (inl (inr failed)) = absurd (sink_whole failed.1)
-  told-end wish ends.Ended ended (inr lacks) = inr lacks.0
-  told-end wish ends.TooManyTurns ended t = absurd (turns h ended.0)
-  told-end wish ends.NoMemory ended t = inr t.0
+  told-end : (wish : Wish) (end : PlayEnd) (later : List Event) → IsEnded s.volume (new_world s.volume) s.lines end lost h → Tells true s.volume s.lines end wish h later sink status → IsFinished (Some wish) s sink status h ⊎ (status ≡ 70)
+  told-end wish ends.Ended later ended (may, inl (found, sought, inl took)) = inl (later, found, took.0, ended.0, sought, took.1)
+  told-end wish ends.Ended later ended (may, inl (found, sought, inr failed)) = absurd (sink_whole failed.1)
+  told-end wish ends.Ended later ended (may, inr lacks) = inr lacks.0
+  told-end wish ends.TooManyTurns later ended t = absurd (turns h ended.0)
+  told-end wish ends.NoMemory later ended (may, inl (found, sought, says)) = absurd says
+  told-end wish ends.NoMemory later ended (may, inr lacks) = inr lacks.0
 
   followed : (wish : Wish) (course : Course) (r : Request) → r.script ≡ s → r.wish ≡ wish → Opens true course r disks lost sink status h → IsFinished (Some wish) s sink status h ⊎ (status ≡ 70)
   followed wish Unplayed r script_is wish_is (inl lacks) = inr lacks.0.0
   followed wish Unplayed r script_is wish_is (inr failed) = absurd (disks_whole failed.0 failed.1)
-  followed wish Performed r script_is wish_is performed =
-      let P : Script → Type 0 = λ x. Performs true x.volume x.lines r.wish lost h sink status in
-      let Q : Wish → Type 0 = λ x. Performs true s.volume s.lines x lost h sink status in
+  followed wish (Performed later) r script_is wish_is performed =
+      let P : Script → Type 0 = λ x. Performs true x.volume x.lines r.wish later lost h sink status in
+      let Q : Wish → Type 0 = λ x. Performs true s.volume s.lines x later lost h sink status in
       let p = subst Q wish_is (subst P script_is performed) in
-      told-end wish p.0 (p.1 refl) p.4
+      told-end wish p.0 later (p.1 refl) p.4
 
   ensued : (wish : Wish) (course : Course) (result : Result Request Stop) → Came s wish result → Ensues true course result disks lost sink status h → IsFinished (Some wish) s sink status h ⊎ (status ≡ 70)
   ensued wish course (Ok r) came e = followed wish course r came.0 came.1 e.0
@@ -110,11 +111,16 @@ module _ (disks : Faulted) (lost : ℕ) (sink : Sunk) (status : ℕ) (h : List E
 pub complete : IsComplete
 complete words source count disks lost sink status h course result asks ensues s clear = go (wished words) clear.means asks
   where
+    from_text : (wish : Wish) → (text : List ℕ) × (source.before ≡ Some text) × (length text ≤ limit) × (script forms.Replay text ≡ Ok s) → Reads source count result → IsFor wish result
+        → IsFinished (Some wish) s sink status h ⊎ (status ≡ 70)
+    from_text wish (text, left, short, means) reads for =
+        ensued disks lost sink status h s clear.turns clear.disks_whole clear.sink_whole wish course result
+        (came-source wish source count s clear.source_whole text left short means clear.small clear.fits result reads for) ensues
+
     go : (w : Option Wish) → Means w source.before s → AsksFor w words source count result → IsFinished w s sink status h ⊎ (status ≡ 70)
     go None means asked = absurd means
-    go (Some wishes.Replay) (text, left, short, means) asked =
-        ensued disks lost sink status h s clear.turns clear.disks_whole clear.sink_whole wishes.Replay course result
-        (came-source source count s clear.source_whole text left short means clear.small clear.fits result asked.0 asked.1) ensues
+    go (Some wishes.Replay) means asked = from_text wishes.Replay means asked.0 asked.1
+    go (Some wishes.Scrub) means asked = from_text wishes.Scrub means asked.0 asked.1
     go (Some (wishes.Load seed)) means asked =
         let is : ◌≡◌ {A = Result Script ScriptError} (Ok (workload seed)) (Ok s) = ap (λ (x : Script). Ok x) means in
         ensued disks lost sink status h s clear.turns clear.disks_whole clear.sink_whole (wishes.Load seed) course result

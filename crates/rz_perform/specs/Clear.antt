@@ -10,6 +10,7 @@ use Rattle.rz_script.specs.Scripts.{Script}
 use Rattle.rz_script.specs.declared.form.Form.TheVariants as forms
 use Rattle.rz_play.specs.Stops.{TurnsSpent}
 use Rattle.rz_play.specs.Played.{IsPlayed, IsStopped}
+use Rattle.rz_lines.specs.declared.lines.PlayEnd.TheVariants.{Ended}
 use Rattle.rz_request.specs.Input.{limit}
 use Rattle.rz_request.specs.Requests.{Asks, Reading, is_large, nodes_in, wished}
 use Rattle.rz_request.specs.declared.refusal.Stop.{Stop}
@@ -18,14 +19,15 @@ use Rattle.rz_request.specs.declared.wishes.Wish.{Wish}
 use Rattle.rz_request.specs.declared.wishes.Wish.TheVariants as wishes
 use Rattle.rz_perform.specs.Output.{Sunk}
 use Rattle.rz_perform.specs.Replays.{Faulted, Course, Ensues}
+use Rattle.rz_perform.specs.Scrubs.{AreFound}
 use Rattle.rz_perform.specs.Telling.{text_told}
 
 -- what is wished for is this script: the text of the source, which is in the grammar and within the limit, means it, or it is the
 -- workload of the seed
 abbrev pub Means : Option Wish → Option (List ℕ) → Script → Type 0
 Means None left s = ⊥
-Means (Some wishes.Replay) left s = (text : List ℕ) × (left ≡ Some text) × (length text ≤ limit) × (script forms.Replay text ≡ Ok s)
 Means (Some (wishes.Load seed)) left s = workload seed ≡ s
+Means (Some wish) left s = (text : List ℕ) × (left ≡ Some text) × (length text ≤ limit) × (script forms.Replay text ≡ Ok s)
 
 -- The words and the source mean the script, which is within the limits and has a node for each disk. No play of it calls for a
 -- turn too many, and neither the source, nor the sink, nor a disk counted a fault.
@@ -42,7 +44,8 @@ pub record IsClear (words : Option Meaning) (source : Reading) (count : ℕ) (di
 abbrev pub IsFinished : Option Wish → Script → Sunk → ℕ → List Event → Type 0
 IsFinished None s sink status h = ⊥
 IsFinished (Some wish) s sink status h =
-    (status ≡ 0) × IsPlayed s.volume s.lines h × Appends sink.before sink.after (text_told wish (reverse h))
+    (later : List Event) × (found : List ℕ) × (status ≡ 0) × IsPlayed s.volume s.lines h × AreFound true s.volume s.lines Ended wish h later found
+    × Appends sink.before sink.after (text_told wish found (reverse h))
 
 -- Where nothing stands in its way, a replay over so many disks that tell their texts plays the script to its end, or memory is
 -- wanting: the answer to what is asked for, and what comes of it, leave nothing else.

@@ -1,4 +1,5 @@
 pub mod Output
+pub mod Scrubs
 pub mod Telling
 pub mod Told
 pub mod Replays

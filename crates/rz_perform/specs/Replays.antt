@@ -14,10 +14,10 @@ pub record Faulted : Type 0 where
   pub old : ℕ → ℕ
   pub new : ℕ → ℕ
 
--- how far a request came: no play of it began, or its script was performed
+-- how far a request came: no play of it began, or its script was performed, and then these records were asked for
 pub data Course : Type 0 where
   Unplayed : Course
-  Performed : Course
+  Performed : (later : List Event) → Course
 
 -- A request that came so far, with so many messages lost by the link. No play began where memory was wanting, or where a disk
 -- failed while it was formatted, and its faults rose.
@@ -25,7 +25,7 @@ abbrev pub Opens : Bool → Course → Request → Faulted → (lost : ℕ) → 
 Opens tells Unplayed r disks lost sink status h =
     (Lacks sink status × (h ≡ []))
     ⊎ ((index : ℕ) × Rises (disks.old index) (disks.new index) × Refuses (refusals.Disk index) sink status × (h ≡ []))
-Opens tells Performed r disks lost sink status h = Performs tells r.script.volume r.script.lines r.wish lost h sink status
+Opens tells (Performed later) r disks lost sink status h = Performs tells r.script.volume r.script.lines r.wish later lost h sink status
 
 -- A request is played. Over disks that tell their texts the log is true.
 abbrev pub Follows : Bool → Course → Request → Faulted → (lost : ℕ) → Sunk → ℕ → List Event → Type 0

@@ -17,31 +17,41 @@ use Rattle.rz_request.specs.declared.refusal.Refusal.TheVariants.{Turns}
 use Rattle.rz_request.specs.declared.refusal.Stop.{Stop}
 use Rattle.rz_request.specs.declared.refusal.Stop.TheVariants as stops
 use Rattle.rz_request.specs.declared.wishes.Wish.{Wish}
-use Rattle.rz_request.specs.declared.wishes.Wish.TheVariants.{Replay, Load}
+use Rattle.rz_request.specs.declared.wishes.Wish.TheVariants.{Replay, Load, Scrub}
 use Rattle.rz_perform.specs.Output.{Sunk, Ends, Lacks}
+use Rattle.rz_perform.specs.Scrubs.{AreFound, MayAsk}
 
--- what is printed of the log of a whole play, the oldest event first: its text, or the line of the workload
-abbrev pub text_told : Wish → List Event → List ℕ
-text_told Replay log = text_of log true
-text_told (Load seed) log = summary_of seed log
+-- what is printed of the log of a whole play, the oldest event first: its text, or the line of the workload, or its text and the lines
+-- of a scrub
+abbrev pub text_told : Wish → (found : List ℕ) → List Event → List ℕ
+text_told Replay found log = text_of log true
+text_told (Load seed) found log = summary_of seed log
+text_told Scrub found log = text_of log true ++ found
 
 -- what is printed of a play that was cut off before a turn too many: the text so far, and the line of the refusal
 abbrev pub text_so_far : List Event → List ℕ
 text_so_far log = text_of log false ++ line_of Turns
 
--- The status, and what the sink took, by how the play ended: the text with status 0, the text so far with status 8. Memory may
--- be wanting at any of these.
-abbrev pub Tells : PlayEnd → Wish → List Event → Sunk → ℕ → Type 0
-Tells Ended wish log sink status = Ends sink 0 (text_told wish log) status ⊎ Lacks sink status
-Tells TooManyTurns wish log sink status = Ends sink 8 (text_so_far log) status ⊎ Lacks sink status
-Tells NoMemory wish log sink status = Lacks sink status
+-- The status, and what the sink took, by how the play ended: the text with status 0, the text so far with status 8.
+abbrev pub Says : PlayEnd → Wish → (found : List ℕ) → List Event → Sunk → ℕ → Type 0
+Says Ended wish found log sink status = Ends sink 0 (text_told wish found log) status
+Says TooManyTurns wish found log sink status = Ends sink 8 (text_so_far log) status
+Says NoMemory wish found log sink status = ⊥
+
+-- Some lines were found, and the text with them was to be written; or memory was wanting. There are lines of a scrub alone, after a
+-- whole play, and it alone has asked for records.
+abbrev pub Tells : Bool → Volume → List Line → PlayEnd → Wish → List Event → (later : List Event) → Sunk → ℕ → Type 0
+Tells tells v lines end wish h later sink status =
+    MayAsk end wish later
+    × (((found : List ℕ) × AreFound tells v lines end wish h later found × Says end wish found (reverse h) sink status) ⊎ Lacks sink status)
 
 -- A script was played to some end, with so many messages lost by the link, and told with its log, the newest event first. Over
 -- disks that tell their texts the log is that of the script's play; over others it is that of a play in which a start may find
--- anything. Each lost message was lost by a line or by the link.
-abbrev pub Performs : Bool → Volume → List Line → Wish → (lost : ℕ) → List Event → Sunk → ℕ → Type 0
-Performs tells v lines wish lost h sink status =
-    (end : PlayEnd) × (IsTrue tells → IsEnded v (new_world v) lines end lost h) × IsEndedOver tells v (new_world v) lines end lost h × (missed h ≤ misses lines + lost) × Tells end wish (reverse h) sink status
+-- anything. Each lost message was lost by a line or by the link. After the play these records were asked for.
+abbrev pub Performs : Bool → Volume → List Line → Wish → (later : List Event) → (lost : ℕ) → List Event → Sunk → ℕ → Type 0
+Performs tells v lines wish later lost h sink status =
+    (end : PlayEnd) × (IsTrue tells → IsEnded v (new_world v) lines end lost h) × IsEndedOver tells v (new_world v) lines end lost h × (missed h ≤ misses lines + lost)
+    × Tells tells v lines end wish h later sink status
 
 -- the line of a refusal was to be written with its status, or there was no memory
 abbrev pub Refuses : Refusal → Sunk → ℕ → Type 0

@@ -1,24 +1,27 @@
 //! A script played on a stage and told: what is printed of it, and the status.
 //!
-//! The contract of [`perform`] is over any stage whose log can be read. It says how the play ended and
-//! which text was then to be written, and with which status: 0 with the text of the log at its end, 8
-//! with the text so far before a turn too many, 70 where memory was wanting, and 5 where the sink
-//! failed. Over disks that tell their texts it says that the log is that of the script's play and that
+//! The contract of [`perform`] is over any stage whose log can be read, and whose nodes can be asked for
+//! records. It says how the play ended and which text was then to be written, and with which status: 0 with
+//! the text of the log at its end, 8 with the text so far before a turn too many, 70 where memory was
+//! wanting, and 5 where the sink failed. A scrub asks the nodes after a whole play, and its text has the lines
+//! of what it found behind the text of the log. Over disks that tell their texts it says that the log is that of the script's play and that
 //! what it says is true (`specs/Told`): it is legal and sound, each read and write ends as it has to, each
 //! finished rebuild is whole, no update is lost, each view is whole, and each lost message has its cause.
 //! `specs/Replays` says what a replay of what was asked for comes to, of which this is the last part, and
 //! [`completes`] when it comes to its end. Nothing here says what a real file or terminal takes,
 //! nor that there is memory.
 //!
-//! In reading order: `output`, `telling`, `performing`, `laws`.
+//! In reading order: `output`, `telling`, `scrubbing`, `performing`, `laws`.
 #![tactic(auto)]
 
 mod laws;
 mod output;
 mod performing;
+mod scrubbing;
 mod telling;
 
 pub use laws::completes;
+pub use output::finish;
 pub use performing::perform;
 pub use rz_lines::LoggedStage;
-pub use telling::{refuse, stop, tell};
+pub use telling::{refuse, stop};

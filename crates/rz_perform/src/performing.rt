@@ -1,24 +1,28 @@
 //! The play of a script and what is told of it.
 
-ghost use Rattle.std.specs.Prelude.{◌≡◌, ◌-◌, IsTrue};
+ghost use Rattle.std.specs.Prelude.{◌≡◌, ◌-◌, ℕ, IsTrue, List};
 ghost use Rattle.rz_events.specs.Volume.{IsVolume};
+ghost use Rattle.rz_events.specs.declared.events.Event.{Event};
 ghost use Rattle.rz_play.specs.World.{new_world};
-ghost use Rattle.rz_lines.specs.Ends.{Carries};
+ghost use Rattle.rz_perform.specs.Scrubs.{IsScrubbable, Leaves};
 ghost use Rattle.rz_perform.specs.Telling.{Performs};
 ghost use Rattle.rz_perform.specs.Told.{IsTold};
 
 use crate::laws::{told_losses, true_logs};
+use crate::scrubbing::find;
 use crate::telling::tell;
 use rz_lines::{LoggedStage, play};
 use rz_link::Link;
 use rz_ports::Sink;
 use rz_request::Wish;
 use rz_script::Script;
+use rz_scrubbing::Store;
 use std::alloc::Global;
 
-/// Plays a script on a new stage of its volume, with messages through this link. Writes what is to be
-/// told of the play, and gives the status.
-pub fn perform<S: LoggedStage, L: Link, O: Sink>(
+/// Plays a script on a new stage of its volume, with messages through this link; and where a scrub is
+/// wished for and the play came to its end, asks the nodes for the records of what is published. Writes
+/// what is to be told of it, and gives the status.
+pub fn perform<S: LoggedStage + Store, L: Link, O: Sink>(
     alloc: Global,
     wish: Wish,
     script: &Script,
@@ -30,13 +34,18 @@ pub fn perform<S: LoggedStage, L: Link, O: Sink>(
     requires volume { S.volume stage.old ≡ script.now.volume }
     requires rules { IsVolume script.now.volume }
     requires new { S.world stage.old ≡ new_world script.now.volume }
+    requires held { (first : ℕ → ℕ) × S.holds stage.old first }
+    requires stage { IsScrubbable S.tells S.volume S.world S.is_ready S.holds S.described S.state S.is_open S.gives S.counts S.only_asked }
     ensures volume { S.volume stage.new ≡ S.volume stage.old }
-    ensures left { Carries (S.holds stage.old) (S.leaves stage.new) }
-    ensures performed { Performs S.tells script.now.volume script.now.lines wish (L.lost link.new - L.lost link.old) (S.world stage.new).log (record { before = O.taken output.old; after = O.taken output.new; old = O.faults output.old; new = O.faults output.new }) result }
+    ensures performed { (later : List Event) × Leaves S.world S.holds S.leaves S.counts S.only_asked stage.old stage.new later
+        × Performs S.tells script.now.volume script.now.lines wish later (L.lost link.new - L.lost link.old) (S.world stage.new).log (record { before = O.taken output.old; after = O.taken output.new; old = O.faults output.old; new = O.faults output.new }) result }
     ensures told { IsTrue S.tells → IsTold script.now.volume script.now.lines (L.lost link.new - L.lost link.old) (S.world stage.new).log }
 {
     true_logs();
     told_losses();
     let end = play(stage, script.lines(), link);
-    tell(alloc, end, wish, stage.log(), output)
+    match find(alloc, end, wish, stage) {
+        Ok(found) => tell(alloc, end, wish, &found, stage.log(), output),
+        Err(_) => 70,
+    }
 }

@@ -1,7 +1,8 @@
 //! What is written of a play, and of a refusal.
 
-ghost use Rattle.std.specs.Prelude.{◌≡◌, IfOk};
-ghost use Rattle.rz_perform.specs.Telling.{Refuses, Stops, Tells, text_so_far, text_told};
+ghost use Rattle.std.specs.Prelude.{◌≡◌, ◌⊎◌, IfOk};
+ghost use Rattle.rz_perform.specs.Output.{Lacks, Sunk};
+ghost use Rattle.rz_perform.specs.Telling.{Refuses, Says, Stops, text_so_far, text_told};
 
 use crate::output::finish;
 use rz_events::Event;
@@ -12,13 +13,18 @@ use rz_show::show;
 use rz_summary::summary;
 use std::alloc::{AllocError, Global};
 
-/// What is printed of the log of a whole play.
-fn text_told(alloc: Global, wish: Wish, log: &[Event]) -> Result<Vec<u8>, AllocError>
-    ensures { IfOk result (λ t. t.items ≡ text_told wish log.now) }
+/// What is printed of the log of a whole play, of which a scrub found these lines.
+fn text_told(alloc: Global, wish: Wish, found: &[u8], log: &[Event]) -> Result<Vec<u8>, AllocError>
+    ensures { IfOk result (λ t. t.items ≡ text_told wish found.now log.now) }
 {
     match wish {
         Wish::Replay => show(alloc, log, true),
         Wish::Load { seed } => summary(alloc, seed, log),
+        Wish::Scrub => {
+            let mut text = show(alloc, log, true)?;
+            text.extend_from_slice(found)?;
+            Ok(text)
+        }
     }
 }
 
@@ -31,12 +37,19 @@ fn text_so_far(alloc: Global, log: &[Event]) -> Result<Vec<u8>, AllocError>
     Ok(text)
 }
 
-/// Writes what is to be told of a play, and gives the status.
-pub fn tell<O: Sink>(alloc: Global, end: PlayEnd, wish: Wish, log: &[Event], output: &mut O) -> u8
-    ensures { Tells end wish log.now (record { before = O.taken output.old; after = O.taken output.new; old = O.faults output.old; new = O.faults output.new }) result }
+/// Writes what is to be told of a play, of which a scrub found these lines, and gives the status.
+pub(crate) fn tell<O: Sink>(
+    alloc: Global,
+    end: PlayEnd,
+    wish: Wish,
+    found: &[u8],
+    log: &[Event],
+    output: &mut O,
+) -> u8
+    ensures { let sink : Sunk = record { before = O.taken output.old; after = O.taken output.new; old = O.faults output.old; new = O.faults output.new } in Says end wish found.now log.now sink result ⊎ Lacks sink result }
 {
     match end {
-        PlayEnd::Ended => match text_told(alloc, wish, log) {
+        PlayEnd::Ended => match text_told(alloc, wish, found, log) {
             Ok(text) => finish(output, 0, &text),
             Err(_) => 70,
         },

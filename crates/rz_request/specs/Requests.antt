@@ -26,6 +26,7 @@ use Rattle.rz_request.specs.declared.wishes.Request.{Request}
 abbrev pub wish_of : Command → Option Wish
 wish_of commands.Replay = Some wishes.Replay
 wish_of (commands.Load seed) = Some (wishes.Load seed)
+wish_of commands.Scrub = Some wishes.Scrub
 wish_of _ = None
 
 -- the play that words of this meaning wish for
@@ -93,10 +94,10 @@ IsUsage m result = result ≡ Err (stops.Refused refusals.Usage)
 
 abbrev pub AsksFor : Option Wish → Option Meaning → Reading → ℕ → Result Request Stop → Type 0
 AsksFor None m source disks result = IsUsage m result × IsUnread source
-AsksFor (Some wishes.Replay) m source disks result = Reads source disks result × IsFor wishes.Replay result
 AsksFor (Some (wishes.Load seed)) m source disks result = Judges (Ok (workload seed)) disks result × IsFor (wishes.Load seed) result × IsUnread source
+AsksFor (Some wish) m source disks result = Reads source disks result × IsFor wish result
 
--- What words of this meaning ask for: words that wish for nothing are refused as usage, with the source unread; a replay is of the
--- script of the source; and a load is of the workload of its seed, with the source unread.
+-- What words of this meaning ask for: words that wish for nothing are refused as usage, with the source unread; a load is of the
+-- workload of its seed, with the source unread; and a replay or a scrub is of the script of the source.
 abbrev pub Asks : Option Meaning → Reading → ℕ → Result Request Stop → Type 0
 Asks m = AsksFor (wished m) m

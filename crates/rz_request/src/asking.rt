@@ -46,13 +46,13 @@ fn fit(wish: Wish, script: Script, disks: u64) -> Result<Request, Stop>
 }
 
 /// The script of a text over so many disks.
-fn read(alloc: Global, text: &[u8], disks: u64) -> Result<Request, Stop>
+fn read(alloc: Global, wish: Wish, text: &[u8], disks: u64) -> Result<Request, Stop>
     requires { length text.now ≤ limit }
     ensures judged { Judges (script forms.Replay text.now) disks result }
-    ensures wish { IsFor wishes.Replay result }
+    ensures wish { IsFor wish result }
 {
     match Script::read(alloc, text, Form::Replay) {
-        Ok(script) => fit(Wish::Replay, script, disks),
+        Ok(script) => fit(wish, script, disks),
         Err(ScriptError::NoMemory) => Err(Stop::NoMemory),
         Err(ScriptError::Script { line, cause }) => {
             Err(Stop::Refused(Refusal::Script { line, cause }))
@@ -62,12 +62,17 @@ fn read(alloc: Global, text: &[u8], disks: u64) -> Result<Request, Stop>
 }
 
 /// The script of an input over so many disks.
-fn replay<I: Source>(alloc: Global, input: &mut I, disks: u64) -> Result<Request, Stop>
+fn read_input<I: Source>(
+    alloc: Global,
+    wish: Wish,
+    input: &mut I,
+    disks: u64,
+) -> Result<Request, Stop>
     ensures asked { Reads (record { before = I.left input.old; after = I.left input.new; old = I.faults input.old; new = I.faults input.new }) disks result }
-    ensures wish { IsFor wishes.Replay result }
+    ensures wish { IsFor wish result }
 {
     match take(alloc, input) {
-        Taken::All(bytes) => read(alloc, &bytes, disks),
+        Taken::All(bytes) => read(alloc, wish, &bytes, disks),
         Taken::Long => Err(Stop::Refused(Refusal::Long)),
         Taken::Failed => Err(Stop::Source),
         Taken::NoMemory => Err(Stop::NoMemory),
@@ -92,7 +97,8 @@ fn wish_of(command: Command) -> Option<Wish>
     match command {
         Command::Replay => Some(Wish::Replay),
         Command::Load { seed } => Some(Wish::Load { seed }),
-        Command::Run | Command::Scrub | Command::First | Command::Again => None,
+        Command::Scrub => Some(Wish::Scrub),
+        Command::Run | Command::First | Command::Again => None,
         Command::Migrate { .. } => None,
     }
 }
@@ -113,8 +119,8 @@ fn read_words(alloc: Global, words: &[String]) -> Result<Wish, Stop>
 
 /// What words and an input ask for, over so many disks.
 ///
-/// The words are judged first. For `load` the source is left unread; for `replay` it is read to its
-/// end, or until there is one byte more than the limit. Then come the grammar, the size of the disks
+/// The words are judged first. For `load` the source is left unread; otherwise it is read to its end,
+/// or until there is one byte more than the limit. Then come the grammar, the size of the disks
 /// and of the work, and the number of disks.
 pub fn request<I: Source>(
     alloc: Global,
@@ -126,8 +132,9 @@ pub fn request<I: Source>(
 {
     match read_words(alloc, words) {
         Ok(wish) => match wish {
-            Wish::Replay => replay(alloc, input, disks),
+            Wish::Replay => read_input(alloc, Wish::Replay, input, disks),
             Wish::Load { seed } => load(alloc, seed, disks),
+            Wish::Scrub => read_input(alloc, Wish::Scrub, input, disks),
         },
         Err(stop) => Err(stop),
     }

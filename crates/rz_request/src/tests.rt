@@ -41,6 +41,7 @@ const SMALL: &str =
 fn rows(rt: HostRuntime) -> Result<(), Fail> {
     for (line, script, want) in [
         ("rozo replay --disks 4", "op c1 create /f\nrest\n", "played"),
+        ("rozo scrub --disks 4", "rest\n", "played"),
         ("rozo run --disks 4", "", "2 refused usage\n"),
         (
             "rozo replay --disks 4",

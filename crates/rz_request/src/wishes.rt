@@ -9,6 +9,8 @@ pub enum Wish {
     Replay,
     /// The workload of a seed.
     Load { seed: u64 },
+    /// The script of the input, after which the records of its published blocks are judged.
+    Scrub,
 }
 
 /// A script that is to be played, for a wish.

@@ -1,4 +1,6 @@
-use Rattle.std.proofs.Common.{◌≡◌, ◌-◌, ℕ, List, [], length, reverse, refl, sym, ap, ◌∙◌, subst, inl, inr, ◌+◌, arith}
+use Rattle.std.proofs.Common.{◌≡◌, ◌-◌, ◌++◌, ℕ, List, [], length, reverse, refl, sym, ap, ◌∙◌, subst, inl, inr, ◌+◌, arith}
+use Rattle.rz_disk.specs.UnderFuse.{UnderFuse}
+use Rattle.rz_driver.specs.declared.station.Shared.{Shared}
 use Rattle.std.proofs.lemmas.List.{reverse-reverse}
 use Rattle.rz_events.specs.Volume.{Volume, nodes_of}
 use Rattle.rz_events.specs.declared.events.Event.{Event}
@@ -6,6 +8,10 @@ use Rattle.rz_script.specs.declared.line.Line.{Line}
 use Rattle.rz_events.specs.declared.files.NodeSpec.{NodeSpec}
 use Rattle.rz_driver.specs.Made.{IsCause, faults_at}
 use Rattle.rz_driver.specs.Made as made
+use Rattle.rz_driver.specs.Worlds.{Holds, world_of}
+use Rattle.rz_core.specs.HeldRecords.{block_of}
+use Rattle.rz_core.specs.History.{facts}
+use Rattle.rz_scrub_laws.specs.Untouched.{text_in}
 use Rattle.rz_play.specs.World.{new_world}
 use Rattle.rz_perform.specs.Told.{IsTold}
 use Rattle.rz_perform.specs.Telling.{Performs}
@@ -19,6 +25,22 @@ use Rattle.rozo_program.proofs.replay.play_request.Goals as goal
 
 pub perform-status-requires-clause-new : goal.perform-status-requires-clause-new
 perform-status-requires-clause-new g c = c.in-Ok.ensures.world ∙ ap new_world c.volume-volume.ensures
+
+pub perform-status-requires-clause-stage : goal.perform-status-requires-clause-stage
+perform-status-requires-clause-stage g c = record {
+  described_is = λ d. refl;
+  state_is = λ d h. refl;
+  open_is = λ d ready. ready;
+  counted = λ d first held. held.0;
+  log_is = λ d e asked. ap (λ (s : Shared (UnderFuse g.row.D.Denot)). s.log.events) asked.shared;
+  whole = λ d first ready held tells few after l is. (
+    block_of d.volume.layout (text_in ((facts d.shared.log.events).wrote l.published.stamp)),
+    c.untouched.ensures d.volume (world_of d) d.seats.items d.shared.stations.items refl (held.1 tells few) tells after l is,
+  );
+}
+
+pub perform-status-requires-clause-held : goal.perform-status-requires-clause-held
+perform-status-requires-clause-held g c = (faults_at g.D.Disk.meter c.replace-lent.result.items, c.in-Ok.ensures.held)
 
 plain : (k : ℕ) → 0 + k ≡ k
 plain k = omega arith
@@ -34,23 +56,31 @@ returns-in-Ok g c =
       old = g.O.Sink.faults c.args.output.now;
       new = g.O.Sink.faults c.perform-status.new.output;
     } in
-    let log_is : reverse c.close-log.result.0.items ≡ c.perform-status.new.stage.shared.log.events = ap reverse c.close-log.ensures.log ∙ reverse-reverse c.perform-status.new.stage.shared.log.events in
-    let P : List Event → Type 0 = λ x. Performs g.D.Disk.tells v lines c.args.request.now.wish lost x sink c.perform-status.result in
+    let later : List Event = c.perform-status.ensures.performed.0 in
+    let log : List Event = c.perform-status.new.stage.shared.log.events in
+    let log_is : reverse c.close-log.result.0.items ≡ log = ap reverse c.close-log.ensures.log ∙ reverse-reverse log in
+    let P : List Event → Type 0 = λ x. Performs g.D.Disk.tells v lines c.args.request.now.wish later lost x sink c.perform-status.result in
     let Q : List Event → Type 0 = λ x. IsTold v lines lost x in
     let lent : c.replace-lent.result.items ≡ c.args.disks.now.items = rw c.replace-lent.ensures.value refl in
     let first : ℕ → ℕ = faults_at g.D.Disk.meter c.args.disks.now.items in
     let volume_is : c.perform-status.new.stage.volume ≡ v = c.perform-status.ensures.volume ∙ c.in-Ok.ensures.volume ∙ c.volume-volume.ensures in
-    let counted : AreFaultsTold g.D.Disk.meter c.perform-status.new.stage.volume c.args.disks.now.items c.close-log.result.1.items c.perform-status.new.stage.shared.log.events =
-    c.close-log.ensures.counted first (c.perform-status.ensures.left first (rw (← lent) c.in-Ok.ensures.held)) in
-    let left = c.perform-status.ensures.left first (rw (← lent) c.in-Ok.ensures.held) in
-    let images : AreImagesTold g.D.Disk.tells g.D.Disk.meter g.D.Disk.image Performed c.perform-status.new.stage.volume c.args.disks.now.items c.close-log.result.1.items c.perform-status.new.stage.shared.log.events =
-    c.close-log.ensures.imaged first left in
-    let B : Volume → Type 0 = λ x. AreFaultsTold g.D.Disk.meter x c.args.disks.now.items c.close-log.result.1.items c.perform-status.new.stage.shared.log.events in
-    let R : List Event → Type 0 = λ x. AreFaultsTold g.D.Disk.meter v c.args.disks.now.items c.close-log.result.1.items x in
-    let I : Volume → Type 0 = λ x. AreImagesTold g.D.Disk.tells g.D.Disk.meter g.D.Disk.image Performed x c.args.disks.now.items c.close-log.result.1.items c.perform-status.new.stage.shared.log.events in
-    let J : List Event → Type 0 = λ x. AreImagesTold g.D.Disk.tells g.D.Disk.meter g.D.Disk.image Performed v c.args.disks.now.items c.close-log.result.1.items x in (
-      Performed,
-      (subst P (sym log_is) c.perform-status.ensures.performed, λ told. subst Q (sym log_is) (c.perform-status.ensures.told told)),
+    let held : Holds c.in-Ok.driver first = rw (← lent) c.in-Ok.ensures.held in
+    let F : List Event → Type 0 = λ x. AreFaultsTold g.D.Disk.meter c.perform-status.new.stage.volume c.args.disks.now.items c.close-log.result.1.items (x ++ log) in
+    let none_asked : later ≡ [] → F [] → F later = λ none counted. subst F (sym none) counted in
+    let counted : F later = elim c.perform-status.ensures.performed.1 [
+      | inl plays ↦ none_asked plays.0 (c.close-log.ensures.counted first (plays.1 first held))
+      | inr asks ↦ c.close-log.ensures.asked (later ++ log) first (asks.3 first held)
+    ] in
+    let images : AreImagesTold g.D.Disk.tells g.D.Disk.meter g.D.Disk.image (Performed later) c.perform-status.new.stage.volume c.args.disks.now.items c.close-log.result.1.items log = elim c.perform-status.ensures.performed.1 [
+      | inl plays ↦ c.close-log.ensures.imaged first (plays.1 first held)
+      | inr asks ↦ c.close-log.ensures.since first (asks.0, inl (asks.1 first held), asks.2)
+    ] in
+    let B : Volume → Type 0 = λ x. AreFaultsTold g.D.Disk.meter x c.args.disks.now.items c.close-log.result.1.items (later ++ log) in
+    let R : List Event → Type 0 = λ x. AreFaultsTold g.D.Disk.meter v c.args.disks.now.items c.close-log.result.1.items (later ++ x) in
+    let I : Volume → Type 0 = λ x. AreImagesTold g.D.Disk.tells g.D.Disk.meter g.D.Disk.image (Performed later) x c.args.disks.now.items c.close-log.result.1.items log in
+    let J : List Event → Type 0 = λ x. AreImagesTold g.D.Disk.tells g.D.Disk.meter g.D.Disk.image (Performed later) v c.args.disks.now.items c.close-log.result.1.items x in (
+      Performed later,
+      (subst P (sym log_is) c.perform-status.ensures.performed.2, λ told. subst Q (sym log_is) (c.perform-status.ensures.told told)),
       (subst R (sym log_is) (subst B volume_is counted), subst J (sym log_is) (subst I volume_is images)),
     )
 

@@ -1,0 +1,19 @@
+-- What a migration over disks comes to.
+use Rattle.std.specs.Prelude.{ℕ, Bool, ◌⊎◌, List, Result, Ok, Err}
+use Rattle.rz_disk.specs.Meter.{Meter}
+use Rattle.rz_request.specs.Requests.{Reading}
+use Rattle.rz_request.specs.declared.refusal.Stop.{Stop}
+use Rattle.rz_migrate.specs.Migrations.{Migrates, migrated_line}
+use Rattle.rz_migrate.specs.declared.outcome.Migrated.{Migrated}
+use Rattle.rz_perform.specs.Output.{Sunk, Ends, Lacks}
+use Rattle.rz_perform.specs.Telling.{Stops}
+
+-- The line of what was carried over was to be written, with status 0; or there is nothing to tell but why. Memory may be wanting.
+abbrev pub TellsMigration : Result Migrated Stop → Sunk → ℕ → Type 0
+TellsMigration (Ok m) sink status = Ends sink 0 (migrated_line m) status ⊎ Lacks sink status
+TellsMigration (Err stop) sink status = Stops stop sink status
+
+-- the old disk of node `sid` is carried over, or why it is not; and that is told
+abbrev pub Carries : {D : Type 0} → Bool → (D → List ℕ) → (D → List ℕ → Type 0) → (D → Meter) → (sid : ℕ) → Reading → List D → List D → Sunk → ℕ → Type 0
+Carries tells text image meter sid source old new sink status =
+    (r : Result Migrated Stop) × Migrates tells text image meter sid source old new r × TellsMigration r sink status

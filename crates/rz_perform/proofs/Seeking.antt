@@ -1,0 +1,166 @@
+-- What is found after a play, as what a performance tells of it.
+use Rattle.std.proofs.Common.{ℕ, ◌≡◌, ◌⊎◌, inl, inr, ◌∙◌, ◌+◌, ◌-◌, ◌^◌, ◌++◌, ◌<◌, ◌≤◌, Bool, IsTrue, List, [], ◌∷◌, None, Result, Ok, Err, IfOk, length, refl, ap, reverse, sym, subst}
+use Rattle.mj_angles.specs.declared.layout.Layout.{Layout}
+use Rattle.rz_events.specs.Volume.{Volume}
+use Rattle.rz_events.specs.declared.keys.Key.{Key}
+use Rattle.rz_events.specs.declared.records.Held.{Held}
+use Rattle.rz_events.specs.declared.events.Event.{Event}
+use Rattle.rz_script.specs.declared.line.Line.{Line}
+use Rattle.rz_play.specs.World.{World, new_world}
+use Rattle.rz_play.specs.Free.{PlaysLinesOver}
+use Rattle.rz_play.specs.Faults.{missed, misses}
+use Rattle.rz_lines.specs.Ends.{Carries, IsEnded}
+use Rattle.rz_lines.specs.Free.{IsEndedOver}
+use Rattle.rz_lines.specs.declared.lines.PlayEnd.{PlayEnd}
+use Rattle.rz_lines.specs.declared.lines.PlayEnd.TheVariants.{Ended, TooManyTurns, NoMemory}
+use Rattle.rz_request.specs.declared.wishes.Wish.{Wish}
+use Rattle.rz_request.specs.declared.wishes.Wish.TheVariants.{Replay, Load, Scrub}
+use Rattle.rz_events.specs.declared.files.Listed.{Listed}
+use Rattle.rz_events.specs.declared.nodes.FetchAnswer.{FetchAnswer}
+use Rattle.rz_events.specs.declared.nodes.FetchAnswer.TheVariants as fetch
+use Rattle.rz_scrub.specs.Records.{Records, no_records}
+use Rattle.rz_words.specs.Grid.{Grid}
+use Rattle.rz_scrubbing.specs.Asks.{AreAsked, AreGiven, IsAsked}
+use Rattle.rz_scrubbing.specs.Scrubs.{AreListed, AreTold, AreUnaltered, EachListed, IsScrubbed}
+use Rattle.rz_scrubbing.specs.Stores.{HasAsked, IsRead, State}
+use Rattle.rz_perform.specs.Output.{Lacks, Sunk}
+use Rattle.rz_perform.specs.Telling.{Performs, Says}
+use Rattle.rz_perform.specs.Scrubs.{AreFound, Finds, IsFoundIn, IsScrubbable, IsSought, Leaves, MayAsk, anything, seen_in}
+
+-- What was found with some knowledge of what disks give was found, whatever they give.
+
+module _ (layout : Layout) (gives : ℕ → Key → Held → List ℕ → List ℕ → Type 0) where
+  read_any : (n : ℕ) (key : Key) (given : FetchAnswer) (before room : List ℕ) → IsRead (anything n key) given before room
+  read_any n key (fetch.Held told) before room = tt
+  read_any n key _ before room = tt
+
+  asked_any : (l : Listed) (position n : ℕ) (w next : State) (s s' : Records) → IsAsked gives l position n w next s s' → IsAsked anything l position n w next s s'
+  asked_any l position n w next s s' a = record {
+    given = a.given;
+    before = a.before;
+    room = a.room;
+    fetched = a.fetched;
+    read = read_any n l.key a.given a.before a.room;
+    records = a.records;
+  }
+
+  all_asked_any : (l : Listed) (position : ℕ) (nodes : List ℕ) (w next : State) (s s' : Records) → AreAsked gives l position nodes w next s s' → AreAsked anything l position nodes w next s s'
+  all_asked_any l position [] w next s s' a = a
+  all_asked_any l position (n ∷ nodes) w next s s' a =
+      (a.0, a.1, asked_any l position n w a.0 s a.1 a.2, all_asked_any l (position + 1) nodes a.0 next a.1 s' a.3)
+
+  all_told_any : (blocks : List Listed) (w : State) (text : List ℕ) (next : State) → AreTold layout gives blocks w text next → AreTold layout anything blocks w text next
+  all_told_any [] w text next t = t
+  all_told_any (l ∷ blocks) w text next t =
+      let found = t.3 in
+      (t.0, t.1, t.2, (found.0, all_asked_any l 0 l.info.places w t.0 (no_records layout) found.0 found.1, found.2), all_told_any blocks t.0 t.2 next t.4, t.5)
+
+  scrubbed_any : (w : State) (text : List ℕ) (next : State) → IsScrubbed layout gives w text next → IsScrubbed layout anything w text next
+  scrubbed_any w text next (blocks, listed, told) = (blocks, listed, all_told_any blocks w text next told)
+
+if_ok : {A E : Type 0} {P Q : A → Type 0} (r : Result A E) → ((x : A) → P x → Q x) → IfOk r P → IfOk r Q
+if_ok (Ok x) f p = f x p
+if_ok (Err e) f p = tt
+
+module _ {S : Type 0} (tells : Bool) (volume : S → Volume) (world : S → World) (is_ready : S → Type 0) (holds : S → (ℕ → ℕ) → Type 0) (described : S → Volume) (state : S → List Event → State)
+    (is_open : S → Type 0) (gives : S → ℕ → Key → Held → List ℕ → List ℕ → Type 0) (counts : S → List Event → (ℕ → ℕ) → Type 0) (only_asked : S → S → Type 0)
+    (scrubbable : IsScrubbable tells volume world is_ready holds described state is_open gives counts only_asked) where
+  -- no line of a scrub of this store says that a record is altered
+  abbrev Unaltered : S → List ℕ → Type 0
+  Unaltered old text = (blocks : List Listed) × AreListed (state old (world old).log).export None blocks × AreUnaltered (described old).layout blocks text
+
+  -- the lines that a store's scrub gives are those of the stage
+  in_stage : (old new : S) (later : List Event) (text : List ℕ) → (IsTrue tells → Unaltered old text)
+      → IsScrubbed (described old).layout (gives old) (state old (world old).log) text (state new (later ++ (world old).log))
+      → IsFoundIn tells (volume old) (world old) later text
+  in_stage old new later text sure told =
+      let U : Volume → State → Type 0 = λ v w. (blocks : List Listed) × AreListed w.export None blocks × AreUnaltered v.layout blocks text in
+      let P : Volume → Type 0 = λ v. IsScrubbed v.layout (gives old) (state old (world old).log) text (state new (later ++ (world old).log)) in
+      let Q : State → Type 0 = λ w. IsScrubbed (volume old).layout (gives old) w text (state new (later ++ (world old).log)) in record {
+        next = state new (later ++ (world old).log);
+        events_are = ap (λ (w : State). w.events) (scrubbable.state_is new (later ++ (world old).log));
+        scrubbed = scrubbed_any (volume old).layout (gives old) (seen_in (world old) (world old).log) text (state new (later ++ (world old).log))
+            (subst Q (scrubbable.state_is old (world old).log) (subst P (scrubbable.described_is old) told));
+        unaltered = λ telling. subst (λ (w : State). U (volume old) w) (scrubbable.state_is old (world old).log)
+            (subst (λ (v : Volume). U v (state old (world old).log)) (scrubbable.described_is old) (sure telling));
+      }
+
+  sought : {A E : Type 0} (items : A → List ℕ) (old new : S) (result : Result A E)
+      → ((text : List ℕ) (next : State) → IsScrubbed (described old).layout (gives old) (state old (world old).log) text next → IsTrue tells → Unaltered old text)
+      → HasAsked is_open described gives state counts only_asked old new (λ w next. IfOk result (λ (text : A). IsScrubbed (described old).layout (gives old) w (items text) next))
+      → Finds tells volume world holds counts only_asked Ended Scrub old new (λ p. IfOk result (λ (lines : A). p (items lines)))
+  sought items old new result sure asked = record {
+    later = asked.later;
+    may = asked.asks;
+    volume_is = sym (scrubbable.described_is new) ∙ asked.onward.described_is ∙ scrubbable.described_is old;
+    log_is = scrubbable.log_is old new asked.onward.asked;
+    left = inr (refl, asked.onward.asked, λ first held. asked.onward.counted (world old).log first (scrubbable.counted old first held));
+    found = if_ok result (λ text told. in_stage old new asked.later (items text) (sure (items text) (state new (asked.later ++ (world old).log)) told) told) (asked.told (world old).log);
+  }
+
+  pub sought_here : {A E : Type 0} (items : A → List ℕ) (end : PlayEnd) (wish : Wish) (old new : S) (result : Result A E) → end ≡ Ended → wish ≡ Scrub
+      → ((w next : State) (text : List ℕ) → EachListed w.export (λ l. (g : Grid) × AreGiven (described old).layout (gives old) w.nodes l g) → IsScrubbed (described old).layout (gives old) w text next
+      → (blocks : List Listed) × AreListed w.export None blocks × AreUnaltered (described old).layout blocks text)
+      → is_ready old → ((first : ℕ → ℕ) × holds old first) → length (world old).log < 2 ^ 64 - 1
+      → HasAsked is_open described gives state counts only_asked old new (λ w next. IfOk result (λ (text : A). IsScrubbed (described old).layout (gives old) w (items text) next))
+      → Finds tells volume world holds counts only_asked end wish old new (λ p. IfOk result (λ (lines : A). p (items lines)))
+  sought_here {A = A} items end wish old new result end_is wish_is law ready (first, held) few asked =
+      let w : State = state old (world old).log in
+      let F : PlayEnd → Wish → Type 0 = λ e w. Finds tells volume world holds counts only_asked e w old new (λ p. IfOk result (λ (lines : A). p (items lines))) in
+      subst (λ (e : PlayEnd). F e wish) (sym end_is) (subst (λ (w : Wish). F Ended w) (sym wish_is)
+      (sought items old new result (λ text next told telling. law w next text (scrubbable.whole old first ready held telling few) told) asked))
+
+-- it was found after the lines
+after : (tells : Bool) (v : Volume) (lines : List Line) (end : PlayEnd) (wish : Wish) (last : World) (later : List Event) (found : List ℕ)
+    → (end ≡ Ended → PlaysLinesOver v lines tells (new_world v) last) → IsSought tells v last end wish later found → AreFound tells v lines end wish last.log later found
+after tells v lines Ended Scrub last later found whole sought = (last, whole refl, refl, sought)
+after tells v lines Ended Replay last later found whole sought = sought
+after tells v lines Ended (Load seed) last later found whole sought = sought
+after tells v lines TooManyTurns Replay last later found whole sought = sought
+after tells v lines TooManyTurns (Load seed) last later found whole sought = sought
+after tells v lines TooManyTurns Scrub last later found whole sought = sought
+after tells v lines NoMemory Replay last later found whole sought = sought
+after tells v lines NoMemory (Load seed) last later found whole sought = sought
+after tells v lines NoMemory Scrub last later found whole sought = sought
+
+-- what a stage tells of its own volume and world is so of the volume and the new world that it stands for
+pub whole_play : (tells : Bool) (v own : Volume) (first : World) (lines given : List Line) (end : PlayEnd) (last : World) → own ≡ v → first ≡ new_world v → given ≡ lines
+    → (end ≡ Ended → PlaysLinesOver own given tells first last) → end ≡ Ended → PlaysLinesOver v lines tells (new_world v) last
+whole_play tells v own first lines given end last volume_is world_is lines_are whole ended =
+    let P : Volume → Type 0 = λ x. PlaysLinesOver x given tells first last in
+    let Q : World → Type 0 = λ x. PlaysLinesOver v given tells x last in
+    let R : List Line → Type 0 = λ x. PlaysLinesOver v x tells (new_world v) last in
+    subst R lines_are (subst Q world_is (subst P volume_is (whole ended)))
+
+-- what is left of the stage
+leaves_so : {S : Type 0} (tells : Bool) (volume : S → Volume) (world : S → World) (holds leaves : S → (ℕ → ℕ) → Type 0) (counts : S → List Event → (ℕ → ℕ) → Type 0) (only_asked : S → S → Type 0)
+    (end : PlayEnd) (wish : Wish) (first played last : S) (IfFound : (List ℕ → Type 0) → Type 0) → Carries (holds first) (leaves played) → (end ≡ Ended → Carries (holds first) (holds played))
+    → (f : Finds tells volume world holds counts only_asked end wish played last IfFound) → Leaves world holds leaves counts only_asked first last f.later
+leaves_so {S} tells volume world holds leaves counts only_asked end wish first played last IfFound left held f = so f.left
+  where
+    so : ((f.later ≡ []) × (last ≡ played)) ⊎ ((end ≡ Ended) × only_asked played last × Carries (holds played) (counts last (f.later ++ (world played).log))) → Leaves world holds leaves counts only_asked first last f.later
+    so (inl (none, same)) = let P : S → Type 0 = λ s. Carries (holds first) (leaves s) in inl (none, subst P (sym same) left)
+    so (inr (ended, asked, counted)) =
+        let P : List Event → Type 0 = λ h. Carries (holds first) (counts last (f.later ++ h)) in
+        inr (played, held ended, asked, subst P (sym f.log_is) (λ c holding. counted c (held ended c holding)))
+
+-- a play, and what was sought after it, as a performance
+module _ {S : Type 0} (tells : Bool) (volume : S → Volume) (world : S → World) (holds leaves : S → (ℕ → ℕ) → Type 0) (counts : S → List Event → (ℕ → ℕ) → Type 0) (only_asked : S → S → Type 0)
+    (v : Volume) (lines : List Line) (wish : Wish) (lost : ℕ) (end : PlayEnd) (first played last : S) where
+  pub performed_so : (IsTrue tells → IsEnded v (new_world v) lines end lost (world played).log) → IsEndedOver tells v (new_world v) lines end lost (world played).log → missed (world played).log ≤ misses lines + lost
+      → (end ≡ Ended → PlaysLinesOver v lines tells (new_world v) (world played)) → volume played ≡ v → Carries (holds first) (leaves played) → (end ≡ Ended → Carries (holds first) (holds played))
+      → (IfFound : (List ℕ → Type 0) → Type 0) (f : Finds tells volume world holds counts only_asked end wish played last IfFound) (sink : Sunk) (status : ℕ)
+      → ((found : List ℕ) × IsSought tells (volume played) (world played) end wish f.later found × Says end wish found (reverse (world last).log) sink status) ⊎ Lacks sink status
+      → (later : List Event) × Leaves world holds leaves counts only_asked first last later × Performs tells v lines wish later lost (world last).log sink status
+  performed_so ended over few whole is_of left held IfFound f sink status told =
+      let P : List Event → Type 0 = λ h. Performs tells v lines wish f.later lost h sink status in
+      let at_end : P (world played).log = (end, ended, over, few, (f.may, tells_so told)) in
+      (f.later, leaves_so tells volume world holds leaves counts only_asked end wish first played last IfFound left held f, subst P (sym f.log_is) at_end)
+    where
+      tells_so : ((found : List ℕ) × IsSought tells (volume played) (world played) end wish f.later found × Says end wish found (reverse (world last).log) sink status) ⊎ Lacks sink status
+          → ((found : List ℕ) × AreFound tells v lines end wish (world played).log f.later found × Says end wish found (reverse (world played).log) sink status) ⊎ Lacks sink status
+      tells_so (inl (found, sought, says)) =
+          let Q : Volume → Type 0 = λ x. IsSought tells x (world played) end wish f.later found in
+          let R : List Event → Type 0 = λ h. Says end wish found (reverse h) sink status in
+          inl (found, after tells v lines end wish (world played) f.later found whole (subst Q is_of sought), subst R f.log_is says)
+      tells_so (inr lacks) = inr lacks

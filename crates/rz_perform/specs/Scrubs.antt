@@ -1,0 +1,83 @@
+-- What a scrub after a play finds.
+use Rattle.std.specs.Prelude.{ℕ, Bool, ◌≡◌, ◌⊎◌, ◌-◌, ◌^◌, ◌<◌, IsTrue, List, [], ◌++◌, None, length}
+use Rattle.rz_events.specs.Volume.{Volume}
+use Rattle.rz_events.specs.declared.keys.Key.{Key}
+use Rattle.rz_events.specs.declared.files.Listed.{Listed}
+use Rattle.rz_events.specs.declared.records.Held.{Held}
+use Rattle.rz_events.specs.declared.events.Event.{Event}
+use Rattle.rz_script.specs.declared.line.Line.{Line}
+use Rattle.rz_play.specs.World.{World, new_world}
+use Rattle.rz_play.specs.Free.{PlaysLinesOver}
+use Rattle.rz_lines.specs.Ends.{Carries}
+use Rattle.rz_lines.specs.declared.lines.PlayEnd.{PlayEnd}
+use Rattle.rz_lines.specs.declared.lines.PlayEnd.TheVariants.{Ended}
+use Rattle.rz_words.specs.Grid.{Grid}
+use Rattle.rz_scrubbing.specs.Asks.{AreGiven}
+use Rattle.rz_scrubbing.specs.Scrubs.{AreListed, AreUnaltered, EachListed, IsScrubbed}
+use Rattle.rz_scrubbing.specs.Stores.{AreAsks, State}
+use Rattle.rz_request.specs.declared.wishes.Wish.{Wish}
+use Rattle.rz_request.specs.declared.wishes.Wish.TheVariants.{Scrub}
+
+-- a world of a play as one who scrubs it sees it, beside these events
+abbrev pub seen_in : World → List Event → State
+seen_in w h = record { export = w.export; nodes = w.nodes; events = h }
+
+-- nothing is said of what a disk gives of a record
+abbrev pub anything : ℕ → Key → Held → List ℕ → List ℕ → Type 0
+anything n key told before room = Unit {0}
+
+-- In this world of a play the nodes were asked, by these events, for the records of each published block of a live file, whatever the
+-- disks gave of them. These are the lines of what was found. Over disks that tell their texts no line says that a record is altered, or
+-- that it is not known which.
+pub record IsFoundIn (tells : Bool) (v : Volume) (last : World) (later : List Event) (found : List ℕ) : Type 0 where
+  pub next : State
+  pub events_are : next.events ≡ later ++ last.log
+  pub scrubbed : IsScrubbed v.layout anything (seen_in last last.log) found next
+  pub unaltered : IsTrue tells → (blocks : List Listed) × AreListed last.export None blocks × AreUnaltered v.layout blocks found
+
+-- only a scrub asks for records, after a whole play
+abbrev pub MayAsk : PlayEnd → Wish → List Event → Type 0
+MayAsk Ended Scrub later = AreAsks later
+MayAsk _ _ later = later ≡ []
+
+-- and it alone finds something
+abbrev pub IsSought : Bool → Volume → World → PlayEnd → Wish → List Event → List ℕ → Type 0
+IsSought tells v last Ended Scrub later found = IsFoundIn tells v last later found
+IsSought tells v last _ _ later found = found ≡ []
+
+-- where these lines were played, with this log
+abbrev pub AreFound : Bool → Volume → List Line → PlayEnd → Wish → List Event → List Event → List ℕ → Type 0
+AreFound tells v lines Ended Scrub h later found =
+    (last : World) × PlaysLinesOver v lines tells (new_world v) last × (last.log ≡ h) × IsFoundIn tells v last later found
+AreFound tells v lines _ _ h later found = found ≡ []
+
+-- A stage that can be scrubbed between two turns: it is a store of its volume with its export and its nodes, what is so of its disks
+-- goes with its log, and it keeps its log while records are asked for. Over disks that tell their texts the nodes of each published
+-- block give the projections of one block of words.
+pub record IsScrubbable {S : Type 0} (tells : Bool) (volume : S → Volume) (world : S → World) (is_ready : S → Type 0) (holds : S → (ℕ → ℕ) → Type 0)
+    (described : S → Volume) (state : S → List Event → State) (is_open : S → Type 0) (gives : S → ℕ → Key → Held → List ℕ → List ℕ → Type 0)
+    (counts : S → List Event → (ℕ → ℕ) → Type 0) (only_asked : S → S → Type 0) : Type 0 where
+  pub described_is : (s : S) → described s ≡ volume s
+  pub state_is : (s : S) (h : List Event) → state s h ≡ seen_in (world s) h
+  pub open_is : (s : S) → is_ready s → is_open s
+  pub counted : (s : S) → Carries (holds s) (counts s (world s).log)
+  pub log_is : (s t : S) → only_asked s t → (world t).log ≡ (world s).log
+  pub whole : (s : S) (first : ℕ → ℕ) → is_ready s → holds s first → IsTrue tells → length (world s).log < 2 ^ 64 - 1
+      → EachListed (state s (world s).log).export (λ l. (g : Grid) × AreGiven (described s).layout (gives s) (state s (world s).log).nodes l g)
+
+-- Where a performance ended, disks and log are as a play leaves them; or, after a play to its end, these records were asked for, and
+-- the faults go with those asks after the log.
+abbrev pub Leaves : {S : Type 0} → (S → World) → (S → (ℕ → ℕ) → Type 0) → (S → (ℕ → ℕ) → Type 0) → (S → List Event → (ℕ → ℕ) → Type 0) → (S → S → Type 0) → S → S → List Event → Type 0
+Leaves {S} world holds leaves counts only_asked old new later =
+    ((later ≡ []) × Carries (holds old) (leaves new))
+    ⊎ ((played : S) × Carries (holds old) (holds played) × only_asked played new × Carries (holds old) (counts new (later ++ (world new).log)))
+
+-- What came of a stage whose play ended so, and of the lines where there are some.
+pub record Finds {S : Type 0} (tells : Bool) (volume : S → Volume) (world : S → World) (holds : S → (ℕ → ℕ) → Type 0) (counts : S → List Event → (ℕ → ℕ) → Type 0) (only_asked : S → S → Type 0)
+    (end : PlayEnd) (wish : Wish) (old new : S) (IfFound : (List ℕ → Type 0) → Type 0) : Type 0 where
+  pub later : List Event
+  pub may : MayAsk end wish later
+  pub volume_is : volume new ≡ volume old
+  pub log_is : (world new).log ≡ (world old).log
+  pub left : ((later ≡ []) × (new ≡ old)) ⊎ ((end ≡ Ended) × only_asked old new × Carries (holds old) (counts new (later ++ (world old).log)))
+  pub found : IfFound (IsSought tells (volume old) (world old) end wish later)
