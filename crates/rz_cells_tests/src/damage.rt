@@ -211,18 +211,26 @@ fn of_two_damages_the_first_is_told(rt: HostRuntime) -> Result<(), Fail> {
     Ok(())
 }
 
+/// One pair of layout 2, of which a disk has 4098 bytes.
+const SMALL: Geometry = Geometry {
+    layout: Layout::L2,
+    bsize: 0,
+    node: 1,
+    cells: 1,
+};
+
 /// Every length up to the disk's and a little more, each on a disk whose next call fails.
 #[test]
 fn a_wrong_size_is_told_before_any_call(rt: HostRuntime) -> Result<(), Fail> {
-    for have in 0..8517 {
+    for have in 0..4101 {
         let mut disk = failing_at(rt.alloc(), 1)?;
         disk.reset(rt.alloc(), have)?;
-        let wanted = if have == 8514 {
+        let wanted = if have == 4098 {
             OpenFault::DiskFault
         } else {
-            OpenFault::WrongSize { have, need: 8514 }
+            OpenFault::WrongSize { have, need: 4098 }
         };
-        let (_, (_, fault)) = reopened(rt.alloc(), ONE, disk);
+        let (_, (_, fault)) = reopened(rt.alloc(), SMALL, disk);
         assert_eq!(rt; fault, Some(wanted), "{have}");
     }
     Ok(())
