@@ -1,2 +1,3 @@
 pub mod Rowwise
+pub mod NodeLemmas
 pub mod FormatLemmas

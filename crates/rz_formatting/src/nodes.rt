@@ -1,6 +1,7 @@
 //! The nodes of a volume.
 ghost use Rattle.std.specs.Prelude.{◌≡◌, ◌++◌, IfOk, OnOk};
-ghost use Rattle.rz_events.specs.Volume.{IsVolume, nodes_of};
+ghost use Rattle.std.specs.List.{AllByRecursion};
+ghost use Rattle.rz_events.specs.Volume.{IsVolume, IsNode, nodes_of};
 
 use rz_config::{ClusterSpec, Volume};
 use rz_events::NodeSpec;
@@ -10,6 +11,7 @@ use std::alloc::{AllocError, Global};
 pub fn all_nodes(alloc: Global, volume: &Volume) -> Result<Vec<NodeSpec>, AllocError>
     ensures nodes { IfOk result (λ v. v.items ≡ nodes_of volume.now.clusters) }
     ensures rules { IsVolume volume.now }
+    ensures proper { AllByRecursion IsNode (nodes_of volume.now.clusters) }
 {
     let mut nodes = Vec::with_capacity(alloc, volume.node_count())?;
     add_clusters(&mut nodes, volume.clusters.as_slice())?;

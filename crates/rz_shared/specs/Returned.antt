@@ -3,10 +3,9 @@ use Rattle.std.specs.Prelude.{ℕ, ◌≡◌, IsTrue, List}
 use Rattle.rz_events.specs.declared.events.Word.TheVariants.{Node}
 use Rattle.rz_core.specs.History.{facts, of_word}
 use Rattle.rz_core.specs.NodeRows.{IsNodeOf}
-use Rattle.rz_image_laws.specs.Images.{AreImages}
+use Rattle.rz_image_laws.specs.Images.{AreImages, geometry_in}
 use Rattle.rz_chronicle.specs.Kinds.{is_honest, volume_in}
 use Rattle.rz_chronicle.specs.Rules.{PostView}
-use Rattle.rz_locked.specs.Seats.{geometry_in}
 
 -- A disk, and the tally of the word of its node, a node of the volume. Over an honest book each image of the disk is one that
 -- this word gives, in the log of the tally.

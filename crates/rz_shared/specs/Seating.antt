@@ -11,7 +11,7 @@ use Rattle.rz_core.specs.NodeRows.{IsNodeOf}
 use Rattle.rz_chronicle.specs.Rules.{PostView}
 use Rattle.rz_chronicle.specs.Deals.{new_post}
 use Rattle.rz_formatting.specs.declared.formatting.Station.{Station}
-use Rattle.rz_locked.specs.Seats.{geometry_in}
+use Rattle.rz_image_laws.specs.Images.{geometry_in}
 
 -- A node of the volume on a disk that was formatted for it, whose one image is its text; and the post of its word, which has no
 -- event.
