@@ -1,5 +1,5 @@
 -- Two lists of one length, taken from their ends.
-use Rattle.std.proofs.Common.{◌≡◌, ℕ, suc, List, [], ◌∷◌, ◌++◌, length, refl, ap, sym, subst}
+use Rattle.std.proofs.Common.{◌≡◌, ℕ, suc, List, [], ◌∷◌, ◌++◌, length, refl, ap, subst}
 use Rattle.std.specs.List.{AllZip}
 
 module _ {A B : Type 0} (R : A → B → Type 0) where
@@ -20,3 +20,15 @@ module _ {A B : Type 0} (R : A → B → Type 0) where
   zip-last (a ∷ []) [] x y all = absurd all.1
   zip-last (a ∷ c ∷ xs) [] x y all = absurd all.1
   zip-last (a ∷ xs) (b ∷ ys) x y all = zip-last xs ys x y all.1
+
+  -- the pair that was taken, and the others
+  pub both-popped : (xs xs' : List A) (ys ys' : List B) (x : A) (y : B) → xs ≡ xs' ++ x ∷ [] → ys ≡ ys' ++ y ∷ [] → AllZip R xs ys → AllZip R xs' ys' × R x y
+  both-popped xs xs' ys ys' x y is js all =
+      let whole : AllZip R (xs' ++ x ∷ []) (ys' ++ y ∷ []) = subst (AllZip R (xs' ++ x ∷ [])) js (subst (λ (l : List A). AllZip R l ys) is all) in
+      (zip-front xs' ys' x y whole, zip-last xs' ys' x y whole)
+
+  pub zip-lengths : (xs : List A) (ys : List B) → AllZip R xs ys → length xs ≡ length ys
+  zip-lengths [] [] all = refl
+  zip-lengths [] (y ∷ ys) all = absurd all
+  zip-lengths (x ∷ xs) [] all = absurd all
+  zip-lengths (x ∷ xs) (y ∷ ys) all = ap suc (zip-lengths xs ys all.1)

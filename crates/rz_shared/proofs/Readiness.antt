@@ -1,5 +1,5 @@
 -- The nodes of a volume, formatted, with the posts of their words.
-use Rattle.std.proofs.Common.{◌≡◌, inl, inr, ℕ, zero, suc, Bool, cond, List, [], ◌∷◌, map, length, refl, sym, ◌∙◌, ap, subst, arith, eq-eqb}
+use Rattle.std.proofs.Common.{◌≡◌, inl, inr, ℕ, zero, suc, Bool, true, false, cond, List, [], ◌∷◌, map, length, refl, sym, ◌∙◌, ap, subst, arith, eq-eqb}
 use Rattle.std.specs.Prelude.{nat_eq, IsTrue}
 use Rattle.std.specs.List.{AllByRecursion, AllZip, zip, IsDistinct}
 use Rattle.mj_angles.specs.Layout.{bsize_of}
@@ -23,9 +23,9 @@ use Rattle.rz_shared.specs.Seating.{IsReady}
 -- A node is one of the volume's, with the cells of its number.
 
 -- what a description says of a node
-record IsDescribed (v : Volume) (n : NodeSpec) : Type 0 where
-  cells : cells_of v n.sid ≡ n.cells
-  of_volume : IsNodeOf v n.sid
+pub record IsDescribed (v : Volume) (n : NodeSpec) : Type 0 where
+  pub cells : cells_of v n.sid ≡ n.cells
+  pub of_volume : IsNodeOf v n.sid
 
 abbrev HasCells : List NodeSpec → NodeSpec → Type 0
 HasCells specs n = cells_among specs n.sid ≡ n.cells
@@ -62,7 +62,7 @@ described v rules = both-hold v (nodes_of v.clusters) (own-cells (nodes_of v.clu
 
 -- Each formatted node and the post of its word are ready.
 
-abbrev post_of : NodeSpec → PostView
+abbrev pub post_of : NodeSpec → PostView
 post_of n = new_post (Node n.sid)
 
 pub posts-are : (specs : List NodeSpec) → map (λ k. new_post (Node k)) (map (λ (n : NodeSpec). n.sid) specs) ≡ map post_of specs
@@ -70,7 +70,7 @@ posts-are [] = refl
 posts-are (n ∷ specs) = ap (λ (ps : List PostView). post_of n ∷ ps) (posts-are specs)
 
 module _ {D : Type 0} (tells : Bool) (meter : D → Meter) (text : D → List ℕ) (image : D → List ℕ → Type 0) (v : Volume) where
-  abbrev Made : NodeSpec × D → Station (UnderFuse D) → Type 0
+  abbrev pub Made : NodeSpec × D → Station (UnderFuse D) → Type 0
   Made = IsFormatted tells meter text image v.layout
 
   ready-one : (n : NodeSpec) (d : D) (s : Station (UnderFuse D)) → IsDescribed v n → Made (n, d) s → IsReady tells text image v s (post_of n)

@@ -2,7 +2,8 @@
 ghost use Rattle.std.specs.Prelude.{◌≡◌, ◌≤◌, IfOk, IfErr, IsTrue, length, map};
 ghost use Rattle.std.specs.Vec.{vec_len, vec_capacity};
 ghost use Rattle.rz_events.specs.declared.events.Word.TheVariants as w;
-ghost use Rattle.rz_events.specs.Volume.{IsVolume, nodes_of};
+ghost use Rattle.std.specs.List.{AllByRecursion};
+ghost use Rattle.rz_events.specs.Volume.{IsVolume, IsNode, nodes_of};
 ghost use Rattle.rz_export_model.specs.Export.{new_export};
 ghost use Rattle.rz_chronicle.specs.Deals.{new_post};
 ghost use Rattle.rz_chronicle.specs.Keys.{sids_of};
@@ -38,6 +39,7 @@ fn new_parts<D: Disk, J: Naming>(alloc: Global, volume: Volume) -> Result<Parts<
     ensures export { IfOk result (λ p. p.export ≡ new_export volume 0) }
     ensures room { IfOk result (λ p. (vec_len p.seats ≡ 0) × (vec_len p.nodes ≤ vec_capacity p.seats)) }
     ensures rules { IsVolume volume }
+    ensures proper { AllByRecursion IsNode (nodes_of volume.clusters) }
 {
     let layout = volume.layout;
     let nodes = all_nodes(alloc, &volume)?;
