@@ -22,10 +22,7 @@ use std::test::*;
 use std::thread::{Threads, join};
 
 /// Four disks whose writes may meet.
-fn four(
-    alloc: Global,
-    meeting: &Meeting,
-) -> Result<Vec<MeetDisk<'_, PlainDisk>>, AllocError>
+fn four(alloc: Global, meeting: &Meeting) -> Result<Vec<MeetDisk<'_, PlainDisk>>, AllocError>
     ensures { IfOk result (λ v. length v.items ≡ 4) }
 {
     vec![in alloc;
