@@ -1,6 +1,6 @@
 -- The seats of a new cluster.
-use Rattle.std.proofs.Common.{◌≡◌, ℕ, suc, Bool, List, [], ◌∷◌, length, map, refl, sym, ◌∙◌, ap, subst, arith}
-use Rattle.std.specs.List.{AllByRecursion, AllZip, zip}
+use Rattle.std.proofs.Common.{◌≡◌, ℕ, suc, Bool, List, [], ◌∷◌, length, map, refl, ap, subst, arith}
+use Rattle.std.specs.List.{AllZip}
 use Rattle.mj_angles.specs.declared.layout.Layout.{Layout}
 use Rattle.rz_disk.specs.Meter.{Meter}
 use Rattle.rz_disk.specs.UnderFuse.{UnderFuse}
@@ -11,7 +11,7 @@ use Rattle.rz_chronicle.specs.Rules.{PostView}
 use Rattle.rz_chronicle.specs.Deals.{new_post}
 use Rattle.rz_chronicle.specs.Keys.{sids_of}
 use Rattle.rz_formatting.specs.declared.formatting.Station.{Station}
-use Rattle.rz_formatting.specs.Formatted.{AreFormatted, IsFormatted, AreBack, IsBack}
+use Rattle.rz_formatting.specs.Formatted.{AreFormatted, AreBack, IsBack}
 use Rattle.rz_formatting.proofs.FormatLemmas.{same-back}
 use Rattle.rz_formatting.proofs.Rowwise.{zip-same}
 use Rattle.rz_shared.specs.Seating.{IsReady}

@@ -1,6 +1,6 @@
 -- The nodes of a volume, formatted, with the posts of their words.
-use Rattle.std.proofs.Common.{◌≡◌, inl, inr, ℕ, zero, suc, Bool, true, false, cond, List, [], ◌∷◌, map, length, refl, sym, ◌∙◌, ap, subst, arith, eq-eqb}
-use Rattle.std.specs.Prelude.{nat_eq, IsTrue}
+use Rattle.std.proofs.Common.{◌≡◌, inl, inr, ℕ, Bool, false, cond, List, [], ◌∷◌, map, length, refl, sym, ◌∙◌, ap, subst, arith, eq-eqb}
+use Rattle.std.specs.Prelude.{nat_eq}
 use Rattle.std.specs.List.{AllByRecursion, AllZip, zip, IsDistinct}
 use Rattle.mj_angles.specs.Layout.{bsize_of}
 use Rattle.rz_disk.specs.Meter.{Meter}

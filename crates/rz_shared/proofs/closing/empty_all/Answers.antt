@@ -1,4 +1,4 @@
-use Rattle.std.proofs.Common.{◌≡◌, ℕ, ◌+◌, length, arith, vec_len}
+use Rattle.std.proofs.Common.{◌≡◌, length, arith, vec_len}
 use Rattle.rz_formatting.proofs.FormatLemmas.{pushed}
 use Rattle.rz_formatting.proofs.Rowwise.{zip-more}
 use Rattle.rz_shared.specs.Returned.{IsReturned}

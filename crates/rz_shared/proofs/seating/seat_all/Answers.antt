@@ -1,4 +1,4 @@
-use Rattle.std.proofs.Common.{◌≡◌, ℕ, ◌+◌, ◌<◌, [], length, arith, vec_len, sym, ◌∙◌}
+use Rattle.std.proofs.Common.{◌≡◌, length, arith, vec_len, ◌∙◌}
 use Rattle.rz_chronicle.specs.Kinds.{volume_in}
 use Rattle.rz_formatting.proofs.FormatLemmas.{pushed}
 use Rattle.rz_shared.specs.Seating.{IsReady}

@@ -1,11 +1,9 @@
-use Rattle.std.proofs.Common.{◌≡◌, ℕ, ◌+◌, ◌≤◌, List, length, map, sym, ◌∙◌, ap, subst, arith, vec_len}
-use Rattle.std.specs.List.{AllByRecursion, AllZip, zip}
+use Rattle.std.proofs.Common.{◌≡◌, length, sym, ◌∙◌, ap, subst, arith, vec_len}
+use Rattle.std.specs.List.{AllByRecursion}
 use Rattle.std.proofs.lemmas.List.{length-map}
 use Rattle.rz_events.specs.Volume.{Volume, IsNode, nodes_of}
 use Rattle.rz_events.specs.declared.files.NodeSpec.{NodeSpec}
 use Rattle.rz_chronicle.specs.Kinds.{volume_in}
-use Rattle.rz_shared.specs.Seating.{IsReady}
-use Rattle.rz_shared.proofs.Pairs.{zip-lengths}
 use Rattle.rz_shared.proofs.NewSeats.{untouched, all-ready, made-length}
 use Rattle.rz_shared.proofs.cluster.Cluster.new.Goals as goal
 
