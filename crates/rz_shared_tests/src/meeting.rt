@@ -25,12 +25,13 @@ use std::thread::{Threads, join};
 fn four(alloc: Global, meeting: &Meeting) -> Result<Vec<MeetDisk<'_, PlainDisk>>, AllocError>
     ensures { IfOk result (λ v. length v.items ≡ 4) }
 {
-    vec![in alloc;
+    let disks = vec![in alloc;
         MeetDisk::new(PlainDisk::new(alloc), meeting),
         MeetDisk::new(PlainDisk::new(alloc), meeting),
         MeetDisk::new(PlainDisk::new(alloc), meeting),
         MeetDisk::new(PlainDisk::new(alloc), meeting),
-    ]
+    ]?;
+    Ok(disks)
 }
 
 /// Gives a record to a node.

@@ -23,12 +23,13 @@ use std::thread::{Threads, join};
 fn four(alloc: Global) -> Result<Vec<PlainDisk>, AllocError>
     ensures { IfOk result (λ v. length v.items ≡ 4) }
 {
-    vec![in alloc;
+    let disks = vec![in alloc;
         PlainDisk::new(alloc),
         PlainDisk::new(alloc),
         PlainDisk::new(alloc),
         PlainDisk::new(alloc),
-    ]
+    ]?;
+    Ok(disks)
 }
 
 /// Asks a node for a record.
@@ -85,7 +86,7 @@ fn fetch_often<D: Disk, J: Naming, R: Wait>(
 {
     let mut pass = pass;
     let mut out = out;
-    for _ in 0..100 {
+    'often: for _ in 0..100 {
         let _answer = fetch(rt, book, cluster, &mut pass, &FIRST, &mut out);
     }
     pass
