@@ -1,6 +1,7 @@
 -- Posts that are given back one after another.
 use Rattle.std.proofs.Common.{◌≡◌, ◌++◌, [], ◌∷◌, ℕ, List, map, sym, refl, ap, ◌∙◌, subst, inl, inr}
-use Rattle.std.specs.List.{AllByRecursion}
+use Rattle.std.specs.List.{AllByRecursion, IsDistinct}
+use Rattle.std.specs.Prelude.{nat_eq}
 use Rattle.std.proofs.lemmas.List.{append_assoc}
 use Rattle.rz_events.specs.declared.events.Event.{Event}
 use Rattle.rz_chronicle.specs.Keys.{word_key, IsOneOf, IsLater}
@@ -19,6 +20,7 @@ pub record Settled (kind : List ℕ) (old : PassView) (done : List PostView) (ne
   pub stays : Stays old.keys old.log new.log
   pub settles : AllByRecursion (λ (p : PostView). IsSettled p new.log) done
   pub fit : IsFit kind new.log
+  pub apart : IsDistinct nat_eq new.keys
 
 -- the export's post and those of the nodes but for the rest
 abbrev pub Settles : List ℕ → PassView → PostView → List PostView → List PostView → PassView → Type 0
@@ -54,9 +56,9 @@ keys-more (x ∷ xs) y = ap (λ (r : List ℕ). word_key x.word ∷ r) (keys-mor
 
 -- one more
 pub settled-more : (kind : List ℕ) (old : PassView) (done : List PostView) (mid : PassView) (p : PostView) (new : PassView) → Settled kind old done mid
-    → new.actor ≡ mid.actor → new.keys ≡ mid.keys ++ word_key p.word ∷ [] → IsLater mid.log new.log → Stays mid.keys mid.log new.log → IsSettled p new.log → IsFit kind new.log
+    → new.actor ≡ mid.actor → new.keys ≡ mid.keys ++ word_key p.word ∷ [] → IsLater mid.log new.log → Stays mid.keys mid.log new.log → IsSettled p new.log → IsFit kind new.log → IsDistinct nat_eq new.keys
     → Settled kind old (done ++ p ∷ []) new
-settled-more kind old done mid p new s actor keys later stays settles fit = record {
+settled-more kind old done mid p new s actor keys later stays settles fit apart = record {
   actor = actor ∙ s.actor;
   keys = keys ∙ (ap (λ (ks : List ℕ). ks ++ word_key p.word ∷ []) s.keys ∙ (append_assoc old.keys (post_keys done) (word_key p.word ∷ []) ∙ ap (λ (ks : List ℕ). old.keys ++ ks) (sym (keys-more done p))));
   later = later-still old.log mid.log new.log s.later later;
@@ -64,4 +66,5 @@ settled-more kind old done mid p new s actor keys later stays settles fit = reco
   settles = all-more (λ (q : PostView). IsSettled q new.log) done p
       (settled-still done mid.log new.log mid.keys (λ k is. subst (IsOneOf k) (sym s.keys) (one-of-right k old.keys (post_keys done) is)) later stays s.settles) settles;
   fit = fit;
+  apart = apart;
 }

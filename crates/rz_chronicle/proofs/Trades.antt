@@ -1,6 +1,8 @@
 -- What a step does to the tallies. Assumes `Logic`.
 use Rattle.std.proofs.Common.{◌≡◌, ◌≢◌, ◌==◌, ℕ, zero, suc, ◌+◌, ◌<◌, ◌≤◌, Bool, true, false, List, [], ◌∷◌, ◌++◌, map, cond, sym, refl, ap, ap₂, ◌∙◌, subst, inl, inr, arith, MatchBool, None}
-use Rattle.std.specs.List.{AllByRecursion}
+use Rattle.std.specs.List.{AllByRecursion, IsDistinct}
+use Rattle.std.specs.Prelude.{nat_eq}
+use Rattle.std.proofs.lemmas.Map.Keys.{IsDistinct-cons}
 use Rattle.std.proofs.lemmas.Bool.Decides.{nat_tests}
 use Rattle.std.proofs.lemmas.Bool.{eqb-true, eqb-false}
 use Rattle.std.proofs.lemmas.List.{append-nil}
@@ -26,7 +28,7 @@ use Rattle.rz_events.specs.declared.events.Event.{Event}
 use Rattle.rz_chronicle.specs.declared.told.Told.{Told}
 use Rattle.rz_chronicle.specs.Keys.{rows, IsInRow}
 use Rattle.rz_chronicle.specs.Kinds.{history, IsFit}
-use Rattle.rz_chronicle.specs.Tally.{halves, parts, at, Agree, counts, grown, kept, hand_owns, gained, AllInRow, IsHolding, Covers, MayFollow, zeros, without, count_in}
+use Rattle.rz_chronicle.specs.Tally.{halves, parts, at, Agree, AreApart, counts, grown, kept, hand_owns, gained, AllInRow, IsHolding, Covers, MayFollow, zeros, without, count_in}
 use Rattle.rz_chronicle.specs.Rules.{IsMove}
 use Rattle.rz_chronicle.proofs.Keys.{fit-first, outside, at-at, at-keys}
 
@@ -60,6 +62,31 @@ put-out f g x held out k = go (k == x.0) refl
       | inl h ↦ elim h [ inl e ↦ absurd (eqb-false k x.0 is e) | inr rest ↦ inl rest ]
       | inr e ↦ inr e
     ]
+
+is-held : (k : ℕ) (held : List (ℕ × ℕ)) → mathlib.Core.Logic.◌⊎◌ (IsHolding k held) (IsHolding k held → ⊥)
+is-held k [] = inr (λ h. h)
+is-held k (x ∷ held) = go (k == x.0) refl (is-held k held)
+  where
+    go : (b : Bool) → (k == x.0) ≡ b → mathlib.Core.Logic.◌⊎◌ (IsHolding k held) (IsHolding k held → ⊥) → mathlib.Core.Logic.◌⊎◌ (IsHolding k (x ∷ held)) (IsHolding k (x ∷ held) → ⊥)
+    go true is rest = inl (inl (eqb-true k x.0 is))
+    go false is rest = elim rest [
+      | inl h ↦ inl (inr h)
+      | inr none ↦ inr (λ h. elim h [ inl e ↦ eqb-false k x.0 is e | inr more ↦ none more ])
+    ]
+
+none-equal : (k : ℕ) (held : List (ℕ × ℕ)) → (IsHolding k held → ⊥) → AllByRecursion (λ (j : ℕ). nat_eq k j ≡ false) (map (λ (x : ℕ × ℕ). x.0) held)
+none-equal k [] none = tt
+none-equal k (x ∷ held) none = (
+  (let apart : k ≢ x.0 = λ e. none (inl e) in grind (arith, nat_tests, apart)),
+  none-equal k held (λ h. none (inr h)),
+)
+
+apart-first : AreApart []
+unfolding IsDistinct
+apart-first = tt
+
+apart-more : (x : ℕ × ℕ) (held : List (ℕ × ℕ)) → (IsHolding x.0 held → ⊥) → AreApart held → AreApart (x ∷ held)
+apart-more x held none rest = IsDistinct-cons nat_eq x.0 (map (λ (y : ℕ × ℕ). y.0) held) (none-equal x.0 held none) rest
 
 module _ {M : Type 1} {𝓤 : Ura M} (𝓛 : Logic 𝓤) (δ : ℕ) where
   open 𝓛 use {H, A as At}
@@ -147,6 +174,43 @@ module _ {M : Type 1} {𝓤 : Ura M} (𝓛 : Logic 𝓤) (δ : ℕ) where
   out k [] h = absurd h
   out k (x ∷ held) h = out-by k x held (out k held) h (x.0 == k) refl
 
+  -- a tally that is held twice: one would stay behind when the other moves
+  twice : (n : ℕ) (f : ℕ → ℕ) (a t u : ℕ) (Z : Pr) → a < n → ⟦ halves δ 0 n f ⟧ ∗ ⟦ part δ a quarter t ⟧ ∗ ⟦ part δ a quarter u ⟧ ⊢ upd 𝓤 Z
+  twice n f a t u Z low =
+      let g : ℕ → ℕ = put f a (f a + 1) in
+      let one : Fml = fsep (part δ a quarter (f a)) (fact (Unit {0})) in let two : Fml = fsep (part δ a quarter (g a)) (fact (Unit {0})) in let three : Fml = fsep (part δ a quarter (g a)) (fact (g a ≡ f a)) in
+      qed 𝓛 (‵ (halves δ 0 n f) ∷ ‵ (part δ a quarter t) ∷ ‵ (part δ a quarter u) ∷ []) ∵ move ! (0 ∷ 2 ∷ []) $
+      use2 𝓛 (raw (upd 𝓤 (⟦ halves δ 0 n f ⟧ ∗ ⟦ one ⟧))) (swap 0 n f f a u (Unit {0}) (omega arith) (omega (arith, low)) (λ b apart. refl) (λ is. tt)) $
+      settle 𝓛 Z (‵ (halves δ 0 n f) ⊛ ‵ one) $ split ! $ move ! (0 ∷ 2 ∷ []) $
+      use2 𝓛 (raw (upd 𝓤 (⟦ halves δ 0 n g ⟧ ∗ ⟦ two ⟧))) (swap 0 n f g a t (Unit {0}) (omega arith) (omega (arith, low)) (λ b apart. put-else f a (f a + 1) b apart) (λ is. tt)) $
+      settle 𝓛 Z (‵ (halves δ 0 n g) ⊛ ‵ two) $ split ! $
+      -- halves, the one that moved, the one that did not
+      move ! (2 ∷ []) $ fsplit ! $ move ! (2 ∷ 0 ∷ []) $
+      use2 𝓛 (raw (upd 𝓤 (⟦ halves δ 0 n g ⟧ ∗ ⟦ three ⟧))) (swap 0 n g g a (f a) (g a ≡ f a) (omega arith) (omega (arith, low)) (λ b apart. refl) (λ is. is)) $
+      settle 𝓛 Z (‵ (halves δ 0 n g) ⊛ ‵ three) $ split ! $ move ! (1 ∷ []) $ fsplit ! $ move ! (1 ∷ []) $
+      fpick ! (λ same. absurd (let moved : g a ≡ f a + 1 = put-here f a (f a + 1) in omega (arith, same, moved)))
+
+  -- so no key of a hand is held twice
+  alone : (n : ℕ) (f : ℕ → ℕ) (held : List (ℕ × ℕ)) → AllByRecursion (λ (x : ℕ × ℕ). x.0 < n) held
+      → ⟦ halves δ 0 n f ⟧ ∗ ⟦ parts δ held ⟧ ⊢ upd 𝓤 (⟦ halves δ 0 n f ⟧ ∗ ⟦ fsep (parts δ held) (fact (AreApart held)) ⟧)
+  alone n f [] low = let Z : Pr = ⟦ halves δ 0 n f ⟧ ∗ ⟦ fsep (parts δ []) (fact (AreApart [])) ⟧ in
+      qed 𝓛 (‵ (halves δ 0 n f) ∷ ‵ (parts δ []) ∷ []) ∵ suffices ! _ (upd_i 𝓤 Z) $
+      nothing ! $ fpack ! (AreApart []) (λ _. ftrue) apart-first $ move ! (2 ∷ 0 ∷ []) $ fjoin ! $ move ! (1 ∷ 0 ∷ []) $ done !
+  alone n f (x ∷ held) low = let Z : Pr = ⟦ halves δ 0 n f ⟧ ∗ ⟦ fsep (parts δ (x ∷ held)) (fact (AreApart (x ∷ held))) ⟧ in
+      let more : Fml = fsep (parts δ held) (fact (AreApart held)) in
+      elim (is-held x.0 held) [
+        | inl h ↦ qed 𝓛 (‵ (halves δ 0 n f) ∷ ‵ (parts δ (x ∷ held)) ∷ []) ∵ move ! (1 ∷ []) $ fsplit ! $ move ! (1 ∷ []) $
+            use1 𝓛 (‵ (part δ x.0 quarter (count_in x.0 held)) ⊛ ‵ (parts δ (without x.0 held))) (out x.0 held h) $ split ! $
+            -- the second, the others, the first, halves
+            keep ! (3 ∷ 2 ∷ 0 ∷ []) $ by ! (twice n f x.0 x.1 (count_in x.0 held) Z low.0)
+        | inr none ↦ qed 𝓛 (‵ (halves δ 0 n f) ∷ ‵ (parts δ (x ∷ held)) ∷ []) ∵ move ! (1 ∷ []) $ fsplit ! $ move ! (2 ∷ 1 ∷ []) $
+            use2 𝓛 (raw (upd 𝓤 (⟦ halves δ 0 n f ⟧ ∗ ⟦ more ⟧))) (alone n f held low.1) $
+            settle 𝓛 Z (‵ (halves δ 0 n f) ⊛ ‵ more) $ split ! $ suffices ! _ (upd_i 𝓤 Z) $
+            -- halves, the others, the first
+            move ! (1 ∷ []) $ fsplit ! $ move ! (1 ∷ []) $ fpick ! (λ rest. drop ! $ move ! (2 ∷ 0 ∷ []) $
+            fjoin ! $ nothing ! $ fpack ! (AreApart (x ∷ held)) (λ _. ftrue) (apart-more x held none rest) $ move ! (1 ∷ 0 ∷ []) $ fjoin ! $ move ! (1 ∷ 0 ∷ []) $ done !)
+      ]
+
   -- at the start each of n tallies is 0
   dealt : (n k : ℕ) → ⟦ roster δ k [] ⟧ ⊢ upd 𝓤 (⟦ halves δ k n (counts []) ⟧ ∗ ⟦ parts δ (zeros k n) ⟧)
   dealt zero k = qed 𝓛 (‵ (roster δ k []) ∷ []) ∵ suffices ! _ (upd_i 𝓤 (⟦ halves δ k zero (counts []) ⟧ ∗ emp 𝓤)) $ drop ! $ nothing ! $ nothing ! $ done !
@@ -183,7 +247,8 @@ module _ {M : Type 1} {𝓤 : Ura M} (𝓛 : Logic 𝓤) (δ : ℕ) where
   trade η kind held log ask low may xs ys won m =
       let c = the_row.coded.code in let Z : Pr = ⟦ kept (δ ∷ η ∷ kind) ys ⟧ ∗ ⟦ gained (δ ∷ η ∷ kind) held xs ys ⟧ in
       let mine : Fml = fsep (parts δ (at (counts xs) held)) (fact (Agree (counts xs) held)) in
-      let all : Type 0 = Agree (counts xs) held × IsFit kind (history ys) in
+      let single : Fml = fsep (parts δ held) (fact (AreApart held)) in
+      let all : Type 0 = Agree (counts xs) held × IsFit kind (history ys) × AreApart held in
       qed 𝓛 (‵ (kept (δ ∷ η ∷ kind) xs) ∷ ‵ (hand_owns δ η held log) ∷ []) ∵
       fsplit3 ! $ move ! (2 ∷ []) $ fpick ! (λ fit. drop ! $ move ! (2 ∷ []) $ fsplit ! $
       -- parts, reached, halves, grown
@@ -192,6 +257,10 @@ module _ {M : Type 1} {𝓤 : Ura M} (𝓛 : Logic 𝓤) (δ : ℕ) where
       let pre : IsPrefix log xs = prefix_out the_row.coded log xs below in
       -- grown, reached, parts, halves
       move ! (3 ∷ 2 ∷ []) $
+      use2 𝓛 (raw (upd 𝓤 (⟦ halves δ 0 rows (counts xs) ⟧ ∗ ⟦ single ⟧))) (alone rows (counts xs) held low) $ settle 𝓛 Z (‵ (halves δ 0 rows (counts xs)) ⊛ ‵ single) $ split ! $
+      move ! (1 ∷ []) $ fsplit ! $ move ! (1 ∷ []) $ fpick ! (λ apart. drop ! $
+      -- parts, halves, grown, reached
+      move ! (1 ∷ 0 ∷ []) $
       use2 𝓛 (raw (upd 𝓤 (⟦ halves δ 0 rows (counts xs) ⟧ ∗ ⟦ mine ⟧))) (agrees rows (counts xs) held low) $ settle 𝓛 Z (‵ (halves δ 0 rows (counts xs)) ⊛ ‵ mine) $ split ! $
       move ! (1 ∷ []) $ fsplit ! $ move ! (1 ∷ []) $ fpick ! (λ agree. drop ! $
       -- parts, halves, grown, reached
@@ -208,9 +277,9 @@ module _ {M : Type 1} {𝓤 : Ura M} (𝓛 : Logic 𝓤) (δ : ℕ) where
       use1 𝓛 (‵ (grown η ys) ⊛ ‵ (reached c η ys)) (latest_shows logs 𝓛 full_share η (map c ys) (map c ys) (logs.same (map c ys))) $ split ! $
       suffices ! _ (upd_i 𝓤 Z) $
       -- grown, reached, halves, parts, the old reached
-      move ! (3 ∷ 1 ∷ []) $ fjoin ! $ nothing ! $ fpack ! all (λ _. ftrue) (agree, so.fit) $ move ! (1 ∷ 0 ∷ []) $ fjoin ! $
+      move ! (3 ∷ 1 ∷ []) $ fjoin ! $ nothing ! $ fpack ! all (λ _. ftrue) (agree, so.fit, apart) $ move ! (1 ∷ 0 ∷ []) $ fjoin ! $
       -- gained, grown, halves, the old reached
-      move ! (1 ∷ []) $ nothing ! $ fpack ! (IsFit kind (history ys)) (λ _. ftrue) so.fit $ move ! (1 ∷ 0 ∷ []) $ fjoin ! $ move ! (2 ∷ 0 ∷ []) $ fjoin ! $ keep ! (0 ∷ 1 ∷ []) $ done !)))
+      move ! (1 ∷ []) $ nothing ! $ fpack ! (IsFit kind (history ys)) (λ _. ftrue) so.fit $ move ! (1 ∷ 0 ∷ []) $ fjoin ! $ move ! (2 ∷ 0 ∷ []) $ fjoin ! $ keep ! (0 ∷ 1 ∷ []) $ done !))))
 
   pub offers : (η : ℕ) (kind : List ℕ) (held : List (ℕ × ℕ)) (log : List Event) (ask : Event) → AllInRow held → (IsInRow ask → Covers held ask × MayFollow kind held log ask)
       → ⟦ hand_owns δ η held log ⟧ ⊢ ⟦ offer_owns (kept (δ ∷ η ∷ kind)) (IsMove ask) (λ answer. gained (δ ∷ η ∷ kind) held answer.before answer.log) None ⟧

@@ -1,6 +1,6 @@
 -- The events of each word and of each actor are counted twice: in the log, and by whoever holds the tally.
-use Rattle.std.specs.Prelude.{◌≡◌, ◌==◌, ◌⊎◌, ◌<◌, ◌++◌, ℕ, zero, suc, cond, List, [], ◌∷◌, map}
-use Rattle.std.specs.List.{AllByRecursion}
+use Rattle.std.specs.Prelude.{◌≡◌, ◌==◌, ◌⊎◌, ◌<◌, ◌++◌, ℕ, zero, suc, cond, List, [], ◌∷◌, map, nat_eq}
+use Rattle.std.specs.List.{AllByRecursion, IsDistinct}
 use mathlib.Core.List.{IsPrefix}
 use base.Fraction.{full_share}
 use base.Growing.{latest}
@@ -32,6 +32,10 @@ at f held = map (λ x. (x.0, f x.0)) held
 abbrev pub Agree : (ℕ → ℕ) → List (ℕ × ℕ) → Type 0
 Agree f held = AllByRecursion (λ x. f x.0 ≡ x.1) held
 
+-- no key is held twice
+abbrev pub AreApart : List (ℕ × ℕ) → Type 0
+AreApart held = IsDistinct nat_eq (map (λ x. x.0) held)
+
 abbrev pub counts : List Event → ℕ → ℕ
 counts log k = count_at k log
 
@@ -48,12 +52,13 @@ kept (δ ∷ η ∷ kind) log = fsep (halves δ 0 rows (counts log)) (fsep (grow
 abbrev pub hand_owns : ℕ → ℕ → List (ℕ × ℕ) → List Event → Fml
 hand_owns δ η held log = fsep (parts δ held) (reached the_row.coded.code η log)
 
--- What an update gained: the hand with the counts of the log after it. The counts that it had were those of the log before.
+-- What an update gained: the hand with the counts of the log after it. The counts that it had were those of the log before, and no
+-- key was held twice.
 abbrev pub gained : List ℕ → List (ℕ × ℕ) → List Event → List Event → Fml
 gained [] held before log = ftrue
 gained (δ ∷ []) held before log = ftrue
 gained (δ ∷ η ∷ kind) held before log =
-    fsep (hand_owns δ η (at (counts log) held) log) (fact (Agree (counts before) held × IsFit kind (history log)))
+    fsep (hand_owns δ η (at (counts log) held) log) (fact (Agree (counts before) held × IsFit kind (history log) × AreApart held))
 
 -- The data of an offer is a list of events, so that keys with counts are written as such.
 abbrev pub note : ℕ × ℕ → Event

@@ -1,6 +1,6 @@
 //! The book: one log to which each call and each act adds one event. No call waits for another.
-ghost use Rattle.std.specs.Prelude.{◌≡◌, ◌+◌, ◌<◌, ◌^◌, ◌++◌, [], ◌∷◌, length, map, Some};
-ghost use Rattle.std.specs.List.{AllByRecursion};
+ghost use Rattle.std.specs.Prelude.{◌≡◌, ◌+◌, ◌<◌, ◌^◌, ◌++◌, [], ◌∷◌, length, map, nat_eq, Some};
+ghost use Rattle.std.specs.List.{AllByRecursion, IsDistinct};
 ghost use Rattle.rz_events.specs.declared.events.Word.{Word as AWord};
 ghost use Rattle.rz_events.specs.declared.events.Word.TheVariants as w;
 ghost use Rattle.rz_events.specs.Events.{word_of as word_at, by_of};
@@ -155,7 +155,7 @@ impl<J: Naming> Book<J> {
         }
     }
 
-    // Lets `front` see a log and gives it the tallies that were kept with it.
+    // Lets `front` see a log and gives it the tallies that were kept with it. No tally was held by two.
     fn absorb(&self, front: &mut Pass<J>, theirs: Hand, seen: &Seen<Event, Told, Law>)
         requires book { seen.now.book ≡ J.book }
         requires theirs { IsHand J.tallies J.copy J.kind seen.now.log theirs }
@@ -163,6 +163,7 @@ impl<J: Naming> Book<J> {
         ensures later { IsLater front.old.log front.new.log × IsLater (history seen.now.log) front.new.log }
         ensures stays { Stays front.old.keys front.old.log front.new.log }
         ensures gathers { Stays (keys theirs.held) (history seen.now.log) front.new.log }
+        ensures apart { IsDistinct nat_eq front.new.keys }
         ensures fit { IsFit J.kind front.new.log }
     {
         if let Some(mine) = front.hand.take() {
@@ -179,6 +180,7 @@ impl<J: Naming> Book<J> {
         ensures later { IsLater front.old.log front.new.log × IsLater other.log front.new.log }
         ensures stays { Stays front.old.keys front.old.log front.new.log }
         ensures gathers { Stays other.keys other.log front.new.log }
+        ensures apart { IsDistinct nat_eq front.new.keys }
         ensures fit { IsFit J.kind front.new.log }
     {
         let Pass {
@@ -199,6 +201,7 @@ impl<J: Naming> Book<J> {
         ensures later { IsLater front.old.log front.new.log }
         ensures stays { Stays front.old.keys front.old.log front.new.log }
         ensures settles { IsSettled post front.new.log }
+        ensures apart { IsDistinct nat_eq front.new.keys }
         ensures fit { IsFit J.kind front.new.log }
     {
         let Post {
@@ -220,6 +223,7 @@ impl<J: Naming> Book<J> {
         ensures later { IsLater front.old.log front.new.log }
         ensures stays { Stays front.old.keys front.old.log front.new.log }
         ensures settles { AllByRecursion (λ p. IsSettled p front.new.log) (desk.export ∷ desk.nodes.items) }
+        ensures apart { IsDistinct nat_eq front.new.keys }
         ensures fit { IsFit J.kind front.new.log }
     {
         let Desk { export, nodes } = desk;

@@ -3,7 +3,7 @@ ghost use Rattle.std.specs.Prelude.{◌≡◌, ◌<◌, ℕ, [], ◌∷◌, ◌+
 ghost use Rattle.rz_events.specs.declared.events.Event.{Event as AnEvent};
 ghost use Rattle.rz_chronicle.specs.Keys.{rows};
 ghost use Rattle.rz_chronicle.specs.Kinds.{IsFit, history};
-ghost use Rattle.rz_chronicle.specs.Tally.{AllInRow, Covers, MayFollow, Agree, IsHolding, at, counts, notes, held_in, mark, zeros, without, count_in};
+ghost use Rattle.rz_chronicle.specs.Tally.{AllInRow, AreApart, Covers, MayFollow, Agree, IsHolding, at, counts, notes, held_in, mark, zeros, without, count_in};
 
 use crate::kinds::Kind;
 use crate::told::Told;
@@ -111,7 +111,7 @@ impl Hand {
     /// The tallies after the step.
     pub fn back(gained: Gained<Event, Told, Mine>) -> Hand
         requires { (n : ℕ × (ℕ × List ℕ)) × (gained.names ≡ n.0 ∷ n.1.0 ∷ n.1.1) }
-        ensures { (result.tallies ∷ result.copy ∷ result.kind ≡ gained.names) × (result.held ≡ at (counts gained.answer.log) (held_in gained.about)) × (result.log ≡ gained.answer.log) × Agree (counts gained.answer.before) (held_in gained.about) × IsFit result.kind (history gained.answer.log) }
+        ensures { (result.tallies ∷ result.copy ∷ result.kind ≡ gained.names) × (result.held ≡ at (counts gained.answer.log) (held_in gained.about)) × (result.log ≡ gained.answer.log) × Agree (counts gained.answer.before) (held_in gained.about) × IsFit result.kind (history gained.answer.log) × AreApart (held_in gained.about) }
     {
         let Gained { marker: _ } = gained;
         Hand {

@@ -5,7 +5,7 @@ ghost use mathlib.Core.List.{IsPrefix};
 ghost use Rattle.rz_events.specs.Events.{word_of as word_at, by_of};
 ghost use Rattle.rz_chronicle.specs.Keys.{count_at, word_key, actor_key, IsInRow, rows};
 ghost use Rattle.rz_chronicle.specs.Kinds.{IsFit, MayCome, history};
-ghost use Rattle.rz_chronicle.specs.Tally.{AllInRow, Covers, HasCount, IsHolding, Ends, Agree, at, counts};
+ghost use Rattle.rz_chronicle.specs.Tally.{AllInRow, AreApart, Covers, HasCount, IsHolding, Ends, Agree, at, counts};
 ghost use Rattle.rz_chronicle.specs.Holds.{AreOfOne, IsRight, Commits, keys};
 
 use crate::hand::{Asks, Hand, Law, Mine};
@@ -76,6 +76,7 @@ pub fn view(
     ensures hand { (result.0.tallies ≡ hand.tallies) × (result.0.copy ≡ hand.copy) × (result.0.kind ≡ hand.kind) }
     ensures held { (result.0.held ≡ at (counts seen.new.log) hand.held) × (result.0.log ≡ seen.new.log) }
     ensures agree { Agree (counts seen.new.log) hand.held }
+    ensures apart { AreApart hand.held }
     ensures seen { IsPrefix seen.old.log seen.new.log }
     ensures fit { IsFit hand.kind (history seen.new.log) }
     ensures count { result.1 ≡ count_at word.now.key seen.new.log }

@@ -18,3 +18,4 @@ mod waiting;
 
 pub use office::Office;
 pub use seat::Seat;
+pub use waiting::{stalled, unanswered};

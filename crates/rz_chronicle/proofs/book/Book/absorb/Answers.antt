@@ -1,5 +1,7 @@
 use Rattle.std.proofs.Common.{◌≡◌, ◌<◌, ◌∙◌, ◌++◌, List, ℕ, sym, ap, subst}
 use mathlib.Core.List.{IsPrefix}
+use Rattle.std.specs.List.{IsDistinct}
+use Rattle.std.specs.Prelude.{nat_eq}
 use Rattle.logbook.specs.Pages.{Named}
 use base.Growing.{prefix_trans}
 use Rattle.rz_events.specs.declared.events.Word.TheVariants.{Own}
@@ -97,3 +99,9 @@ returns-in-Some-clause-gathers g c =
     let held : r.held ≡ at (counts new) (mine.held ++ theirs.held) = a.held.0 ∙ ap (at (counts new)) c.join.ensures.3 in
     let made = stays theirs.held log2 new from2 o.right (agree-right (counts new) mine.held theirs.held agree) in
     made
+
+pub returns-in-Some-clause-apart : goal.returns-in-Some-clause-apart
+returns-in-Some-clause-apart g c =
+    let new = c.view-hand.new.seen.log in
+    let same : keys c.view-hand.result.0.held ≡ keys c.join.result.held = ap keys c.view-hand.ensures.held.0 ∙ at-same-keys (counts new) c.join.result.held in
+    subst (IsDistinct nat_eq) (sym same) c.view-hand.ensures.apart

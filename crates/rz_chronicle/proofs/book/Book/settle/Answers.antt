@@ -10,5 +10,5 @@ nodes-preserved g c =
     let inv = c.nodes.invariant in let post = c.in-Some.post in let one = c.settle_one-in-nodes.ensures in let rest = into_iter_items c.next.new.self in (
       inv.0 ++ post ∷ [],
       inv.1 ∙ (ap (λ (l : List PostView). inv.0 ++ l) c.in-Some.ensures.steps.0 ∙ sym (append_assoc inv.0 (post ∷ []) rest)),
-      settled-more g.J.Naming.kind c.args.front.now (c.args.desk.export ∷ inv.0) c.nodes.front post c.settle_one-in-nodes.new.front inv.2 one.same.0 one.same.1 one.later one.stays one.settles one.fit,
+      settled-more g.J.Naming.kind c.args.front.now (c.args.desk.export ∷ inv.0) c.nodes.front post c.settle_one-in-nodes.new.front inv.2 one.same.0 one.same.1 one.later one.stays one.settles one.fit one.apart,
     )

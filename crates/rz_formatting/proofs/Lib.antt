@@ -1,0 +1,3 @@
+pub mod Rowwise
+pub mod NodeLemmas
+pub mod FormatLemmas

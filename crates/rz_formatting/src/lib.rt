@@ -1,0 +1,17 @@
+//! Disks that are formatted for the nodes of a volume, all of them or none.
+//!
+//! [`format_all`] makes a node on each disk, in the order of the description, each disk in a fuse. Where
+//! one fails, or memory is wanting, all disks come back in their order, and the contract says which images
+//! they may have and that no count of faults fell. It does not say that there is memory.
+//!
+//! In reading order: `nodes`, `fault`, `back`, `formatting`.
+#![tactic(auto)]
+
+mod back;
+mod fault;
+mod formatting;
+mod nodes;
+
+pub use fault::DriverFault;
+pub use formatting::{Station, format_all};
+pub use nodes::all_nodes;

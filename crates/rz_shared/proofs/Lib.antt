@@ -1,0 +1,4 @@
+pub mod Pairs
+pub mod Readiness
+pub mod Returning
+pub mod NewSeats

@@ -1,0 +1,101 @@
+-- The nodes of a volume, formatted, with the posts of their words.
+use Rattle.std.proofs.Common.{◌≡◌, inl, inr, ℕ, Bool, false, cond, List, [], ◌∷◌, map, length, refl, sym, ◌∙◌, ap, subst, arith, eq-eqb}
+use Rattle.std.specs.Prelude.{nat_eq}
+use Rattle.std.specs.List.{AllByRecursion, AllZip, zip, IsDistinct}
+use Rattle.mj_angles.specs.Layout.{bsize_of}
+use Rattle.rz_disk.specs.Meter.{Meter}
+use Rattle.rz_disk.specs.UnderFuse.{UnderFuse}
+use Rattle.rz_events.specs.Volume.{Volume, IsVolume, nodes_of}
+use Rattle.rz_events.specs.declared.files.NodeSpec.{NodeSpec}
+use Rattle.rz_events.specs.declared.events.Word.TheVariants.{Node}
+use Rattle.rz_cells.specs.declared.geometry.Geometry.{Geometry}
+use Rattle.rz_cells.specs.Held.{nothing}
+use Rattle.rz_cells.specs.Stands.{StandsFor}
+use Rattle.rz_core.specs.NodeRows.{cells_among, cells_of, IsNodeOf}
+use Rattle.rz_image_laws.specs.Images.{geometry_in}
+use Rattle.rz_chronicle.specs.Rules.{PostView}
+use Rattle.rz_chronicle.specs.Deals.{new_post}
+use Rattle.rz_chronicle.specs.Keys.{sids_of}
+use Rattle.rz_formatting.specs.declared.formatting.Station.{Station}
+use Rattle.rz_formatting.specs.Formatted.{geometry_of, IsFormatted, AreFormatted}
+use Rattle.rz_shared.specs.Seating.{IsReady}
+
+-- A node is one of the volume's, with the cells of its number.
+
+-- what a description says of a node
+pub record IsDescribed (v : Volume) (n : NodeSpec) : Type 0 where
+  pub cells : cells_of v n.sid ≡ n.cells
+  pub of_volume : IsNodeOf v n.sid
+
+abbrev HasCells : List NodeSpec → NodeSpec → Type 0
+HasCells specs n = cells_among specs n.sid ≡ n.cells
+
+other-cells : (x : NodeSpec) (specs more : List NodeSpec) → AllByRecursion (λ k. nat_eq x.sid k ≡ false) (map (λ (n : NodeSpec). n.sid) more) → AllByRecursion (HasCells specs) more → AllByRecursion (HasCells (x ∷ specs)) more
+other-cells x specs [] apart all = tt
+other-cells x specs (n ∷ more) apart all = (ap (λ (b : Bool). cond b x.cells (cells_among specs n.sid)) apart.0 ∙ all.0, other-cells x specs more apart.1 all.1)
+
+own-cells : (specs : List NodeSpec) → IsDistinct nat_eq (map (λ (n : NodeSpec). n.sid) specs) → AllByRecursion (HasCells specs) specs
+unfolding IsDistinct
+own-cells [] apart = tt
+own-cells (x ∷ specs) apart = (
+  ap (λ (b : Bool). cond b x.cells (cells_among specs x.sid)) (eq-eqb x.sid x.sid refl),
+  other-cells x specs specs apart.0 (own-cells specs apart.1),
+)
+
+abbrev Stands-in : List NodeSpec → NodeSpec → Type 0
+Stands-in specs n = Rattle.rz_node_model.specs.Versions.Stands n.sid (map (λ (m : NodeSpec). m.sid) specs)
+
+behind : (x : NodeSpec) (specs more : List NodeSpec) → AllByRecursion (Stands-in specs) more → AllByRecursion (Stands-in (x ∷ specs)) more
+behind x specs [] all = tt
+behind x specs (n ∷ more) all = (inr all.0, behind x specs more all.1)
+
+each-stands : (specs : List NodeSpec) → AllByRecursion (Stands-in specs) specs
+each-stands [] = tt
+each-stands (x ∷ specs) = (inl refl, behind x specs specs (each-stands specs))
+
+both-hold : (v : Volume) (specs : List NodeSpec) → AllByRecursion (HasCells (nodes_of v.clusters)) specs → AllByRecursion (Stands-in (nodes_of v.clusters)) specs → AllByRecursion (IsDescribed v) specs
+both-hold v [] cells stands = tt
+both-hold v (n ∷ specs) cells stands = (record { cells = cells.0; of_volume = stands.0 }, both-hold v specs cells.1 stands.1)
+
+pub described : (v : Volume) → IsVolume v → AllByRecursion (IsDescribed v) (nodes_of v.clusters)
+described v rules = both-hold v (nodes_of v.clusters) (own-cells (nodes_of v.clusters) rules.distinct_sids) (each-stands (nodes_of v.clusters))
+
+-- Each formatted node and the post of its word are ready.
+
+abbrev pub post_of : NodeSpec → PostView
+post_of n = new_post (Node n.sid)
+
+pub posts-are : (specs : List NodeSpec) → map (λ k. new_post (Node k)) (map (λ (n : NodeSpec). n.sid) specs) ≡ map post_of specs
+posts-are [] = refl
+posts-are (n ∷ specs) = ap (λ (ps : List PostView). post_of n ∷ ps) (posts-are specs)
+
+module _ {D : Type 0} (tells : Bool) (meter : D → Meter) (text : D → List ℕ) (image : D → List ℕ → Type 0) (v : Volume) where
+  abbrev pub Made : NodeSpec × D → Station (UnderFuse D) → Type 0
+  Made = IsFormatted tells meter text image v.layout
+
+  ready-one : (n : NodeSpec) (d : D) (s : Station (UnderFuse D)) → IsDescribed v n → Made (n, d) s → IsReady tells text image v s (post_of n)
+  ready-one n d s it made =
+      let same : geometry_of v.layout n ≡ geometry_in v s.sid = ap (λ (c : ℕ). record { layout = v.layout; bsize = bsize_of v.layout; node = n.sid; cells = c }) (sym it.cells) ∙ ap (geometry_in v) (sym made.number) in
+      record {
+        post_is = ap (λ (k : ℕ). new_post (Node k)) (sym made.number);
+        of_volume = subst (IsNodeOf v) (sym made.number) it.of_volume;
+        geometry = made.geometry ∙ same;
+        state = made.state;
+        stands = λ told. subst (λ (g : Geometry). StandsFor g 0 (text s.node.disk.disk) nothing) (sym made.geometry) (made.stands told);
+        settled = made.settled;
+      }
+
+  ready-each : (specs : List NodeSpec) (disks : List D) (stations : List (Station (UnderFuse D))) → length disks ≡ length specs → AllByRecursion (IsDescribed v) specs → AllZip Made (zip specs disks) stations
+      → AllZip (IsReady tells text image v) stations (map post_of specs)
+  ready-each [] [] [] count each all = tt
+  ready-each [] [] (s ∷ stations) count each all = absurd all
+  ready-each [] (d ∷ disks) stations count each all = absurd (omega (arith, count))
+  ready-each (n ∷ specs) [] stations count each all = absurd (omega (arith, count))
+  ready-each (n ∷ specs) (d ∷ disks) [] count each all = absurd all
+  ready-each (n ∷ specs) (d ∷ disks) (s ∷ stations) count each all = (ready-one n d s each.0 all.0, ready-each specs disks stations (omega (arith, count)) each.1 all.1)
+
+  -- all of them
+  pub ready-all : (rules : IsVolume v) (disks : List D) (stations : List (Station (UnderFuse D))) (posts : List PostView) → length disks ≡ length (nodes_of v.clusters)
+      → AreFormatted tells meter text image v.layout (nodes_of v.clusters) disks stations → posts ≡ map (λ k. new_post (Node k)) (sids_of v) → AllZip (IsReady tells text image v) stations posts
+  ready-all rules disks stations posts count all is =
+      subst (AllZip (IsReady tells text image v) stations) (sym (is ∙ posts-are (nodes_of v.clusters))) (ready-each (nodes_of v.clusters) disks stations count (described v rules) all)

@@ -1,0 +1,21 @@
+//! The cluster: the nodes and the export of a volume, each behind a lock of its own, for any number of
+//! threads.
+//!
+//! A call takes the lock of the one node that it asks, or the export's, calls, and adds the event of the
+//! answer to the book before the lock is let go. So calls of two nodes run side by side, and over an
+//! honest book all calls stand in one legal log, and each answer is right for that log just before its
+//! event. Which book a cluster belongs to is its type parameter.
+//!
+//! No contract says which node stands behind which lock: a call of a lock that has another node than the
+//! one that was asked waits for ever. At the end each disk comes back beside the tally of its own node.
+//!
+//! In reading order: `seating`, `cluster`, `making`, `closing`.
+#![tactic(auto)]
+
+mod closing;
+mod cluster;
+mod making;
+mod seating;
+
+pub use cluster::Cluster;
+pub use rz_formatting::DriverFault;

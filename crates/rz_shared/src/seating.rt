@@ -1,0 +1,51 @@
+//! New nodes take their seats behind locks.
+ghost use Rattle.std.specs.Prelude.{◌≡◌, ◌≤◌, IsTrue};
+ghost use Rattle.std.specs.List.{AllZip};
+ghost use Rattle.std.specs.Vec.{vec_len, vec_capacity};
+ghost use Rattle.rz_chronicle.specs.Kinds.{is_honest, volume_in};
+ghost use Rattle.rz_shared.specs.Seating.{IsReady};
+
+use rz_chronicle::{Naming, Post};
+use rz_disk::{Disk, Fused};
+use rz_formatting::Station;
+use rz_locked::Seat;
+use std::alloc::Global;
+use std::sync::Mutex;
+
+/// A lock for each node with the post of its word, in their order, and the emptied vector of the posts.
+pub(crate) fn seat_all<D: Disk, J: Naming>(
+    alloc: Global,
+    stations: Vec<Station<Fused<D>>>,
+    posts: Vec<Post<J>>,
+    room: Vec<Mutex<Seat<Fused<D>, J>>>,
+) -> (Vec<Mutex<Seat<Fused<D>, J>>>, Vec<Post<J>>)
+    requires ready { AllZip (IsReady D.tells D.text D.image (volume_in J.kind)) stations.items posts.items }
+    requires tells { IsTrue (is_honest J.kind) → IsTrue D.tells }
+    requires room { (vec_len room ≡ 0) × (vec_len stations ≤ vec_capacity room) }
+    ensures count { vec_len result.0 ≡ vec_len stations }
+    ensures empty { vec_len result.1 ≡ 0 }
+    ensures home { vec_capacity result.1 ≡ vec_capacity posts }
+{
+    let mut stations = stations;
+    let mut posts = posts;
+    let mut seats = room;
+    while let Some(station) = stations.pop() {
+        if let Some(post) = posts.pop() {
+            let _seated = seats.push(seated(alloc, station, post));
+        }
+    }
+    seats.reverse();
+    (seats, posts)
+}
+
+/// A lock with a node in it and the post of its word.
+fn seated<D: Disk, J: Naming>(
+    alloc: Global,
+    station: Station<Fused<D>>,
+    post: Post<J>,
+) -> Mutex<Seat<Fused<D>, J>>
+    requires ready { IsReady D.tells D.text D.image (volume_in J.kind) station post }
+    requires tells { IsTrue (is_honest J.kind) → IsTrue D.tells }
+{
+    Mutex::new(Seat::new(alloc, station.sid, station.node, post))
+}
