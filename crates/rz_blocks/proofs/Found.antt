@@ -20,12 +20,6 @@ use Rattle.rz_blocks.proofs.Ranges.{first-range, first-shown, first-above, key_i
 use Rattle.rz_blocks.proofs.Forgets.{first_of_file}
 
 module _ (es : Kept) (ordered : IsStrictlySortedBy key_cmp (keys_of es)) (m : Blocks) (view : map_of es ≡ m) (range : Kept) where
-  pub first-key : (lo hi : Bound Key) (file : ℕ) → IsStartOf lo file → IsEndOf hi file → range ≡ entries_between key_cmp lo hi es
-      → first_given (key_in file) range ≡ first_of_file file (maps.entries m)
-  first-key lo hi file start end between =
-      ap (first_given (key_in file)) between ∙ first-range lo hi file start end es
-      ∙ first-shown (λ e. given_if (e.0.fid == file) e.0) es ∙ sym (ap (first_of_file file) (entries-shown es ordered)) ∙ ap (λ b. first_of_file file (maps.entries b)) view
-
   pub first-entry : (lo : Bound Key) (key : Option Key) → IsStartAbove lo key → range ≡ entries_between key_cmp lo Unbounded es
       → option_map (λ (x : Key × Block). (x.0, x.1.latest, x.1.published)) (option_map (λ x. (x.0, shown x.1)) (lists.find (λ x. true) range)) ≡ entry_above m key
   first-entry lo key start between =
