@@ -8,7 +8,7 @@ use Rattle.std.proofs.lemmas.List.{take-append-drop, length-take}
 use Rattle.std.proofs.lemmas.List.Folds.{find-append}
 use Rattle.rz_marks.specs.declared.row.Row.{Row}
 use Rattle.rz_marks.specs.Rows.{rank, top, row_at, rows_before, IsSmall, IsRising, IsGap, IsThere}
-use Rattle.rz_marks.proofs.Lists.{around, past}
+use Rattle.rz_marks.proofs.Lists.{around}
 use Rattle.rz_marks.proofs.Rising.{spans, lower, higher, front, back}
 use Rattle.rz_marks.proofs.Found.{gap-end, gap-other, is-there}
 
