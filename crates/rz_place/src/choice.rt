@@ -7,14 +7,6 @@ ghost use Rattle.rz_place.specs.Rooms.{rooms_in};
 
 use rz_config::ClusterSpec;
 
-/// A cluster that may be chosen. The free cells of its nodes come first, in the order of the nodes;
-/// others may follow.
-#[derive(Clone, Copy, Debug)]
-pub struct Candidate<'a> {
-    pub cluster: &'a ClusterSpec,
-    pub free: &'a [u64],
-}
-
 /// The sum of a few numbers.
 fn sum_of(numbers: &[u64]) -> u128
     requires { length numbers.now ≤ 64 }
@@ -45,61 +37,65 @@ fn after<'a>(free: &'a [u64], cluster: &ClusterSpec) -> &'a [u64]
     &free[cluster.nodes.len()..]
 }
 
-/// Whether `a` is better than `b`.
-fn is_better(a: Candidate, b: Candidate) -> bool
-    requires a_few { length a.cluster.now.nodes ≤ 64 }
-    requires a_told { length a.cluster.now.nodes ≤ length a.free.now }
-    requires b_few { length b.cluster.now.nodes ≤ 64 }
-    requires b_told { length b.cluster.now.nodes ≤ length b.free.now }
-    ensures { result ≡ is_better (rooms_in a.cluster.now a.free.now) (rooms_in b.cluster.now b.free.now) }
+/// Whether `a` is better than `b`, each with the free cells of its nodes.
+fn is_better(a: &ClusterSpec, a_free: &[u64], b: &ClusterSpec, b_free: &[u64]) -> bool
+    requires a_few { length a.now.nodes ≤ 64 }
+    requires a_told { length a.now.nodes ≤ length a_free.now }
+    requires b_few { length b.now.nodes ≤ 64 }
+    requires b_told { length b.now.nodes ≤ length b_free.now }
+    ensures { result ≡ is_better (rooms_in a.now a_free.now) (rooms_in b.now b_free.now) }
 {
-    let x = free_cells(a.cluster, a.free);
-    let y = free_cells(b.cluster, b.free);
-    y < x || (x == y && a.cluster.cid < b.cluster.cid)
+    let x = free_cells(a, a_free);
+    let y = free_cells(b, b_free);
+    y < x || (x == y && a.cid < b.cid)
 }
 
-/// The better of two clusters.
-fn better_of<'a>(a: Candidate<'a>, b: Candidate<'a>) -> Candidate<'a>
-    requires a_few { length a.cluster.now.nodes ≤ 64 }
-    requires a_told { length a.cluster.now.nodes ≤ length a.free.now }
-    requires b_few { length b.cluster.now.nodes ≤ 64 }
-    requires b_told { length b.cluster.now.nodes ≤ length b.free.now }
-    ensures better { rooms_in result.cluster.now result.free.now ≡ cond (is_better (rooms_in a.cluster.now a.free.now) (rooms_in b.cluster.now b.free.now)) (rooms_in a.cluster.now a.free.now) (rooms_in b.cluster.now b.free.now) }
-    ensures few { length result.cluster.now.nodes ≤ 64 }
-    ensures told { length result.cluster.now.nodes ≤ length result.free.now }
-    ensures least { (n : ℕ) → n ≤ length a.cluster.now.nodes → n ≤ length b.cluster.now.nodes → n ≤ length result.cluster.now.nodes }
+/// The better of two clusters, with its free cells.
+fn better_of<'a>(
+    a: &'a ClusterSpec,
+    a_free: &'a [u64],
+    b: &'a ClusterSpec,
+    b_free: &'a [u64],
+) -> (&'a ClusterSpec, &'a [u64])
+    requires a_few { length a.now.nodes ≤ 64 }
+    requires a_told { length a.now.nodes ≤ length a_free.now }
+    requires b_few { length b.now.nodes ≤ 64 }
+    requires b_told { length b.now.nodes ≤ length b_free.now }
+    ensures better { rooms_in result.0.now result.1.now ≡ cond (is_better (rooms_in a.now a_free.now) (rooms_in b.now b_free.now)) (rooms_in a.now a_free.now) (rooms_in b.now b_free.now) }
+    ensures few { length result.0.now.nodes ≤ 64 }
+    ensures told { length result.0.now.nodes ≤ length result.1.now }
+    ensures least { (n : ℕ) → n ≤ length a.now.nodes → n ≤ length b.now.nodes → n ≤ length result.0.now.nodes }
 {
-    if is_better(a, b) { a } else { b }
+    if is_better(a, a_free, b, b_free) {
+        (a, a_free)
+    } else {
+        (b, b_free)
+    }
 }
 
-/// The best of a cluster and some more. The free cells are those of the nodes of all of them.
+/// The best of a cluster and some more, with its free cells and those after them.
 pub fn best_of<'a>(
     first: &'a ClusterSpec,
     others: &'a [ClusterSpec],
     free: &'a [u64],
-) -> Candidate<'a>
+) -> (&'a ClusterSpec, &'a [u64])
     requires few { length first.now.nodes ≤ 64 }
     requires few_each { All (λ c. length c.nodes ≤ 64) others.now }
     requires told { length first.now.nodes + length (nodes_of others.now) ≤ length free.now }
-    ensures best { rooms_in result.cluster.now result.free.now ≡ best_of (rooms_in first.now free.now) (clusters_of others.now (drop (length first.now.nodes) free.now)) }
-    ensures few { length result.cluster.now.nodes ≤ 64 }
-    ensures told { length result.cluster.now.nodes ≤ length result.free.now }
-    ensures least { (n : ℕ) → n ≤ length first.now.nodes → All (λ c. n ≤ length c.nodes) others.now → n ≤ length result.cluster.now.nodes }
+    ensures best { rooms_in result.0.now result.1.now ≡ best_of (rooms_in first.now free.now) (clusters_of others.now (drop (length first.now.nodes) free.now)) }
+    ensures few { length result.0.now.nodes ≤ 64 }
+    ensures told { length result.0.now.nodes ≤ length result.1.now }
+    ensures least { (n : ℕ) → n ≤ length first.now.nodes → All (λ c. n ≤ length c.nodes) others.now → n ≤ length result.0.now.nodes }
 {
-    let mut best = Candidate {
-        cluster: first,
-        free,
-    };
+    let mut best = first;
+    let mut best_free = free;
     let mut rest = after(free, first);
     for cluster in others {
-        let next = Candidate {
-            cluster,
-            free: rest,
-        };
-        let better = better_of(next, best);
-        best = better;
+        let better = better_of(cluster, rest, best, best_free);
+        best = better.0;
+        best_free = better.1;
         let following = after(rest, cluster);
         rest = following;
     }
-    best
+    (best, best_free)
 }

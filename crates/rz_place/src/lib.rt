@@ -46,6 +46,6 @@ pub fn place(volume: &Volume, free: &[u64]) -> (u16, Places)
     let Some((first, others)) = volume.clusters.as_slice().split_first() else {
         return (0, Places::none());
     };
-    let best = choice::best_of(first, others, free);
-    (best.cluster.cid, first_nodes(safe, best.cluster, best.free))
+    let (best, free) = choice::best_of(first, others, free);
+    (best.cid, first_nodes(safe, best, free))
 }

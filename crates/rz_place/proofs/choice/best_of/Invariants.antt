@@ -7,8 +7,8 @@ use Rattle.rz_place.proofs.choice.best_of.Given as goal
 
 abbrev pub invariant-loop-cluster : goal.invariant-loop-cluster
 invariant-loop-cluster l =
-    (best_of (rooms_in l.best.cluster.now l.best.free.now) (clusters_of (drop l.cluster-index l.others) l.rest) ≡ best_of (rooms_in l.first l.free) (clusters_of l.others (drop (length l.first.nodes) l.free)))
-    × (length l.best.cluster.now.nodes ≤ 64)
-    × (length l.best.cluster.now.nodes ≤ length l.best.free.now)
+    (best_of (rooms_in l.best l.best_free) (clusters_of (drop l.cluster-index l.others) l.rest) ≡ best_of (rooms_in l.first l.free) (clusters_of l.others (drop (length l.first.nodes) l.free)))
+    × (length l.best.nodes ≤ 64)
+    × (length l.best.nodes ≤ length l.best_free)
     × (length (nodes_of (drop l.cluster-index l.others)) ≤ length l.rest)
-    × ((n : ℕ) → n ≤ length l.first.nodes → All (λ c. n ≤ length c.nodes) l.others → n ≤ length l.best.cluster.now.nodes)
+    × ((n : ℕ) → n ≤ length l.first.nodes → All (λ c. n ≤ length c.nodes) l.others → n ≤ length l.best.nodes)
