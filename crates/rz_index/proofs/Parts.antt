@@ -1,14 +1,14 @@
 -- Entries l, m and r in the order of their keys: what is found among them, and what an edit on one side leaves.
-use Rattle.std.proofs.Common.{◌≡◌, ℕ, suc, ◌+◌, Bool, true, false, cond, not, T, List, [], ◌∷◌, ◌++◌, length, Option, Some, None, sym, ap, subst, ◌∙◌, refl, append_assoc, length-append, arith}
-use Rattle.std.specs.Ordering.{is_lt, is_eq, ordering_reverse, eq_by_cmp}
+use Rattle.std.proofs.Common.{◌≡◌, suc, ◌+◌, Bool, true, false, cond, T, List, [], ◌∷◌, ◌++◌, length, Some, sym, ap, subst, ◌∙◌, refl, append_assoc, length-append, arith}
+use Rattle.std.specs.Ordering.{is_lt, is_eq, ordering_reverse}
 use Rattle.std.specs.declared.cmp.Ordering.{Ordering}
 use Rattle.std.specs.declared.cmp.Ordering.TheVariants.{Less, Equal, Greater}
-use Rattle.std.specs.FinMap.Entries.{find, put, where_key, is_sorted, below_all, by_order}
+use Rattle.std.specs.FinMap.Entries.{find, put, where_key, below_all, by_order}
 use Rattle.rz_events.specs.Keys.{key_cmp, keys_total, exact_keys}
 use Rattle.rz_events.specs.declared.keys.Key.{Key}
 use Rattle.rz_index.specs.declared.index.Entry.{Entry}
 use Rattle.rz_index.specs.Indexed.{pairs_of, IsSorted}
-use Rattle.rz_index.proofs.Row.{first, second, both, less, lower, find-below, same_key, flip_less, other, all-stay}
+use Rattle.rz_index.proofs.Row.{first, second, both, less, lower, find-below, flip_less, other, all-stay}
 
 -- the key comes behind all of these
 abbrev pub IsPast : Key → List Entry → Type 0

@@ -1,5 +1,5 @@
 -- What contracts see of an index, and how it is kept.
-use Rattle.std.specs.Prelude.{ℕ, ◌≡◌, ◌+◌, ◌≤◌, ◌==◌, T, cond, List, [], ◌∷◌, ◌++◌, map, length, Option, Some, None, Box, refl}
+use Rattle.std.specs.Prelude.{ℕ, ◌+◌, ◌≤◌, ◌==◌, T, cond, List, [], ◌∷◌, ◌++◌, map, length, Option, Some, None, Box, refl}
 use Rattle.std.specs.Option.{option_map}
 use Rattle.std.specs.Coded.{Coded, code_by, coded×, coded_ℕ, coded_list}
 use Rattle.std.specs.List as lists

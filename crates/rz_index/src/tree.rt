@@ -307,7 +307,11 @@ impl Node {
     fn measure(&mut self)
         ensures { self.new ≡ self.old }
     {
-        self.height = self.left.height().max(self.right.height()).saturating_add(1);
+        self.height = self
+            .left
+            .height()
+            .max(self.right.height())
+            .saturating_add(1);
     }
 }
 

@@ -1,11 +1,11 @@
-use Rattle.std.proofs.Common.{ℕ, suc, ◌≡◌, ◌+◌, ◌≤◌, List, length, Bool, true, false, cond, is_some, Option, Some, None, sym, ap, ◌∙◌, subst, refl, arith, rules}
+use Rattle.std.proofs.Common.{ℕ, suc, ◌≡◌, ◌+◌, ◌≤◌, List, length, true, false, cond, is_some, Option, Some, None, sym, ap, ◌∙◌, subst, refl, arith, rules}
 use Rattle.std.specs.Prelude.{MatchOption}
 use Rattle.std.specs.List.{Contains}
 use Rattle.std.specs.FinMap as maps
 use Rattle.std.specs.FinMap.Entries.{find}
 use Rattle.rz_events.specs.Keys.{key_cmp}
 use Rattle.rz_index.specs.declared.index.Entry.{Entry}
-use Rattle.rz_index.specs.Indexed.{Indexed, pairs_of, taken_in, erase}
+use Rattle.rz_index.specs.Indexed.{Indexed, pairs_of, taken_in}
 use Rattle.rz_index.proofs.Row.{get-made, sorted-put, made-put, put-length}
 use Rattle.rz_index.proofs.Cells.{taken_out}
 use Rattle.rz_index.proofs.index.Index.set.Goals as goal

@@ -15,8 +15,11 @@ put-left-requires t c =
     let sizes = parts-long c.args.self p.left m p.right whole in
     let sorted = subst IsSorted whole c.requires.sorted in (
       search (rules, sizes),
-      (front-sorted p.left (m ∷ p.right) sorted, λ none missing.
-      c.requires.room none (ap (λ es. find key_cmp k (pairs_of es)) whole ∙ find-left k p.left m p.right sorted (sym c.cmp.ensures ∙ c.in-Less.is) ∙ missing)),
+      (
+        front-sorted p.left (m ∷ p.right) sorted,
+        λ none missing.
+            c.requires.room none (ap (λ es. find key_cmp k (pairs_of es)) whole ∙ find-left k p.left m p.right sorted (sym c.cmp.ensures ∙ c.in-Less.is) ∙ missing),
+      ),
     )
 
 pub put-right-requires : goal.put-right-requires
@@ -29,8 +32,11 @@ put-right-requires t c =
     let sizes = parts-long c.args.self p.left m p.right whole in
     let sorted = subst IsSorted whole c.requires.sorted in (
       search (rules, sizes),
-      (rest-sorted p.left m p.right sorted, λ none missing.
-      c.requires.room none (ap (λ es. find key_cmp k (pairs_of es)) whole ∙ find-right k p.left m p.right sorted (sym c.cmp.ensures ∙ c.in-Greater.is) ∙ missing)),
+      (
+        rest-sorted p.left m p.right sorted,
+        λ none missing.
+            c.requires.room none (ap (λ es. find key_cmp k (pairs_of es)) whole ∙ find-right k p.left m p.right sorted (sym c.cmp.ensures ∙ c.in-Greater.is) ∙ missing),
+      ),
     )
 
 pub returns-in-Less : goal.returns-in-Less
