@@ -26,7 +26,7 @@ use Rattle.rz_block_laws.specs.Laws.{IsNoFetch}
 use Rattle.rz_block_laws.specs.Turns.{HasInHand, IsToldLaw}
 use Rattle.rz_driver.specs.declared.seat.Seat.{Seat}
 use Rattle.rz_driver.specs.declared.station.Shared.{Shared}
-use Rattle.rz_driver.specs.declared.station.Station.{Station}
+use Rattle.rz_formatting.specs.declared.formatting.Station.{Station}
 use Rattle.rz_driver.specs.Acts.{IsAct, IsFate, Rests, Exports, Opens, Sends, Says, Through, ReplyLost, RequestLost}
 use Rattle.rz_driver.specs.Nodes.{IsAsked, IsThroughPart, IsReplyLostPart, IsRequestLostPart}
 use Rattle.rz_driver.specs.Pictures.{HasImages, HasTrueHand, IsTrueSeat, KeepsNode, SparesNode, KeepsPicture, SparesPicture}

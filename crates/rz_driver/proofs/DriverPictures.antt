@@ -24,7 +24,7 @@ use Rattle.rz_lines.specs.Ends.{Carries}
 use Rattle.rz_block_laws.specs.Turns.{IsLastingLaw}
 use Rattle.rz_driver.specs.declared.driver.Driver.{Driver}
 use Rattle.rz_driver.specs.declared.seat.Seat.{Seat}
-use Rattle.rz_driver.specs.declared.station.Station.{Station}
+use Rattle.rz_formatting.specs.declared.formatting.Station.{Station}
 use Rattle.rz_driver.specs.Meters.{AreMetered, AreCounted}
 use Rattle.rz_driver.specs.Pictures.{AreImaged, HasTrueHand, IsTrueSeat, IsPicture, IsRight, KeepsPicture, KeepsRow, SparesPicture, SparesRow, fused_image}
 use Rattle.rz_driver.specs.Seats.{HasLayout, seat_of, work_in}

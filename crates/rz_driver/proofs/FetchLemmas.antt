@@ -34,12 +34,13 @@ use Rattle.rz_scrubbing.specs.Stores.{GoesOn, IsFetched, IsRead}
 use Rattle.rz_driver.specs.declared.driver.Driver.{Driver}
 use Rattle.rz_driver.specs.declared.seat.Seat.{Seat}
 use Rattle.rz_driver.specs.declared.station.Shared.{Shared}
-use Rattle.rz_driver.specs.declared.station.Station.{Station}
+use Rattle.rz_formatting.specs.declared.formatting.Station.{Station}
 use Rattle.rz_driver.specs.Fetches.{HaveRoom, IsFetch, GivesAt, GivesIn, GivesOf, Metered, state_of}
 use Rattle.rz_driver.specs.Meters.{AreMetered, Goes}
 use Rattle.rz_driver.specs.OnlyAsked.{IsOnlyAsked, AreOnlyAsked, WasOnlyAsked, fused_text}
 use Rattle.rz_driver.specs.Pictures.{AreDisksImaged, fused_image}
-use Rattle.rz_driver.specs.Stations.{IsAt, IsCalled, IsNowhere, IsStation, disks_of, numbers_of, state_in}
+use Rattle.rz_driver.specs.Stations.{IsAt, IsCalled, IsNowhere, IsStation, numbers_of, state_in}
+use Rattle.rz_formatting.specs.Formatted.{disks_of}
 use Rattle.rz_driver.specs.Worlds.{IsDriver}
 use Rattle.rz_driver.specs.AskedLaws.{all-themselves, one-itself}
 use Rattle.rz_driver.proofs.EventWords.{node-word, noted-others}

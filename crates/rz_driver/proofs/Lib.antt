@@ -1,4 +1,3 @@
-pub mod Rowwise
 pub mod Asks
 pub mod Fits
 pub mod SeatLemmas
@@ -11,7 +10,6 @@ mod MessageLemmas
 mod TakeLemmas
 mod ActorOrders
 mod MadeLemmas
-mod FormatLemmas
 mod NodeOrders
 mod EventWords
 mod MeterLemmas

@@ -44,15 +44,15 @@ use Rattle.rz_disk_laws.specs.Metered.{IsMetered, IsNoStart, IsFaultLaw, IsArmLa
 use Rattle.rz_disk.specs.declared.disk.Disk.{Ghosts}
 use Rattle.rz_disk.specs.UnderFuse.{UnderFuse, fused_meter}
 use Rattle.rz_driver.specs.declared.driver.Driver.{Driver}
-use Rattle.rz_driver.specs.declared.station.Station.{Station}
+use Rattle.rz_formatting.specs.declared.formatting.Station.{Station}
 use Rattle.rz_lines.specs.Ends.{Carries}
 use Rattle.rz_driver.specs.Worlds.{numbers_in, IsDriver, Holds, Leaves}
 use Rattle.rz_asks.specs.Parts.{IsNoted}
-use Rattle.rz_driver.specs.Stations.{IsAt, numbers_of, disks_of}
+use Rattle.rz_driver.specs.Stations.{IsAt, numbers_of}
 use Rattle.mj_angles.specs.declared.layout.Layout.{Layout}
 use Rattle.rz_events.specs.declared.files.NodeSpec.{NodeSpec}
 use Rattle.rz_events.specs.Volume.{Volume, IsVolume, nodes_of}
-use Rattle.rz_driver.specs.Made.{AreNew, faults_in, faults_at}
+use Rattle.rz_formatting.specs.Formatted.{AreFormatted, disks_of}
 use Rattle.rz_driver.specs.Meters.{IsExact, GoesWith, CountsWith, OfEach, AreMetered, AreCounted, AreDisksCounted, GoesOn, Goes}
 use Rattle.rz_driver.proofs.EventWords.{word-stays, word-grows, word-apart, node-word, export-quiet, said-quiet, noted-own, noted-others}
 
@@ -404,28 +404,28 @@ module _ {D : Type 0} (meter : D → Meter) (first : ℕ → ℕ) where
     },
   )
 
-  pub new-each : (tells : Bool) (image : D → List ℕ → Type 0) (layout : Layout) (i : ℕ) (nodes : List NodeSpec) (disks : List D) (row : List (Station (UnderFuse D)))
-      → ((k : ℕ) (d : D) → slice_get disks k ≡ Some d → first (i + k) ≡ faults (meter d)) → AreNew tells meter image layout nodes disks row → OfEach (GoesWith (fused_meter meter)) first i row []
-  new-each tells image layout i nodes disks [] at new = tt
-  new-each tells image layout i [] disks (s ∷ row) at new = absurd new
-  new-each tells image layout i (n ∷ nodes) [] (s ∷ row) at new = absurd new
-  new-each tells image layout i (n ∷ nodes) (d ∷ disks) (s ∷ row) at new =
+  pub new-each : (tells : Bool) (text : D → List ℕ) (image : D → List ℕ → Type 0) (layout : Layout) (i : ℕ) (nodes : List NodeSpec) (disks : List D) (row : List (Station (UnderFuse D)))
+      → ((k : ℕ) (d : D) → slice_get disks k ≡ Some d → first (i + k) ≡ faults (meter d)) → AreFormatted tells meter text image layout nodes disks row → OfEach (GoesWith (fused_meter meter)) first i row []
+  new-each tells text image layout i nodes disks [] at new = tt
+  new-each tells text image layout i [] disks (s ∷ row) at new = absurd new
+  new-each tells text image layout i (n ∷ nodes) [] (s ∷ row) at new = absurd new
+  new-each tells text image layout i (n ∷ nodes) (d ∷ disks) (s ∷ row) at new =
       let here = at 0 d refl in
       let plain : i + 0 ≡ i = omega arith in
       let low = new.0.count in
       let first_is : first i ≡ faults (meter d) = ap first (sym plain) ∙ here in (
         unarmed-goes (first i) s.node new.0.unarmed (omega (arith, first_is, low)),
-        new-each tells image layout (i + 1) nodes disks row (λ k e is. let shift : i + 1 + k ≡ i + suc k = omega arith in ap first shift ∙ at (suc k) e is) new.1,
+        new-each tells text image layout (i + 1) nodes disks row (λ k e is. let shift : i + 1 + k ≡ i + suc k = omega arith in ap first shift ∙ at (suc k) e is) new.1,
       )
 
 -- a new driver
-pub new-holds : {D : Type 0} (tells : Bool) (meter : D → Meter) (image : D → List ℕ → Type 0) (v : Volume) → IsVolume v → (disks : List D) (numbers : List ℕ) (row : List (Station (UnderFuse D))) (h : List Event)
-    → numbers_of row ≡ numbers → numbers ≡ map (λ (n : NodeSpec). n.sid) (nodes_of v.clusters) → AreNew tells meter image v.layout (nodes_of v.clusters) disks row → h ≡ []
+pub new-holds : {D : Type 0} (tells : Bool) (meter : D → Meter) (text : D → List ℕ) (image : D → List ℕ → Type 0) (v : Volume) → IsVolume v → (disks : List D) (numbers : List ℕ) (row : List (Station (UnderFuse D))) (h : List Event)
+    → numbers_of row ≡ numbers → numbers ≡ map (λ (n : NodeSpec). n.sid) (nodes_of v.clusters) → AreFormatted tells meter text image v.layout (nodes_of v.clusters) disks row → h ≡ []
     → AreMetered (fused_meter meter) numbers row h (faults_at meter disks)
-new-holds tells meter image v rules disks numbers row h named same new none = subst (λ (k : List Event). AreMetered (fused_meter meter) numbers row k (faults_at meter disks)) (sym none) (record {
+new-holds tells meter text image v rules disks numbers row h named same new none = subst (λ (k : List Event). AreMetered (fused_meter meter) numbers row k (faults_at meter disks)) (sym none) (record {
   named = named;
   apart = subst (IsDistinct nat_eq) (sym same) rules.distinct_sids;
-  each = new-each meter (faults_at meter disks) tells image v.layout 0 (nodes_of v.clusters) disks row
+  each = new-each meter (faults_at meter disks) tells text image v.layout 0 (nodes_of v.clusters) disks row
       (λ k d is. let plain : 0 + k ≡ k = omega arith in ap (faults_at meter disks) plain ∙ ap (faults_in meter) is) new;
 })
 

@@ -29,7 +29,7 @@ use Rattle.rz_play.specs.Lines.{IsAdminCall, noted}
 use Rattle.rz_play.specs.Free.{IsFreeStart, PlaysLineOver}
 use Rattle.rz_driver.specs.declared.driver.Driver.{Driver}
 use Rattle.rz_driver.specs.declared.station.Shared.{Shared}
-use Rattle.rz_driver.specs.declared.station.Station.{Station}
+use Rattle.rz_formatting.specs.declared.formatting.Station.{Station}
 use Rattle.rz_driver.specs.Administration.{IsOrdered, IsStarted, IsCalledAt, IsArming}
 use Rattle.rz_driver.specs.Seats.{IsSeat}
 use Rattle.rz_driver.specs.Stations.{state_in, numbers_of, IsStation}

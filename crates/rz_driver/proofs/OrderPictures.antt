@@ -25,7 +25,7 @@ use Rattle.rz_asks.specs.Logged.{stamp_begun}
 use Rattle.rz_image_laws.specs.Images.{IsImaged, geometry_in}
 use Rattle.rz_image_laws.specs.Laws.{IsCallLaw, IsCrashLaw, IsFewerLaw, IsLongerLaw}
 use Rattle.rz_image_laws.specs.Records.{HandsRecord}
-use Rattle.rz_driver.specs.declared.station.Station.{Station}
+use Rattle.rz_formatting.specs.declared.formatting.Station.{Station}
 use Rattle.rz_driver.specs.Pictures.{HasImages, KeepsImages, KeepsRow, SparesRow}
 use Rattle.rz_driver.proofs.MessagePictures.{node-quiet}
 use Rattle.rz_driver.proofs.PictureLemmas.{GrowsBy, row-longer, row-set, row-at, states-stay}

@@ -20,9 +20,10 @@ use Rattle.rz_image_laws.specs.Images.{AreImages, IsImaged}
 use Rattle.rz_image_laws.specs.Laws.{IsLongerLaw, IsLogLaw}
 use Rattle.rz_block_laws.specs.Turns.{HasInHand, IsLastingLaw}
 use Rattle.rz_driver.specs.declared.seat.Seat.{Seat}
-use Rattle.rz_driver.specs.declared.station.Station.{Station}
+use Rattle.rz_formatting.specs.declared.formatting.Station.{Station}
 use Rattle.rz_driver.specs.Pictures.{HasImages, AreImaged, HasTrueHand, IsRight, AreDisksImaged, fused_image}
-use Rattle.rz_driver.specs.Stations.{state_in, numbers_of, disks_of}
+use Rattle.rz_driver.specs.Stations.{state_in, numbers_of}
+use Rattle.rz_formatting.specs.Formatted.{disks_of}
 use Rattle.rz_driver.proofs.ReadyLemmas.{all-set, all-at}
 
 -- ---- what follows from two facts of a result

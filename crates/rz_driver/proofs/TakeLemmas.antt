@@ -18,7 +18,7 @@ use Rattle.rz_play.specs.Turns.{IsTurn}
 use Rattle.rz_driver.specs.declared.driver.Driver.{Driver}
 use Rattle.rz_driver.specs.declared.seat.Seat.{Seat}
 use Rattle.rz_driver.specs.declared.station.Shared.{Shared}
-use Rattle.rz_driver.specs.declared.station.Station.{Station}
+use Rattle.rz_formatting.specs.declared.formatting.Station.{Station}
 use Rattle.rz_driver.specs.Acts.{IsAct, HasLayouts}
 use Rattle.rz_asks.specs.Locking.{lock_of}
 use Rattle.rz_asks.specs.Logged.{Logged}

@@ -34,7 +34,7 @@ use Rattle.rz_play.specs.World.{World, Seat as APlayer, at_work, take_up, Bars, 
 use Rattle.rz_play.specs.Turns.{IsTurn, IsAskTurn, Through as ComesThrough, ReplyLost as LosesReply, RequestLost as LosesRequest, IsGranted, IsGiven, lock_after, lock_on, locked, advanced, no_miss, counted, text_said}
 use Rattle.rz_driver.specs.declared.seat.Seat.{Seat}
 use Rattle.rz_driver.specs.declared.station.Shared.{Shared}
-use Rattle.rz_driver.specs.declared.station.Station.{Station}
+use Rattle.rz_formatting.specs.declared.formatting.Station.{Station}
 use Rattle.rz_driver.specs.Acts.{IsAct, Rests, Exports, Opens, Sends, Says, IsSameActor, IsMessage, IsFate, Through, ReplyLost, RequestLost, IsReleased, lock_left}
 use Rattle.rz_asks.specs.Locking.{lock_of, lock_if, open_reply, Grants, IsOpenPart}
 use Rattle.rz_driver.specs.Nodes.{IsServed, IsAsked}

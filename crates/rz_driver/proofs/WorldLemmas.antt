@@ -10,7 +10,7 @@ use Rattle.rz_events.specs.Events.{same_actor}
 use Rattle.rz_node_model.specs.States.{NodeState}
 use Rattle.rz_play.specs.World.{actors}
 use Rattle.rz_driver.specs.declared.seat.Seat.{Seat}
-use Rattle.rz_driver.specs.declared.station.Station.{Station}
+use Rattle.rz_formatting.specs.declared.formatting.Station.{Station}
 use Rattle.rz_driver.specs.Seats.{seat_of}
 use Rattle.rz_driver.specs.Stations.{state_in, IsAt}
 use Rattle.rz_driver.specs.Worlds.{place_if, place_of, seat_there, seat_at, seat_in}

@@ -16,7 +16,7 @@ use Rattle.rz_driver.specs.declared.acting.Kind.{Kind}
 use Rattle.rz_driver.specs.declared.acting.Kind.TheVariants as kind
 use Rattle.rz_driver.specs.declared.seat.Seat.{Seat}
 use Rattle.rz_driver.specs.declared.station.Shared.{Shared}
-use Rattle.rz_driver.specs.declared.station.Station.{Station}
+use Rattle.rz_formatting.specs.declared.formatting.Station.{Station}
 use Rattle.rz_asks.specs.Locking.{IsOpenPart}
 use Rattle.rz_driver.specs.Nodes.{IsAsked, IsThroughPart, IsReplyLostPart, IsRequestLostPart}
 use Rattle.rz_asks.specs.Parts.{IsExportPart, IsSayPart}

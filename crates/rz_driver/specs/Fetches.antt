@@ -13,7 +13,7 @@ use Rattle.rz_node_model.specs.Answers.{IsFetchAnswer, fetch_answer}
 use Rattle.rz_node_model.specs.Afterwards.{after_fetch}
 use Rattle.rz_scrubbing.specs.Stores.{State}
 use Rattle.rz_driver.specs.declared.driver.Driver.{Driver}
-use Rattle.rz_driver.specs.declared.station.Station.{Station}
+use Rattle.rz_formatting.specs.declared.formatting.Station.{Station}
 use Rattle.rz_driver.specs.Administration.{IsCalledAt}
 use Rattle.rz_driver.specs.Meters.{AreMetered}
 use Rattle.rz_driver.specs.OnlyAsked.{fused_text}

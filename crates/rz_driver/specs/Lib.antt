@@ -4,7 +4,6 @@ pub mod Stations
 pub mod Acts
 pub mod Administration
 pub mod Worlds
-pub mod Made
 pub mod Meters
 pub mod Pictures
 pub mod OnlyAsked

@@ -1,5 +1,5 @@
 -- The nodes of a driver, each with its word of the log beside the meter of its disk.
-use Rattle.std.specs.Prelude.{ℕ, ◌≡◌, ◌≢◌, ◌+◌, ◌-◌, ◌^◌, ◌<◌, ◌≤◌, nat_eq, List, [], ◌∷◌, Option}
+use Rattle.std.specs.Prelude.{ℕ, ◌≡◌, ◌≢◌, ◌+◌, ◌-◌, ◌^◌, ◌<◌, ◌≤◌, nat_eq, List, [], ◌∷◌, Option, Some, None, slice_get}
 use Rattle.std.specs.List.{IsDistinct}
 use Rattle.rz_disk.specs.Meter.{Meter, faults}
 use Rattle.rz_events.specs.declared.events.Word.TheVariants.{Node}
@@ -9,7 +9,7 @@ use Rattle.rz_node.specs.Seen.{NodeView}
 use Rattle.rz_play.specs.Faults.{AreFaultsCounted}
 use Rattle.rz_play.specs.Lines.{noted}
 use Rattle.rz_disk_laws.specs.Metered.{IsMetered}
-use Rattle.rz_driver.specs.declared.station.Station.{Station}
+use Rattle.rz_formatting.specs.declared.formatting.Station.{Station}
 use Rattle.rz_driver.specs.Stations.{numbers_of}
 
 -- Of one node, whose disk had counted so many faults at first.
@@ -51,6 +51,14 @@ pub record GoesOn {D : Type 0} (meter : D → Meter) (n : ℕ) (node node' : Nod
 -- the station went on, and this event of it, if there is one, is to be noted
 abbrev pub Goes : {D : Type 0} → (D → Meter) → Station D → Station D → Option Event → Type 0
 Goes meter s s' event = (h : List Event) → GoesOn meter s.sid s.node s'.node h (noted event h)
+
+-- the faults of the disk at a place, or 0 where there is none
+abbrev pub faults_in : {D : Type 0} → (D → Meter) → Option D → ℕ
+faults_in meter None = 0
+faults_in meter (Some d) = faults (meter d)
+
+abbrev pub faults_at : {D : Type 0} → (D → Meter) → List D → ℕ → ℕ
+faults_at meter disks place = faults_in meter (slice_get disks place)
 
 -- Of the disks that are handed back, one for each node in order, from place i on: the count did not fall, and the faults of the
 -- node's word are counted by its rise.

@@ -5,7 +5,7 @@ use Rattle.rz_disk.specs.Images.{Within}
 use Rattle.rz_disk.specs.UnderFuse.{UnderFuse}
 use Rattle.rz_disk.specs.declared.disk.Disk.{Ghosts}
 use Rattle.rz_driver.specs.declared.driver.Driver.{Driver}
-use Rattle.rz_driver.specs.declared.station.Station.{Station}
+use Rattle.rz_formatting.specs.declared.formatting.Station.{Station}
 use Rattle.rz_driver.specs.Pictures.{fused_image}
 use Rattle.rz_driver.specs.Stations.{IsCalled}
 use Rattle.rz_driver.specs.Worlds.{Leaves}

@@ -15,7 +15,7 @@ use Rattle.rz_play_laws.specs.Fine.{IsFine}
 use Rattle.rz_image_laws.specs.Images.{AreImages, IsImaged, geometry_in}
 use Rattle.rz_block_laws.specs.Turns.{HasInHand, IsTrueActor}
 use Rattle.rz_driver.specs.declared.seat.Seat.{Seat}
-use Rattle.rz_driver.specs.declared.station.Station.{Station}
+use Rattle.rz_formatting.specs.declared.formatting.Station.{Station}
 use Rattle.rz_driver.specs.Stations.{state_in}
 
 -- a disk in a fuse has the images of the disk

@@ -1,10 +1,9 @@
 -- The nodes of a volume in a row.
 use Rattle.std.specs.Prelude.{ℕ, ◌≡◌, ◌≢◌, ◌==◌, zero, suc, cond, map, List, [], ◌∷◌, Option, Some, None}
-use Rattle.rz_disk.specs.UnderFuse.{UnderFuse}
 use Rattle.rz_events.specs.Volume.{Volume}
 use Rattle.rz_node_model.specs.States.{NodeState, fresh}
 use Rattle.rz_core.specs.NodeRows.{cells_of}
-use Rattle.rz_driver.specs.declared.station.Station.{Station}
+use Rattle.rz_formatting.specs.declared.formatting.Station.{Station}
 
 -- the state of the first node with this number
 abbrev pub state_in : {D : Type 0} → List (Station D) → ℕ → NodeState
@@ -30,10 +29,6 @@ IsPlace stations n (Some i) = IsAt stations n i
 -- the numbers of the nodes, in order
 abbrev pub numbers_of : {D : Type 0} → List (Station D) → List ℕ
 numbers_of {D = D} stations = map (λ (s : Station D). s.sid) stations
-
--- and their disks, out of their fuses
-abbrev pub disks_of : {D : Type 0} → List (Station (UnderFuse D)) → List D
-disks_of {D = D} stations = map (λ (s : Station (UnderFuse D)). s.node.disk.disk) stations
 
 -- a node has the layout of the volume and the cells of its number
 pub record IsStation {D : Type 0} (v : Volume) (s : Station D) : Type 0 where

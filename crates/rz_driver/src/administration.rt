@@ -11,11 +11,12 @@ ghost use Rattle.rz_driver.specs.Stations.{IsCalled};
 ghost use Rattle.rz_driver.specs.Administration.{IsOrdered, IsOrder, IsFreeOrder, IsStarted, IsArmed, IsArming, IsCalledAt};
 
 use crate::NoMemory;
-use crate::station::{Station, find};
+use crate::station::find;
 use rz_asks::Log;
 use rz_calls::node_event;
 use rz_disk::Disk;
 use rz_events::{Actor, Event, NodeAnswer, NodeAsk, Phase, StartAnswer};
+use rz_formatting::Station;
 use std::alloc::Global;
 
 /// The node of this number stops.

@@ -16,10 +16,11 @@ ghost use Rattle.rz_driver.specs.Fetches.{GivesAt, GivesIn, GivesOf, HaveRoom, I
 ghost use Rattle.rz_driver.specs.OnlyAsked.{IsOnlyAsked, AreOnlyAsked, WasOnlyAsked};
 
 use crate::driver::Driver;
-use crate::station::{Station, find};
+use crate::station::find;
 use mj_angles::Layout;
 use rz_disk::Disk;
 use rz_events::{FetchAnswer, Key, Listed};
+use rz_formatting::Station;
 use rz_scrubbing::Store;
 
 impl<D: Disk> Driver<D> {

@@ -11,7 +11,7 @@
 //! without an event: so a driver is a `Store` to scrub.
 //!
 //! In reading order: `station`, `seat`, `messages`, `acting`, `administration`, `driver`, `turns`, `orders`,
-//! `nodes`, `parts`, `formatting`, `making`, `stage`, `asking`, `closing`.
+//! `nodes`, `parts`, `making`, `stage`, `asking`, `closing`.
 #![tactic(auto)]
 
 mod acting;
@@ -19,7 +19,6 @@ mod administration;
 mod asking;
 mod closing;
 mod driver;
-mod formatting;
 mod making;
 mod messages;
 mod nodes;
@@ -31,5 +30,5 @@ mod station;
 mod turns;
 
 pub use driver::Driver;
-pub use making::DriverFault;
+pub use rz_formatting::DriverFault;
 pub(crate) use rz_lines::NoMemory;

@@ -5,16 +5,8 @@ ghost use Rattle.rz_driver.specs.Stations.{IsPlace};
 use rz_asks::Log;
 use rz_disk::Disk;
 use rz_export::Export;
+use rz_formatting::Station;
 use rz_locks::Locks;
-use rz_node::Node;
-
-/// A node of the volume, its number, and how the next crash of its disk picks.
-#[derive(Drop)]
-pub(crate) struct Station<D: Disk> {
-    pub(crate) sid: u16,
-    pub(crate) node: Node<D>,
-    pub(crate) pick: u64,
-}
 
 /// What all actors share: the nodes in the order of the description, the export, the locks, how many
 /// messages the link lost of itself, the log, and room for the bins of a record.

@@ -32,7 +32,7 @@ use Rattle.rz_play.specs.World.{World}
 use Rattle.rz_scrubbing.specs.Asks.{AreGiven}
 use Rattle.rz_scrubbing.specs.Scrubs.{EachListed}
 use Rattle.rz_driver.specs.declared.seat.Seat.{Seat}
-use Rattle.rz_driver.specs.declared.station.Station.{Station}
+use Rattle.rz_formatting.specs.declared.formatting.Station.{Station}
 use Rattle.rz_driver.specs.Fetches.{GivesIn}
 use Rattle.rz_driver.specs.OnlyAsked.{fused_text}
 use Rattle.rz_driver.specs.Pictures.{AreImaged, HasImages, IsPicture, fused_image}

@@ -20,7 +20,7 @@ use Rattle.rz_node_model.specs.Afterwards.{after_answer}
 use Rattle.rz_node_model.specs.NodeEvents.{node_event, start_event}
 use Rattle.rz_cells.specs.declared.geometry.Geometry.{Geometry}
 use Rattle.rz_node.specs.Seen.{NodeView}
-use Rattle.rz_driver.specs.declared.station.Station.{Station}
+use Rattle.rz_formatting.specs.declared.formatting.Station.{Station}
 use Rattle.rz_driver.specs.Stations.{IsCalled}
 use Rattle.rz_driver.specs.Administration.{IsOrder, IsFreeOrder, IsArmed}
 use Rattle.rz_driver.specs.Pictures.{KeepsImages}

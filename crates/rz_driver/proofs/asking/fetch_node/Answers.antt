@@ -3,7 +3,7 @@ use Rattle.std.proofs.lemmas.Option.{slice_get-get_or}
 use Rattle.mj_angles.specs.Layout.{max_bins_of}
 use Rattle.rz_events.specs.declared.keys.Actor.TheVariants.{Admin}
 use Rattle.rz_node_model.specs.NodeEvents.{fetch_event}
-use Rattle.rz_driver.specs.declared.station.Station.{Station}
+use Rattle.rz_formatting.specs.declared.formatting.Station.{Station}
 use Rattle.rz_driver.specs.AskedLaws.{all-themselves}
 use Rattle.rz_driver.proofs.FetchLemmas.{at-fetch, at-metered, behind-more, gives-in, nowhere-fetch, nowhere-metered, only-set, read-then}
 use Rattle.rz_driver.proofs.ReadyLemmas.{all-at}

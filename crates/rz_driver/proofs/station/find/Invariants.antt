@@ -1,6 +1,6 @@
 use Rattle.std.proofs.Common.{ℕ, ◌≡◌, ◌≢◌, ◌<◌, Some}
 use Rattle.std.specs.Prelude.{slice_get}
-use Rattle.rz_driver.specs.declared.station.Station.{Station}
+use Rattle.rz_formatting.specs.declared.formatting.Station.{Station}
 use Rattle.rz_driver.proofs.station.find.Given as goal
 
 abbrev pub invariant-loop-i : goal.invariant-loop-i

@@ -8,7 +8,7 @@ use Rattle.rz_driver.specs.declared.station.Shared.{Shared}
 use Rattle.rz_driver.specs.OnlyAsked.{fused_text}
 use Rattle.rz_driver.specs.Meters.{AreDisksCounted}
 use Rattle.rz_driver.specs.Pictures.{AreDisksImaged}
-use Rattle.rz_driver.specs.Stations.{disks_of}
+use Rattle.rz_formatting.specs.Formatted.{disks_of}
 use Rattle.rz_driver.specs.Worlds.{numbers_in}
 use Rattle.rz_driver.proofs.MeterLemmas.{counted-disks, leaves-counted, metered-counts}
 use Rattle.rz_driver.proofs.DriverPictures.{leaves-named, leaves-right}

@@ -5,7 +5,7 @@ use Rattle.rz_disk.specs.UnderFuse.{UnderFuse, fused_meter}
 use Rattle.rz_scrubbing.specs.Stores.{IsRead}
 use Rattle.rz_node_model.specs.NodeEvents.{fetch_event}
 use Rattle.rz_events.specs.declared.keys.Actor.TheVariants.{Admin}
-use Rattle.rz_driver.specs.declared.station.Station.{Station}
+use Rattle.rz_formatting.specs.declared.formatting.Station.{Station}
 use Rattle.rz_driver.specs.Fetches.{HaveRoom, IsFetch, GivesIn}
 use Rattle.rz_driver.specs.OnlyAsked.{AreOnlyAsked, fused_text}
 use Rattle.rz_driver.specs.Pictures.{fused_image}
