@@ -5,7 +5,7 @@ use Rattle.rz_disk.specs.Meter.{Meter, faults}
 use Rattle.rz_events.specs.declared.files.NodeSpec.{NodeSpec}
 use Rattle.rz_events.specs.declared.events.Event.{Event}
 use Rattle.rz_ports.specs.Counts.{Rises}
-use Rattle.rz_driver.specs.Meters.{AreDisksCounted, faults_at, faults_in}
+use Rattle.rz_stations.specs.Meters.{AreDisksCounted, faults_at, faults_in}
 use Rattle.rz_formatting.specs.Formatted.{AreBack, IsCause}
 use Rattle.rz_formatting.specs.declared.fault.DriverFault.{DriverFault}
 use Rattle.rz_formatting.specs.declared.fault.DriverFault.TheVariants.{NoMemory, Disk}

@@ -1,8 +1,8 @@
 -- Disks as they were lent, and as they are handed back.
 use Rattle.std.specs.Prelude.{ℕ, Bool, IsTrue, ◌≡◌, map, List, [], ◌++◌, Result, Ok, Err}
 use Rattle.rz_disk.specs.Meter.{Meter}
-use Rattle.rz_driver.specs.Meters.{AreDisksCounted, faults_at}
-use Rattle.rz_driver.specs.Pictures.{AreDisksImaged}
+use Rattle.rz_stations.specs.Meters.{AreDisksCounted, faults_at}
+use Rattle.rz_stations.specs.Images.{AreDisksImaged}
 use Rattle.rz_events.specs.Volume.{Volume, nodes_of}
 use Rattle.rz_events.specs.declared.files.NodeSpec.{NodeSpec}
 use Rattle.rz_events.specs.declared.events.Event.{Event}

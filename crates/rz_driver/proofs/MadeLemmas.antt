@@ -24,7 +24,7 @@ use Rattle.rz_formatting.specs.declared.formatting.Station.{Station}
 use Rattle.rz_asks.specs.Locking.{lock_of}
 use Rattle.rz_formatting.specs.Formatted.{IsFormatted, AreFormatted}
 use Rattle.rz_driver.specs.Seats.{work_in, seat_of, HasLayout, IsSeat, IsEmptySeat}
-use Rattle.rz_driver.specs.Stations.{state_in, numbers_of, IsStation}
+use Rattle.rz_stations.specs.Stations.{state_in, numbers_of, IsStation}
 use Rattle.rz_driver.specs.Worlds.{place_of, seat_there, seat_at, seat_in, world, IsDriver}
 
 -- ---- nodes

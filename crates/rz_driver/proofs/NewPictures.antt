@@ -27,9 +27,10 @@ use Rattle.rz_image_laws.specs.Laws.{IsFreshLaw}
 use Rattle.rz_driver.specs.declared.seat.Seat.{Seat}
 use Rattle.rz_formatting.specs.declared.formatting.Station.{Station}
 use Rattle.rz_formatting.specs.Formatted.{AreFormatted, IsFormatted, geometry_of}
-use Rattle.rz_driver.specs.Pictures.{AreImaged, HasImages, HasTrueHand, IsPicture, fused_image}
+use Rattle.rz_stations.specs.Images.{AreImaged, HasImages, fused_image}
+use Rattle.rz_driver.specs.Pictures.{HasTrueHand, IsPicture}
 use Rattle.rz_driver.specs.Seats.{IsEmptySeat}
-use Rattle.rz_driver.specs.Stations.{IsStation}
+use Rattle.rz_stations.specs.Stations.{IsStation}
 
 -- nothing was played
 none-held : (key : Key) → held_of maps.empty key ≡ []

@@ -2,9 +2,9 @@
 ghost use Rattle.std.specs.Prelude.{◌≡◌, reverse, ℕ, List, IsTrue};
 ghost use Rattle.rz_events.specs.declared.events.Event.{Event};
 ghost use Rattle.rz_driver.specs.Fetches.{Metered};
-ghost use Rattle.rz_driver.specs.Meters.{AreDisksCounted};
+ghost use Rattle.rz_stations.specs.Meters.{AreDisksCounted};
 ghost use Rattle.rz_driver.specs.OnlyAsked.{IsLeftSince};
-ghost use Rattle.rz_driver.specs.Pictures.{AreDisksImaged};
+ghost use Rattle.rz_stations.specs.Images.{AreDisksImaged};
 ghost use Rattle.rz_formatting.specs.Formatted.{disks_of};
 ghost use Rattle.rz_driver.specs.Worlds.{numbers_in, Leaves};
 

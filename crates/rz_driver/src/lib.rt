@@ -10,17 +10,15 @@
 //! After a play [`Driver::published`] and [`Driver::fetch`] show what is published and what the nodes hold,
 //! without an event: so a driver is a `Store` to scrub.
 //!
-//! In reading order: `station`, `seat`, `messages`, `acting`, `administration`, `driver`, `turns`, `orders`,
-//! `nodes`, `parts`, `making`, `stage`, `asking`, `closing`.
+//! In reading order: `station`, `seat`, `acting`, `driver`, `turns`, `orders`, `nodes`, `parts`, `making`,
+//! `stage`, `asking`, `closing`.
 #![tactic(auto)]
 
 mod acting;
-mod administration;
 mod asking;
 mod closing;
 mod driver;
 mod making;
-mod messages;
 mod nodes;
 mod orders;
 mod parts;

@@ -3,7 +3,7 @@ ghost use Rattle.std.specs.Prelude.{◌≡◌, IfOk, IfErr, length};
 ghost use Rattle.rz_events.specs.Volume.{nodes_of};
 ghost use Rattle.rz_play.specs.World.{new_world};
 ghost use Rattle.rz_formatting.specs.Formatted.{AreBack, AreFormatted, IsCause};
-ghost use Rattle.rz_driver.specs.Meters.{faults_at};
+ghost use Rattle.rz_stations.specs.Meters.{faults_at};
 ghost use Rattle.rz_driver.specs.Worlds.{world_of, IsDriver, Holds};
 
 use crate::driver::Driver;

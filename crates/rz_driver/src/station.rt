@@ -1,6 +1,4 @@
-//! The nodes of a volume, and what all actors share.
-ghost use Rattle.std.specs.Prelude.{◌≡◌, ◌≢◌, ◌<◌, ℕ, length, slice_get, Some};
-ghost use Rattle.rz_driver.specs.Stations.{IsPlace};
+//! What all actors share.
 
 use rz_asks::Log;
 use rz_disk::Disk;
@@ -18,16 +16,4 @@ pub(crate) struct Shared<D: Disk> {
     pub(crate) lost: u64,
     pub(crate) log: Log,
     pub(crate) bins: Vec<u64>,
-}
-
-/// Where the node of a number stands, if there is one.
-pub(crate) fn find<D: Disk>(stations: &[Station<D>], sid: u16) -> Option<usize>
-    ensures { IsPlace stations.now sid result }
-{
-    for (i, station) in stations.iter().enumerate() {
-        if station.sid == sid {
-            return Some(i);
-        }
-    }
-    None
 }

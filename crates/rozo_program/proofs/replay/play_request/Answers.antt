@@ -6,7 +6,7 @@ use Rattle.rz_events.specs.Volume.{Volume, nodes_of}
 use Rattle.rz_events.specs.declared.events.Event.{Event}
 use Rattle.rz_script.specs.declared.line.Line.{Line}
 use Rattle.rz_events.specs.declared.files.NodeSpec.{NodeSpec}
-use Rattle.rz_driver.specs.Meters.{faults_at}
+use Rattle.rz_stations.specs.Meters.{faults_at}
 use Rattle.rz_formatting.specs.Formatted.{AreBack, IsCause}
 use Rattle.rz_driver.specs.Worlds.{Holds, world_of}
 use Rattle.rz_core.specs.HeldRecords.{block_of}

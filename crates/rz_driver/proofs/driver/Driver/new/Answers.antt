@@ -5,9 +5,9 @@ use Rattle.rz_events.specs.Volume.{Volume, IsNode, nodes_of}
 use Rattle.rz_events.specs.declared.files.NodeSpec.{NodeSpec}
 use Rattle.rz_formatting.specs.Formatted.{AreFormatted, AreBack}
 use Rattle.rz_formatting.proofs.FormatLemmas.{untouched}
-use Rattle.rz_driver.proofs.MeterLemmas.{new-holds}
+use Rattle.rz_stations.proofs.MeterLemmas.{new-holds}
 use Rattle.rz_driver.proofs.MadeLemmas.{new-ready, new-is}
-use Rattle.rz_driver.specs.Stations.{IsStation}
+use Rattle.rz_stations.specs.Stations.{IsStation}
 use Rattle.rz_driver.proofs.NewPictures.{new-picture}
 use Rattle.rz_driver.proofs.driver.Driver.new.Goals as goal
 
