@@ -1,7 +1,7 @@
 use Rattle.std.proofs.Common.{◌≡◌}
 use Rattle.rz_export_model.specs.Firsts.{first_given}
 use Rattle.rz_blocks.proofs.Ranges.{key_in}
-use Rattle.rz_blocks.proofs.blocks.Blocks.first_of.Given as goal
+use Rattle.rz_blocks.proofs.blocks.first_key.Given as goal
 
 -- what is left gives what all give
 abbrev pub invariant-loop-key : goal.invariant-loop-key
