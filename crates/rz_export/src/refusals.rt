@@ -13,7 +13,7 @@ use mj_angles::Layout;
 use rz_events::{Call, Denial, Key, Published, Reply};
 
 /// A file has so many blocks.
-const FILE_BLOCKS: u64 = 1_048_576;
+pub const FILE_BLOCKS: u64 = 1_048_576;
 
 impl Export {
     /// Whether the conditions of `answer` hold of a call: texts, lengths, masks, stamps and nodes are
@@ -121,7 +121,7 @@ fn too_far(key: Key) -> Option<Denial>
 }
 
 /// Whether a mask names as many positions as a write stores, all of them the layout's.
-fn is_mask(layout: Layout, mask: u16) -> bool
+pub fn is_mask(layout: Layout, mask: u16) -> bool
     ensures { result ≡ is_mask layout mask }
 {
     mask.count_ones() as usize == layout.forward() && u32::from(mask) < 1u32 << layout.safe()

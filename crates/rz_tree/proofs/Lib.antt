@@ -20,3 +20,4 @@ mod PartPlaces
 pub mod Lasts
 pub mod PartLaws
 mod Adding
+pub mod Allowed
