@@ -11,7 +11,7 @@ ghost use Rattle.rz_export_model.specs.Export.{no_begin, no_publish, prepared, e
 ghost use Rattle.rz_export.specs.Kept.{with_fence, AreRoomy};
 
 use crate::export::Export;
-use crate::lists::{make_room, mark};
+use crate::lists::{make_room, remark};
 use crate::nodes::{Enrolment, enroll, recount};
 use rz_blocks::Blocks;
 use rz_events::{Denial, FileInfo, Key, Published, Reply};
@@ -137,7 +137,7 @@ impl Export {
         let after = self.blocks.look(key);
         let places = info.places.list();
         recount(self.nodes.as_mut_slice(), places, before, after);
-        mark(&mut self.listed, places, key, after);
+        remark(&mut self.listed, places, key, before, after);
     }
 
     // The size of a file that ends with so many bytes of this block.
