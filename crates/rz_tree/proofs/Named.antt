@@ -1,5 +1,5 @@
 -- Whether each object has a name, by the counts of the kept ones.
-use Rattle.std.proofs.Common.{◌≡◌, ℕ, ◌<◌, ◌≤◌, Bool, true, false, cond, ◌&&◌, ◌↔◌, T, List, [], ◌∷◌, Option, Some, None, is_some, Ordering, sym, ap, ◌∙◌, subst, refl, arith}
+use Rattle.std.proofs.Common.{◌≡◌, ℕ, ◌<◌, ◌≤◌, Bool, true, false, cond, ◌&&◌, ◌↔◌, T, [], ◌∷◌, Some, None, is_some, Ordering, sym, ap, ◌∙◌, refl, arith}
 use Rattle.std.specs.Prelude.{nat_lt}
 use Rattle.std.proofs.lemmas.Bool.Decides.{nat_tests}
 use Rattle.std.specs.declared.cmp.Ordering.TheVariants.{Less, Equal, Greater}
@@ -14,12 +14,12 @@ use Rattle.std.specs.FinMap as maps
 use Rattle.std.specs.FinMap.{FinMap, get-entries, entries_sorted}
 use Rattle.std.specs.FinMap.Entries.{find, is_sorted, below_all}
 use Rattle.rz_export_model.specs.Paths.{path_cmp}
-use Rattle.rz_export_model.specs.Tree.{Object, paths_to}
+use Rattle.rz_export_model.specs.Tree.{paths_to}
 use Rattle.rz_tree.specs.declared.inodes.Inode.{Inode}
 use Rattle.rz_tree.specs.Inodes.{Table, object_of, objects_of, are_linked}
 use Rattle.rz_tree.specs.Trees.{tree_of, IsCounted}
 use Rattle.rz_tree.specs.Added.{AreNamed}
-use Rattle.rz_tree.proofs.Keys.{not_none, false-true, held, same_some, eq_true}
+use Rattle.rz_tree.proofs.Keys.{not_none, held, same_some, eq_true}
 use Rattle.rz_tree.proofs.Lasts.{and-left, and-right}
 use Rattle.rz_tree.proofs.Rules.{from-map}
 use Rattle.rz_tree.proofs.Tables.{get-objects}
