@@ -11,8 +11,8 @@
 //! has these bytes, or `BadEntry` exactly where none has. Nothing is said of whether the export accepts
 //! a call, nor of whether parts fit together.
 //!
-//! In reading order: `entry`, `fault`, `numbers`, `calls`, `parts`, `writing`, `front`, `part_reading`,
-//! `reading`.
+//! In reading order: `entry`, `fault`, `numbers`, `calls`, `parts`, `widths`, `writing`, `front`,
+//! `part_reading`, `reading`.
 #![tactic(auto)]
 
 mod calls;
@@ -25,6 +25,7 @@ mod parts;
 mod reading;
 #[cfg(test)]
 mod tests;
+mod widths;
 mod writing;
 
 pub use entry::Entry;
