@@ -16,10 +16,7 @@ use std::alloc::Global;
 pub enum OpenFault {
     NoMemory,
     /// The disk has other bytes than so many.
-    WrongSize {
-        have: u64,
-        need: u64,
-    },
+    WrongSize { have: u64, need: u64 },
     DiskFault,
     /// The header's gate is shut.
     Unformatted,

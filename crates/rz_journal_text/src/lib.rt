@@ -30,5 +30,6 @@ mod writing;
 
 pub use entry::Entry;
 pub use fault::EntryFault;
+pub use parts::path_text;
 pub use reading::read;
 pub use writing::write;

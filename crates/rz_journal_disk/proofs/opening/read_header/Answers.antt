@@ -38,8 +38,7 @@ returns-then-ne-clause-refused g c = (
   λ told.
       let text = g.D.Disk.text c.args.disk.now in
       let gates = c.read-2.new.out in
-      let there = subst (λ (t : List ℕ). gates ≡ window 32 2 t) c.read.ensures.text (c.in-Ok-read.ensures.gives told) in
-      (
+      let there = subst (λ (t : List ℕ). gates ≡ window 32 2 t) c.read.ensures.text (c.in-Ok-read.ensures.gives told) in (
         formatted_there text c.read.new.out gates there (omega arith),
         λ same.
             let alike = c.in-Ok.ensures.gives told ∙ same in
