@@ -1,9 +1,11 @@
 -- When the names and objects of an export are whole: they keep the rules of the parts that make a tree.
-use Rattle.std.specs.Prelude.{ℕ, ◌≡◌, ◌≤◌, ◌==◌, ◌&&◌, Bool, not, [], Some, IsTrue}
+use Rattle.std.specs.Prelude.{ℕ, ◌≡◌, ◌≤◌, ◌==◌, ◌&&◌, Bool, not, List, [], Some, IsTrue, IsSome}
 use Rattle.std.specs.List.{list_all, list_any}
 use Rattle.std.specs.FinMap as maps
+use Rattle.rz_events.specs.declared.tree.TreeCall.{TreeCall}
 use Rattle.rz_export_model.specs.Paths.{Name, Path, is_name}
-use Rattle.rz_export_model.specs.Tree.{Tree, Object, empty_tree, paths_to}
+use Rattle.rz_export_model.specs.Tree.{Tree, Object, empty_tree, paths_to, file_of, grown}
+use Rattle.rz_export_model.specs.TreeCalls.{tree_after}
 use Rattle.rz_tree.specs.Trees.{IsTree}
 use Rattle.rz_tree.specs.Added.{FitsKind, AreNamed, most_names}
 
@@ -28,5 +30,14 @@ pub record IsWholeTree (t : Tree) : Type 0 where
   -- each path is one that a text can spell
   pub spelled : (path : Path) (fid : ℕ) → maps.get t.names path ≡ Some fid → IsTrue (list_all is_plain path)
 
+-- the tree of a new export is whole
 abbrev pub EmptyIsWhole : Type 0
 EmptyIsWhole = IsWholeTree empty_tree
+
+-- a call, refused or not, keeps a tree whole
+abbrev pub StaysWhole : Type 0
+StaysWhole = (t : Tree) (cid : ℕ) (places : List ℕ) (c : TreeCall) → IsWholeTree t → IsWholeTree (tree_after t cid places c)
+
+-- a publish, which may raise the size of a live file, keeps a tree whole
+abbrev pub GrowsWhole : Type 0
+GrowsWhole = (t : Tree) (fid size : ℕ) → IsSome (file_of t fid) → IsWholeTree t → IsWholeTree (grown t fid size)
