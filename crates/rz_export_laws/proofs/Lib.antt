@@ -11,3 +11,5 @@ mod Moved
 mod Spelled
 mod Refused
 mod Calls
+mod Depth
+mod Written

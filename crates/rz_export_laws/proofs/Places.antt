@@ -135,6 +135,7 @@ module _ (t : Tree) (rules : IsTree t) where
       let longer : is_some (maps.get t.names (p ++ n ∷ [])) ≡ true = front-there (p ++ n ∷ []) r (ap (λ q. is_some (maps.get t.names q)) (append_assoc p (n ∷ []) r) ∙ h) in
       let d = dir-found t p (rules.under p n longer) in
       ap is_some d.at
+
 pub or_none : {A : Type 0} (o p : Option A) → option_or o p ≡ None → (o ≡ None) × (p ≡ None)
 or_none None p h = (refl, h)
 or_none (Some x) p h = absurd (not_none x h)
