@@ -24,9 +24,6 @@ not_none x h = let never : true ≡ false = ap is_some h in cc
 pub false-true : false ≡ true → ⊥
 false-true h = cc
 
-pub some-there : {A : Type 0} (o : Option A) (x : A) → o ≡ Some x → is_some o ≡ true
-some-there o x h = ap is_some h
-
 -- what is there, with the equation
 pub held : {A : Type 0} (o : Option A) → is_some o ≡ true → (x : A) × (o ≡ Some x)
 held None h = absurd (false-true h)

@@ -172,9 +172,6 @@ module _ (t : Tree) (rules : IsTree t) where
       go [] is n h = ap (λ x. is_at t x is_dir) is ∙ rules.root
       go (m ∷ q) is n h = walked-above t (above path) n h (ap is_root is)
 
-  pub above-there : (path : Path) → is_root path ≡ false → walk t path ≡ None → is_some (maps.get t.names (above path)) ≡ true
-  above-there path other walked = let d = dir-found t (above path) (above-dir path other walked) in ap is_some d.at
-
 module _ (t : Tree) (path : Path) (free : first_of (can_not_make t path) ≡ None) where
   after_root : (given_if (is_root path) fault.Exists ≡ None) × (first_of (walk t path ∷ present t path ∷ too_many_files t ∷ []) ≡ None)
   after_root = or_none (given_if (is_root path) fault.Exists) (first_of (walk t path ∷ present t path ∷ too_many_files t ∷ [])) free
