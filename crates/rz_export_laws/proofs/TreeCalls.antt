@@ -17,7 +17,7 @@ use Rattle.rz_export_model.specs.Tree.{Tree, Object, Found, found_at, fid_at, fi
 use Rattle.rz_export_model.specs.Refusals.{path_in, unreadable, unreadable_or_root, bad_target, can_not_make, walk, absent, present, dir, not_dir, not_empty, too_many_links, into_itself, not_replaceable, is_same_object, refusal}
 use Rattle.rz_export_model.specs.TreeCalls.{changed_by, with_name, renamed, without_name}
 use Rattle.rz_tree.specs.Added.{FitsKind, IsDirectory, IsSymlink}
-use Rattle.rz_export_laws.specs.WholeTree.{IsWholeTree, is_plain, StaysWhole}
+use Rattle.rz_export_laws.specs.WholeTree.{IsWholeTree, is_plain, CallKeepsTree}
 use Rattle.rz_export_laws.proofs.Keys.{none-or-some, held}
 use Rattle.rz_export_laws.proofs.Fronts.{above-other}
 use Rattle.rz_export_laws.proofs.Places.{or_none, given-false, absent-name, above-dir, empty-under, leaf-under}
@@ -181,7 +181,7 @@ module _ (t : Tree) (w : IsWholeTree t) (cid : ℕ) (places : List ℕ) where
   answered (call.Readdir path) free = w
   answered (call.OpenFile path) free = w
 
-pub stays-whole : StaysWhole
+pub stays-whole : CallKeepsTree
 stays-whole t cid places c w = go (refusal t c) refl
   where
     go : (f : Option TreeFault) → refusal t c ≡ f → IsWholeTree (option_map_or (λ (f : TreeFault). t) f (changed_by t cid places c))

@@ -37,8 +37,8 @@ abbrev pub EmptyIsWhole : Type 0
 EmptyIsWhole = IsWholeTree empty_tree
 
 -- a call on names and objects, refused or not, keeps a tree whole
-abbrev pub StaysWhole : Type 0
-StaysWhole = (t : Tree) (cid : ℕ) (places : List ℕ) (c : TreeCall) → IsWholeTree t → IsWholeTree (tree_after t cid places c)
+abbrev pub CallKeepsTree : Type 0
+CallKeepsTree = (t : Tree) (cid : ℕ) (places : List ℕ) (c : TreeCall) → IsWholeTree t → IsWholeTree (tree_after t cid places c)
 
 -- each call of an export, a publish with its growth of a file too, keeps the tree whole
 abbrev pub TreeStaysWhole : Type 0

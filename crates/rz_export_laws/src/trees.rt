@@ -1,6 +1,6 @@
 //! What each call keeps of the names and objects of an export.
 
-ghost use Rattle.rz_export_laws.specs.WholeTree.{ArePathsWritten, EmptyIsWhole, StaysWhole, TreeStaysWhole};
+ghost use Rattle.rz_export_laws.specs.WholeTree.{ArePathsWritten, CallKeepsTree, EmptyIsWhole, TreeStaysWhole};
 
 /// The tree of a new export is whole.
 pub fn at_first()
@@ -9,7 +9,7 @@ pub fn at_first()
 
 /// A call on names and objects keeps the tree whole; one that is refused changes nothing.
 pub fn call_kept()
-    ensures { StaysWhole }
+    ensures { CallKeepsTree }
 {}
 
 /// Each call of an export keeps its tree whole.
