@@ -1,0 +1,18 @@
+use Rattle.std.proofs.Common.{◌≡◌, ℕ, ◌+◌, ◌-◌, List, refl, sym, ap, ◌∙◌, subst}
+use Rattle.rz_events.specs.Volume.{Volume}
+use Rattle.rz_script.specs.declared.line.Line.{Line}
+use Rattle.rz_play.specs.World.{World, new_world}
+use Rattle.rz_driver.specs.Worlds.{world_of}
+use Rattle.rz_lines.specs.Ends.{IsEnded}
+use Rattle.rozo_sample.proofs.Shown.{shows}
+use Rattle.rozo_sample.proofs.sample.play_on.Goals as goal
+
+pub returns : goal.returns
+returns c =
+    let h = c.play-end.new.stage.shared.log.events in
+    let v : Volume = c.args.script.now.volume in
+    let V : Volume → Type 0 = λ x. IsEnded x (world_of c.args.driver) c.lines.result.now c.play-end.result ((world_of c.args.driver).lost + (0 - 0)) h in
+    let W : World → Type 0 = λ x. IsEnded v x c.lines.result.now c.play-end.result ((world_of c.args.driver).lost + (0 - 0)) h in
+    let L : List Line → Type 0 = λ x. IsEnded v (new_world v) x c.play-end.result ((world_of c.args.driver).lost + (0 - 0)) h in
+    let ended = subst L c.lines.ensures.value (subst W c.requires.new (subst V c.requires.volume (c.play-end.ensures.played tt))) in
+    shows c.args.script.now c.play-end.result _ h c.close-log.result.0.items c.shown.result ended c.close-log.ensures.log c.shown.ensures
