@@ -1,4 +1,4 @@
-use Rattle.std.proofs.Common.{◌≡◌, ℕ, ◌+◌, ◌-◌, List, refl, sym, ap, ◌∙◌, subst}
+use Rattle.std.proofs.Common.{◌+◌, ◌-◌, List, refl, ◌∙◌, subst}
 use Rattle.rz_events.specs.Volume.{Volume}
 use Rattle.rz_script.specs.declared.line.Line.{Line}
 use Rattle.rz_play.specs.World.{World, new_world}
@@ -15,4 +15,4 @@ returns c =
     let W : World → Type 0 = λ x. IsEnded v x c.lines.result.now c.play-end.result ((world_of c.args.driver).lost + (0 - 0)) h in
     let L : List Line → Type 0 = λ x. IsEnded v (new_world v) x c.play-end.result ((world_of c.args.driver).lost + (0 - 0)) h in
     let ended = subst L c.lines.ensures.value (subst W c.requires.new (subst V c.requires.volume (c.play-end.ensures.played refl))) in
-    shows c.args.script.now c.play-end.result _ h c.deref.result.now c.shown.result ended (c.deref.ensures ∙ c.close-log.ensures.log) c.shown.ensures
+    shows c.args.script.now c.play-end.result _ h c.deref.result.now c.shown.result ended (c.deref.ensures.value ∙ c.close-log.ensures.log) c.shown.ensures

@@ -1,4 +1,4 @@
-use Rattle.std.proofs.Common.{◌≡◌, ap, ◌∙◌}
+use Rattle.std.proofs.Common.{ap, ◌∙◌}
 use Rattle.rz_play.specs.World.{new_world}
 use Rattle.rozo_sample.proofs.sample.play_script.Goals as goal
 
