@@ -13,14 +13,12 @@ use Rattle.std.specs.FinMap as maps
 use Rattle.std.specs.FinMap.{FinMap, get-entries, len-entries, len-empty, same_entries_map}
 use Rattle.std.specs.FinMap.Entries.{find}
 use Rattle.mj_angles.specs.Layout.{block_bytes_of, safe_of}
-use Rattle.rz_events.specs.Keys.{key_cmp, keys_total}
+use Rattle.rz_events.specs.Keys.{keys_total}
 use Rattle.rz_events.specs.Volume.{Volume}
 use Rattle.rz_events.specs.declared.keys.Key.{Key}
-use Rattle.rz_events.specs.declared.files.Kind.{Kind}
-use Rattle.rz_events.specs.declared.files.Kind.TheVariants.{File, Dir, Link}
 use Rattle.rz_events.specs.declared.files.FileInfo.{FileInfo}
 use Rattle.rz_events.specs.declared.files.Published.{Published}
-use Rattle.rz_export_model.specs.Tree.{Tree, Object, file_of, is_file}
+use Rattle.rz_export_model.specs.Tree.{Object, file_of, is_file}
 use Rattle.rz_export_model.specs.Export.{Export, Block, Blocks, Enrolled, file_blocks, is_mask, is_drawn, is_node, is_after}
 use Rattle.rz_blocks.specs.Shown.{entry_above}
 use Rattle.rz_tree.specs.Added.{is_behind, IsNextObject}

@@ -5,7 +5,7 @@ ghost use Rattle.std.specs.Option.{option_map_or};
 ghost use Rattle.std.specs.FinMap as maps;
 ghost use Rattle.rz_export_model.specs.Export.{file_blocks, is_drawn};
 ghost use Rattle.rz_tree.specs.Added as trees;
-ghost use Rattle.rz_tree.specs.Added.{is_behind};
+ghost use Rattle.rz_tree.specs.Added.{is_behind, AreNamed};
 ghost use Rattle.rz_export.specs.Allowed.{may_lie, is_blockless, may_be_published, is_next_block, is_next_enrolment};
 ghost use Rattle.rz_export.specs.Building.{MayBeNext, IsBlockless};
 
@@ -40,6 +40,13 @@ impl Export {
             } => self.allows_block(*key, *latest, *published),
             Part::Enrolled { node, fence, .. } => self.allows_enrolment(*node, *fence),
         }
+    }
+
+    /// Whether each object has a name, as it must when the last part was added.
+    pub fn is_named(&self) -> bool
+        ensures { IsTrue result ↔ AreNamed self.now.tree }
+    {
+        self.tree.is_named()
     }
 
     // Whether the tree lets a part come, while there are neither blocks nor enrolments.

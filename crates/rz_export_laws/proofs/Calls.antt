@@ -1,16 +1,16 @@
 -- What each call keeps of the files, the blocks and the enrolments of an export.
-use Rattle.std.proofs.Common.{◌≡◌, ℕ, zero, suc, ◌+◌, ◌*◌, ◌≤◌, ◌<◌, ◌⊎◌, inl, inr, ◌&&◌, Bool, true, false, cond, Option, Some, None, is_some, is_none, IfSome, Ordering, sym, ap, ◌∙◌, subst, refl, arith, mul-le-mul_right, suc-mul}
+use Rattle.std.proofs.Common.{◌≡◌, ℕ, suc, ◌+◌, ◌*◌, ◌≤◌, ◌<◌, inl, inr, ◌&&◌, Bool, true, false, cond, Option, Some, None, is_some, IfSome, Ordering, sym, ap, ◌∙◌, subst, refl, arith, mul-le-mul_right, suc-mul}
 use Rattle.std.specs.Prelude.{nat_le, nat_lt}
 use Rattle.std.specs.declared.cmp.Ordering.TheVariants.{Less, Equal, Greater}
 use Rattle.std.specs.Option.{option_map_or, option_and_then}
 use Rattle.std.specs.Ordering.{nat_cmp, is_lt}
 use Rattle.std.specs.Cmp.{nat_cmp_total, ranked}
 use Rattle.std.specs.FinMap as maps
-use Rattle.std.specs.FinMap.{FinMap, nat_cmp-IsAntisymmetric, get-empty}
+use Rattle.std.specs.FinMap.{FinMap, nat_cmp-IsAntisymmetric}
 use Rattle.std.proofs.lemmas.Bool.{and_parts, leb-true, le-leb}
 use Rattle.mj_angles.specs.Layout.{block_bytes_of}
 use Rattle.rz_events.specs.Volume.{Volume, IsVolume}
-use Rattle.rz_events.specs.Keys.{key_cmp, keys_total, exact_keys}
+use Rattle.rz_events.specs.Keys.{keys_total, exact_keys}
 use Rattle.rz_events.specs.declared.keys.Key.{Key}
 use Rattle.rz_events.specs.declared.files.FileInfo.{FileInfo}
 use Rattle.rz_events.specs.declared.files.Published.{Published}
@@ -24,9 +24,9 @@ use Rattle.rz_events.specs.declared.export.Reply.TheVariants as reply
 use Rattle.rz_export_model.specs.Firsts.{given_if}
 use Rattle.rz_export_model.specs.Tree.{Tree, Object, file_of, file_from, info_of, is_file, grown}
 use Rattle.rz_export_model.specs.TreeCalls.{reply_to}
-use Rattle.rz_export_model.specs.Export.{Export, Block, Blocks, Enrolled, new_places, latest_of, published_of, newer_of, begun, with_published, blocks_after, no_begin, no_publish, file_blocks, is_mask, is_drawn, is_node, is_proper, is_ready, draws, after_tree, after_begin, after_publish, after_enroll, export_after}
-use Rattle.rz_tree.proofs.Keys.{false-true, held, one-or-two, get-inserted, get-beside, same_some, not_none}
-use Rattle.rz_export.specs.Building.{LiesIn, MayBePublished}
+use Rattle.rz_export_model.specs.Export.{Export, Block, Blocks, Enrolled, new_places, latest_of, published_of, newer_of, blocks_after, no_begin, no_publish, file_blocks, is_mask, is_drawn, is_node, is_proper, is_ready, draws, after_tree, after_begin, after_publish, export_after}
+use Rattle.rz_export_laws.proofs.Keys.{false-true, held, one-or-two, get-inserted, get-beside, same_some, not_none}
+use Rattle.rz_export.specs.Building.{MayBePublished}
 use Rattle.rz_export.proofs.Files.{ends}
 use Rattle.rz_export.proofs.TreeStates.{stays}
 use Rattle.rz_export.proofs.Replies.{may-begin, fitting, unknown-publish}

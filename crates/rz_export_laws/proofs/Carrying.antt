@@ -1,7 +1,6 @@
 -- What calls leave of the files: a file that stays is at least as long as before, and each lies in the volume.
-use Rattle.std.proofs.Common.{List, ℕ, not, Bool, true, false, ◌==◌, ◌&&◌, ◌≡◌, ◌⊎◌, inl, inr, ◌≤◌, ◌<◌, ◌+◌, Option, Some, None, is_some, cond, refl, sym, ◌∙◌, ap, subst, arith, eq-eqb}
+use Rattle.std.proofs.Common.{List, ℕ, not, Bool, true, false, ◌==◌, ◌&&◌, ◌≡◌, inl, inr, ◌≤◌, ◌+◌, Option, Some, None, cond, refl, sym, ◌∙◌, ap, subst, arith, eq-eqb}
 use Rattle.std.specs.Option.{option_map, option_map_or, option_and_then, option_or}
-use Rattle.std.specs.Ordering.{nat_cmp}
 use Rattle.std.specs.Cmp.{nat_cmp_total}
 use Rattle.std.specs.FinMap as maps
 use Rattle.std.specs.FinMap.{nat_cmp-IsAntisymmetric}
@@ -10,7 +9,6 @@ use Rattle.rz_events.specs.declared.files.Kind.{Kind}
 use Rattle.rz_events.specs.declared.files.Kind.TheVariants.{File, Dir, Link}
 use Rattle.rz_events.specs.declared.tree.TreeCall.{TreeCall}
 use Rattle.rz_events.specs.declared.tree.TreeCall.TheVariants as call
-use Rattle.rz_events.specs.declared.tree.TreeReply.{TreeReply}
 use Rattle.rz_events.specs.declared.tree.TreeReply.TheVariants as reply
 use Rattle.rz_events.specs.declared.tree.TreeFault.{TreeFault}
 use Rattle.rz_events.specs.declared.tree.TreeFault.TheVariants as fault
@@ -19,7 +17,7 @@ use Rattle.rz_export_model.specs.Paths.{Path}
 use Rattle.rz_export_model.specs.Tree.{Tree, Object, Found, found_at, fid_at, is_file, is_dir, is_at, links_of, info_of, moved, with_object, new_dir, new_file, new_link}
 use Rattle.rz_export_model.specs.Refusals.{path_in, refusal, is_same_object, unreadable_or_root, walk, absent, not_dir, not_empty}
 use Rattle.rz_export_model.specs.TreeCalls.{last_name_of, without_name, with_name, changed_by, answer_to, tree_after, reply_to}
-use Rattle.rz_tree.proofs.Keys.{false-true, one-or-two, get-inserted, get-beside, get-removed, get-left, same_some, not_none}
+use Rattle.rz_export_laws.proofs.Keys.{false-true, one-or-two, get-inserted, get-beside, get-removed, get-left, same_some, not_none}
 use Rattle.rz_export.specs.Building.{LiesIn}
 use Rattle.rz_export.proofs.Files.{Objects, ends}
 

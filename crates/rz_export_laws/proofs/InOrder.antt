@@ -1,5 +1,5 @@
 -- A map that is built of its entries one after another, in the order of their keys.
-use Rattle.std.proofs.Common.{◌≡◌, ℕ, ◌+◌, ◌≤◌, ◌<◌, Bool, true, false, cond, ◌&&◌, T, List, [], ◌∷◌, ◌++◌, length, drop, Option, Some, None, Ordering, sym, ap, ◌∙◌, subst, refl, arith, append_assoc, append-nil}
+use Rattle.std.proofs.Common.{◌≡◌, ◌+◌, ◌<◌, Bool, true, false, cond, ◌&&◌, T, List, [], ◌∷◌, ◌++◌, length, drop, Some, None, Ordering, sym, ap, ◌∙◌, subst, refl, arith, append_assoc, append-nil}
 use Rattle.std.specs.declared.cmp.Ordering.TheVariants.{Less, Equal, Greater}
 use Rattle.std.specs.List.{list_all}
 use Rattle.std.specs.Ordering.{is_eq, is_lt, ordering_reverse}
@@ -8,7 +8,7 @@ use Rattle.std.specs.FinMap as maps
 use Rattle.std.specs.FinMap.{FinMap, IsAntisymmetric, get-entries, entries_sorted, same_entries_map, len-entries, len-empty}
 use Rattle.std.specs.FinMap.Entries.{find, is_sorted, below_all}
 use Rattle.rz_tree.specs.Added.{is_behind}
-use Rattle.rz_tree.proofs.Keys.{not_none, same_some}
+use Rattle.rz_export_laws.proofs.Keys.{not_none, same_some}
 use Rattle.rz_tree.proofs.Lasts.{entries-last}
 
 left : (a b : Bool) → T (a && b) → T a

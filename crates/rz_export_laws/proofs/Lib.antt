@@ -1,7 +1,22 @@
-pub mod Empty
-pub mod InOrder
-pub mod Placing
-pub mod Carrying
-pub mod Calls
-pub mod Stays
-pub mod Parts
+mod Keys
+mod Fronts
+mod Moves
+mod Places
+mod Empty
+mod Changed
+mod Made
+mod Taken
+mod Linked
+mod Moved
+mod Spelled
+mod Refused
+mod TreeCalls
+mod TreeKept
+mod Depth
+mod Written
+mod InOrder
+mod Placing
+mod Carrying
+mod Calls
+mod Stays
+mod Parts

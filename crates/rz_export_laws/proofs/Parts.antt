@@ -1,17 +1,17 @@
 -- The parts of a whole export keep the rules of parts, and make it again.
-use Rattle.std.proofs.Common.{◌≡◌, ◌==◌, ℕ, zero, suc, ◌+◌, ◌*◌, ◌≤◌, ◌<◌, Bool, true, false, cond, ◌&&◌, not, List, [], ◌∷◌, ◌++◌, length, drop, map, Option, Some, None, is_some, Ordering, IfSome, sym, ap, ◌∙◌, subst, refl, arith, append_assoc}
-use Rattle.std.specs.declared.cmp.Ordering.TheVariants.{Less, Equal, Greater}
+use Rattle.std.proofs.Common.{◌≡◌, ◌==◌, ℕ, zero, suc, ◌≤◌, ◌<◌, true, false, ◌&&◌, not, List, [], ◌∷◌, ◌++◌, length, drop, map, Option, Some, None, is_some, IfSome, sym, ap, ◌∙◌, subst, refl, arith}
+use Rattle.std.specs.declared.cmp.Ordering.TheVariants.{Less}
 use Rattle.std.specs.List.{list_all, list_any}
 use Rattle.std.specs.Ordering.{nat_cmp, is_eq}
 use Rattle.std.specs.Cmp.{nat_cmp_total, ranked, tied_itself}
 use Rattle.std.specs.FinMap as maps
 use Rattle.std.specs.FinMap.{FinMap, nat_cmp-IsAntisymmetric, entries-insert}
 use Rattle.rz_events.specs.Volume.{Volume}
-use Rattle.rz_events.specs.Keys.{key_cmp, keys_total}
+use Rattle.rz_events.specs.Keys.{keys_total}
 use Rattle.rz_events.specs.declared.keys.Key.{Key}
 use Rattle.rz_events.specs.declared.files.Published.{Published}
 use Rattle.rz_export_model.specs.Paths.{Path, Name, path_cmp, names_total, paths_total, exact_paths, is_name, is_root, above}
-use Rattle.rz_export_model.specs.Tree.{Tree, Object, is_at, is_dir, paths_to, empty_tree, new_dir, file_of, is_file}
+use Rattle.rz_export_model.specs.Tree.{Tree, Object, is_at, is_dir, paths_to, empty_tree, new_dir}
 use Rattle.rz_export_model.specs.Export.{Export, Block, Blocks, Enrolled, new_export}
 use Rattle.rz_names.specs.Names.{below_root, root_alone}
 use Rattle.rz_tree.specs.declared.parts.Part.{Part}
@@ -19,15 +19,15 @@ use Rattle.rz_tree.specs.Parts.{object_part, name_part}
 use Rattle.rz_tree.specs.Added.{MayBeNamed, AreNamed}
 use Rattle.std.proofs.lemmas.Bool.{and_parts}
 use Rattle.std.specs.Ordering.{ordering_then}
-use Rattle.rz_tree.proofs.Keys.{held, same_some, get-inserted, get-beside}
-use Rattle.rz_tree.proofs.Fronts.{split-above}
+use Rattle.rz_export_laws.proofs.Keys.{held, same_some, get-inserted, get-beside}
+use Rattle.rz_export_laws.proofs.Fronts.{split-above}
 use Rattle.rz_tree.proofs.Lasts.{behind-less}
-use Rattle.rz_tree.proofs.Rules.{dir-found, dir-is}
-use Rattle.rz_tree.proofs.Counts.{count_to, cons-count, count-insert, one_if, one_if-same}
+use Rattle.rz_export_laws.proofs.Places.{dir-found, dir-is}
+use Rattle.rz_tree.proofs.Counts.{count_to, cons-count, one_if-same}
 use Rattle.rz_export.specs.Parts.{counters, block_part, enrolled_part, export_parts}
-use Rattle.rz_export.specs.Building.{with_part, with_parts, made_of, MayBeNext, MayFollow, AllFollow, ArePartsOf, MayBePublished, IsRootPart}
-use Rattle.rz_export_laws.specs.WholeTree.{is_plain, IsWholeTree}
-use Rattle.rz_export_laws.specs.Whole.{IsWhole, IsWholeBlock, IsWholeEnrolment, ArePartsAgain, PartsMakeIt}
+use Rattle.rz_export.specs.Building.{with_part, with_parts, made_of, MayBeNext, AllFollow, ArePartsOf, MayBePublished, IsRootPart}
+use Rattle.rz_export_laws.specs.WholeTree.{is_plain}
+use Rattle.rz_export_laws.specs.Whole.{IsWhole, PartsMakeIt}
 use Rattle.rz_export_laws.proofs.InOrder.{IsBegun, none-yet, all-there, next-behind, one-more, next-in, before-there, fewer, first-entry, empty-entries}
 
 -- ---- one part after another

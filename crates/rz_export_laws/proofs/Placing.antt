@@ -2,10 +2,10 @@
 use Rattle.std.proofs.Common.{◌≡◌, ◌==◌, ◌&&◌, ◌||◌, ◌<◌, ◌≤◌, ◌+◌, ℕ, zero, suc, Bool, true, false, cond, List, [], ◌∷◌, ◌++◌, length, map, take, drop, All, nat_eq, refl, sym, ◌∙◌, ap, subst, arith, eq-eqb}
 use Rattle.std.proofs.lemmas.Bool.Decides.{nat_tests}
 use Rattle.std.specs.List.{AllByRecursion, IsDistinct, list_any, list_all}
-use Rattle.mj_angles.specs.Layout.{block_bytes_of, safe_of}
+use Rattle.mj_angles.specs.Layout.{safe_of}
 use Rattle.rz_events.specs.Volume.{Volume, Cluster, nodes_of, IsCluster, IsVolume}
 use Rattle.rz_events.specs.declared.files.NodeSpec.{NodeSpec}
-use Rattle.rz_export_model.specs.Place.{Room, Rooms, rooms_of, clusters_of, is_better, best_of, is_before, at_its_place, in_order, placed_in, placed_among, place}
+use Rattle.rz_export_model.specs.Place.{Room, Rooms, rooms_of, clusters_of, is_better, best_of, is_before, at_its_place, in_order, placed_in, placed_among}
 use Rattle.rz_export_model.specs.Tree.{new_file}
 use Rattle.rz_export_model.specs.Export.{Export, new_places, free_of}
 use Rattle.rz_export.specs.Building.{LiesIn, is_home}

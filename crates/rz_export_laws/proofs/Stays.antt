@@ -1,20 +1,20 @@
 -- A new export is whole, and each call keeps it so.
-use Rattle.std.proofs.Common.{◌≡◌, ℕ, ◌+◌, ◌≤◌, true, false, Option, Some, None, is_some, sym, ap, ◌∙◌, subst, refl, arith, inl, inr}
+use Rattle.std.proofs.Common.{◌≡◌, ℕ, ◌+◌, Option, Some, None, is_some, sym, ap, ◌∙◌, subst, refl, arith, inl, inr}
 use Rattle.std.specs.Ordering.{nat_cmp}
 use Rattle.std.specs.Cmp.{nat_cmp_total}
 use Rattle.std.specs.FinMap as maps
 use Rattle.std.specs.FinMap.{FinMap, get-empty, nat_cmp-IsAntisymmetric}
 use Rattle.rz_events.specs.Volume.{Volume, IsVolume}
 use Rattle.rz_events.specs.Keys.{key_cmp}
-use Rattle.rz_events.specs.declared.keys.Key.{Key}
 use Rattle.rz_events.specs.declared.export.Call.{Call}
 use Rattle.rz_export_model.specs.Tree.{Object, empty_tree, new_dir, is_file}
-use Rattle.rz_export_model.specs.Export.{Export, Block, Enrolled, export_after, is_proper}
-use Rattle.rz_tree.proofs.Keys.{false-true, one-or-two, get-inserted, get-beside, same_some, not_none}
+use Rattle.rz_export_model.specs.Export.{Export}
+use Rattle.rz_export_laws.proofs.Keys.{false-true, one-or-two, get-inserted, get-beside, same_some, not_none}
 use Rattle.rz_export_laws.specs.WholeTree.{IsWholeTree}
-use Rattle.rz_export_laws.specs.Whole.{FilesLie, IsWhole, IsWholeAtFirst, StaysWholeBeside}
+use Rattle.rz_export_laws.specs.Whole.{FilesLie, IsWholeAtFirst, StaysWhole}
 use Rattle.rz_export_laws.proofs.Calls.{IsBeside, call-keeps, same-volume}
 use Rattle.rz_export_laws.proofs.Empty.{empty-whole}
+use Rattle.rz_export_laws.proofs.TreeKept.{tree-kept}
 
 abbrev nothing : FinMap nat_cmp Object
 nothing = maps.empty
@@ -45,14 +45,14 @@ next-blank s whole = go (maps.get s.tree.objects (s.tree.made + 1)) refl
     go None at = refl
     go (Some o) at = let low = whole.rules.drawn (s.tree.made + 1) (ap is_some at) in absurd (omega (arith, low))
 
--- where the tree stays whole, all does
-pub stays-beside : (s : Export) (c : Call) → StaysWholeBeside s c
-stays-beside s c proper whole tree =
+-- a call that the export takes keeps it whole
+pub stays-whole : (s : Export) (c : Call) → StaysWhole s c
+stays-whole s c proper whole =
     let old : IsBeside s = record { files = whole.files; blocks = whole.blocks; enrolments = whole.enrolments } in
     let kept = call-keeps s old whole.volume (next-blank s whole.tree) c proper in
     record {
       volume = subst IsVolume (sym (same-volume s c)) whole.volume;
-      tree = tree;
+      tree = tree-kept s c whole.tree;
       files = kept.files;
       blocks = kept.blocks;
       enrolments = kept.enrolments;

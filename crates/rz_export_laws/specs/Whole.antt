@@ -38,9 +38,9 @@ pub record IsWhole (s : Export) : Type 0 where
 abbrev pub IsWholeAtFirst : Volume → ℕ → Type 0
 IsWholeAtFirst volume last = IsVolume volume → IsWhole (new_export volume last)
 
--- a call that the export takes leaves a whole export whole, where it leaves the tree so
-abbrev pub StaysWholeBeside : Export → Call → Type 0
-StaysWholeBeside s call = IsTrue (is_proper s call) → IsWhole s → IsWholeTree (export_after s call).tree → IsWhole (export_after s call)
+-- a call that the export takes leaves a whole export whole
+abbrev pub StaysWhole : Export → Call → Type 0
+StaysWhole s call = IsTrue (is_proper s call) → IsWhole s → IsWhole (export_after s call)
 
 -- the parts of a whole export are parts of its volume, and make it again
 pub record ArePartsAgain (s : Export) : Type 0 where

@@ -1,3 +1,4 @@
+pub mod Opening
 pub mod Row
 pub mod Stands
 pub mod Walk

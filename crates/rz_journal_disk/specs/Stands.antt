@@ -7,7 +7,11 @@ use Rattle.rz_journal_disk.specs.Row.{Entries, taken, EndsAt}
 unfoldable pub disk_bytes : ℕ
 disk_bytes = 16_777_216
 
--- where a half begins; each has 8,388,576 bytes
+-- the size of a half
+unfoldable pub half_bytes : ℕ
+half_bytes = 8_388_576
+
+-- where a half begins
 abbrev pub half_at : ℕ → ℕ
 half_at half = 64 + half * 8_388_576
 

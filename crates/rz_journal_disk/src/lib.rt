@@ -10,13 +10,15 @@
 //! image of the disk stands for the list from before or for the new one. An entry here is any bytes:
 //! nothing is said of what they mean.
 //!
-//! In reading order: `shape`, `framing`, `entries`, `changing`, `formatting`, `walking`.
+//! In reading order: `shape`, `framing`, `entries`, `changing`, `formatting`, `walking`,
+//! `opening`.
 #![tactic(auto)]
 
 mod changing;
 mod entries;
 mod formatting;
 mod framing;
+mod opening;
 mod shape;
 #[cfg(test)]
 mod tests;
@@ -24,5 +26,6 @@ mod walking;
 
 pub use entries::Entries;
 pub use framing::{close_row, push_entry};
+pub use opening::{Half, OpenFault};
 pub use shape::HALF_BYTES;
 pub use walking::{Place, place_at};

@@ -1,7 +1,7 @@
 //! Where things stand on the disk.
 
 ghost use Rattle.std.specs.Prelude.{◌≡◌, ◌<◌};
-ghost use Rattle.rz_journal_disk.specs.Stands.{disk_bytes, half_at, header_bytes};
+ghost use Rattle.rz_journal_disk.specs.Stands.{disk_bytes, half_at, half_bytes, header_bytes};
 
 /// The bytes of a half.
 pub const HALF_BYTES: u64 = 8_388_576;
@@ -15,6 +15,14 @@ pub fn disk_bytes() -> u64
     ensures { result ≡ disk_bytes }
 {
     16_777_216
+}
+
+/// The bytes of a half.
+#[tactic(auto, unfolding(crate::specs::Stands::half_bytes))]
+pub fn half_bytes() -> u64
+    ensures { result ≡ half_bytes }
+{
+    8_388_576
 }
 
 /// Where a half begins.

@@ -11,8 +11,8 @@
 //! has these bytes, or `BadEntry` exactly where none has. Nothing is said of whether the export accepts
 //! a call, nor of whether parts fit together.
 //!
-//! In reading order: `entry`, `fault`, `numbers`, `calls`, `parts`, `writing`, `front`, `part_reading`,
-//! `reading`.
+//! In reading order: `entry`, `fault`, `numbers`, `calls`, `parts`, `widths`, `writing`, `front`,
+//! `part_reading`, `reading`.
 #![tactic(auto)]
 
 mod calls;
@@ -25,9 +25,11 @@ mod parts;
 mod reading;
 #[cfg(test)]
 mod tests;
+mod widths;
 mod writing;
 
 pub use entry::Entry;
 pub use fault::EntryFault;
+pub use parts::path_text;
 pub use reading::read;
 pub use writing::write;

@@ -206,8 +206,8 @@ fn write_path(alloc: Global, path: &Path, out: &mut Vec<u8>) -> Result<(), Alloc
     out.extend_from_slice(text.as_slice())
 }
 
-// The text of a path: a slash before each name, or alone for the root.
-fn path_text(alloc: Global, path: &Path) -> Result<Vec<u8>, AllocError>
+/// The text of a path: a slash before each name, or alone for the root.
+pub fn path_text(alloc: Global, path: &Path) -> Result<Vec<u8>, AllocError>
     ensures { IfOk result (λ text. text.items ≡ path_text path.now) }
 {
     let mut text = Vec::new(alloc);

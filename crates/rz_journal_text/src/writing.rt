@@ -2,20 +2,25 @@
 
 ghost use Rattle.std.specs.Prelude.{◌≡◌, ◌++◌, OnOk};
 ghost use Rattle.byteorder.specs.Endian.{little_bytes};
-ghost use Rattle.rz_journal_text.specs.Spelling.{key_bytes, kind_of, entry_fields, entry_bytes, MayStand};
+ghost use Rattle.rz_journal_text.specs.Spelling.{key_bytes, kind_of, entry_fields, entry_bytes, MayStand, IsEntry};
 
 use crate::Entry;
 use crate::calls::write_call;
 use crate::numbers::{write_key, write_u16, write_u32, write_u64};
 use crate::parts::{part_kind, write_part};
+use crate::widths::has_widths;
 use rz_events::Key;
 use std::alloc::{AllocError, Global};
 
 /// Adds the bytes of an entry at the end. After want of memory, a part of them may stand there.
 pub fn write(alloc: Global, entry: &Entry, out: &mut Vec<u8>) -> Result<(), AllocError>
     requires { MayStand entry.now }
-    ensures { OnOk result (out.new.items ≡ out.old.items ++ entry_bytes entry.now) }
+    ensures bytes { OnOk result (out.new.items ≡ out.old.items ++ entry_bytes entry.now) }
+
+    // Each number has a value of its field's type, so the bytes are those of this entry alone.
+    ensures value { IsEntry entry.now }
 {
+    has_widths(entry);
     out.push(kind_of(entry))?;
     write_fields(alloc, entry, out)
 }

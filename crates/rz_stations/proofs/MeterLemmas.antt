@@ -50,7 +50,7 @@ use Rattle.mj_angles.specs.declared.layout.Layout.{Layout}
 use Rattle.rz_events.specs.declared.files.NodeSpec.{NodeSpec}
 use Rattle.rz_events.specs.Volume.{Volume, IsVolume, nodes_of}
 use Rattle.rz_formatting.specs.Formatted.{AreFormatted, disks_of}
-use Rattle.rz_stations.specs.Meters.{IsExact, GoesWith, CountsWith, OfEach, AreMetered, AreCounted, AreDisksCounted, GoesOn, Goes}
+use Rattle.rz_stations.specs.Meters.{IsExact, GoesWith, CountsWith, OfEach, AreMetered, AreCounted, AreDisksCounted, GoesOn, Goes, faults_at, faults_in}
 use Rattle.rz_stations.proofs.EventWords.{word-stays, word-grows, word-apart, node-word, export-quiet, said-quiet, noted-own, noted-others}
 
 -- Along the row.

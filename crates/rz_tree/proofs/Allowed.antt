@@ -1,13 +1,12 @@
 -- The tests of the next part are its rules.
-use Rattle.std.proofs.Common.{◌≡◌, ℕ, suc, zero, ◌+◌, ◌-◌, ◌<◌, ◌≤◌, Bool, true, false, not, cond, ◌&&◌, ◌↔◌, List, [], ◌∷◌, length, take, Option, Some, None, is_some, is_none, Ordering, sym, ap, ◌∙◌, subst, refl, arith, eqb-true, eq-eqb}
+use Rattle.std.proofs.Common.{◌≡◌, ℕ, suc, zero, ◌-◌, ◌<◌, ◌≤◌, Bool, true, false, not, cond, ◌&&◌, ◌↔◌, List, [], ◌∷◌, length, take, Option, Some, None, is_none, Ordering, sym, ap, ◌∙◌, refl, arith, eqb-true, eq-eqb}
 use Rattle.std.specs.Prelude.{◌==◌, nat_lt, nat_le}
 use Rattle.std.proofs.lemmas.Bool.{leb-true}
 use Rattle.std.proofs.lemmas.Bool.Decides.{nat_tests}
 use Rattle.std.specs.declared.cmp.Ordering.TheVariants.{Less, Equal, Greater}
-use Rattle.std.specs.declared.ops.Bound.{Bound}
 use Rattle.std.specs.declared.ops.Bound.TheVariants.{Included, Unbounded}
-use Rattle.std.specs.BTreeMap.Range.{range_contains, entries_between}
-use Rattle.std.specs.List.{list_all, filter}
+use Rattle.std.specs.BTreeMap.Range.{entries_between}
+use Rattle.std.specs.List.{list_all}
 use Rattle.std.specs.List.Sorted.{IsStrictlySortedBy}
 use Rattle.std.specs.Map.{keys_of}
 use Rattle.std.specs.Option.{option_map, option_map_or}
@@ -28,7 +27,7 @@ use Rattle.rz_tree.specs.Inodes.{Table, object_of, seen_entries, objects_of}
 use Rattle.rz_tree.specs.Trees.{tree_of, IsCounted}
 use Rattle.rz_tree.specs.Added.{FitsKind, LiesNowhere, IsRoot, IsNextObject, IsNextName, MayBeNamed, most_names}
 use Rattle.rz_tree.specs.Allowed.{lies_nowhere, fits_kind, is_next_number, stands_under, may_be_named, is_next_name}
-use Rattle.rz_tree.proofs.Keys.{not_none, false-true}
+use Rattle.rz_tree.proofs.Keys.{false-true}
 use Rattle.rz_tree.proofs.Lasts.{and-left, and-right}
 use Rattle.rz_tree.proofs.Tables.{get-objects, entries-objects}
 use Rattle.rz_tree.proofs.Rows.{Row, table_of, entries-row}

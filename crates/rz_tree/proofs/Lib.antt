@@ -21,3 +21,4 @@ pub mod Lasts
 pub mod PartLaws
 mod Adding
 pub mod Allowed
+mod Named

@@ -1,5 +1,5 @@
 -- The parts of a tree one after another: which part may come next, and the tree with it.
-use Rattle.std.specs.Prelude.{ℕ, ◌≡◌, ◌≤◌, ◌<◌, ◌⊎◌, Bool, false, cond, List, [], length, Some, IsTrue, IsSome}
+use Rattle.std.specs.Prelude.{ℕ, ◌≡◌, ◌≤◌, ◌<◌, ◌⊎◌, false, cond, [], length, Some, IsTrue, IsSome}
 use Rattle.std.specs.List.{list_all}
 use Rattle.std.specs.FinMap as maps
 use Rattle.rz_events.specs.declared.files.Kind.{Kind}

@@ -4,7 +4,7 @@ ghost use Rattle.std.specs.Prelude.{◌≡◌, ◌==◌, ◌↔◌, ◌&&◌, na
 ghost use Rattle.std.specs.FinMap as maps;
 ghost use Rattle.rz_export_model.specs.Tree.{is_dir};
 ghost use Rattle.rz_names.specs.Names.{below_root, is_behind};
-ghost use Rattle.rz_tree.specs.Added.{most_names, IsRootPart, MayBeNext};
+ghost use Rattle.rz_tree.specs.Added.{most_names, AreNamed, IsRootPart, MayBeNext};
 ghost use Rattle.rz_tree.specs.Allowed.{fits_kind, is_next_number, stands_under, may_be_named, is_next_name};
 
 use crate::faults::{MOST_LINKS, MOST_OBJECTS};
@@ -34,6 +34,13 @@ impl Tree {
             Part::Block { .. } => false,
             Part::Enrolled { .. } => false,
         }
+    }
+
+    /// Whether each object has a name.
+    pub fn is_named(&self) -> bool
+        ensures { IsTrue result ↔ AreNamed self.now }
+    {
+        self.inodes.are_linked()
     }
 
     // Whether this object may be next.

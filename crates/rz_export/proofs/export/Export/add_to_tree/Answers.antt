@@ -1,5 +1,4 @@
-use Rattle.std.proofs.Common.{◌≡◌, sym, ap, ◌∙◌, subst}
-use Rattle.std.specs.FinMap as maps
+use Rattle.std.proofs.Common.{sym, ap, ◌∙◌, subst}
 use Rattle.rz_export_model.specs.Tree.{Tree}
 use Rattle.rz_export_model.specs.Export.{Export}
 use Rattle.rz_tree.specs.Added as trees

@@ -1,9 +1,9 @@
-use Rattle.std.proofs.Common.{◌≡◌, ◌+◌, ◌∷◌, List, drop, sym, ap, ◌∙◌, subst}
+use Rattle.std.proofs.Common.{◌+◌, List, drop, sym, ap, ◌∙◌, subst}
 use Rattle.std.proofs.lemmas.List.{drop_all}
 use Rattle.rz_tree.specs.declared.parts.Part.{Part}
 use Rattle.rz_export_model.specs.Export.{Export}
 use Rattle.rz_export.specs.Parts.{export_parts}
-use Rattle.rz_export.specs.Building.{with_part, with_parts, made_of, AllAdd}
+use Rattle.rz_export.specs.Building.{with_parts, AllAdd}
 use Rattle.rz_export.proofs.Joined.{all-add, made-parts, rest-at}
 use Rattle.rz_export.proofs.export.Export.build.Goals as goal
 

@@ -1,5 +1,4 @@
-use Rattle.std.proofs.Common.{◌≡◌, false, Some, is_none, is_some, sym, ap, ◌∙◌}
-use Rattle.std.specs.FinMap as maps
+use Rattle.std.proofs.Common.{Some, is_none, sym, ap, ◌∙◌}
 use Rattle.rz_events.specs.Keys.{keys_total}
 use Rattle.rz_export_model.specs.Export.{Export}
 use Rattle.rz_blocks.specs.Shown.{entry_above}

@@ -1,4 +1,4 @@
-use Rattle.std.proofs.Common.{◌≡◌, List, Some, is_none, is_some, sym, ap, ◌∙◌}
+use Rattle.std.proofs.Common.{List, Some, is_none, sym, ap, ◌∙◌}
 use Rattle.std.specs.List as lists
 use Rattle.std.specs.Cmp.{nat_cmp_total}
 use Rattle.std.specs.FinMap as maps
