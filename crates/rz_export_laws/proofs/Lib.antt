@@ -20,3 +20,4 @@ mod Carrying
 mod Calls
 mod Stays
 mod Parts
+mod Built
