@@ -18,8 +18,8 @@ use Rattle.rz_tree.specs.declared.parts.Part.TheVariants as part
 use Rattle.rz_tree.specs.Added.{FitsKind, AreNamed, IsRoot, IsNextObject, IsNextName, most_names, with_given}
 use Rattle.rz_tree.proofs.Lasts.{behind-none}
 use Rattle.rz_tree.proofs.Counts.{count-insert, one_if-same, one_if-other, no-path}
-use Rattle.rz_export.specs.Building.{AllFollow, MayBeNext, made_of, with_part, with_parts}
-use Rattle.rz_export_laws.specs.WholeTree.{IsWholeTree, IsPlainPart, BuildsWhole, is_plain}
+use Rattle.rz_export.specs.Building.{ArePartsOf, AllFollow, MayBeNext, made_of, with_part, with_parts}
+use Rattle.rz_export_laws.specs.WholeTree.{IsWholeTree, IsPlainPart, is_plain}
 use Rattle.rz_export_laws.proofs.Keys.{same_some, not_none, false-true, one-or-two, ties-itself, apart, get-inserted, get-beside}
 use Rattle.rz_export_laws.proofs.Fronts.{above-append}
 use Rattle.rz_export_laws.proofs.Places.{dir-found, dir-is}
@@ -226,13 +226,13 @@ dir-kind File h = cc
 dir-kind Dir h = refl
 dir-kind Link h = cc
 
-rooted : (made fid : ℕ) (o : Object) → IsRoot fid o → SoFar (record empty_tree { made = made; objects = maps.insert empty_tree.objects fid o })
+pub rooted : (made fid : ℕ) (o : Object) → IsRoot fid o → SoFar (record empty_tree { made = made; objects = maps.insert empty_tree.objects fid o })
 rooted made fid o root =
     let whole = changed-whole (record empty_tree { made = made }) (numbered made) 0 new_dir o (get-inserted nat_cmp_total nat_cmp-IsAntisymmetric maps.empty 0 new_dir) (dir-kind o.kind root.kind) root.fits in
     subst (λ n. SoFar (record empty_tree { made = made; objects = maps.insert empty_tree.objects n o })) (sym root.number)
     (so-far (record empty_tree { made = made; objects = maps.insert empty_tree.objects 0 o }) whole)
 
-step : (s : Export) (p : Part) → SoFar s.tree → MayBeNext s p → IsPlainPart p → SoFar (with_part s p).tree
+pub step : (s : Export) (p : Part) → SoFar s.tree → MayBeNext s p → IsPlainPart p → SoFar (with_part s p).tree
 step s (part.Counters last made) x may plain = absurd may
 step s (part.Object fid kind mode mtime size cid places target) x may plain = given-so-far s.tree x fid _ may.next
 step s (part.Name path fid) x may plain = named-so-far s.tree x path fid may.next plain
@@ -247,29 +247,37 @@ append-nothing : (ps : List Part) → ps ++ [] ≡ ps
 append-nothing [] = refl
 append-nothing (p ∷ ps) = ap (λ rest. p ∷ rest) (append-nothing ps)
 
-module _ (volume : Volume) (first second : Part) where
-  on : (before ps : List Part) → AllFollow volume (first ∷ second ∷ before) ps → AllByRecursion IsPlainPart ps → SoFar (made_of volume (first ∷ second ∷ before)).tree
-      → SoFar (made_of volume (first ∷ second ∷ (before ++ ps))).tree
-  on before [] follow plain x = subst (λ l. SoFar (made_of volume (first ∷ second ∷ l)).tree) (sym (append-nothing before)) x
-  on before (p ∷ ps) follow plain x =
-      subst (λ l. SoFar (made_of volume (first ∷ second ∷ l)).tree) (append_assoc before (p ∷ []) ps)
-      (on (before ++ p ∷ []) ps follow.1 plain.1
-      (subst (λ (s : Export). SoFar s.tree) (sym (with-last (new_export volume 0) (first ∷ second ∷ before) p))
-      (step (made_of volume (first ∷ second ∷ before)) p x follow.0 plain.0)))
+-- what holds of the export of counters and a root, and of one more part, holds of the export of all parts
+module _ (volume : Volume) (Q : Export → Type 0)
+    (start : (last made fid : ℕ) (o : Object) → IsRoot fid o
+    → Q (made_of volume (part.Counters last made ∷ part.Object fid o.kind o.mode o.mtime o.size o.cid o.places o.target ∷ [])))
+    (next : (s : Export) (p : Part) → Q s → MayBeNext s p → IsPlainPart p → Q (with_part s p)) where
+  on : (first second : Part) (before ps : List Part) → AllFollow volume (first ∷ second ∷ before) ps → AllByRecursion IsPlainPart ps → Q (made_of volume (first ∷ second ∷ before))
+      → Q (made_of volume (first ∷ second ∷ (before ++ ps)))
+  on first second before [] follow plain x = subst (λ l. Q (made_of volume (first ∷ second ∷ l))) (sym (append-nothing before)) x
+  on first second before (p ∷ ps) follow plain x =
+      subst (λ l. Q (made_of volume (first ∷ second ∷ l))) (append_assoc before (p ∷ []) ps)
+      (on first second (before ++ p ∷ []) ps follow.1 plain.1
+      (subst Q (sym (with-last (new_export volume 0) (first ∷ second ∷ before) p))
+      (next (made_of volume (first ∷ second ∷ before)) p x follow.0 plain.0)))
 
-begun : (volume : Volume) (parts : List Part) → AllFollow volume [] parts → 2 ≤ length parts → AllByRecursion IsPlainPart parts → SoFar (made_of volume parts).tree
-begun volume [] each two plain = absurd (omega arith)
-begun volume (p ∷ []) each two plain = absurd (omega arith)
-begun volume (part.Counters last made ∷ part.Object fid kind mode mtime size cid places target ∷ ps) each two plain =
-    on volume (part.Counters last made) (part.Object fid kind mode mtime size cid places target) [] ps each.1.1 plain.1.1 (rooted made fid _ each.1.0)
-begun volume (part.Counters last made ∷ part.Counters a b ∷ ps) each two plain = absurd each.1.0
-begun volume (part.Counters last made ∷ part.Name path fid ∷ ps) each two plain = absurd each.1.0
-begun volume (part.Counters last made ∷ part.Block key latest published ∷ ps) each two plain = absurd each.1.0
-begun volume (part.Counters last made ∷ part.Enrolled node loss fence ∷ ps) each two plain = absurd each.1.0
-begun volume (part.Object fid kind mode mtime size cid places target ∷ p ∷ ps) each two plain = absurd each.0
-begun volume (part.Name path fid ∷ p ∷ ps) each two plain = absurd each.0
-begun volume (part.Block key latest published ∷ p ∷ ps) each two plain = absurd each.0
-begun volume (part.Enrolled node loss fence ∷ p ∷ ps) each two plain = absurd each.0
+  pub all-parts : (parts : List Part) → AllFollow volume [] parts → 2 ≤ length parts → AllByRecursion IsPlainPart parts → Q (made_of volume parts)
+  all-parts [] each two plain = absurd (omega arith)
+  all-parts (p ∷ []) each two plain = absurd (omega arith)
+  all-parts (part.Counters last made ∷ part.Object fid kind mode mtime size cid places target ∷ ps) each two plain =
+      on (part.Counters last made) (part.Object fid kind mode mtime size cid places target) [] ps each.1.1 plain.1.1
+      (start last made fid (record { kind = kind; mode = mode; mtime = mtime; target = target; size = size; cid = cid; places = places }) each.1.0)
+  all-parts (part.Counters last made ∷ part.Counters a b ∷ ps) each two plain = absurd each.1.0
+  all-parts (part.Counters last made ∷ part.Name path fid ∷ ps) each two plain = absurd each.1.0
+  all-parts (part.Counters last made ∷ part.Block key latest published ∷ ps) each two plain = absurd each.1.0
+  all-parts (part.Counters last made ∷ part.Enrolled node loss fence ∷ ps) each two plain = absurd each.1.0
+  all-parts (part.Object fid kind mode mtime size cid places target ∷ p ∷ ps) each two plain = absurd each.0
+  all-parts (part.Name path fid ∷ p ∷ ps) each two plain = absurd each.0
+  all-parts (part.Block key latest published ∷ p ∷ ps) each two plain = absurd each.0
+  all-parts (part.Enrolled node loss fence ∷ p ∷ ps) each two plain = absurd each.0
 
-pub builds-whole : BuildsWhole
-builds-whole volume parts are plain = whole-at-end (made_of volume parts).tree (begun volume parts are.each are.rooted plain) are.named
+pub builds-whole : (volume : Volume) (parts : List Part) → ArePartsOf volume parts → AllByRecursion IsPlainPart parts → IsWholeTree (made_of volume parts).tree
+builds-whole volume parts are plain =
+    whole-at-end (made_of volume parts).tree
+    (all-parts volume (λ s. SoFar s.tree) (λ last made fid o root. rooted made fid o root) (λ s p x may named. step s p x may named) parts are.each are.rooted plain)
+    are.named

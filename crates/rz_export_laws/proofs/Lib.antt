@@ -21,3 +21,4 @@ mod Calls
 mod Stays
 mod Parts
 mod Built
+mod BuiltWhole

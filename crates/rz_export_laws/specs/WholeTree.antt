@@ -1,8 +1,7 @@
 -- When the names and objects of an export are whole: they keep the rules of the parts that make a tree.
 use Rattle.std.specs.Prelude.{ℕ, ◌≡◌, ◌≤◌, ◌<◌, ◌^◌, ◌==◌, ◌&&◌, Bool, not, List, [], ◌∷◌, length, Some, IsTrue}
-use Rattle.std.specs.List.{list_all, list_any, join_with_byte, AllByRecursion}
+use Rattle.std.specs.List.{list_all, list_any, join_with_byte}
 use Rattle.std.specs.FinMap as maps
-use Rattle.rz_events.specs.Volume.{Volume}
 use Rattle.rz_events.specs.declared.tree.TreeCall.{TreeCall}
 use Rattle.rz_events.specs.declared.export.Call.{Call}
 use Rattle.rz_export_model.specs.Paths.{Name, Path, is_name, long_path_of}
@@ -12,7 +11,6 @@ use Rattle.rz_export_model.specs.Export.{Export, export_after}
 use Rattle.rz_tree.specs.Trees.{IsTree}
 use Rattle.rz_tree.specs.declared.parts.Part.{Part}
 use Rattle.rz_tree.specs.declared.parts.Part.TheVariants as part
-use Rattle.rz_export.specs.Building.{ArePartsOf, made_of}
 use Rattle.rz_tree.specs.Added.{FitsKind, AreNamed, most_names}
 
 -- a name with no slash, so that a text can spell it
@@ -64,7 +62,3 @@ IsPlainPart (part.Object fid kind mode mtime size cid places target) = Unit {0}
 IsPlainPart (part.Name path fid) = IsTrue (list_all is_plain path)
 IsPlainPart (part.Block key latest published) = Unit {0}
 IsPlainPart (part.Enrolled node loss fence) = Unit {0}
-
--- parts of a volume whose names a text can spell make a whole tree
-abbrev pub BuildsWhole : Type 0
-BuildsWhole = (volume : Volume) (parts : List Part) → ArePartsOf volume parts → AllByRecursion IsPlainPart parts → IsWholeTree (made_of volume parts).tree
