@@ -7,3 +7,4 @@ mod Seats
 mod Replies
 mod Offices
 mod Metering
+mod Texts

@@ -1,7 +1,9 @@
 -- The export under its lock: what a caller must have done, and what a call adds to the log.
-use Rattle.std.specs.Prelude.{ℕ, ◌≡◌, ◌⊎◌, IsTrue, List, Option, unwrap_or}
+use Rattle.std.specs.Prelude.{ℕ, ◌≡◌, ◌<◌, ◌⊎◌, IsTrue, List, Option, Some, unwrap_or}
+use Rattle.std.specs.List.{All}
 use Rattle.rz_events.specs.declared.keys.Actor.{Actor}
 use Rattle.rz_events.specs.declared.export.Call.{Call}
+use Rattle.rz_events.specs.declared.export.Call.TheVariants as call
 use Rattle.rz_events.specs.declared.export.Reply.{Reply}
 use Rattle.rz_events.specs.declared.export.Reply.TheVariants as reply
 use Rattle.rz_events.specs.declared.events.Word.TheVariants.{Export}
@@ -9,7 +11,7 @@ use Rattle.rz_events.specs.declared.events.Event.{Event}
 use Rattle.rz_export_model.specs.Export.{Export as State, export_reply}
 use Rattle.rz_export_model.specs.ExportEvents.{export_event}
 use Rattle.rz_export.specs.Calls.{MayWant}
-use Rattle.rz_core.specs.History.{facts, of_word}
+use Rattle.rz_core.specs.History.{Begun, facts, of_word, wrote}
 use Rattle.rz_core.specs.Tied.{IsExport}
 use Rattle.rz_chronicle.specs.Kinds.{is_honest, volume_in}
 use Rattle.rz_chronicle.specs.Tally.{mark}
@@ -31,3 +33,14 @@ pub record Replied (kind : List ℕ) (question : Call) (given : Reply) (event : 
 -- the event of a reply that has one
 abbrev pub event_given : Actor → Call → Reply → Event
 event_given by question given = unwrap_or (export_event by question given) mark
+
+-- Texts.
+
+-- each write of the log began with a text of bytes
+abbrev pub AreBytes : List Event → Type 0
+AreBytes h = (s : ℕ) (b : Begun) → wrote h s ≡ Some b → All (λ x. x < 256) b.text
+
+-- so does one that begins by this call
+abbrev pub HasBytes : Call → Type 0
+HasBytes (call.Begin key text) = All (λ x. x < 256) text
+HasBytes question = Unit {0}

@@ -1,5 +1,6 @@
 //! The export under its lock.
 ghost use Rattle.std.specs.Prelude.{◌≡◌, ◌+◌, ◌<◌, ◌^◌, [], ◌∷◌, IsTrue};
+ghost use Rattle.std.specs.List.{All};
 ghost use Rattle.rz_events.specs.declared.keys.Actor.{Actor as AnActor};
 ghost use Rattle.rz_events.specs.declared.export.Call.{Call as ACall};
 ghost use Rattle.rz_events.specs.declared.events.Word.TheVariants as w;
@@ -12,7 +13,7 @@ ghost use Rattle.rz_chronicle.specs.Keys.{count_at, word_key, IsLater};
 ghost use Rattle.rz_chronicle.specs.Kinds.{IsFit, MayCome, is_honest, volume_in};
 ghost use Rattle.rz_chronicle.specs.Holds.{Commits, Stays};
 ghost use Rattle.rz_chronicle.specs.Deals.{new_post};
-ghost use Rattle.rz_locked.specs.Offices.{Replied, event_given};
+ghost use Rattle.rz_locked.specs.Offices.{AreBytes, HasBytes, Replied, event_given};
 
 use crate::waiting::without_reply;
 use rz_chronicle::{Asks, Book, Naming, Pass, Post};
@@ -35,13 +36,15 @@ impl<J: Naming> Model for Office<J> {
     ghost use Rattle.rz_core.specs.History.{facts, of_word};
     ghost use Rattle.rz_core.specs.Tied.{IsExport};
     ghost use Rattle.rz_chronicle.specs.Kinds.{is_honest, volume_in};
+    ghost use Rattle.rz_locked.specs.Offices.{AreBytes};
 
     ghost Value = { List AnEvent };
 
     ghost view = { λ o. o.post.log };
 
     ghost invariant = { λ o. (o.post.word ≡ w.Export) × (o.export.volume ≡ volume_in J.kind)
-        × (IsTrue (is_honest J.kind) → IsExport (volume_in J.kind) (facts o.post.log) (of_word w.Export o.post.log) o.export) };
+        × (IsTrue (is_honest J.kind) → IsExport (volume_in J.kind) (facts o.post.log) (of_word w.Export o.post.log) o.export)
+        × AreBytes o.post.log };
 }
 
 /// An actor and its call, of which a reply is.
@@ -102,6 +105,7 @@ impl<J: Naming> Office<J> {
         requires may { IsTrue (is_honest J.kind) → IsProperCall (volume_in J.kind) (facts pass.old.log) (of_actor pass.old.actor pass.old.log) pass.old.actor call.now }
         ensures same { (pass.new.actor ≡ pass.old.actor) × (pass.new.keys ≡ pass.old.keys) }
         ensures replied { Replied J.kind call.now result (export_event pass.old.actor call.now result) pass.old.keys pass.old.log pass.new.log }
+        ensures bytes { AreBytes pass.new.log }
         ensures fit { IsFit J.kind pass.new.log }
     {
         crate::laws::caller_kept();
@@ -133,11 +137,13 @@ impl<J: Naming> Office<J> {
         requires may { IsTrue (is_honest J.kind) → IsProperCall (volume_in J.kind) (facts pass.old.log) (of_actor pass.old.actor pass.old.log) pass.old.actor call.now }
         ensures same { (pass.new.actor ≡ pass.old.actor) × (pass.new.keys ≡ pass.old.keys) }
         ensures replied { Replied J.kind call.now result (export_event pass.old.actor call.now result) pass.old.keys pass.old.log pass.new.log }
+        ensures bytes { AreBytes pass.new.log }
         ensures fit { IsFit J.kind pass.new.log }
     {
         crate::laws::office_kept();
         crate::laws::replies();
         let by = pass.actor();
+        look_into(call);
         if !self.export.takes(call) {
             return without_reply(rt);
         }
@@ -148,6 +154,21 @@ impl<J: Naming> Office<J> {
         add_reply::<J, Brand>(book, pass, &mut self.post, by, call, &reply);
         reply
     }
+}
+
+/// The text of a write that begins is one of bytes, as each text is.
+fn look_into(call: &Call)
+    ensures { HasBytes call.now }
+{
+    if let Call::Begin { text, .. } = call {
+        are_bytes(text.bytes());
+    }
+}
+
+fn are_bytes(text: &[u8])
+    ensures { All (λ x. x < 256) text.now }
+{
+    let _count = text.len();
 }
 
 /// Adds the event of a reply that has one. The pass and the post have entered.

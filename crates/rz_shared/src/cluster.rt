@@ -15,7 +15,7 @@ ghost use Rattle.rz_chronicle.specs.Keys.{count_at, word_key};
 ghost use Rattle.rz_chronicle.specs.Kinds.{IsFit, MayCome, is_honest, volume_in};
 ghost use Rattle.rz_chronicle.specs.Holds.{Commits};
 ghost use Rattle.rz_locked.specs.Seats.{MayAsk, IsFor, Answered, IsRead};
-ghost use Rattle.rz_locked.specs.Offices.{Replied};
+ghost use Rattle.rz_locked.specs.Offices.{AreBytes, Replied};
 
 use crate::room::Room;
 use rz_chronicle::{Book, Pass};
@@ -111,6 +111,7 @@ impl<D: Disk, J: Counting> Cluster<D, J> {
         requires may { IsTrue (is_honest J.kind) → IsProperCall (volume_in J.kind) (facts pass.old.log) (of_actor pass.old.actor pass.old.log) pass.old.actor call.now }
         ensures same { (pass.new.actor ≡ pass.old.actor) × (pass.new.keys ≡ pass.old.keys) }
         ensures replied { Replied J.kind call.now result (export_event pass.old.actor call.now result) pass.old.keys pass.old.log pass.new.log }
+        ensures bytes { AreBytes pass.new.log }
         ensures fit { IsFit J.kind pass.new.log }
     {
         self.office.lock(rt).call(rt, book, pass, call)

@@ -11,8 +11,9 @@ use Rattle.rz_core.specs.Tied.{IsExport}
 use Rattle.rz_chronicle.specs.Keys.{count_at, word_key}
 use Rattle.rz_chronicle.specs.Kinds.{MayCome, is_honest, volume_in}
 use Rattle.rz_chronicle.specs.Holds.{Commits}
-use Rattle.rz_locked.specs.Offices.{event_given}
+use Rattle.rz_locked.specs.Offices.{AreBytes, event_given}
 use Rattle.rz_locked.proofs.Offices.{wanting, replied, its-event, may-come, volume-kept, tied-after, replied-so, unadded}
+use Rattle.rz_locked.proofs.Texts.{bytes-after}
 use Rattle.rz_locked.proofs.office.Office.replied.Goals as goal
 use Rattle.rz_locked.proofs.office.Office.replied.Goals.{in-NoMemory, in_default}
 
@@ -35,7 +36,7 @@ invariant_of-self g c =
     ] in
     let wants = wanting s q given new_s c.answer-reply.ensures none in
     let l = c.self.inside.post.log in
-    (inv.0, ap (λ (e : State). e.volume) wants.1 ∙ inv.1, λ honest. subst (IsExport v (facts l) (of_word w.Export l)) (sym wants.1) (inv.2 honest))
+    (inv.0, ap (λ (e : State). e.volume) wants.1 ∙ inv.1, (λ honest. subst (IsExport v (facts l) (of_word w.Export l)) (sym wants.1) (inv.2 honest)), inv.3)
 
 pub returns-then-matches-clause-replied : goal.returns-then-matches-clause-replied
 returns-then-matches-clause-replied g c =
@@ -128,8 +129,11 @@ invariant_of-self-2 g c =
     (subst (λ (u : Word). Commits (word_key u ∷ ks) h (event_given c.actor-by.result q given) new) inv.0 c.add_reply.ensures.commits) in (
       c.add_reply.ensures.same.2 ∙ inv.0,
       volume-kept kind h by q given s new_s (c.replies.ensures v) (c.office_kept.ensures v) c.actor-by.ensures.fit inv.1 tied room c.requires.may done,
-      λ honest. subst (λ (l : List Event). IsExport v (facts l) (of_word w.Export l) new_s) (sym c.add_reply.ensures.one)
-          (tied-after kind h by q given s new_s (c.replies.ensures v) (c.office_kept.ensures v) c.actor-by.ensures.fit inv.1 tied room c.requires.may done ks new it c.actor-by.ensures.own c.add_reply.ensures.fit honest),
+      (
+          λ honest. subst (λ (l : List Event). IsExport v (facts l) (of_word w.Export l) new_s) (sym c.add_reply.ensures.one)
+          (tied-after kind h by q given s new_s (c.replies.ensures v) (c.office_kept.ensures v) c.actor-by.ensures.fit inv.1 tied room c.requires.may done ks new it c.actor-by.ensures.own c.add_reply.ensures.fit honest)
+          ),
+      subst AreBytes (sym c.add_reply.ensures.one) (bytes-after by q given ks h new c.look_into.ensures (subst AreBytes log inv.3) it),
     )
 
 pub returns-clause-replied : goal.returns-clause-replied
@@ -157,3 +161,20 @@ returns-clause-replied g c =
     subst (λ (a : Actor). Commits (word_key w.Export ∷ ks) h (event_given a q given) new) c.actor-by.ensures.value
     (subst (λ (u : Word). Commits (word_key u ∷ ks) h (event_given c.actor-by.result q given) new) inv.0 c.add_reply.ensures.commits) in
     replied-so kind h by q given s new_s (c.replies.ensures v) (c.office_kept.ensures v) c.actor-by.ensures.fit inv.1 tied room c.requires.may done ks new it c.actor-by.ensures.own c.add_reply.ensures.fit
+
+pub returns-then-matches-clause-bytes : goal.returns-then-matches-clause-bytes
+returns-then-matches-clause-bytes g c = subst AreBytes (c.self.view_is ∙ c.requires.one) c.self.invariant.3
+
+pub returns-clause-bytes : goal.returns-clause-bytes
+returns-clause-bytes g c =
+    let by = c.args.pass.now.actor in
+    let q = c.args.call.now in
+    let given = c.answer-reply.result in
+    let h = c.args.pass.now.log in
+    let log : c.self.inside.post.log ≡ h = c.self.view_is ∙ c.requires.one in
+    let ks = c.args.pass.now.keys in
+    let new = c.add_reply.new.pass.log in
+    let it : Commits (word_key w.Export ∷ ks) h (event_given by q given) new =
+    subst (λ (a : Actor). Commits (word_key w.Export ∷ ks) h (event_given a q given) new) c.actor-by.ensures.value
+    (subst (λ (u : Word). Commits (word_key u ∷ ks) h (event_given c.actor-by.result q given) new) c.self.invariant.0 c.add_reply.ensures.commits) in
+    bytes-after by q given ks h new c.look_into.ensures (subst AreBytes log c.self.invariant.3) it

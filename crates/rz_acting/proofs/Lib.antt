@@ -1,0 +1,5 @@
+mod Fresh
+mod Texts
+mod Sayings
+mod Starts
+mod Acts
