@@ -1,1 +1,6 @@
+pub mod Keepings
 pub mod Listings
+pub mod Makings
+pub mod PartRows
+pub mod Refused
+pub mod Standings

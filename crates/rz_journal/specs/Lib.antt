@@ -1,3 +1,6 @@
 pub mod JournalText
+pub mod Kept
 pub mod Listed
+pub mod Room
 pub mod Said
+pub mod Seen
