@@ -1,17 +1,14 @@
 -- Disks that come back where no driver was made.
-use Rattle.std.proofs.Common.{◌≡◌, ◌⊎◌, inl, inr, ℕ, zero, suc, ◌+◌, ◌-◌, ◌^◌, ◌≤◌, min, Bool, IsTrue, List, [], ◌∷◌, length, map, Option, refl, ap, ◌∙◌, arith}
-use Rattle.std.specs.Prelude.{slice_get}
-use Rattle.std.specs.List.{AllZip, zip}
+use Rattle.std.proofs.Common.{◌≡◌, inl, inr, ℕ, zero, suc, ◌+◌, ◌-◌, ◌^◌, ◌≤◌, min, Bool, List, [], ◌∷◌, length, map, refl, ap, ◌∙◌, arith}
 use Rattle.mj_angles.specs.declared.layout.Layout.{Layout}
 use Rattle.rz_disk.specs.Meter.{Meter, faults}
 use Rattle.rz_events.specs.declared.files.NodeSpec.{NodeSpec}
 use Rattle.rz_events.specs.declared.events.Event.{Event}
 use Rattle.rz_ports.specs.Counts.{Rises}
-use Rattle.rz_driver.specs.Made.{IsBack, IsCause, faults_at, faults_in}
-use Rattle.rz_driver.specs.Made as made
-use Rattle.rz_driver.specs.Meters.{AreDisksCounted}
-use Rattle.rz_driver.specs.declared.making.DriverFault.{DriverFault}
-use Rattle.rz_driver.specs.declared.making.DriverFault.TheVariants.{NoMemory, Disk}
+use Rattle.rz_stations.specs.Meters.{AreDisksCounted, faults_at, faults_in}
+use Rattle.rz_formatting.specs.Formatted.{AreBack, IsCause}
+use Rattle.rz_formatting.specs.declared.fault.DriverFault.{DriverFault}
+use Rattle.rz_formatting.specs.declared.fault.DriverFault.TheVariants.{NoMemory, Disk}
 use Rattle.rz_request.specs.declared.wishes.Request.{Request}
 use Rattle.rz_perform.specs.Output.{Sunk}
 use Rattle.rz_perform.specs.Replays.{Unplayed, Opens}
@@ -20,7 +17,7 @@ use Rattle.rozo_program.specs.Replays.{Fails}
 
 module _ {D : Type 0} (tells : Bool) (meter : D → Meter) (image : D → List ℕ → Type 0) (layout : Layout) where
   -- no count fell
-  pub back-faults : (nodes : List NodeSpec) (old new : List D) → length old ≡ length nodes → made.AreBack tells meter image layout nodes old new
+  pub back-faults : (nodes : List NodeSpec) (old new : List D) → length old ≡ length nodes → AreBack tells meter image layout nodes old new
       → (i : ℕ) → faults_at meter old i ≤ faults_at meter new i
   back-faults [] [] [] count all i = omega arith
   back-faults [] [] (n ∷ new) count all i = absurd all
@@ -32,7 +29,7 @@ module _ {D : Type 0} (tells : Bool) (meter : D → Meter) (image : D → List �
 
   -- and there is one for each node, in order, where nothing was played
   pub counted-none : (first : ℕ → ℕ) (i : ℕ) (nodes : List NodeSpec) (old new : List D) → ((k : ℕ) → first (i + k) ≡ faults_at meter old k) → length old ≡ length nodes
-      → made.AreBack tells meter image layout nodes old new → AreDisksCounted meter first i (map (λ (n : NodeSpec). n.sid) nodes) new []
+      → AreBack tells meter image layout nodes old new → AreDisksCounted meter first i (map (λ (n : NodeSpec). n.sid) nodes) new []
   counted-none first i [] [] [] firsts count all = tt
   counted-none first i [] [] (n ∷ new) firsts count all = absurd all
   counted-none first i [] (o ∷ old) new firsts count all = absurd (omega (arith, count))

@@ -1,13 +1,12 @@
 -- Disks as they were lent, and as they are handed back.
 use Rattle.std.specs.Prelude.{ℕ, Bool, IsTrue, ◌≡◌, map, List, [], ◌++◌, Result, Ok, Err}
 use Rattle.rz_disk.specs.Meter.{Meter}
-use Rattle.rz_driver.specs.Made.{faults_at}
-use Rattle.rz_driver.specs.Made as made
-use Rattle.rz_driver.specs.Meters.{AreDisksCounted}
-use Rattle.rz_driver.specs.Pictures.{AreDisksImaged}
+use Rattle.rz_stations.specs.Meters.{AreDisksCounted, faults_at}
+use Rattle.rz_stations.specs.Images.{AreDisksImaged}
 use Rattle.rz_events.specs.Volume.{Volume, nodes_of}
 use Rattle.rz_events.specs.declared.files.NodeSpec.{NodeSpec}
 use Rattle.rz_events.specs.declared.events.Event.{Event}
+use Rattle.rz_formatting.specs.Formatted.{AreBack}
 use Rattle.rz_request.specs.declared.refusal.Stop.{Stop}
 use Rattle.rz_request.specs.declared.wishes.Request.{Request}
 use Rattle.rz_perform.specs.Replays.{Faulted, Course, Unplayed, Performed}
@@ -28,7 +27,7 @@ AreFaultsTold meter v old new h = AreDisksCounted meter (faults_at meter old) 0 
 -- Where no play began, each image of each disk is one from before, or its header is shut, or it stands for nothing. After a play,
 -- with its log, each stands for what the log says that its node holds.
 abbrev pub AreImagesTold : {D : Type 0} → Bool → (D → Meter) → (D → List ℕ → Type 0) → Course → Volume → List D → List D → List Event → Type 0
-AreImagesTold tells meter image Unplayed v old new h = made.AreBack tells meter image v.layout (nodes_of v.clusters) old new
+AreImagesTold tells meter image Unplayed v old new h = AreBack tells meter image v.layout (nodes_of v.clusters) old new
 AreImagesTold tells meter image (Performed later) v old new h = IsTrue tells → AreDisksImaged image v (numbers_of_volume v) new h
 
 -- the events of the records that were asked for after a play

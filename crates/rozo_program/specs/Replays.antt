@@ -4,8 +4,8 @@ use Rattle.rz_command.specs.Line.{Meaning}
 use Rattle.rz_command.specs.declared.command.Command.{Command}
 use Rattle.rz_command.specs.declared.command.Command.TheVariants.{Migrate}
 use Rattle.rz_disk.specs.Meter.{Meter}
-use Rattle.rz_driver.specs.declared.making.DriverFault.{DriverFault}
-use Rattle.rz_driver.specs.declared.making.DriverFault.TheVariants as faults
+use Rattle.rz_formatting.specs.declared.fault.DriverFault.{DriverFault}
+use Rattle.rz_formatting.specs.declared.fault.DriverFault.TheVariants as faults
 use Rattle.rz_events.specs.declared.events.Event.{Event}
 use Rattle.rz_request.specs.Requests.{Asks, Reading}
 use Rattle.rz_request.specs.declared.refusal.Refusal.TheVariants as refusals

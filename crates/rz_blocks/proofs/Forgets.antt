@@ -1,22 +1,24 @@
--- Keys of a file that are taken out one by one.
-use Rattle.std.proofs.Common.{◌≡◌, ℕ, ◌-◌, ◌<◌, Bool, true, false, cond, not, List, [], ◌∷◌, length, Option, Some, None, is_some, sym, ap, ◌∙◌, refl, arith}
+-- The keys of a file, and the map without them.
+use Rattle.std.proofs.Common.{◌≡◌, ℕ, Bool, true, false, cond, not, List, [], ◌∷◌, Option, Some, None, is_some, sym, ap, ◌∙◌, refl}
 use Rattle.std.specs.Prelude.{◌==◌}
 use Rattle.std.specs.Option.{option_map, option_or}
 use Rattle.std.specs.Ordering.{is_eq, eq_by_cmp}
 use Rattle.std.specs.declared.cmp.Ordering.{Ordering}
 use Rattle.std.specs.declared.cmp.Ordering.TheVariants.{Less, Equal, Greater}
+use Rattle.std.specs.BTreeMap.{is_at}
 use Rattle.std.specs.Cmp.{tied_itself}
 use Rattle.std.specs.FinMap as maps
-use Rattle.std.specs.FinMap.{same_map, get-remove, get-retain_keys, get-entries, len-remove, len-entries}
+use Rattle.std.specs.FinMap.{same_map, get-retain_keys}
 use Rattle.std.specs.FinMap.Entries.{find}
 use Rattle.rz_events.specs.Keys.{key_cmp, keys_total, exact_keys}
 use Rattle.rz_events.specs.declared.keys.Key.{Key}
 use Rattle.rz_export_model.specs.Firsts.{first_given, given_if}
 use Rattle.rz_export_model.specs.Export.{Block, Blocks, without_file}
 use Rattle.rz_blocks.specs.declared.blocks.Entry.{Entry}
-use Rattle.rz_blocks.specs.Shown.{shown}
+use Rattle.rz_blocks.specs.Shown.{shown, shown_entries}
 use Rattle.rz_blocks.specs.Marked.{kept_at}
-use Rattle.rz_blocks.proofs.Shows.{Kept, map_of, get-shown}
+use Rattle.rz_blocks.proofs.Shows.{Kept, map_of, find-shown, some-shown, get-shown}
+use Rattle.rz_blocks.proofs.Ranges.{key_in, first-shown}
 
 -- the least key of a file
 abbrev pub first_of_file : ℕ → List (Key × Block) → Option Key
@@ -69,41 +71,45 @@ kept_alike fid q x is = ap (λ (y : Key). not (y.fid == fid)) (sym (exact_keys q
 pub get-without : (m : Blocks) (fid : ℕ) (q : Key) → maps.get (without_file m fid) q ≡ cond (not (q.fid == fid)) (maps.get m q) None
 get-without m fid q = get-retain_keys m (λ key. not (key.fid == fid)) q (λ x is. kept_alike fid q x is)
 
--- with one key less of the file the rest is the same
-pub forget-step : (m : Blocks) (fid : ℕ) (k : Key) → first_of_file fid (maps.entries m) ≡ Some k → without_file (maps.remove m k) fid ≡ without_file m fid
-forget-step m fid k h = same_map keys_total exact_keys _ _ (λ q.
-    get-without (maps.remove m k) fid q ∙ ap (λ o. cond (not (q.fid == fid)) o None) (get-remove keys_total m k q) ∙ gone q (eq_by_cmp key_cmp q k) refl ∙ sym (get-without m fid q))
-  where
-    gone : (q : Key) (b : Bool) → eq_by_cmp key_cmp q k ≡ b → cond (not (q.fid == fid)) (cond b None (maps.get m q)) None ≡ cond (not (q.fid == fid)) (maps.get m q) None
-    gone q true same =
-        let own : (q.fid == fid) ≡ true = ap (λ (y : Key). y.fid == fid) (exact_keys q k (eq_true _ same)) ∙ first-own fid (maps.entries m) k h in
-        ap (λ b. cond (not b) None None) own ∙ sym (ap (λ b. cond (not b) (maps.get m q) None) own)
-    gone q false other = refl
+-- ---- entries of which the keys of a file go
 
--- without a key of the file nothing is left to do
-pub forget-end : (m : Blocks) (fid : ℕ) → first_of_file fid (maps.entries m) ≡ None → m ≡ without_file m fid
-forget-end m fid h = same_map keys_total exact_keys _ _ (λ q. kept q (q.fid == fid) refl ∙ sym (get-without m fid q))
-  where
-    kept : (q : Key) (b : Bool) → (q.fid == fid) ≡ b → maps.get m q ≡ cond (not (q.fid == fid)) (maps.get m q) None
-    kept q true own = get-entries m q ∙ none-own fid (maps.entries m) h q own ∙ sym (ap (λ b. cond (not b) (maps.get m q) None) own)
-    kept q false other = sym (ap (λ b. cond (not b) (maps.get m q) None) other)
+module _ (es : Kept) (fid : ℕ) where
+  file-shown : first_of_file fid (shown_entries es) ≡ first_given (key_in fid) es
+  file-shown = sym (first-shown (λ e. given_if (e.0.fid == fid) e.0) es)
 
--- without a key of the file no entry of it is kept
-pub none-kept : (es : Kept) (m : Blocks) → map_of es ≡ m → (fid : ℕ) → first_of_file fid (maps.entries m) ≡ None → (q : Key) → (q.fid == fid) ≡ true → kept_at es q ≡ None
-none-kept es m view fid h q own = not-shown (kept_at es q) (sym (get-shown es q) ∙ ap (λ x. maps.get x q) view ∙ get-entries m q ∙ none-own fid (maps.entries m) h q own)
-  where
-    not-shown : (o : Option Entry) → option_map shown o ≡ None → o ≡ None
-    not-shown None h = refl
-    not-shown (Some e) h = cc
+  own-key : (k : Key) → first_given (key_in fid) es ≡ Some k → (k.fid == fid) ≡ true
+  own-key k h = first-own fid (shown_entries es) k (file-shown ∙ h)
 
--- a key is one less
-pub forget-smaller : (m : Blocks) (fid : ℕ) (k : Key) → first_of_file fid (maps.entries m) ≡ Some k → maps.len (maps.remove m k) < maps.len m
-forget-smaller m fid k h =
-    let there : is_some (maps.get m k) ≡ true = ap is_some (get-entries m k) ∙ first-found fid (maps.entries m) k h in
-    let less : maps.len (maps.remove m k) ≡ maps.len m - 1 = len-remove keys_total m k ∙ ap (λ b. cond b (maps.len m - 1) (maps.len m)) there in
-    let some_left : 0 < length (maps.entries m) = some_entry (maps.entries m) (first-found fid (maps.entries m) k h) in
-    omega (arith, less, some_left, len-entries m)
+  pub found-key : (k : Key) → first_given (key_in fid) es ≡ Some k → is_some (kept_at es k) ≡ true
+  found-key k h = sym (some-shown (kept_at es k)) ∙ ap is_some (sym (find-shown es k)) ∙ first-found fid (shown_entries es) k (file-shown ∙ h)
+
+  -- another file keeps its entries as a key of this one goes
+  pub others-stay : (fs : Kept) (k : Key) → first_given (key_in fid) es ≡ Some k → ((q : Key) → kept_at fs q ≡ cond (is_at (key_cmp k) q) None (kept_at es q))
+      → (q : Key) → (q.fid == fid) ≡ false → kept_at fs q ≡ kept_at es q
+  others-stay fs k h now q other = now q ∙ go (is_at (key_cmp k) q) refl
+    where
+      go : (b : Bool) → is_at (key_cmp k) q ≡ b → cond b None (kept_at es q) ≡ kept_at es q
+      go true is = let never : true ≡ false = sym (own-key k h) ∙ ap (λ (y : Key). y.fid == fid) (exact_keys k q (eq_true _ is)) ∙ other in cc
+      go false is = refl
+
+  -- where no key of the file is left, the file has no entries
+  pub all-gone : (old : Kept) → first_given (key_in fid) es ≡ None → ((q : Key) → (q.fid == fid) ≡ false → kept_at es q ≡ kept_at old q)
+      → (q : Key) → kept_at es q ≡ cond (q.fid == fid) None (kept_at old q)
+  all-gone old h stay q = go (q.fid == fid) refl
+    where
+      not-shown : (o : Option Entry) → option_map shown o ≡ None → o ≡ None
+      not-shown None h = refl
+      not-shown (Some e) h = cc
+
+      go : (b : Bool) → (q.fid == fid) ≡ b → kept_at es q ≡ cond b None (kept_at old q)
+      go true own = not-shown (kept_at es q) (sym (find-shown es q) ∙ none-own fid (shown_entries es) (file-shown ∙ h) q own)
+      go false other = stay q other
+
+-- the map is then the one without the file
+pub without-kept : (es fs : Kept) (fid : ℕ) → ((q : Key) → kept_at fs q ≡ cond (q.fid == fid) None (kept_at es q)) → map_of fs ≡ without_file (map_of es) fid
+without-kept es fs fid now = same_map keys_total exact_keys _ _ (λ q.
+    get-shown fs q ∙ ap (option_map shown) (now q) ∙ turn (q.fid == fid) (kept_at es q) ∙ ap (λ o. cond (not (q.fid == fid)) o None) (sym (get-shown es q)) ∙ sym (get-without (map_of es) fid q))
   where
-    some_entry : (es : List (Key × Block)) → is_some (find key_cmp k es) ≡ true → 0 < length es
-    some_entry [] is = cc
-    some_entry (e ∷ es) is = omega arith
+    turn : (b : Bool) (o : Option Entry) → option_map shown (cond b None o) ≡ cond (not b) (option_map shown o) None
+    turn true o = refl
+    turn false o = refl

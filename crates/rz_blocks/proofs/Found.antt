@@ -1,6 +1,5 @@
 -- What the calls find is what the map has.
 use Rattle.std.proofs.Common.{◌≡◌, ℕ, true, Option, sym, ap, ◌∙◌}
-use Rattle.std.specs.Prelude.{◌==◌}
 use Rattle.std.specs.List as lists
 use Rattle.std.specs.List.Sorted.{IsStrictlySortedBy}
 use Rattle.std.specs.Map.{keys_of}
@@ -8,24 +7,15 @@ use Rattle.std.specs.Option.{option_map}
 use Rattle.std.specs.declared.ops.Bound.{Bound}
 use Rattle.std.specs.declared.ops.Bound.TheVariants.{Unbounded}
 use Rattle.std.specs.BTreeMap.Range.{entries_between}
-use Rattle.std.specs.FinMap as maps
 use Rattle.rz_events.specs.Keys.{key_cmp}
 use Rattle.rz_events.specs.declared.keys.Key.{Key}
 use Rattle.rz_events.specs.declared.files.Published.{Published}
-use Rattle.rz_export_model.specs.Firsts.{first_given, given_if}
 use Rattle.rz_export_model.specs.Export.{Block, Blocks, is_after}
-use Rattle.rz_blocks.specs.Shown.{shown, entry_above, IsStartAbove, IsStartOf, IsEndOf}
+use Rattle.rz_blocks.specs.Shown.{shown, entry_above, IsStartAbove}
 use Rattle.rz_blocks.proofs.Shows.{Kept, map_of, entries-shown}
-use Rattle.rz_blocks.proofs.Ranges.{first-range, first-shown, first-above, key_in}
-use Rattle.rz_blocks.proofs.Forgets.{first_of_file}
+use Rattle.rz_blocks.proofs.Ranges.{first-above}
 
 module _ (es : Kept) (ordered : IsStrictlySortedBy key_cmp (keys_of es)) (m : Blocks) (view : map_of es ≡ m) (range : Kept) where
-  pub first-key : (lo hi : Bound Key) (file : ℕ) → IsStartOf lo file → IsEndOf hi file → range ≡ entries_between key_cmp lo hi es
-      → first_given (key_in file) range ≡ first_of_file file (maps.entries m)
-  first-key lo hi file start end between =
-      ap (first_given (key_in file)) between ∙ first-range lo hi file start end es
-      ∙ first-shown (λ e. given_if (e.0.fid == file) e.0) es ∙ sym (ap (first_of_file file) (entries-shown es ordered)) ∙ ap (λ b. first_of_file file (maps.entries b)) view
-
   pub first-entry : (lo : Bound Key) (key : Option Key) → IsStartAbove lo key → range ≡ entries_between key_cmp lo Unbounded es
       → option_map (λ (x : Key × Block). (x.0, x.1.latest, x.1.published)) (option_map (λ x. (x.0, shown x.1)) (lists.find (λ x. true) range)) ≡ entry_above m key
   first-entry lo key start between =

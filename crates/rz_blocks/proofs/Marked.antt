@@ -71,21 +71,42 @@ module _ (es fs : Kept) (marks new : List Row) (key : Key) (o : Option Entry) (x
       bound q true is h = subst (λ (k : Key). k.block < 2 ^ 64) (exact_keys key q (tied _ is)) (small h)
       bound q false is h = m.small q h
 
--- the marks of a file without entries go, and the room for them
-module _ (es : Kept) (marks new : List Row) (fid : ℕ) where
-  pub forgotten : AreMarked es marks → ((q : Key) → (q.fid == fid) ≡ true → kept_at es q ≡ None)
+-- an entry is written over another that is published just where it is
+pub overwritten : (es fs : Kept) (marks : List Row) (key : Key) (e : Entry) → AreMarked es marks → ((q : Key) → kept_at fs q ≡ cond (is_at (key_cmp key) q) (Some e) (kept_at es q))
+    → is_some (kept_at es key) ≡ true → is_public (kept_at es key) ≡ is_public (Some e) → AreMarked fs marks
+overwritten es fs marks key e m now there same = record {
+  marked = λ q. m.marked q ∙ said q (is_at (key_cmp key) q) refl ∙ ap is_public (sym (now q));
+  room = λ q h. m.room q (was q (is_at (key_cmp key) q) refl (ap is_some (sym (now q)) ∙ h));
+  small = λ q h. m.small q (was q (is_at (key_cmp key) q) refl (ap is_some (sym (now q)) ∙ h));
+}
+  where
+    said : (q : Key) (b : Bool) → is_at (key_cmp key) q ≡ b → is_public (kept_at es q) ≡ is_public (cond b (Some e) (kept_at es q))
+    said q true is = ap (λ (k : Key). is_public (kept_at es k)) (sym (exact_keys key q (tied _ is))) ∙ same
+    said q false is = refl
+
+    was : (q : Key) (b : Bool) → is_at (key_cmp key) q ≡ b → is_some (cond b (Some e) (kept_at es q)) ≡ true → is_some (kept_at es q) ≡ true
+    was q true is h = ap (λ (k : Key). is_some (kept_at es k)) (sym (exact_keys key q (tied _ is))) ∙ there
+    was q false is h = h
+
+-- the entries of a file go, and so do its marks and the room for them
+module _ (es fs : Kept) (marks new : List Row) (fid : ℕ) where
+  pub forgotten : AreMarked es marks → ((q : Key) → kept_at fs q ≡ cond (q.fid == fid) None (kept_at es q))
       → ((l : ℕ) (q : Key) → is_marked new l q ≡ (not ((l == 0) && (q.fid == fid)) && is_marked marks l q))
-      → ((l : ℕ) (q : Key) → has_room new l q ≡ (not ((l == 0) && (q.fid == fid)) && has_room marks l q)) → AreMarked es new
-  forgotten m none marked room = record {
-    marked = λ q. marked 0 q ∙ said q (q.fid == fid) refl;
-    room = λ q h. room 0 q ∙ roomed q h (q.fid == fid) refl;
-    small = m.small;
+      → ((l : ℕ) (q : Key) → has_room new l q ≡ (not ((l == 0) && (q.fid == fid)) && has_room marks l q)) → AreMarked fs new
+  forgotten m now marked room = record {
+    marked = λ q. marked 0 q ∙ said q (q.fid == fid) ∙ ap is_public (sym (now q));
+    room = λ q h. room 0 q ∙ roomed q (q.fid == fid) (ap is_some (sym (now q)) ∙ h);
+    small = λ q h. bound q (q.fid == fid) (ap is_some (sym (now q)) ∙ h);
   }
     where
-      said : (q : Key) (b : Bool) → (q.fid == fid) ≡ b → (not b && is_marked marks 0 q) ≡ is_public (kept_at es q)
-      said q true own = sym (ap is_public (none q own))
-      said q false other = m.marked q
+      said : (q : Key) (b : Bool) → (not b && is_marked marks 0 q) ≡ is_public (cond b None (kept_at es q))
+      said q true = refl
+      said q false = m.marked q
 
-      roomed : (q : Key) → is_some (kept_at es q) ≡ true → (b : Bool) → (q.fid == fid) ≡ b → (not b && has_room marks 0 q) ≡ true
-      roomed q h true own = let never : true ≡ false = sym h ∙ ap is_some (none q own) in cc
-      roomed q h false other = m.room q h
+      roomed : (q : Key) (b : Bool) → is_some (cond b None (kept_at es q)) ≡ true → (not b && has_room marks 0 q) ≡ true
+      roomed q true h = cc
+      roomed q false h = m.room q h
+
+      bound : (q : Key) (b : Bool) → is_some (cond b None (kept_at es q)) ≡ true → q.block < 2 ^ 64
+      bound q true h = cc
+      bound q false h = m.small q h

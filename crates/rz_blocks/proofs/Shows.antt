@@ -1,7 +1,7 @@
 -- The map that kept entries stand for.
-use Rattle.std.proofs.Common.{◌≡◌, Bool, true, false, cond, ◌&&◌, T, List, [], ◌∷◌, Option, Some, None, is_some, sym, ap, ◌∙◌, subst, refl}
+use Rattle.std.proofs.Common.{◌≡◌, ℕ, Bool, true, false, cond, ◌&&◌, T, List, [], ◌∷◌, Option, Some, None, is_some, sym, ap, ◌∙◌, subst, refl}
 use Rattle.std.specs.declared.cmp.Ordering.TheVariants.{Less}
-use Rattle.std.specs.Option.{option_map}
+use Rattle.std.specs.Option.{option_map, option_map_or, option_and_then}
 use Rattle.std.specs.Ordering.{is_lt, eq_by_cmp}
 use Rattle.std.specs.Cmp.{eq_by_cmp_equiv}
 use Rattle.std.specs.BTreeMap.{is_at}
@@ -14,7 +14,8 @@ use Rattle.std.specs.FinMap.{same_map, get-from_entries, get-insert, get-remove,
 use Rattle.std.specs.FinMap.Entries.{find, is_sorted, below_all, same_entries}
 use Rattle.rz_events.specs.Keys.{key_cmp, keys_total, exact_keys}
 use Rattle.rz_events.specs.declared.keys.Key.{Key}
-use Rattle.rz_export_model.specs.Export.{Blocks}
+use Rattle.rz_events.specs.declared.files.Published.{Published}
+use Rattle.rz_export_model.specs.Export.{Block, Blocks, begun, with_published, newer_of}
 use Rattle.rz_blocks.specs.declared.blocks.Entry.{Entry}
 use Rattle.rz_blocks.specs.Shown.{shown, shown_entries}
 use Rattle.rz_blocks.specs.Marked.{kept_at}
@@ -25,7 +26,7 @@ Kept = List (Key × Entry)
 abbrev pub map_of : Kept → Blocks
 map_of es = maps.from_entries (shown_entries es)
 
-find-shown : (es : Kept) (q : Key) → find key_cmp q (shown_entries es) ≡ option_map shown (kept_at es q)
+pub find-shown : (es : Kept) (q : Key) → find key_cmp q (shown_entries es) ≡ option_map shown (kept_at es q)
 find-shown [] q = refl
 find-shown (e ∷ es) q = elim (is_at (key_cmp q) e.0) as (λ b. cond b (Some (shown e.1)) (find key_cmp q (shown_entries es)) ≡ option_map shown (cond b (Some e.1) (kept_at es q))) [
   | true ↦ refl
@@ -35,13 +36,13 @@ find-shown (e ∷ es) q = elim (is_at (key_cmp q) e.0) as (λ b. cond b (Some (s
 pub get-shown : (es : Kept) (q : Key) → maps.get (map_of es) q ≡ option_map shown (kept_at es q)
 get-shown es q = get-from_entries keys_total (shown_entries es) q ∙ find-shown es q
 
+pub some-shown : (o : Option Entry) → is_some (option_map shown o) ≡ is_some o
+some-shown None = refl
+some-shown (Some e) = refl
+
 -- a key that is there has an entry
 pub there-kept : (es : Kept) (m : Blocks) → map_of es ≡ m → (q : Key) → is_some (maps.get m q) ≡ true → is_some (kept_at es q) ≡ true
 there-kept es m view q h = sym (some-shown (kept_at es q)) ∙ ap is_some (sym (get-shown es q)) ∙ ap (λ x. is_some (maps.get x q)) view ∙ h
-  where
-    some-shown : (o : Option Entry) → is_some (option_map shown o) ≡ is_some o
-    some-shown None = refl
-    some-shown (Some e) = refl
 
 map-cond : (b : Bool) (o p : Option Entry) → option_map shown (cond b o p) ≡ cond b (option_map shown o) (option_map shown p)
 map-cond true o p = refl
@@ -76,3 +77,15 @@ sorted-shown (e ∷ es) h = both _ _ (below-shown e.0 es (sorted_head key_cmp e.
 pub entries-shown : (es : Kept) → IsStrictlySortedBy key_cmp (keys_of es) → maps.entries (map_of es) ≡ shown_entries es
 entries-shown es h = same_entries key_cmp keys_total exact_keys (maps.entries (map_of es)) (shown_entries es) (entries_sorted (map_of es)) (sorted-shown es h)
     (λ q. sym (get-entries (map_of es) q) ∙ get-from_entries keys_total (shown_entries es) q)
+
+-- an entry of the map that is written over
+module _ (es : Kept) (m : Blocks) (key : Key) (e : Entry) (view : map_of es ≡ m) (at : kept_at es key ≡ Some e) where
+  there : maps.get m key ≡ Some (shown e)
+  there = sym (ap (λ x. maps.get x key) view) ∙ get-shown es key ∙ ap (option_map shown) at
+
+  pub set-begun : (stamp : ℕ) → maps.insert m key (shown (record e { latest = stamp })) ≡ begun m key stamp
+  set-begun stamp = sym (ap (λ (o : Option Block). (let b : Block = record { latest = stamp; published = option_and_then (λ (b : Block). b.published) o } in maps.insert m key b)) there)
+
+  pub set-published : (p : Published) → maps.insert m key (shown (record e { published = Some (newer_of e.published p) })) ≡ with_published m key p
+  set-published p =
+      sym (ap (λ (o : Option Block). (let b : Block = record { latest = option_map_or (λ (b : Block). b.latest) o 0; published = Some (newer_of (option_and_then (λ (b : Block). b.published) o) p) } in maps.insert m key b)) there)

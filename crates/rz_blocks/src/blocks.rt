@@ -1,10 +1,15 @@
 //! The map from keys to what is begun and published of them.
 
-ghost use Rattle.std.specs.Prelude.{ℕ, ◌≡◌, ◌<◌, ◌^◌, ◌==◌, ◌&&◌, nat_le, None, OnOk, OnErr, IsSome};
+ghost use Rattle.std.specs.Prelude.{ℕ, ◌≡◌, ◌<◌, ◌^◌, ◌==◌, ◌&&◌, cond, nat_le, None, OnOk, OnErr, IsSome};
+ghost use Rattle.std.specs.List.Sorted.{IsStrictlySortedBy};
+ghost use Rattle.std.specs.Map.{keys_of};
 ghost use Rattle.std.specs.Option.{option_map};
 ghost use Rattle.std.specs.FinMap as maps;
+ghost use Rattle.rz_events.specs.Keys.{key_cmp};
+ghost use Rattle.rz_events.specs.declared.keys.Key.{Key};
 ghost use Rattle.rz_export_model.specs.Firsts.{given_if, first_given};
 ghost use Rattle.rz_export_model.specs.Export.{prepared, begun, latest_of, with_published, published_of, next_of_file, without_file, newer_of, is_after};
+ghost use Rattle.rz_blocks.specs.Marked.{kept_at};
 ghost use Rattle.rz_blocks.specs.Shown.{added, shown, first_published, entry_above, nth_entry, IsStartAbove, IsStartOf, IsEndOf, IsWithin, IsPast};
 
 use rz_events::{Key, Published};
@@ -95,14 +100,9 @@ impl Blocks {
         requires newer { latest_of self.old key < stamp }
         ensures { self.new ≡ begun self.old key stamp }
     {
-        let published = self.look(key);
-        self.set(
-            key,
-            Entry {
-                latest: stamp,
-                published,
-            },
-        );
+        if let Some(entry) = self.entries.get_mut(&key) {
+            entry.latest = stamp;
+        }
     }
 
     /// The newest stamp begun, or 0.
@@ -120,15 +120,15 @@ impl Blocks {
         requires { IsSome (maps.get self.old key) }
         ensures { self.new ≡ with_published self.old key published }
     {
-        let latest = self.latest(key);
-        let newer = newer_publish(self.look(key), published);
-        self.set(
-            key,
-            Entry {
-                latest,
-                published: Some(newer),
-            },
-        );
+        let Some(entry) = self.entries.get_mut(&key) else {
+            return;
+        };
+        let before = entry.published;
+        entry.published = Some(newer_publish(before, published));
+        // A block that is published already is marked.
+        if before.is_none() {
+            self.published.set(PUBLISHED, key, true);
+        }
     }
 
     /// What is published of a block.
@@ -193,9 +193,7 @@ impl Blocks {
     pub fn forget(&mut self, fid: u128)
         ensures { self.new ≡ without_file self.old fid }
     {
-        while let Some(key) = self.first_of(fid) {
-            self.take_out(key);
-        }
+        remove_file(&mut self.entries, fid);
         self.published.forget(PUBLISHED, fid);
     }
 
@@ -204,17 +202,6 @@ impl Blocks {
         ensures { option_map shown result ≡ maps.get self.now key }
     {
         self.entries.get(&key).copied()
-    }
-
-    // Writes the entry of a key that has one.
-    fn set(&mut self, key: Key, entry: Entry)
-        requires { IsSome (maps.get self.old key) }
-        ensures { self.new ≡ maps.insert self.old key (shown entry) }
-    {
-        // A key that is there needs no room.
-        let _there = self.entries.insert(key, entry);
-        self.published
-            .set(PUBLISHED, key, entry.published.is_some());
     }
 
     /// Takes the entry of a key away.
@@ -229,12 +216,29 @@ impl Blocks {
     pub fn first_of(&self, fid: u128) -> Option<Key>
         ensures { result ≡ first_given (λ e. given_if (e.0.fid == fid) e.0) (maps.entries self.now) }
     {
-        for (key, _) in self.entries.range((start_of(fid), end_of(fid))) {
-            if key.fid == fid {
-                return Some(*key);
-            }
+        first_key(&self.entries, fid)
+    }
+}
+
+// The least key of a file.
+fn first_key(entries: &BTreeMap<Key, Entry>, fid: u128) -> Option<Key>
+    ensures first { result ≡ first_given (λ e. given_if (e.0.fid == fid) e.0) entries.now.entries }
+    ensures ordered { IsStrictlySortedBy key_cmp (keys_of entries.now.entries) }
+{
+    for (key, _) in entries.range((start_of(fid), end_of(fid))) {
+        if key.fid == fid {
+            return Some(*key);
         }
-        None
+    }
+    None
+}
+
+// Takes the entries of a file out.
+fn remove_file(entries: &mut BTreeMap<Key, Entry>, fid: u128)
+    ensures { (q : Key) → kept_at entries.new.entries q ≡ cond (q.fid == fid) None (kept_at entries.old.entries q) }
+{
+    while let Some(key) = first_key(entries, fid) {
+        entries.remove(&key);
     }
 }
 

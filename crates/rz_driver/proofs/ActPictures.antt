@@ -26,11 +26,12 @@ use Rattle.rz_block_laws.specs.Laws.{IsNoFetch}
 use Rattle.rz_block_laws.specs.Turns.{HasInHand, IsToldLaw}
 use Rattle.rz_driver.specs.declared.seat.Seat.{Seat}
 use Rattle.rz_driver.specs.declared.station.Shared.{Shared}
-use Rattle.rz_driver.specs.declared.station.Station.{Station}
+use Rattle.rz_formatting.specs.declared.formatting.Station.{Station}
 use Rattle.rz_driver.specs.Acts.{IsAct, IsFate, Rests, Exports, Opens, Sends, Says, Through, ReplyLost, RequestLost}
-use Rattle.rz_driver.specs.Nodes.{IsAsked, IsThroughPart, IsReplyLostPart, IsRequestLostPart}
-use Rattle.rz_driver.specs.Pictures.{HasImages, HasTrueHand, IsTrueSeat, KeepsNode, SparesNode, KeepsPicture, SparesPicture}
-use Rattle.rz_driver.proofs.PictureLemmas.{GrowsBy, row-longer, row-set, row-at, states-stay}
+use Rattle.rz_stations.specs.Nodes.{IsAsked, IsThroughPart, IsReplyLostPart, IsRequestLostPart}
+use Rattle.rz_stations.specs.Images.{HasImages, KeepsNode, SparesNode}
+use Rattle.rz_driver.specs.Pictures.{HasTrueHand, IsTrueSeat, KeepsPicture, SparesPicture}
+use Rattle.rz_stations.proofs.PictureLemmas.{GrowsBy, row-longer, row-set, row-at, states-stay}
 
 -- a message that was lost goes through the link
 pub lost-by-link : (miss : Option Bool) (question : NodeAsk) (reply : Bool) → IsLost miss question reply → goes_by_link question ≡ true

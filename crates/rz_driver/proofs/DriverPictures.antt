@@ -21,18 +21,19 @@ use Rattle.rz_play_laws.specs.Own.{IsOwn, IsUnderWay}
 use Rattle.rz_play_laws.specs.Fine.{IsFine, IsFineIfShort, IsSeated}
 use Rattle.rz_asks.specs.Logged.{Logged}
 use Rattle.rz_lines.specs.Ends.{Carries}
-use Rattle.rz_block_laws.specs.Turns.{IsLastingLaw}
+use Rattle.rz_block_laws.specs.Turns.{IsLastingLaw, HasInHand}
 use Rattle.rz_driver.specs.declared.driver.Driver.{Driver}
 use Rattle.rz_driver.specs.declared.seat.Seat.{Seat}
-use Rattle.rz_driver.specs.declared.station.Station.{Station}
-use Rattle.rz_driver.specs.Meters.{AreMetered, AreCounted}
-use Rattle.rz_driver.specs.Pictures.{AreImaged, HasTrueHand, IsTrueSeat, IsPicture, IsRight, KeepsPicture, KeepsRow, SparesPicture, SparesRow, fused_image}
+use Rattle.rz_formatting.specs.declared.formatting.Station.{Station}
+use Rattle.rz_stations.specs.Meters.{AreMetered, AreCounted}
+use Rattle.rz_stations.specs.Images.{AreImaged, IsRight, KeepsRow, SparesRow, fused_image}
+use Rattle.rz_driver.specs.Pictures.{HasTrueHand, IsTrueSeat, IsPicture, KeepsPicture, SparesPicture}
 use Rattle.rz_driver.specs.Seats.{HasLayout, seat_of, work_in}
-use Rattle.rz_driver.specs.Stations.{state_in, numbers_of}
+use Rattle.rz_stations.specs.Stations.{state_in, numbers_of}
 use Rattle.rz_driver.specs.Worlds.{place_of, world, world_of, numbers_in, HasPicture, HasRightDisks, Holds, Leaves}
-use Rattle.rz_driver.proofs.MeterLemmas.{metered-counts, named-vector}
-use Rattle.rz_driver.proofs.PictureLemmas.{GrowsBy, grown-short, are-right, hands-last}
-use Rattle.rz_driver.proofs.ReadyLemmas.{all-set, all-at}
+use Rattle.rz_stations.proofs.MeterLemmas.{metered-counts, named-vector}
+use Rattle.rz_stations.proofs.PictureLemmas.{all-then, GrowsBy, grown-short, are-right}
+use Rattle.rz_stations.proofs.Rows.{all-set, all-at}
 use Rattle.rz_driver.proofs.WorldLemmas.{seat-here}
 
 -- the laws of a play that are cited here
@@ -62,6 +63,16 @@ true-seat v f own run by number (Some m) layout is way hand = record {
   true_to = record { layout_is = layout; own = is; hand = hand };
   way = way;
 }
+
+-- ---- actors
+
+module _ (v : Volume) (lasting : IsLastingLaw v) (h h' : List Event) (grown : GrowsBy h h') where
+  pub hand-lasts : (o : Option Machine) → HasTrueHand v (facts h) o → HasTrueHand v (facts h') o
+  hand-lasts None hand = tt
+  hand-lasts (Some m) hand = subst (λ (k : List Event). HasInHand v (facts k) m) (sym grown.1) (lasting h grown.0 m hand)
+
+  pub hands-last : (seats : List Seat) → AllByRecursion (λ (s : Seat). HasTrueHand v (facts h) s.machine) seats → AllByRecursion (λ (s : Seat). HasTrueHand v (facts h') s.machine) seats
+  hands-last seats all = all-then (λ (s : Seat). HasTrueHand v (facts h) s.machine) (λ (s : Seat). HasTrueHand v (facts h') s.machine) seats (λ (s : Seat) hand. hand-lasts s.machine hand) all
 
 -- ---- a turn
 

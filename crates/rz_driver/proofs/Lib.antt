@@ -1,24 +1,15 @@
-pub mod Rowwise
-pub mod Asks
-pub mod Fits
-pub mod SeatLemmas
-pub mod WorldLemmas
-pub mod TurnLemmas
-pub mod ReadyLemmas
-pub mod OrderLemmas
-mod Rows
+mod SeatLemmas
+mod WorldLemmas
+mod TurnLemmas
+mod ReadyLemmas
+mod OrderLemmas
 mod MessageLemmas
 mod TakeLemmas
 mod ActorOrders
 mod MadeLemmas
-mod FormatLemmas
 mod NodeOrders
-mod EventWords
-mod MeterLemmas
-mod PictureLemmas
-mod MessagePictures
+mod DriverMeters
 mod ActPictures
 mod DriverPictures
 mod NewPictures
-mod OrderPictures
-pub mod FetchLemmas
+mod FetchLemmas

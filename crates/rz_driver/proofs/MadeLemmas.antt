@@ -1,16 +1,15 @@
 -- The nodes of a new driver, and its actors.
-use Rattle.std.proofs.Common.{◌≡◌, inl, inr, ℕ, zero, suc, Bool, true, false, cond, List, [], ◌∷◌, map, length, Option, Some, None, refl, sym, ◌∙◌, ap, subst, arith, eq-eqb}
-use Rattle.std.specs.Prelude.{◌==◌, nat_eq, slice_get, All}
+use Rattle.std.proofs.Common.{◌≡◌, ℕ, zero, suc, Bool, true, false, cond, List, [], ◌∷◌, map, length, Option, Some, None, refl, sym, ◌∙◌, ap, subst, arith, eq-eqb}
+use Rattle.std.specs.Prelude.{◌==◌, nat_eq, slice_get}
 use Rattle.std.specs.List.{AllByRecursion, AllZip, zip, IsDistinct}
 use Rattle.std.specs.FinMap as maps
 use Rattle.std.proofs.Math.Path.{fun_ext}
-use Rattle.std.proofs.lemmas.List.Elements.{All-append}
 use Rattle.mj_angles.specs.declared.layout.Layout.{Layout}
-use Rattle.mj_angles.specs.Layout.{max_bins_of, safe_of}
+use Rattle.mj_angles.specs.Layout.{max_bins_of}
 use Rattle.rz_disk.specs.Meter.{Meter}
 use Rattle.rz_disk.specs.declared.disk.Disk.{Ghosts}
 use Rattle.rz_disk.specs.UnderFuse.{UnderFuse}
-use Rattle.rz_events.specs.Volume.{Volume, Cluster, IsNode, IsCluster, IsVolume, nodes_of}
+use Rattle.rz_events.specs.Volume.{Volume, IsVolume, nodes_of}
 use Rattle.rz_events.specs.declared.files.NodeSpec.{NodeSpec}
 use Rattle.rz_events.specs.declared.keys.Actor.{Actor}
 use Rattle.rz_events.specs.declared.keys.Actor.TheVariants.{Client, Rebuilder}
@@ -21,31 +20,18 @@ use Rattle.rz_play.specs.World.{Seat as APlayer, empty_seat, new_world}
 use Rattle.rz_driver.specs.declared.driver.Driver.{Driver}
 use Rattle.rz_driver.specs.declared.seat.Seat.{Seat}
 use Rattle.rz_driver.specs.declared.station.Shared.{Shared}
-use Rattle.rz_driver.specs.declared.station.Station.{Station}
+use Rattle.rz_formatting.specs.declared.formatting.Station.{Station}
 use Rattle.rz_asks.specs.Locking.{lock_of}
-use Rattle.rz_driver.specs.Made.{IsNew, AreNew, IsBack, AreBack}
+use Rattle.rz_formatting.specs.Formatted.{IsFormatted, AreFormatted}
 use Rattle.rz_driver.specs.Seats.{work_in, seat_of, HasLayout, IsSeat, IsEmptySeat}
-use Rattle.rz_driver.specs.Stations.{state_in, numbers_of, IsStation}
-use Rattle.rz_driver.proofs.Rowwise.{zip-same}
+use Rattle.rz_stations.specs.Stations.{state_in, numbers_of, IsStation}
 use Rattle.rz_driver.specs.Worlds.{place_of, seat_there, seat_at, seat_in, world, IsDriver}
 
--- ---- disks
+-- ---- nodes
 
-module _ {D : Type 0} (tells : Bool) (meter : D → Meter) (image : D → List ℕ → Type 0) (layout : Layout) where
-  -- a disk that was formatted may come back
-  pub new-back : (h : NodeSpec × D) (s : Station (UnderFuse D)) → IsNew tells meter image layout h s → IsBack tells meter image layout h s.node.disk.disk
-  new-back h s new = record { count = new.count; images = λ told c is. inr (inr (new.empty told c is)) }
-
-  -- and one that was not touched
-  pub same-back : (n : NodeSpec) (d : D) → IsBack tells meter image layout (n, d) d
-  same-back n d = record { count = omega arith; images = λ told c is. inl is }
-
-  pub untouched : (nodes : List NodeSpec) (disks : List D) → length disks ≡ length nodes → AreBack tells meter image layout nodes disks disks
-  untouched nodes disks count = zip-same (IsBack tells meter image layout) nodes disks count same-back
-
-  -- ---- nodes
-
-  pub new-numbers : (nodes : List NodeSpec) (disks : List D) (stations : List (Station (UnderFuse D))) → length disks ≡ length nodes → AreNew tells meter image layout nodes disks stations
+module _ {D : Type 0} (tells : Bool) (meter : D → Meter) (text : D → List ℕ) (image : D → List ℕ → Type 0) (layout : Layout) where
+  -- they have their numbers
+  pub new-numbers : (nodes : List NodeSpec) (disks : List D) (stations : List (Station (UnderFuse D))) → length disks ≡ length nodes → AreFormatted tells meter text image layout nodes disks stations
       → numbers_of stations ≡ map (λ (n : NodeSpec). n.sid) nodes
   new-numbers [] [] [] count all = refl
   new-numbers [] [] (s ∷ stations) count all = absurd all
@@ -54,7 +40,7 @@ module _ {D : Type 0} (tells : Bool) (meter : D → Meter) (image : D → List �
   new-numbers (n ∷ nodes) (d ∷ disks) [] count all = absurd all
   new-numbers (n ∷ nodes) (d ∷ disks) (s ∷ stations) count all = λ i. all.0.number i ∷ new-numbers nodes disks stations (omega (arith, count)) all.1 i
 
-  pub new-states : (handed : List (NodeSpec × D)) (stations : List (Station (UnderFuse D))) → AllZip (IsNew tells meter image layout) handed stations → (n : ℕ) → state_in stations n ≡ fresh
+  pub new-states : (handed : List (NodeSpec × D)) (stations : List (Station (UnderFuse D))) → AllZip (IsFormatted tells meter text image layout) handed stations → (n : ℕ) → state_in stations n ≡ fresh
   new-states [] [] all n = refl
   new-states [] (s ∷ stations) all n = absurd all
   new-states (h ∷ handed) [] all n = absurd all
@@ -64,7 +50,7 @@ module _ {D : Type 0} (tells : Bool) (meter : D → Meter) (image : D → List �
       either true x y one two = one
       either false x y one two = two
 
-  pub are-stations : (v : Volume) → v.layout ≡ layout → (nodes : List NodeSpec) (disks : List D) (stations : List (Station (UnderFuse D))) → length disks ≡ length nodes → AreNew tells meter image layout nodes disks stations
+  pub are-stations : (v : Volume) → v.layout ≡ layout → (nodes : List NodeSpec) (disks : List D) (stations : List (Station (UnderFuse D))) → length disks ≡ length nodes → AreFormatted tells meter text image layout nodes disks stations
       → AllByRecursion (λ n. cells_of v n.sid ≡ n.cells) nodes → AllByRecursion (IsStation v) stations
   are-stations v is [] [] [] count all cells = tt
   are-stations v is [] [] (s ∷ stations) count all cells = absurd all
@@ -94,18 +80,6 @@ own-cells (x ∷ specs) apart = (
   other-cells x specs specs apart.0 (own-cells specs apart.1),
 )
 
--- each node of a volume meets its rules
-nodes-proper : (safe : ℕ) (cs : List Cluster) → AllByRecursion (IsCluster safe) cs → All IsNode (nodes_of cs)
-nodes-proper safe [] all = λ k d low. absurd (omega (arith, low))
-nodes-proper safe (c ∷ cs) all = All-append IsNode c.nodes (nodes_of cs) all.0.nodes (nodes-proper safe cs all.1)
-
-all-to : {A : Type 0} (P : A → Type 0) (xs : List A) → All P xs → AllByRecursion P xs
-all-to P [] all = tt
-all-to P (x ∷ xs) all = (all 0 x (omega arith), all-to P xs (λ k d low. all (suc k) d (omega (arith, low))))
-
-pub proper-nodes : (v : Volume) → IsVolume v → AllByRecursion IsNode (nodes_of v.clusters)
-proper-nodes v rules = all-to IsNode (nodes_of v.clusters) (nodes-proper (safe_of v.layout) v.clusters (all-to (IsCluster (safe_of v.layout)) v.clusters rules.clusters))
-
 -- ---- actors
 
 pub empty-is : (s : Seat) → IsEmptySeat s → seat_of s ≡ empty_seat
@@ -132,13 +106,13 @@ empty-seats layout (s ∷ ss) all = (
 
 -- ---- the driver
 
-module _ {D : Type 0} {G : Ghosts D} (tells : Bool) (meter : D → Meter) (image : D → List ℕ → Type 0) (v : Volume) (rules : IsVolume v) (disks : List D) (count : length disks ≡ length (nodes_of v.clusters)) (d : Driver D G) (volume : d.volume ≡ v)
-    (made : AreNew tells meter image v.layout (nodes_of v.clusters) disks d.shared.stations.items) (seats : AllByRecursion IsEmptySeat d.seats.items) where
+module _ {D : Type 0} {G : Ghosts D} (tells : Bool) (meter : D → Meter) (text : D → List ℕ) (image : D → List ℕ → Type 0) (v : Volume) (rules : IsVolume v) (disks : List D) (count : length disks ≡ length (nodes_of v.clusters)) (d : Driver D G) (volume : d.volume ≡ v)
+    (made : AreFormatted tells meter text image v.layout (nodes_of v.clusters) disks d.shared.stations.items) (seats : AllByRecursion IsEmptySeat d.seats.items) where
   pub new-ready : length d.seats.items ≡ 80 → length d.shared.bins.items ≡ max_bins_of v.layout → d.shared.locks ≡ maps.empty → IsDriver d
   new-ready eighty bins locks = record {
     stations = subst (λ (u : Volume). AllByRecursion (IsStation u) d.shared.stations.items) (sym volume)
-        (are-stations tells meter image v.layout v refl (nodes_of v.clusters) disks d.shared.stations.items count made (own-cells (nodes_of v.clusters) rules.distinct_sids));
-    numbers = new-numbers tells meter image v.layout (nodes_of v.clusters) disks d.shared.stations.items count made ∙ ap (λ (u : Volume). map (λ (n : NodeSpec). n.sid) (nodes_of u.clusters)) (sym volume);
+        (are-stations tells meter text image v.layout v refl (nodes_of v.clusters) disks d.shared.stations.items count made (own-cells (nodes_of v.clusters) rules.distinct_sids));
+    numbers = new-numbers tells meter text image v.layout (nodes_of v.clusters) disks d.shared.stations.items count made ∙ ap (λ (u : Volume). map (λ (n : NodeSpec). n.sid) (nodes_of u.clusters)) (sym volume);
     bins = let same : max_bins_of d.volume.layout ≡ max_bins_of v.layout = ap (λ (u : Volume). max_bins_of u.layout) volume in omega (arith, same, bins);
     seats = empty-seats d.volume.layout d.seats.items seats;
     count = eighty;
@@ -147,9 +121,9 @@ module _ {D : Type 0} {G : Ghosts D} (tells : Bool) (meter : D → Meter) (image
   }
 
 -- and its world is that of a play that is new
-pub new-is : {D : Type 0} (tells : Bool) (meter : D → Meter) (image : D → List ℕ → Type 0) (v : Volume) (disks : List D) (q : Shared (UnderFuse D)) (ss : List Seat) → AreNew tells meter image v.layout (nodes_of v.clusters) disks q.stations.items → AllByRecursion IsEmptySeat ss
+pub new-is : {D : Type 0} (tells : Bool) (meter : D → Meter) (text : D → List ℕ) (image : D → List ℕ → Type 0) (v : Volume) (disks : List D) (q : Shared (UnderFuse D)) (ss : List Seat) → AreFormatted tells meter text image v.layout (nodes_of v.clusters) disks q.stations.items → AllByRecursion IsEmptySeat ss
     → q.export ≡ new_export v 0 → q.lost ≡ 0 → q.log.events ≡ [] → world q ss 0 ≡ new_world v
-new-is tells meter image v disks q ss made seats export lost log = λ i. record {
+new-is tells meter text image v disks q ss made seats export lost log = λ i. record {
   nodes = states i;
   export = export i;
   seats = actors i;
@@ -159,7 +133,7 @@ new-is tells meter image v disks q ss made seats export lost log = λ i. record 
 }
   where
     states : state_in q.stations.items ≡ (λ n. fresh)
-    states = fun_ext (new-states tells meter image v.layout (zip (nodes_of v.clusters) disks) q.stations.items made)
+    states = fun_ext (new-states tells meter text image v.layout (zip (nodes_of v.clusters) disks) q.stations.items made)
 
     actors : seat_in ss ≡ (λ by. empty_seat)
     actors = fun_ext (empty-in ss seats)

@@ -3,11 +3,10 @@ use Rattle.std.proofs.Common.{◌≡◌, ℕ, ◌<◌, List, length, get_or, Som
 use Rattle.std.specs.Prelude.{slice_get}
 use Rattle.std.proofs.lemmas.Option.{slice_get_read}
 use Rattle.mj_angles.specs.declared.layout.Layout.{Layout}
-use Rattle.rz_driver.specs.declared.station.Station.{Station}
+use Rattle.rz_formatting.specs.declared.formatting.Station.{Station}
 use Rattle.rz_driver.specs.Acts.{HasLayouts}
-use Rattle.rz_driver.specs.Stations.{IsAt}
-use Rattle.rz_driver.proofs.ReadyLemmas.{all-at}
-use Rattle.rz_driver.proofs.Rows.{at-within}
+use Rattle.rz_stations.specs.Stations.{IsAt}
+use Rattle.rz_stations.proofs.Rows.{all-at, at-within}
 
 module _ {D : Type 0} where
   -- a reference to the place is to the node there

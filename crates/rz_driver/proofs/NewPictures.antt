@@ -4,6 +4,7 @@ use Rattle.std.specs.FinMap as maps
 use Rattle.std.specs.FinMap.{get-empty}
 use Rattle.std.specs.List.{AllByRecursion}
 use Rattle.mj_angles.specs.Layout.{bsize_of}
+use Rattle.rz_disk.specs.Images.{Only}
 use Rattle.rz_disk.specs.Meter.{Meter}
 use Rattle.rz_disk.specs.UnderFuse.{UnderFuse}
 use Rattle.rz_events.specs.Keys.{key_cmp}
@@ -14,6 +15,8 @@ use Rattle.rz_events.specs.declared.records.Held.{Held}
 use Rattle.rz_node_model.specs.Records.{IsWhole, held_of, listed}
 use Rattle.rz_node_model.specs.States.{NodeState, fresh}
 use Rattle.rz_cells.specs.declared.geometry.Geometry.{Geometry}
+use Rattle.rz_cells.specs.Held.{nothing}
+use Rattle.rz_cells.specs.Stands.{StandsFor}
 use Rattle.rz_core.specs.History.{Facts, facts}
 use Rattle.rz_core.specs.NodeRows.{cells_of}
 use Rattle.rz_operation.specs.Machine.{Machine}
@@ -22,11 +25,12 @@ use Rattle.rz_play_laws.specs.Fine.{IsFine}
 use Rattle.rz_image_laws.specs.Images.{IsImaged, geometry_in}
 use Rattle.rz_image_laws.specs.Laws.{IsFreshLaw}
 use Rattle.rz_driver.specs.declared.seat.Seat.{Seat}
-use Rattle.rz_driver.specs.declared.station.Station.{Station}
-use Rattle.rz_driver.specs.Made.{AreNew, IsNew, geometry_of}
-use Rattle.rz_driver.specs.Pictures.{AreImaged, HasImages, HasTrueHand, IsPicture, fused_image}
+use Rattle.rz_formatting.specs.declared.formatting.Station.{Station}
+use Rattle.rz_formatting.specs.Formatted.{AreFormatted, IsFormatted, geometry_of}
+use Rattle.rz_stations.specs.Images.{AreImaged, HasImages, fused_image}
+use Rattle.rz_driver.specs.Pictures.{HasTrueHand, IsPicture}
 use Rattle.rz_driver.specs.Seats.{IsEmptySeat}
-use Rattle.rz_driver.specs.Stations.{IsStation}
+use Rattle.rz_stations.specs.Stations.{IsStation}
 
 -- nothing was played
 none-held : (key : Key) → held_of maps.empty key ≡ []
@@ -56,32 +60,36 @@ no-hands v f [] all = tt
 no-hands v f (s ∷ seats) all = (no-hand v f s.machine all.0.machine, no-hands v f seats all.1)
 
 -- the disks were formatted
-module _ {D : Type 0} (tells : Bool) (meter : D → Meter) (image : D → List ℕ → Type 0) (law : IsFreshLaw image) (told : IsTrue tells) (v : Volume) (f : Facts) where
-  new-has : (n : NodeSpec) (d : D) (s : Station (UnderFuse D)) → IsNew tells meter image v.layout (n, d) s → IsStation v s → HasImages (fused_image image) v f s.sid s.node
+module _ {D : Type 0} (tells : Bool) (meter : D → Meter) (text : D → List ℕ) (image : D → List ℕ → Type 0) (law : IsFreshLaw image) (told : IsTrue tells) (v : Volume) (f : Facts) where
+  -- each image of one stands for nothing
+  empty-of : {g : Geometry} (d : D) → Only (text d) (image d) → StandsFor g 0 (text d) nothing → (c : List ℕ) → image d c → StandsFor g 0 c nothing
+  empty-of {g = g} d settled stands c is = subst (λ (b : List ℕ). StandsFor g 0 b nothing) (sym (settled c is)) stands
+
+  new-has : (n : NodeSpec) (d : D) (s : Station (UnderFuse D)) → IsFormatted tells meter text image v.layout (n, d) s → IsStation v s → HasImages (fused_image image) v f s.sid s.node
   new-has n d s new shape =
       let cells : n.cells ≡ cells_of v s.sid = ap (λ (g : Geometry). g.cells) (sym new.geometry) ∙ shape.cells in
       let as_in : geometry_of v.layout n ≡ geometry_in v s.sid = λ i. record { layout = v.layout; bsize = bsize_of v.layout; node = sym new.number i; cells = cells i } in
-      let first : IsImaged v f s.sid fresh (geometry_of v.layout n) (image s.node.disk.disk) = law v f s.sid (geometry_of v.layout n) s.node.disk.disk (new.empty told) in
+      let first : IsImaged v f s.sid fresh (geometry_of v.layout n) (image s.node.disk.disk) = law v f s.sid (geometry_of v.layout n) s.node.disk.disk (empty-of s.node.disk.disk new.settled (new.stands told)) in
       record {
         geometry = new.geometry ∙ as_in;
         images = subst (λ (g : Geometry). IsImaged v f s.sid s.node.state g (image s.node.disk.disk)) (sym new.geometry)
             (subst (λ (t : NodeState). IsImaged v f s.sid t (geometry_of v.layout n) (image s.node.disk.disk)) (sym new.state) first);
       }
 
-  new-images : (nodes : List NodeSpec) (disks : List D) (row : List (Station (UnderFuse D))) → AreNew tells meter image v.layout nodes disks row → AllByRecursion (IsStation v) row → AreImaged (fused_image image) v f row
+  new-images : (nodes : List NodeSpec) (disks : List D) (row : List (Station (UnderFuse D))) → AreFormatted tells meter text image v.layout nodes disks row → AllByRecursion (IsStation v) row → AreImaged (fused_image image) v f row
   new-images nodes disks [] new all = tt
   new-images [] disks (s ∷ row) new all = absurd new
   new-images (n ∷ nodes) [] (s ∷ row) new all = absurd new
   new-images (n ∷ nodes) (d ∷ disks) (s ∷ row) new all = (new-has n d s new.0 all.0, new-images nodes disks row new.1 all.1)
 
-pub new-picture : {D : Type 0} (tells : Bool) (meter : D → Meter) (image : D → List ℕ → Type 0) → IsFreshLaw image → (v : Volume) → IsVolume v → (disks : List D) (w : World) → w ≡ new_world v → (seats : List Seat) → AllByRecursion IsEmptySeat seats
-    → (row : List (Station (UnderFuse D))) → AllByRecursion (IsStation v) row → AreNew tells meter image v.layout (nodes_of v.clusters) disks row → (u : Volume) → u ≡ v
+pub new-picture : {D : Type 0} (tells : Bool) (meter : D → Meter) (text : D → List ℕ) (image : D → List ℕ → Type 0) → IsFreshLaw image → (v : Volume) → IsVolume v → (disks : List D) (w : World) → w ≡ new_world v → (seats : List Seat) → AllByRecursion IsEmptySeat seats
+    → (row : List (Station (UnderFuse D))) → AllByRecursion (IsStation v) row → AreFormatted tells meter text image v.layout (nodes_of v.clusters) disks row → (u : Volume) → u ≡ v
     → IsTrue tells → length w.log < 2 ^ 64 - 1 → IsPicture (fused_image image) u w seats row
-new-picture tells meter image law v rules disks w world seats empty row stations new u volume told few =
+new-picture tells meter text image law v rules disks w world seats empty row stations new u volume told few =
     let f = facts w.log in
     subst (λ (x : Volume). IsPicture (fused_image image) x w seats row) (sym volume) (record {
       rules = rules;
       fine = subst (IsFine v []) (sym world) (new-fine v);
       hands = no-hands v f seats empty;
-      disks = new-images tells meter image law told v f (nodes_of v.clusters) disks row new stations;
+      disks = new-images tells meter text image law told v f (nodes_of v.clusters) disks row new stations;
     })

@@ -5,7 +5,6 @@ use Rattle.std.specs.Global.{Vec}
 use Rattle.std.specs.List.{AllByRecursion}
 use Rattle.std.specs.Vec.{with_items}
 use Rattle.std.proofs.Math.Path.{fun_ext}
-use Rattle.std.proofs.lemmas.Bool.{eqb-true}
 use Rattle.std.proofs.lemmas.List.{length-set, with_items_is}
 use Rattle.mj_angles.specs.Layout.{max_bins_of}
 use Rattle.rz_disk.specs.declared.disk.Disk.{Ghosts}
@@ -29,13 +28,13 @@ use Rattle.rz_play.specs.Lines.{IsAdminCall, noted}
 use Rattle.rz_play.specs.Free.{IsFreeStart, PlaysLineOver}
 use Rattle.rz_driver.specs.declared.driver.Driver.{Driver}
 use Rattle.rz_driver.specs.declared.station.Shared.{Shared}
-use Rattle.rz_driver.specs.declared.station.Station.{Station}
-use Rattle.rz_driver.specs.Administration.{IsOrdered, IsStarted, IsCalledAt, IsArming}
+use Rattle.rz_formatting.specs.declared.formatting.Station.{Station}
+use Rattle.rz_stations.specs.Administration.{IsOrdered, IsStarted, IsCalledAt, IsArming}
 use Rattle.rz_driver.specs.Seats.{IsSeat}
-use Rattle.rz_driver.specs.Stations.{state_in, numbers_of, IsStation}
+use Rattle.rz_stations.specs.Stations.{state_in, numbers_of, IsStation}
 use Rattle.rz_driver.specs.Worlds.{seat_in, world, world_of, AreLocks, HaveNoLocks, IsDriver}
-use Rattle.rz_driver.proofs.ReadyLemmas.{all-set, all-at, numbers-kept}
-use Rattle.rz_driver.proofs.WorldLemmas.{state-at, state-set}
+use Rattle.rz_stations.proofs.Rows.{state-same, all-set, all-at, state-at, state-set}
+use Rattle.rz_driver.proofs.ReadyLemmas.{numbers-kept}
 
 -- ---- a row of nodes in which one was called
 
@@ -53,14 +52,6 @@ module _ {D : Type 0} where
       → AllByRecursion (IsStation v) xs → AllByRecursion (IsStation v) ys
   stations-kept v xs ys place s after is set_is sid geometry all = subst (AllByRecursion (IsStation v)) (sym set_is)
       (all-set (IsStation v) xs place after all (call-keeps v s after sid geometry (all-at (IsStation v) xs place s all is)))
-
-  -- a node that has its state
-  pub state-same : (xs : List (Station D)) (n m : ℕ) (x : NodeState) → x ≡ state_in xs n → cond (m == n) x (state_in xs m) ≡ state_in xs m
-  state-same xs n m x is = go (m == n) refl
-    where
-      go : (b : Bool) → (m == n) ≡ b → cond b x (state_in xs m) ≡ state_in xs m
-      go true same = is ∙ ap (λ (k : ℕ). state_in xs k) (sym (eqb-true m n same))
-      go false apart = refl
 
 -- ---- a start, over disks that tell their texts or that do not
 

@@ -19,10 +19,11 @@ use Rattle.rz_driver.specs.declared.driver.Driver.{Driver}
 use Rattle.rz_driver.specs.declared.seat.Seat.{Seat}
 use Rattle.rz_driver.specs.declared.station.Shared.{Shared}
 use Rattle.rz_driver.specs.Seats.{seat_of, IsSeat}
-use Rattle.rz_driver.specs.Stations.{numbers_of, IsStation}
+use Rattle.rz_stations.specs.Stations.{numbers_of, IsStation}
 use Rattle.rz_driver.specs.Worlds.{place_of, seat_in, world, AreLocks, HaveNoLocks, IsDriver}
 use Rattle.rz_driver.proofs.WorldLemmas.{seat-here, seat-set}
-use Rattle.rz_driver.proofs.ReadyLemmas.{all-set, locks-stay}
+use Rattle.rz_stations.proofs.Rows.{all-set}
+use Rattle.rz_driver.proofs.ReadyLemmas.{locks-stay}
 
 -- the world with one actor changed
 pub ordered : {D : Type 0} (p : Shared D) (ss : List Seat) (turns : ℕ) (by : Actor) (place : ℕ) (s b : Seat) (t : APlayer → APlayer) → place_of by ≡ Some place → place < length ss → slice_get ss place ≡ Some s → seat_of b ≡ t (seat_of s)

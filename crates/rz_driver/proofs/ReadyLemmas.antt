@@ -1,5 +1,5 @@
 -- A driver stands between two turns again.
-use Rattle.std.proofs.Common.{◌≡◌, ℕ, zero, suc, ◌<◌, Bool, true, false, cond, List, [], ◌∷◌, length, set, Option, Some, None, refl, sym, ◌∙◌, ap, subst}
+use Rattle.std.proofs.Common.{◌≡◌, ℕ, ◌<◌, Bool, true, false, cond, List, length, set, Option, Some, None, refl, sym, ◌∙◌, ap, subst}
 use Rattle.std.specs.Prelude.{◌==◌, slice_get}
 use Rattle.std.specs.List.{AllByRecursion}
 use Rattle.std.specs.Cmp.{nat_cmp_total, unsigned_tied}
@@ -19,29 +19,14 @@ use Rattle.rz_operation.specs.Answers.{IsOperation}
 use Rattle.rz_play.specs.World.{Seat as APlayer}
 use Rattle.rz_driver.specs.declared.seat.Seat.{Seat}
 use Rattle.rz_driver.specs.declared.station.Shared.{Shared}
-use Rattle.rz_driver.specs.declared.station.Station.{Station}
+use Rattle.rz_formatting.specs.declared.formatting.Station.{Station}
 use Rattle.rz_driver.specs.Acts.{IsAct, Rests, Exports, Opens, Sends, Says, IsSameActor, IsFate, Through, ReplyLost, RequestLost, IsReleased, locks_after}
 use Rattle.rz_asks.specs.Locking.{lock_of, lock_if, Grants}
 use Rattle.rz_driver.specs.Seats.{seat_of, HasLayout, IsSeat}
-use Rattle.rz_driver.specs.Stations.{numbers_of, IsStation}
+use Rattle.rz_stations.specs.Stations.{numbers_of, IsStation}
 use Rattle.rz_driver.specs.Worlds.{place_of, seat_in, AreLocks, HaveNoLocks}
 use Rattle.rz_driver.proofs.WorldLemmas.{seat-here, seat-set, actor-is}
-
--- ---- rows
-
-module _ {A : Type 0} (P : A → Type 0) where
-  pub all-set : (xs : List A) (i : ℕ) (v : A) → AllByRecursion P xs → P v → AllByRecursion P (set xs i v)
-  all-set [] i v all holds = tt
-  all-set (x ∷ xs) zero v all holds = (holds, all.1)
-  all-set (x ∷ xs) (suc i) v all holds = (all.0, all-set xs i v all.1 holds)
-
-  pub all-at : (xs : List A) (i : ℕ) (v : A) → AllByRecursion P xs → slice_get xs i ≡ Some v → P v
-  all-at [] i v all is = absurd (cc)
-  all-at (x ∷ xs) zero v all is = subst P (the-item x v is) all.0
-    where
-      the-item : (x v : A) → Some x ≡ Some v → x ≡ v
-      the-item x v is = cc
-  all-at (x ∷ xs) (suc i) v all is = all-at xs i v all.1 is
+use Rattle.rz_stations.proofs.Rows.{all-set, all-at}
 
 -- ---- nodes
 

@@ -18,14 +18,15 @@ use Rattle.rz_play.specs.Turns.{IsTurn}
 use Rattle.rz_driver.specs.declared.driver.Driver.{Driver}
 use Rattle.rz_driver.specs.declared.seat.Seat.{Seat}
 use Rattle.rz_driver.specs.declared.station.Shared.{Shared}
-use Rattle.rz_driver.specs.declared.station.Station.{Station}
+use Rattle.rz_formatting.specs.declared.formatting.Station.{Station}
 use Rattle.rz_driver.specs.Acts.{IsAct, HasLayouts}
 use Rattle.rz_asks.specs.Locking.{lock_of}
 use Rattle.rz_asks.specs.Logged.{Logged}
 use Rattle.rz_driver.specs.Seats.{seat_of, IsSeat}
-use Rattle.rz_driver.specs.Stations.{IsStation}
+use Rattle.rz_stations.specs.Stations.{IsStation}
 use Rattle.rz_driver.specs.Worlds.{place_of, seat_in, world, world_of, AreLocks, HaveNoLocks, IsDriver}
-use Rattle.rz_driver.proofs.ReadyLemmas.{all-set, all-at, stations-after, numbers-after, seat-after, locks-after}
+use Rattle.rz_stations.proofs.Rows.{all-set, all-at}
+use Rattle.rz_driver.proofs.ReadyLemmas.{stations-after, numbers-after, seat-after, locks-after}
 use Rattle.rz_driver.proofs.TurnLemmas.{turn-is}
 use Rattle.rz_driver.proofs.WorldLemmas.{client-place, rebuilder-place, seat-here}
 

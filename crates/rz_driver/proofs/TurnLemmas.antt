@@ -34,15 +34,16 @@ use Rattle.rz_play.specs.World.{World, Seat as APlayer, at_work, take_up, Bars, 
 use Rattle.rz_play.specs.Turns.{IsTurn, IsAskTurn, Through as ComesThrough, ReplyLost as LosesReply, RequestLost as LosesRequest, IsGranted, IsGiven, lock_after, lock_on, locked, advanced, no_miss, counted, text_said}
 use Rattle.rz_driver.specs.declared.seat.Seat.{Seat}
 use Rattle.rz_driver.specs.declared.station.Shared.{Shared}
-use Rattle.rz_driver.specs.declared.station.Station.{Station}
+use Rattle.rz_formatting.specs.declared.formatting.Station.{Station}
 use Rattle.rz_driver.specs.Acts.{IsAct, Rests, Exports, Opens, Sends, Says, IsSameActor, IsMessage, IsFate, Through, ReplyLost, RequestLost, IsReleased, lock_left}
 use Rattle.rz_asks.specs.Locking.{lock_of, lock_if, open_reply, Grants, IsOpenPart}
-use Rattle.rz_driver.specs.Nodes.{IsServed, IsAsked}
+use Rattle.rz_stations.specs.Nodes.{IsServed, IsAsked}
 use Rattle.rz_asks.specs.Parts.{IsTold, IsExportPart, IsSayPart, is_done}
 use Rattle.rz_driver.specs.Seats.{work_in, seat_of, HasLayout}
-use Rattle.rz_driver.specs.Stations.{state_in, IsStation}
+use Rattle.rz_stations.specs.Stations.{state_in, IsStation}
 use Rattle.rz_driver.specs.Worlds.{place_of, seat_at, seat_in, world, AreLocks, HaveNoLocks}
-use Rattle.rz_driver.proofs.WorldLemmas.{state-at, state-set, set-same, seat-here, seat-set, seat-same, actor-is, all-actors, at-client, client-place}
+use Rattle.rz_stations.proofs.Rows.{state-at, state-set}
+use Rattle.rz_driver.proofs.WorldLemmas.{set-same, seat-here, seat-set, seat-same, actor-is, all-actors, at-client, client-place}
 
 -- ---- the actor
 

@@ -1,4 +1,4 @@
--- Nodes and actors in their rows.
+-- Actors in their row.
 use Rattle.std.proofs.Common.{◌≡◌, ◌≢◌, ◌⊎◌, inl, inr, ⊎_elim, ℕ, zero, suc, ◌+◌, ◌-◌, ◌<◌, ◌≤◌, Bool, true, false, cond, List, [], ◌∷◌, ◌++◌, map, length, set, Option, Some, None, refl, sym, ◌∙◌, ap, subst, arith, eq-eqb}
 use Rattle.std.specs.Prelude.{◌==◌, ◌&&◌, nat_le, slice_get}
 use Rattle.std.specs.List.{AllByRecursion, range_with_len}
@@ -7,62 +7,13 @@ use Rattle.std.proofs.lemmas.Bool.Decides.{nat_tests}
 use Rattle.rz_events.specs.declared.keys.Actor.{Actor}
 use Rattle.rz_events.specs.declared.keys.Actor.TheVariants.{Client, Rebuilder, Admin}
 use Rattle.rz_events.specs.Events.{same_actor}
-use Rattle.rz_node_model.specs.States.{NodeState}
 use Rattle.rz_play.specs.World.{actors}
 use Rattle.rz_driver.specs.declared.seat.Seat.{Seat}
-use Rattle.rz_driver.specs.declared.station.Station.{Station}
 use Rattle.rz_driver.specs.Seats.{seat_of}
-use Rattle.rz_driver.specs.Stations.{state_in, IsAt}
 use Rattle.rz_driver.specs.Worlds.{place_if, place_of, seat_there, seat_at, seat_in}
 
 never : {A : Type 0} (b : Bool) → b ≡ true → b ≡ false → A
 never b t f = let none : true ≡ false = sym t ∙ f in absurd (cc)
-
-differ : (n m : ℕ) → n ≢ m → (n == m) ≡ false
-differ n m ne = go (n == m) refl
-  where
-    go : (b : Bool) → (n == m) ≡ b → (n == m) ≡ false
-    go false is = is
-    go true is = absurd (ne (eqb-true n m is))
-
--- ---- nodes
-
-twice : (b : Bool) (s x r : NodeState) → cond b s r ≡ cond b s (cond b x r)
-twice true s x r = refl
-twice false s x r = refl
-
-swap : (c b : Bool) (x s r : NodeState) → (c ≡ true → b ≡ true → ⊥) → cond c x (cond b s r) ≡ cond b s (cond c x r)
-swap true true x s r apart = absurd (apart refl refl)
-swap true false x s r apart = refl
-swap false true x s r apart = refl
-swap false false x s r apart = refl
-
-module _ {D : Type 0} where
-  the-station : (x s : Station D) → Some x ≡ Some s → x ≡ s
-  the-station x s is = cc
-
-  -- the node at the place of a number
-  pub state-at : (ss : List (Station D)) (n i : ℕ) (s : Station D) → IsAt ss n i → slice_get ss i ≡ Some s → (s.sid ≡ n) × (state_in ss n ≡ s.node.state)
-  state-at [] n i s at is = absurd at
-  state-at (x ∷ ss) n zero s at is =
-      let same = the-station x s is in (
-        ap (λ (y : Station D). y.sid) (sym same) ∙ at,
-        ap (λ b. cond b x.node.state (state_in ss n)) (eq-eqb n x.sid (sym at)) ∙ ap (λ (y : Station D). y.node.state) same,
-      )
-  state-at (x ∷ ss) n (suc i) s at is =
-      let rest = state-at ss n i s at.1 is in
-      (rest.0, ap (λ b. cond b x.node.state (state_in ss n)) (differ n x.sid (λ same. at.0 (sym same))) ∙ rest.1)
-
-  -- and after it was changed
-  pub state-set : (ss : List (Station D)) (n i : ℕ) (s : Station D) → IsAt ss n i → s.sid ≡ n → (m : ℕ) → state_in (set ss i s) m ≡ cond (m == n) s.node.state (state_in ss m)
-  state-set [] n i s at sid m = absurd at
-  state-set (x ∷ ss) n zero s at sid m =
-      ap (λ (k : ℕ). cond (m == k) s.node.state (state_in ss m)) sid
-      ∙ twice (m == n) s.node.state x.node.state (state_in ss m)
-      ∙ ap (λ (k : ℕ). cond (m == n) s.node.state (cond (m == k) x.node.state (state_in ss m))) (sym at)
-  state-set (x ∷ ss) n (suc i) s at sid m =
-      ap (cond (m == x.sid) x.node.state) (state-set ss n i s at.1 sid m)
-      ∙ swap (m == x.sid) (m == n) x.node.state s.node.state (state_in ss m) (λ one two. at.0 (sym (eqb-true m x.sid one) ∙ eqb-true m n two))
 
 -- ---- rows
 

@@ -16,12 +16,12 @@ use Rattle.rz_driver.specs.declared.acting.Kind.{Kind}
 use Rattle.rz_driver.specs.declared.acting.Kind.TheVariants as kind
 use Rattle.rz_driver.specs.declared.seat.Seat.{Seat}
 use Rattle.rz_driver.specs.declared.station.Shared.{Shared}
-use Rattle.rz_driver.specs.declared.station.Station.{Station}
+use Rattle.rz_formatting.specs.declared.formatting.Station.{Station}
 use Rattle.rz_asks.specs.Locking.{IsOpenPart}
-use Rattle.rz_driver.specs.Nodes.{IsAsked, IsThroughPart, IsReplyLostPart, IsRequestLostPart}
+use Rattle.rz_stations.specs.Nodes.{IsAsked, IsThroughPart, IsReplyLostPart, IsRequestLostPart}
 use Rattle.rz_asks.specs.Parts.{IsExportPart, IsSayPart}
 use Rattle.rz_driver.specs.Seats.{work_in}
-use Rattle.rz_driver.specs.Stations.{IsAt, IsCalled}
+use Rattle.rz_stations.specs.Stations.{IsAt, IsCalled}
 
 abbrev pub HasLayouts : {D : Type 0} → Layout → List (Station D) → Type 0
 HasLayouts {D = D} layout stations = AllByRecursion (λ (s : Station D). s.node.geometry.layout ≡ layout) stations

@@ -1,36 +1,14 @@
 -- One ask more of a driver's nodes, or none: the laws of a driver as a store. They stand here since an impl can cite the specs of its
 -- crate alone.
-use Rattle.std.proofs.Common.{◌∙◌, ap, refl, ℕ, List, [], ◌∷◌}
+use Rattle.std.proofs.Common.{◌∙◌, ap, refl}
 use Rattle.rz_disk.specs.UnderFuse.{UnderFuse}
 use Rattle.rz_disk.specs.declared.disk.Disk.{Ghosts}
 use Rattle.rz_driver.specs.declared.driver.Driver.{Driver}
 use Rattle.rz_driver.specs.declared.station.Shared.{Shared}
-use Rattle.rz_driver.specs.declared.station.Station.{Station}
-use Rattle.rz_driver.specs.OnlyAsked.{IsOnlyAsked, AreOnlyAsked, WasOnlyAsked, fused_text}
-use Rattle.rz_driver.specs.Pictures.{fused_image}
-
-pub one-itself : {D : Type 0} (text : D → List ℕ) (image : D → List ℕ → Type 0) (s : Station D) → IsOnlyAsked text image s s
-one-itself text image s = record { called = record { sid = refl; pick = refl; geometry = refl }; fence = refl; text_is = refl; within = λ c has. has }
-
-pub all-themselves : {D : Type 0} (text : D → List ℕ) (image : D → List ℕ → Type 0) (xs : List (Station D)) → AreOnlyAsked text image xs xs
-all-themselves text image [] = tt
-all-themselves text image (s ∷ xs) = (one-itself text image s, all-themselves text image xs)
-
-one-then : {D : Type 0} (text : D → List ℕ) (image : D → List ℕ → Type 0) (a b c : Station D) → IsOnlyAsked text image a b → IsOnlyAsked text image b c → IsOnlyAsked text image a c
-one-then text image a b c p q = record {
-  called = record { sid = q.called.sid ∙ p.called.sid; pick = q.called.pick ∙ p.called.pick; geometry = q.called.geometry ∙ p.called.geometry };
-  fence = q.fence ∙ p.fence;
-  text_is = q.text_is ∙ p.text_is;
-  within = λ c' has. p.within c' (q.within c' has);
-}
-
-all-then : {D : Type 0} (text : D → List ℕ) (image : D → List ℕ → Type 0) (xs ys zs : List (Station D)) → AreOnlyAsked text image xs ys → AreOnlyAsked text image ys zs → AreOnlyAsked text image xs zs
-all-then text image [] [] [] p q = tt
-all-then text image [] [] (z ∷ zs) p q = q
-all-then text image [] (y ∷ ys) zs p q = absurd p
-all-then text image (x ∷ xs) [] zs p q = absurd p
-all-then text image (x ∷ xs) (y ∷ ys) [] p q = q
-all-then text image (x ∷ xs) (y ∷ ys) (z ∷ zs) p q = (one-then text image x y z p.0 q.0, all-then text image xs ys zs p.1 q.1)
+use Rattle.rz_stations.specs.Asked.{fused_text}
+use Rattle.rz_driver.specs.OnlyAsked.{WasOnlyAsked}
+use Rattle.rz_stations.specs.Images.{fused_image}
+use Rattle.rz_stations.proofs.AskedLaws.{all-themselves, all-then}
 
 pub asked-itself : {D : Type 0} {G : Ghosts D} (d : Driver D G) → WasOnlyAsked d d
 asked-itself {G = G} d = record { volume = refl; seats = refl; turns = refl; shared = refl; nodes = all-themselves (fused_text G.text) (fused_image G.image) d.shared.stations.items }

@@ -1,11 +1,6 @@
-pub mod Nodes
 pub mod Seats
-pub mod Stations
 pub mod Acts
-pub mod Administration
 pub mod Worlds
-pub mod Made
-pub mod Meters
 pub mod Pictures
 pub mod OnlyAsked
 pub mod AskedLaws

@@ -15,9 +15,10 @@ use Rattle.rz_driver.specs.declared.station.Shared.{Shared}
 use Rattle.rz_driver.specs.declared.driver.Driver.{Driver}
 use Rattle.rz_driver.specs.Seats.{seat_of, IsSeat}
 use Rattle.rz_disk.specs.UnderFuse.{fused_meter}
-use Rattle.rz_driver.specs.Meters.{AreMetered, AreCounted}
-use Rattle.rz_driver.specs.Pictures.{IsPicture, IsRight, fused_image}
-use Rattle.rz_driver.specs.Stations.{state_in, numbers_of, IsStation}
+use Rattle.rz_stations.specs.Meters.{AreMetered, AreCounted}
+use Rattle.rz_stations.specs.Images.{IsRight, fused_image}
+use Rattle.rz_driver.specs.Pictures.{IsPicture}
+use Rattle.rz_stations.specs.Stations.{state_in, numbers_of, IsStation}
 
 -- Actors stand in a row, the clients 1 to 64 and then the rebuilders 1 to 16.
 

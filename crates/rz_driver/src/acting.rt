@@ -7,17 +7,16 @@ ghost use Rattle.rz_events.specs.declared.keys.Actor.TheVariants as actor;
 ghost use Rattle.rz_operation_model.specs.Ask.{ask_of};
 ghost use Rattle.rz_play.specs.Turns as model;
 ghost use Rattle.rz_asks.specs.Locking.{lock_of};
-ghost use Rattle.rz_driver.specs.Nodes.{IsAsked};
+ghost use Rattle.rz_stations.specs.Nodes.{IsAsked};
 ghost use Rattle.rz_driver.specs.Seats.{HasLayout};
 ghost use Rattle.rz_lines.specs.Ends.{Carries};
-ghost use Rattle.rz_driver.specs.Meters.{AreMetered, AreCounted};
+ghost use Rattle.rz_stations.specs.Meters.{AreMetered, AreCounted};
 ghost use Rattle.rz_driver.specs.Pictures.{KeepsPicture, SparesPicture};
 ghost use Rattle.rz_driver.specs.Acts.{IsKind, IsMessage, IsReleased, IsAct, HasLayouts};
 
 use crate::NoMemory;
-use crate::messages::{fate, through, without_reply, without_request};
 use crate::seat::Seat;
-use crate::station::{Shared, find};
+use crate::station::Shared;
 use mj_angles::Layout;
 use rz_asks::{ask_export, open, say};
 use rz_disk::Disk;
@@ -25,6 +24,7 @@ use rz_events::{Actor, NodeAsk};
 use rz_link::{Link, Sent};
 use rz_locks::{LockKind, Locks, Range};
 use rz_operation::{Ask, Machine};
+use rz_stations::{fate, find, through, without_reply, without_request};
 use std::alloc::Global;
 
 /// What kind of thing a machine asks.

@@ -1,33 +1,17 @@
 //! The end of a driver: the log and the disks go back.
-ghost use Rattle.std.specs.Prelude.{◌≡◌, ◌+◌, ◌≤◌, ◌++◌, reverse, ℕ, List, IsTrue};
-ghost use Rattle.std.specs.Vec.{vec_len, vec_capacity};
+ghost use Rattle.std.specs.Prelude.{◌≡◌, reverse, ℕ, List, IsTrue};
 ghost use Rattle.rz_events.specs.declared.events.Event.{Event};
 ghost use Rattle.rz_driver.specs.Fetches.{Metered};
-ghost use Rattle.rz_driver.specs.Meters.{AreDisksCounted};
+ghost use Rattle.rz_stations.specs.Meters.{AreDisksCounted};
 ghost use Rattle.rz_driver.specs.OnlyAsked.{IsLeftSince};
-ghost use Rattle.rz_driver.specs.Pictures.{AreDisksImaged};
-ghost use Rattle.rz_driver.specs.Stations.{disks_of};
+ghost use Rattle.rz_stations.specs.Images.{AreDisksImaged};
+ghost use Rattle.rz_formatting.specs.Formatted.{disks_of};
 ghost use Rattle.rz_driver.specs.Worlds.{numbers_in, Leaves};
 
 use crate::driver::Driver;
-use crate::station::Station;
-use rz_disk::{Disk, Fused};
+use rz_disk::Disk;
 use rz_events::Event;
-
-/// Takes the disks of the nodes out of their fuses, and puts them before those of `home`, which has them the last one
-/// first.
-pub(crate) fn hand_back<D: Disk>(stations: Vec<Station<Fused<D>>>, home: Vec<D>) -> Vec<D>
-    requires room { vec_len stations + vec_len home ≤ vec_capacity home }
-    ensures { result.items ≡ disks_of stations.items ++ reverse home.items }
-{
-    let mut stations = stations;
-    let mut home = home;
-    while let Some(station) = stations.pop() {
-        let _back = home.push(station.node.into_disk().into_inner());
-    }
-    home.reverse();
-    home
-}
+use rz_formatting::hand_back;
 
 impl<D: Disk> Driver<D> {
     /// The log, the oldest event first, and the disks in their order.

@@ -10,18 +10,15 @@
 //! After a play [`Driver::published`] and [`Driver::fetch`] show what is published and what the nodes hold,
 //! without an event: so a driver is a `Store` to scrub.
 //!
-//! In reading order: `station`, `seat`, `messages`, `acting`, `administration`, `driver`, `turns`, `orders`,
-//! `nodes`, `parts`, `formatting`, `making`, `stage`, `asking`, `closing`.
+//! In reading order: `station`, `seat`, `acting`, `driver`, `turns`, `orders`, `nodes`, `parts`, `making`,
+//! `stage`, `asking`, `closing`.
 #![tactic(auto)]
 
 mod acting;
-mod administration;
 mod asking;
 mod closing;
 mod driver;
-mod formatting;
 mod making;
-mod messages;
 mod nodes;
 mod orders;
 mod parts;
@@ -31,5 +28,5 @@ mod station;
 mod turns;
 
 pub use driver::Driver;
-pub use making::DriverFault;
+pub use rz_formatting::DriverFault;
 pub(crate) use rz_lines::NoMemory;

@@ -2,26 +2,19 @@
 ghost use Rattle.std.specs.Prelude.{◌≡◌, IfOk, IfErr, length};
 ghost use Rattle.rz_events.specs.Volume.{nodes_of};
 ghost use Rattle.rz_play.specs.World.{new_world};
-ghost use Rattle.rz_driver.specs.Made.{AreBack, AreNew, IsCause, faults_at};
+ghost use Rattle.rz_formatting.specs.Formatted.{AreBack, AreFormatted, IsCause};
+ghost use Rattle.rz_stations.specs.Meters.{faults_at};
 ghost use Rattle.rz_driver.specs.Worlds.{world_of, IsDriver, Holds};
 
 use crate::driver::Driver;
-use crate::formatting::new_stations;
 use crate::parts::new_parts;
 use crate::station::Shared;
 use rz_asks::Log;
 use rz_config::Volume;
 use rz_disk::Disk;
+use rz_formatting::{DriverFault, format_all};
 use rz_locks::Locks;
 use std::alloc::Global;
-
-/// Why no driver was made.
-#[derive(Clone, Copy, Debug, PartialEq, Eq, Drop)]
-pub enum DriverFault {
-    NoMemory,
-    /// The disk with this index failed while it was formatted.
-    Disk { index: u64 },
-}
 
 impl<D: Disk> Driver<D> {
     /// Formats each disk of a volume for its node. Where one fails, or memory is wanting, all of them come
@@ -35,7 +28,7 @@ impl<D: Disk> Driver<D> {
         ensures ready { IfOk result (λ d. IsDriver d) }
         ensures volume { IfOk result (λ d. d.volume ≡ volume.now) }
         ensures world { IfOk result (λ d. world_of d ≡ new_world volume.now) }
-        ensures made { IfOk result (λ d. AreNew D.tells D.meter D.image volume.now.layout (nodes_of volume.now.clusters) disks.items d.shared.stations.items) }
+        ensures made { IfOk result (λ d. AreFormatted D.tells D.meter D.text D.image volume.now.layout (nodes_of volume.now.clusters) disks.items d.shared.stations.items) }
         ensures held { IfOk result (λ d. Holds d (faults_at D.meter disks.items)) }
         ensures back { IfErr result (λ r. AreBack D.tells D.meter D.image volume.now.layout (nodes_of volume.now.clusters) disks.items r.0.items) }
         ensures cause { IfErr result (λ r. IsCause D.meter disks.items r.0.items r.1) }
@@ -46,7 +39,7 @@ impl<D: Disk> Driver<D> {
         };
         let locks = Locks::new();
         let log = Log::new(alloc);
-        match new_stations(alloc, volume.layout, parts.nodes.as_slice(), disks) {
+        match format_all(alloc, volume.layout, parts.nodes.as_slice(), disks) {
             Ok((stations, home)) => Ok(Driver {
                 alloc,
                 volume: parts.volume,

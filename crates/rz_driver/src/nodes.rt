@@ -11,9 +11,9 @@ ghost use Rattle.rz_play.specs.Free.{PlaysLineOver};
 ghost use Rattle.rz_driver.specs.Worlds.{world_of, IsDriver, Holds, Leaves};
 
 use crate::NoMemory;
-use crate::administration::{arm_node, lose_node, start_node, stop_node};
 use crate::driver::Driver;
 use rz_disk::Disk;
+use rz_stations::{arm_node, lose_node, start_node, stop_node};
 
 impl<D: Disk> Driver<D> {
     /// The node stops.

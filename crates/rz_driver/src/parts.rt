@@ -1,15 +1,16 @@
 //! What a new driver has beside its nodes and their disks.
-ghost use Rattle.std.specs.Prelude.{◌≡◌, ◌++◌, IfOk, OnOk, length};
+ghost use Rattle.std.specs.Prelude.{◌≡◌, IfOk, length};
 ghost use Rattle.std.specs.List.{AllByRecursion};
 ghost use Rattle.mj_angles.specs.Layout.{max_bins_of};
-ghost use Rattle.rz_events.specs.Volume.{IsVolume, nodes_of};
+ghost use Rattle.rz_events.specs.Volume.{IsNode, IsVolume, nodes_of};
 ghost use Rattle.rz_export_model.specs.Export.{new_export};
 ghost use Rattle.rz_driver.specs.Seats.{IsEmptySeat};
 
 use crate::seat::Seat;
-use rz_config::{ClusterSpec, Volume};
+use rz_config::Volume;
 use rz_events::NodeSpec;
 use rz_export::Export;
+use rz_formatting::all_nodes;
 use std::alloc::{AllocError, Global};
 
 /// 64 clients and 16 rebuilders.
@@ -29,6 +30,7 @@ pub(crate) struct Parts {
 pub(crate) fn new_parts(alloc: Global, volume: &Volume) -> Result<Parts, AllocError>
     ensures volume { IfOk result (λ p. p.volume ≡ volume.now) }
     ensures rules { IsVolume volume.now }
+    ensures proper { AllByRecursion IsNode (nodes_of volume.now.clusters) }
     ensures nodes { IfOk result (λ p. p.nodes.items ≡ nodes_of volume.now.clusters) }
     ensures export { IfOk result (λ p. p.export ≡ new_export volume.now 0) }
     ensures seats { IfOk result (λ p. AllByRecursion IsEmptySeat p.seats.items) }
@@ -48,33 +50,6 @@ pub(crate) fn new_parts(alloc: Global, volume: &Volume) -> Result<Parts, AllocEr
         seats,
         bins,
     })
-}
-
-/// The nodes of a volume, in the order of the description.
-fn all_nodes(alloc: Global, volume: &Volume) -> Result<Vec<NodeSpec>, AllocError>
-    ensures nodes { IfOk result (λ v. v.items ≡ nodes_of volume.now.clusters) }
-    ensures rules { IsVolume volume.now }
-{
-    let mut nodes = Vec::with_capacity(alloc, volume.node_count())?;
-    add_clusters(&mut nodes, volume.clusters.as_slice())?;
-    Ok(nodes)
-}
-
-/// Adds the nodes of these clusters.
-fn add_clusters(nodes: &mut Vec<NodeSpec>, clusters: &[ClusterSpec]) -> Result<(), AllocError>
-    ensures { OnOk result (nodes.new.items ≡ nodes.old.items ++ nodes_of clusters.now) }
-{
-    for cluster in clusters {
-        add_nodes(nodes, cluster)?;
-    }
-    Ok(())
-}
-
-/// Adds the nodes of a cluster.
-fn add_nodes(nodes: &mut Vec<NodeSpec>, cluster: &ClusterSpec) -> Result<(), AllocError>
-    ensures { OnOk result (nodes.new.items ≡ nodes.old.items ++ cluster.now.nodes) }
-{
-    nodes.extend_from_slice(cluster.nodes.as_slice())
 }
 
 /// The actors of a play, with nothing to do.

@@ -1,7 +1,7 @@
 -- An export to which a part is added keeps the rules.
 use Rattle.std.proofs.Common.{◌≡◌, ℕ, ◌+◌, ◌^◌, ◌<◌, ◌≤◌, ◌⊎◌, ◌&&◌, Bool, true, false, cond, List, map, Option, Some, None, is_some, sym, ap, ◌∙◌, subst, refl, arith, inl, inr, eqb-true, eq-eqb}
 use Rattle.std.specs.Prelude.{◌==◌, nat_le}
-use Rattle.std.specs.Option.{option_map, option_map_or, option_and_then}
+use Rattle.std.specs.Option.{option_map, option_map_or}
 use Rattle.std.specs.Ordering.{nat_cmp, is_eq, eq_by_cmp}
 use Rattle.std.specs.Cmp.{nat_cmp_total}
 use Rattle.std.specs.FinMap as maps
@@ -14,7 +14,6 @@ use Rattle.rz_events.specs.Keys.{key_cmp, keys_total, exact_keys}
 use Rattle.rz_events.specs.declared.keys.Key.{Key}
 use Rattle.rz_events.specs.declared.files.FileInfo.{FileInfo}
 use Rattle.rz_events.specs.declared.files.NodeSpec.{NodeSpec}
-use Rattle.rz_events.specs.declared.files.Published.{Published}
 use Rattle.rz_marks.specs.Marks.{is_marked, has_room}
 use Rattle.rz_export_model.specs.Tree.{Tree, Object, file_of, empty_tree, new_dir}
 use Rattle.rz_export_model.specs.Export.{Export, Block, Blocks, is_drawn}
@@ -28,7 +27,7 @@ use Rattle.rz_export.specs.Nodes.{is_named, moved, recounted, with_enrolment}
 use Rattle.rz_export.specs.Kept.{lies_on, lies_at, used_in, is_place, AreRoomy, HaveRoom, IsBlock, IsKept}
 use Rattle.rz_export.proofs.Files.{IsBlank, apart}
 use Rattle.rz_export.proofs.Counts.{one_if, at_key, eq_true, count-insert, count-len}
-use Rattle.rz_export.proofs.Used.{live-view, file-view, counts-live, counts-published, moved-count}
+use Rattle.rz_export.proofs.Used.{file-view, counts-live, moved-count}
 use Rattle.rz_export.proofs.Enrolled.{map-same, specs-set, use-set}
 use Rattle.rz_export.proofs.Marked.{Marks, marked-set, room-kept, room-set}
 

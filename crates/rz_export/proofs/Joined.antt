@@ -1,5 +1,5 @@
 -- Parts one after another, and the export that they make.
-use Rattle.std.proofs.Common.{◌≡◌, ℕ, ◌+◌, ◌<◌, ◌≤◌, Bool, true, false, cond, List, [], ◌∷◌, ◌++◌, drop, get_or, length, map, Option, Some, is_some, eqb-true, eq-eqb, sym, ap, ◌∙◌, subst, refl, arith, inl, inr, append_assoc}
+use Rattle.std.proofs.Common.{◌≡◌, ℕ, ◌+◌, ◌<◌, ◌≤◌, Bool, true, false, cond, List, [], ◌∷◌, ◌++◌, drop, get_or, length, map, Some, is_some, eqb-true, eq-eqb, sym, ap, ◌∙◌, subst, refl, arith, inl, inr, append_assoc}
 use Rattle.std.proofs.lemmas.List.{map-append, append-nil, drop_more}
 use Rattle.std.specs.Prelude.{◌==◌}
 use Rattle.std.specs.declared.cmp.Ordering.{Ordering}
@@ -9,10 +9,10 @@ use Rattle.std.specs.FinMap as maps
 use Rattle.std.specs.FinMap.{FinMap, get-insert, entries-insert, len-empty, len-entries}
 use Rattle.std.specs.FinMap.Entries.{put}
 use Rattle.rz_events.specs.Volume.{Volume}
-use Rattle.rz_events.specs.Keys.{key_cmp, keys_total}
+use Rattle.rz_events.specs.Keys.{keys_total}
 use Rattle.rz_events.specs.declared.files.Kind.{Kind}
 use Rattle.rz_events.specs.declared.files.Kind.TheVariants.{Dir}
-use Rattle.rz_export_model.specs.Paths.{Path, path_cmp, paths_total}
+use Rattle.rz_export_model.specs.Paths.{path_cmp, paths_total}
 use Rattle.rz_export_model.specs.Tree.{Object, empty_tree, new_dir, paths_to}
 use Rattle.rz_export_model.specs.Export.{Export, Block, Enrolled, new_export}
 use Rattle.rz_names.specs.Names.{below_root}
@@ -26,7 +26,7 @@ use Rattle.rz_tree.proofs.PartLaws.{object-added, name-added}
 use Rattle.rz_export.specs.Parts.{counters, block_part, enrolled_part, flat_parts, export_parts}
 use Rattle.rz_export.proofs.Built.{root-only}
 use Rattle.rz_export.proofs.Files.{apart}
-use Rattle.rz_export.specs.Building.{with_part, with_parts, made_of, IsBlockless, MayBeNext, MayFollow, AllFollow, ArePartsOf, MayAdd, AllAdd}
+use Rattle.rz_export.specs.Building.{with_part, with_parts, made_of, IsBlockless, MayBeNext, AllFollow, ArePartsOf, MayAdd, AllAdd}
 
 -- a part more is added last
 pub made-more : (s : Export) (ps : List Part) (p : Part) → with_parts s (ps ++ p ∷ []) ≡ with_part (with_parts s ps) p

@@ -12,5 +12,6 @@ pub mod Released
 pub mod TreeStates
 mod PartPlaces
 mod Built
+mod Allowed
 pub mod Joined
 pub mod SameParts

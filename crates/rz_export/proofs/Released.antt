@@ -1,11 +1,10 @@
 -- Blocks of a file that are counted out one by one.
-use Rattle.std.proofs.Common.{◌≡◌, ℕ, ◌+◌, ◌-◌, ◌≤◌, Bool, true, false, cond, List, map, Option, Some, None, is_some, sym, ap, ◌∙◌, refl, arith, eqb-true}
+use Rattle.std.proofs.Common.{◌≡◌, ℕ, ◌+◌, Bool, true, false, List, map, Option, Some, None, is_some, sym, ap, ◌∙◌, refl, arith, eqb-true}
 use Rattle.std.specs.Option.{option_and_then}
 use Rattle.std.specs.FinMap as maps
 use Rattle.std.specs.FinMap.{get-entries}
 use Rattle.std.proofs.lemmas.List.Elements.{All-map, All-weaker}
 use Rattle.std.proofs.lemmas.Option.{same_Some}
-use Rattle.rz_events.specs.Keys.{keys_total}
 use Rattle.rz_events.specs.declared.keys.Key.{Key}
 use Rattle.rz_events.specs.declared.files.FileInfo.{FileInfo}
 use Rattle.rz_events.specs.declared.tree.TreeReply.{TreeReply}

@@ -1,19 +1,15 @@
 -- Two exports of one volume with the same parts are the same.
-use Rattle.std.proofs.Common.{◌≡◌, ℕ, Bool, true, false, cond, ◌&&◌, T, List, [], ◌∷◌, ◌++◌, drop, map, Option, Some, None, Ordering, sym, ap, ◌∙◌, refl}
+use Rattle.std.proofs.Common.{◌≡◌, ℕ, T, List, [], ◌∷◌, ◌++◌, drop, map, Option, Some, None, sym, ap, ◌∙◌, refl}
 use Rattle.std.proofs.lemmas.List.{append-nil}
 use Rattle.std.proofs.lemmas.List.Elements.{filter_map-append}
 use Rattle.std.proofs.lemmas.Option.{same_Some}
-use Rattle.std.specs.declared.cmp.Ordering.TheVariants.{Less, Equal, Greater}
 use Rattle.std.specs.List.{filter_map, cons_option}
-use Rattle.std.specs.Ordering.{nat_cmp, is_lt}
 use Rattle.std.specs.FinMap as maps
 use Rattle.std.specs.FinMap.{FinMap, get-entries, entries_sorted, same_entries_map}
 use Rattle.std.specs.FinMap.Entries.{find, is_sorted, below_all}
-use Rattle.rz_events.specs.Keys.{key_cmp}
-use Rattle.rz_events.specs.Volume.{Volume}
 use Rattle.rz_events.specs.declared.keys.Key.{Key}
 use Rattle.rz_export_model.specs.Paths.{Path, path_cmp}
-use Rattle.rz_export_model.specs.Tree.{Tree, Object}
+use Rattle.rz_export_model.specs.Tree.{Object}
 use Rattle.rz_export_model.specs.Export.{Export, Block, Enrolled}
 use Rattle.rz_names.specs.Names.{below_root}
 use Rattle.rz_tree.specs.declared.parts.Part.{Part}

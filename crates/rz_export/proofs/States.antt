@@ -21,7 +21,7 @@ use Rattle.rz_export_model.specs.Export.{Block, Blocks, latest_of, published_of,
 use Rattle.rz_export.specs.declared.nodes.Enrolment.{Enrolment}
 use Rattle.rz_export.specs.declared.nodes.KeptNode.{KeptNode}
 use Rattle.rz_export.specs.Nodes.{new_node, is_named, moved, recounted, with_enrolment}
-use Rattle.rz_export.specs.Kept.{lies_on, lies_at, used_in, is_place, AreRoomy, IsBlock, IsKept}
+use Rattle.rz_export.specs.Kept.{lies_on, lies_at, used_in, is_place, AreRoomy, HaveRoom, IsBlock, IsKept}
 use Rattle.rz_export.proofs.Files.{view, apart, grows}
 use Rattle.rz_export.proofs.Counts.{one_if, at_key, eq_true, count-insert, count-len}
 use Rattle.rz_export.proofs.Used.{live-view, file-view, counts-live, counts-published, used-alike, moved-count}
@@ -99,6 +99,14 @@ pub record IsRoomier (old new : Marks) : Type 0 where
 pub record IsRemarked (old new : Marks) (key : Key) (places : List ℕ) (published : Option Published) : Type 0 where
   pub marks : (l : ℕ) (q : Key) → is_marked new l q ≡ cond (is_place l places && is_eq (key_cmp key q)) (is_named l places published) (is_marked old l q)
   pub room : (l : ℕ) (q : Key) → has_room new l q ≡ has_room old l q
+
+-- a block that is there has room, so only one that is not has to get it
+pub roomy-either : (t : Tree) (m : Blocks) (rs : Marks) (key : Key) (places : List ℕ) → lies_at t key.fid ≡ Some places → HaveRoom t m rs → (maps.get m key ≡ None → AreRoomy rs places key) → AreRoomy rs places key
+roomy-either t m rs key places lies had new = go (maps.get m key) refl
+  where
+    go : (o : Option Block) → maps.get m key ≡ o → AreRoomy rs places key
+    go None is = new is
+    go (Some b) is = had key b places is lies
 
 module _ (v : Volume) (t : Tree) (m : Blocks) (ns : List KeptNode) (rs : Marks) (last : ℕ) (h : IsKept v t m ns rs last) where
   -- with more room

@@ -14,7 +14,8 @@ use Rattle.rz_blocks.specs.Shown.{added}
 use Rattle.rz_tree.specs.declared.parts.Part.{Part}
 use Rattle.rz_tree.specs.declared.parts.Part.TheVariants as part
 use Rattle.rz_tree.specs.Added as trees
-use Rattle.rz_tree.specs.Added.{is_behind, IsRoot, IsNextObject, IsNextName, AreNamed}
+use Rattle.rz_tree.specs.Added.{is_behind, IsNextObject, IsNextName, AreNamed}
+pub use Rattle.rz_tree.specs.Added.{IsRootPart}
 
 -- ---- the export that parts make
 
@@ -94,15 +95,6 @@ IsCounters (part.Object fid kind mode mtime size cid places target) = ⊥
 IsCounters (part.Name path fid) = ⊥
 IsCounters (part.Block key latest published) = ⊥
 IsCounters (part.Enrolled node loss fence) = ⊥
-
--- the second part: the root
-abbrev pub IsRootPart : Part → Type 0
-IsRootPart (part.Counters last made) = ⊥
-IsRootPart (part.Object fid kind mode mtime size cid places target) =
-    IsRoot fid (record { kind = kind; mode = mode; mtime = mtime; target = target; size = size; cid = cid; places = places })
-IsRootPart (part.Name path fid) = ⊥
-IsRootPart (part.Block key latest published) = ⊥
-IsRootPart (part.Enrolled node loss fence) = ⊥
 
 -- any later part
 abbrev pub MayBeNext : Export → Part → Type 0

@@ -3,3 +3,4 @@ pub mod Kept
 pub mod Calls
 pub mod Parts
 pub mod Building
+pub mod Allowed

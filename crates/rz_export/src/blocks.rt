@@ -1,17 +1,21 @@
 //! The calls on blocks: begin, publish, look and recheck, and the enrolment of nodes.
 
-ghost use Rattle.std.specs.Prelude.{◌≡◌, ◌≤◌, ◌+◌, ◌*◌, [], None, Some, IfOk, OnOk, OnErr, IsSome, IsTrue, is_some, map};
+ghost use Rattle.std.specs.Prelude.{ℕ, ◌≡◌, ◌≤◌, ◌+◌, ◌*◌, [], true, None, Some, IfOk, OnOk, OnErr, IsSome, IsTrue, is_some, map};
 ghost use Rattle.std.specs.FinMap as maps;
 ghost use Rattle.mj_angles.specs.Layout.{block_bytes_of};
 ghost use Rattle.rz_events.specs.declared.export.Call.{Call};
+ghost use Rattle.rz_events.specs.declared.keys.Key.{Key};
+ghost use Rattle.rz_marks.specs.Marks.{is_marked, has_room};
 ghost use Rattle.rz_export_model.specs.Tree.{Tree, file_of};
-ghost use Rattle.rz_export_model.specs.Export.{no_begin, no_publish, export_reply, export_after, after_begin, after_publish, published_stamp, is_proper, is_node, is_ready, new_fence, spent};
-ghost use Rattle.rz_export.specs.Kept.{with_fence};
+ghost use Rattle.rz_export_model.specs.Export.{no_begin, no_publish, prepared, export_reply, export_after, after_begin, after_publish, published_stamp, is_proper, is_node, is_ready, new_fence, spent};
+ghost use Rattle.rz_export.specs.Kept.{with_fence, AreRoomy};
 
 use crate::export::Export;
-use crate::lists::{make_room, mark};
+use crate::lists::{make_room, remark};
 use crate::nodes::{Enrolment, enroll, recount};
+use rz_blocks::Blocks;
 use rz_events::{Denial, FileInfo, Key, Published, Reply};
+use rz_marks::Marks;
 use std::alloc::AllocError;
 
 impl Export {
@@ -99,8 +103,7 @@ impl Export {
         ensures ok { OnOk result (self.new ≡ after_begin self.old key) }
         ensures err { OnErr result (self.new ≡ self.old) }
     {
-        make_room(&mut self.listed, info.places.list(), key)?;
-        self.blocks.prepare(key)?;
+        prepare(&mut self.blocks, &mut self.listed, info.places.list(), key)?;
         self.last += 1;
         self.blocks.begin(key, self.last);
         Ok(self.last)
@@ -134,7 +137,7 @@ impl Export {
         let after = self.blocks.look(key);
         let places = info.places.list();
         recount(self.nodes.as_mut_slice(), places, before, after);
-        mark(&mut self.listed, places, key, after);
+        remark(&mut self.listed, places, key, before, after);
     }
 
     // The size of a file that ends with so many bytes of this block.
@@ -161,4 +164,25 @@ impl Export {
         enroll(self.nodes.as_mut_slice(), node, Enrolment { loss, fence });
         Reply::Fence { fence }
     }
+}
+
+/// Makes the entry of a block, and room for its mark in the lists of these nodes. A block that was begun
+/// has both, and is only looked up. Room that was made before an error stays.
+fn prepare(
+    blocks: &mut Blocks,
+    listed: &mut Marks,
+    places: &[u16],
+    key: Key,
+) -> Result<(), AllocError>
+    ensures ok { OnOk result (blocks.new ≡ prepared blocks.old key) }
+    ensures err { OnErr result (blocks.new ≡ blocks.old) }
+    ensures marks { (l : ℕ) (q : Key) → is_marked listed.new l q ≡ is_marked listed.old l q }
+    ensures kept { (l : ℕ) (q : Key) → has_room listed.old l q ≡ true → has_room listed.new l q ≡ true }
+    ensures room { OnOk result (maps.get blocks.old key ≡ None → AreRoomy listed.new places.now key) }
+{
+    if 0 < blocks.latest(key) {
+        return Ok(());
+    }
+    make_room(listed, places, key)?;
+    blocks.prepare(key)
 }

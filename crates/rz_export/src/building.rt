@@ -1,6 +1,6 @@
 //! An export built of its parts, one after another.
 
-ghost use Rattle.std.specs.Prelude.{◌≡◌, IfOk, OnOk};
+ghost use Rattle.std.specs.Prelude.{◌≡◌, IfOk, OnOk, OnErr};
 ghost use Rattle.std.specs.FinMap as maps;
 ghost use Rattle.rz_export_model.specs.Export.{new_export};
 ghost use Rattle.rz_tree.specs.Added as trees;
@@ -29,10 +29,12 @@ impl Export {
         Ok(export)
     }
 
-    // Adds the next part.
-    fn add_part(&mut self, part: &Part) -> Result<(), AllocError>
+    /// Adds the next part: the counters to an export with nothing in it, then the root, then what
+    /// `allows` lets come. An object may lack a name until its names come.
+    pub fn add_part(&mut self, part: &Part) -> Result<(), AllocError>
         requires { MayAdd self.old part.now }
-        ensures { OnOk result (self.new ≡ with_part self.old part.now) }
+        ensures ok { OnOk result (self.new ≡ with_part self.old part.now) }
+        ensures err { OnErr result (self.new ≡ self.old) }
     {
         match part {
             Part::Counters { last, made } => self.add_counters(*last, *made),
@@ -52,7 +54,8 @@ impl Export {
     // The counters come first. They say which object was made last, and which number was drawn last.
     fn add_counters(&mut self, last: u64, made: u128) -> Result<(), AllocError>
         requires { self.old ≡ new_export self.old.volume 0 }
-        ensures { OnOk result (self.new ≡ with_part self.old (Part.Counters last made)) }
+        ensures ok { OnOk result (self.new ≡ with_part self.old (Part.Counters last made)) }
+        ensures err { OnErr result (self.new ≡ self.old) }
     {
         self.add_to_tree(&Part::Counters { last, made })?;
         self.last = last;
@@ -63,7 +66,8 @@ impl Export {
     fn add_to_tree(&mut self, part: &Part) -> Result<(), AllocError>
         requires may { trees.MayAdd self.old.tree part.now }
         requires blockless { self.old.blocks ≡ maps.empty }
-        ensures { OnOk result (self.new ≡ record self.old { tree = trees.with_part self.old.tree part.now }) }
+        ensures ok { OnOk result (self.new ≡ record self.old { tree = trees.with_part self.old.tree part.now }) }
+        ensures err { OnErr result (self.new ≡ self.old) }
     {
         self.tree.add_part(part)?;
         Ok(())
@@ -77,7 +81,8 @@ impl Export {
         published: Option<Published>,
     ) -> Result<(), AllocError>
         requires { MayBeBlock self.old key latest published }
-        ensures { OnOk result (self.new ≡ with_part self.old (Part.Block key latest published)) }
+        ensures ok { OnOk result (self.new ≡ with_part self.old (Part.Block key latest published)) }
+        ensures err { OnErr result (self.new ≡ self.old) }
     {
         let Some(info) = self.file(key.fid) else {
             return Ok(());

@@ -7,14 +7,16 @@
 //! caller did at the nodes before is not asked here.
 //!
 //! In reading order: `nodes`, `lists`, `export`, `refusals`, `blocks`, `listings`, `releases`,
-//! `calls`, `enrolments`, `parts`, `building`.
+//! `calls`, `enrolments`, `parts`, `homes`, `allowing`, `building`.
 #![tactic(auto)]
 
+mod allowing;
 mod blocks;
 mod building;
 mod calls;
 mod enrolments;
 mod export;
+mod homes;
 mod listings;
 mod lists;
 mod nodes;

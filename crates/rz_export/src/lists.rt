@@ -1,6 +1,6 @@
 //! The lists of the nodes: the marks of the published blocks that lie on each of them.
 
-ghost use Rattle.std.specs.Prelude.{ℕ, ◌≡◌, ◌≤◌, ◌==◌, ◌&&◌, true, not, cond, length, OnOk};
+ghost use Rattle.std.specs.Prelude.{ℕ, ◌≡◌, ◌≤◌, ◌==◌, ◌&&◌, true, not, cond, length, List, OnOk};
 ghost use Rattle.std.specs.Ordering.{is_eq};
 ghost use Rattle.rz_events.specs.Keys.{key_cmp};
 ghost use Rattle.rz_events.specs.declared.keys.Key.{Key};
@@ -36,6 +36,36 @@ pub fn mark(listed: &mut Marks, places: &[u16], key: Key, published: Option<Publ
 {
     for place in places {
         listed.set(*place, key, is_named(places, published, *place));
+    }
+}
+
+/// The same, where `before` was published of the block. Where both name the same positions no list is
+/// looked up.
+pub fn remark(
+    listed: &mut Marks,
+    places: &[u16],
+    key: Key,
+    before: Option<Published>,
+    after: Option<Published>,
+)
+    requires few { length places.now ≤ 16 }
+    requires room { AreRoomy listed.old places.now key }
+    requires marked { (node : ℕ) → is_marked listed.old node key ≡ is_named node places.now before }
+    ensures marks { (l : ℕ) (q : Key) → is_marked listed.new l q ≡ cond (is_place l places.now && is_eq (key_cmp key q)) (is_named l places.now after) (is_marked listed.old l q) }
+    ensures room { (l : ℕ) (q : Key) → has_room listed.new l q ≡ has_room listed.old l q }
+{
+    if !name_the_same(before, after) {
+        mark(listed, places, key, after);
+    }
+}
+
+// Whether two publishes of a block name the same positions.
+fn name_the_same(before: Option<Published>, after: Option<Published>) -> bool
+    ensures { result ≡ true → (node : ℕ) (places : List ℕ) → is_named node places before ≡ is_named node places after }
+{
+    match (before, after) {
+        (Some(before), Some(after)) => before.mask == after.mask,
+        _ => false,
     }
 }
 

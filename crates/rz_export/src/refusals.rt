@@ -1,10 +1,11 @@
 //! Why calls are denied, and which calls the export takes.
 
-ghost use Rattle.std.specs.Prelude.{◌≡◌, ◌≤◌, ◌&&◌, ◌||◌, nat_le, is_none, is_some, length};
+ghost use Rattle.std.specs.Prelude.{◌≡◌, ◌≤◌, ◌&&◌, ◌||◌, nat_le, is_none, is_some, length, IsSome};
 ghost use Rattle.std.specs.FinMap as maps;
 ghost use Rattle.mj_angles.specs.Layout.{block_bytes_of};
 ghost use Rattle.rz_events.specs.declared.export.Call.{Call};
-ghost use Rattle.rz_export_model.specs.Export.{no_begin, no_look, spent, barred, is_mask, is_proper, is_ready};
+ghost use Rattle.rz_export_model.specs.Tree.{file_of};
+ghost use Rattle.rz_export_model.specs.Export.{no_begin, no_look, too_far, spent, barred, is_mask, is_proper, is_ready};
 
 use crate::export::Export;
 use crate::nodes::has_bit;
@@ -12,7 +13,7 @@ use mj_angles::Layout;
 use rz_events::{Call, Denial, Key, Published, Reply};
 
 /// A file has so many blocks.
-const FILE_BLOCKS: u64 = 1_048_576;
+pub const FILE_BLOCKS: u64 = 1_048_576;
 
 impl Export {
     /// Whether the conditions of `answer` hold of a call: texts, lengths, masks, stamps and nodes are
@@ -69,10 +70,7 @@ impl Export {
         if self.file(key.fid).is_none() {
             return Some(Denial::UnknownFile);
         }
-        if FILE_BLOCKS <= key.block {
-            return Some(Denial::BlockTooFar);
-        }
-        None
+        too_far(key)
     }
 
     // Why no number can be drawn.
@@ -85,11 +83,12 @@ impl Export {
         None
     }
 
-    // Why a write can't begin.
+    // Why a write of a live file's block can't begin.
     pub(crate) fn no_begin(&self, key: Key) -> Option<Denial>
+        requires { IsSome (file_of self.now.tree key.fid) }
         ensures { result ≡ no_begin self.now key }
     {
-        match self.no_look(key) {
+        match too_far(key) {
             Some(why) => Some(why),
             None => self.spent(),
         }
@@ -111,8 +110,18 @@ impl Export {
     }
 }
 
+/// Why a block is past the end of every file.
+fn too_far(key: Key) -> Option<Denial>
+    ensures { result ≡ too_far key }
+{
+    if FILE_BLOCKS <= key.block {
+        return Some(Denial::BlockTooFar);
+    }
+    None
+}
+
 /// Whether a mask names as many positions as a write stores, all of them the layout's.
-fn is_mask(layout: Layout, mask: u16) -> bool
+pub fn is_mask(layout: Layout, mask: u16) -> bool
     ensures { result ≡ is_mask layout mask }
 {
     mask.count_ones() as usize == layout.forward() && u32::from(mask) < 1u32 << layout.safe()

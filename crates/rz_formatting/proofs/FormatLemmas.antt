@@ -2,7 +2,6 @@
 use Rattle.std.proofs.Common.{◌≡◌, ℕ, zero, suc, ◌+◌, ◌-◌, ◌<◌, ◌≤◌, Bool, true, false, if◌then◌else◌, List, [], ◌∷◌, ◌++◌, map, reverse, length, drop, get_or, Some, inl, inr, sym, ◌∙◌, ap, subst, arith, add-one, drop-cons, length-drop}
 use Rattle.std.specs.Prelude.{slice_get}
 use Rattle.std.specs.List.{AllZip, zip}
-use Rattle.std.specs.Prelude.{IsTrue}
 use Rattle.rz_cells.specs.Held.{nothing}
 use Rattle.rz_cells.specs.Stands.{StandsFor}
 use Rattle.std.proofs.lemmas.List.{append-nil, drop_all, length-map, length-reverse, reverse-append}
@@ -11,7 +10,7 @@ use Rattle.rz_disk.specs.Meter.{Meter}
 use Rattle.rz_disk.specs.UnderFuse.{UnderFuse}
 use Rattle.rz_events.specs.declared.files.NodeSpec.{NodeSpec}
 use Rattle.rz_formatting.specs.declared.formatting.Station.{Station}
-use Rattle.rz_formatting.specs.Formatted.{geometry_of, IsFormatted, IsBack}
+use Rattle.rz_formatting.specs.Formatted.{geometry_of, IsFormatted, IsBack, AreBack}
 use Rattle.rz_formatting.proofs.Rowwise.{get-behind, zip-length, zip-map, zip-mid, zip-same}
 
 pub pushed : {A : Type 0} (xs ys : List A) (x : A) (b : Bool) → ys ≡ (if b then xs ++ x ∷ [] else xs) → b ≡ true → ys ≡ xs ++ x ∷ []
@@ -85,3 +84,7 @@ module _ {D : Type 0} (tells : Bool) (meter : D → Meter) (image : D → List �
   -- and one that was not touched
   pub same-back : (n : NodeSpec) (d : D) → IsBack tells meter image layout (n, d) d
   same-back n d = record { count = omega arith; images = λ told c is. inl is }
+
+  -- disks that nobody touched
+  pub untouched : (nodes : List NodeSpec) (disks : List D) → length disks ≡ length nodes → AreBack tells meter image layout nodes disks disks
+  untouched nodes disks count = zip-same (IsBack tells meter image layout) nodes disks count same-back

@@ -1,5 +1,5 @@
 -- Each node of a volume meets its rules.
-use Rattle.std.proofs.Common.{ℕ, zero, suc, List, [], ◌∷◌, arith}
+use Rattle.std.proofs.Common.{ℕ, suc, List, [], ◌∷◌, arith}
 use Rattle.std.specs.Prelude.{All}
 use Rattle.std.specs.List.{AllByRecursion}
 use Rattle.std.proofs.lemmas.List.Elements.{All-append}

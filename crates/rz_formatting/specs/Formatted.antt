@@ -27,6 +27,7 @@ pub record IsFormatted {D : Type 0} (tells : Bool) (meter : D → Meter) (text :
   pub number : s.sid ≡ handed.0.sid
   pub geometry : s.node.geometry ≡ geometry_of layout handed.0
   pub state : s.node.state ≡ fresh
+  pub pick : s.pick ≡ 0
   pub unarmed : s.node.disk.fuse ≡ None
   pub unplanned : s.node.disk.planned ≡ 0
   pub count : faults (meter handed.1) ≤ faults (meter s.node.disk.disk)

@@ -8,7 +8,7 @@ use rz_disk::{Disk, Fused};
 
 /// Takes the disks of the nodes out of their fuses, and puts them before those of `home`, which has them
 /// the last one first.
-pub(crate) fn hand_back<D: Disk>(stations: Vec<Station<Fused<D>>>, home: Vec<D>) -> Vec<D>
+pub fn hand_back<D: Disk>(stations: Vec<Station<Fused<D>>>, home: Vec<D>) -> Vec<D>
     requires room { vec_len stations + vec_len home ≤ vec_capacity home }
     ensures { result.items ≡ disks_of stations.items ++ reverse home.items }
 {

@@ -14,11 +14,12 @@ use rz_events::NodeSpec;
 use rz_node::{FormatFault, Geometry, Node};
 use std::alloc::Global;
 
-/// A node, and its number.
+/// A node, its number, and how the next crash of its disk picks.
 #[derive(Drop)]
 pub struct Station<D: Disk> {
     pub sid: u16,
     pub node: Node<D>,
+    pub pick: u64,
 }
 
 /// The nodes in order, each on its disk, and the emptied vector of the disks, which has room for them all.
@@ -80,6 +81,7 @@ fn format_one<D: Disk>(
         Ok(made) => Ok(Station {
             sid: node.sid,
             node: made,
+            pick: 0,
         }),
         Err((fused, fault)) => Err((fused.into_inner(), fault)),
     }

@@ -2,7 +2,8 @@
 //!
 //! [`format_all`] makes a node on each disk, in the order of the description, each disk in a fuse. Where
 //! one fails, or memory is wanting, all disks come back in their order, and the contract says which images
-//! they may have and that no count of faults fell. It does not say that there is memory.
+//! they may have and that no count of faults fell. It does not say that there is memory. [`hand_back`] takes
+//! the disks out of their fuses again.
 //!
 //! In reading order: `nodes`, `fault`, `back`, `formatting`.
 #![tactic(auto)]
@@ -12,6 +13,7 @@ mod fault;
 mod formatting;
 mod nodes;
 
+pub use back::hand_back;
 pub use fault::DriverFault;
 pub use formatting::{Station, format_all};
 pub use nodes::all_nodes;

@@ -1,4 +1,5 @@
 pub mod Row
+pub mod Parts
 pub mod Cells
 pub mod Files
 pub mod Sorting

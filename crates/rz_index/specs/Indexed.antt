@@ -1,11 +1,10 @@
 -- What contracts see of an index, and how it is kept.
-use Rattle.std.specs.Prelude.{ℕ, zero, suc, ◌≡◌, ◌+◌, ◌<◌, ◌≤◌, ◌==◌, T, cond, List, [], ◌∷◌, ◌++◌, map, Option, Some, None, refl}
+use Rattle.std.specs.Prelude.{ℕ, ◌+◌, ◌≤◌, ◌==◌, T, cond, List, [], ◌∷◌, ◌++◌, map, length, Option, Some, None, Box, refl}
 use Rattle.std.specs.Option.{option_map}
 use Rattle.std.specs.Coded.{Coded, code_by, coded×, coded_ℕ, coded_list}
 use Rattle.std.specs.List as lists
 use Rattle.std.specs.FinMap as maps
 use Rattle.std.specs.FinMap.Entries.{is_sorted}
-use Rattle.std.specs.declared.cmp.Ordering.TheVariants.{Less, Greater}
 use Rattle.rz_events.specs.Keys.{key_cmp, coded_key}
 use Rattle.rz_events.specs.declared.keys.Key.{Key}
 use Rattle.rz_index.specs.declared.index.Entry.{Entry}
@@ -28,33 +27,20 @@ pairs_of es = map (λ (e : Entry). (e.key, e)) es
 abbrev pub indexed : List Entry → List ℕ → Indexed
 indexed es free = record { entries = maps.from_sorted (pairs_of es); free = free }
 
+-- the entries below the root of a tree, in their order
+abbrev pub items_of : {A : Type 0} → Option (Box (List Entry) A) → List Entry
+items_of None = []
+items_of (Some node) = node.value
+
 -- the keys rise
 abbrev pub IsSorted : List Entry → Type 0
 IsSorted es = T (is_sorted key_cmp (pairs_of es))
 
--- the keys rise, and both rows have room for all cells
-pub record IsIndex (entries : List Entry) (keys key_room free free_room : ℕ) : Type 0 where
+-- The keys rise, there is a spare node for each free cell, and the row of free cells has room for all cells.
+pub record IsIndex (entries : List Entry) (spare free free_room : ℕ) : Type 0 where
   pub sorted : IsSorted entries
-  pub room : keys + free ≤ key_room
-  pub room_free : keys + free ≤ free_room
-
--- the key stands at place i, and smaller keys before it
-abbrev pub IsHit : List Entry → ℕ → Key → Type 0
-IsHit [] i key = ⊥
-IsHit (e ∷ es) zero key = e.key ≡ key
-IsHit (e ∷ es) (suc i) key = (key_cmp key e.key ≡ Greater) × IsHit es i key
-
--- the key would go at place i: smaller keys stand before it, and a greater one there
-abbrev pub IsGap : List Entry → ℕ → Key → Type 0
-IsGap [] i key = Unit {0}
-IsGap (e ∷ es) zero key = key_cmp key e.key ≡ Less
-IsGap (e ∷ es) (suc i) key = (key_cmp key e.key ≡ Greater) × IsGap es i key
-
--- the keys of a file, or of later ones, begin at place i
-abbrev pub IsFrom : List Entry → ℕ → ℕ → Type 0
-IsFrom [] i fid = Unit {0}
-IsFrom (e ∷ es) zero fid = fid ≤ e.key.fid
-IsFrom (e ∷ es) (suc i) fid = (e.key.fid < fid) × IsFrom es i fid
+  pub room : free ≤ spare
+  pub room_free : length entries + free ≤ free_room
 
 -- the entry of the least block of a file
 abbrev pub first_of_file : maps.FinMap key_cmp Entry → ℕ → Option Entry

@@ -1,15 +1,17 @@
 //! Entries in the order of their keys, and free cells.
 
-ghost use Rattle.std.specs.Prelude.{◌≡◌, ◌+◌, ◌<◌, ◌≤◌, T, Some, length, map, slice_set, IfOk, IfErr, IfSome, OnOk, MatchOption};
+ghost use Rattle.std.specs.Prelude.{◌≡◌, ◌+◌, ◌<◌, ◌≤◌, Some, length, map, IfOk, MatchOption};
 ghost use Rattle.std.specs.List.{Contains, IsDistinct, remove, range_with_len};
 ghost use Rattle.std.specs.Ordering.{eq_by_cmp};
-ghost use Rattle.std.specs.Vec.{vec_len, vec_capacity};
+ghost use Rattle.std.specs.Vec.{vec_len};
 ghost use Rattle.std.specs.VecDeque.{deque_len, deque_capacity};
 ghost use Rattle.std.specs.FinMap as maps;
 ghost use Rattle.rz_events.specs.Keys.{key_cmp};
 ghost use Rattle.rz_events.specs.declared.keys.Key.{Key};
-ghost use Rattle.rz_index.specs.Indexed.{IsSorted, IsHit, IsGap, IsFrom, first_of_file, head_of, erase, taken_out, freed};
+ghost use Rattle.rz_index.specs.Indexed.{first_of_file, head_of, erase, taken_out, freed};
 
+use crate::spare::Spare;
+use crate::tree::Tree;
 use rz_events::Key;
 use rz_versions::Versions;
 use std::alloc::{AllocError, Global};
@@ -28,13 +30,13 @@ pub struct Entry {
 /// The keys that are held, and the free pairs of cells.
 #[derive(Debug, Drop)]
 pub struct Index {
-    entries: Vec<Entry>,
+    entries: Tree,
+    spare: Spare,
     free: VecDeque<u32>,
 }
 
 impl Model for Index {
     ghost use Rattle.std.specs.Prelude.{};
-    ghost use Rattle.std.specs.Vec.{vec_len, vec_capacity};
     ghost use Rattle.std.specs.VecDeque.{deque_len, deque_capacity};
     ghost use Rattle.rz_index.specs.Indexed.{Indexed, indexed_code, indexed, IsIndex};
 
@@ -42,9 +44,9 @@ impl Model for Index {
 
     ghost coded = { indexed_code };
 
-    ghost view = { λ i. indexed i.entries.items i.free.items };
+    ghost view = { λ i. indexed i.entries i.free.items };
 
-    ghost invariant = { λ i. IsIndex i.entries.items (vec_len i.entries) (vec_capacity i.entries) (deque_len i.free) (deque_capacity i.free) };
+    ghost invariant = { λ i. IsIndex i.entries i.spare (deque_len i.free) (deque_capacity i.free) };
 }
 
 impl Index {
@@ -52,18 +54,23 @@ impl Index {
     pub fn with_room(alloc: Global, cells: u32) -> Result<Index, AllocError>
         ensures { IfOk result (λ i. i ≡ record { entries = maps.empty; free = range_with_len 0 cells }) }
     {
-        let entries = Vec::with_capacity(alloc, cells as usize)?;
+        let spare = Spare::with_room(alloc, cells)?;
         let mut free = VecDeque::with_capacity(alloc, cells as usize)?;
         for cell in 0..cells {
             free.push_back(cell)?;
         }
-        Ok(Index { entries, free })
+        Ok(Index {
+            entries: Tree::new(),
+            spare,
+            free,
+        })
     }
 
-    /// An index of these entries, which come in any order, and these free cells. It takes no memory.
-    pub fn of_rows(entries: Vec<Entry>, free: VecDeque<u32>) -> Index
+    /// An index of these entries, which come in any order, and these free cells, in memory that was taken
+    /// before. It takes none.
+    pub fn of_rows(entries: Vec<Entry>, free: VecDeque<u32>, spare: Spare) -> Index
         requires keys { IsDistinct (eq_by_cmp key_cmp) (map (λ (e : Entry). e.key) entries.items) }
-        requires room { vec_len entries + deque_len free ≤ vec_capacity entries }
+        requires room { vec_len entries + deque_len free ≤ spare }
         requires room_free { vec_len entries + deque_len free ≤ deque_capacity free }
 
         // It has these entries, each under its key, and no other.
@@ -73,34 +80,28 @@ impl Index {
         ensures free { result.free ≡ free.items }
     {
         let mut entries = entries;
+        let mut spare = spare;
         entries.sort_unstable_by_key(|entry| entry.key);
-        Index { entries, free }
+        let entries = planted(&entries, &mut spare);
+        Index {
+            entries,
+            spare,
+            free,
+        }
     }
 
     /// The entry of a key.
     pub fn find(&self, key: Key) -> Option<Entry>
         ensures { result ≡ maps.get self.now.entries key }
     {
-        match search(&self.entries, key) {
-            Ok(at) => Some(self.entries[at]),
-            Err(_) => None,
-        }
+        self.entries.find(key).copied()
     }
 
     /// The entry of the least block of a file.
     pub fn first_of(&self, fid: u128) -> Option<Entry>
         ensures { result ≡ first_of_file self.now.entries fid }
     {
-        let at = start_of(&self.entries, fid);
-        if at == self.entries.len() {
-            return None;
-        }
-        let entry = self.entries[at];
-        if entry.key.fid == fid {
-            Some(entry)
-        } else {
-            None
-        }
+        self.entries.first_of(fid).copied()
     }
 
     /// The first of the free cells.
@@ -116,14 +117,14 @@ impl Index {
         ensures entries { self.new.entries ≡ maps.insert self.old.entries entry.key entry }
         ensures free { self.new.free ≡ taken_out self.old entry }
     {
-        match search(&self.entries, entry.key) {
-            Ok(at) => self.entries[at] = entry,
-            Err(at) => {
-                let place = place_of(&self.free, entry.cell);
-                let _cell = self.free.remove(place);
-                // Entries and free cells together are as many as there is room for.
-                let _fits = self.entries.insert(at, entry);
-            }
+        if self.entries.find(entry.key).is_some() {
+            self.entries.set(&entry, None);
+        } else {
+            let place = place_of(&self.free, entry.cell);
+            let _cell = self.free.remove(place);
+            // There is a spare node for each free cell.
+            let node = self.spare.take();
+            self.entries.set(&entry, node);
         }
     }
 
@@ -132,33 +133,28 @@ impl Index {
         ensures entries { self.new.entries ≡ maps.remove self.old.entries key }
         ensures free { self.new.free ≡ freed self.old key }
     {
-        if let Ok(at) = search(&self.entries, key) {
-            let entry = self.entries.remove(at);
+        if let Some(node) = self.entries.remove(key) {
             // Entries and free cells together are as many as there is room for.
-            let _fits = self.free.push_back(entry.cell);
+            let _fits = self.free.push_back(node.entry().cell);
+            self.spare.give(node);
         }
     }
 }
 
-// Where the entry of a key is, or where it would go.
-fn search(entries: &[Entry], key: Key) -> Result<usize, usize>
-    requires { IsSorted entries.now }
-    ensures found { IfOk result (λ i. (i < length entries.now) × IsHit entries.now i key) }
-    ensures absent { IfErr result (λ i. (i ≤ length entries.now) × IsGap entries.now i key) }
+// Entries in a tree, in the order in which they come, on spare nodes.
+fn planted(entries: &[Entry], spare: &mut Spare) -> Tree
+    requires { length entries.now ≤ spare.old }
+    ensures entries { result ≡ entries.now }
+    ensures spare { spare.new + length entries.now ≡ spare.old }
 {
-    entries.binary_search_by_key(&key, |entry| entry.key)
-}
-
-// Where the keys of a file begin, or of a later one.
-fn start_of(entries: &[Entry], fid: u128) -> usize
-    requires { IsSorted entries.now }
-    ensures within { result ≤ length entries.now }
-    ensures from { IsFrom entries.now result fid }
-{
-    match search(entries, Key { fid, block: 0 }) {
-        Ok(at) => at,
-        Err(at) => at,
+    let mut tree = Tree::new();
+    for entry in entries {
+        // There is a spare node for each entry.
+        if let Some(node) = spare.take() {
+            tree = tree.with_last(*entry, node);
+        }
     }
+    tree
 }
 
 // The first place of a cell.

@@ -6,3 +6,4 @@ mod Disks
 mod Seats
 mod Replies
 mod Offices
+mod Metering

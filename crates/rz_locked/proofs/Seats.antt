@@ -1,5 +1,5 @@
 -- A call under the lock of a node: the log before it, its event, and the node after it.
-use Rattle.std.proofs.Common.{◌≡◌, ◌+◌, ◌<◌, ◌^◌, ℕ, IsTrue, IfSome, List, [], ◌∷◌, Option, Some, None, refl, sym, ◌∙◌, subst, inl, inr}
+use Rattle.std.proofs.Common.{◌≡◌, ◌+◌, ◌<◌, ◌^◌, ℕ, IsTrue, IfSome, List, [], ◌∷◌, Option, Some, None, refl, sym, ap, ◌∙◌, subst, inl, inr}
 use Rattle.rz_events.specs.Volume.{Volume}
 use Rattle.rz_events.specs.declared.keys.Actor.{Actor}
 use Rattle.rz_events.specs.declared.nodes.NodeAsk.{NodeAsk}
@@ -27,6 +27,8 @@ use Rattle.rz_locked.specs.Seats.{IsLogged, MayAsk, IsFor, IsAnswerAt, Answered}
 use Rattle.rz_locked.specs.Laws.{IsSeatKept, IsStep, IsAnswerLaw}
 use Rattle.rz_locked.proofs.Logs.{later-trans, later-event, adds-fewer}
 use Rattle.rz_locked.proofs.Events.{event-of, event-none}
+use Rattle.rz_locked.proofs.Lasting.{AreWordsKept}
+use Rattle.rz_locked.proofs.Metering.{noted-own}
 
 pub if-some : {A : Type 0} (P : A → Type 0) (o : Option A) → ((x : A) → o ≡ Some x → P x) → IfSome o P
 if-some P None all = tt
@@ -113,3 +115,15 @@ armed-logged image v h by n x was after step longer imaged state geometry ks new
           (subst (λ (g : List Event). IsImaged v (facts g) n was.state was.geometry (image after.disk)) (sym later.1)
           (longer v h later.0 n was.geometry was.state after.disk imaged)));
     }
+
+-- The word of a node after an event of it.
+
+some-part : {A : Type 0} (P Q : A → Type 0) (o : Option A) → IfSome o (λ x. P x × Q x) → IfSome o P
+some-part P Q None all = tt
+some-part P Q (Some x) all = all.0
+
+pub word-after : AreWordsKept → (by : Actor) (n : ℕ) (ks : List ℕ) (l h new : List Event) (event : Option Event) → l ≡ h → Adds (word_key (Node n) ∷ ks) h event new → IfSome event (λ x. (word_of x ≡ Node n) × (by_of x ≡ by))
+    → of_word (Node n) new ≡ noted event (of_word (Node n) l)
+word-after words by n ks l h new event same adds own =
+    ap (of_word (Node n)) adds.last ∙ noted-own n event adds.before (some-part (λ x. word_of x ≡ Node n) (λ x. by_of x ≡ by) event own)
+    ∙ ap (noted event) (words (Node n) adds.before h (adds.stays (word_key (Node n)) (inl refl)) ∙ ap (of_word (Node n)) (sym same))

@@ -2,3 +2,4 @@ pub mod Adding
 pub mod Seats
 pub mod Offices
 pub mod Laws
+pub mod Counts

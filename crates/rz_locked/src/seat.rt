@@ -1,5 +1,5 @@
 //! A node under its lock.
-ghost use Rattle.std.specs.Prelude.{◌≡◌, ◌+◌, ◌<◌, ◌^◌, [], IsTrue, Some};
+ghost use Rattle.std.specs.Prelude.{◌≡◌, ◌+◌, ◌<◌, ◌≤◌, ◌^◌, [], IsTrue, Some, None};
 ghost use Rattle.rz_events.specs.declared.events.Word.TheVariants as w;
 ghost use Rattle.rz_events.specs.declared.events.Event.TheVariants as e;
 ghost use Rattle.rz_disk.specs.Images.{Only};
@@ -15,13 +15,15 @@ ghost use Rattle.rz_chronicle.specs.Keys.{count_at, word_key, IsLater};
 ghost use Rattle.rz_chronicle.specs.Kinds.{IsFit, is_honest, volume_in};
 ghost use Rattle.rz_chronicle.specs.Holds.{Commits, Stays};
 ghost use Rattle.rz_chronicle.specs.Deals.{new_post};
+ghost use Rattle.rz_locked.specs.Counts.{AreCountedSince};
 ghost use Rattle.rz_locked.specs.Seats.{MayAsk, IsFor, Answered, IsRead};
 
 use crate::adding::add;
+use crate::counting::{Counting, left_with};
 use crate::serving::serve;
 use crate::waiting::{stalled, unanswered};
 use rz_calls::node_event;
-use rz_chronicle::{Book, Naming, Pass, Post};
+use rz_chronicle::{Book, Pass, Post};
 use rz_disk::Disk;
 use rz_events::{Actor, Event, NodeAnswer, NodeAsk};
 use rz_node::Node;
@@ -31,21 +33,26 @@ use std::sync::Wait;
 
 /// A node under its lock, with the tally of its word.
 #[derive(Drop)]
-pub struct Seat<D: Disk, J: Naming> {
+pub struct Seat<D: Disk, J: Counting> {
     alloc: Global,
     sid: u16,
     node: Node<D>,
     /// How the next crash of the disk picks.
     pick: u64,
+    /// The passes that the node's events leave its fuse, where it is armed.
+    left: Option<u64>,
     post: Post<J>,
 }
 
-impl<D: Disk, J: Naming> Model for Seat<D, J> {
+impl<D: Disk, J: Counting> Model for Seat<D, J> {
     ghost use Rattle.std.specs.Prelude.{◌≡◌, IsTrue};
     ghost use Rattle.rz_events.specs.declared.events.Word.TheVariants as w;
+    ghost use Rattle.rz_core.specs.History.{of_word};
     ghost use Rattle.rz_core.specs.NodeRows.{IsNodeOf};
+    ghost use Rattle.rz_play.specs.Faults.{fuse_of};
     ghost use Rattle.rz_chronicle.specs.Kinds.{is_honest, volume_in};
     ghost use Rattle.rz_image_laws.specs.Images.{geometry_in};
+    ghost use Rattle.rz_locked.specs.Counts.{GoesWith};
     ghost use Rattle.rz_locked.specs.Seats.{SeatView, IsLogged};
 
     ghost Value = { SeatView };
@@ -54,12 +61,15 @@ impl<D: Disk, J: Naming> Model for Seat<D, J> {
 
     ghost invariant = { λ s. (s.post.word ≡ w.Node s.sid) × IsNodeOf (volume_in J.kind) s.sid
         × (s.node.geometry ≡ geometry_in (volume_in J.kind) s.sid)
-        × (IsTrue (is_honest J.kind) → IsTrue D.tells × IsLogged D.image (volume_in J.kind) s.post.log s.sid s.node) };
+        × (IsTrue (is_honest J.kind) → IsTrue D.tells × IsLogged D.image (volume_in J.kind) s.post.log s.sid s.node)
+        × IsTrue D.has_fuse
+        × (s.left ≡ fuse_of (of_word (w.Node s.sid) s.post.log))
+        × GoesWith D.meter (J.first s.sid) (of_word (w.Node s.sid) s.post.log) s.node };
 }
 
-impl<D: Disk, J: Naming> Seat<D, J> {
-    /// The seat of a node on a disk that was formatted, whose word has no event yet. Over an honest book
-    /// the disk tells what it holds.
+impl<D: Disk, J: Counting> Seat<D, J> {
+    /// The seat of a node on a disk that was formatted and is not armed, whose word has no event yet. Over
+    /// an honest book the disk tells what it holds.
     pub fn new(alloc: Global, sid: u16, node: Node<D>, post: Post<J>) -> Seat<D, J>
         requires post { post ≡ new_post (w.Node sid) }
         requires of_volume { IsNodeOf (volume_in J.kind) sid }
@@ -68,6 +78,9 @@ impl<D: Disk, J: Naming> Seat<D, J> {
         requires stands { IsTrue D.tells → StandsFor node.geometry 0 (D.text node.disk) nothing }
         requires settled { Only (D.text node.disk) (D.image node.disk) }
         requires tells { IsTrue (is_honest J.kind) → IsTrue D.tells }
+        requires fuse { IsTrue D.has_fuse }
+        requires unarmed { (D.meter node.disk).fuse ≡ None }
+        requires count { J.first sid ≤ (D.meter node.disk).own }
         ensures { result ≡ record { node = sid; log = [] } }
     {
         rz_log_laws::beginning();
@@ -77,23 +90,34 @@ impl<D: Disk, J: Naming> Seat<D, J> {
             sid,
             node,
             pick: 0,
+            left: None,
             post,
         }
     }
 
-    /// The disk, and the tally of the node's word. Over an honest book each image of the disk is one that
-    /// the word gives.
+    /// Its node's number.
+    pub fn number(&self) -> u16
+        ensures { result ≡ self.now.node }
+    {
+        self.sid
+    }
+
+    /// The disk, and the tally of the node's word, of which the disk counted the faults. Over an honest book
+    /// each image of the disk is one that the word gives.
     pub fn close(self) -> (D, Post<J>)
         ensures post { result.1 ≡ record { word = w.Node self.node; log = self.log } }
         ensures of_volume { IsNodeOf (volume_in J.kind) self.node }
         ensures images { IsTrue (is_honest J.kind) → AreImages (volume_in J.kind) (facts self.log) (of_word (w.Node self.node) self.log) self.node (geometry_in (volume_in J.kind) self.node) (D.image result.0) }
+        ensures counted { AreCountedSince (J.first self.node) (D.meter result.0).own (of_word (w.Node self.node) self.log) }
     {
         rz_image_laws::logged::<D>();
+        rz_disk_laws::counted();
         let Seat {
             alloc: _,
             sid: _,
             node,
             pick: _,
+            left: _,
             post,
         } = self;
         (node.into_disk(), post)
@@ -138,7 +162,6 @@ impl<D: Disk, J: Naming> Seat<D, J> {
         passes: u64,
         pick: u64,
     )
-        requires fuse { IsTrue D.has_fuse }
         requires actor { pass.old.actor ≡ Actor.Admin }
         ensures seat { self.new.node ≡ self.old.node }
         ensures same { (pass.new.actor ≡ pass.old.actor) × (pass.new.keys ≡ pass.old.keys) }
@@ -162,6 +185,7 @@ impl<D: Disk, J: Naming> Seat<D, J> {
         ensures room { IsTrue result → count_at (word_key (w.Node self.new.node)) self.new.log + 1 < 2 ^ 64 }
     {
         crate::laws::seat_kept::<D>();
+        rz_chronicle::words_kept();
         let _fit = self.post.room();
         book.enter(pass, &mut self.post);
         self.sid == node && self.post.room()
@@ -191,8 +215,17 @@ impl<D: Disk, J: Naming> Seat<D, J> {
         crate::laws::answers();
         rz_image_laws::longer::<D>();
         let by = pass.actor();
-        let answer = serve(self.alloc, self.pick, &mut self.node, ask, bins);
+        rz_chronicle::words_kept();
+        let answer = serve(
+            self.alloc,
+            self.pick,
+            self.left,
+            &mut self.node,
+            ask,
+            bins,
+        );
         let event = node_event(by, self.sid, ask, &answer);
+        self.left = left_with(self.left, &event);
         add(book, pass, &mut self.post, event);
         answer
     }
@@ -210,9 +243,12 @@ impl<D: Disk, J: Naming> Seat<D, J> {
         crate::laws::arming();
         rz_image_laws::fewer::<D>();
         rz_image_laws::longer::<D>();
+        rz_chronicle::words_kept();
+        rz_disk_laws::armed();
         let _by = pass.actor();
         self.node.arm(Some(passes));
         self.pick = pick;
+        self.left = Some(passes);
         let event = Event::Armed {
             node: self.sid,
             k: passes,

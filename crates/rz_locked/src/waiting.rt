@@ -5,7 +5,7 @@ use rz_events::{NodeAnswer, Reply};
 use std::sync::Wait;
 
 /// Gives no answer, ever.
-pub fn stalled<R: Wait>(rt: &R) -> NodeAnswer
+pub(crate) fn stalled<R: Wait>(rt: &R) -> NodeAnswer
     ensures never { ⊥ }
 {
     for _ in rt.forever() {}
@@ -13,7 +13,7 @@ pub fn stalled<R: Wait>(rt: &R) -> NodeAnswer
 }
 
 /// Does not return.
-pub fn unanswered<R: Wait>(rt: &R)
+pub(crate) fn unanswered<R: Wait>(rt: &R)
     ensures never { ⊥ }
 {
     let _answer = stalled(rt);

@@ -3,6 +3,7 @@ pub mod Lists
 pub mod Order
 pub mod Rising
 pub mod Found
+pub mod Looked
 pub mod Written
 pub mod MarkedRows
 pub mod Next

@@ -200,6 +200,11 @@ module _ (rows : List Row) (at : ℕ) (list : ℕ) (key : Key) (rising : IsRisin
           (ap (λ b. b && has_bit r.word (q.block % 64)) (sym (same-own l q)) ∙ ap (λ n. is_row_of l q s && has_bit n (q.block % 64)) (sym same))
           ∙ set-marks (take at rows ++ s ∷ drop (suc at) rows) refl l q
 
+    -- the room stays
+    pub set-room : (new : List Row) → new ≡ take at rows ++ s ∷ drop (suc at) rows → (l : ℕ) (q : Key) → has_room new l q ≡ has_room rows l q
+    set-room new into l q =
+        ap (list_any (is_row_of l q)) into ∙ any-replaced (is_row_of l q) (take at rows) s r (drop (suc at) rows) (same-own l q) ∙ sym (ap (list_any (is_row_of l q)) is)
+
     pub set-rising : (new : List Row) → new ≡ take at rows ++ s ∷ drop (suc at) rows → s.word < 2 ^ 64 → IsRising 0 top new
     set-rising new into fits =
         let small : IsSmall r = middle 0 top (take at rows) r (drop (suc at) rows) parts in

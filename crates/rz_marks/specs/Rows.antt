@@ -1,5 +1,6 @@
 -- Rows in their order, and what one row says of a block.
-use Rattle.std.specs.Prelude.{ℕ, suc, ◌≡◌, ◌+◌, ◌*◌, ◌/◌, ◌%◌, ◌^◌, ◌<◌, ◌≤◌, ◌&&◌, Bool, false, cond, nat_lt, List, [], ◌∷◌, ◌++◌, take, drop}
+use Rattle.std.specs.Prelude.{ℕ, suc, ◌≡◌, ◌+◌, ◌*◌, ◌/◌, ◌%◌, ◌^◌, ◌<◌, ◌≤◌, ◌==◌, ◌&&◌, Bool, false, cond, nat_lt, List, Option, [], ◌∷◌, ◌++◌, take, drop}
+use Rattle.std.specs.List.{find}
 use Rattle.std.specs.Ordering.{is_le}
 use Rattle.rz_events.specs.Keys.{key_cmp}
 use Rattle.rz_events.specs.declared.keys.Key.{Key}
@@ -42,6 +43,10 @@ pub record IsSmall (row : Row) : Type 0 where
 abbrev pub IsRising : ℕ → ℕ → List Row → Type 0
 IsRising low high [] = low ≤ high
 IsRising low high (row ∷ rows) = IsSmall row × (low ≤ rank row) × IsRising (rank row + 1) high rows
+
+-- the row that stands at a place in the order
+abbrev pub row_at : ℕ → List Row → Option Row
+row_at n = find (λ row. rank row == n)
 
 -- how many rows stand before a place in the order
 abbrev pub rows_before : ℕ → List Row → ℕ

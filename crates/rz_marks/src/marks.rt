@@ -6,7 +6,7 @@ ghost use Rattle.rz_events.specs.Keys.{key_cmp};
 ghost use Rattle.rz_events.specs.declared.keys.Key.{Key};
 ghost use Rattle.rz_export_model.specs.Export.{is_after};
 ghost use Rattle.rz_marks.specs.Marks.{is_marked, has_room, is_same, is_beside};
-ghost use Rattle.rz_marks.specs.Rows.{rank, top, rows_before, is_upto, IsRising, IsGap, IsThere};
+ghost use Rattle.rz_marks.specs.Rows.{rank, top, row_at, rows_before, is_upto, IsRising, IsGap, IsThere};
 
 use crate::row::{Row, place_of};
 use rz_events::Key;
@@ -65,12 +65,14 @@ impl Marks {
         ensures marks { (l : ℕ) (q : Key) → is_marked self.new l q ≡ cond (is_same list key l q) marked (is_marked self.old l q) }
         ensures room { (l : ℕ) (q : Key) → has_room self.new l q ≡ has_room self.old l q }
     {
-        let (at, there) = find(&self.rows, Row::bare(list, key));
-        let Some(row) = there else {
+        let wanted = Row::bare(list, key);
+        let Some(row) = look_up(&self.rows, wanted) else {
             return;
         };
         let after = row.with_mark(place_of(key), marked);
+        // Most marks are as wanted already, so the place is counted only where one is not.
         if after.word != row.word {
+            let at = count_before(&self.rows, wanted);
             self.rows.replace(at, after);
         }
     }
@@ -157,6 +159,21 @@ fn count_before(rows: &Sequence<Row>, row: Row) -> usize
         }
     }
     end
+}
+
+// The row that stands where another one would.
+fn look_up(rows: &Sequence<Row>, row: Row) -> Option<Row>
+    requires { IsRising 0 top rows.now }
+    ensures { result ≡ row_at (rank row) rows.now }
+{
+    let mut rest = rows;
+    while let Some(Fork { left, item, right }) = rest.fork() {
+        if item.is_same(row) {
+            return Some(*item);
+        }
+        rest = if item.is_before(row) { right } else { left };
+    }
+    None
 }
 
 // The place that a row has or would have, and the row that is there.

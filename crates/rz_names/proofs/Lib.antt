@@ -7,3 +7,4 @@ pub mod Blocks
 pub mod Moves
 pub mod Renames
 pub mod Small
+mod Behind

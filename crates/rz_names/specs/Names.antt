@@ -1,6 +1,7 @@
 -- What a map of names is, and what is found in it.
 use Rattle.std.specs.Prelude.{ℕ, Bool, true, false, not, ◌||◌, List, [], ◌∷◌, take, drop, Option, Some, None, IsTrue, is_some}
 use Rattle.std.specs.List as lists
+use Rattle.std.specs.List.{list_all}
 use Rattle.std.specs.Ordering.{is_lt}
 use Rattle.std.specs.declared.cmp.Ordering.{Ordering}
 use Rattle.std.specs.declared.cmp.Ordering.TheVariants.{Less, Equal, Greater}
@@ -42,6 +43,10 @@ entry_after names path = lists.find (λ e. is_lt (path_cmp path e.0)) (maps.entr
 -- all paths but the root's, with their numbers, in order
 abbrev pub below_root : FinMap path_cmp ℕ → List (Path × ℕ)
 below_root names = drop 1 (maps.entries names)
+
+-- whether a key stands behind all keys of a map
+abbrev pub is_behind : {K X : Type 0} {R : K → K → Ordering} → FinMap R X → K → Bool
+is_behind {R = R} m k = list_all (λ e. is_lt (R e.0 k)) (maps.entries m)
 
 -- whether a path is at most `front`, or begins with it
 abbrev pub is_within : Path → Path → Bool

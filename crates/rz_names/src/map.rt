@@ -6,7 +6,7 @@ ghost use Rattle.std.specs.FinMap as maps;
 ghost use Rattle.rz_export_model.specs.Paths.{above, is_root, begins_with};
 ghost use Rattle.rz_export_model.specs.Tree.{names_under, moved};
 ghost use Rattle.std.specs.List.{slice_get};
-ghost use Rattle.rz_names.specs.Names.{root_alone, next_name, entry_after, below_root};
+ghost use Rattle.rz_names.specs.Names.{root_alone, next_name, entry_after, below_root, is_behind};
 
 use crate::Path;
 use crate::entries::{
@@ -138,6 +138,20 @@ impl NameMap {
             None => Ok(None),
             Some(found) => Ok(Some((found.path().copy(self.alloc)?, found.fid()))),
         }
+    }
+
+    /// Whether a path stands behind all that are there.
+    pub fn is_behind(&self, path: &Path) -> bool
+        ensures { result ≡ is_behind self.now path.now }
+    {
+        let entries = &self.entries;
+        let count = path.names().len();
+        if count == 0 {
+            return false;
+        }
+        let before = place_of(entries, path.names());
+        let all = entries.len();
+        before == all
     }
 
     /// How many paths there are below the root's.

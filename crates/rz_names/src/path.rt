@@ -1,6 +1,7 @@
 //! Paths, and how they are read from their text.
 
 ghost use Rattle.std.specs.Prelude.{◌≡◌, ◌++◌, drop, IfOk, OnOk};
+ghost use Rattle.std.specs.List.{list_all};
 ghost use Rattle.rz_export_model.specs.Paths.{path_of, long_path_of, is_name, is_dots, parts_of, all_names, begins_with};
 ghost use Rattle.rz_names.specs.Reads.{Reads};
 
@@ -80,6 +81,13 @@ impl Path {
         self.names.as_slice()
     }
 
+    /// Whether each name is one that a text can spell.
+    pub fn is_spelled(&self) -> bool
+        ensures { result ≡ list_all is_name self.now }
+    {
+        are_good_names(self.names())
+    }
+
     /// Whether it begins with all names of another.
     pub fn starts_with(&self, front: &Path) -> bool
         ensures { result ≡ begins_with front.now self.now }
@@ -134,6 +142,16 @@ fn names_between(alloc: Global, text: &[u8]) -> Result<Path, PathError>
             .map_err(AllocError::from)?;
     }
     Ok(Path { names })
+}
+
+// Whether all these are names.
+fn are_good_names(names: &[Text]) -> bool
+    ensures { result ≡ list_all is_name names.now }
+{
+    match names {
+        [] => true,
+        [name, rest @ ..] => is_good_name(name.bytes()) && are_good_names(rest),
+    }
 }
 
 // Whether a part between slashes is a name.

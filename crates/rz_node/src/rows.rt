@@ -9,16 +9,17 @@ ghost use Rattle.rz_node.specs.Rows.{IsRows, HasRoom};
 use crate::keeping::version;
 use rz_cells::Cells;
 use rz_disk::Disk;
-use rz_index::{Entry, Index};
+use rz_index::{Entry, Index, Spare};
 use rz_versions::Versions;
 use std::alloc::{AllocError, Global};
 use std::collections::VecDeque;
 
-/// Entries, in any order, and free pairs.
+/// Entries, in any order, and free pairs, with the memory for their index.
 #[derive(Drop)]
 pub(crate) struct Rows {
     entries: Vec<Entry>,
     free: VecDeque<u32>,
+    spare: Spare,
 }
 
 impl Rows {
@@ -27,10 +28,12 @@ impl Rows {
         ensures entries { IfOk result (λ r. r.entries.items ≡ []) }
         ensures free { IfOk result (λ r. r.free.items ≡ []) }
         ensures room { IfOk result (λ r. HasRoom pairs (vec_capacity r.entries) (deque_capacity r.free)) }
+        ensures spare { IfOk result (λ r. r.spare ≡ pairs) }
     {
         Ok(Rows {
             entries: Vec::with_capacity(alloc, pairs as usize)?,
             free: VecDeque::with_capacity(alloc, pairs as usize)?,
+            spare: Spare::with_room(alloc, pairs)?,
         })
     }
 
@@ -39,6 +42,7 @@ impl Rows {
         requires entries { self.entries.items ≡ [] }
         requires free { self.free.items ≡ [] }
         requires room { HasRoom cells.now.geometry.cells (vec_capacity self.entries) (deque_capacity self.free) }
+        requires spare { self.spare ≡ cells.now.geometry.cells }
         requires apart { Apart cells.now.heads.items }
         ensures { IsTied cells.now.geometry.cells cells.now.heads.items result }
     {
@@ -46,7 +50,7 @@ impl Rows {
         for pair in 0..cells.geometry().cells {
             rows.add(cells, pair);
         }
-        Index::of_rows(rows.entries, rows.free)
+        Index::of_rows(rows.entries, rows.free, rows.spare)
     }
 
     /// Adds the next pair: its entry, or that it is free.
@@ -57,6 +61,7 @@ impl Rows {
         requires rows { IsRows cells.now.geometry.cells cells.now.heads.items pair self.old.entries.items self.old.free.items }
         ensures rows { IsRows cells.now.geometry.cells cells.now.heads.items (pair + 1) self.new.entries.items self.new.free.items }
         ensures room { HasRoom cells.now.geometry.cells (vec_capacity self.new.entries) (deque_capacity self.new.free) }
+        ensures spare { self.new.spare ≡ self.old.spare }
     {
         // There is room for all pairs in both rows.
         match entry_of(cells, pair) {

@@ -1,5 +1,5 @@
 -- However a play ended, it has begun.
-use Rattle.std.proofs.Common.{ℕ, ◌≡◌, ◌⊎◌, inl, inr, ◌≤◌, ◌+◌, Bool, IsTrue, List, [], refl, subst, sym, arith}
+use Rattle.std.proofs.Common.{ℕ, ◌≡◌, inl, inr, ◌≤◌, ◌+◌, Bool, IsTrue, List, [], refl, subst, sym, arith}
 use Rattle.rz_events.specs.Volume.{Volume}
 use Rattle.rz_events.specs.declared.events.Event.{Event}
 use Rattle.rz_script.specs.declared.line.Line.{Line}

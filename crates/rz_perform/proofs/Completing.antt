@@ -1,5 +1,5 @@
 -- Where nothing stands in the way of a replay, each answer but the end of the play and want of memory is excluded.
-use Rattle.std.proofs.Common.{ℕ, true, false, ◌≡◌, ◌≤◌, ◌<◌, ◌⊎◌, inl, inr, IfSome, List, [], Option, Some, None, Result, Ok, Err, length, reverse, refl, sym, ◌∙◌, ap, subst, arith}
+use Rattle.std.proofs.Common.{ℕ, true, false, ◌≡◌, ◌≤◌, ◌<◌, ◌⊎◌, inl, inr, IfSome, List, [], Option, Some, None, Result, Ok, Err, length, refl, sym, ◌∙◌, ap, subst, arith}
 use Rattle.rz_ports.specs.Counts.{Rises}
 use Rattle.rz_events.specs.declared.events.Event.{Event}
 use Rattle.rz_generate.specs.Workload.{workload}

@@ -25,7 +25,7 @@ use Rattle.rz_scrubbing.specs.Scrubs.{AreListed, AreTold, AreUnaltered, EachList
 use Rattle.rz_scrubbing.specs.Stores.{HasAsked, IsRead, State}
 use Rattle.rz_perform.specs.Output.{Lacks, Sunk}
 use Rattle.rz_perform.specs.Telling.{Performs, Says}
-use Rattle.rz_perform.specs.Scrubs.{AreFound, Finds, IsFoundIn, IsScrubbable, IsSought, Leaves, MayAsk, anything, seen_in}
+use Rattle.rz_perform.specs.Scrubs.{AreFound, Finds, IsFoundIn, IsScrubbable, IsSought, Leaves, anything, seen_in}
 
 -- What was found with some knowledge of what disks give was found, whatever they give.
 

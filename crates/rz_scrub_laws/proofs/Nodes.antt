@@ -32,13 +32,13 @@ use Rattle.rz_play.specs.World.{World}
 use Rattle.rz_scrubbing.specs.Asks.{AreGiven}
 use Rattle.rz_scrubbing.specs.Scrubs.{EachListed}
 use Rattle.rz_driver.specs.declared.seat.Seat.{Seat}
-use Rattle.rz_driver.specs.declared.station.Station.{Station}
-use Rattle.rz_driver.specs.Fetches.{GivesIn}
-use Rattle.rz_driver.specs.OnlyAsked.{fused_text}
-use Rattle.rz_driver.specs.Pictures.{AreImaged, HasImages, IsPicture, fused_image}
-use Rattle.rz_driver.specs.Stations.{state_in}
-use Rattle.rz_driver.proofs.ReadyLemmas.{all-at}
-use Rattle.rz_driver.proofs.WorldLemmas.{state-at}
+use Rattle.rz_formatting.specs.declared.formatting.Station.{Station}
+use Rattle.rz_stations.specs.Fetches.{GivesIn}
+use Rattle.rz_stations.specs.Asked.{fused_text}
+use Rattle.rz_stations.specs.Images.{AreImaged, HasImages, fused_image}
+use Rattle.rz_driver.specs.Pictures.{IsPicture}
+use Rattle.rz_stations.specs.Stations.{state_in}
+use Rattle.rz_stations.proofs.Rows.{all-at, state-at}
 use Rattle.rz_scrub_laws.specs.Untouched.{text_in}
 use Rattle.rz_scrub_laws.proofs.Blocks.{front, is-block, length-bins, of-record, position-is}
 use Rattle.rz_scrub_laws.proofs.Listed.{listed-file}

@@ -8,11 +8,12 @@ use Rattle.rz_play.specs.World.{World}
 use Rattle.rz_scrubbing.specs.Asks.{AreGiven}
 use Rattle.rz_scrubbing.specs.Scrubs.{EachListed}
 use Rattle.rz_driver.specs.declared.seat.Seat.{Seat}
-use Rattle.rz_driver.specs.declared.station.Station.{Station}
-use Rattle.rz_driver.specs.Fetches.{GivesIn}
-use Rattle.rz_driver.specs.OnlyAsked.{fused_text}
-use Rattle.rz_driver.specs.Pictures.{IsPicture, fused_image}
-use Rattle.rz_driver.specs.Stations.{state_in}
+use Rattle.rz_formatting.specs.declared.formatting.Station.{Station}
+use Rattle.rz_stations.specs.Fetches.{GivesIn}
+use Rattle.rz_stations.specs.Asked.{fused_text}
+use Rattle.rz_stations.specs.Images.{fused_image}
+use Rattle.rz_driver.specs.Pictures.{IsPicture}
+use Rattle.rz_stations.specs.Stations.{state_in}
 
 -- the text of a write, or none
 abbrev pub text_in : Option Begun → List ℕ

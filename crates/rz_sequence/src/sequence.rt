@@ -181,7 +181,7 @@ impl<T: Mark> Sequence<T> {
         if self.len() == usize::MAX {
             return Err(AllocError);
         }
-        let middle = Box::new(alloc, Node::of_one(item))?;
+        let middle = Box::new(alloc, Node::leaf(item))?;
         let (before, behind) = mem::replace(self, Sequence::new()).split(at);
         *self = joined(before, middle, behind);
         Ok(())
@@ -229,12 +229,12 @@ impl<T: Mark> Sequence<T> {
     }
 
     // Takes the topmost node off.
-    fn apart(self) -> Option<Parts<T>>
+    fn expose(self) -> Option<Parts<T>>
         ensures { MatchOption result (self ≡ [])
             (λ p. (self ≡ p.left ++ p.middle.value ++ p.right) × (length p.middle.value ≡ 1) × (length self < 2 ^ 64)) }
     {
         let mut middle = self.root?;
-        let (left, right) = middle.bare();
+        let (left, right) = middle.unlink();
         Some(Parts {
             left,
             middle,
@@ -249,7 +249,7 @@ impl<T: Mark> Sequence<T> {
         ensures back { result.1 ≡ drop at self }
         ensures fits { length self < 2 ^ 64 }
     {
-        let Some(parts) = self.apart() else {
+        let Some(parts) = self.expose() else {
             return (Sequence::new(), Sequence::new());
         };
         let before = parts.left.len();
@@ -276,7 +276,7 @@ impl<T: Mark> Sequence<T> {
     fn split_first(self) -> Option<(Box<Node<T>>, Sequence<T>)>
         ensures { MatchOption result (self ≡ []) (λ p. (self ≡ p.0.value ++ p.1) × (length p.0.value ≡ 1)) }
     {
-        let parts = self.apart()?;
+        let parts = self.expose()?;
         match parts.left.split_first() {
             None => Some((parts.middle, parts.right)),
             Some((first, rest)) => Some((first, balanced(rest, parts.middle, parts.right))),
@@ -293,8 +293,8 @@ struct Parts<T: Mark> {
 }
 
 impl<T: Mark> Node<T> {
-    // One item.
-    fn of_one(item: T) -> Node<T>
+    // A node with nothing below it.
+    fn leaf(item: T) -> Node<T>
         ensures { result ≡ item ∷ [] }
     {
         let marked = item.is_marked();
@@ -309,7 +309,7 @@ impl<T: Mark> Node<T> {
     }
 
     // Takes off what stands below.
-    fn bare(&mut self) -> (Sequence<T>, Sequence<T>)
+    fn unlink(&mut self) -> (Sequence<T>, Sequence<T>)
         ensures all { self.old ≡ result.0 ++ self.new ++ result.1 }
         ensures one { length self.new ≡ 1 }
         ensures fits { length self.old < 2 ^ 64 }
@@ -323,7 +323,7 @@ impl<T: Mark> Node<T> {
     }
 
     // Puts two sides below a node of one item.
-    fn hang(&mut self, left: Sequence<T>, right: Sequence<T>)
+    fn link(&mut self, left: Sequence<T>, right: Sequence<T>)
         requires one { length self.old ≡ 1 }
         requires fits { length left + 1 + length right < 2 ^ 64 }
         ensures { self.new ≡ left ++ self.old ++ right }
@@ -354,12 +354,12 @@ impl<T: Mark> Node<T> {
 }
 
 // The sequence with these sides.
-fn hung<T: Mark>(left: Sequence<T>, mut middle: Box<Node<T>>, right: Sequence<T>) -> Sequence<T>
+fn linked<T: Mark>(left: Sequence<T>, mut middle: Box<Node<T>>, right: Sequence<T>) -> Sequence<T>
     requires one { length middle.value ≡ 1 }
     requires fits { length left + 1 + length right < 2 ^ 64 }
     ensures { result ≡ left ++ middle.value ++ right }
 {
-    middle.hang(left, right);
+    middle.link(left, right);
     Sequence { root: Some(middle) }
 }
 
@@ -370,11 +370,11 @@ fn balanced<T: Mark>(left: Sequence<T>, middle: Box<Node<T>>, right: Sequence<T>
     ensures { result ≡ left ++ middle.value ++ right }
 {
     if is_higher(&left, &right) {
-        turned_right(left, middle, right)
+        rotated_right(left, middle, right)
     } else if is_higher(&right, &left) {
-        turned_left(left, middle, right)
+        rotated_left(left, middle, right)
     } else {
-        hung(left, middle, right)
+        linked(left, middle, right)
     }
 }
 
@@ -384,53 +384,57 @@ fn is_higher<T: Mark>(side: &Sequence<T>, other: &Sequence<T>) -> bool {
 }
 
 // The same where the left side is two levels higher.
-fn turned_right<T: Mark>(left: Sequence<T>, middle: Box<Node<T>>, right: Sequence<T>) -> Sequence<T>
+fn rotated_right<T: Mark>(
+    left: Sequence<T>,
+    middle: Box<Node<T>>,
+    right: Sequence<T>,
+) -> Sequence<T>
     requires one { length middle.value ≡ 1 }
     requires fits { length left + 1 + length right < 2 ^ 64 }
     ensures { result ≡ left ++ middle.value ++ right }
 {
-    let Some(outer) = left.apart() else {
-        return hung(Sequence::new(), middle, right);
+    let Some(outer) = left.expose() else {
+        return linked(Sequence::new(), middle, right);
     };
     if outer.left.height() >= outer.right.height() {
-        return hung(outer.left, outer.middle, hung(outer.right, middle, right));
+        return linked(outer.left, outer.middle, linked(outer.right, middle, right));
     }
-    match outer.right.apart() {
-        None => hung(
+    match outer.right.expose() {
+        None => linked(
             outer.left,
             outer.middle,
-            hung(Sequence::new(), middle, right),
+            linked(Sequence::new(), middle, right),
         ),
-        Some(inner) => hung(
-            hung(outer.left, outer.middle, inner.left),
+        Some(inner) => linked(
+            linked(outer.left, outer.middle, inner.left),
             inner.middle,
-            hung(inner.right, middle, right),
+            linked(inner.right, middle, right),
         ),
     }
 }
 
 // The same where the right side is two levels higher.
-fn turned_left<T: Mark>(left: Sequence<T>, middle: Box<Node<T>>, right: Sequence<T>) -> Sequence<T>
+fn rotated_left<T: Mark>(left: Sequence<T>, middle: Box<Node<T>>, right: Sequence<T>) -> Sequence<T>
     requires one { length middle.value ≡ 1 }
     requires fits { length left + 1 + length right < 2 ^ 64 }
     ensures { result ≡ left ++ middle.value ++ right }
 {
-    let Some(outer) = right.apart() else {
-        return hung(left, middle, Sequence::new());
+    let Some(outer) = right.expose() else {
+        return linked(left, middle, Sequence::new());
     };
     if outer.right.height() >= outer.left.height() {
-        return hung(hung(left, middle, outer.left), outer.middle, outer.right);
+        return linked(linked(left, middle, outer.left), outer.middle, outer.right);
     }
-    match outer.left.apart() {
-        None => hung(
-            hung(left, middle, Sequence::new()),
+    match outer.left.expose() {
+        None => linked(
+            linked(left, middle, Sequence::new()),
             outer.middle,
             outer.right,
         ),
-        Some(inner) => hung(
-            hung(left, middle, inner.left),
+        Some(inner) => linked(
+            linked(left, middle, inner.left),
             inner.middle,
-            hung(inner.right, outer.middle, outer.right),
+            linked(inner.right, outer.middle, outer.right),
         ),
     }
 }
@@ -442,17 +446,17 @@ fn joined<T: Mark>(left: Sequence<T>, middle: Box<Node<T>>, right: Sequence<T>) 
     ensures { result ≡ left ++ middle.value ++ right }
 {
     if is_higher(&left, &right) {
-        match left.apart() {
-            None => hung(Sequence::new(), middle, right),
+        match left.expose() {
+            None => linked(Sequence::new(), middle, right),
             Some(top) => balanced(top.left, top.middle, joined(top.right, middle, right)),
         }
     } else if is_higher(&right, &left) {
-        match right.apart() {
-            None => hung(left, middle, Sequence::new()),
+        match right.expose() {
+            None => linked(left, middle, Sequence::new()),
             Some(top) => balanced(joined(left, middle, top.left), top.middle, top.right),
         }
     } else {
-        hung(left, middle, right)
+        linked(left, middle, right)
     }
 }
 

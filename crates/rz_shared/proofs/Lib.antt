@@ -2,3 +2,4 @@ pub mod Pairs
 pub mod Readiness
 pub mod Returning
 pub mod NewSeats
+pub mod Ordered

@@ -2,7 +2,7 @@
 use Rattle.std.proofs.Common.{◌≡◌, ℕ, suc, Bool, List, [], ◌∷◌, length, map, refl, ap, subst, arith}
 use Rattle.std.specs.List.{AllZip}
 use Rattle.mj_angles.specs.declared.layout.Layout.{Layout}
-use Rattle.rz_disk.specs.Meter.{Meter}
+use Rattle.rz_disk.specs.Meter.{Meter, faults}
 use Rattle.rz_disk.specs.UnderFuse.{UnderFuse}
 use Rattle.rz_events.specs.Volume.{Volume, IsVolume, nodes_of}
 use Rattle.rz_events.specs.declared.files.NodeSpec.{NodeSpec}
@@ -23,14 +23,14 @@ module _ {D : Type 0} (tells : Bool) (meter : D → Meter) (image : D → List �
   untouched layout nodes disks count = zip-same (IsBack tells meter image layout) nodes disks count (same-back tells meter image layout)
 
   -- all nodes of the book's volume are ready
-  pub all-ready : (text : D → List ℕ) (v w : Volume) (layout : Layout) (nodes : List NodeSpec) (disks : List D) (stations : List (Station (UnderFuse D))) (posts : List PostView) → v ≡ w → IsVolume v → layout ≡ v.layout
-      → nodes ≡ nodes_of v.clusters → length disks ≡ length (nodes_of v.clusters) → AreFormatted tells meter text image layout nodes disks stations → posts ≡ map (λ k. new_post (Node k)) (sids_of v)
-      → AllZip (IsReady tells text image w) stations posts
-  all-ready text v w layout nodes disks stations posts same rules layout_is nodes_are count made posts_are =
+  pub all-ready : (text : D → List ℕ) (first : ℕ → ℕ) (v w : Volume) (layout : Layout) (nodes : List NodeSpec) (disks : List D) (stations : List (Station (UnderFuse D))) (posts : List PostView) → v ≡ w → IsVolume v → layout ≡ v.layout
+      → nodes ≡ nodes_of v.clusters → length disks ≡ length (nodes_of v.clusters) → map first (sids_of v) ≡ map (λ (d : D). faults (meter d)) disks → AreFormatted tells meter text image layout nodes disks stations → posts ≡ map (λ k. new_post (Node k)) (sids_of v)
+      → AllZip (IsReady tells meter text image w first) stations posts
+  all-ready text first v w layout nodes disks stations posts same rules layout_is nodes_are count had made posts_are =
       let here : AreFormatted tells meter text image v.layout (nodes_of v.clusters) disks stations =
       subst (λ (ns : List NodeSpec). AreFormatted tells meter text image v.layout ns disks stations) nodes_are
       (subst (λ (l : Layout). AreFormatted tells meter text image l nodes disks stations) layout_is made) in
-      subst (λ (u : Volume). AllZip (IsReady tells text image u) stations posts) same (ready-all tells meter text image v rules disks stations posts count here posts_are)
+      subst (λ (u : Volume). AllZip (IsReady tells meter text image u first) stations posts) same (ready-all tells meter text image v first rules disks stations posts count had here posts_are)
 
   -- as many nodes are made as there are
   pub made-length : (text : D → List ℕ) (layout : Layout) (nodes : List NodeSpec) (disks : List D) (stations : List (Station (UnderFuse D))) → length disks ≡ length nodes → AreFormatted tells meter text image layout nodes disks stations → length stations ≡ length nodes

@@ -3,7 +3,7 @@ use Rattle.std.proofs.Common.{◌≡◌, inl, inr, ℕ, Bool, false, cond, List,
 use Rattle.std.specs.Prelude.{nat_eq}
 use Rattle.std.specs.List.{AllByRecursion, AllZip, zip, IsDistinct}
 use Rattle.mj_angles.specs.Layout.{bsize_of}
-use Rattle.rz_disk.specs.Meter.{Meter}
+use Rattle.rz_disk.specs.Meter.{Meter, faults}
 use Rattle.rz_disk.specs.UnderFuse.{UnderFuse}
 use Rattle.rz_events.specs.Volume.{Volume, IsVolume, nodes_of}
 use Rattle.rz_events.specs.declared.files.NodeSpec.{NodeSpec}
@@ -18,6 +18,7 @@ use Rattle.rz_chronicle.specs.Deals.{new_post}
 use Rattle.rz_chronicle.specs.Keys.{sids_of}
 use Rattle.rz_formatting.specs.declared.formatting.Station.{Station}
 use Rattle.rz_formatting.specs.Formatted.{geometry_of, IsFormatted, AreFormatted}
+use Rattle.rz_shared.specs.Arranged.{sids}
 use Rattle.rz_shared.specs.Seating.{IsReady}
 
 -- A node is one of the volume's, with the cells of its number.
@@ -69,12 +70,12 @@ pub posts-are : (specs : List NodeSpec) → map (λ k. new_post (Node k)) (map (
 posts-are [] = refl
 posts-are (n ∷ specs) = ap (λ (ps : List PostView). post_of n ∷ ps) (posts-are specs)
 
-module _ {D : Type 0} (tells : Bool) (meter : D → Meter) (text : D → List ℕ) (image : D → List ℕ → Type 0) (v : Volume) where
+module _ {D : Type 0} (tells : Bool) (meter : D → Meter) (text : D → List ℕ) (image : D → List ℕ → Type 0) (v : Volume) (first : ℕ → ℕ) where
   abbrev pub Made : NodeSpec × D → Station (UnderFuse D) → Type 0
   Made = IsFormatted tells meter text image v.layout
 
-  ready-one : (n : NodeSpec) (d : D) (s : Station (UnderFuse D)) → IsDescribed v n → Made (n, d) s → IsReady tells text image v s (post_of n)
-  ready-one n d s it made =
+  ready-one : (n : NodeSpec) (d : D) (s : Station (UnderFuse D)) → IsDescribed v n → first n.sid ≡ faults (meter d) → Made (n, d) s → IsReady tells meter text image v first s (post_of n)
+  ready-one n d s it had made =
       let same : geometry_of v.layout n ≡ geometry_in v s.sid = ap (λ (c : ℕ). record { layout = v.layout; bsize = bsize_of v.layout; node = n.sid; cells = c }) (sym it.cells) ∙ ap (geometry_in v) (sym made.number) in
       record {
         post_is = ap (λ (k : ℕ). new_post (Node k)) (sym made.number);
@@ -83,19 +84,29 @@ module _ {D : Type 0} (tells : Bool) (meter : D → Meter) (text : D → List �
         state = made.state;
         stands = λ told. subst (λ (g : Geometry). StandsFor g 0 (text s.node.disk.disk) nothing) (sym made.geometry) (made.stands told);
         settled = made.settled;
+        unarmed = made.unarmed;
+        count = (let same = ap first made.number in let rose = made.count in omega (arith, same, had, rose));
       }
 
-  ready-each : (specs : List NodeSpec) (disks : List D) (stations : List (Station (UnderFuse D))) → length disks ≡ length specs → AllByRecursion (IsDescribed v) specs → AllZip Made (zip specs disks) stations
-      → AllZip (IsReady tells text image v) stations (map post_of specs)
-  ready-each [] [] [] count each all = tt
-  ready-each [] [] (s ∷ stations) count each all = absurd all
-  ready-each [] (d ∷ disks) stations count each all = absurd (omega (arith, count))
-  ready-each (n ∷ specs) [] stations count each all = absurd (omega (arith, count))
-  ready-each (n ∷ specs) (d ∷ disks) [] count each all = absurd all
-  ready-each (n ∷ specs) (d ∷ disks) (s ∷ stations) count each all = (ready-one n d s each.0 all.0, ready-each specs disks stations (omega (arith, count)) each.1 all.1)
+  ready-each : (specs : List NodeSpec) (disks : List D) (stations : List (Station (UnderFuse D))) → length disks ≡ length specs → map first (sids specs) ≡ map (λ (d : D). faults (meter d)) disks → AllByRecursion (IsDescribed v) specs → AllZip Made (zip specs disks) stations
+      → AllZip (IsReady tells meter text image v first) stations (map post_of specs)
+  ready-each [] [] [] count had each all = tt
+  ready-each [] [] (s ∷ stations) count had each all = absurd all
+  ready-each [] (d ∷ disks) stations count had each all = absurd (omega (arith, count))
+  ready-each (n ∷ specs) [] stations count had each all = absurd (omega (arith, count))
+  ready-each (n ∷ specs) (d ∷ disks) [] count had each all = absurd all
+  ready-each (n ∷ specs) (d ∷ disks) (s ∷ stations) count had each all = (ready-one n d s each.0 (ap (head-or 0) had) all.0, ready-each specs disks stations (omega (arith, count)) (ap rest had) each.1 all.1)
+    where
+      head-or : ℕ → List ℕ → ℕ
+      head-or d [] = d
+      head-or d (x ∷ xs) = x
+
+      rest : List ℕ → List ℕ
+      rest [] = []
+      rest (x ∷ xs) = xs
 
   -- all of them
-  pub ready-all : (rules : IsVolume v) (disks : List D) (stations : List (Station (UnderFuse D))) (posts : List PostView) → length disks ≡ length (nodes_of v.clusters)
-      → AreFormatted tells meter text image v.layout (nodes_of v.clusters) disks stations → posts ≡ map (λ k. new_post (Node k)) (sids_of v) → AllZip (IsReady tells text image v) stations posts
-  ready-all rules disks stations posts count all is =
-      subst (AllZip (IsReady tells text image v) stations) (sym (is ∙ posts-are (nodes_of v.clusters))) (ready-each (nodes_of v.clusters) disks stations count (described v rules) all)
+  pub ready-all : (rules : IsVolume v) (disks : List D) (stations : List (Station (UnderFuse D))) (posts : List PostView) → length disks ≡ length (nodes_of v.clusters) → map first (sids_of v) ≡ map (λ (d : D). faults (meter d)) disks
+      → AreFormatted tells meter text image v.layout (nodes_of v.clusters) disks stations → posts ≡ map (λ k. new_post (Node k)) (sids_of v) → AllZip (IsReady tells meter text image v first) stations posts
+  ready-all rules disks stations posts count had all is =
+      subst (AllZip (IsReady tells meter text image v first) stations) (sym (is ∙ posts-are (nodes_of v.clusters))) (ready-each (nodes_of v.clusters) disks stations count had (described v rules) all)

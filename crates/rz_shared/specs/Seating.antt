@@ -1,6 +1,7 @@
 -- Nodes that take their seats behind locks.
-use Rattle.std.specs.Prelude.{ℕ, ◌≡◌, Bool, IsTrue, List}
+use Rattle.std.specs.Prelude.{ℕ, ◌≡◌, ◌≤◌, Bool, IsTrue, List, None}
 use Rattle.rz_disk.specs.Images.{Only}
+use Rattle.rz_disk.specs.Meter.{Meter, faults}
 use Rattle.rz_disk.specs.UnderFuse.{UnderFuse}
 use Rattle.rz_cells.specs.Held.{nothing}
 use Rattle.rz_cells.specs.Stands.{StandsFor}
@@ -13,12 +14,14 @@ use Rattle.rz_chronicle.specs.Deals.{new_post}
 use Rattle.rz_formatting.specs.declared.formatting.Station.{Station}
 use Rattle.rz_image_laws.specs.Images.{geometry_in}
 
--- A node of the volume on a disk that was formatted for it, whose one image is its text; and the post of its word, which has no
--- event.
-pub record IsReady {D : Type 0} (tells : Bool) (text : D → List ℕ) (image : D → List ℕ → Type 0) (v : Volume) (s : Station (UnderFuse D)) (post : PostView) : Type 0 where
+-- A node of the volume on a disk that was formatted for it and is not armed, whose one image is its text, and whose count of faults
+-- did not fall since it was `first` of that node; and the post of its word, which has no event.
+pub record IsReady {D : Type 0} (tells : Bool) (meter : D → Meter) (text : D → List ℕ) (image : D → List ℕ → Type 0) (v : Volume) (first : ℕ → ℕ) (s : Station (UnderFuse D)) (post : PostView) : Type 0 where
   pub post_is : post ≡ new_post (Node s.sid)
   pub of_volume : IsNodeOf v s.sid
   pub geometry : s.node.geometry ≡ geometry_in v s.sid
   pub state : s.node.state ≡ fresh
   pub stands : IsTrue tells → StandsFor s.node.geometry 0 (text s.node.disk.disk) nothing
   pub settled : Only (text s.node.disk.disk) (image s.node.disk.disk)
+  pub unarmed : s.node.disk.fuse ≡ None
+  pub count : first s.sid ≤ faults (meter s.node.disk.disk)

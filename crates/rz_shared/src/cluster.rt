@@ -1,12 +1,15 @@
 //! The cluster and its calls.
-ghost use Rattle.std.specs.Prelude.{◌≡◌, ◌+◌, ◌<◌, ◌^◌, IfSome, IsTrue, length};
+ghost use Rattle.std.specs.Prelude.{◌≡◌, ◌+◌, ◌<◌, ◌^◌, IsTrue, length, map};
+ghost use Rattle.rz_events.specs.declared.files.NodeSpec.{NodeSpec as ANodeSpec};
 ghost use Rattle.rz_events.specs.declared.events.Word.TheVariants as w;
 ghost use Rattle.rz_events.specs.declared.events.Event.TheVariants as e;
 ghost use Rattle.rz_events.specs.Events.{word_of, by_of};
 ghost use Rattle.rz_export_model.specs.ExportEvents.{export_event};
 ghost use Rattle.rz_node_model.specs.NodeEvents.{node_event};
+ghost use Rattle.rz_node_model.specs.Versions.{Stands};
 ghost use Rattle.rz_calls.specs.Calls.{Takes};
 ghost use Rattle.rz_core.specs.History.{facts, of_actor};
+ghost use Rattle.rz_core.specs.NodeRows.{IsNodeOf};
 ghost use Rattle.rz_core.specs.Tied.{IsProperCall};
 ghost use Rattle.rz_chronicle.specs.Keys.{count_at, word_key};
 ghost use Rattle.rz_chronicle.specs.Kinds.{IsFit, MayCome, is_honest, volume_in};
@@ -14,30 +17,31 @@ ghost use Rattle.rz_chronicle.specs.Holds.{Commits};
 ghost use Rattle.rz_locked.specs.Seats.{MayAsk, IsFor, Answered, IsRead};
 ghost use Rattle.rz_locked.specs.Offices.{Replied};
 
-use rz_chronicle::{Book, Naming, Pass, Post};
+use crate::room::Room;
+use rz_chronicle::{Book, Pass};
 use rz_disk::{Disk, Fused};
 use rz_events::{Actor, Call, Event, NodeAnswer, NodeAsk, NodeSpec, Reply};
-use rz_locked::{Office, Seat, stalled, unanswered};
+use rz_locked::{Counting, Office, Seat};
 use std::marker::Model;
 use std::sync::{Mutex, Wait};
 
 /// The nodes of a volume in the order of the description, each behind its lock, and the export behind its
 /// own. Each disk is in a fuse.
 #[derive(Drop)]
-pub struct Cluster<D: Disk, J: Naming> {
+pub struct Cluster<D: Disk, J: Counting> {
     pub(crate) nodes: Vec<NodeSpec>,
     pub(crate) seats: Vec<Mutex<Seat<Fused<D>, J>>>,
     pub(crate) office: Mutex<Office<J>>,
-    /// Room for the disks, for when they are handed back.
-    pub(crate) disks: Vec<D>,
-    /// And for the posts of the nodes' words.
-    pub(crate) posts: Vec<Post<J>>,
+    /// Room for the disks and the tallies, for when they are handed back.
+    pub(crate) room: Mutex<Room<D, J>>,
 }
 
-impl<D: Disk, J: Naming> Model for Cluster<D, J> {
-    ghost use Rattle.std.specs.Prelude.{◌≡◌, ◌≤◌};
-    ghost use Rattle.std.specs.Vec.{vec_len, vec_capacity};
+impl<D: Disk, J: Counting> Model for Cluster<D, J> {
+    ghost use Rattle.std.specs.Prelude.{◌≡◌, length, nat_eq};
+    ghost use Rattle.std.specs.List.{IsDistinct};
+    ghost use Rattle.std.specs.Vec.{vec_len};
     ghost use Rattle.rz_events.specs.Volume.{Volume, nodes_of};
+    ghost use Rattle.rz_chronicle.specs.Keys.{sids_of};
     ghost use Rattle.rz_chronicle.specs.Kinds.{volume_in};
 
     ghost Value = { Volume };
@@ -45,31 +49,32 @@ impl<D: Disk, J: Naming> Model for Cluster<D, J> {
     ghost view = { λ c. volume_in J.kind };
 
     ghost invariant = { λ c. (c.nodes.items ≡ nodes_of (volume_in J.kind).clusters) × (vec_len c.seats ≡ vec_len c.nodes)
-        × (vec_len c.disks ≡ 0) × (vec_len c.seats ≤ vec_capacity c.disks)
-        × (vec_len c.posts ≡ 0) × (vec_len c.seats ≤ vec_capacity c.posts) };
+        × (vec_len c.seats ≡ length (nodes_of (volume_in J.kind).clusters))
+        × IsDistinct nat_eq (sids_of (volume_in J.kind)) };
 }
 
 /// Where the node of a number stands.
-fn find(nodes: &[NodeSpec], number: u16) -> Option<usize>
-    ensures { IfSome result (λ i. i < length nodes.now) }
+fn place_of(nodes: &[NodeSpec], number: u16) -> usize
+    requires { Stands number (map (λ (n : ANodeSpec). n.sid) nodes.now) }
+    ensures { result < length nodes.now }
 {
-    for (i, node) in nodes.iter().enumerate() {
-        if node.sid == number {
-            return Some(i);
-        }
+    let mut place = 0;
+    while nodes[place].sid != number {
+        place += 1;
     }
-    None
+    place
 }
 
-impl<D: Disk, J: Naming> Cluster<D, J> {
-    // The lock of a node, if the volume has one of this number.
-    fn seat(&self, node: u16) -> Option<&Mutex<Seat<Fused<D>, J>>> {
-        let place = find(self.nodes.as_slice(), node)?;
-        Some(&self.seats[place])
+impl<D: Disk, J: Counting> Cluster<D, J> {
+    // The lock at the place of a node.
+    fn seat(&self, node: u16) -> &Mutex<Seat<Fused<D>, J>>
+        requires { IsNodeOf (volume_in J.kind) node }
+    {
+        &self.seats[place_of(self.nodes.as_slice(), node)]
     }
 
     /// Takes the lock of a node, calls it, and adds the event of its answer to the log. It does not return
-    /// where the volume has no node of this number, or where the node's word cannot move.
+    /// where the node's word cannot move.
     pub fn node_call<R: Wait>(
         &self,
         rt: &R,
@@ -79,6 +84,7 @@ impl<D: Disk, J: Naming> Cluster<D, J> {
         ask: &NodeAsk,
         bins: &mut [u64],
     ) -> NodeAnswer
+        requires node { IsNodeOf (volume_in J.kind) node }
         requires takes { Takes (volume_in J.kind).layout ask.now bins.old }
         requires actor { IsFor pass.old.actor ask.now }
         requires may { IsTrue (is_honest J.kind) → MayAsk (volume_in J.kind) pass.old.log pass.old.actor node ask.now bins.old }
@@ -87,10 +93,7 @@ impl<D: Disk, J: Naming> Cluster<D, J> {
         ensures read { IsTrue (is_honest J.kind) → IsRead (volume_in J.kind) (facts pass.new.log) node ask.now result bins.old bins.new }
         ensures fit { IsFit J.kind pass.new.log }
     {
-        match self.seat(node) {
-            Some(seat) => seat.lock(rt).call(rt, book, pass, node, ask, bins),
-            None => stalled(rt),
-        }
+        self.seat(node).lock(rt).call(rt, book, pass, node, ask, bins)
     }
 
     /// Takes the export's lock, calls it, and adds the event of its reply to the log. It does not return
@@ -127,8 +130,7 @@ impl<D: Disk, J: Naming> Cluster<D, J> {
     }
 
     /// Takes the lock of a node, arms the fuse of its disk with `passes`, keeps how its next crash picks,
-    /// and adds that to the log. It does not return where the volume has no node of this number, or where
-    /// the node's word cannot move.
+    /// and adds that to the log. It does not return where the node's word cannot move.
     pub fn arm<R: Wait>(
         &self,
         rt: &R,
@@ -138,14 +140,12 @@ impl<D: Disk, J: Naming> Cluster<D, J> {
         passes: u64,
         pick: u64,
     )
+        requires node { IsNodeOf (volume_in J.kind) node }
         requires actor { pass.old.actor ≡ Actor.Admin }
         ensures same { (pass.new.actor ≡ pass.old.actor) × (pass.new.keys ≡ pass.old.keys) }
         ensures commits { Commits pass.old.keys pass.old.log (e.Armed node passes pick) pass.new.log }
         ensures fit { IsFit J.kind pass.new.log }
     {
-        match self.seat(node) {
-            Some(seat) => seat.lock(rt).arm(rt, book, pass, node, passes, pick),
-            None => unanswered(rt),
-        }
+        self.seat(node).lock(rt).arm(rt, book, pass, node, passes, pick);
     }
 }

@@ -7,14 +7,17 @@
 //! event. Which book a cluster belongs to is its type parameter.
 //!
 //! No contract says which node stands behind which lock: a call of a lock that has another node than the
-//! one that was asked waits for ever. At the end each disk comes back beside the tally of its own node.
+//! one that was asked waits for ever. At the end each disk comes back beside the tally of its own node, in
+//! the order of the description.
 //!
-//! In reading order: `seating`, `cluster`, `making`, `closing`.
+//! In reading order: `room`, `seating`, `cluster`, `making`, `arranging`, `closing`.
 #![tactic(auto)]
 
+mod arranging;
 mod closing;
 mod cluster;
 mod making;
+mod room;
 mod seating;
 
 pub use cluster::Cluster;

@@ -1,6 +1,7 @@
 //! A new cluster: each disk is formatted for its node.
 ghost use Rattle.std.specs.Prelude.{◌≡◌, ◌≤◌, IfOk, IfErr, IsTrue, length, map};
 ghost use Rattle.std.specs.Vec.{vec_len, vec_capacity};
+ghost use Rattle.rz_disk.specs.Meter.{faults};
 ghost use Rattle.rz_events.specs.declared.events.Word.TheVariants as w;
 ghost use Rattle.std.specs.List.{AllByRecursion};
 ghost use Rattle.rz_events.specs.Volume.{IsVolume, IsNode, nodes_of};
@@ -11,51 +12,58 @@ ghost use Rattle.rz_chronicle.specs.Kinds.{is_honest, volume_in};
 ghost use Rattle.rz_formatting.specs.Formatted.{AreBack, IsCause};
 
 use crate::cluster::Cluster;
+use crate::room::Room;
 use crate::seating::seat_all;
 use mj_angles::Layout;
-use rz_chronicle::{Book, Desk, Naming};
+use rz_chronicle::{Book, Desk};
 use rz_config::Volume;
 use rz_disk::{Disk, Fused};
 use rz_events::NodeSpec;
 use rz_export::Export;
 use rz_formatting::{DriverFault, all_nodes, format_all};
-use rz_locked::{Office, Seat};
+use rz_locked::{Counting, Office, Seat};
 use std::alloc::{AllocError, Global};
 use std::sync::Mutex;
 
-/// The layout of a volume, its nodes in order, an export of it, and room for the locks.
+/// The layout of a volume, its nodes in order, an export of it, and room for the locks and for what they
+/// hold.
 #[derive(Drop)]
-struct Parts<D: Disk, J: Naming> {
+struct Parts<D: Disk, J: Counting> {
     layout: Layout,
     nodes: Vec<NodeSpec>,
     export: Export,
     seats: Vec<Mutex<Seat<Fused<D>, J>>>,
+    unlocked: Vec<Seat<Fused<D>, J>>,
 }
 
 /// What a new cluster has beside its disks.
-fn new_parts<D: Disk, J: Naming>(alloc: Global, volume: Volume) -> Result<Parts<D, J>, AllocError>
+fn new_parts<D: Disk, J: Counting>(alloc: Global, volume: Volume) -> Result<Parts<D, J>, AllocError>
     ensures layout { IfOk result (λ p. p.layout ≡ volume.layout) }
     ensures nodes { IfOk result (λ p. p.nodes.items ≡ nodes_of volume.clusters) }
     ensures export { IfOk result (λ p. p.export ≡ new_export volume 0) }
     ensures room { IfOk result (λ p. (vec_len p.seats ≡ 0) × (vec_len p.nodes ≤ vec_capacity p.seats)) }
+    ensures unlocked { IfOk result (λ p. (vec_len p.unlocked ≡ 0) × (vec_len p.nodes ≤ vec_capacity p.unlocked)) }
     ensures rules { IsVolume volume }
     ensures proper { AllByRecursion IsNode (nodes_of volume.clusters) }
 {
     let layout = volume.layout;
     let nodes = all_nodes(alloc, &volume)?;
     let seats = Vec::with_capacity(alloc, nodes.len())?;
+    let unlocked = Vec::with_capacity(alloc, nodes.len())?;
     let export = Export::new(alloc, volume, 0)?;
     Ok(Parts {
         layout,
         nodes,
         export,
         seats,
+        unlocked,
     })
 }
 
-impl<D: Disk, J: Naming> Cluster<D, J> {
+impl<D: Disk, J: Counting> Cluster<D, J> {
     /// Formats each disk of the book's volume for its node. Where one fails, or memory is wanting, all of
-    /// them come back in their order. Over an honest book the disks tell what they hold.
+    /// them come back in their order. Over an honest book the disks tell what they hold. The book's name says
+    /// how many faults each disk has counted.
     pub fn new(
         alloc: Global,
         volume: Volume,
@@ -68,6 +76,7 @@ impl<D: Disk, J: Naming> Cluster<D, J> {
         requires export { desk.export ≡ new_post w.Export }
         requires nodes { desk.nodes.items ≡ map (λ n. new_post (w.Node n)) (sids_of volume) }
         requires tells { IsTrue (is_honest J.kind) → IsTrue D.tells }
+        requires counts { map J.first (sids_of volume) ≡ map (λ d. faults (D.meter d)) disks.items }
         ensures back { IfErr result (λ r. AreBack D.tells D.meter D.image volume.layout (nodes_of volume.clusters) disks.items r.0.items) }
         ensures cause { IfErr result (λ r. IsCause D.meter disks.items r.0.items r.1) }
     {
@@ -83,8 +92,7 @@ impl<D: Disk, J: Naming> Cluster<D, J> {
                     nodes: parts.nodes,
                     seats,
                     office: Mutex::new(Office::new(parts.export, export)),
-                    disks: home,
-                    posts,
+                    room: Mutex::new(Room::of(parts.unlocked, home, posts)),
                 })
             }
             Err(back) => Err(back),

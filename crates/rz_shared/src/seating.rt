@@ -5,21 +5,21 @@ ghost use Rattle.std.specs.Vec.{vec_len, vec_capacity};
 ghost use Rattle.rz_chronicle.specs.Kinds.{is_honest, volume_in};
 ghost use Rattle.rz_shared.specs.Seating.{IsReady};
 
-use rz_chronicle::{Naming, Post};
+use rz_chronicle::Post;
 use rz_disk::{Disk, Fused};
 use rz_formatting::Station;
-use rz_locked::Seat;
+use rz_locked::{Counting, Seat};
 use std::alloc::Global;
 use std::sync::Mutex;
 
 /// A lock for each node with the post of its word, in their order, and the emptied vector of the posts.
-pub(crate) fn seat_all<D: Disk, J: Naming>(
+pub(crate) fn seat_all<D: Disk, J: Counting>(
     alloc: Global,
     stations: Vec<Station<Fused<D>>>,
     posts: Vec<Post<J>>,
     room: Vec<Mutex<Seat<Fused<D>, J>>>,
 ) -> (Vec<Mutex<Seat<Fused<D>, J>>>, Vec<Post<J>>)
-    requires ready { AllZip (IsReady D.tells D.text D.image (volume_in J.kind)) stations.items posts.items }
+    requires ready { AllZip (IsReady D.tells D.meter D.text D.image (volume_in J.kind) J.first) stations.items posts.items }
     requires tells { IsTrue (is_honest J.kind) → IsTrue D.tells }
     requires room { (vec_len room ≡ 0) × (vec_len stations ≤ vec_capacity room) }
     ensures count { vec_len result.0 ≡ vec_len stations }
@@ -39,12 +39,12 @@ pub(crate) fn seat_all<D: Disk, J: Naming>(
 }
 
 /// A lock with a node in it and the post of its word.
-fn seated<D: Disk, J: Naming>(
+fn seated<D: Disk, J: Counting>(
     alloc: Global,
     station: Station<Fused<D>>,
     post: Post<J>,
 ) -> Mutex<Seat<Fused<D>, J>>
-    requires ready { IsReady D.tells D.text D.image (volume_in J.kind) station post }
+    requires ready { IsReady D.tells D.meter D.text D.image (volume_in J.kind) J.first station post }
     requires tells { IsTrue (is_honest J.kind) → IsTrue D.tells }
 {
     Mutex::new(Seat::new(alloc, station.sid, station.node, post))

@@ -1,5 +1,5 @@
 -- A tree to which a part is added.
-use Rattle.std.proofs.Common.{◌≡◌, ℕ, zero, suc, ◌+◌, ◌<◌, ◌≤◌, ◌⊎◌, Bool, true, false, cond, List, [], ◌∷◌, ◌++◌, map, Option, Some, None, is_some, sym, ap, ◌∙◌, subst, refl, arith, inl, inr}
+use Rattle.std.proofs.Common.{◌≡◌, ℕ, zero, suc, ◌<◌, ◌≤◌, ◌⊎◌, Bool, true, false, cond, [], Option, Some, None, is_some, sym, ap, ◌∙◌, subst, refl, arith, inl, inr}
 use Rattle.std.specs.Option.{option_map, option_map_or}
 use Rattle.std.specs.Ordering.{nat_cmp, eq_by_cmp}
 use Rattle.std.specs.declared.cmp.Ordering.TheVariants.{Less, Greater}
@@ -8,16 +8,16 @@ use Rattle.std.specs.FinMap as maps
 use Rattle.std.specs.FinMap.{FinMap, nat_cmp-IsAntisymmetric}
 use Rattle.rz_events.specs.declared.files.Kind.{Kind}
 use Rattle.rz_events.specs.declared.files.Kind.TheVariants.{File, Dir, Link}
-use Rattle.rz_export_model.specs.Paths.{Path, path_cmp, paths_total, above}
-use Rattle.rz_export_model.specs.Tree.{Tree, Object, is_at, is_dir, paths_to, new_dir, empty_tree, with_object}
+use Rattle.rz_export_model.specs.Paths.{Path, path_cmp}
+use Rattle.rz_export_model.specs.Tree.{Tree, Object, is_at, is_dir, paths_to, new_dir, with_object}
 use Rattle.rz_tree.specs.declared.inodes.Inode.{Inode}
 use Rattle.rz_tree.specs.Inodes.{Table, object_of, objects_of}
 use Rattle.rz_tree.specs.Trees.{tree_of, IsTree, IsKept}
-use Rattle.rz_tree.specs.Added.{with_given, FitsKind, IsFirstObject, IsNextObject, IsNextName, MayBeNamed, most_names}
+use Rattle.rz_tree.specs.Added.{with_given, FitsKind, IsFirstObject, IsNextObject, IsNextName}
 use Rattle.rz_tree.proofs.Keys.{same_some, not_none, false-true, one-or-two, apart, get-inserted, get-beside}
 use Rattle.rz_tree.proofs.Tables.{get-objects, objects-insert}
 use Rattle.rz_tree.proofs.Counts.{no-path}
-use Rattle.rz_tree.proofs.Rules.{DirAt, dir-found, dir-is, from-map}
+use Rattle.rz_tree.proofs.Rules.{dir-found, dir-is, from-map}
 use Rattle.rz_tree.proofs.Lasts.{behind-less}
 
 -- ---- an object to which no path leads yet

@@ -1,17 +1,14 @@
 -- A tree in which an object is made.
-use Rattle.std.proofs.Common.{◌≡◌, ℕ, suc, ◌+◌, ◌-◌, ◌^◌, ◌<◌, ◌≤◌, Bool, true, false, cond, ◌||◌, List, [], ◌∷◌, ◌++◌, Option, Some, None, is_some, Ordering, sym, ap, ◌∙◌, subst, refl, arith, inl, inr}
-use Rattle.std.specs.Prelude.{nat_lt, nat_le}
-use Rattle.std.proofs.lemmas.Bool.Decides.{nat_tests}
+use Rattle.std.proofs.Common.{◌≡◌, ℕ, ◌+◌, ◌≤◌, Bool, true, false, [], ◌∷◌, ◌++◌, Option, Some, None, is_some, sym, ap, ◌∙◌, subst, refl, arith, inl, inr}
 use Rattle.std.specs.Option.{option_or, option_map, option_and_then}
 use Rattle.std.specs.Ordering.{nat_cmp, eq_by_cmp}
 use Rattle.std.specs.Cmp.{nat_cmp_total}
 use Rattle.std.specs.FinMap as maps
 use Rattle.std.specs.FinMap.{FinMap, same_map, nat_cmp-IsAntisymmetric}
-use Rattle.rz_events.specs.declared.tree.TreeFault.{TreeFault}
 use Rattle.rz_events.specs.declared.tree.TreeFault.TheVariants as fault
 use Rattle.rz_export_model.specs.Firsts.{given_if, first_of}
 use Rattle.rz_export_model.specs.Paths.{Name, Path, path_cmp, paths_total, exact_paths, above, is_root}
-use Rattle.rz_export_model.specs.Tree.{Tree, Object, Found, found_at, is_at, is_dir, paths_to}
+use Rattle.rz_export_model.specs.Tree.{Tree, Found, found_at, is_at, is_dir, paths_to}
 use Rattle.rz_export_model.specs.Refusals.{can_not_make, walk, present, too_many_files}
 use Rattle.rz_export_model.specs.TreeCalls.{with_new}
 use Rattle.rz_tree.specs.declared.inodes.Inode.{Inode}
@@ -19,9 +16,9 @@ use Rattle.rz_tree.specs.Inodes.{Table, object_of, objects_of}
 use Rattle.rz_tree.specs.Trees.{tree_of, IsTree, IsKept}
 use Rattle.rz_tree.proofs.Keys.{same_some, not_none, false-true, held, none-or-some, one-or-two, ties-itself, apart, get-inserted, get-beside, get-removed, get-left}
 use Rattle.rz_tree.proofs.Tables.{get-objects, objects-insert}
-use Rattle.rz_tree.proofs.Counts.{one_if, count-insert, no-path, one_if-same, one_if-other}
-use Rattle.rz_tree.proofs.Fronts.{split-above, above-append, not-root-more, walked-above}
-use Rattle.rz_tree.proofs.Rules.{DirAt, dir-found, dir-is, from-map, map-some}
+use Rattle.rz_tree.proofs.Counts.{count-insert, no-path, one_if-same, one_if-other}
+use Rattle.rz_tree.proofs.Fronts.{split-above, above-append, walked-above}
+use Rattle.rz_tree.proofs.Rules.{dir-found, dir-is}
 
 pub or_none : {A : Type 0} (o p : Option A) → option_or o p ≡ None → (o ≡ None) × (p ≡ None)
 or_none None p h = (refl, h)

@@ -1,26 +1,25 @@
 -- What the conditions of the steps of calls say of kept names and objects.
-use Rattle.std.proofs.Common.{◌≡◌, ℕ, suc, ◌+◌, ◌<◌, ◌≤◌, Bool, true, false, cond, ◌&&◌, ◌||◌, List, [], ◌∷◌, ◌++◌, length, take, drop, Option, Some, None, is_some, sym, ap, ◌∙◌, refl, arith, eq-eqb, inl, inr, length-append}
+use Rattle.std.proofs.Common.{◌≡◌, ℕ, ◌<◌, ◌≤◌, Bool, true, false, cond, ◌&&◌, ◌||◌, [], ◌∷◌, ◌++◌, length, take, drop, Option, Some, None, is_some, sym, ap, ◌∙◌, refl, arith, eq-eqb, inl, inr, length-append}
 use Rattle.std.specs.Prelude.{nat_lt, nat_le, ◌==◌, is_none}
 use Rattle.std.proofs.lemmas.Bool.Decides.{nat_tests}
 use Rattle.std.proofs.lemmas.List.{take_all}
-use Rattle.std.specs.Option.{option_or, option_map, option_map_or, option_and_then}
+use Rattle.std.specs.Option.{option_map, option_map_or, option_and_then}
 use Rattle.std.specs.Ordering.{eq_by_cmp}
 use Rattle.std.specs.FinMap as maps
 use Rattle.std.specs.FinMap.{FinMap}
-use Rattle.rz_events.specs.declared.tree.TreeFault.{TreeFault}
 use Rattle.rz_events.specs.declared.tree.TreeFault.TheVariants as fault
 use Rattle.rz_export_model.specs.Firsts.{first_of, given_if}
 use Rattle.rz_export_model.specs.Paths.{Name, Path, path_cmp, paths_total, exact_paths, above, is_root, begins_with, is_below}
-use Rattle.rz_export_model.specs.Tree.{Tree, Object, Found, found_at, fid_at, is_at, is_dir, names_under, links_of, paths_to, moved}
+use Rattle.rz_export_model.specs.Tree.{Tree, Object, Found, found_at, is_at, is_dir, names_under, links_of, paths_to, moved}
 use Rattle.rz_export_model.specs.Refusals.{walk, absent, present, dir, not_dir, not_empty, too_many_links, into_itself, not_replaceable, is_same_object}
 use Rattle.rz_export_model.specs.TreeCalls.{without_name, renamed}
 use Rattle.rz_tree.specs.declared.inodes.Inode.{Inode}
 use Rattle.rz_tree.specs.Inodes.{Table, object_of, objects_of}
 use Rattle.rz_tree.specs.Trees.{tree_of, IsTree, IsKept}
-use Rattle.rz_tree.proofs.Keys.{not_none, false-true, held, none-or-some, true-or-false, apart}
-use Rattle.rz_tree.proofs.Tables.{get-objects, len-objects}
+use Rattle.rz_tree.proofs.Keys.{not_none, false-true, held, true-or-false, apart}
+use Rattle.rz_tree.proofs.Tables.{get-objects}
 use Rattle.rz_tree.proofs.Fronts.{append-nothing, split-above, walked-front}
-use Rattle.rz_tree.proofs.Moves.{begins-front, begins-append}
+use Rattle.rz_tree.proofs.Moves.{begins-front}
 use Rattle.rz_tree.proofs.Rules.{from-map, map-some}
 use Rattle.rz_tree.proofs.Names.{empty-under, leaf-under, absent-under}
 use Rattle.rz_tree.proofs.Adds.{or_none, given-false, none-from-is, absent-name}

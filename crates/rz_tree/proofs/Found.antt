@@ -1,15 +1,12 @@
 -- What is found in kept names and objects is what the tree has.
-use Rattle.std.proofs.Common.{◌≡◌, ℕ, ◌≤◌, Bool, true, false, cond, List, [], ◌∷◌, Option, Some, None, sym, ap, ◌∙◌, refl, arith}
-use Rattle.std.specs.Option.{option_map, option_and_then, option_map_or}
-use Rattle.std.specs.Ordering.{nat_cmp}
+use Rattle.std.proofs.Common.{◌≡◌, ℕ, ◌≤◌, Bool, true, false, cond, Option, Some, None, sym, ap, ◌∙◌, refl, arith}
+use Rattle.std.specs.Option.{option_map, option_and_then}
 use Rattle.std.specs.FinMap as maps
 use Rattle.std.specs.FinMap.{FinMap}
-use Rattle.rz_events.specs.declared.files.FileInfo.{FileInfo}
-use Rattle.rz_events.specs.declared.files.Kind.{Kind}
 use Rattle.rz_events.specs.declared.files.Kind.TheVariants.{File}
 use Rattle.rz_export_model.specs.Firsts.{given_if}
 use Rattle.rz_export_model.specs.Paths.{Path, path_cmp}
-use Rattle.rz_export_model.specs.Tree.{Tree, Object, Found, found_at, file_of, file_from, with_object, info_of, is_dir, is_file, links_of, paths_to}
+use Rattle.rz_export_model.specs.Tree.{Tree, Object, found_at, file_of, file_from, with_object, info_of, is_dir, is_file, links_of, paths_to}
 use Rattle.rz_tree.specs.declared.inodes.Inode.{Inode}
 use Rattle.rz_tree.specs.Inodes.{Table, object_of, found_of, attr_kept, objects_of, changed_at}
 use Rattle.rz_events.specs.declared.files.Attr.{Attr}

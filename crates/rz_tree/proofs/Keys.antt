@@ -1,8 +1,8 @@
 -- What a map has after an insertion or a removal, by cases.
-use Rattle.std.proofs.Common.{◌≡◌, ℕ, Bool, true, false, cond, Option, Some, None, is_some, Ordering, sym, ap, ◌∙◌, refl, inl, inr, ◌⊎◌}
+use Rattle.std.proofs.Common.{◌≡◌, Bool, true, false, cond, Option, Some, None, is_some, Ordering, ap, ◌∙◌, refl, inl, inr, ◌⊎◌}
 use Rattle.std.specs.declared.cmp.Ordering.TheVariants.{Less, Equal, Greater}
 use Rattle.std.specs.Ordering.{is_eq, eq_by_cmp}
-use Rattle.std.specs.Cmp.{IsTotalOrder, tied_itself, eq_by_cmp_equiv}
+use Rattle.std.specs.Cmp.{IsTotalOrder, tied_itself}
 use Rattle.std.specs.FinMap as maps
 use Rattle.std.specs.FinMap.{FinMap, IsAntisymmetric, get-insert, get-remove}
 

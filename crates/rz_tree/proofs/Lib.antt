@@ -20,3 +20,5 @@ mod PartPlaces
 pub mod Lasts
 pub mod PartLaws
 mod Adding
+pub mod Allowed
+mod Named

@@ -1,5 +1,5 @@
 -- A tree in which an object gets one more path.
-use Rattle.std.proofs.Common.{◌≡◌, ℕ, ◌+◌, ◌≤◌, Bool, true, false, cond, [], ◌∷◌, ◌++◌, Option, Some, None, is_some, sym, ap, ◌∙◌, subst, refl, arith, inl, inr}
+use Rattle.std.proofs.Common.{◌≡◌, ℕ, ◌+◌, ◌≤◌, true, cond, [], ◌∷◌, ◌++◌, Some, None, is_some, sym, ap, ◌∙◌, subst, refl, arith, inl, inr}
 use Rattle.std.specs.Option.{option_map, option_map_or}
 use Rattle.std.specs.Ordering.{nat_cmp, eq_by_cmp}
 use Rattle.std.specs.Cmp.{nat_cmp_total}
@@ -13,9 +13,9 @@ use Rattle.rz_tree.specs.Inodes.{Table, object_of, objects_of, with_links, chang
 use Rattle.rz_tree.specs.Trees.{tree_of, IsTree, IsKept}
 use Rattle.rz_tree.proofs.Keys.{same_some, not_none, false-true, one-or-two, ties-itself, apart, get-inserted, get-beside}
 use Rattle.rz_tree.proofs.Tables.{get-objects, objects-changed}
-use Rattle.rz_tree.proofs.Counts.{one_if, count-insert, one_if-same, one_if-other}
+use Rattle.rz_tree.proofs.Counts.{count-insert, one_if-same, one_if-other}
 use Rattle.rz_tree.proofs.Fronts.{above-append}
-use Rattle.rz_tree.proofs.Rules.{DirAt, dir-found, dir-is, from-map, get-changed}
+use Rattle.rz_tree.proofs.Rules.{dir-found, dir-is, from-map, get-changed}
 use Rattle.rz_tree.proofs.Takes.{insert-same}
 
 zero_plus : (n : ℕ) → 0 + n ≡ n

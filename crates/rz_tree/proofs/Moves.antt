@@ -5,10 +5,10 @@ use Rattle.std.specs.Ordering.{is_eq, eq_by_cmp, ordering_then}
 use Rattle.std.specs.Cmp.{tied_itself}
 use Rattle.std.specs.FinMap as maps
 use Rattle.std.specs.FinMap.{FinMap, get-from_entries, get-entries, get-empty, entries_sorted}
-use Rattle.std.specs.FinMap.Entries.{find, is_sorted, below_all}
+use Rattle.std.specs.FinMap.Entries.{find, is_sorted}
 use Rattle.rz_export_model.specs.Paths.{Path, path_cmp, paths_total, exact_paths, names_total, exact_names, same_name, begins_with, moved_path}
 use Rattle.rz_export_model.specs.Tree.{moved, paths_to}
-use Rattle.rz_tree.proofs.Keys.{eq_true, true-or-false, ties-itself, not_none}
+use Rattle.rz_tree.proofs.Keys.{eq_true, ties-itself, not_none}
 use Rattle.rz_tree.proofs.Counts.{Entries, count_to, one_if, cons-count, count-insert, no-path, find-below}
 
 pub and_parts : (a b : Bool) → (a && b) ≡ true → (a ≡ true) × (b ≡ true)

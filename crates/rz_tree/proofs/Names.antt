@@ -1,5 +1,5 @@
 -- Which names lie right under a path, and that with a path its fronts are there.
-use Rattle.std.proofs.Common.{◌≡◌, ℕ, suc, ◌<◌, Bool, true, false, cond, List, [], ◌∷◌, ◌++◌, length, map, Option, Some, None, is_some, Ordering, sym, ap, ◌∙◌, refl, arith, inl, inr, append_assoc, slice_get}
+use Rattle.std.proofs.Common.{◌≡◌, ℕ, suc, Bool, true, false, cond, List, [], ◌∷◌, ◌++◌, length, map, Option, Some, None, is_some, sym, ap, ◌∙◌, refl, arith, inl, inr, append_assoc, slice_get}
 use Rattle.std.specs.Prelude.{nat_lt}
 use Rattle.std.proofs.lemmas.Bool.Decides.{nat_tests}
 use Rattle.std.specs.List.{filter_map, cons_option}
@@ -8,19 +8,18 @@ use Rattle.std.specs.Cmp.{tied_itself}
 use Rattle.std.specs.FinMap as maps
 use Rattle.std.specs.FinMap.{FinMap, get-entries}
 use Rattle.std.specs.FinMap.Entries.{find}
-use Rattle.rz_events.specs.declared.tree.TreeFault.{TreeFault}
 use Rattle.rz_events.specs.declared.tree.TreeFault.TheVariants as fault
 use Rattle.rz_export_model.specs.Firsts.{given_if}
-use Rattle.rz_export_model.specs.Paths.{Name, Path, path_cmp, paths_total, exact_paths, names_total, same_name, right_under}
+use Rattle.rz_export_model.specs.Paths.{Name, Path, path_cmp, paths_total, exact_paths, names_total, right_under}
 use Rattle.rz_export_model.specs.Tree.{Tree, names_under, is_at, is_dir}
 use Rattle.rz_export_model.specs.Refusals.{not_empty}
 use Rattle.rz_tree.specs.Trees.{IsTree}
-use Rattle.rz_tree.proofs.Keys.{same_some, not_none, false-true, true-or-false, none-or-some, one-or-two, ties-itself}
+use Rattle.rz_tree.proofs.Keys.{not_none, false-true, none-or-some, one-or-two, ties-itself}
 use Rattle.rz_tree.proofs.Counts.{Entries}
 use Rattle.rz_tree.proofs.Fronts.{append-nothing}
 use Rattle.rz_names.specs.Names.{next_name}
 use Rattle.rz_tree.proofs.Listings.{right-is, next-first}
-use Rattle.rz_tree.proofs.Rules.{DirAt, dir-found}
+use Rattle.rz_tree.proofs.Rules.{dir-found}
 
 right-more : (p : Path) (n : Name) → right_under p (p ++ n ∷ []) ≡ Some n
 right-more [] n = refl

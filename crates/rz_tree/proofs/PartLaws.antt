@@ -1,5 +1,5 @@
 -- The parts of a tree, after one more was added.
-use Rattle.std.proofs.Common.{◌≡◌, ℕ, true, List, [], ◌∷◌, ◌++◌, drop, map, Option, Some, None, sym, ap, ◌∙◌, refl, append_assoc}
+use Rattle.std.proofs.Common.{◌≡◌, ℕ, true, List, [], ◌∷◌, ◌++◌, drop, map, Some, sym, ap, ◌∙◌, refl, append_assoc}
 use Rattle.std.proofs.lemmas.List.{map-append, append-nil}
 use Rattle.std.specs.Cmp.{nat_cmp_total}
 use Rattle.std.specs.FinMap as maps
@@ -9,7 +9,6 @@ use Rattle.rz_export_model.specs.Paths.{Path, path_cmp, paths_total, above}
 use Rattle.rz_export_model.specs.Tree.{Tree, Object, is_at, is_dir}
 use Rattle.rz_export_model.specs.TreeCalls.{with_name}
 use Rattle.rz_names.specs.Names.{below_root}
-use Rattle.rz_tree.specs.declared.parts.Part.{Part}
 use Rattle.rz_tree.specs.Parts.{object_part, name_part, tree_parts}
 use Rattle.rz_tree.specs.Added.{is_behind, with_given}
 use Rattle.rz_tree.proofs.Keys.{not_none}

@@ -1,17 +1,15 @@
 -- A tree in which a path, and all below it, go to another.
-use Rattle.std.proofs.Common.{◌≡◌, ℕ, suc, ◌+◌, ◌<◌, ◌≤◌, Bool, true, false, cond, ◌&&◌, [], ◌∷◌, ◌++◌, length, drop, Option, Some, None, is_some, sym, ap, ◌∙◌, subst, refl, arith, inl, inr, ◌⊎◌, append_assoc}
-use Rattle.std.specs.Ordering.{eq_by_cmp}
+use Rattle.std.proofs.Common.{◌≡◌, ℕ, ◌≤◌, Bool, true, false, ◌&&◌, [], ◌∷◌, ◌++◌, length, drop, Some, None, is_some, sym, ap, ◌∙◌, subst, refl, inl, inr, ◌⊎◌, append_assoc}
 use Rattle.std.specs.FinMap as maps
 use Rattle.std.specs.FinMap.{FinMap, same_map}
 use Rattle.rz_export_model.specs.Paths.{Name, Path, path_cmp, paths_total, exact_paths, exact_names, above, is_root, same_name, begins_with}
-use Rattle.rz_export_model.specs.Tree.{Tree, Object, is_at, is_dir, paths_to, moved}
-use Rattle.rz_tree.specs.declared.inodes.Inode.{Inode}
+use Rattle.rz_export_model.specs.Tree.{Tree, is_at, is_dir, paths_to, moved}
 use Rattle.rz_tree.specs.Inodes.{Table}
 use Rattle.rz_tree.specs.Trees.{tree_of, IsTree, IsKept}
 use Rattle.rz_tree.proofs.Keys.{eq_true, not_none, false-true, true-or-false, one-or-two, get-removed, get-left}
-use Rattle.rz_tree.proofs.Fronts.{append-nothing, above-append}
-use Rattle.rz_tree.proofs.Moves.{and_parts, begins-front, begins-append, get-in, get-from, get-out, count-moved}
-use Rattle.rz_tree.proofs.Rules.{DirAt, dir-found, dir-is}
+use Rattle.rz_tree.proofs.Fronts.{above-append}
+use Rattle.rz_tree.proofs.Moves.{and_parts, begins-front, get-in, get-from, get-out, count-moved}
+use Rattle.rz_tree.proofs.Rules.{dir-found, dir-is}
 use Rattle.rz_tree.proofs.Names.{front-there}
 
 -- to take away what is not there changes nothing

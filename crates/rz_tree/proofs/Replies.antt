@@ -5,7 +5,6 @@ use Rattle.std.specs.Option.{option_or, option_map_or, option_and_then}
 use Rattle.rz_events.specs.declared.files.FileInfo.{FileInfo}
 use Rattle.rz_events.specs.declared.tree.TreeCall.{TreeCall}
 use Rattle.rz_events.specs.declared.tree.TreeCall.TheVariants as call
-use Rattle.rz_events.specs.declared.tree.TreeReply.{TreeReply}
 use Rattle.rz_events.specs.declared.tree.TreeReply.TheVariants as reply
 use Rattle.rz_events.specs.declared.tree.TreeFault.{TreeFault}
 use Rattle.rz_events.specs.declared.tree.TreeFault.TheVariants as fault

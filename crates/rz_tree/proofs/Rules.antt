@@ -1,17 +1,17 @@
 -- The rules of a tree at first, and after an object was changed.
-use Rattle.std.proofs.Common.{◌≡◌, ℕ, ◌+◌, ◌≤◌, Bool, true, false, cond, [], ◌∷◌, ◌++◌, Option, Some, None, is_some, sym, ap, ◌∙◌, subst, refl, arith, inl, inr}
+use Rattle.std.proofs.Common.{◌≡◌, ℕ, ◌+◌, Bool, true, false, cond, [], ◌∷◌, ◌++◌, Option, Some, None, is_some, sym, ap, ◌∙◌, refl, arith, inl, inr}
 use Rattle.std.specs.Option.{option_map, option_and_then, option_map_or}
 use Rattle.std.specs.Ordering.{nat_cmp, eq_by_cmp}
 use Rattle.std.specs.Cmp.{nat_cmp_total}
 use Rattle.std.specs.FinMap as maps
-use Rattle.std.specs.FinMap.{FinMap, get-insert, get-empty, nat_cmp-IsAntisymmetric}
+use Rattle.std.specs.FinMap.{FinMap, get-empty, nat_cmp-IsAntisymmetric}
 use Rattle.rz_export_model.specs.Paths.{Name, Path, path_cmp, paths_total, exact_paths}
 use Rattle.rz_export_model.specs.Tree.{Tree, Object, Found, is_at, is_dir, paths_to, new_dir, empty_tree}
 use Rattle.rz_names.specs.Names.{root_alone}
 use Rattle.rz_tree.specs.declared.inodes.Inode.{Inode}
 use Rattle.rz_tree.specs.Inodes.{Table, object_of, objects_of, changed_at}
-use Rattle.rz_tree.specs.Trees.{tree_of, IsTree, IsCounted, IsKept}
-use Rattle.rz_tree.proofs.Keys.{same_some, not_none, false-true, some-there, one-or-two, ties-itself, get-inserted, get-beside}
+use Rattle.rz_tree.specs.Trees.{tree_of, IsKept}
+use Rattle.rz_tree.proofs.Keys.{same_some, not_none, false-true, one-or-two, ties-itself, get-inserted, get-beside}
 use Rattle.rz_tree.proofs.Tables.{get-objects, objects-insert, objects-empty}
 use Rattle.rz_tree.proofs.Counts.{count-insert, no-path, one_if-same}
 

@@ -1,10 +1,10 @@
 -- The objects that kept ones stand for.
-use Rattle.std.proofs.Common.{◌≡◌, ℕ, suc, Bool, true, false, cond, ◌&&◌, T, List, [], ◌∷◌, length, map, Option, Some, None, sym, ap, ◌∙◌, subst, refl}
+use Rattle.std.proofs.Common.{◌≡◌, ℕ, suc, Bool, true, false, cond, ◌&&◌, T, List, [], ◌∷◌, length, Option, Some, None, sym, ap, ◌∙◌, subst, refl}
 use Rattle.std.specs.Option.{option_map, option_map_or, option_or}
 use Rattle.std.specs.Ordering.{is_lt, nat_cmp, eq_by_cmp}
 use Rattle.std.specs.Cmp.{nat_cmp_total}
 use Rattle.std.specs.FinMap as maps
-use Rattle.std.specs.FinMap.{FinMap, same_map, get-from_entries, get-insert, get-remove, get-empty, get-entries, len-entries, entries_sorted, nat_cmp-IsAntisymmetric}
+use Rattle.std.specs.FinMap.{same_map, get-from_entries, get-insert, get-remove, get-empty, get-entries, len-entries, entries_sorted, nat_cmp-IsAntisymmetric}
 use Rattle.std.specs.FinMap.Entries.{find, is_sorted, below_all, same_entries}
 use Rattle.rz_events.specs.declared.files.FileInfo.{FileInfo}
 use Rattle.rz_export_model.specs.Firsts.{first_given}

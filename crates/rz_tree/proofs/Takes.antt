@@ -1,5 +1,5 @@
 -- A tree from which a path is taken.
-use Rattle.std.proofs.Common.{◌≡◌, ℕ, ◌+◌, ◌-◌, ◌≤◌, Bool, true, false, cond, List, [], ◌∷◌, ◌++◌, Option, Some, None, is_some, sym, ap, ◌∙◌, subst, refl, arith, eqb-true, eq-eqb, inl, inr}
+use Rattle.std.proofs.Common.{◌≡◌, ℕ, ◌+◌, ◌-◌, ◌≤◌, Bool, true, false, cond, [], ◌∷◌, ◌++◌, Some, is_some, sym, ap, ◌∙◌, subst, refl, arith, eqb-true, eq-eqb, inl, inr}
 use Rattle.std.specs.Prelude.{◌==◌}
 use Rattle.std.specs.Option.{option_map, option_map_or}
 use Rattle.std.specs.Ordering.{nat_cmp, eq_by_cmp}
@@ -14,10 +14,9 @@ use Rattle.rz_tree.specs.Inodes.{Table, object_of, found_of, objects_of, with_li
 use Rattle.rz_tree.specs.Trees.{tree_of, IsKept}
 use Rattle.rz_tree.proofs.Keys.{same_some, not_none, false-true, one-or-two, ties-itself, apart, get-inserted, get-beside, get-removed, get-left}
 use Rattle.rz_tree.proofs.Tables.{get-objects, objects-insert, objects-remove}
-use Rattle.rz_tree.proofs.Counts.{one_if, count-remove, two-paths, some-path, one_if-same, one_if-other}
-use Rattle.rz_tree.proofs.Fronts.{not-root-more}
+use Rattle.rz_tree.proofs.Counts.{count-remove, two-paths, some-path, one_if-same, one_if-other}
 use Rattle.rz_tree.proofs.Found.{found-kept, links-kept}
-use Rattle.rz_tree.proofs.Rules.{DirAt, dir-found, dir-is, from-map}
+use Rattle.rz_tree.proofs.Rules.{dir-found, dir-is}
 use Rattle.rz_tree.proofs.Names.{under-clear}
 
 -- to insert what is there changes nothing

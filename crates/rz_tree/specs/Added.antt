@@ -1,22 +1,16 @@
 -- The parts of a tree one after another: which part may come next, and the tree with it.
-use Rattle.std.specs.Prelude.{ℕ, ◌≡◌, ◌≤◌, ◌<◌, ◌⊎◌, Bool, false, cond, List, [], length, Some, IsTrue, IsSome}
+use Rattle.std.specs.Prelude.{ℕ, ◌≡◌, ◌≤◌, ◌<◌, ◌⊎◌, false, cond, [], length, Some, IsTrue, IsSome}
 use Rattle.std.specs.List.{list_all}
-use Rattle.std.specs.Ordering.{is_lt}
-use Rattle.std.specs.declared.cmp.Ordering.{Ordering}
 use Rattle.std.specs.FinMap as maps
-use Rattle.std.specs.FinMap.{FinMap}
 use Rattle.rz_events.specs.declared.files.Kind.{Kind}
 use Rattle.rz_events.specs.declared.files.Kind.TheVariants.{File, Dir, Link}
 use Rattle.rz_export_model.specs.Paths.{Path, is_name, is_root, above}
 use Rattle.rz_export_model.specs.Tree.{Tree, Object, empty_tree, is_at, is_dir, paths_to}
 use Rattle.rz_export_model.specs.TreeCalls.{with_name}
 use Rattle.rz_names.specs.Names.{below_root}
+pub use Rattle.rz_names.specs.Names.{is_behind}
 use Rattle.rz_tree.specs.declared.parts.Part.{Part}
 use Rattle.rz_tree.specs.declared.parts.Part.TheVariants as part
-
--- whether a key stands behind all keys of a map
-abbrev pub is_behind : {K X : Type 0} {R : K → K → Ordering} → FinMap R X → K → Bool
-is_behind {R = R} m k = list_all (λ e. is_lt (R e.0 k)) (maps.entries m)
 
 -- ---- the tree with one more part
 
@@ -65,6 +59,15 @@ pub record IsRoot (fid : ℕ) (o : Object) : Type 0 where
   pub kind : IsTrue (is_dir o.kind)
   pub fits : FitsKind o.kind o
 
+-- the root as a part, which comes before all other objects
+abbrev pub IsRootPart : Part → Type 0
+IsRootPart (part.Counters last made) = ⊥
+IsRootPart (part.Object fid kind mode mtime size cid places target) =
+    IsRoot fid (record { kind = kind; mode = mode; mtime = mtime; target = target; size = size; cid = cid; places = places })
+IsRootPart (part.Name path fid) = ⊥
+IsRootPart (part.Block key latest published) = ⊥
+IsRootPart (part.Enrolled node loss fence) = ⊥
+
 -- the root may be added where no object was added yet
 abbrev pub IsFirstObject : Tree → ℕ → Object → Type 0
 IsFirstObject t fid o = (t.objects ≡ empty_tree.objects) × IsRoot fid o
@@ -109,6 +112,15 @@ MayAdd t (part.Object fid kind mode mtime size cid places target) =
 MayAdd t (part.Name path fid) = IsNextName t path fid
 MayAdd t (part.Block key latest published) = Unit {0}
 MayAdd t (part.Enrolled node loss fence) = Unit {0}
+
+-- an object or a name that may come next; no other part of a tree may
+abbrev pub MayBeNext : Tree → Part → Type 0
+MayBeNext t (part.Counters last made) = ⊥
+MayBeNext t (part.Object fid kind mode mtime size cid places target) =
+    IsNextObject t fid (record { kind = kind; mode = mode; mtime = mtime; target = target; size = size; cid = cid; places = places })
+MayBeNext t (part.Name path fid) = IsNextName t path fid
+MayBeNext t (part.Block key latest published) = ⊥
+MayBeNext t (part.Enrolled node loss fence) = ⊥
 
 -- no object lacks a name
 abbrev pub AreNamed : Tree → Type 0

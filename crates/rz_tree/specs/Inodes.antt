@@ -1,6 +1,7 @@
 -- The kept objects, and the objects that they stand for.
-use Rattle.std.specs.Prelude.{ℕ, ◌≡◌, ◌-◌, ◌==◌, Bool, false, cond, List, map, Option, None}
+use Rattle.std.specs.Prelude.{ℕ, ◌≡◌, ◌-◌, ◌==◌, nat_lt, Bool, false, cond, List, map, Option, None}
 use Rattle.std.specs.BTreeSet.{BTreeSet, contains}
+use Rattle.std.specs.List.{list_all}
 use Rattle.std.specs.Option.{option_map_or}
 use Rattle.std.specs.Ordering.{nat_cmp, is_lt}
 use Rattle.std.specs.FinMap as maps
@@ -50,6 +51,10 @@ is_file_at table fid = option_map_or (λ i. is_file i.kind) (maps.get table fid)
 -- these are the numbers of the files
 abbrev pub AreFilesOf : Table → BTreeSet ℕ → Type 0
 AreFilesOf table files = (fid : ℕ) → contains nat_cmp files fid ≡ is_file_at table fid
+
+-- whether a path leads to each of these
+abbrev pub are_linked : List (ℕ × Inode) → Bool
+are_linked es = list_all (λ e. nat_lt 0 e.1.links) es
 
 abbrev pub with_attributes : ℕ → ℕ → Inode → Inode
 with_attributes mode mtime i = record i { mode = mode; mtime = mtime }

@@ -3,3 +3,4 @@ pub mod Trees
 pub mod Calls
 pub mod Parts
 pub mod Added
+pub mod Allowed

@@ -10,10 +10,10 @@ use rz_events::{Kind, TreeFault};
 use rz_names::Path;
 
 /// The most objects besides the root.
-const MOST_OBJECTS: usize = 65536;
+pub const MOST_OBJECTS: usize = 65536;
 
 /// The most paths that lead to one object.
-const MOST_LINKS: u32 = 65535;
+pub const MOST_LINKS: u32 = 65535;
 
 impl Tree {
     // Along the names before the last, the first that is absent or no directory.
@@ -29,7 +29,7 @@ impl Tree {
     }
 
     // Why the first `count` names of a path are no directory's.
-    fn no_directory(&self, path: &Path, count: usize) -> Option<TreeFault>
+    pub(crate) fn no_directory(&self, path: &Path, count: usize) -> Option<TreeFault>
         requires { count ≤ length path.now }
         ensures { result ≡ no_directory self.now (take count path.now) }
     {

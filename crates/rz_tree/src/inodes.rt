@@ -5,7 +5,8 @@ ghost use Rattle.std.specs.Option.{option_copied, option_map};
 ghost use Rattle.std.specs.List.{slice_get};
 ghost use Rattle.std.specs.FinMap as maps;
 ghost use Rattle.rz_export_model.specs.Tree.{info_of};
-ghost use Rattle.rz_tree.specs.Inodes.{found_of, attr_kept, with_attributes, with_size_of, greater_of, with_links, changed_at, released, file_past};
+ghost use Rattle.rz_names.specs.Names.{is_behind};
+ghost use Rattle.rz_tree.specs.Inodes.{found_of, attr_kept, with_attributes, with_size_of, greater_of, with_links, changed_at, released, file_past, are_linked};
 
 use rz_events::{Attr, FileInfo, Kind, Places, Text};
 use std::alloc::{AllocError, Global};
@@ -124,6 +125,29 @@ impl Inodes {
         let number = *self.files.range(past).next()?;
         let inode = self.get(number)?;
         Some(inode.info(number))
+    }
+
+    /// Whether a number stands behind those of all objects.
+    pub fn is_behind(&self, fid: u128) -> bool
+        ensures { result ≡ is_behind self.now fid }
+    {
+        let rest = (Bound::Included(fid), Bound::Unbounded);
+        match self.entries.range(rest).next() {
+            None => true,
+            Some(_) => false,
+        }
+    }
+
+    /// Whether some path leads to each object.
+    pub fn are_linked(&self) -> bool
+        ensures { result ≡ are_linked (maps.entries self.now) }
+    {
+        for (_, inode) in self.entries.range((Bound::Included(0), Bound::Unbounded)) {
+            if inode.links == 0 {
+                return false;
+            }
+        }
+        true
     }
 
     /// Adds an object under a number that has none.

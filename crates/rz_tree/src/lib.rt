@@ -5,9 +5,11 @@
 //! function on these maps: what it replies, and which maps it leaves. A refused call changes nothing,
 //! and neither does one for which memory is wanting. Nothing is said of the blocks of files.
 //!
-//! In reading order: `inodes`, `tree`, `faults`, `looks`, `makes`, `changes`, `renames`, `answer`, `parts`, `building`.
+//! In reading order: `inodes`, `tree`, `faults`, `looks`, `makes`, `changes`, `renames`, `answer`, `parts`,
+//! `allowing`, `building`.
 #![tactic(auto)]
 
+mod allowing;
 mod answer;
 mod building;
 mod changes;

@@ -1,4 +1,4 @@
-use Rattle.std.proofs.Common.{◌≡◌, ◌-◌, ◌++◌, ℕ, List, [], length, reverse, refl, sym, ap, ◌∙◌, subst, inl, inr, ◌+◌, arith}
+use Rattle.std.proofs.Common.{◌≡◌, ◌-◌, ◌++◌, ℕ, List, [], reverse, refl, sym, ap, ◌∙◌, subst, inl, inr, ◌+◌, arith}
 use Rattle.rz_disk.specs.UnderFuse.{UnderFuse}
 use Rattle.rz_driver.specs.declared.station.Shared.{Shared}
 use Rattle.std.proofs.lemmas.List.{reverse-reverse}
@@ -6,8 +6,8 @@ use Rattle.rz_events.specs.Volume.{Volume, nodes_of}
 use Rattle.rz_events.specs.declared.events.Event.{Event}
 use Rattle.rz_script.specs.declared.line.Line.{Line}
 use Rattle.rz_events.specs.declared.files.NodeSpec.{NodeSpec}
-use Rattle.rz_driver.specs.Made.{IsCause, faults_at}
-use Rattle.rz_driver.specs.Made as made
+use Rattle.rz_stations.specs.Meters.{faults_at}
+use Rattle.rz_formatting.specs.Formatted.{AreBack, IsCause}
 use Rattle.rz_driver.specs.Worlds.{Holds, world_of}
 use Rattle.rz_core.specs.HeldRecords.{block_of}
 use Rattle.rz_core.specs.History.{facts}
@@ -88,7 +88,7 @@ lent_is : (g : given.Over) (c : goal.After-unplayed g) → c.replace-lent.result
 lent_is g c = rw c.replace-lent.ensures.value refl
 
 -- where there is no driver, the disks come back
-back_is : (g : given.Over) (c : goal.After-unplayed g) → made.AreBack g.D.Disk.tells g.D.Disk.meter g.D.Disk.image c.args.request.now.script.volume.layout
+back_is : (g : given.Over) (c : goal.After-unplayed g) → AreBack g.D.Disk.tells g.D.Disk.meter g.D.Disk.image c.args.request.now.script.volume.layout
     (nodes_of c.args.request.now.script.volume.clusters) c.args.disks.now.items c.in-Err.back.items
 back_is g c = rw (← lent_is g c, ← c.volume-volume.ensures) c.in-Err.ensures.back
 

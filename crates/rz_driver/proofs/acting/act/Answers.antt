@@ -4,12 +4,12 @@ use Rattle.rz_driver.specs.Acts.{IsMessage, Exports, Opens, Sends, Says}
 use Rattle.rz_events.specs.declared.export.Call.TheVariants as call
 use Rattle.rz_events.specs.declared.tree.TreeCall.TheVariants as tree
 use Rattle.rz_export_model.specs.Export.{export_reply}
-use Rattle.rz_driver.proofs.MeterLemmas.{still-err, metered-stays, still-left, export-stays, said-stays}
+use Rattle.rz_stations.proofs.MeterLemmas.{still-err, metered-stays, still-left, export-stays, said-stays}
 use Rattle.rz_asks.specs.Locking.{IsOpenPart, open_reply}
 use Rattle.rz_asks.specs.Parts.{IsExportPart}
 use Rattle.rz_driver.specs.Pictures.{KeepsPicture, SparesPicture}
 use Rattle.rz_driver.proofs.ActPictures.{still-keeps, still-spares, at-machine, at-spares, export-keeps, open-keeps, say-keeps}
-use Rattle.rz_driver.proofs.PictureLemmas.{on-err}
+use Rattle.rz_stations.proofs.PictureLemmas.{on-err}
 use Rattle.rz_driver.proofs.acting.act.Goals as goal
 
 pub returns-in-Export-clause-ok : goal.returns-in-Export-clause-ok

@@ -9,9 +9,9 @@ use Rattle.std.proofs.lemmas.List.{reverse-reverse}
 use Rattle.rz_cells.specs.declared.formatting.FormatFault.{FormatFault}
 use Rattle.rz_cells.specs.declared.formatting.FormatFault.TheVariants as format
 use Rattle.rz_formatting.specs.Formatted.{IsBack, IsCause, IsFormatted, fault_at}
-use Rattle.rz_formatting.proofs.Rowwise.{all-get, zip-length, zip-more, zip-same}
+use Rattle.rz_formatting.proofs.Rowwise.{all-get, zip-length, zip-more}
 use Rattle.rz_formatting.proofs.FormatLemmas.{pushed, next-taken, disk-at, all-back, failed-at, all-new}
-use Rattle.rz_formatting.proofs.FormatLemmas.{new-back, same-back}
+use Rattle.rz_formatting.proofs.FormatLemmas.{new-back, same-back, untouched}
 use Rattle.rz_formatting.proofs.formatting.format_all.Goals as goal
 
 cause-of : {D : Type 0} (meter : D → Meter) (disks back : List D) (fault : FormatFault) (index : ℕ) (old new : D) → slice_get disks index ≡ Some old → slice_get back index ≡ Some new
@@ -20,7 +20,7 @@ cause-of meter disks back format.NoMemory index old new at at' risen = tt
 cause-of meter disks back format.DiskFault index old new at at' risen = (old, new, at, at', risen refl)
 
 pub returns-in_default-clause-back : goal.returns-in_default-clause-back
-returns-in_default-clause-back g c = zip-same (IsBack g.D.Disk.tells g.D.Disk.meter g.D.Disk.image c.args.layout) c.args.nodes.now c.args.disks.items c.requires.count (same-back g.D.Disk.tells g.D.Disk.meter g.D.Disk.image c.args.layout)
+returns-in_default-clause-back g c = untouched g.D.Disk.tells g.D.Disk.meter g.D.Disk.image c.args.layout c.args.nodes.now c.args.disks.items c.requires.count
 
 pub loop-index-init : goal.loop-index-init
 loop-index-init g c =

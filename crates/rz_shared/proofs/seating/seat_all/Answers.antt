@@ -8,7 +8,7 @@ use Rattle.rz_shared.proofs.seating.seat_all.Goals as goal
 
 pub seated-requires-clause-ready : goal.seated-requires-clause-ready
 seated-requires-clause-ready g c =
-    (both-popped (IsReady g.D.Disk.tells g.D.Disk.text g.D.Disk.image (volume_in g.J.Naming.kind)) c.loop-station.stations.items c.pop.new.self.items c.loop-station.posts.items c.pop-in-Some.new.self.items c.in-Some.station c.in-Some-pop.post
+    (both-popped (IsReady g.D.Disk.tells g.D.Disk.meter g.D.Disk.text g.D.Disk.image (volume_in g.J.Naming.kind) g.J.Counting.first) c.loop-station.stations.items c.pop.new.self.items c.loop-station.posts.items c.pop-in-Some.new.self.items c.in-Some.station c.in-Some-pop.post
     c.in-Some.ensures.items c.in-Some-pop.ensures.items c.loop-station.invariant.ready).1
 
 pub loop-station-preserved-in-Some-pop-2 : goal.loop-station-preserved-in-Some-pop-2
@@ -23,7 +23,7 @@ loop-station-preserved-in-Some-pop-2 g c =
     let new : vec_len c.push-seated.new.self ≡ length c.push-seated.new.self.items = c.push-seated.new.self.ok.0 in
     let roomy = c.push-seated.ensures.capacity in
     record {
-      ready = (both-popped (IsReady g.D.Disk.tells g.D.Disk.text g.D.Disk.image (volume_in g.J.Naming.kind)) c.loop-station.stations.items c.pop.new.self.items c.loop-station.posts.items c.pop-in-Some.new.self.items c.in-Some.station c.in-Some-pop.post
+      ready = (both-popped (IsReady g.D.Disk.tells g.D.Disk.meter g.D.Disk.text g.D.Disk.image (volume_in g.J.Naming.kind) g.J.Counting.first) c.loop-station.stations.items c.pop.new.self.items c.loop-station.posts.items c.pop-in-Some.new.self.items c.in-Some.station c.in-Some-pop.post
           c.in-Some.ensures.items c.in-Some-pop.ensures.items inv.ready).0;
       count = omega (arith, count, popped, more, old, new);
       room = omega (arith, room, roomy);
@@ -32,7 +32,7 @@ loop-station-preserved-in-Some-pop-2 g c =
 
 pub loop-station-preserved : goal.loop-station-preserved
 loop-station-preserved g c =
-    let same = zip-lengths (IsReady g.D.Disk.tells g.D.Disk.text g.D.Disk.image (volume_in g.J.Naming.kind)) c.loop-station.stations.items c.loop-station.posts.items c.loop-station.invariant.ready in
+    let same = zip-lengths (IsReady g.D.Disk.tells g.D.Disk.meter g.D.Disk.text g.D.Disk.image (volume_in g.J.Naming.kind) g.J.Counting.first) c.loop-station.stations.items c.loop-station.posts.items c.loop-station.invariant.ready in
     let some = c.in-Some.ensures.cases in let none = c.in_default-pop.ensures.cases.0 in
     let stations : vec_len c.loop-station.stations ≡ length c.loop-station.stations.items = c.loop-station.stations.ok.0 in
     let posts : vec_len c.loop-station.posts ≡ length c.loop-station.posts.items = c.loop-station.posts.ok.0 in
@@ -40,7 +40,7 @@ loop-station-preserved g c =
 
 pub returns-clause-empty : goal.returns-clause-empty
 returns-clause-empty g c =
-    let same = zip-lengths (IsReady g.D.Disk.tells g.D.Disk.text g.D.Disk.image (volume_in g.J.Naming.kind)) c.loop-station.stations.items c.loop-station.posts.items c.loop-station.invariant.ready in
+    let same = zip-lengths (IsReady g.D.Disk.tells g.D.Disk.meter g.D.Disk.text g.D.Disk.image (volume_in g.J.Naming.kind) g.J.Counting.first) c.loop-station.stations.items c.loop-station.posts.items c.loop-station.invariant.ready in
     let none = c.in_default.ensures.cases.0 in
     let stations : vec_len c.loop-station.stations ≡ length c.loop-station.stations.items = c.loop-station.stations.ok.0 in
     let posts : vec_len c.loop-station.posts ≡ length c.loop-station.posts.items = c.loop-station.posts.ok.0 in

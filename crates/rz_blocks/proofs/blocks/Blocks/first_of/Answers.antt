@@ -1,30 +1,14 @@
-use Rattle.rz_blocks.proofs.Ranges.{skips, hits, ends, no-key, own-key, same-fid, other-fid}
-use Rattle.rz_blocks.proofs.Found.{first-key}
-use Rattle.std.proofs.Common.{ap, ◌∙◌}
-use Rattle.rz_export_model.specs.Firsts.{first_given}
-use Rattle.rz_blocks.proofs.Keys.{forward}
-use Rattle.rz_blocks.proofs.Ranges.{key_in}
+use Rattle.std.proofs.Common.{sym, ap, ◌∙◌}
+use Rattle.std.specs.Prelude.{◌==◌}
+use Rattle.std.specs.FinMap as maps
+use Rattle.rz_export_model.specs.Firsts.{given_if}
+use Rattle.rz_blocks.proofs.Forgets.{first_of_file}
+use Rattle.rz_blocks.proofs.Ranges.{first-shown}
+use Rattle.rz_blocks.proofs.Shows.{entries-shown}
 use Rattle.rz_blocks.proofs.blocks.Blocks.first_of.Goals as goal
-
-pub range-key-items-requires : goal.range-key-items-requires
-range-key-items-requires c = forward c.start_of.result c.end_of.result c.args.fid c.start_of.ensures.within c.end_of.ensures.past
-
-pub loop-key-preserved : goal.loop-key-preserved
-loop-key-preserved c =
-    skips (key_in c.args.fid) c.loop-key.key-iterator c.next.new.self (c.in-Some.key.now, c.in-Some.field-0-1.now) c.in-Some.ensures.steps
-    (no-key c.args.fid c.in-Some.key.now c.in-Some.field-0-1.now (other-fid c.in-Some.key.now.fid c.args.fid c.if-key-fid.false)) ∙ c.loop-key.invariant
-
-pub returns-then-key-fid : goal.returns-then-key-fid
-returns-then-key-fid c =
-    hits (key_in c.args.fid) c.loop-key.key-iterator c.next.new.self (c.in-Some.key.now, c.in-Some.field-0-1.now) c.in-Some.key.now c.in-Some.ensures.steps
-    (own-key c.args.fid c.in-Some.key.now c.in-Some.field-0-1.now (same-fid c.in-Some.key.now.fid c.args.fid c.if-key-fid.true))
-    ∙ c.loop-key.invariant ∙ ap (first_given (key_in c.args.fid)) c.into_iter-key-iterator.ensures.into_iter_gives
-    ∙ first-key c.self.inside.entries.entries c.range-key-items.ensures.ordered c.args.self.now c.self.view_is c.range-key-items.result c.start_of.result c.end_of.result c.args.fid
-    c.start_of.ensures.start c.end_of.ensures.end (c.range-key-items.ensures.between tt)
 
 pub returns : goal.returns
 returns c =
-    ends (key_in c.args.fid) c.loop-key.key-iterator c.in-None.ensures.steps.0
-    ∙ c.loop-key.invariant ∙ ap (first_given (key_in c.args.fid)) c.into_iter-key-iterator.ensures.into_iter_gives
-    ∙ first-key c.self.inside.entries.entries c.range-key-items.ensures.ordered c.args.self.now c.self.view_is c.range-key-items.result c.start_of.result c.end_of.result c.args.fid
-    c.start_of.ensures.start c.end_of.ensures.end (c.range-key-items.ensures.between tt)
+    let es = c.self.inside.entries.entries in
+    c.first_key.ensures.first ∙ first-shown (λ e. given_if (e.0.fid == c.args.fid) e.0) es
+    ∙ sym (ap (first_of_file c.args.fid) (entries-shown es c.first_key.ensures.ordered)) ∙ ap (λ b. first_of_file c.args.fid (maps.entries b)) c.self.view_is

@@ -10,11 +10,11 @@ use Rattle.rz_driver.specs.declared.seat.Seat.{Seat}
 use Rattle.rz_asks.specs.Locking.{lock_of}
 use Rattle.rz_driver.specs.Seats.{IsSeat, HasLayout, work_in, seat_of}
 use Rattle.rz_driver.specs.Worlds.{place_of, world, world_of}
-use Rattle.rz_driver.proofs.ReadyLemmas.{all-at}
+use Rattle.rz_stations.proofs.Rows.{all-at}
 use Rattle.rz_driver.proofs.OrderLemmas.{ordered, still-ready, all-more}
 use Rattle.rz_driver.proofs.ActorOrders.{place-low, operation-fits}
 use Rattle.rz_driver.proofs.DriverPictures.{actor-picture, still-counted, still-right}
-use Rattle.rz_driver.proofs.PictureLemmas.{on-err}
+use Rattle.rz_stations.proofs.PictureLemmas.{on-err}
 use Rattle.rz_driver.proofs.driver.Driver.add_operation.Goals as goal
 
 added : (s b : Seat) (op : Operation) → b.todo.items ≡ s.todo.items ++ op ∷ [] → b.number ≡ s.number → b.machine ≡ s.machine → b.lock ≡ s.lock → b.miss ≡ s.miss → seat_of b ≡ with_operation (seat_of s) op

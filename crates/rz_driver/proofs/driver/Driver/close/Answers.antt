@@ -5,15 +5,16 @@ use Rattle.rz_events.specs.Volume.{Volume, nodes_of}
 use Rattle.rz_events.specs.declared.files.NodeSpec.{NodeSpec}
 use Rattle.rz_events.specs.declared.events.Event.{Event}
 use Rattle.rz_driver.specs.declared.station.Shared.{Shared}
-use Rattle.rz_driver.specs.OnlyAsked.{fused_text}
-use Rattle.rz_driver.specs.Meters.{AreDisksCounted}
-use Rattle.rz_driver.specs.Pictures.{AreDisksImaged}
-use Rattle.rz_driver.specs.Stations.{disks_of}
+use Rattle.rz_stations.specs.Asked.{fused_text}
+use Rattle.rz_stations.specs.Meters.{AreDisksCounted}
+use Rattle.rz_stations.specs.Images.{AreDisksImaged}
+use Rattle.rz_formatting.specs.Formatted.{disks_of}
 use Rattle.rz_driver.specs.Worlds.{numbers_in}
-use Rattle.rz_driver.proofs.MeterLemmas.{counted-disks, leaves-counted, metered-counts}
+use Rattle.rz_stations.proofs.MeterLemmas.{counted-disks, metered-counts}
+use Rattle.rz_driver.proofs.DriverMeters.{leaves-counted}
 use Rattle.rz_driver.proofs.DriverPictures.{leaves-named, leaves-right}
-use Rattle.rz_driver.proofs.FetchLemmas.{disks-since}
-use Rattle.rz_driver.proofs.PictureLemmas.{disks-imaged}
+use Rattle.rz_stations.proofs.FetchLemmas.{disks-since}
+use Rattle.rz_stations.proofs.PictureLemmas.{disks-imaged}
 use Rattle.rz_driver.proofs.driver.Driver.close.Goals as goal
 
 pub returns-clause-counted : goal.returns-clause-counted

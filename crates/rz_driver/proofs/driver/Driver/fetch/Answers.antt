@@ -5,13 +5,14 @@ use Rattle.rz_disk.specs.UnderFuse.{UnderFuse, fused_meter}
 use Rattle.rz_scrubbing.specs.Stores.{IsRead}
 use Rattle.rz_node_model.specs.NodeEvents.{fetch_event}
 use Rattle.rz_events.specs.declared.keys.Actor.TheVariants.{Admin}
-use Rattle.rz_driver.specs.declared.station.Station.{Station}
-use Rattle.rz_driver.specs.Fetches.{HaveRoom, IsFetch, GivesIn}
-use Rattle.rz_driver.specs.OnlyAsked.{AreOnlyAsked, fused_text}
-use Rattle.rz_driver.specs.Pictures.{fused_image}
+use Rattle.rz_formatting.specs.declared.formatting.Station.{Station}
+use Rattle.rz_stations.specs.Fetches.{HaveRoom, IsFetch, GivesIn}
+use Rattle.rz_stations.specs.Asked.{AreOnlyAsked, fused_text}
+use Rattle.rz_stations.specs.Images.{fused_image}
 use Rattle.rz_driver.specs.Worlds.{numbers_in}
-use Rattle.rz_driver.proofs.FetchLemmas.{asked-ready, have-room, numbers-asked}
-use Rattle.rz_driver.proofs.MeterLemmas.{metered-in, named-vector}
+use Rattle.rz_stations.proofs.FetchLemmas.{have-room, numbers-asked}
+use Rattle.rz_driver.proofs.FetchLemmas.{asked-ready}
+use Rattle.rz_stations.proofs.MeterLemmas.{metered-in, named-vector}
 use Rattle.rz_driver.proofs.driver.Driver.fetch.Given as given
 use Rattle.rz_driver.proofs.driver.Driver.fetch.Goals as goal
 

@@ -3,37 +3,38 @@ use Rattle.std.specs.List.{AllByRecursion}
 use Rattle.mj_angles.specs.declared.layout.Layout.{Layout}
 use Rattle.rz_events.specs.Volume.{Volume, IsNode, nodes_of}
 use Rattle.rz_events.specs.declared.files.NodeSpec.{NodeSpec}
-use Rattle.rz_driver.specs.Made.{AreNew, AreBack}
-use Rattle.rz_driver.proofs.MeterLemmas.{new-holds}
-use Rattle.rz_driver.proofs.MadeLemmas.{untouched, proper-nodes, new-ready, new-is}
-use Rattle.rz_driver.specs.Stations.{IsStation}
+use Rattle.rz_formatting.specs.Formatted.{AreFormatted, AreBack}
+use Rattle.rz_formatting.proofs.FormatLemmas.{untouched}
+use Rattle.rz_stations.proofs.MeterLemmas.{new-holds}
+use Rattle.rz_driver.proofs.MadeLemmas.{new-ready, new-is}
+use Rattle.rz_stations.specs.Stations.{IsStation}
 use Rattle.rz_driver.proofs.NewPictures.{new-picture}
 use Rattle.rz_driver.proofs.driver.Driver.new.Goals as goal
 
 pub returns-in_default-clause-back : goal.returns-in_default-clause-back
 returns-in_default-clause-back g c = untouched g.D.Disk.tells g.D.Disk.meter g.D.Disk.image c.args.volume.now.layout (nodes_of c.args.volume.now.clusters) c.args.disks.items c.requires.count
 
-pub new_stations-requires-clause-nodes : goal.new_stations-requires-clause-nodes
-new_stations-requires-clause-nodes g c = subst (AllByRecursion IsNode) (sym (c.as_slice.ensures.value ∙ c.in-Ok.ensures.nodes)) (proper-nodes c.args.volume.now c.new_parts.ensures.rules)
+pub format_all-requires-clause-nodes : goal.format_all-requires-clause-nodes
+format_all-requires-clause-nodes g c = subst (AllByRecursion IsNode) (sym (c.as_slice.ensures.value ∙ c.in-Ok.ensures.nodes)) c.new_parts.ensures.proper
 
-pub new_stations-requires-clause-count : goal.new_stations-requires-clause-count
-new_stations-requires-clause-count g c = c.requires.count ∙ ap length (sym (c.as_slice.ensures.value ∙ c.in-Ok.ensures.nodes))
+pub format_all-requires-clause-count : goal.format_all-requires-clause-count
+format_all-requires-clause-count g c = c.requires.count ∙ ap length (sym (c.as_slice.ensures.value ∙ c.in-Ok.ensures.nodes))
 
-pub returns-in-Ok-new_stations-clause-made : goal.returns-in-Ok-new_stations-clause-made
-returns-in-Ok-new_stations-clause-made g c =
+pub returns-in-Ok-format_all-clause-made : goal.returns-in-Ok-format_all-clause-made
+returns-in-Ok-format_all-clause-made g c =
     let layout : c.volume.inside.layout ≡ c.args.volume.now.layout = ap (λ (v : Volume). v.layout) c.volume.view_is in
-    subst (λ (y : Layout). AreNew g.D.Disk.tells g.D.Disk.meter g.D.Disk.image y (nodes_of c.args.volume.now.clusters) c.args.disks.items c.in-Ok-new_stations.stations.items) layout
-    (subst (λ (ns : List NodeSpec). AreNew g.D.Disk.tells g.D.Disk.meter g.D.Disk.image c.volume.inside.layout ns c.args.disks.items c.in-Ok-new_stations.stations.items) (c.as_slice.ensures.value ∙ c.in-Ok.ensures.nodes) c.in-Ok-new_stations.ensures.made)
+    subst (λ (y : Layout). AreFormatted g.D.Disk.tells g.D.Disk.meter g.D.Disk.text g.D.Disk.image y (nodes_of c.args.volume.now.clusters) c.args.disks.items c.in-Ok-format_all.stations.items) layout
+    (subst (λ (ns : List NodeSpec). AreFormatted g.D.Disk.tells g.D.Disk.meter g.D.Disk.text g.D.Disk.image c.volume.inside.layout ns c.args.disks.items c.in-Ok-format_all.stations.items) (c.as_slice.ensures.value ∙ c.in-Ok.ensures.nodes) c.in-Ok-format_all.ensures.made)
 
-pub returns-in-Ok-new_stations-clause-ready : goal.returns-in-Ok-new_stations-clause-ready
-returns-in-Ok-new_stations-clause-ready g c =
-    new-ready g.D.Disk.tells g.D.Disk.meter g.D.Disk.image c.args.volume.now c.new_parts.ensures.rules c.args.disks.items c.requires.count _ c.in-Ok.ensures.volume (returns-in-Ok-new_stations-clause-made g c)
+pub returns-in-Ok-format_all-clause-ready : goal.returns-in-Ok-format_all-clause-ready
+returns-in-Ok-format_all-clause-ready g c =
+    new-ready g.D.Disk.tells g.D.Disk.meter g.D.Disk.text g.D.Disk.image c.args.volume.now c.new_parts.ensures.rules c.args.disks.items c.requires.count _ c.in-Ok.ensures.volume (returns-in-Ok-format_all-clause-made g c)
     c.in-Ok.ensures.seats c.in-Ok.ensures.count c.in-Ok.ensures.bins c.new-locks.ensures
 
-pub returns-in-Ok-new_stations-clause-world : goal.returns-in-Ok-new_stations-clause-world
-returns-in-Ok-new_stations-clause-world g c =
-    new-is g.D.Disk.tells g.D.Disk.meter g.D.Disk.image c.args.volume.now c.args.disks.items
-    (record { stations = c.in-Ok-new_stations.stations; export = c.in-Ok.parts.export; locks = c.new-locks.result; lost = 0; log = c.new-log.result; bins = c.in-Ok.parts.bins }) c.in-Ok.parts.seats.items (returns-in-Ok-new_stations-clause-made g c)
+pub returns-in-Ok-format_all-clause-world : goal.returns-in-Ok-format_all-clause-world
+returns-in-Ok-format_all-clause-world g c =
+    new-is g.D.Disk.tells g.D.Disk.meter g.D.Disk.text g.D.Disk.image c.args.volume.now c.args.disks.items
+    (record { stations = c.in-Ok-format_all.stations; export = c.in-Ok.parts.export; locks = c.new-locks.result; lost = 0; log = c.new-log.result; bins = c.in-Ok.parts.bins }) c.in-Ok.parts.seats.items (returns-in-Ok-format_all-clause-made g c)
     c.in-Ok.ensures.seats c.in-Ok.ensures.export refl c.new-log.ensures
 
 pub returns-in-Err-clause-back : goal.returns-in-Err-clause-back
@@ -42,15 +43,15 @@ returns-in-Err-clause-back g c =
     subst (λ (y : Layout). AreBack g.D.Disk.tells g.D.Disk.meter g.D.Disk.image y (nodes_of c.args.volume.now.clusters) c.args.disks.items c.in-Err.back.0.items) layout
     (subst (λ (ns : List NodeSpec). AreBack g.D.Disk.tells g.D.Disk.meter g.D.Disk.image c.volume.inside.layout ns c.args.disks.items c.in-Err.back.0.items) (c.as_slice.ensures.value ∙ c.in-Ok.ensures.nodes) c.in-Err.ensures.back)
 
-pub returns-in-Ok-new_stations-clause-held : goal.returns-in-Ok-new_stations-clause-held
-returns-in-Ok-new_stations-clause-held g c =
+pub returns-in-Ok-format_all-clause-held : goal.returns-in-Ok-format_all-clause-held
+returns-in-Ok-format_all-clause-held g c =
     let v = c.args.volume.now in
-    let ready = returns-in-Ok-new_stations-clause-ready g c in
-    let made = returns-in-Ok-new_stations-clause-made g c in
-    let row = c.in-Ok-new_stations.stations.items in
+    let ready = returns-in-Ok-format_all-clause-ready g c in
+    let made = returns-in-Ok-format_all-clause-made g c in
+    let row = c.in-Ok-format_all.stations.items in
     let stations : AllByRecursion (IsStation v) row = subst (λ (u : Volume). AllByRecursion (IsStation u) row) c.in-Ok.ensures.volume ready.stations in (
-      new-holds g.D.Disk.tells g.D.Disk.meter g.D.Disk.image v c.new_parts.ensures.rules c.args.disks.items _ _ _ ready.numbers
+      new-holds g.D.Disk.tells g.D.Disk.meter g.D.Disk.text g.D.Disk.image v c.new_parts.ensures.rules c.args.disks.items _ _ _ ready.numbers
           (ap (λ (u : Volume). map (λ (n : NodeSpec). n.sid) (nodes_of u.clusters)) c.in-Ok.ensures.volume) made c.new-log.ensures,
-      new-picture g.D.Disk.tells g.D.Disk.meter g.D.Disk.image c.fresh.ensures v c.new_parts.ensures.rules c.args.disks.items _ (returns-in-Ok-new_stations-clause-world g c) c.in-Ok.parts.seats.items c.in-Ok.ensures.seats row stations made
+      new-picture g.D.Disk.tells g.D.Disk.meter g.D.Disk.text g.D.Disk.image c.fresh.ensures v c.new_parts.ensures.rules c.args.disks.items _ (returns-in-Ok-format_all-clause-world g c) c.in-Ok.parts.seats.items c.in-Ok.ensures.seats row stations made
           c.in-Ok.parts.volume c.in-Ok.ensures.volume,
     )

@@ -2,17 +2,17 @@ use Rattle.std.proofs.Common.{◌≡◌, IsTrue, refl, ap, ℕ, List, [], inr}
 use Rattle.std.specs.Vec.{with_items}
 use Rattle.std.proofs.lemmas.Result.{on_ok_weaker}
 use Rattle.rz_events.specs.declared.nodes.NodeAsk.TheVariants as ask
-use Rattle.rz_driver.specs.Administration.{IsOrdered}
+use Rattle.rz_stations.specs.Administration.{IsOrdered}
 use Rattle.rz_disk.specs.UnderFuse.{fused_meter}
 use Rattle.rz_lines.specs.Ends.{Carries}
 use Rattle.rz_play.specs.Lines.{IsAdminCall}
 use Rattle.rz_play.specs.World.{World}
 use Rattle.rz_script.specs.declared.line.Line.TheVariants as line
-use Rattle.rz_driver.specs.Meters.{AreMetered, AreCounted}
-use Rattle.rz_driver.specs.Pictures.{KeepsRow, SparesRow, fused_image}
+use Rattle.rz_stations.specs.Meters.{AreMetered, AreCounted}
+use Rattle.rz_stations.specs.Images.{KeepsRow, SparesRow, fused_image}
 use Rattle.rz_driver.specs.Worlds.{world, world_of}
 use Rattle.rz_driver.proofs.DriverPictures.{order-holds, order-leaves}
-use Rattle.rz_driver.proofs.PictureLemmas.{noted-grows, three-ok, three-err}
+use Rattle.rz_stations.proofs.PictureLemmas.{noted-grows, three-ok, three-err}
 use Rattle.rz_driver.proofs.NodeOrders.{called-of, ordered-in, called-ready, admin-call}
 use Rattle.rz_driver.proofs.driver.Driver.order_stop.Goals as goal
 

@@ -3,8 +3,8 @@ use Rattle.rz_events.specs.declared.events.Event.{Event}
 use Rattle.rz_driver.specs.declared.driver.Driver.{Driver}
 use Rattle.rz_driver.specs.Worlds.{IsDriver, Holds}
 use Rattle.rz_driver.proofs.DriverPictures.{turn-picture, turn-spares, right-disks, still-right, still-counted}
-use Rattle.rz_driver.proofs.MeterLemmas.{log-kept}
-use Rattle.rz_driver.proofs.PictureLemmas.{on-err}
+use Rattle.rz_driver.proofs.DriverMeters.{log-kept}
+use Rattle.rz_stations.proofs.PictureLemmas.{on-err}
 use Rattle.rz_driver.proofs.ActPictures.{act-grows}
 use Rattle.rz_driver.proofs.TakeLemmas.{seat-there, have-layouts, tied-at, drives, turned}
 use Rattle.rz_driver.proofs.driver.Driver.take_turn.Goals as goal

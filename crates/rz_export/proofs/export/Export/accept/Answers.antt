@@ -15,11 +15,13 @@ use Rattle.rz_export.specs.declared.nodes.KeptNode.{KeptNode}
 use Rattle.rz_export.specs.Nodes.{is_named, recounted}
 use Rattle.rz_export.specs.Kept.{export_of, is_place, AreRoomy, IsKept}
 use Rattle.rz_export.proofs.Enrolled.{enrolments-same}
+use Rattle.rz_export.proofs.Marked.{seen-mark}
+use Rattle.rz_export.proofs.Used.{counts_at, file-view}
 use Rattle.rz_export.proofs.States.{IsRemarked, kept-publish, held-block}
 use Rattle.rz_export.proofs.export.Export.accept.Goals as goal
 
-pub mark-requires-clause-room : goal.mark-requires-clause-room
-mark-requires-clause-room c =
+pub remark-requires-clause-room : goal.remark-requires-clause-room
+remark-requires-clause-room c =
     let s = c.self.inside in
     let key = c.args.key in
     let info = c.args.info.now in
@@ -27,6 +29,19 @@ mark-requires-clause-room c =
     let b = held-block (maps.get s.blocks key) (ap (λ (x : Export). is_some (maps.get x.blocks key)) c.self.view_is ∙ c.requires.begun) in
     subst (λ (ps : List ℕ). AreRoomy s.listed ps key) (sym c.list-places.ensures.value)
     (c.self.invariant.room key b.0 info.places b.1 (ap (option_map (λ (i : FileInfo). i.places)) live))
+
+pub remark-requires-clause-marked : goal.remark-requires-clause-marked
+remark-requires-clause-marked c =
+    let s = c.self.inside in
+    let key = c.args.key in
+    let info = c.args.info.now in
+    let old = published_of s.blocks key in
+    let live : file_of s.tree key.fid ≡ Some info = ap (λ (x : Export). file_of x.tree key.fid) c.self.view_is ∙ c.requires.live in
+    λ node.
+    seen-mark s.tree s.blocks s.listed c.self.invariant.marked node key
+    ∙ ap (λ (v : Option (List ℕ)). counts_at node v old) (sym (file-view s.tree key.fid) ∙ ap (option_map (λ (i : FileInfo). i.places)) live)
+    ∙ ap (λ (ps : List ℕ). is_named node ps old) (sym c.list-places.ensures.value)
+    ∙ ap (is_named node c.list-places.result.now) (sym c.look-before.ensures)
 
 pub invariant_of-self : goal.invariant_of-self
 invariant_of-self c =
@@ -49,13 +64,13 @@ invariant_of-self c =
     let b = held-block (maps.get s.blocks key) (ap (λ (x : Export). is_some (maps.get x.blocks key)) c.self.view_is ∙ c.requires.begun) in
     let count : c.len-count.result ≡ maps.len s.blocks = c.len-count.ensures in
     let short : maps.len s.blocks < 2 ^ 64 = omega (arith, count) in
-    let marks = c.mark.new.listed in
+    let marks = c.remark.new.listed in
     let remarked : IsRemarked s.listed marks key info.places new = record {
       marks = λ l q.
-          c.mark.ensures.marks l q
+          c.remark.ensures.marks l q
           ∙ ap (λ (ps : List ℕ). cond (is_place l ps && is_eq (key_cmp key q)) (is_named l ps c.look-after.result) (is_marked s.listed l q)) c.list-places.ensures.value
           ∙ ap (λ (o : Option Published). cond (is_place l info.places && is_eq (key_cmp key q)) (is_named l info.places o) (is_marked s.listed l q)) (c.look-after.ensures ∙ ap (λ (m : Blocks). published_of m key) c.publish.ensures);
-      room = c.mark.ensures.room;
+      room = c.remark.ensures.room;
     } in
     subst (λ (ns : List KeptNode). IsKept s.volume c.grow.new.self c.publish.new.self ns marks s.last) (sym (items ∙ nodes))
     (subst (λ (t : Tree). IsKept s.volume t c.publish.new.self (map f s.nodes.items) marks s.last) (sym c.grow.ensures)

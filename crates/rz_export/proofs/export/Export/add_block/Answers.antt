@@ -1,4 +1,4 @@
-use Rattle.std.proofs.Common.{◌≡◌, ◌<◌, ◌≤◌, ◌^◌, ◌&&◌, ℕ, cond, List, map, Option, Some, None, is_some, sym, ap, subst, ◌∙◌, arith, refl}
+use Rattle.std.proofs.Common.{◌≡◌, ◌<◌, ◌^◌, ◌&&◌, ℕ, cond, List, map, Some, None, is_some, sym, ap, subst, ◌∙◌, arith, refl}
 use Rattle.std.specs.FinMap as maps
 use Rattle.std.specs.FinMap.{FinMap}
 use Rattle.std.specs.Ordering.{nat_cmp, is_eq}
@@ -20,8 +20,8 @@ use Rattle.rz_export.proofs.Enrolled.{enrolments-same}
 use Rattle.rz_export.proofs.States.{kept-room}
 use Rattle.rz_export.proofs.export.Export.add_block.Goals as goal
 
-pub returns-in_default : goal.returns-in_default
-returns-in_default c = (let live = c.requires.live in let none = ap is_some (sym c.file.ensures ∙ c.in_default.is) in let never = sym live ∙ none in cc)
+pub returns-in_default-clause-ok : goal.returns-in_default-clause-ok
+returns-in_default-clause-ok c = (let live = c.requires.live in let none = ap is_some (sym c.file.ensures ∙ c.in_default.is) in let never = sym live ∙ none in cc)
 
 pub add-requires : goal.add-requires
 add-requires c = ap (λ (x : Export). maps.get x.blocks c.args.key) c.self.view_is ∙ behind-none keys_total c.args.self.now.blocks c.args.key c.requires.rising
@@ -67,8 +67,8 @@ invariant_of-self-2 c =
     (subst (λ (m : Blocks). IsKept s.volume s.tree m (map f s.nodes.items) marks s.last) (sym c.in_ok-add.ensures.ok)
     (kept-added s.volume s.tree s.blocks s.nodes.items more s.last had key info w live fresh may.near begun.0 begun.1 short marks remarked c.mark.ensures.room roomy))
 
-pub returns : goal.returns
-returns c =
+pub returns-clause-ok : goal.returns-clause-ok
+returns-clause-ok c =
     let s = c.self.inside in
     let key = c.args.key in
     let info = c.in-Some.info in

@@ -1,9 +1,7 @@
-use Rattle.std.proofs.Common.{◌≡◌, ℕ, ◌≤◌, true, is_some, sym, ap, ◌∙◌, subst}
+use Rattle.std.proofs.Common.{◌≡◌, ℕ, ◌≤◌, true, is_some, sym, ap, subst}
 use Rattle.std.specs.FinMap as maps
-use Rattle.rz_export_model.specs.Tree.{Tree}
 use Rattle.rz_export_model.specs.Export.{Export}
-use Rattle.rz_export.specs.Kept.{export_of, IsKept}
-use Rattle.rz_export.proofs.Built.{kept-blockless, root-only}
+use Rattle.rz_export.proofs.Built.{root-only}
 use Rattle.rz_export.proofs.export.Export.add_counters.Goals as goal
 
 pub add_to_tree-requires-clause-may : goal.add_to_tree-requires-clause-may

@@ -1,5 +1,4 @@
-use Rattle.std.proofs.Common.{◌≡◌, sym, ap, ◌∙◌, subst}
-use Rattle.std.specs.FinMap as maps
+use Rattle.std.proofs.Common.{sym, ap, ◌∙◌, subst}
 use Rattle.rz_export_model.specs.Tree.{Tree}
 use Rattle.rz_export_model.specs.Export.{Export}
 use Rattle.rz_tree.specs.Added as trees
@@ -19,8 +18,8 @@ invariant_of-self-2 c =
     subst (λ (t : Tree). IsKept s.volume t s.blocks s.nodes.items s.listed s.last) (sym c.in_ok-add_part.ensures.ok)
     (kept-blockless s.volume s.tree (trees.with_part s.tree p) s.blocks s.nodes.items s.listed s.last s.last none (blank-part s.tree p may c.self.invariant.made) c.self.invariant)
 
-pub returns : goal.returns
-returns c =
+pub returns-clause-ok : goal.returns-clause-ok
+returns-clause-ok c =
     let s = c.self.inside in
     ap (λ (t : Tree). export_of s.volume t s.blocks s.nodes.items s.last) c.in_ok-add_part.ensures.ok
     ∙ ap (λ (x : Export). (let y : Export = record x { tree = trees.with_part x.tree c.args.part.now } in y)) c.self.view_is

@@ -1,9 +1,9 @@
-use Rattle.std.proofs.Common.{◌≡◌, ◌+◌, ◌∷◌, List, drop, sym, ap, ◌∙◌, subst}
+use Rattle.std.proofs.Common.{◌+◌, List, drop, sym, ap, ◌∙◌, subst}
 use Rattle.std.proofs.lemmas.List.{drop_all}
 use Rattle.rz_tree.specs.declared.parts.Part.{Part}
 use Rattle.rz_export_model.specs.Export.{Export}
 use Rattle.rz_export.specs.Parts.{export_parts}
-use Rattle.rz_export.specs.Building.{with_part, with_parts, made_of, AllAdd}
+use Rattle.rz_export.specs.Building.{with_parts, AllAdd}
 use Rattle.rz_export.proofs.Joined.{all-add, made-parts, rest-at}
 use Rattle.rz_export.proofs.export.Export.build.Goals as goal
 
@@ -30,7 +30,7 @@ loop-part-preserved c =
     let rest = drop (i + 1) c.args.parts.now in
     let here = rest-at c.args.parts.now i p c.loop-part-test.true c.part-item.is in
     let left = subst (λ (ps : List Part). AllAdd c.loop-part.export ps) here c.loop-part.invariant.left in
-    let more = c.in_ok-add_part.ensures in
+    let more = c.in_ok-add_part.ensures.ok in
     record {
       left = subst (λ (s : Export). AllAdd s rest) (sym more) left.1;
       whole = ap (λ (s : Export). with_parts s rest) more ∙ ap (with_parts c.loop-part.export) (sym here) ∙ c.loop-part.invariant.whole;

@@ -6,7 +6,7 @@ use Rattle.rz_export_model.specs.Tree.{file_of}
 use Rattle.rz_export_model.specs.Export.{Export, Blocks, begun, latest_of, after_begin, no_begin}
 use Rattle.rz_export.specs.Kept.{export_of, lies_at, AreRoomy, IsKept}
 use Rattle.rz_export.proofs.Replies.{may-begin}
-use Rattle.rz_export.proofs.States.{some-prepared, latest-prepared, begun-prepared, latest-low, kept-room, kept-begin}
+use Rattle.rz_export.proofs.States.{some-prepared, latest-prepared, begun-prepared, latest-low, roomy-either, kept-room, kept-begin}
 use Rattle.rz_export.proofs.export.Export.start.Goals as goal
 
 pub overflow_add-self : goal.overflow_add-self
@@ -29,20 +29,22 @@ begin-requires-clause-newer c =
 pub invariant_of-self : goal.invariant_of-self
 invariant_of-self c =
     let s = c.self.inside in
-    kept-room s.volume s.tree s.blocks s.nodes.items s.listed s.last c.self.invariant c.make_room.new.listed
-    (record { marks = c.in_err-make_room.ensures.marks; kept = c.in_err-make_room.ensures.kept })
+    subst (λ (m : Blocks). IsKept s.volume s.tree m s.nodes.items c.prepare.new.listed s.last) (sym c.in_err-prepare.ensures.err)
+    (kept-room s.volume s.tree s.blocks s.nodes.items s.listed s.last c.self.invariant c.prepare.new.listed
+    (record { marks = c.in_err-prepare.ensures.marks; kept = c.in_err-prepare.ensures.kept }))
 
 pub invariant_of-self-2 : goal.invariant_of-self-2
 invariant_of-self-2 c =
     let s = c.self.inside in
     let key = c.args.key in
     let info = c.args.info.now in
-    let more = c.make_room.new.listed in
+    let more = c.prepare.new.listed in
     let may = may-begin (export_of s.volume s.tree s.blocks s.nodes.items s.last) key (subst (λ (x : Export). no_begin x key ≡ None) (sym c.self.view_is) c.requires.may) in
     let lies : lies_at s.tree key.fid ≡ Some info.places = ap (option_map (λ (i : FileInfo). i.places)) (ap (λ (x : Export). file_of x.tree key.fid) c.self.view_is ∙ c.requires.live) in
-    let roomy : AreRoomy more info.places key = subst (λ (ps : List ℕ). AreRoomy more ps key) c.list.ensures.value c.in_ok-make_room.ensures.room in
     let had = kept-room s.volume s.tree s.blocks s.nodes.items s.listed s.last c.self.invariant more
-    (record { marks = c.in_ok-make_room.ensures.marks; kept = c.in_ok-make_room.ensures.kept }) in
+    (record { marks = c.in_ok-prepare.ensures.marks; kept = c.in_ok-prepare.ensures.kept }) in
+    let new : maps.get s.blocks key ≡ None → AreRoomy more info.places key = λ none. subst (λ (ps : List ℕ). AreRoomy more ps key) c.list.ensures.value (c.in_ok-prepare.ensures.room none) in
+    let roomy : AreRoomy more info.places key = roomy-either s.tree s.blocks more key info.places lies had.room new in
     let is = c.begin.ensures ∙ ap (λ m. begun m key (s.last + 1)) c.in_ok-prepare.ensures.ok ∙ begun-prepared s.blocks key (s.last + 1) in
     subst (λ (m : Blocks). IsKept s.volume s.tree m s.nodes.items more (s.last + 1)) (sym is)
     (kept-begin s.volume s.tree s.blocks s.nodes.items more s.last had key info.places lies roomy may.live may.near)

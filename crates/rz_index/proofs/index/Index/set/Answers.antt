@@ -1,77 +1,89 @@
-use Rattle.std.proofs.Common.{ℕ, ◌≡◌, ◌<◌, ◌≤◌, List, length, cond, is_ok, sym, ap, ◌∙◌, subst, arith}
+use Rattle.std.proofs.Common.{ℕ, suc, ◌≡◌, ◌+◌, ◌≤◌, List, length, true, false, cond, is_some, Option, Some, None, sym, ap, ◌∙◌, subst, refl, arith, rules}
 use Rattle.std.specs.Prelude.{MatchOption}
-use Rattle.std.specs.Vec.{vec_len}
-use Rattle.std.specs.List.{Contains, insert}
+use Rattle.std.specs.List.{Contains}
 use Rattle.std.specs.FinMap as maps
+use Rattle.std.specs.FinMap.Entries.{find}
+use Rattle.rz_events.specs.Keys.{key_cmp}
 use Rattle.rz_index.specs.declared.index.Entry.{Entry}
-use Rattle.rz_index.specs.Indexed.{Indexed, IsSorted, IsHit, IsGap, taken_in}
-use Rattle.rz_index.proofs.Row.{made, get-made, find-hit, find-gap, set-sorted, set-made, insert-sorted, insert-made}
-use Rattle.rz_index.proofs.Cells.{at_most, taken_out}
+use Rattle.rz_index.specs.Indexed.{Indexed, pairs_of, taken_in}
+use Rattle.rz_index.proofs.Row.{get-made, sorted-put, made-put, put-length}
+use Rattle.rz_index.proofs.Cells.{taken_out}
 use Rattle.rz_index.proofs.index.Index.set.Goals as goal
+
+held_free : (o : Option Entry) (cell : ℕ) (free : List ℕ) → is_some o ≡ true → taken_in o cell free ≡ free
+held_free None cell free is = absurd (cc)
+held_free (Some e) cell free is = refl
+
+absent : (o : Option Entry) → is_some o ≡ false → o ≡ None
+absent None is = refl
+absent (Some e) is = absurd (cc)
+
+one_less : {A : Type 0} (o : Option A) (old new : ℕ) → MatchOption o ((old ≡ 0) × (new ≡ 0)) (λ node. old ≡ suc new) → old ≤ suc new
+one_less None old new is = omega (arith, is.0)
+one_less (Some node) old new is = omega (arith, is)
 
 pub invariant_of-self : goal.invariant_of-self
 invariant_of-self c =
-    let hit = subst (λ (es : List Entry). (c.in-Ok.at < length es) × IsHit es c.in-Ok.at c.args.entry.key) c.deref.ensures.value c.in-Ok.ensures.found in
+    let x = c.args.entry in
+    let es = c.self.inside.entries in
+    let held : is_some (find key_cmp x.key (pairs_of es)) ≡ true = search rules in
+    let same : length c.set.new.self ≡ length es = put-length x es c.set.new.self c.self.invariant.sorted c.set.ensures ∙ ap (λ b. cond b (length es) (length es + 1)) held in
     record {
-      sorted = set-sorted c.args.entry c.self.inside.entries.items c.in-Ok.at c.self.invariant.sorted hit.1;
+      sorted = sorted-put x es c.set.new.self c.self.invariant.sorted c.set.ensures;
       room = c.self.invariant.room;
-      room_free = c.self.invariant.room_free;
+      room_free = omega (arith, same, c.self.invariant.room_free);
     }
 
-pub returns-in-Ok-clause-entries : goal.returns-in-Ok-clause-entries
-returns-in-Ok-clause-entries c =
-    let hit = subst (λ (es : List Entry). (c.in-Ok.at < length es) × IsHit es c.in-Ok.at c.args.entry.key) c.deref.ensures.value c.in-Ok.ensures.found in
-    set-made c.args.entry c.self.inside.entries.items c.in-Ok.at c.self.invariant.sorted hit.1
-    ∙ ap (λ (s : Indexed). maps.insert s.entries c.args.entry.key c.args.entry) c.self.view_is
-
-pub returns-in-Ok-clause-free : goal.returns-in-Ok-clause-free
-returns-in-Ok-clause-free c =
+pub returns-then-is_some-clause-entries : goal.returns-then-is_some-clause-entries
+returns-then-is_some-clause-entries c =
     let x = c.args.entry in
-    let hit = subst (λ (es : List Entry). (c.in-Ok.at < length es) × IsHit es c.in-Ok.at x.key) c.deref.ensures.value c.in-Ok.ensures.found in
+    made-put x c.self.inside.entries c.set.new.self c.self.invariant.sorted c.set.ensures ∙ ap (λ (s : Indexed). maps.insert s.entries x.key x) c.self.view_is
+
+pub returns-then-is_some-clause-free : goal.returns-then-is_some-clause-free
+returns-then-is_some-clause-free c =
+    let x = c.args.entry in
+    let es = c.self.inside.entries in
+    let free = c.self.inside.free.items in
+    let held : is_some (find key_cmp x.key (pairs_of es)) ≡ true = search rules in
     sym (ap (λ (s : Indexed). taken_in (maps.get s.entries x.key) x.cell s.free) (sym c.self.view_is)
-    ∙ ap (λ o. taken_in o x.cell c.self.inside.free.items) (get-made c.self.inside.entries.items x.key c.self.invariant.sorted ∙ find-hit x.key c.self.inside.entries.items c.in-Ok.at x hit.1))
+    ∙ ap (λ o. taken_in o x.cell free) (get-made es x.key c.self.invariant.sorted) ∙ held_free (find key_cmp x.key (pairs_of es)) x.cell free held)
 
 pub place_of-place-requires : goal.place_of-place-requires
 place_of-place-requires c =
     let x = c.args.entry in
-    let gap = subst (λ (es : List Entry). (c.in-Err.at ≤ length es) × IsGap es c.in-Err.at x.key) c.deref.ensures.value c.in-Err.ensures.absent in
-    let none = ap (λ (s : Indexed). maps.get s.entries x.key) (sym c.self.view_is)
-    ∙ get-made c.self.inside.entries.items x.key c.self.invariant.sorted ∙ find-gap x.key c.self.inside.entries.items c.in-Err.at c.self.invariant.sorted gap.1 in
+    let es = c.self.inside.entries in
+    let missing : is_some (find key_cmp x.key (pairs_of es)) ≡ false = search rules in
+    let none = ap (λ (s : Indexed). maps.get s.entries x.key) (sym c.self.view_is) ∙ get-made es x.key c.self.invariant.sorted ∙ absent _ missing in
     let there = subst (λ o. MatchOption o (Contains c.args.self.now.free x.cell) (λ (e : Entry). e.cell ≡ x.cell)) none c.requires in
     subst (λ (xs : List ℕ). Contains xs x.cell) (ap (λ (s : Indexed). s.free) (sym c.self.view_is)) there
 
-pub invariant_of-self-in-Err : goal.invariant_of-self-in-Err
-invariant_of-self-in-Err c =
+pub invariant_of-self-else-is_some : goal.invariant_of-self-else-is_some
+invariant_of-self-else-is_some c =
     let x = c.args.entry in
-    let es = c.self.inside.entries.items in
-    let gap = subst (λ (es : List Entry). (c.in-Err.at ≤ length es) × IsGap es c.in-Err.at x.key) c.deref.ensures.value c.in-Err.ensures.absent in
+    let es = c.self.inside.entries in
+    let fs = c.set-else-is_some.new.self in
+    let missing : is_some (find key_cmp x.key (pairs_of es)) ≡ false = search rules in
+    let more : length fs ≡ length es + 1 = put-length x es fs c.self.invariant.sorted c.set-else-is_some.ensures ∙ ap (λ b. cond b (length es) (length es + 1)) missing in
     let less = taken_out _ _ (c.remove-cell.ensures.succeeds 0 c.place_of-place.ensures.within) c.remove-cell.ensures.len in
-    let fits = c.insert-fits.ensures.succeeds (omega (arith, less, c.self.invariant.room)) in
-    let more = at_most (is_ok c.insert-fits.result) (vec_len c.self.inside.entries) (vec_len c.insert-fits.new.self) c.insert-fits.ensures.len in
+    let spare = one_less _ c.self.inside.spare c.take-node.new.self c.take-node.ensures in
     record {
-      sorted = subst IsSorted (sym (c.insert-fits.ensures.items ∙ ap (λ b. cond b (insert es c.in-Err.at x) es) fits)) (insert-sorted x es c.in-Err.at c.self.invariant.sorted gap.1);
-      room = omega (arith, less, c.insert-fits.ensures.capacity, more, c.self.invariant.room);
-      room_free = omega (arith, less, c.remove-cell.ensures.capacity, more, c.self.invariant.room_free);
+      sorted = sorted-put x es fs c.self.invariant.sorted c.set-else-is_some.ensures;
+      room = omega (arith, less, spare, c.self.invariant.room);
+      room_free = omega (arith, less, more, c.remove-cell.ensures.capacity, c.self.invariant.room_free);
     }
 
-pub returns-in-Err-clause-entries : goal.returns-in-Err-clause-entries
-returns-in-Err-clause-entries c =
+pub returns-else-is_some-clause-entries : goal.returns-else-is_some-clause-entries
+returns-else-is_some-clause-entries c =
     let x = c.args.entry in
-    let es = c.self.inside.entries.items in
-    let gap = subst (λ (es : List Entry). (c.in-Err.at ≤ length es) × IsGap es c.in-Err.at x.key) c.deref.ensures.value c.in-Err.ensures.absent in
-    let less = taken_out _ _ (c.remove-cell.ensures.succeeds 0 c.place_of-place.ensures.within) c.remove-cell.ensures.len in
-    let fits = c.insert-fits.ensures.succeeds (omega (arith, less, c.self.invariant.room)) in
-    ap made (c.insert-fits.ensures.items ∙ ap (λ b. cond b (insert es c.in-Err.at x) es) fits)
-    ∙ insert-made x es c.in-Err.at c.self.invariant.sorted gap.1
-    ∙ ap (λ (s : Indexed). maps.insert s.entries x.key x) c.self.view_is
+    made-put x c.self.inside.entries c.set-else-is_some.new.self c.self.invariant.sorted c.set-else-is_some.ensures ∙ ap (λ (s : Indexed). maps.insert s.entries x.key x) c.self.view_is
 
-pub returns-in-Err-clause-free : goal.returns-in-Err-clause-free
-returns-in-Err-clause-free c =
+pub returns-else-is_some-clause-free : goal.returns-else-is_some-clause-free
+returns-else-is_some-clause-free c =
     let x = c.args.entry in
+    let es = c.self.inside.entries in
     let free = c.self.inside.free.items in
-    let gap = subst (λ (es : List Entry). (c.in-Err.at ≤ length es) × IsGap es c.in-Err.at x.key) c.deref.ensures.value c.in-Err.ensures.absent in
+    let missing : is_some (find key_cmp x.key (pairs_of es)) ≡ false = search rules in
     let items = taken_out _ _ (c.remove-cell.ensures.succeeds 0 c.place_of-place.ensures.within) c.remove-cell.ensures.items in
-    let erased = c.place_of-place.ensures.first in
-    items ∙ sym erased
+    items ∙ sym c.place_of-place.ensures.first
     ∙ sym (ap (λ (s : Indexed). taken_in (maps.get s.entries x.key) x.cell s.free) (sym c.self.view_is)
-    ∙ ap (λ o. taken_in o x.cell free) (get-made c.self.inside.entries.items x.key c.self.invariant.sorted ∙ find-gap x.key c.self.inside.entries.items c.in-Err.at c.self.invariant.sorted gap.1))
+    ∙ ap (λ o. taken_in o x.cell free) (get-made es x.key c.self.invariant.sorted ∙ absent _ missing))

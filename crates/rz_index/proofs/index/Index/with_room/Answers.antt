@@ -18,6 +18,6 @@ loop-cell-preserved c = record {
 pub returns : goal.returns
 returns c =
     let all : c.loop-cell.cell ≡ c.args.cells = omega (arith, c.loop-cell-test.false, c.loop-cell.auto.cell-end) in
-    ap (λ (xs : List Entry). indexed xs c.loop-cell.free.items) c.in_ok-entries.ensures.items
+    ap (λ (xs : List Entry). indexed xs c.loop-cell.free.items) c.new.ensures
     ∙ ap (λ (m : maps.FinMap key_cmp Entry). (let s : Indexed = record { entries = m; free = c.loop-cell.free.items } in s)) made-nothing
     ∙ ap (λ (xs : List ℕ). (let s : Indexed = record { entries = maps.empty; free = xs } in s)) (c.loop-cell.invariant.cells ∙ ap (range_with_len 0) all)

@@ -7,12 +7,15 @@ use Rattle.rz_events.specs.Events.{by_of, word_of}
 use Rattle.rz_cells.specs.declared.geometry.Geometry.{Geometry}
 use Rattle.rz_node_model.specs.Answers.{IsNodeAnswer}
 use Rattle.rz_node_model.specs.NodeEvents.{node_event}
-use Rattle.rz_core.specs.History.{facts}
+use Rattle.rz_core.specs.History.{facts, of_word}
+use Rattle.rz_play.specs.Faults.{fuse_of}
+use Rattle.rz_play.specs.Lines.{noted}
 use Rattle.rz_chronicle.specs.Keys.{count_at, word_key}
 use Rattle.rz_chronicle.specs.Kinds.{MayCome, is_honest, volume_in}
 use Rattle.rz_locked.specs.Adding.{Adds}
+use Rattle.rz_locked.specs.Counts.{GoesWith}
 use Rattle.rz_locked.specs.Seats.{SeatView, IsLogged, MayAsk, Answered, IsRead}
-use Rattle.rz_locked.proofs.Seats.{Served, its-event, may-come, logged-after, answered, later-adds}
+use Rattle.rz_locked.proofs.Seats.{Served, its-event, may-come, logged-after, answered, later-adds, word-after}
 use Rattle.rz_locked.proofs.seat.Seat.answered.Goals as goal
 
 pub add-requires-clause-its : goal.add-requires-clause-its
@@ -108,7 +111,10 @@ invariant_of-self g c =
     let ks = c.args.pass.now.keys in
     let adds : Adds (word_key (w.Node n) ∷ ks) h (node_event by n q given) new =
     subst (λ (u : Word). Adds (word_key u ∷ ks) h (node_event by n q given) new) inv.0
-    (subst (λ (o : Option Event). Adds (word_key c.self.inside.post.word ∷ ks) h o new) event c.add.ensures.adds) in (
+    (subst (λ (o : Option Event). Adds (word_key c.self.inside.post.word ∷ ks) h o new) event c.add.ensures.adds) in
+    let own = its-event kind h by n q given was.state c.args.bins.now (c.answers.ensures v) it may in
+    let word : of_word (w.Node n) c.add.new.post.log ≡ noted (node_event by n q given) (of_word (w.Node n) c.self.inside.post.log) =
+    ap (of_word (w.Node n)) c.add.ensures.one ∙ word-after c.words_kept.ensures by n ks c.self.inside.post.log h new (node_event by n q given) log adds own in (
       c.add.ensures.same.2 ∙ inv.0,
       inv.1,
       c.serve-answer.ensures.geometry ∙ inv.2,
@@ -119,6 +125,10 @@ invariant_of-self g c =
             (λ honest. c.serve-answer.ensures.after (inv.3 honest).0)
             (λ honest. c.serve-answer.ensures.imaged (inv.3 honest).0 v (facts h) n (may honest).hands (logged honest).imaged) honest),
       ),
+      inv.4,
+      c.left_with-self-inside.ensures (of_word (w.Node n) c.self.inside.post.log) inv.5 ∙ ap (λ (o : Option Event). fuse_of (noted o (of_word (w.Node n) c.self.inside.post.log))) event ∙ ap fuse_of (sym word),
+      subst (λ (u : List Event). GoesWith g.D.Disk.meter (g.J.Counting.first n) u after) (sym word)
+          (c.serve-answer.ensures.counts (g.J.Counting.first n) n (of_word (w.Node n) c.self.inside.post.log) by inv.5 inv.6),
     )
 
 pub returns-clause-answered : goal.returns-clause-answered

@@ -1,15 +1,19 @@
-use Rattle.std.proofs.Common.{◌≡◌, ◌+◌, ◌<◌, ◌^◌, ℕ, IsTrue, List, ◌∷◌, Some, sym, ap, ◌∙◌, subst}
+use Rattle.std.proofs.Common.{◌≡◌, ◌+◌, ◌<◌, ◌^◌, ℕ, IsTrue, List, ◌∷◌, Some, refl, sym, ap, ◌∙◌, subst}
+use Rattle.rz_events.specs.declared.keys.Actor.TheVariants.{Admin}
 use Rattle.rz_events.specs.declared.events.Word.{Word}
 use Rattle.rz_events.specs.declared.events.Word.TheVariants as w
 use Rattle.rz_events.specs.declared.events.Event.{Event}
 use Rattle.rz_events.specs.declared.events.Event.TheVariants as e
-use Rattle.rz_core.specs.History.{facts}
+use Rattle.rz_core.specs.History.{facts, of_word}
+use Rattle.rz_play.specs.Faults.{fuse_of}
 use Rattle.rz_chronicle.specs.Keys.{count_at, word_key}
 use Rattle.rz_chronicle.specs.Kinds.{is_honest, volume_in}
 use Rattle.rz_locked.specs.Adding.{Adds}
+use Rattle.rz_locked.specs.Counts.{GoesWith}
 use Rattle.rz_locked.specs.Laws.{IsStep}
 use Rattle.rz_locked.specs.Seats.{SeatView, IsLogged}
-use Rattle.rz_locked.proofs.Seats.{armed-logged}
+use Rattle.rz_locked.proofs.Metering.{arm-goes, armed-there}
+use Rattle.rz_locked.proofs.Seats.{armed-logged, word-after}
 use Rattle.rz_locked.proofs.seat.Seat.armed.Goals as goal
 
 pub add-requires-clause-legal : goal.add-requires-clause-legal
@@ -52,7 +56,9 @@ invariant_of-self g c =
     let after = c.arm.new.self in
     let x = e.Armed n c.args.passes c.args.pick in
     let ks = c.args.pass.now.keys in
-    let adds : Adds (word_key (w.Node n) ∷ ks) h (Some x) new = subst (λ (u : Word). Adds (word_key u ∷ ks) h (Some x) new) inv.0 c.add.ensures.adds in (
+    let adds : Adds (word_key (w.Node n) ∷ ks) h (Some x) new = subst (λ (u : Word). Adds (word_key u ∷ ks) h (Some x) new) inv.0 c.add.ensures.adds in
+    let word : of_word (w.Node n) c.add.new.post.log ≡ x ∷ of_word (w.Node n) c.self.inside.post.log =
+    ap (of_word (w.Node n)) c.add.ensures.one ∙ word-after c.words_kept.ensures Admin n ks c.self.inside.post.log h new (Some x) log adds (refl, refl) in (
       c.add.ensures.same.2 ∙ inv.0,
       inv.1,
       c.arm.ensures.geometry ∙ inv.2,
@@ -63,4 +69,9 @@ invariant_of-self g c =
             (c.fewer.ensures v (facts h) n was.geometry was.state was.disk after.disk c.arm.ensures.within (logged honest).imaged)
             c.arm.ensures.state c.arm.ensures.geometry ks new adds c.actor-by.ensures.own (c.add.ensures.fit honest)),
       ),
+      inv.4,
+      ap fuse_of (sym word),
+      subst (λ (u : List Event). GoesWith g.D.Disk.meter (g.J.Counting.first n) u after) (sym word)
+          (arm-goes g.D.Disk.meter c.armed.ensures (g.J.Counting.first n) n c.args.passes c.args.pick (of_word (w.Node n) c.self.inside.post.log) was after c.arm.ensures.state
+          (armed-there g.D.Disk.has_fuse (Some c.args.passes) (g.D.Disk.meter was.disk) (g.D.Disk.meter after.disk) inv.4 c.arm.ensures.meter) inv.6),
     )

@@ -4,7 +4,9 @@ use Rattle.rz_cells.specs.declared.geometry.Geometry.{Geometry}
 use Rattle.rz_core.specs.History.{facts, of_word}
 use Rattle.rz_image_laws.specs.Images.{AreImages, geometry_in}
 use Rattle.rz_chronicle.specs.Kinds.{volume_in}
+use Rattle.rz_locked.specs.Counts.{AreCountedSince}
 use Rattle.rz_locked.specs.Seats.{SeatView}
+use Rattle.rz_locked.proofs.Metering.{goes-counted}
 use Rattle.rz_locked.proofs.seat.Seat.close.Goals as goal
 
 pub returns-clause-images : goal.returns-clause-images
@@ -19,3 +21,13 @@ returns-clause-images g c = λ honest.
     subst (λ (x : SeatView). AreImages v (facts x.log) (of_word (w.Node x.node) x.log) x.node (geometry_in v x.node) (image c.into_disk.result)) c.self.view_is
     (subst (λ (d : g.row.D.Denot). AreImages v (facts l) (of_word (w.Node n) l) n (geometry_in v n) (image d)) (sym c.into_disk.ensures)
     (subst (λ (k : Geometry). AreImages v (facts l) (of_word (w.Node n) l) n k (image node.disk)) c.self.invariant.2 it))
+
+pub returns-clause-counted : goal.returns-clause-counted
+returns-clause-counted g c =
+    let meter = g.D.Disk.meter in
+    let n = c.self.inside.sid in
+    let l = c.self.inside.post.log in
+    let node = c.self.inside.node in
+    let it = goes-counted meter c.counted.ensures (g.J.Counting.first n) (of_word (w.Node n) l) node c.self.invariant.6 in
+    subst (λ (x : SeatView). AreCountedSince (g.J.Counting.first x.node) (meter c.into_disk.result).own (of_word (w.Node x.node) x.log)) c.self.view_is
+    (subst (λ (d : g.row.D.Denot). AreCountedSince (g.J.Counting.first n) (meter d).own (of_word (w.Node n) l)) (sym c.into_disk.ensures) it)

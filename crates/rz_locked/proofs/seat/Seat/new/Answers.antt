@@ -9,6 +9,9 @@ use Rattle.rz_core.specs.Tied.{IsNode}
 use Rattle.rz_image_laws.specs.Images.{IsImaged}
 use Rattle.rz_chronicle.specs.Kinds.{volume_in}
 use Rattle.rz_chronicle.specs.Rules.{PostView}
+use Rattle.rz_play.specs.Faults.{fuse_of}
+use Rattle.rz_locked.specs.Counts.{GoesWith}
+use Rattle.rz_locked.proofs.Metering.{fresh-goes}
 use Rattle.rz_locked.proofs.seat.Seat.new.Goals as goal
 
 pub invariant_of-result : goal.invariant_of-result
@@ -31,4 +34,8 @@ invariant_of-result g c =
               (λ t left. subst (λ (u : List ℕ). StandsFor node.geometry 0 u nothing) (sym (c.requires.settled t left)) (c.requires.stands (c.requires.tells honest))));
         },
       ),
+      c.requires.fuse,
+      ap (λ (h : List Event). fuse_of (of_word (w.Node n) h)) (sym empty),
+      subst (λ (h : List Event). GoesWith g.D.Disk.meter (g.J.Counting.first n) (of_word (w.Node n) h) node) (sym empty)
+          (fresh-goes g.D.Disk.meter (g.J.Counting.first n) node c.requires.count c.requires.unarmed),
     )

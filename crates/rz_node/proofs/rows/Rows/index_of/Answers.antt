@@ -12,6 +12,7 @@ loop-pair-init g c =
     record {
       rows = subst (λ (es : List Entry). IsRows n.geometry.cells n.heads.items 0 es c.args.self.free.items) (sym c.requires.entries)
           (subst (λ (ps : List ℕ). IsRows n.geometry.cells n.heads.items 0 [] ps) (sym c.requires.free) (rows-none n.geometry.cells n.heads.items));
+      spare = c.requires.spare;
       room = c.requires.room;
     }
 

@@ -1,8 +1,10 @@
 use Rattle.std.proofs.Common.{◌≡◌, length, sym, ◌∙◌, ap, subst, arith, vec_len}
-use Rattle.std.specs.List.{AllByRecursion}
+use Rattle.std.specs.Prelude.{nat_eq}
+use Rattle.std.specs.List.{AllByRecursion, IsDistinct}
 use Rattle.std.proofs.lemmas.List.{length-map}
 use Rattle.rz_events.specs.Volume.{Volume, IsNode, nodes_of}
 use Rattle.rz_events.specs.declared.files.NodeSpec.{NodeSpec}
+use Rattle.rz_chronicle.specs.Keys.{sids_of}
 use Rattle.rz_chronicle.specs.Kinds.{volume_in}
 use Rattle.rz_shared.proofs.NewSeats.{untouched, all-ready, made-length}
 use Rattle.rz_shared.proofs.cluster.Cluster.new.Goals as goal
@@ -15,8 +17,8 @@ format_all-requires-clause-nodes g c = subst (AllByRecursion IsNode) (sym (c.as_
 
 pub seat_all-seats-requires-clause-ready : goal.seat_all-seats-requires-clause-ready
 seat_all-seats-requires-clause-ready g c =
-    all-ready g.D.Disk.tells g.D.Disk.meter g.D.Disk.image g.D.Disk.text c.args.volume (volume_in g.J.Naming.kind) c.in-Ok.parts.layout c.as_slice.result.now c.args.disks.items c.in-Ok-format_all.stations.items c.args.desk.nodes.items
-    c.requires.volume c.new_parts.ensures.rules c.in-Ok.ensures.layout (c.as_slice.ensures.value ∙ c.in-Ok.ensures.nodes) c.requires.count c.in-Ok-format_all.ensures.made c.requires.nodes
+    all-ready g.D.Disk.tells g.D.Disk.meter g.D.Disk.image g.D.Disk.text g.J.Counting.first c.args.volume (volume_in g.J.Naming.kind) c.in-Ok.parts.layout c.as_slice.result.now c.args.disks.items c.in-Ok-format_all.stations.items c.args.desk.nodes.items
+    c.requires.volume c.new_parts.ensures.rules c.in-Ok.ensures.layout (c.as_slice.ensures.value ∙ c.in-Ok.ensures.nodes) c.requires.count c.requires.counts c.in-Ok-format_all.ensures.made c.requires.nodes
 
 pub seat_all-seats-requires-clause-room : goal.seat_all-seats-requires-clause-room
 seat_all-seats-requires-clause-room g c =
@@ -28,24 +30,46 @@ seat_all-seats-requires-clause-room g c =
     let room = c.in-Ok.ensures.room.1 in
     (c.in-Ok.ensures.room.0, omega (arith, same, nodes, stations, parts, room))
 
+pub of-requires-clause-seats : goal.of-requires-clause-seats
+of-requires-clause-seats g c =
+    let all = ap length c.in-Ok.ensures.nodes in
+    let volume = ap (λ (v : Volume). length (nodes_of v.clusters)) c.requires.volume in
+    let parts : vec_len c.in-Ok.parts.nodes ≡ length c.in-Ok.parts.nodes.items = c.in-Ok.parts.nodes.ok.0 in
+    let room = c.in-Ok.ensures.unlocked.1 in
+    (c.in-Ok.ensures.unlocked.0, omega (arith, all, volume, parts, room))
+
+pub of-requires-clause-disks : goal.of-requires-clause-disks
+of-requires-clause-disks g c =
+    let same = made-length g.D.Disk.tells g.D.Disk.meter g.D.Disk.image g.D.Disk.text c.in-Ok.parts.layout c.as_slice.result.now c.args.disks.items c.in-Ok-format_all.stations.items
+    (c.requires.count ∙ ap length (sym (c.as_slice.ensures.value ∙ c.in-Ok.ensures.nodes))) c.in-Ok-format_all.ensures.made in
+    let nodes = ap length c.as_slice.ensures.value in
+    let all = ap length c.in-Ok.ensures.nodes in
+    let volume = ap (λ (v : Volume). length (nodes_of v.clusters)) c.requires.volume in
+    let stations : vec_len c.in-Ok-format_all.stations ≡ length c.in-Ok-format_all.stations.items = c.in-Ok-format_all.stations.ok.0 in
+    let home = c.in-Ok-format_all.ensures.room in
+    (c.in-Ok-format_all.ensures.empty, omega (arith, same, nodes, all, volume, stations, home))
+
+pub of-requires-clause-posts : goal.of-requires-clause-posts
+of-requires-clause-posts g c =
+    let volume = ap (λ (v : Volume). length (nodes_of v.clusters)) c.requires.volume in
+    let desk : vec_len c.args.desk.nodes ≡ length c.args.desk.nodes.items = c.args.desk.nodes.ok.0 in
+    let fits = c.args.desk.nodes.ok.1 in
+    let posts = ap length c.requires.nodes ∙ (length-map _ _ ∙ length-map (nodes_of c.args.volume.clusters) (λ (n : NodeSpec). n.sid)) in
+    let kept = c.seat_all-seats.ensures.home in
+    (c.seat_all-seats.ensures.empty, omega (arith, volume, desk, fits, posts, kept))
+
 pub invariant_of-result : goal.invariant_of-result
 invariant_of-result g c =
     let same = made-length g.D.Disk.tells g.D.Disk.meter g.D.Disk.image g.D.Disk.text c.in-Ok.parts.layout c.as_slice.result.now c.args.disks.items c.in-Ok-format_all.stations.items
     (c.requires.count ∙ ap length (sym (c.as_slice.ensures.value ∙ c.in-Ok.ensures.nodes))) c.in-Ok-format_all.ensures.made in
     let nodes = ap length c.as_slice.ensures.value in
     let all = ap length c.in-Ok.ensures.nodes in
+    let volume = ap (λ (v : Volume). length (nodes_of v.clusters)) c.requires.volume in
     let stations : vec_len c.in-Ok-format_all.stations ≡ length c.in-Ok-format_all.stations.items = c.in-Ok-format_all.stations.ok.0 in
     let parts : vec_len c.in-Ok.parts.nodes ≡ length c.in-Ok.parts.nodes.items = c.in-Ok.parts.nodes.ok.0 in
-    let count = c.seat_all-seats.ensures.count in
-    let home = c.in-Ok-format_all.ensures.room in
-    let desk : vec_len c.args.desk.nodes ≡ length c.args.desk.nodes.items = c.args.desk.nodes.ok.0 in
-    let fits = c.args.desk.nodes.ok.1 in
-    let posts = ap length c.requires.nodes ∙ (length-map _ _ ∙ length-map (nodes_of c.args.volume.clusters) (λ (n : NodeSpec). n.sid)) in
-    let kept = c.seat_all-seats.ensures.home in (
+    let count = c.seat_all-seats.ensures.count in (
       c.in-Ok.ensures.nodes ∙ ap (λ (v : Volume). nodes_of v.clusters) c.requires.volume,
       omega (arith, count, same, nodes, stations, parts),
-      c.in-Ok-format_all.ensures.empty,
-      omega (arith, count, home),
-      c.seat_all-seats.ensures.empty,
-      omega (arith, count, same, nodes, all, stations, desk, fits, posts, kept),
+      omega (arith, count, same, nodes, all, stations, volume),
+      subst (λ (v : Volume). IsDistinct nat_eq (sids_of v)) c.requires.volume c.new_parts.ensures.rules.distinct_sids,
     )

@@ -2,7 +2,6 @@ use Rattle.std.proofs.Common.{◌≡◌, ◌+◌, ◌∷◌, [], false, Some, No
 use Rattle.std.specs.Option.{option_map_or}
 use Rattle.std.specs.FinMap as maps
 use Rattle.rz_export_model.specs.Firsts.{first_of}
-use Rattle.rz_export_model.specs.Paths.{above}
 use Rattle.rz_export_model.specs.Tree.{Tree, is_dir}
 use Rattle.rz_export_model.specs.Refusals.{walk, absent, dir, present, too_many_links}
 use Rattle.rz_export_model.specs.TreeCalls.{with_name}

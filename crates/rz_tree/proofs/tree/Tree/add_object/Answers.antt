@@ -1,6 +1,5 @@
-use Rattle.std.proofs.Common.{◌≡◌, ◌⊎◌, sym, ap, ◌∙◌, subst, refl}
+use Rattle.std.proofs.Common.{◌⊎◌, sym, ap, ◌∙◌, subst, refl}
 use Rattle.std.specs.Cmp.{nat_cmp_total}
-use Rattle.std.specs.FinMap as maps
 use Rattle.rz_export_model.specs.Tree.{Tree, Object, with_object}
 use Rattle.rz_tree.specs.Inodes.{object_of, with_attributes}
 use Rattle.rz_tree.specs.Trees.{tree_of, IsKept}

@@ -1,4 +1,4 @@
-use Rattle.std.proofs.Common.{◌≡◌, Some, None, take, ap, ◌∙◌, sym}
+use Rattle.std.proofs.Common.{Some, None, take, ap, ◌∙◌, sym}
 use Rattle.std.specs.Option.{option_copied, option_map}
 use Rattle.rz_export_model.specs.Tree.{found_at, links_of}
 use Rattle.rz_tree.specs.Inodes.{found_of}

@@ -1,5 +1,5 @@
-use Rattle.std.proofs.Common.{◌≡◌, ◌-◌, ◌^◌, sym, ap, ◌∙◌}
-use Rattle.std.specs.Prelude.{nat_lt, nat_le, ◌||◌}
+use Rattle.std.proofs.Common.{◌-◌, ◌^◌, sym, ap, ◌∙◌}
+use Rattle.std.specs.Prelude.{nat_le}
 use Rattle.std.specs.FinMap as maps
 use Rattle.rz_export_model.specs.Tree.{Tree}
 use Rattle.rz_tree.proofs.Tables.{len-objects}

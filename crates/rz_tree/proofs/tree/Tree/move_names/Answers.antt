@@ -1,10 +1,9 @@
 use Rattle.std.proofs.Common.{◌≡◌, ◌∷◌, [], false, Some, None, sym, ap, ◌∙◌, subst}
 use Rattle.std.specs.FinMap as maps
 use Rattle.rz_export_model.specs.Firsts.{first_of}
-use Rattle.rz_export_model.specs.Tree.{Tree, moved, names_under}
+use Rattle.rz_export_model.specs.Tree.{Tree, moved}
 use Rattle.rz_export_model.specs.Refusals.{walk, absent, into_itself, not_replaceable, is_same_object}
 use Rattle.rz_export_model.specs.TreeCalls.{renamed}
-use Rattle.rz_tree.specs.Inodes.{released}
 use Rattle.rz_tree.specs.Trees.{tree_of, IsKept}
 use Rattle.rz_tree.proofs.Adds.{above-there}
 use Rattle.rz_tree.proofs.Calls.{whole-path, led, rename-walk, rename-away, rename-last}

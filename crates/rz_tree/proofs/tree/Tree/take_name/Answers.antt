@@ -2,7 +2,6 @@ use Rattle.std.proofs.Common.{◌≡◌, [], Some, sym, ap, ◌∙◌, subst, in
 use Rattle.std.specs.FinMap as maps
 use Rattle.rz_export_model.specs.Tree.{Tree, names_under, is_at, is_dir}
 use Rattle.rz_export_model.specs.TreeCalls.{without_name}
-use Rattle.rz_tree.specs.Inodes.{released}
 use Rattle.rz_tree.specs.Trees.{tree_of, IsKept}
 use Rattle.rz_tree.proofs.Keys.{true-or-false}
 use Rattle.rz_tree.proofs.Names.{leaf-under}

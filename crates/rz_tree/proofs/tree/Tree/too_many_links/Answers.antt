@@ -1,4 +1,4 @@
-use Rattle.std.proofs.Common.{◌≡◌, Some, None, sym, ap, ◌∙◌}
+use Rattle.std.proofs.Common.{◌≡◌, Some, sym, ap, ◌∙◌}
 use Rattle.std.specs.FinMap as maps
 use Rattle.rz_export_model.specs.Refusals.{too_many_links}
 use Rattle.rz_tree.proofs.Calls.{whole-path, no-links, many-links}

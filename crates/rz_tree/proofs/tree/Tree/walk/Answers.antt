@@ -1,4 +1,4 @@
-use Rattle.std.proofs.Common.{◌≡◌, ◌≤◌, ◌<◌, Some, None, sym, ap, ◌∙◌, arith, length, subst}
+use Rattle.std.proofs.Common.{sym, ap, ◌∙◌, arith, length}
 use Rattle.rz_tree.proofs.Fronts.{walk-begin, walk-on, walk-stop, walk-done}
 use Rattle.rz_tree.proofs.tree.Tree.walk.Goals as goal
 

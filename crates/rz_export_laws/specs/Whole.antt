@@ -1,0 +1,1 @@
+-- When an export is whole.

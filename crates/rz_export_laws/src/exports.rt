@@ -1,0 +1,1 @@
+//! What each call keeps of an export.

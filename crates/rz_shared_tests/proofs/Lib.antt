@@ -1,0 +1,2 @@
+pub mod Dishonest
+pub mod Records

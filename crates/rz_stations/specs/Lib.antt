@@ -1,0 +1,7 @@
+pub mod Stations
+pub mod Nodes
+pub mod Meters
+pub mod Images
+pub mod Administration
+pub mod Asked
+pub mod Fetches
