@@ -8,8 +8,8 @@ use Rattle.rz_events.specs.declared.export.Reply.TheVariants.{NoMemory}
 use Rattle.rz_export_model.specs.Export.{Export, new_export, is_proper, export_reply, export_after}
 use Rattle.rz_export.specs.Calls.{IsAnswered, MayWant}
 use Rattle.rz_journal_text.specs.declared.entry.Entry.{Entry}
-use Rattle.rz_journal_text.specs.Spelling.{entry_bytes, Spells}
-use Rattle.rz_journal_disk.specs.Row.{Entries, taken, row_bytes}
+use Rattle.rz_journal_text.specs.Spelling.{entry_bytes}
+use Rattle.rz_journal_disk.specs.Row.{taken}
 use Rattle.rz_journal_disk.specs.Stands.{StandsFor, IsShut, IsOpen, Either, Becomes, with_last, instead}
 use Rattle.rz_journal_disk.proofs.Rows.{length-row_bytes}
 use Rattle.rz_journal.specs.Said.{entry_of, accepts}

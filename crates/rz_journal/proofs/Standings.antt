@@ -1,5 +1,5 @@
 -- Two paths of as many names, of which one begins with the other, are the same.
-use Rattle.std.proofs.Common.{◌≡◌, Bool, true, List, [], ◌∷◌, length, Ordering, refl, ap, ◌∙◌, arith}
+use Rattle.std.proofs.Common.{◌≡◌, true, [], ◌∷◌, length, Ordering, refl, ap, ◌∙◌, arith}
 use Rattle.std.proofs.lemmas.Bool.{and_parts}
 use Rattle.std.specs.Ordering.{is_eq}
 use Rattle.std.specs.declared.cmp.Ordering.TheVariants.{Less, Equal, Greater}

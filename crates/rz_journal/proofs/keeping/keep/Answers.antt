@@ -2,7 +2,6 @@
 use Rattle.std.proofs.Common.{rules, ◌≡◌, false, true, sym, ◌∙◌, subst}
 use Rattle.rz_export_model.specs.Export.{Export}
 use Rattle.rz_journal_text.specs.Spelling.{entry_bytes}
-use Rattle.rz_journal.specs.Said.{accepts}
 use Rattle.rz_journal.specs.Kept.{IsReady}
 use Rattle.rz_journal.proofs.Keepings.{answered_so, answered_not, answered_volume, accepted_of, added_images, ready_after}
 use Rattle.rz_journal.proofs.keeping.keep.Goals as goal
