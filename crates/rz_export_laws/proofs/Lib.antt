@@ -2,12 +2,15 @@ mod Keys
 mod Fronts
 mod Moves
 mod Places
-pub mod Empty
-pub mod Changed
+mod Empty
+mod Changed
 mod Made
 mod Taken
 mod Linked
 mod Moved
 mod Spelled
 mod Refused
-mod Calls
+mod TreeCalls
+mod TreeKept
+mod Depth
+mod Written

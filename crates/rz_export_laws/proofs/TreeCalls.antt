@@ -15,9 +15,9 @@ use Rattle.rz_export_model.specs.Firsts.{first_of, given_if}
 use Rattle.rz_export_model.specs.Paths.{Path, above, is_root, begins_with}
 use Rattle.rz_export_model.specs.Tree.{Tree, Object, Found, found_at, fid_at, file_of, file_from, grown, is_at, is_dir, is_file, names_under, moved, with_object, new_dir, new_file, new_link}
 use Rattle.rz_export_model.specs.Refusals.{path_in, unreadable, unreadable_or_root, bad_target, can_not_make, walk, absent, present, dir, not_dir, not_empty, too_many_links, into_itself, not_replaceable, is_same_object, refusal}
-use Rattle.rz_export_model.specs.TreeCalls.{changed_by, tree_after, with_name, renamed, without_name}
+use Rattle.rz_export_model.specs.TreeCalls.{changed_by, with_name, renamed, without_name}
 use Rattle.rz_tree.specs.Added.{FitsKind, IsDirectory, IsSymlink}
-use Rattle.rz_export_laws.specs.WholeTree.{IsWholeTree, is_plain, StaysWhole, GrowsWhole}
+use Rattle.rz_export_laws.specs.WholeTree.{IsWholeTree, is_plain, CallKeepsTree}
 use Rattle.rz_export_laws.proofs.Keys.{none-or-some, held}
 use Rattle.rz_export_laws.proofs.Fronts.{above-other}
 use Rattle.rz_export_laws.proofs.Places.{or_none, given-false, absent-name, above-dir, empty-under, leaf-under}
@@ -66,7 +66,8 @@ given-true false x h = h
 file-kind : (fid : ℕ) (o : Object) → is_some (file_from fid o) ≡ true → is_file o.kind ≡ true
 file-kind fid o h = given-true (is_file o.kind) _ h
 
-pub grows-whole : GrowsWhole
+-- a live file may grow
+pub grows-whole : (t : Tree) (fid size : ℕ) → is_some (file_of t fid) ≡ true → IsWholeTree t → IsWholeTree (grown t fid size)
 grows-whole t fid size there w =
     object-whole t w fid _ (λ o is. (refl, fits-sized o.kind _ o (file-kind fid o (ap is_some (sym (ap (option_and_then (file_from fid)) is)) ∙ there)) (w.fits fid o is)))
 
@@ -180,7 +181,7 @@ module _ (t : Tree) (w : IsWholeTree t) (cid : ℕ) (places : List ℕ) where
   answered (call.Readdir path) free = w
   answered (call.OpenFile path) free = w
 
-pub stays-whole : StaysWhole
+pub stays-whole : CallKeepsTree
 stays-whole t cid places c w = go (refusal t c) refl
   where
     go : (f : Option TreeFault) → refusal t c ≡ f → IsWholeTree (option_map_or (λ (f : TreeFault). t) f (changed_by t cid places c))
