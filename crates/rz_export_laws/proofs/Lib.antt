@@ -14,3 +14,9 @@ mod TreeCalls
 mod TreeKept
 mod Depth
 mod Written
+mod InOrder
+mod Placing
+mod Carrying
+mod Calls
+mod Stays
+mod Parts
