@@ -1,6 +1,8 @@
 pub mod Keepings
 pub mod Listings
 pub mod Makings
+pub mod Openings
 pub mod PartRows
 pub mod Refused
+pub mod Reopened
 pub mod Standings

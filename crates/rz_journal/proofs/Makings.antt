@@ -107,7 +107,7 @@ pub accepted_more : (s : Export) (calls : List Call) (c : Call) → AreAccepted 
 accepted_more s [] c all one = (one, tt)
 accepted_more s (d ∷ calls) c all one = (all.0, accepted_more (export_after s d) calls c all.1 one)
 
-said_more : (later : List Entry) (calls : List Call) (e : Entry) (d : Call) → map call_said later ≡ map Some calls → call_said e ≡ Some d → map call_said (later ++ e ∷ []) ≡ map Some (calls ++ d ∷ [])
+pub said_more : (later : List Entry) (calls : List Call) (e : Entry) (d : Call) → map call_said later ≡ map Some calls → call_said e ≡ Some d → map call_said (later ++ e ∷ []) ≡ map Some (calls ++ d ∷ [])
 said_more [] [] e d all one = ap (λ (o : Option Call). o ∷ []) one
 said_more [] (c ∷ calls) e d all one = absurd (cc)
 said_more (x ∷ later) [] e d all one = absurd (cc)

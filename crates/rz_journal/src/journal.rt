@@ -37,10 +37,10 @@ pub enum JournalReply {
 /// An export whose accepted calls stand on a disk.
 #[derive(Drop)]
 pub struct Journal<D: Disk> {
-    alloc: Global,
-    export: Export,
-    entries: Entries<D>,
-    closed: bool,
+    pub(crate) alloc: Global,
+    pub(crate) export: Export,
+    pub(crate) entries: Entries<D>,
+    pub(crate) closed: bool,
 }
 
 impl<D: Disk> Model for Journal<D> {

@@ -1,0 +1,116 @@
+-- The half that was read is the one that the text picks.
+use Rattle.std.proofs.Common.{◌≡◌, ℕ, ◌+◌, ◌%◌, ◌<◌, ◌≤◌, Bool, IsTrue, List, [], ◌∷◌, length, get_or, refl, sym, ◌∙◌, ap, subst, arith}
+use Rattle.rz_disk.specs.Images.{window}
+use Rattle.rz_events.specs.Volume.{Volume}
+use Rattle.rz_export_model.specs.Export.{Export, new_export}
+use Rattle.rz_journal_text.specs.declared.entry.Entry.{Entry as Said}
+use Rattle.rz_journal_text.specs.Spelling.{Spells}
+use Rattle.rz_journal_text.proofs.EntryLaws.{one_entry}
+use Rattle.rz_journal_disk.specs.declared.opening.OpenFault.{OpenFault}
+use Rattle.rz_journal_disk.specs.declared.opening.OpenFault.TheVariants as half
+use Rattle.rz_journal_disk.specs.Row.{Entries, taken, EndsAt}
+use Rattle.rz_journal_disk.specs.Stands.{disk_bytes, half_bytes, half_at, IsJournal, Holds, IsOpen}
+use Rattle.rz_journal_disk.specs.Opening.{IsHalf, Refuses, HoldsSoFar}
+use Rattle.rz_journal_disk.proofs.Changes.{size_is}
+use Rattle.rz_journal_disk.proofs.Opened.{half_size_is}
+use Rattle.rz_journal_disk.proofs.Halves.{ends_moved}
+use Rattle.rz_journal_disk.proofs.Rows.{one_row}
+use Rattle.rz_journal.specs.declared.rebuilding.JournalFault.{JournalFault}
+use Rattle.rz_journal.specs.declared.rebuilding.JournalFault.TheVariants.{NoMemory, WrongSize, DiskFault, Unformatted, BadHeader, Damaged}
+use Rattle.rz_journal.specs.JournalText.{AreSpelled, Makes, Keeps}
+use Rattle.rz_journal.specs.Listed.{SoFar}
+use Rattle.rz_journal.specs.Kept.{IsReady}
+use Rattle.rz_journal.specs.Opening.{made_by, IsRebuilt, IsStopped, IsDamagedAt, IsReopened, IsMade, IsRefused, fault_of}
+
+-- the rows of the entries of a half, with the end behind them
+so_far_ends : (half : List ℕ) (entries : List Said) (used : ℕ) (so : SoFar half entries used) → get_or half used 0 % 2 ≡ 0 → EndsAt 0 so.0 half
+so_far_ends half entries used so ends =
+    let place : used ≡ 0 + taken so.0 = (let is = so.3 in omega (arith, is)) in
+    record { row = so.1; shut = subst (λ (k : ℕ). get_or half k 0 % 2 ≡ 0) place ends }
+
+pub holds_there : (volume : Volume) (half : List ℕ) (used : ℕ) (s : Export) → IsRebuilt volume half used s → HoldsSoFar half used
+holds_there volume half used s is = (is.so_far.0, so_far_ends half is.entries used is.so_far is.ends, is.so_far.3)
+
+pub small_there : (half : ℕ) (text : List ℕ) → IsJournal half text → half < 2
+small_there half text journal = let picked = journal.picked in omega (arith, picked)
+
+-- the entries of the half keep the export
+pub keeps_there : (volume : Volume) (text : List ℕ) (used : ℕ) (s : Export) → IsReopened volume text used s → used < 8_388_576 → Keeps volume text s
+keeps_there volume text used s re room =
+    let is = re.rebuilt in
+    let there = window (half_at re.half) half_bytes text in
+    let size = re.journal.size in
+    let small = small_there re.half text re.journal in
+    let count = is.so_far.3 in
+    record {
+      bytes = is.so_far.0;
+      entries = is.entries;
+      stands = (
+        re.half,
+        record {
+          journal = re.journal;
+          ends = ends_moved (half_at re.half) half_bytes there text refl (omega (arith, size, small, size_is, half_size_is)) is.so_far.0 (omega (arith, count, room, half_size_is)) (so_far_ends there is.entries used is.so_far is.ends);
+          room = omega (arith, count, room);
+        },
+      );
+      spelled = is.so_far.2;
+      makes = is.makes;
+    }
+
+module _ (tells : Bool) (text : List ℕ) (image : List ℕ → Type 0) (half : ℕ) (bytes : List ℕ) (is : IsHalf tells text image half bytes) (volume : Volume) where
+  pub reopened : (used : ℕ) (s : Export) → IsRebuilt volume bytes used s → IsTrue tells → IsReopened volume text used s
+  reopened used s r told = record { half = half; journal = is.picked.1 told; rebuilt = subst (λ (b : List ℕ). IsRebuilt volume b used s) (is.same told) r }
+
+  pub room_there : (used : ℕ) → used < length bytes → used < 8_388_576
+  room_there used inside = let all = is.all in omega (arith, inside, all, half_size_is)
+
+  pub some_there : 1 ≤ length bytes
+  some_there = let all = is.all in omega (arith, all, half_size_is)
+
+  pub stopped : (fault : JournalFault) → IsStopped volume bytes fault → IsRefused tells volume text fault
+  stopped NoMemory why = tt
+  stopped (WrongSize have need) why = absurd why
+  stopped DiskFault why = absurd why
+  stopped Unformatted why = absurd why
+  stopped BadHeader why = absurd why
+  stopped (Damaged number) why = (is.size, λ told. (half, is.picked.1 told, subst (λ (b : List ℕ). IsDamagedAt volume b number) (is.same told) why))
+
+pub refused : (tells : Bool) (volume : Volume) (text : List ℕ) (fault : OpenFault) → Refuses tells text fault → IsRefused tells volume text (fault_of fault)
+refused tells volume text half.NoMemory why = why
+refused tells volume text (half.WrongSize have need) why = why
+refused tells volume text half.DiskFault why = why
+refused tells volume text half.Unformatted why = why
+refused tells volume text half.BadHeader why = why
+
+-- only a fault of a disk is one of its journal
+pub disk_fault : (fault : OpenFault) → fault_of fault ≡ DiskFault → fault ≡ half.DiskFault
+disk_fault half.NoMemory is = absurd (cc)
+disk_fault (half.WrongSize have need) is = absurd (cc)
+disk_fault half.DiskFault is = refl
+disk_fault half.Unformatted is = absurd (cc)
+disk_fault half.BadHeader is = absurd (cc)
+
+pub no_disk_fault : (volume : Volume) (half : List ℕ) (fault : JournalFault) → IsStopped volume half fault → fault ≡ DiskFault → ⊥
+no_disk_fault volume half fault why is = subst (IsStopped volume half) is why
+
+-- ---- no other export
+
+one_list : (bytes : Entries) (xs ys : List Said) → AreSpelled bytes xs → AreSpelled bytes ys → xs ≡ ys
+one_list [] [] [] first second = refl
+one_list [] [] (y ∷ ys) first second = absurd second
+one_list [] (x ∷ xs) ys first second = absurd first
+one_list (b ∷ bytes) [] ys first second = absurd first
+one_list (b ∷ bytes) (x ∷ xs) [] first second = absurd second
+one_list (b ∷ bytes) (x ∷ xs) (y ∷ ys) first second =
+    ap (λ (l : List Said). x ∷ l) (one_list bytes xs ys first.1 second.1) ∙ ap (λ (e : Said). e ∷ ys) (one_entry b x y first.0 second.0)
+
+same_half : (volume : Volume) (half : List ℕ) (m n : ℕ) (s u : Export) → IsRebuilt volume half m s → IsRebuilt volume half n u → s ≡ u
+same_half volume half m n s u one other =
+    let row = one_row one.so_far.0 other.so_far.0 0 half (so_far_ends half one.entries m one.so_far one.ends) (so_far_ends half other.entries n other.so_far other.ends) in
+    let entries = one_list other.so_far.0 one.entries other.entries (subst (λ (b : Entries). AreSpelled b one.entries) row one.so_far.2) other.so_far.2 in
+    one.made ∙ ap (made_by volume) entries ∙ sym other.made
+
+pub same_made : (volume : Volume) (text : List ℕ) (used : ℕ) (s u : Export) → IsReopened volume text used s → IsMade volume text u → s ≡ u
+same_made volume text used s u one other =
+    let same : other.1.half ≡ one.half = sym other.1.journal.picked ∙ one.journal.picked in
+    same_half volume (window (half_at one.half) half_bytes text) used other.0 s u one.rebuilt (subst (λ (h : ℕ). IsRebuilt volume (window (half_at h) half_bytes text) other.0 u) same other.1.rebuilt)
