@@ -1,13 +1,16 @@
 -- Entries one after another, and the export that they make.
-use Rattle.std.proofs.Common.{◌≡◌, ◌≢◌, ◌↔◌, ℕ, ◌+◌, ◌<◌, ◌≤◌, inl, inr, Bool, true, false, IsTrue, List, [], ◌∷◌, ◌++◌, length, map, replicate, Option, Some, None, refl, sym, ◌∙◌, ap, subst, arith, append_assoc}
+use Rattle.std.proofs.Common.{◌≡◌, ◌≢◌, ◌↔◌, ℕ, ◌+◌, ◌<◌, ◌≤◌, ◌⊎◌, inl, inr, ⊎_elim, Bool, true, false, IsTrue, List, [], ◌∷◌, ◌++◌, length, map, replicate, Option, Some, None, Result, Ok, Err, IfOk, refl, sym, ◌∙◌, ap, subst, arith, append_assoc}
 use Rattle.std.proofs.lemmas.List.{append-nil}
 use Rattle.rz_events.specs.Volume.{Volume}
 use Rattle.rz_events.specs.declared.export.Call.{Call}
 use Rattle.rz_events.specs.declared.export.Call.TheVariants as call
-use Rattle.rz_export_model.specs.Export.{Export, new_export, export_after}
+use Rattle.rz_events.specs.declared.export.Reply.{Reply}
+use Rattle.rz_events.specs.declared.export.Reply.TheVariants.{NoMemory}
+use Rattle.rz_export_model.specs.Export.{Export, new_export, export_reply, export_after}
 use Rattle.rz_tree.specs.declared.parts.Part.{Part}
 use Rattle.rz_tree.specs.declared.parts.Part.TheVariants as part
 use Rattle.rz_tree.specs.Added.{IsRootPart, AreNamed}
+use Rattle.rz_export.specs.Calls.{IsAnswered, MayWant}
 use Rattle.rz_export.specs.Parts.{export_parts}
 use Rattle.rz_export.specs.Building.{with_part, with_parts, made_of, IsCounters, MayBeNext, MayFollow, AllFollow, ArePartsOf, MayAdd, AllAdd}
 use Rattle.rz_export.proofs.Joined.{made-more, all-add, made-parts}
@@ -17,10 +20,10 @@ use Rattle.rz_journal.specs.declared.reading.Step.{Step}
 use Rattle.rz_journal.specs.declared.reading.Step.TheVariants.{End, Entry, Damaged}
 use Rattle.rz_journal.specs.declared.rebuilding.Stage.{Stage}
 use Rattle.rz_journal.specs.declared.rebuilding.Stage.TheVariants.{Empty, Counters, Parts, Calls}
-use Rattle.rz_journal.specs.Said.{call_said}
+use Rattle.rz_journal.specs.Said.{call_said, accepts}
 use Rattle.rz_journal.specs.JournalText.{IsAccepted, AreAccepted, after_all, BeginsWith, Makes}
 use Rattle.rz_journal.specs.Listed.{IsStep, SoFar}
-use Rattle.rz_journal.specs.Opening.{said_by, said_by_all, made_by, AreNoneOrAll, EndWell, PartGoes, CallGoes, Goes, AllGo, IsAt, ArePartsSoFar, AreCallsSoFar, IsStage, IsSomeStage, TellsEnd, TellsPart, IsAdded, IsRebuilt, IsWrong, IsDamagedAt}
+use Rattle.rz_journal.specs.Opening.{said_by, said_by_all, made_by, AreNoneOrAll, EndWell, PartGoes, CallGoes, Goes, AllGo, IsAt, ArePartsSoFar, AreCallsSoFar, IsStage, after_part, IsSomeStage, TellsEnd, TellsPart, IsAdded, IsRebuilt, IsWrong, IsDamagedAt}
 use Rattle.rz_journal.proofs.Listings.{none_so_far, one_more, next_is}
 use Rattle.rz_journal.proofs.Makings.{after_more, accepted_more, said_more}
 
@@ -62,7 +65,7 @@ add_last : (s : Export) (ps : List Part) (p : Part) → AllAdd s (ps ++ p ∷ []
 add_last s [] p all = all.0
 add_last s (q ∷ ps) p all = add_last (with_part s q) ps p all.1
 
-part_volume : (s : Export) (p : Part) → (with_part s p).volume ≡ s.volume
+pub part_volume : (s : Export) (p : Part) → (with_part s p).volume ≡ s.volume
 part_volume s (part.Counters last made) = refl
 part_volume s (part.Object fid kind mode mtime size cid places target) = refl
 part_volume s (part.Name path fid) = refl
@@ -217,24 +220,19 @@ never_tells s p volume before so = ((λ no. absurd (let wrong : false ≡ true =
 
 -- ---- a part more
 
+parts_add : (volume : Volume) (before : List Said) (stage : Stage) (s : Export) (p : Part) → ArePartsSoFar volume before stage s → PartGoes volume before p → MayAdd s p
+parts_add volume before stage s p so goes =
+    let all = all-add volume (so.parts ++ p ∷ []) (follow_more volume [] so.parts p so.each (goes_is volume before stage s p so goes)) in
+    subst (λ (x : Export). MayAdd x p) (sym so.made) (add_last (new_export volume 0) so.parts p all)
+
+add_there : (volume : Volume) (before : List Said) (stage : Stage) (s : Export) (p : Part) → IsStage volume before stage s → PartGoes volume before p → MayAdd s p
+add_there volume before Empty s p so goes = parts_add volume before Empty s p so goes
+add_there volume before Counters s p so goes = parts_add volume before Counters s p so goes
+add_there volume before Parts s p so goes = parts_add volume before Parts s p so goes
+add_there volume before Calls s p so goes = absurd (so.past goes.0 goes.1)
+
 pub may_add : (stage : Stage) (s : Export) (p : Part) → IsSomeStage stage s → TellsPart stage s p true → MayAdd s p
-may_add stage s p some tells = go stage some.2
-  where
-    volume : Volume
-    volume = some.0
-    before : List Said
-    before = some.1
-    goes : PartGoes volume before p
-    goes = (tells volume before some.2).0 refl
-    parts_add : (at : Stage) → ArePartsSoFar volume before at s → MayAdd s p
-    parts_add at so =
-        let all = all-add volume (so.parts ++ p ∷ []) (follow_more volume [] so.parts p so.each (goes_is volume before at s p so goes)) in
-        subst (λ (x : Export). MayAdd x p) (sym so.made) (add_last (new_export volume 0) so.parts p all)
-    go : (at : Stage) → IsStage volume before at s → MayAdd s p
-    go Empty so = parts_add Empty so
-    go Counters so = parts_add Counters so
-    go Parts so = parts_add Parts so
-    go Calls so = absurd (so.past goes.0 goes.1)
+may_add stage s p some tells = add_there some.0 some.1 stage s p some.2 ((tells some.0 some.1 some.2).0 refl)
 
 parts_more : (volume : Volume) (before : List Said) (stage later : Stage) (s u : Export) (p : Part) (so : ArePartsSoFar volume before stage s) → PartGoes volume before p → u ≡ with_part s p → IsAt later (length so.parts + 1) → ArePartsSoFar volume (before ++ entry.Built p ∷ []) later u
 parts_more volume before stage later s u p so goes made at = record {
@@ -245,24 +243,17 @@ parts_more volume before stage later s u p so goes made at = record {
   at = subst (IsAt later) (sym (length_more so.parts p)) at;
 }
 
--- the first part was added
-pub first_added : (s u : Export) (p : Part) → TellsPart Empty s p true → u ≡ with_part s p → IsAdded (entry.Built p) Empty s true Counters u
-first_added s u p tells made volume before so =
+pub part_added : (stage : Stage) (s u : Export) (p : Part) → TellsPart stage s p true → u ≡ with_part s p → IsAdded (entry.Built p) stage s true (after_part stage) u
+part_added Empty s u p tells made volume before so =
     let goes = (tells volume before so).0 refl in
     (goes, parts_more volume before Empty Counters s u p so goes made (let none = so.at in omega (arith, none)))
-
-pub second_added : (s u : Export) (p : Part) → TellsPart Counters s p true → u ≡ with_part s p → IsAdded (entry.Built p) Counters s true Parts u
-second_added s u p tells made volume before so =
+part_added Counters s u p tells made volume before so =
     let goes = (tells volume before so).0 refl in
     (goes, parts_more volume before Counters Parts s u p so goes made (let one = so.at in omega (arith, one)))
-
-pub next_added : (s u : Export) (p : Part) → TellsPart Parts s p true → u ≡ with_part s p → IsAdded (entry.Built p) Parts s true Parts u
-next_added s u p tells made volume before so =
+part_added Parts s u p tells made volume before so =
     let goes = (tells volume before so).0 refl in
     (goes, parts_more volume before Parts Parts s u p so goes made (let two = so.at in omega (arith, two)))
-
-pub never_added : (s u : Export) (p : Part) (later : Stage) → TellsPart Calls s p true → IsAdded (entry.Built p) Calls s true later u
-never_added s u p later tells volume before so = let goes = (tells volume before so).0 refl in absurd (so.past goes.0 goes.1)
+part_added Calls s u p tells made volume before so = let goes = (tells volume before so).0 refl in absurd (so.past goes.0 goes.1)
 
 pub part_stops : (stage : Stage) (s : Export) (p : Part) (later : Stage) (u : Export) → TellsPart stage s p false → IsAdded (entry.Built p) stage s false later u
 part_stops stage s p later u tells volume before so goes = (let wrong : false ≡ true = (tells volume before so).1 goes in absurd (cc))
@@ -304,6 +295,19 @@ early_stops stage s c later u tells e said volume before so goes =
 pub call_stops : (stage : Stage) (s : Export) (c : Call) (later : Stage) (u : Export) → ¬ IsAccepted s c → (e : Said) → call_said e ≡ Some c → IsAdded e stage s false later u
 call_stops stage s c later u never e said volume before so goes =
     never (subst (λ (x : Export). IsAccepted x c) (sym (stage_made volume before stage s so)) (goes_call volume before e c said goes).1)
+
+-- what is added of a call is added of its entry
+pub added_of : {E : Type 0} (r : Result Bool E) (e : Said) (c : Call) (stage later : Stage) (s u : Export) → call_said e ≡ Some c
+    → IfOk r (λ goes. (d : Said) → call_said d ≡ Some c → IsAdded d stage s goes later u) → IfOk r (λ goes. IsAdded e stage s goes later u)
+added_of (Ok goes) e c stage later s u said added = added e said
+added_of (Err fault) e c stage later s u said added = tt
+
+-- what a reply says that is not want of memory
+pub asked : (s u : Export) (c : Call) (r : Reply) → IsAnswered s c r u → r ≢ NoMemory → (accepts r ≡ accepts (export_reply s c)) × (u ≡ export_after s c)
+asked s u c r answered other = ⊎_elim
+    (λ (model : (r ≡ export_reply s c) × (u ≡ export_after s c)). (ap accepts model.0, model.1))
+    (λ (want : MayWant s c × (r ≡ NoMemory) × (u ≡ s)). absurd (other want.1))
+    answered
 
 -- ---- all entries so far
 

@@ -1,9 +1,11 @@
 -- The half that was read is the one that the text picks.
-use Rattle.std.proofs.Common.{◌≡◌, ℕ, ◌+◌, ◌%◌, ◌<◌, ◌≤◌, Bool, IsTrue, List, [], ◌∷◌, length, get_or, refl, sym, ◌∙◌, ap, subst, arith}
+use Rattle.std.proofs.Common.{◌≡◌, ℕ, ◌+◌, ◌%◌, ◌<◌, ◌≤◌, Bool, IsTrue, List, [], ◌∷◌, length, replicate, get_or, refl, sym, ◌∙◌, ap, subst, arith}
 use Rattle.rz_disk.specs.Images.{window}
 use Rattle.rz_events.specs.Volume.{Volume}
 use Rattle.rz_export_model.specs.Export.{Export, new_export}
+use Rattle.rz_events.specs.declared.export.Call.TheVariants as call
 use Rattle.rz_journal_text.specs.declared.entry.Entry.{Entry as Said}
+use Rattle.rz_journal_text.specs.declared.entry.Entry.TheVariants as entry
 use Rattle.rz_journal_text.specs.Spelling.{Spells}
 use Rattle.rz_journal_text.proofs.EntryLaws.{one_entry}
 use Rattle.rz_journal_disk.specs.declared.opening.OpenFault.{OpenFault}
@@ -20,7 +22,9 @@ use Rattle.rz_journal.specs.declared.rebuilding.JournalFault.TheVariants.{NoMemo
 use Rattle.rz_journal.specs.JournalText.{AreSpelled, Makes, Keeps}
 use Rattle.rz_journal.specs.Listed.{SoFar}
 use Rattle.rz_journal.specs.Kept.{IsReady}
-use Rattle.rz_journal.specs.Opening.{made_by, IsRebuilt, IsStopped, IsDamagedAt, IsReopened, IsMade, IsRefused, fault_of}
+use Rattle.rz_journal.proofs.Openings.{part_volume}
+use Rattle.rz_journal.proofs.Refused.{volume_same}
+use Rattle.rz_journal.specs.Opening.{said_by, said_by_all, made_by, IsRebuilt, IsStopped, IsDamagedAt, IsReopened, IsMade, IsRefused, fault_of}
 
 -- the rows of the entries of a half, with the end behind them
 so_far_ends : (half : List ℕ) (entries : List Said) (used : ℕ) (so : SoFar half entries used) → get_or half used 0 % 2 ≡ 0 → EndsAt 0 so.0 half
@@ -92,6 +96,29 @@ disk_fault half.BadHeader is = absurd (cc)
 
 pub no_disk_fault : (volume : Volume) (half : List ℕ) (fault : JournalFault) → IsStopped volume half fault → fault ≡ DiskFault → ⊥
 no_disk_fault volume half fault why is = subst (IsStopped volume half) is why
+
+-- ---- the volume
+
+said_volume : (s : Export) (e : Said) → (said_by s e).volume ≡ s.volume
+said_volume s (entry.Tree c) = volume_same s (call.Tree c)
+said_volume s (entry.Begin key bytes) = volume_same s (call.Begin key (replicate bytes 0))
+said_volume s (entry.Publish key stamp mask bytes) = volume_same s (call.Publish key stamp mask bytes)
+said_volume s (entry.Enroll node loss) = volume_same s (call.Enroll node loss)
+said_volume s (entry.Built p) = part_volume s p
+
+all_volume : (s : Export) (es : List Said) → (said_by_all s es).volume ≡ s.volume
+all_volume s [] = refl
+all_volume s (e ∷ es) = all_volume (said_by s e) es ∙ said_volume s e
+
+pub rebuilt_volume : (volume : Volume) (half : List ℕ) (used : ℕ) (s : Export) → IsRebuilt volume half used s → s.volume ≡ volume
+rebuilt_volume volume half used s is = ap (λ (x : Export). x.volume) is.made ∙ all_volume (new_export volume 0) is.entries
+
+-- the journal that is opened again keeps its export
+pub ready_there : (tells : Bool) (text : List ℕ) (image : List ℕ → Type 0) (half used : ℕ) (s : Export) (volume : Volume) → IsOpen tells text image half used → s.volume ≡ volume → (IsTrue tells → IsReopened volume text used s) → IsReady tells text image half used s
+ready_there tells text image half used s volume is_open same re = record {
+  is_open = is_open;
+  keeps = λ told. subst (λ (v : Volume). Keeps v text s) (sym same) (keeps_there volume text used s (re told) is_open.room);
+}
 
 -- ---- no other export
 

@@ -174,6 +174,13 @@ IsStage volume entries Counters s = ArePartsSoFar volume entries Counters s
 IsStage volume entries Parts s = ArePartsSoFar volume entries Parts s
 IsStage volume entries Calls s = AreCallsSoFar volume entries s
 
+-- the stage behind a part more
+abbrev pub after_part : Stage → Stage
+after_part Empty = Counters
+after_part Counters = Parts
+after_part Parts = Parts
+after_part Calls = Parts
+
 -- some entries are at this stage
 abbrev pub IsSomeStage : Stage → Export → Type 0
 IsSomeStage stage s = (volume : Volume) × (before : List Said) × IsStage volume before stage s

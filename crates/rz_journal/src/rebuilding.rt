@@ -1,11 +1,12 @@
 //! An export that entries make, one after another.
 
-ghost use Rattle.std.specs.Prelude.{◌≡◌, ◌↔◌, ◌<◌, ◌≤◌, length, replicate, Some, IsTrue, IfOk, IfErr};
+ghost use Rattle.std.specs.Prelude.{◌≡◌, ◌↔◌, ◌<◌, ◌≤◌, length, replicate, Some, true, IsTrue, IsSome, IfOk, IfErr};
 ghost use Rattle.rz_events.specs.declared.export.Call.{Call};
+ghost use Rattle.rz_export_model.specs.Export.{is_proper, export_reply, export_after};
 ghost use Rattle.rz_export.specs.Building.{IsCounters};
 ghost use Rattle.rz_journal_text.specs.declared.entry.Entry.{Entry};
-ghost use Rattle.rz_journal.specs.Said.{call_said};
-ghost use Rattle.rz_journal.specs.Opening.{IsSomeStage, TellsEnd, TellsPart, IsAdded, IsRebuilt, IsStopped};
+ghost use Rattle.rz_journal.specs.Said.{entry_of, call_said, accepts};
+ghost use Rattle.rz_journal.specs.Opening.{IsSomeStage, TellsEnd, TellsPart, IsAdded, after_part, IsRebuilt, IsStopped};
 
 use crate::reading::{Step, next_entry};
 use crate::said::{accepts, is_kept};
@@ -88,10 +89,7 @@ impl Rebuilt {
             return Ok(false);
         }
         self.export.add_part(part)?;
-        self.stage = match self.stage {
-            Stage::Empty => Stage::Counters,
-            _ => Stage::Parts,
-        };
+        self.stage = after_part(self.stage);
         Ok(true)
     }
 
@@ -99,14 +97,14 @@ impl Rebuilt {
     fn add_call(&mut self, call: &Call) -> Result<bool, AllocError>
         ensures { IfOk result (λ goes. (e : Entry) → call_said e ≡ Some call.now → IsAdded e self.old.stage self.old.export goes self.new.stage self.new.export) }
     {
-        if !self.ends_well() || !is_kept(call) || !self.export.takes(call) {
+        if !self.ends_well() {
             return Ok(false);
         }
-        let reply = self.export.answer(call);
-        if is_want(&reply) {
-            return Err(AllocError);
+        if !self.takes(call) {
+            return Ok(false);
         }
-        if !accepts(&reply) {
+        let accepted = ask(&mut self.export, call)?;
+        if !accepted {
             return Ok(false);
         }
         self.stage = Stage::Calls;
@@ -130,10 +128,18 @@ impl Rebuilt {
         ensures { TellsEnd self.now.stage self.now.export result }
     {
         match self.stage {
-            Stage::Empty | Stage::Calls => true,
+            Stage::Empty => true,
             Stage::Counters => false,
             Stage::Parts => self.export.is_named(),
+            Stage::Calls => true,
         }
+    }
+
+    // Whether a call has an entry, and the export may be asked.
+    fn takes(&self, call: &Call) -> bool
+        ensures { IsTrue result ↔ (IsSome (entry_of call.now) × (is_proper self.now.export call.now ≡ true)) }
+    {
+        is_kept(call) && self.export.takes(call)
     }
 }
 
@@ -177,6 +183,29 @@ pub fn rebuild(alloc: Global, volume: Volume, half: &[u8]) -> Result<(Export, us
                 count += 1;
             }
         }
+    }
+}
+
+// Asks the export, and tells whether it accepts the call.
+fn ask(export: &mut Export, call: &Call) -> Result<bool, AllocError>
+    requires { IsTrue (is_proper export.old call.now) }
+    ensures accepted { IfOk result (λ yes. yes ≡ accepts (export_reply export.old call.now)) }
+    ensures after { IfOk result (λ yes. export.new ≡ export_after export.old call.now) }
+{
+    let reply = export.answer(call);
+    if is_want(&reply) {
+        return Err(AllocError);
+    }
+    Ok(accepts(&reply))
+}
+
+// The stage behind a part more.
+fn after_part(stage: Stage) -> Stage
+    ensures { result ≡ after_part stage }
+{
+    match stage {
+        Stage::Empty => Stage::Counters,
+        Stage::Counters | Stage::Parts | Stage::Calls => Stage::Parts,
     }
 }
 
