@@ -3,4 +3,4 @@ pub mod Listings
 pub mod Makings
 pub mod PartRows
 pub mod Refused
-pub mod Standings
+mod Wholes

@@ -8,7 +8,7 @@
 //! the present one. `entry_of` gives the entry of a call. `read_entries` reads the entries of a half, up to
 //! their end or to the first that is damaged. Nothing is said yet of a journal that is opened again.
 //!
-//! In reading order: `said`, `standing`, `rows`, `room`, `keeping`, `journal`, `reading`.
+//! In reading order: `said`, `rows`, `room`, `keeping`, `journal`, `reading`.
 #![tactic(auto)]
 
 mod journal;
@@ -17,7 +17,6 @@ mod reading;
 mod room;
 mod rows;
 mod said;
-mod standing;
 
 pub use journal::{Journal, JournalReply};
 pub use reading::{Listing, read_entries};
