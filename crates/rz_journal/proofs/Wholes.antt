@@ -1,7 +1,7 @@
 -- The parts of a whole export may stand in entries, and make it again.
-use Rattle.std.proofs.Common.{◌≡◌, ℕ, zero, suc, ◌≤◌, Bool, ◌&&◌, true, false, cond, T, List, [], ◌∷◌, ◌++◌, length, drop, map, Some, Ordering, refl, sym, ap, ◌∙◌, subst, arith, append_assoc}
+use Rattle.std.proofs.Common.{◌≡◌, ℕ, zero, suc, Bool, ◌&&◌, true, false, cond, T, List, [], ◌∷◌, ◌++◌, length, drop, map, Some, Ordering, refl, sym, ap, ◌∙◌, subst, arith, append_assoc}
 use Rattle.std.specs.declared.cmp.Ordering.TheVariants.{Less, Equal, Greater}
-use Rattle.std.specs.Ordering.{nat_cmp, is_eq, is_lt, ordering_reverse}
+use Rattle.std.specs.Ordering.{is_eq, is_lt, ordering_reverse}
 use Rattle.std.specs.Cmp.{IsTotalOrder, nat_cmp_total, tied_itself}
 use Rattle.std.specs.List.{slice_get, AllByRecursion}
 use Rattle.std.specs.FinMap as maps
@@ -9,10 +9,9 @@ use Rattle.std.specs.FinMap.{FinMap, get-entries, entries_sorted}
 use Rattle.std.specs.FinMap.Entries.{find, is_sorted, below_all}
 use Rattle.rz_events.specs.declared.files.Kind.{Kind}
 use Rattle.rz_events.specs.declared.files.Kind.TheVariants.{File, Dir, Link}
-use Rattle.rz_export_model.specs.Paths.{Path, path_cmp, paths_total}
+use Rattle.rz_export_model.specs.Paths.{Path, paths_total}
 use Rattle.rz_export_model.specs.Tree.{Tree, Object}
-use Rattle.rz_export_model.specs.Export.{Export, Block, Enrolled}
-use Rattle.rz_events.specs.declared.keys.Key.{Key}
+use Rattle.rz_export_model.specs.Export.{Export}
 use Rattle.rz_tree.specs.declared.parts.Part.{Part}
 use Rattle.rz_tree.specs.Added.{FitsKind}
 use Rattle.rz_tree.specs.Parts.{object_part, name_part, tree_parts}
