@@ -42,7 +42,7 @@ only-object fid o at = elim (one-or-two nat_cmp_total nat_cmp-IsAntisymmetric fi
   | inr other ↦ absurd (not_none o (sym at ∙ get-beside nat_cmp_total nat_cmp-IsAntisymmetric no_objects 0 new_dir fid other ∙ get-empty nat_cmp fid))
 ]
 
-number : (fid : ℕ) → is_some (maps.get empty_tree.objects fid) ≡ true → fid ≡ 0
+pub number : (fid : ℕ) → is_some (maps.get empty_tree.objects fid) ≡ true → fid ≡ 0
 number fid there = let h = held (maps.get empty_tree.objects fid) there in (only-object fid h.0 h.1).0
 
 one-path : paths_to empty_tree.names 0 ≡ 1

@@ -20,3 +20,5 @@ mod Carrying
 mod Calls
 mod Stays
 mod Parts
+mod Built
+mod BuiltWhole

@@ -1,5 +1,5 @@
 -- When an export is whole: it keeps the rules of the parts that make it.
-use Rattle.std.specs.Prelude.{ℕ, ◌≡◌, ◌<◌, Some, IsTrue, IsSome, IfSome}
+use Rattle.std.specs.Prelude.{ℕ, List, ◌≡◌, ◌<◌, Some, IsTrue, IsSome, IfSome}
 use Rattle.std.specs.FinMap as maps
 use Rattle.rz_events.specs.Volume.{Volume, IsVolume}
 use Rattle.rz_events.specs.declared.keys.Key.{Key}
@@ -8,7 +8,9 @@ use Rattle.rz_export_model.specs.Tree.{Tree, Object, file_of, is_file}
 use Rattle.rz_export_model.specs.Export.{Export, Block, Enrolled, new_export, export_after, file_blocks, is_drawn, is_node, is_proper}
 use Rattle.rz_export.specs.Parts.{export_parts}
 use Rattle.rz_export.specs.Building.{LiesIn, MayBePublished, ArePartsOf, made_of}
-use Rattle.rz_export_laws.specs.WholeTree.{IsWholeTree}
+use Rattle.rz_export_laws.specs.WholeTree.{IsWholeTree, IsPlainPart}
+use Rattle.rz_tree.specs.declared.parts.Part.{Part}
+use Rattle.std.specs.List.{AllByRecursion}
 
 -- each file lies in the volume
 abbrev pub FilesLie : Volume → Tree → Type 0
@@ -49,3 +51,7 @@ pub record ArePartsAgain (s : Export) : Type 0 where
 
 abbrev pub PartsMakeIt : Export → Type 0
 PartsMakeIt s = IsWhole s → ArePartsAgain s
+
+-- parts of a volume whose names a text can spell make a whole export
+abbrev pub PartsAreWhole : Volume → List Part → Type 0
+PartsAreWhole volume parts = IsVolume volume → ArePartsOf volume parts → AllByRecursion IsPlainPart parts → IsWhole (made_of volume parts)

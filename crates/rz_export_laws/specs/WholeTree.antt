@@ -9,6 +9,8 @@ use Rattle.rz_export_model.specs.Tree.{Tree, Object, empty_tree, paths_to}
 use Rattle.rz_export_model.specs.TreeCalls.{tree_after}
 use Rattle.rz_export_model.specs.Export.{Export, export_after}
 use Rattle.rz_tree.specs.Trees.{IsTree}
+use Rattle.rz_tree.specs.declared.parts.Part.{Part}
+use Rattle.rz_tree.specs.declared.parts.Part.TheVariants as part
 use Rattle.rz_tree.specs.Added.{FitsKind, AreNamed, most_names}
 
 -- a name with no slash, so that a text can spell it
@@ -52,3 +54,15 @@ pub record IsWritable (path : Path) : Type 0 where
 -- each path of a whole tree can be written
 abbrev pub ArePathsWritten : Type 0
 ArePathsWritten = (t : Tree) (path : Path) (fid : ℕ) → IsWholeTree t → maps.get t.names path ≡ Some fid → IsWritable path
+
+-- a path that a text spells has names without slashes
+abbrev pub AreTextsPlain : Type 0
+AreTextsPlain = (text : List ℕ) (path : Path) → long_path_of text ≡ Some path → IsTrue (list_all is_plain path)
+
+-- a part that is a name has a path that a text can spell
+abbrev pub IsPlainPart : Part → Type 0
+IsPlainPart (part.Counters last made) = Unit {0}
+IsPlainPart (part.Object fid kind mode mtime size cid places target) = Unit {0}
+IsPlainPart (part.Name path fid) = IsTrue (list_all is_plain path)
+IsPlainPart (part.Block key latest published) = Unit {0}
+IsPlainPart (part.Enrolled node loss fence) = Unit {0}

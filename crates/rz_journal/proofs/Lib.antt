@@ -5,4 +5,5 @@ pub mod Openings
 pub mod PartRows
 pub mod Refused
 pub mod Reopened
-pub mod Standings
+mod WholeTexts
+mod Wholes

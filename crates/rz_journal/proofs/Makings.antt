@@ -1,9 +1,8 @@
 -- The export that entries make, and one entry or all parts more.
-use Rattle.std.proofs.Common.{◌≡◌, ℕ, ◌<◌, ◌^◌, Bool, true, false, cond, ◌||◌, List, [], ◌∷◌, ◌++◌, length, map, replicate, Option, Some, None, IsSome, is_some, refl, sym, ◌∙◌, ap, subst, arith, append_assoc}
+use Rattle.std.proofs.Common.{◌≡◌, ℕ, Bool, true, false, cond, ◌||◌, List, [], ◌∷◌, ◌++◌, length, map, replicate, Option, Some, None, IsSome, refl, sym, ◌∙◌, ap, subst, arith, append_assoc}
 use Rattle.std.proofs.lemmas.List.{append-nil, length-replicate}
 use Rattle.std.proofs.lemmas.Bool.Decides.{nat_tests}
-use Rattle.std.specs.Prelude.{nat_le, nat_lt}
-use Rattle.std.specs.Option.{option_map_or}
+use Rattle.std.specs.Prelude.{nat_le}
 use Rattle.mj_angles.specs.Layout.{block_bytes_of}
 use Rattle.rz_events.specs.Volume.{Volume}
 use Rattle.rz_events.specs.declared.tree.TreeCall.{TreeCall}
@@ -11,14 +10,14 @@ use Rattle.rz_events.specs.declared.tree.TreeCall.TheVariants.{Lookup, Getattr, 
 use Rattle.rz_events.specs.declared.export.Call.{Call}
 use Rattle.rz_events.specs.declared.export.Call.TheVariants as call
 use Rattle.rz_export_model.specs.Export.{Export, new_export, is_proper, export_reply, export_after}
-use Rattle.rz_tree.specs.declared.parts.Part.{Part}
-use Rattle.rz_export.specs.Parts.{counters, export_parts}
+use Rattle.rz_export.specs.Parts.{export_parts}
+use Rattle.rz_export_laws.specs.Whole.{ArePartsAgain}
 use Rattle.rz_journal_text.specs.declared.entry.Entry.{Entry}
 use Rattle.rz_journal_text.specs.declared.entry.Entry.TheVariants as entry
 use Rattle.rz_journal_text.specs.Spelling.{IsShort, HasShortTexts, Spells}
 use Rattle.rz_journal_disk.specs.Row.{Entries}
 use Rattle.rz_journal.specs.Said.{only_looks, is_long, has_long_text, entry_of, call_said, accepts}
-use Rattle.rz_journal.specs.JournalText.{IsAccepted, AreAccepted, after_all, BeginsWith, Makes, AreSpelled}
+use Rattle.rz_journal.specs.JournalText.{IsAccepted, AreAccepted, after_all, Makes, AreSpelled}
 use Rattle.rz_journal.specs.Room.{part_entries}
 
 -- ---- which texts have room
@@ -135,11 +134,11 @@ makes_more volume entries s c e makes is at =
     }
 
 -- the parts of an export make it
-pub makes_parts : (s : Export) → Makes s.volume (part_entries s) s
-makes_parts s = record {
+pub makes_parts : (s : Export) → ArePartsAgain s → Makes s.volume (part_entries s) s
+makes_parts s are = record {
   parts = export_parts s;
   first = s;
-  begins = (refl, refl);
+  begins = (are.parts, sym are.again);
   later = [];
   calls = [];
   are = sym (append-nil (part_entries s));

@@ -11,9 +11,8 @@ use Rattle.rz_tree.specs.declared.parts.Part.{Part}
 use Rattle.rz_tree.specs.declared.parts.Part.TheVariants as part
 use Rattle.rz_tree.specs.Added.{IsRootPart, AreNamed}
 use Rattle.rz_export.specs.Calls.{IsAnswered, MayWant}
-use Rattle.rz_export.specs.Parts.{export_parts}
 use Rattle.rz_export.specs.Building.{with_part, with_parts, made_of, IsCounters, MayBeNext, MayFollow, AllFollow, ArePartsOf, MayAdd, AllAdd}
-use Rattle.rz_export.proofs.Joined.{made-more, all-add, made-parts}
+use Rattle.rz_export.proofs.Joined.{made-more, all-add}
 use Rattle.rz_journal_text.specs.declared.entry.Entry.{Entry as Said}
 use Rattle.rz_journal_text.specs.declared.entry.Entry.TheVariants as entry
 use Rattle.rz_journal.specs.declared.reading.Step.{Step}
@@ -72,21 +71,17 @@ part_volume s (part.Name path fid) = refl
 part_volume s (part.Block key latest published) = refl
 part_volume s (part.Enrolled node loss fence) = refl
 
-parts_volume : (s : Export) (ps : List Part) → (with_parts s ps).volume ≡ s.volume
-parts_volume s [] = refl
-parts_volume s (p ∷ ps) = parts_volume (with_part s p) ps ∙ part_volume s p
-
 -- ---- the export that entries make
 
 said_last : (s : Export) (es : List Said) (e : Said) → said_by_all s (es ++ e ∷ []) ≡ said_by (said_by_all s es) e
 said_last s [] e = refl
 said_last s (x ∷ es) e = said_last (said_by s x) es e
 
-said_parts : (s : Export) (ps : List Part) → said_by_all s (map entry.Built ps) ≡ with_parts s ps
+pub said_parts : (s : Export) (ps : List Part) → said_by_all s (map entry.Built ps) ≡ with_parts s ps
 said_parts s [] = refl
 said_parts s (p ∷ ps) = said_parts (with_part s p) ps
 
-said_call : (s : Export) (e : Said) (c : Call) → call_said e ≡ Some c → said_by s e ≡ export_after s c
+pub said_call : (s : Export) (e : Said) (c : Call) → call_said e ≡ Some c → said_by s e ≡ export_after s c
 said_call s (entry.Tree t) c said = let same : call.Tree t ≡ c = cc in ap (export_after s) same
 said_call s (entry.Begin key bytes) c said = let same : call.Begin key (replicate bytes 0) ≡ c = cc in ap (export_after s) same
 said_call s (entry.Publish key stamp mask bytes) c said = let same : call.Publish key stamp mask bytes ≡ c = cc in ap (export_after s) same
@@ -108,8 +103,7 @@ makes_said volume entries s c e makes is said = record {
 
 begins_with : (volume : Volume) (parts : List Part) (s : Export) → s ≡ made_of volume parts → AreNoneOrAll volume parts → BeginsWith volume parts s
 begins_with volume [] s made none = made
-begins_with volume (p ∷ ps) s made are =
-    (ap (λ (x : Export). x.volume) made ∙ parts_volume (new_export volume 0) (p ∷ ps), ap export_parts made ∙ made-parts volume (p ∷ ps) are)
+begins_with volume (p ∷ ps) s made are = (are, made)
 
 ended_makes : (volume : Volume) (before : List Said) (stage : Stage) (s : Export) → ArePartsSoFar volume before stage s → EndWell volume before → Makes volume before s
 ended_makes volume before stage s so well = record {

@@ -1,14 +1,13 @@
 -- A call that is not accepted, or that has no entry, changes nothing.
-use Rattle.std.proofs.Common.{◌≡◌, ◌⊎◌, inl, inr, ⊎_elim, ℕ, ◌+◌, ◌*◌, ◌<◌, ◌≤◌, ◌^◌, Bool, true, false, cond, ◌||◌, ◌&&◌, List, [], ◌∷◌, ◌++◌, length, Option, Some, None, IsSome, is_some, is_none, refl, sym, ◌∙◌, ap, subst, arith, length-append}
+use Rattle.std.proofs.Common.{◌≡◌, ℕ, ◌+◌, ◌*◌, ◌<◌, ◌≤◌, Bool, true, false, cond, ◌||◌, ◌&&◌, List, [], ◌∷◌, length, Option, Some, None, IsSome, is_none, refl, sym, ◌∙◌, ap, subst, arith, length-append}
 use Rattle.std.specs.Prelude.{◌==◌, nat_le, nat_lt, unwrap_or}
-use Rattle.std.specs.List.{list_all, slice_split, join_with_byte}
+use Rattle.std.specs.List.{list_all, join_with_byte}
 use Rattle.std.specs.Option.{option_map_or, option_and_then, option_or}
 use Rattle.std.specs.FinMap as maps
 use Rattle.std.proofs.lemmas.Bool.Decides.{nat_tests}
 use Rattle.std.proofs.lemmas.Bool.{and_parts, leb-true}
 use borrow.Author.Tests.{ltb-true}
 use Rattle.std.proofs.lemmas.List.Splits.{join_with_byte-slice_split}
-use Rattle.rz_events.specs.declared.files.FileInfo.{FileInfo}
 use Rattle.rz_events.specs.declared.ends.Denial.{Denial}
 use Rattle.rz_events.specs.declared.ends.Denial.TheVariants as denial
 use Rattle.rz_events.specs.declared.tree.TreeCall.{TreeCall}
@@ -21,8 +20,8 @@ use Rattle.rz_events.specs.declared.export.Call.{Call}
 use Rattle.rz_events.specs.declared.export.Call.TheVariants as call
 use Rattle.rz_events.specs.declared.export.Reply.{Reply}
 use Rattle.rz_events.specs.declared.export.Reply.TheVariants as reply
-use Rattle.rz_export_model.specs.Firsts.{first_of, given_if}
-use Rattle.rz_export_model.specs.Paths.{Path, Name, is_name, path_of, long_path_of, after_slash, all_names, parts_of, is_root}
+use Rattle.rz_export_model.specs.Firsts.{given_if}
+use Rattle.rz_export_model.specs.Paths.{Path, Name, is_name, path_of, parts_of, is_root}
 use Rattle.rz_export_model.specs.Tree.{Tree, Found, found_at, info_of}
 use Rattle.rz_export_model.specs.TreeCalls.{answer_to, changed_by, attr_of}
 use Rattle.rz_export_model.specs.Refusals.{path_in, unreadable, unreadable_or_root, bad_target, refusal}

@@ -1,5 +1,5 @@
 -- The half that was read is the one that the text picks.
-use Rattle.std.proofs.Common.{◌≡◌, ℕ, ◌+◌, ◌%◌, ◌<◌, ◌≤◌, Bool, IsTrue, List, [], ◌∷◌, length, replicate, get_or, refl, sym, ◌∙◌, ap, subst, arith}
+use Rattle.std.proofs.Common.{◌≡◌, ℕ, ◌+◌, ◌%◌, ◌<◌, ◌≤◌, Bool, IsTrue, List, [], ◌∷◌, ◌++◌, length, map, replicate, get_or, Some, refl, sym, ◌∙◌, ap, subst, arith}
 use Rattle.rz_disk.specs.Images.{window}
 use Rattle.rz_events.specs.Volume.{Volume}
 use Rattle.rz_export_model.specs.Export.{Export, new_export}
@@ -19,12 +19,17 @@ use Rattle.rz_journal_disk.proofs.Halves.{ends_moved}
 use Rattle.rz_journal_disk.proofs.Rows.{one_row}
 use Rattle.rz_journal.specs.declared.rebuilding.JournalFault.{JournalFault}
 use Rattle.rz_journal.specs.declared.rebuilding.JournalFault.TheVariants.{NoMemory, WrongSize, DiskFault, Unformatted, BadHeader, Damaged}
-use Rattle.rz_journal.specs.JournalText.{AreSpelled, Makes, Keeps}
+use Rattle.rz_journal.specs.JournalText.{AreAccepted, after_all, BeginsWith, AreSpelled, Makes, Keeps, IsTextOf}
 use Rattle.rz_journal.specs.Listed.{SoFar}
-use Rattle.rz_journal.specs.Kept.{IsReady}
-use Rattle.rz_journal.proofs.Openings.{part_volume}
+use Rattle.rz_journal.specs.Said.{call_said}
+use Rattle.rz_journal.specs.Kept.{IsReady, IsAfter}
+use Rattle.rz_export.specs.Building.{made_of}
+use Rattle.rz_export_laws.specs.Whole.{IsWhole}
+use Rattle.rz_tree.specs.declared.parts.Part.{Part}
+use Rattle.rz_events.specs.declared.export.Call.{Call}
+use Rattle.rz_journal.proofs.Openings.{part_volume, said_parts, said_call}
 use Rattle.rz_journal.proofs.Refused.{volume_same}
-use Rattle.rz_journal.specs.Opening.{said_by, said_by_all, made_by, IsRebuilt, IsStopped, IsDamagedAt, IsReopened, IsMade, IsRefused, fault_of}
+use Rattle.rz_journal.specs.Opening.{said_by, said_by_all, made_by, IsRebuilt, IsStopped, IsDamagedAt, IsReopened, IsRefused, fault_of}
 
 -- the rows of the entries of a half, with the end behind them
 so_far_ends : (half : List ℕ) (entries : List Said) (used : ℕ) (so : SoFar half entries used) → get_or half used 0 % 2 ≡ 0 → EndsAt 0 so.0 half
@@ -114,10 +119,11 @@ pub rebuilt_volume : (volume : Volume) (half : List ℕ) (used : ℕ) (s : Expor
 rebuilt_volume volume half used s is = ap (λ (x : Export). x.volume) is.made ∙ all_volume (new_export volume 0) is.entries
 
 -- the journal that is opened again keeps its export
-pub ready_there : (tells : Bool) (text : List ℕ) (image : List ℕ → Type 0) (half used : ℕ) (s : Export) (volume : Volume) → IsOpen tells text image half used → s.volume ≡ volume → (IsTrue tells → IsReopened volume text used s) → IsReady tells text image half used s
-ready_there tells text image half used s volume is_open same re = record {
+pub ready_there : (tells : Bool) (text : List ℕ) (image : List ℕ → Type 0) (half used : ℕ) (s : Export) (volume : Volume) → IsOpen tells text image half used → s.volume ≡ volume → (IsTrue tells → IsReopened volume text used s) → IsWhole s → IsReady tells text image half used s
+ready_there tells text image half used s volume is_open same re whole = record {
   is_open = is_open;
   keeps = λ told. subst (λ (v : Volume). Keeps v text s) (sym same) (keeps_there volume text used s (re told) is_open.room);
+  whole = whole;
 }
 
 -- ---- no other export
@@ -131,13 +137,43 @@ one_list (b ∷ bytes) (x ∷ xs) [] first second = absurd second
 one_list (b ∷ bytes) (x ∷ xs) (y ∷ ys) first second =
     ap (λ (l : List Said). x ∷ l) (one_list bytes xs ys first.1 second.1) ∙ ap (λ (e : Said). e ∷ ys) (one_entry b x y first.0 second.0)
 
-same_half : (volume : Volume) (half : List ℕ) (m n : ℕ) (s u : Export) → IsRebuilt volume half m s → IsRebuilt volume half n u → s ≡ u
-same_half volume half m n s u one other =
-    let row = one_row one.so_far.0 other.so_far.0 0 half (so_far_ends half one.entries m one.so_far one.ends) (so_far_ends half other.entries n other.so_far other.ends) in
-    let entries = one_list other.so_far.0 one.entries other.entries (subst (λ (b : Entries). AreSpelled b one.entries) row one.so_far.2) other.so_far.2 in
-    one.made ∙ ap (made_by volume) entries ∙ sym other.made
+append_said : (s : Export) (xs ys : List Said) → said_by_all s (xs ++ ys) ≡ said_by_all (said_by_all s xs) ys
+append_said s [] ys = refl
+append_said s (x ∷ xs) ys = append_said (said_by s x) xs ys
 
-pub same_made : (volume : Volume) (text : List ℕ) (used : ℕ) (s u : Export) → IsReopened volume text used s → IsMade volume text u → s ≡ u
-same_made volume text used s u one other =
-    let same : other.1.half ≡ one.half = sym other.1.journal.picked ∙ one.journal.picked in
-    same_half volume (window (half_at one.half) half_bytes text) used other.0 s u one.rebuilt (subst (λ (h : ℕ). IsRebuilt volume (window (half_at h) half_bytes text) other.0 u) same other.1.rebuilt)
+calls_said : (s : Export) (later : List Said) (calls : List Call) → map call_said later ≡ map Some calls → said_by_all s later ≡ after_all s calls
+calls_said s [] [] same = refl
+calls_said s [] (c ∷ calls) same = absurd (cc)
+calls_said s (e ∷ later) [] same = absurd (cc)
+calls_said s (e ∷ later) (c ∷ calls) same =
+    let head : call_said e ≡ Some c = cc in
+    let tail : map call_said later ≡ map Some calls = cc in
+    calls_said (said_by s e) later calls tail ∙ ap (λ (x : Export). after_all x calls) (said_call s e c head)
+
+first_made : (volume : Volume) (parts : List Part) (s : Export) → BeginsWith volume parts s → s ≡ made_of volume parts
+first_made volume [] s begins = begins
+first_made volume (p ∷ ps) s begins = begins.1
+
+-- entries make one export
+makes_made : (volume : Volume) (entries : List Said) (s : Export) → Makes volume entries s → s ≡ made_by volume entries
+makes_made volume entries s m =
+    m.made ∙ sym (calls_said m.first m.later m.calls m.said)
+    ∙ ap (λ (x : Export). said_by_all x m.later) (first_made volume m.parts m.first m.begins ∙ sym (said_parts (new_export volume 0) m.parts))
+    ∙ sym (append_said (new_export volume 0) (map entry.Built m.parts) m.later) ∙ ap (made_by volume) (sym m.are)
+
+-- a text keeps one export
+same_kept : (volume : Volume) (text : List ℕ) (s u : Export) → Keeps volume text s → Keeps volume text u → s ≡ u
+same_kept volume text s u one other =
+    let half : other.stands.0 ≡ one.stands.0 = sym other.stands.1.journal.picked ∙ one.stands.1.journal.picked in
+    let row = one_row one.bytes other.bytes (half_at one.stands.0) text one.stands.1.ends (subst (λ (h : ℕ). EndsAt (half_at h) other.bytes text) half other.stands.1.ends) in
+    let entries = one_list other.bytes one.entries other.entries (subst (λ (b : Entries). AreSpelled b one.entries) row one.spelled) other.spelled in
+    makes_made volume one.entries s one.makes ∙ ap (made_by volume) entries ∙ sym (makes_made volume other.entries u other.makes)
+
+-- the calls for which the text stands give the export
+pub after_calls : (volume : Volume) (text : List ℕ) (used : ℕ) (s : Export) → s.volume ≡ volume → used < 8_388_576 → IsReopened volume text used s → (calls : List Call) → IsTextOf volume text calls → IsAfter s calls
+after_calls volume text used s same room re calls is =
+    let made = same_kept volume text s (after_all (new_export volume 0) calls) (keeps_there volume text used s re room) is.keeps in
+    record {
+      accepted = subst (λ (v : Volume). AreAccepted (new_export v 0) calls) (sym same) is.accepted;
+      made = made ∙ ap (λ (v : Volume). after_all (new_export v 0) calls) (sym same);
+    }

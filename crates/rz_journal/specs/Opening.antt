@@ -119,10 +119,6 @@ pub record IsReopened (volume : Volume) (text : List ℕ) (used : ℕ) (s : Expo
   pub journal : IsJournal half text
   pub rebuilt : IsRebuilt volume (window (half_at half) half_bytes text) used s
 
--- the entries of a text make this export
-abbrev pub IsMade : Volume → List ℕ → Export → Type 0
-IsMade volume text s = (used : ℕ) × IsReopened volume text used s
-
 -- the first damaged entry of the half that a text picks
 abbrev pub HasDamagedAt : Volume → List ℕ → ℕ → Type 0
 HasDamagedAt volume text number = (half : ℕ) × IsJournal half text × IsDamagedAt volume (window (half_at half) half_bytes text) number

@@ -9,8 +9,7 @@
 //! their end or to the first that is damaged. `reopen` gives the export that the
 //! entries make, or the first that is damaged.
 //!
-//! In reading order: `said`, `standing`, `rows`, `room`, `keeping`, `journal`, `reading`, `rebuilding`,
-//! `opening`.
+//! In reading order: `said`, `rows`, `room`, `keeping`, `journal`, `reading`, `rebuilding`, `opening`.
 #![tactic(auto)]
 
 mod journal;
@@ -21,7 +20,6 @@ mod rebuilding;
 mod room;
 mod rows;
 mod said;
-mod standing;
 
 pub use journal::{Journal, JournalReply};
 pub use reading::{Listing, read_entries};

@@ -1,12 +1,14 @@
 //! A journal opened again.
 
-ghost use Rattle.std.specs.Prelude.{◌≡◌, false, IsTrue, IfOk, IfErr, MatchResult};
+ghost use Rattle.std.specs.Prelude.{◌≡◌, false, IsTrue, List, IfOk, IfErr, MatchResult};
 ghost use Rattle.rz_disk.specs.Images.{Only, Within};
 ghost use Rattle.rz_disk.specs.Meter.{Lasts, Rises, faults};
-ghost use Rattle.rz_journal.specs.Opening.{IsReopened, IsMade, IsRefused, fault_of};
-ghost use Rattle.rz_export_model.specs.Export as model;
+ghost use Rattle.rz_journal.specs.Opening.{IsReopened, IsRefused, fault_of};
+ghost use Rattle.rz_events.specs.declared.export.Call.{Call};
+ghost use Rattle.rz_journal.specs.JournalText.{IsTextOf};
+ghost use Rattle.rz_journal.specs.Kept.{IsAfter};
 
-use crate::journal::Journal;
+use crate::journal::{Journal, rules};
 use crate::rebuilding::{JournalFault, rebuild};
 use rz_config::Volume;
 use rz_disk::Disk;
@@ -25,8 +27,8 @@ impl<D: Disk> Journal<D> {
 
         ensures volume { IfOk result (λ j. j.export.volume ≡ volume) }
 
-        // No other export is made by the entries of the disk.
-        ensures same { IfOk result (λ j. IsTrue D.tells → (u : model.Export) → IsMade volume (D.text disk) u → j.export ≡ u) }
+        // It is the one after the calls for which the text stands.
+        ensures calls { IfOk result (λ j. IsTrue D.tells → (calls : List Call) → IsTextOf volume (D.text disk) calls → IsAfter j.export calls) }
 
         // Each fault is the first that the text has.
         ensures refused { IfErr result (λ e. IsRefused D.tells volume (D.text disk) e.1) }
@@ -37,6 +39,11 @@ impl<D: Disk> Journal<D> {
         ensures meter { MatchResult result (λ j. Lasts (D.meter disk) (D.meter j.disk)) (λ e. Lasts (D.meter disk) (D.meter e.0)) }
         ensures risen { IfErr result (λ e. e.1 ≡ JournalFault.DiskFault → Rises (faults (D.meter disk)) (faults (D.meter e.0))) }
     {
+        rules(&volume);
+        rz_export_laws::exports::new_is_whole();
+        rz_export_laws::exports::stays_whole();
+        rz_export_laws::exports::built();
+        rz_export_laws::trees::texts_plain();
         let half = match Half::open(alloc, disk) {
             Ok(half) => half,
             Err((disk, fault)) => return Err((disk, refused(fault))),
