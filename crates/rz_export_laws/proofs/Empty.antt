@@ -1,19 +1,19 @@
 -- The tree of a new export is whole.
-use Rattle.std.proofs.Common.{◌≡◌, ℕ, suc, ◌+◌, ◌-◌, ◌≤◌, ◌<◌, Bool, true, false, cond, ◌&&◌, ◌||◌, [], ◌∷◌, ◌++◌, Option, Some, None, is_some, sym, ap, ◌∙◌, subst, refl, arith, inl, inr}
-use Rattle.std.specs.Ordering.{nat_cmp, eq_by_cmp}
+use Rattle.std.proofs.Common.{◌≡◌, ℕ, ◌+◌, ◌≤◌, true, cond, [], ◌∷◌, ◌++◌, Some, is_some, sym, ap, ◌∙◌, subst, refl, arith, inl, inr}
+use Rattle.std.specs.Ordering.{nat_cmp}
 use Rattle.std.specs.Cmp.{nat_cmp_total}
 use Rattle.std.specs.List.{list_all}
 use Rattle.std.specs.FinMap as maps
-use Rattle.std.specs.FinMap.{FinMap, nat_cmp-IsAntisymmetric, len-insert, len-remove}
-use Rattle.rz_export_model.specs.Paths.{Name, Path, path_cmp, paths_total, exact_paths, above, is_root}
-use Rattle.rz_export_model.specs.Tree.{Tree, Object, is_at, is_dir, paths_to}
+use Rattle.std.specs.FinMap.{FinMap, nat_cmp-IsAntisymmetric, len-insert}
+use Rattle.rz_export_model.specs.Paths.{Path, path_cmp, paths_total, exact_paths, is_root}
+use Rattle.rz_export_model.specs.Tree.{Object, is_at, is_dir, paths_to}
 use Rattle.rz_tree.specs.Trees.{IsTree}
 use Rattle.rz_tree.specs.Added.{FitsKind, most_names}
-use Rattle.rz_tree.proofs.Counts.{count-insert, count-remove, one_if, one_if-same, one_if-other, no-path, some-path, two-paths}
+use Rattle.rz_tree.proofs.Counts.{count-insert, one_if-same, no-path}
 use Rattle.rz_export_laws.specs.WholeTree.{IsWholeTree, is_plain}
-use Rattle.rz_export_laws.proofs.Keys.{same_some, not_none, false-true, held, none-or-some, one-or-two, ties-itself, apart, get-inserted, get-beside, get-removed, get-left}
-use Rattle.rz_export_laws.proofs.Fronts.{above-append, not-root-more, above-other}
-use Rattle.rz_export_laws.proofs.Places.{DirAt, dir-found, dir-is, absent-name, above-dir, free-root, free-walk, free-found, free-few, under-clear}
+use Rattle.rz_export_laws.proofs.Keys.{same_some, not_none, false-true, held, one-or-two, get-inserted, get-beside}
+use Rattle.rz_export_laws.proofs.Fronts.{not-root-more}
+use Rattle.rz_export_laws.proofs.Places.{dir-is}
 use Rattle.std.specs.FinMap.{get-empty, len-empty}
 use Rattle.rz_export_model.specs.Tree.{empty_tree, new_dir}
 use Rattle.rz_tree.specs.Added.{IsDirectory}
@@ -42,7 +42,7 @@ only-object fid o at = elim (one-or-two nat_cmp_total nat_cmp-IsAntisymmetric fi
   | inr other ↦ absurd (not_none o (sym at ∙ get-beside nat_cmp_total nat_cmp-IsAntisymmetric no_objects 0 new_dir fid other ∙ get-empty nat_cmp fid))
 ]
 
-number : (fid : ℕ) → is_some (maps.get empty_tree.objects fid) ≡ true → fid ≡ 0
+pub number : (fid : ℕ) → is_some (maps.get empty_tree.objects fid) ≡ true → fid ≡ 0
 number fid there = let h = held (maps.get empty_tree.objects fid) there in (only-object fid h.0 h.1).0
 
 one-path : paths_to empty_tree.names 0 ≡ 1

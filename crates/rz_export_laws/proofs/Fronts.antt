@@ -1,5 +1,5 @@
 -- The walk along the names of a path, and the path above another.
-use Rattle.std.proofs.Common.{◌≡◌, ℕ, Bool, true, false, not, [], ◌∷◌, ◌++◌, Option, Some, None, sym, ap, ◌∙◌, refl, append_assoc, arith, length, length-append}
+use Rattle.std.proofs.Common.{◌≡◌, Bool, true, false, not, [], ◌∷◌, ◌++◌, Option, Some, None, sym, ap, ◌∙◌, refl, append_assoc, arith, length, length-append}
 use Rattle.std.specs.Option.{option_or, option_map, option_map_or}
 use Rattle.std.specs.Ordering.{eq_by_cmp}
 use Rattle.rz_events.specs.declared.tree.TreeFault.{TreeFault}
@@ -75,4 +75,3 @@ above-other q other =
   where
     longer : (a : Path) (n : Name) → a ≡ a ++ n ∷ [] → ⊥
     longer a n h = omega (arith, ap length h, length-append a (n ∷ []))
-

@@ -1,8 +1,8 @@
 -- What a map has after an insertion or a removal, by cases.
-use Rattle.std.proofs.Common.{◌≡◌, ℕ, Bool, true, false, cond, Option, Some, None, is_some, Ordering, sym, ap, ◌∙◌, refl, inl, inr, ◌⊎◌}
+use Rattle.std.proofs.Common.{◌≡◌, Bool, true, false, cond, Option, Some, None, is_some, Ordering, ap, ◌∙◌, refl, inl, inr, ◌⊎◌}
 use Rattle.std.specs.declared.cmp.Ordering.TheVariants.{Less, Equal, Greater}
 use Rattle.std.specs.Ordering.{is_eq, eq_by_cmp}
-use Rattle.std.specs.Cmp.{IsTotalOrder, tied_itself, eq_by_cmp_equiv}
+use Rattle.std.specs.Cmp.{IsTotalOrder, tied_itself}
 use Rattle.std.specs.FinMap as maps
 use Rattle.std.specs.FinMap.{FinMap, IsAntisymmetric, get-insert, get-remove}
 
@@ -23,9 +23,6 @@ not_none x h = let never : true ≡ false = ap is_some h in cc
 
 pub false-true : false ≡ true → ⊥
 false-true h = cc
-
-pub some-there : {A : Type 0} (o : Option A) (x : A) → o ≡ Some x → is_some o ≡ true
-some-there o x h = ap is_some h
 
 -- what is there, with the equation
 pub held : {A : Type 0} (o : Option A) → is_some o ≡ true → (x : A) × (o ≡ Some x)

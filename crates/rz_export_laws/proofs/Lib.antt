@@ -2,12 +2,23 @@ mod Keys
 mod Fronts
 mod Moves
 mod Places
-pub mod Empty
-pub mod Changed
+mod Empty
+mod Changed
 mod Made
 mod Taken
 mod Linked
 mod Moved
 mod Spelled
 mod Refused
+mod TreeCalls
+mod TreeKept
+mod Depth
+mod Written
+mod InOrder
+mod Placing
+mod Carrying
 mod Calls
+mod Stays
+mod Parts
+mod Built
+mod BuiltWhole

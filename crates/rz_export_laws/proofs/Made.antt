@@ -1,19 +1,19 @@
 -- A whole tree in which an object is made.
-use Rattle.std.proofs.Common.{◌≡◌, ℕ, suc, ◌+◌, ◌-◌, ◌≤◌, ◌<◌, Bool, true, false, cond, ◌&&◌, ◌||◌, [], ◌∷◌, ◌++◌, Option, Some, None, is_some, sym, ap, ◌∙◌, subst, refl, arith, inl, inr}
+use Rattle.std.proofs.Common.{◌≡◌, ℕ, ◌+◌, ◌≤◌, Bool, true, false, cond, [], ◌∷◌, ◌++◌, Some, None, is_some, sym, ap, ◌∙◌, subst, arith, inl, inr}
 use Rattle.std.specs.Ordering.{nat_cmp, eq_by_cmp}
 use Rattle.std.specs.Cmp.{nat_cmp_total}
 use Rattle.std.specs.List.{list_all}
 use Rattle.std.specs.FinMap as maps
-use Rattle.std.specs.FinMap.{FinMap, nat_cmp-IsAntisymmetric, len-insert, len-remove}
+use Rattle.std.specs.FinMap.{FinMap, nat_cmp-IsAntisymmetric, len-insert}
 use Rattle.rz_export_model.specs.Paths.{Name, Path, path_cmp, paths_total, exact_paths, above, is_root}
 use Rattle.rz_export_model.specs.Tree.{Tree, Object, is_at, is_dir, paths_to}
 use Rattle.rz_tree.specs.Trees.{IsTree}
 use Rattle.rz_tree.specs.Added.{FitsKind, most_names}
-use Rattle.rz_tree.proofs.Counts.{count-insert, count-remove, one_if, one_if-same, one_if-other, no-path, some-path, two-paths}
+use Rattle.rz_tree.proofs.Counts.{count-insert, one_if-same, one_if-other, no-path}
 use Rattle.rz_export_laws.specs.WholeTree.{IsWholeTree, is_plain}
-use Rattle.rz_export_laws.proofs.Keys.{same_some, not_none, false-true, held, none-or-some, one-or-two, ties-itself, apart, get-inserted, get-beside, get-removed, get-left}
-use Rattle.rz_export_laws.proofs.Fronts.{above-append, not-root-more, above-other}
-use Rattle.rz_export_laws.proofs.Places.{DirAt, dir-found, dir-is, absent-name, above-dir, free-root, free-walk, free-found, free-few, under-clear}
+use Rattle.rz_export_laws.proofs.Keys.{same_some, not_none, false-true, none-or-some, one-or-two, ties-itself, apart, get-inserted, get-beside}
+use Rattle.rz_export_laws.proofs.Fronts.{above-append}
+use Rattle.rz_export_laws.proofs.Places.{dir-found, dir-is, absent-name, above-dir, free-root, free-walk, free-found, free-few}
 use Rattle.rz_export_model.specs.Firsts.{first_of}
 use Rattle.rz_export_model.specs.Refusals.{can_not_make}
 use Rattle.rz_export_model.specs.TreeCalls.{with_new}

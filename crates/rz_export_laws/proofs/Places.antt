@@ -135,6 +135,7 @@ module _ (t : Tree) (rules : IsTree t) where
       let longer : is_some (maps.get t.names (p ++ n ∷ [])) ≡ true = front-there (p ++ n ∷ []) r (ap (λ q. is_some (maps.get t.names q)) (append_assoc p (n ∷ []) r) ∙ h) in
       let d = dir-found t p (rules.under p n longer) in
       ap is_some d.at
+
 pub or_none : {A : Type 0} (o p : Option A) → option_or o p ≡ None → (o ≡ None) × (p ≡ None)
 or_none None p h = (refl, h)
 or_none (Some x) p h = absurd (not_none x h)
@@ -170,9 +171,6 @@ module _ (t : Tree) (rules : IsTree t) where
       go : (q : Path) → above path ≡ q → (n : Name) → walk t (above path ++ n ∷ []) ≡ None → is_at t (above path) is_dir ≡ true
       go [] is n h = ap (λ x. is_at t x is_dir) is ∙ rules.root
       go (m ∷ q) is n h = walked-above t (above path) n h (ap is_root is)
-
-  pub above-there : (path : Path) → is_root path ≡ false → walk t path ≡ None → is_some (maps.get t.names (above path)) ≡ true
-  above-there path other walked = let d = dir-found t (above path) (above-dir path other walked) in ap is_some d.at
 
 module _ (t : Tree) (path : Path) (free : first_of (can_not_make t path) ≡ None) where
   after_root : (given_if (is_root path) fault.Exists ≡ None) × (first_of (walk t path ∷ present t path ∷ too_many_files t ∷ []) ≡ None)

@@ -1,18 +1,18 @@
 -- What it says of a tree that a call is not refused.
-use Rattle.std.proofs.Common.{◌≡◌, ℕ, suc, ◌+◌, ◌<◌, ◌≤◌, Bool, true, false, cond, ◌&&◌, ◌||◌, List, [], ◌∷◌, ◌++◌, length, take, drop, Option, Some, None, is_some, sym, ap, ◌∙◌, refl, arith, eq-eqb, inl, inr, length-append}
+use Rattle.std.proofs.Common.{◌≡◌, ℕ, ◌<◌, Bool, true, false, cond, ◌&&◌, ◌||◌, [], ◌∷◌, ◌++◌, length, drop, Option, Some, None, is_some, sym, ap, ◌∙◌, refl, arith, eq-eqb, inl, inr, length-append}
 use Rattle.std.specs.Prelude.{nat_lt, nat_le, ◌==◌, is_none}
 use Rattle.std.proofs.lemmas.Bool.Decides.{nat_tests}
-use Rattle.std.specs.Option.{option_or, option_map, option_map_or, option_and_then}
+use Rattle.std.specs.Option.{option_map, option_map_or, option_and_then}
 use Rattle.std.specs.FinMap as maps
 use Rattle.rz_events.specs.declared.tree.TreeFault.TheVariants as fault
 use Rattle.rz_export_model.specs.Firsts.{first_of, given_if}
-use Rattle.rz_export_model.specs.Paths.{Name, Path, above, is_root, begins_with, is_below}
-use Rattle.rz_export_model.specs.Tree.{Tree, Object, Found, found_at, fid_at, is_at, is_dir, names_under, links_of, paths_to, moved}
+use Rattle.rz_export_model.specs.Paths.{Path, is_root, begins_with, is_below}
+use Rattle.rz_export_model.specs.Tree.{Tree, Object, Found, found_at, is_at, is_dir, names_under, links_of, paths_to}
 use Rattle.rz_export_model.specs.Refusals.{walk, absent, present, dir, not_dir, not_empty, too_many_links, into_itself, not_replaceable, is_same_object}
 use Rattle.rz_export_model.specs.TreeCalls.{without_name}
 use Rattle.rz_tree.specs.Trees.{IsTree}
 use Rattle.rz_names.proofs.PathOrder.{begins-front}
-use Rattle.rz_export_laws.proofs.Keys.{not_none, false-true, held, true-or-false}
+use Rattle.rz_export_laws.proofs.Keys.{false-true, held, true-or-false}
 use Rattle.rz_export_laws.proofs.Fronts.{append-nothing, walked-front}
 use Rattle.rz_export_laws.proofs.Places.{or_none, given-false, none-from-is, absent-name, empty-under, leaf-under, absent-under}
 

@@ -1,12 +1,16 @@
 -- When the names and objects of an export are whole: they keep the rules of the parts that make a tree.
-use Rattle.std.specs.Prelude.{ℕ, ◌≡◌, ◌≤◌, ◌==◌, ◌&&◌, Bool, not, List, [], Some, IsTrue, IsSome}
-use Rattle.std.specs.List.{list_all, list_any}
+use Rattle.std.specs.Prelude.{ℕ, ◌≡◌, ◌≤◌, ◌<◌, ◌^◌, ◌==◌, ◌&&◌, Bool, not, List, [], ◌∷◌, length, Some, IsTrue}
+use Rattle.std.specs.List.{list_all, list_any, join_with_byte}
 use Rattle.std.specs.FinMap as maps
 use Rattle.rz_events.specs.declared.tree.TreeCall.{TreeCall}
-use Rattle.rz_export_model.specs.Paths.{Name, Path, is_name}
-use Rattle.rz_export_model.specs.Tree.{Tree, Object, empty_tree, paths_to, file_of, grown}
+use Rattle.rz_events.specs.declared.export.Call.{Call}
+use Rattle.rz_export_model.specs.Paths.{Name, Path, is_name, long_path_of}
+use Rattle.rz_export_model.specs.Tree.{Tree, Object, empty_tree, paths_to}
 use Rattle.rz_export_model.specs.TreeCalls.{tree_after}
+use Rattle.rz_export_model.specs.Export.{Export, export_after}
 use Rattle.rz_tree.specs.Trees.{IsTree}
+use Rattle.rz_tree.specs.declared.parts.Part.{Part}
+use Rattle.rz_tree.specs.declared.parts.Part.TheVariants as part
 use Rattle.rz_tree.specs.Added.{FitsKind, AreNamed, most_names}
 
 -- a name with no slash, so that a text can spell it
@@ -34,10 +38,31 @@ pub record IsWholeTree (t : Tree) : Type 0 where
 abbrev pub EmptyIsWhole : Type 0
 EmptyIsWhole = IsWholeTree empty_tree
 
--- a call, refused or not, keeps a tree whole
-abbrev pub StaysWhole : Type 0
-StaysWhole = (t : Tree) (cid : ℕ) (places : List ℕ) (c : TreeCall) → IsWholeTree t → IsWholeTree (tree_after t cid places c)
+-- a call on names and objects, refused or not, keeps a tree whole
+abbrev pub CallKeepsTree : Type 0
+CallKeepsTree = (t : Tree) (cid : ℕ) (places : List ℕ) (c : TreeCall) → IsWholeTree t → IsWholeTree (tree_after t cid places c)
 
--- a publish, which may raise the size of a live file, keeps a tree whole
-abbrev pub GrowsWhole : Type 0
-GrowsWhole = (t : Tree) (fid size : ℕ) → IsSome (file_of t fid) → IsWholeTree t → IsWholeTree (grown t fid size)
+-- each call of an export, a publish with its growth of a file too, keeps the tree whole
+abbrev pub TreeStaysWhole : Type 0
+TreeStaysWhole = (s : Export) (c : Call) → IsWholeTree s.tree → IsWholeTree (export_after s c).tree
+
+-- a path whose text is read again as the same path, and has a length that fits 32 bits
+pub record IsWritable (path : Path) : Type 0 where
+  pub reads : long_path_of (47 ∷ join_with_byte 47 path) ≡ Some path
+  pub short : length (47 ∷ join_with_byte 47 path) < 2 ^ 32
+
+-- each path of a whole tree can be written
+abbrev pub ArePathsWritten : Type 0
+ArePathsWritten = (t : Tree) (path : Path) (fid : ℕ) → IsWholeTree t → maps.get t.names path ≡ Some fid → IsWritable path
+
+-- a path that a text spells has names without slashes
+abbrev pub AreTextsPlain : Type 0
+AreTextsPlain = (text : List ℕ) (path : Path) → long_path_of text ≡ Some path → IsTrue (list_all is_plain path)
+
+-- a part that is a name has a path that a text can spell
+abbrev pub IsPlainPart : Part → Type 0
+IsPlainPart (part.Counters last made) = Unit {0}
+IsPlainPart (part.Object fid kind mode mtime size cid places target) = Unit {0}
+IsPlainPart (part.Name path fid) = IsTrue (list_all is_plain path)
+IsPlainPart (part.Block key latest published) = Unit {0}
+IsPlainPart (part.Enrolled node loss fence) = Unit {0}

@@ -1,6 +1,6 @@
 //! What each call keeps of the names and objects of an export.
 
-ghost use Rattle.rz_export_laws.specs.WholeTree.{EmptyIsWhole, GrowsWhole, StaysWhole};
+ghost use Rattle.rz_export_laws.specs.WholeTree.{ArePathsWritten, AreTextsPlain, CallKeepsTree, EmptyIsWhole, TreeStaysWhole};
 
 /// The tree of a new export is whole.
 pub fn at_first()
@@ -9,10 +9,20 @@ pub fn at_first()
 
 /// A call on names and objects keeps the tree whole; one that is refused changes nothing.
 pub fn call_kept()
-    ensures { StaysWhole }
+    ensures { CallKeepsTree }
 {}
 
-/// A publish, which raises the size of its live file, keeps the tree whole.
-pub fn growth_kept()
-    ensures { GrowsWhole }
+/// Each call of an export keeps its tree whole.
+pub fn tree_kept()
+    ensures { TreeStaysWhole }
+{}
+
+/// Each path of a whole tree can be written as text and read again.
+pub fn paths_written()
+    ensures { ArePathsWritten }
+{}
+
+/// Each path that a text spells has names without slashes.
+pub fn texts_plain()
+    ensures { AreTextsPlain }
 {}

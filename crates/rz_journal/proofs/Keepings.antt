@@ -7,6 +7,7 @@ use Rattle.rz_events.specs.declared.export.Reply.{Reply}
 use Rattle.rz_events.specs.declared.export.Reply.TheVariants.{NoMemory}
 use Rattle.rz_export_model.specs.Export.{Export, new_export, is_proper, export_reply, export_after}
 use Rattle.rz_export.specs.Calls.{IsAnswered, MayWant}
+use Rattle.rz_export_laws.specs.Whole.{IsWhole}
 use Rattle.rz_journal_text.specs.declared.entry.Entry.{Entry}
 use Rattle.rz_journal_text.specs.Spelling.{entry_bytes}
 use Rattle.rz_journal_disk.specs.Row.{taken}
@@ -136,10 +137,10 @@ none_left Was volume text left = ⊎_elim
     (λ (new : IsShut text ⊎ StandsFor text []). inr (⊎_elim (λ (shut : IsShut text). inl shut) (λ (none : StandsFor text []). inr (none_text volume text none)) new))
     left
 
-pub new_ready : (tells : Bool) (volume : Volume) (text : List ℕ) (image : List ℕ → Type 0) (half used : ℕ) (s : Export) → s ≡ new_export volume 0 → IsOpen tells text image half used → (IsTrue tells → StandsFor text []) → IsReady tells text image half used s
-new_ready tells volume text image half used s is is_open none =
+pub new_ready : (tells : Bool) (volume : Volume) (text : List ℕ) (image : List ℕ → Type 0) (half used : ℕ) (s : Export) → IsWhole (new_export volume 0) → s ≡ new_export volume 0 → IsOpen tells text image half used → (IsTrue tells → StandsFor text []) → IsReady tells text image half used s
+new_ready tells volume text image half used s whole is is_open none =
     subst (λ (u : Export). IsReady tells text image half used u) (sym is)
-    record { is_open = is_open; keeps = λ told. none_kept volume text (none told) }
+    record { is_open = is_open; keeps = λ told. none_kept volume text (none told); whole = whole }
 
 -- ---- what fits
 
@@ -162,13 +163,14 @@ room_there s used row parts need long is fits nowhere =
 
 -- ---- one entry more, and the journal goes on
 
-pub ready_after : (tells : Bool) (text : List ℕ) (image : List ℕ → Type 0) (half used : ℕ) (s : Export) → IsReady tells text image half used s → (row : List ℕ) (c : Call) (e : Entry) → entry_of c ≡ Some e → IsRow (e ∷ []) row → IsAccepted s c
+pub ready_after : (tells : Bool) (text : List ℕ) (image : List ℕ → Type 0) (half used : ℕ) (s : Export) → IsReady tells text image half used s → (row : List ℕ) (c : Call) (e : Entry) → entry_of c ≡ Some e → IsRow (e ∷ []) row → IsAccepted s c → IsWhole (export_after s c)
     → (new : List ℕ) (left : List ℕ → Type 0) (side count : ℕ) (u : Export) → u ≡ export_after s c → IsOpen tells new left side count → (IsTrue tells → Becomes (with_last (entry_bytes e)) text new) → IsReady tells new left side count u
-ready_after tells text image half used s ready row c e at is accepted new left side count u same is_open becomes =
+ready_after tells text image half used s ready row c e at is accepted whole new left side count u same is_open becomes =
     subst (λ (v : Export). IsReady tells new left side count v) (sym same)
     record {
       is_open = is_open;
       keeps = λ told. subst (λ (v : Volume). Keeps v new (export_after s c)) (sym (volume_same s c)) (added_text tells text image half used s ready row c e at is accepted told new (becomes told));
+      whole = whole;
     }
 
 pub answered_unkept : (s u : Export) (c : Call) (r : Reply) → IsAnswered s c r u → entry_of c ≡ None → u ≡ s

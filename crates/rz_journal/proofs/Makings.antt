@@ -11,6 +11,7 @@ use Rattle.rz_events.specs.declared.export.Call.{Call}
 use Rattle.rz_events.specs.declared.export.Call.TheVariants as call
 use Rattle.rz_export_model.specs.Export.{Export, new_export, is_proper, export_reply, export_after}
 use Rattle.rz_export.specs.Parts.{export_parts}
+use Rattle.rz_export_laws.specs.Whole.{ArePartsAgain}
 use Rattle.rz_journal_text.specs.declared.entry.Entry.{Entry}
 use Rattle.rz_journal_text.specs.declared.entry.Entry.TheVariants as entry
 use Rattle.rz_journal_text.specs.Spelling.{IsShort, HasShortTexts, Spells}
@@ -105,7 +106,7 @@ pub accepted_more : (s : Export) (calls : List Call) (c : Call) → AreAccepted 
 accepted_more s [] c all one = (one, tt)
 accepted_more s (d ∷ calls) c all one = (all.0, accepted_more (export_after s d) calls c all.1 one)
 
-said_more : (later : List Entry) (calls : List Call) (e : Entry) (d : Call) → map call_said later ≡ map Some calls → call_said e ≡ Some d → map call_said (later ++ e ∷ []) ≡ map Some (calls ++ d ∷ [])
+pub said_more : (later : List Entry) (calls : List Call) (e : Entry) (d : Call) → map call_said later ≡ map Some calls → call_said e ≡ Some d → map call_said (later ++ e ∷ []) ≡ map Some (calls ++ d ∷ [])
 said_more [] [] e d all one = ap (λ (o : Option Call). o ∷ []) one
 said_more [] (c ∷ calls) e d all one = absurd (cc)
 said_more (x ∷ later) [] e d all one = absurd (cc)
@@ -133,11 +134,11 @@ makes_more volume entries s c e makes is at =
     }
 
 -- the parts of an export make it
-pub makes_parts : (s : Export) → Makes s.volume (part_entries s) s
-makes_parts s = record {
+pub makes_parts : (s : Export) → ArePartsAgain s → Makes s.volume (part_entries s) s
+makes_parts s are = record {
   parts = export_parts s;
   first = s;
-  begins = (refl, refl);
+  begins = (are.parts, sym are.again);
   later = [];
   calls = [];
   are = sym (append-nil (part_entries s));

@@ -4,7 +4,7 @@ use Rattle.rz_events.specs.Volume.{Volume}
 use Rattle.rz_events.specs.declared.export.Call.{Call}
 use Rattle.rz_export_model.specs.Export.{Export, new_export, is_proper, export_reply, export_after}
 use Rattle.rz_tree.specs.declared.parts.Part.{Part}
-use Rattle.rz_export.specs.Parts.{export_parts}
+use Rattle.rz_export.specs.Building.{ArePartsOf, made_of}
 use Rattle.rz_journal_text.specs.declared.entry.Entry.{Entry}
 use Rattle.rz_journal_text.specs.declared.entry.Entry.TheVariants.{Built}
 use Rattle.rz_journal_text.specs.Spelling.{Spells}
@@ -28,10 +28,11 @@ abbrev pub after_all : Export → List Call → Export
 after_all s [] = s
 after_all s (c ∷ calls) = after_all (export_after s c) calls
 
--- the export from which the calls go on: that of these parts, or that of a new store where there are none
+-- the export from which the calls go on: the one that these parts make, which keep the rules, or that of a new
+-- store where there are none
 abbrev pub BeginsWith : Volume → List Part → Export → Type 0
 BeginsWith volume [] s = s ≡ new_export volume 0
-BeginsWith volume (part ∷ parts) s = (s.volume ≡ volume) × (export_parts s ≡ part ∷ parts)
+BeginsWith volume (part ∷ parts) s = ArePartsOf volume (part ∷ parts) × (s ≡ made_of volume (part ∷ parts))
 
 -- The entries are parts, and then calls that are accepted, and make this export.
 pub record Makes (volume : Volume) (entries : List Entry) (s : Export) : Type 0 where

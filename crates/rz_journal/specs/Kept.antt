@@ -2,16 +2,18 @@
 use Rattle.std.specs.Prelude.{◌≡◌, ◌⊎◌, ℕ, Bool, IsTrue, List, [], ◌∷◌, ◌++◌, Some}
 use Rattle.rz_events.specs.declared.export.Call.{Call}
 use Rattle.rz_export_model.specs.Export.{Export, new_export, export_after}
+use Rattle.rz_export_laws.specs.Whole.{IsWhole}
 use Rattle.rz_journal_text.specs.declared.entry.Entry.{Entry}
 use Rattle.rz_journal_disk.specs.Stands.{IsOpen}
 use Rattle.rz_journal.specs.Said.{entry_of}
 use Rattle.rz_journal.specs.JournalText.{IsAccepted, AreAccepted, after_all, Keeps, IsTextOf}
 use Rattle.rz_journal.specs.Room.{IsRow}
 
--- The disk is open, and its text keeps the export.
+-- The disk is open, its text keeps the export, and parts make the export again.
 pub record IsReady (tells : Bool) (text : List ℕ) (image : List ℕ → Type 0) (half used : ℕ) (s : Export) : Type 0 where
   pub is_open : IsOpen tells text image half used
   pub keeps : IsTrue tells → Keeps s.volume text s
+  pub whole : IsWhole s
 
 -- each image keeps the export
 abbrev pub AllKeep : (List ℕ → Type 0) → Export → Type 0

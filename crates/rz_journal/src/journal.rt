@@ -3,6 +3,7 @@
 ghost use Rattle.std.specs.Prelude.{◌≡◌, ◌⊎◌, ℕ, List, [], false, true, IsTrue, IfOk, IfErr, MatchResult};
 ghost use Rattle.rz_disk.specs.Images.{Only};
 ghost use Rattle.rz_disk.specs.Meter.{Lasts, Rises, faults};
+ghost use Rattle.rz_events.specs.Volume.{IsVolume};
 ghost use Rattle.rz_events.specs.declared.export.Call.{Call};
 ghost use Rattle.rz_export_model.specs.Export.{new_export, is_proper};
 ghost use Rattle.rz_journal_disk.specs.Stands.{IsShut};
@@ -37,10 +38,10 @@ pub enum JournalReply {
 /// An export whose accepted calls stand on a disk.
 #[derive(Drop)]
 pub struct Journal<D: Disk> {
-    alloc: Global,
-    export: Export,
-    entries: Entries<D>,
-    closed: bool,
+    pub(crate) alloc: Global,
+    pub(crate) export: Export,
+    pub(crate) entries: Entries<D>,
+    pub(crate) closed: bool,
 }
 
 impl<D: Disk> Model for Journal<D> {
@@ -73,6 +74,8 @@ impl<D: Disk> Journal<D> {
         ensures crash { IfErr result (λ e. IsTrue D.tells → (c : List ℕ) → D.image e.0 c → D.image disk c ⊎ IsShut c ⊎ IsTextOf volume c []) }
         ensures risen { IfErr result (λ e. e.1 ≡ FormatFault.DiskFault → Rises (faults (D.meter disk)) (faults (D.meter e.0))) }
     {
+        rules(&volume);
+        rz_export_laws::exports::new_is_whole();
         let Ok(export) = Export::new(alloc, volume, 0) else {
             return Err((disk, FormatFault::NoMemory));
         };
@@ -156,4 +159,11 @@ impl<D: Disk> Journal<D> {
     {
         self.entries.into_disk()
     }
+}
+
+/// The rules that every volume keeps.
+pub(crate) fn rules(volume: &Volume)
+    ensures { IsVolume volume.now }
+{
+    let _ = &volume.layout;
 }

@@ -40,6 +40,7 @@ pub fn keep<D: Disk>(
     ensures meter { Lasts (D.meter entries.old.disk) (D.meter entries.new.disk) }
     ensures risen { IsErrOf result Halt.Failed → Rises (faults (D.meter entries.old.disk)) (faults (D.meter entries.new.disk)) }
 {
+    rz_export_laws::exports::stays_whole();
     make_room(alloc, export, entries, row)?;
     let reply = export.answer(call);
     if !accepts(&reply) {

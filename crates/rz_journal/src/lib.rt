@@ -6,19 +6,22 @@
 //! `Journal` is an export whose accepted calls stand on a disk. Its contract says what each call answers,
 //! and that on every exit each image of the disk stands for the calls accepted before, or for these and
 //! the present one. `entry_of` gives the entry of a call. `read_entries` reads the entries of a half, up to
-//! their end or to the first that is damaged. Nothing is said yet of a journal that is opened again.
+//! their end or to the first that is damaged. `reopen` gives the export that the
+//! entries make, or the first that is damaged.
 //!
-//! In reading order: `said`, `standing`, `rows`, `room`, `keeping`, `journal`, `reading`.
+//! In reading order: `said`, `rows`, `room`, `keeping`, `journal`, `reading`, `rebuilding`, `opening`.
 #![tactic(auto)]
 
 mod journal;
 mod keeping;
+mod opening;
 mod reading;
+mod rebuilding;
 mod room;
 mod rows;
 mod said;
-mod standing;
 
 pub use journal::{Journal, JournalReply};
 pub use reading::{Listing, read_entries};
+pub use rebuilding::JournalFault;
 pub use said::entry_of;

@@ -42,6 +42,7 @@ pub fn make_room<D: Disk>(
     ensures meter { Lasts (D.meter entries.old.disk) (D.meter entries.new.disk) }
     ensures risen { IsErrOf result Halt.Failed → Rises (faults (D.meter entries.old.disk)) (faults (D.meter entries.new.disk)) }
 {
+    rz_export_laws::exports::parts_make_it();
     if entries.has_room(row.len() as u64) {
         return Ok(());
     }

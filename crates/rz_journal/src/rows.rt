@@ -1,21 +1,18 @@
 //! Entries as the rows that stand in a half.
 
 ghost use Rattle.std.specs.Prelude.{◌≡◌, ◌++◌, [], ◌∷◌, None, IsSome, IfOk, OnOk, OnErr, MatchOption};
-ghost use Rattle.rz_journal_text.specs.declared.entry.Entry.{Entry};
 ghost use Rattle.rz_journal_text.specs.Spelling.{entry_bytes, MayStand, Spells};
 ghost use Rattle.rz_journal_disk.specs.Row.{framed};
-ghost use Rattle.rz_journal.specs.JournalText.{Makes};
+ghost use Rattle.rz_export_laws.specs.Whole.{IsWhole};
 ghost use Rattle.rz_journal.specs.Kept.{IsRowOf};
 ghost use Rattle.rz_journal.specs.Room.{part_entries, IsRow};
 ghost use Rattle.rz_journal.specs.Said.{entry_of, HasShortText};
 
 use crate::said::entry_of;
-use crate::standing::may_stand;
 use rz_events::Call;
 use rz_export::Export;
 use rz_journal_disk::{close_row, push_entry};
 use rz_journal_text::{Entry, write};
-use rz_tree::Part;
 use std::alloc::{AllocError, Global};
 
 /// The row of the entry of a call, if it has one, with the shut gate behind it.
@@ -43,15 +40,15 @@ fn row_of(alloc: Global, entry: &Entry) -> Result<Vec<u8>, AllocError>
 }
 
 /// The row of all parts of an export, with the shut gate behind it.
-#[tactic(auto, using(crate::proofs::Makings::makes_parts))]
 pub fn parts_row(alloc: Global, export: &Export) -> Result<Vec<u8>, AllocError>
-    ensures row { IfOk result (λ row. IsRow (part_entries export.now) row.items) }
-    ensures makes { Makes export.now.volume (part_entries export.now) export.now }
+    requires { IsWhole export.now }
+    ensures { IfOk result (λ row. IsRow (part_entries export.now) row.items) }
 {
+    rz_export_laws::trees::paths_written();
     let mut row = Vec::new(alloc);
     for i in 0..usize::MAX {
         match export.part(i)? {
-            Some(part) => push_part(alloc, part, &mut row)?,
+            Some(part) => push_row(alloc, &Entry::Built(part), &mut row)?,
             None => {
                 close_row(&mut row)?;
                 return Ok(row);
@@ -60,18 +57,6 @@ pub fn parts_row(alloc: Global, export: &Export) -> Result<Vec<u8>, AllocError>
     }
     // Memory holds no export of so many parts.
     Err(AllocError)
-}
-
-// Adds a part behind an open gate and its length.
-fn push_part(alloc: Global, part: Part, row: &mut Vec<u8>) -> Result<(), AllocError>
-    ensures row { OnOk result (row.new.items ≡ row.old.items ++ framed (entry_bytes (Entry.Built part))) }
-    ensures spelled { OnOk result (Spells (entry_bytes (Entry.Built part)) (Entry.Built part)) }
-{
-    // No export has a part that may not stand in an entry.
-    if !may_stand(alloc, &part)? {
-        return Err(AllocError);
-    }
-    push_row(alloc, &Entry::Built(part), row)
 }
 
 // Adds an entry behind an open gate and its length.

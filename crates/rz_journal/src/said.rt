@@ -1,6 +1,6 @@
 //! What a journal keeps of a call.
 
-ghost use Rattle.std.specs.Prelude.{◌≡◌, IfOk, IfSome, IsSome, OnErr};
+ghost use Rattle.std.specs.Prelude.{◌≡◌, IfOk, IfSome, IsSome, OnErr, is_some};
 ghost use Rattle.rz_journal_text.specs.Spelling.{MayStand};
 ghost use Rattle.rz_journal.specs.Said.{only_looks, is_long, has_long_text, entry_of, accepts, HasShortText};
 
@@ -38,6 +38,17 @@ pub fn entry_of(alloc: Global, call: &Call) -> Result<Option<Entry>, AllocError>
         }),
         Call::Look { .. } | Call::Next { .. } | Call::Recheck { .. } => None,
     })
+}
+
+/// Whether a call has an entry.
+pub fn is_kept(call: &Call) -> bool
+    ensures { result ≡ is_some (entry_of call.now) }
+{
+    match call {
+        Call::Tree(names) => !only_looks(names) && !has_long_text(names),
+        Call::Begin { .. } | Call::Publish { .. } | Call::Enroll { .. } => true,
+        Call::Look { .. } | Call::Next { .. } | Call::Recheck { .. } => false,
+    }
 }
 
 // The entry of a call on names.

@@ -1,10 +1,10 @@
 -- The word of a node beside the meter of its disk, through calls of the node.
-use Rattle.std.proofs.Common.{◌≡◌, ◌≢◌, ◌+◌, ◌-◌, ◌^◌, ◌<◌, ◌≤◌, ℕ, Bool, true, false, cond, IsTrue, IfSome, List, [], ◌∷◌, Option, Some, None, refl, sym, ◌∙◌, ap, subst, inl, inr, arith, eq-eqb}
+use Rattle.std.proofs.Common.{◌≡◌, ◌-◌, ◌≤◌, ℕ, Bool, true, false, cond, IsTrue, IfSome, List, [], ◌∷◌, Option, Some, None, refl, sym, ◌∙◌, ap, subst, inl, arith, eq-eqb}
 use Rattle.std.specs.Prelude.{if◌then◌else◌}
 use Rattle.rz_disk.specs.Meter.{Meter, armed}
 use Rattle.rz_events.specs.declared.keys.Actor.{Actor}
 use Rattle.rz_events.specs.declared.nodes.Phase.{Phase}
-use Rattle.rz_events.specs.declared.nodes.Phase.TheVariants.{Down, Up}
+use Rattle.rz_events.specs.declared.nodes.Phase.TheVariants.{Down}
 use Rattle.rz_events.specs.declared.nodes.NodeAsk.{NodeAsk}
 use Rattle.rz_events.specs.declared.nodes.NodeAsk.TheVariants as ask
 use Rattle.rz_events.specs.declared.nodes.NodeAnswer.{NodeAnswer}

@@ -31,7 +31,8 @@ fn passes(event: &Event) -> u64
             ..
         } => 4,
         Event::Fetch {
-            answer: Some(_), ..
+            answer: Some(_),
+            ..
         } => 1,
         _ => 0,
     }

@@ -216,14 +216,7 @@ impl<D: Disk, J: Counting> Seat<D, J> {
         rz_image_laws::longer::<D>();
         let by = pass.actor();
         rz_chronicle::words_kept();
-        let answer = serve(
-            self.alloc,
-            self.pick,
-            self.left,
-            &mut self.node,
-            ask,
-            bins,
-        );
+        let answer = serve(self.alloc, self.pick, self.left, &mut self.node, ask, bins);
         let event = node_event(by, self.sid, ask, &answer);
         self.left = left_with(self.left, &event);
         add(book, pass, &mut self.post, event);

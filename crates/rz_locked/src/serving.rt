@@ -58,12 +58,7 @@ pub(crate) fn serve<D: Disk>(
 
 /// Starts a node. One that is down first loses what a loss of power may lose of its disk, which is then
 /// disarmed. Where memory is wanting that has no event, and so the disk is armed again with what is left.
-fn start<D: Disk>(
-    alloc: Global,
-    pick: u64,
-    left: Option<u64>,
-    node: &mut Node<D>,
-) -> StartAnswer
+fn start<D: Disk>(alloc: Global, pick: u64, left: Option<u64>, node: &mut Node<D>) -> StartAnswer
     requires fuse { IsTrue D.has_fuse }
     ensures answer { IsNodeAnswer node.old.geometry.cells node.old.state ask.Start (answer.Start result) }
     ensures geometry { node.new.geometry ≡ node.old.geometry }

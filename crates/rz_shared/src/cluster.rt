@@ -93,7 +93,8 @@ impl<D: Disk, J: Counting> Cluster<D, J> {
         ensures read { IsTrue (is_honest J.kind) → IsRead (volume_in J.kind) (facts pass.new.log) node ask.now result bins.old bins.new }
         ensures fit { IsFit J.kind pass.new.log }
     {
-        self.seat(node).lock(rt).call(rt, book, pass, node, ask, bins)
+        let seat = self.seat(node);
+        seat.lock(rt).call(rt, book, pass, node, ask, bins)
     }
 
     /// Takes the export's lock, calls it, and adds the event of its reply to the log. It does not return
@@ -146,6 +147,7 @@ impl<D: Disk, J: Counting> Cluster<D, J> {
         ensures commits { Commits pass.old.keys pass.old.log (e.Armed node passes pick) pass.new.log }
         ensures fit { IsFit J.kind pass.new.log }
     {
-        self.seat(node).lock(rt).arm(rt, book, pass, node, passes, pick);
+        let seat = self.seat(node);
+        seat.lock(rt).arm(rt, book, pass, node, passes, pick);
     }
 }

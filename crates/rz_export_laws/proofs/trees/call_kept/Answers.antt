@@ -1,4 +1,4 @@
-use Rattle.rz_export_laws.proofs.Calls as laws
+use Rattle.rz_export_laws.proofs.TreeCalls as laws
 use Rattle.rz_export_laws.proofs.trees.call_kept.Goals as goal
 
 pub returns : goal.returns

@@ -29,6 +29,7 @@ returns-in-Ok-clause-ready g c =
     let so = answered_so s u c.args.call.now c.answer-reply.result c.answer-reply.ensures (sym c.accepts.ensures ∙ good) in
     let accepted = accepted_of s c.args.call.now e c.requires.row.1 c.requires.proper so.0 in
     ready_after g.D.Disk.tells (g.D.Disk.text mid.disk) (g.D.Disk.image mid.disk) mid.half mid.used s c.in_ok-make_room.ensures.ready c.args.row.now c.args.call.now e c.requires.row.1 c.requires.row.2 accepted
+    (c.stays_whole.ensures s c.args.call.now c.requires.proper c.in_ok-make_room.ensures.ready.whole)
     (g.D.Disk.text new.disk) (g.D.Disk.image new.disk) new.half new.used u so.1 (c.in-Ok.ensures.open (entry_bytes e) c.requires.row.2.1)
     (λ told. c.in-Ok.ensures.done told (entry_bytes e) c.requires.row.2.1)
 

@@ -1,8 +1,7 @@
-use Rattle.std.proofs.Common.{◌≡◌, ◌+◌, ◌≤◌, ◌++◌, map, vec_len}
+use Rattle.std.proofs.Common.{◌≡◌, ◌+◌, ◌≤◌, ◌++◌, vec_len}
 use Rattle.std.specs.Prelude.{reverse}
 use Rattle.std.specs.List.{AllZip}
 use Rattle.std.specs.Vec.{vec_capacity}
-use Rattle.rz_chronicle.specs.Rules.{PostView}
 use Rattle.rz_shared.specs.Returned.{IsReturned}
 use Rattle.rz_shared.proofs.Ordered.{words, words-at}
 use Rattle.rz_shared.proofs.closing.empty_all.Given as goal

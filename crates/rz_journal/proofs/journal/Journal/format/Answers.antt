@@ -5,7 +5,7 @@ use Rattle.rz_journal.proofs.journal.Journal.format.Goals as goal
 pub invariant_of-result : goal.invariant_of-result
 invariant_of-result g c = λ _.
     let entries = c.in-Ok-format.entries in
-    new_ready g.D.Disk.tells c.args.volume (g.D.Disk.text entries.disk) (g.D.Disk.image entries.disk) entries.half entries.used c.in-Ok.export c.in-Ok.ensures c.in-Ok-format.ensures.open c.in-Ok-format.ensures.none
+    new_ready g.D.Disk.tells c.args.volume (g.D.Disk.text entries.disk) (g.D.Disk.image entries.disk) entries.half entries.used c.in-Ok.export (c.new_is_whole.ensures c.args.volume 0 c.rules.ensures) c.in-Ok.ensures c.in-Ok-format.ensures.open c.in-Ok-format.ensures.none
 
 pub returns-in-Ok-format-clause-stands : goal.returns-in-Ok-format-clause-stands
 returns-in-Ok-format-clause-stands g c told = none_text c.args.volume (g.D.Disk.text c.in-Ok-format.entries.disk) (c.in-Ok-format.ensures.none told)

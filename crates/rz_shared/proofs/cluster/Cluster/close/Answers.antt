@@ -1,11 +1,10 @@
 use Rattle.std.proofs.Common.{◌≡◌, ◌∙◌, List, length, map, sym, ap, subst, arith, vec_len}
 use Rattle.std.specs.Prelude.{nat_eq}
 use Rattle.std.specs.List.{IsDistinct}
-use Rattle.rz_events.specs.Volume.{Volume, nodes_of}
+use Rattle.rz_events.specs.Volume.{Volume}
 use Rattle.rz_events.specs.declared.files.NodeSpec.{NodeSpec}
 use Rattle.rz_events.specs.declared.events.Word.TheVariants as w
 use Rattle.rz_chronicle.specs.Keys.{sids_of}
-use Rattle.rz_chronicle.specs.Kinds.{volume_in}
 use Rattle.rz_shared.specs.Arranged.{sids}
 use Rattle.rz_shared.proofs.Ordered.{in-order}
 use Rattle.rz_shared.proofs.cluster.Cluster.close.Goals as goal

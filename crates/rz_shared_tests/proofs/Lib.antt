@@ -1,2 +1,0 @@
-pub mod Dishonest
-pub mod Records
