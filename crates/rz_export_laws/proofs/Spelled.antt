@@ -43,7 +43,7 @@ after-plain : (rest : List ℕ) (p : Path) → after_slash rest ≡ Some p → l
 after-plain [] p h = ap (list_all is_plain) (sym (same_some [] p h))
 after-plain (b ∷ rest) p h = all-plain (parts_of (b ∷ rest)) p (parts-bare (b ∷ rest)) h
 
-long-plain : (text : List ℕ) (p : Path) → long_path_of text ≡ Some p → list_all is_plain p ≡ true
+pub long-plain : (text : List ℕ) (p : Path) → long_path_of text ≡ Some p → list_all is_plain p ≡ true
 long-plain [] p h = absurd (not_none p (sym h))
 long-plain (b ∷ rest) p h = go (b == 47) h
   where

@@ -55,6 +55,10 @@ pub record IsWritable (path : Path) : Type 0 where
 abbrev pub ArePathsWritten : Type 0
 ArePathsWritten = (t : Tree) (path : Path) (fid : ℕ) → IsWholeTree t → maps.get t.names path ≡ Some fid → IsWritable path
 
+-- a path that a text spells has names without slashes
+abbrev pub AreTextsPlain : Type 0
+AreTextsPlain = (text : List ℕ) (path : Path) → long_path_of text ≡ Some path → IsTrue (list_all is_plain path)
+
 -- a part that is a name has a path that a text can spell
 abbrev pub IsPlainPart : Part → Type 0
 IsPlainPart (part.Counters last made) = Unit {0}

@@ -1,6 +1,6 @@
 //! What each call keeps of the names and objects of an export.
 
-ghost use Rattle.rz_export_laws.specs.WholeTree.{ArePathsWritten, CallKeepsTree, EmptyIsWhole, TreeStaysWhole};
+ghost use Rattle.rz_export_laws.specs.WholeTree.{ArePathsWritten, AreTextsPlain, CallKeepsTree, EmptyIsWhole, TreeStaysWhole};
 
 /// The tree of a new export is whole.
 pub fn at_first()
@@ -20,4 +20,9 @@ pub fn tree_kept()
 /// Each path of a whole tree can be written as text and read again.
 pub fn paths_written()
     ensures { ArePathsWritten }
+{}
+
+/// Each path that a text spells has names without slashes.
+pub fn texts_plain()
+    ensures { AreTextsPlain }
 {}

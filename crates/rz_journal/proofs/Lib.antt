@@ -1,1 +1,9 @@
+pub mod Keepings
 pub mod Listings
+pub mod Makings
+pub mod Openings
+pub mod PartRows
+pub mod Refused
+pub mod Reopened
+mod WholeTexts
+mod Wholes

@@ -4,6 +4,7 @@ use Rattle.rz_events.specs.Volume.{Volume}
 use Rattle.rz_events.specs.declared.export.Call.{Call}
 use Rattle.rz_export_model.specs.Export.{Export, new_export, is_proper, export_reply, export_after}
 use Rattle.rz_tree.specs.declared.parts.Part.{Part}
+use Rattle.rz_export.specs.Building.{ArePartsOf, made_of}
 use Rattle.rz_journal_text.specs.declared.entry.Entry.{Entry}
 use Rattle.rz_journal_text.specs.declared.entry.Entry.TheVariants.{Built}
 use Rattle.rz_journal_text.specs.Spelling.{Spells}
@@ -27,16 +28,17 @@ abbrev pub after_all : Export → List Call → Export
 after_all s [] = s
 after_all s (c ∷ calls) = after_all (export_after s c) calls
 
--- the export from which the calls go on: that of these parts, or that of a new store where there are none
-abbrev pub BeginsWith : (Export → List Part) → Volume → List Part → Export → Type 0
-BeginsWith parts_of volume [] s = s ≡ new_export volume 0
-BeginsWith parts_of volume (part ∷ parts) s = (s.volume ≡ volume) × (parts_of s ≡ part ∷ parts)
+-- the export from which the calls go on: the one that these parts make, which keep the rules, or that of a new
+-- store where there are none
+abbrev pub BeginsWith : Volume → List Part → Export → Type 0
+BeginsWith volume [] s = s ≡ new_export volume 0
+BeginsWith volume (part ∷ parts) s = ArePartsOf volume (part ∷ parts) × (s ≡ made_of volume (part ∷ parts))
 
 -- The entries are parts, and then calls that are accepted, and make this export.
-pub record Makes (parts_of : Export → List Part) (volume : Volume) (entries : List Entry) (s : Export) : Type 0 where
+pub record Makes (volume : Volume) (entries : List Entry) (s : Export) : Type 0 where
   pub parts : List Part
   pub first : Export
-  pub begins : BeginsWith parts_of volume parts first
+  pub begins : BeginsWith volume parts first
   pub later : List Entry
   pub calls : List Call
   pub are : entries ≡ map Built parts ++ later
@@ -51,11 +53,15 @@ AreSpelled [] (entry ∷ entries) = ⊥
 AreSpelled (bytes ∷ others) [] = ⊥
 AreSpelled (bytes ∷ others) (entry ∷ entries) = Spells bytes entry × AreSpelled others entries
 
--- The text stands for calls that a new store accepted: its entries make the export after them.
-pub record IsTextOf (parts_of : Export → List Part) (volume : Volume) (text : List ℕ) (calls : List Call) : Type 0 where
+-- The text's entries make this export.
+pub record Keeps (volume : Volume) (text : List ℕ) (s : Export) : Type 0 where
   pub bytes : Entries
   pub entries : List Entry
   pub stands : StandsFor text bytes
   pub spelled : AreSpelled bytes entries
+  pub makes : Makes volume entries s
+
+-- The text stands for calls that a new store accepted: its entries make the export after them.
+pub record IsTextOf (volume : Volume) (text : List ℕ) (calls : List Call) : Type 0 where
   pub accepted : AreAccepted (new_export volume 0) calls
-  pub makes : Makes parts_of volume entries (after_all (new_export volume 0) calls)
+  pub keeps : Keeps volume text (after_all (new_export volume 0) calls)

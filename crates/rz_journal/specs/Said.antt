@@ -1,5 +1,5 @@
 -- Which calls a journal keeps, and what its entries say of them.
-use Rattle.std.specs.Prelude.{◌<◌, ◌^◌, Bool, true, false, cond, length, replicate, Option, Some, None}
+use Rattle.std.specs.Prelude.{ℕ, ◌<◌, ◌^◌, Bool, true, false, ◌||◌, nat_lt, cond, List, length, replicate, Option, Some, None}
 use Rattle.rz_events.specs.declared.tree.TreeCall.{TreeCall}
 use Rattle.rz_events.specs.declared.tree.TreeCall.TheVariants.{Lookup, Getattr, Rmdir, Mkdir, Create, Unlink, Readlink, Readdir, OpenFile, Setattr, Rename, Link, Symlink}
 use Rattle.rz_events.specs.declared.tree.TreeReply.TheVariants as told
@@ -26,9 +26,29 @@ only_looks (Rename path to) = false
 only_looks (Link path to) = false
 only_looks (Symlink target path) = false
 
+-- a text for whose length an entry has no room; the export refuses it
+abbrev pub is_long : List ℕ → Bool
+is_long text = nat_lt 65535 (length text)
+
+-- a call on names with such a text
+abbrev pub has_long_text : TreeCall → Bool
+has_long_text (Lookup path) = is_long path
+has_long_text (Getattr path) = is_long path
+has_long_text (Rmdir path) = is_long path
+has_long_text (Mkdir path) = is_long path
+has_long_text (Create path) = is_long path
+has_long_text (Unlink path) = is_long path
+has_long_text (Readlink path) = is_long path
+has_long_text (Readdir path) = is_long path
+has_long_text (OpenFile path) = is_long path
+has_long_text (Setattr path mode mtime) = is_long path
+has_long_text (Rename path to) = is_long path || is_long to
+has_long_text (Link path to) = is_long path || is_long to
+has_long_text (Symlink target path) = is_long target || is_long path
+
 -- the entry of a call that may change the export; of a write that begins its length alone is kept
 abbrev pub entry_of : Call → Option Entry
-entry_of (call.Tree c) = cond (only_looks c) None (Some (entry.Tree c))
+entry_of (call.Tree c) = cond (only_looks c || has_long_text c) None (Some (entry.Tree c))
 entry_of (call.Begin key text) = Some (entry.Begin key (length text))
 entry_of (call.Publish key stamp mask bytes) = Some (entry.Publish key stamp mask bytes)
 entry_of (call.Enroll node loss) = Some (entry.Enroll node loss)

@@ -3,13 +3,25 @@
 //! `specs/Said` says which calls a journal keeps and what its entries say. `specs/JournalText` says for
 //! which list of accepted calls the text of a journal's disk stands.
 //!
-//! `entry_of` gives the entry of a call. `read_entries` reads the entries of a half, up to their end or to
-//! the first that is damaged. Nothing is said yet of the journal itself, which asks an export and writes
-//! what it accepts.
+//! `Journal` is an export whose accepted calls stand on a disk. Its contract says what each call answers,
+//! and that on every exit each image of the disk stands for the calls accepted before, or for these and
+//! the present one. `entry_of` gives the entry of a call. `read_entries` reads the entries of a half, up to
+//! their end or to the first that is damaged. `reopen` gives the export that the
+//! entries make, or the first that is damaged.
+//!
+//! In reading order: `said`, `rows`, `room`, `keeping`, `journal`, `reading`, `rebuilding`, `opening`.
 #![tactic(auto)]
 
+mod journal;
+mod keeping;
+mod opening;
 mod reading;
+mod rebuilding;
+mod room;
+mod rows;
 mod said;
 
+pub use journal::{Journal, JournalReply};
 pub use reading::{Listing, read_entries};
+pub use rebuilding::JournalFault;
 pub use said::entry_of;

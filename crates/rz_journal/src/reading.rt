@@ -62,8 +62,8 @@ pub fn read_entries(alloc: Global, half: &[u8]) -> Result<Listing, AllocError>
     }
 }
 
-// What stands at an address of a half.
-fn next_entry(alloc: Global, half: &[u8], at: usize) -> Result<Step, AllocError>
+/// What stands at an address of a half.
+pub fn next_entry(alloc: Global, half: &[u8], at: usize) -> Result<Step, AllocError>
     requires { at < length half.now }
     ensures { IfOk result (IsStep half.now at) }
 {

@@ -1,16 +1,19 @@
 //! What a journal keeps of a call.
 
-ghost use Rattle.std.specs.Prelude.{◌≡◌, IfOk};
-ghost use Rattle.rz_journal.specs.Said.{only_looks, entry_of, HasShortText};
+ghost use Rattle.std.specs.Prelude.{◌≡◌, IfOk, IfSome, IsSome, OnErr, is_some};
+ghost use Rattle.rz_journal_text.specs.Spelling.{MayStand};
+ghost use Rattle.rz_journal.specs.Said.{only_looks, is_long, has_long_text, entry_of, accepts, HasShortText};
 
-use rz_events::{Call, TreeCall};
+use rz_events::{Call, Reply, Text, TreeCall, TreeReply};
 use rz_journal_text::Entry;
 use std::alloc::{AllocError, Global};
 
 /// The entry of a call that may change the export.
 pub fn entry_of(alloc: Global, call: &Call) -> Result<Option<Entry>, AllocError>
     requires { HasShortText call.now }
-    ensures { IfOk result (λ entry. entry ≡ entry_of call.now) }
+    ensures entry { IfOk result (λ entry. entry ≡ entry_of call.now) }
+    ensures stands { IfOk result (λ entry. IfSome entry MayStand) }
+    ensures wanted { OnErr result (IsSome (entry_of call.now)) }
 {
     Ok(match call {
         Call::Tree(names) => return tree_entry(alloc, names),
@@ -37,11 +40,27 @@ pub fn entry_of(alloc: Global, call: &Call) -> Result<Option<Entry>, AllocError>
     })
 }
 
+/// Whether a call has an entry.
+pub fn is_kept(call: &Call) -> bool
+    ensures { result ≡ is_some (entry_of call.now) }
+{
+    match call {
+        Call::Tree(names) => !only_looks(names) && !has_long_text(names),
+        Call::Begin { .. } | Call::Publish { .. } | Call::Enroll { .. } => true,
+        Call::Look { .. } | Call::Next { .. } | Call::Recheck { .. } => false,
+    }
+}
+
 // The entry of a call on names.
 fn tree_entry(alloc: Global, call: &TreeCall) -> Result<Option<Entry>, AllocError>
-    ensures { IfOk result (λ entry. entry ≡ entry_of (Call.Tree call.now)) }
+    ensures entry { IfOk result (λ entry. entry ≡ entry_of (Call.Tree call.now)) }
+    ensures stands { IfOk result (λ entry. IfSome entry MayStand) }
+    ensures wanted { OnErr result (IsSome (entry_of (Call.Tree call.now))) }
 {
     if only_looks(call) {
+        return Ok(None);
+    }
+    if has_long_text(call) {
         return Ok(None);
     }
     Ok(Some(Entry::Tree(call.copy(alloc)?)))
@@ -65,5 +84,46 @@ fn only_looks(call: &TreeCall) -> bool
         | TreeCall::Rename { .. }
         | TreeCall::Link { .. }
         | TreeCall::Symlink { .. } => false,
+    }
+}
+
+// Whether a call on names has a text for whose length an entry has no room.
+fn has_long_text(call: &TreeCall) -> bool
+    ensures { result ≡ has_long_text call.now }
+{
+    match call {
+        TreeCall::Lookup { path }
+        | TreeCall::Getattr { path }
+        | TreeCall::Rmdir { path }
+        | TreeCall::Mkdir { path }
+        | TreeCall::Create { path }
+        | TreeCall::Unlink { path }
+        | TreeCall::Readlink { path }
+        | TreeCall::Readdir { path }
+        | TreeCall::OpenFile { path }
+        | TreeCall::Setattr { path, .. } => is_long(path),
+        TreeCall::Rename { path, to } | TreeCall::Link { path, to } => is_long(path) || is_long(to),
+        TreeCall::Symlink { target, path } => is_long(target) || is_long(path),
+    }
+}
+
+// Whether an entry has no room for the length of a text.
+fn is_long(text: &Text) -> bool
+    ensures { result ≡ is_long text.now }
+{
+    65535 < text.bytes().len()
+}
+
+/// Whether a reply accepts what was asked.
+pub fn accepts(reply: &Reply) -> bool
+    ensures { result ≡ accepts reply.now }
+{
+    match reply {
+        Reply::Tree(TreeReply::Refused(_))
+        | Reply::Enrolled { .. }
+        | Reply::Denied(_)
+        | Reply::Revoked { .. }
+        | Reply::NoMemory => false,
+        _ => true,
     }
 }

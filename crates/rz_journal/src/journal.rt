@@ -1,0 +1,169 @@
+//! The journal.
+
+ghost use Rattle.std.specs.Prelude.{◌≡◌, ◌⊎◌, ℕ, List, [], false, true, IsTrue, IfOk, IfErr, MatchResult};
+ghost use Rattle.rz_disk.specs.Images.{Only};
+ghost use Rattle.rz_disk.specs.Meter.{Lasts, Rises, faults};
+ghost use Rattle.rz_events.specs.Volume.{IsVolume};
+ghost use Rattle.rz_events.specs.declared.export.Call.{Call};
+ghost use Rattle.rz_export_model.specs.Export.{new_export, is_proper};
+ghost use Rattle.rz_journal_disk.specs.Stands.{IsShut};
+ghost use Rattle.rz_journal.specs.JournalText.{IsTextOf};
+ghost use Rattle.rz_journal.specs.Kept.{IsRowOf, AllKeep, AllKeepEither, IsAfter, AllStandFor, AllStandForEither};
+ghost use Rattle.rz_journal.specs.Seen.{IsOpenAnswer, IsJournalAnswer, IfReply, calls_after};
+
+use crate::keeping::{keep, look};
+use crate::room::Halt;
+use crate::rows::call_row;
+use rz_cells::FormatFault;
+use rz_config::Volume;
+use rz_disk::{Disk, DiskError};
+use rz_events::{Call, Reply};
+use rz_export::Export;
+use rz_journal_disk::{Entries, HALF_BYTES};
+use std::alloc::Global;
+use std::marker::Model;
+
+/// What a journal answers.
+#[derive(Debug, Drop)]
+pub enum JournalReply {
+    /// The export's reply.
+    Reply(Reply),
+    /// The parts of the export and the entry of the call take `need` bytes, where a half has `have`.
+    Full { need: u64, have: u64 },
+    DiskFault,
+    /// A device call failed before.
+    Closed,
+}
+
+/// An export whose accepted calls stand on a disk.
+#[derive(Drop)]
+pub struct Journal<D: Disk> {
+    pub(crate) alloc: Global,
+    pub(crate) export: Export,
+    pub(crate) entries: Entries<D>,
+    pub(crate) closed: bool,
+}
+
+impl<D: Disk> Model for Journal<D> {
+    ghost use Rattle.std.specs.Prelude.{◌≡◌, false};
+    ghost use Rattle.rz_journal.specs.Kept.{IsReady};
+    ghost use Rattle.rz_journal.specs.Seen.{JournalView, view_code};
+
+    ghost Value = { JournalView D };
+
+    ghost coded = { view_code D.code };
+
+    ghost view = { λ j. record { disk = j.entries.disk; used = j.entries.used; export = j.export; closed = j.closed } };
+
+    // Until a device call failed, the disk is open and its text keeps the export.
+    ghost invariant = { λ j. j.closed ≡ false → IsReady D.tells (D.text j.entries.disk) (D.image j.entries.disk) j.entries.half j.entries.used j.export };
+}
+
+impl<D: Disk> Journal<D> {
+    /// Makes a disk anew, and a journal on it whose export is that of a new store.
+    ///
+    /// Want of memory may come before the disk is reset or from its reset.
+    pub fn format(alloc: Global, volume: Volume, disk: D) -> Result<Journal<D>, (D, FormatFault)>
+        ensures export { IfOk result (λ j. j.export ≡ new_export volume 0) }
+        ensures used { IfOk result (λ j. j.used ≡ 0) }
+        ensures open { IfOk result (λ j. j.closed ≡ false) }
+        ensures stands { IfOk result (λ j. IsTrue D.tells → IsTextOf volume (D.text j.disk) []) }
+        ensures settled { IfOk result (λ j. Only (D.text j.disk) (D.image j.disk)) }
+
+        // Otherwise each image is one from before, or its header is shut, or it stands for no calls.
+        ensures crash { IfErr result (λ e. IsTrue D.tells → (c : List ℕ) → D.image e.0 c → D.image disk c ⊎ IsShut c ⊎ IsTextOf volume c []) }
+        ensures risen { IfErr result (λ e. e.1 ≡ FormatFault.DiskFault → Rises (faults (D.meter disk)) (faults (D.meter e.0))) }
+    {
+        rules(&volume);
+        rz_export_laws::exports::new_is_whole();
+        let Ok(export) = Export::new(alloc, volume, 0) else {
+            return Err((disk, FormatFault::NoMemory));
+        };
+        match Entries::format(alloc, disk) {
+            Ok(entries) => Ok(Journal {
+                alloc,
+                export,
+                entries,
+                closed: false,
+            }),
+            Err((disk, DiskError::NoMemory)) => Err((disk, FormatFault::NoMemory)),
+            Err((disk, DiskError::Failed)) => Err((disk, FormatFault::DiskFault)),
+        }
+    }
+
+    /// Answers a call that the export takes. The entry of a call that may change the export is first
+    /// tested for room, and written where the call is accepted. After a fault of the disk the journal is
+    /// closed.
+    pub fn answer(&mut self, call: &Call) -> JournalReply
+        requires { IsTrue (is_proper self.old.export call.now) }
+        ensures answered { IsJournalAnswer self.old call.now result self.new }
+        ensures volume { self.new.export.volume ≡ self.old.export.volume }
+
+        // On every exit of an open journal each image stands for the calls from before, or for these and this one.
+        ensures atomic { IsTrue D.tells → self.old.closed ≡ false → (calls : List Call) → IsAfter self.old.export calls
+            → AllStandForEither (D.image self.new.disk) self.old.export calls call.now }
+
+        // After a reply each stands for all that were accepted, and these give the export.
+        ensures calls { IfReply result (λ r. (calls : List Call) → IsAfter self.old.export calls → IsAfter self.new.export (calls_after r call.now calls)) }
+        ensures replied { IfReply result (λ r. IsTrue D.tells → (calls : List Call) → IsAfter self.new.export calls → AllStandFor (D.image self.new.disk) self.new.export calls) }
+
+        ensures meter { Lasts (D.meter self.old.disk) (D.meter self.new.disk) }
+        ensures risen { result ≡ JournalReply.DiskFault → Rises (faults (D.meter self.old.disk)) (faults (D.meter self.new.disk)) }
+    {
+        if self.closed {
+            return JournalReply::Closed;
+        }
+        match call_row(self.alloc, call) {
+            Err(_) => JournalReply::Reply(Reply::NoMemory),
+            Ok(None) => JournalReply::Reply(look(&mut self.export, call)),
+            Ok(Some(row)) => self.keep(call, row.as_slice()),
+        }
+    }
+
+    // Answers a call whose entry has this row.
+    fn keep(&mut self, call: &Call, row: &[u8]) -> JournalReply
+        requires proper { IsTrue (is_proper self.old.export call.now) }
+        requires row { IsRowOf call.now row.now }
+        requires open { self.old.closed ≡ false }
+        ensures answered { IsOpenAnswer self.old call.now result self.new }
+        ensures volume { self.new.export.volume ≡ self.old.export.volume }
+        ensures images { IsTrue D.tells → AllKeepEither (D.image self.new.disk) self.old.export call.now }
+        ensures replied { IfReply result (λ r. IsTrue D.tells → AllKeep (D.image self.new.disk) self.new.export) }
+        ensures meter { Lasts (D.meter self.old.disk) (D.meter self.new.disk) }
+        ensures risen { result ≡ JournalReply.DiskFault → Rises (faults (D.meter self.old.disk)) (faults (D.meter self.new.disk)) }
+    {
+        match keep(self.alloc, &mut self.export, &mut self.entries, call, row) {
+            Ok(reply) => JournalReply::Reply(reply),
+            Err(Halt::NoMemory) => JournalReply::Reply(Reply::NoMemory),
+            Err(Halt::Full { need }) => JournalReply::Full {
+                need,
+                have: HALF_BYTES,
+            },
+            Err(Halt::Failed) => {
+                self.closed = true;
+                JournalReply::DiskFault
+            }
+        }
+    }
+
+    /// The export.
+    pub fn export(&self) -> &Export
+        ensures { result.now ≡ self.now.export }
+    {
+        &self.export
+    }
+
+    /// The disk.
+    pub fn into_disk(self) -> D
+        ensures { result ≡ self.disk }
+    {
+        self.entries.into_disk()
+    }
+}
+
+/// The rules that every volume keeps.
+pub(crate) fn rules(volume: &Volume)
+    ensures { IsVolume volume.now }
+{
+    let _ = &volume.layout;
+}

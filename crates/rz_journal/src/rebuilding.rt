@@ -1,0 +1,239 @@
+//! An export that entries make, one after another.
+
+ghost use Rattle.std.specs.Prelude.{◌≡◌, ◌↔◌, ◌<◌, ◌≤◌, length, replicate, Some, true, IsTrue, IsSome, IfOk, IfErr};
+ghost use Rattle.rz_events.specs.declared.export.Call.{Call};
+ghost use Rattle.rz_export_model.specs.Export.{is_proper, export_reply, export_after};
+ghost use Rattle.rz_export.specs.Building.{IsCounters};
+ghost use Rattle.rz_journal_text.specs.declared.entry.Entry.{Entry};
+ghost use Rattle.rz_journal.specs.Said.{entry_of, call_said, accepts};
+ghost use Rattle.rz_journal.specs.Opening.{IsSomeStage, TellsEnd, TellsPart, IsAdded, after_part, IsRebuilt, IsStopped};
+
+use crate::reading::{Step, next_entry};
+use crate::said::{accepts, is_kept};
+use rz_config::Volume;
+use rz_events::{Call, Reply, Text};
+use rz_export::Export;
+use rz_journal_text::Entry;
+use rz_tree::Part;
+use std::alloc::{AllocError, Global};
+
+/// Why a journal was not opened again.
+#[derive(Clone, Copy, Debug, PartialEq, Eq, Drop)]
+pub enum JournalFault {
+    NoMemory,
+    /// The disk has other bytes than so many.
+    WrongSize { have: u64, need: u64 },
+    DiskFault,
+    /// The header's gate is shut.
+    Unformatted,
+    /// Other bytes stand before the header's gate than those of a journal.
+    BadHeader,
+    /// The entry of this number can't be read, or may not stand behind those before it; or the parts
+    /// end before it and lack an object or a name.
+    Damaged { entry: u64 },
+}
+
+/// How far the entries went.
+#[derive(Clone, Copy, Debug, PartialEq, Eq, Drop)]
+pub enum Stage {
+    Empty,
+    /// The counters alone stand so far.
+    Counters,
+    /// The counters and the root stand, and maybe more parts.
+    Parts,
+    /// A call stands behind the parts.
+    Calls,
+}
+
+/// What the entries so far make.
+#[derive(Drop)]
+pub struct Rebuilt {
+    pub export: Export,
+    pub stage: Stage,
+}
+
+impl Rebuilt {
+    /// Adds an entry, and tells whether it may stand behind those before it.
+    pub fn add(&mut self, alloc: Global, entry: Entry) -> Result<bool, AllocError>
+        requires { IsSomeStage self.old.stage self.old.export }
+        ensures { IfOk result (λ goes. IsAdded entry self.old.stage self.old.export goes self.new.stage self.new.export) }
+    {
+        match entry {
+            Entry::Built(part) => self.add_part(&part),
+            Entry::Tree(call) => self.add_call(&Call::Tree(call)),
+            Entry::Begin { key, bytes } => {
+                let text = zeros(alloc, bytes)?;
+                self.add_call(&Call::Begin { key, text })
+            }
+            Entry::Publish {
+                key,
+                stamp,
+                mask,
+                bytes,
+            } => self.add_call(&Call::Publish {
+                key,
+                stamp,
+                mask,
+                length: bytes,
+            }),
+            Entry::Enroll { node, loss } => self.add_call(&Call::Enroll { node, loss }),
+        }
+    }
+
+    // Adds a part, and tells whether it may stand behind the entries before it.
+    fn add_part(&mut self, part: &Part) -> Result<bool, AllocError>
+        requires { IsSomeStage self.old.stage self.old.export }
+        ensures { IfOk result (λ goes. IsAdded (Entry.Built part.now) self.old.stage self.old.export goes self.new.stage self.new.export) }
+    {
+        if !self.lets_follow(part) {
+            return Ok(false);
+        }
+        self.export.add_part(part)?;
+        self.stage = after_part(self.stage);
+        Ok(true)
+    }
+
+    // Adds a call, and tells whether it may stand behind the entries before it.
+    fn add_call(&mut self, call: &Call) -> Result<bool, AllocError>
+        ensures { IfOk result (λ goes. (e : Entry) → call_said e ≡ Some call.now → IsAdded e self.old.stage self.old.export goes self.new.stage self.new.export) }
+    {
+        if !self.ends_well() {
+            return Ok(false);
+        }
+        if !self.takes(call) {
+            return Ok(false);
+        }
+        let accepted = ask(&mut self.export, call)?;
+        if !accepted {
+            return Ok(false);
+        }
+        self.stage = Stage::Calls;
+        Ok(true)
+    }
+
+    // Whether a part may stand behind the entries so far.
+    fn lets_follow(&self, part: &Part) -> bool
+        ensures { TellsPart self.now.stage self.now.export part.now result }
+    {
+        match self.stage {
+            Stage::Empty => is_counters(part),
+            Stage::Counters => part.is_root(),
+            Stage::Parts => self.export.allows(part),
+            Stage::Calls => false,
+        }
+    }
+
+    /// Whether the parts so far end well: there are none, or the root is there and each object has a name.
+    pub fn ends_well(&self) -> bool
+        ensures { TellsEnd self.now.stage self.now.export result }
+    {
+        match self.stage {
+            Stage::Empty => true,
+            Stage::Counters => false,
+            Stage::Parts => self.export.is_named(),
+            Stage::Calls => true,
+        }
+    }
+
+    // Whether a call has an entry, and the export may be asked.
+    fn takes(&self, call: &Call) -> bool
+        ensures { IsTrue result ↔ (IsSome (entry_of call.now) × (is_proper self.now.export call.now ≡ true)) }
+    {
+        is_kept(call) && self.export.takes(call)
+    }
+}
+
+/// What the entries of a half make, and how many bytes they take; or the number of the first that is
+/// damaged.
+pub fn rebuild(alloc: Global, volume: Volume, half: &[u8]) -> Result<(Export, usize), JournalFault>
+    requires { 1 ≤ length half.now }
+    ensures rebuilt { IfOk result (λ r. IsRebuilt volume half.now r.1 r.0) }
+    ensures used { IfOk result (λ r. r.1 < length half.now) }
+    ensures stopped { IfErr result (IsStopped volume half.now) }
+{
+    let Ok(export) = Export::new(alloc, volume, 0) else {
+        return Err(JournalFault::NoMemory);
+    };
+    let mut so_far = Rebuilt {
+        export,
+        stage: Stage::Empty,
+    };
+    let mut at = 0;
+    let mut count = 0;
+    loop {
+        let Ok(step) = next_entry(alloc, half, at) else {
+            return Err(JournalFault::NoMemory);
+        };
+        match step {
+            Step::End => {
+                if !so_far.ends_well() {
+                    return Err(JournalFault::Damaged { entry: count });
+                }
+                return Ok((so_far.export, at));
+            }
+            Step::Damaged => return Err(JournalFault::Damaged { entry: count }),
+            Step::Entry { entry, next } => {
+                let Ok(goes) = so_far.add(alloc, entry) else {
+                    return Err(JournalFault::NoMemory);
+                };
+                if !goes {
+                    return Err(JournalFault::Damaged { entry: count });
+                }
+                at = next;
+                count += 1;
+            }
+        }
+    }
+}
+
+// Asks the export, and tells whether it accepts the call.
+fn ask(export: &mut Export, call: &Call) -> Result<bool, AllocError>
+    requires { IsTrue (is_proper export.old call.now) }
+    ensures accepted { IfOk result (λ yes. yes ≡ accepts (export_reply export.old call.now)) }
+    ensures after { IfOk result (λ yes. export.new ≡ export_after export.old call.now) }
+{
+    let reply = export.answer(call);
+    if is_want(&reply) {
+        return Err(AllocError);
+    }
+    Ok(accepts(&reply))
+}
+
+// The stage behind a part more.
+fn after_part(stage: Stage) -> Stage
+    ensures { result ≡ after_part stage }
+{
+    match stage {
+        Stage::Empty => Stage::Counters,
+        Stage::Counters | Stage::Parts | Stage::Calls => Stage::Parts,
+    }
+}
+
+// So many zeros.
+fn zeros(alloc: Global, count: u32) -> Result<Text, AllocError>
+    ensures { IfOk result (λ text. text ≡ replicate count 0) }
+{
+    let bytes = Vec::from_elem(alloc, 0, count as usize)?;
+    Ok(Text::from_vec(bytes))
+}
+
+// Whether a part is the counters.
+fn is_counters(part: &Part) -> bool
+    ensures { IsTrue result ↔ IsCounters part.now }
+{
+    match part {
+        Part::Counters { .. } => true,
+        Part::Object { .. } | Part::Name { .. } | Part::Block { .. } | Part::Enrolled { .. } =>
+            false,
+    }
+}
+
+// Whether memory was wanting.
+fn is_want(reply: &Reply) -> bool
+    ensures { IsTrue result ↔ (reply.now ≡ Reply.NoMemory) }
+{
+    match reply {
+        Reply::NoMemory => true,
+        _ => false,
+    }
+}

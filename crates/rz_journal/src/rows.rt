@@ -1,0 +1,75 @@
+//! Entries as the rows that stand in a half.
+
+ghost use Rattle.std.specs.Prelude.{◌≡◌, ◌++◌, [], ◌∷◌, None, IsSome, IfOk, OnOk, OnErr, MatchOption};
+ghost use Rattle.rz_journal_text.specs.Spelling.{entry_bytes, MayStand, Spells};
+ghost use Rattle.rz_journal_disk.specs.Row.{framed};
+ghost use Rattle.rz_export_laws.specs.Whole.{IsWhole};
+ghost use Rattle.rz_journal.specs.Kept.{IsRowOf};
+ghost use Rattle.rz_journal.specs.Room.{part_entries, IsRow};
+ghost use Rattle.rz_journal.specs.Said.{entry_of, HasShortText};
+
+use crate::said::entry_of;
+use rz_events::Call;
+use rz_export::Export;
+use rz_journal_disk::{close_row, push_entry};
+use rz_journal_text::{Entry, write};
+use std::alloc::{AllocError, Global};
+
+/// The row of the entry of a call, if it has one, with the shut gate behind it.
+pub fn call_row(alloc: Global, call: &Call) -> Result<Option<Vec<u8>>, AllocError>
+    requires { HasShortText call.now }
+    ensures row { IfOk result (λ row. MatchOption row (entry_of call.now ≡ None) (λ row. IsRowOf call.now row.items)) }
+    ensures wanted { OnErr result (IsSome (entry_of call.now)) }
+{
+    let Some(entry) = entry_of(alloc, call)? else {
+        return Ok(None);
+    };
+    let row = row_of(alloc, &entry)?;
+    Ok(Some(row))
+}
+
+/// The row of one entry, with the shut gate behind it.
+fn row_of(alloc: Global, entry: &Entry) -> Result<Vec<u8>, AllocError>
+    requires { MayStand entry.now }
+    ensures { IfOk result (λ row. IsRow (entry.now ∷ []) row.items) }
+{
+    let mut row = Vec::new(alloc);
+    push_row(alloc, entry, &mut row)?;
+    close_row(&mut row)?;
+    Ok(row)
+}
+
+/// The row of all parts of an export, with the shut gate behind it.
+pub fn parts_row(alloc: Global, export: &Export) -> Result<Vec<u8>, AllocError>
+    requires { IsWhole export.now }
+    ensures { IfOk result (λ row. IsRow (part_entries export.now) row.items) }
+{
+    rz_export_laws::trees::paths_written();
+    let mut row = Vec::new(alloc);
+    for i in 0..usize::MAX {
+        match export.part(i)? {
+            Some(part) => push_row(alloc, &Entry::Built(part), &mut row)?,
+            None => {
+                close_row(&mut row)?;
+                return Ok(row);
+            }
+        }
+    }
+    // Memory holds no export of so many parts.
+    Err(AllocError)
+}
+
+// Adds an entry behind an open gate and its length.
+fn push_row(alloc: Global, entry: &Entry, row: &mut Vec<u8>) -> Result<(), AllocError>
+    requires { MayStand entry.now }
+    ensures row { OnOk result (row.new.items ≡ row.old.items ++ framed (entry_bytes entry.now)) }
+    ensures spelled { OnOk result (Spells (entry_bytes entry.now) entry.now) }
+{
+    let mut bytes = Vec::new(alloc);
+    write(alloc, entry, &mut bytes)?;
+    if bytes.len() > u32::MAX as usize {
+        return Err(AllocError);
+    }
+    push_entry(bytes.as_slice(), row)?;
+    Ok(())
+}
