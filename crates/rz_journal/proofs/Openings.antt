@@ -1,5 +1,5 @@
 -- Entries one after another, and the export that they make.
-use Rattle.std.proofs.Common.{◌≡◌, ◌≢◌, ◌↔◌, ℕ, ◌+◌, ◌<◌, ◌≤◌, ◌⊎◌, inl, inr, ⊎_elim, Bool, true, false, IsTrue, List, [], ◌∷◌, ◌++◌, length, map, replicate, Option, Some, None, Result, Ok, Err, IfOk, refl, sym, ◌∙◌, ap, subst, arith, append_assoc}
+use Rattle.std.proofs.Common.{◌≡◌, ◌≢◌, ◌↔◌, ℕ, ◌+◌, ◌<◌, ◌≤◌, inl, inr, ⊎_elim, Bool, true, false, IsTrue, List, [], ◌∷◌, ◌++◌, length, map, replicate, Some, None, Result, Ok, Err, IfOk, refl, sym, ◌∙◌, ap, subst, arith, append_assoc}
 use Rattle.std.proofs.lemmas.List.{append-nil}
 use Rattle.rz_events.specs.Volume.{Volume}
 use Rattle.rz_events.specs.declared.export.Call.{Call}
@@ -11,7 +11,7 @@ use Rattle.rz_tree.specs.declared.parts.Part.{Part}
 use Rattle.rz_tree.specs.declared.parts.Part.TheVariants as part
 use Rattle.rz_tree.specs.Added.{IsRootPart, AreNamed}
 use Rattle.rz_export.specs.Calls.{IsAnswered, MayWant}
-use Rattle.rz_export.specs.Building.{with_part, with_parts, made_of, IsCounters, MayBeNext, MayFollow, AllFollow, ArePartsOf, MayAdd, AllAdd}
+use Rattle.rz_export.specs.Building.{with_part, with_parts, made_of, IsCounters, MayBeNext, MayFollow, AllFollow, MayAdd, AllAdd}
 use Rattle.rz_export.proofs.Joined.{made-more, all-add}
 use Rattle.rz_journal_text.specs.declared.entry.Entry.{Entry as Said}
 use Rattle.rz_journal_text.specs.declared.entry.Entry.TheVariants as entry
@@ -20,9 +20,9 @@ use Rattle.rz_journal.specs.declared.reading.Step.TheVariants.{End, Entry, Damag
 use Rattle.rz_journal.specs.declared.rebuilding.Stage.{Stage}
 use Rattle.rz_journal.specs.declared.rebuilding.Stage.TheVariants.{Empty, Counters, Parts, Calls}
 use Rattle.rz_journal.specs.Said.{call_said, accepts}
-use Rattle.rz_journal.specs.JournalText.{IsAccepted, AreAccepted, after_all, BeginsWith, Makes}
+use Rattle.rz_journal.specs.JournalText.{IsAccepted, BeginsWith, Makes}
 use Rattle.rz_journal.specs.Listed.{IsStep, SoFar}
-use Rattle.rz_journal.specs.Opening.{said_by, said_by_all, made_by, AreNoneOrAll, EndWell, PartGoes, CallGoes, Goes, AllGo, IsAt, ArePartsSoFar, AreCallsSoFar, IsStage, after_part, IsSomeStage, TellsEnd, TellsPart, IsAdded, IsRebuilt, IsWrong, IsDamagedAt}
+use Rattle.rz_journal.specs.Opening.{said_by, said_by_all, made_by, AreNoneOrAll, EndWell, PartGoes, CallGoes, Goes, AllGo, IsAt, ArePartsSoFar, IsStage, after_part, IsSomeStage, TellsEnd, TellsPart, IsAdded, IsRebuilt, IsWrong, IsDamagedAt}
 use Rattle.rz_journal.proofs.Listings.{none_so_far, one_more, next_is}
 use Rattle.rz_journal.proofs.Makings.{after_more, accepted_more, said_more}
 

@@ -6,12 +6,11 @@ use Rattle.rz_export_model.specs.Export.{Export, new_export}
 use Rattle.rz_events.specs.declared.export.Call.TheVariants as call
 use Rattle.rz_journal_text.specs.declared.entry.Entry.{Entry as Said}
 use Rattle.rz_journal_text.specs.declared.entry.Entry.TheVariants as entry
-use Rattle.rz_journal_text.specs.Spelling.{Spells}
 use Rattle.rz_journal_text.proofs.EntryLaws.{one_entry}
 use Rattle.rz_journal_disk.specs.declared.opening.OpenFault.{OpenFault}
 use Rattle.rz_journal_disk.specs.declared.opening.OpenFault.TheVariants as half
 use Rattle.rz_journal_disk.specs.Row.{Entries, taken, EndsAt}
-use Rattle.rz_journal_disk.specs.Stands.{disk_bytes, half_bytes, half_at, IsJournal, Holds, IsOpen}
+use Rattle.rz_journal_disk.specs.Stands.{half_bytes, half_at, IsJournal, IsOpen}
 use Rattle.rz_journal_disk.specs.Opening.{IsHalf, Refuses, HoldsSoFar}
 use Rattle.rz_journal_disk.proofs.Changes.{size_is}
 use Rattle.rz_journal_disk.proofs.Opened.{half_size_is}

@@ -1,5 +1,5 @@
 -- The export that the entries of a text make is whole.
-use Rattle.std.proofs.Common.{◌≡◌, ℕ, List, [], ◌∷◌, ◌++◌, map, sym, subst}
+use Rattle.std.proofs.Common.{ℕ, List, [], ◌∷◌, ◌++◌, map, sym, subst}
 use Rattle.std.specs.List.{AllByRecursion}
 use Rattle.rz_events.specs.Volume.{Volume, IsVolume}
 use Rattle.rz_events.specs.declared.export.Call.{Call}

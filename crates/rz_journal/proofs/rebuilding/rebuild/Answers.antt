@@ -1,5 +1,5 @@
 -- One entry more, or the end of all, or the first that is damaged.
-use Rattle.std.proofs.Common.{rules, ◌≡◌, false, true, sym, subst, arith}
+use Rattle.std.proofs.Common.{rules, ◌≡◌, false, true, subst, arith}
 use Rattle.rz_journal.specs.Opening.{TellsEnd, IsAdded}
 use Rattle.rz_journal.proofs.Listings.{next_is}
 use Rattle.rz_journal.proofs.Openings.{go_first, go_end, go_badly, go_damaged, go_stop, go_on}

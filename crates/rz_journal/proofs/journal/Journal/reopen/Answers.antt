@@ -1,7 +1,7 @@
 -- What was read is what the disk has.
 use Rattle.std.proofs.Common.{ℕ, ◌<◌, ◌≤◌, List, length, sym, subst, ap}
 use Rattle.rz_journal.specs.Opening.{IsRebuilt, IsReopened}
-use Rattle.rz_journal.proofs.Reopened.{some_there, holds_there, room_there, reopened, ready_there, rebuilt_volume, stopped, refused, disk_fault, no_disk_fault, after_calls}
+use Rattle.rz_journal.proofs.Reopened.{some_there, room_there, reopened, ready_there, rebuilt_volume, after_calls}
 use Rattle.rz_journal.proofs.WholeTexts.{makes_whole}
 use Rattle.rz_journal.proofs.journal.Journal.reopen.Goals as goal
 
