@@ -28,9 +28,9 @@ invariant_of-result g c = λ _.
     ready_there g.D.Disk.tells (g.D.Disk.text there.disk) (g.D.Disk.image there.disk) there.half there.used s volume c.into_entries.ensures.open
     (rebuilt_volume volume h.bytes.items used s rebuilt)
     (λ told.
-        let same = reopened g.D.Disk.tells (g.D.Disk.text h.disk) (g.D.Disk.image h.disk) h.half h.bytes.items c.in-Ok.ensures.open volume used s rebuilt told in
-        subst (λ (t : List ℕ). IsReopened volume t there.used s) (sym (ap g.D.Disk.text c.into_entries.ensures.disk))
-        (subst (λ (n : ℕ). IsReopened volume (g.D.Disk.text h.disk) n s) (sym c.into_entries.ensures.used) same))
+    let same = reopened g.D.Disk.tells (g.D.Disk.text h.disk) (g.D.Disk.image h.disk) h.half h.bytes.items c.in-Ok.ensures.open volume used s rebuilt told in
+    subst (λ (t : List ℕ). IsReopened volume t there.used s) (sym (ap g.D.Disk.text c.into_entries.ensures.disk))
+    (subst (λ (n : ℕ). IsReopened volume (g.D.Disk.text h.disk) n s) (sym c.into_entries.ensures.used) same))
     (makes_whole c.texts_plain.ensures c.new_is_whole.ensures c.stays_whole.ensures c.built.ensures volume rebuilt.so_far.0 rebuilt.entries s c.rules.ensures rebuilt.so_far.2 rebuilt.makes)
 
 pub returns-in-Ok-rebuild-clause-volume : goal.returns-in-Ok-rebuild-clause-volume
@@ -46,6 +46,6 @@ returns-in-Ok-rebuild-clause-calls g c = λ told calls is.
     let rebuilt = subst (λ (b : List ℕ). IsRebuilt volume b used s) c.bytes.ensures c.in-Ok-rebuild.ensures.rebuilt in
     let there = reopened g.D.Disk.tells (g.D.Disk.text h.disk) (g.D.Disk.image h.disk) h.half h.bytes.items c.in-Ok.ensures.open volume used s rebuilt told in
     let room = room_there g.D.Disk.tells (g.D.Disk.text h.disk) (g.D.Disk.image h.disk) h.half h.bytes.items c.in-Ok.ensures.open volume used
-        (subst (λ (b : List ℕ). used < length b) c.bytes.ensures c.in-Ok-rebuild.ensures.used) in
+    (subst (λ (b : List ℕ). used < length b) c.bytes.ensures c.in-Ok-rebuild.ensures.used) in
     after_calls volume (g.D.Disk.text c.args.disk) used s (rebuilt_volume volume h.bytes.items used s rebuilt) room
     (subst (λ (t : List ℕ). IsReopened volume t used s) c.in-Ok.ensures.text there) calls is
