@@ -8,7 +8,7 @@ use Rattle.std.specs.List as lists
 use Rattle.std.specs.List.{list_all, list_any, AllByRecursion, IsDistinct}
 use Rattle.std.specs.Option.{option_map, option_map_or}
 use Rattle.std.specs.Ordering.{nat_cmp, is_eq, is_lt, ordering_reverse}
-use Rattle.std.specs.Cmp.{IsTotalOrder, nat_cmp_total, ranked}
+use Rattle.std.specs.Cmp.{IsTotalOrder, nat_cmp_total}
 use Rattle.std.specs.FinMap as maps
 use Rattle.std.specs.FinMap.{FinMap, get-entries, len-entries, len-empty, same_entries_map}
 use Rattle.std.specs.FinMap.Entries.{find}
@@ -23,6 +23,7 @@ use Rattle.rz_export_model.specs.Export.{Export, Block, Blocks, Enrolled, file_b
 use Rattle.rz_blocks.specs.Shown.{entry_above}
 use Rattle.rz_tree.specs.Added.{is_behind, IsNextObject}
 use Rattle.rz_export.specs.declared.nodes.Enrolment.{Enrolment}
+use Rattle.rz_tree.proofs.Walks.{lt-same}
 use Rattle.rz_export.specs.Parts.{enrolled_pair, is_past}
 use Rattle.rz_export.specs.Building.{is_home, LiesIn, IsBlockless, MayBeObject, MayBePublished, MayBeBlock, MayBeEnrolled}
 use Rattle.rz_export.specs.Allowed.{are_distinct, lies_in, may_lie, is_blockless, may_be_published, is_next_block, is_next_enrolment}
@@ -54,9 +55,6 @@ lt-test a b h = grind (arith, nat_tests)
 
 test-lt : (a b : ℕ) → nat_lt a b ≡ true → a < b
 test-lt a b h = grind (arith, nat_tests)
-
-not-lt : (a b : ℕ) → b ≤ a → nat_lt a b ≡ false
-not-lt a b h = grind (arith, nat_tests)
 
 -- what is never allowed
 pub never : (false ≡ true) ↔ ⊥
@@ -100,14 +98,6 @@ pub block-behind : (m : Blocks) (key : Key) (x : Option (Key × ℕ × Option Pu
 block-behind m key x absent is =
     ap is_none is ∙ is-none-map (λ (e : Key × Block). (e.0, e.1.latest, e.1.published)) (lists.find (λ e. is_after (Some key) e.0) (maps.entries m))
     ∙ behind-absent keys_total key m absent
-
-lt-same : (a b : ℕ) → nat_lt a b ≡ is_lt (nat_cmp a b)
-lt-same a b = go (nat_cmp a b) refl
-  where
-    go : (r : Ordering) → nat_cmp a b ≡ r → nat_lt a b ≡ is_lt r
-    go Less is = lt-test a b (ranked a b Less (sym is))
-    go Equal is = let same : a ≡ b = ranked a b Equal (sym is) in not-lt a b (omega (arith, same))
-    go Greater is = let more : b < a = ranked a b Greater (sym is) in not-lt a b (omega (arith, more))
 
 past-same : (node : ℕ) (es : List (ℕ × Enrolled)) → lists.find (λ e. is_past (Some node) e.0) es ≡ lists.find (λ e. is_lt (nat_cmp node e.0)) es
 past-same node [] = refl

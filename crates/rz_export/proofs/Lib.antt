@@ -11,7 +11,7 @@ pub mod Replies
 pub mod Released
 pub mod TreeStates
 mod PartPlaces
+mod PartWalks
 mod Built
 mod Allowed
 pub mod Joined
-pub mod SameParts

@@ -94,8 +94,8 @@ impl Export {
         self.last
     }
 
-    // The layout of the volume.
-    pub(crate) fn layout(&self) -> Layout
+    /// The layout of the volume.
+    pub fn layout(&self) -> Layout
         ensures { result ≡ self.now.volume.layout }
     {
         layout_of(&self.volume)

@@ -20,9 +20,9 @@ use Rattle.rz_tree.proofs.Lasts.{behind-none}
 use Rattle.rz_tree.proofs.Counts.{count-insert, one_if-same, one_if-other, no-path}
 use Rattle.rz_export.specs.Building.{ArePartsOf, AllFollow, MayBeNext, made_of, with_part, with_parts}
 use Rattle.rz_export_laws.specs.WholeTree.{IsWholeTree, IsPlainPart, is_plain}
-use Rattle.rz_export_laws.proofs.Keys.{same_some, not_none, false-true, one-or-two, ties-itself, apart, get-inserted, get-beside}
-use Rattle.rz_export_laws.proofs.Fronts.{above-append}
-use Rattle.rz_export_laws.proofs.Places.{dir-found, dir-is}
+use Rattle.rz_tree.proofs.Keys.{same_some, not_none, false-true, one-or-two, ties-itself, apart, get-inserted, get-beside}
+use Rattle.rz_tree.proofs.Fronts.{above-append}
+use Rattle.rz_tree.proofs.Rules.{dir-found, dir-is}
 use Rattle.rz_export_laws.proofs.Changed.{changed-whole}
 use Rattle.rz_export_laws.proofs.Empty.{empty-whole, number}
 

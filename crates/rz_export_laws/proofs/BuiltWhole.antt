@@ -19,7 +19,7 @@ use Rattle.rz_blocks.specs.Shown.{added}
 use Rattle.rz_export.specs.Building.{LiesIn, MayBePublished, MayBeNext, IsBlockless, made_of, with_part}
 use Rattle.rz_export_laws.specs.WholeTree.{IsPlainPart}
 use Rattle.rz_export_laws.specs.Whole.{FilesLie, IsWholeBlock, IsWholeEnrolment, PartsAreWhole}
-use Rattle.rz_export_laws.proofs.Keys.{same_some, not_none, false-true, one-or-two, get-inserted, get-beside}
+use Rattle.rz_tree.proofs.Keys.{same_some, not_none, false-true, one-or-two, get-inserted, get-beside}
 use Rattle.rz_export_laws.proofs.Empty.{number}
 use Rattle.rz_export_laws.proofs.Built.{SoFar, all-parts, builds-whole, rooted, step}
 

@@ -17,7 +17,7 @@ use Rattle.rz_export_model.specs.Paths.{Path}
 use Rattle.rz_export_model.specs.Tree.{Tree, Object, Found, found_at, fid_at, is_file, is_dir, is_at, links_of, info_of, moved, with_object, new_dir, new_file, new_link}
 use Rattle.rz_export_model.specs.Refusals.{path_in, refusal, is_same_object, unreadable_or_root, walk, absent, not_dir, not_empty}
 use Rattle.rz_export_model.specs.TreeCalls.{last_name_of, without_name, with_name, changed_by, answer_to, tree_after, reply_to}
-use Rattle.rz_export_laws.proofs.Keys.{false-true, one-or-two, get-inserted, get-beside, get-removed, get-left, same_some, not_none}
+use Rattle.rz_tree.proofs.Keys.{false-true, one-or-two, get-inserted, get-beside, get-removed, get-left, same_some, not_none}
 use Rattle.rz_export.specs.Building.{LiesIn}
 use Rattle.rz_export.proofs.Files.{Objects, ends}
 

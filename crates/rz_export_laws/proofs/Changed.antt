@@ -9,8 +9,8 @@ use Rattle.rz_export_model.specs.Tree.{Tree, Object, is_at, is_dir, paths_to}
 use Rattle.rz_tree.specs.Trees.{IsTree}
 use Rattle.rz_tree.specs.Added.{FitsKind, most_names}
 use Rattle.rz_export_laws.specs.WholeTree.{IsWholeTree}
-use Rattle.rz_export_laws.proofs.Keys.{same_some, held, one-or-two, get-inserted, get-beside}
-use Rattle.rz_export_laws.proofs.Places.{dir-found, dir-is}
+use Rattle.rz_tree.proofs.Keys.{same_some, held, one-or-two, get-inserted, get-beside}
+use Rattle.rz_tree.proofs.Rules.{dir-found, dir-is}
 
 module _ (t : Tree) (w : IsWholeTree t) (fid : ℕ) (o new : Object) (is : maps.get t.objects fid ≡ Some o) (kind : new.kind ≡ o.kind) (fits : FitsKind new.kind new) where
   abbrev next : FinMap nat_cmp Object

@@ -8,8 +8,9 @@ use Rattle.rz_export_model.specs.Paths.{Path, path_cmp, paths_total, exact_paths
 use Rattle.rz_export_model.specs.Tree.{Tree, Object, paths_to}
 use Rattle.rz_tree.proofs.Counts.{two-paths}
 use Rattle.rz_export_laws.specs.WholeTree.{IsWholeTree}
-use Rattle.rz_export_laws.proofs.Keys.{held, one-or-two, apart, get-inserted, get-beside, get-removed, get-left}
-use Rattle.rz_export_laws.proofs.Places.{DirAt, dir-found, front-there}
+use Rattle.rz_tree.proofs.Keys.{held, one-or-two, apart, get-inserted, get-beside, get-removed, get-left}
+use Rattle.rz_tree.proofs.Rules.{DirAt, dir-found}
+use Rattle.rz_tree.proofs.Names.{front-there}
 
 -- without a key that was there a map is shorter by one
 less-one : (m : FinMap nat_cmp Object) (k : ℕ) (o : Object) → maps.get m k ≡ Some o → maps.len m ≡ maps.len (maps.remove m k) + 1

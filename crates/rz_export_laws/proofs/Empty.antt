@@ -11,9 +11,9 @@ use Rattle.rz_tree.specs.Trees.{IsTree}
 use Rattle.rz_tree.specs.Added.{FitsKind, most_names}
 use Rattle.rz_tree.proofs.Counts.{count-insert, one_if-same, no-path}
 use Rattle.rz_export_laws.specs.WholeTree.{IsWholeTree, is_plain}
-use Rattle.rz_export_laws.proofs.Keys.{same_some, not_none, false-true, held, one-or-two, get-inserted, get-beside}
-use Rattle.rz_export_laws.proofs.Fronts.{not-root-more}
-use Rattle.rz_export_laws.proofs.Places.{dir-is}
+use Rattle.rz_tree.proofs.Keys.{same_some, not_none, false-true, held, one-or-two, get-inserted, get-beside}
+use Rattle.rz_tree.proofs.Fronts.{not-root-more}
+use Rattle.rz_tree.proofs.Rules.{dir-is}
 use Rattle.std.specs.FinMap.{get-empty, len-empty}
 use Rattle.rz_export_model.specs.Tree.{empty_tree, new_dir}
 use Rattle.rz_tree.specs.Added.{IsDirectory}

@@ -8,7 +8,7 @@ use Rattle.std.specs.FinMap as maps
 use Rattle.std.specs.FinMap.{FinMap, IsAntisymmetric, get-entries, entries_sorted, same_entries_map, len-entries, len-empty}
 use Rattle.std.specs.FinMap.Entries.{find, is_sorted, below_all}
 use Rattle.rz_tree.specs.Added.{is_behind}
-use Rattle.rz_export_laws.proofs.Keys.{not_none, same_some}
+use Rattle.rz_tree.proofs.Keys.{not_none, same_some}
 use Rattle.rz_tree.proofs.Lasts.{entries-last}
 
 left : (a b : Bool) → T (a && b) → T a

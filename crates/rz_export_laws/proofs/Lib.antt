@@ -1,7 +1,3 @@
-mod Keys
-mod Fronts
-mod Moves
-mod Places
 mod Empty
 mod Changed
 mod Made

@@ -11,9 +11,9 @@ use Rattle.rz_tree.specs.Trees.{IsTree}
 use Rattle.rz_tree.specs.Added.{most_names}
 use Rattle.rz_tree.proofs.Counts.{count-insert, one_if-same, one_if-other}
 use Rattle.rz_export_laws.specs.WholeTree.{IsWholeTree, is_plain}
-use Rattle.rz_export_laws.proofs.Keys.{same_some, not_none, false-true, one-or-two, ties-itself, apart, get-inserted, get-beside}
-use Rattle.rz_export_laws.proofs.Fronts.{above-append}
-use Rattle.rz_export_laws.proofs.Places.{dir-found, dir-is}
+use Rattle.rz_tree.proofs.Keys.{same_some, not_none, false-true, one-or-two, ties-itself, apart, get-inserted, get-beside}
+use Rattle.rz_tree.proofs.Fronts.{above-append}
+use Rattle.rz_tree.proofs.Rules.{dir-found, dir-is}
 use Rattle.rz_export_model.specs.TreeCalls.{with_name}
 
 zero_plus : (n : ℕ) → 0 + n ≡ n

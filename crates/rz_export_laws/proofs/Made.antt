@@ -1,5 +1,8 @@
 -- A whole tree in which an object is made.
-use Rattle.std.proofs.Common.{◌≡◌, ℕ, ◌+◌, ◌≤◌, Bool, true, false, cond, [], ◌∷◌, ◌++◌, Some, None, is_some, sym, ap, ◌∙◌, subst, arith, inl, inr}
+use Rattle.std.proofs.Common.{◌≡◌, ℕ, ◌+◌, ◌≤◌, Bool, true, false, cond, [], ◌∷◌, ◌++◌, Some, None, is_some, sym, ap, ◌∙◌, subst, refl, arith, inl, inr}
+use Rattle.std.specs.Prelude.{◌||◌, ◌-◌, ◌^◌, nat_lt, nat_le}
+use Rattle.std.proofs.lemmas.Bool.Decides.{nat_tests}
+use Rattle.rz_events.specs.declared.tree.TreeFault.TheVariants as fault
 use Rattle.std.specs.Ordering.{nat_cmp, eq_by_cmp}
 use Rattle.std.specs.Cmp.{nat_cmp_total}
 use Rattle.std.specs.List.{list_all}
@@ -11,11 +14,12 @@ use Rattle.rz_tree.specs.Trees.{IsTree}
 use Rattle.rz_tree.specs.Added.{FitsKind, most_names}
 use Rattle.rz_tree.proofs.Counts.{count-insert, one_if-same, one_if-other, no-path}
 use Rattle.rz_export_laws.specs.WholeTree.{IsWholeTree, is_plain}
-use Rattle.rz_export_laws.proofs.Keys.{same_some, not_none, false-true, none-or-some, one-or-two, ties-itself, apart, get-inserted, get-beside}
-use Rattle.rz_export_laws.proofs.Fronts.{above-append}
-use Rattle.rz_export_laws.proofs.Places.{dir-found, dir-is, absent-name, above-dir, free-root, free-walk, free-found, free-few}
+use Rattle.rz_tree.proofs.Keys.{same_some, not_none, false-true, none-or-some, one-or-two, ties-itself, apart, get-inserted, get-beside}
+use Rattle.rz_tree.proofs.Fronts.{above-append}
+use Rattle.rz_tree.proofs.Rules.{dir-found, dir-is}
+use Rattle.rz_tree.proofs.Adds.{absent-name, above-dir, or_none, given-false, after_present, free-root, free-walk, free-found}
 use Rattle.rz_export_model.specs.Firsts.{first_of}
-use Rattle.rz_export_model.specs.Refusals.{can_not_make}
+use Rattle.rz_export_model.specs.Refusals.{can_not_make, too_many_files}
 use Rattle.rz_export_model.specs.TreeCalls.{with_new}
 
 one-most : (b : Bool) → 1 ≤ cond b 1 65535
@@ -24,6 +28,19 @@ one-most false = omega arith
 
 zero_plus : (n : ℕ) → 0 + n ≡ n
 zero_plus n = omega arith
+
+-- where one more object may be made, there are few
+free-few : (t : Tree) (path : Path) → first_of (can_not_make t path) ≡ None → maps.len t.objects ≤ 65536
+free-few t path free =
+    let none : too_many_files t ≡ None = (or_none (too_many_files t) None (after_present t path free).1).0 in
+    at-most (maps.len t.objects) (nat_le (2 ^ 128 - 1) t.made) (given-false (nat_lt 65536 (maps.len t.objects) || nat_le (2 ^ 128 - 1) t.made) fault.TooManyFiles none)
+  where
+    at-most : (n : ℕ) (b : Bool) → (nat_lt 65536 n || b) ≡ false → n ≤ 65536
+    at-most n b h = below (nat_lt 65536 n) refl h
+      where
+        below : (c : Bool) → nat_lt 65536 n ≡ c → (c || b) ≡ false → n ≤ 65536
+        below true is h = cc
+        below false is h = grind (arith, nat_tests)
 
 module _ (t : Tree) (w : IsWholeTree t) (path : Path) (o : Object) (free : first_of (can_not_make t path) ≡ None) (fits : FitsKind o.kind o)
     (plain : list_all is_plain path ≡ true) where

@@ -7,16 +7,16 @@ use Rattle.rz_export_model.specs.Tree.{Tree, is_at, is_dir, paths_to}
 use Rattle.rz_tree.specs.Trees.{IsTree}
 use Rattle.rz_tree.specs.Added.{most_names}
 use Rattle.rz_export_laws.specs.WholeTree.{IsWholeTree, is_plain}
-use Rattle.rz_export_laws.proofs.Keys.{not_none, false-true}
-use Rattle.rz_export_laws.proofs.Fronts.{above-append}
-use Rattle.rz_export_laws.proofs.Places.{dir-found, dir-is}
+use Rattle.rz_tree.proofs.Keys.{not_none, false-true}
+use Rattle.rz_tree.proofs.Fronts.{above-append}
+use Rattle.rz_tree.proofs.Rules.{dir-found, dir-is}
 use Rattle.std.proofs.Common.{◌⊎◌, append_assoc, length, drop}
 use Rattle.rz_export_model.specs.Paths.{exact_names, same_name, begins_with}
 use Rattle.rz_export_model.specs.Tree.{moved}
 use Rattle.rz_names.proofs.PathOrder.{and_parts, eq_true, begins-front}
-use Rattle.rz_export_laws.proofs.Keys.{true-or-false}
-use Rattle.rz_export_laws.proofs.Moves.{get-in, get-from, get-out, count-moved}
-use Rattle.rz_export_laws.proofs.Places.{front-there}
+use Rattle.rz_tree.proofs.Keys.{true-or-false}
+use Rattle.rz_tree.proofs.Moves.{get-in, get-from, get-out, count-moved}
+use Rattle.rz_tree.proofs.Names.{front-there}
 
 -- what a path begins with, a longer one begins with
 pub begins-longer : (f q r : Path) → begins_with f q ≡ true → begins_with f (q ++ r) ≡ true

@@ -19,10 +19,10 @@ use Rattle.rz_tree.specs.Parts.{object_part, name_part}
 use Rattle.rz_tree.specs.Added.{MayBeNamed, AreNamed}
 use Rattle.std.proofs.lemmas.Bool.{and_parts}
 use Rattle.std.specs.Ordering.{ordering_then}
-use Rattle.rz_export_laws.proofs.Keys.{held, same_some, get-inserted, get-beside}
-use Rattle.rz_export_laws.proofs.Fronts.{split-above}
+use Rattle.rz_tree.proofs.Keys.{held, same_some, get-inserted, get-beside}
+use Rattle.rz_tree.proofs.Fronts.{split-above}
 use Rattle.rz_tree.proofs.Lasts.{behind-less}
-use Rattle.rz_export_laws.proofs.Places.{dir-found, dir-is}
+use Rattle.rz_tree.proofs.Rules.{dir-found, dir-is}
 use Rattle.rz_tree.proofs.Counts.{count_to, cons-count, one_if-same}
 use Rattle.rz_export.specs.Parts.{counters, block_part, enrolled_part, export_parts}
 use Rattle.rz_export.specs.Building.{with_part, with_parts, made_of, MayBeNext, AllFollow, ArePartsOf, MayBePublished, IsRootPart}

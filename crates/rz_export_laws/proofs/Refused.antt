@@ -1,60 +1,28 @@
--- What it says of a tree that a call is not refused.
-use Rattle.std.proofs.Common.{◌≡◌, ℕ, ◌<◌, Bool, true, false, cond, ◌&&◌, ◌||◌, [], ◌∷◌, ◌++◌, length, drop, Option, Some, None, is_some, sym, ap, ◌∙◌, refl, arith, eq-eqb, inl, inr, length-append}
-use Rattle.std.specs.Prelude.{nat_lt, nat_le, ◌==◌, is_none}
+-- What it says of a tree that a call is not refused: what is there, and the room for one name more.
+use Rattle.std.proofs.Common.{◌≡◌, ℕ, ◌<◌, false, [], ◌∷◌, Some, None, sym, ap, ◌∙◌, refl, arith}
+use Rattle.std.specs.Prelude.{nat_le, is_none}
 use Rattle.std.proofs.lemmas.Bool.Decides.{nat_tests}
-use Rattle.std.specs.Option.{option_map, option_map_or, option_and_then}
+use Rattle.std.specs.Option.{option_map_or}
 use Rattle.std.specs.FinMap as maps
 use Rattle.rz_events.specs.declared.tree.TreeFault.TheVariants as fault
 use Rattle.rz_export_model.specs.Firsts.{first_of, given_if}
-use Rattle.rz_export_model.specs.Paths.{Path, is_root, begins_with, is_below}
-use Rattle.rz_export_model.specs.Tree.{Tree, Object, Found, found_at, is_at, is_dir, names_under, links_of, paths_to}
-use Rattle.rz_export_model.specs.Refusals.{walk, absent, present, dir, not_dir, not_empty, too_many_links, into_itself, not_replaceable, is_same_object}
-use Rattle.rz_export_model.specs.TreeCalls.{without_name}
+use Rattle.rz_export_model.specs.Paths.{Path}
+use Rattle.rz_export_model.specs.Tree.{Tree, Object, found_at, paths_to}
+use Rattle.rz_export_model.specs.Refusals.{walk, absent, present, dir, too_many_links}
 use Rattle.rz_tree.specs.Trees.{IsTree}
-use Rattle.rz_names.proofs.PathOrder.{begins-front}
-use Rattle.rz_export_laws.proofs.Keys.{false-true, held, true-or-false}
-use Rattle.rz_export_laws.proofs.Fronts.{append-nothing, walked-front}
-use Rattle.rz_export_laws.proofs.Places.{or_none, given-false, none-from-is, absent-name, empty-under, leaf-under, absent-under}
-
-lt-true : (a b : ℕ) → a < b → nat_lt a b ≡ true
-lt-true a b h = grind (arith, nat_tests)
-
--- whether the object at a path is a directory
-pub at-dir : (t : Tree) (path : Path) (fid : ℕ) (o : Object) → maps.get t.names path ≡ Some fid → maps.get t.objects fid ≡ Some o → is_at t path is_dir ≡ is_dir o.kind
-at-dir t path fid o at is =
-    ap (λ f. option_map_or is_dir (option_map (λ (x : Found). x.object.kind) (option_and_then (λ n. option_map (λ y. record { fid = n; object = y }) (maps.get t.objects n)) f)) false) at
-    ∙ ap (λ y. option_map_or is_dir (option_map (λ (x : Found). x.object.kind) (option_map (λ z. record { fid = fid; object = z }) y)) false) is
+use Rattle.rz_tree.proofs.Keys.{held}
+use Rattle.rz_tree.proofs.Adds.{or_none, given-false}
+use Rattle.rz_tree.proofs.Calls.{link_1, link_4, name_found}
 
 -- ---- a new path of an object
 
 module _ (t : Tree) (p q : Path) (free : first_of (walk t p ∷ absent t p ∷ dir t p ∷ walk t q ∷ present t q ∷ too_many_links t p ∷ []) ≡ None) where
-  link_1 : first_of (absent t p ∷ dir t p ∷ walk t q ∷ present t q ∷ too_many_links t p ∷ []) ≡ None
-  link_1 = (or_none (walk t p) (first_of (absent t p ∷ dir t p ∷ walk t q ∷ present t q ∷ too_many_links t p ∷ [])) free).1
-
-  link_2 : first_of (dir t p ∷ walk t q ∷ present t q ∷ too_many_links t p ∷ []) ≡ None
-  link_2 = (or_none (absent t p) (first_of (dir t p ∷ walk t q ∷ present t q ∷ too_many_links t p ∷ [])) link_1).1
-
-  link_3 : (dir t p ≡ None) × (first_of (walk t q ∷ present t q ∷ too_many_links t p ∷ []) ≡ None)
-  link_3 = or_none (dir t p) (first_of (walk t q ∷ present t q ∷ too_many_links t p ∷ [])) link_2
-
-  link_4 : (walk t q ≡ None) × (first_of (present t q ∷ too_many_links t p ∷ []) ≡ None)
-  link_4 = or_none (walk t q) (first_of (present t q ∷ too_many_links t p ∷ [])) link_3.1
-
-  pub link-leaf : is_at t p is_dir ≡ false
-  link-leaf = given-false (is_at t p is_dir) fault.IsDir link_3.0
-
-  pub link-walk : walk t q ≡ None
-  link-walk = link_4.0
-
-  pub link-absent : found_at t q ≡ None
-  link-absent = none-from-is (found_at t q) (given-false (is_some (found_at t q)) fault.Exists (or_none (present t q) (first_of (too_many_links t p ∷ [])) link_4.1).0)
-
   pub link-there : absent t p ≡ None
-  link-there = (or_none (absent t p) (first_of (dir t p ∷ walk t q ∷ present t q ∷ too_many_links t p ∷ [])) link_1).0
+  link-there = (or_none (absent t p) (first_of (dir t p ∷ walk t q ∷ present t q ∷ too_many_links t p ∷ [])) (link_1 t p q free)).0
 
   pub link-room : (fid : ℕ) → maps.get t.names p ≡ Some fid → paths_to t.names fid < 65535
   link-room fid at =
-      let none : too_many_links t p ≡ None = (or_none (too_many_links t p) None (or_none (present t q) (first_of (too_many_links t p ∷ [])) link_4.1).1).0 in
+      let none : too_many_links t p ≡ None = (or_none (too_many_links t p) None (or_none (present t q) (first_of (too_many_links t p ∷ [])) (link_4 t p q free).1).1).0 in
       let own : given_if (nat_le 65535 (paths_to t.names fid)) fault.TooManyLinks ≡ None =
       sym (ap (λ f. option_map_or (λ x. given_if (nat_le 65535 (paths_to t.names x)) fault.TooManyLinks) f None) at) ∙ none in
       below (paths_to t.names fid) (given-false (nat_le 65535 (paths_to t.names fid)) fault.TooManyLinks own)
@@ -62,81 +30,9 @@ module _ (t : Tree) (p q : Path) (free : first_of (walk t p ∷ absent t p ∷ d
       below : (n : ℕ) → nat_le 65535 n ≡ false → n < 65535
       below n h = grind (arith, nat_tests)
 
--- ---- a rename
-
--- where nothing stands at a path, nothing is taken away
-pub without-none : (t : Tree) (q : Path) → found_at t q ≡ None → without_name t q ≡ t
-without-none t q none = ap (λ o. option_map_or (λ (f : Found). (let s : Tree = record t { names = maps.remove t.names q; objects = cond (links_of t f == 1) (maps.remove t.objects f.fid) t.objects } in s)) o t) none
-
-name_found : (t : Tree) (p : Path) (f : Option ℕ) → maps.get t.names p ≡ f → is_none (option_and_then (λ n. option_map (λ y. (let x : Found = record { fid = n; object = y } in x)) (maps.get t.objects n)) f) ≡ false → is_some f ≡ true
-name_found t p None at h = absurd (false-true (sym h))
-name_found t p (Some fid) at h = refl
-
 -- what stands at a path that is not absent
 pub stands : (t : Tree) → IsTree t → (p : Path) → absent t p ≡ None → (fid : ℕ) × (o : Object) × (maps.get t.names p ≡ Some fid) × (maps.get t.objects fid ≡ Some o)
 stands t rules p h =
     let fid = held (maps.get t.names p) (name_found t p (maps.get t.names p) refl (given-false (is_none (found_at t p)) fault.NoEntry h)) in
     let o = held (maps.get t.objects fid.0) (rules.leads p fid.0 fid.1) in
     (fid.0, o.0, fid.1, o.1)
-
-module _ (t : Tree) (rules : IsTree t) (p q : Path) (free : first_of (walk t p ∷ absent t p ∷ into_itself t p q ∷ walk t q ∷ not_replaceable t p q ∷ []) ≡ None)
-    (two : is_same_object t p q ≡ false) (from : is_root p ≡ false) where
-  rename_1 : first_of (absent t p ∷ into_itself t p q ∷ walk t q ∷ not_replaceable t p q ∷ []) ≡ None
-  rename_1 = (or_none (walk t p) (first_of (absent t p ∷ into_itself t p q ∷ walk t q ∷ not_replaceable t p q ∷ [])) free).1
-
-  rename_2 : (absent t p ≡ None) × (first_of (into_itself t p q ∷ walk t q ∷ not_replaceable t p q ∷ []) ≡ None)
-  rename_2 = or_none (absent t p) (first_of (into_itself t p q ∷ walk t q ∷ not_replaceable t p q ∷ [])) rename_1
-
-  rename_3 : (into_itself t p q ≡ None) × (first_of (walk t q ∷ not_replaceable t p q ∷ []) ≡ None)
-  rename_3 = or_none (into_itself t p q) (first_of (walk t q ∷ not_replaceable t p q ∷ [])) rename_2.1
-
-  rename_4 : (walk t q ≡ None) × (first_of (not_replaceable t p q ∷ []) ≡ None)
-  rename_4 = or_none (walk t q) (first_of (not_replaceable t p q ∷ [])) rename_3.1
-
-  rename_5 : not_replaceable t p q ≡ None
-  rename_5 = (or_none (not_replaceable t p q) None rename_4.1).0
-
-  pub rename-walk : walk t q ≡ None
-  rename-walk = rename_4.0
-
-  there : is_some (maps.get t.names p) ≡ true
-  there = name_found t p (maps.get t.names p) refl (given-false (is_none (found_at t p)) fault.NoEntry rename_2.0)
-
-  itself : (fid : ℕ) → maps.get t.names p ≡ Some fid → is_same_object t p p ≡ true
-  itself fid at =
-      ap (λ f. option_map_or (λ x. option_map_or (λ y. x == y) f false) f false) at ∙ eq-eqb fid fid refl
-
-  and_true : (a b : Bool) → a ≡ true → b ≡ true → (a && b) ≡ true
-  and_true true b ha hb = hb
-  and_true false b ha hb = cc
-
-  -- the new path does not begin with the old one
-  pub rename-away : begins_with p q ≡ false
-  rename-away = elim (true-or-false (begins_with p q)) [
-    | inl begins ↦ go (drop (length p) q) (begins-front p q begins) begins
-    | inr is ↦ is
-  ]
-    where
-      go : (r : Path) → q ≡ p ++ r → begins_with p q ≡ true → begins_with p q ≡ false
-      go [] split begins =
-          let fid = held (maps.get t.names p) there in
-          let same : q ≡ p = split ∙ append-nothing p in
-          absurd (false-true (sym two ∙ ap (is_same_object t p) same ∙ itself fid.0 fid.1))
-      go (n ∷ r) split begins =
-          let dir_p : is_at t p is_dir ≡ true = walked-front t p n r (ap (walk t) (sym split) ∙ rename-walk) from in
-          let longer : length p < length q = omega (arith, ap length split, length-append p (n ∷ r)) in
-          let below : is_below p q ≡ true = and_true (begins_with p q) (nat_lt (length p) (length q)) begins (lt-true (length p) (length q) longer) in
-          absurd (false-true (sym (given-false (is_at t p is_dir && is_below p q) fault.IntoItself rename_3.0) ∙ and_true (is_at t p is_dir) (is_below p q) dir_p below))
-
-  replace_last : (o : Option Found) → found_at t q ≡ o → (s d : Bool) → s ≡ false
-      → cond (is_none o || s) None (cond d (first_of (not_dir t q ∷ not_empty t q ∷ [])) (dir t q)) ≡ None → names_under t.names q ≡ []
-  replace_last None is s d apart_s h = absent-under t rules q (absent-name t rules q is)
-  replace_last (Some f) is true d apart_s h = absurd (false-true (sym apart_s))
-  replace_last (Some f) is false true apart_s h =
-      let rest = (or_none (not_dir t q) (first_of (not_empty t q ∷ [])) h).1 in
-      empty-under t q (or_none (not_empty t q) None rest).0
-  replace_last (Some f) is false false apart_s h = leaf-under t rules q (given-false (is_at t q is_dir) fault.IsDir h)
-
-  -- no name stands below the path that is replaced
-  pub rename-last : names_under t.names q ≡ []
-  rename-last = replace_last (found_at t q) refl (is_same_object t p q) (is_at t p is_dir) two rename_5

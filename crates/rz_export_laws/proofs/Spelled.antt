@@ -10,7 +10,7 @@ use Rattle.rz_export_model.specs.Paths.{Name, Path, is_name, is_dots, parts_of, 
 use Rattle.rz_export_model.specs.Refusals.{path_in}
 use Rattle.rz_names.proofs.PathOrder.{and_parts}
 use Rattle.rz_export_laws.specs.WholeTree.{is_plain}
-use Rattle.rz_export_laws.proofs.Keys.{same_some, not_none}
+use Rattle.rz_tree.proofs.Keys.{same_some, not_none}
 
 abbrev bare : Name → Bool
 bare name = not (list_any (λ b. b == 47) name)

@@ -9,7 +9,7 @@ use Rattle.rz_events.specs.Keys.{key_cmp}
 use Rattle.rz_events.specs.declared.export.Call.{Call}
 use Rattle.rz_export_model.specs.Tree.{Object, empty_tree, new_dir, is_file}
 use Rattle.rz_export_model.specs.Export.{Export}
-use Rattle.rz_export_laws.proofs.Keys.{false-true, one-or-two, get-inserted, get-beside, same_some, not_none}
+use Rattle.rz_tree.proofs.Keys.{false-true, one-or-two, get-inserted, get-beside, same_some, not_none}
 use Rattle.rz_export_laws.specs.WholeTree.{IsWholeTree}
 use Rattle.rz_export_laws.specs.Whole.{FilesLie, IsWholeAtFirst, StaysWhole}
 use Rattle.rz_export_laws.proofs.Calls.{IsBeside, call-keeps, same-volume}

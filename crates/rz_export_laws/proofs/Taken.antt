@@ -10,8 +10,9 @@ use Rattle.rz_tree.specs.Trees.{IsTree}
 use Rattle.rz_tree.specs.Added.{most_names}
 use Rattle.rz_tree.proofs.Counts.{count-remove, one_if, one_if-same, one_if-other, some-path, two-paths}
 use Rattle.rz_export_laws.specs.WholeTree.{IsWholeTree}
-use Rattle.rz_export_laws.proofs.Keys.{not_none, false-true, held, one-or-two, ties-itself, apart, get-removed, get-left}
-use Rattle.rz_export_laws.proofs.Places.{dir-found, dir-is, under-clear}
+use Rattle.rz_tree.proofs.Keys.{not_none, false-true, held, one-or-two, ties-itself, apart, get-removed, get-left}
+use Rattle.rz_tree.proofs.Rules.{dir-found, dir-is}
+use Rattle.rz_tree.proofs.Names.{under-clear}
 use Rattle.std.proofs.Common.{zero, eqb-true, eq-eqb}
 use Rattle.std.specs.Prelude.{◌==◌}
 use Rattle.std.specs.Option.{option_map, option_map_or, option_and_then}

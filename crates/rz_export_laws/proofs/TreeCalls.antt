@@ -18,16 +18,17 @@ use Rattle.rz_export_model.specs.Refusals.{path_in, unreadable, unreadable_or_ro
 use Rattle.rz_export_model.specs.TreeCalls.{changed_by, with_name, renamed, without_name}
 use Rattle.rz_tree.specs.Added.{FitsKind, IsDirectory, IsSymlink}
 use Rattle.rz_export_laws.specs.WholeTree.{IsWholeTree, is_plain, CallKeepsTree}
-use Rattle.rz_export_laws.proofs.Keys.{none-or-some, held}
-use Rattle.rz_export_laws.proofs.Fronts.{above-other}
-use Rattle.rz_export_laws.proofs.Places.{or_none, given-false, absent-name, above-dir, empty-under, leaf-under}
+use Rattle.rz_tree.proofs.Keys.{none-or-some, held}
+use Rattle.rz_tree.proofs.Calls.{above-other, at-dir, without-none, link-leaf, link-walk, link-absent, rename-walk, rename-away, rename-last}
+use Rattle.rz_tree.proofs.Adds.{or_none, given-false, absent-name, above-dir}
+use Rattle.rz_tree.proofs.Names.{empty-under, leaf-under}
 use Rattle.rz_export_laws.proofs.Changed.{changed-whole}
 use Rattle.rz_export_laws.proofs.Made.{made-whole}
 use Rattle.rz_export_laws.proofs.Taken.{taken-whole, taken-dir, taken-gone}
 use Rattle.rz_export_laws.proofs.Linked.{linked-whole}
 use Rattle.rz_export_laws.proofs.Moved.{moved-whole}
 use Rattle.rz_export_laws.proofs.Spelled.{plain-in}
-use Rattle.rz_export_laws.proofs.Refused.{at-dir, stands, without-none, link-there, link-leaf, link-walk, link-absent, link-room, rename-walk, rename-away, rename-last}
+use Rattle.rz_export_laws.proofs.Refused.{stands, link-there, link-room}
 
 -- ---- attributes and sizes
 

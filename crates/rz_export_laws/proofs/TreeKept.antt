@@ -13,8 +13,8 @@ use Rattle.rz_events.specs.declared.export.Reply.TheVariants as reply
 use Rattle.rz_export_model.specs.Tree.{file_of}
 use Rattle.rz_export_model.specs.Export.{Export, new_places, no_begin, no_publish, unknown_file, after_begin, after_publish, draws}
 use Rattle.rz_export_laws.specs.WholeTree.{IsWholeTree, TreeStaysWhole}
-use Rattle.rz_export_laws.proofs.Keys.{not_none}
-use Rattle.rz_export_laws.proofs.Places.{or_none, given-false}
+use Rattle.rz_tree.proofs.Keys.{not_none}
+use Rattle.rz_tree.proofs.Adds.{or_none, given-false}
 use Rattle.rz_export_laws.proofs.TreeCalls.{stays-whole, grows-whole}
 
 no-map : {A B : Type 0} (g : A → B) (o : Option A) → option_map g o ≡ None → o ≡ None

@@ -1,5 +1,5 @@
 -- Entries that are read one by one.
-use Rattle.std.proofs.Common.{◌≡◌, inr, ℕ, ◌+◌, ◌-◌, ◌%◌, ◌<◌, List, [], ◌∷◌, ◌++◌, length, take, drop, get_or, true, false, Result, Ok, Err, IfOk, refl, sym, ◌∙◌, ap, subst, arith}
+use Rattle.std.proofs.Common.{◌≡◌, inr, ℕ, ◌+◌, ◌-◌, ◌%◌, ◌<◌, List, [], ◌∷◌, ◌++◌, length, take, drop, get_or, Result, Ok, Err, IfOk, refl, sym, ◌∙◌, ap, subst, arith}
 use Rattle.byteorder.specs.Endian.{little_number}
 use Rattle.rz_disk.specs.Images.{window}
 use Rattle.rz_journal_text.specs.declared.entry.Entry.{Entry as Said}
@@ -11,9 +11,9 @@ use Rattle.rz_journal_disk.specs.Row.{Entries, taken, IsEntryAt}
 use Rattle.rz_journal_disk.proofs.Rows.{row_more, taken_more}
 use Rattle.rz_journal_disk.proofs.Halves.{entry_at_place}
 use Rattle.rz_journal.specs.declared.reading.Step.{Step}
-use Rattle.rz_journal.specs.declared.reading.Step.TheVariants.{End, Entry, Damaged}
+use Rattle.rz_journal.specs.declared.reading.Step.TheVariants.{Entry, Damaged}
 use Rattle.rz_journal.specs.JournalText.{AreSpelled}
-use Rattle.rz_journal.specs.Listed.{length_at, IsStep, SoFar, IsListing}
+use Rattle.rz_journal.specs.Listed.{length_at, IsStep, SoFar}
 
 -- the range that is read is that of the entry
 pub range_is : (half : List ℕ) (from count : ℕ) → take (from + count - from) (drop from half) ≡ window from count half
@@ -55,25 +55,7 @@ one_more half entries at e next so_far step =
       omega (arith, taken_more so_far.0 step.0, so_far.3, step.3),
     )
 
--- where the entries end, and where one is damaged
-pub listing_ends : (half : List ℕ) (entries : List Said) (at : ℕ) (step : Step) → step ≡ End → SoFar half entries at → IsStep half at step → IsListing half entries at true
-listing_ends half entries at step is so_far stands = record {
-  so_far = so_far;
-  ends = λ yes. subst (IsStep half at) is stands;
-  breaks = λ no. absurd (let wrong : true ≡ false = no in cc);
-}
-
-pub listing_breaks : (half : List ℕ) (entries : List Said) (at : ℕ) (step : Step) → step ≡ Damaged → SoFar half entries at → IsStep half at step → IsListing half entries at false
-listing_breaks half entries at step is so_far stands = record {
-  so_far = so_far;
-  ends = λ no. absurd (let wrong : false ≡ true = no in cc);
-  breaks = λ yes. subst (IsStep half at) is stands;
-}
-
-pub listing_more : (half : List ℕ) (entries items : List Said) (at : ℕ) (step : Step) (e : Said) (next : ℕ) → step ≡ Entry e next → SoFar half entries at → IsStep half at step → items ≡ entries ++ e ∷ [] → SoFar half items next
-listing_more half entries items at step e next is so_far stands same =
-    subst (λ (es : List Said). SoFar half es next) (sym same) (one_more half entries at e next so_far (subst (IsStep half at) is stands))
-
+-- the address behind an entry
 pub next_is : (half : List ℕ) (at : ℕ) (step : Step) (e : Said) (next : ℕ) → step ≡ Entry e next → IsStep half at step → (at < next) × (next < length half)
 next_is half at step e next is stands =
     let there : IsStep half at (Entry e next) = subst (IsStep half at) is stands in

@@ -1,7 +1,10 @@
 -- Entries one after another, and the export that they make.
 use Rattle.std.proofs.Common.{◌≡◌, ◌≢◌, ◌↔◌, ℕ, ◌+◌, ◌<◌, ◌≤◌, inl, inr, ⊎_elim, Bool, true, false, IsTrue, List, [], ◌∷◌, ◌++◌, length, map, replicate, Some, None, Result, Ok, Err, IfOk, refl, sym, ◌∙◌, ap, subst, arith, append_assoc}
-use Rattle.std.proofs.lemmas.List.{append-nil}
+use Rattle.std.proofs.lemmas.Bool.{leb-true}
+use Rattle.std.proofs.lemmas.List.{append-nil, length-replicate}
+use Rattle.mj_angles.specs.Layout.{block_bytes_of}
 use Rattle.rz_events.specs.Volume.{Volume}
+use Rattle.rz_events.specs.declared.keys.Key.{Key}
 use Rattle.rz_events.specs.declared.export.Call.{Call}
 use Rattle.rz_events.specs.declared.export.Call.TheVariants as call
 use Rattle.rz_events.specs.declared.export.Reply.{Reply}
@@ -289,6 +292,17 @@ early_stops stage s c later u tells e said volume before so goes =
 pub call_stops : (stage : Stage) (s : Export) (c : Call) (later : Stage) (u : Export) → ¬ IsAccepted s c → (e : Said) → call_said e ≡ Some c → IsAdded e stage s false later u
 call_stops stage s c later u never e said volume before so goes =
     never (subst (λ (x : Export). IsAccepted x c) (sym (stage_made volume before stage s so)) (goes_call volume before e c said goes).1)
+
+-- a begin of more bytes than a block has is not accepted
+pub long_stops : (stage : Stage) (s : Export) (key : Key) (bytes : ℕ) (later : Stage) (u : Export) → block_bytes_of s.volume.layout < bytes → IsAdded (entry.Begin key bytes) stage s false later u
+long_stops stage s key bytes later u long =
+    let zeros : List ℕ = replicate bytes 0 in
+    call_stops stage s (call.Begin key zeros) later u
+    (λ (is : IsAccepted s (call.Begin key zeros)).
+    let within : length zeros ≤ block_bytes_of s.volume.layout = leb-true (length zeros) (block_bytes_of s.volume.layout) is.proper in
+    let count : length zeros ≡ bytes = length-replicate bytes 0 in
+    absurd (omega (arith, long, within, count)))
+    (entry.Begin key bytes) refl
 
 -- what is added of a call is added of its entry
 pub added_of : {E : Type 0} (r : Result Bool E) (e : Said) (c : Call) (stage later : Stage) (s u : Export) → call_said e ≡ Some c

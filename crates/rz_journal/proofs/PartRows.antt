@@ -1,10 +1,12 @@
 -- The row of entries, one by one.
 use Rattle.std.proofs.lemmas.Bool.{cases_lt}
-use Rattle.std.proofs.Common.{◌≡◌, ⊎_elim, ℕ, ◌+◌, ◌<◌, ◌≤◌, List, [], ◌∷◌, ◌++◌, length, map, drop, get_or, Some, None, sym, ◌∙◌, ap, subst, arith, append_assoc}
+use Rattle.std.proofs.Common.{◌≡◌, ⊎_elim, ℕ, ◌+◌, ◌-◌, ◌<◌, ◌≤◌, List, [], ◌∷◌, ◌++◌, length, map, drop, get_or, Option, Some, None, Result, Ok, IfOk, refl, sym, ◌∙◌, ap, subst, arith, append_assoc}
 use Rattle.std.specs.List.{slice_get}
+use Rattle.std.specs.declared.alloc.AllocError.{AllocError}
 use Rattle.std.proofs.lemmas.List.{drop_all, drop_more}
 use Rattle.std.proofs.lemmas.Option.{slice_get_within, get_or_from_slice_get, slice_get-get_or}
 use Rattle.rz_tree.specs.declared.parts.Part.{Part}
+use Rattle.rz_export.specs.Parts.{IsBefore}
 use Rattle.rz_journal_text.specs.declared.entry.Entry.{Entry}
 use Rattle.rz_journal_text.specs.declared.entry.Entry.TheVariants.{Built}
 use Rattle.rz_journal_text.specs.Spelling.{entry_bytes, Spells}
@@ -20,6 +22,22 @@ row_alone row e is spelled = ((spelled, tt), is)
 pub record SoFar (parts : List Part) (i : ℕ) (row : List ℕ) : Type 0 where
   pub whole : row ++ row_bytes (bytes_of (map Built (drop i parts))) ≡ row_bytes (bytes_of (map Built parts))
   pub spelled : AreSpelled (bytes_of (map Built (drop i parts))) (map Built (drop i parts)) → AreSpelled (bytes_of (map Built parts)) (map Built parts)
+
+-- the parts so far, and the one that comes next
+pub record Walk (parts : List Part) (i : ℕ) (row : List ℕ) (next : Option Part) : Type 0 where
+  pub so_far : SoFar parts i row
+  pub here : next ≡ slice_get parts i
+
+-- the part that is found from the one before it
+pub first_next : (parts : List Part) (found : Result (Option Part) AllocError) (next : Option Part) → found ≡ Ok next → ((i : ℕ) → IsBefore None parts i → IfOk found (λ part. part ≡ slice_get parts i)) → next ≡ slice_get parts 0
+first_next parts found next is each = subst (λ (r : Result (Option Part) AllocError). IfOk r (λ part. part ≡ slice_get parts 0)) is (each 0 refl)
+
+pub later_next : (parts : List Part) (i : ℕ) (part : Part) (found : Result (Option Part) AllocError) (next : Option Part) → slice_get parts i ≡ Some part → found ≡ Ok next
+    → ((k : ℕ) → IsBefore (Some part) parts k → IfOk found (λ part. part ≡ slice_get parts k)) → next ≡ slice_get parts (i + 1)
+later_next parts i part found next at is each =
+    let less : i + 1 - 1 ≡ i = omega arith in
+    subst (λ (r : Result (Option Part) AllocError). IfOk r (λ part. part ≡ slice_get parts (i + 1))) is
+    (each (i + 1) (omega arith, ap (slice_get parts) less ∙ at))
 
 pub row_begins : (parts : List Part) (row : List ℕ) → row ≡ [] → SoFar parts 0 row
 row_begins parts row none = record {

@@ -1,5 +1,5 @@
 -- What is read of a half.
-use Rattle.std.specs.Prelude.{◌≡◌, ◌⊎◌, ℕ, ◌+◌, ◌%◌, ◌<◌, ◌≤◌, Bool, true, false, List, length, drop, slice_index}
+use Rattle.std.specs.Prelude.{◌≡◌, ◌⊎◌, ℕ, ◌+◌, ◌%◌, ◌<◌, ◌≤◌, List, length, drop, slice_index}
 use Rattle.byteorder.specs.Endian.{little_number}
 use Rattle.rz_disk.specs.Images.{window}
 use Rattle.rz_journal_text.specs.declared.entry.Entry.{Entry as Said}
@@ -27,9 +27,3 @@ IsStep half at Damaged = IsDamaged half at
 -- the entries from the front on, which take so many bytes
 abbrev pub SoFar : List ℕ → List Said → ℕ → Type 0
 SoFar half entries used = (bytes : Entries) × Row 0 bytes half × AreSpelled bytes entries × (taken bytes ≡ used)
-
--- all entries before the end, or before the first that is damaged
-pub record IsListing (half : List ℕ) (entries : List Said) (used : ℕ) (whole : Bool) : Type 0 where
-  pub so_far : SoFar half entries used
-  pub ends : whole ≡ true → slice_index half used % 2 ≡ 0
-  pub breaks : whole ≡ false → IsDamaged half used

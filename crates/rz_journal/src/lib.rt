@@ -5,9 +5,8 @@
 //!
 //! `Journal` is an export whose accepted calls stand on a disk. Its contract says what each call answers,
 //! and that on every exit each image of the disk stands for the calls accepted before, or for these and
-//! the present one. `entry_of` gives the entry of a call. `read_entries` reads the entries of a half, up to
-//! their end or to the first that is damaged. `reopen` gives the export that the
-//! entries make, or the first that is damaged.
+//! the present one. `entry_of` gives the entry of a call. `reopen` gives the export that the entries of the
+//! disk make, or the first that is damaged.
 //!
 //! In reading order: `said`, `rows`, `room`, `keeping`, `journal`, `reading`, `rebuilding`, `opening`.
 #![tactic(auto)]
@@ -22,6 +21,5 @@ mod rows;
 mod said;
 
 pub use journal::{Journal, JournalReply};
-pub use reading::{Listing, read_entries};
 pub use rebuilding::JournalFault;
 pub use said::entry_of;

@@ -1,23 +1,12 @@
 //! The entries of a half, read.
 
-ghost use Rattle.std.specs.Prelude.{◌≡◌, ◌+◌, ◌%◌, ◌<◌, ◌≤◌, length, drop, slice_index, IfOk};
+ghost use Rattle.std.specs.Prelude.{◌≡◌, ◌+◌, ◌%◌, ◌<◌, length, drop, slice_index, IfOk};
 ghost use Rattle.byteorder.specs.Endian.{little_number};
-ghost use Rattle.rz_journal.specs.Listed.{IsStep, IsListing};
+ghost use Rattle.rz_journal.specs.Listed.{IsStep};
 
 use rz_journal_disk::{Place, place_at};
 use rz_journal_text::{Entry, EntryFault, read};
 use std::alloc::{AllocError, Global};
-
-/// What a half holds.
-#[derive(Debug, Drop)]
-pub struct Listing {
-    /// The entries before the end, or before the first that is damaged.
-    pub entries: Vec<Entry>,
-    /// How many bytes they take, with their gates and lengths.
-    pub used: usize,
-    /// Whether they end, and none is damaged.
-    pub whole: bool,
-}
 
 /// What stands at an address of a half.
 #[derive(Debug, Drop)]
@@ -28,38 +17,6 @@ pub enum Step {
     Entry { entry: Entry, next: usize },
     /// There is no room for an entry, or no entry has the bytes.
     Damaged,
-}
-
-/// The entries of a half, up to their end or to the first that is damaged.
-pub fn read_entries(alloc: Global, half: &[u8]) -> Result<Listing, AllocError>
-    requires { 1 ≤ length half.now }
-    ensures { IfOk result (λ l. IsListing half.now l.entries.items l.used l.whole) }
-{
-    let mut entries = Vec::new(alloc);
-    let mut at = 0;
-    loop {
-        let step = next_entry(alloc, half, at)?;
-        match step {
-            Step::End => {
-                return Ok(Listing {
-                    entries,
-                    used: at,
-                    whole: true,
-                });
-            }
-            Step::Damaged => {
-                return Ok(Listing {
-                    entries,
-                    used: at,
-                    whole: false,
-                });
-            }
-            Step::Entry { entry, next } => {
-                entries.push(entry).map_err(AllocError::from)?;
-                at = next;
-            }
-        }
-    }
 }
 
 /// What stands at an address of a half.

@@ -11,7 +11,7 @@ ghost use Rattle.rz_journal.specs.Opening.{IsSomeStage, TellsEnd, TellsPart, IsA
 use crate::reading::{Step, next_entry};
 use crate::said::{accepts, is_kept};
 use rz_config::Volume;
-use rz_events::{Call, Reply, Text};
+use rz_events::{Call, Key, Reply, Text};
 use rz_export::Export;
 use rz_journal_text::Entry;
 use rz_tree::Part;
@@ -61,10 +61,7 @@ impl Rebuilt {
         match entry {
             Entry::Built(part) => self.add_part(&part),
             Entry::Tree(call) => self.add_call(&Call::Tree(call)),
-            Entry::Begin { key, bytes } => {
-                let text = zeros(alloc, bytes)?;
-                self.add_call(&Call::Begin { key, text })
-            }
+            Entry::Begin { key, bytes } => self.add_begin(alloc, key, bytes),
             Entry::Publish {
                 key,
                 stamp,
@@ -91,6 +88,18 @@ impl Rebuilt {
         self.export.add_part(part)?;
         self.stage = after_part(self.stage);
         Ok(true)
+    }
+
+    // Adds the begin of a write of so many bytes. More than a block has are refused before any memory
+    // is taken for them.
+    fn add_begin(&mut self, alloc: Global, key: Key, bytes: u32) -> Result<bool, AllocError>
+        ensures { IfOk result (λ goes. IsAdded (Entry.Begin key bytes) self.old.stage self.old.export goes self.new.stage self.new.export) }
+    {
+        if self.export.layout().block_bytes() < bytes as usize {
+            return Ok(false);
+        }
+        let text = zeros(alloc, bytes)?;
+        self.add_call(&Call::Begin { key, text })
     }
 
     // Adds a call, and tells whether it may stand behind the entries before it.

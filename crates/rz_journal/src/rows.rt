@@ -39,21 +39,22 @@ fn row_of(alloc: Global, entry: &Entry) -> Result<Vec<u8>, AllocError>
     Ok(row)
 }
 
-/// The row of all parts of an export, with the shut gate behind it.
+/// The row of all parts of an export, with the shut gate behind it. Each part is found from the one
+/// before it.
 pub fn parts_row(alloc: Global, export: &Export) -> Result<Vec<u8>, AllocError>
     requires { IsWhole export.now }
     ensures { IfOk result (λ row. IsRow (part_entries export.now) row.items) }
 {
     rz_export_laws::trees::paths_written();
     let mut row = Vec::new(alloc);
-    for i in 0..usize::MAX {
-        match export.part(i)? {
-            Some(part) => push_row(alloc, &Entry::Built(part), &mut row)?,
-            None => {
-                close_row(&mut row)?;
-                return Ok(row);
-            }
-        }
+    let mut next = export.part_after(None)?;
+    for _ in 0..usize::MAX {
+        let Some(part) = next else {
+            close_row(&mut row)?;
+            return Ok(row);
+        };
+        next = export.part_after(Some(&part))?;
+        push_row(alloc, &Entry::Built(part), &mut row)?;
     }
     // Memory holds no export of so many parts.
     Err(AllocError)

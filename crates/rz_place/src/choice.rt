@@ -1,8 +1,9 @@
 //! The cluster with the most free cells.
 
-ghost use Rattle.std.specs.Prelude.{◌≡◌, ◌≤◌, ◌+◌, ℕ, cond, length, drop, sum, All};
+ghost use Rattle.std.specs.Prelude.{◌≡◌, ◌≤◌, ◌+◌, ℕ, length, drop, sum, All};
 ghost use Rattle.rz_export_model.specs.Place.{is_better, free_cells, best_of, clusters_of};
 ghost use Rattle.rz_events.specs.Volume.{nodes_of};
+ghost use Rattle.rz_place.specs.Candidates.{IsTold, rooms_of};
 ghost use Rattle.rz_place.specs.Rooms.{rooms_in};
 
 use rz_config::ClusterSpec;
@@ -19,13 +20,20 @@ fn sum_of(numbers: &[u64]) -> u128
     total
 }
 
+/// A cluster, with the free cells of its nodes and of those after them.
+#[derive(Clone, Copy)]
+pub struct Candidate<'a, 'b> {
+    pub cluster: &'a ClusterSpec,
+    pub free: &'b [u64],
+}
+
 /// All free cells of a cluster.
 #[tactic(auto, using(crate::proofs::Placing::rooms_sum))]
-fn free_cells(cluster: &ClusterSpec, free: &[u64]) -> u128
-    requires few { length cluster.now.nodes ≤ 64 }
-    requires told { length cluster.now.nodes ≤ length free.now }
-    ensures { result ≡ free_cells (rooms_in cluster.now free.now) }
+fn free_cells(candidate: Candidate<'_, '_>) -> u128
+    requires { IsTold candidate }
+    ensures { result ≡ free_cells (rooms_of candidate.entry) }
 {
+    let Candidate { cluster, free } = candidate;
     sum_of(&free[..cluster.nodes.len()])
 }
 
@@ -37,65 +45,52 @@ fn after<'a>(free: &'a [u64], cluster: &ClusterSpec) -> &'a [u64]
     &free[cluster.nodes.len()..]
 }
 
-/// Whether `a` is better than `b`, each with the free cells of its nodes.
-fn is_better(a: &ClusterSpec, a_free: &[u64], b: &ClusterSpec, b_free: &[u64]) -> bool
-    requires a_few { length a.now.nodes ≤ 64 }
-    requires a_told { length a.now.nodes ≤ length a_free.now }
-    requires b_few { length b.now.nodes ≤ 64 }
-    requires b_told { length b.now.nodes ≤ length b_free.now }
-    ensures { result ≡ is_better (rooms_in a.now a_free.now) (rooms_in b.now b_free.now) }
+/// The number of a cluster.
+fn number_of(candidate: Candidate<'_, '_>) -> u16
+    ensures { result ≡ (rooms_of candidate.entry).cid }
 {
-    let x = free_cells(a, a_free);
-    let y = free_cells(b, b_free);
-    y < x || (x == y && a.cid < b.cid)
+    let cluster = candidate.cluster;
+    cluster.cid
 }
 
-/// The better of two clusters, with its free cells.
-fn better_of<'a>(
-    a: &'a ClusterSpec,
-    a_free: &'a [u64],
-    b: &'a ClusterSpec,
-    b_free: &'a [u64],
-) -> (&'a ClusterSpec, &'a [u64])
-    requires a_few { length a.now.nodes ≤ 64 }
-    requires a_told { length a.now.nodes ≤ length a_free.now }
-    requires b_few { length b.now.nodes ≤ 64 }
-    requires b_told { length b.now.nodes ≤ length b_free.now }
-    ensures better { rooms_in result.0.now result.1.now ≡ cond (is_better (rooms_in a.now a_free.now) (rooms_in b.now b_free.now)) (rooms_in a.now a_free.now) (rooms_in b.now b_free.now) }
-    ensures few { length result.0.now.nodes ≤ 64 }
-    ensures told { length result.0.now.nodes ≤ length result.1.now }
-    ensures least { (n : ℕ) → n ≤ length a.now.nodes → n ≤ length b.now.nodes → n ≤ length result.0.now.nodes }
+/// Whether one candidate is better than another.
+fn is_better(a: Candidate<'_, '_>, b: Candidate<'_, '_>) -> bool
+    requires a { IsTold a }
+    requires b { IsTold b }
+    ensures { result ≡ is_better (rooms_of a.entry) (rooms_of b.entry) }
 {
-    if is_better(a, a_free, b, b_free) {
-        (a, a_free)
-    } else {
-        (b, b_free)
-    }
+    let x = free_cells(a);
+    let y = free_cells(b);
+    y < x || (x == y && number_of(a) < number_of(b))
 }
 
-/// The best of a cluster and some more, with its free cells and those after them.
-pub fn best_of<'a>(
+/// The best of a cluster and some more. `free` has the free cells of their nodes in order.
+pub fn best_of<'a, 'b>(
     first: &'a ClusterSpec,
     others: &'a [ClusterSpec],
-    free: &'a [u64],
-) -> (&'a ClusterSpec, &'a [u64])
+    free: &'b [u64],
+) -> Candidate<'a, 'b>
     requires few { length first.now.nodes ≤ 64 }
     requires few_each { All (λ c. length c.nodes ≤ 64) others.now }
     requires told { length first.now.nodes + length (nodes_of others.now) ≤ length free.now }
-    ensures best { rooms_in result.0.now result.1.now ≡ best_of (rooms_in first.now free.now) (clusters_of others.now (drop (length first.now.nodes) free.now)) }
-    ensures few { length result.0.now.nodes ≤ 64 }
-    ensures told { length result.0.now.nodes ≤ length result.1.now }
-    ensures least { (n : ℕ) → n ≤ length first.now.nodes → All (λ c. n ≤ length c.nodes) others.now → n ≤ length result.0.now.nodes }
+    ensures best { rooms_of result ≡ best_of (rooms_in first.now free.now) (clusters_of others.now (drop (length first.now.nodes) free.now)) }
+    ensures told { IsTold result }
+    ensures least { (n : ℕ) → n ≤ length first.now.nodes → All (λ c. n ≤ length c.nodes) others.now → n ≤ length result.cluster.now.nodes }
 {
-    let mut best = first;
-    let mut best_free = free;
+    let mut best = Candidate {
+        cluster: first,
+        free,
+    };
     let mut rest = after(free, first);
     for cluster in others {
-        let better = better_of(cluster, rest, best, best_free);
-        best = better.0;
-        best_free = better.1;
-        let following = after(rest, cluster);
-        rest = following;
+        let next = Candidate {
+            cluster,
+            free: rest,
+        };
+        if is_better(next, best) {
+            best = next;
+        }
+        rest = after(rest, cluster);
     }
-    (best, best_free)
+    best
 }

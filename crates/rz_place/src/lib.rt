@@ -9,22 +9,23 @@ ghost use Rattle.std.specs.Prelude.{◌≡◌, ◌≤◌, ◌<◌, length};
 ghost use Rattle.mj_angles.specs.Layout.{safe_of};
 ghost use Rattle.rz_export_model.specs.Place.{place, placed_in};
 ghost use Rattle.rz_events.specs.Volume.{nodes_of};
-ghost use Rattle.rz_place.specs.Rooms.{rooms_in};
+ghost use Rattle.rz_place.specs.Candidates.{IsTold, rooms_of};
 
-use rz_config::{ClusterSpec, Volume};
+use choice::Candidate;
+use rz_config::Volume;
 use rz_events::Places;
 
 mod choice;
 mod order;
 
-/// The first `safe` nodes of a cluster with these free cells.
-fn first_nodes(safe: usize, cluster: &ClusterSpec, free: &[u64]) -> Places
-    requires least { safe ≤ length cluster.now.nodes }
+/// The first `safe` nodes of a cluster by their free cells.
+fn first_nodes(safe: usize, best: Candidate<'_, '_>) -> Places
+    requires least { safe ≤ length best.cluster.now.nodes }
     requires most { safe ≤ 16 }
-    requires few { length cluster.now.nodes ≤ 64 }
-    requires told { length cluster.now.nodes ≤ length free.now }
-    ensures { result ≡ (placed_in safe (rooms_in cluster.now free.now)).places }
+    requires told { IsTold best }
+    ensures { result ≡ (placed_in safe (rooms_of best.entry)).places }
 {
+    let Candidate { cluster, free } = best;
     let rooms = order::in_order(cluster.nodes.as_slice(), free);
     let mut places = Places::none();
     for i in 0..safe {
@@ -46,6 +47,7 @@ pub fn place(volume: &Volume, free: &[u64]) -> (u16, Places)
     let Some((first, others)) = volume.clusters.as_slice().split_first() else {
         return (0, Places::none());
     };
-    let (best, free) = choice::best_of(first, others, free);
-    (best.cid, first_nodes(safe, best, free))
+    let best = choice::best_of(first, others, free);
+    let cluster = best.cluster;
+    (cluster.cid, first_nodes(safe, best))
 }

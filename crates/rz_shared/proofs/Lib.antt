@@ -3,3 +3,4 @@ pub mod Readiness
 pub mod Returning
 pub mod NewSeats
 pub mod Ordered
+pub mod Sending

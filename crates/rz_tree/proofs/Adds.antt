@@ -66,7 +66,7 @@ module _ (t : Tree) (path : Path) (free : first_of (can_not_make t path) ≡ Non
   after_walk : (walk t path ≡ None) × (first_of (present t path ∷ too_many_files t ∷ []) ≡ None)
   after_walk = or_none (walk t path) (first_of (present t path ∷ too_many_files t ∷ [])) after_root.1
 
-  after_present : (present t path ≡ None) × (first_of (too_many_files t ∷ []) ≡ None)
+  pub after_present : (present t path ≡ None) × (first_of (too_many_files t ∷ []) ≡ None)
   after_present = or_none (present t path) (first_of (too_many_files t ∷ [])) after_walk.1
 
   pub free-root : is_root path ≡ false

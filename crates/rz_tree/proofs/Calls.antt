@@ -19,7 +19,7 @@ use Rattle.rz_tree.specs.Trees.{tree_of, IsTree, IsKept}
 use Rattle.rz_tree.proofs.Keys.{not_none, false-true, held, true-or-false, apart}
 use Rattle.rz_tree.proofs.Tables.{get-objects}
 use Rattle.rz_tree.proofs.Fronts.{append-nothing, split-above, walked-front}
-use Rattle.rz_tree.proofs.Moves.{begins-front}
+use Rattle.rz_names.proofs.PathOrder.{begins-front}
 use Rattle.rz_tree.proofs.Rules.{from-map, map-some}
 use Rattle.rz_tree.proofs.Names.{empty-under, leaf-under, absent-under}
 use Rattle.rz_tree.proofs.Adds.{or_none, given-false, none-from-is, absent-name}
@@ -70,7 +70,7 @@ module _ (names : FinMap path_cmp ℕ) (table : Table) (made : ℕ) (kept : IsKe
 -- ---- a new path of an object
 
 module _ (t : Tree) (p q : Path) (free : first_of (walk t p ∷ absent t p ∷ dir t p ∷ walk t q ∷ present t q ∷ too_many_links t p ∷ []) ≡ None) where
-  link_1 : first_of (absent t p ∷ dir t p ∷ walk t q ∷ present t q ∷ too_many_links t p ∷ []) ≡ None
+  pub link_1 : first_of (absent t p ∷ dir t p ∷ walk t q ∷ present t q ∷ too_many_links t p ∷ []) ≡ None
   link_1 = (or_none (walk t p) (first_of (absent t p ∷ dir t p ∷ walk t q ∷ present t q ∷ too_many_links t p ∷ [])) free).1
 
   link_2 : first_of (dir t p ∷ walk t q ∷ present t q ∷ too_many_links t p ∷ []) ≡ None
@@ -79,7 +79,7 @@ module _ (t : Tree) (p q : Path) (free : first_of (walk t p ∷ absent t p ∷ d
   link_3 : (dir t p ≡ None) × (first_of (walk t q ∷ present t q ∷ too_many_links t p ∷ []) ≡ None)
   link_3 = or_none (dir t p) (first_of (walk t q ∷ present t q ∷ too_many_links t p ∷ [])) link_2
 
-  link_4 : (walk t q ≡ None) × (first_of (present t q ∷ too_many_links t p ∷ []) ≡ None)
+  pub link_4 : (walk t q ≡ None) × (first_of (present t q ∷ too_many_links t p ∷ []) ≡ None)
   link_4 = or_none (walk t q) (first_of (present t q ∷ too_many_links t p ∷ [])) link_3.1
 
   pub link-leaf : is_at t p is_dir ≡ false
@@ -110,7 +110,7 @@ renamed-two t p q two = sym (ap (λ b. cond b t (let rest : Tree = without_name 
 pub without-none : (t : Tree) (q : Path) → found_at t q ≡ None → without_name t q ≡ t
 without-none t q none = ap (λ o. option_map_or (λ (f : Found). (let s : Tree = record t { names = maps.remove t.names q; objects = cond (links_of t f == 1) (maps.remove t.objects f.fid) t.objects } in s)) o t) none
 
-name_found : (t : Tree) (p : Path) (f : Option ℕ) → maps.get t.names p ≡ f → is_none (option_and_then (λ n. option_map (λ y. (let x : Found = record { fid = n; object = y } in x)) (maps.get t.objects n)) f) ≡ false → is_some f ≡ true
+pub name_found : (t : Tree) (p : Path) (f : Option ℕ) → maps.get t.names p ≡ f → is_none (option_and_then (λ n. option_map (λ y. (let x : Found = record { fid = n; object = y } in x)) (maps.get t.objects n)) f) ≡ false → is_some f ≡ true
 name_found t p None at h = absurd (false-true (sym h))
 name_found t p (Some fid) at h = refl
 

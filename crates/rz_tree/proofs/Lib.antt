@@ -1,22 +1,23 @@
 mod Rows
 mod Tables
-mod Keys
+pub mod Keys
 pub mod Counts
-mod Fronts
-mod Moves
+pub mod Fronts
+pub mod Moves
 mod Files
 mod Found
-mod Rules
+pub mod Rules
 mod Listings
-mod Names
-mod Adds
+pub mod Names
+pub mod Adds
 mod Takes
 mod Links
 mod Renamings
-mod Calls
+pub mod Calls
 mod Replacing
 mod Replies
 mod PartPlaces
+pub mod Walks
 pub mod Lasts
 pub mod PartLaws
 mod Adding

@@ -14,7 +14,7 @@ use Rattle.rz_export_model.specs.Tree.{names_under}
 use Rattle.rz_names.specs.Names.{is_after, next_name}
 use Rattle.rz_tree.proofs.Keys.{eq_true, same_some, not_none}
 use Rattle.rz_tree.proofs.Counts.{Entries}
-use Rattle.rz_tree.proofs.Moves.{append-cmp}
+use Rattle.rz_names.proofs.PathOrder.{append-cmp}
 
 -- each name is below those after it
 abbrev pub Rises : List Name → Type 0

@@ -8,7 +8,8 @@ use Rattle.rz_tree.specs.Inodes.{Table}
 use Rattle.rz_tree.specs.Trees.{tree_of, IsTree, IsKept}
 use Rattle.rz_tree.proofs.Keys.{eq_true, not_none, false-true, true-or-false, one-or-two, get-removed, get-left}
 use Rattle.rz_tree.proofs.Fronts.{above-append}
-use Rattle.rz_tree.proofs.Moves.{and_parts, begins-front, get-in, get-from, get-out, count-moved}
+use Rattle.rz_names.proofs.PathOrder.{and_parts, begins-front}
+use Rattle.rz_tree.proofs.Moves.{get-in, get-from, get-out, count-moved}
 use Rattle.rz_tree.proofs.Rules.{dir-found, dir-is}
 use Rattle.rz_tree.proofs.Names.{front-there}
 

@@ -1,6 +1,9 @@
 -- The kept objects, and the objects that they stand for.
-use Rattle.std.specs.Prelude.{ℕ, ◌≡◌, ◌-◌, ◌==◌, nat_lt, Bool, false, cond, List, map, Option, None}
+use Rattle.std.specs.Prelude.{ℕ, ◌≡◌, ◌-◌, ◌==◌, nat_lt, Bool, true, false, cond, List, map, Option, Some, None}
+use Rattle.std.specs.BTreeMap.Range.{is_from_start}
 use Rattle.std.specs.BTreeSet.{BTreeSet, contains}
+use Rattle.std.specs.declared.ops.Bound.{Bound}
+use Rattle.std.specs.List as lists
 use Rattle.std.specs.List.{list_all}
 use Rattle.std.specs.Option.{option_map_or}
 use Rattle.std.specs.Ordering.{nat_cmp, is_lt}
@@ -84,3 +87,16 @@ released table fid =
 -- the file with the least number above this one
 abbrev pub file_past : Table → ℕ → Option FileInfo
 file_past table fid = first_given (λ e. cond (is_lt (nat_cmp fid e.0)) (file_from e.0 (object_of e.1)) None) (maps.entries table)
+
+-- whether a number is past another, where this is given
+abbrev pub is_past : Option ℕ → ℕ → Bool
+is_past None n = true
+is_past (Some after) n = nat_lt after n
+
+-- the first entry past a number, where this is given
+abbrev pub first_past : {X : Type 0} → Option ℕ → List (ℕ × X) → Option (ℕ × X)
+first_past after es = lists.find (λ e. is_past after e.0) es
+
+-- a bound from which on all numbers stand that are past `after`
+abbrev pub IsStartPast : Bound ℕ → Option ℕ → Type 0
+IsStartPast start after = (n : ℕ) → is_from_start nat_cmp start n ≡ is_past after n

@@ -6,7 +6,7 @@ ghost use Rattle.std.specs.List.{slice_get};
 ghost use Rattle.std.specs.FinMap as maps;
 ghost use Rattle.rz_export_model.specs.Tree.{info_of};
 ghost use Rattle.rz_names.specs.Names.{is_behind};
-ghost use Rattle.rz_tree.specs.Inodes.{found_of, attr_kept, with_attributes, with_size_of, greater_of, with_links, changed_at, released, file_past, are_linked};
+ghost use Rattle.rz_tree.specs.Inodes.{found_of, attr_kept, with_attributes, with_size_of, greater_of, with_links, changed_at, released, file_past, are_linked, first_past, IsStartPast};
 
 use rz_events::{Attr, FileInfo, Kind, Places, Text};
 use std::alloc::{AllocError, Global};
@@ -117,6 +117,18 @@ impl Inodes {
         Some((*fid, inode))
     }
 
+    /// The object with the least number past the given one, or the first one, with its number. It is
+    /// found in logarithmic time.
+    pub fn after(&self, fid: Option<u128>) -> Option<(u128, &Inode)>
+        ensures { option_map (λ p. (p.0, p.1.now)) result ≡ first_past fid (maps.entries self.now) }
+    {
+        let past = (start_past(fid), Bound::Unbounded);
+        match self.entries.range(past).next() {
+            None => None,
+            Some((fid, inode)) => Some((*fid, inode)),
+        }
+    }
+
     /// The file with the least greater number.
     pub fn file_past(&self, fid: u128) -> Option<FileInfo>
         ensures { result ≡ file_past self.now fid }
@@ -223,6 +235,16 @@ impl Inodes {
         if let Some(inode) = self.entries.get_mut(&fid) {
             inode.links = links;
         }
+    }
+}
+
+// The first bound of the numbers past the given one.
+fn start_past(after: Option<u128>) -> Bound<u128>
+    ensures { IsStartPast result after }
+{
+    match after {
+        None => Bound::Unbounded,
+        Some(after) => Bound::Excluded(after),
     }
 }
 

@@ -6,7 +6,7 @@ ghost use Rattle.std.specs.Option.{option_map};
 ghost use Rattle.std.specs.FinMap as maps;
 ghost use Rattle.rz_names.specs.Names.{below_root};
 ghost use Rattle.rz_tree.specs.Inodes.{object_of};
-ghost use Rattle.rz_tree.specs.Parts.{object_part, name_part, tree_parts};
+ghost use Rattle.rz_tree.specs.Parts.{object_part, name_part, tree_parts, after_object, after_name};
 
 use crate::inodes::Inode;
 use crate::tree::Tree;
@@ -80,6 +80,30 @@ impl Tree {
             return None;
         }
         Some(past_objects - names)
+    }
+
+    /// The object with the least number past the given one, or the first one. Where there is none, it
+    /// is the first name. Either is found in logarithmic time.
+    pub fn part_after_object(&self, fid: Option<u128>) -> Result<Option<Part>, AllocError>
+        ensures { IfOk result (λ part. part ≡ after_object self.now fid) }
+    {
+        match self.inodes.after(fid) {
+            None => self.name_part(0),
+            Some((fid, inode)) => {
+                let target = inode.target.copy(self.alloc)?;
+                Ok(Some(object_part(fid, inode, target)))
+            }
+        }
+    }
+
+    /// The name of the least path above the given one, found in logarithmic time.
+    pub fn part_after_name(&self, path: &Path) -> Result<Option<Part>, AllocError>
+        ensures { IfOk result (λ part. part ≡ after_name self.now path.now) }
+    {
+        match self.names.after(Some(path))? {
+            None => Ok(None),
+            Some((path, fid)) => Ok(Some(Part::Name { path, fid })),
+        }
     }
 
     // The object at a place in the order of the numbers.

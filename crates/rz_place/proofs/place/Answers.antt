@@ -16,8 +16,8 @@ enough_each : (safe : ℕ) (first : Cluster) (others : List Cluster) → All (Is
 enough_each safe first others h =
     All-weaker (IsCluster safe) (λ c. safe ≤ length c.nodes) (λ c g. g.enough_nodes) others (All-tail (IsCluster safe) first others h)
 
-pub best_of-requires-clause-few_each : goal.best_of-requires-clause-few_each
-best_of-requires-clause-few_each c =
+pub best_of-best-requires-clause-few_each : goal.best_of-best-requires-clause-few_each
+best_of-best-requires-clause-few_each c =
     let all =
     clusters_good (safe_of c.volume.inside.layout) c.volume.inside.clusters.items c.in-Some.first.now c.in-Some.others.now c.volume.invariant.1.clusters
     (sym c.as_slice.ensures.value ∙ c.in-Some.ensures.cases.0)
@@ -32,5 +32,5 @@ first_nodes-requires-clause-least c =
     (sym c.as_slice.ensures.value ∙ c.in-Some.ensures.cases.0)
     in
     rw c.safe-safe.ensures.value
-    (c.best_of.ensures.least safe (All-head (IsCluster safe) c.in-Some.first.now c.in-Some.others.now all).enough_nodes
+    (c.best_of-best.ensures.least safe (All-head (IsCluster safe) c.in-Some.first.now c.in-Some.others.now all).enough_nodes
     (enough_each safe c.in-Some.first.now c.in-Some.others.now all))

@@ -1,6 +1,7 @@
 use Rattle.rz_export.specs.Parts.{export_parts}
-use Rattle.rz_journal.proofs.PartRows.{SoFar}
+use Rattle.rz_journal.proofs.PartRows.{Walk}
 use Rattle.rz_journal.proofs.rows.parts_row.Given as goal
 
-abbrev pub invariant-loop-i : goal.invariant-loop-i
-invariant-loop-i l = SoFar (export_parts l.export) l.i l.row.items
+-- the row of the parts so far, and the part at the place of the count
+abbrev pub invariant-loop : goal.invariant-loop
+invariant-loop l = Walk (export_parts l.export) l.counter l.row.items l.next

@@ -1,0 +1,2 @@
+mod Rosters
+mod Gathered

@@ -1,0 +1,17 @@
+//! The crew of a script on threads: what each actor has to do, and what is known of it in the end.
+//!
+//! [`operations_of`] takes an actor's operations out of a script. [`gather_all`] gathers the passes of many
+//! actors into one: in the log that it has then seen, the events of each actor are those that its own pass
+//! had, each once and in order. `held_lasts` says that this stays so.
+//!
+//! In reading order: `copying`, `roster`, `gathering`, `laws`.
+#![tactic(auto)]
+
+mod copying;
+mod gathering;
+mod laws;
+mod roster;
+
+pub use gathering::gather_all;
+pub use laws::held_lasts;
+pub use roster::operations_of;

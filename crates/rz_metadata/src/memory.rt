@@ -1,0 +1,62 @@
+//! An export in memory.
+ghost use Rattle.std.specs.Prelude.{◌≡◌, IfOk, OnOk, OnErr};
+ghost use Rattle.rz_export_model.specs.Export.{export_reply, export_after};
+ghost use Rattle.rz_operation.specs.Meaning.{call_of};
+
+use rz_events::{Call, Key, Published, Reply};
+use rz_export::Export;
+use rz_operation::ExportAsk;
+use std::alloc::AllocError;
+
+/// There is no reply: memory is wanting, or the export does not take the call, or its journal did not
+/// keep it.
+#[derive(Clone, Copy, Debug, PartialEq, Eq, Drop)]
+pub struct NoReply;
+
+impl From<AllocError> for NoReply {
+    fn from(_: AllocError) -> Self {
+        NoReply
+    }
+}
+
+/// The reply of an export in memory.
+pub(crate) fn reply_to(export: &mut Export, ask: ExportAsk<'_>) -> Result<Reply, NoReply>
+    ensures reply { IfOk result (λ r. r ≡ export_reply export.old (call_of ask.entry)) }
+    ensures after { OnOk result (export.new ≡ export_after export.old (call_of ask.entry)) }
+{
+    match ask {
+        ExportAsk::Tree(call) => Ok(Reply::Tree(export.name(call)?)),
+        ExportAsk::Begin { key, .. } => Ok(export.begin(key)?),
+        ExportAsk::Publish { key, published } => publish(export, key, published),
+        ExportAsk::Look { key } => Ok(export.look(key)),
+        ExportAsk::Recheck { key } => Ok(export.recheck(key)),
+        ExportAsk::Enroll { node, loss } => enroll(export, node, loss),
+        ExportAsk::Next { node, after } => Ok(export.next(node, after)),
+    }
+}
+
+fn publish(export: &mut Export, key: Key, published: Published) -> Result<Reply, NoReply>
+    ensures reply { IfOk result (λ r. r ≡ export_reply export.old (Call.Publish key published.stamp published.mask published.length)) }
+    ensures after { OnOk result (export.new ≡ export_after export.old (Call.Publish key published.stamp published.mask published.length)) }
+{
+    let call = Call::Publish {
+        key,
+        stamp: published.stamp,
+        mask: published.mask,
+        length: published.length,
+    };
+    if !export.takes(&call) {
+        return Err(NoReply);
+    }
+    Ok(export.publish(key, published))
+}
+
+fn enroll(export: &mut Export, node: u16, loss: u64) -> Result<Reply, NoReply>
+    ensures reply { IfOk result (λ r. r ≡ export_reply export.old (Call.Enroll node loss)) }
+    ensures after { OnOk result (export.new ≡ export_after export.old (Call.Enroll node loss)) }
+{
+    if !export.takes(&Call::Enroll { node, loss }) {
+        return Err(NoReply);
+    }
+    Ok(export.enroll(node, loss))
+}

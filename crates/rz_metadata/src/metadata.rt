@@ -1,0 +1,101 @@
+//! The metadata of a store.
+ghost use Rattle.std.specs.Prelude.{◌≡◌, ◌⊎◌, ℕ, List, [], IsTrue, IsSome, IfOk, IfErr, OnOk, OnErr};
+ghost use Rattle.rz_disk.specs.Meter.{Rises, faults};
+ghost use Rattle.rz_events.specs.declared.export.Call.{Call as ACall};
+ghost use Rattle.rz_export_model.specs.Export.{export_reply, export_after, new_export, published_after};
+ghost use Rattle.rz_journal.specs.JournalText.{IsTextOf};
+ghost use Rattle.rz_journal.specs.Seen.{calls_after};
+ghost use Rattle.rz_journal_disk.specs.Stands.{IsShut};
+ghost use Rattle.rz_operation.specs.Meaning.{call_of};
+ghost use Rattle.rz_metadata.specs.Stands.{export_in, disk_of, refusal_of, HasCounted, Stands, StandsAtEnd};
+
+use crate::journaled::{Journaled, Refusal};
+use crate::memory::{NoReply, reply_to};
+use rz_cells::FormatFault;
+use rz_config::Volume;
+use rz_disk::Disk;
+use rz_events::{Key, Listed, Reply};
+use rz_export::Export;
+use rz_journal::Journal;
+use rz_operation::ExportAsk;
+use std::alloc::{AllocError, Global};
+
+/// The export of a store, in memory alone or behind a journal on a disk.
+#[derive(Drop)]
+pub enum Metadata<D: Disk> {
+    InMemory(Export),
+    Journaled(Journaled<D>),
+}
+
+impl<D: Disk> Metadata<D> {
+    /// The export of a new store, in memory.
+    pub fn in_memory(alloc: Global, volume: Volume) -> Result<Metadata<D>, AllocError>
+        ensures export { IfOk result (λ m. export_in m ≡ new_export volume 0) }
+        ensures stands { IfOk result (λ m. (first : ℕ) → Stands D.tells D.meter D.image first m []) }
+    {
+        Ok(Metadata::InMemory(Export::new(alloc, volume, 0)?))
+    }
+
+    /// Makes a disk anew, and a journal on it whose export is that of a new store.
+    pub fn format(alloc: Global, volume: Volume, disk: D) -> Result<Metadata<D>, (D, FormatFault)>
+        ensures export { IfOk result (λ m. export_in m ≡ new_export volume 0) }
+        ensures stands { IfOk result (λ m. (first : ℕ) → HasCounted D.meter first m → Stands D.tells D.meter D.image first m []) }
+        ensures behind { IfOk result (λ m. IsSome (disk_of m)) }
+
+        // Otherwise each image is one from before, or its header is shut, or it stands for no calls.
+        ensures crash { IfErr result (λ e. IsTrue D.tells → (c : List ℕ) → D.image e.0 c → D.image disk c ⊎ IsShut c ⊎ IsTextOf volume c []) }
+        ensures risen { IfErr result (λ e. e.1 ≡ FormatFault.DiskFault → Rises (faults (D.meter disk)) (faults (D.meter e.0))) }
+    {
+        match Journal::format(alloc, volume, disk) {
+            Ok(journal) => Ok(Metadata::Journaled(Journaled {
+                journal,
+                refusal: None,
+            })),
+            Err(back) => Err(back),
+        }
+    }
+
+    /// The reply to what an operation asks. Behind a journal a call that is accepted stands on the disk
+    /// then.
+    pub fn reply(&mut self, alloc: Global, ask: ExportAsk<'_>) -> Result<Reply, NoReply>
+        ensures reply { IfOk result (λ r. r ≡ export_reply (export_in self.old) (call_of ask.entry)) }
+        ensures after { OnOk result (export_in self.new ≡ export_after (export_in self.old) (call_of ask.entry)) }
+        ensures kept { IfOk result (λ r. (first : ℕ) (calls : List ACall) → Stands D.tells D.meter D.image first self.old calls → Stands D.tells D.meter D.image first self.new (calls_after r (call_of ask.entry) calls)) }
+        ensures left { OnErr result ((first : ℕ) (calls : List ACall) → Stands D.tells D.meter D.image first self.old calls → StandsAtEnd D.tells D.meter D.image first self.new calls (call_of ask.entry)) }
+    {
+        match self {
+            Metadata::InMemory(export) => reply_to(export, ask),
+            Metadata::Journaled(journaled) => journaled.reply(alloc, ask),
+        }
+    }
+
+    /// The least published block of a live file above `after`.
+    pub fn published(&self, after: Option<Key>) -> Option<Listed>
+        ensures { result ≡ published_after (export_in self.now) after }
+    {
+        match self {
+            Metadata::InMemory(export) => export.published(after),
+            Metadata::Journaled(journaled) => journaled.journal.export().published(after),
+        }
+    }
+
+    /// Why the journal did not keep a call, if there is a journal and it did not.
+    pub fn refusal(&self) -> Option<Refusal>
+        ensures { result ≡ refusal_of self.now }
+    {
+        match self {
+            Metadata::InMemory(_) => None,
+            Metadata::Journaled(journaled) => journaled.refusal,
+        }
+    }
+
+    /// The journal's disk, if there is a journal.
+    pub fn into_disk(self) -> Option<D>
+        ensures { result ≡ disk_of self }
+    {
+        match self {
+            Metadata::InMemory(_) => None,
+            Metadata::Journaled(journaled) => Some(journaled.journal.into_disk()),
+        }
+    }
+}

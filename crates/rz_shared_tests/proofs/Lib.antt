@@ -1,0 +1,3 @@
+pub mod Dishonest
+pub mod Records
+pub mod Closures

@@ -1,0 +1,4 @@
+pub mod Added
+pub mod Showing
+pub mod Doings
+pub mod Locks

@@ -1,0 +1,74 @@
+//! Words of an actor's own.
+ghost use Rattle.std.specs.Prelude.{◌≡◌, Bool, IfOk};
+ghost use Rattle.rz_events.specs.declared.keys.Key.{Key as AKey};
+ghost use Rattle.rz_operation.specs.Answers.{HasRoom};
+ghost use Rattle.rz_operation.specs.Machine.{text_of};
+ghost use Rattle.rz_operation_model.specs.Ask.{ask_of, Say, SayGot};
+ghost use Rattle.rz_operation_model.specs.Steps.{read_end};
+ghost use Rattle.rz_worker.specs.Saying.{IsSaid};
+
+use rz_events::{Actor, Event, ReadEnd, ReadMark, Text};
+use rz_lines::NoMemory;
+use rz_operation::{Ask, Machine, Saying};
+use std::alloc::{AllocError, Global};
+
+/// How a read ended, with the text that it found.
+fn end_of(alloc: Global, machine: &Machine, mark: ReadMark) -> Result<ReadEnd, AllocError>
+    requires asked { (key : AKey) × (part : Bool) × (ask_of machine.now.layout machine.now.work ≡ Say (SayGot key part mark)) }
+    ensures { IfOk result (λ end. end ≡ read_end (text_of machine.now) mark) }
+{
+    Ok(match mark {
+        ReadMark::Found { stamp, length } => {
+            let mut text = Vec::from_elem(alloc, 0, length as usize)?;
+            machine.text_into(&mut text);
+            ReadEnd::Found {
+                stamp,
+                text: Text::from_vec(text),
+            }
+        }
+        ReadMark::Hole => ReadEnd::Hole,
+        ReadMark::TooFew { seen } => ReadEnd::TooFew { seen },
+        ReadMark::Inconsistent => ReadEnd::Inconsistent,
+        ReadMark::Denied(why) => ReadEnd::Denied(why),
+        ReadMark::Moved { was, now } => ReadEnd::Moved { was, now },
+    })
+}
+
+/// The event of what a machine is about to say, which it has then said.
+pub fn said(alloc: Global, by: Actor, number: u32, machine: &mut Machine) -> Result<Event, NoMemory>
+    requires { HasRoom machine.old.work }
+    ensures said { IfOk result (IsSaid by number machine.old machine.new) }
+{
+    match machine.next() {
+        Ask::Say(Saying::Got { key, part, mark }) => {
+            let end = end_of(alloc, machine, mark)?;
+            machine.tell_said();
+            Ok(Event::Got {
+                by,
+                number,
+                key,
+                part,
+                end,
+            })
+        }
+        Ask::Say(Saying::Gave { key, part, end }) => {
+            machine.tell_said();
+            Ok(Event::Gave {
+                by,
+                number,
+                key,
+                part,
+                end,
+            })
+        }
+        Ask::Say(Saying::Left { key, why }) => {
+            machine.tell_said();
+            Ok(Event::Left { by, key, why })
+        }
+        Ask::Say(Saying::Done(_)) => {
+            let answer = machine.finish();
+            Ok(Event::Done { by, number, answer })
+        }
+        Ask::Export(_) | Ask::Lock { .. } | Ask::Node { .. } | Ask::Rest => Err(NoMemory),
+    }
+}
