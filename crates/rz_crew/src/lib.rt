@@ -4,10 +4,9 @@
 //! actors into one: in the log that it has then seen, the events of each actor are those that its own pass
 //! had, each once and in order. `held_lasts` says that this stays so.
 //!
-//! In reading order: `copying`, `roster`, `gathering`, `laws`.
+//! In reading order: `roster`, `gathering`, `laws`.
 #![tactic(auto)]
 
-mod copying;
 mod gathering;
 mod laws;
 mod roster;

@@ -6,7 +6,6 @@ ghost use Rattle.rz_events.specs.Volume.{Volume};
 ghost use Rattle.rz_script.specs.Lines.{AreLines, IsOperation};
 ghost use Rattle.rz_play_locks.specs.Operations.{given};
 
-use crate::copying::copy_operation;
 use rz_script::{Actor, Line, Operation};
 use std::alloc::{AllocError, Global};
 use std::collections::VecDeque;
@@ -43,7 +42,7 @@ fn add(
     ensures { OnOk result (operations.new.items ≡ operations.old.items ++ given by (line.now ∷ [])) }
 {
     if let Some(op) = operation_in(by, line) {
-        operations.push_back(copy_operation(alloc, op)?)?;
+        operations.push_back(op.copy(alloc)?)?;
     }
     Ok(())
 }

@@ -1,5 +1,5 @@
 //! What the script orders of an actor.
-ghost use Rattle.std.specs.Prelude.{◌≡◌, IfOk, OnOk, OnErr};
+ghost use Rattle.std.specs.Prelude.{◌≡◌, OnOk, OnErr};
 ghost use Rattle.rz_script.specs.Lines.{IsLine};
 ghost use Rattle.rz_script.specs.declared.line.Line.TheVariants as line;
 ghost use Rattle.rz_play.specs.Lines.{PlaysLine};
@@ -10,8 +10,7 @@ use crate::NoMemory;
 use crate::driver::Driver;
 use crate::turns::place;
 use rz_disk::Disk;
-use rz_events::{Actor, Datum, Operation};
-use std::alloc::{AllocError, Global};
+use rz_events::{Actor, Operation};
 
 impl<D: Disk> Driver<D> {
     /// The operation goes to the end of the actor's list.
@@ -30,7 +29,7 @@ impl<D: Disk> Driver<D> {
         let Some(place) = place(by) else {
             return Err(NoMemory);
         };
-        let op = copy_operation(self.alloc, op)?;
+        let op = op.copy(self.alloc)?;
         self.seats[place].add(op)?;
         Ok(())
     }
@@ -50,71 +49,4 @@ impl<D: Disk> Driver<D> {
             self.seats[place].miss = Some(reply);
         }
     }
-}
-
-/// The same operation, in new memory.
-fn copy_operation(alloc: Global, op: &Operation) -> Result<Operation, AllocError>
-    ensures { IfOk result (λ o. o ≡ op.now) }
-{
-    Ok(match op {
-        Operation::Tree(call) => Operation::Tree(call.copy(alloc)?),
-        Operation::Put { path, block, datum } => Operation::Put {
-            path: path.copy(alloc)?,
-            block: *block,
-            datum: copy_datum(alloc, datum)?,
-        },
-        Operation::Get { path, block } => Operation::Get {
-            path: path.copy(alloc)?,
-            block: *block,
-        },
-        Operation::Write {
-            path,
-            offset,
-            datum,
-        } => Operation::Write {
-            path: path.copy(alloc)?,
-            offset: *offset,
-            datum: copy_datum(alloc, datum)?,
-        },
-        Operation::Read {
-            path,
-            offset,
-            length,
-        } => Operation::Read {
-            path: path.copy(alloc)?,
-            offset: *offset,
-            length: *length,
-        },
-        Operation::Rebuild { node } => Operation::Rebuild { node: *node },
-        Operation::Update {
-            path,
-            offset,
-            datum,
-        } => Operation::Update {
-            path: path.copy(alloc)?,
-            offset: *offset,
-            datum: copy_datum(alloc, datum)?,
-        },
-        Operation::View {
-            path,
-            offset,
-            length,
-        } => Operation::View {
-            path: path.copy(alloc)?,
-            offset: *offset,
-            length: *length,
-        },
-    })
-}
-
-fn copy_datum(alloc: Global, datum: &Datum) -> Result<Datum, AllocError>
-    ensures { IfOk result (λ d. d ≡ datum.now) }
-{
-    Ok(match datum {
-        Datum::Bytes(text) => Datum::Bytes(text.copy(alloc)?),
-        Datum::Made { length, seed } => Datum::Made {
-            length: *length,
-            seed: *seed,
-        },
-    })
 }

@@ -1,6 +1,8 @@
 //! What an actor does, from its first call to its answer.
+ghost use Rattle.std.specs.Prelude.{◌≡◌, IfOk};
 
 use crate::{Text, TreeCall};
+use std::alloc::{AllocError, Global};
 
 /// The bytes that an operation writes.
 #[derive(Debug, Drop)]
@@ -55,4 +57,76 @@ pub enum Operation {
         offset: u64,
         length: u64,
     },
+}
+
+impl Datum {
+    /// The same bytes, in new memory.
+    pub fn copy(&self, alloc: Global) -> Result<Datum, AllocError>
+        ensures { IfOk result (λ d. d ≡ self.now) }
+    {
+        Ok(match self {
+            Datum::Bytes(text) => Datum::Bytes(text.copy(alloc)?),
+            Datum::Made { length, seed } => Datum::Made {
+                length: *length,
+                seed: *seed,
+            },
+        })
+    }
+}
+
+impl Operation {
+    /// The same operation, in new memory.
+    pub fn copy(&self, alloc: Global) -> Result<Operation, AllocError>
+        ensures { IfOk result (λ o. o ≡ self.now) }
+    {
+        Ok(match self {
+            Operation::Tree(call) => Operation::Tree(call.copy(alloc)?),
+            Operation::Put { path, block, datum } => Operation::Put {
+                path: path.copy(alloc)?,
+                block: *block,
+                datum: datum.copy(alloc)?,
+            },
+            Operation::Get { path, block } => Operation::Get {
+                path: path.copy(alloc)?,
+                block: *block,
+            },
+            Operation::Write {
+                path,
+                offset,
+                datum,
+            } => Operation::Write {
+                path: path.copy(alloc)?,
+                offset: *offset,
+                datum: datum.copy(alloc)?,
+            },
+            Operation::Read {
+                path,
+                offset,
+                length,
+            } => Operation::Read {
+                path: path.copy(alloc)?,
+                offset: *offset,
+                length: *length,
+            },
+            Operation::Rebuild { node } => Operation::Rebuild { node: *node },
+            Operation::Update {
+                path,
+                offset,
+                datum,
+            } => Operation::Update {
+                path: path.copy(alloc)?,
+                offset: *offset,
+                datum: datum.copy(alloc)?,
+            },
+            Operation::View {
+                path,
+                offset,
+                length,
+            } => Operation::View {
+                path: path.copy(alloc)?,
+                offset: *offset,
+                length: *length,
+            },
+        })
+    }
 }
