@@ -77,6 +77,7 @@ impl<D: Disk, J: Counting> Cluster<D, J> {
         requires nodes { desk.nodes.items ≡ map (λ n. new_post (w.Node n)) (sids_of volume) }
         requires tells { IsTrue (is_honest J.kind) → IsTrue D.tells }
         requires counts { map J.first (sids_of volume) ≡ map (λ d. faults (D.meter d)) disks.items }
+        ensures volume { IfOk result (λ c. c ≡ volume_in J.kind) }
         ensures back { IfErr result (λ r. AreBack D.tells D.meter D.image volume.layout (nodes_of volume.clusters) disks.items r.0.items) }
         ensures cause { IfErr result (λ r. IsCause D.meter disks.items r.0.items r.1) }
     {

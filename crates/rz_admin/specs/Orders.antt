@@ -1,0 +1,67 @@
+-- What the administrator's lines do to a log that others write too, the newest event first.
+use Rattle.std.specs.Prelude.{ℕ, Bool, true, false, ◌≡◌, ◌≢◌, List, [], ◌∷◌, ◌++◌}
+use Rattle.rz_events.specs.declared.keys.Actor.TheVariants.{Admin}
+use Rattle.rz_events.specs.declared.nodes.NodeAsk.{NodeAsk}
+use Rattle.rz_events.specs.declared.nodes.NodeAsk.TheVariants as ask
+use Rattle.rz_events.specs.declared.nodes.NodeAnswer.{NodeAnswer}
+use Rattle.rz_events.specs.declared.nodes.NodeAnswer.TheVariants as answer
+use Rattle.rz_events.specs.declared.nodes.StartAnswer.TheVariants as start
+use Rattle.rz_events.specs.declared.events.Event.{Event}
+use Rattle.rz_events.specs.declared.events.Event.TheVariants as e
+use Rattle.rz_node_model.specs.NodeEvents.{node_event}
+use Rattle.rz_core.specs.History.{of_actor}
+use Rattle.rz_script.specs.declared.line.Line.{Line}
+use Rattle.rz_script.specs.declared.line.Line.TheVariants as line
+use Rattle.rz_play.specs.Lines.{noted}
+use Rattle.rz_chronicle.specs.Keys.{IsLater}
+use Rattle.rz_locked.specs.Seats.{IsAnswerAt}
+
+-- these calls of a node the administrator alone makes
+abbrev pub IsOrder : NodeAsk → Type 0
+IsOrder ask.Stop = Unit {0}
+IsOrder ask.Start = Unit {0}
+IsOrder ask.Lose = Unit {0}
+IsOrder _ = ⊥
+
+-- a node was to start, and found no memory
+abbrev pub is_want : NodeAnswer → Bool
+is_want (answer.Start start.NoMemory) = true
+is_want _ = false
+
+-- Others went on, and the administrator did nothing.
+pub record Waits (old new : List Event) : Type 0 where
+  pub later : IsLater old new
+  pub own : of_actor Admin new ≡ of_actor Admin old
+
+-- The administrator called a node once: the answer is right after a log up to which it did nothing else, and on top of this log
+-- stands the event of the answer, if it has one.
+pub record IsCalled (kind : List ℕ) (n : ℕ) (question : NodeAsk) (old new : List Event) : Type 0 where
+  pub before : List Event
+  pub waits : Waits old before
+  pub given : NodeAnswer
+  pub right : IsAnswerAt kind before n question given
+  pub answered : given ≢ answer.Start start.NoMemory
+  pub new_is : new ≡ noted (node_event Admin n question given) before
+
+-- it armed the disk of a node
+pub record IsArmed (n passes pick : ℕ) (old new : List Event) : Type 0 where
+  pub before : List Event
+  pub waits : Waits old before
+  pub new_is : new ≡ e.Armed n passes pick ∷ before
+
+-- It carried out a line. Those of other actors it passes over.
+abbrev pub IsDone : List ℕ → Line → List Event → List Event → Type 0
+IsDone kind (line.Stop n) old new = IsCalled kind n ask.Stop old new
+IsDone kind (line.Start n) old new = IsCalled kind n ask.Start old new
+IsDone kind (line.Lose n) old new = IsCalled kind n ask.Lose old new
+IsDone kind (line.Break n passes pick) old new = IsArmed n passes pick old new
+IsDone kind _ old new = new ≡ old
+
+-- the lines one after another, and nothing else
+abbrev pub AreDone : List ℕ → List Line → List Event → List Event → Type 0
+AreDone kind [] old new = Waits old new
+AreDone kind (l ∷ lines) old new = (mid : List Event) × IsDone kind l old mid × AreDone kind lines mid new
+
+-- the first of them
+abbrev pub AreBegun : List ℕ → List Line → List Event → List Event → Type 0
+AreBegun kind lines old new = (done rest : List Line) × (lines ≡ done ++ rest) × AreDone kind done old new
