@@ -1,4 +1,4 @@
-use Rattle.std.proofs.Common.{◌≡◌, ℕ, List, IfOk, sym, subst}
+use Rattle.std.proofs.Common.{ℕ, List, IfOk, sym, ◌∙◌, ap, subst}
 use Rattle.rz_events.specs.declared.export.Call.{Call}
 use Rattle.rz_journal.specs.Seen.{calls_after}
 use Rattle.rz_operation.specs.Meaning.{call_of}
@@ -15,5 +15,5 @@ returns-in-Journaled-clause-kept g c =
 
 pub returns-in-InMemory-clause-volume : goal.returns-in-InMemory-clause-volume
 returns-in-InMemory-clause-volume g c =
-    subst (λ (m : Metadata g.row.D.Denot). c.reply_to.new.export.volume ≡ (export_in m).volume) (sym c.in-InMemory.is)
-    (volume-kept c.in-InMemory.export c.reply_to.new.export (call_of c.args.ask) c.reply_to.result c.reply_to.ensures.after c.reply_to.ensures.err)
+    volume-kept c.in-InMemory.export c.reply_to.new.export (call_of c.args.ask) c.reply_to.result c.reply_to.ensures.after c.reply_to.ensures.err
+    ∙ ap (λ (m : Metadata g.row.D.Denot). (export_in m).volume) (sym c.in-InMemory.is)
