@@ -10,7 +10,7 @@ use Rattle.rz_play.specs.World.{World, new_world}
 use Rattle.rz_play.specs.Free.{PlaysLinesOver}
 use Rattle.rz_lines.specs.Ends.{Carries}
 use Rattle.rz_lines.specs.declared.lines.PlayEnd.{PlayEnd}
-use Rattle.rz_lines.specs.declared.lines.PlayEnd.TheVariants.{Ended}
+use Rattle.rz_lines.specs.declared.lines.PlayEnd.TheVariants.{Ended, TooManyTurns}
 use Rattle.rz_words.specs.Grid.{Grid}
 use Rattle.rz_scrubbing.specs.Asks.{AreGiven}
 use Rattle.rz_scrubbing.specs.Scrubs.{AreListed, AreUnaltered, EachListed, IsScrubbed}
@@ -65,11 +65,17 @@ pub record IsScrubbable {S : Type 0} (tells : Bool) (volume : S → Volume) (wor
   pub whole : (s : S) (first : ℕ → ℕ) → is_ready s → holds s first → IsTrue tells → length (world s).log < 2 ^ 64 - 1
       → EachListed (state s (world s).log).export (λ l. (g : Grid) × AreGiven (described s).layout (gives s) (state s (world s).log).nodes l g)
 
+-- what is so where a play ended between two turns
+abbrev pub BetweenTurns : PlayEnd → Type 0 → Type 0
+BetweenTurns Ended so = so
+BetweenTurns TooManyTurns so = so
+BetweenTurns cut_off so = Unit {0}
+
 -- Where a performance ended, disks and log are as a play leaves them; or, after a play to its end, these records were asked for, and
 -- the faults go with those asks after the log.
-abbrev pub Leaves : {S : Type 0} → (S → World) → (S → (ℕ → ℕ) → Type 0) → (S → (ℕ → ℕ) → Type 0) → (S → List Event → (ℕ → ℕ) → Type 0) → (S → S → Type 0) → S → S → List Event → Type 0
-Leaves {S} world holds leaves counts only_asked old new later =
-    ((later ≡ []) × Carries (holds old) (leaves new))
+abbrev pub Leaves : {S : Type 0} → (S → World) → (S → (ℕ → ℕ) → Type 0) → (S → (ℕ → ℕ) → Type 0) → (S → List Event → (ℕ → ℕ) → Type 0) → (S → S → Type 0) → PlayEnd → S → S → List Event → Type 0
+Leaves {S} world holds leaves counts only_asked end old new later =
+    ((later ≡ []) × Carries (holds old) (leaves new) × BetweenTurns end (Carries (holds old) (holds new)))
     ⊎ ((played : S) × Carries (holds old) (holds played) × only_asked played new × Carries (holds old) (counts new (later ++ (world new).log)))
 
 -- What came of a stage whose play ended so, and of the lines where there are some.

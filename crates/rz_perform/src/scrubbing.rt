@@ -31,7 +31,7 @@ pub(crate) fn find<S: LoggedStage + Store>(
     ensures { Finds S.tells S.volume S.world S.holds S.counts S.only_asked end wish stage.old stage.new (λ p. IfOk result (λ lines. p lines.items)) }
 {
     match wish {
-        Wish::Replay => Ok(Vec::new(alloc)),
+        Wish::Replay | Wish::First => Ok(Vec::new(alloc)),
         Wish::Load { .. } => Ok(Vec::new(alloc)),
         Wish::Scrub => match end {
             PlayEnd::Ended => {
@@ -40,7 +40,7 @@ pub(crate) fn find<S: LoggedStage + Store>(
                 scrub(alloc, stage)
             }
             PlayEnd::TooManyTurns => Ok(Vec::new(alloc)),
-            PlayEnd::NoMemory => Ok(Vec::new(alloc)),
+            PlayEnd::NoMemory | PlayEnd::Journal | PlayEnd::JournalFull => Ok(Vec::new(alloc)),
         },
     }
 }
