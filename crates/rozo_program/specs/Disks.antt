@@ -1,5 +1,5 @@
 -- Disks as they were lent, and as they are handed back.
-use Rattle.std.specs.Prelude.{ℕ, Bool, IsTrue, ◌≡◌, ◌≤◌, map, List, [], ◌∷◌, ◌++◌, Some, None, Result, Ok, Err}
+use Rattle.std.specs.Prelude.{ℕ, Bool, IsTrue, ◌≡◌, map, List, [], ◌∷◌, ◌++◌, Some, None, Result, Ok, Err}
 use Rattle.rz_disk.specs.Meter.{Meter, faults}
 use Rattle.rz_stations.specs.Meters.{AreDisksCounted, faults_at}
 use Rattle.rz_stations.specs.Images.{AreDisksImaged}
@@ -61,7 +61,6 @@ pub record AreAllBack {D : Type 0} (tells : Bool) (meter : D → Meter) (image :
   pub new_are : new ≡ nodes_back ++ journal_back ∷ []
   pub faults_told : AreFaultsTold meter v old nodes_back (asked_in course ++ h)
   pub images_told : AreImagesTold tells meter image course v nodes nodes_back h
-  pub journal_lasts : faults (meter journal) ≤ faults (meter journal_back)
   pub journal_told : IsJournalTold tells meter image course v journal journal_back h
 
 -- the disks of a request that was played, which for `first` are one more than the nodes
