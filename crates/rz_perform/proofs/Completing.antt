@@ -1,5 +1,6 @@
 -- Where nothing stands in the way of a replay, each answer but the end of the play and want of memory is excluded.
 use Rattle.std.proofs.Common.{ℕ, true, false, ◌≡◌, ◌≤◌, ◌<◌, ◌⊎◌, inl, inr, IfSome, List, [], Option, Some, None, Result, Ok, Err, length, refl, sym, ◌∙◌, ap, subst, arith}
+use Rattle.rz_disk.specs.Meter.{Rises as HasRisen}
 use Rattle.rz_ports.specs.Counts.{Rises}
 use Rattle.rz_events.specs.declared.events.Event.{Event}
 use Rattle.rz_generate.specs.Workload.{workload}
@@ -87,8 +88,12 @@ module _ (wish : Wish) (source : Reading) (disks : ℕ) (s : Script) (whole : ¬
 
 -- What comes of it.
 
+-- a count that rose as a stream counts has risen as a disk counts
+has-risen : (old new : ℕ) → Rises old new → HasRisen old new
+has-risen old new rises = omega (arith, rises)
+
 module _ (disks : Faulted) (lost : ℕ) (sink : Sunk) (status : ℕ) (h : List Event) (s : Script)
-    (turns : (g : List Event) → ¬ IsStopped s.volume TurnsSpent s.lines g) (disks_whole : (i : ℕ) → ¬ Rises (disks.old i) (disks.new i)) (sink_whole : ¬ Rises sink.old sink.new) where
+    (turns : (g : List Event) → ¬ IsStopped s.volume TurnsSpent s.lines g) (disks_whole : (i : ℕ) → ¬ HasRisen (disks.old i) (disks.new i)) (sink_whole : ¬ Rises sink.old sink.new) where
   -- the journal's disk did not end the play
   kept-journal : (end : PlayEnd) (r : Request) → MayEnd end r disks → end ≡ ends.Journal → ⊥
   kept-journal ends.Journal r may is = disks_whole _ may.1
@@ -111,7 +116,7 @@ module _ (disks : Faulted) (lost : ℕ) (sink : Sunk) (status : ℕ) (h : List E
   followed : (wish : Wish) (course : Course) (r : Request) → ((later : List Event) → ¬ (course ≡ Performed ends.JournalFull later)) → r.script ≡ s → r.wish ≡ wish → Opens true course r disks lost sink status h
       → IsFinished (Some wish) s sink status h ⊎ (status ≡ 70)
   followed wish Unplayed r room script_is wish_is (inl lacks) = inr lacks.0.0
-  followed wish Unplayed r room script_is wish_is (inr failed) = absurd (disks_whole failed.0 failed.1)
+  followed wish Unplayed r room script_is wish_is (inr failed) = absurd (disks_whole failed.0 (has-risen (disks.old failed.0) (disks.new failed.0) failed.1))
   followed wish (Performed end later) r room script_is wish_is performed =
       let P : Script → Type 0 = λ x. Performs true x.volume x.lines r.wish end later lost h sink status in
       let Q : Wish → Type 0 = λ x. Performs true s.volume s.lines x end later lost h sink status in

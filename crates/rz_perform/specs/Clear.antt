@@ -1,6 +1,7 @@
 -- When nothing stands in the way of a replay, so that it comes to its end.
 use Rattle.std.specs.Prelude.{ℕ, true, false, ◌≡◌, ◌≤◌, ◌⊎◌, List, Option, Some, None, IfSome, Result, Ok, length, reverse}
 use Rattle.std.specs.Io.KnownBytes.{Appends}
+use Rattle.rz_disk.specs.Meter.{Rises as HasRisen}
 use Rattle.rz_ports.specs.Counts.{Rises}
 use Rattle.rz_command.specs.Line.{Meaning}
 use Rattle.rz_events.specs.declared.events.Event.{Event}
@@ -38,7 +39,7 @@ pub record IsClear (words : Option Meaning) (source : Reading) (count : ℕ) (di
   pub turns : (h : List Event) → ¬ IsStopped s.volume TurnsSpent s.lines h
   pub room : (later : List Event) → ¬ (course ≡ Performed JournalFull later)
   pub source_whole : ¬ Rises source.old source.new
-  pub disks_whole : (i : ℕ) → ¬ Rises (disks.old i) (disks.new i)
+  pub disks_whole : (i : ℕ) → ¬ HasRisen (disks.old i) (disks.new i)
   pub sink_whole : ¬ Rises sink.old sink.new
 
 -- the script was played to its end, and the sink took what is to be told of it

@@ -1,5 +1,6 @@
 -- What a replay of a request over disks comes to.
 use Rattle.std.specs.Prelude.{ℕ, Bool, ◌≡◌, ◌⊎◌, IsTrue, List, [], Result, Ok, Err}
+use Rattle.rz_disk.specs.Meter.{Rises as HasRisen}
 use Rattle.rz_ports.specs.Counts.{Rises}
 use Rattle.rz_events.specs.declared.events.Event.{Event}
 use Rattle.rz_lines.specs.declared.lines.PlayEnd.{PlayEnd}
@@ -26,7 +27,7 @@ pub data Course : Type 0 where
 -- A journal, which `first` alone has, ended a play: the faults of its disk, which is behind those of the nodes, rose; or it had no
 -- room for a call.
 abbrev pub MayEnd : PlayEnd → Request → Faulted → Type 0
-MayEnd Journal r disks = (r.wish ≡ First) × Rises (disks.old (nodes_in r.script)) (disks.new (nodes_in r.script))
+MayEnd Journal r disks = (r.wish ≡ First) × HasRisen (disks.old (nodes_in r.script)) (disks.new (nodes_in r.script))
 MayEnd JournalFull r disks = r.wish ≡ First
 MayEnd _ r disks = Unit {0}
 

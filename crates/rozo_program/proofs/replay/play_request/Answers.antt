@@ -18,6 +18,9 @@ use Rattle.rz_perform.specs.Telling.{Performs}
 use Rattle.rz_perform.specs.Output.{Sunk}
 use Rattle.rozo_program.specs.Disks.{AreFaultsTold, AreImagesTold}
 use Rattle.rz_perform.specs.Replays.{Unplayed, Performed}
+use Rattle.rz_lines.specs.declared.lines.PlayEnd.{PlayEnd}
+use Rattle.rz_metadata.specs.Stands.{is_journaled}
+use Rattle.rozo_program.proofs.Journals.{plain-back, plain-end}
 use Rattle.rozo_program.proofs.Lent.{back-faults, counted-none, not-opened}
 use Rattle.rozo_program.proofs.Untold.{told-none}
 use Rattle.rozo_program.proofs.replay.play_request.Given as given
@@ -32,7 +35,8 @@ perform-status-requires-clause-stage g c = record {
   state_is = λ d h. refl;
   open_is = λ d ready. ready;
   counted = λ d first held. held.0;
-  log_is = λ d e asked. ap (λ (s : Shared (UnderFuse g.row.D.Denot)). s.log.events) asked.shared;
+  log_is = λ d e asked. ap (λ (s : Shared (UnderFuse g.row.D.Denot) g.row.D.Denot). s.log.events) asked.shared;
+  journal_is = λ d e asked. ap (λ (s : Shared (UnderFuse g.row.D.Denot) g.row.D.Denot). is_journaled s.export) asked.shared;
   whole = λ d first ready held tells few after l is. (
     block_of d.volume.layout (text_in ((facts d.shared.log.events).wrote l.published.stamp)),
     c.untouched.ensures d.volume (world_of d) d.seats.items d.shared.stations.items refl (held.1 tells few) tells after l is,
@@ -56,10 +60,11 @@ returns-in-Ok g c =
       old = g.O.Sink.faults c.args.output.now;
       new = g.O.Sink.faults c.perform-status.new.output;
     } in
-    let later : List Event = c.perform-status.ensures.performed.0 in
+    let end : PlayEnd = c.perform-status.ensures.performed.0 in
+    let later : List Event = c.perform-status.ensures.performed.1 in
     let log : List Event = c.perform-status.new.stage.shared.log.events in
     let log_is : reverse c.close-log.result.0.items ≡ log = ap reverse c.close-log.ensures.log ∙ reverse-reverse log in
-    let P : List Event → Type 0 = λ x. Performs g.D.Disk.tells v lines c.args.request.now.wish later lost x sink c.perform-status.result in
+    let P : List Event → Type 0 = λ x. Performs g.D.Disk.tells v lines c.args.request.now.wish end later lost x sink c.perform-status.result in
     let Q : List Event → Type 0 = λ x. IsTold v lines lost x in
     let lent : c.replace-lent.result.items ≡ c.args.disks.now.items = rw c.replace-lent.ensures.value refl in
     let first : ℕ → ℕ = faults_at g.D.Disk.meter c.args.disks.now.items in
@@ -67,21 +72,22 @@ returns-in-Ok g c =
     let held : Holds c.in-Ok.driver first = rw (← lent) c.in-Ok.ensures.held in
     let F : List Event → Type 0 = λ x. AreFaultsTold g.D.Disk.meter c.perform-status.new.stage.volume c.args.disks.now.items c.close-log.result.1.items (x ++ log) in
     let none_asked : later ≡ [] → F [] → F later = λ none counted. subst F (sym none) counted in
-    let counted : F later = elim c.perform-status.ensures.performed.1 [
+    let counted : F later = elim c.perform-status.ensures.performed.2 [
       | inl plays ↦ none_asked plays.0 (c.close-log.ensures.counted first (plays.1 first held))
-      | inr asks ↦ c.close-log.ensures.asked (later ++ log) first (asks.3 first held)
+      | inr asks ↦ c.close-log.ensures.asked (later ++ log) first (asks.4 first held)
     ] in
-    let images : AreImagesTold g.D.Disk.tells g.D.Disk.meter g.D.Disk.image (Performed later) c.perform-status.new.stage.volume c.args.disks.now.items c.close-log.result.1.items log = elim c.perform-status.ensures.performed.1 [
+    let images : AreImagesTold g.D.Disk.tells g.D.Disk.meter g.D.Disk.image (Performed end later) c.perform-status.new.stage.volume c.args.disks.now.items c.close-log.result.1.items log = elim c.perform-status.ensures.performed.2 [
       | inl plays ↦ c.close-log.ensures.imaged first (plays.1 first held)
-      | inr asks ↦ c.close-log.ensures.since first (asks.0, inl (asks.1 first held), asks.2)
+      | inr asks ↦ c.close-log.ensures.since first (asks.0, inl (asks.2 first held), asks.3)
     ] in
     let B : Volume → Type 0 = λ x. AreFaultsTold g.D.Disk.meter x c.args.disks.now.items c.close-log.result.1.items (later ++ log) in
     let R : List Event → Type 0 = λ x. AreFaultsTold g.D.Disk.meter v c.args.disks.now.items c.close-log.result.1.items (later ++ x) in
-    let I : Volume → Type 0 = λ x. AreImagesTold g.D.Disk.tells g.D.Disk.meter g.D.Disk.image (Performed later) x c.args.disks.now.items c.close-log.result.1.items log in
-    let J : List Event → Type 0 = λ x. AreImagesTold g.D.Disk.tells g.D.Disk.meter g.D.Disk.image (Performed later) v c.args.disks.now.items c.close-log.result.1.items x in (
-      Performed later,
-      (subst P (sym log_is) c.perform-status.ensures.performed.2, λ told. subst Q (sym log_is) (c.perform-status.ensures.told told)),
-      (subst R (sym log_is) (subst B volume_is counted), subst J (sym log_is) (subst I volume_is images)),
+    let I : Volume → Type 0 = λ x. AreImagesTold g.D.Disk.tells g.D.Disk.meter g.D.Disk.image (Performed end later) x c.args.disks.now.items c.close-log.result.1.items log in
+    let J : List Event → Type 0 = λ x. AreImagesTold g.D.Disk.tells g.D.Disk.meter g.D.Disk.image (Performed end later) v c.args.disks.now.items c.close-log.result.1.items x in (
+      Performed end later,
+      ((plain-end end _ c.args.request.now _ _ c.in-Ok.ensures.journal c.perform-status.ensures.performed.3, subst P (sym log_is) c.perform-status.ensures.performed.4), λ told. subst Q (sym log_is) (c.perform-status.ensures.told told)),
+      plain-back g.D.Disk.tells g.D.Disk.meter g.D.Disk.image (Performed end later) c.args.request.now.wish v _ _ _ c.requires.plain
+          (subst R (sym log_is) (subst B volume_is counted), subst J (sym log_is) (subst I volume_is images)),
     )
 
 lent_is : (g : given.Over) (c : goal.After-unplayed g) → c.replace-lent.result.items ≡ c.args.disks.now.items
@@ -106,9 +112,9 @@ returns-in-Err g c =
     let nodes : List NodeSpec = nodes_of v.clusters in
     let old : List g.row.D.Denot = c.args.disks.now.items in
     let new : List g.row.D.Denot = c.in-Err.back.items in
-    let kept = back-faults g.D.Disk.tells g.D.Disk.meter g.D.Disk.image v.layout nodes old new c.requires (back_is g c) in
+    let kept = back-faults g.D.Disk.tells g.D.Disk.meter g.D.Disk.image v.layout nodes old new c.requires.count (back_is g c) in
     let R : List Event → Type 0 = λ x. AreFaultsTold g.D.Disk.meter v old new x in
-    let counted : R [] = counted-none g.D.Disk.tells g.D.Disk.meter g.D.Disk.image v.layout (faults_at g.D.Disk.meter old) 0 nodes old new (λ k. ap (faults_at g.D.Disk.meter old) (plain k)) c.requires (back_is g c) in
+    let counted : R [] = counted-none g.D.Disk.tells g.D.Disk.meter g.D.Disk.image v.layout (faults_at g.D.Disk.meter old) 0 nodes old new (λ k lt. ap (faults_at g.D.Disk.meter old) (plain k)) c.requires.count (back_is g c) in
     let cause : IsCause g.D.Disk.meter c.args.disks.now.items c.in-Err.back.items c.in-Err.fault = rw (← lent_is g c) c.in-Err.ensures.cause in (
       Unplayed,
       (
@@ -116,5 +122,5 @@ returns-in-Err g c =
             (reverse c.unplayed.result.log.items) c.in-Err.fault kept cause (rw c.unplayed.ensures.status c.refuse_disks-status.ensures) none,
         λ told. told-none c.args.request.now.script.volume c.args.request.now.script.lines lost (reverse c.unplayed.result.log.items) none,
       ),
-      (subst R (sym none) counted, back_is g c),
+      plain-back g.D.Disk.tells g.D.Disk.meter g.D.Disk.image Unplayed c.args.request.now.wish v _ _ _ c.requires.plain (subst R (sym none) counted, back_is g c),
     )
