@@ -1,8 +1,10 @@
 -- What becomes of disks that are formatted for the nodes of a volume and, the last one, for a journal.
-use Rattle.std.specs.Prelude.{ℕ, ◌≡◌, ◌≤◌, ◌⊎◌, Bool, IsTrue, List, [], ◌∷◌, ◌++◌, length}
+use Rattle.std.specs.Prelude.{ℕ, ◌≡◌, ◌≤◌, ◌⊎◌, Bool, true, IsTrue, List, [], ◌∷◌, ◌++◌, length}
 use Rattle.rz_disk.specs.Meter.{Meter, Rises, faults}
 use Rattle.rz_disk.specs.declared.disk.Disk.{Ghosts}
 use Rattle.rz_events.specs.Volume.{Volume, nodes_of}
+use Rattle.rz_export_model.specs.Export.{new_export}
+use Rattle.rz_metadata.specs.Stands.{export_in, is_journaled, Stands}
 use Rattle.rz_formatting.specs.Formatted.{AreBack}
 use Rattle.rz_formatting.specs.declared.fault.DriverFault.{DriverFault}
 use Rattle.rz_formatting.specs.declared.fault.DriverFault.TheVariants as driver
@@ -27,12 +29,15 @@ pub record AreBackWithJournal {D : Type 0} (tells : Bool) (meter : D → Meter) 
   pub each : AreBack tells meter image v.layout (nodes_of v.clusters) nodes nodes_back
   pub last : IsJournalBack tells meter image v journal journal_back
 
--- The export of a new driver was put behind a journal, and the rest is as it was.
-pub record IsBehindJournal {D : Type 0} {G : Ghosts D} (d e : Driver D G) : Type 0 where
+-- The export of a driver became a new one, behind a journal on this disk that stands for no calls. The rest is as it was.
+pub record IsBehindJournal {D : Type 0} {G : Ghosts D} (disk : D) (d e : Driver D G) : Type 0 where
   pub volume : e.volume ≡ d.volume
   pub seats : e.seats ≡ d.seats
   pub turns : e.turns ≡ d.turns
   pub shared : e.shared ≡ record d.shared { export = e.shared.export }
+  pub export : export_in e.shared.export ≡ new_export d.volume 0
+  pub journal : is_journaled e.shared.export ≡ true
+  pub stands : Stands G.tells G.meter G.image (faults (G.meter disk)) e.shared.export []
 
 -- why the disk with this index was not formatted: where it failed, its faults rose
 abbrev pub IsFault : {D : Type 0} → (D → Meter) → ℕ → (disk back : D) → DriverFault → Type 0

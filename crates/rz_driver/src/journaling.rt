@@ -1,11 +1,9 @@
 //! A new driver whose export stands behind a journal.
 ghost use Rattle.std.specs.Prelude.{◌≡◌, ◌+◌, ◌≤◌, ◌++◌, ◌∷◌, [], true, IfOk, IfErr, length};
 ghost use Rattle.std.specs.Vec.{vec_len, vec_capacity};
-ghost use Rattle.rz_disk.specs.Meter.{faults};
 ghost use Rattle.rz_events.specs.Volume.{nodes_of};
-ghost use Rattle.rz_export_model.specs.Export.{new_export};
 ghost use Rattle.rz_formatting.specs.Formatted.{AreFormatted, IsCause, disks_of, fault_at};
-ghost use Rattle.rz_metadata.specs.Stands.{export_in, is_journaled, Stands};
+ghost use Rattle.rz_metadata.specs.Stands.{is_journaled};
 ghost use Rattle.rz_play.specs.World.{new_world};
 ghost use Rattle.rz_stations.specs.Meters.{faults_at};
 ghost use Rattle.rz_driver.specs.Formatted.{AreBackWithJournal, IsBehindJournal, IsJournalRefused};
@@ -51,10 +49,7 @@ impl<D: Disk> Driver<D> {
     /// Formats a disk for a journal, and puts the export of a new driver behind it. Where that fails, the
     /// disks of the nodes come back, and behind them this one.
     fn behind_journal(mut self, disk: D) -> Result<Driver<D>, (Vec<D>, DriverFault)>
-        ensures behind { IfOk result (λ d. IsBehindJournal self d) }
-        ensures export { IfOk result (λ d. export_in d.shared.export ≡ new_export self.volume 0) }
-        ensures journal { IfOk result (λ d. is_journaled d.shared.export ≡ true) }
-        ensures stands { IfOk result (λ d. Stands D.tells D.meter D.image (faults (D.meter disk)) d.shared.export []) }
+        ensures behind { IfOk result (λ d. IsBehindJournal disk self d) }
         ensures back { IfErr result (λ r. IsJournalRefused D.tells D.meter D.image self.volume (disks_of self.shared.stations.items) disk r.0.items r.1) }
     {
         let Ok(volume) = self.volume.copy(self.alloc) else {
