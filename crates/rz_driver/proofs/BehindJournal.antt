@@ -1,8 +1,8 @@
 -- A new driver whose export was put behind a journal, on the last of the disks.
-use Rattle.std.proofs.Common.{◌≡◌, inl, ℕ, zero, suc, ◌+◌, ◌<◌, ◌≤◌, Bool, List, [], ◌∷◌, ◌++◌, map, length, Some, refl, sym, ◌∙◌, ap, subst, arith}
+use Rattle.std.proofs.Common.{◌≡◌, inl, ℕ, zero, suc, ◌+◌, ◌-◌, ◌^◌, ◌<◌, ◌≤◌, Bool, List, [], ◌∷◌, ◌++◌, map, length, Some, refl, sym, ◌∙◌, ap, subst, arith}
 use Rattle.std.specs.Prelude.{slice_get}
 use Rattle.std.specs.Global.{Vec}
-use Rattle.std.specs.List.{AllByRecursion, zip}
+use Rattle.std.specs.List.{AllByRecursion, AllZip, zip}
 use Rattle.std.proofs.lemmas.List.{length-append, length-map}
 use Rattle.mj_angles.specs.declared.layout.Layout.{Layout}
 use Rattle.rz_disk.specs.Meter.{Meter, Rises, faults}
@@ -11,6 +11,8 @@ use Rattle.rz_disk.specs.declared.disk.Disk.{Ghosts}
 use Rattle.rz_events.specs.Volume.{Volume, nodes_of}
 use Rattle.rz_events.specs.declared.files.NodeSpec.{NodeSpec}
 use Rattle.rz_events.specs.declared.events.Event.{Event}
+use Rattle.rz_core.specs.History.{of_word}
+use Rattle.rz_events.specs.declared.events.Word.TheVariants.{Node}
 use Rattle.rz_export_model.specs.Export.{Export, new_export}
 use Rattle.rz_node.specs.Seen.{NodeView}
 use Rattle.rz_metadata.specs.Stands.{export_in, Stands}
@@ -22,8 +24,8 @@ use Rattle.rz_formatting.specs.declared.fault.DriverFault.TheVariants as driver
 use Rattle.rz_formatting.specs.declared.formatting.Station.{Station}
 use Rattle.rz_formatting.specs.Formatted.{AreBack, AreFormatted, IsBack, IsCause, IsFormatted, disks_of}
 use Rattle.rz_formatting.proofs.FormatLemmas.{new-back}
-use Rattle.rz_formatting.proofs.Rowwise.{get-behind, zip-map}
-use Rattle.rz_stations.specs.Meters.{AreMetered, OfEach, faults_at, faults_in}
+use Rattle.rz_formatting.proofs.Rowwise.{get-behind, zip-length, zip-map}
+use Rattle.rz_stations.specs.Meters.{AreMetered, GoesWith, OfEach, faults_at, faults_in}
 use Rattle.rz_stations.specs.Images.{fused_image}
 use Rattle.rz_stations.specs.Stations.{numbers_of, IsStation}
 use Rattle.rz_driver.specs.declared.driver.Driver.{Driver}
@@ -66,13 +68,23 @@ front-count disks front last n split count =
     let whole : length disks ≡ length front + length (last ∷ []) = ap length split ∙ length-append front (last ∷ []) in
     omega (arith, whole, count)
 
+zip-short : {N D : Type 0} (nodes : List N) (front : List D) → length front ≡ length nodes → length (zip nodes front) ≡ length nodes
+zip-short [] front count = refl
+zip-short (n ∷ nodes) [] count = absurd (omega (arith, count))
+zip-short (n ∷ nodes) (d ∷ front) count = ap suc (zip-short nodes front (omega (arith, count)))
+
+-- as many disks come back
+pub back-count : {D : Type 0} (tells : Bool) (meter : D → Meter) (image : D → List ℕ → Type 0) (layout : Layout) (nodes : List NodeSpec) (front back : List D) → length front ≡ length nodes → AreBack tells meter image layout nodes front back → length back ≡ length front
+back-count tells meter image layout nodes front back count all =
+    sym (zip-length (IsBack tells meter image layout) (zip nodes front) back all) ∙ zip-short nodes front count ∙ sym count
+
 -- ---- the counts of faults
 
 module _ {D : Type 0} (P : ℕ → List Event → NodeView D → Type 0) (first first' : ℕ → ℕ) (h : List Event) where
   each-again : (i : ℕ) (row : List (Station D)) → ((k : ℕ) → i ≤ k → k < i + length row → first k ≡ first' k) → OfEach P first i row h → OfEach P first' i row h
   each-again i [] same all = tt
   each-again i (s ∷ row) same all = (
-    subst (λ (f : ℕ). P f _ s.node) (same i (omega arith) (omega arith)) all.0,
+    subst (λ (f : ℕ). P f (of_word (Node s.sid) h) s.node) (same i (omega arith) (omega arith)) all.0,
     each-again (i + 1) row (λ k low high. same k (omega (arith, low)) (omega (arith, high))) all.1,
   )
 
@@ -80,7 +92,7 @@ pub metered-again : {D : Type 0} (meter : D → Meter) (numbers : List ℕ) (row
     → AreMetered meter numbers row h first → AreMetered meter numbers row h first'
 metered-again meter numbers row h first first' same met =
     let count : length row ≡ length numbers = sym (length-map row (λ (s : Station _). s.sid)) ∙ ap length met.named in
-    record { named = met.named; apart = met.apart; each = each-again _ first first' h 0 row (λ k low high. same k (omega (arith, high, count))) met.each }
+    record { named = met.named; apart = met.apart; each = each-again (GoesWith meter) first first' h 0 row (λ k low high. same k (omega (arith, high, count))) met.each }
 
 -- ---- the driver
 
@@ -93,14 +105,16 @@ module _ {D : Type 0} {G : Ghosts D} (journal : D) (d e : Driver D G) (behind : 
 
   module _ (v : Volume) (volume : d.volume ≡ v) (new : world_of d ≡ new_world v) where
     pub behind-world : world_of e ≡ new_world v
-    behind-world = (λ i. world (behind.shared i) (behind.seats i).items (behind.turns i)) ∙ (λ i. record (new i) { export = (behind.export ∙ ap (λ (u : Volume). new_export u 0) volume) i })
+    behind-world =
+        let export : export_in e.shared.export ≡ new_export v 0 = behind.export ∙ ap (λ (u : Volume). new_export u 0) volume in
+        (λ i. world (behind.shared i) (behind.seats i).items (behind.turns i)) ∙ (λ i. record (new i) { export = export i })
 
     module _ (tells : Bool) (meter : D → Meter) (text : D → List ℕ) (image : D → List ℕ → Type 0) (nodes : List D) (count : length nodes ≡ length (nodes_of v.clusters)) where
       pub behind-made : AreFormatted tells meter text image v.layout (nodes_of v.clusters) nodes d.shared.stations.items
           → AreFormatted tells meter text image v.layout (nodes_of v.clusters) (nodes ++ journal ∷ []) e.shared.stations.items
       behind-made made =
           let more : AreFormatted tells meter text image v.layout (nodes_of v.clusters) (nodes ++ journal ∷ []) d.shared.stations.items =
-          rw (zip-front (nodes_of v.clusters) nodes (journal ∷ []) count) made in
+          subst (λ (ps : List (NodeSpec × D)). AllZip (IsFormatted tells meter text image v.layout) ps d.shared.stations.items) (sym (zip-front (nodes_of v.clusters) nodes (journal ∷ []) count)) made in
           subst (λ (p : Shared (UnderFuse D) D). AreFormatted tells meter text image v.layout (nodes_of v.clusters) (nodes ++ journal ∷ []) p.stations.items) (sym behind.shared) more
 
     module _ (nodes : List D) (count : length nodes ≡ length (nodes_of v.clusters)) where
@@ -123,7 +137,7 @@ module _ {D : Type 0} {G : Ghosts D} (journal : D) (d e : Driver D G) (behind : 
 
       picture : HasPicture d → HasPicture e
       picture has = λ told few.
-          let was = has told (subst (λ (h : List Event). length h < _) same-log few) in
+          let was = has told (subst (λ (h : List Event). length h < 2 ^ 64 - 1) same-log few) in
           let worlds : world_of d ≡ world_of e = new ∙ sym behind-world in
           let one = subst (λ (w : World). IsPicture (fused_image G.image) d.volume w d.seats.items d.shared.stations.items) worlds was in
           let two = subst (λ (s : Vec Seat). IsPicture (fused_image G.image) d.volume (world_of e) s.items d.shared.stations.items) (sym behind.seats) one in

@@ -51,11 +51,9 @@ module _ (image : List ℕ → Type 0) (s : Export) (v : Volume) (volume : s.vol
 
 module _ {D : Type 0} (tells : Bool) (meter : D → Meter) (image : D → List ℕ → Type 0) (first : ℕ) (v : Volume) (h : List Event) where
   kept-so : (j : Behind D) → j.journal.export.volume ≡ v → KeepsLog tells meter image first (Journaled j) h → IsTrue tells → StandsForLog (image j.journal.disk) v h
-  kept-so j volume keeps told = record {
-    calls = keeps.0;
-    told = keeps.1;
-    images = for-volume (image j.journal.disk) j.journal.export v volume keeps.0 (keeps.2.images told);
-  }
+  kept-so j volume keeps told =
+      let kept : IsKept tells meter image first j keeps.0 = keeps.2 in
+      record { calls = keeps.0; told = keeps.1; images = for-volume (image j.journal.disk) j.journal.export v volume keeps.0 (kept.images told) }
 
   -- between two turns
   pub stands-closed : (m : Metadata D) (disk : D) → (export_in m).volume ≡ v → disk_of m ≡ Some disk → KeepsLog tells meter image first m h → IsTrue tells → StandsForLog (image disk) v h

@@ -112,15 +112,15 @@ module _ {D : Type 0} {G : Ghosts D} (d e : Driver D G) (volume : e.volume ≡ d
 
 -- where nothing was asked of the export
 module _ {D : Type 0} {G : Ghosts D} (d e : Driver D G) (volume : e.volume ≡ d.volume) (export : e.shared.export ≡ d.shared.export) (first : ℕ → ℕ) (had : HasJournal d first) where
-  store : IsSameStore d.shared.export e.shared.export
-  store = same-store d.shared.export e.shared.export export
+  stored : IsSameStore d.shared.export e.shared.export
+  stored = same-store d.shared.export e.shared.export export
 
   pub journal-stays : of_word Export e.shared.log.events ≡ of_word Export d.shared.log.events → HasJournal e first
-  journal-stays same = journal-goes-on d e volume store first d.shared.log.events refl had
+  journal-stays same = journal-goes-on d e volume stored first d.shared.log.events refl had
       (store-keeps G.tells G.meter G.image d.shared.export e.shared.export export d.shared.log.events e.shared.log.events same)
 
   pub journal-still : e.shared.log.events ≡ d.shared.log.events → LeavesJournal e first
-  journal-still same = journal-ends d e volume store first d.shared.log.events refl had
+  journal-still same = journal-ends d e volume stored first d.shared.log.events refl had
       (store-ends G.tells G.meter G.image d.shared.export e.shared.export export d.shared.log.events e.shared.log.events same)
 
 pub journal-left : {D : Type 0} {G : Ghosts D} (d : Driver D G) (first : ℕ → ℕ) → HasJournal d first → LeavesJournal d first

@@ -1,4 +1,4 @@
-use Rattle.std.proofs.Common.{◌≡◌, ◌+◌, ◌++◌, ◌∷◌, [], ℕ, List, length, refl, sym, ◌∙◌, ap, subst}
+use Rattle.std.proofs.Common.{arith, ◌≡◌, ◌+◌, ◌++◌, ◌∷◌, [], ℕ, List, length, refl, sym, ◌∙◌, ap, subst}
 use Rattle.std.proofs.lemmas.Result.{IfOk-weaker, IfErr-weaker}
 use Rattle.rz_disk.specs.UnderFuse.{UnderFuse}
 use Rattle.rz_events.specs.Volume.{Volume, nodes_of}
@@ -9,7 +9,7 @@ use Rattle.rz_stations.specs.Meters.{faults_at}
 use Rattle.rz_driver.specs.declared.driver.Driver.{Driver}
 use Rattle.rz_driver.specs.Formatted.{AreBackWithJournal, IsBehindJournal, IsJournalRefused}
 use Rattle.rz_driver.specs.Worlds.{Holds}
-use Rattle.rz_driver.proofs.BehindJournal.{behind-holds, behind-made, behind-ready, behind-world, back-with, cause-with, front-count, has-last, refused-back, refused-cause}
+use Rattle.rz_driver.proofs.BehindJournal.{back-count, behind-holds, behind-made, behind-ready, behind-world, back-with, cause-with, front-count, has-last, refused-back, refused-cause}
 use Rattle.rz_driver.proofs.MadeLemmas.{as-many}
 use Rattle.rz_driver.proofs.driver.Driver.first.Given as given
 use Rattle.rz_driver.proofs.driver.Driver.first.Goals as goal
@@ -18,7 +18,14 @@ pub new-requires : goal.new-requires
 new-requires g c = front-count c.args.disks.items c.in-Ok.nodes.items c.in-Ok.journal (length (nodes_of c.args.volume.now.clusters)) c.in-Ok.ensures.split c.requires.count
 
 pub with_last-requires-clause-room : goal.with_last-requires-clause-room
-with_last-requires-clause-room g c = ?
+with_last-requires-clause-room g c =
+    let v = c.args.volume.now in
+    let nodes = c.in-Ok.nodes.items in
+    let whole = c.requires.count in
+    let count = front-count c.args.disks.items nodes c.in-Ok.journal (length (nodes_of v.clusters)) c.in-Ok.ensures.split whole in
+    let many = back-count g.D.Disk.tells g.D.Disk.meter g.D.Disk.image v.layout (nodes_of v.clusters) nodes c.in-Err-new.back.items count c.in-Err-new.ensures.back in
+    let room = c.in-Ok.ensures.room in
+    omega (arith, whole, count, many, room)
 
 pub returns-in-Ok-new-clause-ready : goal.returns-in-Ok-new-clause-ready
 returns-in-Ok-new-clause-ready g c =
