@@ -1,11 +1,12 @@
 use Rattle.std.proofs.Common.{sym, ◌∙◌}
 use Rattle.rz_operation.specs.Meaning.{path_in}
+use Rattle.rz_metadata.specs.Stands.{export_in}
 use Rattle.rz_asks.specs.Locking.{lock_of}
 use Rattle.rz_asks.proofs.OpenLemmas.{none-lock, opened}
 use Rattle.rz_asks.proofs.locking.open.Goals as goal
 
 pub returns-clause-ok : goal.returns-clause-ok
-returns-clause-ok c =
+returns-clause-ok g c =
     let tree_call = c.in-Lock.call.now in (
       path_in tree_call,
       c.in-Lock.exclusive,
@@ -14,10 +15,10 @@ returns-clause-ok c =
       sym c.in-Lock.ensures.value,
       (
         c.in-Client.owner,
-        opened c.args.by c.in-Client.owner tree_call c.in_ok-copy.copy (path_in tree_call) c.in_ok-name.field-0 c.in-Lock.exclusive c.in-Lock.from c.in-Lock.count
-            (lock_of c.wanted-wanted.result) c.take-granted.result c.args.machine.now c.tell_locked.new.self c.args.export.now c.name.new.self c.args.locks.now c.take-granted.new.locks
+        opened c.args.by c.in-Client.owner tree_call c.in_ok-copy.copy (path_in tree_call) c.in-Ok.reply c.in-Lock.exclusive c.in-Lock.from c.in-Lock.count
+            (lock_of c.wanted-wanted.result) c.take-granted.result c.args.machine.now c.tell_locked.new.self (export_in c.args.export.now) (export_in c.reply.new.self) c.args.locks.now c.take-granted.new.locks
             (lock_of c.args.held.now) (lock_of c.take-granted.new.held) c.args.log.now.events c.note_names.new.log.events
-            c.in-Client.is c.in_ok-copy.ensures (c.opens.ensures c.if-not-opens.false) c.in_ok-name.ensures.reply c.in_ok-note_names.ensures.ok c.in_ok-name.ensures.ok
+            c.in-Client.is c.in_ok-copy.ensures (c.opens.ensures c.if-not-opens.false) c.in-Ok.ensures.reply c.in_ok-note_names.ensures.ok c.in-Ok.ensures.after
             (none-lock c.args.held.now (sym c.is_some.ensures ∙ c.if-is_some.false)) c.wanted-wanted.ensures c.take-granted.ensures.grants c.take-granted.ensures.held
             c.tell_locked.ensures,
       ),
