@@ -1,5 +1,5 @@
 //! The lines of a script, one after another.
-ghost use Rattle.std.specs.Prelude.{◌≡◌, ◌×◌, ◌≤◌, ◌+◌, ◌-◌, IsTrue, OnOk, OnErr};
+ghost use Rattle.std.specs.Prelude.{◌≡◌, ◌≤◌, ◌+◌, ◌-◌, IsTrue, OnOk, OnErr};
 ghost use Rattle.rz_script.specs.Lines.{IsLine, AreLines};
 ghost use Rattle.rz_play.specs.Stops.{most_turns};
 ghost use Rattle.rz_lines.specs.Ends.{Carries, EndsBy, IsEnded, OnStop};
@@ -66,7 +66,7 @@ pub fn play<S: Stage, L: Link>(stage: &mut S, lines: &[Line], link: &mut L) -> P
     ensures journal { S.journaled stage.new ≡ S.journaled stage.old }
 
     // Where a turn, a line or an order was not done, the stage says how the play ends.
-    ensures cut { EndsBy (S.journaled stage.new) (S.cut_off stage.new) result }
+    ensures cut { EndsBy (S.journaled stage.old) (S.cut_off stage.new) result }
 
     // Before a turn that is one too many the stage stands between two turns.
     ensures stopped { result ≡ PlayEnd.TooManyTurns → S.is_ready stage.new × Carries (S.holds stage.old) (S.holds stage.new) }

@@ -1,5 +1,5 @@
 //! Rounds, in which each actor that has work takes a turn.
-ghost use Rattle.std.specs.Prelude.{◌≡◌, ◌×◌, ◌≤◌, ◌+◌, OnOk, OnErr};
+ghost use Rattle.std.specs.Prelude.{◌≡◌, ◌≤◌, ◌+◌, OnOk, OnErr};
 ghost use Rattle.std.specs.List.{AllByRecursion};
 ghost use Rattle.rz_script.specs.Lines.{IsActor};
 ghost use Rattle.rz_script.specs.declared.line.Line.TheVariants as line;

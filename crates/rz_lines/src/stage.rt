@@ -62,7 +62,7 @@ pub trait Stage {
     /// How a play ends where a turn, a line or an order was not done: memory is wanting, or the journal did
     /// not keep a call.
     fn cut_off(&self) -> PlayEnd
-        ensures { result ≡ cut_off self.now }
+        ensures value { result ≡ cut_off self.now }
         ensures cause { CutsOff (journaled self.now) result };
 
     /// How many turns were taken.

@@ -44,6 +44,7 @@ loop-line-preserved g c =
     record {
       ready = e.ready;
       volume = e.volume ∙ i.volume;
+      journal = e.journal ∙ i.journal;
       few = e.few;
       lost = (let so_far = i.lost in let then = e.lost in omega (arith, so_far, then));
       held = λ first held. e.held first (i.held first held);
