@@ -1,4 +1,4 @@
-use Rattle.std.proofs.Common.{Ok, Err, ◌∙◌, subst, arith}
+use Rattle.std.proofs.Common.{Bool, Ok, Err, ◌∙◌, subst, arith}
 use Rattle.std.proofs.lemmas.Result.{err_from_is_err_and}
 use Rattle.rz_events.specs.Volume.{Volume}
 use Rattle.rz_play.specs.World.{actors}
@@ -47,5 +47,5 @@ pub returns-in_err-play_round-clause-stopped : goal.returns-in_err-play_round-cl
 returns-in_err-play_round-clause-stopped g c =
     let holds = g.S.Stage.holds in
     let p = err_from_is_err_and c.from_residual.result c.from_residual.ensures.1 in
-    rw (p.1, p.2) (stopped-after (g.S.Stage.is_ready c.play_round.new.stage) (holds c.args.stage.now) (holds c.loop.stage) (holds c.play_round.new.stage) c.in_err-play_round.field-0.0
+    rw (p.1, p.2) (stopped-after Bool (Unit {0}) (g.S.Stage.is_ready c.play_round.new.stage) (holds c.args.stage.now) (holds c.loop.stage) (holds c.play_round.new.stage) c.in_err-play_round.field-0.0
     c.loop.invariant.held c.in_err-play_round.ensures.stopped)

@@ -1,4 +1,4 @@
-use Rattle.std.proofs.Common.{Err, ◌∙◌, get_or, subst, sym, arith}
+use Rattle.std.proofs.Common.{Bool, Err, ◌∙◌, get_or, subst, sym, arith}
 use Rattle.std.proofs.lemmas.Result.{err_from_is_err_and}
 use Rattle.rz_events.specs.Volume.{Volume}
 use Rattle.rz_events.specs.declared.keys.Actor.TheVariants.{Client}
@@ -51,5 +51,5 @@ pub returns-in_err-take_turn-clause-stopped : goal.returns-in_err-take_turn-clau
 returns-in_err-take_turn-clause-stopped g c =
     let holds = g.S.Stage.holds in
     let p = err_from_is_err_and c.from_residual.result c.from_residual.ensures.1 in
-    rw (p.1, p.2) (stopped-after (g.S.Stage.is_ready c.take_turn.new.stage) (holds c.args.stage.now) (holds c.loop-by.stage) (holds c.take_turn.new.stage) c.in_err-take_turn.field-0.0
+    rw (p.1, p.2) (stopped-after (Unit {0}) Bool (g.S.Stage.is_ready c.take_turn.new.stage) (holds c.args.stage.now) (holds c.loop-by.stage) (holds c.take_turn.new.stage) c.in_err-take_turn.field-0.0
     c.loop-by.invariant.held c.in_err-take_turn.ensures.stopped)

@@ -39,5 +39,5 @@ pub returns-in_err-take_turn-clause-stopped : goal.returns-in_err-take_turn-clau
 returns-in_err-take_turn-clause-stopped g c =
     let holds = g.S.Stage.holds in
     let p = err_from_is_err_and c.from_residual.result c.from_residual.ensures.1 in
-    rw (p.1, p.2) (stopped-after (g.S.Stage.is_ready c.take_turn.new.stage) (holds c.args.stage.now) (holds c.loop.stage) (holds c.take_turn.new.stage) c.in_err-take_turn.field-0.0
+    rw (p.1, p.2) (stopped-after (Unit {0}) (Unit {0}) (g.S.Stage.is_ready c.take_turn.new.stage) (holds c.args.stage.now) (holds c.loop.stage) (holds c.take_turn.new.stage) c.in_err-take_turn.field-0.0
     c.loop.invariant.held c.in_err-take_turn.ensures.stopped)
