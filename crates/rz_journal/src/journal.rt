@@ -72,6 +72,7 @@ impl<D: Disk> Journal<D> {
 
         // Otherwise each image is one from before, or its header is shut, or it stands for no calls.
         ensures crash { IfErr result (λ e. IsTrue D.tells → (c : List ℕ) → D.image e.0 c → D.image disk c ⊎ IsShut c ⊎ IsTextOf volume c []) }
+        ensures meter { MatchResult result (λ j. Lasts (D.meter disk) (D.meter j.disk)) (λ e. Lasts (D.meter disk) (D.meter e.0)) }
         ensures risen { IfErr result (λ e. e.1 ≡ FormatFault.DiskFault → Rises (faults (D.meter disk)) (faults (D.meter e.0))) }
     {
         rules(&volume);

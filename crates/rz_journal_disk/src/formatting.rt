@@ -1,6 +1,6 @@
 //! A disk made anew.
 
-ghost use Rattle.std.specs.Prelude.{◌≡◌, ◌⊎◌, ℕ, List, [], length, replicate, IsTrue, IsErr, IsErrOf, OnOk, OnErr, IfOk, IfErr};
+ghost use Rattle.std.specs.Prelude.{◌≡◌, ◌⊎◌, ℕ, List, [], length, replicate, IsTrue, IsErr, IsErrOf, OnOk, OnErr, IfOk, IfErr, MatchResult};
 ghost use Rattle.rz_disk.specs.Images.{Only};
 ghost use Rattle.rz_disk.specs.Meter.{Took, Lasts, Rises, faults};
 ghost use Rattle.rz_journal_disk.specs.Stands.{disk_bytes, Holds, StandsFor, IsOpen, IsShut};
@@ -20,6 +20,7 @@ impl<D: Disk> Entries<D> {
         // Otherwise each image is one from before, or its header is shut, or it stands for no entries.
         ensures crash { IfErr result (λ e. IsTrue D.tells → (c : List ℕ) → D.image e.0 c
             → D.image disk c ⊎ IsShut c ⊎ StandsFor c []) }
+        ensures meter { MatchResult result (λ e. Lasts (D.meter disk) (D.meter e.disk)) (λ e. Lasts (D.meter disk) (D.meter e.0)) }
         ensures risen { IfErr result (λ e. e.1 ≡ DiskError.Failed → Rises (faults (D.meter disk)) (faults (D.meter e.0))) }
     {
         let mut disk = disk;
@@ -40,6 +41,7 @@ fn blank<D: Disk>(disk: &mut D, alloc: Global) -> Result<(), DiskError>
     ensures done { OnOk result (IsTrue D.tells → Holds 0 [] (D.text disk.new)) }
     ensures size { OnOk result (length (D.text disk.new) ≡ disk_bytes) }
     ensures only { OnOk result (Only (D.text disk.new) (D.image disk.new)) }
+    ensures meter { Lasts (D.meter disk.old) (D.meter disk.new) }
     ensures risen { IsErrOf result DiskError.Failed → Rises (faults (D.meter disk.old)) (faults (D.meter disk.new)) }
 {
     match disk.reset(alloc, disk_bytes()) {

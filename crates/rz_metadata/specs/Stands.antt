@@ -1,11 +1,14 @@
 -- The export of a store, and for which calls the journal's disk stands.
-use Rattle.std.specs.Prelude.{ℕ, ◌≡◌, ◌≤◌, Bool, true, false, IsTrue, List, Option, Some, None}
+use Rattle.std.specs.Prelude.{ℕ, ◌≡◌, ◌<◌, ◌≤◌, Bool, true, false, IsTrue, List, Option, Some, None, is_some}
 use Rattle.rz_disk.specs.Meter.{Meter, Rises, faults}
 use Rattle.rz_events.specs.declared.export.Call.{Call}
 use Rattle.rz_events.specs.declared.export.Reply.{Reply}
 use Rattle.rz_events.specs.declared.export.Reply.TheVariants.{NoMemory}
 use Rattle.rz_export_model.specs.Export.{Export}
+use Rattle.rz_journal_text.specs.declared.entry.Entry.{Entry}
 use Rattle.rz_journal.specs.Kept.{IsAfter, AllStandFor, AllStandForEither}
+use Rattle.rz_journal.specs.Room.{row_length, needed}
+use Rattle.rz_journal.specs.Said.{entry_of}
 use Rattle.rz_metadata.specs.declared.journaled.Journaled.{Journaled as Behind}
 use Rattle.rz_metadata.specs.declared.journaled.Refusal.{Refusal}
 use Rattle.rz_metadata.specs.declared.journaled.Refusal.TheVariants.{Full, Failed}
@@ -22,14 +25,12 @@ abbrev pub disk_of : {D : Type 0} → Metadata D → Option D
 disk_of (InMemory s) = None
 disk_of (Journaled j) = Some j.journal.disk
 
+abbrev pub is_journaled : {D : Type 0} → Metadata D → Bool
+is_journaled m = is_some (disk_of m)
+
 abbrev pub refusal_of : {D : Type 0} → Metadata D → Option Refusal
 refusal_of (InMemory s) = None
 refusal_of (Journaled j) = j.refusal
-
--- the journal's disk has counted at least so many faults
-abbrev pub HasCounted : {D : Type 0} → (D → Meter) → ℕ → Metadata D → Type 0
-HasCounted meter first (InMemory s) = Unit {0}
-HasCounted meter first (Journaled j) = first ≤ faults (meter j.journal.disk)
 
 -- The journal kept these calls: a new store accepted them, and then has its export, and each image of the disk stands for them.
 -- The disk had counted so many faults at first.
@@ -40,12 +41,17 @@ pub record IsKept {D : Type 0} (tells : Bool) (meter : D → Meter) (image : D �
   pub images : IsTrue tells → AllStandFor (image j.journal.disk) j.journal.export calls
   pub lasts : first ≤ faults (meter j.journal.disk)
 
+-- the parts of the export and the entry of a call take more bytes than a half has
+abbrev pub OverfillsHalf : Export → Call → Type 0
+OverfillsHalf s c = (e : Entry) × (entry_of c ≡ Some e) × (8_388_576 < needed s (row_length e))
+
 -- It did not keep one more call. Each image stands for the calls from before, but where the disk failed also for these and that one;
--- then its count of faults rose.
+-- then its count of faults rose. Where it was full, it has the export
+-- from before, and no half has room for that call.
 
 abbrev pub IsLeftBy : Option Refusal → Bool → (List ℕ → Type 0) → (first now : ℕ) → Export → List Call → Call → Type 0
 IsLeftBy None tells image first now s calls c = IsTrue tells → AllStandFor image s calls
-IsLeftBy (Some Full) tells image first now s calls c = IsTrue tells → AllStandFor image s calls
+IsLeftBy (Some Full) tells image first now s calls c = IsAfter s calls × OverfillsHalf s c × (IsTrue tells → AllStandFor image s calls)
 IsLeftBy (Some Failed) tells image first now s calls c = Rises first now × (IsTrue tells → AllStandForEither image s calls c)
 
 abbrev pub IsLeft : {D : Type 0} → Bool → (D → Meter) → (D → List ℕ → Type 0) → ℕ → Behind D → List Call → Call → Type 0

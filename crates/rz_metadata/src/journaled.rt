@@ -36,6 +36,7 @@ impl<D: Disk> Journaled<D> {
         ensures after { OnOk result (self.new.journal.export ≡ export_after self.old.journal.export (call_of ask.entry)) }
         ensures kept { IfOk result (λ r. (first : ℕ) (calls : List ACall) → IsKept D.tells D.meter D.image first self.old calls → IsKept D.tells D.meter D.image first self.new (calls_after r (call_of ask.entry) calls)) }
         ensures left { OnErr result ((first : ℕ) (calls : List ACall) → IsKept D.tells D.meter D.image first self.old calls → IsLeft D.tells D.meter D.image first self.new calls (call_of ask.entry)) }
+        ensures volume { self.new.journal.export.volume ≡ self.old.journal.export.volume }
     {
         let call = call_asked(alloc, ask)?;
         if self.refusal.is_some() || !self.journal.export().takes(&call) {
@@ -51,6 +52,7 @@ impl<D: Disk> Journaled<D> {
         ensures after { OnOk result (self.new.journal.export ≡ export_after self.old.journal.export call.now) }
         ensures kept { IfOk result (λ r. (first : ℕ) (calls : List ACall) → IsKept D.tells D.meter D.image first self.old calls → IsKept D.tells D.meter D.image first self.new (calls_after r call.now calls)) }
         ensures left { OnErr result ((first : ℕ) (calls : List ACall) → IsKept D.tells D.meter D.image first self.old calls → IsLeft D.tells D.meter D.image first self.new calls call.now) }
+        ensures volume { self.new.journal.export.volume ≡ self.old.journal.export.volume }
     {
         match self.journal.answer(call) {
             JournalReply::Reply(reply) => {

@@ -23,6 +23,7 @@ impl From<AllocError> for NoReply {
 pub(crate) fn reply_to(export: &mut Export, ask: ExportAsk<'_>) -> Result<Reply, NoReply>
     ensures reply { IfOk result (λ r. r ≡ export_reply export.old (call_of ask.entry)) }
     ensures after { OnOk result (export.new ≡ export_after export.old (call_of ask.entry)) }
+    ensures err { OnErr result (export.new ≡ export.old) }
 {
     match ask {
         ExportAsk::Tree(call) => Ok(Reply::Tree(export.name(call)?)),
@@ -38,6 +39,7 @@ pub(crate) fn reply_to(export: &mut Export, ask: ExportAsk<'_>) -> Result<Reply,
 fn publish(export: &mut Export, key: Key, published: Published) -> Result<Reply, NoReply>
     ensures reply { IfOk result (λ r. r ≡ export_reply export.old (Call.Publish key published.stamp published.mask published.length)) }
     ensures after { OnOk result (export.new ≡ export_after export.old (Call.Publish key published.stamp published.mask published.length)) }
+    ensures err { OnErr result (export.new ≡ export.old) }
 {
     let call = Call::Publish {
         key,
@@ -54,6 +56,7 @@ fn publish(export: &mut Export, key: Key, published: Published) -> Result<Reply,
 fn enroll(export: &mut Export, node: u16, loss: u64) -> Result<Reply, NoReply>
     ensures reply { IfOk result (λ r. r ≡ export_reply export.old (Call.Enroll node loss)) }
     ensures after { OnOk result (export.new ≡ export_after export.old (Call.Enroll node loss)) }
+    ensures err { OnErr result (export.new ≡ export.old) }
 {
     if !export.takes(&Call::Enroll { node, loss }) {
         return Err(NoReply);

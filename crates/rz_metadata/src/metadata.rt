@@ -7,7 +7,7 @@ ghost use Rattle.rz_journal.specs.JournalText.{IsTextOf};
 ghost use Rattle.rz_journal.specs.Seen.{calls_after};
 ghost use Rattle.rz_journal_disk.specs.Stands.{IsShut};
 ghost use Rattle.rz_operation.specs.Meaning.{call_of};
-ghost use Rattle.rz_metadata.specs.Stands.{export_in, disk_of, refusal_of, HasCounted, Stands, StandsAtEnd};
+ghost use Rattle.rz_metadata.specs.Stands.{export_in, disk_of, refusal_of, is_journaled, Stands, StandsAtEnd};
 
 use crate::journaled::{Journaled, Refusal};
 use crate::memory::{NoReply, reply_to};
@@ -32,6 +32,7 @@ impl<D: Disk> Metadata<D> {
     pub fn in_memory(alloc: Global, volume: Volume) -> Result<Metadata<D>, AllocError>
         ensures export { IfOk result (λ m. export_in m ≡ new_export volume 0) }
         ensures stands { IfOk result (λ m. (first : ℕ) → Stands D.tells D.meter D.image first m []) }
+        ensures journal { IfOk result (λ m. is_journaled m ≡ false) }
     {
         Ok(Metadata::InMemory(Export::new(alloc, volume, 0)?))
     }
@@ -39,11 +40,12 @@ impl<D: Disk> Metadata<D> {
     /// Makes a disk anew, and a journal on it whose export is that of a new store.
     pub fn format(alloc: Global, volume: Volume, disk: D) -> Result<Metadata<D>, (D, FormatFault)>
         ensures export { IfOk result (λ m. export_in m ≡ new_export volume 0) }
-        ensures stands { IfOk result (λ m. (first : ℕ) → HasCounted D.meter first m → Stands D.tells D.meter D.image first m []) }
-        ensures behind { IfOk result (λ m. IsSome (disk_of m)) }
+        ensures stands { IfOk result (λ m. Stands D.tells D.meter D.image (faults (D.meter disk)) m []) }
+        ensures journal { IfOk result (λ m. is_journaled m ≡ true) }
 
         // Otherwise each image is one from before, or its header is shut, or it stands for no calls.
         ensures crash { IfErr result (λ e. IsTrue D.tells → (c : List ℕ) → D.image e.0 c → D.image disk c ⊎ IsShut c ⊎ IsTextOf volume c []) }
+        ensures lasts { IfErr result (λ e. faults (D.meter disk) ≤ faults (D.meter e.0)) }
         ensures risen { IfErr result (λ e. e.1 ≡ FormatFault.DiskFault → Rises (faults (D.meter disk)) (faults (D.meter e.0))) }
     {
         match Journal::format(alloc, volume, disk) {
@@ -62,6 +64,10 @@ impl<D: Disk> Metadata<D> {
         ensures after { OnOk result (export_in self.new ≡ export_after (export_in self.old) (call_of ask.entry)) }
         ensures kept { IfOk result (λ r. (first : ℕ) (calls : List ACall) → Stands D.tells D.meter D.image first self.old calls → Stands D.tells D.meter D.image first self.new (calls_after r (call_of ask.entry) calls)) }
         ensures left { OnErr result ((first : ℕ) (calls : List ACall) → Stands D.tells D.meter D.image first self.old calls → StandsAtEnd D.tells D.meter D.image first self.new calls (call_of ask.entry)) }
+
+        // On every exit.
+        ensures journal { is_journaled self.new ≡ is_journaled self.old }
+        ensures volume { (export_in self.new).volume ≡ (export_in self.old).volume }
     {
         match self {
             Metadata::InMemory(export) => reply_to(export, ask),
