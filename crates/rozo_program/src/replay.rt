@@ -2,7 +2,7 @@
 
 ghost use Rattle.std.specs.Prelude.{◌≡◌, ◌≢◌, ◌+◌, ◌-◌, [], IsSome, MatchResult, Ok, length, map, reverse, string_bytes};
 ghost use Rattle.rz_command.specs.Line.{meaning};
-ghost use Rattle.rz_request.specs.Requests.{nodes_in};
+ghost use Rattle.rz_request.specs.Requests.{disks_for, nodes_in};
 ghost use Rattle.rz_request.specs.declared.wishes.Wish.TheVariants.{First};
 ghost use Rattle.rz_perform.specs.Replays.{Course, Follows};
 ghost use Rattle.rozo_program.specs.Disks.{HandsBack, faulted};
@@ -65,7 +65,7 @@ fn refuse_disks<O: Sink>(alloc: Global, fault: DriverFault, output: &mut O) -> u
 
 /// Plays a request that wants no journal over disks, and writes what is to be told of it. The disks are back
 /// afterwards.
-fn play_request<D: Disk, L: Link, O: Sink>(
+fn play_plain<D: Disk, L: Link, O: Sink>(
     alloc: Global,
     request: &Request,
     disks: &mut Vec<D>,
@@ -143,6 +143,27 @@ fn play_first<D: Disk, L: Link, O: Sink>(
     }
 }
 
+/// Plays a request over the disks that it needs, and writes what is to be told of it. The disks are back
+/// afterwards.
+fn play_request<D: Disk, L: Link, O: Sink>(
+    alloc: Global,
+    request: &Request,
+    disks: &mut Vec<D>,
+    link: &mut L,
+    output: &mut O,
+) -> Played
+    requires { length disks.old.items ≡ disks_for request.now.wish request.now.script }
+    ensures { (course : Course) × Follows D.tells course request.now (faulted D.meter disks.old.items disks.new.items) (L.lost link.new - L.lost link.old) (record { before = O.taken output.old; after = O.taken output.new; old = O.faults output.old; new = O.faults output.new }) result.status (reverse result.log.items)
+        × HandsBack D.tells D.meter D.image course (Ok request.now) disks.old.items disks.new.items (reverse result.log.items) }
+{
+    match request.wish {
+        Wish::First => play_first(alloc, request, disks, link, output),
+        Wish::Replay => play_plain(alloc, request, disks, link, output),
+        Wish::Scrub => play_plain(alloc, request, disks, link, output),
+        Wish::Load { .. } => play_plain(alloc, request, disks, link, output),
+    }
+}
+
 /// Plays what words and an input ask for over the disks, of which there is one for each node in the
 /// order of the description, and one more where a journal is wanted; and writes what is to be told of it.
 /// The disks are back in their order afterwards.
@@ -158,11 +179,7 @@ fn play_words<I: Source, O: Sink, D: Disk, L: Link>(
 {
     let count = disks.len() as u64;
     match request(alloc, words, input, count) {
-        Ok(request) => match request.wish {
-            Wish::First => play_first(alloc, &request, disks, link, output),
-            Wish::Replay | Wish::Scrub => play_request(alloc, &request, disks, link, output),
-            Wish::Load { .. } => play_request(alloc, &request, disks, link, output),
-        },
+        Ok(request) => play_request(alloc, &request, disks, link, output),
         Err(why) => {
             let status = stop(alloc, &why, output);
             unplayed(alloc, status)

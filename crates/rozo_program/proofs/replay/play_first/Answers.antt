@@ -115,22 +115,22 @@ returns-in-Ok g c =
     let counted_here = c.close_all-log.ensures.counted (first g c) (left_by g c) in
     let counted : AreFaultsTold meter v old back log = subst (λ (x : Volume). AreFaultsTold meter x old back log) (volume_is g c) counted_here in
     let imaged : AreImagesTold g.D.Disk.tells meter g.D.Disk.image (Performed end later) v split.0 back log =
-        subst (λ (x : Volume). AreImagesTold g.D.Disk.tells meter g.D.Disk.image (Performed end later) x split.0 back log) (volume_is g c) (c.close_all-log.ensures.imaged (first g c) (left_by g c)) in
+    subst (λ (x : Volume). AreImagesTold g.D.Disk.tells meter g.D.Disk.image (Performed end later) x split.0 back log) (volume_is g c) (c.close_all-log.ensures.imaged (first g c) (left_by g c)) in
     let count : length back ≡ length (nodes_of v.clusters) = counted-length meter (first g c) 0 _ back log counted ∙ length-map (nodes_of v.clusters) (λ (n : NodeSpec). n.sid) in
     let was : first g c (length (nodes_of v.clusters)) ≡ faults (meter split.1) =
-        ap (λ (k : ℕ). faults_at meter old k) (sym split.3) ∙ ap (λ (xs : List g.row.D.Denot). faults_at meter xs (length split.0)) split.2 ∙ at-last meter split.0 split.1 in
+    ap (λ (k : ℕ). faults_at meter old k) (sym split.3) ∙ ap (λ (xs : List g.row.D.Denot). faults_at meter xs (length split.0)) split.2 ∙ at-last meter split.0 split.1 in
     let is_now : faults_at meter new (length (nodes_of v.clusters)) ≡ faults (meter disk.0) =
-        ap (λ (k : ℕ). faults_at meter new k) (sym count) ∙ ap (λ (xs : List g.row.D.Denot). faults_at meter xs (length back)) new_is ∙ at-last meter back disk.0 in
+    ap (λ (k : ℕ). faults_at meter new k) (sym count) ∙ ap (λ (xs : List g.row.D.Denot). faults_at meter xs (length back)) new_is ∙ at-last meter back disk.0 in
     let E : Volume → Type 0 = λ x. EndsAsRefused (refusal_of c.perform-status.new.stage.shared.export) g.D.Disk.tells (g.D.Disk.image disk.0) (first g c (length (nodes_of x.clusters))) (faults (meter disk.0)) x log in
     let ended : E v = subst E (volume_is g c) (c.close_all-log.ensures.ends (first g c) disk.0 (left_by g c) disk.1) in
     let S : Volume → Type 0 = λ x. IsTrue g.D.Disk.tells → StandsForLog (g.D.Disk.image disk.0) x log in
     let stands : BetweenTurns end (S v) = between-on end _ (S v) (λ holding. subst S (volume_is g c) (c.close_all-log.ensures.stands (first g c) disk.0 holding disk.1)) (holds_by g c) in
     let may : MayEnd end c.args.request.now (faulted meter old new) =
-        first-end end (refusal_of c.perform-status.new.stage.shared.export) _ c.args.request.now (faulted meter old new) g.D.Disk.tells (g.D.Disk.image disk.0) v log c.requires.first c.perform-status.ensures.performed.3
-        (subst (λ (k : ℕ). EndsAsRefused (refusal_of c.perform-status.new.stage.shared.export) g.D.Disk.tells (g.D.Disk.image disk.0) (first g c (length (nodes_of v.clusters))) k v log) (sym is_now) ended) in
+    first-end end (refusal_of c.perform-status.new.stage.shared.export) _ c.args.request.now (faulted meter old new) g.D.Disk.tells (g.D.Disk.image disk.0) v log c.requires.first c.perform-status.ensures.performed.3
+    (subst (λ (k : ℕ). EndsAsRefused (refusal_of c.perform-status.new.stage.shared.export) g.D.Disk.tells (g.D.Disk.image disk.0) (first g c (length (nodes_of v.clusters))) k v log) (sym is_now) ended) in
     let told : IsJournalTold g.D.Disk.tells meter g.D.Disk.image (Performed end later) v split.1 disk.0 log =
-        journal-told g.D.Disk.tells meter g.D.Disk.image later v split.1 disk.0 log end (refusal_of c.perform-status.new.stage.shared.export) _ c.perform-status.ensures.performed.3 stands
-        (subst (λ (k : ℕ). EndsAsRefused (refusal_of c.perform-status.new.stage.shared.export) g.D.Disk.tells (g.D.Disk.image disk.0) k (faults (meter disk.0)) v log) was ended) in
+    journal-told g.D.Disk.tells meter g.D.Disk.image later v split.1 disk.0 log end (refusal_of c.perform-status.new.stage.shared.export) _ c.perform-status.ensures.performed.3 stands
+    (subst (λ (k : ℕ). EndsAsRefused (refusal_of c.perform-status.new.stage.shared.export) g.D.Disk.tells (g.D.Disk.image disk.0) k (faults (meter disk.0)) v log) was ended) in
     let all : AreAllBack g.D.Disk.tells meter g.D.Disk.image (Performed end later) v old new log = record {
       nodes = split.0;
       journal = split.1;
@@ -174,11 +174,11 @@ returns-in-Err g c =
     let whole : length (b.nodes ++ b.journal ∷ []) ≡ length nodes + 1 = ap (λ (xs : List g.row.D.Denot). length xs) (sym b.disks_are) ∙ c.requires.count in
     let count : length b.nodes ≡ length nodes = let joined = length-joined b.nodes b.journal in omega (arith, whole, joined) in
     let kept : (i : ℕ) → faults_at meter old i ≤ faults_at meter new i =
-        subst (λ (xs : List g.row.D.Denot). (i : ℕ) → faults_at meter xs i ≤ faults_at meter new i) (sym b.disks_are)
-        (subst (λ (ys : List g.row.D.Denot). (i : ℕ) → faults_at meter (b.nodes ++ b.journal ∷ []) i ≤ faults_at meter ys i) (sym b.back_are)
-        (all-back-faults meter g.D.Disk.tells g.D.Disk.image v.layout nodes b.nodes b.nodes_back b.journal b.journal_back count b.each b.last.count)) in
+    subst (λ (xs : List g.row.D.Denot). (i : ℕ) → faults_at meter xs i ≤ faults_at meter new i) (sym b.disks_are)
+    (subst (λ (ys : List g.row.D.Denot). (i : ℕ) → faults_at meter (b.nodes ++ b.journal ∷ []) i ≤ faults_at meter ys i) (sym b.back_are)
+    (all-back-faults meter g.D.Disk.tells g.D.Disk.image v.layout nodes b.nodes b.nodes_back b.journal b.journal_back count b.each b.last.count)) in
     let firsts : (k : ℕ) → k < length b.nodes → faults_at meter old (0 + k) ≡ faults_at meter b.nodes k =
-        λ k lt. ap (faults_at meter old) (plain k) ∙ ap (λ (xs : List g.row.D.Denot). faults_at meter xs k) b.disks_are ∙ at-front meter b.nodes b.journal k lt in
+    λ k lt. ap (faults_at meter old) (plain k) ∙ ap (λ (xs : List g.row.D.Denot). faults_at meter xs k) b.disks_are ∙ at-front meter b.nodes b.journal k lt in
     let counted : AreFaultsTold meter v old b.nodes_back [] = counted-none g.D.Disk.tells meter g.D.Disk.image v.layout (faults_at meter old) 0 nodes b.nodes b.nodes_back firsts count b.each in
     let cause : IsCause meter old new c.in-Err.fault = rw (← lent_is g c) c.in-Err.ensures.cause in
     let all : AreAllBack g.D.Disk.tells meter g.D.Disk.image Unplayed v old new [] = record {
