@@ -1,7 +1,8 @@
-use Rattle.std.proofs.Common.{sym, ◌∙◌}
+use Rattle.std.proofs.Common.{refl, sym, ◌∙◌}
 use Rattle.rz_operation.specs.Meaning.{path_in}
 use Rattle.rz_metadata.specs.Stands.{export_in}
 use Rattle.rz_asks.specs.Locking.{lock_of}
+use Rattle.rz_asks.proofs.Keeping.{keeps-noted, ends-unasked, ends-refused, ends-unnoted}
 use Rattle.rz_asks.proofs.OpenLemmas.{none-lock, opened}
 use Rattle.rz_asks.proofs.locking.open.Goals as goal
 
@@ -23,3 +24,37 @@ returns-clause-ok g c =
             c.tell_locked.ensures,
       ),
     )
+
+pub returns-clause-kept : goal.returns-clause-kept
+returns-clause-kept g c =
+    keeps-noted g.D.Disk.tells g.D.Disk.meter g.D.Disk.image c.args.export.now c.reply.new.self c.args.log.now.events c.note_names.new.log.events c.args.by _ c.in-Ok.reply
+    c.in_ok-note_names.ensures.ok c.in-Ok.ensures.kept
+
+-- where the export was asked nothing
+
+pub returns-in_default-clause-left : goal.returns-in_default-clause-left
+returns-in_default-clause-left g c = ends-unasked g.D.Disk.tells g.D.Disk.meter g.D.Disk.image c.args.export.now c.args.log.now.events
+
+pub returns-in_default-2-clause-left : goal.returns-in_default-2-clause-left
+returns-in_default-2-clause-left g c = ends-unasked g.D.Disk.tells g.D.Disk.meter g.D.Disk.image c.args.export.now c.args.log.now.events
+
+pub returns-then-is_some-clause-left : goal.returns-then-is_some-clause-left
+returns-then-is_some-clause-left g c = ends-unasked g.D.Disk.tells g.D.Disk.meter g.D.Disk.image c.args.export.now c.args.log.now.events
+
+pub returns-then-not-opens-clause-left : goal.returns-then-not-opens-clause-left
+returns-then-not-opens-clause-left g c = ends-unasked g.D.Disk.tells g.D.Disk.meter g.D.Disk.image c.args.export.now c.args.log.now.events
+
+pub returns-in_err-copy-clause-left : goal.returns-in_err-copy-clause-left
+returns-in_err-copy-clause-left g c = ends-unasked g.D.Disk.tells g.D.Disk.meter g.D.Disk.image c.args.export.now c.args.log.now.events
+
+-- where it gave no reply, or one that was not noted
+
+pub returns-in_default-3-clause-left : goal.returns-in_default-3-clause-left
+returns-in_default-3-clause-left g c = ends-refused g.D.Disk.tells g.D.Disk.meter g.D.Disk.image c.args.export.now c.reply.new.self c.args.log.now.events _ c.reply.ensures.left
+
+pub returns-then-not-takes_locked-clause-left : goal.returns-then-not-takes_locked-clause-left
+returns-then-not-takes_locked-clause-left g c = ends-unnoted g.D.Disk.tells g.D.Disk.meter g.D.Disk.image c.args.export.now c.reply.new.self c.args.log.now.events c.args.log.now.events _ c.in-Ok.reply refl c.in-Ok.ensures.kept
+
+pub returns-in_err-note_names-clause-left : goal.returns-in_err-note_names-clause-left
+returns-in_err-note_names-clause-left g c =
+    ends-unnoted g.D.Disk.tells g.D.Disk.meter g.D.Disk.image c.args.export.now c.reply.new.self c.args.log.now.events c.note_names.new.log.events _ c.in-Ok.reply c.in_err-note_names.ensures.err c.in-Ok.ensures.kept
