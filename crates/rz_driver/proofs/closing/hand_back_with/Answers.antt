@@ -1,4 +1,4 @@
-use Rattle.std.proofs.Common.{◌≡◌, ◌<◌, List, [], ◌∷◌, ◌++◌, reverse, Option, sym, ◌∙◌, ap, arith}
+use Rattle.std.proofs.Common.{◌<◌, List, [], ◌∷◌, ◌++◌, reverse, Option, sym, ◌∙◌, ap, arith}
 use Rattle.std.specs.Prelude.{is_ok, option_to_list}
 use Rattle.std.specs.Vec.{vec_len, vec_capacity}
 use Rattle.rz_formatting.specs.Formatted.{disks_of}

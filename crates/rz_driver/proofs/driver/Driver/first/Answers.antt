@@ -1,8 +1,6 @@
-use Rattle.std.proofs.Common.{arith, ◌≡◌, ◌+◌, ◌++◌, ◌∷◌, [], ℕ, List, length, refl, sym, ◌∙◌, ap, subst}
+use Rattle.std.proofs.Common.{arith, ◌++◌, ◌∷◌, [], List, length, sym, ◌∙◌, subst}
 use Rattle.std.proofs.lemmas.Result.{IfOk-weaker, IfErr-weaker}
-use Rattle.rz_disk.specs.UnderFuse.{UnderFuse}
 use Rattle.rz_events.specs.Volume.{Volume, nodes_of}
-use Rattle.rz_formatting.specs.declared.fault.DriverFault.{DriverFault}
 use Rattle.rz_formatting.specs.Formatted.{AreFormatted, IsCause, disks_of}
 use Rattle.rz_formatting.proofs.FormatLemmas.{untouched}
 use Rattle.rz_stations.specs.Meters.{faults_at}
@@ -11,7 +9,6 @@ use Rattle.rz_driver.specs.Formatted.{AreBackWithJournal, IsBehindJournal, IsJou
 use Rattle.rz_driver.specs.Worlds.{Holds}
 use Rattle.rz_driver.proofs.BehindJournal.{back-count, behind-holds, behind-made, behind-ready, behind-world, back-with, cause-with, front-count, has-last, refused-back, refused-cause}
 use Rattle.rz_driver.proofs.MadeLemmas.{as-many}
-use Rattle.rz_driver.proofs.driver.Driver.first.Given as given
 use Rattle.rz_driver.proofs.driver.Driver.first.Goals as goal
 
 pub new-requires : goal.new-requires
