@@ -1,20 +1,22 @@
 #!/usr/bin/env bash
-# Proves and builds rz_bench, runs it on nodes and exports of three sizes, and prints two tables: microseconds a call,
-# and the memory of the whole run. OPS is the number of calls of each kind. It needs GNU time.
+# Proves and builds rz_bench and rz_journal_bench, runs them on nodes and exports of three sizes and on journals of two,
+# and prints three tables: microseconds a call, and the memory of the whole run. OPS is the number of calls of each kind.
+# It needs GNU time.
 set -eu
 here="$(cd "$(dirname "$0")" && pwd)"
-crate="$here/../crates/rz_bench"
+crates="$here/../crates"
 ops="${OPS:-1000}"
-(cd "$crate" && rt run -- node 1 1 >/dev/null)
+(cd "$crates/rz_bench" && rt run -- node 1 1 >/dev/null)
+(cd "$crates/rz_journal_bench" && rt run -- 1 1 1 >/dev/null)
 out="$(mktemp -d)"
 trap 'rm -rf "$out"' EXIT
 
-# measure FILE WORDS..: runs the program, and writes what it prints and its greatest resident memory.
+# measure FILE PROGRAM WORDS..: runs a program, and writes what it prints and its greatest resident memory.
 measure() {
-    local file="$1"
-    shift
-    echo "rz_bench $*" >&2
-    /usr/bin/time -o "$file.memory" -f '%M' "$crate/out/rz_bench" "$@" times >"$file"
+    local file="$1" program="$2"
+    shift 2
+    echo "$program $*" >&2
+    /usr/bin/time -o "$file.memory" -f '%M' "$crates/$program/out/$program" "$@" times >"$file"
     echo "memory $(($(tail -n 1 "$file.memory") / 1024))" >>"$file"
 }
 
@@ -26,7 +28,7 @@ table() {
         $1 == "memory" { cell["memory", columns] = $2; next }
         {
             parts = split($0, part, ", ")
-            cell[$1, columns] = part[parts]
+            cell[$1, columns] = parts == 1 ? $2 : part[parts]
             sub(/ us$/, "", cell[$1, columns])
             for (i = 2; i < parts; i++) cell[$1, columns] = cell[$1, columns] " (" part[i] ")"
         }
@@ -42,13 +44,18 @@ table() {
 }
 
 for pairs in 1024 32768 1048576; do
-    measure "$out/node.$pairs" node "$pairs" "$ops"
+    measure "$out/node.$pairs" rz_bench node "$pairs" "$ops"
 done
 # With a directory for each 256 files these are 1,024, 16,384 and 65,535 objects.
-measure "$out/export.1020" export 1020 16384 "$ops"
-measure "$out/export.16320" export 16320 262144 "$ops"
-measure "$out/export.65280" export 65280 1000000 "$ops"
+measure "$out/export.1020" rz_bench export 1020 16384 "$ops"
+measure "$out/export.16320" rz_bench export 16320 262144 "$ops"
+measure "$out/export.65280" rz_bench export 65280 1000000 "$ops"
+# Of larger exports the parts do not stand in half a journal's disk.
+measure "$out/journal.32000" rz_journal_bench 32000 100000 "$ops"
+measure "$out/journal.58500" rz_journal_bench 58500 58500 "$ops"
 
 table "$out"/node.1024 "$out"/node.32768 "$out"/node.1048576
 echo
 table "$out"/export.1020 "$out"/export.16320 "$out"/export.65280
+echo
+table "$out"/journal.32000 "$out"/journal.58500

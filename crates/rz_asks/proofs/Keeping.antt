@@ -1,5 +1,5 @@
 -- The journal's disk stands for the calls of a log: after a reply, after other events, and where there is no reply.
-use Rattle.std.proofs.Common.{◌≡◌, inl, inr, ◌⊎◌, ℕ, Bool, true, false, cond, List, [], ◌∷◌, ◌++◌, Option, Some, None, IfSome, refl, sym, ◌∙◌, ap, subst}
+use Rattle.std.proofs.Common.{◌≡◌, inl, inr, ℕ, Bool, true, false, cond, List, [], ◌∷◌, ◌++◌, Option, Some, None, IfSome, Result, Ok, Err, OnErr, refl, sym, ◌∙◌, ap, subst}
 use Rattle.std.specs.Prelude.{◌&&◌, is_some}
 use Rattle.rz_disk.specs.Meter.{Meter}
 use Rattle.rz_events.specs.declared.keys.Actor.{Actor}
@@ -7,7 +7,6 @@ use Rattle.rz_events.specs.declared.export.Call.{Call}
 use Rattle.rz_events.specs.declared.export.Call.TheVariants as call
 use Rattle.rz_events.specs.declared.export.Reply.{Reply}
 use Rattle.rz_events.specs.declared.export.Reply.TheVariants as reply
-use Rattle.rz_events.specs.declared.events.Word.{Word}
 use Rattle.rz_events.specs.declared.events.Word.TheVariants.{Export, Node, Own}
 use Rattle.rz_events.specs.declared.events.Event.{Event}
 use Rattle.rz_events.specs.Events.{word_of, same_word}
@@ -135,3 +134,11 @@ ends-refused tells meter image m n log c stands = λ first keeps. (keeps.0, keep
 -- nothing was asked
 pub ends-unasked : {D : Type 0} (tells : Bool) (meter : D → Meter) (image : D → List ℕ → Type 0) (m : Metadata D) (log : List Event) → EndsOn tells meter image m log m log
 ends-unasked tells meter image m log = λ first keeps. keeps-ends tells meter image first m log keeps
+
+pub on-err : {A B : Type 0} {P : Type 0} (r : Result A B) → P → OnErr r P
+on-err (Ok a) p = tt
+on-err (Err e) p = p
+
+pub at-err : {A B : Type 0} {P : Type 0} (r : Result A B) → ((x : A) → r ≡ Ok x → ⊥) → OnErr r P → P
+at-err (Ok a) other p = absurd (other a refl)
+at-err (Err e) other p = p

@@ -3,7 +3,7 @@ ghost use Rattle.std.specs.Prelude.{◌≡◌, ◌<◌, ◌≤◌, ℕ, None, On
 ghost use Rattle.std.specs.FinMap as map;
 ghost use Rattle.rz_events.specs.declared.keys.Actor.TheVariants as actor;
 ghost use Rattle.rz_events.specs.declared.tree.TreeCall.TheVariants as tree;
-ghost use Rattle.rz_metadata.specs.Stands.{export_in};
+ghost use Rattle.rz_metadata.specs.Stands.{export_in, is_journaled};
 ghost use Rattle.rz_operation.specs.Meaning.{path_in};
 ghost use Rattle.rz_play.specs.Turns.{lock_on};
 ghost use Rattle.rz_asks.specs.Journals.{KeepsOn, EndsOn};
@@ -35,6 +35,10 @@ pub fn open<D: Disk>(
     ensures err { OnErr result (log.new.events ≡ log.old.events) }
     ensures kept { OnOk result (KeepsOn D.tells D.meter D.image export.old log.old.events export.new log.new.events) }
     ensures left { OnErr result (EndsOn D.tells D.meter D.image export.old log.old.events export.new log.new.events) }
+
+    // On every exit.
+    ensures journal { is_journaled export.new ≡ is_journaled export.old }
+    ensures volume { (export_in export.new).volume ≡ (export_in export.old).volume }
 {
     let Ask::Lock {
         call,

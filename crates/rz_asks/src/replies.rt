@@ -1,7 +1,7 @@
 //! Calls of the export.
 ghost use Rattle.std.specs.Prelude.{◌≡◌, ◌+◌, ◌<◌, ◌≤◌, Some, IfOk, OnOk, OnErr};
 ghost use Rattle.rz_export_model.specs.ExportEvents.{export_event};
-ghost use Rattle.rz_metadata.specs.Stands.{export_in};
+ghost use Rattle.rz_metadata.specs.Stands.{export_in, is_journaled};
 ghost use Rattle.rz_operation.specs.Meaning.{call_of};
 ghost use Rattle.rz_asks.specs.Journals.{KeepsOn, EndsOn};
 ghost use Rattle.rz_asks.specs.Parts.{AreWords, IsNoted, IsExportPart};
@@ -38,6 +38,10 @@ pub fn ask_export<D: Disk>(
     ensures err { OnErr result (log.new.events ≡ log.old.events) }
     ensures kept { OnOk result (KeepsOn D.tells D.meter D.image export.old log.old.events export.new log.new.events) }
     ensures left { OnErr result (EndsOn D.tells D.meter D.image export.old log.old.events export.new log.new.events) }
+
+    // On every exit.
+    ensures journal { is_journaled export.new ≡ is_journaled export.old }
+    ensures volume { (export_in export.new).volume ≡ (export_in export.old).volume }
 {
     let Ask::Export(ask) = machine.next() else {
         return Err(NoMemory);

@@ -22,7 +22,9 @@ use Rattle.rz_asks.proofs.Keeping.{keeps-first}
 use Rattle.rz_formatting.specs.declared.fault.DriverFault.{DriverFault}
 use Rattle.rz_formatting.specs.declared.fault.DriverFault.TheVariants as driver
 use Rattle.rz_formatting.specs.declared.formatting.Station.{Station}
-use Rattle.rz_formatting.specs.Formatted.{AreBack, AreFormatted, IsBack, IsCause, IsFormatted, disks_of}
+use Rattle.rz_cells.specs.declared.formatting.FormatFault.{FormatFault}
+use Rattle.rz_cells.specs.declared.formatting.FormatFault.TheVariants as format
+use Rattle.rz_formatting.specs.Formatted.{AreBack, AreFormatted, IsBack, IsCause, IsFormatted, disks_of, fault_at}
 use Rattle.rz_formatting.proofs.FormatLemmas.{new-back}
 use Rattle.rz_formatting.proofs.Rowwise.{get-behind, zip-length, zip-map}
 use Rattle.rz_stations.specs.Meters.{AreMetered, GoesWith, OfEach, faults_at, faults_in}
@@ -162,7 +164,7 @@ module _ {D : Type 0} {G : Ghosts D} (journal : D) (d e : Driver D G) (behind : 
 -- ---- the disks that come back
 
 module _ {D : Type 0} (tells : Bool) (meter : D → Meter) (image : D → List ℕ → Type 0) (v : Volume) where
-  journal-untouched : (disk : D) → IsJournalBack tells meter image v disk disk
+  pub journal-untouched : (disk : D) → IsJournalBack tells meter image v disk disk
   journal-untouched disk = record { count = omega arith; images = λ told c is. inl is }
 
   -- the journal's was not touched
@@ -184,6 +186,12 @@ module _ {D : Type 0} (tells : Bool) (meter : D → Meter) (image : D → List �
   cause-with nodes back journal driver.NoMemory cause = tt
   cause-with nodes back journal (driver.Disk index) (old, new, was, is, rises) =
       (old, new, found-front nodes (journal ∷ []) index old was, found-front back (journal ∷ []) index new is, rises)
+
+-- why a disk was not formatted
+pub fault-is : {D : Type 0} (meter : D → Meter) (disk back : D) (why : FormatFault) (fault : DriverFault) (index place : ℕ) → fault ≡ fault_at why index → index ≡ place
+    → (why ≡ format.DiskFault → Rises (faults (meter disk)) (faults (meter back))) → IsFault meter place disk back fault
+fault-is meter disk back format.NoMemory fault index place is at risen = subst (IsFault meter place disk back) (sym is) tt
+fault-is meter disk back format.DiskFault fault index place is at risen = subst (IsFault meter place disk back) (sym is) (at, risen refl)
 
 -- no journal was made
 module _ {D : Type 0} (tells : Bool) (meter : D → Meter) (text : D → List ℕ) (image : D → List ℕ → Type 0) (v : Volume) (nodes : List D) (journal : D) (row : List (Station (UnderFuse D))) (back : List D) (fault : DriverFault)

@@ -1,5 +1,5 @@
 -- For which calls a journal's disk stands that is handed back.
-use Rattle.std.proofs.Common.{◌≡◌, ◌⊎◌, inl, inr, ℕ, Bool, IsTrue, List, [], ◌∷◌, ◌++◌, Option, Some, None, refl, sym, ◌∙◌, ap, subst}
+use Rattle.std.proofs.Common.{◌≡◌, inl, inr, ℕ, Bool, IsTrue, List, [], ◌∷◌, ◌++◌, Option, Some, None, sym, ◌∙◌, ap, subst}
 use Rattle.rz_disk.specs.Meter.{Meter, faults}
 use Rattle.rz_events.specs.Volume.{Volume}
 use Rattle.rz_events.specs.declared.export.Call.{Call}
@@ -13,22 +13,9 @@ use Rattle.rz_metadata.specs.declared.journaled.Refusal.{Refusal}
 use Rattle.rz_metadata.specs.declared.journaled.Refusal.TheVariants.{Full, Failed}
 use Rattle.rz_metadata.specs.declared.metadata.Metadata.{Metadata}
 use Rattle.rz_metadata.specs.declared.metadata.Metadata.TheVariants.{InMemory, Journaled}
-use Rattle.rz_metadata.specs.Stands.{export_in, disk_of, refusal_of, is_journaled, IsKept, IsLeft, IsLeftBy, OverfillsHalf, Stands, StandsAtEnd}
-use Rattle.rz_lines.specs.declared.lines.PlayEnd.TheVariants as end
-use Rattle.rz_lines.specs.Ends.{CutsOff}
+use Rattle.rz_metadata.specs.Stands.{export_in, disk_of, refusal_of, IsKept, IsLeft, IsLeftBy, OverfillsHalf}
 use Rattle.rz_asks.specs.Journals.{AreCallsOf, KeepsLog, EndsLog, EndsWith}
-use Rattle.rz_driver.specs.Endings.{end_by, StandFor, StandForEither, StandsForLog, EndsFor, EndsAsRefused}
-
--- ---- how the play ends
-
--- what has no journal refused nothing
-pub cut-off : {D : Type 0} (m : Metadata D) (o : Option Refusal) → refusal_of m ≡ o → CutsOff (is_journaled m) (end_by o)
-cut-off m None is = tt
-cut-off (InMemory s) (Some r) is = absurd (cc)
-cut-off (Journaled j) (Some Full) is = refl
-cut-off (Journaled j) (Some Failed) is = refl
-
--- ---- the journal's disk
+use Rattle.rz_driver.specs.Endings.{StandFor, StandForEither, StandsForLog, EndsFor, EndsAsRefused}
 
 the-disk : {D : Type 0} (x y : D) → Some x ≡ Some y → x ≡ y
 the-disk x y is = cc

@@ -1,11 +1,8 @@
 -- The journal of a driver: what its disk stands for after a turn, after an order, and where a play ended.
-use Rattle.std.proofs.Common.{◌≡◌, ◌⊎◌, inl, inr, ℕ, Bool, true, false, IsTrue, List, length, [], ◌∷◌, ◌++◌, Option, Some, None, IfSome, refl, sym, ◌∙◌, ap, subst}
-use Rattle.rz_disk.specs.Meter.{Meter, faults}
-use Rattle.rz_disk.specs.UnderFuse.{UnderFuse}
+use Rattle.std.proofs.Common.{◌≡◌, inl, inr, ℕ, Bool, true, false, List, length, ◌∷◌, Option, Some, IfSome, refl, sym, ◌∙◌, ap, subst}
+use Rattle.rz_disk.specs.Meter.{Meter}
 use Rattle.rz_disk.specs.declared.disk.Disk.{Ghosts}
 use Rattle.rz_events.specs.Volume.{Volume, nodes_of}
-use Rattle.rz_events.specs.declared.export.Call.{Call}
-use Rattle.rz_events.specs.declared.export.Call.TheVariants as call
 use Rattle.rz_events.specs.declared.keys.Actor.{Actor}
 use Rattle.rz_events.specs.declared.keys.Actor.TheVariants.{Admin}
 use Rattle.rz_events.specs.declared.nodes.NodeAnswer.{NodeAnswer}

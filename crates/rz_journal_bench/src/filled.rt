@@ -80,6 +80,14 @@ fn path_of(alloc: Global, file: u32) -> Result<Text, AllocError> {
     Text::from_bytes(alloc, path.as_bytes())
 }
 
+/// The number of the file that was made, or 0.
+fn made(reply: &Option<Reply>) -> u128 {
+    match reply {
+        Some(Reply::Tree(TreeReply::MadeFile(info))) => info.fid,
+        _ => 0,
+    }
+}
+
 impl Files {
     /// The key of a block.
     fn key_of(&self, number: u32) -> Key {
@@ -182,11 +190,8 @@ impl FilledJournal {
             let _ = self.ask(&Call::Tree(TreeCall::Mkdir { path }));
         }
         let path = path_of(self.alloc, file)?;
-        let fid = match self.ask(&Call::Tree(TreeCall::Create { path })) {
-            Some(Reply::Tree(TreeReply::MadeFile(info))) => info.fid,
-            _ => 0,
-        };
-        self.files.fids.push(fid)?;
+        let reply = self.ask(&Call::Tree(TreeCall::Create { path }));
+        self.files.fids.push(made(&reply))?;
         Ok(())
     }
 

@@ -1,5 +1,5 @@
--- A journal that was formatted, one for whose call memory was wanting, and one that was full.
-use Rattle.std.proofs.Common.{◌≡◌, ⊎_elim, ℕ, ◌≤◌, Bool, true, false, cond, IsTrue, List, [], ◌∷◌, ◌++◌, Option, Some, None, Result, Ok, Err, OnOk, OnErr, refl, sym, ◌∙◌, ap, subst}
+-- A journal that was formatted, one for whose call memory was wanting, and what no call changes.
+use Rattle.std.proofs.Common.{◌≡◌, ℕ, ◌≤◌, Bool, true, false, cond, IsTrue, List, [], ◌∷◌, ◌++◌, Option, None, Result, Ok, Err, OnOk, OnErr, refl, sym, ◌∙◌, ap, subst}
 use Rattle.std.specs.Prelude.{◌&&◌, is_some}
 use Rattle.rz_disk.specs.Images.{Only}
 use Rattle.rz_disk.specs.Meter.{Meter, faults}
@@ -11,11 +11,9 @@ use Rattle.rz_export_model.specs.Export.{Export, new_export, export_after}
 use Rattle.rz_journal.specs.JournalText.{IsTextOf}
 use Rattle.rz_journal.specs.Kept.{IsAfter, AllStandFor}
 use Rattle.rz_journal.specs.Said.{entry_of}
-use Rattle.rz_journal.specs.Seen.{JournalView, IsOpenAnswer, IsJournalAnswer, calls_after}
+use Rattle.rz_journal.specs.Seen.{JournalView, calls_after}
 use Rattle.rz_journal.proofs.Refused.{volume_same}
-use Rattle.rz_journal.specs.declared.journal.JournalReply.TheVariants as answer
 use Rattle.rz_metadata.specs.declared.journaled.Refusal.{Refusal}
-use Rattle.rz_metadata.specs.declared.journaled.Refusal.TheVariants.{Full}
 use Rattle.rz_metadata.specs.Stands.{IsKept, IsLeft, IsLeftBy, wants_memory}
 
 -- a journal that was formatted kept no calls
@@ -57,17 +55,6 @@ pub left-wanting : {D : Type 0} (tells : Bool) (meter : D → Meter) (image : D 
 left-wanting tells meter image first old new c calls refusal r wants more stands kept =
     let after : IsAfter new.export calls = subst (IsAfter new.export) (ap (λ (x : Reply). calls_after x c calls) wants ∙ none-added c calls) (more kept.after) in
     subst (λ (o : Option Refusal). IsLeftBy o tells (image new.disk) first (faults (meter new.disk)) new.export calls c) (sym kept.unrefused) (λ told. stands told calls after)
-
--- a journal that is full stays as it was
-pub left-full : {D : Type 0} (tells : Bool) (meter : D → Meter) (image : D → List ℕ → Type 0) (first : ℕ) (old new : JournalView D) (c : Call) (calls : List Call) (refusal : Option Refusal) (need have : ℕ) → IsJournalAnswer old c (answer.Full need have) new
-    → IsKept tells meter image first (record { journal = old; refusal = refusal }) calls → IsLeft tells meter image first (record { journal = new; refusal = Some Full }) calls c
-left-full {D = D} tells meter image first old new c calls refusal need have answered kept =
-    ⊎_elim
-    (λ (was : (old.closed ≡ true) × (answer.Full need have ≡ answer.Closed) × (new ≡ old)). (let wrong : true ≡ false = sym was.0 ∙ kept.is_open in absurd (cc)))
-    (λ (is : (old.closed ≡ false) × IsOpenAnswer old c (answer.Full need have) new).
-    let full = is.1.1 in
-    subst (λ (j : JournalView D). IsLeft tells meter image first (record { journal = j; refusal = Some Full }) calls c) (sym is.1.0) (kept.after, (full.0, full.1, full.2.not_there), kept.images))
-    answered
 
 -- no call changes the volume
 pub volume-kept : {E : Type 0} (old new : Export) (c : Call) (result : Result Reply E) → OnOk result (new ≡ export_after old c) → OnErr result (new ≡ old) → new.volume ≡ old.volume

@@ -1,5 +1,5 @@
 //! The metadata of a store.
-ghost use Rattle.std.specs.Prelude.{◌≡◌, ◌⊎◌, ℕ, List, [], IsTrue, IsSome, IfOk, IfErr, OnOk, OnErr};
+ghost use Rattle.std.specs.Prelude.{◌≡◌, ◌⊎◌, ◌≤◌, ℕ, true, false, List, [], IsTrue, IsSome, IfOk, IfErr, OnOk, OnErr};
 ghost use Rattle.rz_disk.specs.Meter.{Rises, faults};
 ghost use Rattle.rz_events.specs.declared.export.Call.{Call as ACall};
 ghost use Rattle.rz_export_model.specs.Export.{export_reply, export_after, new_export, published_after};

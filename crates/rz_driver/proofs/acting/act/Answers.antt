@@ -6,8 +6,7 @@ use Rattle.rz_events.specs.declared.tree.TreeCall.TheVariants as tree
 use Rattle.rz_export_model.specs.Export.{export_reply}
 use Rattle.rz_metadata.specs.Stands.{export_in}
 use Rattle.rz_asks.specs.Journals.{EndsOn}
-use Rattle.rz_asks.proofs.Keeping.{keeps-same, ends-unasked}
-use Rattle.rz_driver.specs.Journals.{IsSameStore}
+use Rattle.rz_asks.proofs.Keeping.{keeps-same}
 use Rattle.rz_driver.proofs.JournalLemmas.{fate-stays, said-stays-export, same-store, store-keeps, store-ends}
 use Rattle.rz_stations.proofs.MeterLemmas.{still-err, metered-stays, still-left, export-stays, said-stays}
 use Rattle.rz_asks.specs.Locking.{IsOpenPart, open_reply}

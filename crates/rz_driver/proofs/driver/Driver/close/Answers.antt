@@ -1,4 +1,4 @@
-use Rattle.std.proofs.Common.{◌≡◌, ℕ, List, length, ◌<◌, ◌-◌, ◌^◌, ◌++◌, [], map, sym, ◌∙◌, ap, subst}
+use Rattle.std.proofs.Common.{◌≡◌, List, length, ◌<◌, ◌-◌, ◌^◌, map, sym, ◌∙◌, ap, subst}
 use Rattle.std.proofs.lemmas.List.{append-nil}
 use Rattle.rz_disk.specs.UnderFuse.{UnderFuse, fused_meter}
 use Rattle.rz_events.specs.Volume.{Volume, nodes_of}
@@ -12,10 +12,8 @@ use Rattle.rz_formatting.specs.Formatted.{disks_of}
 use Rattle.rz_driver.specs.Worlds.{numbers_in}
 use Rattle.rz_stations.proofs.MeterLemmas.{counted-disks, metered-counts}
 use Rattle.rz_driver.proofs.DriverMeters.{leaves-counted}
-use Rattle.rz_driver.proofs.DriverPictures.{leaves-named, leaves-right}
 use Rattle.rz_driver.proofs.Closed.{has-few, left-imaged}
 use Rattle.rz_stations.proofs.FetchLemmas.{disks-since}
-use Rattle.rz_driver.proofs.driver.Driver.close.Given as given
 use Rattle.rz_driver.proofs.driver.Driver.close.Goals as goal
 
 pub returns-clause-disks : goal.returns-clause-disks

@@ -1,6 +1,3 @@
-use Rattle.std.proofs.Common.{sym, ap, ◌∙◌, ◌++◌, List, subst}
-use Rattle.std.specs.Prelude.{option_to_list}
-use Rattle.rz_formatting.specs.Formatted.{disks_of}
 use Rattle.rz_driver.specs.Journals.{journal_place}
 use Rattle.rz_driver.specs.Worlds.{numbers_in}
 use Rattle.rz_stations.proofs.MeterLemmas.{counted-disks}

@@ -1,8 +1,6 @@
-use Rattle.std.proofs.Common.{arith, ◌≡◌, ◌+◌, ◌++◌, ◌∷◌, [], ℕ, List, length, refl, sym, ◌∙◌, ap, subst}
+use Rattle.std.proofs.Common.{arith, ◌++◌, ◌∷◌, [], List, length, sym, ◌∙◌, subst}
 use Rattle.std.proofs.lemmas.Result.{IfOk-weaker, IfErr-weaker}
-use Rattle.rz_disk.specs.UnderFuse.{UnderFuse}
 use Rattle.rz_events.specs.Volume.{Volume, nodes_of}
-use Rattle.rz_formatting.specs.declared.fault.DriverFault.{DriverFault}
 use Rattle.rz_formatting.specs.Formatted.{AreFormatted, IsCause, disks_of}
 use Rattle.rz_formatting.proofs.FormatLemmas.{untouched}
 use Rattle.rz_stations.specs.Meters.{faults_at}
@@ -11,11 +9,10 @@ use Rattle.rz_driver.specs.Formatted.{AreBackWithJournal, IsBehindJournal, IsJou
 use Rattle.rz_driver.specs.Worlds.{Holds}
 use Rattle.rz_driver.proofs.BehindJournal.{back-count, behind-holds, behind-made, behind-ready, behind-world, back-with, cause-with, front-count, has-last, refused-back, refused-cause}
 use Rattle.rz_driver.proofs.MadeLemmas.{as-many}
-use Rattle.rz_driver.proofs.driver.Driver.first.Given as given
 use Rattle.rz_driver.proofs.driver.Driver.first.Goals as goal
 
 pub new-requires : goal.new-requires
-new-requires g c = front-count c.args.disks.items c.in-Ok.nodes.items c.in-Ok.journal (length (nodes_of c.args.volume.now.clusters)) c.in-Ok.ensures.split c.requires.count
+new-requires g c = record { count = front-count c.args.disks.items c.in-Ok.nodes.items c.in-Ok.journal (length (nodes_of c.args.volume.now.clusters)) c.in-Ok.ensures.split c.requires.count }
 
 pub with_last-requires-clause-room : goal.with_last-requires-clause-room
 with_last-requires-clause-room g c =
@@ -118,7 +115,7 @@ returns-in-Err-new-clause-cause g c =
     let back = c.in-Err-new.back.items in
     let meter = g.D.Disk.meter in
     let cause = cause-with g.D.Disk.tells meter g.D.Disk.image c.args.volume.now nodes back journal c.in-Err-new.fault c.in-Err-new.ensures.cause in
-    subst (λ (xs : List g.row.D.Denot). IsCause meter xs _ c.in-Err-new.fault) (sym c.in-Ok.ensures.split)
+    subst (λ (xs : List g.row.D.Denot). IsCause meter xs c.with_last.result.items c.in-Err-new.fault) (sym c.in-Ok.ensures.split)
     (subst (λ (ys : List g.row.D.Denot). IsCause meter (nodes ++ journal ∷ []) ys c.in-Err-new.fault) (sym c.with_last.ensures) cause)
 
 pub returns-in-Err-clause-back : goal.returns-in-Err-clause-back

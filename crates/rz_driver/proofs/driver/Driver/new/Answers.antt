@@ -1,4 +1,4 @@
-use Rattle.std.proofs.Common.{◌≡◌, List, length, map, refl, sym, ◌∙◌, ap, subst}
+use Rattle.std.proofs.Common.{arith, ◌≡◌, List, length, map, refl, sym, ◌∙◌, ap, subst}
 use Rattle.std.specs.List.{AllByRecursion}
 use Rattle.mj_angles.specs.declared.layout.Layout.{Layout}
 use Rattle.rz_events.specs.Volume.{Volume, IsNode, nodes_of}
@@ -10,7 +10,7 @@ use Rattle.rz_asks.proofs.Keeping.{keeps-first}
 use Rattle.rz_formatting.specs.Formatted.{AreFormatted, AreBack}
 use Rattle.rz_formatting.proofs.FormatLemmas.{untouched}
 use Rattle.rz_stations.proofs.MeterLemmas.{new-holds}
-use Rattle.rz_driver.proofs.MadeLemmas.{new-ready, new-is}
+use Rattle.rz_driver.proofs.MadeLemmas.{as-many, new-ready, new-is}
 use Rattle.rz_stations.specs.Meters.{faults_at}
 use Rattle.rz_stations.specs.Stations.{IsStation}
 use Rattle.rz_driver.proofs.NewPictures.{new-picture}
@@ -66,3 +66,15 @@ returns-in-Ok-format_all-clause-held g c =
             (keeps-first g.D.Disk.tells g.D.Disk.meter g.D.Disk.image at c.in-Ok.parts.export (c.in-Ok.ensures.stands at));
       },
     )
+
+-- there is room for the disks of the nodes, and for one more
+pub invariant_of-result : goal.invariant_of-result
+invariant_of-result g c =
+    let nodes = c.as_slice.ensures.value ∙ c.in-Ok.ensures.nodes in
+    let stations = c.in-Ok-format_all.stations in
+    let many = as-many g.D.Disk.tells g.D.Disk.meter g.D.Disk.text g.D.Disk.image c.volume.inside.layout c.as_slice.result.now c.args.disks.items stations.items (c.requires.count ∙ ap length (sym nodes)) c.in-Ok-format_all.ensures.made in
+    let as_nodes = ap length nodes in
+    let long = stations.ok.0 in
+    let empty = c.in-Ok.ensures.empty in
+    let room = c.in-Ok.ensures.room in
+    record { room = omega (arith, many, as_nodes, long, empty, room) }
