@@ -1,5 +1,5 @@
 -- Disks that come back where no driver was made.
-use Rattle.std.proofs.Common.{◌≡◌, inl, inr, ℕ, zero, suc, ◌+◌, ◌-◌, ◌^◌, ◌≤◌, min, Bool, List, [], ◌∷◌, length, map, refl, ap, ◌∙◌, arith}
+use Rattle.std.proofs.Common.{◌≡◌, inl, inr, ℕ, zero, suc, ◌+◌, ◌-◌, ◌^◌, ◌≤◌, ◌<◌, min, Bool, List, [], ◌∷◌, length, map, refl, ap, ◌∙◌, arith}
 use Rattle.mj_angles.specs.declared.layout.Layout.{Layout}
 use Rattle.rz_disk.specs.Meter.{Meter, faults}
 use Rattle.rz_events.specs.declared.files.NodeSpec.{NodeSpec}
@@ -28,7 +28,7 @@ module _ {D : Type 0} (tells : Bool) (meter : D → Meter) (image : D → List �
   back-faults (s ∷ nodes) (o ∷ old) (n ∷ new) count all (suc i) = back-faults nodes old new (omega (arith, count)) all.1 i
 
   -- and there is one for each node, in order, where nothing was played
-  pub counted-none : (first : ℕ → ℕ) (i : ℕ) (nodes : List NodeSpec) (old new : List D) → ((k : ℕ) → first (i + k) ≡ faults_at meter old k) → length old ≡ length nodes
+  pub counted-none : (first : ℕ → ℕ) (i : ℕ) (nodes : List NodeSpec) (old new : List D) → ((k : ℕ) → k < length old → first (i + k) ≡ faults_at meter old k) → length old ≡ length nodes
       → AreBack tells meter image layout nodes old new → AreDisksCounted meter first i (map (λ (n : NodeSpec). n.sid) nodes) new []
   counted-none first i [] [] [] firsts count all = tt
   counted-none first i [] [] (n ∷ new) firsts count all = absurd all
@@ -37,12 +37,12 @@ module _ {D : Type 0} (tells : Bool) (meter : D → Meter) (image : D → List �
   counted-none first i (s ∷ nodes) (o ∷ old) [] firsts count all = absurd all
   counted-none first i (s ∷ nodes) (o ∷ old) (n ∷ new) firsts count all =
       let zeroth : i ≡ i + 0 = omega arith in
-      let here : first i ≡ faults (meter o) = ap first zeroth ∙ firsts 0 in
+      let here : first i ≡ faults (meter o) = ap first zeroth ∙ firsts 0 (omega arith) in
       let kept : faults (meter o) ≤ faults (meter n) = all.0.count in
       let next : (k : ℕ) → (i + 1) + k ≡ i + suc k = λ k. omega arith in (
         omega (arith, here, kept),
         λ below. record { few = omega arith; effect = λ none. refl },
-        counted-none first (i + 1) nodes old new (λ k. ap first (next k) ∙ firsts (suc k)) (omega (arith, count)) all.1,
+        counted-none first (i + 1) nodes old new (λ k lt. ap first (next k) ∙ firsts (suc k) (omega (arith, lt))) (omega (arith, count)) all.1,
       )
 
 -- a count that rose as a disk counts has risen as a stream counts

@@ -1,14 +1,20 @@
 -- Disks as they were lent, and as they are handed back.
-use Rattle.std.specs.Prelude.{ℕ, Bool, IsTrue, ◌≡◌, map, List, [], ◌++◌, Result, Ok, Err}
-use Rattle.rz_disk.specs.Meter.{Meter}
+use Rattle.std.specs.Prelude.{ℕ, Bool, IsTrue, ◌≡◌, map, List, [], ◌∷◌, ◌++◌, Some, None, Result, Ok, Err}
+use Rattle.rz_disk.specs.Meter.{Meter, faults}
 use Rattle.rz_stations.specs.Meters.{AreDisksCounted, faults_at}
 use Rattle.rz_stations.specs.Images.{AreDisksImaged}
 use Rattle.rz_events.specs.Volume.{Volume, nodes_of}
 use Rattle.rz_events.specs.declared.files.NodeSpec.{NodeSpec}
 use Rattle.rz_events.specs.declared.events.Event.{Event}
 use Rattle.rz_formatting.specs.Formatted.{AreBack}
+use Rattle.rz_metadata.specs.declared.journaled.Refusal.TheVariants.{Full, Failed}
+use Rattle.rz_driver.specs.Endings.{EndsAsRefused, StandsForLog}
+use Rattle.rz_driver.specs.Formatted.{IsJournalBack}
+use Rattle.rz_lines.specs.declared.lines.PlayEnd.TheVariants.{NoMemory, Journal, JournalFull}
 use Rattle.rz_request.specs.declared.refusal.Stop.{Stop}
 use Rattle.rz_request.specs.declared.wishes.Request.{Request}
+use Rattle.rz_request.specs.declared.wishes.Wish.{Wish}
+use Rattle.rz_request.specs.declared.wishes.Wish.TheVariants.{First}
 use Rattle.rz_perform.specs.Replays.{Faulted, Course, Unplayed, Performed}
 
 -- the numbers of a volume's nodes, in order
@@ -28,15 +34,42 @@ AreFaultsTold meter v old new h = AreDisksCounted meter (faults_at meter old) 0 
 -- with its log, each stands for what the log says that its node holds.
 abbrev pub AreImagesTold : {D : Type 0} → Bool → (D → Meter) → (D → List ℕ → Type 0) → Course → Volume → List D → List D → List Event → Type 0
 AreImagesTold tells meter image Unplayed v old new h = AreBack tells meter image v.layout (nodes_of v.clusters) old new
-AreImagesTold tells meter image (Performed later) v old new h = IsTrue tells → AreDisksImaged image v (numbers_of_volume v) new h
+AreImagesTold tells meter image (Performed end later) v old new h = IsTrue tells → AreDisksImaged image v (numbers_of_volume v) new h
 
 -- the events of the records that were asked for after a play
 abbrev pub asked_in : Course → List Event
 asked_in Unplayed = []
-asked_in (Performed later) = later
+asked_in (Performed end later) = later
+
+-- Where no play began, each image of a journal's disk is one from before, or its header is shut, or it stands for no calls. After a
+-- play each stands for the calls of the log, and where a call was not kept, as the end of the play says, maybe for that one too.
+abbrev pub IsJournalTold : {D : Type 0} → Bool → (D → Meter) → (D → List ℕ → Type 0) → Course → Volume → (old new : D) → List Event → Type 0
+IsJournalTold tells meter image Unplayed v old new h = IsJournalBack tells meter image v old new
+IsJournalTold tells meter image (Performed NoMemory later) v old new h = EndsAsRefused None tells (image new) (faults (meter old)) (faults (meter new)) v h
+IsJournalTold tells meter image (Performed Journal later) v old new h = EndsAsRefused (Some Failed) tells (image new) (faults (meter old)) (faults (meter new)) v h
+IsJournalTold tells meter image (Performed JournalFull later) v old new h = EndsAsRefused (Some Full) tells (image new) (faults (meter old)) (faults (meter new)) v h
+IsJournalTold tells meter image (Performed end later) v old new h = IsTrue tells → StandsForLog (image new) v h
+
+-- The disks of the nodes, and behind them that of a journal. The faults of the nodes are told by the log with the records that were
+-- asked for after it.
+pub record AreAllBack {D : Type 0} (tells : Bool) (meter : D → Meter) (image : D → List ℕ → Type 0) (course : Course) (v : Volume) (old new : List D) (h : List Event) : Type 0 where
+  pub nodes : List D
+  pub journal : D
+  pub old_are : old ≡ nodes ++ journal ∷ []
+  pub nodes_back : List D
+  pub journal_back : D
+  pub new_are : new ≡ nodes_back ++ journal_back ∷ []
+  pub faults_told : AreFaultsTold meter v old nodes_back (asked_in course ++ h)
+  pub images_told : AreImagesTold tells meter image course v nodes nodes_back h
+  pub journal_told : IsJournalTold tells meter image course v journal journal_back h
+
+-- the disks of a request that was played, which for `first` are one more than the nodes
+abbrev pub AreBackFrom : {D : Type 0} → Bool → (D → Meter) → (D → List ℕ → Type 0) → Course → Wish → Volume → List D → List D → List Event → Type 0
+AreBackFrom tells meter image course First v old new h = AreAllBack tells meter image course v old new h
+AreBackFrom tells meter image course _ v old new h = AreFaultsTold meter v old new (asked_in course ++ h) × AreImagesTold tells meter image course v old new h
 
 -- Where there is nothing to play the disks are as they came. Otherwise their images are told by the log, and their faults by the log
 -- with the records that were asked for after it.
 abbrev pub HandsBack : {D : Type 0} → Bool → (D → Meter) → (D → List ℕ → Type 0) → Course → Result Request Stop → List D → List D → List Event → Type 0
-HandsBack tells meter image course (Ok r) old new h = AreFaultsTold meter r.script.volume old new (asked_in course ++ h) × AreImagesTold tells meter image course r.script.volume old new h
+HandsBack tells meter image course (Ok r) old new h = AreBackFrom tells meter image course r.wish r.script.volume old new h
 HandsBack tells meter image course (Err stop) old new h = new ≡ old

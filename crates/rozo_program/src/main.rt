@@ -4,8 +4,9 @@
 //! The contract of `replay` says which status comes when, that the source was read to its end, that the
 //! log is that of the script's play and what it says is true, which bytes the sink took, that the disks are
 //! back in their order, and that their counts of faults go with the faults in the log. Of an old disk it
-//! says that it is as it was, and what stands on the new one. It does not say what a real file or a
-//! terminal holds, or that memory is there, whose want is status 70.
+//! says that it is as it was, and what stands on the new one. Of the disk of a journal it says for which
+//! calls it stands. It does not say what a real file or a terminal holds, or that memory is there, whose
+//! want is status 70.
 //!
 //! In reading order: `replay`, `migrating`, `disks`.
 #![tactic(auto)]

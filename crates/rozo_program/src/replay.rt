@@ -1,8 +1,9 @@
 //! What words and an input ask for, done over disks that are lent to it.
 
-ghost use Rattle.std.specs.Prelude.{◌≡◌, ◌-◌, [], IsSome, MatchResult, Ok, length, map, reverse, string_bytes};
+ghost use Rattle.std.specs.Prelude.{◌≡◌, ◌≢◌, ◌+◌, ◌-◌, [], IsSome, MatchResult, Ok, length, map, reverse, string_bytes};
 ghost use Rattle.rz_command.specs.Line.{meaning};
-ghost use Rattle.rz_request.specs.Requests.{nodes_in};
+ghost use Rattle.rz_request.specs.Requests.{disks_for, nodes_in};
+ghost use Rattle.rz_request.specs.declared.wishes.Wish.TheVariants.{First};
 ghost use Rattle.rz_perform.specs.Replays.{Course, Follows};
 ghost use Rattle.rozo_program.specs.Disks.{HandsBack, faulted};
 ghost use Rattle.rozo_program.specs.Replays.{Fails, Plays, Replays, old_node_of};
@@ -15,7 +16,7 @@ use rz_events::Event;
 use rz_link::Link;
 use rz_perform::{perform, refuse, stop};
 use rz_ports::{Sink, Source};
-use rz_request::{Refusal, Request, request};
+use rz_request::{Refusal, Request, Wish, request};
 use std::alloc::{AllocError, Global};
 use std::mem;
 
@@ -62,15 +63,17 @@ fn refuse_disks<O: Sink>(alloc: Global, fault: DriverFault, output: &mut O) -> u
     }
 }
 
-/// Plays a request over disks, and writes what is to be told of it. The disks are back afterwards.
-fn play_request<D: Disk, L: Link, O: Sink>(
+/// Plays a request that wants no journal over disks, and writes what is to be told of it. The disks are back
+/// afterwards.
+fn play_plain<D: Disk, L: Link, O: Sink>(
     alloc: Global,
     request: &Request,
     disks: &mut Vec<D>,
     link: &mut L,
     output: &mut O,
 ) -> Played
-    requires { length disks.old.items ≡ nodes_in request.now.script }
+    requires plain { request.now.wish ≢ First }
+    requires count { length disks.old.items ≡ nodes_in request.now.script }
     ensures { (course : Course) × Follows D.tells course request.now (faulted D.meter disks.old.items disks.new.items) (L.lost link.new - L.lost link.old) (record { before = O.taken output.old; after = O.taken output.new; old = O.faults output.old; new = O.faults output.new }) result.status (reverse result.log.items)
         × HandsBack D.tells D.meter D.image course (Ok request.now) disks.old.items disks.new.items (reverse result.log.items) }
 {
@@ -100,9 +103,70 @@ fn play_request<D: Disk, L: Link, O: Sink>(
     }
 }
 
-/// Plays what words and an input ask for over the disks, of which there is one for each node in the
-/// order of the description, and writes what is to be told of it. The disks are back in their order
+/// Plays a request over disks of which the last is formatted for a journal, and writes what is to be told of
+/// it. The disks are back afterwards.
+fn play_first<D: Disk, L: Link, O: Sink>(
+    alloc: Global,
+    request: &Request,
+    disks: &mut Vec<D>,
+    link: &mut L,
+    output: &mut O,
+) -> Played
+    requires first { request.now.wish ≡ First }
+    requires count { length disks.old.items ≡ nodes_in request.now.script + 1 }
+    ensures { (course : Course) × Follows D.tells course request.now (faulted D.meter disks.old.items disks.new.items) (L.lost link.new - L.lost link.old) (record { before = O.taken output.old; after = O.taken output.new; old = O.faults output.old; new = O.faults output.new }) result.status (reverse result.log.items)
+        × HandsBack D.tells D.meter D.image course (Ok request.now) disks.old.items disks.new.items (reverse result.log.items) }
+{
+    rz_scrub_laws::untouched::<D>();
+    let volume = request.script.volume();
+    let _nodes = volume.node_count();
+    let lent = mem::replace(disks, Vec::new(alloc));
+    match Driver::first(alloc, volume, lent) {
+        Ok(mut driver) => {
+            let status = perform(
+                alloc,
+                request.wish,
+                &request.script,
+                &mut driver,
+                link,
+                output,
+            );
+            let (log, back) = driver.close_all();
+            *disks = back;
+            Played { status, log }
+        }
+        Err((back, fault)) => {
+            *disks = back;
+            let status = refuse_disks(alloc, fault, output);
+            unplayed(alloc, status)
+        }
+    }
+}
+
+/// Plays a request over the disks that it needs, and writes what is to be told of it. The disks are back
 /// afterwards.
+fn play_request<D: Disk, L: Link, O: Sink>(
+    alloc: Global,
+    request: &Request,
+    disks: &mut Vec<D>,
+    link: &mut L,
+    output: &mut O,
+) -> Played
+    requires { length disks.old.items ≡ disks_for request.now.wish request.now.script }
+    ensures { (course : Course) × Follows D.tells course request.now (faulted D.meter disks.old.items disks.new.items) (L.lost link.new - L.lost link.old) (record { before = O.taken output.old; after = O.taken output.new; old = O.faults output.old; new = O.faults output.new }) result.status (reverse result.log.items)
+        × HandsBack D.tells D.meter D.image course (Ok request.now) disks.old.items disks.new.items (reverse result.log.items) }
+{
+    match request.wish {
+        Wish::First => play_first(alloc, request, disks, link, output),
+        Wish::Replay => play_plain(alloc, request, disks, link, output),
+        Wish::Scrub => play_plain(alloc, request, disks, link, output),
+        Wish::Load { .. } => play_plain(alloc, request, disks, link, output),
+    }
+}
+
+/// Plays what words and an input ask for over the disks, of which there is one for each node in the
+/// order of the description, and one more where a journal is wanted; and writes what is to be told of it.
+/// The disks are back in their order afterwards.
 fn play_words<I: Source, O: Sink, D: Disk, L: Link>(
     alloc: Global,
     words: &[String],

@@ -139,6 +139,73 @@ fn a_message_or_a_disk_fails(rt: HostRuntime) -> Result<(), Fail> {
     Ok(())
 }
 
+const FIRST: &str = "rozo first --disks 5";
+
+const FIRST_TOLD: &str = "0 with 5 disks: c1 1 created 00000000-0000-0000-0000-000000000001
+c1 2 acked 1 1110
+end 9
+";
+
+/// The first bytes of a journal's disk: the magic text, the gate of the header, and that of the half.
+const HEADER: [u8; 34] = *b"MJROZJ01\0\0\0\0\0\0\0\0\0\0\0\0\0\0\0\0\0\0\0\0\0\0\0\0\x01\0";
+
+/// The entries of the journal after `WRITTEN`: that `/f` is made, and that a write of its block 0 begins and
+/// is published. Each is a gate, the length of what follows, and the call. Then comes the gate that ends them.
+const ENTRIES: [u8; 90] =
+    *b"\x01\x06\0\0\0\x01\x04\x02\0/f\x01\x1d\0\0\0\x02\x01\0\0\0\0\0\0\0\0\0\0\0\0\0\0\0\0\0\0\0\0\0\0\0\x05\0\0\0\x01\x27\0\0\0\x03\x01\0\0\0\0\0\0\0\0\0\0\0\0\0\0\0\0\0\0\0\0\0\0\0\x01\0\0\0\0\0\0\0\x07\0\x05\0\0\0\0";
+
+#[test]
+fn a_journal_beside_the_nodes(rt: HostRuntime) -> Result<(), Fail> {
+    let alloc = rt.alloc();
+    let mut disks: Vec<PlainDisk> = memory(alloc, 5)?;
+    let link = MemLink::new(Vec::new(alloc));
+    let first = told(alloc, FIRST, WRITTEN, &mut disks, link)?;
+    assert_eq!(rt; first.as_str(), FIRST_TOLD);
+
+    // The journal is the last disk, and has the calls that changed the export.
+    let mut header = [0; 34];
+    let mut entries = [0; 90];
+    if let Some(disk) = disks.get_mut(4) {
+        if disk.size() == 16_777_216 {
+            assert_eq!(rt; disk.read(0, &mut header), Ok(()));
+            assert_eq!(rt; disk.read(64, &mut entries), Ok(()));
+        }
+    }
+    assert_eq!(rt; header, HEADER);
+    assert_eq!(rt; entries, ENTRIES);
+
+    // Without a disk for the journal there is one too few.
+    let mut disks: Vec<PlainDisk> = memory(alloc, 4)?;
+    let link = MemLink::new(Vec::new(alloc));
+    let few = told(alloc, "rozo first --disks 4", WRITTEN, &mut disks, link)?;
+    assert_eq!(rt; few.as_str(), "10 with 4 disks: refused disks 4 5\n");
+    Ok(())
+}
+
+#[test]
+fn the_disk_of_the_journal_fails(rt: HostRuntime) -> Result<(), Fail> {
+    let alloc = rt.alloc();
+
+    // It fails while it is formatted; at the second call; and at none.
+    for (failing, want) in [
+        (0, "11 with 5 disks: refused disk 4\n"),
+        (
+            10,
+            "14 with 5 disks: c1 1 created 00000000-0000-0000-0000-000000000001\nrefused journal\n",
+        ),
+        (999, FIRST_TOLD),
+    ] {
+        let mut disks = Vec::new(alloc);
+        for at in [999, 999, 999, 999, failing] {
+            disks.push(MemDisk::new(alloc, vec![in alloc; at]?))?;
+        }
+        let link = MemLink::new(Vec::new(alloc));
+        let refused = told(alloc, FIRST, WRITTEN, &mut disks, link)?;
+        assert_eq!(rt; refused.as_str(), want, "at {failing}");
+    }
+    Ok(())
+}
+
 #[test]
 fn the_source_or_the_sink_fails(rt: HostRuntime) -> Result<(), Fail> {
     let alloc = rt.alloc();

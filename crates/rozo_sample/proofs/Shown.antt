@@ -16,3 +16,5 @@ shows s end.Ended lost h log (Ok text) ended is told = (h, ended.0, told ∙ ap 
 shows s end.Ended lost h log (Err why) ended is told = subst (λ w. Shows s (Err w)) (sym told) tt
 shows s end.TooManyTurns lost h log r ended is told = subst (Shows s) (sym told) (h, ended.0)
 shows s end.NoMemory lost h log r ended is told = subst (Shows s) (sym told) tt
+shows s end.Journal lost h log r ended is told = subst (Shows s) (sym told) tt
+shows s end.JournalFull lost h log r ended is told = subst (Shows s) (sym told) tt

@@ -17,12 +17,12 @@ use Rattle.rozo_sample.specs.declared.sample.Refused.TheVariants as refused
 abbrev pub limit : ℕ
 limit = 4194304
 
--- What is shown of a play that ended so, with this log. Want of memory says nothing.
+-- What is shown of a play that ended so, with this log. Want of memory says nothing; it alone cuts off a play that has no journal.
 abbrev pub Tells : PlayEnd → List Event → Result (Vec ℕ) Refused → Type 0
 Tells end.Ended log (Ok text) = text.items ≡ text_of log true
 Tells end.Ended log (Err why) = why ≡ refused.NoMemory
 Tells end.TooManyTurns log shown = shown ≡ Err refused.TooManyTurns
-Tells end.NoMemory log shown = shown ≡ Err refused.NoMemory
+Tells cut_off log shown = shown ≡ Err refused.NoMemory
 
 -- The text of the log of a whole play of the script; or a play of it stopped before a turn too many. Want of memory says nothing.
 abbrev pub Shows : Script → Result (Vec ℕ) Refused → Type 0

@@ -50,7 +50,8 @@ fn shown(alloc: Global, end: PlayEnd, log: &[Event]) -> Result<Vec<u8>, Refused>
             Err(_) => Err(Refused::NoMemory),
         },
         PlayEnd::TooManyTurns => Err(Refused::TooManyTurns),
-        PlayEnd::NoMemory => Err(Refused::NoMemory),
+        // There is no journal here, so that memory is what cuts a play off.
+        PlayEnd::NoMemory | PlayEnd::Journal | PlayEnd::JournalFull => Err(Refused::NoMemory),
     }
 }
 

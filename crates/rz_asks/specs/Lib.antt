@@ -1,3 +1,4 @@
 pub mod Logged
 pub mod Parts
 pub mod Locking
+pub mod Journals

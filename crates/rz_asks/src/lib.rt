@@ -5,6 +5,9 @@
 //! and notes the event, as the models say; where memory is wanting, or the export does not take the call,
 //! the log stays as it is. Nothing is said here of nodes, nor of whose turn it is.
 //!
+//! The export may stand behind a journal. `specs/Journals` says that the journal's disk stands for the calls
+//! that the log tells, or where a call ended in no reply for these and one more.
+//!
 //! In reading order: `log`, `replies`, `locking`, `words`.
 #![tactic(auto)]
 

@@ -3,33 +3,42 @@ ghost use Rattle.std.specs.Prelude.{◌≡◌, ◌<◌, ◌≤◌, ℕ, None, On
 ghost use Rattle.std.specs.FinMap as map;
 ghost use Rattle.rz_events.specs.declared.keys.Actor.TheVariants as actor;
 ghost use Rattle.rz_events.specs.declared.tree.TreeCall.TheVariants as tree;
+ghost use Rattle.rz_metadata.specs.Stands.{export_in, is_journaled};
 ghost use Rattle.rz_operation.specs.Meaning.{path_in};
 ghost use Rattle.rz_play.specs.Turns.{lock_on};
+ghost use Rattle.rz_asks.specs.Journals.{KeepsOn, EndsOn};
 ghost use Rattle.rz_asks.specs.Locking.{lock_of, Grants, lock_if, IsOpenPart};
 
 use crate::NoMemory;
 use crate::log::Log;
 use crate::replies::note_names;
+use rz_disk::Disk;
 use rz_events::{Actor, Reply, TreeCall, TreeReply};
-use rz_export::Export;
 use rz_locks::{LockAnswer, LockKind, Locks, Range};
-use rz_operation::{Ask, Machine};
+use rz_metadata::Metadata;
+use rz_operation::{Ask, ExportAsk, Machine};
 use std::alloc::Global;
 
 /// Opens the file that a machine asks for, and takes its lock where no held lock conflicts.
-pub fn open(
+pub fn open<D: Disk>(
     alloc: Global,
     by: Actor,
     machine: &mut Machine,
     held: &mut Option<(Range, LockKind)>,
     locks: &mut Locks,
-    export: &mut Export,
+    export: &mut Metadata<D>,
     log: &mut Log,
 ) -> Result<(), NoMemory>
     requires tied { (n : ℕ) → by ≡ actor.Client n → map.get locks.old n ≡ lock_of held.old }
     requires room { 0 < log.old.room }
-    ensures ok { OnOk result (IsOpenPart by machine.old machine.new export.old export.new locks.old locks.new held.old held.new log.old.events log.new.events) }
+    ensures ok { OnOk result (IsOpenPart by machine.old machine.new (export_in export.old) (export_in export.new) locks.old locks.new held.old held.new log.old.events log.new.events) }
     ensures err { OnErr result (log.new.events ≡ log.old.events) }
+    ensures kept { OnOk result (KeepsOn D.tells D.meter D.image export.old log.old.events export.new log.new.events) }
+    ensures left { OnErr result (EndsOn D.tells D.meter D.image export.old log.old.events export.new log.new.events) }
+
+    // On every exit.
+    ensures journal { is_journaled export.new ≡ is_journaled export.old }
+    ensures volume { (export_in export.new).volume ≡ (export_in export.old).volume }
 {
     let Ask::Lock {
         call,
@@ -50,7 +59,9 @@ pub fn open(
         return Err(NoMemory);
     }
     let copy = call.copy(alloc)?;
-    let reply = Reply::Tree(export.name(call)?);
+    let Ok(reply) = export.reply(alloc, ExportAsk::Tree(call)) else {
+        return Err(NoMemory);
+    };
     if !machine.takes_locked(&reply) {
         return Err(NoMemory);
     }

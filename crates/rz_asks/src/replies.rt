@@ -1,14 +1,16 @@
 //! Calls of the export.
 ghost use Rattle.std.specs.Prelude.{◌≡◌, ◌+◌, ◌<◌, ◌≤◌, Some, IfOk, OnOk, OnErr};
-ghost use Rattle.rz_export_model.specs.Export.{export_reply, export_after};
 ghost use Rattle.rz_export_model.specs.ExportEvents.{export_event};
+ghost use Rattle.rz_metadata.specs.Stands.{export_in, is_journaled};
 ghost use Rattle.rz_operation.specs.Meaning.{call_of};
+ghost use Rattle.rz_asks.specs.Journals.{KeepsOn, EndsOn};
 ghost use Rattle.rz_asks.specs.Parts.{AreWords, IsNoted, IsExportPart};
 
 use crate::NoMemory;
 use crate::log::Log;
+use rz_disk::Disk;
 use rz_events::{Actor, Asked, Call, Denial, Event, Key, Published, Reply, Text, TreeCall};
-use rz_export::Export;
+use rz_metadata::Metadata;
 use rz_operation::{Ask, ExportAsk, Machine};
 use std::alloc::{AllocError, Global};
 
@@ -21,22 +23,33 @@ pub(crate) enum Words {
 }
 
 /// Asks the export what a machine asks of it, tells the machine the reply, and notes it.
-pub fn ask_export(
+///
+/// The log's texts of the call are copied before the export is asked, so that no memory is wanting once a call
+/// has changed it.
+pub fn ask_export<D: Disk>(
     alloc: Global,
     by: Actor,
     machine: &mut Machine,
-    export: &mut Export,
+    export: &mut Metadata<D>,
     log: &mut Log,
 ) -> Result<(), NoMemory>
     requires room { 0 < log.old.room }
-    ensures ok { OnOk result (IsExportPart by machine.old machine.new export.old export.new log.old.events log.new.events) }
+    ensures ok { OnOk result (IsExportPart by machine.old machine.new (export_in export.old) (export_in export.new) log.old.events log.new.events) }
     ensures err { OnErr result (log.new.events ≡ log.old.events) }
+    ensures kept { OnOk result (KeepsOn D.tells D.meter D.image export.old log.old.events export.new log.new.events) }
+    ensures left { OnErr result (EndsOn D.tells D.meter D.image export.old log.old.events export.new log.new.events) }
+
+    // On every exit.
+    ensures journal { is_journaled export.new ≡ is_journaled export.old }
+    ensures volume { (export_in export.new).volume ≡ (export_in export.old).volume }
 {
     let Ask::Export(ask) = machine.next() else {
         return Err(NoMemory);
     };
     let words = words_of(alloc, ask)?;
-    let reply = reply_to(export, ask)?;
+    let Ok(reply) = export.reply(alloc, ask) else {
+        return Err(NoMemory);
+    };
     if !machine.takes_reply(&reply) {
         return Err(NoMemory);
     }
@@ -58,48 +71,6 @@ fn words_of(alloc: Global, ask: ExportAsk<'_>) -> Result<Words, AllocError>
         | ExportAsk::Enroll { .. }
         | ExportAsk::Next { .. } => Ok(Words::Nothing),
     }
-}
-
-/// The reply of the export. Where it does not take the call, the play ends as for want of memory.
-pub(crate) fn reply_to(export: &mut Export, ask: ExportAsk<'_>) -> Result<Reply, NoMemory>
-    ensures reply { IfOk result (λ r. r ≡ export_reply export.old (call_of ask.entry)) }
-    ensures after { OnOk result (export.new ≡ export_after export.old (call_of ask.entry)) }
-{
-    match ask {
-        ExportAsk::Tree(call) => Ok(Reply::Tree(export.name(call)?)),
-        ExportAsk::Begin { key, .. } => Ok(export.begin(key)?),
-        ExportAsk::Publish { key, published } => publish(export, key, published),
-        ExportAsk::Look { key } => Ok(export.look(key)),
-        ExportAsk::Recheck { key } => Ok(export.recheck(key)),
-        ExportAsk::Enroll { node, loss } => enroll(export, node, loss),
-        ExportAsk::Next { node, after } => Ok(export.next(node, after)),
-    }
-}
-
-fn publish(export: &mut Export, key: Key, published: Published) -> Result<Reply, NoMemory>
-    ensures reply { IfOk result (λ r. r ≡ export_reply export.old (Call.Publish key published.stamp published.mask published.length)) }
-    ensures after { OnOk result (export.new ≡ export_after export.old (Call.Publish key published.stamp published.mask published.length)) }
-{
-    let call = Call::Publish {
-        key,
-        stamp: published.stamp,
-        mask: published.mask,
-        length: published.length,
-    };
-    if !export.takes(&call) {
-        return Err(NoMemory);
-    }
-    Ok(export.publish(key, published))
-}
-
-fn enroll(export: &mut Export, node: u16, loss: u64) -> Result<Reply, NoMemory>
-    ensures reply { IfOk result (λ r. r ≡ export_reply export.old (Call.Enroll node loss)) }
-    ensures after { OnOk result (export.new ≡ export_after export.old (Call.Enroll node loss)) }
-{
-    if !export.takes(&Call::Enroll { node, loss }) {
-        return Err(NoMemory);
-    }
-    Ok(export.enroll(node, loss))
 }
 
 /// Notes the event of a reply.

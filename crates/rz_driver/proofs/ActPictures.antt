@@ -124,13 +124,13 @@ through-grows part = (part.noted.0 ∷ [], part.noted.2)
 pub lost-grows : {by : Actor} {n cells : ℕ} {question : NodeAsk} {s s' : NodeState} {old new : Machine} {h h' : List Event} → IsReplyLostPart by n cells question s s' old new h h' → GrowsBy h h'
 lost-grows {by = by} {n = n} part = (e.Missed by n true ∷ part.event ∷ [], part.noted)
 
-fate-grows : {D : Type 0} {by : Actor} {n : ℕ} {question : NodeAsk} {s s' : Station D} {old new : Machine} {miss miss' : Option Bool} {p q : Shared D} → IsFate by n question s s' old new miss miss' p q → GrowsBy p.log.events q.log.events
+fate-grows : {D J : Type 0} {by : Actor} {n : ℕ} {question : NodeAsk} {s s' : Station D} {old new : Machine} {miss miss' : Option Bool} {p q : Shared D J} → IsFate by n question s s' old new miss miss' p q → GrowsBy p.log.events q.log.events
 fate-grows (Through part comes miss lost) = through-grows part
 fate-grows (ReplyLost part lost_so miss lost) = lost-grows part
 fate-grows {by = by} {n = n} (RequestLost stays part lost_so miss lost) = (e.Missed by n false ∷ [], part.noted)
 
-pub act-grows : {D : Type 0} (layout : Layout) (by : Actor) (a b : Seat) (p q : Shared D) → IsAct layout by a b p q → GrowsBy p.log.events q.log.events
-act-grows layout by a b p q (Rests asks same shared) = ([], ap (λ (x : Shared _). x.log.events) shared)
+pub act-grows : {D J : Type 0} (layout : Layout) (by : Actor) (a b : Seat) (p q : Shared D J) → IsAct layout by a b p q → GrowsBy p.log.events q.log.events
+act-grows layout by a b p q (Rests asks same shared) = ([], ap (λ (x : Shared _ _). x.log.events) shared)
 act-grows layout by a b p q (Exports old new was is same lock miss (c, asks, r) sts lks lost) = (r.noted.0 ∷ [], r.noted.2)
 act-grows layout by a b p q (Opens old new was is same miss (path, exclusive, from, count, asks, (owner, r)) sts lost) = (r.noted.0 ∷ [], r.noted.2)
 act-grows layout by a b p q (Sends old new was is same lock n question asks m) = fate-grows m.fate

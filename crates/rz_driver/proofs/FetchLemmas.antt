@@ -7,6 +7,7 @@ use Rattle.rz_events.specs.declared.keys.Key.{Key}
 use Rattle.rz_events.specs.declared.keys.Actor.TheVariants.{Admin}
 use Rattle.rz_events.specs.declared.nodes.FetchAnswer.{FetchAnswer}
 use Rattle.rz_events.specs.declared.events.Event.{Event}
+use Rattle.rz_metadata.specs.Stands.{export_in}
 use Rattle.rz_node_model.specs.NodeEvents.{fetch_event}
 use Rattle.rz_scrubbing.specs.Stores.{GoesOn, IsFetched}
 use Rattle.rz_driver.specs.declared.driver.Driver.{Driver}
@@ -27,13 +28,13 @@ module _ {D : Type 0} {G : Ghosts D} (d e : Driver D G) (asked : WasOnlyAsked d 
   asked-ready ready = ready-with d e ready asked.volume (ap (λ (v : Vec Seat). v.items) asked.seats)
       (stations-asked (fused_text G.text) (fused_image G.image) d.volume d.shared.stations.items e.shared.stations.items asked.nodes ready.stations)
       (numbers-asked (fused_text G.text) (fused_image G.image) d.shared.stations.items e.shared.stations.items asked.nodes)
-      (ap (λ (s : Shared (UnderFuse D)). s.locks) asked.shared) (ap (λ (s : Shared (UnderFuse D)). s.bins.items) asked.shared)
+      (ap (λ (s : Shared (UnderFuse D) D). s.locks) asked.shared) (ap (λ (s : Shared (UnderFuse D) D). s.bins.items) asked.shared)
 
   -- as one sees it who scrubs it
   module _ (key : Key) (stamp : ℕ) (given : FetchAnswer) (n : ℕ) where
     pub fetched-of : IsFetch key stamp given n d.shared.stations.items e.shared.stations.items → (position : ℕ) (h : List Event)
         → IsFetched n key position stamp given (state_of d h) (state_of e (fetch_event Admin n key position stamp given ∷ h))
-    fetched-of o position h = record { given_is = o.given_is; export = ap (λ (s : Shared (UnderFuse D)). s.export) asked.shared; nodes = o.states; events = refl }
+    fetched-of o position h = record { given_is = o.given_is; export = ap (λ (s : Shared (UnderFuse D) D). export_in s.export) asked.shared; nodes = o.states; events = refl }
 
     pub goes-on : (position : ℕ) → IsDriver e
         → ((h : List Event) (first : ℕ → ℕ) → Metered d h first → Metered e (fetch_event Admin n key position stamp given ∷ h) first)
@@ -43,7 +44,7 @@ module _ {D : Type 0} {G : Ghosts D} (d e : Driver D G) (asked : WasOnlyAsked d 
       ready = ready;
       described_is = asked.volume;
       given = gives-before G.tells (fused_text G.text) (fused_image G.image) d.shared.stations.items e.shared.stations.items asked.nodes;
-      export_is = λ h. ap (λ (s : Shared (UnderFuse D)). s.export) asked.shared;
+      export_is = λ h. ap (λ (s : Shared (UnderFuse D) D). export_in s.export) asked.shared;
       counted = met;
       asked = asked;
     }

@@ -13,3 +13,7 @@ mod ActPictures
 mod DriverPictures
 mod NewPictures
 mod FetchLemmas
+mod JournalLemmas
+mod JournalEndings
+mod BehindJournal
+mod Closed

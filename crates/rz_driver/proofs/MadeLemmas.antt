@@ -4,6 +4,7 @@ use Rattle.std.specs.Prelude.{◌==◌, nat_eq, slice_get}
 use Rattle.std.specs.List.{AllByRecursion, AllZip, zip, IsDistinct}
 use Rattle.std.specs.FinMap as maps
 use Rattle.std.proofs.Math.Path.{fun_ext}
+use Rattle.std.proofs.lemmas.List.{length-map}
 use Rattle.mj_angles.specs.declared.layout.Layout.{Layout}
 use Rattle.mj_angles.specs.Layout.{max_bins_of}
 use Rattle.rz_disk.specs.Meter.{Meter}
@@ -15,6 +16,7 @@ use Rattle.rz_events.specs.declared.keys.Actor.{Actor}
 use Rattle.rz_events.specs.declared.keys.Actor.TheVariants.{Client, Rebuilder}
 use Rattle.rz_core.specs.NodeRows.{cells_among, cells_of}
 use Rattle.rz_export_model.specs.Export.{new_export}
+use Rattle.rz_metadata.specs.Stands.{export_in}
 use Rattle.rz_node_model.specs.States.{NodeState, fresh}
 use Rattle.rz_play.specs.World.{Seat as APlayer, empty_seat, new_world}
 use Rattle.rz_driver.specs.declared.driver.Driver.{Driver}
@@ -39,6 +41,10 @@ module _ {D : Type 0} (tells : Bool) (meter : D → Meter) (text : D → List �
   new-numbers (n ∷ nodes) [] stations count all = absurd (omega (arith, count))
   new-numbers (n ∷ nodes) (d ∷ disks) [] count all = absurd all
   new-numbers (n ∷ nodes) (d ∷ disks) (s ∷ stations) count all = λ i. all.0.number i ∷ new-numbers nodes disks stations (omega (arith, count)) all.1 i
+
+  pub as-many : (nodes : List NodeSpec) (disks : List D) (stations : List (Station (UnderFuse D))) → length disks ≡ length nodes → AreFormatted tells meter text image layout nodes disks stations → length stations ≡ length nodes
+  as-many nodes disks stations count all =
+      sym (length-map stations (λ (s : Station (UnderFuse D)). s.sid)) ∙ ap length (new-numbers nodes disks stations count all) ∙ length-map nodes (λ (n : NodeSpec). n.sid)
 
   pub new-states : (handed : List (NodeSpec × D)) (stations : List (Station (UnderFuse D))) → AllZip (IsFormatted tells meter text image layout) handed stations → (n : ℕ) → state_in stations n ≡ fresh
   new-states [] [] all n = refl
@@ -121,8 +127,8 @@ module _ {D : Type 0} {G : Ghosts D} (tells : Bool) (meter : D → Meter) (text 
   }
 
 -- and its world is that of a play that is new
-pub new-is : {D : Type 0} (tells : Bool) (meter : D → Meter) (text : D → List ℕ) (image : D → List ℕ → Type 0) (v : Volume) (disks : List D) (q : Shared (UnderFuse D)) (ss : List Seat) → AreFormatted tells meter text image v.layout (nodes_of v.clusters) disks q.stations.items → AllByRecursion IsEmptySeat ss
-    → q.export ≡ new_export v 0 → q.lost ≡ 0 → q.log.events ≡ [] → world q ss 0 ≡ new_world v
+pub new-is : {D : Type 0} (tells : Bool) (meter : D → Meter) (text : D → List ℕ) (image : D → List ℕ → Type 0) (v : Volume) (disks : List D) (q : Shared (UnderFuse D) D) (ss : List Seat) → AreFormatted tells meter text image v.layout (nodes_of v.clusters) disks q.stations.items → AllByRecursion IsEmptySeat ss
+    → export_in q.export ≡ new_export v 0 → q.lost ≡ 0 → q.log.events ≡ [] → world q ss 0 ≡ new_world v
 new-is tells meter text image v disks q ss made seats export lost log = λ i. record {
   nodes = states i;
   export = export i;

@@ -18,6 +18,7 @@ use Rattle.rz_events.specs.declared.events.Event.{Event}
 use Rattle.rz_events.specs.declared.events.Event.TheVariants as event
 use Rattle.rz_core.specs.NodeRows.{cells_of}
 use Rattle.rz_locks.specs.Held.{Held}
+use Rattle.rz_metadata.specs.Stands.{export_in}
 use Rattle.rz_node_model.specs.States.{NodeState}
 use Rattle.rz_node_model.specs.Answers.{IsNodeAnswer}
 use Rattle.rz_node_model.specs.Afterwards.{after_answer}
@@ -111,7 +112,7 @@ module _ {D : Type 0} {G : Ghosts D} (d e : Driver D G) (ready : IsDriver d) (vo
 
 -- ---- the world after it
 
-module _ {D : Type 0} {G : Ghosts D} (d : Driver D G) (ready : IsDriver d) (q : Shared (UnderFuse D)) (export : q.export ≡ d.shared.export) (lost : q.lost ≡ d.shared.lost) where
+module _ {D : Type 0} {G : Ghosts D} (d : Driver D G) (ready : IsDriver d) (q : Shared (UnderFuse D) D) (export : q.export ≡ d.shared.export) (lost : q.lost ≡ d.shared.lost) where
   abbrev xs : List (Station (UnderFuse D))
   xs = d.shared.stations.items
 
@@ -138,7 +139,7 @@ module _ {D : Type 0} {G : Ghosts D} (d : Driver D G) (ready : IsDriver d) (q : 
         told = o.order.told;
         next_is = λ i. record {
           nodes = nodes i;
-          export = export i;
+          export = export_in (export i);
           seats = seat_in d.seats.items;
           turns = d.turns;
           lost = lost i;
@@ -169,7 +170,7 @@ module _ {D : Type 0} {G : Ghosts D} (d : Driver D G) (ready : IsDriver d) (q : 
         state = o.after.node.state;
         next_is = λ i. record {
           nodes = nodes i;
-          export = export i;
+          export = export_in (export i);
           seats = seat_in d.seats.items;
           turns = d.turns;
           lost = lost i;
@@ -188,7 +189,7 @@ module _ {D : Type 0} {G : Ghosts D} (d : Driver D G) (ready : IsDriver d) (q : 
       in
       λ i. record {
         nodes = nodes i;
-        export = export i;
+        export = export_in (export i);
         seats = seat_in d.seats.items;
         turns = d.turns;
         lost = lost i;

@@ -26,7 +26,7 @@ use Rattle.rz_stations.proofs.Rows.{all-set}
 use Rattle.rz_driver.proofs.ReadyLemmas.{locks-stay}
 
 -- the world with one actor changed
-pub ordered : {D : Type 0} (p : Shared D) (ss : List Seat) (turns : ℕ) (by : Actor) (place : ℕ) (s b : Seat) (t : APlayer → APlayer) → place_of by ≡ Some place → place < length ss → slice_get ss place ≡ Some s → seat_of b ≡ t (seat_of s)
+pub ordered : {D J : Type 0} (p : Shared D J) (ss : List Seat) (turns : ℕ) (by : Actor) (place : ℕ) (s b : Seat) (t : APlayer → APlayer) → place_of by ≡ Some place → place < length ss → slice_get ss place ≡ Some s → seat_of b ≡ t (seat_of s)
     → world p (set ss place b) turns ≡ with_seat (world p ss turns) by (t ((world p ss turns).seats by))
 ordered p ss turns by place s b t at low here is = λ i. record (world p ss turns) { seats = seats i }
   where
@@ -41,12 +41,12 @@ all-more layout (x ∷ ops) op all fits = (all.0, all-more layout ops op all.1 f
 pub still-ready : {D : Type 0} {G : Ghosts D} (d e : Driver D G) (by : Actor) (place : ℕ) (s b : Seat) → IsDriver d → e.volume ≡ d.volume → e.shared ≡ d.shared → e.seats.items ≡ set d.seats.items place b → place_of by ≡ Some place → place < length d.seats.items
     → slice_get d.seats.items place ≡ Some s → IsSeat d.volume.layout b → b.lock ≡ s.lock → IsDriver e
 still-ready {D = D} d e by place s b ready volume shared seats at low here seat lock = record {
-  stations = subst (λ (v : Volume). AllByRecursion (IsStation v) e.shared.stations.items) (sym volume) (subst (λ (p : Shared (UnderFuse D)). AllByRecursion (IsStation d.volume) p.stations.items) (sym shared) ready.stations);
-  numbers = ap (λ (p : Shared (UnderFuse D)). numbers_of p.stations.items) shared ∙ ready.numbers ∙ ap (λ (v : Volume). map (λ (n : NodeSpec). n.sid) (nodes_of v.clusters)) (sym volume);
-  bins = subst (λ (v : Volume). max_bins_of v.layout ≤ length e.shared.bins.items) (sym volume) (subst (λ (p : Shared (UnderFuse D)). max_bins_of d.volume.layout ≤ length p.bins.items) (sym shared) ready.bins);
+  stations = subst (λ (v : Volume). AllByRecursion (IsStation v) e.shared.stations.items) (sym volume) (subst (λ (p : Shared (UnderFuse D) D). AllByRecursion (IsStation d.volume) p.stations.items) (sym shared) ready.stations);
+  numbers = ap (λ (p : Shared (UnderFuse D) D). numbers_of p.stations.items) shared ∙ ready.numbers ∙ ap (λ (v : Volume). map (λ (n : NodeSpec). n.sid) (nodes_of v.clusters)) (sym volume);
+  bins = subst (λ (v : Volume). max_bins_of v.layout ≤ length e.shared.bins.items) (sym volume) (subst (λ (p : Shared (UnderFuse D) D). max_bins_of d.volume.layout ≤ length p.bins.items) (sym shared) ready.bins);
   seats = subst (λ (v : Volume). AllByRecursion (IsSeat v.layout) e.seats.items) (sym volume) (subst (AllByRecursion (IsSeat d.volume.layout)) (sym seats) (all-set (IsSeat d.volume.layout) d.seats.items place b ready.seats seat));
   count = ap length seats ∙ length-set d.seats.items place b ∙ ready.count;
-  locks = subst (λ (p : Shared (UnderFuse D)). AreLocks p.locks e.seats.items) (sym shared) (subst (AreLocks d.shared.locks) (sym seats) both.0);
+  locks = subst (λ (p : Shared (UnderFuse D) D). AreLocks p.locks e.seats.items) (sym shared) (subst (AreLocks d.shared.locks) (sym seats) both.0);
   no_locks = subst HaveNoLocks (sym seats) both.1;
 }
   where

@@ -30,8 +30,8 @@ use Rattle.rz_stations.proofs.Rows.{all-set, all-at}
 
 -- ---- nodes
 
-pub stations-after : {D : Type 0} (v : Volume) (layout : Layout) (by : Actor) (a b : Seat) (p q : Shared D) → IsAct layout by a b p q → AllByRecursion (IsStation v) p.stations.items → AllByRecursion (IsStation v) q.stations.items
-stations-after v layout by a b p q (Rests asks same shared) all = subst (λ (x : Shared _). AllByRecursion (IsStation v) x.stations.items) (sym shared) all
+pub stations-after : {D J : Type 0} (v : Volume) (layout : Layout) (by : Actor) (a b : Seat) (p q : Shared D J) → IsAct layout by a b p q → AllByRecursion (IsStation v) p.stations.items → AllByRecursion (IsStation v) q.stations.items
+stations-after v layout by a b p q (Rests asks same shared) all = subst (λ (x : Shared _ _). AllByRecursion (IsStation v) x.stations.items) (sym shared) all
 stations-after v layout by a b p q (Exports old new was is same lock miss part sts lks lost) all = subst (AllByRecursion (IsStation v)) (sym sts) all
 stations-after v layout by a b p q (Opens old new was is same miss part sts lost) all = subst (AllByRecursion (IsStation v)) (sym sts) all
 stations-after v layout by a b p q (Says old new was is same miss done part released sts export lost) all = subst (AllByRecursion (IsStation v)) (sym sts) all
@@ -47,8 +47,8 @@ module _ {D : Type 0} where
   numbers-kept xs ys place s after is set_is sid = ap numbers_of set_is
       ∙ map-set_same (λ (x : Station D). x.sid) xs place after s (sid ∙ ap (λ (x : Station D). x.sid) (sym (get_or_from_slice_get xs place s s is)))
 
-pub numbers-after : {D : Type 0} (layout : Layout) (by : Actor) (a b : Seat) (p q : Shared D) → IsAct layout by a b p q → numbers_of q.stations.items ≡ numbers_of p.stations.items
-numbers-after layout by a b p q (Rests asks same shared) = ap (λ (x : Shared _). numbers_of x.stations.items) shared
+pub numbers-after : {D J : Type 0} (layout : Layout) (by : Actor) (a b : Seat) (p q : Shared D J) → IsAct layout by a b p q → numbers_of q.stations.items ≡ numbers_of p.stations.items
+numbers-after layout by a b p q (Rests asks same shared) = ap (λ (x : Shared _ _). numbers_of x.stations.items) shared
 numbers-after layout by a b p q (Exports old new was is same lock miss part sts lks lost) = ap numbers_of sts
 numbers-after layout by a b p q (Opens old new was is same miss part sts lost) = ap numbers_of sts
 numbers-after layout by a b p q (Says old new was is same miss done part released sts export lost) = ap numbers_of sts
@@ -65,12 +65,12 @@ same-seat layout old new a b was is kept same seat = record {
   todo = subst (AllByRecursion (IsOperation layout)) (sym same.todo) seat.todo;
 }
 
-fate-layout : {D : Type 0} {by : Actor} {n : ℕ} {question : _} {s s' : Station D} {old new : Machine} {miss miss' : Option Bool} {p q : Shared D} → IsFate by n question s s' old new miss miss' p q → new.layout ≡ old.layout
+fate-layout : {D J : Type 0} {by : Actor} {n : ℕ} {question : _} {s s' : Station D} {old new : Machine} {miss miss' : Option Bool} {p q : Shared D J} → IsFate by n question s s' old new miss miss' p q → new.layout ≡ old.layout
 fate-layout (Through part comes miss lost) = part.goes.layout
 fate-layout (ReplyLost part lost_so miss lost) = part.goes.layout
 fate-layout (RequestLost stays part lost_so miss lost) = part.goes.layout
 
-pub seat-after : {D : Type 0} (layout : Layout) (by : Actor) (a b : Seat) (p q : Shared D) → IsAct layout by a b p q → IsSeat layout a → IsSeat layout b
+pub seat-after : {D J : Type 0} (layout : Layout) (by : Actor) (a b : Seat) (p q : Shared D J) → IsAct layout by a b p q → IsSeat layout a → IsSeat layout b
 seat-after layout by a b p q (Rests asks same shared) seat = subst (IsSeat layout) (sym same) seat
 seat-after layout by a b p q (Exports old new was is same lock miss (c, asks, replied) sts lks lost) seat = same-seat layout old new a b was is replied.goes.layout same seat
 seat-after layout by a b p q (Opens old new was is same miss (path, exclusive, from, count, asks, (owner, o)) sts lost) seat = same-seat layout old new a b was is o.goes.layout same seat
@@ -150,8 +150,8 @@ module _ (by : Actor) (ss : List Seat) (place : ℕ) (at : place_of by ≡ Some 
         by-kind (Rebuilder k) is = other (r.locks_are ∙ ap (λ (x : Actor). locks_after true x locks) is) (λ n. ap (same_actor (Client n)) is)
         by-kind Admin is = other (r.locks_are ∙ ap (λ (x : Actor). locks_after true x locks) is) (λ n. ap (same_actor (Client n)) is)
 
-  pub locks-after : {D : Type 0} (layout : Layout) (p q : Shared D) → IsAct layout by a b p q → AreLocks p.locks ss → HaveNoLocks ss → AreLocks q.locks (set ss place b) × HaveNoLocks (set ss place b)
-  locks-after layout p q (Rests asks same shared) tied free = stays p.locks q.locks tied free (ap (λ (x : Seat). lock_of x.lock) same) (ap (λ (x : Shared _). x.locks) shared)
+  pub locks-after : {D J : Type 0} (layout : Layout) (p q : Shared D J) → IsAct layout by a b p q → AreLocks p.locks ss → HaveNoLocks ss → AreLocks q.locks (set ss place b) × HaveNoLocks (set ss place b)
+  locks-after layout p q (Rests asks same shared) tied free = stays p.locks q.locks tied free (ap (λ (x : Seat). lock_of x.lock) same) (ap (λ (x : Shared _ _). x.locks) shared)
   locks-after layout p q (Exports old new was is same lock miss part sts lks lost) tied free = stays p.locks q.locks tied free (ap lock_of lock) lks
   locks-after layout p q (Opens old new was is same miss (path, exclusive, from, count, asks, (owner, o)) sts lost) tied free = granted-locks p.locks q.locks tied free owner o.owner_is _ o.granted o.grants o.held_is
   locks-after layout p q (Sends old new was is same lock n question asks m) tied free = stays p.locks q.locks tied free (ap lock_of lock) m.locks

@@ -56,7 +56,7 @@ tied-at by place a0 a d ready at here kept n is =
 module _ {D : Type 0} {G : Ghosts D} (by : Actor) (place : ℕ) (d e : Driver D G) (log : Logged) (a0 a b : Seat) (ready : IsDriver d) (at : place_of by ≡ Some place) (here : slice_get d.seats.items place ≡ Some a0) (low : place < length d.seats.items)
     (taken : seat_of a ≡ at_work (seat_of a0)) (fits : IsSeat d.volume.layout a) (kept : a.lock ≡ a0.lock) (events : log.events ≡ d.shared.log.events)
     (acts : IsAct d.volume.layout by a b (record d.shared { log = log }) e.shared) (volume : e.volume ≡ d.volume) (seats : e.seats.items ≡ set d.seats.items place b) where
-  abbrev p : Shared (UnderFuse D)
+  abbrev p : Shared (UnderFuse D) D
   p = record d.shared { log = log }
 
   abbrev ss : List Seat
@@ -78,11 +78,11 @@ module _ {D : Type 0} {G : Ghosts D} (by : Actor) (place : ℕ) (d e : Driver D 
   }
 
 -- and the world is that after the turn
-pub turned : {D : Type 0} {G : Ghosts D} (by : Actor) (place : ℕ) (d : Driver D G) (q : Shared (UnderFuse D)) (log : Logged) (a0 a b : Seat) → IsDriver d → place_of by ≡ Some place → slice_get d.seats.items place ≡ Some a0 → place < length d.seats.items
+pub turned : {D : Type 0} {G : Ghosts D} (by : Actor) (place : ℕ) (d : Driver D G) (q : Shared (UnderFuse D) D) (log : Logged) (a0 a b : Seat) → IsDriver d → place_of by ≡ Some place → slice_get d.seats.items place ≡ Some a0 → place < length d.seats.items
     → seat_of a ≡ at_work (seat_of a0) → IsSeat d.volume.layout a → a.lock ≡ a0.lock → log.events ≡ d.shared.log.events → IsAct d.volume.layout by a b (record d.shared { log = log }) q
     → (f : Driver D G) → d ≡ f → IsTurn f.volume by (world_of f) (world q (set d.seats.items place b) (d.turns + 1))
 turned {D = D} {G = G} by place d q log a0 a b ready at here low taken fits kept events acts f is =
-    let p : Shared (UnderFuse D) = record d.shared { log = log } in
+    let p : Shared (UnderFuse D) D = record d.shared { log = log } in
     let next : World = world q (set d.seats.items place b) (d.turns + 1) in
     let first : world p d.seats.items d.turns ≡ world_of d = ap (λ (h : List Event). record (world_of d) { log = h }) events in
     subst (λ (x : Driver D G). IsTurn x.volume by (world_of x) next) is

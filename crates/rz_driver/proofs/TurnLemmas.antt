@@ -25,6 +25,7 @@ use Rattle.rz_locks.specs.declared.conflict.LockKind.{LockKind}
 use Rattle.rz_locks.specs.declared.conflict.Range.{Range}
 use Rattle.rz_locks.specs.Conflicts.{Conflict}
 use Rattle.rz_locks.specs.Held.{Held, Blocks}
+use Rattle.rz_metadata.specs.Stands.{export_in}
 use Rattle.rz_operation.specs.Answers.{Goes}
 use Rattle.rz_operation.specs.Machine.{Machine}
 use Rattle.rz_operation_model.specs.Ask.{Ask, AskExport, AskNode, AskLock, Say, Rest, Saying, SayGot, SayGave, SayLeft, SayDone, ask_of}
@@ -82,8 +83,8 @@ told-of m new t goes = record { layout = goes.layout; work = goes.work }
 
 -- ---- the turn
 
-module _ {D : Type 0} (v : Volume) (by : Actor) (ss : List Seat) (place turns : ℕ) (at : place_of by ≡ Some place) (low : place < length ss) (a0 a : Seat) (here : slice_get ss place ≡ Some a0) (taken : seat_of a ≡ at_work (seat_of a0))
-    (layout : HasLayout v.layout a.machine) (p q : Shared D) where
+module _ {D J : Type 0} (v : Volume) (by : Actor) (ss : List Seat) (place turns : ℕ) (at : place_of by ≡ Some place) (low : place < length ss) (a0 a : Seat) (here : slice_get ss place ≡ Some a0) (taken : seat_of a ≡ at_work (seat_of a0))
+    (layout : HasLayout v.layout a.machine) (p q : Shared D J) where
   abbrev w : World
   w = counted (world p ss turns)
 
@@ -132,10 +133,10 @@ module _ {D : Type 0} (v : Volume) (by : Actor) (ss : List Seat) (place turns : 
   -- ---- the export is asked
 
   exports : (b : Seat) (old new : Machine) → a.machine ≡ Some old → b.machine ≡ Some new → IsSameActor a b → b.lock ≡ a.lock → b.miss ≡ a.miss
-      → IsExportPart by old new p.export q.export p.log.events q.log.events → q.stations.items ≡ p.stations.items → q.lost ≡ p.lost → IsTurn v by (world p ss turns) (next b)
+      → IsExportPart by old new (export_in p.export) (export_in q.export) p.log.events q.log.events → q.stations.items ≡ p.stations.items → q.lost ≡ p.lost → IsTurn v by (world p ss turns) (next b)
   exports b old new was is same lock miss (c, asks, replied) stations lost =
       let x = replied.noted.0 in
-      let seats = seats-are b (advanced v s (Replied (export_reply p.export c))) (goes-on old new b (Replied (export_reply p.export c)) was is same (told-of old new (Replied (export_reply p.export c)) replied.goes) s.lock (ap lock_of lock) s.miss miss) in
+      let seats = seats-are b (advanced v s (Replied (export_reply (export_in p.export) c))) (goes-on old new b (Replied (export_reply (export_in p.export) c)) was is same (told-of old new (Replied (export_reply (export_in p.export) c)) replied.goes) s.lock (ap lock_of lock) s.miss miss) in
       lift (AskExport c) b (asked old (AskExport c) was asks) (
         x,
         replied.noted.1,
@@ -194,9 +195,9 @@ module _ {D : Type 0} (v : Volume) (by : Actor) (ss : List Seat) (place turns : 
     if-cond false x y = refl
 
     opens : (b : Seat) (old new : Machine) → a.machine ≡ Some old → b.machine ≡ Some new → IsSameActor a b → b.miss ≡ a.miss → a.lock ≡ a0.lock
-        → IsOpenPart by old new p.export q.export p.locks q.locks a.lock b.lock p.log.events q.log.events → q.stations.items ≡ p.stations.items → q.lost ≡ p.lost → IsTurn v by (world p ss turns) (next b)
+        → IsOpenPart by old new (export_in p.export) (export_in q.export) p.locks q.locks a.lock b.lock p.log.events q.log.events → q.stations.items ≡ p.stations.items → q.lost ≡ p.lost → IsTurn v by (world p ss turns) (next b)
     opens b old new was is same miss kept (path, exclusive, from, count, asks, (owner, o)) stations lost =
-        let answer = open_reply p.export path in
+        let answer = open_reply (export_in p.export) path in
         let lock = lock_on answer exclusive from count in
         let x = o.noted.0 in
         let seats = seats-are b (locked o.granted lock (advanced v s (Locked o.granted answer)))
@@ -260,7 +261,7 @@ module _ {D : Type 0} (v : Volume) (by : Actor) (ss : List Seat) (place turns : 
             comes,
             λ i. record {
               nodes = nodes i;
-              export = m.export i;
+              export = export_in (m.export i);
               seats = seats i;
               turns = turns + 1;
               lost = lost i;
@@ -278,7 +279,7 @@ module _ {D : Type 0} (v : Volume) (by : Actor) (ss : List Seat) (place turns : 
             lost_so,
             λ i. record {
               nodes = nodes i;
-              export = m.export i;
+              export = export_in (m.export i);
               seats = seats i;
               turns = turns + 1;
               lost = lost i;
@@ -293,7 +294,7 @@ module _ {D : Type 0} (v : Volume) (by : Actor) (ss : List Seat) (place turns : 
             lost_so,
             λ i. record {
               nodes = nodes i;
-              export = m.export i;
+              export = export_in (m.export i);
               seats = seats i;
               turns = turns + 1;
               lost = lost i;
@@ -318,7 +319,7 @@ module _ {D : Type 0} (v : Volume) (by : Actor) (ss : List Seat) (place turns : 
       (goes-on old new b (Noted text) was is same (told-of old new (Noted text) part.goes) (lock_after said s.lock) (lock-said said done a.lock b.lock part.done_is released.lock_is) s.miss miss) in
       lift (Say said) b (asked old (Say said) was asks) (λ i. record {
         nodes = state_in (stations i);
-        export = export i;
+        export = export_in (export i);
         seats = seats i;
         turns = turns + 1;
         lost = lost i;

@@ -11,6 +11,7 @@ use Rattle.rz_locks.specs.declared.conflict.Range.{Range}
 use Rattle.rz_locks.specs.Held.{Held}
 use Rattle.rz_operation.specs.Machine.{Machine}
 use Rattle.rz_operation_model.specs.Ask.{Ask, AskNode, Rest, ask_of}
+use Rattle.rz_metadata.specs.Stands.{export_in}
 use Rattle.rz_play.specs.Turns.{IsLost, IsThrough, lost_after}
 use Rattle.rz_driver.specs.declared.acting.Kind.{Kind}
 use Rattle.rz_driver.specs.declared.acting.Kind.TheVariants as kind
@@ -34,7 +35,7 @@ IsKind ask k = Unit {0}
 
 -- A message to the node at a place.
 
-pub data IsFate {D : Type 0} (by : Actor) (n : ℕ) (question : NodeAsk) (s s' : Station D) (old new : Machine) (miss miss' : Option Bool) (p q : Shared D) : Type 0 where
+pub data IsFate {D J : Type 0} (by : Actor) (n : ℕ) (question : NodeAsk) (s s' : Station D) (old new : Machine) (miss miss' : Option Bool) (p q : Shared D J) : Type 0 where
   Through : IsThroughPart by n s.node.geometry.cells question s.node.state s'.node.state old new p.log.events q.log.events → IsThrough miss question → miss' ≡ miss → q.lost ≡ p.lost
       → IsFate by n question s s' old new miss miss' p q
   ReplyLost : IsReplyLostPart by n s.node.geometry.cells question s.node.state s'.node.state old new p.log.events q.log.events → IsLost miss question true → miss' ≡ None → q.lost ≡ lost_after miss p.lost
@@ -42,7 +43,7 @@ pub data IsFate {D : Type 0} (by : Actor) (n : ℕ) (question : NodeAsk) (s s' :
   RequestLost : s' ≡ s → IsRequestLostPart by n old new p.log.events q.log.events → IsLost miss question false → miss' ≡ None → q.lost ≡ lost_after miss p.lost
       → IsFate by n question s s' old new miss miss' p q
 
-pub record IsMessage {D : Type 0} (by : Actor) (n : ℕ) (question : NodeAsk) (old new : Machine) (miss miss' : Option Bool) (p q : Shared D) : Type 0 where
+pub record IsMessage {D J : Type 0} (by : Actor) (n : ℕ) (question : NodeAsk) (old new : Machine) (miss miss' : Option Bool) (p q : Shared D J) : Type 0 where
   pub place : ℕ
   pub station : Station D
   pub after : Station D
@@ -72,13 +73,13 @@ pub record IsSameActor (a b : Seat) : Type 0 where
   pub todo : b.todo.items ≡ a.todo.items
   pub number : b.number ≡ a.number
 
-pub data IsAct {D : Type 0} (layout : Layout) (by : Actor) (a b : Seat) (p q : Shared D) : Type 0 where
+pub data IsAct {D J : Type 0} (layout : Layout) (by : Actor) (a b : Seat) (p q : Shared D J) : Type 0 where
   Rests : ask_of layout (work_in a.machine) ≡ Rest → b ≡ a → q ≡ p → IsAct layout by a b p q
   Exports : (old new : Machine) → a.machine ≡ Some old → b.machine ≡ Some new → IsSameActor a b → b.lock ≡ a.lock → b.miss ≡ a.miss
-      → IsExportPart by old new p.export q.export p.log.events q.log.events → q.stations.items ≡ p.stations.items → q.locks ≡ p.locks → q.lost ≡ p.lost
+      → IsExportPart by old new (export_in p.export) (export_in q.export) p.log.events q.log.events → q.stations.items ≡ p.stations.items → q.locks ≡ p.locks → q.lost ≡ p.lost
       → IsAct layout by a b p q
   Opens : (old new : Machine) → a.machine ≡ Some old → b.machine ≡ Some new → IsSameActor a b → b.miss ≡ a.miss
-      → IsOpenPart by old new p.export q.export p.locks q.locks a.lock b.lock p.log.events q.log.events → q.stations.items ≡ p.stations.items → q.lost ≡ p.lost
+      → IsOpenPart by old new (export_in p.export) (export_in q.export) p.locks q.locks a.lock b.lock p.log.events q.log.events → q.stations.items ≡ p.stations.items → q.lost ≡ p.lost
       → IsAct layout by a b p q
   Sends : (old new : Machine) → a.machine ≡ Some old → b.machine ≡ Some new → IsSameActor a b → b.lock ≡ a.lock
       → (n : ℕ) (question : NodeAsk) → IsAsked old n question → IsMessage by n question old new a.miss b.miss p q

@@ -18,6 +18,6 @@ asked-then {D = D} {G = G} a b c p q = record {
   volume = q.volume ∙ p.volume;
   seats = q.seats ∙ p.seats;
   turns = q.turns ∙ p.turns;
-  shared = q.shared ∙ ap (λ (s : Shared (UnderFuse D)). let r : Shared (UnderFuse D) = record s { stations = c.shared.stations } in r) p.shared;
+  shared = q.shared ∙ ap (λ (s : Shared (UnderFuse D) D). let r : Shared (UnderFuse D) D = record s { stations = c.shared.stations } in r) p.shared;
   nodes = all-then (fused_text G.text) (fused_image G.image) a.shared.stations.items b.shared.stations.items c.shared.stations.items p.nodes q.nodes;
 }

@@ -5,6 +5,7 @@ use Rattle.rz_disk.specs.declared.disk.Disk.{Ghosts}
 use Rattle.rz_events.specs.declared.keys.Key.{Key}
 use Rattle.rz_events.specs.declared.records.Held.{Held}
 use Rattle.rz_events.specs.declared.events.Event.{Event}
+use Rattle.rz_metadata.specs.Stands.{export_in}
 use Rattle.rz_scrubbing.specs.Stores.{State}
 use Rattle.rz_driver.specs.declared.driver.Driver.{Driver}
 use Rattle.rz_stations.specs.Meters.{AreMetered}
@@ -14,7 +15,7 @@ use Rattle.rz_driver.specs.Worlds.{numbers_in}
 use Rattle.rz_stations.specs.Fetches.{GivesIn}
 
 abbrev pub state_of : {D : Type 0} {G : Ghosts D} → Driver D G → List Event → State
-state_of d h = record { export = d.shared.export; nodes = state_in d.shared.stations.items; events = h }
+state_of d h = record { export = export_in d.shared.export; nodes = state_in d.shared.stations.items; events = h }
 
 abbrev pub GivesOf : {D : Type 0} {G : Ghosts D} → Driver D G → ℕ → Key → Held → List ℕ → List ℕ → Type 0
 GivesOf {G = G} d = GivesIn G.tells (fused_text G.text) d.shared.stations.items

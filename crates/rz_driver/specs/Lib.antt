@@ -1,7 +1,10 @@
 pub mod Seats
 pub mod Acts
+pub mod Journals
 pub mod Worlds
 pub mod Pictures
 pub mod OnlyAsked
 pub mod AskedLaws
 pub mod Fetches
+pub mod Formatted
+pub mod Endings

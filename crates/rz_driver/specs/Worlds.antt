@@ -9,6 +9,7 @@ use Rattle.rz_events.specs.declared.files.NodeSpec.{NodeSpec}
 use Rattle.rz_events.specs.declared.keys.Actor.{Actor}
 use Rattle.rz_events.specs.declared.keys.Actor.TheVariants.{Client, Rebuilder, Admin}
 use Rattle.rz_locks.specs.Held.{Held}
+use Rattle.rz_metadata.specs.Stands.{export_in}
 use Rattle.rz_play.specs.World.{World, Seat as APlayer, empty_seat}
 use Rattle.rz_driver.specs.declared.seat.Seat.{Seat}
 use Rattle.rz_driver.specs.declared.station.Shared.{Shared}
@@ -17,6 +18,7 @@ use Rattle.rz_driver.specs.Seats.{seat_of, IsSeat}
 use Rattle.rz_disk.specs.UnderFuse.{fused_meter}
 use Rattle.rz_stations.specs.Meters.{AreMetered, AreCounted}
 use Rattle.rz_stations.specs.Images.{IsRight, fused_image}
+use Rattle.rz_driver.specs.Journals.{HasJournal, LeavesJournal}
 use Rattle.rz_driver.specs.Pictures.{IsPicture}
 use Rattle.rz_stations.specs.Stations.{state_in, numbers_of, IsStation}
 
@@ -43,10 +45,10 @@ abbrev pub seat_in : List Seat → Actor → APlayer
 seat_in seats by = seat_at seats (place_of by)
 
 -- what is there between two turns
-abbrev pub world : {D : Type 0} → Shared D → List Seat → ℕ → World
+abbrev pub world : {D J : Type 0} → Shared D J → List Seat → ℕ → World
 world p seats turns = record {
   nodes = state_in p.stations.items;
-  export = p.export;
+  export = export_in p.export;
   seats = seat_in seats;
   turns = turns;
   lost = p.lost;
@@ -88,10 +90,11 @@ HasPicture {G = G} d = IsTrue G.tells → length d.shared.log.events < 2 ^ 64 - 
 abbrev pub HasRightDisks : {D : Type 0} {G : Ghosts D} → Driver D G → Type 0
 HasRightDisks {G = G} d = IsTrue G.tells → length d.shared.log.events < 2 ^ 64 - 1 → AllByRecursion (IsRight (fused_image G.image) d.volume d.shared.log.events) d.shared.stations.items
 
--- between two turns each word of the log goes with its disk's meter
+-- between two turns each word of the log goes with its disk's meter, and a journal stands for the calls that the log tells
 abbrev pub Holds : {D : Type 0} {G : Ghosts D} → Driver D G → (ℕ → ℕ) → Type 0
-Holds {G = G} d first = AreMetered (fused_meter G.meter) (numbers_in d) d.shared.stations.items d.shared.log.events first × HasPicture d
+Holds {G = G} d first = AreMetered (fused_meter G.meter) (numbers_in d) d.shared.stations.items d.shared.log.events first × HasPicture d × HasJournal d first
 
--- where a play ended they do, or the faults of each word are counted
+-- where a play ended they do, or the faults of each word are counted, and a journal may have one call more
 abbrev pub Leaves : {D : Type 0} {G : Ghosts D} → Driver D G → (ℕ → ℕ) → Type 0
-Leaves {G = G} d first = Holds d first ⊎ (AreCounted (fused_meter G.meter) (numbers_in d) d.shared.stations.items d.shared.log.events first × HasRightDisks d)
+Leaves {G = G} d first =
+    Holds d first ⊎ (AreCounted (fused_meter G.meter) (numbers_in d) d.shared.stations.items d.shared.log.events first × HasRightDisks d × LeavesJournal d first)

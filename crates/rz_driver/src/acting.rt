@@ -11,6 +11,8 @@ ghost use Rattle.rz_stations.specs.Nodes.{IsAsked};
 ghost use Rattle.rz_driver.specs.Seats.{HasLayout};
 ghost use Rattle.rz_lines.specs.Ends.{Carries};
 ghost use Rattle.rz_stations.specs.Meters.{AreMetered, AreCounted};
+ghost use Rattle.rz_asks.specs.Journals.{KeepsOn, EndsOn};
+ghost use Rattle.rz_driver.specs.Journals.{IsSameStore};
 ghost use Rattle.rz_driver.specs.Pictures.{KeepsPicture, SparesPicture};
 ghost use Rattle.rz_driver.specs.Acts.{IsKind, IsMessage, IsReleased, IsAct, HasLayouts};
 
@@ -50,12 +52,12 @@ fn kind_of(machine: &Machine) -> Kind
 }
 
 /// The actor does what its operation asks next.
-pub(crate) fn act<D: Disk, L: Link>(
+pub(crate) fn act<D: Disk, J: Disk, L: Link>(
     alloc: Global,
     layout: Layout,
     by: Actor,
     seat: &mut Seat,
-    shared: &mut Shared<D>,
+    shared: &mut Shared<D, J>,
     link: &mut L,
 ) -> Result<(), NoMemory>
     requires machine { HasLayout layout seat.old.machine }
@@ -71,6 +73,9 @@ pub(crate) fn act<D: Disk, L: Link>(
     ensures count { vec_len shared.new.stations ≡ vec_len shared.old.stations }
     ensures held { OnOk result ((numbers : List ℕ) → Carries (AreMetered D.meter numbers shared.old.stations.items shared.old.log.events) (AreMetered D.meter numbers shared.new.stations.items shared.new.log.events)) }
     ensures left { OnErr result ((numbers : List ℕ) → Carries (AreMetered D.meter numbers shared.old.stations.items shared.old.log.events) (AreCounted D.meter numbers shared.new.stations.items shared.new.log.events)) }
+    ensures store { IsSameStore shared.old.export shared.new.export }
+    ensures kept { OnOk result (KeepsOn J.tells J.meter J.image shared.old.export shared.old.log.events shared.new.export shared.new.log.events) }
+    ensures ended { OnErr result (EndsOn J.tells J.meter J.image shared.old.export shared.old.log.events shared.new.export shared.new.log.events) }
     ensures pictured { OnOk result (IsTrue D.tells → KeepsPicture D.image by seat.old.machine seat.new.machine shared.old.stations.items shared.old.log.events shared.new.stations.items shared.new.log.events) }
     ensures spared { OnErr result (IsTrue D.tells → SparesPicture D.image by seat.old.machine shared.old.stations.items shared.old.log.events shared.new.stations.items) }
 {
@@ -123,7 +128,7 @@ fn release_if(done: bool, by: Actor, lock: &mut Option<(Range, LockKind)>, locks
 }
 
 /// A message goes to a node.
-fn message<D: Disk, L: Link>(
+fn message<D: Disk, J: Disk, L: Link>(
     alloc: Global,
     layout: Layout,
     by: Actor,
@@ -131,7 +136,7 @@ fn message<D: Disk, L: Link>(
     ask: NodeAsk,
     machine: &mut Machine,
     miss: &mut Option<bool>,
-    shared: &mut Shared<D>,
+    shared: &mut Shared<D, J>,
     link: &mut L,
 ) -> Result<(), NoMemory>
     requires machine { machine.old.layout ≡ layout }
@@ -142,6 +147,7 @@ fn message<D: Disk, L: Link>(
     ensures ok { OnOk result (IsMessage by number ask machine.old machine.new miss.old miss.new shared.old shared.new) }
     ensures err { OnErr result (shared.new.log.events ≡ shared.old.log.events) }
     ensures lost { OnErr result (shared.new.lost ≡ shared.old.lost) }
+    ensures export { shared.new.export ≡ shared.old.export }
     ensures link { shared.new.lost + L.lost link.old ≤ shared.old.lost + L.lost link.new }
     ensures bins { length shared.new.bins.items ≡ length shared.old.bins.items }
     ensures count { vec_len shared.new.stations ≡ vec_len shared.old.stations }

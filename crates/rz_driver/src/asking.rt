@@ -4,6 +4,7 @@ ghost use Rattle.mj_angles.specs.Layout.{max_bins_of};
 ghost use Rattle.rz_events.specs.declared.keys.Actor.TheVariants.{Admin};
 ghost use Rattle.rz_events.specs.declared.events.Event.{Event};
 ghost use Rattle.rz_export_model.specs.Export.{published_after};
+ghost use Rattle.rz_metadata.specs.Stands.{export_in};
 ghost use Rattle.rz_node.specs.Spends.{fetch_used};
 ghost use Rattle.rz_node_model.specs.NodeEvents.{fetch_event};
 ghost use Rattle.rz_lines.specs.Ends.{Carries};
@@ -23,7 +24,7 @@ use rz_stations::fetch_node;
 impl<D: Disk> Driver<D> {
     /// The least published block of a live file above `after`.
     pub fn published(&self, after: Option<Key>) -> Option<Listed>
-        ensures { result ≡ published_after self.now.shared.export after }
+        ensures { result ≡ published_after (export_in self.now.shared.export) after }
     {
         self.shared.export.published(after)
     }

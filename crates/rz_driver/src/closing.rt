@@ -1,20 +1,34 @@
 //! The end of a driver: the log and the disks go back.
-ghost use Rattle.std.specs.Prelude.{◌≡◌, reverse, ℕ, List, IsTrue};
+ghost use Rattle.std.specs.Prelude.{◌≡◌, ◌+◌, ◌≤◌, ◌++◌, reverse, ℕ, List, IsTrue, Some, option_to_list};
+ghost use Rattle.std.specs.Vec.{vec_len, vec_capacity};
+ghost use Rattle.rz_disk.specs.Meter.{faults};
 ghost use Rattle.rz_events.specs.declared.events.Event.{Event};
+ghost use Rattle.rz_metadata.specs.Stands.{disk_of, refusal_of};
 ghost use Rattle.rz_driver.specs.Fetches.{Metered};
 ghost use Rattle.rz_stations.specs.Meters.{AreDisksCounted};
 ghost use Rattle.rz_driver.specs.OnlyAsked.{IsLeftSince};
 ghost use Rattle.rz_stations.specs.Images.{AreDisksImaged};
 ghost use Rattle.rz_formatting.specs.Formatted.{disks_of};
-ghost use Rattle.rz_driver.specs.Worlds.{numbers_in, Leaves};
+ghost use Rattle.rz_driver.specs.Endings.{EndsAsRefused, StandsForLog};
+ghost use Rattle.rz_driver.specs.Journals.{journal_place};
+ghost use Rattle.rz_driver.specs.Worlds.{numbers_in, Holds, Leaves};
 
 use crate::driver::Driver;
-use rz_disk::Disk;
+use rz_disk::{Disk, Fused};
 use rz_events::Event;
-use rz_formatting::hand_back;
+use rz_formatting::{Station, hand_back};
+use rz_metadata::Refusal;
 
 impl<D: Disk> Driver<D> {
-    /// The log, the oldest event first, and the disks in their order.
+    /// Why the journal did not keep a call, if there is a journal and it did not.
+    pub fn refusal(&self) -> Option<Refusal>
+        ensures { result ≡ refusal_of self.now.shared.export }
+    {
+        self.shared.export.refusal()
+    }
+
+    /// The log, the oldest event first, and the disks of the nodes in their order. The disk of a journal is
+    /// not among them.
     pub fn close(self) -> (Vec<Event>, Vec<D>)
         ensures log { result.0.items ≡ reverse self.shared.log.events }
         ensures disks { result.1.items ≡ disks_of self.shared.stations.items }
@@ -27,13 +41,49 @@ impl<D: Disk> Driver<D> {
         ensures since { (first : ℕ → ℕ) → IsLeftSince self first → IsTrue D.tells → AreDisksImaged D.image self.volume (numbers_in self) result.1.items self.shared.log.events }
     {
         rz_image_laws::logged::<D>();
-        let Driver {
-            shared,
-            mut home,
-            ..
-        } = self;
-        home.clear();
+        let Driver { shared, home, .. } = self;
         let log = shared.log.close();
-        (log, hand_back(shared.stations, home))
+        (log, hand_back_with(shared.stations, home, None))
+    }
+
+    /// The log, the oldest event first, and the disks in their order, that of a journal last.
+    pub fn close_all(self) -> (Vec<Event>, Vec<D>)
+        ensures log { result.0.items ≡ reverse self.shared.log.events }
+        ensures disks { result.1.items ≡ disks_of self.shared.stations.items ++ option_to_list (disk_of self.shared.export) }
+        ensures counted { (first : ℕ → ℕ) → Leaves self first → AreDisksCounted D.meter first 0 (numbers_in self) (disks_of self.shared.stations.items) self.shared.log.events }
+        ensures imaged { (first : ℕ → ℕ) → Leaves self first → IsTrue D.tells → AreDisksImaged D.image self.volume (numbers_in self) (disks_of self.shared.stations.items) self.shared.log.events }
+
+        // Between two turns a journal's disk stands for the calls that the log tells.
+        ensures stands { (first : ℕ → ℕ) (disk : D) → Holds self first → disk_of self.shared.export ≡ Some disk → IsTrue D.tells → StandsForLog (D.image disk) self.volume self.shared.log.events }
+
+        // Where a play ended, for these still, or also for one call more, by what the journal refused.
+        ensures ends { (first : ℕ → ℕ) (disk : D) → Leaves self first → disk_of self.shared.export ≡ Some disk
+            → EndsAsRefused (refusal_of self.shared.export) D.tells (D.image disk) (first (journal_place self)) (faults (D.meter disk)) self.volume self.shared.log.events }
+    {
+        rz_image_laws::logged::<D>();
+        let Driver { shared, home, .. } = self;
+        let log = shared.log.close();
+        let journal = shared.export.into_disk();
+        (log, hand_back_with(shared.stations, home, journal))
+    }
+}
+
+/// The disks of the nodes in their order, and behind them this one, if there is one.
+pub(crate) fn hand_back_with<D: Disk>(
+    stations: Vec<Station<Fused<D>>>,
+    home: Vec<D>,
+    last: Option<D>,
+) -> Vec<D>
+    requires room { vec_len stations + vec_len home + 1 ≤ vec_capacity home }
+    ensures { result.items ≡ disks_of stations.items ++ option_to_list last }
+{
+    let mut home = home;
+    home.clear();
+    match last {
+        Some(disk) => {
+            let _last = home.push(disk);
+            hand_back(stations, home)
+        }
+        None => hand_back(stations, home),
     }
 }

@@ -1,6 +1,7 @@
 //! A new driver: each disk is formatted, and nothing is played.
-ghost use Rattle.std.specs.Prelude.{◌≡◌, IfOk, IfErr, length};
+ghost use Rattle.std.specs.Prelude.{◌≡◌, false, IfOk, IfErr, length};
 ghost use Rattle.rz_events.specs.Volume.{nodes_of};
+ghost use Rattle.rz_metadata.specs.Stands.{is_journaled};
 ghost use Rattle.rz_play.specs.World.{new_world};
 ghost use Rattle.rz_formatting.specs.Formatted.{AreBack, AreFormatted, IsCause};
 ghost use Rattle.rz_stations.specs.Meters.{faults_at};
@@ -17,8 +18,8 @@ use rz_locks::Locks;
 use std::alloc::Global;
 
 impl<D: Disk> Driver<D> {
-    /// Formats each disk of a volume for its node. Where one fails, or memory is wanting, all of them come
-    /// back in their order.
+    /// Formats each disk of a volume for its node. The export is in memory. Where a disk fails, or memory is
+    /// wanting, all of them come back in their order.
     pub fn new(
         alloc: Global,
         volume: &Volume,
@@ -27,6 +28,7 @@ impl<D: Disk> Driver<D> {
         requires count { length disks.items ≡ length (nodes_of volume.now.clusters) }
         ensures ready { IfOk result (λ d. IsDriver d) }
         ensures volume { IfOk result (λ d. d.volume ≡ volume.now) }
+        ensures journal { IfOk result (λ d. is_journaled d.shared.export ≡ false) }
         ensures world { IfOk result (λ d. world_of d ≡ new_world volume.now) }
         ensures made { IfOk result (λ d. AreFormatted D.tells D.meter D.text D.image volume.now.layout (nodes_of volume.now.clusters) disks.items d.shared.stations.items) }
         ensures held { IfOk result (λ d. Holds d (faults_at D.meter disks.items)) }
@@ -34,13 +36,13 @@ impl<D: Disk> Driver<D> {
         ensures cause { IfErr result (λ r. IsCause D.meter disks.items r.0.items r.1) }
     {
         rz_image_laws::fresh::<D>();
-        let Ok(parts) = new_parts(alloc, volume) else {
+        let Ok(parts) = new_parts::<D>(alloc, volume) else {
             return Err((disks, DriverFault::NoMemory));
         };
         let locks = Locks::new();
         let log = Log::new(alloc);
         match format_all(alloc, volume.layout, parts.nodes.as_slice(), disks) {
-            Ok((stations, home)) => Ok(Driver {
+            Ok((stations, _emptied)) => Ok(Driver {
                 alloc,
                 volume: parts.volume,
                 shared: Shared {
@@ -53,7 +55,7 @@ impl<D: Disk> Driver<D> {
                 },
                 seats: parts.seats,
                 turns: 0,
-                home,
+                home: parts.home,
             }),
             Err(back) => Err(back),
         }

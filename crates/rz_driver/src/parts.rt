@@ -1,47 +1,57 @@
 //! What a new driver has beside its nodes and their disks.
-ghost use Rattle.std.specs.Prelude.{◌≡◌, IfOk, length};
+ghost use Rattle.std.specs.Prelude.{◌≡◌, ◌+◌, ◌≤◌, ℕ, [], false, IfOk, length};
 ghost use Rattle.std.specs.List.{AllByRecursion};
+ghost use Rattle.std.specs.Vec.{vec_len, vec_capacity};
 ghost use Rattle.mj_angles.specs.Layout.{max_bins_of};
 ghost use Rattle.rz_events.specs.Volume.{IsNode, IsVolume, nodes_of};
 ghost use Rattle.rz_export_model.specs.Export.{new_export};
+ghost use Rattle.rz_metadata.specs.Stands.{export_in, is_journaled, Stands};
 ghost use Rattle.rz_driver.specs.Seats.{IsEmptySeat};
 
 use crate::seat::Seat;
 use rz_config::Volume;
+use rz_disk::Disk;
 use rz_events::NodeSpec;
-use rz_export::Export;
 use rz_formatting::all_nodes;
+use rz_metadata::Metadata;
 use std::alloc::{AllocError, Global};
 
 /// 64 clients and 16 rebuilders.
 const SEATS: usize = 80;
 
-/// The volume and its nodes in order, an export of it, the actors, and room for the bins of a record.
+/// The volume and its nodes in order, an export of it, the actors, room for the bins of a record, and room
+/// for a disk of each node and one more.
 #[derive(Drop)]
-pub(crate) struct Parts {
+pub(crate) struct Parts<D: Disk> {
     pub(crate) volume: Volume,
     pub(crate) nodes: Vec<NodeSpec>,
-    pub(crate) export: Export,
+    pub(crate) export: Metadata<D>,
     pub(crate) seats: Vec<Seat>,
     pub(crate) bins: Vec<u64>,
+    pub(crate) home: Vec<D>,
 }
 
-/// The parts of a driver that has played nothing.
-pub(crate) fn new_parts(alloc: Global, volume: &Volume) -> Result<Parts, AllocError>
+/// The parts of a driver that has played nothing, with its export in memory.
+pub(crate) fn new_parts<D: Disk>(alloc: Global, volume: &Volume) -> Result<Parts<D>, AllocError>
     ensures volume { IfOk result (λ p. p.volume ≡ volume.now) }
     ensures rules { IsVolume volume.now }
     ensures proper { AllByRecursion IsNode (nodes_of volume.now.clusters) }
     ensures nodes { IfOk result (λ p. p.nodes.items ≡ nodes_of volume.now.clusters) }
-    ensures export { IfOk result (λ p. p.export ≡ new_export volume.now 0) }
+    ensures export { IfOk result (λ p. export_in p.export ≡ new_export volume.now 0) }
+    ensures journal { IfOk result (λ p. is_journaled p.export ≡ false) }
+    ensures stands { IfOk result (λ p. (first : ℕ) → Stands D.tells D.meter D.image first p.export []) }
     ensures seats { IfOk result (λ p. AllByRecursion IsEmptySeat p.seats.items) }
     ensures count { IfOk result (λ p. length p.seats.items ≡ 80) }
     ensures bins { IfOk result (λ p. length p.bins.items ≡ max_bins_of volume.now.layout) }
+    ensures empty { IfOk result (λ p. vec_len p.home ≡ 0) }
+    ensures room { IfOk result (λ p. length (nodes_of volume.now.clusters) + 1 ≤ vec_capacity p.home) }
 {
     let nodes = all_nodes(alloc, volume)?;
     let layout = volume.layout;
     let bins = Vec::from_elem(alloc, 0, layout.max_bins())?;
     let seats = empty_seats(alloc)?;
-    let export = Export::new(alloc, volume.copy(alloc)?, 0)?;
+    let home = Vec::with_capacity(alloc, nodes.len() + 1)?;
+    let export = Metadata::in_memory(alloc, volume.copy(alloc)?)?;
     let volume = volume.copy(alloc)?;
     Ok(Parts {
         volume,
@@ -49,6 +59,7 @@ pub(crate) fn new_parts(alloc: Global, volume: &Volume) -> Result<Parts, AllocEr
         export,
         seats,
         bins,
+        home,
     })
 }
 

@@ -4,11 +4,14 @@ ghost use Rattle.std.specs.Prelude.{◌≡◌};
 use crate::driver::Driver;
 use rz_disk::Disk;
 use rz_events::{Actor, Event, Operation};
-use rz_lines::{LoggedStage, NoMemory, Stage};
+use rz_lines::{LoggedStage, NoMemory, PlayEnd, Stage};
 use rz_link::Link;
+use rz_metadata::Refusal;
 
 impl<D: Disk> Stage for Driver<D> {
     ghost use Rattle.rz_driver.specs.Worlds.{world_of, IsDriver, Holds, Leaves};
+    ghost use Rattle.rz_driver.specs.Endings.{end_by};
+    ghost use Rattle.rz_metadata.specs.Stands.{is_journaled, refusal_of};
     ghost use Rattle.std.proofs.Common.{inl};
 
     ghost tells = { D.tells };
@@ -17,6 +20,10 @@ impl<D: Disk> Stage for Driver<D> {
 
     ghost world = { λ d. world_of d };
 
+    ghost journaled = { λ d. is_journaled d.shared.export };
+
+    ghost cut_off = { λ d. end_by (refusal_of d.shared.export) };
+
     ghost is_ready = { λ d. IsDriver d };
 
     ghost holds = { λ d. Holds d };
@@ -24,6 +31,14 @@ impl<D: Disk> Stage for Driver<D> {
     ghost leaves = { λ d. Leaves d };
 
     ghost ends = { λ d first held. inl held };
+
+    fn cut_off(&self) -> PlayEnd {
+        match self.shared.export.refusal() {
+            None => PlayEnd::NoMemory,
+            Some(Refusal::Full) => PlayEnd::JournalFull,
+            Some(Refusal::Failed) => PlayEnd::Journal,
+        }
+    }
 
     fn turns(&self) -> u32 {
         self.turns

@@ -4,6 +4,7 @@ ghost use Rattle.rz_play.specs.Stops.{most_turns};
 ghost use Rattle.rz_play.specs.Turns.{IsTurn};
 ghost use Rattle.rz_play.specs.World.{has_work};
 ghost use Rattle.rz_lines.specs.Ends.{Carries};
+ghost use Rattle.rz_metadata.specs.Stands.{is_journaled};
 ghost use Rattle.rz_driver.specs.Worlds.{place_of, world_of, IsDriver, Holds, Leaves};
 
 use crate::NoMemory;
@@ -31,6 +32,7 @@ impl<D: Disk> Driver<D> {
         requires few { self.old.turns < most_turns }
         ensures ready { OnOk result (IsDriver self.new) }
         ensures volume { self.new.volume ≡ self.old.volume }
+        ensures journal { is_journaled self.new.shared.export ≡ is_journaled self.old.shared.export }
         ensures taken { OnOk result (IsTurn self.old.volume by (world_of self.old) (world_of self.new)) }
         ensures link { self.new.shared.lost + L.lost link.old ≤ self.old.shared.lost + L.lost link.new }
         ensures log { OnErr result (self.new.shared.log.events ≡ self.old.shared.log.events) }

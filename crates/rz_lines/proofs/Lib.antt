@@ -3,3 +3,4 @@ mod Sequences
 mod Cuts
 mod Amongs
 mod Scripts
+mod Stops

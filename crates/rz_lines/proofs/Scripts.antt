@@ -8,15 +8,14 @@ use Rattle.rz_script.specs.declared.line.Line.TheVariants as line
 use Rattle.rz_script.specs.Lines.{IsLine, AreLines}
 use Rattle.rz_play.specs.World.{World}
 use Rattle.rz_play.specs.Lines.{PlaysLine}
-use Rattle.rz_play.specs.Stops.{StopCause, TurnsSpent, StopsLine, BeginsLine}
+use Rattle.rz_play.specs.Stops.{StopCause, TurnsSpent, StopsLine, BeginsLine, most_turns}
 use Rattle.rz_play.specs.Played.{PlaysLines, StopsLines, BeginsLines}
-use Rattle.rz_lines.specs.declared.turns.Cut.{Cut}
 use Rattle.rz_lines.specs.declared.turns.Cut.TheVariants as cut
 use Rattle.rz_lines.specs.declared.lines.PlayEnd.{PlayEnd}
 use Rattle.rz_lines.specs.declared.lines.PlayEnd.TheVariants as end
-use Rattle.rz_lines.specs.Ends.{IsEnded, ended_by}
+use Rattle.rz_lines.specs.Ends.{CutsOff, IsEnded}
 use Rattle.rz_play.specs.Free.{PlaysLineOver, PlaysLinesOver, StopsLinesOver, BeginsLinesOver}
-use Rattle.rz_lines.specs.Free.{IsLinePlayedOver, IsEndedOver}
+use Rattle.rz_lines.specs.Free.{ComesTo, IsLinePlayedOver, IsEndedOver}
 
 pub line-at : (v : Volume) (xs : List Line) (i : ℕ) (d : Line) → AreLines v xs → i < length xs → IsLine v (get_or xs i d)
 line-at v [] i d all lt = absurd (omega arith)
@@ -42,17 +41,30 @@ begins-after : (v : Volume) (tells : Bool) (done : List Line) (x : Line) (more :
 begins-after v tells [] x more w mid next same begins = inl (subst (λ (m : World). BeginsLine v x m next) same begins)
 begins-after v tells (y ∷ done) x more w mid next h begins = inr (h.0, h.1, begins-after v tells done x more h.0 mid next h.2 begins)
 
-pub script-cut : (v : Volume) (tells : Bool) (xs : List Line) (i : ℕ) (d : Line) (w mid next : World) (cause : Cut) (lost : ℕ) → i < length xs → PlaysLinesOver v (take i xs) tells w mid → IsLinePlayedOver v (get_or xs i d) tells mid (Err cause) next
-    → next.lost ≤ lost → IsEndedOver tells v w xs (ended_by cause) lost next.log
-script-cut v tells xs i d w mid next cut.TooManyTurns lost lt h stops few = record {
+-- it stopped before a turn that is one too many
+pub script-stopped : (v : Volume) (tells : Bool) (xs : List Line) (i : ℕ) (d : Line) (w mid next : World) (lost : ℕ) → i < length xs → PlaysLinesOver v (take i xs) tells w mid
+    → IsLinePlayedOver v (get_or xs i d) tells mid (Err cut.TooManyTurns) next → next.lost ≤ lost → IsEndedOver tells v w xs end.TooManyTurns lost next.log
+script-stopped v tells xs i d w mid next lost lt h stops few = record {
   last = next;
   played = subst (λ (ys : List Line). StopsLinesOver v TurnsSpent ys tells w next) (sym (split-at xs i d lt)) (stops-after v TurnsSpent tells (take i xs) (get_or xs i d) (drop (i + 1) xs) w mid next h stops);
   losses = few;
   log_is = refl;
 }
-script-cut v tells xs i d w mid next cut.NoMemory lost lt h begins few = record {
+
+begun-so : (tells : Bool) (v : Volume) (w last : World) (xs : List Line) (journaled : Bool) (e : PlayEnd) → CutsOff journaled e → BeginsLinesOver v xs tells w last × (last.turns ≤ most_turns) → ComesTo v xs tells e w last
+begun-so tells v w last xs journaled end.Ended cuts h = absurd cuts
+begun-so tells v w last xs journaled end.TooManyTurns cuts h = absurd cuts
+begun-so tells v w last xs journaled end.NoMemory cuts h = h
+begun-so tells v w last xs journaled end.Journal cuts h = h
+begun-so tells v w last xs journaled end.JournalFull cuts h = h
+
+-- it was cut off
+pub script-cut : (v : Volume) (tells : Bool) (xs : List Line) (i : ℕ) (d : Line) (w mid next : World) (journaled : Bool) (e : PlayEnd) (lost : ℕ) → CutsOff journaled e → i < length xs → PlaysLinesOver v (take i xs) tells w mid
+    → IsLinePlayedOver v (get_or xs i d) tells mid (Err cut.NoMemory) next → next.lost ≤ lost → IsEndedOver tells v w xs e lost next.log
+script-cut v tells xs i d w mid next journaled e lost cuts lt h begins few = record {
   last = begins.0;
-  played = (subst (λ (ys : List Line). BeginsLinesOver v ys tells w begins.0) (sym (split-at xs i d lt)) (begins-after v tells (take i xs) (get_or xs i d) (drop (i + 1) xs) w mid begins.0 h begins.1), begins.2);
+  played = begun-so tells v w begins.0 xs journaled e cuts
+      (subst (λ (ys : List Line). BeginsLinesOver v ys tells w begins.0) (sym (split-at xs i d lt)) (begins-after v tells (take i xs) (get_or xs i d) (drop (i + 1) xs) w mid begins.0 h begins.1), begins.2);
   losses = (let same = begins.3.1 in omega (arith, few, same));
   log_is = sym begins.3.0;
 }
@@ -89,3 +101,5 @@ pub told : (tells : Bool) (v : Volume) (first : World) (lines : List Line) (e : 
 told tells v first lines end.Ended lost h is over = (record { last = over.last; played = told-lines v lines tells first over.last is over.played.0; few = over.played.1; log_is = over.log_is }, over.losses)
 told tells v first lines end.TooManyTurns lost h is over = (record { last = over.last; played = told-stops v TurnsSpent lines tells first over.last is over.played; log_is = over.log_is }, over.losses)
 told tells v first lines end.NoMemory lost h is over = (record { last = over.last; played = told-begins v lines tells first over.last is over.played.0; few = over.played.1; log_is = over.log_is }, over.losses)
+told tells v first lines end.Journal lost h is over = (record { last = over.last; played = told-begins v lines tells first over.last is over.played.0; few = over.played.1; log_is = over.log_is }, over.losses)
+told tells v first lines end.JournalFull lost h is over = (record { last = over.last; played = told-begins v lines tells first over.last is over.played.0; few = over.played.1; log_is = over.log_is }, over.losses)

@@ -1,6 +1,6 @@
--- How a turn, a round, a line or a script ends: whole, or cut off between two turns. Where memory is wanting, what was
--- played stands in the log.
-use Rattle.std.specs.Prelude.{ℕ, Bool, true, false, ◌≡◌, ◌<◌, ◌≤◌, List, ◌∷◌, ◌++◌, Result, Ok, Err}
+-- How a turn, a round, a line or a script ends: whole, or cut off between two turns. Where a turn, a line or an order was not
+-- done, what was played stands in the log.
+use Rattle.std.specs.Prelude.{ℕ, Bool, true, false, IsTrue, ◌≡◌, ◌<◌, ◌≤◌, List, ◌∷◌, ◌++◌, Result, Ok, Err}
 use Rattle.std.specs.List.{AllByRecursion}
 use Rattle.rz_events.specs.Volume.{Volume}
 use Rattle.rz_events.specs.declared.keys.Actor.{Actor}
@@ -59,12 +59,27 @@ IsLinePlayed v line w (Ok done) next = PlaysLine v line w next × (next.turns �
 IsLinePlayed v line w (Err cut.TooManyTurns) next = StopsLine v TurnsSpent line w next
 IsLinePlayed v line w (Err cut.NoMemory) next = IsLogOf (BeginsLine v line w) next
 
-abbrev pub ended_by : Cut → PlayEnd
-ended_by cut.TooManyTurns = end.TooManyTurns
-ended_by cut.NoMemory = end.NoMemory
+-- what is so where a line, a round or a turn stopped before a turn that is one too many
+abbrev pub OnStop : {A : Type 0} → Result A Cut → Type 0 → Type 0
+OnStop (Err cut.TooManyTurns) so = so
+OnStop result so = Unit {0}
+
+-- what a play can be cut off by: want of memory, and where there is a journal also its disk or its room
+abbrev pub CutsOff : (journaled : Bool) → PlayEnd → Type 0
+CutsOff journaled end.Ended = ⊥
+CutsOff journaled end.TooManyTurns = ⊥
+CutsOff journaled end.NoMemory = Unit {0}
+CutsOff journaled end.Journal = IsTrue journaled
+CutsOff journaled end.JournalFull = IsTrue journaled
+
+-- A play that was cut off ended as the stage says.
+abbrev pub EndsBy : (journaled : Bool) → (why : PlayEnd) → PlayEnd → Type 0
+EndsBy journaled why end.Ended = Unit {0}
+EndsBy journaled why end.TooManyTurns = Unit {0}
+EndsBy journaled why e = (e ≡ why) × CutsOff journaled e
 
 -- A script, by how its play ended. The link has lost at most so many messages then.
 abbrev pub IsEnded : Volume → World → List Line → PlayEnd → ℕ → List Event → Type 0
 IsEnded v first lines end.Ended lost h = (p : IsPlayedFrom v first lines h) × (p.last.lost ≤ lost)
 IsEnded v first lines end.TooManyTurns lost h = (p : IsStoppedFrom v TurnsSpent first lines h) × (p.last.lost ≤ lost)
-IsEnded v first lines end.NoMemory lost h = (p : IsBegunFrom v first lines h) × (p.last.lost ≤ lost)
+IsEnded v first lines cut_off lost h = (p : IsBegunFrom v first lines h) × (p.last.lost ≤ lost)

@@ -20,7 +20,7 @@ IsLinePlayedOver v l tells w (Err cut) next = IsLinePlayed v l w (Err cut) next
 abbrev pub ComesTo : Volume → List Line → Bool → PlayEnd → World → World → Type 0
 ComesTo v lines tells end.Ended first last = PlaysLinesOver v lines tells first last × (last.turns ≤ most_turns)
 ComesTo v lines tells end.TooManyTurns first last = StopsLinesOver v TurnsSpent lines tells first last
-ComesTo v lines tells end.NoMemory first last = BeginsLinesOver v lines tells first last × (last.turns ≤ most_turns)
+ComesTo v lines tells cut_off first last = BeginsLinesOver v lines tells first last × (last.turns ≤ most_turns)
 
 -- Such a log, the newest event first, by how the play ended. The link has lost at most so many messages then.
 pub record IsEndedOver (tells : Bool) (v : Volume) (first : World) (lines : List Line) (end : PlayEnd) (lost : ℕ) (h : List Event) : Type 0 where

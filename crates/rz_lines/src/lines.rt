@@ -2,7 +2,7 @@
 ghost use Rattle.std.specs.Prelude.{◌≡◌, ◌≤◌, ◌+◌, ◌-◌, IsTrue, OnOk, OnErr};
 ghost use Rattle.rz_script.specs.Lines.{IsLine, AreLines};
 ghost use Rattle.rz_play.specs.Stops.{most_turns};
-ghost use Rattle.rz_lines.specs.Ends.{Carries, IsEnded, ended_by};
+ghost use Rattle.rz_lines.specs.Ends.{Carries, EndsBy, IsEnded, OnStop};
 ghost use Rattle.rz_play.specs.Free.{PlaysLinesOver};
 ghost use Rattle.rz_lines.specs.Free.{IsLinePlayedOver, IsEndedOver};
 
@@ -20,17 +20,10 @@ pub enum PlayEnd {
     /// A turn more was called for than a play has.
     TooManyTurns,
     NoMemory,
-}
-
-impl From<Cut> for PlayEnd {
-    fn from(cut: Cut) -> Self
-        ensures { result ≡ ended_by cut }
-    {
-        match cut {
-            Cut::TooManyTurns => PlayEnd::TooManyTurns,
-            Cut::NoMemory => PlayEnd::NoMemory,
-        }
-    }
+    /// A device call of the journal's disk failed.
+    Journal,
+    /// The journal had no room for a call.
+    JournalFull,
 }
 
 /// Plays a line.
@@ -39,11 +32,13 @@ fn play_line<S: Stage, L: Link>(stage: &mut S, line: &Line, link: &mut L) -> Res
     requires line { IsLine (S.volume stage.old) line.now }
     requires few { (S.world stage.old).turns ≤ most_turns }
     ensures volume { S.volume stage.new ≡ S.volume stage.old }
+    ensures journal { S.journaled stage.new ≡ S.journaled stage.old }
     ensures ready { OnOk result (S.is_ready stage.new) }
     ensures few { OnOk result ((S.world stage.new).turns ≤ most_turns) }
     ensures lost { (S.world stage.new).lost + L.lost link.old ≤ (S.world stage.old).lost + L.lost link.new }
     ensures held { OnOk result (Carries (S.holds stage.old) (S.holds stage.new)) }
     ensures left { OnErr result (Carries (S.holds stage.old) (S.leaves stage.new)) }
+    ensures stopped { OnStop result (S.is_ready stage.new × Carries (S.holds stage.old) (S.holds stage.new)) }
     ensures played { IsLinePlayedOver (S.volume stage.old) line.now S.tells (S.world stage.old) result (S.world stage.new) }
 {
     match line {
@@ -68,6 +63,13 @@ pub fn play<S: Stage, L: Link>(stage: &mut S, lines: &[Line], link: &mut L) -> P
     ensures volume { S.volume stage.new ≡ S.volume stage.old }
     ensures left { Carries (S.holds stage.old) (S.leaves stage.new) }
     ensures played { IsTrue S.tells → IsEnded (S.volume stage.old) (S.world stage.old) lines.now result ((S.world stage.old).lost + (L.lost link.new - L.lost link.old)) (S.world stage.new).log }
+    ensures journal { S.journaled stage.new ≡ S.journaled stage.old }
+
+    // Where a turn, a line or an order was not done, the stage says how the play ends.
+    ensures cut { EndsBy (S.journaled stage.old) (S.cut_off stage.new) result }
+
+    // Before a turn that is one too many the stage stands between two turns.
+    ensures stopped { result ≡ PlayEnd.TooManyTurns → S.is_ready stage.new × Carries (S.holds stage.old) (S.holds stage.new) }
 
     // After the last line the stage can be played on further.
     ensures ready { result ≡ PlayEnd.Ended → S.is_ready stage.new }
@@ -78,8 +80,10 @@ pub fn play<S: Stage, L: Link>(stage: &mut S, lines: &[Line], link: &mut L) -> P
     ensures over { IsEndedOver S.tells (S.volume stage.old) (S.world stage.old) lines.now result ((S.world stage.old).lost + (L.lost link.new - L.lost link.old)) (S.world stage.new).log }
 {
     for line in lines {
-        if let Err(cut) = play_line(stage, line, link) {
-            return PlayEnd::from(cut);
+        match play_line(stage, line, link) {
+            Ok(()) => {}
+            Err(Cut::TooManyTurns) => return PlayEnd::TooManyTurns,
+            Err(Cut::NoMemory) => return stage.cut_off(),
         }
     }
     PlayEnd::Ended

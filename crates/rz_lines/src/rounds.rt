@@ -5,7 +5,7 @@ ghost use Rattle.rz_script.specs.Lines.{IsActor};
 ghost use Rattle.rz_script.specs.declared.line.Line.TheVariants as line;
 ghost use Rattle.rz_play.specs.World.{actors};
 ghost use Rattle.rz_play.specs.Stops.{most_turns};
-ghost use Rattle.rz_lines.specs.Ends.{Carries, IsRoundPlayed, IsLinePlayed};
+ghost use Rattle.rz_lines.specs.Ends.{Carries, IsRoundPlayed, IsLinePlayed, OnStop};
 
 use crate::stage::Stage;
 use crate::turns::{Cut, take_turn};
@@ -102,10 +102,12 @@ fn take_round<S: Stage, L: Link>(stage: &mut S, actors: &[Actor], link: &mut L) 
     requires actors { AllByRecursion IsActor actors.now }
     requires few { (S.world stage.old).turns ≤ most_turns }
     ensures volume { S.volume stage.new ≡ S.volume stage.old }
+    ensures journal { S.journaled stage.new ≡ S.journaled stage.old }
     ensures ready { OnOk result (S.is_ready stage.new) }
     ensures lost { (S.world stage.new).lost + L.lost link.old ≤ (S.world stage.old).lost + L.lost link.new }
     ensures held { OnOk result (Carries (S.holds stage.old) (S.holds stage.new)) }
     ensures left { OnErr result (Carries (S.holds stage.old) (S.leaves stage.new)) }
+    ensures stopped { OnStop result (S.is_ready stage.new × Carries (S.holds stage.old) (S.holds stage.new)) }
     ensures played { IsRoundPlayed (S.volume stage.old) actors.now (S.world stage.old) result (S.world stage.new) }
 {
     let mut any = false;
@@ -123,10 +125,12 @@ fn play_round<S: Stage, L: Link>(stage: &mut S, link: &mut L) -> Result<bool, Cu
     requires ready { S.is_ready stage.old }
     requires few { (S.world stage.old).turns ≤ most_turns }
     ensures volume { S.volume stage.new ≡ S.volume stage.old }
+    ensures journal { S.journaled stage.new ≡ S.journaled stage.old }
     ensures ready { OnOk result (S.is_ready stage.new) }
     ensures lost { (S.world stage.new).lost + L.lost link.old ≤ (S.world stage.old).lost + L.lost link.new }
     ensures held { OnOk result (Carries (S.holds stage.old) (S.holds stage.new)) }
     ensures left { OnErr result (Carries (S.holds stage.old) (S.leaves stage.new)) }
+    ensures stopped { OnStop result (S.is_ready stage.new × Carries (S.holds stage.old) (S.holds stage.new)) }
     ensures played { IsRoundPlayed (S.volume stage.old) actors (S.world stage.old) result (S.world stage.new) }
 {
     take_round(stage, &ACTORS, link)
@@ -141,10 +145,12 @@ pub(crate) fn play_rounds<S: Stage, L: Link>(
     requires ready { S.is_ready stage.old }
     requires few { (S.world stage.old).turns ≤ most_turns }
     ensures volume { S.volume stage.new ≡ S.volume stage.old }
+    ensures journal { S.journaled stage.new ≡ S.journaled stage.old }
     ensures ready { OnOk result (S.is_ready stage.new) }
     ensures lost { (S.world stage.new).lost + L.lost link.old ≤ (S.world stage.old).lost + L.lost link.new }
     ensures held { OnOk result (Carries (S.holds stage.old) (S.holds stage.new)) }
     ensures left { OnErr result (Carries (S.holds stage.old) (S.leaves stage.new)) }
+    ensures stopped { OnStop result (S.is_ready stage.new × Carries (S.holds stage.old) (S.holds stage.new)) }
     ensures played { IsLinePlayed (S.volume stage.old) (line.Rounds count) (S.world stage.old) result (S.world stage.new) }
 {
     for _ in 0..count {
@@ -160,10 +166,12 @@ pub(crate) fn play_to_rest<S: Stage, L: Link>(stage: &mut S, link: &mut L) -> Re
     requires ready { S.is_ready stage.old }
     requires few { (S.world stage.old).turns ≤ most_turns }
     ensures volume { S.volume stage.new ≡ S.volume stage.old }
+    ensures journal { S.journaled stage.new ≡ S.journaled stage.old }
     ensures ready { OnOk result (S.is_ready stage.new) }
     ensures lost { (S.world stage.new).lost + L.lost link.old ≤ (S.world stage.old).lost + L.lost link.new }
     ensures held { OnOk result (Carries (S.holds stage.old) (S.holds stage.new)) }
     ensures left { OnErr result (Carries (S.holds stage.old) (S.leaves stage.new)) }
+    ensures stopped { OnStop result (S.is_ready stage.new × Carries (S.holds stage.old) (S.holds stage.new)) }
     ensures played { IsLinePlayed (S.volume stage.old) line.Rest (S.world stage.old) result (S.world stage.new) }
 {
     while play_round(stage, link)? {}

@@ -8,14 +8,16 @@ ghost use Rattle.rz_play.specs.World.{World, has_work};
 ghost use Rattle.rz_play.specs.Turns.{IsTurn};
 ghost use Rattle.rz_play.specs.Lines.{PlaysLine};
 ghost use Rattle.rz_play.specs.Stops.{most_turns};
-ghost use Rattle.rz_lines.specs.Ends.{Carries, TellsOf};
+ghost use Rattle.rz_lines.specs.Ends.{Carries, CutsOff, TellsOf};
+ghost use Rattle.rz_lines.specs.declared.lines.PlayEnd.{PlayEnd as AnEnd};
 ghost use Rattle.rz_play.specs.Free.{PlaysLineOver};
 
+use crate::lines::PlayEnd;
 use rz_events::{Actor, Event, Operation};
 use rz_link::Link;
 use std::alloc::AllocError;
 
-/// Memory is wanting.
+/// Memory is wanting; or, of a stage with a journal, the journal did not keep a call.
 #[derive(Clone, Copy, Debug, PartialEq, Eq, Drop)]
 pub struct NoMemory;
 
@@ -27,8 +29,9 @@ impl From<AllocError> for NoMemory {
 
 /// Nodes, an export and actors that a script is played on.
 ///
-/// After want of memory the log has every event that happened. It is as before the call, and so is the
-/// count of the messages that the link lost. The rest may be anything, so nothing more is played then.
+/// Where a call was not done, memory is wanting, or the stage's journal did not keep a call; `cut_off` says
+/// which. The log then has every event that happened. It is as before the call, and so is the count of the
+/// messages that the link lost. The rest may be anything, so nothing more is played then.
 pub trait Stage {
     /// Whether its disks tell their texts. What a start finds is said of such disks alone.
     ghost tells: { Bool };
@@ -38,6 +41,12 @@ pub trait Stage {
     /// The world of the play.
     ghost world: { Self → World };
 
+    /// Whether its export stands behind a journal.
+    ghost journaled: { Self → Bool };
+
+    /// How a play ends where a turn, a line or an order was not done.
+    ghost cut_off: { Self → AnEnd };
+
     /// It stands between two turns.
     ghost is_ready: { Self → Type 0 };
 
@@ -45,10 +54,16 @@ pub trait Stage {
     /// many faults before the first line.
     ghost holds: { Self → (ℕ → ℕ) → Type 0 };
 
-    /// What is so of them where a play ended, want of memory or not.
+    /// What is so of them where a play ended, cut off or not.
     ghost leaves: { Self → (ℕ → ℕ) → Type 0 };
 
     ghost ends: { (s : Self) → Carries (holds s) (leaves s) };
+
+    /// How a play ends where a turn, a line or an order was not done: memory is wanting, or the journal did
+    /// not keep a call.
+    fn cut_off(&self) -> PlayEnd
+        ensures value { result ≡ cut_off self.now }
+        ensures cause { CutsOff (journaled self.now) result };
 
     /// How many turns were taken.
     fn turns(&self) -> u32
@@ -66,6 +81,7 @@ pub trait Stage {
         requires actor { IsActor by }
         requires few { (world self.old).turns < most_turns }
         ensures volume { volume self.new ≡ volume self.old }
+        ensures journal { journaled self.new ≡ journaled self.old }
         ensures ready { OnOk result (is_ready self.new) }
         ensures taken { OnOk result (IsTurn (volume self.old) by (world self.old) (world self.new)) }
         ensures lost { (world self.new).lost + L.lost link.old ≤ (world self.old).lost + L.lost link.new }
@@ -78,6 +94,7 @@ pub trait Stage {
         requires ready { is_ready self.old }
         requires line { IsLine (volume self.old) (line.Op by op.now) }
         ensures volume { volume self.new ≡ volume self.old }
+        ensures journal { journaled self.new ≡ journaled self.old }
         ensures ready { OnOk result (is_ready self.new) }
         ensures played { OnOk result (PlaysLine (volume self.old) (line.Op by op.now) (world self.old) (world self.new)) }
         ensures lost { (world self.new).lost ≡ (world self.old).lost }
@@ -90,6 +107,7 @@ pub trait Stage {
         requires ready { is_ready self.old }
         requires line { IsLine (volume self.old) (line.Miss by reply) }
         ensures volume { volume self.new ≡ volume self.old }
+        ensures journal { journaled self.new ≡ journaled self.old }
         ensures ready { is_ready self.new }
         ensures lost { (world self.new).lost ≡ (world self.old).lost }
         ensures played { PlaysLine (volume self.old) (line.Miss by reply) (world self.old) (world self.new) }
@@ -100,6 +118,7 @@ pub trait Stage {
         requires ready { is_ready self.old }
         requires line { IsLine (volume self.old) (line.Stop node) }
         ensures volume { volume self.new ≡ volume self.old }
+        ensures journal { journaled self.new ≡ journaled self.old }
         ensures ready { OnOk result (is_ready self.new) }
         ensures played { OnOk result (PlaysLine (volume self.old) (line.Stop node) (world self.old) (world self.new)) }
         ensures lost { (world self.new).lost ≡ (world self.old).lost }
@@ -112,6 +131,7 @@ pub trait Stage {
         requires ready { is_ready self.old }
         requires line { IsLine (volume self.old) (line.Start node) }
         ensures volume { volume self.new ≡ volume self.old }
+        ensures journal { journaled self.new ≡ journaled self.old }
         ensures ready { OnOk result (is_ready self.new) }
         ensures played { OnOk result (PlaysLineOver (volume self.old) (line.Start node) Self.tells (world self.old) (world self.new)) }
         ensures turns { OnOk result ((world self.new).turns ≡ (world self.old).turns) }
@@ -125,6 +145,7 @@ pub trait Stage {
         requires ready { is_ready self.old }
         requires line { IsLine (volume self.old) (line.Lose node) }
         ensures volume { volume self.new ≡ volume self.old }
+        ensures journal { journaled self.new ≡ journaled self.old }
         ensures ready { OnOk result (is_ready self.new) }
         ensures played { OnOk result (PlaysLine (volume self.old) (line.Lose node) (world self.old) (world self.new)) }
         ensures lost { (world self.new).lost ≡ (world self.old).lost }
@@ -137,6 +158,7 @@ pub trait Stage {
         requires ready { is_ready self.old }
         requires line { IsLine (volume self.old) (line.Break node passes pick) }
         ensures volume { volume self.new ≡ volume self.old }
+        ensures journal { journaled self.new ≡ journaled self.old }
         ensures ready { OnOk result (is_ready self.new) }
         ensures played { OnOk result (PlaysLine (volume self.old) (line.Break node passes pick) (world self.old) (world self.new)) }
         ensures lost { (world self.new).lost ≡ (world self.old).lost }

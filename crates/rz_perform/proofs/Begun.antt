@@ -14,7 +14,7 @@ use Rattle.rz_lines.specs.Ends.{IsEnded}
 use Rattle.rz_lines.specs.Free.{ComesTo, IsEndedOver}
 use Rattle.rz_perform.specs.Told.{AreLossesTold}
 use Rattle.rz_lines.specs.declared.lines.PlayEnd.{PlayEnd}
-use Rattle.rz_lines.specs.declared.lines.PlayEnd.TheVariants.{Ended, TooManyTurns, NoMemory}
+use Rattle.rz_lines.specs.declared.lines.PlayEnd.TheVariants.{Ended, TooManyTurns, NoMemory, Journal, JournalFull}
 
 pub has_begun : ((v : Volume) (first : World) (lines : List Line) (log : List Event) → (p : IsPlayedFrom v first lines log) → (begun : IsBegunFrom v first lines log) × (begun.last ≡ p.last))
     → ((v : Volume) (cause : StopCause) (first : World) (lines : List Line) (log : List Event) → (p : IsStoppedFrom v cause first lines log) → (begun : IsBegunFrom v first lines log) × (begun.last ≡ p.last))
@@ -24,6 +24,8 @@ has_begun ended stopped v Ended lines lost log h =
 has_begun ended stopped v TooManyTurns lines lost log h =
     let b = stopped v TurnsSpent (new_world v) lines log h.0 in (b.0, subst (λ (w : World). w.lost ≤ lost) (sym b.1) h.1)
 has_begun ended stopped v NoMemory lines lost log h = h
+has_begun ended stopped v Journal lines lost log h = h
+has_begun ended stopped v JournalFull lines lost log h = h
 
 -- what a stage tells of its own volume and world is so of the volume and the new world that it stands for
 pub ended_play : (tells : Bool) (v own : Volume) (first : World) (lines given : List Line) (end : PlayEnd) (lost : ℕ) (log : List Event) → own ≡ v → first ≡ new_world v → given ≡ lines
@@ -52,6 +54,8 @@ reached : (tells : Bool) (v : Volume) (lines : List Line) (end : PlayEnd) (first
 reached tells v lines Ended first last is = inl is.0
 reached tells v lines TooManyTurns first last is = inr (inl is)
 reached tells v lines NoMemory first last is = inr (inr is.0)
+reached tells v lines Journal first last is = inr (inr is.0)
+reached tells v lines JournalFull first last is = inr (inr is.0)
 
 pub losses_told : ((v : Volume) (lines : List Line) (tells : Bool) (nodes : ℕ → NodeState) (s : ExportState) (old : List Event) (last : World) → IsReached v lines tells (world_after nodes s old) last → missed last.log ≤ missed old + misses lines + last.lost)
     → AreLossesTold

@@ -9,12 +9,12 @@ use Rattle.rz_script.specs.declared.line.Line.{Line}
 use Rattle.rz_play.specs.World.{World, new_world}
 use Rattle.rz_play.specs.Free.{PlaysLinesOver}
 use Rattle.rz_play.specs.Faults.{missed, misses}
-use Rattle.rz_lines.specs.Ends.{Carries, IsEnded}
+use Rattle.rz_lines.specs.Ends.{Carries, EndsBy, IsEnded}
 use Rattle.rz_lines.specs.Free.{IsEndedOver}
 use Rattle.rz_lines.specs.declared.lines.PlayEnd.{PlayEnd}
-use Rattle.rz_lines.specs.declared.lines.PlayEnd.TheVariants.{Ended, TooManyTurns, NoMemory}
+use Rattle.rz_lines.specs.declared.lines.PlayEnd.TheVariants.{Ended, TooManyTurns, NoMemory, Journal, JournalFull}
 use Rattle.rz_request.specs.declared.wishes.Wish.{Wish}
-use Rattle.rz_request.specs.declared.wishes.Wish.TheVariants.{Replay, Load, Scrub}
+use Rattle.rz_request.specs.declared.wishes.Wish.TheVariants.{Replay, Load, Scrub, First}
 use Rattle.rz_events.specs.declared.files.Listed.{Listed}
 use Rattle.rz_events.specs.declared.nodes.FetchAnswer.{FetchAnswer}
 use Rattle.rz_events.specs.declared.nodes.FetchAnswer.TheVariants as fetch
@@ -25,7 +25,7 @@ use Rattle.rz_scrubbing.specs.Scrubs.{AreListed, AreTold, AreUnaltered, EachList
 use Rattle.rz_scrubbing.specs.Stores.{HasAsked, IsRead, State}
 use Rattle.rz_perform.specs.Output.{Lacks, Sunk}
 use Rattle.rz_perform.specs.Telling.{Performs, Says}
-use Rattle.rz_perform.specs.Scrubs.{AreFound, Finds, IsFoundIn, IsScrubbable, IsSought, Leaves, anything, seen_in}
+use Rattle.rz_perform.specs.Scrubs.{AreFound, Finds, IsFoundIn, IsScrubbable, IsSought, BetweenTurns, Leaves, anything, seen_in}
 
 -- What was found with some knowledge of what disks give was found, whatever they give.
 
@@ -62,9 +62,9 @@ if_ok : {A E : Type 0} {P Q : A → Type 0} (r : Result A E) → ((x : A) → P 
 if_ok (Ok x) f p = f x p
 if_ok (Err e) f p = tt
 
-module _ {S : Type 0} (tells : Bool) (volume : S → Volume) (world : S → World) (is_ready : S → Type 0) (holds : S → (ℕ → ℕ) → Type 0) (described : S → Volume) (state : S → List Event → State)
+module _ {S : Type 0} (tells : Bool) (volume : S → Volume) (world : S → World) (journaled : S → Bool) (is_ready : S → Type 0) (holds : S → (ℕ → ℕ) → Type 0) (described : S → Volume) (state : S → List Event → State)
     (is_open : S → Type 0) (gives : S → ℕ → Key → Held → List ℕ → List ℕ → Type 0) (counts : S → List Event → (ℕ → ℕ) → Type 0) (only_asked : S → S → Type 0)
-    (scrubbable : IsScrubbable tells volume world is_ready holds described state is_open gives counts only_asked) where
+    (scrubbable : IsScrubbable tells volume world journaled is_ready holds described state is_open gives counts only_asked) where
   -- no line of a scrub of this store says that a record is altered
   abbrev Unaltered : S → List ℕ → Type 0
   Unaltered old text = (blocks : List Listed) × AreListed (state old (world old).log).export None blocks × AreUnaltered (described old).layout blocks text
@@ -88,13 +88,14 @@ module _ {S : Type 0} (tells : Bool) (volume : S → Volume) (world : S → Worl
   sought : {A E : Type 0} (items : A → List ℕ) (old new : S) (result : Result A E)
       → ((text : List ℕ) (next : State) → IsScrubbed (described old).layout (gives old) (state old (world old).log) text next → IsTrue tells → Unaltered old text)
       → HasAsked is_open described gives state counts only_asked old new (λ w next. IfOk result (λ (text : A). IsScrubbed (described old).layout (gives old) w (items text) next))
-      → Finds tells volume world holds counts only_asked Ended Scrub old new (λ p. IfOk result (λ (lines : A). p (items lines)))
+      → Finds tells volume world journaled holds counts only_asked Ended Scrub old new (λ p. IfOk result (λ (lines : A). p (items lines)))
   sought items old new result sure asked = record {
     later = asked.later;
     may = asked.asks;
     volume_is = sym (scrubbable.described_is new) ∙ asked.onward.described_is ∙ scrubbable.described_is old;
     log_is = scrubbable.log_is old new asked.onward.asked;
-    left = inr (refl, asked.onward.asked, λ first held. asked.onward.counted (world old).log first (scrubbable.counted old first held));
+    journal_is = scrubbable.journal_is old new asked.onward.asked;
+    left = inr (refl, refl, asked.onward.asked, λ first held. asked.onward.counted (world old).log first (scrubbable.counted old first held));
     found = if_ok result (λ text told. in_stage old new asked.later (items text) (sure (items text) (state new (asked.later ++ (world old).log)) told) told) (asked.told (world old).log);
   }
 
@@ -103,10 +104,10 @@ module _ {S : Type 0} (tells : Bool) (volume : S → Volume) (world : S → Worl
       → (blocks : List Listed) × AreListed w.export None blocks × AreUnaltered (described old).layout blocks text)
       → is_ready old → ((first : ℕ → ℕ) × holds old first) → length (world old).log < 2 ^ 64 - 1
       → HasAsked is_open described gives state counts only_asked old new (λ w next. IfOk result (λ (text : A). IsScrubbed (described old).layout (gives old) w (items text) next))
-      → Finds tells volume world holds counts only_asked end wish old new (λ p. IfOk result (λ (lines : A). p (items lines)))
+      → Finds tells volume world journaled holds counts only_asked end wish old new (λ p. IfOk result (λ (lines : A). p (items lines)))
   sought_here {A = A} items end wish old new result end_is wish_is law ready (first, held) few asked =
       let w : State = state old (world old).log in
-      let F : PlayEnd → Wish → Type 0 = λ e w. Finds tells volume world holds counts only_asked e w old new (λ p. IfOk result (λ (lines : A). p (items lines))) in
+      let F : PlayEnd → Wish → Type 0 = λ e w. Finds tells volume world journaled holds counts only_asked e w old new (λ p. IfOk result (λ (lines : A). p (items lines))) in
       subst (λ (e : PlayEnd). F e wish) (sym end_is) (subst (λ (w : Wish). F Ended w) (sym wish_is)
       (sought items old new result (λ text next told telling. law w next text (scrubbable.whole old first ready held telling few) told) asked))
 
@@ -116,12 +117,11 @@ after : (tells : Bool) (v : Volume) (lines : List Line) (end : PlayEnd) (wish : 
 after tells v lines Ended Scrub last later found whole sought = (last, whole refl, refl, sought)
 after tells v lines Ended Replay last later found whole sought = sought
 after tells v lines Ended (Load seed) last later found whole sought = sought
-after tells v lines TooManyTurns Replay last later found whole sought = sought
-after tells v lines TooManyTurns (Load seed) last later found whole sought = sought
-after tells v lines TooManyTurns Scrub last later found whole sought = sought
-after tells v lines NoMemory Replay last later found whole sought = sought
-after tells v lines NoMemory (Load seed) last later found whole sought = sought
-after tells v lines NoMemory Scrub last later found whole sought = sought
+after tells v lines Ended First last later found whole sought = sought
+after tells v lines TooManyTurns wish last later found whole sought = sought
+after tells v lines NoMemory wish last later found whole sought = sought
+after tells v lines Journal wish last later found whole sought = sought
+after tells v lines JournalFull wish last later found whole sought = sought
 
 -- what a stage tells of its own volume and world is so of the volume and the new world that it stands for
 pub whole_play : (tells : Bool) (v own : Volume) (first : World) (lines given : List Line) (end : PlayEnd) (last : World) → own ≡ v → first ≡ new_world v → given ≡ lines
@@ -132,30 +132,57 @@ whole_play tells v own first lines given end last volume_is world_is lines_are w
     let R : List Line → Type 0 = λ x. PlaysLinesOver v x tells (new_world v) last in
     subst R lines_are (subst Q world_is (subst P volume_is (whole ended)))
 
+-- what a play leaves between two turns
+between : (end : PlayEnd) (so : Type 0) → (end ≡ Ended → so) → (end ≡ TooManyTurns → so) → BetweenTurns end so
+between Ended so ended stopped = ended refl
+between TooManyTurns so ended stopped = stopped refl
+between NoMemory so ended stopped = tt
+between Journal so ended stopped = tt
+between JournalFull so ended stopped = tt
+
+-- only a play that was cut off ended as the stage says
+any-end : (journaled : Bool) (why : PlayEnd) (end : PlayEnd) → end ≡ Ended → EndsBy journaled why end
+any-end journaled why Ended is = tt
+any-end journaled why TooManyTurns is = tt
+any-end journaled why NoMemory is = cc
+any-end journaled why Journal is = cc
+any-end journaled why JournalFull is = cc
+
 -- what is left of the stage
-leaves_so : {S : Type 0} (tells : Bool) (volume : S → Volume) (world : S → World) (holds leaves : S → (ℕ → ℕ) → Type 0) (counts : S → List Event → (ℕ → ℕ) → Type 0) (only_asked : S → S → Type 0)
+leaves_so : {S : Type 0} (tells : Bool) (volume : S → Volume) (world : S → World) (journaled : S → Bool) (holds leaves : S → (ℕ → ℕ) → Type 0) (counts : S → List Event → (ℕ → ℕ) → Type 0) (only_asked : S → S → Type 0)
     (end : PlayEnd) (wish : Wish) (first played last : S) (IfFound : (List ℕ → Type 0) → Type 0) → Carries (holds first) (leaves played) → (end ≡ Ended → Carries (holds first) (holds played))
-    → (f : Finds tells volume world holds counts only_asked end wish played last IfFound) → Leaves world holds leaves counts only_asked first last f.later
-leaves_so {S} tells volume world holds leaves counts only_asked end wish first played last IfFound left held f = so f.left
+    → (end ≡ TooManyTurns → Carries (holds first) (holds played)) → (f : Finds tells volume world journaled holds counts only_asked end wish played last IfFound) → Leaves world holds leaves counts only_asked end wish first last f.later
+leaves_so {S} tells volume world journaled holds leaves counts only_asked end wish first played last IfFound left held stopped f = so f.left
   where
-    so : ((f.later ≡ []) × (last ≡ played)) ⊎ ((end ≡ Ended) × only_asked played last × Carries (holds played) (counts last (f.later ++ (world played).log))) → Leaves world holds leaves counts only_asked first last f.later
-    so (inl (none, same)) = let P : S → Type 0 = λ s. Carries (holds first) (leaves s) in inl (none, subst P (sym same) left)
-    so (inr (ended, asked, counted)) =
+    so : ((f.later ≡ []) × (last ≡ played)) ⊎ ((end ≡ Ended) × (wish ≡ Scrub) × only_asked played last × Carries (holds played) (counts last (f.later ++ (world played).log))) → Leaves world holds leaves counts only_asked end wish first last f.later
+    so (inl (none, same)) =
+        let P : S → Type 0 = λ s. Carries (holds first) (leaves s) in
+        let Q : S → Type 0 = λ s. BetweenTurns end (Carries (holds first) (holds s)) in
+        inl (none, subst P (sym same) left, subst Q (sym same) (between end (Carries (holds first) (holds played)) held stopped))
+    so (inr (ended, scrubs, asked, counted)) =
         let P : List Event → Type 0 = λ h. Carries (holds first) (counts last (f.later ++ h)) in
-        inr (played, held ended, asked, subst P (sym f.log_is) (λ c holding. counted c (held ended c holding)))
+        inr (played, scrubs, held ended, asked, subst P (sym f.log_is) (λ c holding. counted c (held ended c holding)))
 
 -- a play, and what was sought after it, as a performance
-module _ {S : Type 0} (tells : Bool) (volume : S → Volume) (world : S → World) (holds leaves : S → (ℕ → ℕ) → Type 0) (counts : S → List Event → (ℕ → ℕ) → Type 0) (only_asked : S → S → Type 0)
-    (v : Volume) (lines : List Line) (wish : Wish) (lost : ℕ) (end : PlayEnd) (first played last : S) where
+module _ {S : Type 0} (tells : Bool) (volume : S → Volume) (world : S → World) (journaled : S → Bool) (was : Bool) (cut_off : S → PlayEnd) (holds leaves : S → (ℕ → ℕ) → Type 0) (counts : S → List Event → (ℕ → ℕ) → Type 0)
+    (only_asked : S → S → Type 0) (v : Volume) (lines : List Line) (wish : Wish) (lost : ℕ) (end : PlayEnd) (first played last : S) where
+  cut_so : (IfFound : (List ℕ → Type 0) → Type 0) → Finds tells volume world journaled holds counts only_asked end wish played last IfFound → EndsBy was (cut_off played) end → EndsBy was (cut_off last) end
+  cut_so IfFound f cut = so f.left
+    where
+      so : ((f.later ≡ []) × (last ≡ played)) ⊎ ((end ≡ Ended) × (wish ≡ Scrub) × only_asked played last × Carries (holds played) (counts last (f.later ++ (world played).log))) → EndsBy was (cut_off last) end
+      so (inl (none, same)) = let P : S → Type 0 = λ s. EndsBy was (cut_off s) end in subst P (sym same) cut
+      so (inr (ended, scrubs, asked, counted)) = any-end was (cut_off last) end ended
+
   pub performed_so : (IsTrue tells → IsEnded v (new_world v) lines end lost (world played).log) → IsEndedOver tells v (new_world v) lines end lost (world played).log → missed (world played).log ≤ misses lines + lost
-      → (end ≡ Ended → PlaysLinesOver v lines tells (new_world v) (world played)) → volume played ≡ v → Carries (holds first) (leaves played) → (end ≡ Ended → Carries (holds first) (holds played))
-      → (IfFound : (List ℕ → Type 0) → Type 0) (f : Finds tells volume world holds counts only_asked end wish played last IfFound) (sink : Sunk) (status : ℕ)
+      → (end ≡ Ended → PlaysLinesOver v lines tells (new_world v) (world played)) → volume played ≡ v → EndsBy was (cut_off played) end → Carries (holds first) (leaves played)
+      → (end ≡ Ended → Carries (holds first) (holds played)) → (end ≡ TooManyTurns → Carries (holds first) (holds played))
+      → (IfFound : (List ℕ → Type 0) → Type 0) (f : Finds tells volume world journaled holds counts only_asked end wish played last IfFound) (sink : Sunk) (status : ℕ)
       → ((found : List ℕ) × IsSought tells (volume played) (world played) end wish f.later found × Says end wish found (reverse (world last).log) sink status) ⊎ Lacks sink status
-      → (later : List Event) × Leaves world holds leaves counts only_asked first last later × Performs tells v lines wish later lost (world last).log sink status
-  performed_so ended over few whole is_of left held IfFound f sink status told =
-      let P : List Event → Type 0 = λ h. Performs tells v lines wish f.later lost h sink status in
-      let at_end : P (world played).log = (end, ended, over, few, (f.may, tells_so told)) in
-      (f.later, leaves_so tells volume world holds leaves counts only_asked end wish first played last IfFound left held f, subst P (sym f.log_is) at_end)
+      → (e : PlayEnd) × (later : List Event) × Leaves world holds leaves counts only_asked e wish first last later × EndsBy was (cut_off last) e × Performs tells v lines wish e later lost (world last).log sink status
+  performed_so ended over few whole is_of cut left held stopped IfFound f sink status told =
+      let P : List Event → Type 0 = λ h. Performs tells v lines wish end f.later lost h sink status in
+      let at_end : P (world played).log = (ended, over, few, (f.may, tells_so told)) in
+      (end, f.later, leaves_so tells volume world journaled holds leaves counts only_asked end wish first played last IfFound left held stopped f, cut_so IfFound f cut, subst P (sym f.log_is) at_end)
     where
       tells_so : ((found : List ℕ) × IsSought tells (volume played) (world played) end wish f.later found × Says end wish found (reverse (world last).log) sink status) ⊎ Lacks sink status
           → ((found : List ℕ) × AreFound tells v lines end wish (world played).log f.later found × Says end wish found (reverse (world played).log) sink status) ⊎ Lacks sink status

@@ -1,10 +1,15 @@
 -- What a replay of a request over disks comes to.
 use Rattle.std.specs.Prelude.{ℕ, Bool, ◌≡◌, ◌⊎◌, IsTrue, List, [], Result, Ok, Err}
+use Rattle.rz_disk.specs.Meter.{Rises as HasRisen}
 use Rattle.rz_ports.specs.Counts.{Rises}
 use Rattle.rz_events.specs.declared.events.Event.{Event}
+use Rattle.rz_lines.specs.declared.lines.PlayEnd.{PlayEnd}
+use Rattle.rz_lines.specs.declared.lines.PlayEnd.TheVariants.{Journal, JournalFull}
+use Rattle.rz_request.specs.Requests.{nodes_in}
 use Rattle.rz_request.specs.declared.refusal.Refusal.TheVariants as refusals
 use Rattle.rz_request.specs.declared.refusal.Stop.{Stop}
 use Rattle.rz_request.specs.declared.wishes.Request.{Request}
+use Rattle.rz_request.specs.declared.wishes.Wish.TheVariants.{First}
 use Rattle.rz_perform.specs.Output.{Sunk, Lacks}
 use Rattle.rz_perform.specs.Telling.{Performs, Refuses, Stops}
 use Rattle.rz_perform.specs.Told.{IsTold}
@@ -14,10 +19,17 @@ pub record Faulted : Type 0 where
   pub old : ℕ → ℕ
   pub new : ℕ → ℕ
 
--- how far a request came: no play of it began, or its script was performed, and then these records were asked for
+-- how far a request came: no play of it began, or its script was played to this end, and then these records were asked for
 pub data Course : Type 0 where
   Unplayed : Course
-  Performed : (later : List Event) → Course
+  Performed : (end : PlayEnd) (later : List Event) → Course
+
+-- A journal, which `first` alone has, ended a play: the faults of its disk, which is behind those of the nodes, rose; or it had no
+-- room for a call.
+abbrev pub MayEnd : PlayEnd → Request → Faulted → Type 0
+MayEnd Journal r disks = (r.wish ≡ First) × HasRisen (disks.old (nodes_in r.script)) (disks.new (nodes_in r.script))
+MayEnd JournalFull r disks = r.wish ≡ First
+MayEnd _ r disks = Unit {0}
 
 -- A request that came so far, with so many messages lost by the link. No play began where memory was wanting, or where a disk
 -- failed while it was formatted, and its faults rose.
@@ -25,7 +37,7 @@ abbrev pub Opens : Bool → Course → Request → Faulted → (lost : ℕ) → 
 Opens tells Unplayed r disks lost sink status h =
     (Lacks sink status × (h ≡ []))
     ⊎ ((index : ℕ) × Rises (disks.old index) (disks.new index) × Refuses (refusals.Disk index) sink status × (h ≡ []))
-Opens tells (Performed later) r disks lost sink status h = Performs tells r.script.volume r.script.lines r.wish later lost h sink status
+Opens tells (Performed end later) r disks lost sink status h = MayEnd end r disks × Performs tells r.script.volume r.script.lines r.wish end later lost h sink status
 
 -- A request is played. Over disks that tell their texts the log is true.
 abbrev pub Follows : Bool → Course → Request → Faulted → (lost : ℕ) → Sunk → ℕ → List Event → Type 0

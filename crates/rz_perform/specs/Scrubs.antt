@@ -10,7 +10,7 @@ use Rattle.rz_play.specs.World.{World, new_world}
 use Rattle.rz_play.specs.Free.{PlaysLinesOver}
 use Rattle.rz_lines.specs.Ends.{Carries}
 use Rattle.rz_lines.specs.declared.lines.PlayEnd.{PlayEnd}
-use Rattle.rz_lines.specs.declared.lines.PlayEnd.TheVariants.{Ended}
+use Rattle.rz_lines.specs.declared.lines.PlayEnd.TheVariants.{Ended, TooManyTurns}
 use Rattle.rz_words.specs.Grid.{Grid}
 use Rattle.rz_scrubbing.specs.Asks.{AreGiven}
 use Rattle.rz_scrubbing.specs.Scrubs.{AreListed, AreUnaltered, EachListed, IsScrubbed}
@@ -52,9 +52,9 @@ AreFound tells v lines Ended Scrub h later found =
 AreFound tells v lines _ _ h later found = found ≡ []
 
 -- A stage that can be scrubbed between two turns: it is a store of its volume with its export and its nodes, what is so of its disks
--- goes with its log, and it keeps its log while records are asked for. Over disks that tell their texts the nodes of each published
+-- goes with its log, and it keeps its log and its journal while records are asked for. Over disks that tell their texts the nodes of each published
 -- block give the projections of one block of words.
-pub record IsScrubbable {S : Type 0} (tells : Bool) (volume : S → Volume) (world : S → World) (is_ready : S → Type 0) (holds : S → (ℕ → ℕ) → Type 0)
+pub record IsScrubbable {S : Type 0} (tells : Bool) (volume : S → Volume) (world : S → World) (journaled : S → Bool) (is_ready : S → Type 0) (holds : S → (ℕ → ℕ) → Type 0)
     (described : S → Volume) (state : S → List Event → State) (is_open : S → Type 0) (gives : S → ℕ → Key → Held → List ℕ → List ℕ → Type 0)
     (counts : S → List Event → (ℕ → ℕ) → Type 0) (only_asked : S → S → Type 0) : Type 0 where
   pub described_is : (s : S) → described s ≡ volume s
@@ -62,22 +62,30 @@ pub record IsScrubbable {S : Type 0} (tells : Bool) (volume : S → Volume) (wor
   pub open_is : (s : S) → is_ready s → is_open s
   pub counted : (s : S) → Carries (holds s) (counts s (world s).log)
   pub log_is : (s t : S) → only_asked s t → (world t).log ≡ (world s).log
+  pub journal_is : (s t : S) → only_asked s t → journaled t ≡ journaled s
   pub whole : (s : S) (first : ℕ → ℕ) → is_ready s → holds s first → IsTrue tells → length (world s).log < 2 ^ 64 - 1
       → EachListed (state s (world s).log).export (λ l. (g : Grid) × AreGiven (described s).layout (gives s) (state s (world s).log).nodes l g)
 
--- Where a performance ended, disks and log are as a play leaves them; or, after a play to its end, these records were asked for, and
--- the faults go with those asks after the log.
-abbrev pub Leaves : {S : Type 0} → (S → World) → (S → (ℕ → ℕ) → Type 0) → (S → (ℕ → ℕ) → Type 0) → (S → List Event → (ℕ → ℕ) → Type 0) → (S → S → Type 0) → S → S → List Event → Type 0
-Leaves {S} world holds leaves counts only_asked old new later =
-    ((later ≡ []) × Carries (holds old) (leaves new))
-    ⊎ ((played : S) × Carries (holds old) (holds played) × only_asked played new × Carries (holds old) (counts new (later ++ (world new).log)))
+-- what is so where a play ended between two turns
+abbrev pub BetweenTurns : PlayEnd → Type 0 → Type 0
+BetweenTurns Ended so = so
+BetweenTurns TooManyTurns so = so
+BetweenTurns cut_off so = Unit {0}
+
+-- Where a performance ended, disks and log are as a play leaves them; or, in a scrub and after a play to its end, these records were
+-- asked for, and the faults go with those asks after the log.
+abbrev pub Leaves : {S : Type 0} → (S → World) → (S → (ℕ → ℕ) → Type 0) → (S → (ℕ → ℕ) → Type 0) → (S → List Event → (ℕ → ℕ) → Type 0) → (S → S → Type 0) → PlayEnd → Wish → S → S → List Event → Type 0
+Leaves {S} world holds leaves counts only_asked end wish old new later =
+    ((later ≡ []) × Carries (holds old) (leaves new) × BetweenTurns end (Carries (holds old) (holds new)))
+    ⊎ ((played : S) × (wish ≡ Scrub) × Carries (holds old) (holds played) × only_asked played new × Carries (holds old) (counts new (later ++ (world new).log)))
 
 -- What came of a stage whose play ended so, and of the lines where there are some.
-pub record Finds {S : Type 0} (tells : Bool) (volume : S → Volume) (world : S → World) (holds : S → (ℕ → ℕ) → Type 0) (counts : S → List Event → (ℕ → ℕ) → Type 0) (only_asked : S → S → Type 0)
+pub record Finds {S : Type 0} (tells : Bool) (volume : S → Volume) (world : S → World) (journaled : S → Bool) (holds : S → (ℕ → ℕ) → Type 0) (counts : S → List Event → (ℕ → ℕ) → Type 0) (only_asked : S → S → Type 0)
     (end : PlayEnd) (wish : Wish) (old new : S) (IfFound : (List ℕ → Type 0) → Type 0) : Type 0 where
   pub later : List Event
   pub may : MayAsk end wish later
   pub volume_is : volume new ≡ volume old
   pub log_is : (world new).log ≡ (world old).log
-  pub left : ((later ≡ []) × (new ≡ old)) ⊎ ((end ≡ Ended) × only_asked old new × Carries (holds old) (counts new (later ++ (world old).log)))
+  pub journal_is : journaled new ≡ journaled old
+  pub left : ((later ≡ []) × (new ≡ old)) ⊎ ((end ≡ Ended) × (wish ≡ Scrub) × only_asked old new × Carries (holds old) (counts new (later ++ (world old).log)))
   pub found : IfFound (IsSought tells (volume old) (world old) end wish later)

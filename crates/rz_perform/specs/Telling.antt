@@ -8,16 +8,16 @@ use Rattle.rz_play.specs.Faults.{missed, misses}
 use Rattle.rz_lines.specs.Ends.{IsEnded}
 use Rattle.rz_lines.specs.Free.{IsEndedOver}
 use Rattle.rz_lines.specs.declared.lines.PlayEnd.{PlayEnd}
-use Rattle.rz_lines.specs.declared.lines.PlayEnd.TheVariants.{Ended, TooManyTurns, NoMemory}
+use Rattle.rz_lines.specs.declared.lines.PlayEnd.TheVariants.{Ended, TooManyTurns, NoMemory, Journal, JournalFull}
 use Rattle.rz_show.specs.Text.{text_of}
 use Rattle.rz_summary.specs.Summary.{summary_of}
 use Rattle.rz_request.specs.Refusals.{line_of, status_of}
 use Rattle.rz_request.specs.declared.refusal.Refusal.{Refusal}
-use Rattle.rz_request.specs.declared.refusal.Refusal.TheVariants.{Turns}
+use Rattle.rz_request.specs.declared.refusal.Refusal.TheVariants as refusals
 use Rattle.rz_request.specs.declared.refusal.Stop.{Stop}
 use Rattle.rz_request.specs.declared.refusal.Stop.TheVariants as stops
 use Rattle.rz_request.specs.declared.wishes.Wish.{Wish}
-use Rattle.rz_request.specs.declared.wishes.Wish.TheVariants.{Replay, Load, Scrub}
+use Rattle.rz_request.specs.declared.wishes.Wish.TheVariants.{Replay, Load, Scrub, First}
 use Rattle.rz_perform.specs.Output.{Sunk, Ends, Lacks}
 use Rattle.rz_perform.specs.Scrubs.{AreFound, MayAsk}
 
@@ -25,17 +25,23 @@ use Rattle.rz_perform.specs.Scrubs.{AreFound, MayAsk}
 -- of a scrub
 abbrev pub text_told : Wish → (found : List ℕ) → List Event → List ℕ
 text_told Replay found log = text_of log true
+text_told First found log = text_of log true
 text_told (Load seed) found log = summary_of seed log
 text_told Scrub found log = text_of log true ++ found
 
--- what is printed of a play that was cut off before a turn too many: the text so far, and the line of the refusal
-abbrev pub text_so_far : List Event → List ℕ
-text_so_far log = text_of log false ++ line_of Turns
+-- what is printed of a play that was cut off for a refusal: the text so far, and the line of the refusal
+abbrev pub text_so_far : Refusal → List Event → List ℕ
+text_so_far why log = text_of log false ++ line_of why
 
--- The status, and what the sink took, by how the play ended: the text with status 0, the text so far with status 8.
+abbrev pub SaysSoFar : Refusal → List Event → Sunk → ℕ → Type 0
+SaysSoFar why log sink status = Ends sink (status_of why) (text_so_far why log) status
+
+-- The status, and what the sink took, by how the play ended: the text with status 0, or the text so far and why it was cut off.
 abbrev pub Says : PlayEnd → Wish → (found : List ℕ) → List Event → Sunk → ℕ → Type 0
 Says Ended wish found log sink status = Ends sink 0 (text_told wish found log) status
-Says TooManyTurns wish found log sink status = Ends sink 8 (text_so_far log) status
+Says TooManyTurns wish found log sink status = SaysSoFar refusals.Turns log sink status
+Says Journal wish found log sink status = SaysSoFar refusals.Journal log sink status
+Says JournalFull wish found log sink status = SaysSoFar refusals.Full log sink status
 Says NoMemory wish found log sink status = ⊥
 
 -- Some lines were found, and the text with them was to be written; or memory was wanting. There are lines of a scrub alone, after a
@@ -45,12 +51,12 @@ Tells tells v lines end wish h later sink status =
     MayAsk end wish later
     × (((found : List ℕ) × AreFound tells v lines end wish h later found × Says end wish found (reverse h) sink status) ⊎ Lacks sink status)
 
--- A script was played to some end, with so many messages lost by the link, and told with its log, the newest event first. Over
+-- A script was played to this end, with so many messages lost by the link, and told with its log, the newest event first. Over
 -- disks that tell their texts the log is that of the script's play; over others it is that of a play in which a start may find
 -- anything. Each lost message was lost by a line or by the link. After the play these records were asked for.
-abbrev pub Performs : Bool → Volume → List Line → Wish → (later : List Event) → (lost : ℕ) → List Event → Sunk → ℕ → Type 0
-Performs tells v lines wish later lost h sink status =
-    (end : PlayEnd) × (IsTrue tells → IsEnded v (new_world v) lines end lost h) × IsEndedOver tells v (new_world v) lines end lost h × (missed h ≤ misses lines + lost)
+abbrev pub Performs : Bool → Volume → List Line → Wish → PlayEnd → (later : List Event) → (lost : ℕ) → List Event → Sunk → ℕ → Type 0
+Performs tells v lines wish end later lost h sink status =
+    (IsTrue tells → IsEnded v (new_world v) lines end lost h) × IsEndedOver tells v (new_world v) lines end lost h × (missed h ≤ misses lines + lost)
     × Tells tells v lines end wish h later sink status
 
 -- the line of a refusal was to be written with its status, or there was no memory

@@ -3,6 +3,8 @@
 ghost use Rattle.std.specs.Prelude.{◌≡◌, ◌-◌, ℕ, IsTrue, List};
 ghost use Rattle.rz_events.specs.Volume.{IsVolume};
 ghost use Rattle.rz_events.specs.declared.events.Event.{Event};
+ghost use Rattle.rz_lines.specs.Ends.{EndsBy};
+ghost use Rattle.rz_lines.specs.declared.lines.PlayEnd.{PlayEnd};
 ghost use Rattle.rz_play.specs.World.{new_world};
 ghost use Rattle.rz_perform.specs.Scrubs.{IsScrubbable, Leaves};
 ghost use Rattle.rz_perform.specs.Telling.{Performs};
@@ -35,10 +37,12 @@ pub fn perform<S: LoggedStage + Store, L: Link, O: Sink>(
     requires rules { IsVolume script.now.volume }
     requires new { S.world stage.old ≡ new_world script.now.volume }
     requires held { (first : ℕ → ℕ) × S.holds stage.old first }
-    requires stage { IsScrubbable S.tells S.volume S.world S.is_ready S.holds S.described S.state S.is_open S.gives S.counts S.only_asked }
+    requires stage { IsScrubbable S.tells S.volume S.world S.journaled S.is_ready S.holds S.described S.state S.is_open S.gives S.counts S.only_asked }
     ensures volume { S.volume stage.new ≡ S.volume stage.old }
-    ensures performed { (later : List Event) × Leaves S.world S.holds S.leaves S.counts S.only_asked stage.old stage.new later
-        × Performs S.tells script.now.volume script.now.lines wish later (L.lost link.new - L.lost link.old) (S.world stage.new).log (record { before = O.taken output.old; after = O.taken output.new; old = O.faults output.old; new = O.faults output.new }) result }
+    ensures journal { S.journaled stage.new ≡ S.journaled stage.old }
+    ensures performed { (end : PlayEnd) × (later : List Event) × Leaves S.world S.holds S.leaves S.counts S.only_asked end wish stage.old stage.new later
+        × EndsBy (S.journaled stage.old) (S.cut_off stage.new) end
+        × Performs S.tells script.now.volume script.now.lines wish end later (L.lost link.new - L.lost link.old) (S.world stage.new).log (record { before = O.taken output.old; after = O.taken output.new; old = O.faults output.old; new = O.faults output.new }) result }
     ensures told { IsTrue S.tells → IsTold script.now.volume script.now.lines (L.lost link.new - L.lost link.old) (S.world stage.new).log }
 {
     true_logs();

@@ -27,11 +27,11 @@ pub(crate) fn find<S: LoggedStage + Store>(
 ) -> Result<Vec<u8>, AllocError>
     requires ready { end ≡ Ended → S.is_ready stage.old }
     requires held { end ≡ Ended → (first : ℕ → ℕ) × S.holds stage.old first }
-    requires stage { IsScrubbable S.tells S.volume S.world S.is_ready S.holds S.described S.state S.is_open S.gives S.counts S.only_asked }
-    ensures { Finds S.tells S.volume S.world S.holds S.counts S.only_asked end wish stage.old stage.new (λ p. IfOk result (λ lines. p lines.items)) }
+    requires stage { IsScrubbable S.tells S.volume S.world S.journaled S.is_ready S.holds S.described S.state S.is_open S.gives S.counts S.only_asked }
+    ensures { Finds S.tells S.volume S.world S.journaled S.holds S.counts S.only_asked end wish stage.old stage.new (λ p. IfOk result (λ lines. p lines.items)) }
 {
     match wish {
-        Wish::Replay => Ok(Vec::new(alloc)),
+        Wish::Replay | Wish::First => Ok(Vec::new(alloc)),
         Wish::Load { .. } => Ok(Vec::new(alloc)),
         Wish::Scrub => match end {
             PlayEnd::Ended => {
@@ -40,7 +40,7 @@ pub(crate) fn find<S: LoggedStage + Store>(
                 scrub(alloc, stage)
             }
             PlayEnd::TooManyTurns => Ok(Vec::new(alloc)),
-            PlayEnd::NoMemory => Ok(Vec::new(alloc)),
+            PlayEnd::NoMemory | PlayEnd::Journal | PlayEnd::JournalFull => Ok(Vec::new(alloc)),
         },
     }
 }

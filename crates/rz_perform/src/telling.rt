@@ -2,7 +2,7 @@
 
 ghost use Rattle.std.specs.Prelude.{◌≡◌, ◌⊎◌, IfOk};
 ghost use Rattle.rz_perform.specs.Output.{Lacks, Sunk};
-ghost use Rattle.rz_perform.specs.Telling.{Refuses, Says, Stops, text_so_far, text_told};
+ghost use Rattle.rz_perform.specs.Telling.{Refuses, Says, SaysSoFar, Stops, text_so_far, text_told};
 
 use crate::output::finish;
 use rz_events::Event;
@@ -18,7 +18,7 @@ fn text_told(alloc: Global, wish: Wish, found: &[u8], log: &[Event]) -> Result<V
     ensures { IfOk result (λ t. t.items ≡ text_told wish found.now log.now) }
 {
     match wish {
-        Wish::Replay => show(alloc, log, true),
+        Wish::Replay | Wish::First => show(alloc, log, true),
         Wish::Load { seed } => summary(alloc, seed, log),
         Wish::Scrub => {
             let mut text = show(alloc, log, true)?;
@@ -28,13 +28,24 @@ fn text_told(alloc: Global, wish: Wish, found: &[u8], log: &[Event]) -> Result<V
     }
 }
 
-/// What is printed of a play that was cut off before a turn too many.
-fn text_so_far(alloc: Global, log: &[Event]) -> Result<Vec<u8>, AllocError>
-    ensures { IfOk result (λ t. t.items ≡ text_so_far log.now) }
+/// What is printed of a play that was cut off for this refusal: the text so far, and its line.
+fn text_so_far(alloc: Global, why: &Refusal, log: &[Event]) -> Result<Vec<u8>, AllocError>
+    ensures { IfOk result (λ t. t.items ≡ text_so_far why.now log.now) }
 {
     let mut text = show(alloc, log, false)?;
-    text.extend_from_slice(b"refused turns\n")?;
+    let line = why.line(alloc)?;
+    text.extend_from_slice(&line)?;
     Ok(text)
+}
+
+/// Writes the text of a play that was cut off for this refusal, and gives the status.
+fn tell_cut<O: Sink>(alloc: Global, why: &Refusal, log: &[Event], output: &mut O) -> u8
+    ensures { let sink : Sunk = record { before = O.taken output.old; after = O.taken output.new; old = O.faults output.old; new = O.faults output.new } in SaysSoFar why.now log.now sink result ⊎ Lacks sink result }
+{
+    match text_so_far(alloc, why, log) {
+        Ok(text) => finish(output, why.status(), &text),
+        Err(_) => 70,
+    }
 }
 
 /// Writes what is to be told of a play, of which a scrub found these lines, and gives the status.
@@ -53,10 +64,9 @@ pub(crate) fn tell<O: Sink>(
             Ok(text) => finish(output, 0, &text),
             Err(_) => 70,
         },
-        PlayEnd::TooManyTurns => match text_so_far(alloc, log) {
-            Ok(text) => finish(output, 8, &text),
-            Err(_) => 70,
-        },
+        PlayEnd::TooManyTurns => tell_cut(alloc, &Refusal::Turns, log, output),
+        PlayEnd::Journal => tell_cut(alloc, &Refusal::Journal, log, output),
+        PlayEnd::JournalFull => tell_cut(alloc, &Refusal::Full, log, output),
         PlayEnd::NoMemory => 70,
     }
 }

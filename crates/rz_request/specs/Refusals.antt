@@ -18,6 +18,8 @@ status_of (refusals.Disks have need) = 10
 status_of (refusals.Disk index) = 11
 status_of (refusals.Node sid) = 12
 status_of (refusals.Old cause) = 13
+status_of refusals.Journal = 14
+status_of refusals.Full = 15
 
 unfoldable pub script_line : ℕ → ScriptCause → List ℕ
 script_line line cause = codes "refused script " ++ decimal line ++ codes " " ++ script_cause cause ++ codes "\n"
@@ -49,3 +51,5 @@ line_of (refusals.Disks have need) = disks_line have need
 line_of (refusals.Disk index) = disk_line index
 line_of (refusals.Node sid) = node_line sid
 line_of (refusals.Old cause) = old_line cause
+line_of refusals.Journal = codes "refused journal\n"
+line_of refusals.Full = codes "refused full\n"

@@ -1,5 +1,5 @@
 -- What words and an input ask for.
-use Rattle.std.specs.Prelude.{ℕ, ◌≡◌, ◌≢◌, ◌≤◌, ◌<◌, ◌||◌, nat_lt, Bool, true, false, List, [], Option, Some, None, IfSome, IsSome, Result, Ok, Err, length}
+use Rattle.std.specs.Prelude.{ℕ, ◌≡◌, ◌≢◌, ◌≤◌, ◌<◌, ◌||◌, ◌+◌, nat_lt, Bool, true, false, List, [], Option, Some, None, IfSome, IsSome, Result, Ok, Err, length}
 use Rattle.rz_ports.specs.Counts.{Rises}
 use Rattle.rz_command.specs.Line.{Meaning}
 use Rattle.rz_command.specs.declared.command.Command.{Command}
@@ -27,6 +27,7 @@ abbrev pub wish_of : Command → Option Wish
 wish_of commands.Replay = Some wishes.Replay
 wish_of (commands.Load seed) = Some (wishes.Load seed)
 wish_of commands.Scrub = Some wishes.Scrub
+wish_of commands.First = Some wishes.First
 wish_of _ = None
 
 -- the play that words of this meaning wish for
@@ -47,17 +48,22 @@ is_large s = nat_lt 536870912 (all_disk_bytes s.volume) || nat_lt 32768 (script_
 abbrev pub nodes_in : Script → ℕ
 nodes_in s = length (nodes_of s.volume.clusters)
 
--- What a reading of a script comes to over so many disks: the script, which is not too large and has a node for each disk; or
--- its first fault; or a script that is too large; or one of another number of nodes. Want of memory says nothing.
-abbrev pub Judges : Result Script ScriptError → ℕ → Result Request Stop → Type 0
-Judges read disks (Ok r) = (read ≡ Ok r.script) × (is_large r.script ≡ false) × (disks ≡ nodes_in r.script)
-Judges read disks (Err stops.NoMemory) = Unit {0}
-Judges read disks (Err (stops.Refused (refusals.Script line cause))) = read ≡ Err (errors.Script line cause)
-Judges read disks (Err (stops.Refused (refusals.Volume fault))) = read ≡ Err (errors.Volume fault)
-Judges read disks (Err (stops.Refused refusals.Large)) = (s : Script) × (read ≡ Ok s) × (is_large s ≡ true)
-Judges read disks (Err (stops.Refused (refusals.Disks have need))) =
-    (s : Script) × (read ≡ Ok s) × (is_large s ≡ false) × (have ≡ disks) × (need ≡ nodes_in s) × (have ≢ need)
-Judges read disks (Err _) = ⊥
+-- the disks that a wish needs: one for each node, and one for a journal
+abbrev pub disks_for : Wish → Script → ℕ
+disks_for wishes.First s = nodes_in s + 1
+disks_for _ s = nodes_in s
+
+-- What a reading of a script comes to over so many disks: the script, which is not too large and has the disks that it needs; or
+-- its first fault; or a script that is too large; or one that needs other disks. Want of memory says nothing.
+abbrev pub Judges : Result Script ScriptError → Wish → ℕ → Result Request Stop → Type 0
+Judges read wish disks (Ok r) = (read ≡ Ok r.script) × (is_large r.script ≡ false) × (disks ≡ disks_for wish r.script)
+Judges read wish disks (Err stops.NoMemory) = Unit {0}
+Judges read wish disks (Err (stops.Refused (refusals.Script line cause))) = read ≡ Err (errors.Script line cause)
+Judges read wish disks (Err (stops.Refused (refusals.Volume fault))) = read ≡ Err (errors.Volume fault)
+Judges read wish disks (Err (stops.Refused refusals.Large)) = (s : Script) × (read ≡ Ok s) × (is_large s ≡ true)
+Judges read wish disks (Err (stops.Refused (refusals.Disks have need))) =
+    (s : Script) × (read ≡ Ok s) × (is_large s ≡ false) × (have ≡ disks) × (need ≡ disks_for wish s) × (have ≢ need)
+Judges read wish disks (Err _) = ⊥
 
 -- a request is for this wish
 abbrev pub IsFor : Wish → Result Request Stop → Type 0
@@ -77,11 +83,11 @@ IsRead source text = IfSome source.before (λ left. (left ≡ text) × (source.a
 
 -- What a source comes to over so many disks: more was left than the limit; its faults rose; or all that was left is judged as a
 -- script. Want of memory says nothing.
-abbrev pub Reads : Reading → ℕ → Result Request Stop → Type 0
-Reads source disks (Err stops.Source) = Rises source.old source.new
-Reads source disks (Err stops.NoMemory) = Unit {0}
-Reads source disks (Err (stops.Refused refusals.Long)) = IfSome source.before (λ left. limit < length left)
-Reads source disks result = (text : List ℕ) × IsRead source text × Judges (script forms.Replay text) disks result
+abbrev pub Reads : Reading → Wish → ℕ → Result Request Stop → Type 0
+Reads source wish disks (Err stops.Source) = Rises source.old source.new
+Reads source wish disks (Err stops.NoMemory) = Unit {0}
+Reads source wish disks (Err (stops.Refused refusals.Long)) = IfSome source.before (λ left. limit < length left)
+Reads source wish disks result = (text : List ℕ) × IsRead source text × Judges (script forms.Replay text) wish disks result
 
 -- the source is as it was
 abbrev pub IsUnread : Reading → Type 0
@@ -94,10 +100,10 @@ IsUsage m result = result ≡ Err (stops.Refused refusals.Usage)
 
 abbrev pub AsksFor : Option Wish → Option Meaning → Reading → ℕ → Result Request Stop → Type 0
 AsksFor None m source disks result = IsUsage m result × IsUnread source
-AsksFor (Some (wishes.Load seed)) m source disks result = Judges (Ok (workload seed)) disks result × IsFor (wishes.Load seed) result × IsUnread source
-AsksFor (Some wish) m source disks result = Reads source disks result × IsFor wish result
+AsksFor (Some (wishes.Load seed)) m source disks result = Judges (Ok (workload seed)) (wishes.Load seed) disks result × IsFor (wishes.Load seed) result × IsUnread source
+AsksFor (Some wish) m source disks result = Reads source wish disks result × IsFor wish result
 
 -- What words of this meaning ask for: words that wish for nothing are refused as usage, with the source unread; a load is of the
--- workload of its seed, with the source unread; and a replay or a scrub is of the script of the source.
+-- workload of its seed, with the source unread; and the other plays are of the script of the source.
 abbrev pub Asks : Option Meaning → Reading → ℕ → Result Request Stop → Type 0
 Asks m = AsksFor (wished m) m

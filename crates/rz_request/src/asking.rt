@@ -6,7 +6,7 @@ ghost use Rattle.rz_generate.specs.Workload.{workload};
 ghost use Rattle.rz_script.specs.Grammar.{script};
 ghost use Rattle.rz_script.specs.declared.form.Form.TheVariants as forms;
 ghost use Rattle.rz_request.specs.Input.{limit};
-ghost use Rattle.rz_request.specs.Requests.{Asks, IsFor, IsWished, Judges, Reads, is_large as too_large, wish_of as wish_in};
+ghost use Rattle.rz_request.specs.Requests.{Asks, IsFor, IsWished, Judges, Reads, disks_for as needed_for, is_large as too_large, wish_of as wish_in};
 ghost use Rattle.rz_request.specs.declared.wishes.Wish.TheVariants as wishes;
 
 use crate::input::{Taken, take};
@@ -30,15 +30,27 @@ fn is_large(script: &Script) -> bool
     script.volume().disk_bytes() > DISK_BYTES || script.weight() > WORK
 }
 
+/// The disks that a wish needs: one for each node, and one for a journal.
+fn disks_for(wish: Wish, script: &Script) -> u64
+    ensures { result ≡ needed_for wish script.now }
+{
+    let nodes = script.volume().node_count() as u64;
+    match wish {
+        Wish::First => nodes + 1,
+        Wish::Replay | Wish::Scrub => nodes,
+        Wish::Load { .. } => nodes,
+    }
+}
+
 /// A script over so many disks.
 fn fit(wish: Wish, script: Script, disks: u64) -> Result<Request, Stop>
-    ensures judged { Judges (Ok script) disks result }
+    ensures judged { Judges (Ok script) wish disks result }
     ensures wish { IsFor wish result }
 {
     if is_large(&script) {
         return Err(Stop::Refused(Refusal::Large));
     }
-    let need = script.volume().node_count() as u64;
+    let need = disks_for(wish, &script);
     if need != disks {
         return Err(Stop::Refused(Refusal::Disks { have: disks, need }));
     }
@@ -48,7 +60,7 @@ fn fit(wish: Wish, script: Script, disks: u64) -> Result<Request, Stop>
 /// The script of a text over so many disks.
 fn read(alloc: Global, wish: Wish, text: &[u8], disks: u64) -> Result<Request, Stop>
     requires { length text.now ≤ limit }
-    ensures judged { Judges (script forms.Replay text.now) disks result }
+    ensures judged { Judges (script forms.Replay text.now) wish disks result }
     ensures wish { IsFor wish result }
 {
     match Script::read(alloc, text, Form::Replay) {
@@ -68,7 +80,7 @@ fn read_input<I: Source>(
     input: &mut I,
     disks: u64,
 ) -> Result<Request, Stop>
-    ensures asked { Reads (record { before = I.left input.old; after = I.left input.new; old = I.faults input.old; new = I.faults input.new }) disks result }
+    ensures asked { Reads (record { before = I.left input.old; after = I.left input.new; old = I.faults input.old; new = I.faults input.new }) wish disks result }
     ensures wish { IsFor wish result }
 {
     match take(alloc, input) {
@@ -81,7 +93,7 @@ fn read_input<I: Source>(
 
 /// The workload of a seed over so many disks.
 fn load(alloc: Global, seed: u64, disks: u64) -> Result<Request, Stop>
-    ensures judged { Judges (Ok (workload seed)) disks result }
+    ensures judged { Judges (Ok (workload seed)) (wishes.Load seed) disks result }
     ensures wish { IsFor (wishes.Load seed) result }
 {
     match generate(alloc, seed) {
@@ -98,7 +110,8 @@ fn wish_of(command: Command) -> Option<Wish>
         Command::Replay => Some(Wish::Replay),
         Command::Load { seed } => Some(Wish::Load { seed }),
         Command::Scrub => Some(Wish::Scrub),
-        Command::Run | Command::First | Command::Again => None,
+        Command::First => Some(Wish::First),
+        Command::Run | Command::Again => None,
         Command::Migrate { .. } => None,
     }
 }
@@ -121,7 +134,7 @@ fn read_words(alloc: Global, words: &[String]) -> Result<Wish, Stop>
 ///
 /// The words are judged first. For `load` the source is left unread; otherwise it is read to its end,
 /// or until there is one byte more than the limit. Then come the grammar, the size of the disks
-/// and of the work, and the number of disks.
+/// and of the work, and the number of disks: one for each node, and one for a journal.
 pub fn request<I: Source>(
     alloc: Global,
     words: &[String],
@@ -135,6 +148,7 @@ pub fn request<I: Source>(
             Wish::Replay => read_input(alloc, Wish::Replay, input, disks),
             Wish::Load { seed } => load(alloc, seed, disks),
             Wish::Scrub => read_input(alloc, Wish::Scrub, input, disks),
+            Wish::First => read_input(alloc, Wish::First, input, disks),
         },
         Err(stop) => Err(stop),
     }

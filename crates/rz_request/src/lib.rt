@@ -2,9 +2,9 @@
 //!
 //! The contract of [`request`] says of each answer when it comes: words of another form, a source
 //! that failed, a text that is too long, its first fault by the grammar of scripts, a script that is
-//! too large, another number of disks than the volume has nodes; and that otherwise the script is
+//! too large, another number of disks than the volume has nodes, with one more for a journal; and that otherwise the script is
 //! the one that the text means, or for `load` the workload of its seed. [`Refusal`] has the status and
-//! the line of each refusal, those of a disk and of too many turns too, which come later. It says
+//! the line of each refusal, those too that come later: of a disk, of too many turns, and of a journal. It says
 //! nothing of what playing a script comes to, nor that there is memory.
 //!
 //! [`migration`] asks for another thing: the node of which an old disk is carried over. It reads a volume

@@ -22,7 +22,7 @@ pub enum Refusal {
     Turns,
     /// The disks are too large, or the script is too much work.
     Large,
-    /// There are other disks than the volume has nodes.
+    /// There are other disks than are needed.
     Disks { have: u64, need: u64 },
     /// A disk failed while it was formatted, or carried over.
     Disk { index: u64 },
@@ -30,6 +30,10 @@ pub enum Refusal {
     Node { sid: u16 },
     /// The old disk does not open, for a cause with this number.
     Old { cause: u8 },
+    /// The journal's disk failed in play.
+    Journal,
+    /// The journal had no room for a call.
+    Full,
 }
 
 /// Why there is nothing to play.
@@ -119,6 +123,8 @@ impl Refusal {
             Refusal::Disk { .. } => 11,
             Refusal::Node { .. } => 12,
             Refusal::Old { .. } => 13,
+            Refusal::Journal => 14,
+            Refusal::Full => 15,
         }
     }
 
@@ -137,6 +143,8 @@ impl Refusal {
             Refusal::Disk { index } => disk_line(alloc, *index),
             Refusal::Node { sid } => node_line(alloc, *sid),
             Refusal::Old { cause } => old_line(alloc, *cause),
+            Refusal::Journal => Vec::from_slice(alloc, b"refused journal\n"),
+            Refusal::Full => Vec::from_slice(alloc, b"refused full\n"),
         }
     }
 }

@@ -64,6 +64,8 @@ fn rows(rt: HostRuntime) -> Result<(), Fail> {
             "9 refused large\n",
         ),
         ("rozo load 1 --disks 4", "", "10 refused disks 4 16\n"),
+        ("rozo first --disks 4", "rest\n", "10 refused disks 4 5\n"),
+        ("rozo again --disks 4", "rest\n", "2 refused usage\n"),
     ] {
         let told = asked(rt.alloc(), line, script)?;
         assert_eq!(rt; told.as_str(), want, "at {script}");
@@ -78,6 +80,8 @@ fn later_refusals(rt: HostRuntime) -> Result<(), Fail> {
         (Refusal::Turns, "8 refused turns\n"),
         (Refusal::Disk { index: 3 }, "11 refused disk 3\n"),
         (Refusal::Old { cause: 3 }, "13 refused old 3\n"),
+        (Refusal::Journal, "14 refused journal\n"),
+        (Refusal::Full, "15 refused full\n"),
     ] {
         let told = told(rt.alloc(), &refusal)?;
         assert_eq!(rt; told.as_str(), want);

@@ -11,6 +11,8 @@ pub enum Wish {
     Load { seed: u64 },
     /// The script of the input, after which the records of its published blocks are judged.
     Scrub,
+    /// The script of the input, with a journal that is formatted on a disk of its own.
+    First,
 }
 
 /// A script that is to be played, for a wish.

@@ -4,6 +4,10 @@ use Rattle.rz_driver.specs.Acts.{IsMessage, Exports, Opens, Sends, Says}
 use Rattle.rz_events.specs.declared.export.Call.TheVariants as call
 use Rattle.rz_events.specs.declared.tree.TreeCall.TheVariants as tree
 use Rattle.rz_export_model.specs.Export.{export_reply}
+use Rattle.rz_metadata.specs.Stands.{export_in}
+use Rattle.rz_asks.specs.Journals.{EndsOn}
+use Rattle.rz_asks.proofs.Keeping.{keeps-same}
+use Rattle.rz_driver.proofs.JournalLemmas.{fate-stays, said-stays-export, same-store, store-keeps, store-ends}
 use Rattle.rz_stations.proofs.MeterLemmas.{still-err, metered-stays, still-left, export-stays, said-stays}
 use Rattle.rz_asks.specs.Locking.{IsOpenPart, open_reply}
 use Rattle.rz_asks.specs.Parts.{IsExportPart}
@@ -18,7 +22,7 @@ returns-in-Export-clause-ok g c =
     let new = c.ask_export.new.machine in
     let p = c.args.shared.now in
     on_ok_weaker c.ask_export.result
-    (λ (part : IsExportPart c.args.by old new p.export c.ask_export.new.export p.log.events c.ask_export.new.log.events).
+    (λ (part : IsExportPart c.args.by old new (export_in p.export) (export_in c.ask_export.new.export) p.log.events c.ask_export.new.log.events).
     Exports old new c.in-Some.is refl (record { todo = refl; number = refl }) refl refl part refl refl refl)
     c.ask_export.ensures.ok
 
@@ -28,7 +32,7 @@ returns-in-Lock-clause-ok g c =
     let new = c.open.new.machine in
     let p = c.args.shared.now in
     on_ok_weaker c.open.result
-    (λ (part : IsOpenPart c.args.by old new p.export c.open.new.export p.locks c.open.new.locks c.args.seat.now.lock c.open.new.held p.log.events c.open.new.log.events).
+    (λ (part : IsOpenPart c.args.by old new (export_in p.export) (export_in c.open.new.export) p.locks c.open.new.locks c.args.seat.now.lock c.open.new.held p.log.events c.open.new.log.events).
     Opens old new c.in-Some.is refl (record { todo = refl; number = refl }) refl part refl refl)
     c.open.ensures.ok
 
@@ -52,8 +56,8 @@ returns-in-Export-clause-held g c =
     let p = c.args.shared.now in
     let h = p.log.events in
     let h' = c.ask_export.new.log.events in
-    on_ok_weaker c.ask_export.result (λ (part : IsExportPart c.args.by c.in-Some.machine c.ask_export.new.machine p.export c.ask_export.new.export h h'). λ numbers first met.
-    metered-stays g.D.Disk.meter first numbers p.stations.items h h' (export-stays c.args.by part.0 (export_reply p.export part.0) h h' part.2.noted) met) c.ask_export.ensures.ok
+    on_ok_weaker c.ask_export.result (λ (part : IsExportPart c.args.by c.in-Some.machine c.ask_export.new.machine (export_in p.export) (export_in c.ask_export.new.export) h h'). λ numbers first met.
+    metered-stays g.D.Disk.meter first numbers p.stations.items h h' (export-stays c.args.by part.0 (export_reply (export_in p.export) part.0) h h' part.2.noted) met) c.ask_export.ensures.ok
 
 pub returns-in-Export-clause-left : goal.returns-in-Export-clause-left
 returns-in-Export-clause-left g c =
@@ -67,8 +71,8 @@ returns-in-Lock-clause-held g c =
     let h = p.log.events in
     let h' = c.open.new.log.events in
     on_ok_weaker c.open.result
-    (λ (part : IsOpenPart c.args.by c.in-Some.machine c.open.new.machine p.export c.open.new.export p.locks c.open.new.locks c.args.seat.now.lock c.open.new.held h h'). λ numbers first met.
-    metered-stays g.D.Disk.meter first numbers p.stations.items h h' (export-stays c.args.by (call.Tree (tree.OpenFile part.0)) (open_reply p.export part.0) h h' part.5.1.noted) met) c.open.ensures.ok
+    (λ (part : IsOpenPart c.args.by c.in-Some.machine c.open.new.machine (export_in p.export) (export_in c.open.new.export) p.locks c.open.new.locks c.args.seat.now.lock c.open.new.held h h'). λ numbers first met.
+    metered-stays g.D.Disk.meter first numbers p.stations.items h h' (export-stays c.args.by (call.Tree (tree.OpenFile part.0)) (open_reply (export_in p.export) part.0) h h' part.5.1.noted) met) c.open.ensures.ok
 
 pub returns-in-Lock-clause-left : goal.returns-in-Lock-clause-left
 returns-in-Lock-clause-left g c =
@@ -106,8 +110,8 @@ returns-in-Export-clause-pictured g c =
     let h' = c.ask_export.new.log.events in
     let m = c.in-Some.machine in
     let new = c.ask_export.new.machine in
-    on_ok_weaker c.ask_export.result (λ (part : IsExportPart c.args.by m new p.export c.ask_export.new.export h h'). λ told.
-    export-keeps g.D.Disk.image c.args.by p.stations.items c.longer.ensures c.told.ensures c.args.seat.now.machine m new c.in-Some.is h h' p.export c.ask_export.new.export part) c.ask_export.ensures.ok
+    on_ok_weaker c.ask_export.result (λ (part : IsExportPart c.args.by m new (export_in p.export) (export_in c.ask_export.new.export) h h'). λ told.
+    export-keeps g.D.Disk.image c.args.by p.stations.items c.longer.ensures c.told.ensures c.args.seat.now.machine m new c.in-Some.is h h' (export_in p.export) (export_in c.ask_export.new.export) part) c.ask_export.ensures.ok
 
 pub returns-in-Lock-clause-pictured : goal.returns-in-Lock-clause-pictured
 returns-in-Lock-clause-pictured g c =
@@ -117,8 +121,8 @@ returns-in-Lock-clause-pictured g c =
     let m = c.in-Some.machine in
     let new = c.open.new.machine in
     on_ok_weaker c.open.result
-    (λ (part : IsOpenPart c.args.by m new p.export c.open.new.export p.locks c.open.new.locks c.args.seat.now.lock c.open.new.held h h'). λ told.
-    open-keeps g.D.Disk.image c.args.by p.stations.items c.longer.ensures c.told.ensures c.args.seat.now.machine m new c.in-Some.is h h' p.export c.open.new.export p.locks c.open.new.locks c.args.seat.now.lock c.open.new.held part) c.open.ensures.ok
+    (λ (part : IsOpenPart c.args.by m new (export_in p.export) (export_in c.open.new.export) p.locks c.open.new.locks c.args.seat.now.lock c.open.new.held h h'). λ told.
+    open-keeps g.D.Disk.image c.args.by p.stations.items c.longer.ensures c.told.ensures c.args.seat.now.machine m new c.in-Some.is h h' (export_in p.export) (export_in c.open.new.export) p.locks c.open.new.locks c.args.seat.now.lock c.open.new.held part) c.open.ensures.ok
 
 pub returns-in-Node-clause-pictured : goal.returns-in-Node-clause-pictured
 returns-in-Node-clause-pictured g c =
@@ -162,3 +166,73 @@ returns-in_err-done-in-Say-clause-spared g c =
     let h = c.args.shared.now.log.events in
     let P : Type 0 = IsTrue g.D.Disk.tells → SparesPicture g.D.Disk.image c.args.by c.args.seat.now.machine row h row in
     on-err {P = P} c.from_residual.result (λ told. still-spares g.D.Disk.image c.args.by row c.args.seat.now.machine h)
+
+-- The journal beside the log.
+
+pub returns-in_default-clause-store : goal.returns-in_default-clause-store
+returns-in_default-clause-store g c = same-store c.args.shared.now.export c.args.shared.now.export refl
+
+pub returns-in-Rest-clause-store : goal.returns-in-Rest-clause-store
+returns-in-Rest-clause-store g c = same-store c.args.shared.now.export c.args.shared.now.export refl
+
+pub returns-in-Export-clause-store : goal.returns-in-Export-clause-store
+returns-in-Export-clause-store g c = record { journal = c.ask_export.ensures.journal; volume = c.ask_export.ensures.volume }
+
+pub returns-in-Lock-clause-store : goal.returns-in-Lock-clause-store
+returns-in-Lock-clause-store g c = record { journal = c.open.ensures.journal; volume = c.open.ensures.volume }
+
+pub returns-in-Node-clause-store : goal.returns-in-Node-clause-store
+returns-in-Node-clause-store g c = same-store c.args.shared.now.export c.message.new.shared.export c.message.ensures.export
+
+pub returns-in_ok-done-in-Say-clause-store : goal.returns-in_ok-done-in-Say-clause-store
+returns-in_ok-done-in-Say-clause-store g c = same-store c.args.shared.now.export c.args.shared.now.export refl
+
+pub returns-in_err-done-in-Say-clause-store : goal.returns-in_err-done-in-Say-clause-store
+returns-in_err-done-in-Say-clause-store g c = same-store c.args.shared.now.export c.args.shared.now.export refl
+
+pub returns-in_default-clause-kept : goal.returns-in_default-clause-kept
+returns-in_default-clause-kept g c = λ first keeps. keeps
+
+pub returns-in-Rest-clause-kept : goal.returns-in-Rest-clause-kept
+returns-in-Rest-clause-kept g c = λ first keeps. keeps
+
+pub returns-in-Export-clause-kept : goal.returns-in-Export-clause-kept
+returns-in-Export-clause-kept g c = c.ask_export.ensures.kept
+
+pub returns-in-Lock-clause-kept : goal.returns-in-Lock-clause-kept
+returns-in-Lock-clause-kept g c = c.open.ensures.kept
+
+pub returns-in-Node-clause-kept : goal.returns-in-Node-clause-kept
+returns-in-Node-clause-kept g c =
+    let p = c.args.shared.now in
+    let q = c.message.new.shared in
+    on_ok_weaker c.message.result
+    (λ (sent : IsMessage c.args.by c.in-Node.node c.in-Node.ask c.in-Some.machine c.message.new.machine c.args.seat.now.miss c.message.new.miss p q).
+    store-keeps g.J.Disk.tells g.J.Disk.meter g.J.Disk.image p.export q.export sent.export p.log.events q.log.events (fate-stays sent.fate))
+    c.message.ensures.ok
+
+pub returns-in_ok-done-in-Say-clause-kept : goal.returns-in_ok-done-in-Say-clause-kept
+returns-in_ok-done-in-Say-clause-kept g c =
+    let p = c.args.shared.now in
+    keeps-same g.J.Disk.tells g.J.Disk.meter g.J.Disk.image p.export p.log.events c.say.new.log.events
+    (said-stays-export c.args.by c.args.seat.now.number c.in_ok-done-in-Say.done c.in-Some.machine c.say.new.machine p.log.events c.say.new.log.events c.in_ok-done-in-Say.ensures.ok)
+
+pub returns-in-Export-clause-ended : goal.returns-in-Export-clause-ended
+returns-in-Export-clause-ended g c = c.ask_export.ensures.left
+
+pub returns-in-Lock-clause-ended : goal.returns-in-Lock-clause-ended
+returns-in-Lock-clause-ended g c = c.open.ensures.left
+
+pub returns-in-Node-clause-ended : goal.returns-in-Node-clause-ended
+returns-in-Node-clause-ended g c =
+    let p = c.args.shared.now in
+    let q = c.message.new.shared in
+    on_err_weaker c.message.result (λ (same : q.log.events ≡ p.log.events).
+    store-ends g.J.Disk.tells g.J.Disk.meter g.J.Disk.image p.export q.export c.message.ensures.export p.log.events q.log.events same) c.message.ensures.err
+
+pub returns-in_err-done-in-Say-clause-ended : goal.returns-in_err-done-in-Say-clause-ended
+returns-in_err-done-in-Say-clause-ended g c =
+    let p = c.args.shared.now in
+    let h' = c.say.new.log.events in
+    let P : Type 0 = EndsOn g.J.Disk.tells g.J.Disk.meter g.J.Disk.image p.export p.log.events p.export h' in
+    on-err {P = P} c.from_residual.result (store-ends g.J.Disk.tells g.J.Disk.meter g.J.Disk.image p.export p.export refl p.log.events h' c.in_err-done-in-Say.ensures.err)

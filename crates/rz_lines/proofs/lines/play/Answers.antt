@@ -5,34 +5,54 @@ use Rattle.rz_play.specs.Free.{PlaysLineOver, PlaysLinesOver}
 use Rattle.rz_lines.specs.Free.{IsLinePlayedOver, IsEndedOver}
 use Rattle.rz_lines.specs.declared.turns.Cut.{Cut}
 use Rattle.rz_lines.specs.declared.turns.Cut.TheVariants as cut
-use Rattle.rz_lines.specs.declared.lines.PlayEnd.TheVariants as end
-use Rattle.rz_lines.specs.Ends.{ended_by}
-use Rattle.rz_lines.proofs.Scripts.{lines-at, script-cut, told}
+use Rattle.rz_lines.proofs.Scripts.{lines-at, script-cut, script-stopped, told}
 use Rattle.rz_lines.proofs.lines.play.Goals as goal
 
-cut-over : goal.returns-in-Err-clause-over
+stop-over : goal.returns-in-Err-TooManyTurns-clause-over
+stop-over g c =
+    let tells = g.S.Stage.tells in
+    let volume = g.S.Stage.volume in
+    let world = g.S.Stage.world in
+    let i = c.loop-line.invariant in
+    let e = c.in-Err-TooManyTurns.ensures in
+    let at_end = subst (λ (v : Volume). IsLinePlayedOver v c.line-item.result tells (world c.loop-line.stage) (Err cut.TooManyTurns) (world c.play_line.new.stage)) i.volume
+    (subst (λ (k : Cut). IsLinePlayedOver (volume c.loop-line.stage) c.line-item.result tells (world c.loop-line.stage) (Err k) (world c.play_line.new.stage)) c.in-Err-TooManyTurns.field-0-is e.played) in
+    let at_line = subst (λ (x : Line). IsLinePlayedOver (volume c.args.stage.now) x tells (world c.loop-line.stage) (Err cut.TooManyTurns) (world c.play_line.new.stage)) c.line-item.is at_end in
+    let lost = g.L.Link.lost in
+    let so_far = i.lost in
+    let then = e.lost in
+    let few : (world c.play_line.new.stage).lost ≤ (world c.args.stage.now).lost + (lost c.play_line.new.link - lost c.args.link.now) = omega (arith, so_far, then) in
+    script-stopped (volume c.args.stage.now) tells c.args.lines.now c.loop-line.line-index c.line-item.result (world c.args.stage.now) (world c.loop-line.stage) (world c.play_line.new.stage)
+    ((world c.args.stage.now).lost + (lost c.play_line.new.link - lost c.args.link.now)) c.loop-line-test.true i.played at_line few
+
+pub returns-in-Err-TooManyTurns-clause-over : goal.returns-in-Err-TooManyTurns-clause-over
+returns-in-Err-TooManyTurns-clause-over = stop-over
+
+pub returns-in-Err-TooManyTurns-clause-played : goal.returns-in-Err-TooManyTurns-clause-played
+returns-in-Err-TooManyTurns-clause-played g c is = told _ _ _ _ _ _ _ is (stop-over g c)
+
+cut-over : goal.returns-in-Err-NoMemory-clause-over
 cut-over g c =
     let tells = g.S.Stage.tells in
     let volume = g.S.Stage.volume in
     let world = g.S.Stage.world in
     let i = c.loop-line.invariant in
-    let cut = subst (λ (v : Volume). IsLinePlayedOver v c.line-item.result tells (world c.loop-line.stage) (Err c.in-Err.cut) (world c.play_line.new.stage)) i.volume c.in-Err.ensures.played in
-    let cut_at = subst (λ (x : Line). IsLinePlayedOver (volume c.args.stage.now) x tells (world c.loop-line.stage) (Err c.in-Err.cut) (world c.play_line.new.stage)) c.line-item.is cut in
+    let e = c.in-Err-NoMemory.ensures in
+    let at_end = subst (λ (v : Volume). IsLinePlayedOver v c.line-item.result tells (world c.loop-line.stage) (Err cut.NoMemory) (world c.play_line.new.stage)) i.volume
+    (subst (λ (k : Cut). IsLinePlayedOver (volume c.loop-line.stage) c.line-item.result tells (world c.loop-line.stage) (Err k) (world c.play_line.new.stage)) c.in-Err-NoMemory.field-0-is e.played) in
+    let at_line = subst (λ (x : Line). IsLinePlayedOver (volume c.args.stage.now) x tells (world c.loop-line.stage) (Err cut.NoMemory) (world c.play_line.new.stage)) c.line-item.is at_end in
     let lost = g.L.Link.lost in
     let so_far = i.lost in
-    let then = c.in-Err.ensures.lost in
+    let then = e.lost in
     let few : (world c.play_line.new.stage).lost ≤ (world c.args.stage.now).lost + (lost c.play_line.new.link - lost c.args.link.now) = omega (arith, so_far, then) in
-    rw c.from.ensures (script-cut (volume c.args.stage.now) tells c.args.lines.now c.loop-line.line-index c.line-item.result (world c.args.stage.now) (world c.loop-line.stage) (world c.play_line.new.stage)
-    c.in-Err.cut ((world c.args.stage.now).lost + (lost c.play_line.new.link - lost c.args.link.now)) c.loop-line-test.true i.played cut_at few)
+    script-cut (volume c.args.stage.now) tells c.args.lines.now c.loop-line.line-index c.line-item.result (world c.args.stage.now) (world c.loop-line.stage) (world c.play_line.new.stage)
+    (g.S.Stage.journaled c.play_line.new.stage) c.cut_off.result ((world c.args.stage.now).lost + (lost c.play_line.new.link - lost c.args.link.now)) c.cut_off.ensures.cause c.loop-line-test.true i.played at_line few
 
-pub returns-in-Err-clause-over : goal.returns-in-Err-clause-over
-returns-in-Err-clause-over = cut-over
+pub returns-in-Err-NoMemory-clause-over : goal.returns-in-Err-NoMemory-clause-over
+returns-in-Err-NoMemory-clause-over = cut-over
 
-pub returns-in-Err-clause-played : goal.returns-in-Err-clause-played
-returns-in-Err-clause-played g c is =
-    let world = g.S.Stage.world in
-    let lost = g.L.Link.lost in
-    told g.S.Stage.tells (g.S.Stage.volume c.args.stage.now) (world c.args.stage.now) c.args.lines.now c.from.result ((world c.args.stage.now).lost + (lost c.play_line.new.link - lost c.args.link.now)) (world c.play_line.new.stage).log is (cut-over g c)
+pub returns-in-Err-NoMemory-clause-played : goal.returns-in-Err-NoMemory-clause-played
+returns-in-Err-NoMemory-clause-played g c is = told _ _ _ _ _ _ _ is (cut-over g c)
 
 pub loop-line-preserved : goal.loop-line-preserved
 loop-line-preserved g c =
@@ -40,10 +60,11 @@ loop-line-preserved g c =
     let volume = g.S.Stage.volume in
     let world = g.S.Stage.world in
     let i = c.loop-line.invariant in
-    let e = c.in_default.ensures in
+    let e = c.in-Ok.ensures in
     record {
       ready = e.ready;
       volume = e.volume ∙ i.volume;
+      journal = e.journal ∙ i.journal;
       few = e.few;
       lost = (let so_far = i.lost in let then = e.lost in omega (arith, so_far, then));
       held = λ first held. e.held first (i.held first held);
@@ -78,17 +99,3 @@ pub returns-clause-whole : goal.returns-clause-whole
 returns-clause-whole g c ended =
     let whole = take_all c.loop-line.line-index c.args.lines.now c.loop-line-test.false in
     subst (λ (xs : List Line). PlaysLinesOver (g.S.Stage.volume c.args.stage.now) xs g.S.Stage.tells (g.S.Stage.world c.args.stage.now) (g.S.Stage.world c.loop-line.stage)) whole c.loop-line.invariant.played
-
--- a play that was cut off did not end
-not-ended : (cause : Cut) → ended_by cause ≡ end.Ended → ⊥
-not-ended cut.TooManyTurns same = grind (arith, same)
-not-ended cut.NoMemory same = grind (arith, same)
-
-pub returns-in-Err-clause-whole : goal.returns-in-Err-clause-whole
-returns-in-Err-clause-whole g c ended = absurd (not-ended c.in-Err.cut (sym c.from.ensures ∙ ended))
-
-pub returns-in-Err-clause-ready : goal.returns-in-Err-clause-ready
-returns-in-Err-clause-ready g c ended = absurd (not-ended c.in-Err.cut (sym c.from.ensures ∙ ended))
-
-pub returns-in-Err-clause-held : goal.returns-in-Err-clause-held
-returns-in-Err-clause-held g c ended = absurd (not-ended c.in-Err.cut (sym c.from.ensures ∙ ended))

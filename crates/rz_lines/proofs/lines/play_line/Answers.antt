@@ -26,3 +26,18 @@ pub returns-in_err-arm-in-Break-clause-played : goal.returns-in_err-arm-in-Break
 returns-in_err-arm-in-Break-clause-played g c =
     let p = err_from_is_err_and c.from_residual-in_err-arm-in-Break.result c.from_residual-in_err-arm-in-Break.ensures.1 in
     rw (c.in-Break.is, p.1, p.2) (g.S.Stage.world c.args.stage.now, refl, c.requires.few, (c.in_err-arm-in-Break.ensures.log, c.in_err-arm-in-Break.ensures.lost))
+
+pub returns-in_err-add-in-Op-clause-stopped : goal.returns-in_err-add-in-Op-clause-stopped
+returns-in_err-add-in-Op-clause-stopped g c = let p = err_from_is_err_and c.from_residual.result c.from_residual.ensures.1 in rw (p.1, p.2) tt
+
+pub returns-in_err-stop-in-Stop-clause-stopped : goal.returns-in_err-stop-in-Stop-clause-stopped
+returns-in_err-stop-in-Stop-clause-stopped g c = let p = err_from_is_err_and c.from_residual-in_err-stop-in-Stop.result c.from_residual-in_err-stop-in-Stop.ensures.1 in rw (p.1, p.2) tt
+
+pub returns-in_err-start-in-Start-clause-stopped : goal.returns-in_err-start-in-Start-clause-stopped
+returns-in_err-start-in-Start-clause-stopped g c = let p = err_from_is_err_and c.from_residual-in_err-start-in-Start.result c.from_residual-in_err-start-in-Start.ensures.1 in rw (p.1, p.2) tt
+
+pub returns-in_err-lose-in-Lose-clause-stopped : goal.returns-in_err-lose-in-Lose-clause-stopped
+returns-in_err-lose-in-Lose-clause-stopped g c = let p = err_from_is_err_and c.from_residual-in_err-lose-in-Lose.result c.from_residual-in_err-lose-in-Lose.ensures.1 in rw (p.1, p.2) tt
+
+pub returns-in_err-arm-in-Break-clause-stopped : goal.returns-in_err-arm-in-Break-clause-stopped
+returns-in_err-arm-in-Break-clause-stopped g c = let p = err_from_is_err_and c.from_residual-in_err-arm-in-Break.result c.from_residual-in_err-arm-in-Break.ensures.1 in rw (p.1, p.2) tt

@@ -8,6 +8,7 @@ abbrev pub invariant-loop : goal.invariant-loop
 invariant-loop g l = record {
   ready : g.S.Stage.is_ready l.stage;
   volume : g.S.Stage.volume l.stage ≡ g.S.Stage.volume l.fn.stage;
+  journal : g.S.Stage.journaled l.stage ≡ g.S.Stage.journaled l.fn.stage;
   few : (g.S.Stage.world l.stage).turns ≤ most_turns;
   lost : (g.S.Stage.world l.stage).lost + g.L.Link.lost l.fn.link ≤ (g.S.Stage.world l.fn.stage).lost + g.L.Link.lost l.link;
   held : Carries (g.S.Stage.holds l.fn.stage) (g.S.Stage.holds l.stage);

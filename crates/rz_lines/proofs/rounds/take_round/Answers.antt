@@ -1,9 +1,10 @@
-use Rattle.std.proofs.Common.{Err, ◌∙◌, get_or, subst, sym, arith}
+use Rattle.std.proofs.Common.{Bool, Err, ◌∙◌, get_or, subst, sym, arith}
 use Rattle.std.proofs.lemmas.Result.{err_from_is_err_and}
 use Rattle.rz_events.specs.Volume.{Volume}
 use Rattle.rz_events.specs.declared.keys.Actor.TheVariants.{Client}
 use Rattle.rz_lines.specs.Ends.{IsTurnTaken}
 use Rattle.rz_lines.proofs.Amongs.{cut-at, taken-at, skipped-at}
+use Rattle.rz_lines.proofs.Stops.{stopped-after}
 use Rattle.rz_lines.proofs.rounds.take_round.Goals as goal
 use Rattle.rz_lines.proofs.rounds.take_round.Goals.{then-is_busy+in_ok-take_turn, else-is_busy}
 
@@ -28,6 +29,7 @@ loop-by-preserved g c =
           rw (w.stage-is, w.link-is, w.any-is) (record {
             ready = w.in_ok-take_turn.ensures.ready;
             volume = w.in_ok-take_turn.ensures.volume ∙ i.volume;
+            journal = w.in_ok-take_turn.ensures.journal ∙ i.journal;
             lost = (let so_far = i.lost in let then = w.in_ok-take_turn.ensures.lost in omega (arith, so_far, then));
             held = λ first held. w.in_ok-take_turn.ensures.held first (i.held first held);
             up_to = taken-at (volume c.args.stage.now) c.args.actors.now c.loop-by.by-index _ (world c.args.stage.now) c.loop-by.any (world c.loop-by.stage) (world w.take_turn.new.stage)
@@ -37,9 +39,17 @@ loop-by-preserved g c =
           rw (w.stage-is, w.link-is, w.any-is) (record {
             ready = i.ready;
             volume = i.volume;
+            journal = i.journal;
             lost = i.lost;
             held = i.held;
             up_to = skipped-at (volume c.args.stage.now) c.args.actors.now c.loop-by.by-index _ (world c.args.stage.now) c.loop-by.any (world c.loop-by.stage)
                 c.loop-by-test.true i.up_to (sym w.if-is_busy.ensures);
           })
     ]
+
+pub returns-in_err-take_turn-clause-stopped : goal.returns-in_err-take_turn-clause-stopped
+returns-in_err-take_turn-clause-stopped g c =
+    let holds = g.S.Stage.holds in
+    let p = err_from_is_err_and c.from_residual.result c.from_residual.ensures.1 in
+    rw (p.1, p.2) (stopped-after (Unit {0}) Bool (g.S.Stage.is_ready c.take_turn.new.stage) (holds c.args.stage.now) (holds c.loop-by.stage) (holds c.take_turn.new.stage) c.in_err-take_turn.field-0.0
+    c.loop-by.invariant.held c.in_err-take_turn.ensures.stopped)

@@ -5,6 +5,7 @@ use Rattle.rz_play.specs.Turns.{IsTurn}
 use Rattle.rz_lines.proofs.Counts.{turn-counts}
 use Rattle.rz_lines.proofs.Sequences.{turns-more}
 use Rattle.rz_lines.proofs.Cuts.{turns-cut}
+use Rattle.rz_lines.proofs.Stops.{stopped-after}
 use Rattle.rz_lines.proofs.turns.take_turns.Goals as goal
 
 pub returns-in_err-take_turn-clause-played : goal.returns-in_err-take_turn-clause-played
@@ -27,8 +28,16 @@ loop-preserved g c =
     record {
       ready = e.ready;
       volume = e.volume ∙ i.volume;
+      journal = e.journal ∙ i.journal;
       few = omega (arith, one, e.taken.1);
       lost = (let so_far = i.lost in let then = e.lost in omega (arith, so_far, then));
       held = λ first held. e.held first (i.held first held);
       played = turns-more (volume c.args.stage.now) c.args.by c.loop.counter (world c.args.stage.now) (world c.loop.stage) (world c.take_turn.new.stage) i.played turn;
     }
+
+pub returns-in_err-take_turn-clause-stopped : goal.returns-in_err-take_turn-clause-stopped
+returns-in_err-take_turn-clause-stopped g c =
+    let holds = g.S.Stage.holds in
+    let p = err_from_is_err_and c.from_residual.result c.from_residual.ensures.1 in
+    rw (p.1, p.2) (stopped-after (Unit {0}) (Unit {0}) (g.S.Stage.is_ready c.take_turn.new.stage) (holds c.args.stage.now) (holds c.loop.stage) (holds c.take_turn.new.stage) c.in_err-take_turn.field-0.0
+    c.loop.invariant.held c.in_err-take_turn.ensures.stopped)

@@ -25,7 +25,7 @@ returns-in-Ok-clause-performed g c =
     lost log c.requires.volume c.requires.new c.lines.ensures.value c.play-end.ensures.over in
     let P : List ℕ → Type 0 = λ lines. Says c.play-end.result c.args.wish lines c.log.result.now sink c.tell.result in
     let Q : List Event → Type 0 = λ events. Says c.play-end.result c.args.wish c.in-Ok.found.items events sink c.tell.result in
-    performed_so g.S.Stage.tells g.S.Stage.volume g.S.Stage.world g.S.Stage.holds g.S.Stage.leaves g.S.Store.counts g.S.Store.only_asked c.args.script.now.volume c.args.script.now.lines c.args.wish
+    performed_so g.S.Stage.tells g.S.Stage.volume g.S.Stage.world g.S.Stage.journaled (g.S.Stage.journaled c.args.stage.now) g.S.Stage.cut_off g.S.Stage.holds g.S.Stage.leaves g.S.Store.counts g.S.Store.only_asked c.args.script.now.volume c.args.script.now.lines c.args.wish
     lost c.play-end.result c.args.stage.now c.play-end.new.stage c.find.new.stage
     (ended_play g.S.Stage.tells c.args.script.now.volume (g.S.Stage.volume c.args.stage.now) (g.S.Stage.world c.args.stage.now) c.args.script.now.lines c.lines.result.now c.play-end.result lost log
     c.requires.volume c.requires.new c.lines.ensures.value c.play-end.ensures.played)
@@ -33,7 +33,7 @@ returns-in-Ok-clause-performed g c =
     (c.told_losses.ensures g.S.Stage.tells c.args.script.now.volume c.args.script.now.lines c.play-end.result lost log over)
     (whole_play g.S.Stage.tells c.args.script.now.volume (g.S.Stage.volume c.args.stage.now) (g.S.Stage.world c.args.stage.now) c.args.script.now.lines c.lines.result.now c.play-end.result
     (g.S.Stage.world c.play-end.new.stage) c.requires.volume c.requires.new c.lines.ensures.value c.play-end.ensures.whole)
-    (c.play-end.ensures.volume ∙ c.requires.volume) c.play-end.ensures.left c.play-end.ensures.held _ c.in-Ok.ensures sink c.tell.result
+    (c.play-end.ensures.volume ∙ c.requires.volume) c.play-end.ensures.cut c.play-end.ensures.left c.play-end.ensures.held (λ is. (c.play-end.ensures.stopped is).1) _ c.in-Ok.ensures sink c.tell.result
     (elim c.tell.ensures [ inl says ↦ inl (c.in-Ok.found.items, c.in-Ok.ensures.found, subst Q c.log.ensures (subst P c.deref.ensures.value says)) | inr lacks ↦ inr lacks ])
 
 pub returns-in-Err-clause-performed : goal.returns-in-Err-clause-performed
@@ -48,7 +48,7 @@ returns-in-Err-clause-performed g c =
     } in
     let over = ended_over g.S.Stage.tells c.args.script.now.volume (g.S.Stage.volume c.args.stage.now) (g.S.Stage.world c.args.stage.now) c.args.script.now.lines c.lines.result.now c.play-end.result
     lost log c.requires.volume c.requires.new c.lines.ensures.value c.play-end.ensures.over in
-    performed_so g.S.Stage.tells g.S.Stage.volume g.S.Stage.world g.S.Stage.holds g.S.Stage.leaves g.S.Store.counts g.S.Store.only_asked c.args.script.now.volume c.args.script.now.lines c.args.wish
+    performed_so g.S.Stage.tells g.S.Stage.volume g.S.Stage.world g.S.Stage.journaled (g.S.Stage.journaled c.args.stage.now) g.S.Stage.cut_off g.S.Stage.holds g.S.Stage.leaves g.S.Store.counts g.S.Store.only_asked c.args.script.now.volume c.args.script.now.lines c.args.wish
     lost c.play-end.result c.args.stage.now c.play-end.new.stage c.find.new.stage
     (ended_play g.S.Stage.tells c.args.script.now.volume (g.S.Stage.volume c.args.stage.now) (g.S.Stage.world c.args.stage.now) c.args.script.now.lines c.lines.result.now c.play-end.result lost log
     c.requires.volume c.requires.new c.lines.ensures.value c.play-end.ensures.played)
@@ -56,7 +56,7 @@ returns-in-Err-clause-performed g c =
     (c.told_losses.ensures g.S.Stage.tells c.args.script.now.volume c.args.script.now.lines c.play-end.result lost log over)
     (whole_play g.S.Stage.tells c.args.script.now.volume (g.S.Stage.volume c.args.stage.now) (g.S.Stage.world c.args.stage.now) c.args.script.now.lines c.lines.result.now c.play-end.result
     (g.S.Stage.world c.play-end.new.stage) c.requires.volume c.requires.new c.lines.ensures.value c.play-end.ensures.whole)
-    (c.play-end.ensures.volume ∙ c.requires.volume) c.play-end.ensures.left c.play-end.ensures.held _ c.in-Err.ensures sink 70 (inr (refl, refl))
+    (c.play-end.ensures.volume ∙ c.requires.volume) c.play-end.ensures.cut c.play-end.ensures.left c.play-end.ensures.held (λ is. (c.play-end.ensures.stopped is).1) _ c.in-Err.ensures sink 70 (inr (refl, refl))
 
 pub returns-in-Ok-clause-told : goal.returns-in-Ok-clause-told
 returns-in-Ok-clause-told g c tells =

@@ -14,6 +14,7 @@ use Rattle.rz_stations.proofs.Rows.{all-at}
 use Rattle.rz_driver.proofs.OrderLemmas.{ordered, still-ready, all-more}
 use Rattle.rz_driver.proofs.ActorOrders.{place-low, operation-fits}
 use Rattle.rz_driver.proofs.DriverPictures.{actor-picture, still-counted, still-right}
+use Rattle.rz_driver.proofs.JournalLemmas.{journal-stays, journal-still}
 use Rattle.rz_stations.proofs.PictureLemmas.{on-err}
 use Rattle.rz_driver.proofs.driver.Driver.add_operation.Goals as goal
 
@@ -66,12 +67,13 @@ returns-clause-held g c = λ first met.
       met.0,
       actor-picture d c.in-Some.place s b d.turns here c.in_ok-add.ensures.machine (λ rules fine.
           c.lined.ensures d.volume rules [] (line.Op c.args.by c.args.op.now) c.requires.line (world_of d) (world d.shared (set d.seats.items c.in-Some.place b) d.turns) (returns-clause-played g c) fine) met.1,
+      journal-stays d _ refl refl first met.2 refl,
     )
 
 pub returns-in_err-add-clause-left : goal.returns-in_err-add-clause-left
 returns-in_err-add-clause-left g c = on-err c.from_residual-in_err-add.result (λ first met.
     let d = c.args.self.now in
-    inr (still-counted d d refl d.shared.log.events refl first met, still-right d d refl d.shared.log.events refl first met))
+    inr (still-counted d d refl d.shared.log.events refl first met, still-right d d refl d.shared.log.events refl first met, journal-still d _ refl refl first met.2 refl))
 
 pub returns-in_err-op-clause-left : goal.returns-in_err-op-clause-left
 returns-in_err-op-clause-left g c = on-err c.from_residual.result (λ first held. inl held)

@@ -1,12 +1,17 @@
-use Rattle.std.proofs.Common.{◌≡◌, List, length, map, refl, sym, ◌∙◌, ap, subst}
+use Rattle.std.proofs.Common.{arith, ◌≡◌, List, length, map, refl, sym, ◌∙◌, ap, subst}
 use Rattle.std.specs.List.{AllByRecursion}
 use Rattle.mj_angles.specs.declared.layout.Layout.{Layout}
 use Rattle.rz_events.specs.Volume.{Volume, IsNode, nodes_of}
 use Rattle.rz_events.specs.declared.files.NodeSpec.{NodeSpec}
+use Rattle.rz_events.specs.declared.events.Event.{Event}
+use Rattle.rz_export_model.specs.Export.{Export}
+use Rattle.rz_asks.specs.Journals.{KeepsLog}
+use Rattle.rz_asks.proofs.Keeping.{keeps-first}
 use Rattle.rz_formatting.specs.Formatted.{AreFormatted, AreBack}
 use Rattle.rz_formatting.proofs.FormatLemmas.{untouched}
 use Rattle.rz_stations.proofs.MeterLemmas.{new-holds}
-use Rattle.rz_driver.proofs.MadeLemmas.{new-ready, new-is}
+use Rattle.rz_driver.proofs.MadeLemmas.{as-many, new-ready, new-is}
+use Rattle.rz_stations.specs.Meters.{faults_at}
 use Rattle.rz_stations.specs.Stations.{IsStation}
 use Rattle.rz_driver.proofs.NewPictures.{new-picture}
 use Rattle.rz_driver.proofs.driver.Driver.new.Goals as goal
@@ -49,9 +54,27 @@ returns-in-Ok-format_all-clause-held g c =
     let ready = returns-in-Ok-format_all-clause-ready g c in
     let made = returns-in-Ok-format_all-clause-made g c in
     let row = c.in-Ok-format_all.stations.items in
+    let at = faults_at g.D.Disk.meter c.args.disks.items (length (nodes_of c.in-Ok.parts.volume.clusters)) in
     let stations : AllByRecursion (IsStation v) row = subst (λ (u : Volume). AllByRecursion (IsStation u) row) c.in-Ok.ensures.volume ready.stations in (
       new-holds g.D.Disk.tells g.D.Disk.meter g.D.Disk.text g.D.Disk.image v c.new_parts.ensures.rules c.args.disks.items _ _ _ ready.numbers
           (ap (λ (u : Volume). map (λ (n : NodeSpec). n.sid) (nodes_of u.clusters)) c.in-Ok.ensures.volume) made c.new-log.ensures,
       new-picture g.D.Disk.tells g.D.Disk.meter g.D.Disk.text g.D.Disk.image c.fresh.ensures v c.new_parts.ensures.rules c.args.disks.items _ (returns-in-Ok-format_all-clause-world g c) c.in-Ok.parts.seats.items c.in-Ok.ensures.seats row stations made
           c.in-Ok.parts.volume c.in-Ok.ensures.volume,
+      record {
+        volume = ap (λ (s : Export). s.volume) c.in-Ok.ensures.export ∙ sym c.in-Ok.ensures.volume;
+        keeps = subst (λ (h : List Event). KeepsLog g.D.Disk.tells g.D.Disk.meter g.D.Disk.image at c.in-Ok.parts.export h) (sym c.new-log.ensures)
+            (keeps-first g.D.Disk.tells g.D.Disk.meter g.D.Disk.image at c.in-Ok.parts.export (c.in-Ok.ensures.stands at));
+      },
     )
+
+-- there is room for the disks of the nodes, and for one more
+pub invariant_of-result : goal.invariant_of-result
+invariant_of-result g c =
+    let nodes = c.as_slice.ensures.value ∙ c.in-Ok.ensures.nodes in
+    let stations = c.in-Ok-format_all.stations in
+    let many = as-many g.D.Disk.tells g.D.Disk.meter g.D.Disk.text g.D.Disk.image c.volume.inside.layout c.as_slice.result.now c.args.disks.items stations.items (c.requires.count ∙ ap length (sym nodes)) c.in-Ok-format_all.ensures.made in
+    let as_nodes = ap length nodes in
+    let long = stations.ok.0 in
+    let empty = c.in-Ok.ensures.empty in
+    let room = c.in-Ok.ensures.room in
+    record { room = omega (arith, many, as_nodes, long, empty, room) }

@@ -11,6 +11,7 @@ use Rattle.rz_stations.specs.Meters.{AreMetered, AreCounted}
 use Rattle.rz_stations.specs.Images.{KeepsRow, SparesRow, fused_image}
 use Rattle.rz_driver.specs.Worlds.{world, world_of}
 use Rattle.rz_driver.proofs.DriverPictures.{order-holds, order-leaves}
+use Rattle.rz_driver.proofs.JournalLemmas.{journal-stays, journal-still, arming-stays}
 use Rattle.rz_stations.proofs.PictureLemmas.{three-ok, three-err}
 use Rattle.rz_driver.proofs.NodeOrders.{arming-in, armed-ready, armed-world}
 use Rattle.rz_driver.proofs.driver.Driver.order_break.Goals as goal
@@ -45,8 +46,11 @@ returns-clause-held g c =
     let next : World = world (record d.shared { stations = with_items d.shared.stations ys; log = c.arm_node.new.log }) d.seats.items d.turns in
     three-ok c.arm_node.result
     (λ (holds : (numbers : List ℕ) → Carries (AreMetered meter numbers xs h) (AreMetered meter numbers ys h')) (keeps : IsTrue g.D.Disk.tells → KeepsRow image xs h ys h') (armed : next ≡ record (world_of d) { log = e.Armed c.args.sid c.args.passes c.args.pick ∷ h }).
-    order-holds d xs ys c.as_mut_slice.ensures.value c.lasting.ensures next (e.Armed c.args.sid c.args.passes c.args.pick ∷ [], ap (λ (w : World). w.log) armed) keeps
-    (λ told rules fine. c.lined.ensures d.volume rules [] (line.Break c.args.sid c.args.passes c.args.pick) c.requires.line (world_of d) next armed fine) holds)
+    λ first held.
+    let log = ap (λ (w : World). w.log) armed in
+    let o = order-holds d xs ys c.as_mut_slice.ensures.value c.lasting.ensures next (e.Armed c.args.sid c.args.passes c.args.pick ∷ [], log) keeps
+    (λ told rules fine. c.lined.ensures d.volume rules [] (line.Break c.args.sid c.args.passes c.args.pick) c.requires.line (world_of d) next armed fine) holds first held in
+    (o.0, o.1, journal-stays d _ refl refl first held.2 (arming-stays c.args.sid c.args.passes c.args.pick h h' log)))
     c.arm_node.ensures.held c.arm_node.ensures.pictured (returns-clause-armed g c)
 
 pub returns-clause-left : goal.returns-clause-left
@@ -60,5 +64,6 @@ returns-clause-left g c =
     let h' = c.arm_node.new.log.events in
     three-err c.arm_node.result
     (λ (leaves : (numbers : List ℕ) → Carries (AreMetered meter numbers xs h) (AreCounted meter numbers ys h')) (spares : IsTrue g.D.Disk.tells → SparesRow image xs h ys) (still : h' ≡ h). λ first held.
-    inr (order-leaves d xs ys c.as_mut_slice.ensures.value h' still spares leaves first held))
+    let o = order-leaves d xs ys c.as_mut_slice.ensures.value h' still spares leaves first held in
+    inr (o.0, o.1, journal-still d _ refl refl first held.2 still))
     c.arm_node.ensures.left c.arm_node.ensures.spared c.arm_node.ensures.err

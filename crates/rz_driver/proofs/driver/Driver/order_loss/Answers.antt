@@ -12,6 +12,7 @@ use Rattle.rz_stations.specs.Meters.{AreMetered, AreCounted}
 use Rattle.rz_stations.specs.Images.{KeepsRow, SparesRow, fused_image}
 use Rattle.rz_driver.specs.Worlds.{world, world_of}
 use Rattle.rz_driver.proofs.DriverPictures.{order-holds, order-leaves}
+use Rattle.rz_driver.proofs.JournalLemmas.{journal-stays, journal-still, order-stays}
 use Rattle.rz_stations.proofs.PictureLemmas.{noted-grows, three-ok, three-err}
 use Rattle.rz_driver.proofs.NodeOrders.{called-of, ordered-in, called-ready, admin-call}
 use Rattle.rz_driver.proofs.driver.Driver.order_loss.Goals as goal
@@ -46,8 +47,11 @@ returns-clause-held g c =
     let next : World = world (record d.shared { stations = with_items d.shared.stations ys; log = c.lose_node.new.log }) d.seats.items d.turns in
     three-ok c.lose_node.result
     (λ (holds : (numbers : List ℕ) → Carries (AreMetered meter numbers xs h) (AreMetered meter numbers ys h')) (keeps : IsTrue g.D.Disk.tells → KeepsRow image xs h ys h') (called : IsAdminCall d.volume c.args.sid ask.Lose (world_of d) next).
-    order-holds d xs ys c.as_mut_slice.ensures.value c.lasting.ensures next (noted-grows _ h h' (ap (λ (w : World). w.log) called.next_is)) keeps
-    (λ told rules fine. c.lined.ensures d.volume rules [] (line.Lose c.args.sid) c.requires.line (world_of d) next called fine) holds)
+    λ first held.
+    let log = ap (λ (w : World). w.log) called.next_is in
+    let o = order-holds d xs ys c.as_mut_slice.ensures.value c.lasting.ensures next (noted-grows _ h h' log) keeps
+    (λ told rules fine. c.lined.ensures d.volume rules [] (line.Lose c.args.sid) c.requires.line (world_of d) next called fine) holds first held in
+    (o.0, o.1, journal-stays d _ refl refl first held.2 (order-stays c.args.sid ask.Lose called.given h h' log)))
     c.lose_node.ensures.held c.lose_node.ensures.pictured (returns-clause-called g c)
 
 pub returns-clause-left : goal.returns-clause-left
@@ -61,5 +65,6 @@ returns-clause-left g c =
     let h' = c.lose_node.new.log.events in
     three-err c.lose_node.result
     (λ (leaves : (numbers : List ℕ) → Carries (AreMetered meter numbers xs h) (AreCounted meter numbers ys h')) (spares : IsTrue g.D.Disk.tells → SparesRow image xs h ys) (still : h' ≡ h). λ first held.
-    inr (order-leaves d xs ys c.as_mut_slice.ensures.value h' still spares leaves first held))
+    let o = order-leaves d xs ys c.as_mut_slice.ensures.value h' still spares leaves first held in
+    inr (o.0, o.1, journal-still d _ refl refl first held.2 still))
     c.lose_node.ensures.left c.lose_node.ensures.spared c.lose_node.ensures.err

@@ -11,6 +11,7 @@ use Rattle.rz_stations.specs.Meters.{AreMetered, AreCounted}
 use Rattle.rz_stations.specs.Images.{KeepsRow, SparesRow, fused_image}
 use Rattle.rz_driver.specs.Worlds.{world, world_of}
 use Rattle.rz_driver.proofs.DriverPictures.{order-holds, order-leaves}
+use Rattle.rz_driver.proofs.JournalLemmas.{journal-stays, journal-still, started-stays}
 use Rattle.rz_stations.proofs.PictureLemmas.{both-ok, noted-grows, three-ok, three-err}
 use Rattle.rz_driver.proofs.NodeOrders.{ordered-in, started-in, called-in, called-ready, admin-call, free-start, start-over}
 use Rattle.rz_driver.proofs.driver.Driver.order_start.Goals as goal
@@ -52,9 +53,11 @@ returns-clause-held g c =
     three-ok c.start_node.result
     (λ (holds : (numbers : List ℕ) → Carries (AreMetered meter numbers xs h) (AreMetered meter numbers ys h')) (keeps : IsTrue g.D.Disk.tells → KeepsRow image xs h ys h')
     (orders : (IsTrue g.D.Disk.tells → IsOrdered ask.Start c.args.sid xs ys h h') × IsStarted c.args.sid xs ys h h').
-    order-holds d xs ys c.as_mut_slice.ensures.value c.lasting.ensures next (noted-grows orders.1.event h h' orders.1.log_is) keeps
+    λ first held.
+    let o = order-holds d xs ys c.as_mut_slice.ensures.value c.lasting.ensures next (noted-grows orders.1.event h h' orders.1.log_is) keeps
     (λ told rules fine. c.lined.ensures d.volume rules [] (line.Start c.args.sid) c.requires.line (world_of d) next
-    (admin-call d c.requires.ready q refl refl ask.Start c.args.sid (ordered-in ask.Start c.args.sid d.shared.stations xs ys h h' c.as_mut_slice.ensures.value (orders.0 told))) fine) holds)
+    (admin-call d c.requires.ready q refl refl ask.Start c.args.sid (ordered-in ask.Start c.args.sid d.shared.stations xs ys h h' c.as_mut_slice.ensures.value (orders.0 told))) fine) holds first held in
+    (o.0, o.1, journal-stays d _ refl refl first held.2 (started-stays c.args.sid xs ys h h' orders.1)))
     c.start_node.ensures.held c.start_node.ensures.pictured orders
 
 pub returns-clause-left : goal.returns-clause-left
@@ -68,5 +71,6 @@ returns-clause-left g c =
     let h' = c.start_node.new.log.events in
     three-err c.start_node.result
     (λ (leaves : (numbers : List ℕ) → Carries (AreMetered meter numbers xs h) (AreCounted meter numbers ys h')) (spares : IsTrue g.D.Disk.tells → SparesRow image xs h ys) (still : h' ≡ h). λ first held.
-    inr (order-leaves d xs ys c.as_mut_slice.ensures.value h' still spares leaves first held))
+    let o = order-leaves d xs ys c.as_mut_slice.ensures.value h' still spares leaves first held in
+    inr (o.0, o.1, journal-still d _ refl refl first held.2 still))
     c.start_node.ensures.left c.start_node.ensures.spared c.start_node.ensures.err

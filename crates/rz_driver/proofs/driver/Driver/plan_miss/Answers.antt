@@ -9,6 +9,7 @@ use Rattle.rz_stations.proofs.Rows.{all-at}
 use Rattle.rz_driver.proofs.OrderLemmas.{ordered, still-ready}
 use Rattle.rz_driver.proofs.ActorOrders.{place-low}
 use Rattle.rz_driver.proofs.DriverPictures.{actor-picture}
+use Rattle.rz_driver.proofs.JournalLemmas.{journal-stays}
 use Rattle.rz_driver.proofs.driver.Driver.plan_miss.Goals as goal
 
 pub returns-in-Some-clause-ready : goal.returns-in-Some-clause-ready
@@ -48,4 +49,5 @@ returns-in-Some-clause-held g c = λ first met.
       met.0,
       actor-picture d c.in-Some.place s b d.turns here refl (λ rules fine.
           c.lined.ensures d.volume rules [] (line.Miss c.args.by c.args.reply) c.requires.line (world_of d) (world d.shared (set d.seats.items c.in-Some.place b) d.turns) (returns-in-Some-clause-played g c) fine) met.1,
+      journal-stays d _ refl refl first met.2 refl,
     )

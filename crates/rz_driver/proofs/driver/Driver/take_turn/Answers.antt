@@ -4,6 +4,7 @@ use Rattle.rz_driver.specs.declared.driver.Driver.{Driver}
 use Rattle.rz_driver.specs.Worlds.{IsDriver, Holds}
 use Rattle.rz_driver.proofs.DriverPictures.{turn-picture, turn-spares, right-disks, still-right, still-counted}
 use Rattle.rz_driver.proofs.DriverMeters.{log-kept}
+use Rattle.rz_driver.proofs.JournalLemmas.{journal-goes-on, journal-ends, journal-still}
 use Rattle.rz_stations.proofs.PictureLemmas.{on-err}
 use Rattle.rz_driver.proofs.ActPictures.{act-grows}
 use Rattle.rz_driver.proofs.TakeLemmas.{seat-there, have-layouts, tied-at, drives, turned}
@@ -57,6 +58,7 @@ returns-clause-held g c = λ first met.
       turn-picture c.args.by c.in-Some.place _ c.args.self.now c.self.view_is c.make_room.new.self a0 c.take_up.new.self at there.0 c.in_ok-take_up.ensures.seat.machine
           c.in_ok-take_up.ensures.ok c.make_room.ensures.same c.in_ok-take_up.ensures.hand c.working.ensures c.act.new.seat _ c.act.new.shared.stations.items c.turned.ensures c.lasting.ensures turn
           c.in_ok-act.ensures.pictured (grown.0, grown.1 ∙ ap (λ (k : List Event). grown.0 ++ k) c.make_room.ensures.same) met.1,
+      journal-goes-on _ _ refl c.act.ensures.store first c.make_room.new.self.events c.make_room.ensures.same here.2 c.in_ok-act.ensures.kept,
     )
 
 pub returns-in_default-clause-left : goal.returns-in_default-clause-left
@@ -66,12 +68,14 @@ pub returns-in_err-make_room-clause-left : goal.returns-in_err-make_room-clause-
 returns-in_err-make_room-clause-left g c = on-err c.from_residual.result (λ first met. inr (
   still-counted _ c.args.self.now c.self.view_is c.make_room.new.self.events c.make_room.ensures.same first met,
   still-right _ c.args.self.now c.self.view_is c.make_room.new.self.events c.make_room.ensures.same first met,
+  journal-still _ _ refl refl first (subst (λ (x : Driver g.row.D.Denot g.D.Disk). Holds x first) (sym c.self.view_is) met).2 c.make_room.ensures.same,
 ))
 
 pub returns-in_err-take_up-clause-left : goal.returns-in_err-take_up-clause-left
 returns-in_err-take_up-clause-left g c = on-err c.from_residual-in_err-take_up.result (λ first met. inr (
   still-counted _ c.args.self.now c.self.view_is c.make_room.new.self.events c.make_room.ensures.same first met,
   still-right _ c.args.self.now c.self.view_is c.make_room.new.self.events c.make_room.ensures.same first met,
+  journal-still _ _ refl refl first (subst (λ (x : Driver g.row.D.Denot g.D.Disk). Holds x first) (sym c.self.view_is) met).2 c.make_room.ensures.same,
 ))
 
 pub returns-in_err-act-clause-left : goal.returns-in_err-act-clause-left
@@ -86,4 +90,8 @@ returns-in_err-act-clause-left g c = on-err c.from_residual-in_err-act.result (�
     let spares = turn-spares c.args.by c.in-Some.place _ c.args.self.now c.self.view_is c.make_room.new.self a0 c.take_up.new.self at there.0 c.in_ok-take_up.ensures.seat.machine
     c.in_ok-take_up.ensures.ok c.make_room.ensures.same c.in_ok-take_up.ensures.hand c.working.ensures ys c.in_err-act.ensures.spared
     in
-    inr (counted, right-disks _ c.args.self.now c.self.view_is c.act.new.shared.log.events (c.in_err-act.ensures.err ∙ c.make_room.ensures.same) first met ys (counted.named ∙ sym here.0.named) spares))
+    inr (
+      counted,
+      right-disks _ c.args.self.now c.self.view_is c.act.new.shared.log.events (c.in_err-act.ensures.err ∙ c.make_room.ensures.same) first met ys (counted.named ∙ sym here.0.named) spares,
+      journal-ends _ _ refl c.act.ensures.store first c.make_room.new.self.events c.make_room.ensures.same here.2 c.in_err-act.ensures.ended,
+    ))

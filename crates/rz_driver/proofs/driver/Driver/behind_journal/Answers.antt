@@ -1,0 +1,38 @@
+use Rattle.std.proofs.Common.{◌≡◌, ◌⊎◌, ℕ, IsTrue, List, [], length, arith, subst}
+use Rattle.std.proofs.lemmas.List.{length-map}
+use Rattle.rz_disk.specs.UnderFuse.{UnderFuse}
+use Rattle.rz_events.specs.Volume.{Volume}
+use Rattle.rz_formatting.specs.declared.formatting.Station.{Station}
+use Rattle.rz_formatting.specs.Formatted.{disks_of}
+use Rattle.rz_journal.specs.JournalText.{IsTextOf}
+use Rattle.rz_journal_disk.specs.Stands.{IsShut}
+use Rattle.rz_driver.proofs.BehindJournal.{fault-is, journal-untouched}
+use Rattle.rz_driver.proofs.driver.Driver.behind_journal.Goals as goal
+
+pub returns-in_default-clause-back : goal.returns-in_default-clause-back
+returns-in_default-clause-back g c = record {
+  last = c.args.disk;
+  back_are = c.back_with.ensures;
+  kept = journal-untouched g.D.Disk.tells g.D.Disk.meter g.D.Disk.image c.args.self.volume c.args.disk;
+  cause = tt;
+}
+
+pub returns-in-Err-clause-back : goal.returns-in-Err-clause-back
+returns-in-Err-clause-back g c =
+    let row = c.args.self.shared.stations in
+    let image = g.D.Disk.image in
+    let old = c.args.disk in
+    let new = c.in-Err.disk in
+    let at = c.len-index.ensures in
+    let long = row.ok.0 in
+    let many = length-map row.items (λ (s : Station (UnderFuse g.row.D.Denot)). s.node.disk.disk) in
+    let place : c.len-index.result ≡ length (disks_of row.items) = omega (arith, at, long, many) in
+    record {
+      last = new;
+      back_are = c.back_with-in-Err.ensures;
+      kept = record {
+        count = c.in-Err.ensures.lasts;
+        images = subst (λ (v : Volume). IsTrue g.D.Disk.tells → (x : List ℕ) → image new x → image old x ⊎ IsShut x ⊎ IsTextOf v x []) c.in-Ok.ensures c.in-Err.ensures.crash;
+      };
+      cause = fault-is g.D.Disk.meter old new c.in-Err.fault c.fault_at.result c.len-index.result (length (disks_of row.items)) c.fault_at.ensures place c.in-Err.ensures.risen;
+    }
