@@ -5,7 +5,7 @@ use denote.Param.Send.{IsSend, param_send, arg_send, recorded_send, struct_send}
 use denote.Struct.Declared.{shape}
 use denote.RattleType.{RattleType}
 use denote.Struct.Tuple.{type_at, field_at, TupleAt}
-use mathlib.Core.List.{List, [], ◌∷◌}
+use mathlib.Core.List.{[], ◌∷◌}
 use mir.Syntax.{Ty, Sym}
 
 pub five-sent : {A B C D E : RattleType} {δ : Ty} (ν : Sym) → IsSend A → IsSend B → IsSend C → IsSend D → IsSend E

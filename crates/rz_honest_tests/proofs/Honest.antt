@@ -1,11 +1,10 @@
 -- An honest book of the plain volume, and what a call of it leaves.
 use Rattle.std.proofs.Common.{◌≡◌, ℕ, List, [], ◌∷◌, Option, Some, None, length, map, refl, arith, true, sym, ap, ◌∙◌, subst}
 use Rattle.std.specs.Prelude.{IsTrue, IfSome}
-use Rattle.mj_angles.specs.declared.layout.Layout.{Layout}
 use Rattle.mj_angles.specs.declared.layout.Layout.TheVariants.{L0}
 use Rattle.rz_events.specs.declared.events.Event.{Event}
 use Rattle.rz_events.specs.Volume.{Volume}
-use Rattle.rz_core.specs.History.{Begun, Facts, facts}
+use Rattle.rz_core.specs.History.{Facts, facts}
 use Rattle.rz_core.specs.Legal.{IsLegal}
 use Rattle.rz_core.specs.Longer.{IsOneRun, IsPermanent}
 use Rattle.rz_core.specs.NodeRows.{IsNodeOf}

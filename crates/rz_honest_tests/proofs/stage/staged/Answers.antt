@@ -1,4 +1,4 @@
-use Rattle.std.proofs.Common.{◌≡◌, ◌∙◌, sym, ap, length}
+use Rattle.std.proofs.Common.{◌∙◌, sym, ap, length}
 use Rattle.rz_events.specs.Volume.{Volume, nodes_of}
 use Rattle.rz_honest_tests.proofs.Honest.{volume-is}
 use Rattle.rz_honest_tests.proofs.stage.staged.Goals as goal

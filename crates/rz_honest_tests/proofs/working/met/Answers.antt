@@ -1,4 +1,3 @@
-use Rattle.std.proofs.Common.{refl}
 use Rattle.rz_honest_tests.proofs.Honest.{legal-of, written-later}
 use Rattle.rz_honest_tests.proofs.working.met.Goals as goal
 
