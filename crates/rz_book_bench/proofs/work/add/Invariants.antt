@@ -1,0 +1,6 @@
+use Rattle.std.proofs.Common.{◌≡◌}
+use Rattle.rz_book_bench.proofs.work.add.Given as goal
+
+-- it is still the same actor's pass
+abbrev pub invariant-loop : goal.invariant-loop
+invariant-loop g l = l.pass.actor ≡ l.fn.pass.actor
