@@ -4,3 +4,4 @@ pub mod Laws
 pub mod Shown
 pub mod Adding
 pub mod Saying
+pub mod Workers
