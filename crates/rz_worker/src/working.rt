@@ -35,7 +35,6 @@ pub fn work<R: Wait, D: Disk, J: Counting, L: Link>(
     ensures shown { worker.new.shown.items ≡ shown_of (of_actor worker.old.pass.actor worker.new.pass.log) }
     ensures fit { IsFit J.kind worker.new.pass.log }
 {
-    let _ = (alloc, store, worker);
     for _ in rt.forever() {}
     unreachable!()
 }
