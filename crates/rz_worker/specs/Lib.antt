@@ -4,4 +4,5 @@ pub mod Laws
 pub mod Shown
 pub mod Adding
 pub mod Saying
+pub mod Acted
 pub mod Workers

@@ -1,5 +1,5 @@
 -- A worker between two turns, and what it has done when it is through.
-use Rattle.std.specs.Prelude.{ℕ, Bool, false, ◌≡◌, ◌≤◌, IsTrue, List, [], length, Option, Some, None}
+use Rattle.std.specs.Prelude.{ℕ, Bool, true, false, ◌≡◌, ◌+◌, ◌≤◌, IsTrue, List, [], ◌∷◌, length, Option, Some, None}
 use Rattle.std.specs.List.{AllByRecursion}
 use Rattle.mj_angles.specs.declared.layout.Layout.{Layout}
 use Rattle.mj_angles.specs.Layout.{max_bins_of}
@@ -13,7 +13,8 @@ use Rattle.rz_operation.specs.Machine.{Machine}
 use Rattle.rz_operation_model.specs.Work.{Work, Over}
 use Rattle.rz_core.specs.History.{of_actor}
 use Rattle.rz_core.specs.Own.{IsBetween}
-use Rattle.rz_play.specs.World.{Seat as APlayer, has_work}
+use Rattle.rz_operation_model.specs.Steps.{begun}
+use Rattle.rz_play.specs.World.{Seat as APlayer, has_work, is_over}
 use Rattle.rz_acting.specs.Acting.{IsActing}
 use Rattle.rz_chronicle.specs.Kinds.{is_honest, volume_in}
 use Rattle.rz_chronicle.specs.Rules.{PassView}
@@ -47,6 +48,12 @@ pub record IsReady (kind : List ℕ) (pass : PassView) (seat : Seat) (bins : Lis
   pub at_hand : IsTrue (is_honest kind) → IsAtHand (volume_in kind) pass.log pass.actor seat.number seat.machine
   pub room : max_bins_of (volume_in kind).layout ≤ length bins
   pub shows : shown ≡ shown_of (of_actor pass.actor pass.log)
+
+-- An operation in hand stays there. Where none is in hand the next one begins, or nothing is left to do.
+pub data TakesUp (layout : Layout) (a b : Seat) : Type 0 where
+  Stays : b ≡ a → TakesUp layout a b
+  Begins : (op : Operation) (m : Machine) → is_over (work_in a.machine) ≡ true → a.todo.items ≡ op ∷ b.todo.items → b.number ≡ a.number + 1
+      → b.machine ≡ Some m → m.layout ≡ layout → m.work ≡ begun op → TakesUp layout a b
 
 -- a seat with these operations, of which none has begun
 abbrev pub seat_with : List Operation → APlayer

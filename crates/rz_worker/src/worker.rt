@@ -1,16 +1,15 @@
 //! A client or a rebuilder at work.
-ghost use Rattle.std.specs.Prelude.{◌≡◌, [], IfOk};
+ghost use Rattle.std.specs.Prelude.{◌≡◌, ◌≤◌, [], length};
 ghost use Rattle.std.specs.List.{AllByRecursion};
+ghost use Rattle.mj_angles.specs.Layout.{max_bins_of};
 ghost use Rattle.rz_core.specs.History.{of_actor};
 ghost use Rattle.rz_chronicle.specs.Kinds.{volume_in};
 ghost use Rattle.rz_script.specs.Lines.{IsOperation};
 ghost use Rattle.rz_worker.specs.Workers.{seat_of, seat_with, IsReady};
 
 use crate::seat::Seat;
-use mj_angles::Layout;
 use rz_chronicle::Pass;
 use rz_events::{Actor, Event, Operation};
-use rz_lines::NoMemory;
 use rz_link::Link;
 use rz_locked::Counting;
 use std::alloc::Global;
@@ -31,20 +30,30 @@ impl<J: Counting, L: Link> Worker<J, L> {
     /// A worker that has these operations to do and has done none yet.
     pub fn new(
         alloc: Global,
-        layout: Layout,
         pass: Pass<J>,
         link: L,
         todo: VecDeque<Operation>,
-    ) -> Result<Worker<J, L>, NoMemory>
-        requires layout { layout ≡ (volume_in J.kind).layout }
+        bins: Vec<u64>,
+    ) -> Worker<J, L>
         requires actor { ¬ (pass.actor ≡ Actor.Admin) }
         requires fresh { of_actor pass.actor pass.log ≡ [] }
         requires todo { AllByRecursion (IsOperation (volume_in J.kind) pass.actor) todo.items }
-        ensures ready { IfOk result (λ w. IsReady J.kind w.pass w.seat w.bins.items w.shown.items) }
-        ensures pass { IfOk result (λ w. w.pass ≡ pass) }
-        ensures link { IfOk result (λ w. w.link ≡ link) }
-        ensures seat { IfOk result (λ w. seat_of w.seat ≡ seat_with todo.items) }
+        requires room { max_bins_of (volume_in J.kind).layout ≤ length bins.items }
+        ensures ready { IsReady J.kind result.pass result.seat result.bins.items result.shown.items }
+        ensures pass { result.pass ≡ pass }
+        ensures link { result.link ≡ link }
+        ensures seat { seat_of result.seat ≡ seat_with todo.items }
     {
-        Err(NoMemory)
+        Worker {
+            pass,
+            link,
+            seat: Seat {
+                todo,
+                number: 0,
+                machine: None,
+            },
+            bins,
+            shown: Vec::new(alloc),
+        }
     }
 }
