@@ -2,3 +2,8 @@ pub mod Added
 pub mod Showing
 pub mod Doings
 pub mod Locks
+pub mod Acts
+pub mod Words
+pub mod Messages
+pub mod Seats
+pub mod Workings

@@ -5,4 +5,5 @@ pub mod Shown
 pub mod Adding
 pub mod Saying
 pub mod Acted
+pub mod Asking
 pub mod Workers

@@ -60,7 +60,10 @@ fn is_shown(event: &Event) -> bool
     match event {
         Event::Got { part, .. } | Event::Gave { part, .. } => !*part,
         Event::Done { .. } => true,
-        Event::Meta { call, reply, .. } => matches!((call, reply), (TreeCall::OpenFile { .. }, TreeReply::File(_))),
+        Event::Meta { call, reply, .. } => matches!(
+            (call, reply),
+            (TreeCall::OpenFile { .. }, TreeReply::File(_))
+        ),
         _ => false,
     }
 }

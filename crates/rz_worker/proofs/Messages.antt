@@ -1,0 +1,118 @@
+-- Messages to nodes.
+use Rattle.std.proofs.Common.{◌≡◌, ◌≢◌, ℕ, zero, suc, get_or, ◌+◌, ◌<◌, ◌≤◌, true, false, List, [], ◌∷◌, ◌++◌, length, map, Option, Some, None, refl, sym, ◌∙◌, ap, subst, inl, inr, arith}
+use Rattle.mj_angles.specs.declared.layout.Layout.{Layout}
+use Rattle.mj_angles.specs.Layout.{safe_of, bins_at_of}
+use Rattle.rz_events.specs.Volume.{Volume, Cluster, nodes_of}
+use Rattle.rz_events.specs.declared.files.NodeSpec.{NodeSpec}
+use Rattle.rz_events.specs.declared.keys.Actor.{Actor}
+use Rattle.rz_events.specs.declared.nodes.NodeAsk.{NodeAsk}
+use Rattle.rz_events.specs.declared.nodes.NodeAsk.TheVariants as ask
+use Rattle.rz_events.specs.declared.nodes.NodeAnswer.{NodeAnswer}
+use Rattle.rz_events.specs.declared.nodes.NodeAnswer.TheVariants as answer
+use Rattle.rz_events.specs.declared.nodes.FetchAnswer.TheVariants as fetch
+use Rattle.rz_events.specs.declared.nodes.ReplaceAnswer.{ReplaceAnswer}
+use Rattle.rz_events.specs.declared.nodes.ReplaceAnswer.TheVariants as replace
+use Rattle.rz_events.specs.declared.events.Event.{Event}
+use Rattle.rz_node_model.specs.NodeEvents.{node_event}
+use Rattle.rz_node_model.specs.Versions.{Stands}
+use Rattle.rz_operation.specs.Answers.{MayMiss, ComeWith, HasBinsTo, IsLossy, IsAnswer, IsAnswerTo}
+use Rattle.rz_operation.specs.Machine.{Machine, HasBinsFor, AreBinsFor}
+use Rattle.rz_operation_model.specs.Ask.{Ask, AskNode, ask_of}
+use Rattle.rz_operation_model.specs.Turns.{goes_by_link}
+use Rattle.rz_core.specs.History.{facts, of_actor}
+use Rattle.rz_core.specs.NodeRows.{IsNodeOf}
+use Rattle.rz_core.specs.Own.{IsOpen}
+use Rattle.rz_acting.specs.Acting.{IsActing}
+use Rattle.rz_acting.specs.Laws.{IsAskingLaw}
+use Rattle.rz_block_laws.specs.Laws.{IsHandingLaw}
+use Rattle.rz_locked.specs.Seats.{MayAsk}
+use Rattle.rz_worker.specs.Asking.{IsPlaced}
+
+-- ---- what may be lost
+
+lossy : (question : NodeAsk) → goes_by_link question ≡ true → IsLossy question
+lossy (ask.Keep head) is = tt
+lossy (ask.Fetch key position stamp) is = tt
+lossy (ask.Refill fence head) is = tt
+lossy (ask.Drop fid) is = tt
+lossy ask.Probe is = absurd (cc)
+lossy ask.Stop is = absurd (cc)
+lossy ask.Start is = absurd (cc)
+lossy ask.Lose is = absurd (cc)
+lossy (ask.Replace loss fence) is = absurd (cc)
+
+pub may-miss : (asked : Ask) (n : ℕ) (question : NodeAsk) → asked ≡ AskNode n question → goes_by_link question ≡ true → MayMiss asked
+may-miss asked n question is by_link = subst MayMiss (sym is) (lossy question by_link)
+
+-- ---- room for what is fetched
+
+has-bins : (layout : Layout) (question : NodeAsk) (a : NodeAnswer) (bins : List ℕ) → IsPlaced layout question → ((position : ℕ) → position < safe_of layout → bins_at_of layout position ≤ length bins) → HasBinsTo layout question a bins
+has-bins layout (ask.Fetch key position stamp) (answer.Fetch (fetch.Held r)) bins placed most = most position placed
+has-bins layout (ask.Fetch key position stamp) (answer.Fetch fetch.Nothing) bins placed most = tt
+has-bins layout (ask.Fetch key position stamp) (answer.Fetch fetch.Lost) bins placed most = tt
+has-bins layout (ask.Fetch key position stamp) (answer.Fetch fetch.Down) bins placed most = tt
+has-bins layout (ask.Fetch key position stamp) (answer.Fetch fetch.DiskFault) bins placed most = tt
+has-bins layout (ask.Fetch key position stamp) a bins placed most = tt
+has-bins layout question a bins placed most = tt
+
+-- room for a record of the layout is room for what is fetched
+pub come-with : (layout : Layout) (asked : Ask) (n : ℕ) (question : NodeAsk) (a : NodeAnswer) (bins : List ℕ) → asked ≡ AskNode n question → IsPlaced layout question → ((position : ℕ) → position < safe_of layout → bins_at_of layout position ≤ length bins)
+    → ComeWith layout asked a bins
+come-with layout asked n question a bins is placed most = subst (λ (x : Ask). ComeWith layout x a bins) (sym is) (has-bins layout question a bins placed most)
+
+-- ---- an answer has an event, but for want of memory
+
+event-to : (layout : Layout) (by : Actor) (n : ℕ) (question : NodeAsk) (a : NodeAnswer) → IsAnswerTo layout question a → a ≢ answer.Replace replace.NoMemory → (x : Event) × (node_event by n question a ≡ Some x)
+event-to layout by n (ask.Keep head) (answer.Keep a) is some = (_, refl)
+event-to layout by n (ask.Fetch key position stamp) (answer.Fetch a) is some = (_, refl)
+event-to layout by n (ask.Drop fid) (answer.Drop a) is some = (_, refl)
+event-to layout by n ask.Probe (answer.Probe a) is some = (_, refl)
+event-to layout by n (ask.Replace loss fence) (answer.Replace replace.Replaced) is some = (_, refl)
+event-to layout by n (ask.Replace loss fence) (answer.Replace replace.NotLost) is some = (_, refl)
+event-to layout by n (ask.Replace loss fence) (answer.Replace (replace.OtherLoss now)) is some = (_, refl)
+event-to layout by n (ask.Replace loss fence) (answer.Replace replace.NoMemory) is some = absurd (some refl)
+event-to layout by n (ask.Replace loss fence) (answer.Replace replace.DiskFault) is some = (_, refl)
+event-to layout by n (ask.Refill fence head) (answer.Refill a) is some = (_, refl)
+event-to layout by n ask.Stop a is some = absurd is
+event-to layout by n ask.Start a is some = absurd is
+event-to layout by n ask.Lose a is some = absurd is
+event-to layout by n question a is some = absurd is
+
+pub event-of : (m : Machine) (by : Actor) (n : ℕ) (question : NodeAsk) (a : NodeAnswer) → ask_of m.layout m.work ≡ AskNode n question → IsAnswer m.layout (ask_of m.layout m.work) a → a ≢ answer.Replace replace.NoMemory
+    → (x : Event) × (node_event by n question a ≡ Some x)
+event-of m by n question a asked is some = event-to m.layout by n question a (subst (λ (k : Ask). IsAnswer m.layout k a) asked is) some
+
+-- ---- what a caller must have done
+
+pub may-ask : (v : Volume) → IsAskingLaw v → IsHandingLaw v → (h : List Event) (by : Actor) (number : ℕ) (m : Machine) (n : ℕ) (question : NodeAsk) (bins : List ℕ) → IsActing v h by number m
+    → ask_of m.layout m.work ≡ AskNode n question → (HasBinsFor question → AreBinsFor m question bins) → MayAsk v h by n question bins
+may-ask v asks handing h by number m n question bins acts asked have = record {
+  proper = (asks h by number m (AskNode n question) acts asked).0;
+  hands = handing (facts h) (of_actor by h) (of_actor by h) by m n question bins acts.true_to asked have;
+}
+
+-- an operation whose message goes through the link is open
+pub is-open : (v : Volume) → IsAskingLaw v → (h : List Event) (by : Actor) (number : ℕ) (m : Machine) (n : ℕ) (question : NodeAsk) → IsActing v h by number m → ask_of m.layout m.work ≡ AskNode n question
+    → goes_by_link question ≡ true → IsOpen (of_actor by h)
+is-open v asks h by number m n question acts asked link = (asks h by number m (AskNode n question) acts asked).3 link
+
+-- what a node has no bins for
+pub no-bins : (question : NodeAsk) → (HasBinsFor question → ⊥) → (m : Machine) (bins : List ℕ) → HasBinsFor question → AreBinsFor m question bins
+no-bins question none m bins has = absurd (none has)
+
+-- ---- nodes of the volume
+
+stands-more : (n : ℕ) (xs ys : List NodeSpec) → Stands n (map (λ (s : NodeSpec). s.sid) ys) → Stands n (map (λ (s : NodeSpec). s.sid) (xs ++ ys))
+stands-more n [] ys is = is
+stands-more n (x ∷ xs) ys is = inr (stands-more n xs ys is)
+
+stands-less : (n : ℕ) (xs ys : List NodeSpec) → Stands n (map (λ (s : NodeSpec). s.sid) xs) → Stands n (map (λ (s : NodeSpec). s.sid) (xs ++ ys))
+stands-less n [] ys is = absurd is
+stands-less n (x ∷ xs) ys (inl same) = inl same
+stands-less n (x ∷ xs) ys (inr is) = inr (stands-less n xs ys is)
+
+-- a node of a cluster is one of the volume
+pub stands-in : (n : ℕ) (cs : List Cluster) (c : Cluster) (i : ℕ) → i < length cs → c ≡ get_or cs i c → Stands n (map (λ (s : NodeSpec). s.sid) c.nodes) → Stands n (map (λ (s : NodeSpec). s.sid) (nodes_of cs))
+stands-in n [] c i low is there = absurd (omega (arith, low))
+stands-in n (d ∷ cs) c zero low is there = stands-less n d.nodes (nodes_of cs) (subst (λ (e : Cluster). Stands n (map (λ (s : NodeSpec). s.sid) e.nodes)) is there)
+stands-in n (d ∷ cs) c (suc i) low is there = stands-more n d.nodes (nodes_of cs) (stands-in n cs c i (omega (arith, low)) is there)
