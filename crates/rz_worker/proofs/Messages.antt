@@ -1,9 +1,8 @@
 -- Messages to nodes.
-use Rattle.std.proofs.Common.{◌≡◌, ◌≢◌, ℕ, zero, suc, get_or, ◌+◌, ◌<◌, ◌≤◌, true, false, List, [], ◌∷◌, ◌++◌, length, map, Option, Some, None, refl, sym, ◌∙◌, ap, subst, inl, inr, arith}
+use Rattle.std.proofs.Common.{◌≡◌, ◌≢◌, ℕ, ◌+◌, ◌<◌, ◌≤◌, true, false, List, [], ◌∷◌, ◌++◌, length, map, Option, Some, None, refl, sym, ◌∙◌, ap, subst, inl, inr, arith}
 use Rattle.mj_angles.specs.declared.layout.Layout.{Layout}
 use Rattle.mj_angles.specs.Layout.{safe_of, bins_at_of}
-use Rattle.rz_events.specs.Volume.{Volume, Cluster, nodes_of}
-use Rattle.rz_events.specs.declared.files.NodeSpec.{NodeSpec}
+use Rattle.rz_events.specs.Volume.{Volume}
 use Rattle.rz_events.specs.declared.keys.Actor.{Actor}
 use Rattle.rz_events.specs.declared.nodes.NodeAsk.{NodeAsk}
 use Rattle.rz_events.specs.declared.nodes.NodeAsk.TheVariants as ask
@@ -14,7 +13,6 @@ use Rattle.rz_events.specs.declared.nodes.ReplaceAnswer.{ReplaceAnswer}
 use Rattle.rz_events.specs.declared.nodes.ReplaceAnswer.TheVariants as replace
 use Rattle.rz_events.specs.declared.events.Event.{Event}
 use Rattle.rz_node_model.specs.NodeEvents.{node_event}
-use Rattle.rz_node_model.specs.Versions.{Stands}
 use Rattle.rz_operation.specs.Answers.{MayMiss, ComeWith, HasBinsTo, IsLossy, IsAnswer, IsAnswerTo}
 use Rattle.rz_operation.specs.Machine.{Machine, HasBinsFor, AreBinsFor}
 use Rattle.rz_operation_model.specs.Ask.{Ask, AskNode, ask_of}
@@ -22,6 +20,8 @@ use Rattle.rz_operation_model.specs.Turns.{goes_by_link}
 use Rattle.rz_core.specs.History.{facts, of_actor}
 use Rattle.rz_core.specs.NodeRows.{IsNodeOf}
 use Rattle.rz_core.specs.Own.{IsOpen}
+use Rattle.rz_script.specs.Lines.{has_node}
+use Rattle.rz_play_laws.proofs.Scripts.{node-of}
 use Rattle.rz_acting.specs.Acting.{IsActing}
 use Rattle.rz_acting.specs.Laws.{IsAskingLaw}
 use Rattle.rz_block_laws.specs.Laws.{IsHandingLaw}
@@ -102,17 +102,5 @@ no-bins question none m bins has = absurd (none has)
 
 -- ---- nodes of the volume
 
-stands-more : (n : ℕ) (xs ys : List NodeSpec) → Stands n (map (λ (s : NodeSpec). s.sid) ys) → Stands n (map (λ (s : NodeSpec). s.sid) (xs ++ ys))
-stands-more n [] ys is = is
-stands-more n (x ∷ xs) ys is = inr (stands-more n xs ys is)
-
-stands-less : (n : ℕ) (xs ys : List NodeSpec) → Stands n (map (λ (s : NodeSpec). s.sid) xs) → Stands n (map (λ (s : NodeSpec). s.sid) (xs ++ ys))
-stands-less n [] ys is = absurd is
-stands-less n (x ∷ xs) ys (inl same) = inl same
-stands-less n (x ∷ xs) ys (inr is) = inr (stands-less n xs ys is)
-
--- a node of a cluster is one of the volume
-pub stands-in : (n : ℕ) (cs : List Cluster) (c : Cluster) (i : ℕ) → i < length cs → c ≡ get_or cs i c → Stands n (map (λ (s : NodeSpec). s.sid) c.nodes) → Stands n (map (λ (s : NodeSpec). s.sid) (nodes_of cs))
-stands-in n [] c i low is there = absurd (omega (arith, low))
-stands-in n (d ∷ cs) c zero low is there = stands-less n d.nodes (nodes_of cs) (subst (λ (e : Cluster). Stands n (map (λ (s : NodeSpec). s.sid) e.nodes)) is there)
-stands-in n (d ∷ cs) c (suc i) low is there = stands-more n d.nodes (nodes_of cs) (stands-in n cs c i (omega (arith, low)) is there)
+pub node-in : (v : Volume) (n : ℕ) → n ≢ 0 → n < 65536 → has_node v n ≡ true → IsNodeOf v n
+node-in v n some low is = node-of v n (omega (arith, some), omega (arith, low), is)

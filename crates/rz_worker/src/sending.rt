@@ -1,12 +1,12 @@
 //! Messages to nodes.
-ghost use Rattle.std.specs.Prelude.{◌≡◌, ◌≢◌, ◌+◌, ◌<◌, ◌≤◌, ◌^◌, ℕ, true, false, Some, IfOk, OnOk, OnErr, IsTrue, length, map};
+ghost use Rattle.std.specs.Prelude.{◌≡◌, ◌≢◌, ◌+◌, ◌<◌, ◌≤◌, ◌^◌, ℕ, true, false, Some, IfOk, OnOk, OnErr, IsTrue, length};
 ghost use Rattle.mj_angles.specs.Layout.{max_bins_of};
-ghost use Rattle.rz_events.specs.declared.files.NodeSpec.{NodeSpec as ANodeSpec};
 ghost use Rattle.rz_events.specs.declared.nodes.NodeAnswer.TheVariants as answer;
 ghost use Rattle.rz_events.specs.declared.nodes.ReplaceAnswer.TheVariants as replace;
 ghost use Rattle.rz_events.specs.declared.events.Event.TheVariants as e;
+ghost use Rattle.rz_config.specs.Described.{has_sid};
+ghost use Rattle.rz_script.specs.Lines.{has_node};
 ghost use Rattle.rz_calls.specs.Calls.{IsRecord};
-ghost use Rattle.rz_node_model.specs.Versions.{Stands};
 ghost use Rattle.rz_operation_model.specs.Ask.{ask_of, AskNode};
 ghost use Rattle.rz_operation_model.specs.Turns.{goes_by_link};
 ghost use Rattle.rz_core.specs.History.{of_actor};
@@ -61,28 +61,19 @@ pub fn fate<L: Link>(ask: &NodeAsk, node: u16, link: &mut L) -> Sent
 
 /// Whether one of these nodes has this number.
 fn is_among(nodes: &[NodeSpec], number: u16) -> bool
-    ensures { IsTrue result → Stands number (map (λ (n : ANodeSpec). n.sid) nodes.now) }
+    ensures { result ≡ has_sid number nodes.now }
 {
-    for node in nodes {
-        if node.sid == number {
-            return true;
-        }
-    }
-    false
+    nodes.iter().any(|node| node.sid == number)
 }
 
 /// Whether a node of the volume has this number.
 fn is_in(volume: &Volume, number: u16) -> bool
-    ensures { IsTrue result → IsNodeOf volume.now number }
+    ensures { result ≡ has_node volume.now number }
 {
     let clusters = volume.clusters.as_slice();
-    for i in 0..clusters.len() {
-        let cluster = &clusters[i];
-        if is_among(cluster.nodes.as_slice(), number) {
-            return true;
-        }
-    }
-    false
+    clusters
+        .iter()
+        .any(|cluster| is_among(cluster.nodes.as_slice(), number))
 }
 
 /// Whether a head and so many bins are those of a record of this layout.
@@ -300,7 +291,7 @@ pub(crate) fn message<R: Wait, D: Disk, J: Counting, L: Link>(
     ensures cut { OnErr result ((number : ℕ) → IsCutOff pass.old.actor number pass.old.log pass.new.log machine.old) }
 {
     let _fit = pass.actor();
-    if !is_in(&store.volume, node) {
+    if node == 0 || !is_in(&store.volume, node) {
         return Err(NoMemory);
     }
     match fate(&ask, node, link) {
