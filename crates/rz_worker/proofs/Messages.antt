@@ -3,6 +3,8 @@ use Rattle.std.proofs.Common.{◌≡◌, ◌≢◌, ℕ, ◌+◌, ◌<◌, ◌�
 use Rattle.mj_angles.specs.declared.layout.Layout.{Layout}
 use Rattle.mj_angles.specs.Layout.{safe_of, bins_at_of}
 use Rattle.rz_events.specs.Volume.{Volume}
+use Rattle.rz_link.specs.declared.Sent.{Sent}
+use Rattle.rz_link.specs.declared.Sent.TheVariants as sent
 use Rattle.rz_events.specs.declared.keys.Actor.{Actor}
 use Rattle.rz_events.specs.declared.nodes.NodeAsk.{NodeAsk}
 use Rattle.rz_events.specs.declared.nodes.NodeAsk.TheVariants as ask
@@ -17,7 +19,7 @@ use Rattle.rz_operation.specs.Answers.{MayMiss, ComeWith, HasBinsTo, IsLossy, Is
 use Rattle.rz_operation.specs.Machine.{Machine, HasBinsFor, AreBinsFor}
 use Rattle.rz_operation_model.specs.Ask.{Ask, AskNode, ask_of}
 use Rattle.rz_operation_model.specs.Turns.{goes_by_link}
-use Rattle.rz_core.specs.History.{facts, of_actor}
+use Rattle.rz_core.specs.History.{Facts, facts, of_actor}
 use Rattle.rz_core.specs.NodeRows.{IsNodeOf}
 use Rattle.rz_core.specs.Own.{IsOpen}
 use Rattle.rz_script.specs.Lines.{has_node}
@@ -25,7 +27,7 @@ use Rattle.rz_play_laws.proofs.Scripts.{node-of}
 use Rattle.rz_acting.specs.Acting.{IsActing}
 use Rattle.rz_acting.specs.Laws.{IsAskingLaw}
 use Rattle.rz_block_laws.specs.Laws.{IsHandingLaw}
-use Rattle.rz_locked.specs.Seats.{MayAsk}
+use Rattle.rz_locked.specs.Seats.{MayAsk, IsRead}
 use Rattle.rz_worker.specs.Asking.{IsPlaced}
 
 -- ---- what may be lost
@@ -96,11 +98,39 @@ pub is-open : (v : Volume) → IsAskingLaw v → (h : List Event) (by : Actor) (
     → goes_by_link question ≡ true → IsOpen (of_actor by h)
 is-open v asks h by number m n question acts asked link = (asks h by number m (AskNode n question) acts asked).3 link
 
--- what a node has no bins for
-pub no-bins : (question : NodeAsk) → (HasBinsFor question → ⊥) → (m : Machine) (bins : List ℕ) → HasBinsFor question → AreBinsFor m question bins
-no-bins question none m bins has = absurd (none has)
-
 -- ---- nodes of the volume
 
 pub node-in : (v : Volume) (n : ℕ) → n ≢ 0 → n < 65536 → has_node v n ≡ true → IsNodeOf v n
 node-in v n some low is = node-of v n (omega (arith, some), omega (arith, low), is)
+
+-- ---- bins that are handed to a node
+
+-- what a node is not to keep comes without bins
+abbrev pub IsBinless : NodeAsk → Type 0
+IsBinless (ask.Keep head) = ⊥
+IsBinless (ask.Refill fence head) = ⊥
+IsBinless question = Unit {0}
+
+pub no-bins : (question : NodeAsk) → IsBinless question → HasBinsFor question → ⊥
+no-bins (ask.Keep head) binless has = binless
+no-bins (ask.Refill fence head) binless has = binless
+no-bins (_) binless has = has
+
+-- what it is to keep comes with them, and no record is read
+abbrev pub IsBinful : NodeAsk → Type 0
+IsBinful (ask.Keep head) = Unit {0}
+IsBinful (ask.Refill fence head) = Unit {0}
+IsBinful question = ⊥
+
+pub no-read : (v : Volume) (f : Facts) (n : ℕ) (question : NodeAsk) (given : NodeAnswer) (bins bins' : List ℕ) → IsBinful question → IsRead v f n question given bins bins'
+no-read v f n (ask.Keep head) given bins bins' is = tt
+no-read v f n (ask.Refill fence head) given bins bins' is = tt
+no-read v f n (_) given bins bins' is = absurd is
+
+-- ---- what is lost does not come through
+
+pub not-through-replylost : (s : Sent) → s ≡ sent.ReplyLost → s ≢ sent.Through
+not-through-replylost s is = λ same. (let both : sent.ReplyLost ≡ sent.Through = sym is ∙ same in cc)
+
+pub not-through-requestlost : (s : Sent) → s ≡ sent.RequestLost → s ≢ sent.Through
+not-through-requestlost s is = λ same. (let both : sent.RequestLost ≡ sent.Through = sym is ∙ same in cc)

@@ -127,8 +127,9 @@ pub(crate) fn open_locked<R: Wait, D: Disk, J: Counting>(
 {
     rz_acting::goes();
     let by = pass.actor();
-    let (call, wish) = next_open(alloc, machine)?;
+    let opening = next_open(alloc, machine)?;
     shown.reserve(1)?;
+    let (call, wish) = opening;
     let reply = call_export(rt, store, pass, &call);
     let takes = machine.takes_locked(&reply);
     show_open(by, call, &reply, shown);

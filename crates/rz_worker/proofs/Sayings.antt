@@ -1,13 +1,14 @@
 -- Words of an actor's own that come next.
-use Rattle.std.proofs.Common.{◌≡◌, ℕ, ◌+◌, ◌-◌, ◌<◌, ◌≤◌, ◌^◌, false, List, [], length, refl, sym, ◌∙◌, ap, subst, arith}
+use Rattle.std.proofs.Common.{◌≡◌, ℕ, ◌+◌, ◌-◌, ◌<◌, ◌≤◌, ◌^◌, false, List, [], ◌∷◌, length, refl, sym, ◌∙◌, ap, subst, arith}
 use Rattle.rz_events.specs.Volume.{Volume}
 use Rattle.rz_events.specs.declared.keys.Actor.{Actor}
 use Rattle.rz_events.specs.declared.events.Word.{Word}
 use Rattle.rz_events.specs.declared.events.Word.TheVariants.{Own}
 use Rattle.rz_events.specs.declared.events.Event.{Event}
 use Rattle.rz_events.specs.Events.{by_of, word_of}
-use Rattle.rz_operation_model.specs.Ask.{Say, Saying, SayGot, SayGave, SayLeft, SayDone, ask_of}
-use Rattle.rz_operation_model.specs.Turns.{said_event}
+use Rattle.rz_operation_model.specs.Steps.{Noted}
+use Rattle.rz_operation_model.specs.Ask.{Ask, Say, Saying, SayGot, SayGave, SayLeft, SayDone, ask_of}
+use Rattle.rz_operation_model.specs.Turns.{said_event, IsStep}
 use Rattle.rz_operation.specs.Machine.{Machine, text_of}
 use Rattle.rz_core.specs.History.{Facts, facts, of_word, of_actor}
 use Rattle.rz_core.specs.Legal.{Row, Allowed, HasWord, IsAllowed}
@@ -70,3 +71,10 @@ module _ (kind : List ℕ) (p : PassView) (number : ℕ) (m m' : Machine) (x : E
       let is : x ≡ said_event p.actor number (text_said f said.saying) said.saying = said.event ∙ ap (λ (t : List ℕ). said_event p.actor number t said.saying) text in
       own-may counted v p.log p.actor x its-by its-word room
       (subst (λ (y : Event). Row v f (of_word (Own p.actor) p.log) o o y) (sym is) (said-row v f o (of_word (Own p.actor) p.log) o p.actor number (text_said f said.saying) said.saying proper))
+
+  pub say-step : IsStep p.actor number (ask_of m.layout m.work) (Noted (text_of m)) (x ∷ [])
+  say-step = subst (λ (a : Ask). IsStep p.actor number a (Noted (text_of m)) (x ∷ [])) (sym said.asks) (text_of m, refl, ap (λ (y : Event). y ∷ []) said.event)
+
+-- the actor of a pass says it
+pub at-actor : (a by : Actor) (number : ℕ) (m m' : Machine) (x : Event) → a ≡ by → IsSaid a number m m' x → IsSaid by number m m' x
+at-actor a by number m m' x is said = subst (λ (b : Actor). IsSaid b number m m' x) is said
