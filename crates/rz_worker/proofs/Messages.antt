@@ -1,7 +1,7 @@
 -- Messages to nodes.
-use Rattle.std.proofs.Common.{◌≡◌, ◌≢◌, ℕ, ◌+◌, ◌<◌, ◌≤◌, true, false, List, [], ◌∷◌, ◌++◌, length, map, Option, Some, None, refl, sym, ◌∙◌, ap, subst, inl, inr, arith}
+use Rattle.std.proofs.Common.{◌≡◌, ◌≢◌, ℕ, ◌+◌, ◌<◌, ◌≤◌, Bool, true, false, List, [], ◌∷◌, ◌++◌, length, map, Option, Some, None, refl, sym, ◌∙◌, ap, subst, inl, inr, arith}
 use Rattle.mj_angles.specs.declared.layout.Layout.{Layout}
-use Rattle.mj_angles.specs.Layout.{safe_of, bins_at_of}
+use Rattle.mj_angles.specs.Layout.{safe_of, bins_at_of, max_bins_of}
 use Rattle.rz_events.specs.Volume.{Volume}
 use Rattle.rz_link.specs.declared.Sent.{Sent}
 use Rattle.rz_link.specs.declared.Sent.TheVariants as sent
@@ -20,14 +20,15 @@ use Rattle.rz_operation.specs.Machine.{Machine, HasBinsFor, AreBinsFor}
 use Rattle.rz_operation_model.specs.Ask.{Ask, AskNode, ask_of}
 use Rattle.rz_operation_model.specs.Turns.{goes_by_link}
 use Rattle.rz_core.specs.History.{Facts, facts, of_actor}
-use Rattle.rz_core.specs.NodeRows.{IsNodeOf}
 use Rattle.rz_core.specs.Own.{IsOpen}
-use Rattle.rz_script.specs.Lines.{has_node}
-use Rattle.rz_play_laws.proofs.Scripts.{node-of}
 use Rattle.rz_acting.specs.Acting.{IsActing}
 use Rattle.rz_acting.specs.Laws.{IsAskingLaw}
 use Rattle.rz_block_laws.specs.Laws.{IsHandingLaw}
 use Rattle.rz_locked.specs.Seats.{MayAsk, IsRead}
+use Rattle.rz_play.specs.Lines.{noted}
+use Rattle.rz_play_laws.specs.Own.{IsOfActor}
+use Rattle.rz_play_laws.proofs.Events.{node-event}
+use Rattle.rz_worker.specs.Adding.{AddsOwn}
 use Rattle.rz_worker.specs.Asking.{IsPlaced}
 
 -- ---- what may be lost
@@ -98,11 +99,6 @@ pub is-open : (v : Volume) → IsAskingLaw v → (h : List Event) (by : Actor) (
     → goes_by_link question ≡ true → IsOpen (of_actor by h)
 is-open v asks h by number m n question acts asked link = (asks h by number m (AskNode n question) acts asked).3 link
 
--- ---- nodes of the volume
-
-pub node-in : (v : Volume) (n : ℕ) → n ≢ 0 → n < 65536 → has_node v n ≡ true → IsNodeOf v n
-node-in v n some low is = node-of v n (omega (arith, some), omega (arith, low), is)
-
 -- ---- bins that are handed to a node
 
 -- what a node is not to keep comes without bins
@@ -134,3 +130,19 @@ not-through-replylost s is = λ same. (let both : sent.ReplyLost ≡ sent.Throug
 
 pub not-through-requestlost : (s : Sent) → s ≡ sent.RequestLost → s ≢ sent.Through
 not-through-requestlost s is = λ same. (let both : sent.RequestLost ≡ sent.Through = sym is ∙ same in cc)
+
+-- room for the most bins is room for those of any position
+pub fetch-room : (a b : Layout) (most n k : ℕ) → a ≡ b → most ≡ max_bins_of a → ((position : ℕ) → position < safe_of a → bins_at_of a position ≤ most) → max_bins_of b ≤ n → k ≡ n
+    → (position : ℕ) → position < safe_of b → bins_at_of b position ≤ k
+fetch-room a b most n k same is each room many position low =
+    let at_most : bins_at_of b position ≤ most = subst (λ (y : Layout). (p : ℕ) → p < safe_of y → bins_at_of y p ≤ most) same each position low in
+    let top : most ≡ max_bins_of b = is ∙ ap max_bins_of same in
+    omega (arith, at_most, top, room, many)
+
+-- ---- after the answer of a node the operation is open
+
+pub open-after : (v : Volume) (honest : Bool) (by a : Actor) (n : ℕ) (question : NodeAsk) (given : NodeAnswer) (old new : List Event) → a ≡ by → IsOfActor question → ((x : Event) × (node_event by n question given ≡ Some x))
+    → AddsOwn v honest by old (node_event by n question given) new → IsOpen (of_actor a new)
+open-after v honest by a n question given old new a_is of (x, is) adds =
+    subst (λ (k : Actor). IsOpen (of_actor k new)) (sym a_is)
+    (subst IsOpen (sym (adds.own ∙ ap (λ (o : Option Event). noted o (of_actor by old)) is)) (node-event by n question given x of is).going)

@@ -1,5 +1,5 @@
 -- A worker takes up its next operation.
-use Rattle.std.proofs.Common.{◌≡◌, ℕ, ◌+◌, Bool, true, false, not, IsTrue, List, [], ◌∷◌, Option, Some, None, refl, sym, ◌∙◌, ap, subst}
+use Rattle.std.proofs.Common.{◌≡◌, ℕ, ◌+◌, Bool, true, false, not, IsTrue, List, [], ◌∷◌, length, drop, Option, Some, None, refl, sym, ◌∙◌, ap, subst, arith}
 use Rattle.std.specs.List.{AllByRecursion}
 use Rattle.mj_angles.specs.declared.layout.Layout.{Layout}
 use Rattle.rz_events.specs.Volume.{Volume}
@@ -71,7 +71,9 @@ next-work s op ops number work over todo num is =
 -- the seat is that of an actor at work
 pub taken-up : (layout : Layout) (a b : Seat) → TakesUp layout a b → seat_of b ≡ at_work (seat_of a)
 taken-up layout a b (Works busy same) = ap seat_of same ∙ sym (same-work (seat_of a) (work_in a.machine) a.todo.items busy)
-taken-up layout a b (Rests none same) = ap seat_of same ∙ sym (ap (take_up (seat_of a) (work_in a.machine)) none ∙ no-work (seat_of a) (work_in a.machine))
+taken-up layout a b (Rests none still number hand) =
+    (λ i. record { todo = (still ∙ sym none) i; number = number i; work = work_in (hand i); lock = None; miss = None })
+    ∙ sym (ap (take_up (seat_of a) (work_in a.machine)) none ∙ no-work (seat_of a) (work_in a.machine))
 taken-up layout a b (Begins op m over todo number is lay work) =
     next-work (seat_of a) op b.todo.items b.number (work_in b.machine) over todo number (ap work_in is ∙ work)
 
@@ -82,6 +84,13 @@ negated false is = absurd (cc)
 pub negated-too : (b : Bool) → true ≡ not b → b ≡ false
 negated-too true is = absurd (cc)
 negated-too false is = refl
+
+-- a row of which nothing came is empty
+pub none-left : (old new : List Operation) → old ≡ new → new ≡ drop 1 old → old ≡ []
+none-left [] new same rest = refl
+none-left (op ∷ ops) new same rest =
+    let short : length (op ∷ ops) ≡ length ops = ap length (same ∙ rest) in
+    absurd (omega (arith, short))
 
 -- ---- the operations are such as machines take
 
@@ -115,7 +124,14 @@ module _ (kind : List ℕ) (pass : PassView) (a b : Seat) (bins : List ℕ) (sho
 
   pub ready-on : IsBeginningLaw v → (layout : Layout) → layout ≡ v.layout → TakesUp layout a b → IsReady kind pass b bins shown
   ready-on begins layout is (Works busy same) = subst (λ (s : Seat). IsReady kind pass s bins shown) (sym same) ready
-  ready-on begins layout is (Rests none same) = subst (λ (s : Seat). IsReady kind pass s bins shown) (sym same) ready
+  ready-on begins layout is (Rests none still number hand) = record {
+    actor = ready.actor;
+    todo = subst (AllByRecursion (IsOperation v pass.actor)) (sym still) tt;
+    machine = subst (HasLayout v.layout) (sym hand) ready.machine;
+    at_hand = λ honest. subst (λ (n : ℕ). IsAtHand v pass.log pass.actor n b.machine) (sym number) (subst (IsAtHand v pass.log pass.actor a.number) (sym hand) (ready.at_hand honest));
+    room = ready.room;
+    shows = ready.shows;
+  }
   ready-on begins layout is (Begins op m over todo number some lay work) = begins-ready begins op m over todo some (lay ∙ is) work
 
   -- the machine in hand

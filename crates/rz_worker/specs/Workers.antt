@@ -52,7 +52,7 @@ pub record IsReady (kind : List ℕ) (pass : PassView) (seat : Seat) (bins : Lis
 -- An operation in hand stays there. Where none is in hand the next one begins, or nothing is left to do.
 pub data TakesUp (layout : Layout) (a b : Seat) : Type 0 where
   Works : is_over (work_in a.machine) ≡ false → b ≡ a → TakesUp layout a b
-  Rests : a.todo.items ≡ [] → b ≡ a → TakesUp layout a b
+  Rests : a.todo.items ≡ [] → b.todo.items ≡ [] → b.number ≡ a.number → b.machine ≡ a.machine → TakesUp layout a b
   Begins : (op : Operation) (m : Machine) → is_over (work_in a.machine) ≡ true → a.todo.items ≡ op ∷ b.todo.items → b.number ≡ a.number + 1
       → b.machine ≡ Some m → m.layout ≡ layout → m.work ≡ begun op → TakesUp layout a b
 

@@ -170,7 +170,7 @@ fn through<R: Wait, D: Disk, J: Counting>(
     ensures cut { OnErr result ((number : ℕ) → IsCutOff pass.old.actor number pass.old.log pass.new.log machine.old) }
 {
     rz_acting::hears();
-    let layout = store.volume.layout;
+    let layout = store.layout();
     let _most = layout.max_bins();
     let _fit = pass.actor();
     if !machine.has_room() || !is_placed(layout, ask) {

@@ -38,7 +38,8 @@ fn take_turn<R: Wait, D: Disk, J: Counting, L: Link>(
 {
     rz_acting::begins();
     let _fit = worker.pass.actor();
-    worker.seat.take_up(alloc, store.volume.layout)?;
+    let layout = store.layout();
+    worker.seat.take_up(alloc, layout)?;
     let number = worker.seat.number;
     let Some(machine) = &mut worker.seat.machine else {
         return Err(NoMemory);

@@ -88,3 +88,54 @@ returns-in-Say-clause-acted g c = c.say.ensures.acted
 
 pub returns-in-Say-clause-cut : goal.returns-in-Say-clause-cut
 returns-in-Say-clause-cut g c = c.say.ensures.cut
+
+pub ask_export-requires-clause-volume : goal.ask_export-requires-clause-volume
+ask_export-requires-clause-volume g c = c.requires.volume
+
+pub ask_export-requires-clause-actor : goal.ask_export-requires-clause-actor
+ask_export-requires-clause-actor g c = c.requires.actor
+
+pub ask_export-requires-clause-right : goal.ask_export-requires-clause-right
+ask_export-requires-clause-right g c = (c.args.number, c.requires.right)
+
+pub ask_export-requires-clause-shows : goal.ask_export-requires-clause-shows
+ask_export-requires-clause-shows g c = c.requires.shows
+
+pub open_locked-requires-clause-volume : goal.open_locked-requires-clause-volume
+open_locked-requires-clause-volume g c = c.requires.volume
+
+pub open_locked-requires-clause-actor : goal.open_locked-requires-clause-actor
+open_locked-requires-clause-actor g c = c.requires.actor
+
+pub open_locked-requires-clause-shows : goal.open_locked-requires-clause-shows
+open_locked-requires-clause-shows g c = c.requires.shows
+
+pub message-requires-clause-volume : goal.message-requires-clause-volume
+message-requires-clause-volume g c = c.requires.volume
+
+pub message-requires-clause-actor : goal.message-requires-clause-actor
+message-requires-clause-actor g c = c.requires.actor
+
+pub message-requires-clause-right : goal.message-requires-clause-right
+message-requires-clause-right g c = (c.args.number, c.requires.right)
+
+pub say-requires-clause-volume : goal.say-requires-clause-volume
+say-requires-clause-volume g c = c.requires.volume
+
+pub say-requires-clause-actor : goal.say-requires-clause-actor
+say-requires-clause-actor g c = c.requires.actor
+
+pub say-requires-clause-right : goal.say-requires-clause-right
+say-requires-clause-right g c = c.requires.right
+
+pub say-requires-clause-shows : goal.say-requires-clause-shows
+say-requires-clause-shows g c = c.requires.shows
+
+pub message-requires-clause-layout : goal.message-requires-clause-layout
+message-requires-clause-layout g c = c.requires.layout
+
+pub message-requires-clause-asked : goal.message-requires-clause-asked
+message-requires-clause-asked g c = c.in-Node.ensures
+
+pub message-requires-clause-room : goal.message-requires-clause-room
+message-requires-clause-room g c = c.requires.room

@@ -4,9 +4,10 @@ use Rattle.rz_link.specs.declared.Sent.{Sent}
 use Rattle.rz_link.specs.declared.Sent.TheVariants as sent
 use Rattle.rz_script.specs.Lines.{has_node}
 use Rattle.rz_core.specs.History.{of_actor}
+use Rattle.rz_play_laws.proofs.Scripts.{node-of}
 use Rattle.rz_chronicle.specs.Kinds.{volume_in}
 use Rattle.rz_worker.proofs.Acts.{still-lasts, still-cut, still-lost}
-use Rattle.rz_worker.proofs.Messages.{node-in, not-through-replylost, not-through-requestlost}
+use Rattle.rz_worker.proofs.Messages.{not-through-replylost, not-through-requestlost}
 use Rattle.rz_worker.proofs.sending.message.Goals as goal
 
 pub returns-in-Through-clause-lasts : goal.returns-in-Through-clause-lasts
@@ -59,3 +60,11 @@ returns-in-RequestLost-clause-cut g c = c.without_request.ensures.cut
 
 pub without_request-requires-clause-lossy : goal.without_request-requires-clause-lossy
 without_request-requires-clause-lossy g c = c.fate.ensures.by_link (not-through-requestlost c.fate.result c.in-RequestLost.is)
+
+pub through-requires-clause-node : goal.through-requires-clause-node
+through-requires-clause-node g c =
+    node-of (volume_in g.J.Naming.kind) c.args.node (omega arith, omega arith, subst (λ (v : Volume). has_node v c.args.node ≡ true) c.requires.volume (sym c.is_in.ensures ∙ c.if-not-is_in.false))
+
+pub without_reply-requires-clause-node : goal.without_reply-requires-clause-node
+without_reply-requires-clause-node g c =
+    node-of (volume_in g.J.Naming.kind) c.args.node (omega arith, omega arith, subst (λ (v : Volume). has_node v c.args.node ≡ true) c.requires.volume (sym c.is_in.ensures ∙ c.if-not-is_in.false))

@@ -21,8 +21,8 @@ call_node-requires-clause-may g c =
     let p = c.args.pass.now in
     λ honest. may-ask (volume_in g.J.Naming.kind) (c.asks.ensures (volume_in g.J.Naming.kind)) (c.handing.ensures (volume_in g.J.Naming.kind)) p.log p.actor c.requires.right.0 c.args.machine.now c.args.node c.args.ask.now _ (c.requires.right.1 honest) c.requires.asked (λ has. absurd (no-bins c.args.ask.now binless has))
 
-pub call_node-in-Keep-requires-clause-may : goal.call_node-in-Keep-requires-clause-may
-call_node-in-Keep-requires-clause-may g c =
+pub call_node-requires-in-Keep-clause-may : goal.call_node-requires-in-Keep-clause-may
+call_node-requires-in-Keep-clause-may g c =
     let p = c.args.pass.now in
     λ honest. rw c.copy_from_slice.ensures.after (may-ask (volume_in g.J.Naming.kind) (c.asks.ensures (volume_in g.J.Naming.kind)) (c.handing.ensures (volume_in g.J.Naming.kind)) p.log p.actor c.requires.right.0 c.args.machine.now c.args.node c.args.ask.now c.bins-given.result.now (c.requires.right.1 honest) c.requires.asked
     (λ has. subst (λ (a : Ask). AreBins c.args.machine.now a c.bins-given.result.now) c.requires.asked c.bins-given.ensures.bins))

@@ -1,6 +1,7 @@
-use Rattle.std.proofs.Common.{◌≡◌, ◌≢◌, ◌∙◌, ◌++◌, ◌+◌, ◌<◌, ◌≤◌, ℕ, true, List, Some, refl, sym, ap, subst, arith, rules}
+use Rattle.std.proofs.Common.{◌≡◌, ◌≢◌, ◌∙◌, ◌++◌, ◌+◌, ◌<◌, ◌≤◌, ℕ, true, List, length, Some, refl, sym, ap, subst, arith, rules}
 use Rattle.std.specs.Prelude.{IsTrue}
 use Rattle.mj_angles.specs.declared.layout.Layout.{Layout}
+use Rattle.mj_angles.specs.Layout.{max_bins_of}
 use Rattle.rz_events.specs.Volume.{Volume}
 use Rattle.rz_events.specs.declared.keys.Actor.{Actor}
 use Rattle.rz_events.specs.declared.events.Event.{Event}
@@ -12,6 +13,7 @@ use Rattle.rz_operation.specs.Machine.{AreBins}
 use Rattle.rz_core.specs.History.{facts, of_actor}
 use Rattle.rz_chronicle.specs.Kinds.{is_honest, volume_in}
 use Rattle.rz_worker.specs.Acted.{Lasts}
+use Rattle.rz_worker.specs.Asking.{IsPlaced}
 use Rattle.rz_chronicle.specs.Rules.{PassView}
 use Rattle.rz_play.specs.Faults.{missed}
 use Rattle.rz_worker.specs.Shown.{shown_of}
@@ -19,7 +21,7 @@ use Rattle.rz_worker.specs.Turned.{IsCutOff}
 use Rattle.rz_worker.proofs.Added.{lost-count}
 use Rattle.rz_worker.proofs.Shows.{unshown-of}
 use Rattle.rz_worker.proofs.Acts.{still-lasts, still-cut, on-err, lasts-on, cut-by, node-step, heard-of, missed-reply, missed-request}
-use Rattle.rz_worker.proofs.Messages.{come-with, event-of, may-miss, is-open}
+use Rattle.rz_worker.proofs.Messages.{come-with, event-of, fetch-room}
 use Rattle.rz_worker.proofs.sending.through.Goals as goal
 
 pub returns-then-not-has_room-clause-lasts : goal.returns-then-not-has_room-clause-lasts
@@ -74,3 +76,12 @@ returns-clause-acted g c =
     λ number right. heard-of g.J.Naming.kind number c.args.pass.now c.serve.new.pass c.args.machine.now c.tell_answer.new.self c.in_ok-answer.ensures.served.lasts (c.hears.ensures (volume_in g.J.Naming.kind)) c.args.node c.args.ask.now c.in_ok-answer.answer c.args.bins.now c.serve.new.bins c.requires.asked
     (event-of c.args.machine.now c.args.pass.now.actor c.args.node c.args.ask.now c.in_ok-answer.answer c.requires.asked (c.takes_answer.ensures c.if-not-takes_answer.false) (c.wants_memory.ensures c.if-wants_memory.false))
     c.in_ok-answer.ensures.served.adds c.in_ok-answer.ensures.served.read c.tell_answer.ensures right
+
+pub tell_answer-requires-clause-bins : goal.tell_answer-requires-clause-bins
+tell_answer-requires-clause-bins g c =
+    let m = c.args.machine.now in
+    let same : c.layout-layout.result ≡ m.layout = c.layout-layout.ensures ∙ ap (λ (v : Volume). v.layout) c.requires.volume ∙ sym c.requires.layout in
+    come-with m.layout (ask_of m.layout m.work) c.args.node c.args.ask.now c.in_ok-answer.answer c.serve.new.bins c.requires.asked
+    (subst (λ (y : Layout). IsPlaced y c.args.ask.now) same (c.is_placed.ensures c.if-not-is_placed.false))
+    (fetch-room c.layout-layout.result m.layout c.max_bins-most.result (length c.args.bins.now) (length c.serve.new.bins) same c.max_bins-most.ensures.value c.max_bins-most.ensures.greatest
+    (subst (λ (y : Layout). max_bins_of y ≤ length c.args.bins.now) (sym c.requires.layout) c.requires.room) c.serve.auto.bins)

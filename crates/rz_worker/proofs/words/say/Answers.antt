@@ -61,20 +61,20 @@ pub returns-in_err-event-clause-cut : goal.returns-in_err-event-clause-cut
 returns-in_err-event-clause-cut g c = on-err c.from_residual-in_err-event.result (still-cut c.args.pass.now.actor c.args.pass.now.log c.args.machine.now c.args.number)
 
 pub add_own-requires-clause-word : goal.add_own-requires-clause-word
-add_own-requires-clause-word g c = its-word g.J.Naming.kind c.args.pass.now c.args.number c.args.machine.now c.said.new.machine c.in_ok-event.event (at-actor c.actor-by.result c.args.pass.now.actor c.args.number c.args.machine.now c.said.new.machine c.in_ok-event.event c.actor-by.ensures.value c.in_ok-event.ensures)
+add_own-requires-clause-word g c = its-word g.J.Naming.kind c.args.pass.now c.args.number c.args.machine.now c.said.new.machine c.in_ok-event.event (at-actor c.actor-by.result c.args.pass.now.actor c.args.number c.args.machine.now c.said.new.machine c.in_ok-event.event c.actor-by.ensures.value c.in_ok-event.ensures.said)
 
 pub add_own-requires-clause-by : goal.add_own-requires-clause-by
-add_own-requires-clause-by g c = its-by g.J.Naming.kind c.args.pass.now c.args.number c.args.machine.now c.said.new.machine c.in_ok-event.event (at-actor c.actor-by.result c.args.pass.now.actor c.args.number c.args.machine.now c.said.new.machine c.in_ok-event.event c.actor-by.ensures.value c.in_ok-event.ensures)
+add_own-requires-clause-by g c = its-by g.J.Naming.kind c.args.pass.now c.args.number c.args.machine.now c.said.new.machine c.in_ok-event.event (at-actor c.actor-by.result c.args.pass.now.actor c.args.number c.args.machine.now c.said.new.machine c.in_ok-event.event c.actor-by.ensures.value c.in_ok-event.ensures.said)
 
 pub add_own-requires-clause-legal : goal.add_own-requires-clause-legal
-add_own-requires-clause-legal g c = say-may g.J.Naming.kind c.args.pass.now c.args.number c.args.machine.now c.said.new.machine c.in_ok-event.event (at-actor c.actor-by.result c.args.pass.now.actor c.args.number c.args.machine.now c.said.new.machine c.in_ok-event.event c.actor-by.ensures.value c.in_ok-event.ensures) c.words_counted.ensures (c.asks.ensures (volume_in g.J.Naming.kind)) (c.says.ensures (volume_in g.J.Naming.kind)) c.actor-by.ensures.fit c.requires.right (c.room.ensures.0 c.if-not-room.false)
+add_own-requires-clause-legal g c = say-may g.J.Naming.kind c.args.pass.now c.args.number c.args.machine.now c.said.new.machine c.in_ok-event.event (at-actor c.actor-by.result c.args.pass.now.actor c.args.number c.args.machine.now c.said.new.machine c.in_ok-event.event c.actor-by.ensures.value c.in_ok-event.ensures.said) c.words_counted.ensures (c.asks.ensures (volume_in g.J.Naming.kind)) (c.says.ensures (volume_in g.J.Naming.kind)) c.actor-by.ensures.fit c.requires.right (c.room.ensures.0 c.if-not-room.false)
 
 pub returns-clause-lasts : goal.returns-clause-lasts
 returns-clause-lasts g c = (record { actor = c.add_own.ensures.same.0; keys = c.add_own.ensures.same.1; later = c.add_own.ensures.adds.later; fit = c.add_own.ensures.fit })
 
 pub returns-clause-quiet : goal.returns-clause-quiet
 returns-clause-quiet g c =
-    let said = (at-actor c.actor-by.result c.args.pass.now.actor c.args.number c.args.machine.now c.said.new.machine c.in_ok-event.event c.actor-by.ensures.value c.in_ok-event.ensures) in
+    let said = (at-actor c.actor-by.result c.args.pass.now.actor c.args.number c.args.machine.now c.said.new.machine c.in_ok-event.event c.actor-by.ensures.value c.in_ok-event.ensures.said) in
     ap missed c.add_own.ensures.adds.own ∙ noted-quiet (Some c.in_ok-event.event) (of_actor c.args.pass.now.actor c.args.pass.now.log) (λ x is. word-quiet c.args.pass.now.actor c.args.number (text_of c.args.machine.now) said.saying c.in_ok-event.event x said.event is)
 
 pub returns-clause-shows : goal.returns-clause-shows
@@ -82,6 +82,6 @@ returns-clause-shows g c = shows-on c.args.pass.now.actor c.args.pass.now.log c.
 
 pub returns-clause-acted : goal.returns-clause-acted
 returns-clause-acted g c =
-    let said = (at-actor c.actor-by.result c.args.pass.now.actor c.args.number c.args.machine.now c.said.new.machine c.in_ok-event.event c.actor-by.ensures.value c.in_ok-event.ensures) in
+    let said = (at-actor c.actor-by.result c.args.pass.now.actor c.args.number c.args.machine.now c.said.new.machine c.in_ok-event.event c.actor-by.ensures.value c.in_ok-event.ensures.said) in
     went g.J.Naming.kind c.args.number c.args.pass.now c.add_own.new.pass c.args.machine.now c.said.new.machine (record { actor = c.add_own.ensures.same.0; keys = c.add_own.ensures.same.1; later = c.add_own.ensures.adds.later; fit = c.add_own.ensures.fit }) (c.goes.ensures (volume_in g.J.Naming.kind)) (Noted (text_of c.args.machine.now)) (c.in_ok-event.event ∷ []) (say-step g.J.Naming.kind c.args.pass.now c.args.number c.args.machine.now c.said.new.machine c.in_ok-event.event said) tt c.add_own.ensures.adds.own
     (λ honest. (c.add_own.ensures.adds.said honest, tt)) (λ honest. tt) said.goes c.requires.right
