@@ -12,5 +12,5 @@ returns-clause-ready g c =
       machine = tt;
       at_hand = λ honest. subst (λ (o : List Event). IsBetween o) (sym c.requires.fresh) tt;
       room = c.requires.room;
-      shows = c.new.ensures ∙ sym (ap shown_of c.requires.fresh);
+      shows = c.new.ensures.items ∙ sym (ap shown_of c.requires.fresh);
     }
