@@ -1,5 +1,5 @@
 -- What an act leaves of a pass, of a turn and of an operation.
-use Rattle.std.proofs.Common.{◌≡◌, ℕ, ◌+◌, ◌-◌, ◌<◌, ◌≤◌, ◌^◌, Bool, true, false, IsTrue, List, [], ◌∷◌, ◌++◌, length, Option, Some, None, Result, Ok, Err, refl, sym, ◌∙◌, ap, subst, inl, inr, append_assoc, arith}
+use Rattle.std.proofs.Common.{◌≡◌, ℕ, Bool, true, false, IsTrue, List, [], ◌∷◌, ◌++◌, Option, Some, None, Result, Ok, Err, refl, sym, ◌∙◌, ap, subst, inl, inr, append_assoc, arith}
 use Rattle.std.specs.Prelude.{OnErr, IfSome}
 use Rattle.mj_angles.specs.declared.layout.Layout.{Layout}
 use Rattle.rz_events.specs.Volume.{Volume}
@@ -26,7 +26,7 @@ use Rattle.rz_operation_model.specs.Turns.{IsStep, Through, ReplyLost, RequestLo
 use Rattle.rz_operation.specs.Answers.{Goes, IsAnswered, IsReply, IsReplyTo, IsLockReply, IsTreeReply}
 use Rattle.rz_operation.specs.Machine.{Machine}
 use Rattle.rz_core.specs.History.{Facts, facts, of_actor}
-use Rattle.rz_core.proofs.Extends.{Extends, extends-more}
+use Rattle.rz_core.proofs.Extends.{extends-more}
 use Rattle.rz_play.specs.Faults.{missed}
 use Rattle.rz_play.specs.Lines.{noted}
 use Rattle.rz_play_laws.specs.Own.{IsToldBy, AreToldBy}
@@ -42,7 +42,7 @@ use Rattle.rz_locked.specs.Seats.{IsRead}
 use Rattle.rz_worker.specs.Acted.{Lasts, IsRight, HasActed}
 use Rattle.rz_worker.specs.Adding.{AddsOwn}
 use Rattle.rz_worker.specs.Shown.{shown_in, shown_of}
-use Rattle.rz_worker.specs.Turned.{with_fits, GoesOn, IsTurned, IsCutOff, AreLost}
+use Rattle.rz_worker.specs.Turned.{GoesOn, IsCutOff, AreLost}
 use Rattle.rz_worker.proofs.Doings.{as-told}
 use Rattle.rz_worker.proofs.Shows.{shown-noted}
 

@@ -1,5 +1,5 @@
 -- Words of an actor's own that come next.
-use Rattle.std.proofs.Common.{◌≡◌, ℕ, ◌+◌, ◌-◌, ◌<◌, ◌≤◌, ◌^◌, false, List, [], ◌∷◌, length, refl, sym, ◌∙◌, ap, subst, arith}
+use Rattle.std.proofs.Common.{◌≡◌, ℕ, ◌+◌, ◌-◌, ◌<◌, ◌≤◌, ◌^◌, List, [], ◌∷◌, length, refl, sym, ◌∙◌, ap, subst, arith}
 use Rattle.rz_events.specs.Volume.{Volume}
 use Rattle.rz_events.specs.declared.keys.Actor.{Actor}
 use Rattle.rz_events.specs.declared.events.Word.{Word}
@@ -14,7 +14,6 @@ use Rattle.rz_core.specs.History.{Facts, facts, of_word, of_actor}
 use Rattle.rz_core.specs.Legal.{Row, Allowed, HasWord, IsAllowed}
 use Rattle.rz_play.specs.Turns.{text_said}
 use Rattle.rz_play_laws.specs.Own.{IsProper}
-use Rattle.rz_acting.specs.Acting.{IsActing}
 use Rattle.rz_acting.specs.Laws.{IsAskingLaw, IsSayingLaw}
 use Rattle.rz_chronicle.specs.Keys.{count_at, word_key}
 use Rattle.rz_chronicle.specs.Kinds.{IsFit, MayCome, volume_in}

@@ -1,5 +1,5 @@
 -- A worker takes up its next operation.
-use Rattle.std.proofs.Common.{◌≡◌, ℕ, ◌+◌, Bool, true, false, not, IsTrue, List, [], ◌∷◌, length, drop, Option, Some, None, refl, sym, ◌∙◌, ap, subst, arith}
+use Rattle.std.proofs.Common.{◌≡◌, ℕ, ◌+◌, Bool, true, false, not, List, [], ◌∷◌, length, drop, Option, Some, None, refl, sym, ◌∙◌, ap, subst, arith}
 use Rattle.std.specs.List.{AllByRecursion}
 use Rattle.mj_angles.specs.declared.layout.Layout.{Layout}
 use Rattle.rz_events.specs.Volume.{Volume}
@@ -15,9 +15,8 @@ use Rattle.rz_core.specs.History.{facts, of_actor}
 use Rattle.rz_core.specs.Own.{IsBetween}
 use Rattle.rz_play.specs.World.{Seat as APlayer, take_up, at_work, is_over}
 use Rattle.rz_play_laws.specs.Own.{IsOwn}
-use Rattle.rz_acting.specs.Acting.{IsActing}
 use Rattle.rz_acting.specs.Laws.{IsBeginningLaw}
-use Rattle.rz_chronicle.specs.Kinds.{is_honest, volume_in}
+use Rattle.rz_chronicle.specs.Kinds.{volume_in}
 use Rattle.rz_chronicle.specs.Rules.{PassView}
 use Rattle.rz_worker.specs.declared.seat.Seat.{Seat}
 use Rattle.rz_worker.specs.Acted.{IsRight}

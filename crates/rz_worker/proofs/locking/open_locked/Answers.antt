@@ -1,16 +1,13 @@
-use Rattle.std.proofs.Common.{◌≡◌, ◌∙◌, ◌++◌, ℕ, true, List, refl, sym, ap, subst}
-use Rattle.std.specs.Prelude.{IsTrue}
+use Rattle.std.proofs.Common.{◌≡◌, ◌∙◌, ◌++◌, true, refl, sym, subst}
 use Rattle.rz_events.specs.declared.keys.Actor.{Actor}
 use Rattle.rz_events.specs.declared.export.Call.{Call}
-use Rattle.rz_events.specs.declared.events.Event.{Event}
 use Rattle.rz_export_model.specs.ExportEvents.{export_event}
-use Rattle.rz_operation_model.specs.Ask.{AskExport}
-use Rattle.rz_operation_model.specs.Steps.{Replied, Locked}
+use Rattle.rz_operation_model.specs.Steps.{Locked}
 use Rattle.rz_core.specs.History.{facts, of_actor}
 use Rattle.rz_core.specs.Tied.{IsProperCall}
 use Rattle.rz_chronicle.specs.Kinds.{is_honest, volume_in}
 use Rattle.rz_worker.specs.Shown.{shown_in}
-use Rattle.rz_worker.proofs.Acts.{still-lasts, still-cut, on-err, shows-on, cut-by, export-step, lock-step, exported, opened}
+use Rattle.rz_worker.proofs.Acts.{still-lasts, still-cut, on-err, shows-on, cut-by, lock-step, opened}
 use Rattle.rz_worker.proofs.locking.open_locked.Goals as goal
 
 pub returns-in_err-opening-clause-lasts : goal.returns-in_err-opening-clause-lasts

@@ -1,12 +1,8 @@
-use Rattle.std.proofs.Common.{◌≡◌, ◌≢◌, ◌∙◌, ◌+◌, ◌<◌, ◌≤◌, ℕ, true, List, refl, sym, ap, subst, arith}
+use Rattle.std.proofs.Common.{◌≡◌, ◌∙◌, true, sym, subst, arith}
 use Rattle.rz_events.specs.Volume.{Volume}
-use Rattle.rz_link.specs.declared.Sent.{Sent}
-use Rattle.rz_link.specs.declared.Sent.TheVariants as sent
 use Rattle.rz_script.specs.Lines.{has_node}
-use Rattle.rz_core.specs.History.{of_actor}
 use Rattle.rz_play_laws.proofs.Scripts.{node-of}
 use Rattle.rz_chronicle.specs.Kinds.{volume_in}
-use Rattle.rz_worker.proofs.Acts.{still-lasts, still-cut, still-lost}
 use Rattle.rz_worker.proofs.Messages.{not-through-replylost, not-through-requestlost}
 use Rattle.rz_worker.proofs.sending.message.Goals as goal
 

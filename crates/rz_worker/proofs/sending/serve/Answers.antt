@@ -1,17 +1,8 @@
-use Rattle.std.proofs.Common.{◌≡◌, ◌≢◌, ◌∙◌, ◌++◌, ◌+◌, ◌<◌, ◌≤◌, ℕ, true, List, Some, refl, sym, ap, subst, arith, rules}
-use Rattle.std.specs.Prelude.{IsTrue}
-use Rattle.mj_angles.specs.declared.layout.Layout.{Layout}
-use Rattle.rz_events.specs.Volume.{Volume}
-use Rattle.rz_events.specs.declared.keys.Actor.{Actor}
-use Rattle.rz_events.specs.declared.events.Event.{Event}
-use Rattle.rz_events.specs.declared.events.Event.TheVariants as e
-use Rattle.rz_node_model.specs.NodeEvents.{node_event}
-use Rattle.rz_operation_model.specs.Ask.{Ask, ask_of}
-use Rattle.rz_operation_model.specs.Steps.{Answered}
+use Rattle.std.proofs.Common.{subst, rules}
+use Rattle.rz_operation_model.specs.Ask.{Ask}
 use Rattle.rz_operation.specs.Machine.{AreBins}
-use Rattle.rz_core.specs.History.{facts, of_actor}
-use Rattle.rz_chronicle.specs.Kinds.{is_honest, volume_in}
-use Rattle.rz_worker.specs.Acted.{Lasts}
+use Rattle.rz_core.specs.History.{facts}
+use Rattle.rz_chronicle.specs.Kinds.{volume_in}
 use Rattle.rz_worker.proofs.Messages.{IsBinless, IsBinful, may-ask, no-bins, no-read}
 use Rattle.rz_worker.proofs.sending.serve.Goals as goal
 

@@ -1,16 +1,11 @@
-use Rattle.std.proofs.Common.{◌≡◌, ◌≢◌, ◌∙◌, ◌++◌, ◌+◌, ◌<◌, ◌≤◌, ℕ, true, List, length, Some, refl, sym, ap, subst, arith, rules}
-use Rattle.std.specs.Prelude.{IsTrue}
+use Rattle.std.proofs.Common.{◌≡◌, ◌∙◌, ◌≤◌, true, length, refl, sym, ap, subst}
 use Rattle.mj_angles.specs.declared.layout.Layout.{Layout}
 use Rattle.mj_angles.specs.Layout.{max_bins_of}
 use Rattle.rz_events.specs.Volume.{Volume}
-use Rattle.rz_events.specs.declared.keys.Actor.{Actor}
-use Rattle.rz_events.specs.declared.events.Event.{Event}
-use Rattle.rz_events.specs.declared.events.Event.TheVariants as e
 use Rattle.rz_node_model.specs.NodeEvents.{node_event}
-use Rattle.rz_operation_model.specs.Ask.{Ask, ask_of}
+use Rattle.rz_operation_model.specs.Ask.{ask_of}
 use Rattle.rz_operation_model.specs.Steps.{Answered}
-use Rattle.rz_operation.specs.Machine.{AreBins}
-use Rattle.rz_core.specs.History.{facts, of_actor}
+use Rattle.rz_core.specs.History.{of_actor}
 use Rattle.rz_chronicle.specs.Kinds.{is_honest, volume_in}
 use Rattle.rz_worker.specs.Acted.{Lasts}
 use Rattle.rz_worker.specs.Asking.{IsPlaced}
@@ -18,9 +13,7 @@ use Rattle.rz_chronicle.specs.Rules.{PassView}
 use Rattle.rz_play.specs.Faults.{missed}
 use Rattle.rz_worker.specs.Shown.{shown_of}
 use Rattle.rz_worker.specs.Turned.{IsCutOff}
-use Rattle.rz_worker.proofs.Added.{lost-count}
-use Rattle.rz_worker.proofs.Shows.{unshown-of}
-use Rattle.rz_worker.proofs.Acts.{still-lasts, still-cut, on-err, lasts-on, cut-by, node-step, heard-of, missed-reply, missed-request}
+use Rattle.rz_worker.proofs.Acts.{still-lasts, still-cut, on-err, cut-by, node-step, heard-of}
 use Rattle.rz_worker.proofs.Messages.{come-with, event-of, fetch-room}
 use Rattle.rz_worker.proofs.sending.through.Goals as goal
 

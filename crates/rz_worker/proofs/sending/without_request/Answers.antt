@@ -1,25 +1,14 @@
-use Rattle.std.proofs.Common.{◌≡◌, ◌≢◌, ◌∙◌, ◌++◌, ◌+◌, ◌<◌, ◌≤◌, ℕ, true, false, List, Some, refl, sym, ap, subst, arith, rules}
-use Rattle.std.specs.Prelude.{IsTrue}
-use Rattle.mj_angles.specs.declared.layout.Layout.{Layout}
-use Rattle.rz_events.specs.Volume.{Volume}
-use Rattle.rz_events.specs.declared.keys.Actor.{Actor}
-use Rattle.rz_events.specs.declared.events.Event.{Event}
+use Rattle.std.proofs.Common.{◌∙◌, false, refl, ap, arith}
 use Rattle.rz_events.specs.declared.events.Event.TheVariants as e
-use Rattle.rz_node_model.specs.NodeEvents.{node_event}
-use Rattle.rz_operation_model.specs.Ask.{Ask, ask_of}
-use Rattle.rz_operation_model.specs.Steps.{Answered}
-use Rattle.rz_operation.specs.Machine.{AreBins}
-use Rattle.rz_core.specs.History.{facts, of_actor}
-use Rattle.rz_chronicle.specs.Kinds.{is_honest, volume_in}
-use Rattle.rz_worker.specs.Acted.{Lasts}
-use Rattle.rz_chronicle.specs.Rules.{PassView}
+use Rattle.rz_operation_model.specs.Ask.{ask_of}
+use Rattle.rz_core.specs.History.{of_actor}
+use Rattle.rz_chronicle.specs.Kinds.{volume_in}
 use Rattle.rz_play.specs.Faults.{missed}
 use Rattle.rz_worker.specs.Shown.{shown_of}
-use Rattle.rz_worker.specs.Turned.{IsCutOff}
 use Rattle.rz_worker.proofs.Added.{lost-count}
 use Rattle.rz_worker.proofs.Shows.{unshown-of}
-use Rattle.rz_worker.proofs.Acts.{still-lasts, still-cut, on-err, lasts-on, cut-by, node-step, heard-of, missed-reply, missed-request}
-use Rattle.rz_worker.proofs.Messages.{come-with, event-of, may-miss, is-open}
+use Rattle.rz_worker.proofs.Acts.{still-lasts, still-cut, missed-request}
+use Rattle.rz_worker.proofs.Messages.{may-miss, is-open}
 use Rattle.rz_worker.proofs.sending.without_request.Goals as goal
 
 pub returns-then-not-has_room-clause-lasts : goal.returns-then-not-has_room-clause-lasts

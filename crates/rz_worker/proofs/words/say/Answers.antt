@@ -1,24 +1,9 @@
-use Rattle.std.proofs.Common.{◌≡◌, ◌≢◌, ◌∙◌, ◌++◌, ◌+◌, ◌<◌, ◌≤◌, ℕ, true, List, [], ◌∷◌, Some, refl, sym, ap, subst, arith, rules}
-use Rattle.std.specs.Prelude.{IsTrue}
-use Rattle.mj_angles.specs.declared.layout.Layout.{Layout}
-use Rattle.rz_events.specs.Volume.{Volume}
-use Rattle.rz_events.specs.declared.keys.Actor.{Actor}
-use Rattle.rz_events.specs.declared.events.Event.{Event}
-use Rattle.rz_events.specs.declared.events.Event.TheVariants as e
-use Rattle.rz_node_model.specs.NodeEvents.{node_event}
-use Rattle.rz_operation_model.specs.Ask.{Ask, ask_of}
-use Rattle.rz_operation_model.specs.Steps.{Answered}
-use Rattle.rz_operation.specs.Machine.{AreBins}
-use Rattle.rz_core.specs.History.{facts, of_actor}
-use Rattle.rz_chronicle.specs.Kinds.{is_honest, volume_in}
-use Rattle.rz_worker.specs.Acted.{Lasts}
-use Rattle.rz_chronicle.specs.Rules.{PassView}
-use Rattle.rz_operation_model.specs.Ask.{Say}
+use Rattle.std.proofs.Common.{◌∙◌, [], ◌∷◌, Some, refl, ap}
+use Rattle.rz_core.specs.History.{of_actor}
+use Rattle.rz_chronicle.specs.Kinds.{volume_in}
 use Rattle.rz_operation_model.specs.Steps.{Noted}
-use Rattle.rz_operation_model.specs.Turns.{IsStep}
 use Rattle.rz_operation.specs.Machine.{text_of}
 use Rattle.rz_play.specs.Faults.{missed}
-use Rattle.rz_worker.specs.Shown.{shown_of}
 use Rattle.rz_worker.proofs.Added.{noted-quiet, word-quiet}
 use Rattle.rz_worker.proofs.Acts.{still-lasts, still-cut, on-err, shows-on, went}
 use Rattle.rz_worker.proofs.Sayings.{its-by, its-word, say-may, say-step, at-actor}

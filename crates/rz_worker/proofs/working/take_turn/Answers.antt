@@ -1,16 +1,14 @@
-use Rattle.std.proofs.Common.{◌≡◌, ◌∙◌, ◌+◌, ◌≤◌, ℕ, List, length, Some, refl, sym, ap, subst, arith}
-use Rattle.std.proofs.lemmas.Result.{on_ok_weaker, on_err_weaker}
+use Rattle.std.proofs.Common.{◌∙◌, ◌≤◌, ℕ, List, length, refl, sym, ap, subst}
 use Rattle.std.specs.List.{AllByRecursion}
 use Rattle.mj_angles.specs.declared.layout.Layout.{Layout}
 use Rattle.mj_angles.specs.Layout.{max_bins_of}
 use Rattle.rz_events.specs.Volume.{Volume}
 use Rattle.rz_operation.specs.Answers as answers
-use Rattle.rz_core.specs.History.{of_actor}
 use Rattle.rz_chronicle.specs.Kinds.{is_honest, volume_in}
 use Rattle.rz_worker.specs.Workers.{seat_of}
 use Rattle.rz_worker.proofs.Acts.{still-lasts, still-lost, on-err}
-use Rattle.rz_worker.proofs.Doings.{none-done, turn-done, cut-begun}
-use Rattle.rz_worker.proofs.Seats.{all-taken, taken-up, ready-on, hand-layout, hand-right}
+use Rattle.rz_worker.proofs.Doings.{none-done}
+use Rattle.rz_worker.proofs.Seats.{all-taken, ready-on, hand-layout, hand-right}
 use Rattle.rz_worker.proofs.Workings.{written, ready-again, turn-begun, turn-taken}
 use Rattle.rz_worker.proofs.working.take_turn.Goals as goal
 

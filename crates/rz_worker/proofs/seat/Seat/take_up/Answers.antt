@@ -1,7 +1,7 @@
-use Rattle.std.proofs.Common.{◌≡◌, ◌++◌, List, Option, refl, sym, ◌∙◌, ap}
+use Rattle.std.proofs.Common.{◌≡◌, ◌++◌, Option, refl, sym, ◌∙◌, ap}
 use Rattle.std.specs.Option.{option_to_list}
 use Rattle.rz_events.specs.declared.operations.Operation.{Operation}
-use Rattle.rz_worker.specs.Workers.{Works, Rests, Begins, seat_of}
+use Rattle.rz_worker.specs.Workers.{Works, Rests, Begins}
 use Rattle.rz_worker.proofs.Seats.{negated, negated-too, none-left}
 use Rattle.rz_worker.proofs.seat.Seat.take_up.Goals as goal
 
