@@ -1,4 +1,9 @@
 pub mod Added
-pub mod Showing
+pub mod Shows
 pub mod Doings
 pub mod Locks
+pub mod Acts
+pub mod Sayings
+pub mod Messages
+pub mod Seats
+pub mod Workings

@@ -4,3 +4,6 @@ pub mod Laws
 pub mod Shown
 pub mod Adding
 pub mod Saying
+pub mod Acted
+pub mod Asking
+pub mod Workers

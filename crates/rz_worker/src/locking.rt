@@ -1,12 +1,24 @@
 //! Opens with a lock.
-ghost use Rattle.std.specs.Prelude.{◌≡◌, ◌≤◌, ℕ, List, IfOk, IsTrue};
+ghost use Rattle.std.specs.Prelude.{◌≡◌, ◌≤◌, ℕ, List, IfOk, IsTrue, OnOk, OnErr};
 ghost use Rattle.rz_events.specs.declared.export.Call.TheVariants as calls;
 ghost use Rattle.rz_events.specs.declared.tree.TreeCall.TheVariants as tree;
 ghost use Rattle.rz_operation.specs.Meaning.{path_in};
 ghost use Rattle.rz_operation_model.specs.Ask.{ask_of, AskLock};
+ghost use Rattle.rz_core.specs.History.{of_actor};
+ghost use Rattle.rz_play.specs.Faults.{missed};
+ghost use Rattle.rz_chronicle.specs.Kinds.{volume_in};
+ghost use Rattle.rz_worker.specs.Acted.{Lasts, IsRight, HasActed};
+ghost use Rattle.rz_worker.specs.Shown.{shown_of};
+ghost use Rattle.rz_worker.specs.Turned.{IsCutOff};
 
-use rz_events::{Actor, Call, Reply, TreeCall, TreeReply};
+use crate::adding::call_export;
+use crate::showing::show_open;
+use crate::store::Store;
+use rz_chronicle::Pass;
+use rz_disk::Disk;
+use rz_events::{Actor, Call, Event, Reply, TreeCall, TreeReply};
 use rz_lines::NoMemory;
+use rz_locked::Counting;
 use rz_locks::{LockAnswer, LockKind, Locks, Range};
 use rz_operation::{Ask, Machine};
 use std::alloc::Global;
@@ -92,4 +104,39 @@ pub fn release<R: Wait>(rt: &R, locks: &Mutex<Locks>, by: Actor) {
     if let Actor::Client(owner) = by {
         locks.lock(rt).release(owner);
     }
+}
+
+/// Opens the file that a machine asks for, takes its lock where no other client's lock conflicts, and tells
+/// the machine both.
+pub(crate) fn open_locked<R: Wait, D: Disk, J: Counting>(
+    rt: &R,
+    alloc: Global,
+    store: &Store<D, J>,
+    pass: &mut Pass<J>,
+    machine: &mut Machine,
+    shown: &mut Vec<Event>,
+) -> Result<(), NoMemory>
+    requires volume { store.now.volume ≡ volume_in J.kind }
+    requires actor { ¬ (pass.old.actor ≡ Actor.Admin) }
+    requires shows { shown.old.items ≡ shown_of (of_actor pass.old.actor pass.old.log) }
+    ensures lasts { Lasts J.kind pass.old pass.new }
+    ensures quiet { missed (of_actor pass.old.actor pass.new.log) ≡ missed (of_actor pass.old.actor pass.old.log) }
+    ensures shows { shown.new.items ≡ shown_of (of_actor pass.old.actor pass.new.log) }
+    ensures acted { OnOk result ((number : ℕ) → IsRight J.kind pass.old number machine.old → HasActed J.kind number pass.old pass.new machine.old machine.new) }
+    ensures cut { OnErr result ((number : ℕ) → IsCutOff pass.old.actor number pass.old.log pass.new.log machine.old) }
+{
+    rz_acting::goes();
+    let by = pass.actor();
+    let opening = next_open(alloc, machine)?;
+    shown.reserve(1)?;
+    let (call, wish) = opening;
+    let reply = call_export(rt, store, pass, &call);
+    let takes = machine.takes_locked(&reply);
+    show_open(by, call, &reply, shown);
+    if !takes {
+        return Err(NoMemory);
+    }
+    let granted = take(rt, &store.locks, by, &reply, wish);
+    machine.tell_locked(granted, reply);
+    Ok(())
 }

@@ -1,4 +1,7 @@
 //! What all workers share.
+ghost use Rattle.std.specs.Prelude.{◌≡◌};
+
+use mj_angles::Layout;
 use rz_chronicle::Book;
 use rz_config::Volume;
 use rz_disk::Disk;
@@ -14,4 +17,13 @@ pub struct Store<D: Disk, J: Counting> {
     pub book: Book<J>,
     pub volume: Volume,
     pub locks: Mutex<Locks>,
+}
+
+impl<D: Disk, J: Counting> Store<D, J> {
+    /// The layout of the volume.
+    pub(crate) fn layout(&self) -> Layout
+        ensures { result ≡ self.now.volume.layout }
+    {
+        self.volume.layout
+    }
 }
