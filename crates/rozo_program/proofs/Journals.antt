@@ -1,7 +1,7 @@
 -- The disk of a journal behind those of the nodes, and how a journal ends a play.
 use Rattle.std.proofs.Common.{ℕ, zero, suc, ◌≡◌, ◌≢◌, ◌+◌, ◌<◌, ◌≤◌, Bool, true, false, IsTrue, List, [], ◌∷◌, ◌++◌, Option, Some, None, length, map, refl, sym, ap, ◌∙◌, subst, arith}
 use Rattle.mj_angles.specs.declared.layout.Layout.{Layout}
-use Rattle.rz_disk.specs.Meter.{Meter, faults}
+use Rattle.rz_disk.specs.Meter.{Meter, faults, Rises as HasRisen}
 use Rattle.rz_events.specs.Volume.{Volume}
 use Rattle.rz_events.specs.declared.files.NodeSpec.{NodeSpec}
 use Rattle.rz_events.specs.declared.events.Event.{Event}
@@ -20,9 +20,9 @@ use Rattle.rz_request.specs.Requests.{nodes_in}
 use Rattle.rz_request.specs.declared.wishes.Request.{Request}
 use Rattle.rz_request.specs.declared.wishes.Wish.{Wish}
 use Rattle.rz_request.specs.declared.wishes.Wish.TheVariants as wishes
-use Rattle.rz_perform.specs.Replays.{Course, Faulted, MayEnd, Performed}
+use Rattle.rz_perform.specs.Replays.{Course, Faulted, MayEnd}
 use Rattle.rz_perform.specs.Scrubs.{BetweenTurns}
-use Rattle.rozo_program.specs.Disks.{AreAllBack, AreBackFrom, AreFaultsTold, AreImagesTold, IsJournalTold, asked_in, faulted}
+use Rattle.rozo_program.specs.Disks.{AreAllBack, AreBackFrom, AreFaultsTold, AreImagesTold, IsJournalLeft, asked_in, faulted, refused_by}
 
 -- Without a journal.
 
@@ -96,31 +96,37 @@ module _ {D : Type 0} where
 
 -- Behind a journal.
 
--- what the journal refused ended a play that was cut off
+-- the end of a play that was cut off tells what the journal refused
+refused : (end : PlayEnd) (refusal : Option Refusal) → end ≡ end_by refusal → refusal ≡ refused_by end
+refused end None is = ap refused_by (sym is)
+refused end (Some Full) is = ap refused_by (sym is)
+refused end (Some Failed) is = ap refused_by (sym is)
+
+module _ (tells : Bool) (image : List ℕ → Type 0) (first now : ℕ) (v : Volume) (h : List Event) where
+  ends-so : (end : PlayEnd) (refusal : Option Refusal) → end ≡ end_by refusal → EndsAsRefused refusal tells image first now v h → EndsAsRefused (refused_by end) tells image first now v h
+  ends-so end refusal is ended = let P : Option Refusal → Type 0 = λ r. EndsAsRefused r tells image first now v h in subst P (refused end refusal is) ended
+
+  failed-so : EndsAsRefused (refused_by ends.Journal) tells image first now v h → HasRisen first now
+  failed-so ended = ended.ends.0
+
+-- a journal ends a play of `first`
 pub first-end : (end : PlayEnd) (refusal : Option Refusal) (journaled : Bool) (r : Request) (disks : Faulted) (tells : Bool) (image : List ℕ → Type 0) (v : Volume) (h : List Event)
     → r.wish ≡ wishes.First → EndsBy journaled (end_by refusal) end → EndsAsRefused refusal tells image (disks.old (nodes_in r.script)) (disks.new (nodes_in r.script)) v h → MayEnd end r disks
 first-end ends.Ended refusal journaled r disks tells image v h first cut ended = tt
 first-end ends.TooManyTurns refusal journaled r disks tells image v h first cut ended = tt
 first-end ends.NoMemory refusal journaled r disks tells image v h first cut ended = tt
 first-end ends.JournalFull refusal journaled r disks tells image v h first cut ended = first
-first-end ends.Journal None journaled r disks tells image v h first cut ended = let is = cut.0 in cc
-first-end ends.Journal (Some Full) journaled r disks tells image v h first cut ended = let is = cut.0 in cc
-first-end ends.Journal (Some Failed) journaled r disks tells image v h first cut ended = (first, ended.ends.0)
+first-end ends.Journal refusal journaled r disks tells image v h first cut ended =
+    (first, failed-so tells image (disks.old (nodes_in r.script)) (disks.new (nodes_in r.script)) v h (ends-so tells image (disks.old (nodes_in r.script)) (disks.new (nodes_in r.script)) v h ends.Journal refusal cut.0 ended))
 
-module _ {D : Type 0} (tells : Bool) (meter : D → Meter) (image : D → List ℕ → Type 0) (later : List Event) (v : Volume) (old new : D) (h : List Event) where
-  pub journal-told : (end : PlayEnd) (refusal : Option Refusal) (journaled : Bool) → EndsBy journaled (end_by refusal) end → BetweenTurns end (IsTrue tells → StandsForLog (image new) v h)
-      → EndsAsRefused refusal tells (image new) (faults (meter old)) (faults (meter new)) v h → IsJournalTold tells meter image (Performed end later) v old new h
-  journal-told ends.Ended refusal journaled cut stands ended = stands
-  journal-told ends.TooManyTurns refusal journaled cut stands ended = stands
-  journal-told ends.NoMemory None journaled cut stands ended = ended
-  journal-told ends.NoMemory (Some Full) journaled cut stands ended = let is = cut.0 in cc
-  journal-told ends.NoMemory (Some Failed) journaled cut stands ended = let is = cut.0 in cc
-  journal-told ends.Journal None journaled cut stands ended = let is = cut.0 in cc
-  journal-told ends.Journal (Some Full) journaled cut stands ended = let is = cut.0 in cc
-  journal-told ends.Journal (Some Failed) journaled cut stands ended = ended
-  journal-told ends.JournalFull None journaled cut stands ended = let is = cut.0 in cc
-  journal-told ends.JournalFull (Some Full) journaled cut stands ended = ended
-  journal-told ends.JournalFull (Some Failed) journaled cut stands ended = let is = cut.0 in cc
+module _ {D : Type 0} (tells : Bool) (meter : D → Meter) (image : D → List ℕ → Type 0) (v : Volume) (old new : D) (h : List Event) where
+  pub journal-left : (end : PlayEnd) (refusal : Option Refusal) (journaled : Bool) → EndsBy journaled (end_by refusal) end → BetweenTurns end (IsTrue tells → StandsForLog (image new) v h)
+      → EndsAsRefused refusal tells (image new) (faults (meter old)) (faults (meter new)) v h → IsJournalLeft tells meter image end v old new h
+  journal-left ends.Ended refusal journaled cut stands ended = stands
+  journal-left ends.TooManyTurns refusal journaled cut stands ended = stands
+  journal-left ends.NoMemory refusal journaled cut stands ended = ends-so tells (image new) (faults (meter old)) (faults (meter new)) v h ends.NoMemory refusal cut.0 ended
+  journal-left ends.Journal refusal journaled cut stands ended = ends-so tells (image new) (faults (meter old)) (faults (meter new)) v h ends.Journal refusal cut.0 ended
+  journal-left ends.JournalFull refusal journaled cut stands ended = ends-so tells (image new) (faults (meter old)) (faults (meter new)) v h ends.JournalFull refusal cut.0 ended
 
 -- what goes from one to the other between two turns does so where a play ended between two turns
 pub between-on : (end : PlayEnd) (so then : Type 0) → (so → then) → BetweenTurns end so → BetweenTurns end then

@@ -1,5 +1,5 @@
 -- Disks as they were lent, and as they are handed back.
-use Rattle.std.specs.Prelude.{ℕ, Bool, IsTrue, ◌≡◌, map, List, [], ◌∷◌, ◌++◌, Some, None, Result, Ok, Err}
+use Rattle.std.specs.Prelude.{ℕ, Bool, IsTrue, ◌≡◌, map, List, [], ◌∷◌, ◌++◌, Option, Some, None, Result, Ok, Err}
 use Rattle.rz_disk.specs.Meter.{Meter, faults}
 use Rattle.rz_stations.specs.Meters.{AreDisksCounted, faults_at}
 use Rattle.rz_stations.specs.Images.{AreDisksImaged}
@@ -7,10 +7,12 @@ use Rattle.rz_events.specs.Volume.{Volume, nodes_of}
 use Rattle.rz_events.specs.declared.files.NodeSpec.{NodeSpec}
 use Rattle.rz_events.specs.declared.events.Event.{Event}
 use Rattle.rz_formatting.specs.Formatted.{AreBack}
+use Rattle.rz_metadata.specs.declared.journaled.Refusal.{Refusal}
 use Rattle.rz_metadata.specs.declared.journaled.Refusal.TheVariants.{Full, Failed}
 use Rattle.rz_driver.specs.Endings.{EndsAsRefused, StandsForLog}
 use Rattle.rz_driver.specs.Formatted.{IsJournalBack}
-use Rattle.rz_lines.specs.declared.lines.PlayEnd.TheVariants.{NoMemory, Journal, JournalFull}
+use Rattle.rz_lines.specs.declared.lines.PlayEnd.TheVariants.{Ended, TooManyTurns, NoMemory, Journal, JournalFull}
+use Rattle.rz_lines.specs.declared.lines.PlayEnd.{PlayEnd}
 use Rattle.rz_request.specs.declared.refusal.Stop.{Stop}
 use Rattle.rz_request.specs.declared.wishes.Request.{Request}
 use Rattle.rz_request.specs.declared.wishes.Wish.{Wish}
@@ -41,14 +43,26 @@ abbrev pub asked_in : Course → List Event
 asked_in Unplayed = []
 asked_in (Performed end later) = later
 
--- Where no play began, each image of a journal's disk is one from before, or its header is shut, or it stands for no calls. After a
--- play each stands for the calls of the log, and where a call was not kept, as the end of the play says, maybe for that one too.
+-- what a journal refused, where a play was cut off
+abbrev pub refused_by : PlayEnd → Option Refusal
+refused_by Journal = Some Failed
+refused_by JournalFull = Some Full
+refused_by NoMemory = None
+refused_by Ended = None
+refused_by TooManyTurns = None
+
+-- Each image stands for the calls of the log; and where the play was cut off, maybe also for a call that was not replied to.
+abbrev pub IsJournalLeft : {D : Type 0} → Bool → (D → Meter) → (D → List ℕ → Type 0) → PlayEnd → Volume → (old new : D) → List Event → Type 0
+IsJournalLeft tells meter image Ended v old new h = IsTrue tells → StandsForLog (image new) v h
+IsJournalLeft tells meter image TooManyTurns v old new h = IsTrue tells → StandsForLog (image new) v h
+IsJournalLeft tells meter image NoMemory v old new h = EndsAsRefused (refused_by NoMemory) tells (image new) (faults (meter old)) (faults (meter new)) v h
+IsJournalLeft tells meter image Journal v old new h = EndsAsRefused (refused_by Journal) tells (image new) (faults (meter old)) (faults (meter new)) v h
+IsJournalLeft tells meter image JournalFull v old new h = EndsAsRefused (refused_by JournalFull) tells (image new) (faults (meter old)) (faults (meter new)) v h
+
+-- Where no play began, each image of a journal's disk is one from before, or its header is shut, or it stands for no calls.
 abbrev pub IsJournalTold : {D : Type 0} → Bool → (D → Meter) → (D → List ℕ → Type 0) → Course → Volume → (old new : D) → List Event → Type 0
 IsJournalTold tells meter image Unplayed v old new h = IsJournalBack tells meter image v old new
-IsJournalTold tells meter image (Performed NoMemory later) v old new h = EndsAsRefused None tells (image new) (faults (meter old)) (faults (meter new)) v h
-IsJournalTold tells meter image (Performed Journal later) v old new h = EndsAsRefused (Some Failed) tells (image new) (faults (meter old)) (faults (meter new)) v h
-IsJournalTold tells meter image (Performed JournalFull later) v old new h = EndsAsRefused (Some Full) tells (image new) (faults (meter old)) (faults (meter new)) v h
-IsJournalTold tells meter image (Performed end later) v old new h = IsTrue tells → StandsForLog (image new) v h
+IsJournalTold tells meter image (Performed end later) v old new h = IsJournalLeft tells meter image end v old new h
 
 -- The disks of the nodes, and behind them that of a journal. The faults of the nodes are told by the log with the records that were
 -- asked for after it.

@@ -25,8 +25,8 @@ use Rattle.rz_perform.specs.Output.{Sunk}
 use Rattle.rz_perform.specs.Replays.{Unplayed, Performed, MayEnd}
 use Rattle.rz_perform.specs.Scrubs.{BetweenTurns}
 use Rattle.rz_request.specs.declared.wishes.Wish.TheVariants.{First, Scrub}
-use Rattle.rozo_program.specs.Disks.{AreAllBack, AreBackFrom, AreFaultsTold, AreImagesTold, IsJournalTold, faulted}
-use Rattle.rozo_program.proofs.Journals.{all-back-faults, at-front, at-last, between-on, counted-length, first-back, first-end, has-disk, journal-told, length-joined, split-last}
+use Rattle.rozo_program.specs.Disks.{AreAllBack, AreBackFrom, AreFaultsTold, AreImagesTold, IsJournalLeft, faulted}
+use Rattle.rozo_program.proofs.Journals.{all-back-faults, at-front, at-last, between-on, counted-length, first-back, first-end, has-disk, journal-left, length-joined, split-last}
 use Rattle.rozo_program.proofs.Lent.{counted-none, not-opened}
 use Rattle.rozo_program.proofs.Untold.{told-none}
 use Rattle.rozo_program.proofs.replay.play_first.Given as given
@@ -56,16 +56,19 @@ plain : (k : ℕ) → 0 + k ≡ k
 plain k = omega arith
 
 -- only a scrub asks for records after a play
-no-scrub : (g : given.Over) (c : goal.After-close_all-log g) → c.args.request.now.wish ≡ Scrub → ⊥
+no-scrub : (g : given.Over) (c : goal.After-drop-disks g) → c.args.request.now.wish ≡ Scrub → ⊥
 no-scrub g c scrubs = let first : c.args.request.now.wish ≡ First = c.requires.first in cc
 
 -- what the performance left
-module _ (g : given.Over) (c : goal.After-close_all-log g) where
-  first : ℕ → ℕ
+module _ (g : given.Over) (c : goal.After-drop-disks g) where
+  abbrev first : ℕ → ℕ
   first = faults_at g.D.Disk.meter c.args.disks.now.items
 
   held : Holds c.in-Ok.driver first
-  held = let lent : c.replace-lent.result.items ≡ c.args.disks.now.items = rw c.replace-lent.ensures.value refl in rw (← lent) c.in-Ok.ensures.held
+  held =
+      let lent : c.replace-lent.result.items ≡ c.args.disks.now.items = rw c.replace-lent.ensures.value refl in
+      let H : List g.row.D.Denot → Type 0 = λ xs. Holds c.in-Ok.driver (faults_at g.D.Disk.meter xs) in
+      subst H lent c.in-Ok.ensures.held
 
   left_by : Leaves c.perform-status.new.stage first
   left_by = elim c.perform-status.ensures.performed.2 [
@@ -128,8 +131,8 @@ returns-in-Ok g c =
     let may : MayEnd end c.args.request.now (faulted meter old new) =
     first-end end (refusal_of c.perform-status.new.stage.shared.export) _ c.args.request.now (faulted meter old new) g.D.Disk.tells (g.D.Disk.image disk.0) v log c.requires.first c.perform-status.ensures.performed.3
     (subst (λ (k : ℕ). EndsAsRefused (refusal_of c.perform-status.new.stage.shared.export) g.D.Disk.tells (g.D.Disk.image disk.0) (first g c (length (nodes_of v.clusters))) k v log) (sym is_now) ended) in
-    let told : IsJournalTold g.D.Disk.tells meter g.D.Disk.image (Performed end later) v split.1 disk.0 log =
-    journal-told g.D.Disk.tells meter g.D.Disk.image later v split.1 disk.0 log end (refusal_of c.perform-status.new.stage.shared.export) _ c.perform-status.ensures.performed.3 stands
+    let told : IsJournalLeft g.D.Disk.tells meter g.D.Disk.image end v split.1 disk.0 log =
+    journal-left g.D.Disk.tells meter g.D.Disk.image v split.1 disk.0 log end (refusal_of c.perform-status.new.stage.shared.export) _ c.perform-status.ensures.performed.3 stands
     (subst (λ (k : ℕ). EndsAsRefused (refusal_of c.perform-status.new.stage.shared.export) g.D.Disk.tells (g.D.Disk.image disk.0) k (faults (meter disk.0)) v log) was ended) in
     let all : AreAllBack g.D.Disk.tells meter g.D.Disk.image (Performed end later) v old new log = record {
       nodes = split.0;
