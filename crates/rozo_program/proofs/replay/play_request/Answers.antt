@@ -9,8 +9,8 @@ play_first-requires-clause-count g c = c.requires ∙ ap (λ (w : Wish). disks_f
 pub play_plain-requires-clause-count : goal.play_plain-requires-clause-count
 play_plain-requires-clause-count g c = c.requires ∙ ap (λ (w : Wish). disks_for w c.args.request.now.script) c.in-Replay.is
 
-pub play_plain-in-Scrub-requires-clause-count : goal.play_plain-in-Scrub-requires-clause-count
-play_plain-in-Scrub-requires-clause-count g c = c.requires ∙ ap (λ (w : Wish). disks_for w c.args.request.now.script) c.in-Scrub.is
+pub play_plain-requires-in-Scrub-clause-count : goal.play_plain-requires-in-Scrub-clause-count
+play_plain-requires-in-Scrub-clause-count g c = c.requires ∙ ap (λ (w : Wish). disks_for w c.args.request.now.script) c.in-Scrub.is
 
-pub play_plain-in-Load-requires-clause-count : goal.play_plain-in-Load-requires-clause-count
-play_plain-in-Load-requires-clause-count g c = c.requires ∙ ap (λ (w : Wish). disks_for w c.args.request.now.script) c.in-Load.is
+pub play_plain-requires-in-Load-clause-count : goal.play_plain-requires-in-Load-clause-count
+play_plain-requires-in-Load-clause-count g c = c.requires ∙ ap (λ (w : Wish). disks_for w c.args.request.now.script) c.in-Load.is
