@@ -11,16 +11,27 @@ use std::alloc::{AllocError, Global};
 use std::process::Abort;
 use std::test::Fail;
 
+/// Compares the projection of a block.
+fn compare(
+    rt: &(impl Abort + AllocGlobal),
+    block: &Block,
+    p: i32,
+    want: &[u64],
+) -> Result<(), AllocError>
+    requires { unsigned_abs p ≤ 16 }
+{
+    let mut out = vec![in rt.alloc(); 9u64; bins(p, block.rows(), block.cols())]?;
+    project(block, p, &mut out);
+    assert_eq!(rt; (p, out.as_slice()), (p, want));
+    Ok(())
+}
+
 /// Compares the bins of three columns with the rows 1, 2, 4 and 8, 16, 32.
 fn has_bins(rt: &(impl Abort + AllocGlobal), p: i32, want: &[u64]) -> Result<(), AllocError>
     requires { unsigned_abs p ≤ 16 }
 {
     let words = vec![in rt.alloc(); 1u64, 2, 4, 8, 16, 32]?;
-    let block = Block::from_words(2, 3, words);
-    let mut out = vec![in rt.alloc(); 9u64; bins(p, 2, 3)]?;
-    project(&block, p, &mut out);
-    assert_eq!(rt; out.as_slice(), want, "angle {p}");
-    Ok(())
+    compare(rt, &Block::from_words(2, 3, words), p, want)
 }
 
 #[test]
@@ -64,24 +75,13 @@ fn noise(alloc: Global, rows: usize, cols: usize) -> Result<Block, AllocError>
     Ok(Block::from_words(rows, cols, words))
 }
 
-/// Compares the projection with the sums.
-fn check_sums(rt: &(impl Abort + AllocGlobal), block: &Block, p: i32) -> Result<(), AllocError>
-    requires { unsigned_abs p ≤ 16 }
-{
-    let want = sums(rt.alloc(), block, p)?;
-    let mut out = vec![in rt.alloc(); 9u64; want.len()]?;
-    project(block, p, &mut out);
-    assert_eq!(rt; out.as_slice(), want.as_slice(), "angle {p}");
-    Ok(())
-}
-
 /// Blocks that are too narrow for vectors, and blocks that are not.
 #[test]
 fn sums_over_all_words(rt: HostRuntime) -> Result<(), Fail> {
     for (rows, cols) in [(1, 1), (3, 2), (16, 3), (2, 20), (4, 37), (8, 64), (8, 72)] {
         let block = noise(rt.alloc(), rows, cols)?;
         for p in [0, 1, -1, 2, -3, 7, -8, 16, -16] {
-            check_sums(&rt, &block, p)?;
+            compare(&rt, &block, p, &sums(rt.alloc(), &block, p)?)?;
         }
     }
     Ok(())

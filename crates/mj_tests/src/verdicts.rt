@@ -3,6 +3,7 @@
 ghost use Rattle.std.specs.Prelude.{◌≡◌, ◌≤◌, ◌<◌, IfOk, length};
 ghost use Rattle.mj_angles.specs.Layout.{inverse_of, cols_of, safe_of};
 
+use crate::inversions::has_words;
 use mj_angles::Layout;
 use mj_forward::project;
 use rz_scrub::{Scrub, Verdict};
@@ -62,9 +63,30 @@ fn verdict_on(
     let mut out = Block::zero(rt.alloc(), layout.inverse(), layout.cols())?;
     let verdict = scrub.judge(&mut out);
     if verdict != Verdict::Unsure {
-        assert_eq!(rt; out.words(), block.words());
+        has_words(rt, &out, block.words());
     }
     Ok(Some(verdict))
+}
+
+/// Compares that verdict.
+fn judges(
+    rt: &(impl Abort + AllocGlobal),
+    scrub: &mut Scrub,
+    block: &Block,
+    layout: Layout,
+    count: u8,
+    altered: &[u8],
+    want: Verdict,
+) -> Result<(), AllocError>
+    requires layout { scrub.old.layout ≡ layout }
+    requires rows { block.now.rows ≡ inverse_of layout }
+    requires cols { block.now.cols ≡ cols_of layout }
+    requires count { count ≤ safe_of layout }
+    ensures { scrub.new.layout ≡ layout }
+{
+    let found = verdict_on(rt, scrub, block, layout, count, altered)?;
+    assert_eq!(rt; (altered.len(), found), (altered.len(), Some(want)));
+    Ok(())
 }
 
 /// Six records of a block of zeros, of which one is altered, and then two.
@@ -73,10 +95,9 @@ fn one_and_two_of_six(rt: HostRuntime) -> Result<(), Fail> {
     let layout = Layout::L1;
     let zeros = Block::zero(rt.alloc(), layout.inverse(), layout.cols())?;
     let mut scrub = Scrub::start(rt.alloc(), layout)?;
-    let one = verdict_on(&rt, &mut scrub, &zeros, layout, 6, &[2])?;
-    assert_eq!(rt; one, Some(Verdict::Altered { mask: 4 }));
-    let two = verdict_on(&rt, &mut scrub, &zeros, layout, 6, &[2, 3])?;
-    assert_eq!(rt; two, Some(Verdict::Unsure));
+    let one = Verdict::Altered { mask: 4 };
+    judges(&rt, &mut scrub, &zeros, layout, 6, &[2], one)?;
+    judges(&rt, &mut scrub, &zeros, layout, 6, &[2, 3], Verdict::Unsure)?;
     Ok(())
 }
 
@@ -109,15 +130,16 @@ fn alters(
     let block = counted(rt.alloc(), layout)?;
     let mut scrub = Scrub::start(rt.alloc(), layout)?;
     for (number, want) in wants.iter().enumerate() {
-        let found = verdict_on(
+        let all = layout.safe() as u8;
+        judges(
             rt,
             &mut scrub,
             &block,
             layout,
-            layout.safe() as u8,
+            all,
             &altered[..number],
+            *want,
         )?;
-        assert_eq!(rt; found, Some(*want), "{number} altered");
     }
     Ok(())
 }

@@ -16,6 +16,7 @@ fits-for (Some wishes.Replay) m source disks r h = fits-so wishes.Replay r disks
 fits-for (Some (wishes.Load seed)) m source disks r h = fits-so (wishes.Load seed) r disks h.0.2 h.1
 fits-for (Some wishes.Scrub) m source disks r h = fits-so wishes.Scrub r disks h.0.2.2 h.1
 fits-for (Some wishes.First) m source disks r h = fits-so wishes.First r disks h.0.2.2 h.1
+fits-for (Some wishes.Again) m source disks r h = fits-so wishes.Again r disks h.0.2.2 h.1
 
 pub asks-fits : (m : Option Meaning) (source : Reading) (disks : ℕ) (r : Request) → Asks m source disks (Ok r) → disks ≡ disks_for r.wish r.script
 asks-fits m source disks r h = fits-for (wished m) m source disks r h

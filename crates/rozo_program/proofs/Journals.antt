@@ -5,6 +5,7 @@ use Rattle.rz_disk.specs.Meter.{Meter, faults, Rises as HasRisen}
 use Rattle.rz_events.specs.Volume.{Volume}
 use Rattle.rz_events.specs.declared.files.NodeSpec.{NodeSpec}
 use Rattle.rz_events.specs.declared.events.Event.{Event}
+use Rattle.rz_script.specs.declared.line.Line.{Line}
 use Rattle.rz_formatting.specs.Formatted.{AreBack}
 use Rattle.rz_stations.specs.Meters.{AreDisksCounted, faults_at}
 use Rattle.rz_metadata.specs.declared.metadata.Metadata.{Metadata}
@@ -20,9 +21,9 @@ use Rattle.rz_request.specs.Requests.{nodes_in}
 use Rattle.rz_request.specs.declared.wishes.Request.{Request}
 use Rattle.rz_request.specs.declared.wishes.Wish.{Wish}
 use Rattle.rz_request.specs.declared.wishes.Wish.TheVariants as wishes
-use Rattle.rz_perform.specs.Replays.{Course, Faulted, MayEnd}
+use Rattle.rz_perform.specs.Replays.{Course, Faulted, HasJournal, MayEnd}
 use Rattle.rz_perform.specs.Scrubs.{BetweenTurns}
-use Rattle.rozo_program.specs.Disks.{AreAllBack, AreBackFrom, AreFaultsTold, AreImagesTold, IsJournalLeft, asked_in, faulted, refused_by}
+use Rattle.rozo_program.specs.Disks.{AreAllBack, AreBackAgain, AreBackFrom, AreFaultsTold, AreImagesTold, IsJournalLeft, asked_in, faulted, refused_by}
 
 -- Without a journal.
 
@@ -35,17 +36,22 @@ plain-end ends.Journal why r disks journaled is cut = let journal : IsTrue journ
 plain-end ends.JournalFull why r disks journaled is cut = let journal : IsTrue journaled = cut.1 in cc
 
 -- the disks are those of the nodes
-pub plain-back : {D : Type 0} (tells : Bool) (meter : D → Meter) (image : D → List ℕ → Type 0) (course : Course) (wish : Wish) (v : Volume) (old new : List D) (h : List Event) → wish ≢ wishes.First
-    → AreFaultsTold meter v old new (asked_in course ++ h) × AreImagesTold tells meter image course v old new h → AreBackFrom tells meter image course wish v old new h
-plain-back tells meter image course wishes.Replay v old new h plain back = back
-plain-back tells meter image course (wishes.Load seed) v old new h plain back = back
-plain-back tells meter image course wishes.Scrub v old new h plain back = back
-plain-back tells meter image course wishes.First v old new h plain back = absurd (plain refl)
+pub plain-back : {D : Type 0} (tells : Bool) (text : D → List ℕ) (meter : D → Meter) (image : D → List ℕ → Type 0) (course : Course) (wish : Wish) (v : Volume) (lines : List Line) (lost : ℕ) (old new : List D) (h : List Event)
+    → wish ≢ wishes.First → wish ≢ wishes.Again
+    → AreFaultsTold meter v old new (asked_in course ++ h) × AreImagesTold tells meter image course v old new h → AreBackFrom tells text meter image course wish v lines lost old new h
+plain-back tells text meter image course wishes.Replay v lines lost old new h plain anew back = back
+plain-back tells text meter image course (wishes.Load seed) v lines lost old new h plain anew back = back
+plain-back tells text meter image course wishes.Scrub v lines lost old new h plain anew back = back
+plain-back tells text meter image course wishes.First v lines lost old new h plain anew back = absurd (plain refl)
+plain-back tells text meter image course wishes.Again v lines lost old new h plain anew back = absurd (anew refl)
 
 -- with one, that of the journal is behind them
-pub first-back : {D : Type 0} (tells : Bool) (meter : D → Meter) (image : D → List ℕ → Type 0) (course : Course) (wish : Wish) (v : Volume) (old new : List D) (h : List Event) → wish ≡ wishes.First
-    → AreAllBack tells meter image course v old new h → AreBackFrom tells meter image course wish v old new h
-first-back tells meter image course wish v old new h is back = subst (λ (w : Wish). AreBackFrom tells meter image course w v old new h) (sym is) back
+module _ {D : Type 0} (tells : Bool) (text : D → List ℕ) (meter : D → Meter) (image : D → List ℕ → Type 0) (course : Course) (wish : Wish) (v : Volume) (lines : List Line) (lost : ℕ) (old new : List D) (h : List Event) where
+  pub first-back : wish ≡ wishes.First → AreAllBack tells meter image course v old new h → AreBackFrom tells text meter image course wish v lines lost old new h
+  first-back is back = subst (λ (w : Wish). AreBackFrom tells text meter image course w v lines lost old new h) (sym is) back
+
+  pub again-back : wish ≡ wishes.Again → AreBackAgain tells text meter image course v lines lost old new h → AreBackFrom tells text meter image course wish v lines lost old new h
+  again-back is back = subst (λ (w : Wish). AreBackFrom tells text meter image course w v lines lost old new h) (sym is) back
 
 -- The last of some disks.
 
@@ -115,9 +121,17 @@ pub first-end : (end : PlayEnd) (refusal : Option Refusal) (journaled : Bool) (r
 first-end ends.Ended refusal journaled r disks tells image v h first cut ended = tt
 first-end ends.TooManyTurns refusal journaled r disks tells image v h first cut ended = tt
 first-end ends.NoMemory refusal journaled r disks tells image v h first cut ended = tt
-first-end ends.JournalFull refusal journaled r disks tells image v h first cut ended = first
+first-end ends.JournalFull refusal journaled r disks tells image v h first cut ended = subst HasJournal (sym first) tt
 first-end ends.Journal refusal journaled r disks tells image v h first cut ended =
-    (first, failed-so tells image (disks.old (nodes_in r.script)) (disks.new (nodes_in r.script)) v h (ends-so tells image (disks.old (nodes_in r.script)) (disks.new (nodes_in r.script)) v h ends.Journal refusal cut.0 ended))
+    (subst HasJournal (sym first) tt, λ is. failed-so tells image (disks.old (nodes_in r.script)) (disks.new (nodes_in r.script)) v h (ends-so tells image (disks.old (nodes_in r.script)) (disks.new (nodes_in r.script)) v h ends.Journal refusal cut.0 ended))
+
+-- and one of `again`
+pub again-end : (end : PlayEnd) (r : Request) (disks : Faulted) → r.wish ≡ wishes.Again → MayEnd end r disks
+again-end ends.Ended r disks again = tt
+again-end ends.TooManyTurns r disks again = tt
+again-end ends.NoMemory r disks again = tt
+again-end ends.JournalFull r disks again = subst HasJournal (sym again) tt
+again-end ends.Journal r disks again = (subst HasJournal (sym again) tt, λ first. let other : wishes.First ≡ wishes.Again = sym first ∙ again in cc)
 
 module _ {D : Type 0} (tells : Bool) (meter : D → Meter) (image : D → List ℕ → Type 0) (v : Volume) (old new : D) (h : List Event) where
   pub journal-left : (end : PlayEnd) (refusal : Option Refusal) (journaled : Bool) → EndsBy journaled (end_by refusal) end → BetweenTurns end (IsTrue tells → StandsForLog (image new) v h)

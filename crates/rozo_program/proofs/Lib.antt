@@ -1,4 +1,5 @@
 pub mod Asked
+pub mod Continuing
 pub mod Journals
 pub mod Lent
 pub mod Untold

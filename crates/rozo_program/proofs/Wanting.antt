@@ -6,7 +6,7 @@ use Rattle.rz_events.specs.declared.events.Event.{Event}
 use Rattle.rz_request.specs.Requests.{AsksFor, IsUnread, Reading, wished}
 use Rattle.rz_request.specs.declared.refusal.Stop.TheVariants.{NoMemory}
 use Rattle.rz_request.specs.declared.wishes.Wish.{Wish}
-use Rattle.rz_request.specs.declared.wishes.Wish.TheVariants.{Replay, Load, Scrub, First}
+use Rattle.rz_request.specs.declared.wishes.Wish.TheVariants.{Replay, Load, Scrub, First, Again}
 use Rattle.rz_perform.specs.Output.{Sunk, Lacks}
 use Rattle.rz_perform.specs.Replays.{Unplayed}
 use Rattle.rozo_program.specs.Replays.{Does, Replays, old_node_of}
@@ -17,6 +17,7 @@ asked (Some Replay) m source disks some unread = (tt, tt)
 asked (Some (Load seed)) m source disks some unread = (tt, tt, unread)
 asked (Some Scrub) m source disks some unread = (tt, tt)
 asked (Some First) m source disks some unread = (tt, tt)
+asked (Some Again) m source disks some unread = (tt, tt)
 
 module _ {D : Type 0} (tells : Bool) (text : D → List ℕ) (meter : D → Meter) (image : D → List ℕ → Type 0) (words : Option Meaning) (source : Reading) (disks : List D)
     (lost : ℕ) (sink : Sunk) (status : ℕ) (h : List Event) (some : IsSome words) (unread : IsUnread source) (lacks : Lacks sink status) (none : h ≡ []) where

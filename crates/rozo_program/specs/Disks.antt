@@ -1,5 +1,5 @@
 -- Disks as they were lent, and as they are handed back.
-use Rattle.std.specs.Prelude.{ℕ, Bool, IsTrue, ◌≡◌, map, List, [], ◌∷◌, ◌++◌, Option, Some, None, Result, Ok, Err}
+use Rattle.std.specs.Prelude.{ℕ, Bool, false, IsTrue, ◌≡◌, ◌≤◌, ◌+◌, map, List, [], ◌∷◌, ◌++◌, Option, Some, None, Result, Ok, Err}
 use Rattle.rz_disk.specs.Meter.{Meter, faults}
 use Rattle.rz_stations.specs.Meters.{AreDisksCounted, faults_at}
 use Rattle.rz_stations.specs.Images.{AreDisksImaged}
@@ -11,13 +11,22 @@ use Rattle.rz_metadata.specs.declared.journaled.Refusal.{Refusal}
 use Rattle.rz_metadata.specs.declared.journaled.Refusal.TheVariants.{Full, Failed}
 use Rattle.rz_driver.specs.Endings.{EndsAsRefused, StandsForLog}
 use Rattle.rz_driver.specs.Formatted.{IsJournalBack}
+use Rattle.rz_core.specs.History.{facts}
+use Rattle.rz_opening.specs.Opened.{AreKept}
+use Rattle.rz_opening.specs.declared.refusal.OpenRefusal.TheVariants.{Open}
+use Rattle.rz_driver.specs.Continued.{AreLeft, IsCauseAgain}
+use Rattle.rz_driver.specs.Pictures.{AreBytes}
+use Rattle.rz_continuation.specs.Earlier.{IsEarlier, IsRestarted}
+use Rattle.rz_script.specs.declared.line.Line.{Line}
+use Rattle.rz_play.specs.Faults.{missed, misses}
+use Rattle.rz_play_laws.specs.Runs.{IsRunAfter}
 use Rattle.rz_lines.specs.declared.lines.PlayEnd.TheVariants.{Ended, TooManyTurns, NoMemory, Journal, JournalFull}
 use Rattle.rz_lines.specs.declared.lines.PlayEnd.{PlayEnd}
 use Rattle.rz_request.specs.declared.refusal.Stop.{Stop}
 use Rattle.rz_request.specs.declared.wishes.Request.{Request}
 use Rattle.rz_request.specs.declared.wishes.Wish.{Wish}
-use Rattle.rz_request.specs.declared.wishes.Wish.TheVariants.{First}
-use Rattle.rz_perform.specs.Replays.{Faulted, Course, Unplayed, Performed}
+use Rattle.rz_request.specs.declared.wishes.Wish.TheVariants.{First, Again}
+use Rattle.rz_perform.specs.Replays.{Faulted, Course, Unplayed, Unopened, Performed}
 
 -- the numbers of a volume's nodes, in order
 abbrev pub numbers_of_volume : Volume → List ℕ
@@ -36,11 +45,13 @@ AreFaultsTold meter v old new h = AreDisksCounted meter (faults_at meter old) 0 
 -- with its log, each stands for what the log says that its node holds.
 abbrev pub AreImagesTold : {D : Type 0} → Bool → (D → Meter) → (D → List ℕ → Type 0) → Course → Volume → List D → List D → List Event → Type 0
 AreImagesTold tells meter image Unplayed v old new h = AreBack tells meter image v.layout (nodes_of v.clusters) old new
+AreImagesTold tells meter image (Unopened index cause) v old new h = ⊥
 AreImagesTold tells meter image (Performed end later) v old new h = IsTrue tells → AreDisksImaged image v (numbers_of_volume v) new h
 
 -- the events of the records that were asked for after a play
 abbrev pub asked_in : Course → List Event
 asked_in Unplayed = []
+asked_in (Unopened index cause) = []
 asked_in (Performed end later) = later
 
 -- what a journal refused, where a play was cut off
@@ -62,6 +73,7 @@ IsJournalLeft tells meter image JournalFull v old new h = EndsAsRefused (refused
 -- Where no play began, each image of a journal's disk is one from before, or its header is shut, or it stands for no calls.
 abbrev pub IsJournalTold : {D : Type 0} → Bool → (D → Meter) → (D → List ℕ → Type 0) → Course → Volume → (old new : D) → List Event → Type 0
 IsJournalTold tells meter image Unplayed v old new h = IsJournalBack tells meter image v old new
+IsJournalTold tells meter image (Unopened index cause) v old new h = ⊥
 IsJournalTold tells meter image (Performed end later) v old new h = IsJournalLeft tells meter image end v old new h
 
 -- The disks of the nodes, and behind them that of a journal. The faults of the nodes are told by the log with the records that were
@@ -77,13 +89,47 @@ pub record AreAllBack {D : Type 0} (tells : Bool) (meter : D → Meter) (image :
   pub images_told : AreImagesTold tells meter image course v nodes nodes_back h
   pub journal_told : IsJournalTold tells meter image course v journal journal_back h
 
--- the disks of a request that was played, which for `first` are one more than the nodes
-abbrev pub AreBackFrom : {D : Type 0} → Bool → (D → Meter) → (D → List ℕ → Type 0) → Course → Wish → Volume → List D → List D → List Event → Type 0
-AreBackFrom tells meter image course First v old new h = AreAllBack tells meter image course v old new h
-AreBackFrom tells meter image course _ v old new h = AreFaultsTold meter v old new (asked_in course ++ h) × AreImagesTold tells meter image course v old new h
+-- A play that went on after this earlier log. Behind that log, with the nodes stopped and started, its own is legal, and both are
+-- sound. Each of its lost messages was lost by a line or by the link, and its disks' faults are counted by its own events. The
+-- images of each disk stand for what both logs say.
+pub record IsGoneOn {D : Type 0} (tells : Bool) (meter : D → Meter) (image : D → List ℕ → Type 0) (end : PlayEnd) (v : Volume) (lines : List Line) (lost : ℕ) (earlier : List Event)
+    (disks : List D) (journal : D) (nodes_back : List D) (journal_back : D) (h : List Event) : Type 0 where
+  pub old : List Event
+  pub restarted : IsRestarted v earlier old
+  pub run : IsRunAfter v old (h ++ old)
+  pub losses : missed h ≤ misses lines + lost
+  pub faults_told : AreFaultsTold meter v disks nodes_back h
+  pub images_told : AreImagesTold tells meter image (Performed end []) v disks nodes_back (h ++ old)
+  pub journal_told : IsJournalLeft tells meter image end v journal journal_back (h ++ old)
+
+-- The disks of the nodes, and behind them that of the journal, which were used again. Over disks that tell their texts the play
+-- went on after each earlier log that the disks stood for. Over others the faults of the nodes are told by the log alone.
+pub record AreUsedAgain {D : Type 0} (tells : Bool) (meter : D → Meter) (image : D → List ℕ → Type 0) (end : PlayEnd) (v : Volume) (lines : List Line) (lost : ℕ) (old new : List D) (h : List Event) : Type 0 where
+  pub nodes : List D
+  pub journal : D
+  pub old_are : old ≡ nodes ++ journal ∷ []
+  pub nodes_back : List D
+  pub journal_back : D
+  pub new_are : new ≡ nodes_back ++ journal_back ∷ []
+  pub untold : tells ≡ false → AreFaultsTold meter v old nodes_back h
+  pub goes_on : IsTrue tells → (earlier : List Event) → IsEarlier v earlier → AreBytes (facts earlier) → AreLeft image v earlier old
+      → IsGoneOn tells meter image end v lines lost earlier old journal nodes_back journal_back h
+
+-- Disks that were to be used again. Where no play began each has the text that it came with, each image is one from before, and no
+-- count of faults fell; and where one did not open, this is why.
+abbrev pub AreBackAgain : {D : Type 0} → Bool → (D → List ℕ) → (D → Meter) → (D → List ℕ → Type 0) → Course → Volume → List Line → ℕ → List D → List D → List Event → Type 0
+AreBackAgain tells text meter image Unplayed v lines lost old new h = AreKept meter text image old new
+AreBackAgain tells text meter image (Unopened index cause) v lines lost old new h = AreKept meter text image old new × IsCauseAgain tells meter text image v old new (Open index cause)
+AreBackAgain tells text meter image (Performed end later) v lines lost old new h = AreUsedAgain tells meter image end v lines lost old new h
+
+-- the disks of a request that was played, which for `first` and `again` are one more than the nodes
+abbrev pub AreBackFrom : {D : Type 0} → Bool → (D → List ℕ) → (D → Meter) → (D → List ℕ → Type 0) → Course → Wish → Volume → List Line → (lost : ℕ) → List D → List D → List Event → Type 0
+AreBackFrom tells text meter image course First v lines lost old new h = AreAllBack tells meter image course v old new h
+AreBackFrom tells text meter image course Again v lines lost old new h = AreBackAgain tells text meter image course v lines lost old new h
+AreBackFrom tells text meter image course _ v lines lost old new h = AreFaultsTold meter v old new (asked_in course ++ h) × AreImagesTold tells meter image course v old new h
 
 -- Where there is nothing to play the disks are as they came. Otherwise their images are told by the log, and their faults by the log
 -- with the records that were asked for after it.
-abbrev pub HandsBack : {D : Type 0} → Bool → (D → Meter) → (D → List ℕ → Type 0) → Course → Result Request Stop → List D → List D → List Event → Type 0
-HandsBack tells meter image course (Ok r) old new h = AreBackFrom tells meter image course r.wish r.script.volume old new h
-HandsBack tells meter image course (Err stop) old new h = new ≡ old
+abbrev pub HandsBack : {D : Type 0} → Bool → (D → List ℕ) → (D → Meter) → (D → List ℕ → Type 0) → Course → Result Request Stop → (lost : ℕ) → List D → List D → List Event → Type 0
+HandsBack tells text meter image course (Ok r) lost old new h = AreBackFrom tells text meter image course r.wish r.script.volume r.script.lines lost old new h
+HandsBack tells text meter image course (Err stop) lost old new h = new ≡ old

@@ -7,6 +7,8 @@ use Rattle.rz_disk.specs.Meter.{Meter}
 use Rattle.rz_formatting.specs.declared.fault.DriverFault.{DriverFault}
 use Rattle.rz_formatting.specs.declared.fault.DriverFault.TheVariants as faults
 use Rattle.rz_events.specs.declared.events.Event.{Event}
+use Rattle.rz_opening.specs.declared.refusal.OpenRefusal.{OpenRefusal}
+use Rattle.rz_opening.specs.declared.refusal.OpenRefusal.TheVariants as opens
 use Rattle.rz_request.specs.Requests.{Asks, Reading}
 use Rattle.rz_request.specs.declared.refusal.Refusal.TheVariants as refusals
 use Rattle.rz_request.specs.declared.refusal.Stop.{Stop}
@@ -22,12 +24,17 @@ abbrev pub Fails : DriverFault → Sunk → ℕ → Type 0
 Fails faults.NoMemory sink status = Lacks sink status
 Fails (faults.Disk index) sink status = Refuses (refusals.Disk index) sink status
 
+-- disks do not open again: memory is wanting, or the line of the disk that does not was to be written
+abbrev pub FailsAgain : OpenRefusal → Sunk → ℕ → Type 0
+FailsAgain opens.NoMemory sink status = Lacks sink status
+FailsAgain (opens.Open index cause) sink status = Refuses (refusals.Open index cause) sink status
+
 -- A play at words of this meaning, over a source, disks before and after, a link that lost so many messages, and a sink: what the
 -- words and the source ask for of so many disks is answered, and played; and the disks are handed back.
-abbrev pub Plays : {D : Type 0} → Bool → (D → Meter) → (D → List ℕ → Type 0) → Option Meaning → Reading → List D → List D → (lost : ℕ) → Sunk → ℕ → List Event → Type 0
-Plays tells meter image words source old new lost sink status h =
+abbrev pub Plays : {D : Type 0} → Bool → (D → List ℕ) → (D → Meter) → (D → List ℕ → Type 0) → Option Meaning → Reading → List D → List D → (lost : ℕ) → Sunk → ℕ → List Event → Type 0
+Plays tells text meter image words source old new lost sink status h =
     (r : Result Request Stop) × (course : Course) × Asks words source (length old) r
-    × Ensues tells course r (faulted meter old new) lost sink status h × HandsBack tells meter image course r old new h
+    × Ensues tells course r (faulted meter old new) lost sink status h × HandsBack tells text meter image course r lost old new h
 
 -- the node of which a command wants the old disk carried over
 abbrev pub old_node_in : Command → Option ℕ
@@ -41,7 +48,7 @@ old_node_of (Some m) = old_node_in m.command
 -- nothing is played where an old disk is carried over
 abbrev pub Does : {D : Type 0} → Bool → (D → List ℕ) → (D → Meter) → (D → List ℕ → Type 0) → Option ℕ → Option Meaning → Reading → List D → List D → (lost : ℕ) → Sunk → ℕ → List Event → Type 0
 Does tells text meter image (Some sid) words source old new lost sink status h = Carries tells text image meter sid source old new sink status × (h ≡ [])
-Does tells text meter image None words source old new lost sink status h = Plays tells meter image words source old new lost sink status h
+Does tells text meter image None words source old new lost sink status h = Plays tells text meter image words source old new lost sink status h
 
 -- A replay at words of this meaning: an old disk is carried over, where they want that of some node; and otherwise what they want is
 -- played.

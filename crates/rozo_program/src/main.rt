@@ -72,10 +72,11 @@ fn refuse_file(rt: &HostRuntime, index: u16) -> u8 {
     refuse(rt.alloc(), &Refusal::Disk { index }, &mut output)
 }
 
-/// How many of the disks stand in files that are there already.
-fn kept(command: Command) -> u16 {
+/// How many of so many disks stand in files that are there already.
+fn kept(command: Command, disks: u16) -> u16 {
     match command {
         Command::Migrate { .. } => 1,
+        Command::Again => disks,
         _ => 0,
     }
 }
@@ -85,7 +86,7 @@ fn play_wanted(rt: &HostRuntime, words: &[String], wanted: &Wanted) -> u8 {
     let Some(folder) = &wanted.folder else {
         return play_in_memory(rt, words, wanted.disks);
     };
-    let kept = kept(wanted.command);
+    let kept = kept(wanted.command, wanted.disks);
     match files(rt, rt.alloc(), folder.as_str(), kept, wanted.disks) {
         Ok(disks) => play(rt, words, disks),
         Err(FilesFault::Unopened { index }) => refuse_file(rt, index),

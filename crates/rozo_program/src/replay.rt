@@ -3,10 +3,11 @@
 ghost use Rattle.std.specs.Prelude.{◌≡◌, ◌≢◌, ◌+◌, ◌-◌, [], IsSome, MatchResult, Ok, length, map, reverse, string_bytes};
 ghost use Rattle.rz_command.specs.Line.{meaning};
 ghost use Rattle.rz_request.specs.Requests.{disks_for, nodes_in};
-ghost use Rattle.rz_request.specs.declared.wishes.Wish.TheVariants.{First};
+ghost use Rattle.rz_request.specs.declared.wishes.Wish.TheVariants.{First, Again};
+ghost use Rattle.rz_play_laws.specs.Runs.{IsScript};
 ghost use Rattle.rz_perform.specs.Replays.{Course, Follows};
 ghost use Rattle.rozo_program.specs.Disks.{HandsBack, faulted};
-ghost use Rattle.rozo_program.specs.Replays.{Fails, Plays, Replays, old_node_of};
+ghost use Rattle.rozo_program.specs.Replays.{Fails, FailsAgain, Plays, Replays, old_node_of};
 
 use crate::migrating::carry;
 use rz_command::{Command, WordsError, wanted};
@@ -14,9 +15,11 @@ use rz_disk::Disk;
 use rz_driver::{Driver, DriverFault};
 use rz_events::Event;
 use rz_link::Link;
-use rz_perform::{perform, refuse, stop};
+use rz_opening::OpenRefusal;
+use rz_perform::{begins, perform, refuse, stop};
 use rz_ports::{Sink, Source};
 use rz_request::{Refusal, Request, Wish, request};
+use rz_script::Script;
 use std::alloc::{AllocError, Global};
 use std::mem;
 
@@ -73,9 +76,10 @@ fn play_plain<D: Disk, L: Link, O: Sink>(
     output: &mut O,
 ) -> Played
     requires plain { request.now.wish ≢ First }
+    requires anew { request.now.wish ≢ Again }
     requires count { length disks.old.items ≡ nodes_in request.now.script }
     ensures { (course : Course) × Follows D.tells course request.now (faulted D.meter disks.old.items disks.new.items) (L.lost link.new - L.lost link.old) (record { before = O.taken output.old; after = O.taken output.new; old = O.faults output.old; new = O.faults output.new }) result.status (reverse result.log.items)
-        × HandsBack D.tells D.meter D.image course (Ok request.now) disks.old.items disks.new.items (reverse result.log.items) }
+        × HandsBack D.tells D.text D.meter D.image course (Ok request.now) (L.lost link.new - L.lost link.old) disks.old.items disks.new.items (reverse result.log.items) }
 {
     rz_scrub_laws::untouched::<D>();
     let volume = request.script.volume();
@@ -115,7 +119,7 @@ fn play_first<D: Disk, L: Link, O: Sink>(
     requires first { request.now.wish ≡ First }
     requires count { length disks.old.items ≡ nodes_in request.now.script + 1 }
     ensures { (course : Course) × Follows D.tells course request.now (faulted D.meter disks.old.items disks.new.items) (L.lost link.new - L.lost link.old) (record { before = O.taken output.old; after = O.taken output.new; old = O.faults output.old; new = O.faults output.new }) result.status (reverse result.log.items)
-        × HandsBack D.tells D.meter D.image course (Ok request.now) disks.old.items disks.new.items (reverse result.log.items) }
+        × HandsBack D.tells D.text D.meter D.image course (Ok request.now) (L.lost link.new - L.lost link.old) disks.old.items disks.new.items (reverse result.log.items) }
 {
     rz_scrub_laws::untouched::<D>();
     let volume = request.script.volume();
@@ -143,6 +147,68 @@ fn play_first<D: Disk, L: Link, O: Sink>(
     }
 }
 
+/// Writes why no driver went on over disks, and gives the status.
+fn refuse_opening<O: Sink>(alloc: Global, why: OpenRefusal, output: &mut O) -> u8
+    ensures { FailsAgain why (record { before = O.taken output.old; after = O.taken output.new; old = O.faults output.old; new = O.faults output.new }) result }
+{
+    match why {
+        OpenRefusal::NoMemory => 70,
+        OpenRefusal::Open { index, cause } => {
+            refuse(alloc, &Refusal::Open { index, cause }, output)
+        }
+    }
+}
+
+/// A script keeps the rules of its volume, and its lines the limits.
+fn keeps_rules(script: &Script)
+    ensures { IsScript script.now.volume script.now.lines }
+{
+    let _nodes = script.volume().node_count();
+    let _lines = script.lines();
+}
+
+/// Goes on with a request over the disks that an earlier play left, that of its journal last, and writes what
+/// is to be told of it. The disks are back afterwards.
+fn play_again<D: Disk, L: Link, O: Sink>(
+    alloc: Global,
+    request: &Request,
+    disks: &mut Vec<D>,
+    link: &mut L,
+    output: &mut O,
+) -> Played
+    requires again { request.now.wish ≡ Again }
+    requires count { length disks.old.items ≡ nodes_in request.now.script + 1 }
+    ensures { (course : Course) × Follows D.tells course request.now (faulted D.meter disks.old.items disks.new.items) (L.lost link.new - L.lost link.old) (record { before = O.taken output.old; after = O.taken output.new; old = O.faults output.old; new = O.faults output.new }) result.status (reverse result.log.items)
+        × HandsBack D.tells D.text D.meter D.image course (Ok request.now) (L.lost link.new - L.lost link.old) disks.old.items disks.new.items (reverse result.log.items) }
+{
+    rz_scrub_laws::untouched::<D>();
+    begins();
+    rz_continuation::afterwards();
+    keeps_rules(&request.script);
+    let volume = request.script.volume();
+    let lent = mem::replace(disks, Vec::new(alloc));
+    match Driver::again(alloc, volume, lent) {
+        Ok(mut driver) => {
+            let status = perform(
+                alloc,
+                request.wish,
+                &request.script,
+                &mut driver,
+                link,
+                output,
+            );
+            let (log, back) = driver.close_all();
+            *disks = back;
+            Played { status, log }
+        }
+        Err((back, why)) => {
+            *disks = back;
+            let status = refuse_opening(alloc, why, output);
+            unplayed(alloc, status)
+        }
+    }
+}
+
 /// Plays a request over the disks that it needs, and writes what is to be told of it. The disks are back
 /// afterwards.
 fn play_request<D: Disk, L: Link, O: Sink>(
@@ -154,10 +220,11 @@ fn play_request<D: Disk, L: Link, O: Sink>(
 ) -> Played
     requires { length disks.old.items ≡ disks_for request.now.wish request.now.script }
     ensures { (course : Course) × Follows D.tells course request.now (faulted D.meter disks.old.items disks.new.items) (L.lost link.new - L.lost link.old) (record { before = O.taken output.old; after = O.taken output.new; old = O.faults output.old; new = O.faults output.new }) result.status (reverse result.log.items)
-        × HandsBack D.tells D.meter D.image course (Ok request.now) disks.old.items disks.new.items (reverse result.log.items) }
+        × HandsBack D.tells D.text D.meter D.image course (Ok request.now) (L.lost link.new - L.lost link.old) disks.old.items disks.new.items (reverse result.log.items) }
 {
     match request.wish {
         Wish::First => play_first(alloc, request, disks, link, output),
+        Wish::Again => play_again(alloc, request, disks, link, output),
         Wish::Replay => play_plain(alloc, request, disks, link, output),
         Wish::Scrub => play_plain(alloc, request, disks, link, output),
         Wish::Load { .. } => play_plain(alloc, request, disks, link, output),
@@ -175,7 +242,7 @@ fn play_words<I: Source, O: Sink, D: Disk, L: Link>(
     disks: &mut Vec<D>,
     link: &mut L,
 ) -> Played
-    ensures { Plays D.tells D.meter D.image (meaning (map string_bytes words.now)) (record { before = I.left input.old; after = I.left input.new; old = I.faults input.old; new = I.faults input.new }) disks.old.items disks.new.items (L.lost link.new - L.lost link.old) (record { before = O.taken output.old; after = O.taken output.new; old = O.faults output.old; new = O.faults output.new }) result.status (reverse result.log.items) }
+    ensures { Plays D.tells D.text D.meter D.image (meaning (map string_bytes words.now)) (record { before = I.left input.old; after = I.left input.new; old = I.faults input.old; new = I.faults input.new }) disks.old.items disks.new.items (L.lost link.new - L.lost link.old) (record { before = O.taken output.old; after = O.taken output.new; old = O.faults output.old; new = O.faults output.new }) result.status (reverse result.log.items) }
 {
     let count = disks.len() as u64;
     match request(alloc, words, input, count) {

@@ -182,6 +182,45 @@ fn a_journal_beside_the_nodes(rt: HostRuntime) -> Result<(), Fail> {
     Ok(())
 }
 
+const AGAIN: &str = "rozo again --disks 5";
+
+const NEXT: &str = "op c1 get /f 0\nop c1 put /f 0 t:next\nrest\n";
+
+const NEXT_TOLD: &str = "0 with 5 disks: c1 1 data 1 5 x:68656c6c6f\nc1 2 acked 2 1110\nend 12\n";
+
+#[test]
+fn disks_used_again(rt: HostRuntime) -> Result<(), Fail> {
+    let alloc = rt.alloc();
+    let mut disks: Vec<PlainDisk> = memory(alloc, 5)?;
+    let link = MemLink::new(Vec::new(alloc));
+    let first = told(alloc, FIRST, WRITTEN, &mut disks, link)?;
+    assert_eq!(rt; first.as_str(), FIRST_TOLD);
+    let link = MemLink::new(Vec::new(alloc));
+    let next = told(alloc, AGAIN, NEXT, &mut disks, link)?;
+    assert_eq!(rt; next.as_str(), NEXT_TOLD);
+    Ok(())
+}
+
+#[test]
+fn disks_that_do_not_open_again(rt: HostRuntime) -> Result<(), Fail> {
+    let alloc = rt.alloc();
+
+    // Disks of no bytes are not of the right size, and the journal is opened first.
+    let mut disks: Vec<PlainDisk> = memory(alloc, 5)?;
+    let link = MemLink::new(Vec::new(alloc));
+    let empty = told(alloc, AGAIN, "", &mut disks, link)?;
+    assert_eq!(rt; empty.as_str(), "16 with 5 disks: refused open 4 1\n");
+
+    // Disks of the right sizes are not formatted.
+    for (index, disk) in disks.iter_mut().enumerate() {
+        disk.reset(alloc, if index < 4 { 540_864 } else { 16_777_216 })?;
+    }
+    let link = MemLink::new(Vec::new(alloc));
+    let blank = told(alloc, AGAIN, "", &mut disks, link)?;
+    assert_eq!(rt; blank.as_str(), "16 with 5 disks: refused open 4 3\n");
+    Ok(())
+}
+
 #[test]
 fn the_disk_of_the_journal_fails(rt: HostRuntime) -> Result<(), Fail> {
     let alloc = rt.alloc();

@@ -1,13 +1,13 @@
 -- A write is found by its stamp.
-use Rattle.std.proofs.Common.{◌≡◌, inl, inr, ℕ, zero, suc, ◌-◌, ◌<◌, ◌≤◌, Bool, true, false, cond, List, [], ◌∷◌, ◌++◌, reverse, Option, Some, None, refl, sym, ◌∙◌, ap, subst, arith, eq-eqb}
+use Rattle.std.proofs.Common.{◌≡◌, inl, inr, ℕ, zero, suc, ◌-◌, ◌<◌, ◌≤◌, Bool, true, false, cond, List, [], ◌∷◌, ◌++◌, reverse, length, Option, Some, None, refl, sym, ◌∙◌, ap, subst, arith, eq-eqb}
 use Rattle.std.specs.Prelude.{◌==◌, slice_get, if◌then◌else◌}
-use Rattle.std.proofs.lemmas.List.{reverse-append}
+use Rattle.std.proofs.lemmas.List.{reverse-append, length-reverse}
 use Rattle.std.proofs.lemmas.Bool.Decides.{nat_tests}
 use Rattle.rz_events.specs.declared.events.Event.{Event}
 use Rattle.rz_events.specs.declared.events.Event.TheVariants as e
 use Rattle.rz_core.specs.History.{Has, Begun, begun_by, first_some, wrote}
 use Rattle.rz_play.specs.Turns.{text_in}
-use Rattle.rz_asks.specs.Logged.{stamp_begun, HasBegun, rises_by, Rises}
+use Rattle.rz_asks.specs.Logged.{stamp_begun, HasBegun, rises_by, Rises, IsFrom, AreFrom, IsLogCount, room_for}
 
 -- ---- stamps that rise
 
@@ -28,15 +28,21 @@ rises-begun n s x h begun lt r = subst (λ (o : Option ℕ). rises_by o s (Rises
 differ : (s t : ℕ) → t < s → (s == t) ≡ false
 differ s t lt = grind (arith, nat_tests)
 
+differ-below : (s t : ℕ) → s < t → (s == t) ≡ false
+differ-below s t lt = grind (arith, nat_tests)
+
 the-stamp : (a b : ℕ) → Some a ≡ Some b → a ≡ b
 the-stamp a b is = cc
 
 none-some : {A : Type 0} (t : ℕ) → None ≡ Some t → A
 none-some t is = absurd (cc)
 
+other-begun : (s : ℕ) (x : Event) (o : Option ℕ) → stamp_begun x ≡ o → ((t : ℕ) → o ≡ Some t → (s == t) ≡ false) → begun_by s x ≡ None
+other-begun s (e.Begin by key stamp base text) o is other = ap (λ b. cond b (Some (record { by = by; key = key; base = base; text = text })) None) (other stamp (sym is))
+other-begun s x o is other = refl
+
 not-begun : (s : ℕ) (x : Event) (o : Option ℕ) → stamp_begun x ≡ o → ((t : ℕ) → o ≡ Some t → t < s) → begun_by s x ≡ None
-not-begun s (e.Begin by key stamp base text) o is low = ap (λ b. cond b (Some (record { by = by; key = key; base = base; text = text })) None) (differ s stamp (low stamp (sym is)))
-not-begun s x o is low = refl
+not-begun s x o is low = other-begun s x o is (λ t some. differ s t (low t some))
 
 neither : (o p : Option Begun) → o ≡ None → p ≡ None → first_some o p ≡ None
 neither o p one two = ap (λ (x : Option Begun). first_some x p) one ∙ two
@@ -121,3 +127,40 @@ pushed xs ys x false is ok = (let none : true ≡ false = sym ok in absurd (cc))
 
 pub rises-noted : (n s : ℕ) (x : Event) (xs ys : List Event) → reverse ys ≡ x ∷ reverse xs → stamp_begun x ≡ Some s → n < s → Rises (reverse xs) n → Rises (reverse ys) s
 rises-noted n s x xs ys is begun low r = subst (λ (h : List Event). Rises h s) (sym is) (rises-begun n s x (reverse xs) begun low r)
+
+-- ---- the least stamp
+
+from-fewer : (m n : ℕ) (o : Option ℕ) → m ≤ n → IsFrom n o → IsFrom m o
+from-fewer m n None le from = tt
+from-fewer m n (Some s) le from = omega (arith, le, from)
+
+pub are-from-fewer : (m n : ℕ) (h : List Event) → m ≤ n → AreFrom n h → AreFrom m h
+are-from-fewer m n [] le from = tt
+are-from-fewer m n (x ∷ h) le from = (from-fewer m n (stamp_begun x) le from.0, are-from-fewer m n h le from.1)
+
+below : (n s : ℕ) (x : Event) → s < n → (o : Option ℕ) → stamp_begun x ≡ o → IsFrom n o → begun_by s x ≡ None
+below n s x lt None is from = other-begun s x None is (λ t some. none-some t some)
+below n s x lt (Some t) is from = other-begun s x (Some t) is (λ u some. let same = the-stamp t u some in differ-below s u (omega (arith, same, lt, from)))
+
+-- a stamp that is less than the least was not begun
+pub none-below : (n s : ℕ) (h : List Event) → s < n → AreFrom n h → wrote h s ≡ None
+none-below n s [] lt from = refl
+none-below n s (x ∷ h) lt from = neither (wrote h s) (begun_by s x) (none-below n s h lt from.1) (below n s x lt (stamp_begun x) refl from.0)
+
+pub from-noted : (m n s : ℕ) (x : Event) (xs ys : List Event) → reverse ys ≡ x ∷ reverse xs → stamp_begun x ≡ Some s → m ≤ n → m ≤ s → AreFrom n (reverse xs) → AreFrom m (reverse ys)
+from-noted m n s x xs ys is begun least own from =
+    let here : IsFrom m (stamp_begun x) = subst (IsFrom m) (sym begun) own in
+    subst (AreFrom m) (sym is) (here, are-from-fewer m n (reverse xs) least from)
+
+-- ---- room
+
+pub has-place : (capacity count : ℕ) → 0 < room_for capacity count → count < capacity
+has-place capacity count room = omega (arith, room)
+
+-- a log that has room for an event is not full with it
+pub one-more : (capacity : ℕ) (xs ys : List Event) (x : Event) → reverse ys ≡ x ∷ reverse xs → 0 < room_for capacity (length xs) → IsLogCount (length ys)
+one-more capacity xs ys x is room =
+    let grown : length (reverse ys) ≡ length (x ∷ reverse xs) = ap (λ (h : List Event). length h) is in
+    let new = length-reverse ys in
+    let old = length-reverse xs in
+    omega (arith, grown, new, old, room)

@@ -1,6 +1,7 @@
 -- The journal's disk stands for the calls of a log: after a reply, after other events, and where there is no reply.
 use Rattle.std.proofs.Common.{◌≡◌, inl, inr, ℕ, Bool, true, false, cond, List, [], ◌∷◌, ◌++◌, Option, Some, None, IfSome, Result, Ok, Err, OnErr, refl, sym, ◌∙◌, ap, subst}
 use Rattle.std.specs.Prelude.{◌&&◌, is_some}
+use Rattle.std.proofs.lemmas.List.Elements.{filter-append}
 use Rattle.rz_disk.specs.Meter.{Meter}
 use Rattle.rz_events.specs.declared.keys.Actor.{Actor}
 use Rattle.rz_events.specs.declared.export.Call.{Call}
@@ -69,6 +70,13 @@ noted-stays n (Some x) h word = node-stays n x h word
 
 -- ---- logs
 
+-- the export's words of a log and of the one behind it
+word-behind : (log old : List Event) → of_word Export (log ++ old) ≡ of_word Export log ++ of_word Export old
+word-behind log old = filter-append (λ x. same_word Export (word_of x)) log old
+
+same-behind : (log log2 old : List Event) → of_word Export log2 ≡ of_word Export log → of_word Export (log2 ++ old) ≡ of_word Export (log ++ old)
+same-behind log log2 old same = word-behind log2 old ∙ ap (λ (h : List Event). h ++ of_word Export old) same ∙ sym (word-behind log old)
+
 -- the calls of a new log
 pub keeps-first : {D : Type 0} (tells : Bool) (meter : D → Meter) (image : D → List ℕ → Type 0) (first : ℕ) (m : Metadata D)
     → Stands tells meter image first m [] → KeepsLog tells meter image first m []
@@ -77,15 +85,15 @@ keeps-first tells meter image first m stands = ([], refl, stands)
 -- a log with the same events of the export tells the same calls
 pub keeps-same : {D : Type 0} (tells : Bool) (meter : D → Meter) (image : D → List ℕ → Type 0) (m : Metadata D) (log log2 : List Event)
     → of_word Export log2 ≡ of_word Export log → KeepsOn tells meter image m log m log2
-keeps-same tells meter image m log log2 same = λ first keeps. (keeps.0, subst (λ (h : List Event). AreTold h keeps.0) (sym same) keeps.1, keeps.2)
+keeps-same tells meter image m log log2 same = λ first old keeps. (keeps.0, subst (λ (h : List Event). AreTold h keeps.0) (sym (same-behind log log2 old same)) keeps.1, keeps.2)
 
 pub keeps-then : {D : Type 0} (tells : Bool) (meter : D → Meter) (image : D → List ℕ → Type 0) (m n p : Metadata D) (log log2 log3 : List Event)
     → KeepsOn tells meter image m log n log2 → KeepsOn tells meter image n log2 p log3 → KeepsOn tells meter image m log p log3
-keeps-then tells meter image m n p log log2 log3 one two = λ first keeps. two first (one first keeps)
+keeps-then tells meter image m n p log log2 log3 one two = λ first old keeps. two first old (one first old keeps)
 
 pub ends-then : {D : Type 0} (tells : Bool) (meter : D → Meter) (image : D → List ℕ → Type 0) (m n p : Metadata D) (log log2 log3 : List Event)
     → KeepsOn tells meter image m log n log2 → EndsOn tells meter image n log2 p log3 → EndsOn tells meter image m log p log3
-ends-then tells meter image m n p log log2 log3 one two = λ first keeps. two first (one first keeps)
+ends-then tells meter image m n p log log2 log3 one two = λ first old keeps. two first old (one first old keeps)
 
 -- what stands for the calls of the log also ends so
 pub keeps-ends : {D : Type 0} (tells : Bool) (meter : D → Meter) (image : D → List ℕ → Type 0) (first : ℕ) (m : Metadata D) (log : List Event)
@@ -94,7 +102,7 @@ keeps-ends tells meter image first m log keeps = (keeps.0, keeps.1, inl keeps.2)
 
 pub ends-on : {D : Type 0} (tells : Bool) (meter : D → Meter) (image : D → List ℕ → Type 0) (m n : Metadata D) (log log2 : List Event)
     → KeepsOn tells meter image m log n log2 → EndsOn tells meter image m log n log2
-ends-on tells meter image m n log log2 keeps = λ first had. keeps-ends tells meter image first n log2 (keeps first had)
+ends-on tells meter image m n log log2 keeps = λ first old had. keeps-ends tells meter image first n (log2 ++ old) (keeps first old had)
 
 -- ---- replies
 
@@ -109,8 +117,8 @@ Refuses tells meter image m c n = (first : ℕ) (calls : List Call) → Stands t
 -- a reply that was noted
 pub keeps-noted : {D : Type 0} (tells : Bool) (meter : D → Meter) (image : D → List ℕ → Type 0) (m n : Metadata D) (log log2 : List Event) (by : Actor) (c : Call) (r : Reply)
     → IsNoted (export_event by c r) log log2 → Replies tells meter image m c r n → KeepsOn tells meter image m log n log2
-keeps-noted tells meter image m n log log2 by c r says stands = λ first keeps.
-    let grows : of_word Export log2 ≡ says.0 ∷ of_word Export log = ap (of_word Export) says.2 ∙ word-grows by c r says.0 log says.1 in
+keeps-noted tells meter image m n log log2 by c r says stands = λ first old keeps.
+    let grows : of_word Export (log2 ++ old) ≡ says.0 ∷ of_word Export (log ++ old) = ap (λ (h : List Event). of_word Export (h ++ old)) says.2 ∙ word-grows by c r says.0 (log ++ old) says.1 in
     let calls = calls_after r c keeps.0 in
     let adds : AddsCall says.0 keeps.0 calls = record { by = by; call = c; reply = r; event_is = says.1; after_is = refl } in
     (calls, subst (λ (h : List Event). AreTold h calls) (sym grows) (keeps.0, keeps.1, adds), stands first keeps.0 keeps.2)
@@ -123,17 +131,17 @@ one-more tells meter image first m c calls false stands = inl stands
 -- a reply that was not noted
 pub ends-unnoted : {D : Type 0} (tells : Bool) (meter : D → Meter) (image : D → List ℕ → Type 0) (m n : Metadata D) (log log2 : List Event) (c : Call) (r : Reply)
     → log2 ≡ log → Replies tells meter image m c r n → EndsOn tells meter image m log n log2
-ends-unnoted tells meter image m n log log2 c r same stands = λ first keeps.
-    (keeps.0, subst (λ (h : List Event). AreCallsOf h keeps.0) (sym same) keeps.1, one-more tells meter image first n c keeps.0 (is_some (entry_of c) && accepts r) (stands first keeps.0 keeps.2))
+ends-unnoted tells meter image m n log log2 c r same stands = λ first old keeps.
+    (keeps.0, subst (λ (h : List Event). AreCallsOf (h ++ old) keeps.0) (sym same) keeps.1, one-more tells meter image first n c keeps.0 (is_some (entry_of c) && accepts r) (stands first keeps.0 keeps.2))
 
 -- no reply
 pub ends-refused : {D : Type 0} (tells : Bool) (meter : D → Meter) (image : D → List ℕ → Type 0) (m n : Metadata D) (log : List Event) (c : Call)
     → Refuses tells meter image m c n → EndsOn tells meter image m log n log
-ends-refused tells meter image m n log c stands = λ first keeps. (keeps.0, keeps.1, inr (c, inr (stands first keeps.0 keeps.2)))
+ends-refused tells meter image m n log c stands = λ first old keeps. (keeps.0, keeps.1, inr (c, inr (stands first keeps.0 keeps.2)))
 
 -- nothing was asked
 pub ends-unasked : {D : Type 0} (tells : Bool) (meter : D → Meter) (image : D → List ℕ → Type 0) (m : Metadata D) (log : List Event) → EndsOn tells meter image m log m log
-ends-unasked tells meter image m log = λ first keeps. keeps-ends tells meter image first m log keeps
+ends-unasked tells meter image m log = λ first old keeps. keeps-ends tells meter image first m (log ++ old) keeps
 
 pub on-err : {A B : Type 0} {P : Type 0} (r : Result A B) → P → OnErr r P
 on-err (Ok a) p = tt

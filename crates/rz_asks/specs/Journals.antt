@@ -30,13 +30,13 @@ AreTold (x ∷ h) calls = (before : List Call) × AreTold h before × AddsCall x
 abbrev pub AreCallsOf : List Event → List Call → Type 0
 AreCallsOf log calls = AreTold (of_word Export log) calls
 
--- The journal stands for the calls of the log.
+-- The journal stands for the calls of the log. What a turn keeps, it keeps behind the log of all earlier runs.
 
 abbrev pub KeepsLog : {D : Type 0} → Bool → (D → Meter) → (D → List ℕ → Type 0) → ℕ → Metadata D → List Event → Type 0
 KeepsLog tells meter image first m log = (calls : List Call) × AreCallsOf log calls × Stands tells meter image first m calls
 
 abbrev pub KeepsOn : {D : Type 0} → Bool → (D → Meter) → (D → List ℕ → Type 0) → Metadata D → List Event → Metadata D → List Event → Type 0
-KeepsOn tells meter image m log m' log' = (first : ℕ) → KeepsLog tells meter image first m log → KeepsLog tells meter image first m' log'
+KeepsOn tells meter image m log m' log' = (first : ℕ) (old : List Event) → KeepsLog tells meter image first m (log ++ old) → KeepsLog tells meter image first m' (log' ++ old)
 
 -- It stands for these calls, or for these and one more: one that was replied to and not noted, or one that the journal did not keep.
 
@@ -49,4 +49,4 @@ abbrev pub EndsLog : {D : Type 0} → Bool → (D → Meter) → (D → List ℕ
 EndsLog tells meter image first m log = (calls : List Call) × AreCallsOf log calls × EndsWith tells meter image first m calls
 
 abbrev pub EndsOn : {D : Type 0} → Bool → (D → Meter) → (D → List ℕ → Type 0) → Metadata D → List Event → Metadata D → List Event → Type 0
-EndsOn tells meter image m log m' log' = (first : ℕ) → KeepsLog tells meter image first m log → EndsLog tells meter image first m' log'
+EndsOn tells meter image m log m' log' = (first : ℕ) (old : List Event) → KeepsLog tells meter image first m (log ++ old) → EndsLog tells meter image first m' (log' ++ old)

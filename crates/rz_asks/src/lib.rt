@@ -1,12 +1,14 @@
 //! What an actor's operation asks of the export, the locks and the log of one play.
 //!
-//! A [`Log`] has the events of a play. Each of the other functions answers one thing that a machine asks: a
-//! call of the export, an open with a lock, or a word of the actor's own. It tells the machine the answer
-//! and notes the event, as the models say; where memory is wanting, or the export does not take the call,
-//! the log stays as it is. Nothing is said here of nodes, nor of whose turn it is.
+//! A [`Log`] has the events of a play, which may go on after earlier runs, whose events it does not have.
+//! Each of the other functions answers one thing that a machine asks: a call of the export, an open with a
+//! lock, or a word of the actor's own. It tells the machine the answer and notes the event, as the models
+//! say; where memory is wanting, or the export does not take the call, the log stays as it is. Nothing is
+//! said here of nodes, nor of whose turn it is.
 //!
 //! The export may stand behind a journal. `specs/Journals` says that the journal's disk stands for the calls
-//! that the log tells, or where a call ended in no reply for these and one more.
+//! that the log tells, or where a call ended in no reply for these and one more; and so it is behind the log
+//! of any earlier runs.
 //!
 //! In reading order: `log`, `replies`, `locking`, `words`.
 #![tactic(auto)]

@@ -1,5 +1,5 @@
 //! The log of a play.
-ghost use Rattle.std.specs.Prelude.{◌≡◌, ◌≢◌, ◌+◌, ◌<◌, ◌≤◌, [], ◌∷◌, reverse, OnOk, OnErr, IsTrue, Option, None};
+ghost use Rattle.std.specs.Prelude.{◌≡◌, ◌≢◌, ◌⊎◌, ◌+◌, ◌^◌, ◌<◌, ◌≤◌, true, false, [], ◌∷◌, reverse, length, OnOk, OnErr, IsTrue, Option, None};
 ghost use Rattle.rz_core.specs.History.{wrote};
 ghost use Rattle.rz_play.specs.Turns.{text_in};
 ghost use Rattle.rz_asks.specs.Logged.{stamp_begun, HasBegun};
@@ -9,49 +9,80 @@ use rz_events::Event;
 use std::alloc::{AllocError, Global};
 use std::marker::Model;
 
+/// A log takes events for one turn more while it has at most so many, which is 2^62.
+const MOST_EVENTS: usize = 4_611_686_018_427_387_904;
+
 /// The events so far, and room for more. Contracts see the newest event first.
 ///
-/// The stamps of writes rise, so that a text is found by its stamp.
+/// The stamps of writes rise, so that a text is found by its stamp. There may have been earlier runs, whose
+/// events are not here: a write with a lower stamp than each that began here may then be one of those.
 #[derive(Drop)]
 pub struct Log {
     events: Vec<Event>,
     /// The stamps of the writes that began, ascending, and where their events stand.
     begins: Vec<(u64, usize)>,
+    /// No write with a lower stamp than this began.
+    least: u64,
     /// The stamp of the last write that began.
     last: u64,
+    /// Whether there were earlier runs.
+    earlier: bool,
 }
 
 impl Model for Log {
-    ghost use Rattle.std.specs.Prelude.{reverse, ◌-◌, length};
+    ghost use Rattle.std.specs.Prelude.{reverse, length};
     ghost use Rattle.std.specs.Vec.{vec_capacity};
-    ghost use Rattle.rz_asks.specs.Logged.{Logged, logged_code, Rises};
+    ghost use Rattle.rz_asks.specs.Logged.{Logged, logged_code, Rises, AreFrom, IsLogCount, room_for};
 
     ghost Value = { Logged };
 
     ghost coded = { logged_code };
 
-    ghost view = { λ l. record { events = reverse l.events.items; room = vec_capacity l.events - length l.events.items } };
+    ghost view = { λ l. record { events = reverse l.events.items; room = room_for (vec_capacity l.events) (length l.events.items); earlier = l.earlier } };
 
-    ghost invariant = { λ l. Rises (reverse l.events.items) l.last };
+    ghost invariant = { λ l. Rises (reverse l.events.items) l.last × AreFrom l.least (reverse l.events.items) × IsLogCount (length l.events.items) };
 }
 
 impl Log {
-    /// A log with no event.
+    /// A log with no event, where there were no earlier runs.
     pub fn new(alloc: Global) -> Log
-        ensures { result.events ≡ [] }
+        ensures events { result.events ≡ [] }
+        ensures earlier { result.earlier ≡ false }
+    {
+        Log::empty(alloc, false)
+    }
+
+    /// A log with no event, after earlier runs.
+    pub fn after_earlier(alloc: Global) -> Log
+        ensures events { result.events ≡ [] }
+        ensures earlier { result.earlier ≡ true }
+    {
+        Log::empty(alloc, true)
+    }
+
+    fn empty(alloc: Global, earlier: bool) -> Log
+        ensures events { result.events ≡ [] }
+        ensures earlier { result.earlier ≡ earlier }
     {
         Log {
             events: Vec::new(alloc),
             begins: Vec::new(alloc),
+            least: u64::MAX,
             last: 0,
+            earlier,
         }
     }
 
-    /// Makes room for two events.
+    /// Makes room for two events. A log of more than 2^62 events gets no more room.
     pub fn make_room(&mut self) -> Result<(), AllocError>
         ensures same { self.new.events ≡ self.old.events }
+        ensures earlier { self.new.earlier ≡ self.old.earlier }
         ensures ok { OnOk result (2 ≤ self.new.room) }
+        ensures short { OnOk result (length self.new.events ≤ 2 ^ 62) }
     {
+        if self.events.len() > MOST_EVENTS {
+            return Err(AllocError);
+        }
         self.begins.reserve(2)?;
         self.events.reserve(2)?;
         Ok(())
@@ -64,6 +95,7 @@ impl Log {
         ensures err { OnErr result (self.new.events ≡ self.old.events) }
         ensures begins { OnErr result (stamp_begun event ≢ None) }
         ensures room { self.old.room ≤ self.new.room + 1 }
+        ensures earlier { self.new.earlier ≡ self.old.earlier }
     {
         match stamp_of(&event) {
             None => {
@@ -78,6 +110,7 @@ impl Log {
                 let place = self.events.len();
                 let _noted = self.events.push(event);
                 let _placed = self.begins.push((stamp, place));
+                self.least = least_of(self.least, stamp);
                 self.last = stamp;
                 Ok(())
             }
@@ -90,6 +123,7 @@ impl Log {
         ensures ok { OnOk result (self.new.events ≡ second ∷ first ∷ self.old.events) }
         ensures err { OnErr result (self.new.events ≡ self.old.events) }
         ensures begins { OnErr result (stamp_begun first ≡ None → stamp_begun second ≢ None) }
+        ensures earlier { self.new.earlier ≡ self.old.earlier }
     {
         if stamp_of(&first).is_some() || stamp_of(&second).is_some() {
             let_go(first);
@@ -101,10 +135,14 @@ impl Log {
         Ok(())
     }
 
-    /// Whether the write of a stamp began with this text. It finds it in logarithmic time.
+    /// Whether the write of a stamp may have this text: it began with it, or it is one of an earlier run. It
+    /// finds it in logarithmic time.
     pub fn has_text(&self, stamp: u64, text: &[u8]) -> bool
-        ensures { IsTrue result → text_in (wrote self.now.events stamp) ≡ text.now }
+        ensures { IsTrue result → (text.now ≡ text_in (wrote self.now.events stamp)) ⊎ ((self.now.earlier ≡ true) × (wrote self.now.events stamp ≡ None)) }
     {
+        if stamp < self.least {
+            return self.earlier;
+        }
         match self.begins.binary_search_by_key(&stamp, |begun| begun.0) {
             Ok(i) => {
                 let place = self.begins[i].1;
@@ -126,10 +164,19 @@ impl Log {
 
     /// The events, the oldest first.
     pub fn close(self) -> Vec<Event>
-        ensures { result.items ≡ reverse self.events }
+        ensures events { result.items ≡ reverse self.events }
+        ensures short { length self.events ≤ 2 ^ 62 + 2 }
     {
         self.events
     }
+}
+
+/// The lesser of two stamps.
+fn least_of(one: u64, other: u64) -> u64
+    ensures one { result ≤ one }
+    ensures other { result ≤ other }
+{
+    if one < other { one } else { other }
 }
 
 /// Lets an event go that is not noted.

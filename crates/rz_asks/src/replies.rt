@@ -40,6 +40,7 @@ pub fn ask_export<D: Disk>(
     ensures left { OnErr result (EndsOn D.tells D.meter D.image export.old log.old.events export.new log.new.events) }
 
     // On every exit.
+    ensures earlier { log.new.earlier ≡ log.old.earlier }
     ensures journal { is_journaled export.new ≡ is_journaled export.old }
     ensures volume { (export_in export.new).volume ≡ (export_in export.old).volume }
 {
@@ -86,6 +87,7 @@ fn note_reply(
     requires room { 0 < log.old.room }
     ensures ok { OnOk result (IsNoted (export_event by (call_of ask.entry) reply.now) log.old.events log.new.events) }
     ensures err { OnErr result (log.new.events ≡ log.old.events) }
+    ensures earlier { log.new.earlier ≡ log.old.earlier }
 {
     match words {
         Words::Call(call) => note_names(alloc, by, call, reply, log),
@@ -100,6 +102,7 @@ pub fn note(event: Option<Event>, log: &mut Log) -> Result<(), NoMemory>
     ensures ok { OnOk result (IsNoted event log.old.events log.new.events) }
     ensures err { OnErr result (log.new.events ≡ log.old.events) }
     ensures room { log.old.room ≤ log.new.room + 1 }
+    ensures earlier { log.new.earlier ≡ log.old.earlier }
 {
     match event {
         Some(event) => log.note(event),
@@ -118,6 +121,7 @@ pub(crate) fn note_names(
     requires room { 0 < log.old.room }
     ensures ok { OnOk result (IsNoted (export_event by (Call.Tree call) reply.now) log.old.events log.new.events) }
     ensures err { OnErr result (log.new.events ≡ log.old.events) }
+    ensures earlier { log.new.earlier ≡ log.old.earlier }
 {
     match reply {
         Reply::Tree(answer) => {

@@ -1,12 +1,12 @@
 //! Words of an actor's own.
-ghost use Rattle.std.specs.Prelude.{◌≡◌, ◌<◌, Bool, IfOk, OnOk, OnErr};
+ghost use Rattle.std.specs.Prelude.{◌≡◌, ◌⊎◌, ◌<◌, Bool, true, IfOk, OnOk, OnErr};
 ghost use Rattle.rz_events.specs.declared.keys.Key.{Key as AKey};
 ghost use Rattle.rz_core.specs.History.{facts};
 ghost use Rattle.rz_operation_model.specs.Ask.{ask_of, Say, SayGot};
 ghost use Rattle.rz_operation_model.specs.Steps.{read_end};
 ghost use Rattle.rz_operation.specs.Machine.{text_of};
 ghost use Rattle.rz_play.specs.Turns.{found_text};
-ghost use Rattle.rz_asks.specs.Parts.{IsSayPart, is_bad};
+ghost use Rattle.rz_asks.specs.Parts.{IsSayPart, IsUnbegunMark, is_bad};
 
 use crate::NoMemory;
 use crate::log::Log;
@@ -16,7 +16,7 @@ use std::alloc::Global;
 
 /// Says what a machine is about to say, and answers whether that was the answer of its operation.
 ///
-/// A text that was found is that of the write which it names.
+/// A text that was found is that of the write which it names, unless that write began in an earlier run.
 pub fn say(
     alloc: Global,
     by: Actor,
@@ -25,8 +25,9 @@ pub fn say(
     log: &mut Log,
 ) -> Result<bool, NoMemory>
     requires room { 0 < log.old.room }
-    ensures ok { IfOk result (λ done. IsSayPart by number done machine.old machine.new log.old.events log.new.events) }
+    ensures ok { IfOk result (λ done. IsSayPart log.old.earlier by number done machine.old machine.new log.old.events log.new.events) }
     ensures err { OnErr result (log.new.events ≡ log.old.events) }
+    ensures earlier { log.new.earlier ≡ log.old.earlier }
 {
     if !machine.has_room() {
         return Err(NoMemory);
@@ -72,8 +73,8 @@ pub fn say(
 /// How a read ended, with the text that it found.
 fn end_of(alloc: Global, machine: &Machine, mark: ReadMark, log: &Log) -> Result<ReadEnd, NoMemory>
     requires asked { (key : AKey) × (part : Bool) × (ask_of machine.now.layout machine.now.work ≡ Say (SayGot key part mark)) }
-    ensures end { IfOk result (λ end. end ≡ read_end (found_text (facts log.now.events) mark) mark) }
-    ensures text { OnOk result (text_of machine.now ≡ found_text (facts log.now.events) mark) }
+    ensures end { IfOk result (λ end. end ≡ read_end (text_of machine.now) mark) }
+    ensures known { OnOk result ((text_of machine.now ≡ found_text (facts log.now.events) mark) ⊎ ((log.now.earlier ≡ true) × IsUnbegunMark (facts log.now.events) mark)) }
 {
     match mark {
         ReadMark::Found { stamp, length } => {

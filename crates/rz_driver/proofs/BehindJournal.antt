@@ -1,9 +1,9 @@
 -- A new driver whose export was put behind a journal, on the last of the disks.
-use Rattle.std.proofs.Common.{◌≡◌, inl, ℕ, zero, suc, ◌+◌, ◌-◌, ◌^◌, ◌<◌, ◌≤◌, Bool, List, [], ◌∷◌, ◌++◌, map, length, Some, refl, sym, ◌∙◌, ap, subst, arith}
+use Rattle.std.proofs.Common.{◌≡◌, inl, ℕ, zero, suc, ◌+◌, ◌-◌, ◌^◌, ◌<◌, ◌≤◌, Bool, true, List, [], ◌∷◌, ◌++◌, map, length, Some, refl, sym, ◌∙◌, ap, subst, arith}
 use Rattle.std.specs.Prelude.{slice_get}
 use Rattle.std.specs.Global.{Vec}
 use Rattle.std.specs.List.{AllByRecursion, AllZip, zip}
-use Rattle.std.proofs.lemmas.List.{length-append, length-map}
+use Rattle.std.proofs.lemmas.List.{append-nil, length-append, length-map}
 use Rattle.mj_angles.specs.declared.layout.Layout.{Layout}
 use Rattle.rz_disk.specs.Meter.{Meter, Rises, faults}
 use Rattle.rz_disk.specs.UnderFuse.{UnderFuse, fused_meter}
@@ -36,7 +36,7 @@ use Rattle.rz_driver.specs.declared.station.Shared.{Shared}
 use Rattle.rz_driver.specs.Formatted.{IsBehindJournal, IsJournalBack, AreBackWithJournal, IsFault, IsJournalRefused}
 use Rattle.rz_driver.specs.Journals.{journal_place, HasJournal}
 use Rattle.rz_driver.specs.Pictures.{IsPicture}
-use Rattle.rz_driver.specs.Worlds.{world, world_of, numbers_in, IsDriver, HasPicture, Holds}
+use Rattle.rz_driver.specs.Worlds.{anew, exact_if, is_exact, world, world_of, numbers_in, IsDriver, HasPicture, Holds}
 use Rattle.rz_driver.proofs.NodeOrders.{ready-with}
 
 -- ---- lists with one element more
@@ -137,29 +137,32 @@ module _ {D : Type 0} {G : Ghosts D} (journal : D) (d e : Driver D G) (behind : 
           let there = subst (λ (p : Shared (UnderFuse D) D). AreMetered (fused_meter G.meter) (numbers_in d) p.stations.items p.log.events now) (sym behind.shared) again in
           subst (λ (u : Volume). AreMetered (fused_meter G.meter) (map (λ (n : NodeSpec). n.sid) (nodes_of u.clusters)) e.shared.stations.items e.shared.log.events now) (sym behind.volume) there
 
-      picture : HasPicture d → HasPicture e
+      picture : HasPicture d [] → HasPicture e []
       picture has = λ told few.
-          let was = has told (subst (λ (h : List Event). length h < 2 ^ 64 - 1) same-log few) in
+          let was = has told (subst (λ (h : List Event). length (h ++ []) < 2 ^ 64 - 1) same-log few) in
           let worlds : world_of d ≡ world_of e = new ∙ sym behind-world in
-          let one = subst (λ (w : World). IsPicture (fused_image G.image) d.volume w d.seats.items d.shared.stations.items) worlds was in
-          let two = subst (λ (s : Vec Seat). IsPicture (fused_image G.image) d.volume (world_of e) s.items d.shared.stations.items) (sym behind.seats) one in
-          let three = subst (λ (p : Shared (UnderFuse D) D). IsPicture (fused_image G.image) d.volume (world_of e) e.seats.items p.stations.items) (sym behind.shared) two in
-          subst (λ (u : Volume). IsPicture (fused_image G.image) u (world_of e) e.seats.items e.shared.stations.items) (sym behind.volume) three
+          let one = subst (λ (w : World). IsPicture (fused_image G.image) d.volume [] w d.seats.items d.shared.stations.items) worlds was in
+          let two = subst (λ (s : Vec Seat). IsPicture (fused_image G.image) d.volume [] (world_of e) s.items d.shared.stations.items) (sym behind.seats) one in
+          let three = subst (λ (p : Shared (UnderFuse D) D). IsPicture (fused_image G.image) d.volume [] (world_of e) e.seats.items p.stations.items) (sym behind.shared) two in
+          subst (λ (u : Volume). IsPicture (fused_image G.image) u [] (world_of e) e.seats.items e.shared.stations.items) (sym behind.volume) three
 
-      has-journal : HasJournal e now
+      has-journal : HasJournal e (anew now)
       has-journal =
           let place : journal_place e ≡ length nodes = ap (λ (u : Volume). length (nodes_of u.clusters)) (behind.volume ∙ volume) ∙ sym count in
           let counted : faults (G.meter journal) ≡ now (journal_place e) =
           ap (faults_in G.meter) (sym (get-behind nodes journal [])) ∙ ap now (sym place) in
-          let none : e.shared.log.events ≡ [] = ap (λ (w : World). w.log) behind-world in
+          let none : e.shared.log.events ++ [] ≡ [] = append-nil e.shared.log.events ∙ ap (λ (w : World). w.log) behind-world in
           let first = subst (λ (n : ℕ). Stands G.tells G.meter G.image n e.shared.export []) counted behind.stands in
           record {
             volume = ap (λ (s : Export). s.volume) behind.export ∙ sym behind.volume;
             keeps = subst (λ (h : List Event). KeepsLog G.tells G.meter G.image (now (journal_place e)) e.shared.export h) (sym none) (keeps-first G.tells G.meter G.image (now (journal_place e)) e.shared.export first);
           }
 
-      pub behind-holds : Holds d before → Holds e now
-      behind-holds held = (metered held.0, picture held.1, has-journal)
+      pub behind-holds : Holds d (anew before) → Holds e (anew now)
+      behind-holds held = (metered held.0, picture held.1, λ exact. has-journal, record { anew = λ no. refl; short = held.3.short })
+
+  pub behind-exact : is_exact d ≡ true → is_exact e ≡ true
+  behind-exact exact = ap (λ (p : Shared (UnderFuse D) D). exact_if G.tells p.log.earlier) behind.shared ∙ exact
 
 -- ---- the disks that come back
 

@@ -1,5 +1,6 @@
 -- A driver's picture, from one turn or order to the next.
-use Rattle.std.proofs.Common.{◌≡◌, inl, inr, ℕ, ◌-◌, ◌^◌, ◌<◌, IsTrue, nat_eq, List, [], length, set, Option, Some, None, refl, sym, ◌∙◌, ap, subst}
+use Rattle.std.proofs.Common.{◌≡◌, ◌⊎◌, inl, inr, ℕ, ◌+◌, ◌-◌, ◌^◌, ◌<◌, ◌≤◌, Bool, true, false, cond, IsTrue, nat_eq, List, [], ◌∷◌, ◌++◌, length, set, Option, Some, None, refl, sym, ◌∙◌, ap, subst, arith}
+use Rattle.std.proofs.lemmas.List.{append-nil, length-append}
 use Rattle.std.specs.Prelude.{slice_get}
 use Rattle.std.specs.List.{AllByRecursion, IsDistinct}
 use Rattle.std.specs.Vec.{with_items}
@@ -10,31 +11,42 @@ use Rattle.rz_events.specs.Volume.{Volume, IsVolume}
 use Rattle.rz_events.specs.declared.keys.Actor.{Actor}
 use Rattle.rz_events.specs.declared.keys.Actor.TheVariants.{Client, Rebuilder, Admin}
 use Rattle.rz_events.specs.declared.events.Event.{Event}
+use Rattle.rz_events.specs.Events.{same_actor}
 use Rattle.rz_core.specs.History.{Facts, facts, of_actor}
+use Rattle.rz_core.specs.Legal.{IsLegalInRuns}
+use Rattle.rz_core.proofs.Extends.{Extends, extends-more}
 use Rattle.rz_script.specs.Lines.{IsLine}
 use Rattle.rz_script.specs.declared.line.Line.{Line}
-use Rattle.rz_operation.specs.Machine.{Machine}
-use Rattle.rz_play.specs.World.{World, Seat as APlayer, at_work}
-use Rattle.rz_play.specs.Turns.{IsTurn}
+use Rattle.rz_operation.specs.Machine.{Machine, text_of, text_asked}
+use Rattle.rz_operation.specs.Machine as machine
+use Rattle.rz_operation_model.specs.Ask.{Ask, Say, Saying, ask_of}
+use Rattle.rz_play.specs.World.{World, Seat as APlayer, with_seat, at_work}
+use Rattle.rz_play.specs.Turns.{IsTurn, text_said}
 use Rattle.rz_play.specs.Lines.{PlaysLine}
 use Rattle.rz_play_laws.specs.Own.{IsOwn, IsUnderWay}
-use Rattle.rz_play_laws.specs.Fine.{IsFine, IsFineIfShort, IsSeated}
+use Rattle.rz_play_laws.specs.Fine.{IsFine, IsFineIfShort, IsSeated, IsTelling}
+use Rattle.rz_play_laws.proofs.Frames.{same_actor-true}
+use Rattle.rz_play_laws.proofs.Turning.{in-runs}
 use Rattle.rz_asks.specs.Logged.{Logged}
-use Rattle.rz_lines.specs.Ends.{Carries}
+use Rattle.rz_asks.specs.Parts.{IsUnbegun}
+use Rattle.rz_lines.specs.Behind.{Before, behind}
 use Rattle.rz_block_laws.specs.Turns.{IsLastingLaw, HasInHand}
 use Rattle.rz_driver.specs.declared.driver.Driver.{Driver}
 use Rattle.rz_driver.specs.declared.seat.Seat.{Seat}
 use Rattle.rz_formatting.specs.declared.formatting.Station.{Station}
-use Rattle.rz_stations.specs.Meters.{AreMetered, AreCounted}
+use Rattle.rz_stations.specs.Meters.{AreMetered, AreCounted, CarriesCounts}
 use Rattle.rz_stations.specs.Images.{AreImaged, IsRight, KeepsRow, SparesRow, fused_image}
-use Rattle.rz_driver.specs.Pictures.{HasTrueHand, IsTrueSeat, IsPicture, KeepsPicture, SparesPicture}
+use Rattle.rz_driver.specs.Pictures.{HasTrueHand, IsTrueSeat, IsPicture, KeepsPicture, SparesPicture, KnowsLengths}
 use Rattle.rz_driver.specs.Seats.{HasLayout, seat_of, work_in}
 use Rattle.rz_stations.specs.Stations.{state_in, numbers_of}
-use Rattle.rz_driver.specs.Worlds.{place_of, world, world_of, numbers_in, HasPicture, HasRightDisks, Holds, Leaves}
+use Rattle.rz_driver.specs.Worlds.{place_of, world, world_of, numbers_in, exact_if, HasPicture, HasRightDisks, Holds, Leaves}
 use Rattle.rz_stations.proofs.MeterLemmas.{metered-counts, named-vector}
-use Rattle.rz_stations.proofs.PictureLemmas.{all-then, GrowsBy, grown-short, are-right}
+use Rattle.rz_stations.proofs.PictureLemmas.{all-then, GrowsBy, grows-behind, grown-short, are-right}
 use Rattle.rz_stations.proofs.Rows.{all-set, all-at}
 use Rattle.rz_driver.proofs.WorldLemmas.{seat-here}
+use Rattle.rz_driver.proofs.TurnLemmas.{AreTexts}
+use Rattle.rz_driver.proofs.LengthLemmas.{at-work-knows, lengths-grow, lengths-turn}
+use Rattle.rz_driver.proofs.TextLemmas.{right, short-text}
 
 -- the laws of a play that are cited here
 abbrev pub WorkingLaw : Type 0
@@ -44,6 +56,9 @@ WorkingLaw = (v : Volume) (old : List Event) (w : World) → (fine : IsFine v ol
 
 abbrev pub TurnedLaw : Type 0
 TurnedLaw = (v : Volume) → IsVolume v → (old : List Event) (by : Actor) → IsSeated by → (w next : World) → IsTurn v by w next → IsFine v old w → IsFineIfShort v old next
+
+abbrev pub TellingLaw : Type 0
+TellingLaw = (v : Volume) → IsVolume v → IsTelling v
 
 abbrev pub LinedLaw : Type 0
 LinedLaw = (v : Volume) → IsVolume v → (old : List Event) (l : Line) → IsLine v l → (w next : World) → PlaysLine v l w next → IsFine v old w → IsFineIfShort v old next
@@ -76,8 +91,15 @@ module _ (v : Volume) (lasting : IsLastingLaw v) (h h' : List Event) (grown : Gr
 
 -- ---- a turn
 
+not-earlier : (earlier : Bool) → exact_if false earlier ≡ true → earlier ≡ false
+not-earlier true is = absurd (cc)
+not-earlier false is = refl
+
+is-not : {A : Type 0} (b : Bool) → b ≡ true → b ≡ false → A
+is-not b one other = absurd (cc)
+
 module _ {D : Type 0} {G : Ghosts D} (by : Actor) (place : ℕ) (d f : Driver D G) (is : d ≡ f) (log : Logged) (a0 a : Seat) (at : place_of by ≡ Some place) (here : slice_get d.seats.items place ≡ Some a0) (layout : HasLayout d.volume.layout a.machine)
-    (taken : seat_of a ≡ at_work (seat_of a0)) (events : log.events ≡ d.shared.log.events) (hand : (v : Volume) (f : Facts) → HasTrueHand v f a0.machine → HasTrueHand v f a.machine) (working : WorkingLaw) where
+    (taken : seat_of a ≡ at_work (seat_of a0)) (events : log.events ≡ d.shared.log.events) (hand : (v : Volume) (f : Facts) → HasTrueHand v f a0.machine → HasTrueHand v f a.machine) (working : WorkingLaw) (old : List Event) where
   abbrev image : UnderFuse D → List ℕ → Type 0
   image = fused_image G.image
 
@@ -85,148 +107,211 @@ module _ {D : Type 0} {G : Ghosts D} (by : Actor) (place : ℕ) (d f : Driver D 
   h = d.shared.log.events
 
   abbrev Picture : Type 0
-  Picture = IsPicture image d.volume (world_of d) d.seats.items d.shared.stations.items
+  Picture = IsPicture image d.volume old (world_of d) d.seats.items d.shared.stations.items
+
+  at-seat : at_work ((world_of d).seats by) ≡ seat_of a
+  at-seat = ap at_work (seat-here d.seats.items by place a0 at here) ∙ sym taken
 
   -- what is true of the actor at work and of the disks
-  known : Picture → IsTrueSeat d.volume (facts log.events) by a.machine × AreImaged image d.volume (facts log.events) d.shared.stations.items
+  known : Picture → IsTrueSeat d.volume (facts (log.events ++ old)) by a.machine × AreImaged image d.volume (facts (log.events ++ old)) d.shared.stations.items
   known was =
       let v = d.volume in
-      let own = of_actor by h in
+      let whole = facts (h ++ old) in
+      let own = of_actor by (h ++ old) in
       let run = of_actor by was.fine.run in
-      let same : at_work ((world_of d).seats by) ≡ seat_of a = ap at_work (seat-here d.seats.items by place a0 at here) ∙ sym taken in
-      let at_hand = subst (λ (s : APlayer). IsOwn v (facts h) own run by s.work × IsUnderWay v by s.number run s.work) same (working v [] (world_of d) was.fine by (seated-at by place at)) in
-      let in_hand = hand v (facts h) (all-at (λ (s : Seat). HasTrueHand v (facts h) s.machine) d.seats.items place a0 was.hands here) in
-      let seat = true-seat v (facts h) own run by a.number a.machine layout at_hand.0 at_hand.1 in_hand in (
-        subst (λ (k : List Event). IsTrueSeat v (facts k) by a.machine) (sym events) seat,
-        subst (λ (k : List Event). AreImaged image v (facts k) d.shared.stations.items) (sym events) was.disks,
+      let at_hand = subst (λ (s : APlayer). IsOwn v whole own run by s.work × IsUnderWay v by s.number run s.work) at-seat (working v old (behind old (world_of d)) was.fine by (seated-at by place at)) in
+      let in_hand = hand v whole (all-at (λ (s : Seat). HasTrueHand v whole s.machine) d.seats.items place a0 was.hands here) in
+      let seat = true-seat v whole own run by a.number a.machine layout at_hand.0 at_hand.1 in_hand in (
+        subst (λ (k : List Event). IsTrueSeat v (facts (k ++ old)) by a.machine) (sym events) seat,
+        subst (λ (k : List Event). AreImaged image v (facts (k ++ old)) d.shared.stations.items) (sym events) was.disks,
       )
 
-  pub turn-picture : (b : Seat) (next : World) (ys : List (Station (UnderFuse D))) → TurnedLaw → ((v : Volume) → IsLastingLaw v) → IsTurn d.volume by (world_of d) next
-      → (IsTrue G.tells → KeepsPicture image by a.machine b.machine d.shared.stations.items log.events ys next.log) → GrowsBy h next.log → HasPicture f
-      → IsTrue G.tells → length next.log < 2 ^ 64 - 1 → IsPicture image d.volume next (set d.seats.items place b) ys
-  turn-picture b next ys turned lasting turn keeps grown picture told few =
+  -- what it says of a text is so by the whole log, where disks tell
+  told-text : Picture → (m : Machine) (said : Saying) → a.machine ≡ Some m → ask_of m.layout m.work ≡ Say said
+      → (text_of m ≡ text_said (facts log.events) said) ⊎ ((log.earlier ≡ true) × IsUnbegun (facts log.events) said) → text_of m ≡ text_said (facts (log.events ++ old)) said
+  told-text was m said has asks said_so =
       let v = d.volume in
-      let was = subst (λ (x : Driver D G). HasPicture x) (sym is) picture told (grown-short h next.log grown few) in
+      let seat : IsTrueSeat v (facts (log.events ++ old)) by (Some m) = subst (λ (o : Option Machine). IsTrueSeat v (facts (log.events ++ old)) by o) has (known was).0 in
+      let knows_there = subst (λ (s : APlayer). KnowsLengths (facts (h ++ old)) s.work) at-seat (at-work-knows (facts (h ++ old)) ((world_of d).seats by) (was.lengths by)) in
+      let knows_here : KnowsLengths (facts (log.events ++ old)) (work_in a.machine) = subst (λ (k : List Event). KnowsLengths (facts (k ++ old)) (work_in a.machine)) (sym events) knows_there in
+      let knows : KnowsLengths (facts (log.events ++ old)) m.work = subst (λ (o : Option Machine). KnowsLengths (facts (log.events ++ old)) (work_in o)) has knows_here in
+      let legal = subst (λ (k : List Event). IsLegalInRuns v (k ++ old)) (sym events) (in-runs v old (behind old (world_of d)) was.fine) in
+      let named : text_of m ≡ machine.text_said m.block said = ap (text_asked m.block) asks in
+      let so : (machine.text_said m.block said ≡ text_said (facts log.events) said) ⊎ ((log.earlier ≡ true) × IsUnbegun (facts log.events) said) = elim said_so [ inl same ↦ inl (sym named ∙ same) | inr unbegun ↦ inr unbegun ] in
+      named ∙ right v.layout log.events old log.earlier m.block m.pairs was.bytes (short-text v (log.events ++ old) legal) said m.layout m.work seat.true_to.hand knows asks so
+
+  pub turn-texts : (log.earlier ≡ false → old ≡ []) → length old < 2 ^ 63 + 512 → length log.events ≤ 2 ^ 62 → HasPicture d old → exact_if G.tells log.earlier ≡ true → AreTexts a.machine log.earlier log.events old
+  turn-texts anew short few picture exact m said has asks said_so = go G.tells refl
+    where
+      room : length (h ++ old) < 2 ^ 64 - 1
+      room =
+          let whole = length-append h old in
+          let same : length log.events ≡ length h = ap length events in
+          omega (arith, whole, same, short, few)
+
+      go : (tells : Bool) → G.tells ≡ tells → text_of m ≡ text_said (facts (log.events ++ old)) said
+      go true told = told-text (picture told room) m said has asks said_so
+      go false untold =
+          let new : log.earlier ≡ false = not-earlier log.earlier (subst (λ (t : Bool). exact_if t log.earlier ≡ true) untold exact) in
+          let whole : log.events ++ old ≡ log.events = ap (λ (k : List Event). log.events ++ k) (anew new) ∙ append-nil log.events in
+          elim said_so [
+            | inl same ↦ same ∙ ap (λ (k : List Event). text_said (facts k) said) (sym whole)
+            | inr unbegun ↦ is-not log.earlier unbegun.0 new
+          ]
+
+  pub turn-picture : (b : Seat) (next : World) (ys : List (Station (UnderFuse D))) → TurnedLaw → TellingLaw → ((v : Volume) → IsLastingLaw v) → (IsTrue G.tells → IsTurn d.volume by (behind old (world_of d)) (behind old next))
+      → (IsTrue G.tells → KeepsPicture image by a.machine b.machine d.shared.stations.items log.events ys next.log) → GrowsBy h next.log → HasPicture f old
+      → IsTrue G.tells → length (next.log ++ old) < 2 ^ 64 - 1 → IsPicture image d.volume old next (set d.seats.items place b) ys
+  turn-picture b next ys turned telling lasting turn keeps grown picture told few =
+      let v = d.volume in
+      let grows = grows-behind old h next.log grown in
+      let was = subst (λ (x : Driver D G). HasPicture x old) (sym is) picture told (grown-short (h ++ old) (next.log ++ old) grows few) in
       let k = known was in
-      let kept = keeps told v k.0 k.1 in
+      let kept = keeps told v old k.0 k.1 in
+      let fine = turned v was.rules old by (seated-at by place at) (behind old (world_of d)) (behind old next) (turn told) was.fine few in
       record {
         rules = was.rules;
-        fine = turned v was.rules [] by (seated-at by place at) (world_of d) next turn was.fine few;
-        hands = all-set (λ (s : Seat). HasTrueHand v (facts next.log) s.machine) d.seats.items place b (hands-last v (lasting v) h next.log grown d.seats.items was.hands) kept.0;
+        bytes = was.bytes;
+        fine = fine;
+        lengths = lengths-turn v (telling v was.rules) old by (behind old (world_of d)) (behind old next) (turn told) fine was.lengths;
+        hands = all-set (λ (s : Seat). HasTrueHand v (facts (next.log ++ old)) s.machine) d.seats.items place b (hands-last v (lasting v) (h ++ old) (next.log ++ old) grows d.seats.items was.hands) kept.0;
         disks = kept.1;
       }
 
   -- where the turn ended for want of memory
   pub turn-spares : (ys : List (Station (UnderFuse D))) → (IsTrue G.tells → SparesPicture image by a.machine d.shared.stations.items log.events ys) → IsTrue G.tells → Picture
-      → AreImaged image d.volume (facts h) ys × (state_in ys ≡ state_in d.shared.stations.items)
+      → AreImaged image d.volume (facts (h ++ old)) ys × (state_in ys ≡ state_in d.shared.stations.items)
   turn-spares ys spares told was =
       let k = known was in
-      let s = spares told d.volume k.0 k.1 in
-      (subst (λ (x : List Event). AreImaged image d.volume (facts x) ys) events s.0, s.1)
+      let s = spares told d.volume old k.0 k.1 in
+      (subst (λ (x : List Event). AreImaged image d.volume (facts (x ++ old)) ys) events s.0, s.1)
 
 -- ---- where a play ended
 
-module _ {D : Type 0} {G : Ghosts D} (d f : Driver D G) (is : d ≡ f) (h' : List Event) (log : h' ≡ d.shared.log.events) (first : ℕ → ℕ) (held : Holds f first) where
-  held-there : Holds d first
-  held-there = subst (λ (x : Driver D G). Holds x first) (sym is) held
+module _ {D : Type 0} {G : Ghosts D} (d f : Driver D G) (is : d ≡ f) (h' : List Event) (log : h' ≡ d.shared.log.events) (b : Before) (held : Holds f b) where
+  held-there : Holds d b
+  held-there = subst (λ (x : Driver D G). Holds x b) (sym is) held
 
   -- the states of all nodes are as before, and so is the log
   pub right-disks : (ys : List (Station (UnderFuse D))) → numbers_of ys ≡ numbers_of d.shared.stations.items
-      → (IsTrue G.tells → IsPicture (fused_image G.image) d.volume (world_of d) d.seats.items d.shared.stations.items → AreImaged (fused_image G.image) d.volume (facts d.shared.log.events) ys × (state_in ys ≡ state_in d.shared.stations.items))
-      → IsTrue G.tells → length h' < 2 ^ 64 - 1 → AllByRecursion (IsRight (fused_image G.image) d.volume h') ys
+      → (IsTrue G.tells → IsPicture (fused_image G.image) d.volume b.log (world_of d) d.seats.items d.shared.stations.items
+      → AreImaged (fused_image G.image) d.volume (facts (d.shared.log.events ++ b.log)) ys × (state_in ys ≡ state_in d.shared.stations.items))
+      → IsTrue G.tells → length (h' ++ b.log) < 2 ^ 64 - 1 → AllByRecursion (IsRight (fused_image G.image) d.volume (h' ++ b.log)) ys
   right-disks ys numbers spares told few =
       let h = d.shared.log.events in
-      let was = held-there.1 told (subst (λ (k : List Event). length k < 2 ^ 64 - 1) log few) in
+      let was = held-there.1 told (subst (λ (k : List Event). length (k ++ b.log) < 2 ^ 64 - 1) log few) in
       let s = spares told was in
       let apart = subst (IsDistinct nat_eq) (sym (numbers ∙ held-there.0.named)) held-there.0.apart in
-      subst (λ (k : List Event). AllByRecursion (IsRight (fused_image G.image) d.volume k) ys) (sym log)
-      (are-right (fused_image G.image) d.volume h (state_in d.shared.stations.items) was.fine.nodes_are ys s.1 apart s.0)
+      subst (λ (k : List Event). AllByRecursion (IsRight (fused_image G.image) d.volume (k ++ b.log)) ys) (sym log)
+      (are-right (fused_image G.image) d.volume (h ++ b.log) (state_in d.shared.stations.items) was.fine.nodes_are ys s.1 apart s.0)
 
   -- no node was called
-  pub still-right : IsTrue G.tells → length h' < 2 ^ 64 - 1 → AllByRecursion (IsRight (fused_image G.image) d.volume h') d.shared.stations.items
+  pub still-right : IsTrue G.tells → length (h' ++ b.log) < 2 ^ 64 - 1 → AllByRecursion (IsRight (fused_image G.image) d.volume (h' ++ b.log)) d.shared.stations.items
   still-right = right-disks d.shared.stations.items refl (λ told was. (was.disks, refl))
 
-  pub still-counted : AreCounted (fused_meter G.meter) (numbers_in d) d.shared.stations.items h' first
-  still-counted = subst (λ (k : List Event). AreCounted (fused_meter G.meter) (numbers_in d) d.shared.stations.items k first) (sym log)
-      (metered-counts (fused_meter G.meter) first (numbers_in d) d.shared.stations.items d.shared.log.events held-there.0)
+  pub still-counted : AreCounted (fused_meter G.meter) (numbers_in d) d.shared.stations.items h' b.counts
+  still-counted = subst (λ (k : List Event). AreCounted (fused_meter G.meter) (numbers_in d) d.shared.stations.items k b.counts) (sym log)
+      (metered-counts (fused_meter G.meter) b.counts (numbers_in d) d.shared.stations.items d.shared.log.events held-there.0)
 
 -- however it ended
-pub leaves-right : {D : Type 0} {G : Ghosts D} (d : Driver D G) (first : ℕ → ℕ) → Leaves d first → HasRightDisks d
-leaves-right d first (inl held) = still-right d d refl d.shared.log.events refl first held
-leaves-right d first (inr left) = left.1
+pub leaves-right : {D : Type 0} {G : Ghosts D} (d : Driver D G) (b : Before) → Leaves d b → HasRightDisks d b.log
+leaves-right d b (inl held) = still-right d d refl d.shared.log.events refl b held
+leaves-right d b (inr left) = left.1
 
-pub leaves-named : {D : Type 0} {G : Ghosts D} (d : Driver D G) (first : ℕ → ℕ) → Leaves d first → numbers_of d.shared.stations.items ≡ numbers_in d
-leaves-named d first (inl held) = held.0.named
-leaves-named d first (inr left) = left.0.named
+pub leaves-named : {D : Type 0} {G : Ghosts D} (d : Driver D G) (b : Before) → Leaves d b → numbers_of d.shared.stations.items ≡ numbers_in d
+leaves-named d b (inl held) = held.0.named
+leaves-named d b (inr left) = left.0.named
+
+pub leaves-short : {D : Type 0} {G : Ghosts D} (d : Driver D G) (b : Before) → Leaves d b → length b.log < 2 ^ 63 + 512
+leaves-short d b (inl held) = held.3.short
+leaves-short d b (inr left) = left.3.short
 
 -- ---- an order
 
-module _ {D : Type 0} {G : Ghosts D} (d : Driver D G) where
-  pub picture-then : (next : World) (seats : List Seat) (ys : List (Station (UnderFuse D))) → GrowsBy d.shared.log.events next.log
-      → (IsTrue G.tells → IsVolume d.volume → IsFine d.volume [] (world_of d) → IsFineIfShort d.volume [] next)
-      → (AllByRecursion (λ (s : Seat). HasTrueHand d.volume (facts d.shared.log.events) s.machine) d.seats.items → AllByRecursion (λ (s : Seat). HasTrueHand d.volume (facts next.log) s.machine) seats)
-      → (IsTrue G.tells → AreImaged (fused_image G.image) d.volume (facts d.shared.log.events) d.shared.stations.items → AreImaged (fused_image G.image) d.volume (facts next.log) ys)
-      → HasPicture d → IsTrue G.tells → length next.log < 2 ^ 64 - 1 → IsPicture (fused_image G.image) d.volume next seats ys
-  picture-then next seats ys grown fine hands disks picture told few =
-      let was = picture told (grown-short d.shared.log.events next.log grown few) in
+-- an actor is ordered something, and its work stays
+pub works-with : (w : World) (by : Actor) (t : APlayer) → t.work ≡ (w.seats by).work → (a : Actor) → ((with_seat w by t).seats a).work ≡ (w.seats a).work
+works-with w by t same a = go (same_actor a by) refl
+  where
+    go : (z : Bool) → same_actor a by ≡ z → (cond z t (w.seats a)).work ≡ (w.seats a).work
+    go true is = same ∙ ap (λ (o : Actor). (w.seats o).work) (sym (same_actor-true a by is))
+    go false is = refl
+
+module _ {D : Type 0} {G : Ghosts D} (d : Driver D G) (old : List Event) where
+  pub picture-then : (next : World) (seats : List Seat) (ys : List (Station (UnderFuse D))) → GrowsBy d.shared.log.events next.log → ((a : Actor) → (next.seats a).work ≡ ((world_of d).seats a).work)
+      → (IsTrue G.tells → IsVolume d.volume → IsFine d.volume old (behind old (world_of d)) → IsFineIfShort d.volume old (behind old next))
+      → (AllByRecursion (λ (s : Seat). HasTrueHand d.volume (facts (d.shared.log.events ++ old)) s.machine) d.seats.items → AllByRecursion (λ (s : Seat). HasTrueHand d.volume (facts (next.log ++ old)) s.machine) seats)
+      → (IsTrue G.tells → AreImaged (fused_image G.image) d.volume (facts (d.shared.log.events ++ old)) d.shared.stations.items → AreImaged (fused_image G.image) d.volume (facts (next.log ++ old)) ys)
+      → HasPicture d old → IsTrue G.tells → length (next.log ++ old) < 2 ^ 64 - 1 → IsPicture (fused_image G.image) d.volume old next seats ys
+  picture-then next seats ys grown works fine hands disks picture told few =
+      let whole = d.shared.log.events ++ old in
+      let grows = grows-behind old d.shared.log.events next.log grown in
+      let longer : Extends (facts whole) (facts (next.log ++ old)) = subst (λ (k : List Event). Extends (facts whole) (facts k)) (sym grows.1) (extends-more grows.0 whole) in
+      let was = picture told (grown-short whole (next.log ++ old) grows few) in
       record {
         rules = was.rules;
+        bytes = was.bytes;
         fine = fine told was.rules was.fine few;
+        lengths = λ a. subst (KnowsLengths (facts (next.log ++ old))) (sym (works a)) (lengths-grow (facts whole) (facts (next.log ++ old)) longer ((world_of d).seats a).work (was.lengths a));
         hands = hands was.hands;
         disks = disks told was.disks;
       }
 
   -- an actor has more to do, or another plan for its next message
-  pub actor-picture : (place : ℕ) (s b : Seat) (turns : ℕ) → slice_get d.seats.items place ≡ Some s → b.machine ≡ s.machine
-      → (IsVolume d.volume → IsFine d.volume [] (world_of d) → IsFineIfShort d.volume [] (world d.shared (set d.seats.items place b) turns)) → HasPicture d
-      → IsTrue G.tells → length d.shared.log.events < 2 ^ 64 - 1 → IsPicture (fused_image G.image) d.volume (world d.shared (set d.seats.items place b) turns) (set d.seats.items place b) d.shared.stations.items
-  actor-picture place s b turns here machine fine =
+  pub actor-picture : (place : ℕ) (s b : Seat) (turns : ℕ) → slice_get d.seats.items place ≡ Some s → b.machine ≡ s.machine → ((a : Actor) → ((world d.shared (set d.seats.items place b) turns).seats a).work ≡ ((world_of d).seats a).work)
+      → (IsVolume d.volume → IsFine d.volume old (behind old (world_of d)) → IsFineIfShort d.volume old (behind old (world d.shared (set d.seats.items place b) turns))) → HasPicture d old
+      → IsTrue G.tells → length (d.shared.log.events ++ old) < 2 ^ 64 - 1 → IsPicture (fused_image G.image) d.volume old (world d.shared (set d.seats.items place b) turns) (set d.seats.items place b) d.shared.stations.items
+  actor-picture place s b turns here machine works fine =
       let v = d.volume in
-      let f = facts d.shared.log.events in
-      picture-then (world d.shared (set d.seats.items place b) turns) (set d.seats.items place b) d.shared.stations.items ([], refl) (λ told. fine)
+      let f = facts (d.shared.log.events ++ old) in
+      picture-then (world d.shared (set d.seats.items place b) turns) (set d.seats.items place b) d.shared.stations.items ([], refl) works (λ told. fine)
       (λ hands. all-set (λ (t : Seat). HasTrueHand v f t.machine) d.seats.items place b hands
       (subst (HasTrueHand v f) (sym machine) (all-at (λ (t : Seat). HasTrueHand v f t.machine) d.seats.items place s hands here)))
       (λ told disks. disks)
 
-  -- ---- of a node, of which the slice of the vector was written
+-- ---- of a node, of which the slice of the vector was written
 
-  module _ (xs ys : List (Station (UnderFuse D))) (same : xs ≡ d.shared.stations.items) where
-    abbrev items : List (Station (UnderFuse D))
-    items = (with_items d.shared.stations ys).items
+module _ {D : Type 0} {G : Ghosts D} (d : Driver D G) (xs ys : List (Station (UnderFuse D))) (same : xs ≡ d.shared.stations.items) (b : Before) (held : Holds d b) where
+  abbrev items : List (Station (UnderFuse D))
+  items = (with_items d.shared.stations ys).items
 
-    abbrev meter : UnderFuse D → Meter
-    meter = fused_meter G.meter
+  abbrev meter : UnderFuse D → Meter
+  meter = fused_meter G.meter
 
-    written : numbers_of ys ≡ numbers_of xs → items ≡ ys
-    written named = named-vector meter (numbers_in d) (λ i. i) d.shared.stations xs ys same named
+  abbrev here : List Event
+  here = d.shared.log.events ++ b.log
 
-    then-metered : (first : ℕ → ℕ) → Holds d first → AreMetered meter (numbers_in d) xs d.shared.log.events first
-    then-metered first held = subst (λ (zs : List (Station (UnderFuse D))). AreMetered meter (numbers_in d) zs d.shared.log.events first) (sym same) held.0
+  written : numbers_of ys ≡ numbers_of xs → items ≡ ys
+  written named = named-vector meter (numbers_in d) (λ i. i) d.shared.stations xs ys same named
 
-    pub order-holds : ((v : Volume) → IsLastingLaw v) → (next : World) → GrowsBy d.shared.log.events next.log → (IsTrue G.tells → KeepsRow (fused_image G.image) xs d.shared.log.events ys next.log)
-        → (IsTrue G.tells → IsVolume d.volume → IsFine d.volume [] (world_of d) → IsFineIfShort d.volume [] next)
-        → ((numbers : List ℕ) → Carries (AreMetered meter numbers xs d.shared.log.events) (AreMetered meter numbers ys next.log)) → (first : ℕ → ℕ) → Holds d first
-        → AreMetered meter (numbers_in d) items next.log first × (IsTrue G.tells → length next.log < 2 ^ 64 - 1 → IsPicture (fused_image G.image) d.volume next d.seats.items items)
-    order-holds lasting next grown keeps fine holds first held =
-        let v = d.volume in
-        let was = then-metered first held in
-        let now = holds (numbers_in d) first was in
-        let is : items ≡ ys = written (now.named ∙ sym was.named) in (
-          subst (λ (zs : List (Station (UnderFuse D))). AreMetered meter (numbers_in d) zs next.log first) (sym is) now,
-          picture-then next d.seats.items items grown fine (λ hands. hands-last v (lasting v) d.shared.log.events next.log grown d.seats.items hands)
-              (λ told disks. subst (AreImaged (fused_image G.image) v (facts next.log)) (sym is) (keeps told v (subst (AreImaged (fused_image G.image) v (facts d.shared.log.events)) (sym same) disks))) held.1,
-        )
+  then-metered : AreMetered meter (numbers_in d) xs d.shared.log.events b.counts
+  then-metered = subst (λ (zs : List (Station (UnderFuse D))). AreMetered meter (numbers_in d) zs d.shared.log.events b.counts) (sym same) held.0
 
-    pub order-leaves : (h' : List Event) → h' ≡ d.shared.log.events → (IsTrue G.tells → SparesRow (fused_image G.image) xs d.shared.log.events ys) → ((numbers : List ℕ) → Carries (AreMetered meter numbers xs d.shared.log.events) (AreCounted meter numbers ys h')) → (first : ℕ → ℕ) → Holds d first
-        → AreCounted meter (numbers_in d) items h' first × (IsTrue G.tells → length h' < 2 ^ 64 - 1 → AllByRecursion (IsRight (fused_image G.image) d.volume h') items)
-    order-leaves h' still spares leaves first held =
-        let v = d.volume in
-        let was = then-metered first held in
-        let now = leaves (numbers_in d) first was in
-        let named = now.named ∙ sym was.named in
-        let is : items ≡ ys = written named in (
-          subst (λ (zs : List (Station (UnderFuse D))). AreCounted meter (numbers_in d) zs h' first) (sym is) now,
-          right-disks d d refl h' still first held items (ap numbers_of is ∙ named ∙ ap numbers_of same) (λ told picture.
-              let s = spares told v (subst (AreImaged (fused_image G.image) v (facts d.shared.log.events)) (sym same) picture.disks) in
-              (subst (AreImaged (fused_image G.image) v (facts d.shared.log.events)) (sym is) s.0, ap state_in is ∙ s.1 ∙ ap state_in same)),
-        )
+  pub order-holds : ((v : Volume) → IsLastingLaw v) → (next : World) → next.seats ≡ (world_of d).seats → GrowsBy d.shared.log.events next.log → (IsTrue G.tells → KeepsRow (fused_image G.image) xs d.shared.log.events ys next.log)
+      → (IsTrue G.tells → IsVolume d.volume → IsFine d.volume b.log (behind b.log (world_of d)) → IsFineIfShort d.volume b.log (behind b.log next))
+      → ((numbers : List ℕ) → CarriesCounts (AreMetered meter numbers xs d.shared.log.events) (AreMetered meter numbers ys next.log))
+      → AreMetered meter (numbers_in d) items next.log b.counts × (IsTrue G.tells → length (next.log ++ b.log) < 2 ^ 64 - 1 → IsPicture (fused_image G.image) d.volume b.log next d.seats.items items)
+  order-holds lasting next seats grown keeps fine holds =
+      let v = d.volume in
+      let was = then-metered in
+      let now = holds (numbers_in d) b.counts was in
+      let is : items ≡ ys = written (now.named ∙ sym was.named) in (
+        subst (λ (zs : List (Station (UnderFuse D))). AreMetered meter (numbers_in d) zs next.log b.counts) (sym is) now,
+        picture-then d b.log next d.seats.items items grown (λ a. ap (λ (f : Actor → APlayer). (f a).work) seats) fine
+            (λ hands. hands-last v (lasting v) here (next.log ++ b.log) (grows-behind b.log d.shared.log.events next.log grown) d.seats.items hands)
+            (λ told disks. subst (AreImaged (fused_image G.image) v (facts (next.log ++ b.log))) (sym is) (keeps told v b.log (subst (AreImaged (fused_image G.image) v (facts here)) (sym same) disks))) held.1,
+      )
+
+  pub order-leaves : (h' : List Event) → h' ≡ d.shared.log.events → (IsTrue G.tells → SparesRow (fused_image G.image) xs d.shared.log.events ys)
+      → ((numbers : List ℕ) → CarriesCounts (AreMetered meter numbers xs d.shared.log.events) (AreCounted meter numbers ys h'))
+      → AreCounted meter (numbers_in d) items h' b.counts × (IsTrue G.tells → length (h' ++ b.log) < 2 ^ 64 - 1 → AllByRecursion (IsRight (fused_image G.image) d.volume (h' ++ b.log)) items)
+  order-leaves h' still spares leaves =
+      let v = d.volume in
+      let was = then-metered in
+      let now = leaves (numbers_in d) b.counts was in
+      let named = now.named ∙ sym was.named in
+      let is : items ≡ ys = written named in (
+        subst (λ (zs : List (Station (UnderFuse D))). AreCounted meter (numbers_in d) zs h' b.counts) (sym is) now,
+        right-disks d d refl h' still b held items (ap numbers_of is ∙ named ∙ ap numbers_of same) (λ told picture.
+            let s = spares told v b.log (subst (AreImaged (fused_image G.image) v (facts here)) (sym same) picture.disks) in
+            (subst (AreImaged (fused_image G.image) v (facts here)) (sym is) s.0, ap state_in is ∙ s.1 ∙ ap state_in same)),
+      )

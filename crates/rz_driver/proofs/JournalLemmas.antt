@@ -1,5 +1,5 @@
 -- The journal of a driver: what its disk stands for after a turn, after an order, and where a play ended.
-use Rattle.std.proofs.Common.{◌≡◌, inl, inr, ℕ, Bool, true, false, List, length, ◌∷◌, Option, Some, IfSome, refl, sym, ◌∙◌, ap, subst}
+use Rattle.std.proofs.Common.{◌≡◌, inl, inr, ℕ, Bool, true, false, List, length, ◌∷◌, ◌++◌, Option, Some, IfSome, refl, sym, ◌∙◌, ap, subst}
 use Rattle.rz_disk.specs.Meter.{Meter}
 use Rattle.rz_disk.specs.declared.disk.Disk.{Ghosts}
 use Rattle.rz_events.specs.Volume.{Volume, nodes_of}
@@ -12,12 +12,12 @@ use Rattle.rz_events.specs.declared.events.Event.{Event}
 use Rattle.rz_events.specs.declared.events.Event.TheVariants as e
 use Rattle.rz_events.specs.declared.events.Word.TheVariants.{Export, Node, Own}
 use Rattle.rz_events.specs.Events.{word_of}
-use Rattle.rz_core.specs.History.{facts, of_word}
+use Rattle.rz_core.specs.History.{of_word}
 use Rattle.rz_node_model.specs.NodeEvents.{node_event}
-use Rattle.rz_operation.specs.Machine.{Machine}
+use Rattle.rz_operation.specs.Machine.{Machine, text_of}
 use Rattle.rz_operation_model.specs.Ask.{Saying, SayGot, SayGave, SayLeft, SayDone}
 use Rattle.rz_operation_model.specs.Turns.{said_event}
-use Rattle.rz_play.specs.Turns.{text_said}
+use Rattle.rz_lines.specs.Behind.{Before}
 use Rattle.rz_play.specs.Lines.{noted}
 use Rattle.rz_asks.specs.Journals.{KeepsLog, EndsLog, KeepsOn, EndsOn}
 use Rattle.rz_asks.specs.Parts.{IsSayPart}
@@ -31,7 +31,7 @@ use Rattle.rz_driver.specs.declared.driver.Driver.{Driver}
 use Rattle.rz_driver.specs.declared.station.Shared.{Shared}
 use Rattle.rz_driver.specs.Acts.{IsFate, Through, ReplyLost, RequestLost}
 use Rattle.rz_driver.specs.Journals.{IsSameStore, journal_place, HasJournal, LeavesJournal}
-use Rattle.rz_driver.specs.Worlds.{Leaves}
+use Rattle.rz_driver.specs.Worlds.{exact_if, is_exact, GoesAfter, Leaves}
 
 -- ---- events that are no word of the export
 
@@ -56,9 +56,9 @@ said-own by number text (SayGave key part end) = refl
 said-own by number text (SayLeft key why) = refl
 said-own by number text (SayDone answer) = refl
 
-pub said-stays-export : (by : Actor) (number : ℕ) (done : Bool) (old new : Machine) (h h' : List Event) → IsSayPart by number done old new h h' → of_word Export h' ≡ of_word Export h
-said-stays-export by number done old new h h' (said, asks, part) =
-    ap (of_word Export) part.noted ∙ own-stays by (said_event by number (text_said (facts h) said) said) h (said-own by number (text_said (facts h) said) said)
+pub said-stays-export : (earlier : Bool) (by : Actor) (number : ℕ) (done : Bool) (old new : Machine) (h h' : List Event) → IsSayPart earlier by number done old new h h' → of_word Export h' ≡ of_word Export h
+said-stays-export earlier by number done old new h h' (said, asks, part) =
+    ap (of_word Export) part.noted ∙ own-stays by (said_event by number (text_of old) said) h (said-own by number (text_of old) said)
 
 -- an order to a node
 pub order-stays : (n : ℕ) (question : NodeAsk) (given : NodeAnswer) (h h' : List Event) → h' ≡ noted (node_event Admin n question given) h → of_word Export h' ≡ of_word Export h
@@ -85,48 +85,59 @@ module _ {D : Type 0} (tells : Bool) (meter : D → Meter) (image : D → List �
 
 -- ---- a driver
 
-module _ {D : Type 0} {G : Ghosts D} (d e : Driver D G) (volume : e.volume ≡ d.volume) (store : IsSameStore d.shared.export e.shared.export) (first : ℕ → ℕ) (h : List Event) (log : h ≡ d.shared.log.events) (had : HasJournal d first) where
+-- whether there were earlier runs stays told
+pub exact-still : {D : Type 0} {G : Ghosts D} (d e : Driver D G) → e.shared.log.earlier ≡ d.shared.log.earlier → is_exact e ≡ is_exact d
+exact-still {G = G} d e same = ap (exact_if G.tells) same
+
+pub goes-after : {D : Type 0} {G : Ghosts D} (d e : Driver D G) → e.shared.log.earlier ≡ d.shared.log.earlier → (b : Before) → GoesAfter d b → GoesAfter e b
+goes-after d e same b after = record { anew = λ no. after.anew (sym same ∙ no); short = after.short }
+
+module _ {D : Type 0} {G : Ghosts D} (d e : Driver D G) (volume : e.volume ≡ d.volume) (earlier : e.shared.log.earlier ≡ d.shared.log.earlier) (store : IsSameStore d.shared.export e.shared.export) (b : Before) (h : List Event) (log : h ≡ d.shared.log.events)
+    (has : is_exact d ≡ true → HasJournal d b) (exact : is_exact e ≡ true) where
+  had : HasJournal d b
+  had = has (sym (exact-still d e earlier) ∙ exact)
+
   volume-there : (export_in e.shared.export).volume ≡ e.volume
   volume-there = store.volume ∙ had.volume ∙ sym volume
 
-  place-there : first (journal_place d) ≡ first (journal_place e)
-  place-there = ap (λ (v : Volume). first (length (nodes_of v.clusters))) (sym volume)
+  place-there : b.counts (journal_place d) ≡ b.counts (journal_place e)
+  place-there = ap (λ (v : Volume). b.counts (length (nodes_of v.clusters))) (sym volume)
 
-  had-there : KeepsLog G.tells G.meter G.image (first (journal_place d)) d.shared.export h
-  had-there = subst (λ (k : List Event). KeepsLog G.tells G.meter G.image (first (journal_place d)) d.shared.export k) (sym log) had.keeps
+  had-there : KeepsLog G.tells G.meter G.image (b.counts (journal_place d)) d.shared.export (h ++ b.log)
+  had-there = subst (λ (k : List Event). KeepsLog G.tells G.meter G.image (b.counts (journal_place d)) d.shared.export (k ++ b.log)) (sym log) had.keeps
 
-  pub journal-goes-on : KeepsOn G.tells G.meter G.image d.shared.export h e.shared.export e.shared.log.events → HasJournal e first
+  pub journal-goes-on : KeepsOn G.tells G.meter G.image d.shared.export h e.shared.export e.shared.log.events → HasJournal e b
   journal-goes-on keeps = record {
     volume = volume-there;
-    keeps = subst (λ (n : ℕ). KeepsLog G.tells G.meter G.image n e.shared.export e.shared.log.events) place-there (keeps (first (journal_place d)) had-there);
+    keeps = subst (λ (n : ℕ). KeepsLog G.tells G.meter G.image n e.shared.export (e.shared.log.events ++ b.log)) place-there (keeps (b.counts (journal_place d)) b.log had-there);
   }
 
-  pub journal-ends : EndsOn G.tells G.meter G.image d.shared.export h e.shared.export e.shared.log.events → LeavesJournal e first
+  pub journal-ends : EndsOn G.tells G.meter G.image d.shared.export h e.shared.export e.shared.log.events → LeavesJournal e b
   journal-ends ends = record {
     volume = volume-there;
-    ends = subst (λ (n : ℕ). EndsLog G.tells G.meter G.image n e.shared.export e.shared.log.events) place-there (ends (first (journal_place d)) had-there);
+    ends = subst (λ (n : ℕ). EndsLog G.tells G.meter G.image n e.shared.export (e.shared.log.events ++ b.log)) place-there (ends (b.counts (journal_place d)) b.log had-there);
   }
 
 -- where nothing was asked of the export
-module _ {D : Type 0} {G : Ghosts D} (d e : Driver D G) (volume : e.volume ≡ d.volume) (export : e.shared.export ≡ d.shared.export) (first : ℕ → ℕ) (had : HasJournal d first) where
+module _ {D : Type 0} {G : Ghosts D} (d e : Driver D G) (volume : e.volume ≡ d.volume) (earlier : e.shared.log.earlier ≡ d.shared.log.earlier) (export : e.shared.export ≡ d.shared.export) (b : Before) (has : is_exact d ≡ true → HasJournal d b) where
   stored : IsSameStore d.shared.export e.shared.export
   stored = same-store d.shared.export e.shared.export export
 
-  pub journal-stays : of_word Export e.shared.log.events ≡ of_word Export d.shared.log.events → HasJournal e first
-  journal-stays same = journal-goes-on d e volume stored first d.shared.log.events refl had
+  pub journal-stays : of_word Export e.shared.log.events ≡ of_word Export d.shared.log.events → is_exact e ≡ true → HasJournal e b
+  journal-stays same exact = journal-goes-on d e volume earlier stored b d.shared.log.events refl has exact
       (store-keeps G.tells G.meter G.image d.shared.export e.shared.export export d.shared.log.events e.shared.log.events same)
 
-  pub journal-still : e.shared.log.events ≡ d.shared.log.events → LeavesJournal e first
-  journal-still same = journal-ends d e volume stored first d.shared.log.events refl had
+  pub journal-still : e.shared.log.events ≡ d.shared.log.events → is_exact e ≡ true → LeavesJournal e b
+  journal-still same exact = journal-ends d e volume earlier stored b d.shared.log.events refl has exact
       (store-ends G.tells G.meter G.image d.shared.export e.shared.export export d.shared.log.events e.shared.log.events same)
 
-pub journal-left : {D : Type 0} {G : Ghosts D} (d : Driver D G) (first : ℕ → ℕ) → HasJournal d first → LeavesJournal d first
-journal-left {G = G} d first had = record {
+pub journal-left : {D : Type 0} {G : Ghosts D} (d : Driver D G) (b : Before) → HasJournal d b → LeavesJournal d b
+journal-left {G = G} d b had = record {
   volume = had.volume;
-  ends = keeps-ends G.tells G.meter G.image (first (journal_place d)) d.shared.export d.shared.log.events had.keeps;
+  ends = keeps-ends G.tells G.meter G.image (b.counts (journal_place d)) d.shared.export (d.shared.log.events ++ b.log) had.keeps;
 }
 
 -- however a play ended
-pub leaves-journal : {D : Type 0} {G : Ghosts D} (d : Driver D G) (first : ℕ → ℕ) → Leaves d first → LeavesJournal d first
-leaves-journal d first (inl held) = journal-left d first held.2
-leaves-journal d first (inr left) = left.2
+pub leaves-journal : {D : Type 0} {G : Ghosts D} (d : Driver D G) (b : Before) → Leaves d b → is_exact d ≡ true → LeavesJournal d b
+leaves-journal d b (inl held) exact = journal-left d b (held.2 exact)
+leaves-journal d b (inr left) exact = left.2 exact

@@ -1,6 +1,9 @@
 mod SeatLemmas
 mod WorldLemmas
 mod TurnLemmas
+mod FreshLengths
+mod LengthLemmas
+mod TextLemmas
 mod ReadyLemmas
 mod OrderLemmas
 mod MessageLemmas
@@ -17,3 +20,4 @@ mod JournalLemmas
 mod JournalEndings
 mod BehindJournal
 mod Closed
+mod AgainLemmas

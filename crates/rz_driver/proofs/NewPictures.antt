@@ -1,5 +1,5 @@
 -- The picture of a new driver.
-use Rattle.std.proofs.Common.{◌≡◌, inl, ℕ, ◌-◌, ◌^◌, ◌<◌, Bool, IsTrue, List, [], ◌∷◌, length, Option, None, refl, sym, ◌∙◌, ap, subst}
+use Rattle.std.proofs.Common.{◌≡◌, inl, ℕ, ◌-◌, ◌^◌, ◌<◌, Bool, true, false, IsTrue, List, [], ◌∷◌, ◌++◌, length, Option, None, refl, sym, ◌∙◌, ap, subst}
 use Rattle.std.specs.FinMap as maps
 use Rattle.std.specs.FinMap.{get-empty}
 use Rattle.std.specs.List.{AllByRecursion}
@@ -28,7 +28,9 @@ use Rattle.rz_driver.specs.declared.seat.Seat.{Seat}
 use Rattle.rz_formatting.specs.declared.formatting.Station.{Station}
 use Rattle.rz_formatting.specs.Formatted.{AreFormatted, IsFormatted, geometry_of}
 use Rattle.rz_stations.specs.Images.{AreImaged, HasImages, fused_image}
-use Rattle.rz_driver.specs.Pictures.{HasTrueHand, IsPicture}
+use Rattle.rz_lines.specs.Behind.{behind}
+use Rattle.rz_driver.specs.Pictures.{HasTrueHand, IsPicture, KnowsLengths}
+use Rattle.rz_driver.specs.Worlds.{exact_if}
 use Rattle.rz_driver.specs.Seats.{IsEmptySeat}
 use Rattle.rz_stations.specs.Stations.{IsStation}
 
@@ -51,11 +53,16 @@ new-fine v = record {
   todo = λ by. tt;
 }
 
+-- a log that begins anew has each text of its play
+pub new-exact : (tells earlier : Bool) → earlier ≡ false → exact_if tells earlier ≡ true
+new-exact true earlier none = refl
+new-exact false earlier none = subst (λ (e : Bool). exact_if false e ≡ true) (sym none) refl
+
 -- an actor without a machine has nothing in hand
 no-hand : (v : Volume) (f : Facts) (o : Option Machine) → o ≡ None → HasTrueHand v f o
 no-hand v f o none = subst (HasTrueHand v f) (sym none) tt
 
-no-hands : (v : Volume) (f : Facts) (seats : List Seat) → AllByRecursion IsEmptySeat seats → AllByRecursion (λ (s : Seat). HasTrueHand v f s.machine) seats
+pub no-hands : (v : Volume) (f : Facts) (seats : List Seat) → AllByRecursion IsEmptySeat seats → AllByRecursion (λ (s : Seat). HasTrueHand v f s.machine) seats
 no-hands v f [] all = tt
 no-hands v f (s ∷ seats) all = (no-hand v f s.machine all.0.machine, no-hands v f seats all.1)
 
@@ -84,12 +91,15 @@ module _ {D : Type 0} (tells : Bool) (meter : D → Meter) (text : D → List �
 
 pub new-picture : {D : Type 0} (tells : Bool) (meter : D → Meter) (text : D → List ℕ) (image : D → List ℕ → Type 0) → IsFreshLaw image → (v : Volume) → IsVolume v → (disks : List D) (w : World) → w ≡ new_world v → (seats : List Seat) → AllByRecursion IsEmptySeat seats
     → (row : List (Station (UnderFuse D))) → AllByRecursion (IsStation v) row → AreFormatted tells meter text image v.layout (nodes_of v.clusters) disks row → (u : Volume) → u ≡ v
-    → IsTrue tells → length w.log < 2 ^ 64 - 1 → IsPicture (fused_image image) u w seats row
+    → IsTrue tells → length (w.log ++ []) < 2 ^ 64 - 1 → IsPicture (fused_image image) u [] w seats row
 new-picture tells meter text image law v rules disks w world seats empty row stations new u volume told few =
-    let f = facts w.log in
-    subst (λ (x : Volume). IsPicture (fused_image image) x w seats row) (sym volume) (record {
+    let f = facts (w.log ++ []) in
+    let same : behind [] w ≡ new_world v = ap (behind []) world in
+    subst (λ (x : Volume). IsPicture (fused_image image) x [] w seats row) (sym volume) (record {
       rules = rules;
-      fine = subst (IsFine v []) (sym world) (new-fine v);
+      bytes = λ s b none. absurd (cc);
+      fine = subst (IsFine v []) (sym same) (new-fine v);
+      lengths = λ a. subst (λ (x : World). KnowsLengths (facts (w.log ++ [])) (x.seats a).work) (sym world) tt;
       hands = no-hands v f seats empty;
       disks = new-images tells meter text image law told v f (nodes_of v.clusters) disks row new stations;
     })

@@ -1,5 +1,5 @@
 -- What the script orders of a node.
-use Rattle.std.proofs.Common.{◌≡◌, ℕ, ◌≤◌, Bool, true, false, IsTrue, cond, List, ◌∷◌, map, length, set, Option, Some, refl, sym, ◌∙◌, ap, subst}
+use Rattle.std.proofs.Common.{◌≡◌, ℕ, ◌≤◌, Bool, true, false, IsTrue, cond, List, ◌∷◌, ◌++◌, map, length, set, Option, Some, None, refl, sym, ◌∙◌, ap, subst}
 use Rattle.std.specs.Prelude.{◌==◌, slice_get}
 use Rattle.std.specs.Global.{Vec}
 use Rattle.std.specs.List.{AllByRecursion}
@@ -25,6 +25,8 @@ use Rattle.rz_node_model.specs.Afterwards.{after_answer}
 use Rattle.rz_node_model.specs.NodeEvents.{node_event}
 use Rattle.rz_script.specs.declared.line.Line.TheVariants as line
 use Rattle.rz_play.specs.World.{World}
+use Rattle.rz_play.specs.Turns.{answered}
+use Rattle.rz_lines.specs.Behind.{behind}
 use Rattle.rz_play.specs.Lines.{IsAdminCall, noted}
 use Rattle.rz_play.specs.Free.{IsFreeStart, PlaysLineOver}
 use Rattle.rz_driver.specs.declared.driver.Driver.{Driver}
@@ -195,3 +197,18 @@ module _ {D : Type 0} {G : Ghosts D} (d : Driver D G) (ready : IsDriver d) (q : 
         lost = lost i;
         log = a.log_is i;
       }
+
+-- ---- behind an earlier log
+
+noted-behind : (o : Option Event) (h old : List Event) → noted o h ++ old ≡ noted o (h ++ old)
+noted-behind None h old = refl
+noted-behind (Some x) h old = refl
+
+-- what an administrator's call does, it does there too
+pub admin-behind : (old : List Event) (v : Volume) (n : ℕ) (question : NodeAsk) (w next : World) → IsAdminCall v n question w next → IsAdminCall v n question (behind old w) (behind old next)
+admin-behind old v n question w next call = record {
+  given = call.given;
+  given_is = call.given_is;
+  told = call.told;
+  next_is = ap (behind old) call.next_is ∙ (λ i. record (answered (behind old w) n question call.given) { log = noted-behind (node_event Admin n question call.given) w.log old i });
+}

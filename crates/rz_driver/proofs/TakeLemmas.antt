@@ -27,7 +27,8 @@ use Rattle.rz_stations.specs.Stations.{IsStation}
 use Rattle.rz_driver.specs.Worlds.{place_of, seat_in, world, world_of, AreLocks, HaveNoLocks, IsDriver}
 use Rattle.rz_stations.proofs.Rows.{all-set, all-at}
 use Rattle.rz_driver.proofs.ReadyLemmas.{stations-after, numbers-after, seat-after, locks-after}
-use Rattle.rz_driver.proofs.TurnLemmas.{turn-is}
+use Rattle.rz_lines.specs.Behind.{behind}
+use Rattle.rz_driver.proofs.TurnLemmas.{AreTexts, turn-is}
 use Rattle.rz_driver.proofs.WorldLemmas.{client-place, rebuilder-place, seat-here}
 
 place-low : (by : Actor) (q : ℕ) → place_of by ≡ Some q → q < 80
@@ -80,11 +81,12 @@ module _ {D : Type 0} {G : Ghosts D} (by : Actor) (place : ℕ) (d e : Driver D 
 -- and the world is that after the turn
 pub turned : {D : Type 0} {G : Ghosts D} (by : Actor) (place : ℕ) (d : Driver D G) (q : Shared (UnderFuse D) D) (log : Logged) (a0 a b : Seat) → IsDriver d → place_of by ≡ Some place → slice_get d.seats.items place ≡ Some a0 → place < length d.seats.items
     → seat_of a ≡ at_work (seat_of a0) → IsSeat d.volume.layout a → a.lock ≡ a0.lock → log.events ≡ d.shared.log.events → IsAct d.volume.layout by a b (record d.shared { log = log }) q
-    → (f : Driver D G) → d ≡ f → IsTurn f.volume by (world_of f) (world q (set d.seats.items place b) (d.turns + 1))
-turned {D = D} {G = G} by place d q log a0 a b ready at here low taken fits kept events acts f is =
+    → (earlier : List Event) → AreTexts a.machine log.earlier log.events earlier
+    → (f : Driver D G) → d ≡ f → IsTurn f.volume by (behind earlier (world_of f)) (behind earlier (world q (set d.seats.items place b) (d.turns + 1)))
+turned {D = D} {G = G} by place d q log a0 a b ready at here low taken fits kept events acts earlier texts f is =
     let p : Shared (UnderFuse D) D = record d.shared { log = log } in
     let next : World = world q (set d.seats.items place b) (d.turns + 1) in
     let first : world p d.seats.items d.turns ≡ world_of d = ap (λ (h : List Event). record (world_of d) { log = h }) events in
-    subst (λ (x : Driver D G). IsTurn x.volume by (world_of x) next) is
-    (subst (λ (w : World). IsTurn d.volume by w next) first
-    (turn-is d.volume by d.seats.items place d.turns at low a0 a here taken fits.machine p q ready.locks ready.no_locks ready.stations kept b acts))
+    subst (λ (x : Driver D G). IsTurn x.volume by (behind earlier (world_of x)) (behind earlier next)) is
+    (subst (λ (w : World). IsTurn d.volume by (behind earlier w) (behind earlier next)) first
+    (turn-is d.volume by d.seats.items place d.turns at low a0 a here taken fits.machine p q earlier texts ready.locks ready.no_locks ready.stations kept b acts))

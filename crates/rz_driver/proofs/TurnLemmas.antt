@@ -1,5 +1,5 @@
--- What an actor did is its turn in the world of the play.
-use Rattle.std.proofs.Common.{◌≡◌, ℕ, zero, suc, ◌+◌, ◌<◌, ◌≤◌, Bool, true, false, cond, List, [], ◌∷◌, length, set, Option, Some, None, refl, sym, ◌∙◌, ap, subst}
+-- What an actor did is its turn in the world of the play, behind any earlier log.
+use Rattle.std.proofs.Common.{◌≡◌, ◌⊎◌, ℕ, zero, suc, ◌+◌, ◌<◌, ◌≤◌, Bool, true, false, cond, List, [], ◌∷◌, ◌++◌, length, set, Option, Some, None, refl, sym, ◌∙◌, ap, subst}
 use Rattle.std.specs.Prelude.{◌==◌, slice_get, IsSomeAnd}
 use Rattle.std.specs.List.{AllByRecursion}
 use Rattle.std.proofs.Math.Path.{fun_ext}
@@ -27,7 +27,7 @@ use Rattle.rz_locks.specs.Conflicts.{Conflict}
 use Rattle.rz_locks.specs.Held.{Held, Blocks}
 use Rattle.rz_metadata.specs.Stands.{export_in}
 use Rattle.rz_operation.specs.Answers.{Goes}
-use Rattle.rz_operation.specs.Machine.{Machine}
+use Rattle.rz_operation.specs.Machine.{Machine, text_of}
 use Rattle.rz_operation_model.specs.Ask.{Ask, AskExport, AskNode, AskLock, Say, Rest, Saying, SayGot, SayGave, SayLeft, SayDone, ask_of}
 use Rattle.rz_operation_model.specs.Work.{Work, Over, Calling, Dropping, Opening, Locking, Writing, Reading, Rebuilding, Ending}
 use Rattle.rz_operation_model.specs.Steps.{Told, Replied, Locked, Answered, Missed, Noted, told, begun}
@@ -39,7 +39,9 @@ use Rattle.rz_formatting.specs.declared.formatting.Station.{Station}
 use Rattle.rz_driver.specs.Acts.{IsAct, Rests, Exports, Opens, Sends, Says, IsSameActor, IsMessage, IsFate, Through, ReplyLost, RequestLost, IsReleased, lock_left}
 use Rattle.rz_asks.specs.Locking.{lock_of, lock_if, open_reply, Grants, IsOpenPart}
 use Rattle.rz_stations.specs.Nodes.{IsServed, IsAsked}
-use Rattle.rz_asks.specs.Parts.{IsTold, IsExportPart, IsSayPart, is_done}
+use Rattle.rz_operation_model.specs.Turns.{said_event}
+use Rattle.rz_asks.specs.Parts.{IsTold, IsExportPart, IsSayPart, IsUnbegun, is_done}
+use Rattle.rz_lines.specs.Behind.{behind}
 use Rattle.rz_driver.specs.Seats.{work_in, seat_of, HasLayout}
 use Rattle.rz_stations.specs.Stations.{state_in, IsStation}
 use Rattle.rz_driver.specs.Worlds.{place_of, seat_at, seat_in, world, AreLocks, HaveNoLocks}
@@ -81,12 +83,19 @@ player-is s a b same is work work_is lock lock_is miss miss_is =
 told-of : (m new : Machine) (t : Told) → Goes m m.pairs t new → IsTold m new t
 told-of m new t goes = record { layout = goes.layout; work = goes.work }
 
+-- ---- what is said
+
+-- what this machine says is the text of the write which it names, by the whole log
+abbrev pub AreTexts : Option Machine → Bool → List Event → List Event → Type 0
+AreTexts o flag h earlier = (m : Machine) (said : Saying) → o ≡ Some m → ask_of m.layout m.work ≡ Say said
+    → (text_of m ≡ text_said (facts h) said) ⊎ ((flag ≡ true) × IsUnbegun (facts h) said) → text_of m ≡ text_said (facts (h ++ earlier)) said
+
 -- ---- the turn
 
 module _ {D J : Type 0} (v : Volume) (by : Actor) (ss : List Seat) (place turns : ℕ) (at : place_of by ≡ Some place) (low : place < length ss) (a0 a : Seat) (here : slice_get ss place ≡ Some a0) (taken : seat_of a ≡ at_work (seat_of a0))
-    (layout : HasLayout v.layout a.machine) (p q : Shared D J) where
+    (layout : HasLayout v.layout a.machine) (p q : Shared D J) (earlier : List Event) where
   abbrev w : World
-  w = counted (world p ss turns)
+  w = counted (behind earlier (world p ss turns))
 
   abbrev s : APlayer
   s = seat_of a
@@ -99,7 +108,7 @@ module _ {D J : Type 0} (v : Volume) (by : Actor) (ss : List Seat) (place turns 
   seats-are b t is = fun_ext (λ x. seat-set ss by place b at low x ∙ ap (λ (y : APlayer). cond (same_actor x by) y (seat_in ss x)) is)
 
   abbrev next : Seat → World
-  next b = world q (set ss place b) (turns + 1)
+  next b = behind earlier (world q (set ss place b) (turns + 1))
 
   asked : (m : Machine) (ask : Ask) → a.machine ≡ Some m → ask_of m.layout m.work ≡ ask → ask_of v.layout s.work ≡ ask
   asked m ask is asks =
@@ -111,13 +120,13 @@ module _ {D J : Type 0} (v : Volume) (by : Actor) (ss : List Seat) (place turns 
       let same : m.layout ≡ v.layout = subst (HasLayout v.layout) was layout in
       ap work_in is ∙ goes.work ∙ ap (λ (y : Layout). told y m.work t) same ∙ ap (λ (o : Option Machine). told v.layout (work_in o) t) (sym was)
 
-  lift : (ask : Ask) (b : Seat) → ask_of v.layout s.work ≡ ask → IsAskTurn v w by s ask (next b) → IsTurn v by (world p ss turns) (next b)
+  lift : (ask : Ask) (b : Seat) → ask_of v.layout s.work ≡ ask → IsAskTurn v w by s ask (next b) → IsTurn v by (behind earlier (world p ss turns)) (next b)
   lift ask b is turn =
       subst (λ (x : APlayer). IsAskTurn v w by x (ask_of v.layout x.work) (next b)) (sym works) (subst (λ (y : Ask). IsAskTurn v w by s y (next b)) (sym is) turn)
 
-  rests : (b : Seat) → ask_of v.layout s.work ≡ Rest → b ≡ a → q ≡ p → IsTurn v by (world p ss turns) (next b)
+  rests : (b : Seat) → ask_of v.layout s.work ≡ Rest → b ≡ a → q ≡ p → IsTurn v by (behind earlier (world p ss turns)) (next b)
   rests b is same shared = lift Rest b is
-      ((λ i. world (shared i) (set ss place (same i)) (turns + 1)) ∙ (λ i. record (world p ss (turns + 1)) { seats = stays i }))
+      ((λ i. behind earlier (world (shared i) (set ss place (same i)) (turns + 1))) ∙ (λ i. record (behind earlier (world p ss (turns + 1))) { seats = stays i }))
     where
       unchanged : at_work (seat_of a0) ≡ seat_of a0
       unchanged = rest-same v.layout (seat_of a0) (seat_of a0).work (seat_of a0).todo (ap (λ (x : APlayer). ask_of v.layout x.work) (sym taken) ∙ is)
@@ -133,7 +142,7 @@ module _ {D J : Type 0} (v : Volume) (by : Actor) (ss : List Seat) (place turns 
   -- ---- the export is asked
 
   exports : (b : Seat) (old new : Machine) → a.machine ≡ Some old → b.machine ≡ Some new → IsSameActor a b → b.lock ≡ a.lock → b.miss ≡ a.miss
-      → IsExportPart by old new (export_in p.export) (export_in q.export) p.log.events q.log.events → q.stations.items ≡ p.stations.items → q.lost ≡ p.lost → IsTurn v by (world p ss turns) (next b)
+      → IsExportPart by old new (export_in p.export) (export_in q.export) p.log.events q.log.events → q.stations.items ≡ p.stations.items → q.lost ≡ p.lost → IsTurn v by (behind earlier (world p ss turns)) (next b)
   exports b old new was is same lock miss (c, asks, replied) stations lost =
       let x = replied.noted.0 in
       let seats = seats-are b (advanced v s (Replied (export_reply (export_in p.export) c))) (goes-on old new b (Replied (export_reply (export_in p.export) c)) was is same (told-of old new (Replied (export_reply (export_in p.export) c)) replied.goes) s.lock (ap lock_of lock) s.miss miss) in
@@ -146,7 +155,7 @@ module _ {D J : Type 0} (v : Volume) (by : Actor) (ss : List Seat) (place turns 
           seats = seats i;
           turns = turns + 1;
           lost = lost i;
-          log = replied.noted.2 i;
+          log = replied.noted.2 i ++ earlier;
         },
       )
 
@@ -195,7 +204,7 @@ module _ {D J : Type 0} (v : Volume) (by : Actor) (ss : List Seat) (place turns 
     if-cond false x y = refl
 
     opens : (b : Seat) (old new : Machine) → a.machine ≡ Some old → b.machine ≡ Some new → IsSameActor a b → b.miss ≡ a.miss → a.lock ≡ a0.lock
-        → IsOpenPart by old new (export_in p.export) (export_in q.export) p.locks q.locks a.lock b.lock p.log.events q.log.events → q.stations.items ≡ p.stations.items → q.lost ≡ p.lost → IsTurn v by (world p ss turns) (next b)
+        → IsOpenPart by old new (export_in p.export) (export_in q.export) p.locks q.locks a.lock b.lock p.log.events q.log.events → q.stations.items ≡ p.stations.items → q.lost ≡ p.lost → IsTurn v by (behind earlier (world p ss turns)) (next b)
     opens b old new was is same miss kept (path, exclusive, from, count, asks, (owner, o)) stations lost =
         let answer = open_reply (export_in p.export) path in
         let lock = lock_on answer exclusive from count in
@@ -213,7 +222,7 @@ module _ {D J : Type 0} (v : Volume) (by : Actor) (ss : List Seat) (place turns 
             seats = seats i;
             turns = turns + 1;
             lost = lost i;
-            log = o.noted.2 i;
+            log = o.noted.2 i ++ earlier;
           },
         )
 
@@ -248,7 +257,7 @@ module _ {D J : Type 0} (v : Volume) (by : Actor) (ss : List Seat) (place turns 
       states given after = ap state_in m.stations ∙ fun_ext (λ k. state-set p.stations.items n m.place m.after m.at (m.called.sid ∙ found.0) k
           ∙ ap (λ (st : NodeState). cond (k == n) st (state_in p.stations.items k)) (after ∙ ap (after_answer question given) (sym found.1)))
 
-      sent : IsFate by n question m.station m.after old new a.miss b.miss p q → IsTurn v by (world p ss turns) (next b)
+      sent : IsFate by n question m.station m.after old new a.miss b.miss p q → IsTurn v by (behind earlier (world p ss turns)) (next b)
       sent (Through part comes miss lost) =
           let given = part.given in
           let x = part.noted.0 in
@@ -265,7 +274,7 @@ module _ {D J : Type 0} (v : Volume) (by : Actor) (ss : List Seat) (place turns 
               seats = seats i;
               turns = turns + 1;
               lost = lost i;
-              log = part.noted.2 i;
+              log = part.noted.2 i ++ earlier;
             },
           ))
       sent (ReplyLost part lost_so miss lost) =
@@ -283,7 +292,7 @@ module _ {D J : Type 0} (v : Volume) (by : Actor) (ss : List Seat) (place turns 
               seats = seats i;
               turns = turns + 1;
               lost = lost i;
-              log = part.noted i;
+              log = part.noted i ++ earlier;
             },
           ))
       sent (RequestLost stays part lost_so miss lost) =
@@ -298,7 +307,7 @@ module _ {D J : Type 0} (v : Volume) (by : Actor) (ss : List Seat) (place turns 
               seats = seats i;
               turns = turns + 1;
               lost = lost i;
-              log = part.noted i;
+              log = part.noted i ++ earlier;
             },
           ))
 
@@ -310,26 +319,29 @@ module _ {D J : Type 0} (v : Volume) (by : Actor) (ss : List Seat) (place turns 
   lock-said (SayGave key part end) done lock lock' done_is left = ap lock_of (left ∙ ap (λ (d : Bool). lock_left d lock) done_is)
   lock-said (SayLeft key why) done lock lock' done_is left = ap lock_of (left ∙ ap (λ (d : Bool). lock_left d lock) done_is)
 
-  says : (b : Seat) (old new : Machine) → a.machine ≡ Some old → b.machine ≡ Some new → IsSameActor a b → b.miss ≡ a.miss
-      → (done : Bool) → IsSayPart by a.number done old new p.log.events q.log.events → IsReleased done by a.lock b.lock p.locks q.locks
-      → q.stations.items ≡ p.stations.items → q.export ≡ p.export → q.lost ≡ p.lost → IsTurn v by (world p ss turns) (next b)
-  says b old new was is same miss done (said, asks, part) released stations export lost =
-      let text = text_said (facts p.log.events) said in
+  says : AreTexts a.machine p.log.earlier p.log.events earlier → (b : Seat) (m new : Machine) → a.machine ≡ Some m → b.machine ≡ Some new → IsSameActor a b → b.miss ≡ a.miss
+      → (done : Bool) → IsSayPart p.log.earlier by a.number done m new p.log.events q.log.events → IsReleased done by a.lock b.lock p.locks q.locks
+      → q.stations.items ≡ p.stations.items → q.export ≡ p.export → q.lost ≡ p.lost → IsTurn v by (behind earlier (world p ss turns)) (next b)
+  says texts b m new was is same miss done (said, asks, part) released stations export lost =
+      let text = text_said (facts (p.log.events ++ earlier)) said in
+      let named : text_of m ≡ text = texts m said was asks part.known in
+      let noted : q.log.events ≡ said_event by a.number text said ∷ p.log.events = part.noted ∙ ap (λ (t : List ℕ). said_event by a.number t said ∷ p.log.events) named in
+      let goes : Goes m m.pairs (Noted text) new = subst (λ (t : List ℕ). Goes m m.pairs (Noted t) new) named part.goes in
       let seats = seats-are b (record (advanced v s (Noted text)) { lock = lock_after said s.lock })
-      (goes-on old new b (Noted text) was is same (told-of old new (Noted text) part.goes) (lock_after said s.lock) (lock-said said done a.lock b.lock part.done_is released.lock_is) s.miss miss) in
-      lift (Say said) b (asked old (Say said) was asks) (λ i. record {
+      (goes-on m new b (Noted text) was is same (told-of m new (Noted text) goes) (lock_after said s.lock) (lock-said said done a.lock b.lock part.done_is released.lock_is) s.miss miss) in
+      lift (Say said) b (asked m (Say said) was asks) (λ i. record {
         nodes = state_in (stations i);
         export = export_in (export i);
         seats = seats i;
         turns = turns + 1;
         lost = lost i;
-        log = part.noted i;
+        log = noted i ++ earlier;
       })
 
   -- What the actor did is its turn.
-  pub turn-is : AreLocks p.locks ss → HaveNoLocks ss → AllByRecursion (IsStation v) p.stations.items → a.lock ≡ a0.lock → (b : Seat) → IsAct v.layout by a b p q → IsTurn v by (world p ss turns) (next b)
-  turn-is tied free stations kept b (Rests is same shared) = rests b is same shared
-  turn-is tied free stations kept b (Exports old new was is same lock miss part sts lks lost) = exports b old new was is same lock miss part sts lost
-  turn-is tied free stations kept b (Opens old new was is same miss part sts lost) = opens tied free b old new was is same miss kept part sts lost
-  turn-is tied free stations kept b (Sends old new was is same lock n question asks message) = sent stations n question old new b message was is same lock asks message.fate
-  turn-is tied free stations kept b (Says old new was is same miss done part released sts export lost) = says b old new was is same miss done part released sts export lost
+  pub turn-is : AreTexts a.machine p.log.earlier p.log.events earlier → AreLocks p.locks ss → HaveNoLocks ss → AllByRecursion (IsStation v) p.stations.items → a.lock ≡ a0.lock → (b : Seat) → IsAct v.layout by a b p q → IsTurn v by (behind earlier (world p ss turns)) (next b)
+  turn-is texts tied free stations kept b (Rests is same shared) = rests b is same shared
+  turn-is texts tied free stations kept b (Exports old new was is same lock miss part sts lks lost) = exports b old new was is same lock miss part sts lost
+  turn-is texts tied free stations kept b (Opens old new was is same miss part sts lost) = opens tied free b old new was is same miss kept part sts lost
+  turn-is texts tied free stations kept b (Sends old new was is same lock n question asks message) = sent stations n question old new b message was is same lock asks message.fate
+  turn-is texts tied free stations kept b (Says old new was is same miss done part released sts export lost) = says texts b old new was is same miss done part released sts export lost

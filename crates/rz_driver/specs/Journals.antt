@@ -1,7 +1,8 @@
 -- The journal of a driver: for which calls its disk stands.
-use Rattle.std.specs.Prelude.{ℕ, ◌≡◌, length}
+use Rattle.std.specs.Prelude.{ℕ, ◌≡◌, ◌++◌, length}
 use Rattle.rz_disk.specs.declared.disk.Disk.{Ghosts}
 use Rattle.rz_events.specs.Volume.{nodes_of}
+use Rattle.rz_lines.specs.Behind.{Before}
 use Rattle.rz_metadata.specs.declared.metadata.Metadata.{Metadata}
 use Rattle.rz_metadata.specs.Stands.{export_in, is_journaled}
 use Rattle.rz_asks.specs.Journals.{KeepsLog, EndsLog}
@@ -16,14 +17,14 @@ pub record IsSameStore {D : Type 0} (m m' : Metadata D) : Type 0 where
 abbrev pub journal_place : {D : Type 0} {G : Ghosts D} → Driver D G → ℕ
 journal_place d = length (nodes_of d.volume.clusters)
 
--- Where the disks had counted so many faults at first.
+-- What there was before the first line: what the disks had counted, and the log of earlier runs.
 
--- between two turns a journal stands for the calls that the log tells
-pub record HasJournal {D : Type 0} {G : Ghosts D} (d : Driver D G) (first : ℕ → ℕ) : Type 0 where
+-- between two turns a journal stands for the calls that the whole log tells
+pub record HasJournal {D : Type 0} {G : Ghosts D} (d : Driver D G) (b : Before) : Type 0 where
   pub volume : (export_in d.shared.export).volume ≡ d.volume
-  pub keeps : KeepsLog G.tells G.meter G.image (first (journal_place d)) d.shared.export d.shared.log.events
+  pub keeps : KeepsLog G.tells G.meter G.image (b.counts (journal_place d)) d.shared.export (d.shared.log.events ++ b.log)
 
 -- where a play ended it does, or it stands for one call more, or it did not keep one
-pub record LeavesJournal {D : Type 0} {G : Ghosts D} (d : Driver D G) (first : ℕ → ℕ) : Type 0 where
+pub record LeavesJournal {D : Type 0} {G : Ghosts D} (d : Driver D G) (b : Before) : Type 0 where
   pub volume : (export_in d.shared.export).volume ≡ d.volume
-  pub ends : EndsLog G.tells G.meter G.image (first (journal_place d)) d.shared.export d.shared.log.events
+  pub ends : EndsLog G.tells G.meter G.image (b.counts (journal_place d)) d.shared.export (d.shared.log.events ++ b.log)

@@ -8,3 +8,4 @@ pub mod AskedLaws
 pub mod Fetches
 pub mod Formatted
 pub mod Endings
+pub mod Continued

@@ -1,6 +1,7 @@
 -- A driver whose nodes were asked for records, and nothing else.
-use Rattle.std.specs.Prelude.{ℕ, ◌≡◌}
+use Rattle.std.specs.Prelude.{◌≡◌}
 use Rattle.rz_disk.specs.declared.disk.Disk.{Ghosts}
+use Rattle.rz_lines.specs.Behind.{Before}
 use Rattle.rz_driver.specs.declared.driver.Driver.{Driver}
 use Rattle.rz_stations.specs.Images.{fused_image}
 use Rattle.rz_driver.specs.Worlds.{Leaves}
@@ -15,5 +16,5 @@ pub record WasOnlyAsked {D : Type 0} {G : Ghosts D} (d e : Driver D G) : Type 0 
   pub nodes : AreOnlyAsked (fused_text G.text) (fused_image G.image) d.shared.stations.items e.shared.stations.items
 
 -- a play left a driver so, of which nothing but records was asked since
-abbrev pub IsLeftSince : {D : Type 0} {G : Ghosts D} → Driver D G → (ℕ → ℕ) → Type 0
-IsLeftSince {D = D} {G = G} e first = (d : Driver D G) × Leaves d first × WasOnlyAsked d e
+abbrev pub IsLeftSince : {D : Type 0} {G : Ghosts D} → Driver D G → Before → Type 0
+IsLeftSince {D = D} {G = G} e b = (d : Driver D G) × Leaves d b × WasOnlyAsked d e

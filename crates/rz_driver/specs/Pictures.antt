@@ -1,11 +1,17 @@
--- What is true beside the log of what actors have in hand and of the nodes' disks, where disks tell their texts.
-use Rattle.std.specs.Prelude.{ℕ, ◌≡◌, List, [], Option, Some, None}
-use Rattle.std.specs.List.{AllByRecursion}
+-- What is true beside the log of what actors have in hand and of the nodes' disks, where disks tell their texts. The log is the
+-- whole one: that of this run behind that of earlier runs.
+use Rattle.std.specs.Prelude.{ℕ, ◌≡◌, ◌<◌, ◌++◌, List, length, Option, Some, None}
+use Rattle.std.specs.List.{All, AllByRecursion}
 use Rattle.rz_events.specs.Volume.{Volume, IsVolume}
 use Rattle.rz_events.specs.declared.keys.Actor.{Actor}
+use Rattle.rz_events.specs.declared.ends.ReadMark.TheVariants as mark
 use Rattle.rz_events.specs.declared.events.Event.{Event}
-use Rattle.rz_core.specs.History.{Facts, facts}
+use Rattle.rz_client_model.specs.declared.reading.ReadStage.{ReadStage}
+use Rattle.rz_client_model.specs.declared.reading.ReadStage.TheVariants.{Fetching, Ended}
+use Rattle.rz_core.specs.History.{Facts, Begun, facts}
 use Rattle.rz_operation.specs.Machine.{Machine}
+use Rattle.rz_operation_model.specs.Work.{Work, Reading}
+use Rattle.rz_lines.specs.Behind.{behind}
 use Rattle.rz_play.specs.World.{World}
 use Rattle.rz_play_laws.specs.Fine.{IsFine}
 use Rattle.rz_block_laws.specs.Turns.{HasInHand, IsTrueActor}
@@ -24,21 +30,39 @@ abbrev pub IsTrueSeat : Volume → Facts → Actor → Option Machine → Type 0
 IsTrueSeat v f by None = Unit {0}
 IsTrueSeat v f by (Some m) = IsTrueActor v f by m
 
--- What a turn of an actor keeps, which makes of the nodes xs and the log h the nodes ys and the log h'.
+-- Texts.
+
+-- each write that began has a text of bytes
+abbrev pub AreBytes : Facts → Type 0
+AreBytes f = (s : ℕ) (b : Begun) → f.wrote s ≡ Some b → All (λ x. x < 256) b.text
+
+-- The write whose text a read looks for began, and the length that the first record told is that of its text.
+abbrev pub KnowsLength : Facts → ReadStage → Type 0
+KnowsLength f (Fetching t) = (b : Begun) × (f.wrote t.stamp ≡ Some b) × (0 < t.given → t.length ≡ length b.text)
+KnowsLength f (Ended (mark.Found stamp size)) = (b : Begun) × (f.wrote stamp ≡ Some b) × (size ≡ length b.text)
+KnowsLength f stage = Unit {0}
+
+abbrev pub KnowsLengths : Facts → Work → Type 0
+KnowsLengths f (Reading course s) = KnowsLength f s.stage
+KnowsLengths f work = Unit {0}
+
+-- What a turn of an actor keeps, which makes of the nodes xs and the log h the nodes ys and the log h', behind any earlier log.
 
 abbrev pub KeepsPicture : {D : Type 0} → (D → List ℕ → Type 0) → Actor → Option Machine → Option Machine → List (Station D) → List Event → List (Station D) → List Event → Type 0
 KeepsPicture image by m m' xs h ys h' =
-    (v : Volume) → IsTrueSeat v (facts h) by m → AreImaged image v (facts h) xs → HasTrueHand v (facts h') m' × AreImaged image v (facts h') ys
+    (v : Volume) (old : List Event) → IsTrueSeat v (facts (h ++ old)) by m → AreImaged image v (facts (h ++ old)) xs → HasTrueHand v (facts (h' ++ old)) m' × AreImaged image v (facts (h' ++ old)) ys
 
 -- where it ends for want of memory, the states of all nodes are as before
 abbrev pub SparesPicture : {D : Type 0} → (D → List ℕ → Type 0) → Actor → Option Machine → List (Station D) → List Event → List (Station D) → Type 0
 SparesPicture image by m xs h ys =
-    (v : Volume) → IsTrueSeat v (facts h) by m → AreImaged image v (facts h) xs → AreImaged image v (facts h) ys × (state_in ys ≡ state_in xs)
+    (v : Volume) (old : List Event) → IsTrueSeat v (facts (h ++ old)) by m → AreImaged image v (facts (h ++ old)) xs → AreImaged image v (facts (h ++ old)) ys × (state_in ys ≡ state_in xs)
 
--- Between two turns: the world of the play is in order, what each actor has in hand is true, and the images of each disk are
--- those of its node's state.
-pub record IsPicture {D : Type 0} (image : D → List ℕ → Type 0) (v : Volume) (w : World) (seats : List Seat) (stations : List (Station D)) : Type 0 where
+-- Between two turns: the world of the play is in order behind the earlier log, what each actor has in hand is true, and the
+-- images of each disk are those of its node's state.
+pub record IsPicture {D : Type 0} (image : D → List ℕ → Type 0) (v : Volume) (old : List Event) (w : World) (seats : List Seat) (stations : List (Station D)) : Type 0 where
   pub rules : IsVolume v
-  pub fine : IsFine v [] w
-  pub hands : AllByRecursion (λ (s : Seat). HasTrueHand v (facts w.log) s.machine) seats
-  pub disks : AreImaged image v (facts w.log) stations
+  pub bytes : AreBytes (facts old)
+  pub fine : IsFine v old (behind old w)
+  pub lengths : (by : Actor) → KnowsLengths (facts (w.log ++ old)) (w.seats by).work
+  pub hands : AllByRecursion (λ (s : Seat). HasTrueHand v (facts (w.log ++ old)) s.machine) seats
+  pub disks : AreImaged image v (facts (w.log ++ old)) stations

@@ -1,14 +1,17 @@
 -- The world of a play that a driver stands for.
-use Rattle.std.specs.Prelude.{ℕ, Bool, true, false, IsTrue, ◌≡◌, ◌+◌, ◌-◌, ◌^◌, ◌<◌, ◌≤◌, ◌⊎◌, ◌&&◌, nat_le, map, List, length, Option, Some, None, slice_get}
+use Rattle.std.proofs.Common.{refl, sym, subst}
+use Rattle.std.specs.Prelude.{ℕ, Bool, true, false, IsTrue, ◌≡◌, ◌+◌, ◌-◌, ◌^◌, ◌<◌, ◌≤◌, ◌⊎◌, ◌&&◌, nat_le, not, map, List, [], ◌++◌, length, Option, Some, None, slice_get}
 use Rattle.std.specs.List.{AllByRecursion}
 use Rattle.std.specs.FinMap.{get}
 use Rattle.mj_angles.specs.Layout.{max_bins_of}
 use Rattle.rz_disk.specs.declared.disk.Disk.{Ghosts}
 use Rattle.rz_events.specs.Volume.{nodes_of}
 use Rattle.rz_events.specs.declared.files.NodeSpec.{NodeSpec}
+use Rattle.rz_events.specs.declared.events.Event.{Event}
 use Rattle.rz_events.specs.declared.keys.Actor.{Actor}
 use Rattle.rz_events.specs.declared.keys.Actor.TheVariants.{Client, Rebuilder, Admin}
 use Rattle.rz_locks.specs.Held.{Held}
+use Rattle.rz_lines.specs.Behind.{Before}
 use Rattle.rz_metadata.specs.Stands.{export_in}
 use Rattle.rz_play.specs.World.{World, Seat as APlayer, empty_seat}
 use Rattle.rz_driver.specs.declared.seat.Seat.{Seat}
@@ -76,25 +79,55 @@ pub record IsDriver {D : Type 0} {G : Ghosts D} (d : Driver D G) : Type 0 where
   pub locks : AreLocks d.shared.locks d.seats.items
   pub no_locks : HaveNoLocks d.seats.items
 
--- Where the disks had counted so many faults at first.
-
 -- the numbers of the volume's nodes
 abbrev pub numbers_in : {D : Type 0} {G : Ghosts D} → Driver D G → List ℕ
 numbers_in d = map (λ (n : NodeSpec). n.sid) (nodes_of d.volume.clusters)
 
--- where disks tell their texts, and the log has room for an event more, actors and disks are right beside it
-abbrev pub HasPicture : {D : Type 0} {G : Ghosts D} → Driver D G → Type 0
-HasPicture {G = G} d = IsTrue G.tells → length d.shared.log.events < 2 ^ 64 - 1 → IsPicture (fused_image G.image) d.volume (world_of d) d.seats.items d.shared.stations.items
+-- Each text that a read finds is that of the write which it names: but in a play after earlier runs over disks that do not tell
+-- their texts.
 
--- then each disk is right by the log
-abbrev pub HasRightDisks : {D : Type 0} {G : Ghosts D} → Driver D G → Type 0
-HasRightDisks {G = G} d = IsTrue G.tells → length d.shared.log.events < 2 ^ 64 - 1 → AllByRecursion (IsRight (fused_image G.image) d.volume d.shared.log.events) d.shared.stations.items
+abbrev pub exact_if : (tells earlier : Bool) → Bool
+exact_if true earlier = true
+exact_if false earlier = not earlier
 
--- between two turns each word of the log goes with its disk's meter, and a journal stands for the calls that the log tells
-abbrev pub Holds : {D : Type 0} {G : Ghosts D} → Driver D G → (ℕ → ℕ) → Type 0
-Holds {G = G} d first = AreMetered (fused_meter G.meter) (numbers_in d) d.shared.stations.items d.shared.log.events first × HasPicture d × HasJournal d first
+abbrev pub is_exact : {D : Type 0} {G : Ghosts D} → Driver D G → Bool
+is_exact {G = G} d = exact_if G.tells d.shared.log.earlier
+
+-- it is where disks tell their texts
+pub tells-exactly : {D : Type 0} {G : Ghosts D} (d : Driver D G) → IsTrue G.tells → is_exact d ≡ true
+tells-exactly d told = subst (λ (tells : Bool). exact_if tells d.shared.log.earlier ≡ true) (sym told) refl
+
+-- before a play that goes on after a log, where the disks had counted so many faults
+abbrev pub left_behind : (ℕ → ℕ) → List Event → Before
+left_behind counts old = record { counts = counts; log = old }
+
+-- before one that begins anew
+abbrev pub anew : (ℕ → ℕ) → Before
+anew counts = left_behind counts []
+
+-- What there was before the first line: what the disks had counted, and the log of earlier runs. There was none of these where the
+-- log is one that begins anew.
+pub record GoesAfter {D : Type 0} {G : Ghosts D} (d : Driver D G) (b : Before) : Type 0 where
+  pub anew : d.shared.log.earlier ≡ false → b.log ≡ []
+  pub short : length b.log < 2 ^ 63 + 512
+
+-- where disks tell their texts, and the whole log has room for an event more, actors and disks are right beside it
+abbrev pub HasPicture : {D : Type 0} {G : Ghosts D} → Driver D G → List Event → Type 0
+HasPicture {G = G} d old =
+    IsTrue G.tells → length (d.shared.log.events ++ old) < 2 ^ 64 - 1 → IsPicture (fused_image G.image) d.volume old (world_of d) d.seats.items d.shared.stations.items
+
+-- then each disk is right by the whole log
+abbrev pub HasRightDisks : {D : Type 0} {G : Ghosts D} → Driver D G → List Event → Type 0
+HasRightDisks {G = G} d old =
+    IsTrue G.tells → length (d.shared.log.events ++ old) < 2 ^ 64 - 1 → AllByRecursion (IsRight (fused_image G.image) d.volume (d.shared.log.events ++ old)) d.shared.stations.items
+
+-- between two turns each word of the log goes with its disk's meter, and a journal stands for the calls that the whole log tells
+abbrev pub Holds : {D : Type 0} {G : Ghosts D} → Driver D G → Before → Type 0
+Holds {G = G} d b =
+    AreMetered (fused_meter G.meter) (numbers_in d) d.shared.stations.items d.shared.log.events b.counts × HasPicture d b.log × (is_exact d ≡ true → HasJournal d b) × GoesAfter d b
 
 -- where a play ended they do, or the faults of each word are counted, and a journal may have one call more
-abbrev pub Leaves : {D : Type 0} {G : Ghosts D} → Driver D G → (ℕ → ℕ) → Type 0
-Leaves {G = G} d first =
-    Holds d first ⊎ (AreCounted (fused_meter G.meter) (numbers_in d) d.shared.stations.items d.shared.log.events first × HasRightDisks d × LeavesJournal d first)
+abbrev pub Leaves : {D : Type 0} {G : Ghosts D} → Driver D G → Before → Type 0
+Leaves {G = G} d b =
+    Holds d b
+    ⊎ (AreCounted (fused_meter G.meter) (numbers_in d) d.shared.stations.items d.shared.log.events b.counts × HasRightDisks d b.log × (is_exact d ≡ true → LeavesJournal d b) × GoesAfter d b)

@@ -9,8 +9,7 @@ ghost use Rattle.rz_play.specs.Turns as model;
 ghost use Rattle.rz_asks.specs.Locking.{lock_of};
 ghost use Rattle.rz_stations.specs.Nodes.{IsAsked};
 ghost use Rattle.rz_driver.specs.Seats.{HasLayout};
-ghost use Rattle.rz_lines.specs.Ends.{Carries};
-ghost use Rattle.rz_stations.specs.Meters.{AreMetered, AreCounted};
+ghost use Rattle.rz_stations.specs.Meters.{AreMetered, AreCounted, CarriesCounts};
 ghost use Rattle.rz_asks.specs.Journals.{KeepsOn, EndsOn};
 ghost use Rattle.rz_driver.specs.Journals.{IsSameStore};
 ghost use Rattle.rz_driver.specs.Pictures.{KeepsPicture, SparesPicture};
@@ -67,12 +66,13 @@ pub(crate) fn act<D: Disk, J: Disk, L: Link>(
     requires room { 2 ≤ shared.old.log.room }
     ensures ok { OnOk result (IsAct layout by seat.old seat.new shared.old shared.new) }
     ensures err { OnErr result (shared.new.log.events ≡ shared.old.log.events) }
+    ensures earlier { shared.new.log.earlier ≡ shared.old.log.earlier }
     ensures lost { OnErr result (shared.new.lost ≡ shared.old.lost) }
     ensures link { shared.new.lost + L.lost link.old ≤ shared.old.lost + L.lost link.new }
     ensures bins { length shared.new.bins.items ≡ length shared.old.bins.items }
     ensures count { vec_len shared.new.stations ≡ vec_len shared.old.stations }
-    ensures held { OnOk result ((numbers : List ℕ) → Carries (AreMetered D.meter numbers shared.old.stations.items shared.old.log.events) (AreMetered D.meter numbers shared.new.stations.items shared.new.log.events)) }
-    ensures left { OnErr result ((numbers : List ℕ) → Carries (AreMetered D.meter numbers shared.old.stations.items shared.old.log.events) (AreCounted D.meter numbers shared.new.stations.items shared.new.log.events)) }
+    ensures held { OnOk result ((numbers : List ℕ) → CarriesCounts (AreMetered D.meter numbers shared.old.stations.items shared.old.log.events) (AreMetered D.meter numbers shared.new.stations.items shared.new.log.events)) }
+    ensures left { OnErr result ((numbers : List ℕ) → CarriesCounts (AreMetered D.meter numbers shared.old.stations.items shared.old.log.events) (AreCounted D.meter numbers shared.new.stations.items shared.new.log.events)) }
     ensures store { IsSameStore shared.old.export shared.new.export }
     ensures kept { OnOk result (KeepsOn J.tells J.meter J.image shared.old.export shared.old.log.events shared.new.export shared.new.log.events) }
     ensures ended { OnErr result (EndsOn J.tells J.meter J.image shared.old.export shared.old.log.events shared.new.export shared.new.log.events) }
@@ -146,13 +146,14 @@ fn message<D: Disk, J: Disk, L: Link>(
     requires room { 2 ≤ shared.old.log.room }
     ensures ok { OnOk result (IsMessage by number ask machine.old machine.new miss.old miss.new shared.old shared.new) }
     ensures err { OnErr result (shared.new.log.events ≡ shared.old.log.events) }
+    ensures earlier { shared.new.log.earlier ≡ shared.old.log.earlier }
     ensures lost { OnErr result (shared.new.lost ≡ shared.old.lost) }
     ensures export { shared.new.export ≡ shared.old.export }
     ensures link { shared.new.lost + L.lost link.old ≤ shared.old.lost + L.lost link.new }
     ensures bins { length shared.new.bins.items ≡ length shared.old.bins.items }
     ensures count { vec_len shared.new.stations ≡ vec_len shared.old.stations }
-    ensures held { OnOk result ((numbers : List ℕ) → Carries (AreMetered D.meter numbers shared.old.stations.items shared.old.log.events) (AreMetered D.meter numbers shared.new.stations.items shared.new.log.events)) }
-    ensures left { OnErr result ((numbers : List ℕ) → Carries (AreMetered D.meter numbers shared.old.stations.items shared.old.log.events) (AreCounted D.meter numbers shared.new.stations.items shared.new.log.events)) }
+    ensures held { OnOk result ((numbers : List ℕ) → CarriesCounts (AreMetered D.meter numbers shared.old.stations.items shared.old.log.events) (AreMetered D.meter numbers shared.new.stations.items shared.new.log.events)) }
+    ensures left { OnErr result ((numbers : List ℕ) → CarriesCounts (AreMetered D.meter numbers shared.old.stations.items shared.old.log.events) (AreCounted D.meter numbers shared.new.stations.items shared.new.log.events)) }
     ensures pictured { OnOk result (IsTrue D.tells → KeepsPicture D.image by (Some machine.old) (Some machine.new) shared.old.stations.items shared.old.log.events shared.new.stations.items shared.new.log.events) }
     ensures spared { OnErr result (IsTrue D.tells → SparesPicture D.image by (Some machine.old) shared.old.stations.items shared.old.log.events shared.new.stations.items) }
 {

@@ -7,10 +7,10 @@ ghost use Rattle.rz_export_model.specs.Export.{published_after};
 ghost use Rattle.rz_metadata.specs.Stands.{export_in};
 ghost use Rattle.rz_node.specs.Spends.{fetch_used};
 ghost use Rattle.rz_node_model.specs.NodeEvents.{fetch_event};
-ghost use Rattle.rz_lines.specs.Ends.{Carries};
 ghost use Rattle.rz_scrubbing.specs.Stores.{IsRead};
 ghost use Rattle.rz_driver.specs.Worlds.{IsDriver};
 ghost use Rattle.rz_stations.specs.Fetches.{IsFetch};
+ghost use Rattle.rz_stations.specs.Meters.{CarriesCounts};
 ghost use Rattle.rz_driver.specs.Fetches.{GivesOf, Metered};
 ghost use Rattle.rz_driver.specs.OnlyAsked.{WasOnlyAsked};
 
@@ -43,7 +43,7 @@ impl<D: Disk> Driver<D> {
         ensures behind { drop (max_bins_of self.old.volume.layout) out.new ≡ drop (max_bins_of self.old.volume.layout) out.old }
         ensures asked { WasOnlyAsked self.old self.new }
         ensures ready { IsDriver self.new }
-        ensures metered { (position : ℕ) (h : List Event) → Carries (Metered self.old h) (Metered self.new (fetch_event Admin node key position stamp result ∷ h)) }
+        ensures metered { (position : ℕ) (h : List Event) → CarriesCounts (Metered self.old h) (Metered self.new (fetch_event Admin node key position stamp result ∷ h)) }
     {
         fetch_node(self.shared.stations.as_mut_slice(), node, key, stamp, out)
     }

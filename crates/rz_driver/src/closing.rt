@@ -1,8 +1,9 @@
 //! The end of a driver: the log and the disks go back.
-ghost use Rattle.std.specs.Prelude.{◌≡◌, ◌+◌, ◌≤◌, ◌++◌, reverse, ℕ, List, IsTrue, Some, option_to_list};
+ghost use Rattle.std.specs.Prelude.{◌≡◌, ◌+◌, ◌≤◌, ◌++◌, reverse, true, ℕ, List, IsTrue, Some, option_to_list};
 ghost use Rattle.std.specs.Vec.{vec_len, vec_capacity};
 ghost use Rattle.rz_disk.specs.Meter.{faults};
 ghost use Rattle.rz_events.specs.declared.events.Event.{Event};
+ghost use Rattle.rz_lines.specs.Behind.{Before};
 ghost use Rattle.rz_metadata.specs.Stands.{disk_of, refusal_of};
 ghost use Rattle.rz_driver.specs.Fetches.{Metered};
 ghost use Rattle.rz_stations.specs.Meters.{AreDisksCounted};
@@ -11,7 +12,7 @@ ghost use Rattle.rz_stations.specs.Images.{AreDisksImaged};
 ghost use Rattle.rz_formatting.specs.Formatted.{disks_of};
 ghost use Rattle.rz_driver.specs.Endings.{EndsAsRefused, StandsForLog};
 ghost use Rattle.rz_driver.specs.Journals.{journal_place};
-ghost use Rattle.rz_driver.specs.Worlds.{numbers_in, Holds, Leaves};
+ghost use Rattle.rz_driver.specs.Worlds.{numbers_in, is_exact, Holds, Leaves};
 
 use crate::driver::Driver;
 use rz_disk::{Disk, Fused};
@@ -32,13 +33,13 @@ impl<D: Disk> Driver<D> {
     pub fn close(self) -> (Vec<Event>, Vec<D>)
         ensures log { result.0.items ≡ reverse self.shared.log.events }
         ensures disks { result.1.items ≡ disks_of self.shared.stations.items }
-        ensures counted { (first : ℕ → ℕ) → Leaves self first → AreDisksCounted D.meter first 0 (numbers_in self) result.1.items self.shared.log.events }
-        ensures imaged { (first : ℕ → ℕ) → Leaves self first → IsTrue D.tells → AreDisksImaged D.image self.volume (numbers_in self) result.1.items self.shared.log.events }
+        ensures counted { (b : Before) → Leaves self b → AreDisksCounted D.meter b.counts 0 (numbers_in self) result.1.items self.shared.log.events }
+        ensures imaged { (b : Before) → Leaves self b → IsTrue D.tells → AreDisksImaged D.image self.volume (numbers_in self) result.1.items (self.shared.log.events ++ b.log) }
 
         // Where records were asked after the play, the faults are counted with those asks, and the images are told by
         // the log of the play still.
         ensures asked { (h : List Event) (first : ℕ → ℕ) → Metered self h first → AreDisksCounted D.meter first 0 (numbers_in self) result.1.items h }
-        ensures since { (first : ℕ → ℕ) → IsLeftSince self first → IsTrue D.tells → AreDisksImaged D.image self.volume (numbers_in self) result.1.items self.shared.log.events }
+        ensures since { (b : Before) → IsLeftSince self b → IsTrue D.tells → AreDisksImaged D.image self.volume (numbers_in self) result.1.items (self.shared.log.events ++ b.log) }
     {
         rz_image_laws::logged::<D>();
         let Driver { shared, home, .. } = self;
@@ -46,19 +47,20 @@ impl<D: Disk> Driver<D> {
         (log, hand_back_with(shared.stations, home, None))
     }
 
-    /// The log, the oldest event first, and the disks in their order, that of a journal last.
+    /// The log, the oldest event first, and the disks in their order, that of a journal last. What their images
+    /// stand for is told by the whole log: that of this run behind that of earlier runs.
     pub fn close_all(self) -> (Vec<Event>, Vec<D>)
         ensures log { result.0.items ≡ reverse self.shared.log.events }
         ensures disks { result.1.items ≡ disks_of self.shared.stations.items ++ option_to_list (disk_of self.shared.export) }
-        ensures counted { (first : ℕ → ℕ) → Leaves self first → AreDisksCounted D.meter first 0 (numbers_in self) (disks_of self.shared.stations.items) self.shared.log.events }
-        ensures imaged { (first : ℕ → ℕ) → Leaves self first → IsTrue D.tells → AreDisksImaged D.image self.volume (numbers_in self) (disks_of self.shared.stations.items) self.shared.log.events }
+        ensures counted { (b : Before) → Leaves self b → AreDisksCounted D.meter b.counts 0 (numbers_in self) (disks_of self.shared.stations.items) self.shared.log.events }
+        ensures imaged { (b : Before) → Leaves self b → IsTrue D.tells → AreDisksImaged D.image self.volume (numbers_in self) (disks_of self.shared.stations.items) (self.shared.log.events ++ b.log) }
 
         // Between two turns a journal's disk stands for the calls that the log tells.
-        ensures stands { (first : ℕ → ℕ) (disk : D) → Holds self first → disk_of self.shared.export ≡ Some disk → IsTrue D.tells → StandsForLog (D.image disk) self.volume self.shared.log.events }
+        ensures stands { (b : Before) (disk : D) → Holds self b → disk_of self.shared.export ≡ Some disk → IsTrue D.tells → StandsForLog (D.image disk) self.volume (self.shared.log.events ++ b.log) }
 
         // Where a play ended, for these still, or also for one call more, by what the journal refused.
-        ensures ends { (first : ℕ → ℕ) (disk : D) → Leaves self first → disk_of self.shared.export ≡ Some disk
-            → EndsAsRefused (refusal_of self.shared.export) D.tells (D.image disk) (first (journal_place self)) (faults (D.meter disk)) self.volume self.shared.log.events }
+        ensures ends { (b : Before) (disk : D) → Leaves self b → is_exact self ≡ true → disk_of self.shared.export ≡ Some disk
+            → EndsAsRefused (refusal_of self.shared.export) D.tells (D.image disk) (b.counts (journal_place self)) (faults (D.meter disk)) self.volume (self.shared.log.events ++ b.log) }
     {
         rz_image_laws::logged::<D>();
         let Driver { shared, home, .. } = self;

@@ -7,7 +7,7 @@ ghost use Rattle.rz_metadata.specs.Stands.{is_journaled};
 ghost use Rattle.rz_play.specs.World.{new_world};
 ghost use Rattle.rz_stations.specs.Meters.{faults_at};
 ghost use Rattle.rz_driver.specs.Formatted.{AreBackWithJournal, IsBehindJournal, IsJournalRefused};
-ghost use Rattle.rz_driver.specs.Worlds.{world_of, IsDriver, Holds};
+ghost use Rattle.rz_driver.specs.Worlds.{anew, world_of, is_exact, IsDriver, Holds};
 
 use crate::closing::hand_back_with;
 use crate::driver::Driver;
@@ -29,11 +29,12 @@ impl<D: Disk> Driver<D> {
     ) -> Result<Driver<D>, (Vec<D>, DriverFault)>
         requires count { length disks.items ≡ length (nodes_of volume.now.clusters) + 1 }
         ensures ready { IfOk result (λ d. IsDriver d) }
+        ensures exact { IfOk result (λ d. is_exact d ≡ true) }
         ensures volume { IfOk result (λ d. d.volume ≡ volume.now) }
         ensures journal { IfOk result (λ d. is_journaled d.shared.export ≡ true) }
         ensures world { IfOk result (λ d. world_of d ≡ new_world volume.now) }
         ensures made { IfOk result (λ d. AreFormatted D.tells D.meter D.text D.image volume.now.layout (nodes_of volume.now.clusters) disks.items d.shared.stations.items) }
-        ensures held { IfOk result (λ d. Holds d (faults_at D.meter disks.items)) }
+        ensures held { IfOk result (λ d. Holds d (anew (faults_at D.meter disks.items))) }
         ensures back { IfErr result (λ r. AreBackWithJournal D.tells D.meter D.image volume.now disks.items r.0.items) }
         ensures cause { IfErr result (λ r. IsCause D.meter disks.items r.0.items r.1) }
     {
@@ -89,7 +90,10 @@ fn fault_at(fault: FormatFault, index: usize) -> DriverFault
 }
 
 /// All disks but the last, the last, and room for them all. Where memory is wanting, they come back.
-fn split_last<D: Disk>(alloc: Global, disks: Vec<D>) -> Result<(Vec<D>, D, Vec<D>), Vec<D>>
+pub(crate) fn split_last<D: Disk>(
+    alloc: Global,
+    disks: Vec<D>,
+) -> Result<(Vec<D>, D, Vec<D>), Vec<D>>
     ensures split { IfOk result (λ r. disks.items ≡ r.0.items ++ r.1 ∷ []) }
     ensures empty { IfOk result (λ r. r.2.items ≡ []) }
     ensures room { IfOk result (λ r. length disks.items ≤ vec_capacity r.2) }
@@ -106,7 +110,7 @@ fn split_last<D: Disk>(alloc: Global, disks: Vec<D>) -> Result<(Vec<D>, D, Vec<D
 }
 
 /// These disks, and one behind them, in a vector that has room for them.
-fn with_last<D: Disk>(disks: Vec<D>, last: D, room: Vec<D>) -> Vec<D>
+pub(crate) fn with_last<D: Disk>(disks: Vec<D>, last: D, room: Vec<D>) -> Vec<D>
     requires empty { room.items ≡ [] }
     requires room { length disks.items + 1 ≤ vec_capacity room }
     ensures { result.items ≡ disks.items ++ last ∷ [] }

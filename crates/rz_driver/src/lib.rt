@@ -1,7 +1,8 @@
 //! The driver: it plays a script over nodes, their disks and the export.
 //!
 //! [`Driver::new`] formats the disks, each for its node and in a fuse; [`Driver::first`] formats one more for
-//! a journal, behind which the export then stands. As a stage the driver plays the lines of a script;
+//! a journal, behind which the export then stands, and [`Driver::again`] opens the disks that earlier runs
+//! left. As a stage the driver plays the lines of a script;
 //! [`Driver::close_all`] gives the log and the disks back, in their order, and [`Driver::close`] those of the
 //! nodes. The contracts say that each turn and each line is one of the play's relation, that the log stays as
 //! it was where memory is wanting or the journal does not keep a call, and that the faults of each node's
@@ -13,12 +14,13 @@
 //! without an event: so a driver is a `Store` to scrub.
 //!
 //! In reading order: `station`, `seat`, `acting`, `driver`, `turns`, `orders`, `nodes`, `parts`, `making`,
-//! `closing`, `journaling`, `stage`, `asking`.
+//! `closing`, `journaling`, `continuing`, `stage`, `asking`.
 #![tactic(auto)]
 
 mod acting;
 mod asking;
 mod closing;
+mod continuing;
 mod driver;
 mod journaling;
 mod making;
@@ -33,3 +35,4 @@ mod turns;
 pub use driver::Driver;
 pub use rz_formatting::DriverFault;
 pub(crate) use rz_lines::NoMemory;
+pub use rz_opening::OpenRefusal;

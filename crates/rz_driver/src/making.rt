@@ -1,11 +1,11 @@
 //! A new driver: each disk is formatted, and nothing is played.
-ghost use Rattle.std.specs.Prelude.{◌≡◌, false, IfOk, IfErr, length};
+ghost use Rattle.std.specs.Prelude.{◌≡◌, true, false, IfOk, IfErr, length};
 ghost use Rattle.rz_events.specs.Volume.{nodes_of};
 ghost use Rattle.rz_metadata.specs.Stands.{is_journaled};
 ghost use Rattle.rz_play.specs.World.{new_world};
 ghost use Rattle.rz_formatting.specs.Formatted.{AreBack, AreFormatted, IsCause};
 ghost use Rattle.rz_stations.specs.Meters.{faults_at};
-ghost use Rattle.rz_driver.specs.Worlds.{world_of, IsDriver, Holds};
+ghost use Rattle.rz_driver.specs.Worlds.{anew, world_of, is_exact, IsDriver, Holds};
 
 use crate::driver::Driver;
 use crate::parts::new_parts;
@@ -27,11 +27,12 @@ impl<D: Disk> Driver<D> {
     ) -> Result<Driver<D>, (Vec<D>, DriverFault)>
         requires count { length disks.items ≡ length (nodes_of volume.now.clusters) }
         ensures ready { IfOk result (λ d. IsDriver d) }
+        ensures exact { IfOk result (λ d. is_exact d ≡ true) }
         ensures volume { IfOk result (λ d. d.volume ≡ volume.now) }
         ensures journal { IfOk result (λ d. is_journaled d.shared.export ≡ false) }
         ensures world { IfOk result (λ d. world_of d ≡ new_world volume.now) }
         ensures made { IfOk result (λ d. AreFormatted D.tells D.meter D.text D.image volume.now.layout (nodes_of volume.now.clusters) disks.items d.shared.stations.items) }
-        ensures held { IfOk result (λ d. Holds d (faults_at D.meter disks.items)) }
+        ensures held { IfOk result (λ d. Holds d (anew (faults_at D.meter disks.items))) }
         ensures back { IfErr result (λ r. AreBack D.tells D.meter D.image volume.now.layout (nodes_of volume.now.clusters) disks.items r.0.items) }
         ensures cause { IfErr result (λ r. IsCause D.meter disks.items r.0.items r.1) }
     {

@@ -9,7 +9,7 @@ ghost use Rattle.rz_script.specs.declared.line.Line.TheVariants as line;
 ghost use Rattle.rz_lines.specs.Ends.{Carries};
 ghost use Rattle.rz_play.specs.Free.{PlaysLineOver};
 ghost use Rattle.rz_metadata.specs.Stands.{is_journaled};
-ghost use Rattle.rz_driver.specs.Worlds.{world_of, IsDriver, Holds, Leaves};
+ghost use Rattle.rz_driver.specs.Worlds.{world_of, is_exact, IsDriver, Holds, Leaves};
 
 use crate::NoMemory;
 use crate::driver::Driver;
@@ -23,6 +23,7 @@ impl<D: Disk> Driver<D> {
         requires line { IsLine self.old.volume (line.Stop sid) }
         ensures volume { self.new.volume ≡ self.old.volume }
         ensures journal { is_journaled self.new.shared.export ≡ is_journaled self.old.shared.export }
+        ensures exact { is_exact self.new ≡ is_exact self.old }
         ensures ready { OnOk result (IsDriver self.new) }
         ensures called { OnOk result (IsAdminCall self.old.volume sid ask.Stop (world_of self.old) (world_of self.new)) }
         ensures lost { self.new.shared.lost ≡ self.old.shared.lost }
@@ -42,6 +43,7 @@ impl<D: Disk> Driver<D> {
         requires line { IsLine self.old.volume (line.Start sid) }
         ensures volume { self.new.volume ≡ self.old.volume }
         ensures journal { is_journaled self.new.shared.export ≡ is_journaled self.old.shared.export }
+        ensures exact { is_exact self.new ≡ is_exact self.old }
         ensures ready { OnOk result (IsDriver self.new) }
         ensures called { OnOk result (PlaysLineOver self.old.volume (line.Start sid) D.tells (world_of self.old) (world_of self.new)) }
         ensures turns { self.new.turns ≡ self.old.turns }
@@ -67,6 +69,7 @@ impl<D: Disk> Driver<D> {
         requires line { IsLine self.old.volume (line.Lose sid) }
         ensures volume { self.new.volume ≡ self.old.volume }
         ensures journal { is_journaled self.new.shared.export ≡ is_journaled self.old.shared.export }
+        ensures exact { is_exact self.new ≡ is_exact self.old }
         ensures ready { OnOk result (IsDriver self.new) }
         ensures called { OnOk result (IsAdminCall self.old.volume sid ask.Lose (world_of self.old) (world_of self.new)) }
         ensures lost { self.new.shared.lost ≡ self.old.shared.lost }
@@ -86,6 +89,7 @@ impl<D: Disk> Driver<D> {
         requires line { IsLine self.old.volume (line.Break sid passes pick) }
         ensures volume { self.new.volume ≡ self.old.volume }
         ensures journal { is_journaled self.new.shared.export ≡ is_journaled self.old.shared.export }
+        ensures exact { is_exact self.new ≡ is_exact self.old }
         ensures ready { OnOk result (IsDriver self.new) }
         ensures armed { OnOk result (world_of self.new ≡ record (world_of self.old) { log = e.Armed sid passes pick ∷ self.old.shared.log.events }) }
         ensures lost { self.new.shared.lost ≡ self.old.shared.lost }

@@ -5,7 +5,7 @@ ghost use Rattle.rz_script.specs.declared.line.Line.TheVariants as line;
 ghost use Rattle.rz_play.specs.Lines.{PlaysLine};
 ghost use Rattle.rz_lines.specs.Ends.{Carries};
 ghost use Rattle.rz_metadata.specs.Stands.{is_journaled};
-ghost use Rattle.rz_driver.specs.Worlds.{world_of, IsDriver, Holds, Leaves};
+ghost use Rattle.rz_driver.specs.Worlds.{world_of, is_exact, IsDriver, Holds, Leaves};
 
 use crate::NoMemory;
 use crate::driver::Driver;
@@ -20,6 +20,7 @@ impl<D: Disk> Driver<D> {
         requires line { IsLine self.old.volume (line.Op by op.now) }
         ensures volume { self.new.volume ≡ self.old.volume }
         ensures journal { is_journaled self.new.shared.export ≡ is_journaled self.old.shared.export }
+        ensures exact { is_exact self.new ≡ is_exact self.old }
         ensures ready { OnOk result (IsDriver self.new) }
         ensures played { OnOk result (PlaysLine self.old.volume (line.Op by op.now) (world_of self.old) (world_of self.new)) }
         ensures lost { self.new.shared.lost ≡ self.old.shared.lost }
@@ -42,6 +43,7 @@ impl<D: Disk> Driver<D> {
         requires line { IsLine self.old.volume (line.Miss by reply) }
         ensures volume { self.new.volume ≡ self.old.volume }
         ensures journal { is_journaled self.new.shared.export ≡ is_journaled self.old.shared.export }
+        ensures exact { is_exact self.new ≡ is_exact self.old }
         ensures ready { IsDriver self.new }
         ensures played { PlaysLine self.old.volume (line.Miss by reply) (world_of self.old) (world_of self.new) }
         ensures lost { self.new.shared.lost ≡ self.old.shared.lost }

@@ -9,7 +9,7 @@ use rz_link::Link;
 use rz_metadata::Refusal;
 
 impl<D: Disk> Stage for Driver<D> {
-    ghost use Rattle.rz_driver.specs.Worlds.{world_of, IsDriver, Holds, Leaves};
+    ghost use Rattle.rz_driver.specs.Worlds.{world_of, is_exact, tells-exactly, IsDriver, Holds, Leaves};
     ghost use Rattle.rz_driver.specs.Endings.{end_by};
     ghost use Rattle.rz_metadata.specs.Stands.{is_journaled, refusal_of};
     ghost use Rattle.std.proofs.Common.{inl};
@@ -30,7 +30,11 @@ impl<D: Disk> Stage for Driver<D> {
 
     ghost leaves = { λ d. Leaves d };
 
-    ghost ends = { λ d first held. inl held };
+    ghost exact = { λ d. is_exact d };
+
+    ghost ends = { λ d b held. inl held };
+
+    ghost exactly = { λ d told. tells-exactly d told };
 
     fn cut_off(&self) -> PlayEnd {
         match self.shared.export.refusal() {

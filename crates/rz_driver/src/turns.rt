@@ -1,11 +1,12 @@
 //! The turns of actors.
-ghost use Rattle.std.specs.Prelude.{◌≡◌, ◌+◌, ◌<◌, ◌≤◌, OnOk, OnErr};
+ghost use Rattle.std.specs.Prelude.{◌≡◌, ◌+◌, ◌<◌, ◌≤◌, true, OnOk, OnErr};
 ghost use Rattle.rz_play.specs.Stops.{most_turns};
 ghost use Rattle.rz_play.specs.Turns.{IsTurn};
 ghost use Rattle.rz_play.specs.World.{has_work};
+ghost use Rattle.rz_lines.specs.Behind.{Before, behind};
 ghost use Rattle.rz_lines.specs.Ends.{Carries};
 ghost use Rattle.rz_metadata.specs.Stands.{is_journaled};
-ghost use Rattle.rz_driver.specs.Worlds.{place_of, world_of, IsDriver, Holds, Leaves};
+ghost use Rattle.rz_driver.specs.Worlds.{place_of, world_of, is_exact, IsDriver, Holds, Leaves};
 
 use crate::NoMemory;
 use crate::acting::act;
@@ -33,7 +34,9 @@ impl<D: Disk> Driver<D> {
         ensures ready { OnOk result (IsDriver self.new) }
         ensures volume { self.new.volume ≡ self.old.volume }
         ensures journal { is_journaled self.new.shared.export ≡ is_journaled self.old.shared.export }
-        ensures taken { OnOk result (IsTurn self.old.volume by (world_of self.old) (world_of self.new)) }
+        ensures exact { is_exact self.new ≡ is_exact self.old }
+        ensures counted { OnOk result (self.new.turns ≡ self.old.turns + 1) }
+        ensures taken { OnOk result ((b : Before) → Holds self.old b → is_exact self.old ≡ true → IsTurn self.old.volume by (behind b.log (world_of self.old)) (behind b.log (world_of self.new))) }
         ensures link { self.new.shared.lost + L.lost link.old ≤ self.old.shared.lost + L.lost link.new }
         ensures log { OnErr result (self.new.shared.log.events ≡ self.old.shared.log.events) }
         ensures lost { OnErr result (self.new.shared.lost ≡ self.old.shared.lost) }
@@ -42,6 +45,7 @@ impl<D: Disk> Driver<D> {
     {
         rz_play_laws::working();
         rz_play_laws::turned();
+        rz_play_laws::facts_told();
         rz_block_laws::lasting();
         let Some(place) = place(by) else {
             return Err(NoMemory);

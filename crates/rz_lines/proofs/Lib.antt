@@ -4,3 +4,5 @@ mod Cuts
 mod Amongs
 mod Scripts
 mod Stops
+mod Behind
+pub mod Anew

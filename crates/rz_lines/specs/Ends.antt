@@ -11,14 +11,15 @@ use Rattle.rz_play.specs.Turns.{IsTurn}
 use Rattle.rz_play.specs.Lines.{IsRound, PlaysLine}
 use Rattle.rz_play.specs.Stops.{TurnsSpent, HasCause, StopsLine, BeginsLine, most_turns}
 use Rattle.rz_play.specs.Played.{IsPlayedFrom, IsStoppedFrom, IsBegunFrom}
+use Rattle.rz_lines.specs.Behind.{Before}
 use Rattle.rz_lines.specs.declared.turns.Cut.{Cut}
 use Rattle.rz_lines.specs.declared.turns.Cut.TheVariants as cut
 use Rattle.rz_lines.specs.declared.lines.PlayEnd.{PlayEnd}
 use Rattle.rz_lines.specs.declared.lines.PlayEnd.TheVariants as end
 
--- what was so of counts is so still
-abbrev pub Carries : ((ℕ → ℕ) → Type 0) → ((ℕ → ℕ) → Type 0) → Type 0
-Carries before after = (first : ℕ → ℕ) → before first → after first
+-- what was so with what there was before the first line is so still
+abbrev pub Carries : (Before → Type 0) → (Before → Type 0) → Type 0
+Carries before after = (b : Before) → before b → after b
 
 -- the log and the count of lost messages are those of this world
 abbrev pub TellsOf : World → World → Type 0
@@ -52,6 +53,11 @@ abbrev pub IsRoundPlayed : Volume → List Actor → World → Result Bool Cut �
 IsRoundPlayed v actors w (Ok any) next = IsRound v actors w next × HadWork actors w any next × (next.turns ≤ most_turns)
 IsRoundPlayed v actors w (Err cut.TooManyTurns) next = StopsAmong v actors w next
 IsRoundPlayed v actors w (Err cut.NoMemory) next = IsLogOf (BeginsAmong v actors w) next
+
+-- a round in which an actor had work counts its turns
+abbrev pub CountsTurns : Result Bool Cut → World → World → Type 0
+CountsTurns (Ok true) w next = w.turns < next.turns
+CountsTurns result w next = Unit {0}
 
 -- a line
 abbrev pub IsLinePlayed : Volume → Line → World → Result (Unit {0}) Cut → World → Type 0

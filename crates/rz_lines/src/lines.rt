@@ -1,7 +1,8 @@
 //! The lines of a script, one after another.
-ghost use Rattle.std.specs.Prelude.{◌≡◌, ◌≤◌, ◌+◌, ◌-◌, IsTrue, OnOk, OnErr};
+ghost use Rattle.std.specs.Prelude.{◌≡◌, ◌≤◌, ◌+◌, ◌-◌, ◌++◌, true, IsTrue, OnOk, OnErr};
 ghost use Rattle.rz_script.specs.Lines.{IsLine, AreLines};
 ghost use Rattle.rz_play.specs.Stops.{most_turns};
+ghost use Rattle.rz_lines.specs.Behind.{Before, behind};
 ghost use Rattle.rz_lines.specs.Ends.{Carries, EndsBy, IsEnded, OnStop};
 ghost use Rattle.rz_play.specs.Free.{PlaysLinesOver};
 ghost use Rattle.rz_lines.specs.Free.{IsLinePlayedOver, IsEndedOver};
@@ -33,13 +34,14 @@ fn play_line<S: Stage, L: Link>(stage: &mut S, line: &Line, link: &mut L) -> Res
     requires few { (S.world stage.old).turns ≤ most_turns }
     ensures volume { S.volume stage.new ≡ S.volume stage.old }
     ensures journal { S.journaled stage.new ≡ S.journaled stage.old }
+    ensures exact { S.exact stage.new ≡ S.exact stage.old }
     ensures ready { OnOk result (S.is_ready stage.new) }
     ensures few { OnOk result ((S.world stage.new).turns ≤ most_turns) }
     ensures lost { (S.world stage.new).lost + L.lost link.old ≤ (S.world stage.old).lost + L.lost link.new }
     ensures held { OnOk result (Carries (S.holds stage.old) (S.holds stage.new)) }
     ensures left { OnErr result (Carries (S.holds stage.old) (S.leaves stage.new)) }
     ensures stopped { OnStop result (S.is_ready stage.new × Carries (S.holds stage.old) (S.holds stage.new)) }
-    ensures played { IsLinePlayedOver (S.volume stage.old) line.now S.tells (S.world stage.old) result (S.world stage.new) }
+    ensures played { (b : Before) → S.holds stage.old b → S.exact stage.old ≡ true → IsLinePlayedOver (S.volume stage.old) line.now S.tells (behind b.log (S.world stage.old)) result (behind b.log (S.world stage.new)) }
 {
     match line {
         Line::Op { by, op } => stage.add(*by, op)?,
@@ -62,8 +64,10 @@ pub fn play<S: Stage, L: Link>(stage: &mut S, lines: &[Line], link: &mut L) -> P
     requires few { (S.world stage.old).turns ≤ most_turns }
     ensures volume { S.volume stage.new ≡ S.volume stage.old }
     ensures left { Carries (S.holds stage.old) (S.leaves stage.new) }
-    ensures played { IsTrue S.tells → IsEnded (S.volume stage.old) (S.world stage.old) lines.now result ((S.world stage.old).lost + (L.lost link.new - L.lost link.old)) (S.world stage.new).log }
+    ensures lost { (S.world stage.new).lost + L.lost link.old ≤ (S.world stage.old).lost + L.lost link.new }
+    ensures played { (b : Before) → S.holds stage.old b → IsTrue S.tells → IsEnded (S.volume stage.old) (behind b.log (S.world stage.old)) lines.now result ((S.world stage.old).lost + (L.lost link.new - L.lost link.old)) ((S.world stage.new).log ++ b.log) }
     ensures journal { S.journaled stage.new ≡ S.journaled stage.old }
+    ensures exact { S.exact stage.new ≡ S.exact stage.old }
 
     // Where a turn, a line or an order was not done, the stage says how the play ends.
     ensures cut { EndsBy (S.journaled stage.old) (S.cut_off stage.new) result }
@@ -74,10 +78,10 @@ pub fn play<S: Stage, L: Link>(stage: &mut S, lines: &[Line], link: &mut L) -> P
     // After the last line the stage can be played on further.
     ensures ready { result ≡ PlayEnd.Ended → S.is_ready stage.new }
     ensures held { result ≡ PlayEnd.Ended → Carries (S.holds stage.old) (S.holds stage.new) }
-    ensures whole { result ≡ PlayEnd.Ended → PlaysLinesOver (S.volume stage.old) lines.now S.tells (S.world stage.old) (S.world stage.new) }
+    ensures whole { result ≡ PlayEnd.Ended → (b : Before) → S.holds stage.old b → S.exact stage.old ≡ true → PlaysLinesOver (S.volume stage.old) lines.now S.tells (behind b.log (S.world stage.old)) (behind b.log (S.world stage.new)) }
 
     // Where a disk does not tell its text, only what a start finds on it is not said.
-    ensures over { IsEndedOver S.tells (S.volume stage.old) (S.world stage.old) lines.now result ((S.world stage.old).lost + (L.lost link.new - L.lost link.old)) (S.world stage.new).log }
+    ensures over { (b : Before) → S.holds stage.old b → S.exact stage.old ≡ true → IsEndedOver S.tells (S.volume stage.old) (behind b.log (S.world stage.old)) lines.now result ((S.world stage.old).lost + (L.lost link.new - L.lost link.old)) ((S.world stage.new).log ++ b.log) }
 {
     for line in lines {
         match play_line(stage, line, link) {

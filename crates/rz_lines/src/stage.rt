@@ -1,5 +1,5 @@
 //! What a script is played on.
-ghost use Rattle.std.specs.Prelude.{◌≡◌, ◌<◌, ◌≤◌, ◌+◌, ℕ, Bool, OnOk, OnErr, reverse};
+ghost use Rattle.std.specs.Prelude.{◌≡◌, ◌<◌, ◌≤◌, ◌+◌, ℕ, Bool, true, IsTrue, OnOk, OnErr, reverse};
 ghost use Rattle.rz_events.specs.Volume.{Volume};
 ghost use Rattle.rz_script.specs.Lines.{IsActor, IsLine};
 ghost use Rattle.rz_script.specs.declared.line.Line.{Line};
@@ -8,6 +8,7 @@ ghost use Rattle.rz_play.specs.World.{World, has_work};
 ghost use Rattle.rz_play.specs.Turns.{IsTurn};
 ghost use Rattle.rz_play.specs.Lines.{PlaysLine};
 ghost use Rattle.rz_play.specs.Stops.{most_turns};
+ghost use Rattle.rz_lines.specs.Behind.{Before, behind};
 ghost use Rattle.rz_lines.specs.Ends.{Carries, CutsOff, TellsOf};
 ghost use Rattle.rz_lines.specs.declared.lines.PlayEnd.{PlayEnd as AnEnd};
 ghost use Rattle.rz_play.specs.Free.{PlaysLineOver};
@@ -28,6 +29,9 @@ impl From<AllocError> for NoMemory {
 }
 
 /// Nodes, an export and actors that a script is played on.
+///
+/// A play may go on after earlier runs. The stage's world has the events of this play alone; what is said
+/// of a turn goes for the log of those runs and of this play together.
 ///
 /// Where a call was not done, memory is wanting, or the stage's journal did not keep a call; `cut_off` says
 /// which. The log then has every event that happened. It is as before the call, and so is the count of the
@@ -50,14 +54,19 @@ pub trait Stage {
     /// It stands between two turns.
     ghost is_ready: { Self → Type 0 };
 
-    /// What is so of the disks and the log between two turns, where each disk, by its place, had counted so
-    /// many faults before the first line.
-    ghost holds: { Self → (ℕ → ℕ) → Type 0 };
+    /// What is so of the disks and the log between two turns, where there was this before the first line.
+    ghost holds: { Self → Before → Type 0 };
 
     /// What is so of them where a play ended, cut off or not.
-    ghost leaves: { Self → (ℕ → ℕ) → Type 0 };
+    ghost leaves: { Self → Before → Type 0 };
 
     ghost ends: { (s : Self) → Carries (holds s) (leaves s) };
+
+    /// Whether each text that a read finds is that of the write which it names. It is, but in a play after
+    /// earlier runs over disks that do not tell their texts.
+    ghost exact: { Self → Bool };
+
+    ghost exactly: { (s : Self) → IsTrue tells → exact s ≡ true };
 
     /// How a play ends where a turn, a line or an order was not done: memory is wanting, or the journal did
     /// not keep a call.
@@ -82,8 +91,10 @@ pub trait Stage {
         requires few { (world self.old).turns < most_turns }
         ensures volume { volume self.new ≡ volume self.old }
         ensures journal { journaled self.new ≡ journaled self.old }
+        ensures exact { exact self.new ≡ exact self.old }
         ensures ready { OnOk result (is_ready self.new) }
-        ensures taken { OnOk result (IsTurn (volume self.old) by (world self.old) (world self.new)) }
+        ensures counted { OnOk result ((world self.new).turns ≡ (world self.old).turns + 1) }
+        ensures taken { OnOk result ((b : Before) → holds self.old b → exact self.old ≡ true → IsTurn (volume self.old) by (behind b.log (world self.old)) (behind b.log (world self.new))) }
         ensures lost { (world self.new).lost + L.lost link.old ≤ (world self.old).lost + L.lost link.new }
         ensures log { OnErr result (TellsOf (world self.old) (world self.new)) }
         ensures held { OnOk result (Carries (holds self.old) (holds self.new)) }
@@ -95,6 +106,7 @@ pub trait Stage {
         requires line { IsLine (volume self.old) (line.Op by op.now) }
         ensures volume { volume self.new ≡ volume self.old }
         ensures journal { journaled self.new ≡ journaled self.old }
+        ensures exact { exact self.new ≡ exact self.old }
         ensures ready { OnOk result (is_ready self.new) }
         ensures played { OnOk result (PlaysLine (volume self.old) (line.Op by op.now) (world self.old) (world self.new)) }
         ensures lost { (world self.new).lost ≡ (world self.old).lost }
@@ -108,6 +120,7 @@ pub trait Stage {
         requires line { IsLine (volume self.old) (line.Miss by reply) }
         ensures volume { volume self.new ≡ volume self.old }
         ensures journal { journaled self.new ≡ journaled self.old }
+        ensures exact { exact self.new ≡ exact self.old }
         ensures ready { is_ready self.new }
         ensures lost { (world self.new).lost ≡ (world self.old).lost }
         ensures played { PlaysLine (volume self.old) (line.Miss by reply) (world self.old) (world self.new) }
@@ -119,6 +132,7 @@ pub trait Stage {
         requires line { IsLine (volume self.old) (line.Stop node) }
         ensures volume { volume self.new ≡ volume self.old }
         ensures journal { journaled self.new ≡ journaled self.old }
+        ensures exact { exact self.new ≡ exact self.old }
         ensures ready { OnOk result (is_ready self.new) }
         ensures played { OnOk result (PlaysLine (volume self.old) (line.Stop node) (world self.old) (world self.new)) }
         ensures lost { (world self.new).lost ≡ (world self.old).lost }
@@ -132,6 +146,7 @@ pub trait Stage {
         requires line { IsLine (volume self.old) (line.Start node) }
         ensures volume { volume self.new ≡ volume self.old }
         ensures journal { journaled self.new ≡ journaled self.old }
+        ensures exact { exact self.new ≡ exact self.old }
         ensures ready { OnOk result (is_ready self.new) }
         ensures played { OnOk result (PlaysLineOver (volume self.old) (line.Start node) Self.tells (world self.old) (world self.new)) }
         ensures turns { OnOk result ((world self.new).turns ≡ (world self.old).turns) }
@@ -146,6 +161,7 @@ pub trait Stage {
         requires line { IsLine (volume self.old) (line.Lose node) }
         ensures volume { volume self.new ≡ volume self.old }
         ensures journal { journaled self.new ≡ journaled self.old }
+        ensures exact { exact self.new ≡ exact self.old }
         ensures ready { OnOk result (is_ready self.new) }
         ensures played { OnOk result (PlaysLine (volume self.old) (line.Lose node) (world self.old) (world self.new)) }
         ensures lost { (world self.new).lost ≡ (world self.old).lost }
@@ -159,6 +175,7 @@ pub trait Stage {
         requires line { IsLine (volume self.old) (line.Break node passes pick) }
         ensures volume { volume self.new ≡ volume self.old }
         ensures journal { journaled self.new ≡ journaled self.old }
+        ensures exact { exact self.new ≡ exact self.old }
         ensures ready { OnOk result (is_ready self.new) }
         ensures played { OnOk result (PlaysLine (volume self.old) (line.Break node passes pick) (world self.old) (world self.new)) }
         ensures lost { (world self.new).lost ≡ (world self.old).lost }

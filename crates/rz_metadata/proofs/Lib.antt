@@ -1,1 +1,3 @@
+mod KeptAgain
+mod PartLosses
 mod Replies

@@ -1,1 +1,3 @@
+pub mod Enrolled
+pub mod Reopened
 pub mod Stands

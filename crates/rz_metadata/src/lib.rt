@@ -5,13 +5,19 @@
 //! room for a call, or whose disk failed, says why, and no further call is replied to. `specs/Stands` says
 //! for which calls the journal's disk then stands.
 //!
-//! In reading order: `memory`, `journaled`, `metadata`.
+//! A journal that stands on a disk is opened again, with the export that its entries make, and `losses` says
+//! which losses of nodes that export enrolled last.
+//!
+//! In reading order: `memory`, `journaled`, `losses`, `metadata`, `reopening`.
 #![tactic(auto)]
 
 mod journaled;
+mod losses;
 mod memory;
 mod metadata;
+mod reopening;
 
 pub use journaled::{Journaled, Refusal};
 pub use memory::NoReply;
 pub use metadata::Metadata;
+pub use reopening::fault_number;

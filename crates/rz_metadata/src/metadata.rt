@@ -1,22 +1,28 @@
 //! The metadata of a store.
-ghost use Rattle.std.specs.Prelude.{◌≡◌, ◌⊎◌, ◌≤◌, ℕ, true, false, List, [], IsTrue, IsSome, IfOk, IfErr, OnOk, OnErr};
+ghost use Rattle.std.specs.Prelude.{◌≡◌, ◌⊎◌, ◌≤◌, ℕ, true, false, List, [], IsTrue, IsSome, IfSome, IfOk, None, map, IfErr, OnOk, OnErr};
 ghost use Rattle.rz_disk.specs.Meter.{Rises, faults};
+ghost use Rattle.rz_events.specs.declared.files.NodeSpec.{NodeSpec as ANode};
 ghost use Rattle.rz_events.specs.declared.export.Call.{Call as ACall};
 ghost use Rattle.rz_export_model.specs.Export.{export_reply, export_after, new_export, published_after};
 ghost use Rattle.rz_journal.specs.JournalText.{IsTextOf};
+ghost use Rattle.rz_journal.specs.Kept.{IsAfter};
+ghost use Rattle.rz_journal.specs.Opening.{IsRefused};
 ghost use Rattle.rz_journal.specs.Seen.{calls_after};
 ghost use Rattle.rz_journal_disk.specs.Stands.{IsShut};
 ghost use Rattle.rz_operation.specs.Meaning.{call_of};
+ghost use Rattle.rz_metadata.specs.Enrolled.{loss_of};
+ghost use Rattle.rz_metadata.specs.Reopened.{AllTextsOf, IsAsItCame, MakesExport};
 ghost use Rattle.rz_metadata.specs.Stands.{export_in, disk_of, refusal_of, is_journaled, Stands, StandsAtEnd};
 
 use crate::journaled::{Journaled, Refusal};
+use crate::losses::losses_of;
 use crate::memory::{NoReply, reply_to};
 use rz_cells::FormatFault;
 use rz_config::Volume;
 use rz_disk::Disk;
-use rz_events::{Key, Listed, Reply};
+use rz_events::{Key, Listed, NodeSpec, Reply};
 use rz_export::Export;
-use rz_journal::Journal;
+use rz_journal::{Journal, JournalFault};
 use rz_operation::ExportAsk;
 use std::alloc::{AllocError, Global};
 
@@ -57,6 +63,34 @@ impl<D: Disk> Metadata<D> {
         }
     }
 
+    /// Opens a journal again on a disk that was formatted, with the export that its entries make. The disk
+    /// stays as it is.
+    pub fn reopen(alloc: Global, volume: Volume, disk: D) -> Result<Metadata<D>, (D, JournalFault)>
+        ensures volume { IfOk result (λ m. (export_in m).volume ≡ volume) }
+        ensures made { IfOk result (λ m. IsTrue D.tells → MakesExport volume (D.text disk) (export_in m)) }
+        ensures journal { IfOk result (λ m. is_journaled m ≡ true) }
+        ensures refusal { IfOk result (λ m. refusal_of m ≡ None) }
+
+        // It stands for the calls for which each image of the disk stood as it came, and has the export after them.
+        ensures calls { IfOk result (λ m. IsTrue D.tells → (calls : List ACall) → IsTextOf volume (D.text disk) calls → IsAfter (export_in m) calls) }
+        ensures stands { IfOk result (λ m. IsTrue D.tells → (calls : List ACall) → AllTextsOf volume (D.image disk) calls → Stands D.tells D.meter D.image (faults (D.meter disk)) m calls) }
+
+        // Each fault is the first that the text has.
+        ensures refused { IfErr result (λ e. IsRefused D.tells volume (D.text disk) e.1) }
+        ensures risen { IfErr result (λ e. e.1 ≡ JournalFault.DiskFault → Rises (faults (D.meter disk)) (faults (D.meter e.0))) }
+
+        ensures came { IfOk result (λ m. IfSome (disk_of m) (IsAsItCame D.meter D.text D.image disk)) }
+        ensures back { IfErr result (λ e. IsAsItCame D.meter D.text D.image disk e.0) }
+    {
+        match Journal::reopen(alloc, volume, disk) {
+            Ok(journal) => {
+                let refusal = None;
+                Ok(Metadata::Journaled(Journaled { journal, refusal }))
+            }
+            Err(back) => Err(back),
+        }
+    }
+
     /// The reply to what an operation asks. Behind a journal a call that is accepted stands on the disk
     /// then.
     pub fn reply(&mut self, alloc: Global, ask: ExportAsk<'_>) -> Result<Reply, NoReply>
@@ -82,6 +116,16 @@ impl<D: Disk> Metadata<D> {
         match self {
             Metadata::InMemory(export) => export.published(after),
             Metadata::Journaled(journaled) => journaled.journal.export().published(after),
+        }
+    }
+
+    /// The loss that was enrolled last of each of these nodes, or 0.
+    pub fn losses(&self, alloc: Global, nodes: &[NodeSpec]) -> Result<Vec<u64>, AllocError>
+        ensures { IfOk result (λ v. v.items ≡ map (λ (n : ANode). loss_of (export_in self.now) n.sid) nodes.now) }
+    {
+        match self {
+            Metadata::InMemory(export) => losses_of(alloc, export, nodes),
+            Metadata::Journaled(journaled) => losses_of(alloc, journaled.journal.export(), nodes),
         }
     }
 

@@ -1,4 +1,5 @@
 pub mod Seeking
 pub mod Streams
 pub mod Begun
+pub mod Anew
 pub mod Completing

@@ -24,10 +24,11 @@ use Rattle.rz_perform.specs.Scrubs.{AreFound}
 use Rattle.rz_perform.specs.Telling.{text_told}
 
 -- what is wished for is this script: the text of the source, which is in the grammar and within the limit, means it, or it is the
--- workload of the seed
+-- workload of the seed. Of a script that is played after earlier runs nothing is said here.
 abbrev pub Means : Option Wish → Option (List ℕ) → Script → Type 0
 Means None left s = ⊥
 Means (Some (wishes.Load seed)) left s = workload seed ≡ s
+Means (Some wishes.Again) left s = ⊥
 Means (Some wish) left s = (text : List ℕ) × (left ≡ Some text) × (length text ≤ limit) × (script forms.Replay text ≡ Ok s)
 
 -- The words and the source mean the script, which is within the limits and has the disks that it needs. No play of it calls for a

@@ -1,5 +1,5 @@
 -- What a scrub after a play finds.
-use Rattle.std.specs.Prelude.{ℕ, Bool, ◌≡◌, ◌⊎◌, ◌-◌, ◌^◌, ◌<◌, IsTrue, List, [], ◌++◌, None, length}
+use Rattle.std.specs.Prelude.{ℕ, Bool, ◌≡◌, ◌⊎◌, ◌+◌, ◌-◌, ◌^◌, ◌<◌, IsTrue, List, [], ◌++◌, None, length}
 use Rattle.rz_events.specs.Volume.{Volume}
 use Rattle.rz_events.specs.declared.keys.Key.{Key}
 use Rattle.rz_events.specs.declared.files.Listed.{Listed}
@@ -8,6 +8,7 @@ use Rattle.rz_events.specs.declared.events.Event.{Event}
 use Rattle.rz_script.specs.declared.line.Line.{Line}
 use Rattle.rz_play.specs.World.{World, new_world}
 use Rattle.rz_play.specs.Free.{PlaysLinesOver}
+use Rattle.rz_lines.specs.Behind.{Before, behind}
 use Rattle.rz_lines.specs.Ends.{Carries}
 use Rattle.rz_lines.specs.declared.lines.PlayEnd.{PlayEnd}
 use Rattle.rz_lines.specs.declared.lines.PlayEnd.TheVariants.{Ended, TooManyTurns}
@@ -40,31 +41,41 @@ abbrev pub MayAsk : PlayEnd → Wish → List Event → Type 0
 MayAsk Ended Scrub later = AreAsks later
 MayAsk _ _ later = later ≡ []
 
--- and it alone finds something
-abbrev pub IsSought : Bool → Volume → World → PlayEnd → Wish → List Event → List ℕ → Type 0
-IsSought tells v last Ended Scrub later found = IsFoundIn tells v last later found
-IsSought tells v last _ _ later found = found ≡ []
+-- and it alone finds something, behind each earlier log that these hold for
+abbrev pub IsSought : (Before → Type 0) → Bool → Volume → World → PlayEnd → Wish → List Event → List ℕ → Type 0
+IsSought holds tells v last Ended Scrub later found = (b : Before) → holds b → IsFoundIn tells v (behind b.log last) later found
+IsSought holds tells v last _ _ later found = found ≡ []
 
--- where these lines were played, with this log
+-- where these lines were played from this world on, with this log
+abbrev pub AreFoundFrom : Bool → Volume → World → List Line → PlayEnd → Wish → List Event → List Event → List ℕ → Type 0
+AreFoundFrom tells v first lines Ended Scrub h later found =
+    (last : World) × PlaysLinesOver v lines tells first last × (last.log ≡ h) × IsFoundIn tells v last later found
+AreFoundFrom tells v first lines _ _ h later found = found ≡ []
+
+-- and so it is in a play that begins anew
 abbrev pub AreFound : Bool → Volume → List Line → PlayEnd → Wish → List Event → List Event → List ℕ → Type 0
-AreFound tells v lines Ended Scrub h later found =
-    (last : World) × PlaysLinesOver v lines tells (new_world v) last × (last.log ≡ h) × IsFoundIn tells v last later found
-AreFound tells v lines _ _ h later found = found ≡ []
+AreFound tells v lines end wish h later found = AreFoundFrom tells v (new_world v) lines end wish h later found
+
+-- what was so with what there was before the first line is so of the counts of faults alone
+abbrev pub CarriesCounts : (Before → Type 0) → ((ℕ → ℕ) → Type 0) → Type 0
+CarriesCounts before after = (b : Before) → before b → after b.counts
 
 -- A stage that can be scrubbed between two turns: it is a store of its volume with its export and its nodes, what is so of its disks
 -- goes with its log, and it keeps its log and its journal while records are asked for. Over disks that tell their texts the nodes of each published
--- block give the projections of one block of words.
-pub record IsScrubbable {S : Type 0} (tells : Bool) (volume : S → Volume) (world : S → World) (journaled : S → Bool) (is_ready : S → Type 0) (holds : S → (ℕ → ℕ) → Type 0)
+-- block give the projections of one block of words. What is so of the disks and the log is so behind each earlier log that is told.
+pub record IsScrubbable {S : Type 0} (tells : Bool) (volume : S → Volume) (world : S → World) (journaled exact : S → Bool) (is_ready : S → Type 0) (holds : S → Before → Type 0)
     (described : S → Volume) (state : S → List Event → State) (is_open : S → Type 0) (gives : S → ℕ → Key → Held → List ℕ → List ℕ → Type 0)
     (counts : S → List Event → (ℕ → ℕ) → Type 0) (only_asked : S → S → Type 0) : Type 0 where
   pub described_is : (s : S) → described s ≡ volume s
   pub state_is : (s : S) (h : List Event) → state s h ≡ seen_in (world s) h
   pub open_is : (s : S) → is_ready s → is_open s
-  pub counted : (s : S) → Carries (holds s) (counts s (world s).log)
+  pub counted : (s : S) → CarriesCounts (holds s) (counts s (world s).log)
+  pub short : (s : S) (b : Before) → holds s b → length b.log < 2 ^ 63 + 512
   pub log_is : (s t : S) → only_asked s t → (world t).log ≡ (world s).log
   pub journal_is : (s t : S) → only_asked s t → journaled t ≡ journaled s
-  pub whole : (s : S) (first : ℕ → ℕ) → is_ready s → holds s first → IsTrue tells → length (world s).log < 2 ^ 64 - 1
-      → EachListed (state s (world s).log).export (λ l. (g : Grid) × AreGiven (described s).layout (gives s) (state s (world s).log).nodes l g)
+  pub exact_is : (s t : S) → only_asked s t → exact t ≡ exact s
+  pub whole : (s : S) (b : Before) → is_ready s → holds s b → IsTrue tells → length ((world s).log ++ b.log) < 2 ^ 64 - 1
+      → EachListed (state s ((world s).log ++ b.log)).export (λ l. (g : Grid) × AreGiven (described s).layout (gives s) (state s ((world s).log ++ b.log)).nodes l g)
 
 -- what is so where a play ended between two turns
 abbrev pub BetweenTurns : PlayEnd → Type 0 → Type 0
@@ -74,18 +85,19 @@ BetweenTurns cut_off so = Unit {0}
 
 -- Where a performance ended, disks and log are as a play leaves them; or, in a scrub and after a play to its end, these records were
 -- asked for, and the faults go with those asks after the log.
-abbrev pub Leaves : {S : Type 0} → (S → World) → (S → (ℕ → ℕ) → Type 0) → (S → (ℕ → ℕ) → Type 0) → (S → List Event → (ℕ → ℕ) → Type 0) → (S → S → Type 0) → PlayEnd → Wish → S → S → List Event → Type 0
+abbrev pub Leaves : {S : Type 0} → (S → World) → (S → Before → Type 0) → (S → Before → Type 0) → (S → List Event → (ℕ → ℕ) → Type 0) → (S → S → Type 0) → PlayEnd → Wish → S → S → List Event → Type 0
 Leaves {S} world holds leaves counts only_asked end wish old new later =
     ((later ≡ []) × Carries (holds old) (leaves new) × BetweenTurns end (Carries (holds old) (holds new)))
-    ⊎ ((played : S) × (wish ≡ Scrub) × Carries (holds old) (holds played) × only_asked played new × Carries (holds old) (counts new (later ++ (world new).log)))
+    ⊎ ((played : S) × (wish ≡ Scrub) × Carries (holds old) (holds played) × only_asked played new × CarriesCounts (holds old) (counts new (later ++ (world new).log)))
 
 -- What came of a stage whose play ended so, and of the lines where there are some.
-pub record Finds {S : Type 0} (tells : Bool) (volume : S → Volume) (world : S → World) (journaled : S → Bool) (holds : S → (ℕ → ℕ) → Type 0) (counts : S → List Event → (ℕ → ℕ) → Type 0) (only_asked : S → S → Type 0)
+pub record Finds {S : Type 0} (tells : Bool) (volume : S → Volume) (world : S → World) (journaled exact : S → Bool) (holds : S → Before → Type 0) (counts : S → List Event → (ℕ → ℕ) → Type 0) (only_asked : S → S → Type 0)
     (end : PlayEnd) (wish : Wish) (old new : S) (IfFound : (List ℕ → Type 0) → Type 0) : Type 0 where
   pub later : List Event
   pub may : MayAsk end wish later
   pub volume_is : volume new ≡ volume old
   pub log_is : (world new).log ≡ (world old).log
   pub journal_is : journaled new ≡ journaled old
-  pub left : ((later ≡ []) × (new ≡ old)) ⊎ ((end ≡ Ended) × (wish ≡ Scrub) × only_asked old new × Carries (holds old) (counts new (later ++ (world old).log)))
-  pub found : IfFound (IsSought tells (volume old) (world old) end wish later)
+  pub exact_is : exact new ≡ exact old
+  pub left : ((later ≡ []) × (new ≡ old)) ⊎ ((end ≡ Ended) × (wish ≡ Scrub) × only_asked old new × CarriesCounts (holds old) (counts new (later ++ (world old).log)))
+  pub found : IfFound (IsSought (holds old) tells (volume old) (world old) end wish later)

@@ -3,8 +3,9 @@ use Rattle.std.specs.Prelude.{ℕ, Bool, true, false, ◌≡◌, ◌⊎◌, ◌�
 use Rattle.rz_events.specs.Volume.{Volume}
 use Rattle.rz_events.specs.declared.events.Event.{Event}
 use Rattle.rz_script.specs.declared.line.Line.{Line}
-use Rattle.rz_play.specs.World.{new_world}
+use Rattle.rz_play.specs.World.{World, new_world}
 use Rattle.rz_play.specs.Faults.{missed, misses}
+use Rattle.rz_lines.specs.Behind.{Before, behind}
 use Rattle.rz_lines.specs.Ends.{IsEnded}
 use Rattle.rz_lines.specs.Free.{IsEndedOver}
 use Rattle.rz_lines.specs.declared.lines.PlayEnd.{PlayEnd}
@@ -17,15 +18,16 @@ use Rattle.rz_request.specs.declared.refusal.Refusal.TheVariants as refusals
 use Rattle.rz_request.specs.declared.refusal.Stop.{Stop}
 use Rattle.rz_request.specs.declared.refusal.Stop.TheVariants as stops
 use Rattle.rz_request.specs.declared.wishes.Wish.{Wish}
-use Rattle.rz_request.specs.declared.wishes.Wish.TheVariants.{Replay, Load, Scrub, First}
+use Rattle.rz_request.specs.declared.wishes.Wish.TheVariants.{Replay, Load, Scrub, First, Again}
 use Rattle.rz_perform.specs.Output.{Sunk, Ends, Lacks}
-use Rattle.rz_perform.specs.Scrubs.{AreFound, MayAsk}
+use Rattle.rz_perform.specs.Scrubs.{AreFound, AreFoundFrom, MayAsk}
 
 -- what is printed of the log of a whole play, the oldest event first: its text, or the line of the workload, or its text and the lines
 -- of a scrub
 abbrev pub text_told : Wish → (found : List ℕ) → List Event → List ℕ
 text_told Replay found log = text_of log true
 text_told First found log = text_of log true
+text_told Again found log = text_of log true
 text_told (Load seed) found log = summary_of seed log
 text_told Scrub found log = text_of log true ++ found
 
@@ -58,6 +60,30 @@ abbrev pub Performs : Bool → Volume → List Line → Wish → PlayEnd → (la
 Performs tells v lines wish end later lost h sink status =
     (IsTrue tells → IsEnded v (new_world v) lines end lost h) × IsEndedOver tells v (new_world v) lines end lost h × (missed h ≤ misses lines + lost)
     × Tells tells v lines end wish h later sink status
+
+-- A script that goes on after earlier runs was played to this end, and told with the log of this play.
+abbrev pub TellsOwn : PlayEnd → Wish → (later : List Event) → List Event → Sunk → ℕ → Type 0
+TellsOwn end wish later h sink status =
+    MayAsk end wish later × (((found : List ℕ) × Says end wish found (reverse h) sink status) ⊎ Lacks sink status)
+
+-- a play that begins anew is performed; of one after earlier runs this says what is told of it
+abbrev pub PerformsAs : Bool → Volume → List Line → Wish → PlayEnd → (later : List Event) → (lost : ℕ) → List Event → Sunk → ℕ → Type 0
+PerformsAs tells v lines Again end later lost h sink status = TellsOwn end Again later h sink status
+PerformsAs tells v lines wish end later lost h sink status = Performs tells v lines wish end later lost h sink status
+
+-- A play from this world on has this whole log, and in its own part of that log each lost message was lost by a line or by the link.
+abbrev pub IsPlayOf : Bool → Volume → World → List Line → PlayEnd → (lost : ℕ) → (h log : List Event) → Type 0
+IsPlayOf tells v first lines end lost h log =
+    (IsTrue tells → IsEnded v first lines end lost h) × IsEndedOver tells v first lines end lost h × (missed log ≤ misses lines + lost)
+
+-- A script was played in this world, maybe after earlier runs, and told with the log of this play. Where the texts that reads find
+-- are exact, the play goes on behind each earlier log that these hold for, and so do the lines of a scrub.
+abbrev pub PerformsBehind : (holds : Before → Type 0) → (exact : Bool) → Bool → Volume → World → List Line → Wish → PlayEnd → (later : List Event) → (lost : ℕ) → List Event → Sunk → ℕ → Type 0
+PerformsBehind holds exact tells v w lines wish end later lost log sink status =
+    MayAsk end wish later
+    × ((b : Before) → holds b → exact ≡ true → IsPlayOf tells v (behind b.log w) lines end lost (log ++ b.log) log)
+    × (((found : List ℕ) × ((b : Before) → holds b → exact ≡ true → AreFoundFrom tells v (behind b.log w) lines end wish (log ++ b.log) later found)
+    × Says end wish found (reverse log) sink status) ⊎ Lacks sink status)
 
 -- the line of a refusal was to be written with its status, or there was no memory
 abbrev pub Refuses : Refusal → Sunk → ℕ → Type 0

@@ -1,7 +1,7 @@
 //! Laws without code: what the log of a performance says is true, and when a replay comes to its end.
 
 ghost use Rattle.rz_perform.specs.Clear.{IsComplete};
-ghost use Rattle.rz_perform.specs.Told.{AreLossesTold, AreTold};
+ghost use Rattle.rz_perform.specs.Told.{AreBegun, AreLossesTold, AreTold};
 
 /// What the log of a script's play says is true, however the play ended: what is proved of each play that
 /// has begun holds of one that stopped or came to its end.
@@ -26,6 +26,14 @@ pub(crate) fn told_losses()
     ensures { AreLossesTold }
 {
     rz_play_laws::losses_over();
+}
+
+/// However a play ended, it has begun: what is proved of each play that has begun holds of it.
+pub fn begins()
+    ensures { AreBegun }
+{
+    rz_play_laws::ended();
+    rz_play_laws::stopped();
 }
 
 /// A replay comes to its end where nothing stands in its way: the words and the source mean a script

@@ -7,6 +7,7 @@
 //! of what it found behind the text of the log. Over disks that tell their texts it says that the log is that of the script's play and that
 //! what it says is true (`specs/Told`): it is legal and sound, each read and write ends as it has to, each
 //! finished rebuild is whole, no update is lost, each view is whole, and each lost message has its cause.
+//! A play may go on after earlier runs: it is then that of the script behind each log that they may have had.
 //! `specs/Replays` says what a replay of what was asked for comes to, of which this is the last part, and
 //! [`completes`] when it comes to its end. Nothing here says what a real file or terminal takes,
 //! nor that there is memory.
@@ -20,7 +21,7 @@ mod performing;
 mod scrubbing;
 mod telling;
 
-pub use laws::completes;
+pub use laws::{begins, completes};
 pub use output::finish;
 pub use performing::perform;
 pub use rz_lines::LoggedStage;

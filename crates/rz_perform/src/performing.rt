@@ -1,13 +1,16 @@
 //! The play of a script and what is told of it.
 
-ghost use Rattle.std.specs.Prelude.{◌≡◌, ◌-◌, ℕ, IsTrue, List};
+ghost use Rattle.std.specs.Prelude.{◌≡◌, ◌-◌, ℕ, IsTrue, List, []};
 ghost use Rattle.rz_events.specs.Volume.{IsVolume};
 ghost use Rattle.rz_events.specs.declared.events.Event.{Event};
+ghost use Rattle.rz_node_model.specs.States.{NodeState};
+ghost use Rattle.rz_export_model.specs.Export.{Export};
+ghost use Rattle.rz_lines.specs.Behind.{Before};
 ghost use Rattle.rz_lines.specs.Ends.{EndsBy};
 ghost use Rattle.rz_lines.specs.declared.lines.PlayEnd.{PlayEnd};
-ghost use Rattle.rz_play.specs.World.{new_world};
+ghost use Rattle.rz_play.specs.World.{new_world, world_after};
 ghost use Rattle.rz_perform.specs.Scrubs.{IsScrubbable, Leaves};
-ghost use Rattle.rz_perform.specs.Telling.{Performs};
+ghost use Rattle.rz_perform.specs.Telling.{PerformsBehind};
 ghost use Rattle.rz_perform.specs.Told.{IsTold};
 
 use crate::laws::{told_losses, true_logs};
@@ -21,9 +24,10 @@ use rz_script::Script;
 use rz_scrubbing::Store;
 use std::alloc::Global;
 
-/// Plays a script on a new stage of its volume, with messages through this link; and where a scrub is
-/// wished for and the play came to its end, asks the nodes for the records of what is published. Writes
-/// what is to be told of it, and gives the status.
+/// Plays a script on a stage of its volume on which nothing was played, with messages through this link; and
+/// where a scrub is wished for and the play came to its end, asks the nodes for the records of what is
+/// published. Writes what is to be told of it, and gives the status. What is said of the play goes behind
+/// each log of earlier runs that the stage holds with; its log is true where there is none.
 pub fn perform<S: LoggedStage + Store, L: Link, O: Sink>(
     alloc: Global,
     wish: Wish,
@@ -35,15 +39,15 @@ pub fn perform<S: LoggedStage + Store, L: Link, O: Sink>(
     requires ready { S.is_ready stage.old }
     requires volume { S.volume stage.old ≡ script.now.volume }
     requires rules { IsVolume script.now.volume }
-    requires new { S.world stage.old ≡ new_world script.now.volume }
-    requires held { (first : ℕ → ℕ) × S.holds stage.old first }
-    requires stage { IsScrubbable S.tells S.volume S.world S.journaled S.is_ready S.holds S.described S.state S.is_open S.gives S.counts S.only_asked }
+    requires new { (nodes : ℕ → NodeState) × (export : Export) × (S.world stage.old ≡ world_after nodes export []) }
+    requires stage { IsScrubbable S.tells S.volume S.world S.journaled S.exact S.is_ready S.holds S.described S.state S.is_open S.gives S.counts S.only_asked }
     ensures volume { S.volume stage.new ≡ S.volume stage.old }
     ensures journal { S.journaled stage.new ≡ S.journaled stage.old }
+    ensures exact { S.exact stage.new ≡ S.exact stage.old }
     ensures performed { (end : PlayEnd) × (later : List Event) × Leaves S.world S.holds S.leaves S.counts S.only_asked end wish stage.old stage.new later
         × EndsBy (S.journaled stage.old) (S.cut_off stage.new) end
-        × Performs S.tells script.now.volume script.now.lines wish end later (L.lost link.new - L.lost link.old) (S.world stage.new).log (record { before = O.taken output.old; after = O.taken output.new; old = O.faults output.old; new = O.faults output.new }) result }
-    ensures told { IsTrue S.tells → IsTold script.now.volume script.now.lines (L.lost link.new - L.lost link.old) (S.world stage.new).log }
+        × PerformsBehind (S.holds stage.old) (S.exact stage.old) S.tells script.now.volume (S.world stage.old) script.now.lines wish end later (L.lost link.new - L.lost link.old) (S.world stage.new).log (record { before = O.taken output.old; after = O.taken output.new; old = O.faults output.old; new = O.faults output.new }) result }
+    ensures told { (b : Before) → S.holds stage.old b → b.log ≡ [] → S.world stage.old ≡ new_world script.now.volume → IsTrue S.tells → IsTold script.now.volume script.now.lines (L.lost link.new - L.lost link.old) (S.world stage.new).log }
 {
     true_logs();
     told_losses();

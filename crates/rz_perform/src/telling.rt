@@ -18,7 +18,7 @@ fn text_told(alloc: Global, wish: Wish, found: &[u8], log: &[Event]) -> Result<V
     ensures { IfOk result (λ t. t.items ≡ text_told wish found.now log.now) }
 {
     match wish {
-        Wish::Replay | Wish::First => show(alloc, log, true),
+        Wish::Replay | Wish::First | Wish::Again => show(alloc, log, true),
         Wish::Load { seed } => summary(alloc, seed, log),
         Wish::Scrub => {
             let mut text = show(alloc, log, true)?;

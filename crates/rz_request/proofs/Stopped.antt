@@ -20,6 +20,7 @@ for_wish None m source disks (stops.Refused r) h u = (ap (λ x. Err x) h.1, u)
 for_wish (Some wishes.Replay) m source disks stops.NoMemory h u = (tt, tt)
 for_wish (Some wishes.Scrub) m source disks stops.NoMemory h u = (tt, tt)
 for_wish (Some wishes.First) m source disks stops.NoMemory h u = (tt, tt)
+for_wish (Some wishes.Again) m source disks stops.NoMemory h u = (tt, tt)
 for_wish (Some (wishes.Load seed)) m source disks stops.NoMemory h u = (tt, tt, u)
 for_wish (Some w) m source disks stops.Source h u = let e : Some w ≡ None = h.0 in cc
 for_wish (Some w) m source disks (stops.Refused r) h u = let e : Some w ≡ None = h.0 in cc

@@ -20,6 +20,7 @@ status_of (refusals.Node sid) = 12
 status_of (refusals.Old cause) = 13
 status_of refusals.Journal = 14
 status_of refusals.Full = 15
+status_of (refusals.Open index cause) = 16
 
 unfoldable pub script_line : ℕ → ScriptCause → List ℕ
 script_line line cause = codes "refused script " ++ decimal line ++ codes " " ++ script_cause cause ++ codes "\n"
@@ -39,6 +40,9 @@ node_line sid = codes "refused node " ++ (decimal sid ++ codes "\n")
 unfoldable pub old_line : ℕ → List ℕ
 old_line cause = codes "refused old " ++ (decimal cause ++ codes "\n")
 
+unfoldable pub open_line : ℕ → ℕ → List ℕ
+open_line index cause = codes "refused open " ++ (decimal index ++ (codes " " ++ (decimal cause ++ codes "\n")))
+
 -- the line that says what is refused, and how
 abbrev pub line_of : Refusal → List ℕ
 line_of refusals.Usage = codes "refused usage\n"
@@ -53,3 +57,4 @@ line_of (refusals.Node sid) = node_line sid
 line_of (refusals.Old cause) = old_line cause
 line_of refusals.Journal = codes "refused journal\n"
 line_of refusals.Full = codes "refused full\n"
+line_of (refusals.Open index cause) = open_line index cause

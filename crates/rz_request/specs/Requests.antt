@@ -28,6 +28,7 @@ wish_of commands.Replay = Some wishes.Replay
 wish_of (commands.Load seed) = Some (wishes.Load seed)
 wish_of commands.Scrub = Some wishes.Scrub
 wish_of commands.First = Some wishes.First
+wish_of commands.Again = Some wishes.Again
 wish_of _ = None
 
 -- the play that words of this meaning wish for
@@ -51,6 +52,7 @@ nodes_in s = length (nodes_of s.volume.clusters)
 -- the disks that a wish needs: one for each node, and one for a journal
 abbrev pub disks_for : Wish → Script → ℕ
 disks_for wishes.First s = nodes_in s + 1
+disks_for wishes.Again s = nodes_in s + 1
 disks_for _ s = nodes_in s
 
 -- What a reading of a script comes to over so many disks: the script, which is not too large and has the disks that it needs; or

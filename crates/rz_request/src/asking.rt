@@ -37,6 +37,7 @@ fn disks_for(wish: Wish, script: &Script) -> u64
     let nodes = script.volume().node_count() as u64;
     match wish {
         Wish::First => nodes + 1,
+        Wish::Again => nodes + 1,
         Wish::Replay | Wish::Scrub => nodes,
         Wish::Load { .. } => nodes,
     }
@@ -111,7 +112,8 @@ fn wish_of(command: Command) -> Option<Wish>
         Command::Load { seed } => Some(Wish::Load { seed }),
         Command::Scrub => Some(Wish::Scrub),
         Command::First => Some(Wish::First),
-        Command::Run | Command::Again => None,
+        Command::Again => Some(Wish::Again),
+        Command::Run => None,
         Command::Migrate { .. } => None,
     }
 }
@@ -149,6 +151,7 @@ pub fn request<I: Source>(
             Wish::Load { seed } => load(alloc, seed, disks),
             Wish::Scrub => read_input(alloc, Wish::Scrub, input, disks),
             Wish::First => read_input(alloc, Wish::First, input, disks),
+            Wish::Again => read_input(alloc, Wish::Again, input, disks),
         },
         Err(stop) => Err(stop),
     }

@@ -1,7 +1,7 @@
 //! Refusals: their statuses and their lines.
 
 ghost use Rattle.std.specs.Prelude.{◌≡◌, IfOk};
-ghost use Rattle.rz_request.specs.Refusals.{line_of, script_line, status_of, volume_line, disks_line, disk_line, node_line, old_line};
+ghost use Rattle.rz_request.specs.Refusals.{line_of, script_line, status_of, volume_line, disks_line, disk_line, node_line, old_line, open_line};
 
 use crate::causes::{script_cause, volume_cause};
 use rz_script::{ScriptCause, VolumeFault};
@@ -34,6 +34,8 @@ pub enum Refusal {
     Journal,
     /// The journal had no room for a call.
     Full,
+    /// A disk that was to be used again does not open, for a cause with this number.
+    Open { index: u64, cause: u8 },
 }
 
 /// Why there is nothing to play.
@@ -107,6 +109,15 @@ fn old_line(alloc: Global, cause: u8) -> Result<Vec<u8>, AllocError>
     Vec::from_slice(alloc, line.as_bytes())
 }
 
+/// The line of a disk that does not open again.
+#[tactic(auto, unfolding(crate::specs::Refusals::open_line))]
+fn open_line(alloc: Global, index: u64, cause: u8) -> Result<Vec<u8>, AllocError>
+    ensures { IfOk result (λ l. l.items ≡ open_line index cause) }
+{
+    let line = format!(in alloc; "refused open {index} {cause}\n")?;
+    Vec::from_slice(alloc, line.as_bytes())
+}
+
 impl Refusal {
     /// The status with which the program ends.
     pub fn status(&self) -> u8
@@ -125,6 +136,7 @@ impl Refusal {
             Refusal::Old { .. } => 13,
             Refusal::Journal => 14,
             Refusal::Full => 15,
+            Refusal::Open { .. } => 16,
         }
     }
 
@@ -145,6 +157,7 @@ impl Refusal {
             Refusal::Old { cause } => old_line(alloc, *cause),
             Refusal::Journal => Vec::from_slice(alloc, b"refused journal\n"),
             Refusal::Full => Vec::from_slice(alloc, b"refused full\n"),
+            Refusal::Open { index, cause } => open_line(alloc, *index, *cause),
         }
     }
 }

@@ -65,7 +65,8 @@ fn rows(rt: HostRuntime) -> Result<(), Fail> {
         ),
         ("rozo load 1 --disks 4", "", "10 refused disks 4 16\n"),
         ("rozo first --disks 4", "rest\n", "10 refused disks 4 5\n"),
-        ("rozo again --disks 4", "rest\n", "2 refused usage\n"),
+        ("rozo again --disks 4", "rest\n", "10 refused disks 4 5\n"),
+        ("rozo run --disks 4", "rest\n", "2 refused usage\n"),
     ] {
         let told = asked(rt.alloc(), line, script)?;
         assert_eq!(rt; told.as_str(), want, "at {script}");
@@ -82,6 +83,10 @@ fn later_refusals(rt: HostRuntime) -> Result<(), Fail> {
         (Refusal::Old { cause: 3 }, "13 refused old 3\n"),
         (Refusal::Journal, "14 refused journal\n"),
         (Refusal::Full, "15 refused full\n"),
+        (
+            Refusal::Open { index: 4, cause: 2 },
+            "16 refused open 4 2\n",
+        ),
     ] {
         let told = told(rt.alloc(), &refusal)?;
         assert_eq!(rt; told.as_str(), want);

@@ -13,6 +13,8 @@ pub enum Wish {
     Scrub,
     /// The script of the input, with a journal that is formatted on a disk of its own.
     First,
+    /// The script of the input, over disks that an earlier play has left, with the journal behind them.
+    Again,
 }
 
 /// A script that is to be played, for a wish.

@@ -1,5 +1,5 @@
 -- What a node gives of a published record.
-use Rattle.std.proofs.Common.{◌≡◌, ℕ, Bool, true, false, cond, IsTrue, List, [], ◌∷◌, length, take, drop, Option, Some, None, refl, sym, ◌∙◌, ap, subst, arith}
+use Rattle.std.proofs.Common.{◌≡◌, ℕ, Bool, true, false, cond, IsTrue, List, [], ◌∷◌, ◌++◌, length, take, drop, Option, Some, None, refl, sym, ◌∙◌, ap, subst, arith}
 use Rattle.std.specs.Prelude.{slice_get, ◌==◌}
 use Rattle.std.proofs.lemmas.Bool.{eqb-true}
 use Rattle.std.proofs.lemmas.Option.{same_Some}
@@ -9,6 +9,7 @@ use Rattle.rz_words.specs.Grid.{Grid}
 use Rattle.rz_disk.specs.UnderFuse.{UnderFuse}
 use Rattle.rz_events.specs.Volume.{Volume}
 use Rattle.rz_events.specs.declared.keys.Key.{Key}
+use Rattle.rz_events.specs.declared.events.Event.{Event}
 use Rattle.rz_events.specs.declared.files.Listed.{Listed}
 use Rattle.rz_events.specs.declared.records.Held.{Held}
 use Rattle.rz_events.specs.declared.nodes.Phase.{Phase}
@@ -96,16 +97,16 @@ module _ {D : Type 0} (tells : Bool) (text : D → List ℕ) (image : D → List
       (subst (λ (x : NodeState). IsFetchAnswer (fetch_answer x key stamp) (fetch.Held told)) here.1 answers)
       ((λ c has. has), gives told_it) own
 
-  pub given-back : ((v : Volume) → AreLaid v) → (v : Volume) (w : World) (seats : List Seat) (stations : List (Station (UnderFuse D))) → w.nodes ≡ state_in stations
-      → IsPicture (fused_image image) v w seats stations
-      → EachListed w.export (λ l. AreGiven v.layout (GivesIn tells (fused_text text) stations) w.nodes l (block_of v.layout (text_in ((facts w.log).wrote l.published.stamp))))
-  given-back laid v w seats stations same picture after l listed =
-      let f = facts w.log in
+  pub given-back : ((v : Volume) → AreLaid v) → (v : Volume) (old : List Event) (w : World) (seats : List Seat) (stations : List (Station (UnderFuse D))) → w.nodes ≡ state_in stations
+      → IsPicture (fused_image image) v old w seats stations
+      → EachListed w.export (λ l. AreGiven v.layout (GivesIn tells (fused_text text) stations) w.nodes l (block_of v.layout (text_in ((facts (w.log ++ old)).wrote l.published.stamp))))
+  given-back laid v old w seats stations same picture after l listed =
+      let f = facts (w.log ++ old) in
       let fine = picture.fine in
-      let legal : IsLegalInRuns v w.log = subst (IsLegalInRuns v) (sym fine.log_is) (next-run v [] fine.run fine.legal) in
+      let legal : IsLegalInRuns v (w.log ++ old) = subst (IsLegalInRuns v) (sym fine.log_is) (next-run v old fine.run fine.legal) in
       let file = ap (λ (s : ExportState). file_of s.tree l.key.fid) (sym fine.export_is) ∙ listed-file w.export after l listed in
-      let placed : f.places l.key.fid ≡ Some l.info.places = file-places v w.log legal l.key.fid l.info file in
-      let apart = (laid v picture.rules w.log legal l.key.fid l.info.places placed).apart in
+      let placed : f.places l.key.fid ≡ Some l.info.places = file-places v (w.log ++ old) legal l.key.fid l.info file in
+      let apart = (laid v picture.rules (w.log ++ old) legal l.key.fid l.info.places placed).apart in
       record {
         block = is-block v.layout (text_in (f.wrote l.published.stamp));
         each = λ position n told before room at answers gives.

@@ -1,7 +1,8 @@
 -- What the nodes give of published blocks, between two turns of a play.
-use Rattle.std.specs.Prelude.{ℕ, ◌≡◌, Bool, IsTrue, List, [], Option, Some, None}
+use Rattle.std.specs.Prelude.{ℕ, ◌≡◌, Bool, IsTrue, List, [], ◌++◌, Option, Some, None}
 use Rattle.rz_disk.specs.UnderFuse.{UnderFuse}
 use Rattle.rz_events.specs.Volume.{Volume}
+use Rattle.rz_events.specs.declared.events.Event.{Event}
 use Rattle.rz_core.specs.HeldRecords.{block_of}
 use Rattle.rz_core.specs.History.{Begun, facts}
 use Rattle.rz_play.specs.World.{World}
@@ -20,9 +21,10 @@ abbrev pub text_in : Option Begun → List ℕ
 text_in None = []
 text_in (Some b) = b.text
 
--- Of each published block the nodes give the projections of the text with which the write of its stamp began.
+-- Of each published block the nodes give the projections of the text with which the write of its stamp began, in this run or in an
+-- earlier one.
 abbrev pub IsUntouchedLaw : {D : Type 0} → Bool → (D → List ℕ) → (D → List ℕ → Type 0) → Type 0
 IsUntouchedLaw {D = D} tells text image =
-    (v : Volume) (w : World) (seats : List Seat) (stations : List (Station (UnderFuse D))) → w.nodes ≡ state_in stations
-    → IsPicture (fused_image image) v w seats stations → IsTrue tells
-    → EachListed w.export (λ l. AreGiven v.layout (GivesIn tells (fused_text text) stations) w.nodes l (block_of v.layout (text_in ((facts w.log).wrote l.published.stamp))))
+    (v : Volume) (old : List Event) (w : World) (seats : List Seat) (stations : List (Station (UnderFuse D))) → w.nodes ≡ state_in stations
+    → IsPicture (fused_image image) v old w seats stations → IsTrue tells
+    → EachListed w.export (λ l. AreGiven v.layout (GivesIn tells (fused_text text) stations) w.nodes l (block_of v.layout (text_in ((facts (w.log ++ old)).wrote l.published.stamp))))

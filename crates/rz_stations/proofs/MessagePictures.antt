@@ -150,13 +150,14 @@ any-bins g s question given bins own handed after after' text text' image image'
 module _ {D : Type 0} (text : D → List ℕ) (image : D → List ℕ → Type 0) (law : (v : Volume) → IsHeardLaw text image v) (by : Actor) (n : ℕ) (m : Machine) (question : NodeAsk) (given : NodeAnswer) (node node' : NodeView D) (bins : List ℕ) (h : List Event)
     (sent : (handed : List ℕ) × IsMessage text image m n node.geometry.cells node.geometry node.state question given handed bins node.disk node'.disk)
     (geometry : node'.geometry ≡ node.geometry) (after : node'.state ≡ after_answer question given node.state) where
-  heard : (v : Volume) (more : List Event) → IsTrueActor v (facts h) by m → HasImages image v (facts h) n node → IsHeard image v (facts (more ++ h)) by m n node.geometry node.state question given bins node'.disk
-  heard v more actor has = law v h more by m n node.geometry.cells node.geometry node.state question given sent.0 bins node.disk node'.disk actor sent.1 has.images
+  heard : (v : Volume) (old more : List Event) → IsTrueActor v (facts (h ++ old)) by m → HasImages image v (facts (h ++ old)) n node
+      → IsHeard image v (facts (more ++ (h ++ old))) by m n node.geometry node.state question given bins node'.disk
+  heard v old more actor has = law v (h ++ old) more by m n node.geometry.cells node.geometry node.state question given sent.0 bins node.disk node'.disk actor sent.1 has.images
 
-  pub now-has : (v : Volume) (more : List Event) → IsTrueActor v (facts h) by m → HasImages image v (facts h) n node → HasImages image v (facts (more ++ h)) n node'
-  now-has v more actor has =
-      let f = facts (more ++ h) in
-      let images : IsImaged v f n (after_answer question given node.state) node.geometry (image node'.disk) = (heard v more actor has).images in
+  pub now-has : (v : Volume) (old more : List Event) → IsTrueActor v (facts (h ++ old)) by m → HasImages image v (facts (h ++ old)) n node → HasImages image v (facts (more ++ (h ++ old))) n node'
+  now-has v old more actor has =
+      let f = facts (more ++ (h ++ old)) in
+      let images : IsImaged v f n (after_answer question given node.state) node.geometry (image node'.disk) = (heard v old more actor has).images in
       record {
         geometry = geometry ∙ has.geometry;
         images = subst (λ (g : Geometry). IsImaged v f n node'.state g (image node'.disk)) (sym geometry)
@@ -165,41 +166,41 @@ module _ {D : Type 0} (text : D → List ℕ) (image : D → List ℕ → Type 0
 
   -- nothing happened that is to be noted
   pub eventless : IsOfActor question → IsNodeAnswer node.geometry.cells node.state question given → node_event by n question given ≡ None → SparesNode image by n m node node' h
-  eventless actor_asks is none = λ v actor has. (now-has v [] actor has, after ∙ no-event by n node.geometry.cells node.state question given actor_asks is none)
+  eventless actor_asks is none = λ v old actor has. (now-has v old [] actor has, after ∙ no-event by n node.geometry.cells node.state question given actor_asks is none)
 
   -- a record that was fetched is one of the layout
   pub fits-always : (y : Layout) → m.layout ≡ y → (IsFetchOf y given → ⊥) → SparesNode image by n m node node' h
-  fits-always y layout never = λ v actor has.
-      let fits = fetch-of v.layout question given (heard v [] actor has).answers in
+  fits-always y layout never = λ v old actor has.
+      let fits = fetch-of v.layout question given (heard v old [] actor has).answers in
       absurd (never (subst (λ (z : Layout). IsFetchOf z given) (sym actor.true_to.layout_is ∙ layout) fits))
 
   module _ (x : Event) (is : node_event by n question given ≡ Some x) (new : Machine) (answered : IsAnswered m given bins new) where
-    hand : (v : Volume) (more : List Event) → IsTrueActor v (facts h) by m → HasImages image v (facts h) n node → HasInHand v (facts (more ++ h)) new
-    hand v more actor has = (heard v more actor has).hand x new (record { event = is; answered = answered })
+    hand : (v : Volume) (old more : List Event) → IsTrueActor v (facts (h ++ old)) by m → HasImages image v (facts (h ++ old)) n node → HasInHand v (facts (more ++ (h ++ old))) new
+    hand v old more actor has = (heard v old more actor has).hand x new (record { event = is; answered = answered })
 
     -- the machine never says that records fit no block
     pub good-always : ((v : Volume) → IsFittingLaw v) → is_bad (ask_of new.layout new.work) ≡ true → SparesNode image by n m node node' h
-    good-always fitting bad = λ v actor has. absurd (never-bad v (fitting v) (facts h) new (hand v [] actor has) bad)
+    good-always fitting bad = λ v old actor has. absurd (never-bad v (fitting v) (facts (h ++ old)) new (hand v old [] actor has) bad)
 
     pub keeps-through : (h' : List Event) → h' ≡ x ∷ h → KeepsNode image by n m new node node' h h'
-    keeps-through h' log_is = λ v actor has. (
-      subst (λ (k : List Event). HasInHand v (facts k) new) (sym log_is) (hand v (x ∷ []) actor has),
-      subst (λ (k : List Event). HasImages image v (facts k) n node') (sym log_is) (now-has v (x ∷ []) actor has),
+    keeps-through h' log_is = λ v old actor has. (
+      subst (λ (k : List Event). HasInHand v (facts (k ++ old)) new) (sym log_is) (hand v old (x ∷ []) actor has),
+      subst (λ (k : List Event). HasImages image v (facts (k ++ old)) n node') (sym log_is) (now-has v old (x ∷ []) actor has),
     )
 
   -- the answer was lost
   pub keeps-lost : ((v : Volume) → IsToldLaw v) → IsAsked m n question → goes_by_link question ≡ true → (x : Event) → node_event by n question given ≡ Some x → (new : Machine) → Goes m m.pairs Missed new
       → (h' : List Event) → h' ≡ e.Missed by n true ∷ x ∷ h → KeepsNode image by n m new node node' h h'
-  keeps-lost told asked by_link x is new goes h' log_is = λ v actor has.
+  keeps-lost told asked by_link x is new goes h' log_is = λ v old actor has.
       let two : List Event = e.Missed by n true ∷ x ∷ [] in
       let step : IsStep by 0 (ask_of m.layout m.work) Missed two = subst (λ (a : Ask). IsStep by 0 a Missed two) (sym asked) (ReplyLost given x is by_link) in (
-        subst (λ (k : List Event). HasInHand v (facts k) new) (sym log_is) (told v h two by 0 m new Missed two actor step tt goes),
-        subst (λ (k : List Event). HasImages image v (facts k) n node') (sym log_is) (now-has v two actor has),
+        subst (λ (k : List Event). HasInHand v (facts (k ++ old)) new) (sym log_is) (told v (h ++ old) two by 0 m new Missed two actor step tt goes),
+        subst (λ (k : List Event). HasImages image v (facts (k ++ old)) n node') (sym log_is) (now-has v old two actor has),
       )
 
 -- a node that was not called
 pub not-called : {D : Type 0} (image : D → List ℕ → Type 0) (by : Actor) (n : ℕ) (m : Machine) (node node' : NodeView D) (h : List Event) → node' ≡ node → SparesNode image by n m node node' h
-not-called image by n m node node' h same = λ v actor has. (
-  subst (λ (x : NodeView _). HasImages image v (facts h) n x) (sym same) has,
+not-called image by n m node node' h same = λ v old actor has. (
+  subst (λ (x : NodeView _). HasImages image v (facts (h ++ old)) n x) (sym same) has,
   ap (λ (x : NodeView _). x.state) same,
 )

@@ -31,8 +31,7 @@ use Rattle.rz_node_model.specs.NodeEvents.{node_event, start_event}
 use Rattle.rz_export_model.specs.ExportEvents.{export_event}
 use Rattle.rz_operation_model.specs.Ask.{Saying}
 use Rattle.rz_operation_model.specs.Turns.{said_event}
-use Rattle.rz_play.specs.Turns.{text_said}
-use Rattle.rz_core.specs.History.{of_word, facts}
+use Rattle.rz_core.specs.History.{of_word}
 use Rattle.rz_node.specs.Seen.{NodeView}
 use Rattle.rz_node.specs.Opens.{Opens, IfStarted, UnlessStarted}
 use Rattle.rz_node.specs.Spends.{Spends, keep_used, fetch_used, refill_used, drop_used}
@@ -43,14 +42,13 @@ use Rattle.rz_play.specs.Lines.{noted}
 use Rattle.rz_disk_laws.specs.Metered.{IsMetered, IsNoStart, IsFaultLaw, IsArmLaw, IsStartLaw, IsOpening}
 use Rattle.rz_disk.specs.UnderFuse.{UnderFuse, fused_meter}
 use Rattle.rz_formatting.specs.declared.formatting.Station.{Station}
-use Rattle.rz_lines.specs.Ends.{Carries}
 use Rattle.rz_asks.specs.Parts.{IsNoted}
 use Rattle.rz_stations.specs.Stations.{IsAt, numbers_of}
 use Rattle.mj_angles.specs.declared.layout.Layout.{Layout}
 use Rattle.rz_events.specs.declared.files.NodeSpec.{NodeSpec}
 use Rattle.rz_events.specs.Volume.{Volume, IsVolume, nodes_of}
 use Rattle.rz_formatting.specs.Formatted.{AreFormatted, disks_of}
-use Rattle.rz_stations.specs.Meters.{IsExact, GoesWith, CountsWith, OfEach, AreMetered, AreCounted, AreDisksCounted, GoesOn, Goes, faults_at, faults_in}
+use Rattle.rz_stations.specs.Meters.{IsExact, GoesWith, CountsWith, OfEach, AreMetered, AreCounted, AreDisksCounted, CarriesCounts, GoesOn, Goes, faults_at, faults_in}
 use Rattle.rz_stations.proofs.EventWords.{word-stays, word-grows, word-apart, node-word, export-quiet, said-quiet, noted-own, noted-others}
 
 -- Along the row.
@@ -369,9 +367,8 @@ unheard-goes meter n node by to h h' log_is =
 pub export-stays : (by : Actor) (c : Call) (r : Reply) (h h' : List Event) → IsNoted (export_event by c r) h h' → (n : ℕ) → of_word (Node n) h' ≡ of_word (Node n) h
 export-stays by c r h h' (x, is, log_is) n = ap (of_word (Node n)) log_is ∙ word-stays n x h (export-quiet by c r x is n)
 
-pub said-stays : (by : Actor) (number : ℕ) (said : Saying) (h h' : List Event) → h' ≡ said_event by number (text_said (facts h) said) said ∷ h → (n : ℕ) → of_word (Node n) h' ≡ of_word (Node n) h
-said-stays by number said h h' log_is n =
-    ap (of_word (Node n)) log_is ∙ word-stays n (said_event by number (text_said (facts h) said) said) h (said-quiet by number (text_said (facts h) said) said n)
+pub said-stays : (by : Actor) (number : ℕ) (text : List ℕ) (said : Saying) (h h' : List Event) → h' ≡ said_event by number text said ∷ h → (n : ℕ) → of_word (Node n) h' ≡ of_word (Node n) h
+said-stays by number text said h h' log_is n = ap (of_word (Node n)) log_is ∙ word-stays n (said_event by number text said) h (said-quiet by number text said n)
 
 -- The disks that are handed in, and those that are handed back.
 
@@ -446,13 +443,13 @@ on-err (Ok x) p = tt
 on-err (Err e) p = p
 
 module _ {T E D : Type 0} (r : Result T E) (meter : D → Meter) (row : List (Station D)) where
-  pub still-err : (h h' : List Event) → h' ≡ h → OnErr r ((numbers : List ℕ) → Carries (AreMetered meter numbers row h) (AreCounted meter numbers row h'))
+  pub still-err : (h h' : List Event) → h' ≡ h → OnErr r ((numbers : List ℕ) → CarriesCounts (AreMetered meter numbers row h) (AreCounted meter numbers row h'))
   still-err h h' same =
-      let P : Type 0 = (numbers : List ℕ) → Carries (AreMetered meter numbers row h) (AreCounted meter numbers row h') in
+      let P : Type 0 = (numbers : List ℕ) → CarriesCounts (AreMetered meter numbers row h) (AreCounted meter numbers row h') in
       on-err {P = P} r (λ numbers first met. still-left meter first numbers row h h' same met)
 
   pub order-err : (place : ℕ) (s s' : Station D) (h h' : List Event) → slice_get row place ≡ Some s → s'.sid ≡ s.sid → (meter s.node.disk).own ≤ (meter s'.node.disk).own → h' ≡ h
-      → OnErr r ((numbers : List ℕ) → Carries (AreMetered meter numbers row h) (AreCounted meter numbers (slice_set row place s') h'))
+      → OnErr r ((numbers : List ℕ) → CarriesCounts (AreMetered meter numbers row h) (AreCounted meter numbers (slice_set row place s') h'))
   order-err place s s' h h' at named rose same =
-      let P : Type 0 = (numbers : List ℕ) → Carries (AreMetered meter numbers row h) (AreCounted meter numbers (slice_set row place s') h') in
+      let P : Type 0 = (numbers : List ℕ) → CarriesCounts (AreMetered meter numbers row h) (AreCounted meter numbers (slice_set row place s') h') in
       on-err {P = P} r (λ numbers first met. order-left meter first numbers row place s s' h h' at named rose same met)

@@ -1,5 +1,5 @@
 -- An order to a node, beside the log.
-use Rattle.std.proofs.Common.{◌≡◌, ◌≢◌, ℕ, Bool, IsTrue, List, [], Option, Some, None, refl, sym, ◌∙◌, ap, subst}
+use Rattle.std.proofs.Common.{◌≡◌, ◌≢◌, ℕ, Bool, IsTrue, List, [], ◌++◌, Option, Some, None, refl, sym, ◌∙◌, ap, subst}
 use Rattle.std.specs.Prelude.{IsSomeAnd, slice_get, slice_set}
 use Rattle.rz_disk.specs.Images.{Only, Within}
 use Rattle.rz_events.specs.Volume.{Volume}
@@ -28,7 +28,7 @@ use Rattle.rz_image_laws.specs.Records.{HandsRecord}
 use Rattle.rz_formatting.specs.declared.formatting.Station.{Station}
 use Rattle.rz_stations.specs.Images.{HasImages, KeepsImages, KeepsRow, SparesRow}
 use Rattle.rz_stations.proofs.MessagePictures.{node-quiet}
-use Rattle.rz_stations.proofs.PictureLemmas.{GrowsBy, row-longer, row-set, row-at, states-stay}
+use Rattle.rz_stations.proofs.PictureLemmas.{GrowsBy, grows-behind, row-longer, row-set, row-at, states-stay}
 
 module _ {D : Type 0} (image : D → List ℕ → Type 0) where
   -- a node of the same number and geometry
@@ -71,17 +71,18 @@ module _ {D : Type 0} (image : D → List ℕ → Type 0) where
 
   module _ (xs : List (Station D)) (place : ℕ) (s s' : Station D) (at : slice_get xs place ≡ Some s) (keeps : KeepsImages image s s') (h : List Event) where
     pub row-keeps : IsLongerLaw image → (h' : List Event) → GrowsBy h h' → KeepsRow image xs h (slice_set xs place s') h'
-    row-keeps longer h' grown = λ v all.
-        row-longer image longer v h h' grown (slice_set xs place s') (row-set image v (facts h) xs place s' all (keeps v (facts h) (row-at image v (facts h) xs place s at all)))
+    row-keeps longer h' grown = λ v old all.
+        let f = facts (h ++ old) in
+        row-longer image longer v (h ++ old) (h' ++ old) (grows-behind old h h' grown) (slice_set xs place s') (row-set image v f xs place s' all (keeps v f (row-at image v f xs place s at all)))
 
     pub row-spares : s'.sid ≡ s.sid → s'.node.state ≡ s.node.state → SparesRow image xs h (slice_set xs place s')
-    row-spares sid state = λ v all. (
-      row-set image v (facts h) xs place s' all (keeps v (facts h) (row-at image v (facts h) xs place s at all)),
+    row-spares sid state = λ v old all. let f = facts (h ++ old) in (
+      row-set image v f xs place s' all (keeps v f (row-at image v f xs place s at all)),
       states-stay xs place s s' at sid state,
     )
 
   pub still-row : (xs : List (Station D)) (h : List Event) → SparesRow image xs h xs
-  still-row xs h = λ v all. (all, refl)
+  still-row xs h = λ v old all. (all, refl)
 
 -- ---- a start
 

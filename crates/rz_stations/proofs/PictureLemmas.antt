@@ -4,6 +4,7 @@ use Rattle.std.specs.Prelude.{◌==◌, slice_get, slice_set, Result, Ok, Err, O
 use Rattle.std.specs.List.{AllByRecursion, IsDistinct}
 use Rattle.std.proofs.Math.Path.{fun_ext}
 use Rattle.std.proofs.lemmas.Bool.{eqb-true, eq-eqb}
+use Rattle.std.proofs.lemmas.List.{append_assoc}
 use Rattle.std.proofs.lemmas.Map.Keys.{IsDistinct-head, IsDistinct-tail}
 use Rattle.rz_disk.specs.UnderFuse.{UnderFuse}
 use Rattle.rz_events.specs.Volume.{Volume}
@@ -60,6 +61,10 @@ grown-short h h' (more, is) few =
 pub noted-grows : (o : Option Event) (h h' : List Event) → h' ≡ noted o h → GrowsBy h h'
 noted-grows None h h' is = ([], is)
 noted-grows (Some x) h h' is = (x ∷ [], is)
+
+-- and has them behind the log of earlier runs
+pub grows-behind : (old h h' : List Event) → GrowsBy h h' → GrowsBy (h ++ old) (h' ++ old)
+grows-behind old h h' (more, is) = (more, ap (λ (k : List Event). k ++ old) is ∙ append_assoc more h old)
 
 -- ---- rows
 

@@ -1,5 +1,5 @@
 -- What is true beside the log of the nodes' disks, where disks tell their texts.
-use Rattle.std.specs.Prelude.{ℕ, ◌≡◌, List, [], ◌∷◌}
+use Rattle.std.specs.Prelude.{ℕ, ◌≡◌, List, [], ◌∷◌, ◌++◌}
 use Rattle.std.specs.List.{AllByRecursion}
 use Rattle.rz_disk.specs.UnderFuse.{UnderFuse}
 use Rattle.rz_events.specs.Volume.{Volume}
@@ -30,28 +30,30 @@ pub record HasImages {D : Type 0} (image : D → List ℕ → Type 0) (v : Volum
 abbrev pub AreImaged : {D : Type 0} → (D → List ℕ → Type 0) → Volume → Facts → List (Station D) → Type 0
 AreImaged {D = D} image v f stations = AllByRecursion (λ (s : Station D). HasImages image v f s.sid s.node) stations
 
--- What a message to node n keeps.
+-- What a message to node n keeps, behind the log of all earlier runs.
 
 abbrev pub KeepsNode : {D : Type 0} → (D → List ℕ → Type 0) → Actor → ℕ → Machine → Machine → NodeView D → NodeView D → List Event → List Event → Type 0
 KeepsNode image by n m m' node node' h h' =
-    (v : Volume) → IsTrueActor v (facts h) by m → HasImages image v (facts h) n node → HasInHand v (facts h') m' × HasImages image v (facts h') n node'
+    (v : Volume) (old : List Event) → IsTrueActor v (facts (h ++ old)) by m → HasImages image v (facts (h ++ old)) n node
+    → HasInHand v (facts (h' ++ old)) m' × HasImages image v (facts (h' ++ old)) n node'
 
 -- where it ends for want of memory, the node's state is as before
 abbrev pub SparesNode : {D : Type 0} → (D → List ℕ → Type 0) → Actor → ℕ → Machine → NodeView D → NodeView D → List Event → Type 0
 SparesNode image by n m node node' h =
-    (v : Volume) → IsTrueActor v (facts h) by m → HasImages image v (facts h) n node → HasImages image v (facts h) n node' × (node'.state ≡ node.state)
+    (v : Volume) (old : List Event) → IsTrueActor v (facts (h ++ old)) by m → HasImages image v (facts (h ++ old)) n node
+    → HasImages image v (facts (h ++ old)) n node' × (node'.state ≡ node.state)
 
 -- What an order to a node keeps, whatever the facts are.
 abbrev pub KeepsImages : {D : Type 0} → (D → List ℕ → Type 0) → Station D → Station D → Type 0
 KeepsImages image s s' = (v : Volume) (f : Facts) → HasImages image v f s.sid s.node → HasImages image v f s'.sid s'.node
 
--- And of all nodes, with the log.
+-- And of all nodes, with the log, behind that of all earlier runs.
 
 abbrev pub KeepsRow : {D : Type 0} → (D → List ℕ → Type 0) → List (Station D) → List Event → List (Station D) → List Event → Type 0
-KeepsRow image xs h ys h' = (v : Volume) → AreImaged image v (facts h) xs → AreImaged image v (facts h') ys
+KeepsRow image xs h ys h' = (v : Volume) (old : List Event) → AreImaged image v (facts (h ++ old)) xs → AreImaged image v (facts (h' ++ old)) ys
 
 abbrev pub SparesRow : {D : Type 0} → (D → List ℕ → Type 0) → List (Station D) → List Event → List (Station D) → Type 0
-SparesRow image xs h ys = (v : Volume) → AreImaged image v (facts h) xs → AreImaged image v (facts h) ys × (state_in ys ≡ state_in xs)
+SparesRow image xs h ys = (v : Volume) (old : List Event) → AreImaged image v (facts (h ++ old)) xs → AreImaged image v (facts (h ++ old)) ys × (state_in ys ≡ state_in xs)
 
 -- Where a play ended.
 

@@ -26,6 +26,10 @@ GoesWith meter first w n = (first ≤ (meter n.disk).own) × (IsExact (meter n.d
 abbrev pub CountsWith : {D : Type 0} → (D → Meter) → ℕ → List Event → NodeView D → Type 0
 CountsWith meter first w n = (first ≤ (meter n.disk).own) × (IsExact (meter n.disk) → AreFaultsCounted w ((meter n.disk).own - first))
 
+-- what was so of counts is so still
+abbrev pub CarriesCounts : ((ℕ → ℕ) → Type 0) → ((ℕ → ℕ) → Type 0) → Type 0
+CarriesCounts before after = (first : ℕ → ℕ) → before first → after first
+
 -- Of each node in order, from place i on.
 
 abbrev pub OfEach : {D : Type 0} → (ℕ → List Event → NodeView D → Type 0) → (ℕ → ℕ) → ℕ → List (Station D) → List Event → Type 0

@@ -4,9 +4,8 @@ ghost use Rattle.rz_events.specs.declared.nodes.NodeAsk.TheVariants as ask;
 ghost use Rattle.rz_events.specs.declared.events.Event.TheVariants as e;
 ghost use Rattle.rz_play.specs.Lines.{noted};
 ghost use Rattle.rz_asks.specs.Logged.{stamp_begun};
-ghost use Rattle.rz_lines.specs.Ends.{Carries};
 ghost use Rattle.rz_stations.specs.Images.{KeepsImages, KeepsRow, SparesRow};
-ghost use Rattle.rz_stations.specs.Meters.{AreMetered, AreCounted, Goes};
+ghost use Rattle.rz_stations.specs.Meters.{AreMetered, AreCounted, CarriesCounts, Goes};
 ghost use Rattle.rz_stations.specs.Stations.{IsCalled};
 ghost use Rattle.rz_stations.specs.Administration.{IsOrdered, IsOrder, IsFreeOrder, IsStarted, IsArmed, IsArming, IsCalledAt};
 
@@ -27,8 +26,9 @@ pub fn stop_node<D: Disk>(
 ) -> Result<(), NoMemory>
     ensures ok { OnOk result (IsOrdered ask.Stop sid stations.old stations.new log.old.events log.new.events) }
     ensures err { OnErr result (log.new.events ≡ log.old.events) }
-    ensures held { OnOk result ((numbers : List ℕ) → Carries (AreMetered D.meter numbers stations.old log.old.events) (AreMetered D.meter numbers stations.new log.new.events)) }
-    ensures left { OnErr result ((numbers : List ℕ) → Carries (AreMetered D.meter numbers stations.old log.old.events) (AreCounted D.meter numbers stations.new log.new.events)) }
+    ensures earlier { log.new.earlier ≡ log.old.earlier }
+    ensures held { OnOk result ((numbers : List ℕ) → CarriesCounts (AreMetered D.meter numbers stations.old log.old.events) (AreMetered D.meter numbers stations.new log.new.events)) }
+    ensures left { OnErr result ((numbers : List ℕ) → CarriesCounts (AreMetered D.meter numbers stations.old log.old.events) (AreCounted D.meter numbers stations.new log.new.events)) }
     ensures pictured { OnOk result (IsTrue D.tells → KeepsRow D.image stations.old log.old.events stations.new log.new.events) }
     ensures spared { OnErr result (IsTrue D.tells → SparesRow D.image stations.old log.old.events stations.new) }
 {
@@ -49,8 +49,9 @@ pub fn lose_node<D: Disk>(
 ) -> Result<(), NoMemory>
     ensures ok { OnOk result (IsOrdered ask.Lose sid stations.old stations.new log.old.events log.new.events) }
     ensures err { OnErr result (log.new.events ≡ log.old.events) }
-    ensures held { OnOk result ((numbers : List ℕ) → Carries (AreMetered D.meter numbers stations.old log.old.events) (AreMetered D.meter numbers stations.new log.new.events)) }
-    ensures left { OnErr result ((numbers : List ℕ) → Carries (AreMetered D.meter numbers stations.old log.old.events) (AreCounted D.meter numbers stations.new log.new.events)) }
+    ensures earlier { log.new.earlier ≡ log.old.earlier }
+    ensures held { OnOk result ((numbers : List ℕ) → CarriesCounts (AreMetered D.meter numbers stations.old log.old.events) (AreMetered D.meter numbers stations.new log.new.events)) }
+    ensures left { OnErr result ((numbers : List ℕ) → CarriesCounts (AreMetered D.meter numbers stations.old log.old.events) (AreCounted D.meter numbers stations.new log.new.events)) }
     ensures pictured { OnOk result (IsTrue D.tells → KeepsRow D.image stations.old log.old.events stations.new log.new.events) }
     ensures spared { OnErr result (IsTrue D.tells → SparesRow D.image stations.old log.old.events stations.new) }
 {
@@ -75,8 +76,9 @@ pub fn start_node<D: Disk>(
     ensures ok { OnOk result (IsTrue D.tells → IsOrdered ask.Start sid stations.old stations.new log.old.events log.new.events) }
     ensures started { OnOk result (IsStarted sid stations.old stations.new log.old.events log.new.events) }
     ensures err { OnErr result (log.new.events ≡ log.old.events) }
-    ensures held { OnOk result ((numbers : List ℕ) → Carries (AreMetered D.meter numbers stations.old log.old.events) (AreMetered D.meter numbers stations.new log.new.events)) }
-    ensures left { OnErr result ((numbers : List ℕ) → Carries (AreMetered D.meter numbers stations.old log.old.events) (AreCounted D.meter numbers stations.new log.new.events)) }
+    ensures earlier { log.new.earlier ≡ log.old.earlier }
+    ensures held { OnOk result ((numbers : List ℕ) → CarriesCounts (AreMetered D.meter numbers stations.old log.old.events) (AreMetered D.meter numbers stations.new log.new.events)) }
+    ensures left { OnErr result ((numbers : List ℕ) → CarriesCounts (AreMetered D.meter numbers stations.old log.old.events) (AreCounted D.meter numbers stations.new log.new.events)) }
     ensures pictured { OnOk result (IsTrue D.tells → KeepsRow D.image stations.old log.old.events stations.new log.new.events) }
     ensures spared { OnErr result (IsTrue D.tells → SparesRow D.image stations.old log.old.events stations.new) }
 {
@@ -101,8 +103,9 @@ pub fn arm_node<D: Disk>(
     requires fuse { IsTrue D.has_fuse }
     ensures ok { OnOk result (IsArming passes pick sid stations.old stations.new log.old.events log.new.events) }
     ensures err { OnErr result (log.new.events ≡ log.old.events) }
-    ensures held { OnOk result ((numbers : List ℕ) → Carries (AreMetered D.meter numbers stations.old log.old.events) (AreMetered D.meter numbers stations.new log.new.events)) }
-    ensures left { OnErr result ((numbers : List ℕ) → Carries (AreMetered D.meter numbers stations.old log.old.events) (AreCounted D.meter numbers stations.new log.new.events)) }
+    ensures earlier { log.new.earlier ≡ log.old.earlier }
+    ensures held { OnOk result ((numbers : List ℕ) → CarriesCounts (AreMetered D.meter numbers stations.old log.old.events) (AreMetered D.meter numbers stations.new log.new.events)) }
+    ensures left { OnErr result ((numbers : List ℕ) → CarriesCounts (AreMetered D.meter numbers stations.old log.old.events) (AreCounted D.meter numbers stations.new log.new.events)) }
     ensures pictured { OnOk result (IsTrue D.tells → KeepsRow D.image stations.old log.old.events stations.new log.new.events) }
     ensures spared { OnErr result (IsTrue D.tells → SparesRow D.image stations.old log.old.events stations.new) }
 {
@@ -124,6 +127,7 @@ fn note(log: &mut Log, event: Option<Event>) -> Result<(), NoMemory>
     requires room { 0 < log.old.room }
     ensures ok { OnOk result (log.new.events ≡ noted event log.old.events) }
     ensures err { OnErr result (log.new.events ≡ log.old.events) }
+    ensures earlier { log.new.earlier ≡ log.old.earlier }
     ensures begins { OnErr result (IsSomeAnd event (λ x. stamp_begun x ≢ None)) }
 {
     match event {

@@ -7,9 +7,8 @@ ghost use Rattle.rz_node.specs.Spends.{fetch_used};
 ghost use Rattle.rz_node_model.specs.Afterwards.{after_fetch};
 ghost use Rattle.rz_node_model.specs.Answers.{IsFetchAnswer, fetch_answer};
 ghost use Rattle.rz_node_model.specs.NodeEvents.{fetch_event};
-ghost use Rattle.rz_lines.specs.Ends.{Carries};
 ghost use Rattle.rz_scrubbing.specs.Stores.{IsRead};
-ghost use Rattle.rz_stations.specs.Meters.{AreMetered, Goes};
+ghost use Rattle.rz_stations.specs.Meters.{AreMetered, CarriesCounts, Goes};
 ghost use Rattle.rz_stations.specs.Fetches.{GivesAt, GivesIn, HaveRoom, IsFetch};
 ghost use Rattle.rz_stations.specs.Asked.{IsOnlyAsked, AreOnlyAsked};
 
@@ -33,7 +32,7 @@ pub fn fetch_node<D: Disk>(
     ensures read { IsRead (GivesIn D.tells D.text stations.old sid key) result room.old room.new }
     ensures unread { fetch_used result ≢ Some true → room.new ≡ room.old }
     ensures behind { (count : ℕ) → HaveRoom count stations.old → drop count room.new ≡ drop count room.old }
-    ensures metered { (position : ℕ) (numbers : List ℕ) (h : List Event) → Carries (AreMetered D.meter numbers stations.old h) (AreMetered D.meter numbers stations.new (fetch_event Admin sid key position stamp result ∷ h)) }
+    ensures metered { (position : ℕ) (numbers : List ℕ) (h : List Event) → CarriesCounts (AreMetered D.meter numbers stations.old h) (AreMetered D.meter numbers stations.new (fetch_event Admin sid key position stamp result ∷ h)) }
 {
     match find(stations, sid) {
         Some(place) => fetch(&mut stations[place], key, stamp, room),

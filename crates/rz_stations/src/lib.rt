@@ -5,8 +5,8 @@
 //! that sent it is told, and which events are noted. The administrator's orders ([`stop_node`],
 //! [`lose_node`], [`start_node`], [`arm_node`]) note theirs; a record that is asked for ([`fetch_node`]) has
 //! none. Each contract says too that the faults of the node's word are counted by its disk, and, over disks
-//! that tell their texts, what each image of the disk stands for by the log. They do not say that there is
-//! memory.
+//! that tell their texts, what each image of the disk stands for by the log, behind that of any earlier runs.
+//! They do not say that there is memory.
 //!
 //! In reading order: `station`, `messages`, `administration`, `asking`.
 #![tactic(auto)]

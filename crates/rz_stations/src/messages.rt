@@ -166,6 +166,7 @@ pub fn through<D: Disk>(
     requires room { 0 < log.old.room }
     ensures ok { OnOk result (IsThroughPart by number node.old.geometry.cells ask node.old.state node.new.state machine.old machine.new log.old.events log.new.events) }
     ensures err { OnErr result (log.new.events ≡ log.old.events) }
+    ensures earlier { log.new.earlier ≡ log.old.earlier }
     ensures geometry { node.new.geometry ≡ node.old.geometry }
     ensures metered { OnOk result (GoesOn D.meter number node.old node.new log.old.events log.new.events) }
     ensures counted { (D.meter node.old.disk).own ≤ (D.meter node.new.disk).own }
@@ -211,6 +212,7 @@ pub fn without_reply<D: Disk>(
     requires room { 2 ≤ log.old.room }
     ensures ok { OnOk result (IsReplyLostPart by number node.old.geometry.cells ask node.old.state node.new.state machine.old machine.new log.old.events log.new.events) }
     ensures err { OnErr result (log.new.events ≡ log.old.events) }
+    ensures earlier { log.new.earlier ≡ log.old.earlier }
     ensures geometry { node.new.geometry ≡ node.old.geometry }
     ensures metered { OnOk result (GoesOn D.meter number node.old node.new log.old.events log.new.events) }
     ensures counted { (D.meter node.old.disk).own ≤ (D.meter node.new.disk).own }
@@ -251,6 +253,7 @@ pub fn without_request(
     requires room { 0 < log.old.room }
     ensures ok { OnOk result (IsRequestLostPart by number machine.old machine.new log.old.events log.new.events) }
     ensures err { OnErr result (log.new.events ≡ log.old.events) }
+    ensures earlier { log.new.earlier ≡ log.old.earlier }
 {
     if !machine.has_room() {
         return Err(NoMemory);

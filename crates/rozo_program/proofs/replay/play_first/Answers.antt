@@ -1,12 +1,12 @@
 use Rattle.std.proofs.Common.{◌≡◌, ◌-◌, ◌++◌, ◌∷◌, ◌<◌, ◌≤◌, ℕ, Bool, true, IsTrue, List, [], Option, Some, length, map, reverse, refl, sym, ap, ◌∙◌, subst, inl, inr, ◌+◌, arith}
 use Rattle.std.specs.Prelude.{option_to_list}
-use Rattle.std.proofs.lemmas.List.{reverse-reverse, length-map}
+use Rattle.std.proofs.lemmas.List.{append-nil, reverse-reverse, length-map}
 use Rattle.rz_disk.specs.Meter.{faults}
 use Rattle.rz_disk.specs.UnderFuse.{UnderFuse}
 use Rattle.rz_driver.specs.declared.station.Shared.{Shared}
 use Rattle.rz_driver.specs.Endings.{EndsAsRefused, StandsForLog}
 use Rattle.rz_driver.specs.Formatted.{AreBackWithJournal}
-use Rattle.rz_driver.specs.Worlds.{Holds, Leaves, world_of}
+use Rattle.rz_driver.specs.Worlds.{Holds, Leaves, anew, exact_if, is_exact, world_of}
 use Rattle.rz_events.specs.Volume.{Volume, nodes_of}
 use Rattle.rz_events.specs.declared.events.Event.{Event}
 use Rattle.rz_events.specs.declared.files.NodeSpec.{NodeSpec}
@@ -17,14 +17,17 @@ use Rattle.rz_stations.specs.Meters.{faults_at}
 use Rattle.rz_core.specs.HeldRecords.{block_of}
 use Rattle.rz_core.specs.History.{facts}
 use Rattle.rz_scrub_laws.specs.Untouched.{text_in}
+use Rattle.rz_node_model.specs.States.{fresh}
+use Rattle.rz_export_model.specs.Export.{new_export}
 use Rattle.rz_play.specs.World.{new_world}
+use Rattle.rz_lines.specs.Behind.{Before}
+use Rattle.rz_perform.proofs.Anew.{performs, performs_as, told_as}
 use Rattle.rz_lines.specs.declared.lines.PlayEnd.{PlayEnd}
-use Rattle.rz_perform.specs.Told.{IsTold}
-use Rattle.rz_perform.specs.Telling.{Performs}
+use Rattle.rz_perform.specs.Telling.{PerformsAs}
 use Rattle.rz_perform.specs.Output.{Sunk}
-use Rattle.rz_perform.specs.Replays.{Unplayed, Performed, MayEnd}
+use Rattle.rz_perform.specs.Replays.{Unplayed, Performed, IsToldAs, MayEnd}
 use Rattle.rz_perform.specs.Scrubs.{BetweenTurns}
-use Rattle.rz_request.specs.declared.wishes.Wish.TheVariants.{First, Scrub}
+use Rattle.rz_request.specs.declared.wishes.Wish.TheVariants.{First, Again, Scrub}
 use Rattle.rozo_program.specs.Disks.{AreAllBack, AreBackFrom, AreFaultsTold, AreImagesTold, IsJournalLeft, faulted}
 use Rattle.rozo_program.proofs.Journals.{all-back-faults, at-front, at-last, between-on, counted-length, first-back, first-end, has-disk, journal-left, length-joined, split-last}
 use Rattle.rozo_program.proofs.Lent.{counted-none, not-opened}
@@ -33,24 +36,23 @@ use Rattle.rozo_program.proofs.replay.play_first.Given as given
 use Rattle.rozo_program.proofs.replay.play_first.Goals as goal
 
 pub perform-status-requires-clause-new : goal.perform-status-requires-clause-new
-perform-status-requires-clause-new g c = c.in-Ok.ensures.world ∙ ap new_world c.volume-volume.ensures
+perform-status-requires-clause-new g c = ((λ n. fresh), new_export c.args.request.now.script.volume 0, c.in-Ok.ensures.world ∙ ap new_world c.volume-volume.ensures)
 
 pub perform-status-requires-clause-stage : goal.perform-status-requires-clause-stage
 perform-status-requires-clause-stage g c = record {
   described_is = λ d. refl;
   state_is = λ d h. refl;
   open_is = λ d ready. ready;
-  counted = λ d first held. held.0;
+  counted = λ d b held. held.0;
+  short = λ d b held. held.3.short;
   log_is = λ d e asked. ap (λ (s : Shared (UnderFuse g.row.D.Denot) g.row.D.Denot). s.log.events) asked.shared;
   journal_is = λ d e asked. ap (λ (s : Shared (UnderFuse g.row.D.Denot) g.row.D.Denot). is_journaled s.export) asked.shared;
-  whole = λ d first ready held tells few after l is. (
-    block_of d.volume.layout (text_in ((facts d.shared.log.events).wrote l.published.stamp)),
-    c.untouched.ensures d.volume (world_of d) d.seats.items d.shared.stations.items refl (held.1 tells few) tells after l is,
+  exact_is = λ d e asked. ap (λ (s : Shared (UnderFuse g.row.D.Denot) g.row.D.Denot). exact_if g.D.Disk.tells s.log.earlier) asked.shared;
+  whole = λ d b ready held tells few after l is. (
+    block_of d.volume.layout (text_in ((facts (d.shared.log.events ++ b.log)).wrote l.published.stamp)),
+    c.untouched.ensures d.volume b.log (world_of d) d.seats.items d.shared.stations.items refl (held.1 tells few) tells after l is,
   );
 }
-
-pub perform-status-requires-clause-held : goal.perform-status-requires-clause-held
-perform-status-requires-clause-held g c = (faults_at g.D.Disk.meter c.replace-lent.result.items, c.in-Ok.ensures.held)
 
 plain : (k : ℕ) → 0 + k ≡ k
 plain k = omega arith
@@ -59,26 +61,32 @@ plain k = omega arith
 no-scrub : (g : given.Over) (c : goal.After-drop-disks g) → c.args.request.now.wish ≡ Scrub → ⊥
 no-scrub g c scrubs = let first : c.args.request.now.wish ≡ First = c.requires.first in cc
 
+is_anew : (g : given.Over) (c : goal.After-drop-disks g) → c.args.request.now.wish ≡ Again → ⊥
+is_anew g c is = let first : c.args.request.now.wish ≡ First = c.requires.first in cc
+
 -- what the performance left
 module _ (g : given.Over) (c : goal.After-drop-disks g) where
   abbrev first : ℕ → ℕ
   first = faults_at g.D.Disk.meter c.args.disks.now.items
 
-  held : Holds c.in-Ok.driver first
+  abbrev before : Before
+  before = anew first
+
+  held : Holds c.in-Ok.driver before
   held =
       let lent : c.replace-lent.result.items ≡ c.args.disks.now.items = rw c.replace-lent.ensures.value refl in
-      let H : List g.row.D.Denot → Type 0 = λ xs. Holds c.in-Ok.driver (faults_at g.D.Disk.meter xs) in
+      let H : List g.row.D.Denot → Type 0 = λ xs. Holds c.in-Ok.driver (anew (faults_at g.D.Disk.meter xs)) in
       subst H lent c.in-Ok.ensures.held
 
-  left_by : Leaves c.perform-status.new.stage first
+  left_by : Leaves c.perform-status.new.stage before
   left_by = elim c.perform-status.ensures.performed.2 [
-    | inl plays ↦ plays.1 first held
+    | inl plays ↦ plays.1 before held
     | inr asks ↦ absurd (no-scrub g c asks.1)
   ]
 
-  holds_by : BetweenTurns c.perform-status.ensures.performed.0 (Holds c.perform-status.new.stage first)
+  holds_by : BetweenTurns c.perform-status.ensures.performed.0 (Holds c.perform-status.new.stage before)
   holds_by = elim c.perform-status.ensures.performed.2 [
-    | inl plays ↦ between-on c.perform-status.ensures.performed.0 _ (Holds c.perform-status.new.stage first) (λ on. on first held) plays.2
+    | inl plays ↦ between-on c.perform-status.ensures.performed.0 _ (Holds c.perform-status.new.stage before) (λ on. on before held) plays.2
     | inr asks ↦ absurd (no-scrub g c asks.1)
   ]
 
@@ -107,27 +115,36 @@ returns-in-Ok g c =
     let later : List Event = c.perform-status.ensures.performed.1 in
     let log : List Event = c.perform-status.new.stage.shared.log.events in
     let log_is : reverse c.close_all-log.result.0.items ≡ log = ap reverse c.close_all-log.ensures.log ∙ reverse-reverse log in
-    let P : List Event → Type 0 = λ x. Performs g.D.Disk.tells v lines c.args.request.now.wish end later lost x sink c.perform-status.result in
-    let Q : List Event → Type 0 = λ x. IsTold v lines lost x in
+    let P : List Event → Type 0 = λ x. PerformsAs g.D.Disk.tells v lines c.args.request.now.wish end later lost x sink c.perform-status.result in
+    let Q : List Event → Type 0 = λ x. IsToldAs c.args.request.now.wish v lines lost x in
     let old : List g.row.D.Denot = c.args.disks.now.items in
     let new : List g.row.D.Denot = c.close_all-log.result.1.items in
     let back : List g.row.D.Denot = disks_of c.perform-status.new.stage.shared.stations.items in
     let split = split-last (length (nodes_of v.clusters)) old c.requires.count in
     let disk = has-disk c.perform-status.new.stage.shared.export (c.perform-status.ensures.journal ∙ c.in-Ok.ensures.journal) in
     let new_is : new ≡ back ++ disk.0 ∷ [] = c.close_all-log.ensures.disks ∙ ap (λ (d : Option g.row.D.Denot). back ++ option_to_list d) disk.1 in
-    let counted_here = c.close_all-log.ensures.counted (first g c) (left_by g c) in
+    let new_so = c.in-Ok.ensures.world ∙ ap new_world c.volume-volume.ensures in
+    let exact = c.perform-status.ensures.exact ∙ c.in-Ok.ensures.exact in
+    let no_more : log ++ [] ≡ log = append-nil log in
+    let counted_here = c.close_all-log.ensures.counted (before g c) (left_by g c) in
     let counted : AreFaultsTold meter v old back log = subst (λ (x : Volume). AreFaultsTold meter x old back log) (volume_is g c) counted_here in
     let imaged : AreImagesTold g.D.Disk.tells meter g.D.Disk.image (Performed end later) v split.0 back log =
-    subst (λ (x : Volume). AreImagesTold g.D.Disk.tells meter g.D.Disk.image (Performed end later) x split.0 back log) (volume_is g c) (c.close_all-log.ensures.imaged (first g c) (left_by g c)) in
+    subst (λ (x : Volume). AreImagesTold g.D.Disk.tells meter g.D.Disk.image (Performed end later) x split.0 back log) (volume_is g c)
+    (subst (λ (h : List Event). AreImagesTold g.D.Disk.tells meter g.D.Disk.image (Performed end later) c.perform-status.new.stage.volume split.0 back h) no_more
+    (c.close_all-log.ensures.imaged (before g c) (left_by g c))) in
     let count : length back ≡ length (nodes_of v.clusters) = counted-length meter (first g c) 0 _ back log counted ∙ length-map (nodes_of v.clusters) (λ (n : NodeSpec). n.sid) in
     let was : first g c (length (nodes_of v.clusters)) ≡ faults (meter split.1) =
     ap (λ (k : ℕ). faults_at meter old k) (sym split.3) ∙ ap (λ (xs : List g.row.D.Denot). faults_at meter xs (length split.0)) split.2 ∙ at-last meter split.0 split.1 in
     let is_now : faults_at meter new (length (nodes_of v.clusters)) ≡ faults (meter disk.0) =
     ap (λ (k : ℕ). faults_at meter new k) (sym count) ∙ ap (λ (xs : List g.row.D.Denot). faults_at meter xs (length back)) new_is ∙ at-last meter back disk.0 in
-    let E : Volume → Type 0 = λ x. EndsAsRefused (refusal_of c.perform-status.new.stage.shared.export) g.D.Disk.tells (g.D.Disk.image disk.0) (first g c (length (nodes_of x.clusters))) (faults (meter disk.0)) x log in
-    let ended : E v = subst E (volume_is g c) (c.close_all-log.ensures.ends (first g c) disk.0 (left_by g c) disk.1) in
-    let S : Volume → Type 0 = λ x. IsTrue g.D.Disk.tells → StandsForLog (g.D.Disk.image disk.0) x log in
-    let stands : BetweenTurns end (S v) = between-on end _ (S v) (λ holding. subst S (volume_is g c) (c.close_all-log.ensures.stands (first g c) disk.0 holding disk.1)) (holds_by g c) in
+    let E : Volume → Type 0 = λ x. EndsAsRefused (refusal_of c.perform-status.new.stage.shared.export) g.D.Disk.tells (g.D.Disk.image disk.0) (first g c (length (nodes_of x.clusters))) (faults (meter disk.0)) x (log ++ []) in
+    let ended_here : E v = subst E (volume_is g c) (c.close_all-log.ensures.ends (before g c) disk.0 (left_by g c) exact disk.1) in
+    let ended = subst (λ (h : List Event). EndsAsRefused (refusal_of c.perform-status.new.stage.shared.export) g.D.Disk.tells (g.D.Disk.image disk.0) (first g c (length (nodes_of v.clusters))) (faults (meter disk.0)) v h)
+    no_more ended_here in
+    let S : Volume → Type 0 = λ x. IsTrue g.D.Disk.tells → StandsForLog (g.D.Disk.image disk.0) x (log ++ []) in
+    let T : List Event → Type 0 = λ h. IsTrue g.D.Disk.tells → StandsForLog (g.D.Disk.image disk.0) v h in
+    let stands : BetweenTurns end (T log) =
+    between-on end _ (T log) (λ holding. subst T no_more (subst S (volume_is g c) (c.close_all-log.ensures.stands (before g c) disk.0 holding disk.1))) (holds_by g c) in
     let may : MayEnd end c.args.request.now (faulted meter old new) =
     first-end end (refusal_of c.perform-status.new.stage.shared.export) _ c.args.request.now (faulted meter old new) g.D.Disk.tells (g.D.Disk.image disk.0) v log c.requires.first c.perform-status.ensures.performed.3
     (subst (λ (k : ℕ). EndsAsRefused (refusal_of c.perform-status.new.stage.shared.export) g.D.Disk.tells (g.D.Disk.image disk.0) (first g c (length (nodes_of v.clusters))) k v log) (sym is_now) ended) in
@@ -147,8 +164,15 @@ returns-in-Ok g c =
     } in
     let B : List Event → Type 0 = λ x. AreAllBack g.D.Disk.tells meter g.D.Disk.image (Performed end later) v old new x in (
       Performed end later,
-      ((may, subst P (sym log_is) c.perform-status.ensures.performed.4), λ tells. subst Q (sym log_is) (c.perform-status.ensures.told tells)),
-      first-back g.D.Disk.tells meter g.D.Disk.image (Performed end later) c.args.request.now.wish v old new _ c.requires.first (subst B (sym log_is) all),
+      (
+        (
+          may,
+          subst P (sym log_is) (performs_as g.D.Disk.tells v lines c.args.request.now.wish end later lost log sink c.perform-status.result (is_anew g c) (performs (Holds c.in-Ok.driver) (is_exact c.in-Ok.driver) g.D.Disk.tells v (world_of c.in-Ok.driver) lines c.args.request.now.wish end later lost log (before g c) refl (held g c)
+              c.in-Ok.ensures.exact new_so sink c.perform-status.result c.perform-status.ensures.performed.4)),
+        ),
+        λ tells. subst Q (sym log_is) (told_as c.args.request.now.wish v lines lost log (is_anew g c) (c.perform-status.ensures.told (before g c) (held g c) refl new_so tells)),
+      ),
+      first-back g.D.Disk.tells g.D.Disk.text meter g.D.Disk.image (Performed end later) c.args.request.now.wish v lines lost old new _ c.requires.first (subst B (sym log_is) all),
     )
 
 lent_is : (g : given.Over) (c : goal.After-unplayed g) → c.replace-lent.result.items ≡ c.args.disks.now.items
@@ -200,7 +224,8 @@ returns-in-Err g c =
       (
         not-opened g.D.Disk.tells meter c.args.request.now old new lost sink c.unplayed.result.status
             (reverse c.unplayed.result.log.items) c.in-Err.fault kept cause (rw c.unplayed.ensures.status c.refuse_disks-status.ensures) none,
-        λ tells. told-none v c.args.request.now.script.lines lost (reverse c.unplayed.result.log.items) none,
+        λ tells. told_as c.args.request.now.wish v c.args.request.now.script.lines lost (reverse c.unplayed.result.log.items)
+            (λ is. let other : First ≡ Again = sym c.requires.first ∙ is in cc) (told-none v c.args.request.now.script.lines lost (reverse c.unplayed.result.log.items) none),
       ),
-      first-back g.D.Disk.tells meter g.D.Disk.image Unplayed c.args.request.now.wish v old new _ c.requires.first (subst B (sym none) all),
+      first-back g.D.Disk.tells g.D.Disk.text meter g.D.Disk.image Unplayed c.args.request.now.wish v c.args.request.now.script.lines lost old new _ c.requires.first (subst B (sym none) all),
     )

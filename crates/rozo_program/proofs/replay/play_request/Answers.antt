@@ -6,6 +6,9 @@ use Rattle.rozo_program.proofs.replay.play_request.Goals as goal
 pub play_first-requires-clause-count : goal.play_first-requires-clause-count
 play_first-requires-clause-count g c = c.requires ∙ ap (λ (w : Wish). disks_for w c.args.request.now.script) c.in-First.is
 
+pub play_again-requires-clause-count : goal.play_again-requires-clause-count
+play_again-requires-clause-count g c = c.requires ∙ ap (λ (w : Wish). disks_for w c.args.request.now.script) c.in-Again.is
+
 pub play_plain-requires-clause-count : goal.play_plain-requires-clause-count
 play_plain-requires-clause-count g c = c.requires ∙ ap (λ (w : Wish). disks_for w c.args.request.now.script) c.in-Replay.is
 

@@ -5,6 +5,7 @@ use Rattle.rz_events.specs.declared.export.Call.TheVariants as call
 use Rattle.rz_events.specs.declared.tree.TreeCall.TheVariants as tree
 use Rattle.rz_export_model.specs.Export.{export_reply}
 use Rattle.rz_metadata.specs.Stands.{export_in}
+use Rattle.rz_operation.specs.Machine.{text_of}
 use Rattle.rz_asks.specs.Journals.{EndsOn}
 use Rattle.rz_asks.proofs.Keeping.{keeps-same}
 use Rattle.rz_driver.proofs.JournalLemmas.{fate-stays, said-stays-export, same-store, store-keeps, store-ends}
@@ -84,7 +85,7 @@ pub returns-in_ok-done-in-Say-clause-held : goal.returns-in_ok-done-in-Say-claus
 returns-in_ok-done-in-Say-clause-held g c = λ numbers first met.
     let p = c.args.shared.now in
     let part = c.in_ok-done-in-Say.ensures.ok in
-    metered-stays g.D.Disk.meter first numbers p.stations.items p.log.events c.say.new.log.events (said-stays c.args.by c.args.seat.now.number part.0 p.log.events c.say.new.log.events part.2.noted) met
+    metered-stays g.D.Disk.meter first numbers p.stations.items p.log.events c.say.new.log.events (said-stays c.args.by c.args.seat.now.number (text_of c.in-Some.machine) part.0 p.log.events c.say.new.log.events part.2.noted) met
 
 pub returns-in_err-done-in-Say-clause-left : goal.returns-in_err-done-in-Say-clause-left
 returns-in_err-done-in-Say-clause-left g c =
@@ -136,7 +137,7 @@ returns-in-Node-clause-pictured g c =
 pub returns-in_ok-done-in-Say-clause-pictured : goal.returns-in_ok-done-in-Say-clause-pictured
 returns-in_ok-done-in-Say-clause-pictured g c = λ told.
     let p = c.args.shared.now in
-    say-keeps g.D.Disk.image c.args.by p.stations.items c.longer.ensures c.told.ensures c.args.seat.now.machine c.in-Some.machine c.say.new.machine c.in-Some.is p.log.events c.say.new.log.events c.args.seat.now.number c.in_ok-done-in-Say.done c.in_ok-done-in-Say.ensures.ok
+    say-keeps g.D.Disk.image c.args.by p.stations.items c.longer.ensures c.told.ensures c.args.seat.now.machine c.in-Some.machine c.say.new.machine c.in-Some.is p.log.events c.say.new.log.events p.log.earlier c.args.seat.now.number c.in_ok-done-in-Say.done c.in_ok-done-in-Say.ensures.ok
 
 pub returns-in-Export-clause-spared : goal.returns-in-Export-clause-spared
 returns-in-Export-clause-spared g c =
@@ -191,10 +192,10 @@ pub returns-in_err-done-in-Say-clause-store : goal.returns-in_err-done-in-Say-cl
 returns-in_err-done-in-Say-clause-store g c = same-store c.args.shared.now.export c.args.shared.now.export refl
 
 pub returns-in_default-clause-kept : goal.returns-in_default-clause-kept
-returns-in_default-clause-kept g c = λ first keeps. keeps
+returns-in_default-clause-kept g c = λ first old keeps. keeps
 
 pub returns-in-Rest-clause-kept : goal.returns-in-Rest-clause-kept
-returns-in-Rest-clause-kept g c = λ first keeps. keeps
+returns-in-Rest-clause-kept g c = λ first old keeps. keeps
 
 pub returns-in-Export-clause-kept : goal.returns-in-Export-clause-kept
 returns-in-Export-clause-kept g c = c.ask_export.ensures.kept
@@ -215,7 +216,7 @@ pub returns-in_ok-done-in-Say-clause-kept : goal.returns-in_ok-done-in-Say-claus
 returns-in_ok-done-in-Say-clause-kept g c =
     let p = c.args.shared.now in
     keeps-same g.J.Disk.tells g.J.Disk.meter g.J.Disk.image p.export p.log.events c.say.new.log.events
-    (said-stays-export c.args.by c.args.seat.now.number c.in_ok-done-in-Say.done c.in-Some.machine c.say.new.machine p.log.events c.say.new.log.events c.in_ok-done-in-Say.ensures.ok)
+    (said-stays-export p.log.earlier c.args.by c.args.seat.now.number c.in_ok-done-in-Say.done c.in-Some.machine c.say.new.machine p.log.events c.say.new.log.events c.in_ok-done-in-Say.ensures.ok)
 
 pub returns-in-Export-clause-ended : goal.returns-in-Export-clause-ended
 returns-in-Export-clause-ended g c = c.ask_export.ensures.left

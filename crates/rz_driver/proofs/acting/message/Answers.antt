@@ -223,7 +223,7 @@ returns-in_err-without_request-in-RequestLost-clause-spared g c =
     let there = read-at row c.as_slice.result.now c.args.number c.in-Some.place s c.as_slice.ensures.value c.in-Some.ensures c.index_mut.ensures.value in
     let named = sid-at row c.args.number c.in-Some.place s there.0 there.1 in
     let P : Type 0 = IsTrue g.D.Disk.tells → SparesPicture image c.args.by (Some m) row h (slice_set row c.in-Some.place s) in
-    on-err {P = P} c.from_residual-in_err-without_request-in-RequestLost.result (λ told. node-spares image c.args.by row m h c.args.number c.in-Some.place s s named there.1 refl (λ v actor has. (has, refl)))
+    on-err {P = P} c.from_residual-in_err-without_request-in-RequestLost.result (λ told. node-spares image c.args.by row m h c.args.number c.in-Some.place s s named there.1 refl (λ v old actor has. (has, refl)))
 
 pub returns-in_default-clause-spared : goal.returns-in_default-clause-spared
 returns-in_default-clause-spared g c = λ told. still-spares g.D.Disk.image c.args.by c.args.shared.now.stations.items (Some c.args.machine.now) c.args.shared.now.log.events

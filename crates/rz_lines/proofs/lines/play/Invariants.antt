@@ -1,5 +1,6 @@
-use Rattle.std.proofs.Common.{◌≡◌, ◌≤◌, take, ◌+◌}
+use Rattle.std.proofs.Common.{true, ◌≡◌, ◌≤◌, take, ◌+◌}
 use Rattle.rz_play.specs.Stops.{most_turns}
+use Rattle.rz_lines.specs.Behind.{Before, behind}
 use Rattle.rz_lines.specs.Ends.{Carries}
 use Rattle.rz_play.specs.Free.{PlaysLinesOver}
 use Rattle.rz_lines.proofs.lines.play.Given as goal
@@ -9,8 +10,9 @@ invariant-loop-line g l = record {
   ready : g.S.Stage.is_ready l.stage;
   volume : g.S.Stage.volume l.stage ≡ g.S.Stage.volume l.fn.stage;
   journal : g.S.Stage.journaled l.stage ≡ g.S.Stage.journaled l.fn.stage;
+  exact : g.S.Stage.exact l.stage ≡ g.S.Stage.exact l.fn.stage;
   few : (g.S.Stage.world l.stage).turns ≤ most_turns;
   lost : (g.S.Stage.world l.stage).lost + g.L.Link.lost l.fn.link ≤ (g.S.Stage.world l.fn.stage).lost + g.L.Link.lost l.link;
   held : Carries (g.S.Stage.holds l.fn.stage) (g.S.Stage.holds l.stage);
-  played : PlaysLinesOver (g.S.Stage.volume l.fn.stage) (take l.line-index l.lines) g.S.Stage.tells (g.S.Stage.world l.fn.stage) (g.S.Stage.world l.stage);
+  played : (b : Before) → g.S.Stage.holds l.fn.stage b → g.S.Stage.exact l.fn.stage ≡ true → PlaysLinesOver (g.S.Stage.volume l.fn.stage) (take l.line-index l.lines) g.S.Stage.tells (behind b.log (g.S.Stage.world l.fn.stage)) (behind b.log (g.S.Stage.world l.stage));
 }

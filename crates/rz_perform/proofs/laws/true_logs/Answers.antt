@@ -1,13 +1,14 @@
 use Rattle.std.proofs.Common.{◌≡◌, [], refl, arith}
 use Rattle.rz_node_model.specs.States.{fresh}
 use Rattle.rz_export_model.specs.Export.{new_export}
+use Rattle.rz_play.specs.World.{new_world}
 use Rattle.rz_play.specs.Faults.{missed}
 use Rattle.rz_perform.proofs.Begun.{has_begun}
 use Rattle.rz_perform.proofs.laws.true_logs.Goals as goal
 
 pub returns : goal.returns
 returns c = λ v lines script end lost h ended.
-    let begun = has_begun c.ended.ensures c.stopped.ensures v end lines lost h ended in
+    let begun = has_begun c.ended.ensures c.stopped.ensures v (new_world v) end lines lost h ended in
     let legal = c.legal.ensures v lines script h begun.0 in
     let in_runs = c.one_run.ensures v h legal in
     let losses = c.losses.ensures v lines (λ n. fresh) (new_export v 0) [] h begun.0 in

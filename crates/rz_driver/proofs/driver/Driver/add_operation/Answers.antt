@@ -4,7 +4,9 @@ use Rattle.std.specs.List.{AllByRecursion}
 use Rattle.std.proofs.lemmas.Option.{slice_get_read}
 use Rattle.rz_events.specs.declared.operations.Operation.{Operation}
 use Rattle.rz_operation.specs.Answers.{IsOperation}
+use Rattle.rz_play.specs.World.{World}
 use Rattle.rz_play.specs.Lines.{with_operation}
+use Rattle.rz_lines.specs.Behind.{behind}
 use Rattle.rz_script.specs.declared.line.Line.TheVariants as line
 use Rattle.rz_driver.specs.declared.seat.Seat.{Seat}
 use Rattle.rz_asks.specs.Locking.{lock_of}
@@ -13,8 +15,8 @@ use Rattle.rz_driver.specs.Worlds.{place_of, world, world_of}
 use Rattle.rz_stations.proofs.Rows.{all-at}
 use Rattle.rz_driver.proofs.OrderLemmas.{ordered, still-ready, all-more}
 use Rattle.rz_driver.proofs.ActorOrders.{place-low, operation-fits}
-use Rattle.rz_driver.proofs.DriverPictures.{actor-picture, still-counted, still-right}
-use Rattle.rz_driver.proofs.JournalLemmas.{journal-stays, journal-still}
+use Rattle.rz_driver.proofs.DriverPictures.{actor-picture, works-with, still-counted, still-right}
+use Rattle.rz_driver.proofs.JournalLemmas.{goes-after, journal-stays, journal-still}
 use Rattle.rz_stations.proofs.PictureLemmas.{on-err}
 use Rattle.rz_driver.proofs.driver.Driver.add_operation.Goals as goal
 
@@ -55,25 +57,27 @@ returns-clause-played g c =
     (added s b c.args.op.now (e.todo ∙ ap (λ (o : Operation). s.todo.items ++ o ∷ []) c.in_ok-op.ensures) e.number e.machine e.lock e.miss)
 
 pub returns-clause-held : goal.returns-clause-held
-returns-clause-held g c = λ first met.
+returns-clause-held g c = λ b met.
     let d = c.args.self.now in
     let s = c.index_mut.result.now in
-    let b = c.add.new.self in
+    let seat = c.add.new.self in
     let at : place_of c.args.by ≡ Some c.in-Some.place = sym c.place.ensures ∙ c.in-Some.is in
     let row = place-low c.args.by c.in-Some.place at in
     let count : length d.seats.items ≡ 80 = c.requires.ready.count in
     let low : c.in-Some.place < length d.seats.items = omega (arith, row, count) in
     let here : slice_get d.seats.items c.in-Some.place ≡ Some s = slice_get_read d.seats.items (length d.seats.items) c.in-Some.place s refl low c.index_mut.ensures.value in (
       met.0,
-      actor-picture d c.in-Some.place s b d.turns here c.in_ok-add.ensures.machine (λ rules fine.
-          c.lined.ensures d.volume rules [] (line.Op c.args.by c.args.op.now) c.requires.line (world_of d) (world d.shared (set d.seats.items c.in-Some.place b) d.turns) (returns-clause-played g c) fine) met.1,
-      journal-stays d _ refl refl first met.2 refl,
+      actor-picture d b.log c.in-Some.place s seat d.turns here c.in_ok-add.ensures.machine
+          (λ a. ap (λ (w : World). (w.seats a).work) (returns-clause-played g c) ∙ works-with (world_of d) c.args.by (with_operation ((world_of d).seats c.args.by) c.args.op.now) refl a) (λ rules fine.
+          c.lined.ensures d.volume rules b.log (line.Op c.args.by c.args.op.now) c.requires.line (behind b.log (world_of d)) (behind b.log (world d.shared (set d.seats.items c.in-Some.place seat) d.turns)) (ap (behind b.log) (returns-clause-played g c)) fine) met.1,
+      journal-stays d _ refl refl refl b met.2 refl,
+      goes-after d _ refl b met.3,
     )
 
 pub returns-in_err-add-clause-left : goal.returns-in_err-add-clause-left
-returns-in_err-add-clause-left g c = on-err c.from_residual-in_err-add.result (λ first met.
+returns-in_err-add-clause-left g c = on-err c.from_residual-in_err-add.result (λ b met.
     let d = c.args.self.now in
-    inr (still-counted d d refl d.shared.log.events refl first met, still-right d d refl d.shared.log.events refl first met, journal-still d _ refl refl first met.2 refl))
+    inr (still-counted d d refl d.shared.log.events refl b met, still-right d d refl d.shared.log.events refl b met, journal-still d _ refl refl refl b met.2 refl, goes-after d _ refl b met.3))
 
 pub returns-in_err-op-clause-left : goal.returns-in_err-op-clause-left
-returns-in_err-op-clause-left g c = on-err c.from_residual.result (λ first held. inl held)
+returns-in_err-op-clause-left g c = on-err c.from_residual.result (λ b held. inl held)

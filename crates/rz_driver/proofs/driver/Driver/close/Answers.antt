@@ -1,4 +1,4 @@
-use Rattle.std.proofs.Common.{◌≡◌, List, length, ◌<◌, ◌-◌, ◌^◌, map, sym, ◌∙◌, ap, subst}
+use Rattle.std.proofs.Common.{◌≡◌, List, ◌++◌, length, ◌+◌, ◌≤◌, ◌^◌, map, sym, ◌∙◌, ap, subst}
 use Rattle.std.proofs.lemmas.List.{append-nil}
 use Rattle.rz_disk.specs.UnderFuse.{UnderFuse, fused_meter}
 use Rattle.rz_events.specs.Volume.{Volume, nodes_of}
@@ -20,11 +20,11 @@ pub returns-clause-disks : goal.returns-clause-disks
 returns-clause-disks g c = c.hand_back_with.ensures ∙ append-nil (disks_of c.args.self.shared.stations.items)
 
 pub returns-clause-counted : goal.returns-clause-counted
-returns-clause-counted g c = λ first left.
+returns-clause-counted g c = λ b left.
     let d = c.args.self in
     let row = d.shared.stations.items in
-    subst (λ (ds : List g.row.D.Denot). AreDisksCounted g.D.Disk.meter first 0 (numbers_in d) ds d.shared.log.events) (sym (returns-clause-disks g c))
-    (counted-disks g.D.Disk.meter first (numbers_in d) row d.shared.log.events (leaves-counted d first left))
+    subst (λ (ds : List g.row.D.Denot). AreDisksCounted g.D.Disk.meter b.counts 0 (numbers_in d) ds d.shared.log.events) (sym (returns-clause-disks g c))
+    (counted-disks g.D.Disk.meter b.counts (numbers_in d) row d.shared.log.events (leaves-counted d b left))
 
 pub returns-clause-asked : goal.returns-clause-asked
 returns-clause-asked g c = λ h first met.
@@ -34,22 +34,22 @@ returns-clause-asked g c = λ h first met.
     (counted-disks g.D.Disk.meter first (numbers_in d) row h (metered-counts (fused_meter g.D.Disk.meter) first (numbers_in d) row h met))
 
 pub returns-clause-since : goal.returns-clause-since
-returns-clause-since g c = λ first (d, left, asked) told.
+returns-clause-since g c = λ b (d, left, asked) told.
     let e = c.args.self in
     let row = e.shared.stations.items in
-    let h = d.shared.log.events in
+    let h = d.shared.log.events ++ b.log in
     let image = g.D.Disk.image in
-    let same : e.shared.log.events ≡ h = ap (λ (s : Shared (UnderFuse g.row.D.Denot) g.row.D.Denot). s.log.events) asked.shared in
-    let few = subst (λ (k : List Event). length k < 2 ^ 64 - 1) same (has-few e.shared.log.events c.close-log.result c.close-log.ensures) in
-    let before = left-imaged d first c.logged.ensures left told few in
+    let same : e.shared.log.events ≡ d.shared.log.events = ap (λ (s : Shared (UnderFuse g.row.D.Denot) g.row.D.Denot). s.log.events) asked.shared in
+    let few = has-few d b left (subst (λ (k : List Event). length k ≤ 2 ^ 62 + 2) same c.close-log.ensures.short) in
+    let before = left-imaged d b c.logged.ensures left told few in
     let after = disks-since (fused_text g.D.Disk.text) image d.volume h (numbers_in d) d.shared.stations.items row asked.nodes before in
     let here = subst (λ (v : Volume). AreDisksImaged image v (map (λ (n : NodeSpec). n.sid) (nodes_of v.clusters)) (disks_of row) h) (sym asked.volume) after in
-    let now = subst (λ (k : List Event). AreDisksImaged image e.volume (numbers_in e) (disks_of row) k) (sym same) here in
-    subst (λ (ds : List g.row.D.Denot). AreDisksImaged image e.volume (numbers_in e) ds e.shared.log.events) (sym (returns-clause-disks g c)) now
+    let now = subst (λ (k : List Event). AreDisksImaged image e.volume (numbers_in e) (disks_of row) (k ++ b.log)) (sym same) here in
+    subst (λ (ds : List g.row.D.Denot). AreDisksImaged image e.volume (numbers_in e) ds (e.shared.log.events ++ b.log)) (sym (returns-clause-disks g c)) now
 
 pub returns-clause-imaged : goal.returns-clause-imaged
-returns-clause-imaged g c = λ first left told.
+returns-clause-imaged g c = λ b left told.
     let d = c.args.self in
-    let h = d.shared.log.events in
+    let h = d.shared.log.events ++ b.log in
     subst (λ (ds : List g.row.D.Denot). AreDisksImaged g.D.Disk.image d.volume (numbers_in d) ds h) (sym (returns-clause-disks g c))
-    (left-imaged d first c.logged.ensures left told (has-few h c.close-log.result c.close-log.ensures))
+    (left-imaged d b c.logged.ensures left told (has-few d b left c.close-log.ensures.short))

@@ -6,8 +6,8 @@ use Rattle.rz_formatting.proofs.FormatLemmas.{untouched}
 use Rattle.rz_stations.specs.Meters.{faults_at}
 use Rattle.rz_driver.specs.declared.driver.Driver.{Driver}
 use Rattle.rz_driver.specs.Formatted.{AreBackWithJournal, IsBehindJournal, IsJournalRefused}
-use Rattle.rz_driver.specs.Worlds.{Holds}
-use Rattle.rz_driver.proofs.BehindJournal.{back-count, behind-holds, behind-made, behind-ready, behind-world, back-with, cause-with, front-count, has-last, refused-back, refused-cause}
+use Rattle.rz_driver.specs.Worlds.{anew, Holds}
+use Rattle.rz_driver.proofs.BehindJournal.{back-count, behind-exact, behind-holds, behind-made, behind-ready, behind-world, back-with, cause-with, front-count, has-last, refused-back, refused-cause}
 use Rattle.rz_driver.proofs.MadeLemmas.{as-many}
 use Rattle.rz_driver.proofs.driver.Driver.first.Goals as goal
 
@@ -28,6 +28,11 @@ pub returns-in-Ok-new-clause-ready : goal.returns-in-Ok-new-clause-ready
 returns-in-Ok-new-clause-ready g c =
     let d = c.in-Ok-new.driver in
     IfOk-weaker c.behind_journal.result (λ e. IsBehindJournal c.in-Ok.journal d e) _ (λ e behind. behind-ready c.in-Ok.journal d e behind c.in-Ok-new.ensures.ready) c.behind_journal.ensures.behind
+
+pub returns-in-Ok-new-clause-exact : goal.returns-in-Ok-new-clause-exact
+returns-in-Ok-new-clause-exact g c =
+    let d = c.in-Ok-new.driver in
+    IfOk-weaker c.behind_journal.result (λ e. IsBehindJournal c.in-Ok.journal d e) _ (λ e behind. behind-exact c.in-Ok.journal d e behind c.in-Ok-new.ensures.exact) c.behind_journal.ensures.behind
 
 pub returns-in-Ok-new-clause-volume : goal.returns-in-Ok-new-clause-volume
 returns-in-Ok-new-clause-volume g c =
@@ -66,8 +71,8 @@ returns-in-Ok-new-clause-held g c =
     let nodes = c.in-Ok.nodes.items in
     let journal = c.in-Ok.journal in
     let count = front-count c.args.disks.items nodes journal (length (nodes_of v.clusters)) c.in-Ok.ensures.split c.requires.count in
-    IfOk-weaker c.behind_journal.result (λ e. IsBehindJournal journal d e) (λ e. Holds e (faults_at g.D.Disk.meter c.args.disks.items))
-    (λ e behind. subst (λ (disks : List g.row.D.Denot). Holds e (faults_at g.D.Disk.meter disks)) (sym c.in-Ok.ensures.split)
+    IfOk-weaker c.behind_journal.result (λ e. IsBehindJournal journal d e) (λ e. Holds e (anew (faults_at g.D.Disk.meter c.args.disks.items)))
+    (λ e behind. subst (λ (disks : List g.row.D.Denot). Holds e (anew (faults_at g.D.Disk.meter disks))) (sym c.in-Ok.ensures.split)
     (behind-holds journal d e behind v c.in-Ok-new.ensures.volume c.in-Ok-new.ensures.world nodes count c.in-Ok-new.ensures.held))
     c.behind_journal.ensures.behind
 

@@ -4,14 +4,14 @@ use Rattle.std.proofs.lemmas.Result.{on_ok_weaker}
 use Rattle.rz_events.specs.declared.events.Event.TheVariants as e
 use Rattle.rz_stations.specs.Administration.{IsArming}
 use Rattle.rz_disk.specs.UnderFuse.{fused_meter}
-use Rattle.rz_lines.specs.Ends.{Carries}
+use Rattle.rz_lines.specs.Behind.{behind}
 use Rattle.rz_play.specs.World.{World}
 use Rattle.rz_script.specs.declared.line.Line.TheVariants as line
-use Rattle.rz_stations.specs.Meters.{AreMetered, AreCounted}
+use Rattle.rz_stations.specs.Meters.{AreMetered, AreCounted, CarriesCounts}
 use Rattle.rz_stations.specs.Images.{KeepsRow, SparesRow, fused_image}
-use Rattle.rz_driver.specs.Worlds.{world, world_of}
+use Rattle.rz_driver.specs.Worlds.{world, world_of, exact_if}
 use Rattle.rz_driver.proofs.DriverPictures.{order-holds, order-leaves}
-use Rattle.rz_driver.proofs.JournalLemmas.{journal-stays, journal-still, arming-stays}
+use Rattle.rz_driver.proofs.JournalLemmas.{goes-after, journal-stays, journal-still, arming-stays}
 use Rattle.rz_stations.proofs.PictureLemmas.{three-ok, three-err}
 use Rattle.rz_driver.proofs.NodeOrders.{arming-in, armed-ready, armed-world}
 use Rattle.rz_driver.proofs.driver.Driver.order_break.Goals as goal
@@ -45,12 +45,12 @@ returns-clause-held g c =
     let h' = c.arm_node.new.log.events in
     let next : World = world (record d.shared { stations = with_items d.shared.stations ys; log = c.arm_node.new.log }) d.seats.items d.turns in
     three-ok c.arm_node.result
-    (λ (holds : (numbers : List ℕ) → Carries (AreMetered meter numbers xs h) (AreMetered meter numbers ys h')) (keeps : IsTrue g.D.Disk.tells → KeepsRow image xs h ys h') (armed : next ≡ record (world_of d) { log = e.Armed c.args.sid c.args.passes c.args.pick ∷ h }).
-    λ first held.
+    (λ (holds : (numbers : List ℕ) → CarriesCounts (AreMetered meter numbers xs h) (AreMetered meter numbers ys h')) (keeps : IsTrue g.D.Disk.tells → KeepsRow image xs h ys h') (armed : next ≡ record (world_of d) { log = e.Armed c.args.sid c.args.passes c.args.pick ∷ h }).
+    λ b held.
     let log = ap (λ (w : World). w.log) armed in
-    let o = order-holds d xs ys c.as_mut_slice.ensures.value c.lasting.ensures next (e.Armed c.args.sid c.args.passes c.args.pick ∷ [], log) keeps
-    (λ told rules fine. c.lined.ensures d.volume rules [] (line.Break c.args.sid c.args.passes c.args.pick) c.requires.line (world_of d) next armed fine) holds first held in
-    (o.0, o.1, journal-stays d _ refl refl first held.2 (arming-stays c.args.sid c.args.passes c.args.pick h h' log)))
+    let o = order-holds d xs ys c.as_mut_slice.ensures.value b held c.lasting.ensures next refl (e.Armed c.args.sid c.args.passes c.args.pick ∷ [], log) keeps
+    (λ told rules fine. c.lined.ensures d.volume rules b.log (line.Break c.args.sid c.args.passes c.args.pick) c.requires.line (behind b.log (world_of d)) (behind b.log next) (ap (behind b.log) armed) fine) holds in
+    (o.0, o.1, journal-stays d _ refl c.arm_node.ensures.earlier refl b held.2 (arming-stays c.args.sid c.args.passes c.args.pick h h' log), goes-after d _ c.arm_node.ensures.earlier b held.3))
     c.arm_node.ensures.held c.arm_node.ensures.pictured (returns-clause-armed g c)
 
 pub returns-clause-left : goal.returns-clause-left
@@ -63,7 +63,10 @@ returns-clause-left g c =
     let h = d.shared.log.events in
     let h' = c.arm_node.new.log.events in
     three-err c.arm_node.result
-    (λ (leaves : (numbers : List ℕ) → Carries (AreMetered meter numbers xs h) (AreCounted meter numbers ys h')) (spares : IsTrue g.D.Disk.tells → SparesRow image xs h ys) (still : h' ≡ h). λ first held.
-    let o = order-leaves d xs ys c.as_mut_slice.ensures.value h' still spares leaves first held in
-    inr (o.0, o.1, journal-still d _ refl refl first held.2 still))
+    (λ (leaves : (numbers : List ℕ) → CarriesCounts (AreMetered meter numbers xs h) (AreCounted meter numbers ys h')) (spares : IsTrue g.D.Disk.tells → SparesRow image xs h ys) (still : h' ≡ h). λ b held.
+    let o = order-leaves d xs ys c.as_mut_slice.ensures.value b held h' still spares leaves in
+    inr (o.0, o.1, journal-still d _ refl c.arm_node.ensures.earlier refl b held.2 still, goes-after d _ c.arm_node.ensures.earlier b held.3))
     c.arm_node.ensures.left c.arm_node.ensures.spared c.arm_node.ensures.err
+
+pub returns-clause-exact : goal.returns-clause-exact
+returns-clause-exact g c = ap (exact_if g.D.Disk.tells) c.arm_node.ensures.earlier

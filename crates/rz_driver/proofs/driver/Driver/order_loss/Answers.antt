@@ -1,20 +1,20 @@
-use Rattle.std.proofs.Common.{◌≡◌, IsTrue, refl, ap, ℕ, List, [], inr}
+use Rattle.std.proofs.Common.{◌≡◌, IsTrue, refl, ap, ℕ, List, inr}
 use Rattle.std.specs.Vec.{with_items}
 use Rattle.std.proofs.lemmas.Result.{on_ok_weaker}
 use Rattle.rz_events.specs.declared.nodes.NodeAsk.TheVariants as ask
 use Rattle.rz_stations.specs.Administration.{IsOrdered}
 use Rattle.rz_disk.specs.UnderFuse.{fused_meter}
-use Rattle.rz_lines.specs.Ends.{Carries}
+use Rattle.rz_lines.specs.Behind.{behind}
 use Rattle.rz_play.specs.Lines.{IsAdminCall}
 use Rattle.rz_play.specs.World.{World}
 use Rattle.rz_script.specs.declared.line.Line.TheVariants as line
-use Rattle.rz_stations.specs.Meters.{AreMetered, AreCounted}
+use Rattle.rz_stations.specs.Meters.{AreMetered, AreCounted, CarriesCounts}
 use Rattle.rz_stations.specs.Images.{KeepsRow, SparesRow, fused_image}
-use Rattle.rz_driver.specs.Worlds.{world, world_of}
+use Rattle.rz_driver.specs.Worlds.{world, world_of, exact_if}
 use Rattle.rz_driver.proofs.DriverPictures.{order-holds, order-leaves}
-use Rattle.rz_driver.proofs.JournalLemmas.{journal-stays, journal-still, order-stays}
+use Rattle.rz_driver.proofs.JournalLemmas.{goes-after, journal-stays, journal-still, order-stays}
 use Rattle.rz_stations.proofs.PictureLemmas.{noted-grows, three-ok, three-err}
-use Rattle.rz_driver.proofs.NodeOrders.{called-of, ordered-in, called-ready, admin-call}
+use Rattle.rz_driver.proofs.NodeOrders.{admin-behind, called-of, ordered-in, called-ready, admin-call}
 use Rattle.rz_driver.proofs.driver.Driver.order_loss.Goals as goal
 
 pub returns-clause-ready : goal.returns-clause-ready
@@ -46,12 +46,12 @@ returns-clause-held g c =
     let h' = c.lose_node.new.log.events in
     let next : World = world (record d.shared { stations = with_items d.shared.stations ys; log = c.lose_node.new.log }) d.seats.items d.turns in
     three-ok c.lose_node.result
-    (λ (holds : (numbers : List ℕ) → Carries (AreMetered meter numbers xs h) (AreMetered meter numbers ys h')) (keeps : IsTrue g.D.Disk.tells → KeepsRow image xs h ys h') (called : IsAdminCall d.volume c.args.sid ask.Lose (world_of d) next).
-    λ first held.
+    (λ (holds : (numbers : List ℕ) → CarriesCounts (AreMetered meter numbers xs h) (AreMetered meter numbers ys h')) (keeps : IsTrue g.D.Disk.tells → KeepsRow image xs h ys h') (called : IsAdminCall d.volume c.args.sid ask.Lose (world_of d) next).
+    λ b held.
     let log = ap (λ (w : World). w.log) called.next_is in
-    let o = order-holds d xs ys c.as_mut_slice.ensures.value c.lasting.ensures next (noted-grows _ h h' log) keeps
-    (λ told rules fine. c.lined.ensures d.volume rules [] (line.Lose c.args.sid) c.requires.line (world_of d) next called fine) holds first held in
-    (o.0, o.1, journal-stays d _ refl refl first held.2 (order-stays c.args.sid ask.Lose called.given h h' log)))
+    let o = order-holds d xs ys c.as_mut_slice.ensures.value b held c.lasting.ensures next refl (noted-grows _ h h' log) keeps
+    (λ told rules fine. c.lined.ensures d.volume rules b.log (line.Lose c.args.sid) c.requires.line (behind b.log (world_of d)) (behind b.log next) (admin-behind b.log d.volume c.args.sid ask.Lose (world_of d) next called) fine) holds in
+    (o.0, o.1, journal-stays d _ refl c.lose_node.ensures.earlier refl b held.2 (order-stays c.args.sid ask.Lose called.given h h' log), goes-after d _ c.lose_node.ensures.earlier b held.3))
     c.lose_node.ensures.held c.lose_node.ensures.pictured (returns-clause-called g c)
 
 pub returns-clause-left : goal.returns-clause-left
@@ -64,7 +64,10 @@ returns-clause-left g c =
     let h = d.shared.log.events in
     let h' = c.lose_node.new.log.events in
     three-err c.lose_node.result
-    (λ (leaves : (numbers : List ℕ) → Carries (AreMetered meter numbers xs h) (AreCounted meter numbers ys h')) (spares : IsTrue g.D.Disk.tells → SparesRow image xs h ys) (still : h' ≡ h). λ first held.
-    let o = order-leaves d xs ys c.as_mut_slice.ensures.value h' still spares leaves first held in
-    inr (o.0, o.1, journal-still d _ refl refl first held.2 still))
+    (λ (leaves : (numbers : List ℕ) → CarriesCounts (AreMetered meter numbers xs h) (AreCounted meter numbers ys h')) (spares : IsTrue g.D.Disk.tells → SparesRow image xs h ys) (still : h' ≡ h). λ b held.
+    let o = order-leaves d xs ys c.as_mut_slice.ensures.value b held h' still spares leaves in
+    inr (o.0, o.1, journal-still d _ refl c.lose_node.ensures.earlier refl b held.2 still, goes-after d _ c.lose_node.ensures.earlier b held.3))
     c.lose_node.ensures.left c.lose_node.ensures.spared c.lose_node.ensures.err
+
+pub returns-clause-exact : goal.returns-clause-exact
+returns-clause-exact g c = ap (exact_if g.D.Disk.tells) c.lose_node.ensures.earlier

@@ -1,19 +1,19 @@
-use Rattle.std.proofs.Common.{◌≡◌, IsTrue, refl, ℕ, List, [], inr}
+use Rattle.std.proofs.Common.{◌≡◌, IsTrue, refl, ap, ℕ, List, inr}
 use Rattle.std.specs.Vec.{with_items}
 use Rattle.std.proofs.lemmas.Result.{on_ok_weaker}
 use Rattle.rz_events.specs.declared.nodes.NodeAsk.TheVariants as ask
 use Rattle.rz_stations.specs.Administration.{IsOrdered, IsStarted, IsCalledAt}
 use Rattle.rz_disk.specs.UnderFuse.{fused_meter}
-use Rattle.rz_lines.specs.Ends.{Carries}
+use Rattle.rz_lines.specs.Behind.{behind}
 use Rattle.rz_play.specs.World.{World}
 use Rattle.rz_script.specs.declared.line.Line.TheVariants as line
-use Rattle.rz_stations.specs.Meters.{AreMetered, AreCounted}
+use Rattle.rz_stations.specs.Meters.{AreMetered, AreCounted, CarriesCounts}
 use Rattle.rz_stations.specs.Images.{KeepsRow, SparesRow, fused_image}
-use Rattle.rz_driver.specs.Worlds.{world, world_of}
+use Rattle.rz_driver.specs.Worlds.{world, world_of, exact_if}
 use Rattle.rz_driver.proofs.DriverPictures.{order-holds, order-leaves}
-use Rattle.rz_driver.proofs.JournalLemmas.{journal-stays, journal-still, started-stays}
+use Rattle.rz_driver.proofs.JournalLemmas.{goes-after, journal-stays, journal-still, started-stays}
 use Rattle.rz_stations.proofs.PictureLemmas.{both-ok, noted-grows, three-ok, three-err}
-use Rattle.rz_driver.proofs.NodeOrders.{ordered-in, started-in, called-in, called-ready, admin-call, free-start, start-over}
+use Rattle.rz_driver.proofs.NodeOrders.{admin-behind, ordered-in, started-in, called-in, called-ready, admin-call, free-start, start-over}
 use Rattle.rz_driver.proofs.driver.Driver.order_start.Goals as goal
 
 pub returns-clause-ready : goal.returns-clause-ready
@@ -51,13 +51,13 @@ returns-clause-held g c =
     let next : World = world q d.seats.items d.turns in
     let orders = both-ok c.start_node.result (λ (o : IsTrue g.D.Disk.tells → IsOrdered ask.Start c.args.sid xs ys h h') (free : IsStarted c.args.sid xs ys h h'). (o, free)) c.start_node.ensures.ok c.start_node.ensures.started in
     three-ok c.start_node.result
-    (λ (holds : (numbers : List ℕ) → Carries (AreMetered meter numbers xs h) (AreMetered meter numbers ys h')) (keeps : IsTrue g.D.Disk.tells → KeepsRow image xs h ys h')
+    (λ (holds : (numbers : List ℕ) → CarriesCounts (AreMetered meter numbers xs h) (AreMetered meter numbers ys h')) (keeps : IsTrue g.D.Disk.tells → KeepsRow image xs h ys h')
     (orders : (IsTrue g.D.Disk.tells → IsOrdered ask.Start c.args.sid xs ys h h') × IsStarted c.args.sid xs ys h h').
-    λ first held.
-    let o = order-holds d xs ys c.as_mut_slice.ensures.value c.lasting.ensures next (noted-grows orders.1.event h h' orders.1.log_is) keeps
-    (λ told rules fine. c.lined.ensures d.volume rules [] (line.Start c.args.sid) c.requires.line (world_of d) next
-    (admin-call d c.requires.ready q refl refl ask.Start c.args.sid (ordered-in ask.Start c.args.sid d.shared.stations xs ys h h' c.as_mut_slice.ensures.value (orders.0 told))) fine) holds first held in
-    (o.0, o.1, journal-stays d _ refl refl first held.2 (started-stays c.args.sid xs ys h h' orders.1)))
+    λ b held.
+    let o = order-holds d xs ys c.as_mut_slice.ensures.value b held c.lasting.ensures next refl (noted-grows orders.1.event h h' orders.1.log_is) keeps
+    (λ told rules fine. c.lined.ensures d.volume rules b.log (line.Start c.args.sid) c.requires.line (behind b.log (world_of d)) (behind b.log next)
+    (admin-behind b.log d.volume c.args.sid ask.Start (world_of d) next (admin-call d c.requires.ready q refl refl ask.Start c.args.sid (ordered-in ask.Start c.args.sid d.shared.stations xs ys h h' c.as_mut_slice.ensures.value (orders.0 told)))) fine) holds in
+    (o.0, o.1, journal-stays d _ refl c.start_node.ensures.earlier refl b held.2 (started-stays c.args.sid xs ys h h' orders.1), goes-after d _ c.start_node.ensures.earlier b held.3))
     c.start_node.ensures.held c.start_node.ensures.pictured orders
 
 pub returns-clause-left : goal.returns-clause-left
@@ -70,7 +70,10 @@ returns-clause-left g c =
     let h = d.shared.log.events in
     let h' = c.start_node.new.log.events in
     three-err c.start_node.result
-    (λ (leaves : (numbers : List ℕ) → Carries (AreMetered meter numbers xs h) (AreCounted meter numbers ys h')) (spares : IsTrue g.D.Disk.tells → SparesRow image xs h ys) (still : h' ≡ h). λ first held.
-    let o = order-leaves d xs ys c.as_mut_slice.ensures.value h' still spares leaves first held in
-    inr (o.0, o.1, journal-still d _ refl refl first held.2 still))
+    (λ (leaves : (numbers : List ℕ) → CarriesCounts (AreMetered meter numbers xs h) (AreCounted meter numbers ys h')) (spares : IsTrue g.D.Disk.tells → SparesRow image xs h ys) (still : h' ≡ h). λ b held.
+    let o = order-leaves d xs ys c.as_mut_slice.ensures.value b held h' still spares leaves in
+    inr (o.0, o.1, journal-still d _ refl c.start_node.ensures.earlier refl b held.2 still, goes-after d _ c.start_node.ensures.earlier b held.3))
     c.start_node.ensures.left c.start_node.ensures.spared c.start_node.ensures.err
+
+pub returns-clause-exact : goal.returns-clause-exact
+returns-clause-exact g c = ap (exact_if g.D.Disk.tells) c.start_node.ensures.earlier

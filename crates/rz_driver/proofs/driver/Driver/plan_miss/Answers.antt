@@ -1,15 +1,17 @@
-use Rattle.std.proofs.Common.{◌≡◌, ◌<◌, [], length, set, Some, refl, sym, ◌∙◌, arith}
+use Rattle.std.proofs.Common.{◌≡◌, ◌<◌, length, set, Some, refl, sym, ◌∙◌, ap, arith}
 use Rattle.std.specs.Prelude.{slice_get}
 use Rattle.std.proofs.lemmas.Option.{slice_get_read}
+use Rattle.rz_play.specs.World.{World}
 use Rattle.rz_play.specs.Lines.{with_miss}
+use Rattle.rz_lines.specs.Behind.{behind}
 use Rattle.rz_script.specs.declared.line.Line.TheVariants as line
 use Rattle.rz_driver.specs.Seats.{IsSeat}
 use Rattle.rz_driver.specs.Worlds.{place_of, world, world_of}
 use Rattle.rz_stations.proofs.Rows.{all-at}
 use Rattle.rz_driver.proofs.OrderLemmas.{ordered, still-ready}
 use Rattle.rz_driver.proofs.ActorOrders.{place-low}
-use Rattle.rz_driver.proofs.DriverPictures.{actor-picture}
-use Rattle.rz_driver.proofs.JournalLemmas.{journal-stays}
+use Rattle.rz_driver.proofs.DriverPictures.{actor-picture, works-with}
+use Rattle.rz_driver.proofs.JournalLemmas.{goes-after, journal-stays}
 use Rattle.rz_driver.proofs.driver.Driver.plan_miss.Goals as goal
 
 pub returns-in-Some-clause-ready : goal.returns-in-Some-clause-ready
@@ -37,17 +39,19 @@ returns-in-Some-clause-played g c =
     ordered d.shared d.seats.items d.turns c.args.by c.in-Some.place s (record s { miss = Some c.args.reply }) (λ x. with_miss x c.args.reply) at low here refl
 
 pub returns-in-Some-clause-held : goal.returns-in-Some-clause-held
-returns-in-Some-clause-held g c = λ first met.
+returns-in-Some-clause-held g c = λ b met.
     let d = c.args.self.now in
     let s = c.index_mut.result.now in
-    let b = record s { miss = Some c.args.reply } in
+    let seat = record s { miss = Some c.args.reply } in
     let at : place_of c.args.by ≡ Some c.in-Some.place = sym c.place.ensures ∙ c.in-Some.is in
     let row = place-low c.args.by c.in-Some.place at in
     let count : length d.seats.items ≡ 80 = c.requires.ready.count in
     let low : c.in-Some.place < length d.seats.items = omega (arith, row, count) in
     let here : slice_get d.seats.items c.in-Some.place ≡ Some s = slice_get_read d.seats.items (length d.seats.items) c.in-Some.place s refl low c.index_mut.ensures.value in (
       met.0,
-      actor-picture d c.in-Some.place s b d.turns here refl (λ rules fine.
-          c.lined.ensures d.volume rules [] (line.Miss c.args.by c.args.reply) c.requires.line (world_of d) (world d.shared (set d.seats.items c.in-Some.place b) d.turns) (returns-in-Some-clause-played g c) fine) met.1,
-      journal-stays d _ refl refl first met.2 refl,
+      actor-picture d b.log c.in-Some.place s seat d.turns here refl
+          (λ a. ap (λ (w : World). (w.seats a).work) (returns-in-Some-clause-played g c) ∙ works-with (world_of d) c.args.by (with_miss ((world_of d).seats c.args.by) c.args.reply) refl a) (λ rules fine.
+          c.lined.ensures d.volume rules b.log (line.Miss c.args.by c.args.reply) c.requires.line (behind b.log (world_of d)) (behind b.log (world d.shared (set d.seats.items c.in-Some.place seat) d.turns)) (ap (behind b.log) (returns-in-Some-clause-played g c)) fine) met.1,
+      journal-stays d _ refl refl refl b met.2 refl,
+      goes-after d _ refl b met.3,
     )

@@ -1,0 +1,5 @@
+pub mod Calls
+pub mod Restarts
+pub mod Lists
+pub mod Founds
+pub mod GoesOn

@@ -1,0 +1,5 @@
+use Rattle.rz_continuation.proofs.GoesOn as laws
+use Rattle.rz_continuation.proofs.afterwards.Goals as goal
+
+pub returns : goal.returns
+returns c = λ v. laws.afterwards v (c.facts_told.ensures v) (c.next_run.ensures v) (c.sound.ensures v) (c.rebuilt.ensures v)

@@ -1,0 +1,4 @@
+pub mod Earlier
+pub mod Calls
+pub mod Found
+pub mod Laws

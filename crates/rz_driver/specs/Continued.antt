@@ -1,0 +1,130 @@
+-- A driver that goes on over the disks which earlier runs left.
+use Rattle.std.specs.Prelude.{ℕ, ◌≡◌, ◌≢◌, ◌⊎◌, Bool, true, IsTrue, List, [], ◌∷◌, ◌++◌, map, length, option_to_list}
+use Rattle.std.specs.List.{AllByRecursion}
+use Rattle.std.specs.FinMap as maps
+use Rattle.mj_angles.specs.Layout.{max_bins_of}
+use Rattle.rz_disk.specs.Meter.{Meter, Rises, faults}
+use Rattle.rz_disk.specs.declared.disk.Disk.{Ghosts}
+use Rattle.rz_events.specs.Volume.{Volume, nodes_of}
+use Rattle.rz_events.specs.declared.files.NodeSpec.{NodeSpec}
+use Rattle.rz_events.specs.declared.export.Call.{Call}
+use Rattle.rz_events.specs.declared.events.Event.{Event}
+use Rattle.rz_core.specs.History.{facts}
+use Rattle.rz_export_model.specs.Export.{Export}
+use Rattle.rz_journal.specs.Opening.{IsRefused}
+use Rattle.rz_journal.specs.declared.rebuilding.JournalFault.{JournalFault}
+use Rattle.rz_journal.specs.declared.rebuilding.JournalFault.TheVariants as fault
+use Rattle.rz_metadata.specs.declared.metadata.Metadata.{Metadata}
+use Rattle.rz_metadata.specs.Enrolled.{loss_of}
+use Rattle.rz_metadata.specs.Reopened.{MakesExport, number_of}
+use Rattle.rz_metadata.specs.Stands.{disk_of, export_in}
+use Rattle.rz_opening.specs.declared.refusal.OpenRefusal.{OpenRefusal}
+use Rattle.rz_opening.specs.declared.refusal.OpenRefusal.TheVariants as refusal
+use Rattle.rz_opening.specs.Opened.{AreKept, AreOpened, IsCause}
+use Rattle.rz_continuation.specs.Calls.{HasLength}
+use Rattle.rz_play.specs.World.{world_after}
+use Rattle.rz_asks.specs.Journals.{AreCallsOf}
+use Rattle.rz_stations.specs.Images.{AreDisksImaged}
+use Rattle.rz_stations.specs.Stations.{state_in}
+use Rattle.rz_driver.specs.declared.driver.Driver.{Driver}
+use Rattle.rz_driver.specs.Endings.{StandFor}
+use Rattle.rz_driver.specs.Seats.{IsEmptySeat}
+use Rattle.rz_driver.specs.Worlds.{world_of}
+
+-- What earlier runs left.
+
+-- each image stands for the calls that the log tells, each publish with the length of its text
+pub record StandsInLength (image : List ℕ → Type 0) (v : Volume) (h : List Event) : Type 0 where
+  pub calls : List Call
+  pub told : AreCallsOf h calls
+  pub lengths : AllByRecursion (HasLength (facts h)) calls
+  pub images : StandFor image v calls
+
+-- the disks of the nodes, in their order, and a journal's behind them, as earlier runs with this log left them
+pub record AreLeft {D : Type 0} (image : D → List ℕ → Type 0) (v : Volume) (h : List Event) (disks : List D) : Type 0 where
+  pub nodes : List D
+  pub journal : D
+  pub disks_are : disks ≡ nodes ++ journal ∷ []
+  pub each : AreDisksImaged image v (map (λ (n : NodeSpec). n.sid) (nodes_of v.clusters)) nodes h
+  pub last : StandsInLength (image journal) v h
+
+-- What was opened.
+
+-- the loss of each node that the export enrolled last, or 0
+abbrev pub losses_of : Export → Volume → List ℕ
+losses_of export v = map (λ (n : NodeSpec). loss_of export n.sid) (nodes_of v.clusters)
+
+-- Nodes were opened on their disks, each as one that lost what this export says; the actors have nothing to do, nothing is
+-- locked and nothing was played, after earlier runs.
+pub record IsOpenedOver {D : Type 0} {G : Ghosts D} (v : Volume) (export : Metadata D) (nodes : List D) (d : Driver D G) : Type 0 where
+  pub volume : d.volume ≡ v
+  pub export_is : d.shared.export ≡ export
+  pub made : AreOpened G.tells G.meter G.text G.image v.layout (nodes_of v.clusters) (losses_of (export_in export) v) nodes d.shared.stations.items
+  pub seats : AllByRecursion IsEmptySeat d.seats.items
+  pub count : length d.seats.items ≡ 80
+  pub bins : length d.shared.bins.items ≡ max_bins_of v.layout
+  pub locks : d.shared.locks ≡ maps.empty
+  pub turns : d.turns ≡ 0
+  pub lost : d.shared.lost ≡ 0
+  pub events : d.shared.log.events ≡ []
+  pub earlier : d.shared.log.earlier ≡ true
+
+-- A driver was opened on these disks: its export is the one that the entries of the journal make, and its nodes hold what
+-- their disks stand for, each as one that lost what the export enrolled last. Nothing was played.
+pub record IsOpenedAgain {D : Type 0} {G : Ghosts D} (v : Volume) (disks : List D) (d : Driver D G) : Type 0 where
+  pub nodes : List D
+  pub journal : D
+  pub disks_are : disks ≡ nodes ++ journal ∷ []
+  pub export : IsTrue G.tells → MakesExport v (G.text journal) (export_in d.shared.export)
+  pub made : AreOpened G.tells G.meter G.text G.image v.layout (nodes_of v.clusters) (losses_of (export_in d.shared.export) v) nodes d.shared.stations.items
+  pub world : world_of d ≡ world_after (state_in d.shared.stations.items) (export_in d.shared.export) []
+
+-- What was refused.
+
+-- the journal was not opened, for the fault of this number
+pub record IsJournalUnopened {D : Type 0} (tells : Bool) (meter : D → Meter) (text : D → List ℕ) (v : Volume) (disk back : D) (cause : ℕ) : Type 0 where
+  pub why : JournalFault
+  pub not_memory : why ≢ fault.NoMemory
+  pub cause_is : cause ≡ number_of why
+  pub refused : IsRefused tells v (text disk) why
+  pub risen : why ≡ fault.DiskFault → Rises (faults (meter disk)) (faults (meter back))
+
+-- what ended the opening of a journal whose disk has this index
+abbrev pub IsJournalCause : {D : Type 0} → Bool → (D → Meter) → (D → List ℕ) → Volume → (index : ℕ) → (disk back : D) → OpenRefusal → Type 0
+IsJournalCause tells meter text v place disk back refusal.NoMemory = Unit {0}
+IsJournalCause tells meter text v place disk back (refusal.Open index cause) = (index ≡ place) × IsJournalUnopened tells meter text v disk back cause
+
+abbrev pub journal_refusal : JournalFault → ℕ → OpenRefusal
+journal_refusal fault.NoMemory index = refusal.NoMemory
+journal_refusal (fault.WrongSize have need) index = refusal.Open index 1
+journal_refusal fault.DiskFault index = refusal.Open index 2
+journal_refusal fault.Unformatted index = refusal.Open index 3
+journal_refusal fault.BadHeader index = refusal.Open index 4
+journal_refusal (fault.Damaged entry) index = refusal.Open index 5
+
+-- no nodes were opened behind this export: their disks come back as they came, that of the export behind them
+pub record IsRefusedOver {D : Type 0} (tells : Bool) (meter : D → Meter) (text : D → List ℕ) (image : D → List ℕ → Type 0) (v : Volume) (export : Metadata D) (nodes back : List D) (why : OpenRefusal) : Type 0 where
+  pub nodes_back : List D
+  pub back_are : back ≡ nodes_back ++ option_to_list (disk_of export)
+  pub kept : AreKept meter text image nodes nodes_back
+  pub cause : IsCause tells meter text image v.layout (nodes_of v.clusters) (losses_of (export_in export) v) nodes nodes_back why
+
+-- a node's disk was not opened, the first that was not, after the journal was
+pub record IsNodeCause {D : Type 0} (tells : Bool) (meter : D → Meter) (text : D → List ℕ) (image : D → List ℕ → Type 0) (v : Volume) (nodes : List D) (journal : D) (back : List D) (why : OpenRefusal) : Type 0 where
+  pub export : Export
+  pub made : IsTrue tells → MakesExport v (text journal) export
+  pub cause : IsCause tells meter text image v.layout (nodes_of v.clusters) (losses_of export v) nodes back why
+
+-- why the disks were not opened: the journal's, which is opened first, or that of a node
+pub record IsUnopened {D : Type 0} (tells : Bool) (meter : D → Meter) (text : D → List ℕ) (image : D → List ℕ → Type 0) (v : Volume) (disks back : List D) (why : OpenRefusal) : Type 0 where
+  pub nodes : List D
+  pub journal : D
+  pub disks_are : disks ≡ nodes ++ journal ∷ []
+  pub nodes_back : List D
+  pub journal_back : D
+  pub back_are : back ≡ nodes_back ++ journal_back ∷ []
+  pub cause : IsJournalCause tells meter text v (length nodes) journal journal_back why ⊎ IsNodeCause tells meter text image v nodes journal nodes_back why
+
+abbrev pub IsCauseAgain : {D : Type 0} → Bool → (D → Meter) → (D → List ℕ) → (D → List ℕ → Type 0) → Volume → List D → List D → OpenRefusal → Type 0
+IsCauseAgain tells meter text image v disks back refusal.NoMemory = Unit {0}
+IsCauseAgain tells meter text image v disks back (refusal.Open index cause) = IsUnopened tells meter text image v disks back (refusal.Open index cause)

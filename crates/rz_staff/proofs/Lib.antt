@@ -1,0 +1,5 @@
+mod Pairs
+mod Rolls
+mod Recruits
+mod Hirings
+mod Taken

@@ -1,0 +1,72 @@
+-- Disks that come back beside the tallies of their nodes.
+use Rattle.std.proofs.Common.{◌≡◌, ◌++◌, [], ◌∷◌, ℕ, List, map, sym, refl, ap, ◌∙◌, subst, inl}
+use Rattle.std.specs.Prelude.{nat_eq}
+use Rattle.std.specs.List.{AllByRecursion, AllZip, IsDistinct}
+use Rattle.rz_disk.specs.Meter.{Meter, faults}
+use Rattle.rz_events.specs.declared.events.Word.{Word}
+use Rattle.rz_events.specs.declared.events.Word.TheVariants.{Node}
+use Rattle.rz_events.specs.declared.events.Event.{Event}
+use Rattle.rz_core.specs.History.{facts, of_word}
+use Rattle.rz_image_laws.specs.Images.{AreImages, geometry_in}
+use Rattle.rz_chronicle.specs.Keys.{events_at, word_key}
+use Rattle.rz_chronicle.specs.Kinds.{volume_in}
+use Rattle.rz_chronicle.specs.Holds.{IsSettled}
+use Rattle.rz_chronicle.specs.Rules.{PostView}
+use Rattle.rz_locked.specs.Counts.{AreCountedSince}
+use Rattle.rz_shared.specs.Returned.{IsReturned}
+use Rattle.rz_threads.specs.Left.{IsLeft}
+
+-- no number stands twice in the rest of a list
+pub distinct-rest : (xs ys : List ℕ) → IsDistinct nat_eq (xs ++ ys) → IsDistinct nat_eq ys
+unfolding IsDistinct
+distinct-rest [] ys d = d
+distinct-rest (x ∷ xs) ys d = distinct-rest xs ys d.1
+
+pub distinct-tail : (x : ℕ) (xs : List ℕ) → IsDistinct nat_eq (x ∷ xs) → IsDistinct nat_eq xs
+unfolding IsDistinct
+distinct-tail x xs d = d.1
+
+abbrev pub AreWordsKept : Type 0
+AreWordsKept = (w : Word) (h g : List Event) → events_at (word_key w) h ≡ events_at (word_key w) g → of_word w h ≡ of_word w g
+
+module _ {D : Type 0} (meter : D → Meter) (image : D → List ℕ → Type 0) (kind : List ℕ) (first : ℕ → ℕ) (kept : AreWordsKept) (log : List Event) where
+  -- a disk beside the tally of its own node
+  left-own : (d : D) (p : PostView) → IsSettled p log → (r : IsReturned meter image kind first d p) → IsLeft meter image kind first log r.node d
+  left-own d p settled r =
+      let key : word_key p.word ≡ word_key (Node r.node) = ap word_key r.word in
+      let same : of_word (Node r.node) log ≡ of_word (Node r.node) p.log = kept (Node r.node) log p.log (subst (λ (k : ℕ). events_at k log ≡ events_at k p.log) key (settled.1 (word_key p.word) (inl refl))) in
+      record {
+        seen = p.log;
+        later = settled.0;
+        own = same;
+        images = λ honest. subst (λ (w : List Event). AreImages (volume_in kind) (facts p.log) w r.node (geometry_in (volume_in kind) r.node) (image d)) (sym same) (r.images honest);
+        counted = subst (λ (w : List Event). AreCountedSince (first r.node) (faults (meter d)) w) (sym same) r.counted;
+      }
+
+  same-node : (a b : ℕ) → Node a ≡ Node b → a ≡ b
+  same-node a b is = cc (is)
+
+  left-one : (d : D) (p : PostView) (n : ℕ) → IsSettled p log → IsReturned meter image kind first d p → p.word ≡ Node n → IsLeft meter image kind first log n d
+  left-one d p n settled r is = subst (λ (k : ℕ). IsLeft meter image kind first log k d) (same-node r.node n (sym r.word ∙ is)) (left-own d p settled r)
+
+  head-is : (a b : Word) (us ws : List Word) → a ∷ us ≡ b ∷ ws → a ≡ b
+  head-is a b us ws is = cc (is)
+
+  tail-is : (a b : Word) (us ws : List Word) → a ∷ us ≡ b ∷ ws → us ≡ ws
+  tail-is a b us ws is = cc (is)
+
+  none-is : (a : Word) (us : List Word) → [] ≡ a ∷ us → ⊥
+  none-is a us is = cc (is)
+
+  -- each of them, where the tallies are those of these nodes
+  pub left-all : (ds : List D) (ps : List PostView) (ns : List ℕ) → AllZip (IsReturned meter image kind first) ds ps → AllByRecursion (λ (p : PostView). IsSettled p log) ps → map (λ (p : PostView). p.word) ps ≡ map Node ns
+      → AllZip (IsLeft meter image kind first log) ns ds
+  left-all [] [] [] all settled words = tt
+  left-all [] [] (n ∷ ns) all settled words = absurd (none-is _ _ words)
+  left-all [] (p ∷ ps) ns all settled words = absurd all
+  left-all (d ∷ ds) [] ns all settled words = absurd all
+  left-all (d ∷ ds) (p ∷ ps) [] all settled words = absurd (none-is _ _ (sym words))
+  left-all (d ∷ ds) (p ∷ ps) (n ∷ ns) all settled words = (
+    left-one d p n settled.0 all.0 (head-is _ _ _ _ words),
+    left-all ds ps ns all.1 settled.1 (tail-is _ _ _ _ words),
+  )

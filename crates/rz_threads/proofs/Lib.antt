@@ -1,0 +1,6 @@
+pub mod Each
+pub mod Working
+pub mod Sending
+pub mod Gathering
+pub mod Leaving
+pub mod Members

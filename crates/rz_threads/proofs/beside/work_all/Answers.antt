@@ -1,0 +1,22 @@
+use denote.Param.{param}
+use denote.Param.Send.{shr_sync}
+use Rattle.std.proofs.Common.{subst, slice_index_or, List}
+use Rattle.std.proofs.Crossing.{sync}
+use Rattle.rz_staff.specs.Staff.{HasWorked}
+use Rattle.rz_staff.specs.declared.member.Member.{Member}
+use Rattle.rz_threads.proofs.Each.{all-zip}
+use Rattle.rz_threads.proofs.Sending.{three-shared, store_sync}
+use Rattle.rz_threads.proofs.beside.work_all.Goals as goal
+
+pub for_each_mut-requires-sync-F : goal.for_each_mut-requires-sync-F
+for_each_mut-requires-sync-F g c κs within = three-shared _ (shr_sync _ _ _ c.type_bounds.sync-R) sync
+    (shr_sync _ _ _ (store_sync (param 1 g.row.D) (param 2 g.row.J) g.D.Disk g.J.Counting g.J.Naming c.type_bounds.send-D))
+
+pub returns : goal.returns
+returns g c =
+    let T : Type 0 = Member g.row.J.Denot g.row.L.Denot in
+    let R : T → T → Type 0 = HasWorked g.L.Link.lost g.J.Naming.kind in
+    let new : List T = c.for_each_mut.new.s in
+    all-zip R c.args.members.now new c.for_each_mut.auto.s
+    (λ i d lt. let at = (c.for_each_mut.ensures i d lt).1 in
+    subst (λ (m : T). R m (slice_index_or new i d)) at.argument_is (subst (λ (m : T). R at.argument.now m) at.left at.call))

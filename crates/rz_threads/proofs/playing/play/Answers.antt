@@ -1,0 +1,49 @@
+use Rattle.std.proofs.Common.{ℕ, List, map, subst, sym, ap, ◌∙◌}
+use Rattle.std.specs.List.{AllByRecursion, AllZip}
+use Rattle.std.specs.Global.{Vec}
+use Rattle.std.proofs.lemmas.Slice.Zip.{AllZip-long}
+use Rattle.rz_events.specs.declared.events.Event.{Event}
+use Rattle.rz_crew.specs.Gathered.{IsHeld}
+use Rattle.rz_admin.proofs.Done.{begun-on, done-on}
+use Rattle.rz_staff.specs.Staff.{IsRoomFor, WantsNothing}
+use Rattle.rz_threads.specs.Played.{HasLost}
+use Rattle.rz_threads.proofs.Members.{and-both, begun-all, finished-all, lost-all, shown-all}
+use Rattle.rz_threads.proofs.playing.play.Goals as goal
+
+pub dismiss-links-requires : goal.dismiss-links-requires
+dismiss-links-requires g c = record { room = subst (λ (n : ℕ). IsRoomFor n c.args.staff.room) (sym (AllZip-long _ _ _ c.at_work-members.ensures.worked)) c.args.staff.fits }
+
+pub returns-clause-begun : goal.returns-clause-begun
+returns-clause-begun g c =
+    let front = c.gather_up-front.result.front in
+    let held = subst (AllByRecursion (IsHeld front)) c.dismiss-links.ensures.passes c.gather_up-front.ensures.held in
+    begun-all g.L.Link.lost g.J.Naming.kind front c.args.staff.members.items c.at_work-members.result.members.items c.at_work-members.ensures.worked held
+
+pub returns-clause-finished : goal.returns-clause-finished
+returns-clause-finished g c = λ is.
+    let front = c.gather_up-front.result.front in
+    let held = subst (AllByRecursion (IsHeld front)) c.dismiss-links.ensures.passes c.gather_up-front.ensures.held in
+    let both = and-both _ _ (sym c.both-ended.ensures ∙ is) in
+    finished-all g.L.Link.lost g.J.Naming.kind front c.args.staff.members.items c.at_work-members.result.members.items c.at_work-members.ensures.worked held (subst (AllByRecursion WantsNothing) c.as_slice.ensures.value (c.have_finished-finished.ensures.all both.1))
+
+pub returns-clause-ordered : goal.returns-clause-ordered
+returns-clause-ordered g c = begun-on g.J.Naming.kind c.args.lines.now c.args.admin.log _ _ c.at_work-members.ensures.ordered.begun c.gather_up-front.ensures.waits
+
+pub returns-clause-orders : goal.returns-clause-orders
+returns-clause-orders g c = λ is.
+    let both = and-both _ _ (sym c.both-ended.ensures ∙ is) in
+    done-on g.J.Naming.kind c.args.lines.now c.args.admin.log _ _ (c.at_work-members.ensures.ordered.done both.0) c.gather_up-front.ensures.waits
+
+pub returns-clause-links : goal.returns-clause-links
+returns-clause-links g c =
+    let front = c.gather_up-front.result.front in
+    let held = subst (AllByRecursion (IsHeld front)) c.dismiss-links.ensures.passes c.gather_up-front.ensures.held in
+    let all = lost-all g.L.Link.lost g.J.Naming.kind front c.args.staff.members.items c.at_work-members.result.members.items c.at_work-members.ensures.worked held in
+    subst (λ (ls : List g.row.L.Denot). AllZip (HasLost g.L.Link.lost front.log) c.args.staff.members.items ls) (sym c.dismiss-links.ensures.links) all
+
+pub returns-clause-shown : goal.returns-clause-shown
+returns-clause-shown g c =
+    let front = c.gather_up-front.result.front in
+    let held = subst (AllByRecursion (IsHeld front)) c.dismiss-links.ensures.passes c.gather_up-front.ensures.held in
+    ap (map (λ (s : Vec Event). s.items)) c.dismiss-links.ensures.shown
+    ∙ shown-all g.L.Link.lost g.J.Naming.kind front c.args.staff.members.items c.at_work-members.result.members.items c.at_work-members.ensures.worked held

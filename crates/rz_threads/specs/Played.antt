@@ -1,0 +1,29 @@
+-- What the log of a whole play says of each member.
+use Rattle.std.specs.Prelude.{ℕ, List}
+use Rattle.rz_events.specs.declared.events.Event.{Event}
+use Rattle.rz_core.specs.History.{of_actor}
+use Rattle.rz_chronicle.specs.Kinds.{is_honest, volume_in}
+use Rattle.rz_worker.specs.Doing.{IsBegun}
+use Rattle.rz_worker.specs.Shown.{shown_of}
+use Rattle.rz_worker.specs.Turned.{AreLost}
+use Rattle.rz_worker.specs.Workers.{IsAllDone, seat_of}
+use Rattle.rz_staff.specs.declared.member.Member.{Member}
+use Rattle.rz_staff.specs.Staff.{actor_of}
+
+-- The member stands here as it came to work.
+
+-- its events in the log are those of some of its operations, and of a beginning of one
+abbrev pub HasBegun : {J L : Type 0} → List ℕ → List Event → Member J L → Type 0
+HasBegun kind log m = IsBegun (is_honest kind) (volume_in kind).layout (actor_of m) (seat_of m.worker.seat) m.worker.pass.log log
+
+-- they are those of all its operations
+abbrev pub HasFinished : {J L : Type 0} → List ℕ → List Event → Member J L → Type 0
+HasFinished kind log m = IsAllDone (is_honest kind) (volume_in kind).layout (actor_of m) (seat_of m.worker.seat) m.worker.pass.log log
+
+-- no more of its messages were lost than this link, which it gave back, has counted since, where `count` is what a link has counted
+abbrev pub HasLost : {J L : Type 0} → (L → ℕ) → List Event → Member J L → L → Type 0
+HasLost count log m link = AreLost (actor_of m) m.worker.pass.log log (count m.worker.link) (count link)
+
+-- its events in the log that are shown
+abbrev pub shown_for : {J L : Type 0} → List Event → Member J L → List Event
+shown_for log m = shown_of (of_actor (actor_of m) log)

@@ -1,0 +1,147 @@
+//! A whole play on threads, and the one log that has all of it.
+ghost use Rattle.std.specs.Prelude.{◌≡◌, ◌&&◌, true, map};
+ghost use Rattle.std.specs.List.{AllByRecursion, AllZip};
+ghost use Rattle.std.specs.Global.{Vec as AVec};
+ghost use Rattle.rz_events.specs.declared.events.Event.{Event as AnEvent};
+ghost use Rattle.rz_script.specs.Lines.{AreLines};
+ghost use Rattle.rz_chronicle.specs.Keys.{IsLater, sids_of};
+ghost use Rattle.rz_chronicle.specs.Kinds.{IsFit, volume_in};
+ghost use Rattle.rz_crew.specs.Gathered.{GoesOn, IsHeld};
+ghost use Rattle.rz_admin.specs.Orders.{AreBegun, AreDone, Waits};
+ghost use Rattle.rz_staff.specs.Staff.{CanWork};
+ghost use Rattle.rz_threads.specs.Left.{IsLeft};
+ghost use Rattle.rz_threads.specs.Played.{HasBegun, HasFinished, HasLost, shown_for};
+
+use crate::beside::{Shift, at_work};
+use rz_chronicle::{Book, Pass};
+use rz_crew::gather_all;
+use rz_disk::Disk;
+use rz_events::{Actor, Event};
+use rz_link::Link;
+use rz_locked::Counting;
+use rz_script::Line;
+use rz_shared::Cluster;
+use rz_staff::{Room, Staff, dismiss, have_finished};
+use rz_worker::Store;
+use std::alloc::Global;
+use std::sync::Wait;
+use std::thread::Threads;
+
+/// Closes the cluster, and hands the front the tallies of the nodes' words and of the export's.
+fn settled<D: Disk, J: Counting>(
+    book: &Book<J>,
+    front: &mut Pass<J>,
+    cluster: Cluster<D, J>,
+) -> Vec<D>
+    ensures goes { GoesOn front.old front.new }
+    ensures disks { AllZip (IsLeft D.meter D.image J.kind J.first front.new.log) (sids_of cluster) result.items }
+    ensures fit { IsFit J.kind front.new.log }
+{
+    rz_chronicle::words_kept();
+    let (disks, desk) = cluster.close();
+    book.settle(front, desk);
+    disks
+}
+
+/// What comes back of a store: a pass that has seen all, the book, and the disks.
+#[derive(Drop)]
+struct Gathered<D: Disk, J: Counting> {
+    front: Pass<J>,
+    book: Book<J>,
+    disks: Vec<D>,
+}
+
+/// Gathers the passes of the members into the administrator's, closes the cluster, and takes over the
+/// tallies of its words.
+fn gather_up<D: Disk, J: Counting>(
+    store: Store<D, J>,
+    passes: Vec<Pass<J>>,
+    admin: Pass<J>,
+) -> Gathered<D, J>
+    requires admin { admin.actor ≡ Actor.Admin }
+    ensures waits { Waits admin.log result.front.log }
+    ensures held { AllByRecursion (IsHeld result.front) passes.items }
+    ensures disks { AllZip (IsLeft D.meter D.image J.kind J.first result.front.log) (sids_of store.cluster) result.disks.items }
+    ensures fit { IsFit J.kind result.front.log }
+{
+    rz_chronicle::actors_kept();
+    rz_crew::held_lasts();
+    let _own = admin.actor();
+    let Store {
+        cluster,
+        book,
+        volume: _volume,
+        locks: _locks,
+    } = store;
+    let mut front = admin;
+    gather_all(&book, &mut front, passes);
+    let disks = settled(&book, &mut front, cluster);
+    Gathered { front, book, disks }
+}
+
+/// Whether both are so.
+fn both(one: bool, other: bool) -> bool
+    ensures { result ≡ one && other }
+{
+    one && other
+}
+
+/// What comes of a play: a pass that has seen all of it, the book, the disks in the order of the nodes, the
+/// links and the events that are shown in the order of the members, and whether all operations and all lines
+/// were done.
+#[derive(Drop)]
+pub struct Played<D: Disk, J: Counting, L: Link> {
+    pub front: Pass<J>,
+    pub book: Book<J>,
+    pub disks: Vec<D>,
+    pub links: Vec<L>,
+    pub shown: Vec<Vec<Event>>,
+    pub ended: bool,
+}
+
+/// A play: the members do their operations on threads, beside the administrator's lines. Where memory is
+/// wanting for one of them, it stops early, and the others go on.
+pub fn play<R: Threads + Wait + Sync, D: Disk + Send, J: Counting + Send + Sync, L: Link + Send>(
+    rt: &R,
+    alloc: Global,
+    store: Store<D, J>,
+    staff: Staff<J, L>,
+    admin: Pass<J>,
+    lines: &[Line],
+) -> Played<D, J, L>
+    requires volume { store.volume ≡ volume_in J.kind }
+    requires ready { AllByRecursion (CanWork J.kind) staff.members.items }
+    requires admin { admin.actor ≡ Actor.Admin }
+    requires lines { AreLines (volume_in J.kind) lines.now }
+    ensures fit { IsFit J.kind result.front.log }
+    ensures begun { AllByRecursion (HasBegun J.kind result.front.log) staff.members.items }
+    ensures finished { result.ended ≡ true → AllByRecursion (HasFinished J.kind result.front.log) staff.members.items }
+    ensures ordered { AreBegun J.kind lines.now admin.log result.front.log }
+    ensures orders { result.ended ≡ true → AreDone J.kind lines.now admin.log result.front.log }
+    ensures links { AllZip (HasLost L.lost result.front.log) staff.members.items result.links.items }
+    ensures shown { map (λ (s : AVec AnEvent). s.items) result.shown.items ≡ map (shown_for result.front.log) staff.members.items }
+    ensures disks { AllZip (IsLeft D.meter D.image J.kind J.first result.front.log) (sids_of store.cluster) result.disks.items }
+{
+    let Staff { members, room } = staff;
+    let Shift {
+        members,
+        admin,
+        ended,
+    } = at_work(rt, alloc, &store, members, admin, lines);
+    let finished = have_finished(members.as_slice());
+    let ended = both(ended, finished);
+    let Room {
+        links,
+        passes,
+        shown,
+    } = dismiss(members, room);
+    let Gathered { front, book, disks } = gather_up(store, passes, admin);
+    Played {
+        front,
+        book,
+        disks,
+        links,
+        shown,
+        ended,
+    }
+}
