@@ -28,8 +28,9 @@ use Rattle.rz_core.proofs.NodeLaws.{node, at-node, rows, IsRows, word-pair}
 use Rattle.rz_core.proofs.Stamps.{export}
 use Rattle.rz_log_laws.specs.Beside.{IsBeginning}
 use Rattle.rz_log_laws.specs.Losses.{AreLossesEnrolled, AreLossesKnown}
-use Rattle.rz_safety.specs.Sound.{IsSound}
+use Rattle.rz_safety.specs.Sound.{IsSound, IsAnswering}
 use Rattle.rz_safety.specs.Rebuilt.{AreRebuilt}
+use Rattle.rz_safety.specs.Writes.{AreWritesEnded}
 use Rattle.rz_play.specs.World.{world_after}
 use Rattle.rz_play_laws.specs.Fine.{IsTelling, IsFine}
 use Rattle.rz_play_laws.proofs.Plays.{by-beginning}
@@ -251,8 +252,9 @@ may-go-on v rules restarts again begins enrolled known_losses h export_now nodes
 
 -- ---- the play that goes on
 
-pub afterwards : (v : Volume) → (IsVolume v → IsTelling v) → IsNextRun v → ((h : List Event) → IsLegalInRuns v h → IsSound v h) → ((h : List Event) → IsLegalInRuns v h → AreRebuilt h) → IsSoundAfterwards v
-afterwards v tells next sound rebuilt script rules nodes export_now old fine short log p =
+pub afterwards : (v : Volume) → (IsVolume v → IsTelling v) → IsNextRun v → ((h : List Event) → IsLegalInRuns v h → IsSound v h) → ((h : List Event) → IsLegalInRuns v h → IsAnswering v h)
+    → ((h : List Event) → IsLegalInRuns v h → AreWritesEnded v h) → ((h : List Event) → IsLegalInRuns v h → AreRebuilt h) → IsSoundAfterwards v
+afterwards v tells next sound answering written rebuilt script rules nodes export_now old fine short log p =
     let leads = by-beginning v (tells rules.volume) old script rules.limits (world_after nodes export_now old) p.last p.played in
     let most = leads.most in
     let few = rules.few in
@@ -260,4 +262,4 @@ afterwards v tells next sound rebuilt script rules nodes export_now old fine sho
     let last : IsFine v old p.last = leads.keeps fine (omega (arith, most, few, turns, short)) in
     let is : log ≡ last.run ++ old = sym p.log_is ∙ last.log_is in
     let runs : IsLegalInRuns v log = subst (IsLegalInRuns v) (sym is) (next old last.run last.legal) in
-    record { run = last.run; log_is = is; legal = last.legal; sound = sound log runs; rebuilt = rebuilt log runs }
+    record { run = last.run; log_is = is; legal = last.legal; sound = sound log runs; answering = answering log runs; written = written log runs; rebuilt = rebuilt log runs }

@@ -54,6 +54,8 @@ pub fn afterwards()
     rz_play_laws::facts_told();
     rz_core::next_run();
     rz_safety::sound();
+    rz_safety::answering();
+    rz_safety::written();
     rz_safety::rebuilt();
 }
 

@@ -17,8 +17,9 @@ use Rattle.rz_core.specs.History.{Facts, facts, of_word, of_actor}
 use Rattle.rz_core.specs.NodeRows.{cells_of}
 use Rattle.rz_core.specs.Tied.{IsNode, IsProperAsk, IsOpening}
 use Rattle.rz_image_laws.specs.Records.{HandsRecord}
-use Rattle.rz_image_laws.specs.Images.{IsImaged}
+use Rattle.rz_image_laws.specs.Images.{AreImages, IsImaged, geometry_in}
 use Rattle.rz_image_laws.specs.Laws.{IsReadBack}
+use Rattle.rz_chronicle.specs.Keys.{IsLater, events_at, word_key}
 use Rattle.rz_chronicle.specs.Kinds.{is_honest, volume_in}
 use Rattle.rz_locked.specs.Adding.{Adds}
 
@@ -31,6 +32,11 @@ pub record SeatView : Type 0 where
 pub record IsLogged {D : Type 0} (image : D → List ℕ → Type 0) (v : Volume) (h : List Event) (n : ℕ) (node : NodeView D) : Type 0 where
   pub tied : IsNode (facts h) (of_word (Node n) h) node.state
   pub imaged : IsImaged v (facts h) n node.state node.geometry (image node.disk)
+
+-- Each image of the disk of node n is one that its word gives, in each log from this one on that has no further event of it.
+abbrev pub AreImagesFrom : Volume → List Event → ℕ → (List ℕ → Type 0) → Type 0
+AreImagesFrom v h n image = (new : List Event) → IsLater h new → events_at (word_key (Node n)) new ≡ events_at (word_key (Node n)) h
+    → AreImages v (facts new) (of_word (Node n) new) n (geometry_in v n) image
 
 -- What a caller must have done before it calls node n, in the log that it has seen; a record that it hands in is that of its write.
 pub record MayAsk (v : Volume) (h : List Event) (by : Actor) (n : ℕ) (question : NodeAsk) (bins : List ℕ) : Type 0 where

@@ -10,13 +10,13 @@ ghost use Rattle.rz_node_model.specs.NodeEvents as model;
 ghost use Rattle.rz_calls.specs.Calls.{Takes};
 ghost use Rattle.rz_core.specs.History.{facts, of_word};
 ghost use Rattle.rz_core.specs.NodeRows.{IsNodeOf};
-ghost use Rattle.rz_image_laws.specs.Images.{AreImages, geometry_in};
+ghost use Rattle.rz_image_laws.specs.Images.{geometry_in};
 ghost use Rattle.rz_chronicle.specs.Keys.{count_at, word_key, IsLater};
 ghost use Rattle.rz_chronicle.specs.Kinds.{IsFit, is_honest, volume_in};
 ghost use Rattle.rz_chronicle.specs.Holds.{Commits, Stays};
 ghost use Rattle.rz_chronicle.specs.Deals.{new_post};
 ghost use Rattle.rz_locked.specs.Counts.{AreCountedSince};
-ghost use Rattle.rz_locked.specs.Seats.{MayAsk, IsFor, Answered, IsRead};
+ghost use Rattle.rz_locked.specs.Seats.{MayAsk, IsFor, Answered, AreImagesFrom, IsRead};
 
 use crate::adding::add;
 use crate::counting::{Counting, left_with};
@@ -103,15 +103,17 @@ impl<D: Disk, J: Counting> Seat<D, J> {
     }
 
     /// The disk, and the tally of the node's word, of which the disk counted the faults. Over an honest book
-    /// each image of the disk is one that the word gives.
+    /// each image of the disk is one that the word gives, in each later log too that has no further event of it.
     pub fn close(self) -> (D, Post<J>)
         ensures post { result.1 ≡ record { word = w.Node self.node; log = self.log } }
         ensures of_volume { IsNodeOf (volume_in J.kind) self.node }
-        ensures images { IsTrue (is_honest J.kind) → AreImages (volume_in J.kind) (facts self.log) (of_word (w.Node self.node) self.log) self.node (geometry_in (volume_in J.kind) self.node) (D.image result.0) }
+        ensures images { IsTrue (is_honest J.kind) → AreImagesFrom (volume_in J.kind) self.log self.node (D.image result.0) }
         ensures counted { AreCountedSince (J.first self.node) (D.meter result.0).own (of_word (w.Node self.node) self.log) }
     {
+        crate::laws::seat_kept::<D>();
         rz_image_laws::logged::<D>();
         rz_disk_laws::counted();
+        let _fit = self.post.room();
         let Seat {
             alloc: _,
             sid: _,

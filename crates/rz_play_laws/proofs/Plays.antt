@@ -49,8 +49,9 @@ use Rattle.rz_events.specs.Keys.{key_cmp}
 use Rattle.rz_node_model.specs.Records.{held_of, listed, IsWhole}
 use Rattle.rz_core.specs.Legal.{IsLegal, IsAllowedIn, IsLegalInRuns, IsLegalAfter}
 use Rattle.rz_core.specs.Longer.{IsNextRun}
-use Rattle.rz_safety.specs.Sound.{IsSound}
+use Rattle.rz_safety.specs.Sound.{IsSound, IsAnswering}
 use Rattle.rz_safety.specs.Rebuilt.{AreRebuilt}
+use Rattle.rz_safety.specs.Writes.{AreWritesEnded}
 use Rattle.rz_play_laws.specs.Runs.{IsScript, IsRunAfter}
 use Rattle.rz_play.specs.Played.{IsBegun, PlaysLines, StopsLines, BeginsLines, IsPlayedFrom, IsStoppedFrom, IsBegunFrom}
 use Rattle.rz_play_laws.specs.Own.{IsOwn, IsUnderWay}
@@ -537,11 +538,12 @@ play-legal v tells lines script h p =
     let fine = play-in-order v tells lines script (λ n. fresh) (new_export v 0) [] (new-beginning v) h p in
     subst (IsLegal v) (sym (nothing-after fine.run) ∙ sym fine.log_is ∙ p.log_is) (legal-alone v fine.run fine.legal)
 
-pub play-after : (v : Volume) → IsTelling v → IsNextRun v → ((h : List Event) → IsLegalInRuns v h → IsSound v h) → ((h : List Event) → IsLegalInRuns v h → AreRebuilt h)
+pub play-after : (v : Volume) → IsTelling v → IsNextRun v → ((h : List Event) → IsLegalInRuns v h → IsSound v h) → ((h : List Event) → IsLegalInRuns v h → IsAnswering v h)
+    → ((h : List Event) → IsLegalInRuns v h → AreWritesEnded v h) → ((h : List Event) → IsLegalInRuns v h → AreRebuilt h)
     → (lines : List Line) → IsScript v lines → (nodes : ℕ → NodeState) (s : ExportState) (old : List Event) → MayBegin v nodes s old
     → (h : List Event) → IsBegunFrom v (world_after nodes s old) lines h → IsRunAfter v old h
-play-after v tells next sound rebuilt lines script nodes s old b h p =
+play-after v tells next sound answering written rebuilt lines script nodes s old b h p =
     let fine = play-in-order v tells lines script nodes s old b h p in
     let is : h ≡ fine.run ++ old = sym p.log_is ∙ fine.log_is in
     let runs : IsLegalInRuns v h = subst (IsLegalInRuns v) (sym is) (next old fine.run fine.legal) in
-    record { run = fine.run; log_is = is; legal = fine.legal; sound = sound h runs; rebuilt = rebuilt h runs }
+    record { run = fine.run; log_is = is; legal = fine.legal; sound = sound h runs; answering = answering h runs; written = written h runs; rebuilt = rebuilt h runs }

@@ -101,6 +101,8 @@ pub fn after()
     facts_told();
     rz_core::next_run();
     rz_safety::sound();
+    rz_safety::answering();
+    rz_safety::written();
     rz_safety::rebuilt();
 }
 

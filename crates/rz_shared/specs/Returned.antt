@@ -2,19 +2,19 @@
 use Rattle.std.specs.Prelude.{ℕ, ◌≡◌, IsTrue, List}
 use Rattle.rz_disk.specs.Meter.{Meter, faults}
 use Rattle.rz_events.specs.declared.events.Word.TheVariants.{Node}
-use Rattle.rz_core.specs.History.{facts, of_word}
+use Rattle.rz_core.specs.History.{of_word}
 use Rattle.rz_core.specs.NodeRows.{IsNodeOf}
-use Rattle.rz_image_laws.specs.Images.{AreImages, geometry_in}
 use Rattle.rz_chronicle.specs.Kinds.{is_honest, volume_in}
 use Rattle.rz_chronicle.specs.Rules.{PostView}
 use Rattle.rz_locked.specs.Counts.{AreCountedSince}
+use Rattle.rz_locked.specs.Seats.{AreImagesFrom}
 
 -- A disk, and the tally of the word of its node, a node of the volume. The faults of the word are those that the disk counted
 -- since it had counted `first` of that node. Over an honest book each image of the disk is one that this word gives, in the log of
--- the tally.
+-- the tally and in each later one that has no further event of the word.
 pub record IsReturned {D : Type 0} (meter : D → Meter) (image : D → List ℕ → Type 0) (kind : List ℕ) (first : ℕ → ℕ) (disk : D) (post : PostView) : Type 0 where
   pub node : ℕ
   pub word : post.word ≡ Node node
   pub of_volume : IsNodeOf (volume_in kind) node
-  pub images : IsTrue (is_honest kind) → AreImages (volume_in kind) (facts post.log) (of_word (Node node) post.log) node (geometry_in (volume_in kind) node) (image disk)
+  pub images : IsTrue (is_honest kind) → AreImagesFrom (volume_in kind) post.log node (image disk)
   pub counted : AreCountedSince (first node) (faults (meter disk)) (of_word (Node node) post.log)

@@ -6,10 +6,8 @@ use Rattle.rz_disk.specs.Meter.{Meter, faults}
 use Rattle.rz_events.specs.declared.events.Word.{Word}
 use Rattle.rz_events.specs.declared.events.Word.TheVariants.{Node}
 use Rattle.rz_events.specs.declared.events.Event.{Event}
-use Rattle.rz_core.specs.History.{facts, of_word}
-use Rattle.rz_image_laws.specs.Images.{AreImages, geometry_in}
+use Rattle.rz_core.specs.History.{of_word}
 use Rattle.rz_chronicle.specs.Keys.{events_at, word_key}
-use Rattle.rz_chronicle.specs.Kinds.{volume_in}
 use Rattle.rz_chronicle.specs.Holds.{IsSettled}
 use Rattle.rz_chronicle.specs.Rules.{PostView}
 use Rattle.rz_locked.specs.Counts.{AreCountedSince}
@@ -34,12 +32,10 @@ module _ {D : Type 0} (meter : D → Meter) (image : D → List ℕ → Type 0) 
   left-own : (d : D) (p : PostView) → IsSettled p log → (r : IsReturned meter image kind first d p) → IsLeft meter image kind first log r.node d
   left-own d p settled r =
       let key : word_key p.word ≡ word_key (Node r.node) = ap word_key r.word in
-      let same : of_word (Node r.node) log ≡ of_word (Node r.node) p.log = kept (Node r.node) log p.log (subst (λ (k : ℕ). events_at k log ≡ events_at k p.log) key (settled.1 (word_key p.word) (inl refl))) in
+      let events : events_at (word_key (Node r.node)) log ≡ events_at (word_key (Node r.node)) p.log = subst (λ (k : ℕ). events_at k log ≡ events_at k p.log) key (settled.1 (word_key p.word) (inl refl)) in
+      let same : of_word (Node r.node) log ≡ of_word (Node r.node) p.log = kept (Node r.node) log p.log events in
       record {
-        seen = p.log;
-        later = settled.0;
-        own = same;
-        images = λ honest. subst (λ (w : List Event). AreImages (volume_in kind) (facts p.log) w r.node (geometry_in (volume_in kind) r.node) (image d)) (sym same) (r.images honest);
+        images = λ honest. r.images honest log settled.0 events;
         counted = subst (λ (w : List Event). AreCountedSince (first r.node) (faults (meter d)) w) (sym same) r.counted;
       }
 

@@ -1,11 +1,12 @@
-use Rattle.std.proofs.Common.{sym, subst}
+use Rattle.std.proofs.Common.{List, sym, subst}
 use Rattle.rz_events.specs.declared.events.Word.TheVariants as w
+use Rattle.rz_events.specs.declared.events.Event.{Event}
 use Rattle.rz_cells.specs.declared.geometry.Geometry.{Geometry}
 use Rattle.rz_core.specs.History.{facts, of_word}
-use Rattle.rz_image_laws.specs.Images.{AreImages, geometry_in}
+use Rattle.rz_image_laws.specs.Images.{AreImages}
 use Rattle.rz_chronicle.specs.Kinds.{volume_in}
 use Rattle.rz_locked.specs.Counts.{AreCountedSince}
-use Rattle.rz_locked.specs.Seats.{SeatView}
+use Rattle.rz_locked.specs.Seats.{AreImagesFrom, SeatView}
 use Rattle.rz_locked.proofs.Metering.{goes-counted}
 use Rattle.rz_locked.proofs.seat.Seat.close.Goals as goal
 
@@ -17,10 +18,12 @@ returns-clause-images g c = λ honest.
     let l = c.self.inside.post.log in
     let node = c.self.inside.node in
     let logged = (c.self.invariant.3 honest).1 in
-    let it = c.logged.ensures v (facts l) (of_word (w.Node n) l) n node.geometry node.state node.disk logged.tied logged.imaged in
-    subst (λ (x : SeatView). AreImages v (facts x.log) (of_word (w.Node x.node) x.log) x.node (geometry_in v x.node) (image c.into_disk.result)) c.self.view_is
-    (subst (λ (d : g.row.D.Denot). AreImages v (facts l) (of_word (w.Node n) l) n (geometry_in v n) (image d)) (sym c.into_disk.ensures)
-    (subst (λ (k : Geometry). AreImages v (facts l) (of_word (w.Node n) l) n k (image node.disk)) c.self.invariant.2 it))
+    let from : AreImagesFrom v l n (image c.into_disk.result) = λ new later same.
+        let now = c.seat_kept.ensures v l new n node (c.room-fit.ensures.fit honest) later same logged in
+        let it = c.logged.ensures v (facts new) (of_word (w.Node n) new) n node.geometry node.state node.disk now.tied now.imaged in
+        subst (λ (d : g.row.D.Denot). AreImages v (facts new) (of_word (w.Node n) new) n _ (image d)) (sym c.into_disk.ensures)
+        (subst (λ (k : Geometry). AreImages v (facts new) (of_word (w.Node n) new) n k (image node.disk)) c.self.invariant.2 it) in
+    subst (λ (x : SeatView). AreImagesFrom v x.log x.node (image c.into_disk.result)) c.self.view_is from
 
 pub returns-clause-counted : goal.returns-clause-counted
 returns-clause-counted g c =
