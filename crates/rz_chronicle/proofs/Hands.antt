@@ -178,6 +178,10 @@ pub own-key : (δ η : ℕ) (kind : List ℕ) (a : Actor) (xs : List Event) (o :
 own-key δ η kind a xs None h = absurd h
 own-key δ η kind a xs (Some hand) h = holding-key (actor_key a) hand.held h.1.by
 
+pub own-word : (δ η : ℕ) (kind : List ℕ) (a : Actor) (xs : List Event) (o : Option Hand) → IsSomeAnd o (λ h. IsHand δ η kind xs h × IsOwn a h.held) → IsOneOf (word_key (Own a)) (keys_in o)
+own-word δ η kind a xs None h = absurd h
+own-word δ η kind a xs (Some hand) h = holding-key (word_key (Own a)) hand.held h.1.own
+
 -- The first of an actor's tallies and of a word's.
 
 pub pass-first : (δ η : ℕ) (kind : List ℕ) (a : Actor) (h : Hand) → h.tallies ≡ δ → h.copy ≡ η → h.kind ≡ kind → h.log ≡ [] → h.held ≡ (word_key (Own a), 0) ∷ (actor_key a, 0) ∷ []

@@ -84,11 +84,12 @@ impl<J: Naming> Pass<J> {
         }
     }
 
-    /// Whose it is. A pass holds the tally of its actor's events.
+    /// Whose it is. A pass holds the tallies of its actor's events and of its own word.
     pub fn actor(&self) -> Actor
         ensures value { result ≡ self.now.actor }
         ensures member { IsMember self.now.actor }
         ensures own { IsOneOf (actor_key self.now.actor) self.now.keys }
+        ensures word { IsOneOf (word_key (w.Own self.now.actor)) self.now.keys }
         ensures fit { IsFit J.kind self.now.log }
     {
         self.actor
