@@ -39,9 +39,9 @@ use Rattle.rz_chronicle.specs.Keys.{IsLater}
 use Rattle.rz_chronicle.specs.Kinds.{IsFit, is_honest, volume_in}
 use Rattle.rz_chronicle.specs.Rules.{PassView}
 use Rattle.rz_locked.specs.Seats.{IsRead}
+use Rattle.rz_shown.specs.Shown.{shown_in, shown_of}
 use Rattle.rz_worker.specs.Acted.{Lasts, IsRight, HasActed}
 use Rattle.rz_worker.specs.Adding.{AddsOwn}
-use Rattle.rz_worker.specs.Shown.{shown_in, shown_of}
 use Rattle.rz_worker.specs.Turned.{GoesOn, IsCutOff, AreLost}
 use Rattle.rz_worker.proofs.Doings.{as-told}
 use Rattle.rz_worker.proofs.Shows.{shown-noted}

@@ -12,8 +12,8 @@ use Rattle.rz_chronicle.specs.Keys.{IsLater}
 use Rattle.rz_chronicle.specs.Kinds.{IsFit, is_honest, volume_in}
 use Rattle.rz_chronicle.specs.Rules.{PassView}
 use Rattle.rz_locked.specs.Seats.{IsRead}
+use Rattle.rz_shown.specs.Shown.{shown_of}
 use Rattle.rz_worker.specs.Adding.{AddsOwn}
-use Rattle.rz_worker.specs.Shown.{shown_of}
 use Rattle.rz_worker.specs.Turned.{IsTurned}
 
 -- The pass is that of the same actor, with the same tallies, and has seen more.

@@ -14,8 +14,8 @@ ghost use Rattle.rz_acting.specs.Acting.{AreBytes};
 ghost use Rattle.rz_chronicle.specs.Keys.{count_at, word_key};
 ghost use Rattle.rz_chronicle.specs.Kinds.{IsFit, MayCome, is_honest, volume_in};
 ghost use Rattle.rz_locked.specs.Seats.{MayAsk, IsRead};
+ghost use Rattle.rz_shown.specs.Shown.{shown_of};
 ghost use Rattle.rz_worker.specs.Adding.{AddsOwn};
-ghost use Rattle.rz_worker.specs.Shown.{shown_of};
 
 use crate::store::Store;
 use rz_chronicle::Pass;

@@ -16,10 +16,10 @@ ghost use Rattle.rz_play.specs.Faults.{missed};
 ghost use Rattle.rz_chronicle.specs.Keys.{count_at, word_key};
 ghost use Rattle.rz_chronicle.specs.Kinds.{is_honest, volume_in};
 ghost use Rattle.rz_events.specs.declared.events.Word.TheVariants as w;
+ghost use Rattle.rz_shown.specs.Shown.{shown_of};
 ghost use Rattle.rz_worker.specs.Acted.{Lasts, IsRight, HasActed, IsServed};
 ghost use Rattle.rz_worker.specs.Adding.{AddsOwn};
 ghost use Rattle.rz_worker.specs.Asking.{IsPlaced};
-ghost use Rattle.rz_worker.specs.Shown.{shown_of};
 ghost use Rattle.rz_worker.specs.Turned.{AreLost, IsCutOff};
 
 use crate::adding::{add_own, call_node};

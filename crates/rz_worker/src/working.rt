@@ -3,10 +3,10 @@ ghost use Rattle.std.specs.Prelude.{◌≡◌, OnOk, OnErr};
 ghost use Rattle.rz_core.specs.History.{of_actor};
 ghost use Rattle.rz_chronicle.specs.Keys.{IsLater};
 ghost use Rattle.rz_chronicle.specs.Kinds.{IsFit, is_honest, volume_in};
+ghost use Rattle.rz_shown.specs.Shown.{shown_of};
 ghost use Rattle.rz_worker.specs.Acted.{Lasts};
 ghost use Rattle.rz_worker.specs.Doing.{HasDone, IsBegun};
 ghost use Rattle.rz_worker.specs.Turned.{AreLost};
-ghost use Rattle.rz_worker.specs.Shown.{shown_of};
 ghost use Rattle.rz_worker.specs.Workers.{IsAllDone, IsReady, seat_of};
 
 use crate::acting::act;

@@ -5,8 +5,8 @@ use Rattle.rz_core.specs.History.{of_actor}
 use Rattle.rz_play.specs.Faults.{missed}
 use Rattle.rz_play_laws.proofs.Events.{node-event}
 use Rattle.rz_chronicle.specs.Kinds.{volume_in}
+use Rattle.rz_shown.specs.Shown.{shown_of}
 use Rattle.rz_worker.proofs.Added.{adds-own, noted-quiet, node-quiet, for-actor}
-use Rattle.rz_worker.specs.Shown.{shown_of}
 use Rattle.rz_worker.proofs.Shows.{node-shown}
 use Rattle.rz_worker.proofs.adding.call_node.Goals as goal
 

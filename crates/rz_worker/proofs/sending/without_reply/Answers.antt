@@ -6,11 +6,11 @@ use Rattle.rz_operation_model.specs.Ask.{ask_of}
 use Rattle.rz_operation_model.specs.Steps.{Answered}
 use Rattle.rz_core.specs.History.{of_actor}
 use Rattle.rz_chronicle.specs.Kinds.{is_honest, volume_in}
+use Rattle.rz_shown.specs.Shown.{shown_of}
 use Rattle.rz_worker.specs.Acted.{Lasts}
 use Rattle.rz_worker.specs.Adding.{AddsOwn}
 use Rattle.rz_chronicle.specs.Rules.{PassView}
 use Rattle.rz_play.specs.Faults.{missed}
-use Rattle.rz_worker.specs.Shown.{shown_of}
 use Rattle.rz_worker.specs.Turned.{IsCutOff}
 use Rattle.rz_worker.proofs.Added.{lost-count}
 use Rattle.rz_worker.proofs.Shows.{unshown-of}
