@@ -1,0 +1,90 @@
+-- What the log of a play says of a staff, said of the actors.
+use Rattle.std.proofs.Common.{◌≡◌, ◌+◌, ◌≤◌, [], ◌∷◌, ℕ, List, map, sym, refl, ap, ◌∙◌, subst, arith}
+use Rattle.std.specs.List.{AllByRecursion, AllZip, zip}
+use Rattle.rz_events.specs.declared.keys.Actor.{Actor}
+use Rattle.rz_events.specs.declared.events.Event.{Event}
+use Rattle.rz_script.specs.declared.line.Line.{Line}
+use Rattle.rz_core.specs.History.{of_actor}
+use Rattle.rz_play.specs.World.{Seat}
+use Rattle.rz_play.specs.Faults.{missed}
+use Rattle.rz_play_locks.specs.Operations.{given}
+use Rattle.rz_chronicle.specs.Deals.{new_pass}
+use Rattle.rz_chronicle.specs.Kinds.{is_honest, volume_in}
+use Rattle.rz_chronicle.specs.Rules.{PassView}
+use Rattle.rz_shown.specs.Shown.{shown_of}
+use Rattle.rz_worker.specs.Doing.{IsBegun}
+use Rattle.rz_worker.specs.Turned.{AreLost}
+use Rattle.rz_worker.specs.Workers.{IsAllDone, seat_of, seat_with}
+use Rattle.rz_staff.specs.declared.member.Member.{Member}
+use Rattle.rz_staff.specs.Staff.{actor_of, link_of, CanWork, IsStaffed}
+use Rattle.rz_threads.specs.Played as member
+use Rattle.rz_run.specs.Done.{HasBegun, HasFinished}
+use Rattle.rz_run.specs.Handed.{HasLost}
+
+module _ {J L : Type 0} (kind : List ℕ) (lines : List Line) where
+  -- whose pass a member has
+  actor-is : (by : Actor) (m : Member J L) → IsStaffed kind lines (new_pass by) m → actor_of m ≡ by
+  actor-is by m s = ap (λ (p : PassView). p.actor) s.pass
+
+  pub actors-are : (as : List Actor) (ms : List (Member J L)) → AllZip (IsStaffed kind lines) (map new_pass as) ms → map actor_of ms ≡ as
+  actors-are [] [] all = refl
+  actors-are [] (m ∷ ms) all = absurd all
+  actors-are (a ∷ as) [] all = absurd all
+  actors-are (a ∷ as) (m ∷ ms) all = ap (λ (b : Actor). b ∷ map actor_of ms) (actor-is a m all.0) ∙ ap (λ (bs : List Actor). a ∷ bs) (actors-are as ms all.1)
+
+  -- they can go to work
+  pub ready-all : (ps : List PassView) (ms : List (Member J L)) → AllZip (IsStaffed kind lines) ps ms → AllByRecursion (CanWork kind) ms
+  ready-all [] [] all = tt
+  ready-all [] (m ∷ ms) all = absurd all
+  ready-all (p ∷ ps) [] all = absurd all
+  ready-all (p ∷ ps) (m ∷ ms) all = (all.0.ready, ready-all ps ms all.1)
+
+  module _ (log : List Event) where
+    -- what each has done
+    begun-one : (by : Actor) (m : Member J L) → IsStaffed kind lines (new_pass by) m → member.HasBegun kind log m → HasBegun (is_honest kind) (volume_in kind) lines log by
+    begun-one by m s begun =
+        let at_pass : IsBegun (is_honest kind) (volume_in kind).layout by (seat_of m.worker.seat) [] log =
+            subst (λ (p : PassView). IsBegun (is_honest kind) (volume_in kind).layout p.actor (seat_of m.worker.seat) p.log log) s.pass begun in
+        subst (λ (from : Seat). IsBegun (is_honest kind) (volume_in kind).layout by from [] log) s.seat at_pass
+
+    pub begun-all : (as : List Actor) (ms : List (Member J L)) → AllZip (IsStaffed kind lines) (map new_pass as) ms → AllByRecursion (member.HasBegun kind log) ms → AllByRecursion (HasBegun (is_honest kind) (volume_in kind) lines log) as
+    begun-all [] [] all begun = tt
+    begun-all [] (m ∷ ms) all begun = absurd all
+    begun-all (a ∷ as) [] all begun = absurd all
+    begun-all (a ∷ as) (m ∷ ms) all begun = (begun-one a m all.0 begun.0, begun-all as ms all.1 begun.1)
+
+    finished-one : (by : Actor) (m : Member J L) → IsStaffed kind lines (new_pass by) m → member.HasFinished kind log m → HasFinished (is_honest kind) (volume_in kind) lines log by
+    finished-one by m s done =
+        let at_pass : IsAllDone (is_honest kind) (volume_in kind).layout by (seat_of m.worker.seat) [] log =
+            subst (λ (p : PassView). IsAllDone (is_honest kind) (volume_in kind).layout p.actor (seat_of m.worker.seat) p.log log) s.pass done in
+        subst (λ (from : Seat). IsAllDone (is_honest kind) (volume_in kind).layout by from [] log) s.seat at_pass
+
+    pub finished-all : (as : List Actor) (ms : List (Member J L)) → AllZip (IsStaffed kind lines) (map new_pass as) ms → AllByRecursion (member.HasFinished kind log) ms → AllByRecursion (HasFinished (is_honest kind) (volume_in kind) lines log) as
+    finished-all [] [] all done = tt
+    finished-all [] (m ∷ ms) all done = absurd all
+    finished-all (a ∷ as) [] all done = absurd all
+    finished-all (a ∷ as) (m ∷ ms) all done = (finished-one a m all.0 done.0, finished-all as ms all.1 done.1)
+
+    -- what their links have lost
+    lost-one : (count : L → ℕ) (by : Actor) (m : Member J L) (link : L) → IsStaffed kind lines (new_pass by) m → member.HasLost count log m link → HasLost count log (by, link_of m) link
+    lost-one count by m link s lost =
+        let few : missed (of_actor by log) + count (link_of m) ≤ 0 + count link = subst (λ (p : PassView). AreLost p.actor p.log log (count (link_of m)) (count link)) s.pass lost in
+        omega (arith, few)
+
+    pub lost-all : (count : L → ℕ) (as : List Actor) (ms : List (Member J L)) (links : List L) → AllZip (IsStaffed kind lines) (map new_pass as) ms → AllZip (member.HasLost count log) ms links
+        → AllZip (HasLost count log) (zip as (map link_of ms)) links
+    lost-all count [] [] [] all lost = tt
+    lost-all count [] [] (l ∷ links) all lost = absurd lost
+    lost-all count [] (m ∷ ms) links all lost = absurd all
+    lost-all count (a ∷ as) [] links all lost = absurd all
+    lost-all count (a ∷ as) (m ∷ ms) [] all lost = absurd lost
+    lost-all count (a ∷ as) (m ∷ ms) (l ∷ links) all lost = (lost-one count a m l all.0 lost.0, lost-all count as ms links all.1 lost.1)
+
+    -- their events that are shown
+    pub shown-all : (as : List Actor) (ms : List (Member J L)) → AllZip (IsStaffed kind lines) (map new_pass as) ms → map (member.shown_for log) ms ≡ map (λ by. shown_of (of_actor by log)) as
+    shown-all [] [] all = refl
+    shown-all [] (m ∷ ms) all = absurd all
+    shown-all (a ∷ as) [] all = absurd all
+    shown-all (a ∷ as) (m ∷ ms) all =
+        ap (λ (e : List Event). e ∷ map (member.shown_for log) ms) (ap (λ (by : Actor). shown_of (of_actor by log)) (actor-is a m all.0))
+        ∙ ap (λ (es : List (List Event)). shown_of (of_actor a log) ∷ es) (shown-all as ms all.1)

@@ -1,0 +1,53 @@
+use Rattle.std.proofs.Common.{◌≡◌, ℕ, Bool, List, map, length, refl, sym, ap, ◌∙◌, subst, inl}
+use Rattle.std.proofs.lemmas.List.{length-map}
+use Rattle.std.specs.Prelude.{IsTrue, nat_eq}
+use Rattle.std.specs.List.{IsDistinct}
+use Rattle.rz_disk.specs.Meter.{faults}
+use Rattle.rz_events.specs.Volume.{Volume, nodes_of}
+use Rattle.rz_events.specs.declared.files.NodeSpec.{NodeSpec}
+use Rattle.rz_chronicle.specs.Keys.{sids_of}
+use Rattle.rz_chronicle.specs.Kinds.{is_honest, kind_of}
+use Rattle.rz_perform.specs.Output.{Sunk}
+use Rattle.rz_run.specs.Runs.{Plays}
+use Rattle.rz_run.proofs.Firsts.{beside-all}
+use Rattle.rz_run.proofs.Told.{honest-is, kind-is, lacking}
+use Rattle.rz_run.proofs.running.play_script.Goals as goal
+
+pub play_book-requires-clause-kind : goal.play_book-requires-clause-kind
+play_book-requires-clause-kind g c =
+    kind-is c.read_back.ensures c.args.honest c.args.script.now.volume c.in-Ok.opened.hand.kind (c.in-Ok.ensures ∙ ap (kind_of c.args.honest) c.volume-volume.ensures)
+
+pub play_book-requires-clause-tells : goal.play_book-requires-clause-tells
+play_book-requires-clause-tells g c =
+    let same = honest-is c.read_back.ensures c.args.honest c.args.script.now.volume c.in-Ok.opened.hand.kind (c.in-Ok.ensures ∙ ap (kind_of c.args.honest) c.volume-volume.ensures) in
+    subst (λ (b : Bool). IsTrue b → IsTrue g.D.Disk.tells) (sym same) c.requires.tells
+
+pub play_book-requires-clause-counts : goal.play_book-requires-clause-counts
+play_book-requires-clause-counts g c =
+    let v : Volume = c.args.script.now.volume in
+    let distinct = subst (λ (u : Volume). IsDistinct nat_eq (sids_of u)) c.volume-volume.ensures c.node_count-_rules.ensures.rules.distinct_sids in
+    let same : length (sids_of v) ≡ length (map (λ d. faults (g.D.Disk.meter d)) c.args.disks.items) =
+    length-map (nodes_of v.clusters) (λ (n : NodeSpec). n.sid) ∙ (sym c.requires.count ∙ sym (length-map c.args.disks.items (λ d. faults (g.D.Disk.meter d)))) in
+    beside-all (sids_of v) (map (λ d. faults (g.D.Disk.meter d)) c.args.disks.items) distinct same
+
+pub returns-in-Ok : goal.returns-in-Ok
+returns-in-Ok g c =
+    let sink : Sunk = record {
+      before = g.O.Sink.taken c.args.output.now;
+      after = g.O.Sink.taken c.play_book.new.output;
+      old = g.O.Sink.faults c.args.output.now;
+      new = g.O.Sink.faults c.play_book.new.output;
+    } in
+    let same = honest-is c.read_back.ensures c.args.honest c.args.script.now.volume c.in-Ok.opened.hand.kind (c.in-Ok.ensures ∙ ap (kind_of c.args.honest) c.volume-volume.ensures) in
+    subst (λ (b : Bool). Plays g.D.Disk.tells b g.D.Disk.meter g.D.Disk.image g.L.Link.lost c.args.script.now (record { old = c.args.disks.items; new = c.play_book.result.disks.items })
+    (record { old = c.args.links.items; new = c.play_book.result.links.items }) sink c.play_book.result.status) same c.play_book.ensures
+
+pub returns-in-Err : goal.returns-in-Err
+returns-in-Err g c =
+    let sink : Sunk = record {
+      before = g.O.Sink.taken c.args.output.now;
+      after = g.O.Sink.taken c.args.output.now;
+      old = g.O.Sink.faults c.args.output.now;
+      new = g.O.Sink.faults c.args.output.now;
+    } in
+    inl (lacking g.D.Disk.tells g.D.Disk.meter g.D.Disk.image c.args.script.now.volume c.args.disks.items c.args.links.items c.args.links.items sink 70 c.requires.count refl (refl, refl))

@@ -1,0 +1,68 @@
+-- What a run on threads comes to.
+use Rattle.std.specs.Prelude.{ℕ, Bool, ◌≡◌, ◌⊎◌, IsTrue, List, Option, Result, Ok, Err, length}
+use Rattle.rz_disk.specs.Meter.{Meter}
+use Rattle.rz_events.specs.Volume.{Volume, nodes_of}
+use Rattle.rz_events.specs.declared.events.Event.{Event}
+use Rattle.rz_formatting.specs.Formatted.{AreBack, IsCause}
+use Rattle.rz_formatting.specs.declared.fault.DriverFault.{DriverFault}
+use Rattle.rz_formatting.specs.declared.fault.DriverFault.TheVariants as faults
+use Rattle.rz_script.specs.Scripts.{Script}
+use Rattle.rz_script.specs.declared.line.Line.{Line}
+use Rattle.rz_chronicle.specs.Keys.{sids_of}
+use Rattle.rz_crew.specs.Moves.{moves_in}
+use Rattle.rz_shown.specs.Text.{run_text}
+use Rattle.rz_command.specs.Line.{Meaning}
+use Rattle.rz_request.specs.Requests.{Reading}
+use Rattle.rz_request.specs.Runs.{AsksRun}
+use Rattle.rz_request.specs.declared.refusal.Refusal.TheVariants as refusals
+use Rattle.rz_request.specs.declared.refusal.Stop.{Stop}
+use Rattle.rz_perform.specs.Output.{Sunk, Ends, Lacks}
+use Rattle.rz_perform.specs.Telling.{Refuses, Stops}
+use Rattle.rz_run.specs.Done.{IsAllBegun, IsAllFinished, IsTrueLog}
+use Rattle.rz_run.specs.Handed.{AreDisksTold, AreLinksTold, Handed}
+
+-- the disks are not formatted: memory is wanting, or the line of the disk that failed was to be written
+abbrev pub Fails : DriverFault → Sunk → ℕ → Type 0
+Fails faults.NoMemory sink status = Lacks sink status
+Fails (faults.Disk index) sink status = Refuses (refusals.Disk index) sink status
+
+-- No play began. Either memory was wanting, or a disk failed while it was formatted, and its faults rose. Each image of each disk is
+-- one from before, or its header is shut, or it stands for nothing. The links are as they came.
+pub record IsUnplayed {D L : Type 0} (tells : Bool) (meter : D → Meter) (image : D → List ℕ → Type 0) (v : Volume) (disks : Handed D) (links : Handed L) (sink : Sunk) (status : ℕ) : Type 0 where
+  pub fault : DriverFault
+  pub cause : IsCause meter disks.old disks.new fault
+  pub told : Fails fault sink status
+  pub disks_back : AreBack tells meter image v.layout (nodes_of v.clusters) disks.old disks.new
+  pub links_back : links.new ≡ links.old
+
+-- Everything was done, and the text of the log was to be written, with the number of its events. Or memory was wanting for someone,
+-- or for the text: then the first part of everything was done, and nothing is written.
+abbrev pub IsToldOf : Bool → Volume → List Line → List Event → Sunk → ℕ → Type 0
+IsToldOf honest v lines h sink status =
+    (IsAllFinished honest v lines h × Ends sink 0 (run_text h (moves_in (sids_of v) h)) status)
+    ⊎ (IsAllBegun honest v lines h × Lacks sink status)
+
+-- A script was played with this log, the newest event first. The log says what each actor did, and how disks and links come back.
+-- That of an honest book is true.
+pub record IsPlayed {D L : Type 0} (honest : Bool) (meter : D → Meter) (image : D → List ℕ → Type 0) (count : L → ℕ) (s : Script) (disks : Handed D) (links : Handed L) (sink : Sunk) (status : ℕ) (h : List Event) : Type 0 where
+  pub told : IsToldOf honest s.volume s.lines h sink status
+  pub true_log : IsTrue honest → IsTrueLog s.volume h
+  pub disks_told : AreDisksTold honest meter image s.volume h disks
+  pub links_told : AreLinksTold count h links
+
+-- what comes of a script over disks
+abbrev pub Plays : {D L : Type 0} → (tells honest : Bool) → (D → Meter) → (D → List ℕ → Type 0) → (L → ℕ) → Script → Handed D → Handed L → Sunk → ℕ → Type 0
+Plays tells honest meter image count s disks links sink status =
+    IsUnplayed tells meter image s.volume disks links sink status
+    ⊎ ((h : List Event) × IsPlayed honest meter image count s disks links sink status h)
+
+-- a script is played; or there is none, that is told, and disks and links are as they came
+abbrev pub Follows : {D L : Type 0} → (tells honest : Bool) → (D → Meter) → (D → List ℕ → Type 0) → (L → ℕ) → Result Script Stop → Handed D → Handed L → Sunk → ℕ → Type 0
+Follows tells honest meter image count (Ok s) disks links sink status = Plays tells honest meter image count s disks links sink status
+Follows tells honest meter image count (Err stop) disks links sink status = Stops stop sink status × (disks.new ≡ disks.old) × (links.new ≡ links.old)
+
+-- A run at words of this meaning, over a source, disks, links and a sink, with a book that is honest or not: what the words and the
+-- source ask for of so many disks is answered, and played.
+abbrev pub Runs : {D L : Type 0} → (tells honest : Bool) → (D → Meter) → (D → List ℕ → Type 0) → (L → ℕ) → Option Meaning → Reading → Handed D → Handed L → Sunk → ℕ → Type 0
+Runs tells honest meter image count words source disks links sink status =
+    (r : Result Script Stop) × AsksRun words source (length disks.old) r × Follows tells honest meter image count r disks links sink status

@@ -1,0 +1,139 @@
+//! A script played over a book.
+ghost use Rattle.std.specs.Prelude.{◌≡◌, IsTrue, length, map};
+ghost use Rattle.std.specs.List.{AllZip};
+ghost use Rattle.rz_disk.specs.Meter.{faults};
+ghost use Rattle.rz_events.specs.declared.keys.Actor.TheVariants as a;
+ghost use Rattle.rz_events.specs.declared.events.Word.TheVariants as w;
+ghost use Rattle.rz_play.specs.World.{actors};
+ghost use Rattle.rz_chronicle.specs.Deals.{new_pass, new_post};
+ghost use Rattle.rz_chronicle.specs.Keys.{sids_of};
+ghost use Rattle.rz_chronicle.specs.Kinds.{is_honest, kind_of, volume_in};
+ghost use Rattle.rz_staff.specs.Staff.{link_of, IsStaffed};
+ghost use Rattle.rz_request.specs.Requests.{nodes_in};
+ghost use Rattle.rz_run.specs.Runs.{Plays};
+
+use crate::casting::{Cast, cast, links_of};
+use crate::laws::true_logs;
+use crate::outcome::Ran;
+use crate::telling::{NO_MEMORY, refuse_disks, tell};
+use rz_chronicle::{Opened, read_back};
+use rz_disk::Disk;
+use rz_link::Link;
+use rz_locked::Counting;
+use rz_locks::Locks;
+use rz_ports::Sink;
+use rz_script::Script;
+use rz_shared::Cluster;
+use rz_threads::{Played, play};
+use rz_worker::Store;
+use std::alloc::Global;
+use std::sync::{Mutex, Wait};
+use std::thread::Threads;
+
+/// Formats the disks, lets the cast play the script, and tells what came of it.
+fn play_cast<
+    R: Threads + Wait + Sync,
+    O: Sink,
+    D: Disk + Send,
+    L: Link + Send,
+    J: Counting + Send + Sync,
+>(
+    rt: &R,
+    alloc: Global,
+    cast: Cast<J, L>,
+    script: &Script,
+    disks: Vec<D>,
+    output: &mut O,
+) -> Ran<D, L>
+    requires kind { J.kind ≡ kind_of (is_honest J.kind) script.now.volume }
+    requires book { cast.book ≡ volume_in J.kind }
+    requires admin { cast.admin ≡ new_pass a.Admin }
+    requires export { cast.desk.export ≡ new_post w.Export }
+    requires nodes { cast.desk.nodes.items ≡ map (λ n. new_post (w.Node n)) (sids_of (volume_in J.kind)) }
+    requires staffed { AllZip (IsStaffed J.kind script.now.lines) (map new_pass actors) cast.staff.members.items }
+    requires volume { cast.volume ≡ script.now.volume }
+    requires known { cast.known ≡ script.now.volume }
+    requires count { length disks.items ≡ nodes_in script.now }
+    requires tells { IsTrue (is_honest J.kind) → IsTrue D.tells }
+    requires counts { map J.first (sids_of script.now.volume) ≡ map (λ d. faults (D.meter d)) disks.items }
+    ensures { Plays D.tells (is_honest J.kind) D.meter D.image L.lost script.now (record { old = disks.items; new = result.disks.items }) (record { old = map link_of cast.staff.members.items; new = result.links.items }) (record { before = O.taken output.old; after = O.taken output.new; old = O.faults output.old; new = O.faults output.new }) result.status }
+{
+    true_logs();
+    read_back();
+    let Cast {
+        book,
+        admin,
+        desk,
+        staff,
+        volume,
+        known,
+    } = cast;
+    match Cluster::new(alloc, volume, disks, &book, desk) {
+        Ok(cluster) => {
+            let store = Store {
+                cluster,
+                book,
+                volume: known,
+                locks: Mutex::new(Locks::new()),
+            };
+            let Played {
+                front,
+                book,
+                disks,
+                links,
+                shown,
+                ended,
+            } = play(rt, alloc, store, staff, admin, script.lines());
+            let status = tell(rt, alloc, &book, front, shown.as_slice(), ended, output);
+            Ran {
+                status,
+                disks,
+                links,
+            }
+        }
+        Err((disks, fault)) => {
+            let links = links_of(staff);
+            let status = refuse_disks(alloc, fault, output);
+            Ran {
+                status,
+                disks,
+                links,
+            }
+        }
+    }
+}
+
+/// Plays a script over a new book, whose name says how many faults each disk has counted.
+pub(crate) fn play_book<
+    J: Counting + Send + Sync,
+    R: Threads + Wait + Sync,
+    O: Sink,
+    D: Disk + Send,
+    L: Link + Send,
+>(
+    rt: &R,
+    alloc: Global,
+    opened: Opened,
+    script: &Script,
+    disks: Vec<D>,
+    links: Vec<L>,
+    output: &mut O,
+) -> Ran<D, L>
+    requires named { (opened.seen.book ≡ J.book) × (opened.hand.tallies ≡ J.tallies) × (opened.hand.copy ≡ J.copy) × (opened.hand.kind ≡ J.kind) }
+    requires kind { J.kind ≡ kind_of (is_honest J.kind) script.now.volume }
+    requires count { length disks.items ≡ nodes_in script.now }
+    requires links { length links.items ≡ 80 }
+    requires tells { IsTrue (is_honest J.kind) → IsTrue D.tells }
+    requires counts { map J.first (sids_of script.now.volume) ≡ map (λ d. faults (D.meter d)) disks.items }
+    ensures { Plays D.tells (is_honest J.kind) D.meter D.image L.lost script.now (record { old = disks.items; new = result.disks.items }) (record { old = links.items; new = result.links.items }) (record { before = O.taken output.old; after = O.taken output.new; old = O.faults output.old; new = O.faults output.new }) result.status }
+{
+    read_back();
+    match cast::<J, L>(alloc, opened, script, links) {
+        Ok(cast) => play_cast(rt, alloc, cast, script, disks, output),
+        Err(links) => Ran {
+            status: NO_MEMORY,
+            disks,
+            links,
+        },
+    }
+}

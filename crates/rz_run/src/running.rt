@@ -1,0 +1,82 @@
+//! The call of the program.
+ghost use Rattle.std.specs.Prelude.{◌≡◌, IsTrue, length, map, string_bytes};
+ghost use Rattle.rz_command.specs.Line.{meaning};
+ghost use Rattle.rz_request.specs.Requests.{nodes_in};
+ghost use Rattle.rz_run.specs.Runs.{Plays, Runs};
+
+use crate::outcome::Ran;
+use crate::playing::play_book;
+use crate::telling::NO_MEMORY;
+use rz_chronicle::{Opened, read_back};
+use rz_disk::Disk;
+use rz_link::Link;
+use rz_perform::stop;
+use rz_ports::{Sink, Source};
+use rz_request::run_script;
+use rz_script::Script;
+use std::alloc::Global;
+use std::marker::Brand;
+use std::sync::Wait;
+use std::thread::Threads;
+
+/// Plays a script over disks and links, with a book that is honest or not.
+fn play_script<R: Threads + Wait + Sync, O: Sink, D: Disk + Send, L: Link + Send>(
+    rt: &R,
+    alloc: Global,
+    script: &Script,
+    disks: Vec<D>,
+    links: Vec<L>,
+    honest: bool,
+    output: &mut O,
+) -> Ran<D, L>
+    requires count { length disks.items ≡ nodes_in script.now }
+    requires links { length links.items ≡ 80 }
+    requires tells { IsTrue honest → IsTrue D.tells }
+    ensures { Plays D.tells honest D.meter D.image L.lost script.now (record { old = disks.items; new = result.disks.items }) (record { old = links.items; new = result.links.items }) (record { before = O.taken output.old; after = O.taken output.new; old = O.faults output.old; new = O.faults output.new }) result.status }
+{
+    read_back();
+    let volume = script.volume();
+    let _rules = volume.node_count();
+    match Opened::start(alloc, volume, honest) {
+        Ok(opened) => {
+            play_book::<Brand, R, O, D, L>(rt, alloc, opened, script, disks, links, output)
+        }
+        Err(_) => Ran {
+            status: NO_MEMORY,
+            disks,
+            links,
+        },
+    }
+}
+
+/// Plays the script that the words and the input ask for on threads, over one disk for each node in the order
+/// of the description and one link for each client and each rebuilder in order, and writes what is to be told
+/// of it. The book is honest where the disks tell what they hold. It waits for the others, and returns when
+/// all have stopped.
+pub fn run<R: Threads + Wait + Sync, I: Source, O: Sink, D: Disk + Send, L: Link + Send>(
+    rt: &R,
+    alloc: Global,
+    words: &[String],
+    input: &mut I,
+    output: &mut O,
+    disks: Vec<D>,
+    links: Vec<L>,
+    honest: bool,
+) -> Ran<D, L>
+    requires links { length links.items ≡ 80 }
+    requires tells { IsTrue honest → IsTrue D.tells }
+    ensures { Runs D.tells honest D.meter D.image L.lost (meaning (map string_bytes words.now)) (record { before = I.left input.old; after = I.left input.new; old = I.faults input.old; new = I.faults input.new }) (record { old = disks.items; new = result.disks.items }) (record { old = links.items; new = result.links.items }) (record { before = O.taken output.old; after = O.taken output.new; old = O.faults output.old; new = O.faults output.new }) result.status }
+{
+    let count = disks.len() as u64;
+    match run_script(alloc, words, input, count) {
+        Ok(script) => play_script(rt, alloc, &script, disks, links, honest, output),
+        Err(why) => {
+            let status = stop(alloc, &why, output);
+            Ran {
+                status,
+                disks,
+                links,
+            }
+        }
+    }
+}

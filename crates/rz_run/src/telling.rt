@@ -1,0 +1,79 @@
+//! What is written of a play.
+ghost use Rattle.std.specs.Prelude.{◌≡◌, ◌⊎◌, true, map};
+ghost use Rattle.std.specs.Global.{Vec as AVec};
+ghost use Rattle.rz_events.specs.declared.events.Event.{Event as AnEvent};
+ghost use Rattle.rz_core.specs.History.{of_actor};
+ghost use Rattle.rz_play.specs.World.{actors};
+ghost use Rattle.rz_chronicle.specs.Keys.{sids_of};
+ghost use Rattle.rz_crew.specs.Moves.{HoldsAll, moves_in};
+ghost use Rattle.rz_shown.specs.Shown.{shown_of};
+ghost use Rattle.rz_shown.specs.Text.{run_text};
+ghost use Rattle.rz_perform.specs.Output.{Ends, Lacks, Sunk};
+ghost use Rattle.rz_run.specs.Runs.{Fails};
+
+use rz_chronicle::{Book, Naming, Pass};
+use rz_crew::count_all;
+use rz_events::Event;
+use rz_formatting::DriverFault;
+use rz_perform::{finish, refuse};
+use rz_ports::Sink;
+use rz_request::Refusal;
+use rz_shown::show_run;
+use std::alloc::Global;
+use std::sync::Wait;
+
+/// There was no memory.
+pub(crate) const NO_MEMORY: u8 = 70;
+
+/// Writes why the disks were not formatted, and gives the status.
+pub(crate) fn refuse_disks<O: Sink>(alloc: Global, fault: DriverFault, output: &mut O) -> u8
+    ensures { Fails fault (record { before = O.taken output.old; after = O.taken output.new; old = O.faults output.old; new = O.faults output.new }) result }
+{
+    match fault {
+        DriverFault::NoMemory => NO_MEMORY,
+        DriverFault::Disk { index } => refuse(alloc, &Refusal::Disk { index }, output),
+    }
+}
+
+/// Writes the text of the log that a pass has seen, of which these are the events that are shown, and gives
+/// the status.
+fn tell_log<R: Wait, J: Naming, O: Sink>(
+    rt: &R,
+    alloc: Global,
+    book: &Book<J>,
+    front: Pass<J>,
+    shown: &[Vec<Event>],
+    output: &mut O,
+) -> u8
+    requires held { HoldsAll (sids_of book.now) front.keys }
+    requires shown { map (λ (s : AVec AnEvent). s.items) shown.now ≡ map (λ by. shown_of (of_actor by front.log)) actors }
+    ensures { let sink : Sunk = record { before = O.taken output.old; after = O.taken output.new; old = O.faults output.old; new = O.faults output.new } in Ends sink 0 (run_text front.log (moves_in (sids_of book.now) front.log)) result ⊎ Lacks sink result }
+{
+    let mut front = front;
+    let events = count_all(rt, book, &mut front);
+    match show_run(alloc, shown, events) {
+        Ok(text) => finish(output, 0, &text),
+        Err(_) => NO_MEMORY,
+    }
+}
+
+/// Writes the text of a play that came to its end. Where memory was wanting for someone, nothing is written.
+pub(crate) fn tell<R: Wait, J: Naming, O: Sink>(
+    rt: &R,
+    alloc: Global,
+    book: &Book<J>,
+    front: Pass<J>,
+    shown: &[Vec<Event>],
+    ended: bool,
+    output: &mut O,
+) -> u8
+    requires held { HoldsAll (sids_of book.now) front.keys }
+    requires shown { map (λ (s : AVec AnEvent). s.items) shown.now ≡ map (λ by. shown_of (of_actor by front.log)) actors }
+    ensures { let sink : Sunk = record { before = O.taken output.old; after = O.taken output.new; old = O.faults output.old; new = O.faults output.new } in ((ended ≡ true) × Ends sink 0 (run_text front.log (moves_in (sids_of book.now) front.log)) result) ⊎ Lacks sink result }
+{
+    if ended {
+        tell_log(rt, alloc, book, front, shown, output)
+    } else {
+        NO_MEMORY
+    }
+}
