@@ -1,0 +1,16 @@
+use Rattle.std.proofs.Common.{List, [], ◌++◌, ℕ, ap, ◌∙◌}
+use Rattle.rz_events.specs.declared.events.Event.{Event}
+use Rattle.rz_show.specs.Text.{end_line, lines}
+use Rattle.rz_shown.proofs.Lines.{all-printed, more-lines}
+use Rattle.rz_shown.proofs.text.show_run.Goals as goal
+
+pub loop-own-preserved : goal.loop-own-preserved
+loop-own-preserved c =
+    c.in_ok-push_own.ensures ∙ ap (λ (own : List Event). c.loop-own.out.items ++ lines [] own) c.deref.ensures.value
+    ∙ more-lines c.args.shown.now c.loop-own.own-index c.own-item.result c.loop-own.out.items c.loop-own-test.true c.own-item.is c.loop-own.invariant
+
+pub returns : goal.returns
+returns c = λ history are.
+    c.in_ok-push_end.ensures
+    ∙ ap (λ (out : List ℕ). out ++ end_line c.args.events)
+    (all-printed c.args.shown.now history c.loop-own.own-index c.loop-own.out.items c.loop-own-test.false c.loop-own.invariant are)
