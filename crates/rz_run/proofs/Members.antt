@@ -26,11 +26,11 @@ module _ {J L : Type 0} (kind : List ℕ) (lines : List Line) where
   actor-is : (by : Actor) (m : Member J L) → IsStaffed kind lines (new_pass by) m → actor_of m ≡ by
   actor-is by m s = ap (λ (p : PassView). p.actor) s.pass
 
-  pub actors-are : (as : List Actor) (ms : List (Member J L)) → AllZip (IsStaffed kind lines) (map new_pass as) ms → map actor_of ms ≡ as
+  pub actors-are : (bys : List Actor) (ms : List (Member J L)) → AllZip (IsStaffed kind lines) (map new_pass bys) ms → map actor_of ms ≡ bys
   actors-are [] [] all = refl
   actors-are [] (m ∷ ms) all = absurd all
-  actors-are (a ∷ as) [] all = absurd all
-  actors-are (a ∷ as) (m ∷ ms) all = ap (λ (b : Actor). b ∷ map actor_of ms) (actor-is a m all.0) ∙ ap (λ (bs : List Actor). a ∷ bs) (actors-are as ms all.1)
+  actors-are (a ∷ bys) [] all = absurd all
+  actors-are (a ∷ bys) (m ∷ ms) all = ap (λ (b : Actor). b ∷ map actor_of ms) (actor-is a m all.0) ∙ ap (λ (bs : List Actor). a ∷ bs) (actors-are bys ms all.1)
 
   -- they can go to work
   pub ready-all : (ps : List PassView) (ms : List (Member J L)) → AllZip (IsStaffed kind lines) ps ms → AllByRecursion (CanWork kind) ms
@@ -44,26 +44,26 @@ module _ {J L : Type 0} (kind : List ℕ) (lines : List Line) where
     begun-one : (by : Actor) (m : Member J L) → IsStaffed kind lines (new_pass by) m → member.HasBegun kind log m → HasBegun (is_honest kind) (volume_in kind) lines log by
     begun-one by m s begun =
         let at_pass : IsBegun (is_honest kind) (volume_in kind).layout by (seat_of m.worker.seat) [] log =
-            subst (λ (p : PassView). IsBegun (is_honest kind) (volume_in kind).layout p.actor (seat_of m.worker.seat) p.log log) s.pass begun in
+        subst (λ (p : PassView). IsBegun (is_honest kind) (volume_in kind).layout p.actor (seat_of m.worker.seat) p.log log) s.pass begun in
         subst (λ (from : Seat). IsBegun (is_honest kind) (volume_in kind).layout by from [] log) s.seat at_pass
 
-    pub begun-all : (as : List Actor) (ms : List (Member J L)) → AllZip (IsStaffed kind lines) (map new_pass as) ms → AllByRecursion (member.HasBegun kind log) ms → AllByRecursion (HasBegun (is_honest kind) (volume_in kind) lines log) as
+    pub begun-all : (bys : List Actor) (ms : List (Member J L)) → AllZip (IsStaffed kind lines) (map new_pass bys) ms → AllByRecursion (member.HasBegun kind log) ms → AllByRecursion (HasBegun (is_honest kind) (volume_in kind) lines log) bys
     begun-all [] [] all begun = tt
     begun-all [] (m ∷ ms) all begun = absurd all
-    begun-all (a ∷ as) [] all begun = absurd all
-    begun-all (a ∷ as) (m ∷ ms) all begun = (begun-one a m all.0 begun.0, begun-all as ms all.1 begun.1)
+    begun-all (a ∷ bys) [] all begun = absurd all
+    begun-all (a ∷ bys) (m ∷ ms) all begun = (begun-one a m all.0 begun.0, begun-all bys ms all.1 begun.1)
 
     finished-one : (by : Actor) (m : Member J L) → IsStaffed kind lines (new_pass by) m → member.HasFinished kind log m → HasFinished (is_honest kind) (volume_in kind) lines log by
     finished-one by m s done =
         let at_pass : IsAllDone (is_honest kind) (volume_in kind).layout by (seat_of m.worker.seat) [] log =
-            subst (λ (p : PassView). IsAllDone (is_honest kind) (volume_in kind).layout p.actor (seat_of m.worker.seat) p.log log) s.pass done in
+        subst (λ (p : PassView). IsAllDone (is_honest kind) (volume_in kind).layout p.actor (seat_of m.worker.seat) p.log log) s.pass done in
         subst (λ (from : Seat). IsAllDone (is_honest kind) (volume_in kind).layout by from [] log) s.seat at_pass
 
-    pub finished-all : (as : List Actor) (ms : List (Member J L)) → AllZip (IsStaffed kind lines) (map new_pass as) ms → AllByRecursion (member.HasFinished kind log) ms → AllByRecursion (HasFinished (is_honest kind) (volume_in kind) lines log) as
+    pub finished-all : (bys : List Actor) (ms : List (Member J L)) → AllZip (IsStaffed kind lines) (map new_pass bys) ms → AllByRecursion (member.HasFinished kind log) ms → AllByRecursion (HasFinished (is_honest kind) (volume_in kind) lines log) bys
     finished-all [] [] all done = tt
     finished-all [] (m ∷ ms) all done = absurd all
-    finished-all (a ∷ as) [] all done = absurd all
-    finished-all (a ∷ as) (m ∷ ms) all done = (finished-one a m all.0 done.0, finished-all as ms all.1 done.1)
+    finished-all (a ∷ bys) [] all done = absurd all
+    finished-all (a ∷ bys) (m ∷ ms) all done = (finished-one a m all.0 done.0, finished-all bys ms all.1 done.1)
 
     -- what their links have lost
     lost-one : (count : L → ℕ) (by : Actor) (m : Member J L) (link : L) → IsStaffed kind lines (new_pass by) m → member.HasLost count log m link → HasLost count log (by, link_of m) link
@@ -71,20 +71,20 @@ module _ {J L : Type 0} (kind : List ℕ) (lines : List Line) where
         let few : missed (of_actor by log) + count (link_of m) ≤ 0 + count link = subst (λ (p : PassView). AreLost p.actor p.log log (count (link_of m)) (count link)) s.pass lost in
         omega (arith, few)
 
-    pub lost-all : (count : L → ℕ) (as : List Actor) (ms : List (Member J L)) (links : List L) → AllZip (IsStaffed kind lines) (map new_pass as) ms → AllZip (member.HasLost count log) ms links
-        → AllZip (HasLost count log) (zip as (map link_of ms)) links
+    pub lost-all : (count : L → ℕ) (bys : List Actor) (ms : List (Member J L)) (links : List L) → AllZip (IsStaffed kind lines) (map new_pass bys) ms → AllZip (member.HasLost count log) ms links
+        → AllZip (HasLost count log) (zip bys (map link_of ms)) links
     lost-all count [] [] [] all lost = tt
     lost-all count [] [] (l ∷ links) all lost = absurd lost
     lost-all count [] (m ∷ ms) links all lost = absurd all
-    lost-all count (a ∷ as) [] links all lost = absurd all
-    lost-all count (a ∷ as) (m ∷ ms) [] all lost = absurd lost
-    lost-all count (a ∷ as) (m ∷ ms) (l ∷ links) all lost = (lost-one count a m l all.0 lost.0, lost-all count as ms links all.1 lost.1)
+    lost-all count (a ∷ bys) [] links all lost = absurd all
+    lost-all count (a ∷ bys) (m ∷ ms) [] all lost = absurd lost
+    lost-all count (a ∷ bys) (m ∷ ms) (l ∷ links) all lost = (lost-one count a m l all.0 lost.0, lost-all count bys ms links all.1 lost.1)
 
     -- their events that are shown
-    pub shown-all : (as : List Actor) (ms : List (Member J L)) → AllZip (IsStaffed kind lines) (map new_pass as) ms → map (member.shown_for log) ms ≡ map (λ by. shown_of (of_actor by log)) as
+    pub shown-all : (bys : List Actor) (ms : List (Member J L)) → AllZip (IsStaffed kind lines) (map new_pass bys) ms → map (member.shown_for log) ms ≡ map (λ by. shown_of (of_actor by log)) bys
     shown-all [] [] all = refl
     shown-all [] (m ∷ ms) all = absurd all
-    shown-all (a ∷ as) [] all = absurd all
-    shown-all (a ∷ as) (m ∷ ms) all =
+    shown-all (a ∷ bys) [] all = absurd all
+    shown-all (a ∷ bys) (m ∷ ms) all =
         ap (λ (e : List Event). e ∷ map (member.shown_for log) ms) (ap (λ (by : Actor). shown_of (of_actor by log)) (actor-is a m all.0))
-        ∙ ap (λ (es : List (List Event)). shown_of (of_actor a log) ∷ es) (shown-all as ms all.1)
+        ∙ ap (λ (es : List (List Event)). shown_of (of_actor a log) ∷ es) (shown-all bys ms all.1)

@@ -30,7 +30,7 @@ struct Company<J: Counting> {
 }
 
 /// Names the book, and takes all memory that the play wants beside that of its staff and of its cluster.
-fn company<J: Counting>(
+fn assemble<J: Counting>(
     alloc: Global,
     opened: Opened,
     volume: &Volume,
@@ -76,7 +76,7 @@ pub(crate) struct Cast<J: Counting, L: Link> {
 
 /// Makes a member of each client and each rebuilder of a script, with these links. Where memory is wanting
 /// the links come back.
-pub(crate) fn cast<J: Counting, L: Link>(
+pub(crate) fn engage<J: Counting, L: Link>(
     alloc: Global,
     opened: Opened,
     script: &Script,
@@ -95,7 +95,7 @@ pub(crate) fn cast<J: Counting, L: Link>(
     ensures known { IfOk result (λ c. c.known ≡ script.now.volume) }
     ensures back { IfErr result (λ back. back ≡ links) }
 {
-    match company::<J>(alloc, opened, script.volume()) {
+    match assemble::<J>(alloc, opened, script.volume()) {
         Ok(company) => {
             let Company {
                 book,

@@ -12,7 +12,7 @@ ghost use Rattle.rz_staff.specs.Staff.{link_of, IsStaffed};
 ghost use Rattle.rz_request.specs.Requests.{nodes_in};
 ghost use Rattle.rz_run.specs.Runs.{Plays};
 
-use crate::casting::{Cast, cast, links_of};
+use crate::casting::{Cast, engage, links_of};
 use crate::laws::true_logs;
 use crate::outcome::Ran;
 use crate::telling::{NO_MEMORY, refuse_disks, tell};
@@ -128,7 +128,7 @@ pub(crate) fn play_book<
     ensures { Plays D.tells (is_honest J.kind) D.meter D.image L.lost script.now (record { old = disks.items; new = result.disks.items }) (record { old = links.items; new = result.links.items }) (record { before = O.taken output.old; after = O.taken output.new; old = O.faults output.old; new = O.faults output.new }) result.status }
 {
     read_back();
-    match cast::<J, L>(alloc, opened, script, links) {
+    match engage::<J, L>(alloc, opened, script, links) {
         Ok(cast) => play_cast(rt, alloc, cast, script, disks, output),
         Err(links) => Ran {
             status: NO_MEMORY,

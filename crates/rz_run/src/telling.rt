@@ -1,13 +1,8 @@
 //! What is written of a play.
-ghost use Rattle.std.specs.Prelude.{◌≡◌, ◌⊎◌, true, map};
-ghost use Rattle.std.specs.Global.{Vec as AVec};
-ghost use Rattle.rz_events.specs.declared.events.Event.{Event as AnEvent};
-ghost use Rattle.rz_core.specs.History.{of_actor};
-ghost use Rattle.rz_play.specs.World.{actors};
+ghost use Rattle.std.specs.Prelude.{◌≡◌, ◌⊎◌, true};
 ghost use Rattle.rz_chronicle.specs.Keys.{sids_of};
 ghost use Rattle.rz_crew.specs.Moves.{HoldsAll, moves_in};
-ghost use Rattle.rz_shown.specs.Shown.{shown_of};
-ghost use Rattle.rz_shown.specs.Text.{run_text};
+ghost use Rattle.rz_shown.specs.Text.{AreShownOf, run_text};
 ghost use Rattle.rz_perform.specs.Output.{Ends, Lacks, Sunk};
 ghost use Rattle.rz_run.specs.Runs.{Fails};
 
@@ -46,7 +41,7 @@ fn tell_log<R: Wait, J: Naming, O: Sink>(
     output: &mut O,
 ) -> u8
     requires held { HoldsAll (sids_of book.now) front.keys }
-    requires shown { map (λ (s : AVec AnEvent). s.items) shown.now ≡ map (λ by. shown_of (of_actor by front.log)) actors }
+    requires shown { AreShownOf shown.now front.log }
     ensures { let sink : Sunk = record { before = O.taken output.old; after = O.taken output.new; old = O.faults output.old; new = O.faults output.new } in Ends sink 0 (run_text front.log (moves_in (sids_of book.now) front.log)) result ⊎ Lacks sink result }
 {
     let mut front = front;
@@ -68,7 +63,7 @@ pub(crate) fn tell<R: Wait, J: Naming, O: Sink>(
     output: &mut O,
 ) -> u8
     requires held { HoldsAll (sids_of book.now) front.keys }
-    requires shown { map (λ (s : AVec AnEvent). s.items) shown.now ≡ map (λ by. shown_of (of_actor by front.log)) actors }
+    requires shown { AreShownOf shown.now front.log }
     ensures { let sink : Sunk = record { before = O.taken output.old; after = O.taken output.new; old = O.faults output.old; new = O.faults output.new } in ((ended ≡ true) × Ends sink 0 (run_text front.log (moves_in (sids_of book.now) front.log)) result) ⊎ Lacks sink result }
 {
     if ended {

@@ -6,8 +6,8 @@ use Rattle.rz_run.specs.Runs.{Plays}
 use Rattle.rz_run.proofs.Told.{lacking, volume-is}
 use Rattle.rz_run.proofs.playing.play_book.Goals as goal
 
-pub cast-requires-clause-volume : goal.cast-requires-clause-volume
-cast-requires-clause-volume g c = sym (volume-is c.read_back.ensures g.J.Naming.kind c.args.script.now.volume c.requires.kind)
+pub engage-requires-clause-volume : goal.engage-requires-clause-volume
+engage-requires-clause-volume g c = sym (volume-is c.read_back.ensures g.J.Naming.kind c.args.script.now.volume c.requires.kind)
 
 pub returns-in-Ok : goal.returns-in-Ok
 returns-in-Ok g c =

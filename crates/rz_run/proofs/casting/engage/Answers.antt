@@ -6,7 +6,7 @@ use Rattle.rz_script.specs.Lines.{AreLines}
 use Rattle.rz_chronicle.specs.Kinds.{volume_in}
 use Rattle.rz_chronicle.specs.Rules.{PassView}
 use Rattle.rz_staff.specs.Staff.{IsStaffed}
-use Rattle.rz_run.proofs.casting.cast.Goals as goal
+use Rattle.rz_run.proofs.casting.engage.Goals as goal
 
 pub hire-requires-clause-layout : goal.hire-requires-clause-layout
 hire-requires-clause-layout g c = ap (λ (v : Volume). v.layout) (c.in-Ok.ensures.known ∙ (c.volume.ensures ∙ c.requires.volume))
