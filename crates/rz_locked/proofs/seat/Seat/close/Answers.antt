@@ -19,10 +19,10 @@ returns-clause-images g c = λ honest.
     let node = c.self.inside.node in
     let logged = (c.self.invariant.3 honest).1 in
     let from : AreImagesFrom v l n (image c.into_disk.result) = λ new later same.
-        let now = c.seat_kept.ensures v l new n node (c.room-fit.ensures.fit honest) later same logged in
-        let it = c.logged.ensures v (facts new) (of_word (w.Node n) new) n node.geometry node.state node.disk now.tied now.imaged in
-        subst (λ (d : g.row.D.Denot). AreImages v (facts new) (of_word (w.Node n) new) n _ (image d)) (sym c.into_disk.ensures)
-        (subst (λ (k : Geometry). AreImages v (facts new) (of_word (w.Node n) new) n k (image node.disk)) c.self.invariant.2 it) in
+    let now = c.seat_kept.ensures v l new n node (c.room-fit.ensures.fit honest) later same logged in
+    let it = c.logged.ensures v (facts new) (of_word (w.Node n) new) n node.geometry node.state node.disk now.tied now.imaged in
+    subst (λ (d : g.row.D.Denot). AreImages v (facts new) (of_word (w.Node n) new) n _ (image d)) (sym c.into_disk.ensures)
+    (subst (λ (k : Geometry). AreImages v (facts new) (of_word (w.Node n) new) n k (image node.disk)) c.self.invariant.2 it) in
     subst (λ (x : SeatView). AreImagesFrom v x.log x.node (image c.into_disk.result)) c.self.view_is from
 
 pub returns-clause-counted : goal.returns-clause-counted
