@@ -14,7 +14,7 @@ use rz_config::Volume;
 use rz_link::Link;
 use rz_locked::Counting;
 use rz_script::Script;
-use rz_staff::{Staff, dismiss, hire, roll};
+use rz_staff::{Room, Staff, dismiss, hire, roll};
 use std::alloc::{AllocError, Global};
 
 /// The book under its name, the pass of the administrator, the posts of the cluster's words, and the passes
@@ -126,5 +126,10 @@ pub(crate) fn links_of<J: Counting, L: Link>(staff: Staff<J, L>) -> Vec<L>
     ensures { result.items ≡ map link_of staff.members.items }
 {
     let Staff { members, room } = staff;
-    dismiss(members, room).links
+    let Room {
+        links,
+        passes: _passes,
+        shown: _shown,
+    } = dismiss(members, room);
+    links
 }

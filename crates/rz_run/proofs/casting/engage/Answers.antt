@@ -15,7 +15,7 @@ pub hire-requires-clause-lines : goal.hire-requires-clause-lines
 hire-requires-clause-lines g c =
     subst (λ (ls : List Line). AreLines (volume_in g.J.Naming.kind) ls) (sym c.lines.ensures.value) (subst (λ (v : Volume). AreLines v c.args.script.now.lines) c.requires.volume c.lines.ensures.limits)
 
-pub returns-in-Ok-Ok-clause-staffed : goal.returns-in-Ok-Ok-clause-staffed
-returns-in-Ok-Ok-clause-staffed g c =
+pub returns-in-Ok-hire-clause-staffed : goal.returns-in-Ok-hire-clause-staffed
+returns-in-Ok-hire-clause-staffed g c =
     subst (λ (ps : List PassView). AllZip (IsStaffed g.J.Naming.kind c.args.script.now.lines) ps c.in-Ok-hire.staff.members.items) c.in-Ok.ensures.passes
     (subst (λ (ls : List Line). AllZip (IsStaffed g.J.Naming.kind ls) c.in-Ok.company.passes.items c.in-Ok-hire.staff.members.items) c.lines.ensures.value c.in-Ok-hire.ensures.staffed)

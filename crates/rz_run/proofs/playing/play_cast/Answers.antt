@@ -1,4 +1,4 @@
-use Rattle.std.proofs.Common.{◌≡◌, ℕ, List, map, length, sym, ap, ◌∙◌, subst, inl, inr}
+use Rattle.std.proofs.Common.{◌≡◌, ℕ, List, map, length, sym, ap, ◌∙◌, subst, inl, inr, true}
 use Rattle.std.specs.List.{AllZip}
 use Rattle.std.specs.Global.{Vec}
 use Rattle.rz_disk.specs.Meter.{faults}
@@ -17,6 +17,7 @@ use Rattle.rz_chronicle.specs.Rules.{PassView}
 use Rattle.rz_crew.specs.Moves.{HoldsAll}
 use Rattle.rz_admin.specs.Orders.{AreBegun, AreDone}
 use Rattle.rz_perform.specs.Output.{Sunk}
+use Rattle.rz_run.specs.Done.{IsAllFinished}
 use Rattle.rz_run.proofs.Members.{actors-are, lost-all, ready-all, shown-all}
 use Rattle.rz_run.proofs.Told.{all-begun, all-finished, disks-at, told-of, volume-is}
 use Rattle.rz_run.proofs.playing.play_cast.Goals as goal
@@ -52,7 +53,7 @@ play-front-requires-clause-lines g c =
 pub tell-status-requires-clause-held : goal.tell-status-requires-clause-held
 tell-status-requires-clause-held g c =
     let held = c.play-front.ensures.held (actors-are g.J.Naming.kind c.args.script.now.lines actors c.args.cast.staff.members.items c.requires.staffed) in
-    subst (λ (v : Volume). HoldsAll (sids_of v) c.play-front.result.front.keys) (c.in-Ok.ensures ∙ sym c.requires.book ∙ sym c.play-front.ensures.book) held
+    subst (λ (v : Volume). HoldsAll (sids_of v) c.play-front.result.front.keys) (c.in-Ok.ensures.volume ∙ sym c.requires.book ∙ sym c.play-front.ensures.book) held
 
 pub tell-status-requires-clause-shown : goal.tell-status-requires-clause-shown
 tell-status-requires-clause-shown g c =
@@ -75,14 +76,14 @@ returns-in-Ok g c =
     let book_is : c.play-front.result.book ≡ v = c.play-front.ensures.book ∙ (c.requires.book ∙ at) in
     let begun = all-begun c.read_back.ensures kind v c.requires.kind lines c.args.cast.staff.members.items c.requires.staffed c.args.cast.admin c.requires.admin log c.play-front.ensures.begun
     (subst (λ (ls : List Line). AreBegun kind ls c.args.cast.admin.log log) c.lines.ensures.value c.play-front.ensures.ordered) in
-    let finished = λ ended. all-finished c.read_back.ensures kind v c.requires.kind lines c.args.cast.staff.members.items c.requires.staffed c.args.cast.admin c.requires.admin log (c.play-front.ensures.finished ended)
+    let finished : c.play-front.result.ended ≡ true → IsAllFinished (is_honest kind) v lines log = λ ended. all-finished c.read_back.ensures kind v c.requires.kind lines c.args.cast.staff.members.items c.requires.staffed c.args.cast.admin c.requires.admin log (c.play-front.ensures.finished ended)
     (subst (λ (ls : List Line). AreDone kind ls c.args.cast.admin.log log) c.lines.ensures.value (c.play-front.ensures.orders ended)) in
     inr (
       log,
       record {
         told = told-of (is_honest kind) c.play-front.result.ended v c.play-front.result.book lines log sink c.tell-status.result book_is finished begun c.tell-status.ensures;
         true_log = λ honest. c.true_logs.ensures v log (subst (λ (u : Volume). IsLegal u log) at (c.play-front.ensures.fit honest));
-        disks_told = disks-at c.read_back.ensures kind v c.requires.kind g.D.Disk.meter g.D.Disk.image g.J.Counting.first log c.in-Ok.cluster c.args.disks.items c.play-front.result.disks.items c.in-Ok.ensures c.requires.counts c.play-front.ensures.disks;
+        disks_told = disks-at c.read_back.ensures kind v c.requires.kind g.D.Disk.meter g.D.Disk.image g.J.Counting.first log c.in-Ok.cluster c.args.disks.items c.play-front.result.disks.items c.in-Ok.ensures.volume c.requires.counts c.play-front.ensures.disks;
         links_told = lost-all kind lines log g.L.Link.lost actors c.args.cast.staff.members.items c.play-front.result.links.items c.requires.staffed c.play-front.ensures.links;
       },
     )

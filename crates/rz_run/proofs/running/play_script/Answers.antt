@@ -25,7 +25,7 @@ play_book-requires-clause-tells g c =
 pub play_book-requires-clause-counts : goal.play_book-requires-clause-counts
 play_book-requires-clause-counts g c =
     let v : Volume = c.args.script.now.volume in
-    let distinct = subst (λ (u : Volume). IsDistinct nat_eq (sids_of u)) c.volume-volume.ensures c.node_count-_rules.ensures.rules.distinct_sids in
+    let distinct = subst (λ (u : Volume). IsDistinct nat_eq (sids_of u)) c.volume-volume.ensures c.node_count-rules.ensures.rules.distinct_sids in
     let same : length (sids_of v) ≡ length (map (λ d. faults (g.D.Disk.meter d)) c.args.disks.items) =
     length-map (nodes_of v.clusters) (λ (n : NodeSpec). n.sid) ∙ (sym c.requires.count ∙ sym (length-map c.args.disks.items (λ d. faults (g.D.Disk.meter d)))) in
     beside-all (sids_of v) (map (λ d. faults (g.D.Disk.meter d)) c.args.disks.items) distinct same
