@@ -3,7 +3,7 @@ use Rattle.rz_events.specs.declared.events.Word.TheVariants as w
 use Rattle.rz_events.specs.declared.events.Event.{Event}
 use Rattle.rz_cells.specs.declared.geometry.Geometry.{Geometry}
 use Rattle.rz_core.specs.History.{facts, of_word}
-use Rattle.rz_image_laws.specs.Images.{AreImages}
+use Rattle.rz_image_laws.specs.Images.{AreImages, geometry_in}
 use Rattle.rz_chronicle.specs.Kinds.{volume_in}
 use Rattle.rz_locked.specs.Counts.{AreCountedSince}
 use Rattle.rz_locked.specs.Seats.{AreImagesFrom, SeatView}
@@ -21,7 +21,7 @@ returns-clause-images g c = λ honest.
     let from : AreImagesFrom v l n (image c.into_disk.result) = λ new later same.
     let now = c.seat_kept.ensures v l new n node (c.room-fit.ensures.fit honest) later same logged in
     let it = c.logged.ensures v (facts new) (of_word (w.Node n) new) n node.geometry node.state node.disk now.tied now.imaged in
-    subst (λ (d : g.row.D.Denot). AreImages v (facts new) (of_word (w.Node n) new) n _ (image d)) (sym c.into_disk.ensures)
+    subst (λ (d : g.row.D.Denot). AreImages v (facts new) (of_word (w.Node n) new) n (geometry_in v n) (image d)) (sym c.into_disk.ensures)
     (subst (λ (k : Geometry). AreImages v (facts new) (of_word (w.Node n) new) n k (image node.disk)) c.self.invariant.2 it) in
     subst (λ (x : SeatView). AreImagesFrom v x.log x.node (image c.into_disk.result)) c.self.view_is from
 
