@@ -9,7 +9,7 @@ use Rattle.rz_staff.specs.Staff.{IsStaffed}
 use Rattle.rz_run.proofs.casting.engage.Goals as goal
 
 pub hire-requires-clause-layout : goal.hire-requires-clause-layout
-hire-requires-clause-layout g c = ap (λ (v : Volume). v.layout) (c.in-Ok.ensures.known ∙ (c.volume.ensures ∙ c.requires.volume))
+hire-requires-clause-layout g c = ap (λ (v : Volume). v.layout) (c.known.view_is ∙ (c.in-Ok.ensures.known ∙ (c.volume.ensures ∙ c.requires.volume)))
 
 pub hire-requires-clause-lines : goal.hire-requires-clause-lines
 hire-requires-clause-lines g c =
