@@ -1,5 +1,6 @@
 //! Whole journals: which entries may stand behind which.
 
+use crate::comparing::compare;
 use crate::disks::{damaged, disk_of};
 use crate::entries::{CALLS, PARTS};
 use std::test::Fail;
@@ -60,7 +61,7 @@ fn these_open(rt: HostRuntime) -> Result<(), Fail> {
     for (number, letters) in OPEN.iter().enumerate() {
         let disk = disk_of(rt.alloc(), letters)?;
         let (_, found) = damaged(rt.alloc(), disk)?;
-        assert_eq!(rt; found, None, "journal {number}");
+        compare(&found, &None, number)?;
     }
     Ok(())
 }
@@ -70,7 +71,7 @@ fn these_are_damaged(rt: HostRuntime) -> Result<(), Fail> {
     for (number, (letters, place)) in DAMAGED.iter().enumerate() {
         let disk = disk_of(rt.alloc(), letters)?;
         let (_, found) = damaged(rt.alloc(), disk)?;
-        assert_eq!(rt; found, Some(*place), "journal {number}");
+        compare(&found, &Some(*place), number)?;
     }
     Ok(())
 }
