@@ -26,7 +26,7 @@ keys-of-words (p ∷ ps) = ap (λ (ks : List ℕ). word_key p.word ∷ ks) (keys
 pub desk-keys : (old new : List ℕ) (export : PostView) (ps : List PostView) (sids : List ℕ) → new ≡ old ++ map (λ (p : PostView). word_key p.word) (export ∷ ps)
     → export.word ≡ Export → map (λ (p : PostView). p.word) ps ≡ map Node sids → new ≡ old ++ map word_key (Export ∷ map Node sids)
 desk-keys old new export ps sids is first nodes =
-    is ∙ ap (λ (ks : List ℕ). old ++ ks) (keys-of-words (export ∷ ps) ∙ ap (map word_key) (ap₂ (λ (a : Word) (as : List Word). a ∷ as) first nodes))
+    is ∙ ap (λ (ks : List ℕ). old ++ ks) (keys-of-words (export ∷ ps) ∙ ap (map word_key) (ap₂ (λ (a : Word) (words : List Word). a ∷ words) first nodes))
 
 -- Members that have worked are the same actors.
 
@@ -34,7 +34,7 @@ pub same-actors : {J L : Type 0} (count : L → ℕ) (kind : List ℕ) (ms ns : 
 same-actors count kind [] [] all = refl
 same-actors count kind [] (n ∷ ns) all = absurd all
 same-actors count kind (m ∷ ms) [] all = absurd all
-same-actors count kind (m ∷ ms) (n ∷ ns) all = ap₂ (λ (a : Actor) (as : List Actor). a ∷ as) all.0.actor (same-actors count kind ms ns all.1)
+same-actors count kind (m ∷ ms) (n ∷ ns) all = ap₂ (λ (a : Actor) (others : List Actor). a ∷ others) all.0.actor (same-actors count kind ms ns all.1)
 
 -- All words.
 
