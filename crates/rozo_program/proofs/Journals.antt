@@ -1,5 +1,5 @@
 -- The disk of a journal behind those of the nodes, and how a journal ends a play.
-use Rattle.std.proofs.Common.{ℕ, zero, suc, ◌≡◌, ◌≢◌, ◌+◌, ◌<◌, ◌≤◌, Bool, true, false, IsTrue, List, [], ◌∷◌, ◌++◌, Option, Some, None, length, map, refl, sym, ap, ◌∙◌, subst, arith}
+use Rattle.std.proofs.Common.{ℕ, zero, suc, inl, inr, ◌⊎◌, ◌≡◌, ◌≢◌, ◌+◌, ◌<◌, ◌≤◌, Bool, true, false, IsTrue, List, [], ◌∷◌, ◌++◌, Option, Some, None, length, map, refl, sym, ap, ◌∙◌, subst, arith}
 use Rattle.mj_angles.specs.declared.layout.Layout.{Layout}
 use Rattle.rz_disk.specs.Meter.{Meter, faults, Rises as HasRisen}
 use Rattle.rz_events.specs.Volume.{Volume}
@@ -13,6 +13,8 @@ use Rattle.rz_metadata.specs.declared.metadata.Metadata.TheVariants.{InMemory, J
 use Rattle.rz_metadata.specs.declared.journaled.Refusal.{Refusal}
 use Rattle.rz_metadata.specs.declared.journaled.Refusal.TheVariants.{Full, Failed}
 use Rattle.rz_metadata.specs.Stands.{disk_of, is_journaled}
+use Rattle.rz_core.specs.Legal.{IsLegalInRuns}
+use Rattle.rz_driver.specs.Continued.{AreLeft}
 use Rattle.rz_driver.specs.Endings.{EndsAsRefused, StandsForLog, end_by}
 use Rattle.rz_lines.specs.Ends.{EndsBy}
 use Rattle.rz_lines.specs.declared.lines.PlayEnd.{PlayEnd}
@@ -23,7 +25,7 @@ use Rattle.rz_request.specs.declared.wishes.Wish.{Wish}
 use Rattle.rz_request.specs.declared.wishes.Wish.TheVariants as wishes
 use Rattle.rz_perform.specs.Replays.{Course, Faulted, HasJournal, MayEnd}
 use Rattle.rz_perform.specs.Scrubs.{BetweenTurns}
-use Rattle.rozo_program.specs.Disks.{AreAllBack, AreBackAgain, AreBackFrom, AreFaultsTold, AreImagesTold, IsJournalLeft, asked_in, faulted, refused_by}
+use Rattle.rozo_program.specs.Disks.{AreAllBack, AreBackAgain, AreBackFrom, AreFaultsTold, AreImagesTold, IsJournalLeft, LeavesNext, MayFollow, asked_in, faulted, refused_by}
 
 -- Without a journal.
 
@@ -149,3 +151,23 @@ between-on ends.TooManyTurns so then on h = on h
 between-on ends.NoMemory so then on h = tt
 between-on ends.Journal so then on h = tt
 between-on ends.JournalFull so then on h = tt
+
+-- What a run leaves for the next.
+
+-- where a play ended between two turns the stage holds, and where the journal was full it says so
+pub whole-end : (Holds Leaves : Type 0) (end : PlayEnd) (refusal : Option Refusal) (journaled : Bool) → EndsBy journaled (end_by refusal) end → BetweenTurns end Holds → Leaves → LeavesNext end (Holds ⊎ (Leaves × (refusal ≡ Some Full)))
+whole-end Holds Leaves ends.Ended refusal journaled cut holds left = inl holds
+whole-end Holds Leaves ends.TooManyTurns refusal journaled cut holds left = inl holds
+whole-end Holds Leaves ends.JournalFull refusal journaled cut holds left = inr (left, refused ends.JournalFull refusal cut.0)
+whole-end Holds Leaves ends.NoMemory refusal journaled cut holds left = tt
+whole-end Holds Leaves ends.Journal refusal journaled cut holds left = tt
+
+pub next-on : (end : PlayEnd) (so then : Type 0) → (so → then) → LeavesNext end so → LeavesNext end then
+next-on ends.Ended so then on h = on h
+next-on ends.TooManyTurns so then on h = on h
+next-on ends.JournalFull so then on h = on h
+next-on ends.NoMemory so then on h = tt
+next-on ends.Journal so then on h = tt
+
+pub may-follow : {D : Type 0} (image : D → List ℕ → Type 0) (v : Volume) (h : List Event) (disks : List D) → IsLegalInRuns v h → AreLeft image v h disks → MayFollow image v h disks
+may-follow image v h disks legal left = record { earlier = λ few there. record { legal = legal; few = few; there = there }; left = left }

@@ -1,21 +1,24 @@
 -- Disks as they were lent, and as they are handed back.
-use Rattle.std.specs.Prelude.{ℕ, Bool, false, IsTrue, ◌≡◌, ◌≤◌, ◌+◌, map, List, [], ◌∷◌, ◌++◌, Option, Some, None, Result, Ok, Err}
+use Rattle.std.specs.Prelude.{ℕ, Bool, false, IsTrue, ◌≡◌, ◌≢◌, ◌<◌, ◌≤◌, ◌+◌, ◌^◌, map, length, List, [], ◌∷◌, ◌++◌, Option, Some, None, Result, Ok, Err}
 use Rattle.rz_disk.specs.Meter.{Meter, faults}
 use Rattle.rz_stations.specs.Meters.{AreDisksCounted, faults_at}
 use Rattle.rz_stations.specs.Images.{AreDisksImaged}
 use Rattle.rz_events.specs.Volume.{Volume, nodes_of}
 use Rattle.rz_events.specs.declared.files.NodeSpec.{NodeSpec}
+use Rattle.rz_events.specs.declared.nodes.Phase.TheVariants.{Lost}
+use Rattle.rz_events.specs.declared.events.Word.TheVariants.{Node}
 use Rattle.rz_events.specs.declared.events.Event.{Event}
 use Rattle.rz_formatting.specs.Formatted.{AreBack}
 use Rattle.rz_metadata.specs.declared.journaled.Refusal.{Refusal}
 use Rattle.rz_metadata.specs.declared.journaled.Refusal.TheVariants.{Full, Failed}
 use Rattle.rz_driver.specs.Endings.{EndsAsRefused, StandsForLog}
 use Rattle.rz_driver.specs.Formatted.{IsJournalBack}
-use Rattle.rz_core.specs.History.{facts}
+use Rattle.rz_core.specs.History.{of_word}
+use Rattle.rz_core.specs.NodeRows.{IsNodeOf}
+use Rattle.rz_core.specs.NodeWord.{phase}
 use Rattle.rz_opening.specs.Opened.{AreKept}
 use Rattle.rz_opening.specs.declared.refusal.OpenRefusal.TheVariants.{Open}
 use Rattle.rz_driver.specs.Continued.{AreLeft, IsCauseAgain}
-use Rattle.rz_driver.specs.Pictures.{AreBytes}
 use Rattle.rz_continuation.specs.Earlier.{IsEarlier, IsRestarted}
 use Rattle.rz_script.specs.declared.line.Line.{Line}
 use Rattle.rz_play.specs.Faults.{missed, misses}
@@ -76,6 +79,25 @@ IsJournalTold tells meter image Unplayed v old new h = IsJournalBack tells meter
 IsJournalTold tells meter image (Unopened index cause) v old new h = ⊥
 IsJournalTold tells meter image (Performed end later) v old new h = IsJournalLeft tells meter image end v old new h
 
+-- What a run leaves for one more, which goes on over its disks: they are as that run takes them, and the log is one of earlier runs,
+-- if it has fewer than 2^63 events and no node is lost after it.
+pub record MayFollow {D : Type 0} (image : D → List ℕ → Type 0) (v : Volume) (h : List Event) (disks : List D) : Type 0 where
+  pub earlier : length h < 2 ^ 63 → ((n : ℕ) → IsNodeOf v n → phase (of_word (Node n) h) ≢ Lost) → IsEarlier v h
+  pub left : AreLeft image v h disks
+
+-- a run leaves that which ended between two turns, or where the journal was full
+abbrev pub LeavesNext : PlayEnd → Type 0 → Type 0
+LeavesNext Ended next = next
+LeavesNext TooManyTurns next = next
+LeavesNext JournalFull next = next
+LeavesNext NoMemory next = Unit {0}
+LeavesNext Journal next = Unit {0}
+
+abbrev pub IsNextTold : {D : Type 0} → Bool → (D → List ℕ → Type 0) → Course → Volume → List D → List Event → Type 0
+IsNextTold tells image Unplayed v new h = Unit {0}
+IsNextTold tells image (Unopened index cause) v new h = Unit {0}
+IsNextTold tells image (Performed end later) v new h = IsTrue tells → LeavesNext end (MayFollow image v h new)
+
 -- The disks of the nodes, and behind them that of a journal. The faults of the nodes are told by the log with the records that were
 -- asked for after it.
 pub record AreAllBack {D : Type 0} (tells : Bool) (meter : D → Meter) (image : D → List ℕ → Type 0) (course : Course) (v : Volume) (old new : List D) (h : List Event) : Type 0 where
@@ -88,10 +110,11 @@ pub record AreAllBack {D : Type 0} (tells : Bool) (meter : D → Meter) (image :
   pub faults_told : AreFaultsTold meter v old nodes_back (asked_in course ++ h)
   pub images_told : AreImagesTold tells meter image course v nodes nodes_back h
   pub journal_told : IsJournalTold tells meter image course v journal journal_back h
+  pub next : IsNextTold tells image course v new h
 
 -- A play that went on after this earlier log. Behind that log, with the nodes stopped and started, its own is legal, and both are
 -- sound. Each of its lost messages was lost by a line or by the link, and its disks' faults are counted by its own events. The
--- images of each disk stand for what both logs say.
+-- images of each disk stand for what both logs say, and one more run may go on after both.
 pub record IsGoneOn {D : Type 0} (tells : Bool) (meter : D → Meter) (image : D → List ℕ → Type 0) (end : PlayEnd) (v : Volume) (lines : List Line) (lost : ℕ) (earlier : List Event)
     (disks : List D) (journal : D) (nodes_back : List D) (journal_back : D) (h : List Event) : Type 0 where
   pub old : List Event
@@ -101,6 +124,7 @@ pub record IsGoneOn {D : Type 0} (tells : Bool) (meter : D → Meter) (image : D
   pub faults_told : AreFaultsTold meter v disks nodes_back h
   pub images_told : AreImagesTold tells meter image (Performed end []) v disks nodes_back (h ++ old)
   pub journal_told : IsJournalLeft tells meter image end v journal journal_back (h ++ old)
+  pub next : LeavesNext end (MayFollow image v (h ++ old) (nodes_back ++ journal_back ∷ []))
 
 -- The disks of the nodes, and behind them that of the journal, which were used again. Over disks that tell their texts the play
 -- went on after each earlier log that the disks stood for. Over others the faults of the nodes are told by the log alone.
@@ -112,7 +136,7 @@ pub record AreUsedAgain {D : Type 0} (tells : Bool) (meter : D → Meter) (image
   pub journal_back : D
   pub new_are : new ≡ nodes_back ++ journal_back ∷ []
   pub untold : tells ≡ false → AreFaultsTold meter v old nodes_back h
-  pub goes_on : IsTrue tells → (earlier : List Event) → IsEarlier v earlier → AreBytes (facts earlier) → AreLeft image v earlier old
+  pub goes_on : IsTrue tells → (earlier : List Event) → IsEarlier v earlier → AreLeft image v earlier old
       → IsGoneOn tells meter image end v lines lost earlier old journal nodes_back journal_back h
 
 -- Disks that were to be used again. Where no play began each has the text that it came with, each image is one from before, and no

@@ -121,6 +121,7 @@ fn play_first<D: Disk, L: Link, O: Sink>(
     ensures { (course : Course) × Follows D.tells course request.now (faulted D.meter disks.old.items disks.new.items) (L.lost link.new - L.lost link.old) (record { before = O.taken output.old; after = O.taken output.new; old = O.faults output.old; new = O.faults output.new }) result.status (reverse result.log.items)
         × HandsBack D.tells D.text D.meter D.image course (Ok request.now) (L.lost link.new - L.lost link.old) disks.old.items disks.new.items (reverse result.log.items) }
 {
+    rz_core::one_run();
     rz_scrub_laws::untouched::<D>();
     let volume = request.script.volume();
     let _nodes = volume.node_count();
@@ -184,6 +185,7 @@ fn play_again<D: Disk, L: Link, O: Sink>(
     rz_scrub_laws::untouched::<D>();
     begins();
     rz_continuation::afterwards();
+    rz_core::next_run();
     keeps_rules(&request.script);
     let volume = request.script.volume();
     let lent = mem::replace(disks, Vec::new(alloc));

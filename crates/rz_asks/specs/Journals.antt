@@ -1,42 +1,36 @@
--- Which calls of the export a log tells, and that the journal's disk stands for them.
-use Rattle.std.specs.Prelude.{ℕ, Bool, ◌≡◌, ◌⊎◌, List, [], ◌∷◌, ◌++◌, Some}
+-- For which calls the journal's disk stands when an actor has asked the export.
+use Rattle.std.specs.Prelude.{ℕ, Bool, ◌≡◌, ◌<◌, ◌⊎◌, List, [], ◌∷◌, ◌++◌, Option, Some, None}
+use Rattle.std.specs.List.{All}
 use Rattle.rz_disk.specs.Meter.{Meter}
-use Rattle.rz_events.specs.declared.keys.Actor.{Actor}
+use Rattle.rz_events.specs.declared.tree.TreeCall.TheVariants as tree
 use Rattle.rz_events.specs.declared.export.Call.{Call}
-use Rattle.rz_events.specs.declared.export.Reply.{Reply}
-use Rattle.rz_events.specs.declared.events.Event.{Event}
-use Rattle.rz_events.specs.declared.events.Word.TheVariants.{Export}
-use Rattle.rz_export_model.specs.ExportEvents.{export_event}
-use Rattle.rz_core.specs.History.{of_word}
+use Rattle.rz_events.specs.declared.export.Call.TheVariants as call
+use Rattle.rz_export_model.specs.Export.{export_reply}
 use Rattle.rz_journal.specs.Seen.{calls_after}
 use Rattle.rz_metadata.specs.declared.metadata.Metadata.{Metadata}
-use Rattle.rz_metadata.specs.Stands.{Stands, StandsAtEnd}
+use Rattle.rz_metadata.specs.Stands.{export_in, Stands, StandsAtEnd}
+use Rattle.rz_operation.specs.Machine.{Machine}
+use Rattle.rz_operation_model.specs.Ask.{Ask, AskExport, AskLock, ask_of}
 
--- The event is that of a reply to a call; the call is added where it changed the export. The event of a publish does not
--- tell the length, which may be any.
-pub record AddsCall (x : Event) (before after : List Call) : Type 0 where
-  pub by : Actor
-  pub call : Call
-  pub reply : Reply
-  pub event_is : export_event by call reply ≡ Some x
-  pub after_is : after ≡ calls_after reply call before
+-- the call of the export that is asked for, if one is
+abbrev pub call_asked : Ask → Option Call
+call_asked (AskExport c) = Some c
+call_asked (AskLock path exclusive from count) = Some (call.Tree (tree.OpenFile path))
+call_asked ask = None
 
--- the calls that changed the export, the oldest first, as its events tell them, the newest first
-abbrev pub AreTold : List Event → List Call → Type 0
-AreTold [] calls = calls ≡ []
-AreTold (x ∷ h) calls = (before : List Call) × AreTold h before × AddsCall x before calls
+-- the text of a write that begins is one of bytes
+abbrev pub HasBytes : Call → Type 0
+HasBytes (call.Begin key text) = All (λ x. x < 256) text
+HasBytes c = Unit {0}
 
--- the calls of the export that a log tells
-abbrev pub AreCallsOf : List Event → List Call → Type 0
-AreCallsOf log calls = AreTold (of_word Export log) calls
+-- A call was replied to. Where it was accepted it joins the calls for which the journal's disk stands, as it was called.
+pub record KeepsCall {D : Type 0} (tells : Bool) (meter : D → Meter) (image : D → List ℕ → Type 0) (c : Call) (m m' : Metadata D) : Type 0 where
+  pub bytes : HasBytes c
+  pub stands : (first : ℕ) (calls : List Call) → Stands tells meter image first m calls → Stands tells meter image first m' (calls_after (export_reply (export_in m) c) c calls)
 
--- The journal stands for the calls of the log. What a turn keeps, it keeps behind the log of all earlier runs.
-
-abbrev pub KeepsLog : {D : Type 0} → Bool → (D → Meter) → (D → List ℕ → Type 0) → ℕ → Metadata D → List Event → Type 0
-KeepsLog tells meter image first m log = (calls : List Call) × AreCallsOf log calls × Stands tells meter image first m calls
-
-abbrev pub KeepsOn : {D : Type 0} → Bool → (D → Meter) → (D → List ℕ → Type 0) → Metadata D → List Event → Metadata D → List Event → Type 0
-KeepsOn tells meter image m log m' log' = (first : ℕ) (old : List Event) → KeepsLog tells meter image first m (log ++ old) → KeepsLog tells meter image first m' (log' ++ old)
+-- so was the call that a machine asked for
+abbrev pub KeepsAsked : {D : Type 0} → Bool → (D → Meter) → (D → List ℕ → Type 0) → Machine → Metadata D → Metadata D → Type 0
+KeepsAsked tells meter image machine m m' = (c : Call) → call_asked (ask_of machine.layout machine.work) ≡ Some c → KeepsCall tells meter image c m m'
 
 -- It stands for these calls, or for these and one more: one that was replied to and not noted, or one that the journal did not keep.
 
@@ -45,8 +39,6 @@ EndsWith tells meter image first m calls =
     Stands tells meter image first m calls
     ⊎ ((c : Call) × (Stands tells meter image first m (calls ++ c ∷ []) ⊎ StandsAtEnd tells meter image first m calls c))
 
-abbrev pub EndsLog : {D : Type 0} → Bool → (D → Meter) → (D → List ℕ → Type 0) → ℕ → Metadata D → List Event → Type 0
-EndsLog tells meter image first m log = (calls : List Call) × AreCallsOf log calls × EndsWith tells meter image first m calls
-
-abbrev pub EndsOn : {D : Type 0} → Bool → (D → Meter) → (D → List ℕ → Type 0) → Metadata D → List Event → Metadata D → List Event → Type 0
-EndsOn tells meter image m log m' log' = (first : ℕ) (old : List Event) → KeepsLog tells meter image first m (log ++ old) → EndsLog tells meter image first m' (log' ++ old)
+-- what it stood for before, it ends with
+abbrev pub EndsOn : {D : Type 0} → Bool → (D → Meter) → (D → List ℕ → Type 0) → Metadata D → Metadata D → Type 0
+EndsOn tells meter image m m' = (first : ℕ) (calls : List Call) → Stands tells meter image first m calls → EndsWith tells meter image first m' calls

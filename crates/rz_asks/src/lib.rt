@@ -6,9 +6,9 @@
 //! say; where memory is wanting, or the export does not take the call, the log stays as it is. Nothing is
 //! said here of nodes, nor of whose turn it is.
 //!
-//! The export may stand behind a journal. `specs/Journals` says that the journal's disk stands for the calls
-//! that the log tells, or where a call ended in no reply for these and one more; and so it is behind the log
-//! of any earlier runs.
+//! The export may stand behind a journal. `specs/Journals` says that a call which was accepted joins those for
+//! which the journal's disk stands, just as it was called; and where a call ended in no reply, that the disk
+//! stands for the calls from before, or for these and one more.
 //!
 //! In reading order: `log`, `replies`, `locking`, `words`.
 #![tactic(auto)]

@@ -6,7 +6,7 @@ ghost use Rattle.rz_events.specs.declared.tree.TreeCall.TheVariants as tree;
 ghost use Rattle.rz_metadata.specs.Stands.{export_in, is_journaled};
 ghost use Rattle.rz_operation.specs.Meaning.{path_in};
 ghost use Rattle.rz_play.specs.Turns.{lock_on};
-ghost use Rattle.rz_asks.specs.Journals.{KeepsOn, EndsOn};
+ghost use Rattle.rz_asks.specs.Journals.{KeepsAsked, EndsOn};
 ghost use Rattle.rz_asks.specs.Locking.{lock_of, Grants, lock_if, IsOpenPart};
 
 use crate::NoMemory;
@@ -33,8 +33,8 @@ pub fn open<D: Disk>(
     requires room { 0 < log.old.room }
     ensures ok { OnOk result (IsOpenPart by machine.old machine.new (export_in export.old) (export_in export.new) locks.old locks.new held.old held.new log.old.events log.new.events) }
     ensures err { OnErr result (log.new.events ≡ log.old.events) }
-    ensures kept { OnOk result (KeepsOn D.tells D.meter D.image export.old log.old.events export.new log.new.events) }
-    ensures left { OnErr result (EndsOn D.tells D.meter D.image export.old log.old.events export.new log.new.events) }
+    ensures kept { OnOk result (KeepsAsked D.tells D.meter D.image machine.old export.old export.new) }
+    ensures left { OnErr result (EndsOn D.tells D.meter D.image export.old export.new) }
 
     // On every exit.
     ensures earlier { log.new.earlier ≡ log.old.earlier }

@@ -1,9 +1,10 @@
 //! Calls of the export.
 ghost use Rattle.std.specs.Prelude.{◌≡◌, ◌+◌, ◌<◌, ◌≤◌, Some, IfOk, OnOk, OnErr};
+ghost use Rattle.std.specs.List.{All};
 ghost use Rattle.rz_export_model.specs.ExportEvents.{export_event};
 ghost use Rattle.rz_metadata.specs.Stands.{export_in, is_journaled};
 ghost use Rattle.rz_operation.specs.Meaning.{call_of};
-ghost use Rattle.rz_asks.specs.Journals.{KeepsOn, EndsOn};
+ghost use Rattle.rz_asks.specs.Journals.{HasBytes, KeepsAsked, EndsOn};
 ghost use Rattle.rz_asks.specs.Parts.{AreWords, IsNoted, IsExportPart};
 
 use crate::NoMemory;
@@ -36,8 +37,8 @@ pub fn ask_export<D: Disk>(
     requires room { 0 < log.old.room }
     ensures ok { OnOk result (IsExportPart by machine.old machine.new (export_in export.old) (export_in export.new) log.old.events log.new.events) }
     ensures err { OnErr result (log.new.events ≡ log.old.events) }
-    ensures kept { OnOk result (KeepsOn D.tells D.meter D.image export.old log.old.events export.new log.new.events) }
-    ensures left { OnErr result (EndsOn D.tells D.meter D.image export.old log.old.events export.new log.new.events) }
+    ensures kept { OnOk result (KeepsAsked D.tells D.meter D.image machine.old export.old export.new) }
+    ensures left { OnErr result (EndsOn D.tells D.meter D.image export.old export.new) }
 
     // On every exit.
     ensures earlier { log.new.earlier ≡ log.old.earlier }
@@ -47,6 +48,7 @@ pub fn ask_export<D: Disk>(
     let Ask::Export(ask) = machine.next() else {
         return Err(NoMemory);
     };
+    look_into(ask);
     let words = words_of(alloc, ask)?;
     let Ok(reply) = export.reply(alloc, ask) else {
         return Err(NoMemory);
@@ -57,6 +59,21 @@ pub fn ask_export<D: Disk>(
     note_reply(alloc, by, ask, words, &reply, log)?;
     machine.tell_reply(reply);
     Ok(())
+}
+
+/// The text of a write that begins is one of bytes, as each text is.
+fn look_into(ask: ExportAsk<'_>)
+    ensures { HasBytes (call_of ask.entry) }
+{
+    if let ExportAsk::Begin { text, .. } = ask {
+        are_bytes(text);
+    }
+}
+
+fn are_bytes(text: &[u8])
+    ensures { All (λ x. x < 256) text.now }
+{
+    let _count = text.len();
 }
 
 /// The texts of a call, in new memory.

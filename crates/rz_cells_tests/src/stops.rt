@@ -5,6 +5,7 @@
 //! synced.
 ghost use Rattle.std.specs.Prelude.{◌≡◌, IfOk, vec_len};
 
+use crate::comparing::compare;
 use crate::damage::{ONE, stamps_of};
 use crate::making::{failing_at, left};
 use rz_cells::{Cells, FormatFault, OpenFault};
@@ -115,18 +116,18 @@ fn a_put_that_stops_is_done_or_not(rt: HostRuntime) -> Result<(), Fail> {
         for call in 0..4 {
             let disk = stopped_put(rt.alloc(), failing_at(rt.alloc(), 5 + call)?, 0)?;
             let wanted = if call == 3 { by_gate } else { EMPTY };
-            assert_eq!(rt;
-                found(rt.alloc(), disk, pick)?,
-                wanted,
-                "call {call}, pick {pick}"
-            );
+            compare(
+                &found(rt.alloc(), disk, pick)?,
+                &wanted,
+                ("call", call, pick),
+            )?;
             let disk = stopped_put(rt.alloc(), Fused::new(PlainDisk::new(rt.alloc())), call)?;
             let wanted = if call >= 2 { by_gate } else { EMPTY };
-            assert_eq!(rt;
-                found(rt.alloc(), disk, pick)?,
-                wanted,
-                "passes {call}, pick {pick}"
-            );
+            compare(
+                &found(rt.alloc(), disk, pick)?,
+                &wanted,
+                ("passes", call, pick),
+            )?;
         }
     }
     Ok(())
@@ -144,18 +145,18 @@ fn a_clear_that_stops_is_done_or_not(rt: HostRuntime) -> Result<(), Fail> {
         for call in 0..4 {
             let disk = stopped_clear(rt.alloc(), failing_at(rt.alloc(), 9 + call)?, 0)?;
             let wanted = if call == 3 { by_gate } else { HELD };
-            assert_eq!(rt;
-                found(rt.alloc(), disk, pick)?,
-                wanted,
-                "call {call}, pick {pick}"
-            );
+            compare(
+                &found(rt.alloc(), disk, pick)?,
+                &wanted,
+                ("call", call, pick),
+            )?;
             let disk = stopped_clear(rt.alloc(), Fused::new(PlainDisk::new(rt.alloc())), call)?;
             let wanted = if call >= 2 { by_gate } else { HELD };
-            assert_eq!(rt;
-                found(rt.alloc(), disk, pick)?,
-                wanted,
-                "passes {call}, pick {pick}"
-            );
+            compare(
+                &found(rt.alloc(), disk, pick)?,
+                &wanted,
+                ("passes", call, pick),
+            )?;
         }
     }
     Ok(())
@@ -177,20 +178,20 @@ fn a_formatting_that_stops_is_done_or_shut(rt: HostRuntime) -> Result<(), Fail> 
                 4 => by_gate,
                 _ => None,
             };
-            assert_eq!(rt;
-                found(rt.alloc(), disk, pick)?,
-                wanted,
-                "call {call}, pick {pick}"
-            );
+            compare(
+                &found(rt.alloc(), disk, pick)?,
+                &wanted,
+                ("call", call, pick),
+            )?;
         }
         for passes in 0..4 {
             let disk = stopped_format(rt.alloc(), Fused::new(PlainDisk::new(rt.alloc())), passes)?;
             let wanted = if passes >= 2 { by_gate } else { None };
-            assert_eq!(rt;
-                found(rt.alloc(), disk, pick)?,
-                wanted,
-                "passes {passes}, pick {pick}"
-            );
+            compare(
+                &found(rt.alloc(), disk, pick)?,
+                &wanted,
+                ("passes", passes, pick),
+            )?;
         }
     }
     Ok(())

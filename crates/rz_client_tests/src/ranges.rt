@@ -8,6 +8,7 @@ ghost use Rattle.rz_client_model.specs.Write.{IsWriterAnswer};
 ghost use Rattle.rz_operation_model.specs.Files.{IsFileAnswer};
 ghost use Rattle.rz_file.specs.Machine.{ComeWith, IsKeep};
 
+use crate::comparing::{compare, hold, mark};
 use mj_angles::Layout;
 use rz_events::{
     Denial, FetchAnswer, FileAnswer, FileAsk, FileEnd, FileInfo, Held, KeepAnswer, Places,
@@ -95,19 +96,18 @@ fn step(rt: &impl Abort, machine: &mut FileMachine, ask: FileAsk, answer: FileAn
     ensures { machine.new.layout ≡ L0 }
 {
     let asked = machine.next();
-    assert_eq!(rt; asked, ask);
+    compare(rt, &asked, &ask, &answer);
     let mut bins = [0u64; ROOM];
     if let FileAsk::Read {
         ask: ReaderAsk::Fetch { position, .. },
         ..
     } = asked
     {
-        assert!(rt; position < 2);
-        bins[FIRST[position as usize]] |= 1;
-        bins[SECOND[position as usize]] |= 2;
+        mark(rt, &mut bins, &FIRST, position, 1);
+        mark(rt, &mut bins, &SECOND, position, 2);
     }
-    assert!(rt; belongs(asked, answer), "{answer:?}");
-    assert!(rt; are_enough(asked, &bins));
+    hold(rt, belongs(asked, answer), &answer);
+    hold(rt, are_enough(asked, &bins), &asked);
     machine.tell(answer, &bins);
 }
 
@@ -196,8 +196,8 @@ fn acknowledge(rt: &impl Abort, machine: &mut FileMachine, block: u64, length: u
 }
 
 fn check_end(rt: &impl Abort, machine: &FileMachine, end: FileEnd) {
-    assert_eq!(rt; machine.next(), FileAsk::End);
-    assert_eq!(rt; machine.end(), Some(end));
+    let found = (machine.next(), machine.end());
+    compare(rt, &found, &(FileAsk::End, Some(end)), &"end");
 }
 
 /// Whether a node is asked to keep a record.
@@ -225,10 +225,10 @@ fn keep_second(rt: &impl Abort, plan: FilePlan)
     let ask = WriterAsk::Begin { length: 4096 };
     let begun = FileAnswer::Write(WriterAnswer::Begun { stamp: 12, base: 9 });
     step(rt, &mut machine, FileAsk::Write { block: 2, ask }, begun);
-    assert!(rt; is_keep(machine.next()));
+    hold(rt, is_keep(machine.next()), &"block 2");
     let bins = machine.bins();
-    assert_eq!(rt; bins.get(FIRST[0]), Some(&1));
-    assert_eq!(rt; bins.get(SECOND[0]), Some(&0));
+    let found = (bins.get(FIRST[0]).copied(), bins.get(SECOND[0]).copied());
+    compare(rt, &found, &(Some(1), Some(0)), &"bins");
 }
 
 /// A file of this size.
@@ -252,12 +252,14 @@ fn file(size: u64) -> FileInfo
 fn within_a_block(rt: HostRuntime) -> Result<(), Fail> {
     let bytes = b"ab".to_vec(rt.alloc())?;
     let plan = FilePlan::write(rt.alloc(), Layout::L0, 1, bytes)?;
-    assert!(rt; plan.is_write() && plan.offset() == 1 && plan.count() == 2);
+    let found = (plan.is_write(), plan.offset(), plan.count());
+    compare(&rt, &found, &(true, 1, 2), &"plan");
     let mut machine = plan.open(&file(9000));
     find_text(&rt, &mut machine, 0);
     let text = machine.text();
-    assert!(rt; text.len() == 2049);
-    assert!(rt; text[..4] == [1, b'a', b'b', 0] && text[2048] == 2);
+    let found = (text.len(), text.get(..4), text.get(2048..));
+    let wanted = (2049, Some(&b"\x01ab\0"[..]), Some(&b"\x02"[..]));
+    compare(&rt, &found, &wanted, &"text");
     acknowledge(&rt, &mut machine, 0, 2049);
     check_end(&rt, &machine, FileEnd::Whole { bytes: 2 });
     Ok(())
@@ -269,8 +271,8 @@ fn three_blocks(rt: HostRuntime) -> Result<(), Fail> {
     let mut machine = FilePlan::write(rt.alloc(), Layout::L0, 4094, bytes)?.open(&file(0));
     find_hole(&rt, &mut machine, 0);
     let text = machine.text();
-    assert!(rt; text.len() == 4096);
-    assert!(rt; text[4093] == 0 && text[4094] == 7 && text[4095] == 7);
+    let wanted = (4096, Some(&b"\0\x07\x07"[..]));
+    compare(&rt, &(text.len(), text.get(4093..)), &wanted, &"text");
     acknowledge(&rt, &mut machine, 0, 4096);
     acknowledge(&rt, &mut machine, 1, 4096);
     find_hole(&rt, &mut machine, 2);
@@ -334,15 +336,15 @@ fn short_by_a_write(rt: HostRuntime) -> Result<(), Fail> {
 #[test]
 fn read_past_a_text(rt: HostRuntime) -> Result<(), Fail> {
     let plan = FilePlan::read(rt.alloc(), Layout::L0, 2047, 2100)?;
-    assert!(rt; !plan.is_write());
+    compare(&rt, &plan.is_write(), &false, &"plan");
     let mut machine = plan.open(&file(4098));
     find_text(&rt, &mut machine, 0);
     let bytes = machine.bytes();
-    assert!(rt; bytes.len() == 2049);
-    assert!(rt; bytes[..3] == [0, 2, 0] && machine.is_read());
+    let found = (bytes.len(), bytes.get(..3), machine.is_read());
+    compare(&rt, &found, &(2049, Some(&b"\0\x02\0"[..]), true), &"bytes");
     find_hole(&rt, &mut machine, 1);
     check_end(&rt, &machine, FileEnd::Whole { bytes: 2051 });
-    assert_eq!(rt; machine.into_bytes().len(), 2051);
+    compare(&rt, &machine.into_bytes().len(), &2051, &"all bytes");
     Ok(())
 }
 
@@ -350,11 +352,10 @@ fn read_past_a_text(rt: HostRuntime) -> Result<(), Fail> {
 fn nothing(rt: HostRuntime) -> Result<(), Fail> {
     let whole = Some(FileEnd::Whole { bytes: 0 });
     let write = FileWrite::start(rt.alloc(), Layout::L0, &file(0), 4096, b"")?;
-    assert_eq!(rt; write.end(), whole);
+    compare(&rt, &write.end(), &whole, &"write");
     let many = FileWrite::start_par(&rt, rt.alloc(), Layout::L0, &file(0), 4096, b"")?;
-    assert_eq!(rt; many.end(), whole);
+    compare(&rt, &many.end(), &whole, &"write in threads");
     let read = FileRead::start(rt.alloc(), Layout::L0, &file(4096), 4096, 1)?;
-    assert_eq!(rt; read.end(), whole);
-    assert_eq!(rt; read.bytes().len(), 0);
+    compare(&rt, &(read.end(), read.bytes().len()), &(whole, 0), &"read");
     Ok(())
 }

@@ -31,21 +31,17 @@ use Rattle.rz_journal.specs.Said.{only_looks, has_long_text, entry_of, accepts}
 use Rattle.rz_journal.specs.Seen.{calls_after}
 use Rattle.rz_journal.proofs.Makings.{after_more}
 use Rattle.rz_journal.proofs.Refused.{unkept_same}
-use Rattle.rz_continuation.specs.Calls.{calls_told, changing_calls, HasLength, AreTold}
-use Rattle.rz_continuation.specs.Laws.{IsExportAgain, IsCallTold, IsNoCall, AreCallsTold}
+use Rattle.rz_continuation.specs.Calls.{calls_told, changing_calls, HasLength}
+use Rattle.rz_continuation.specs.Laws.{IsExportAgain, IsCallTold, IsNoCall}
 
 -- ---- one event more
-
--- the call changed the export
-abbrev is_kept : Call → Reply → Bool
-is_kept c r = is_some (entry_of c) && accepts r
 
 module _ (f : Facts) (w : List Event) where
   -- what an event makes of the calls before it
   abbrev Makes : List Call → Event → Type 0
   Makes calls x = calls ≡ calls_told f (x ∷ w)
 
-  adds : (by : Actor) (c : Call) (r : Reply) (x : Event) → export_event by c r ≡ Some x → (is_kept c r ≡ true → HasLength f c) → Makes (calls_after r c (calls_told f w)) x
+  adds : (by : Actor) (c : Call) (r : Reply) (x : Event) → export_event by c r ≡ Some x → HasLength f c → Makes (calls_after r c (calls_told f w)) x
   adds by (call.Tree c) (reply.Tree given) x is long = subst (Makes (calls_after (reply.Tree given) (call.Tree c) (calls_told f w))) (the_some _ x is) refl
   adds by (call.Tree c) (_) x is long = cc
   adds by (call.Begin key text) (reply.Begun stamp base) x is long = subst (Makes (calls_told f w ++ call.Begin key text ∷ [])) (the_some _ x is) refl
@@ -53,7 +49,7 @@ module _ (f : Facts) (w : List Event) where
   adds by (call.Begin key text) (_) x is long = cc
   adds by (call.Publish key stamp mask size) reply.Accepted x is long =
       subst (Makes (calls_told f w ++ call.Publish key stamp mask size ∷ [])) (the_some _ x is)
-      (ap (λ (n : ℕ). calls_told f w ++ call.Publish key stamp mask n ∷ []) (long refl))
+      (ap (λ (n : ℕ). calls_told f w ++ call.Publish key stamp mask n ∷ []) long)
   adds by (call.Publish key stamp mask size) (reply.Enrolled p fence) x is long = subst (Makes (calls_told f w)) (the_some _ x is) refl
   adds by (call.Publish key stamp mask size) (reply.Revoked later) x is long = subst (Makes (calls_told f w)) (the_some _ x is) refl
   adds by (call.Publish key stamp mask size) (reply.Denied why) x is long = subst (Makes (calls_told f w)) (the_some _ x is) refl
@@ -85,9 +81,9 @@ calls-extend f g ext (e.Enroll by node loss fence ∷ w) k = ap (λ cs. cs ++ ca
 calls-extend f g ext (x ∷ w) k = calls-extend f g ext w k.1
 
 -- the calls of a log, by the facts of a longer one
-longer : (v : Volume) (x : Event) (h : List Event) → IsLegalInRuns v h → calls_told (facts (x ∷ h)) (export h) ≡ changing_calls h
-longer v x h legal =
-    calls-extend (facts h) (facts (x ∷ h)) (extends-more (x ∷ []) h) (export h)
+longer : (v : Volume) (more h : List Event) → IsLegalInRuns v h → calls_told (facts (more ++ h)) (export h) ≡ changing_calls h
+longer v more h legal =
+    calls-extend (facts h) (facts (more ++ h)) (extends-more more h) (export h)
     (all-filter (Knows (facts h)) (λ y. same_word Export (word_of y)) h (legal-knows v h legal))
 
 in-word : (x : Event) (h : List Event) (b : Bool) → same_word Export (word_of x) ≡ b → export (x ∷ h) ≡ cond b (x ∷ export h) (export h)
@@ -96,34 +92,12 @@ in-word x h b is = ap (λ b. cond b (x ∷ export h) (export h)) is
 pub told : (v : Volume) → IsCallTold v
 told v h x by c r legal is long =
     let grows : export (x ∷ h) ≡ x ∷ export h = in-word x h true (ap (same_word Export) (export-event by c r x is).word_is) in
-    ap (calls_after r c) (sym (longer v x h legal.0))
-    ∙ adds (facts (x ∷ h)) (export h) by c r x is (λ kept. long)
+    ap (calls_after r c) (sym (longer v (x ∷ []) h legal))
+    ∙ adds (facts (x ∷ h)) (export h) by c r x is long
     ∙ ap (calls_told (facts (x ∷ h))) (sym grows)
 
 pub untold : (v : Volume) → IsNoCall v
-untold v h x legal other = ap (calls_told (facts (x ∷ h))) (in-word x h false other) ∙ longer v x h legal.0
-
--- ---- all that are told
-
--- the last of these calls, where it was added, has its length, and so have those before it
-split : (f : Facts) (before : List Call) (c : Call) → AllByRecursion (HasLength f) (before ++ c ∷ []) → AllByRecursion (HasLength f) before × HasLength f c
-split f [] c all = (tt, all.0)
-split f (d ∷ before) c all = let more = split f before c all.1 in ((all.0, more.0), more.1)
-
-by-added : (f : Facts) (before : List Call) (c : Call) (added b : Bool) → added ≡ b → AllByRecursion (HasLength f) (cond b (before ++ c ∷ []) before)
-    → AllByRecursion (HasLength f) before × (added ≡ true → HasLength f c)
-by-added f before c added true is all = let both = split f before c all in (both.0, λ yes. both.1)
-by-added f before c added false is all = (all, λ yes. cc)
-
-told-all : (f : Facts) (w : List Event) (calls : List Call) → AreTold w calls → AllByRecursion (HasLength f) calls → calls ≡ calls_told f w
-told-all f [] calls is all = is
-told-all f (x ∷ w) calls (before, rest, more) all =
-    let both = by-added f before more.call (is_kept more.call more.reply) (is_kept more.call more.reply) refl (subst (AllByRecursion (HasLength f)) more.after_is all) in
-    more.after_is ∙ ap (calls_after more.reply more.call) (told-all f w before rest both.0)
-    ∙ adds f w more.by more.call more.reply x more.event_is both.1
-
-pub all-told : AreCallsTold
-all-told h calls is all = told-all (facts h) (export h) calls is all
+untold v h more legal same = ap (calls_told (facts (more ++ h))) same ∙ longer v more h legal
 
 -- ---- the export after these calls
 

@@ -1,6 +1,5 @@
 -- From the log of earlier runs to the log in which a run goes on.
-use Rattle.std.specs.Prelude.{ℕ, Bool, false, ◌≡◌, ◌<◌, ◌≤◌, ◌+◌, ◌^◌, List, ◌∷◌, length, Some}
-use Rattle.std.specs.List.{AllByRecursion}
+use Rattle.std.specs.Prelude.{ℕ, Bool, ◌≡◌, ◌<◌, ◌≤◌, ◌+◌, ◌^◌, List, ◌∷◌, ◌++◌, length, Some}
 use Rattle.rz_disk.specs.Images.{Only}
 use Rattle.rz_events.specs.Volume.{Volume}
 use Rattle.rz_events.specs.declared.keys.Actor.{Actor}
@@ -8,7 +7,6 @@ use Rattle.rz_events.specs.declared.export.Call.{Call}
 use Rattle.rz_events.specs.declared.export.Reply.{Reply}
 use Rattle.rz_events.specs.declared.events.Word.TheVariants.{Export, Node}
 use Rattle.rz_events.specs.declared.events.Event.{Event}
-use Rattle.rz_events.specs.Events.{word_of, same_word}
 use Rattle.rz_node_model.specs.States.{NodeState}
 use Rattle.rz_export_model.specs.Export.{Export as ExportState, new_export}
 use Rattle.rz_export_model.specs.ExportEvents.{export_event}
@@ -25,7 +23,7 @@ use Rattle.rz_play.specs.Played.{IsBegunFrom}
 use Rattle.rz_play_laws.specs.Fine.{MayBegin, IsFine}
 use Rattle.rz_play_laws.specs.Runs.{IsScript, IsRunAfter}
 use Rattle.rz_continuation.specs.Earlier.{IsEarlier, MayTake, restarted, IsRestart, IsRestarted}
-use Rattle.rz_continuation.specs.Calls.{changing_calls, HasLength, AreTold}
+use Rattle.rz_continuation.specs.Calls.{changing_calls, HasLength}
 use Rattle.rz_continuation.specs.Found.{IsFound, AreFound}
 
 -- The nodes may be stopped and started.
@@ -64,14 +62,9 @@ IsSoundAfterwards v = (script : List Line) → IsScript v script → (nodes : �
 
 -- the event of a reply adds its call, where that changed the export
 abbrev pub IsCallTold : Volume → Type 0
-IsCallTold v = (h : List Event) (x : Event) (by : Actor) (c : Call) (r : Reply) → IsLegalInRuns v (x ∷ h)
+IsCallTold v = (h : List Event) (x : Event) (by : Actor) (c : Call) (r : Reply) → IsLegalInRuns v h
     → export_event by c r ≡ Some x → HasLength (facts (x ∷ h)) c → calls_after r c (changing_calls h) ≡ changing_calls (x ∷ h)
 
--- an event of another word adds none
+-- events of other words add none
 abbrev pub IsNoCall : Volume → Type 0
-IsNoCall v = (h : List Event) (x : Event) → IsLegalInRuns v (x ∷ h) → same_word Export (word_of x) ≡ false → changing_calls (x ∷ h) ≡ changing_calls h
-
--- calls that the log tells, with the lengths of its texts, are those that changed its export
-abbrev pub AreCallsTold : Type 0
-AreCallsTold = (h : List Event) (calls : List Call) → AreTold (of_word Export h) calls
-    → AllByRecursion (HasLength (facts h)) calls → calls ≡ changing_calls h
+IsNoCall v = (h more : List Event) → IsLegalInRuns v h → of_word Export (more ++ h) ≡ of_word Export h → changing_calls (more ++ h) ≡ changing_calls h

@@ -12,7 +12,7 @@
 #![tactic(auto)]
 
 ghost use Rattle.rz_events.specs.Volume.{Volume, IsVolume};
-ghost use Rattle.rz_continuation.specs.Laws.{MayRestart, IsFoundLaw, IsExportAgain, MayGoOn, IsSoundAfterwards, IsCallTold, IsNoCall, AreCallsTold};
+ghost use Rattle.rz_continuation.specs.Laws.{MayRestart, IsFoundLaw, IsExportAgain, MayGoOn, IsSoundAfterwards, IsCallTold, IsNoCall};
 
 use rz_disk::Disk;
 
@@ -65,12 +65,7 @@ pub fn told()
     ensures { (v : Volume) → IsCallTold v }
 {}
 
-/// An event of another word adds none.
+/// Events of other words add none.
 pub fn untold()
     ensures { (v : Volume) → IsNoCall v }
-{}
-
-/// Calls that a log tells, with the lengths of its texts, are those that changed its export.
-pub fn all_told()
-    ensures { AreCallsTold }
 {}

@@ -2,7 +2,8 @@
 use Rattle.std.proofs.Common.{◌≡◌, ◌++◌, [], ◌∷◌, ℕ, List, sym, refl, ap, ◌∙◌, subst, inl, inr, append_assoc, append-nil}
 use Rattle.std.specs.List.{AllByRecursion}
 use Rattle.rz_events.specs.declared.events.Event.{Event}
-use Rattle.rz_chronicle.specs.Keys.{actor_key, IsOneOf, IsLater}
+use Rattle.rz_events.specs.declared.events.Word.TheVariants.{Own}
+use Rattle.rz_chronicle.specs.Keys.{actor_key, word_key, IsOneOf, IsLater}
 use Rattle.rz_chronicle.specs.Holds.{Stays}
 use Rattle.rz_chronicle.specs.Kinds.{IsFit}
 use Rattle.rz_chronicle.specs.Rules.{PassView}
@@ -24,20 +25,22 @@ later-still a b c p q = (q.0 ++ p.0, q.1 ∙ (ap (λ (l : List Event). q.0 ++ l)
 pub held-still : (other old new : PassView) → GoesOn old new → IsHeld old other → IsHeld new other
 held-still other old new goes h = record {
   held = subst (IsOneOf (actor_key other.actor)) (sym goes.keys) (one-of-left (actor_key other.actor) old.keys goes.more h.held);
+  word = subst (IsOneOf (word_key (Own other.actor))) (sym goes.keys) (one-of-left (word_key (Own other.actor)) old.keys goes.more h.word);
   own = actor-same other.actor new.log old.log (goes.stays (actor_key other.actor) h.held) ∙ h.own;
 }
 
 -- the pass of which the keys and the log are taken over
-pub held-now : (front other : PassView) (old : List ℕ) → IsOneOf (actor_key other.actor) other.keys → front.keys ≡ old ++ other.keys → Stays other.keys other.log front.log → IsHeld front other
-held-now front other old own keys stays = record {
+pub held-now : (front other : PassView) (old : List ℕ) → IsOneOf (actor_key other.actor) other.keys → IsOneOf (word_key (Own other.actor)) other.keys → front.keys ≡ old ++ other.keys → Stays other.keys other.log front.log → IsHeld front other
+held-now front other old own word keys stays = record {
   held = subst (IsOneOf (actor_key other.actor)) (sym keys) (one-of-right (actor_key other.actor) old other.keys own);
+  word = subst (IsOneOf (word_key (Own other.actor))) (sym keys) (one-of-right (word_key (Own other.actor)) old other.keys word);
   own = actor-same other.actor front.log other.log (stays (actor_key other.actor) own);
 }
 
-goes-nowhere : (p : PassView) → GoesOn p p
+pub goes-nowhere : (p : PassView) → GoesOn p p
 goes-nowhere p = record { actor = refl; more = []; keys = sym (append-nil p.keys); stays = λ k is. refl; later = ([], refl) }
 
-goes-further : (a b c : PassView) → GoesOn a b → GoesOn b c → GoesOn a c
+pub goes-further : (a b c : PassView) → GoesOn a b → GoesOn b c → GoesOn a c
 goes-further a b c p q = record {
   actor = q.actor ∙ p.actor;
   more = p.more ++ q.more;

@@ -1,5 +1,5 @@
 -- A driver that was opened on the disks which earlier runs left.
-use Rattle.std.proofs.Common.{◌≡◌, ◌⊎◌, inl, inr, ℕ, zero, suc, ◌+◌, ◌-◌, ◌^◌, ◌<◌, ◌≤◌, Bool, true, false, cond, IsTrue, List, [], ◌∷◌, ◌++◌, map, length, Option, Some, None, refl, sym, ◌∙◌, ap, subst, arith}
+use Rattle.std.proofs.Common.{◌≡◌, ◌⊎◌, inl, inr, ℕ, zero, suc, ◌+◌, ◌-◌, ◌^◌, ◌<◌, ◌≤◌, Bool, true, false, cond, IsTrue, List, [], ◌∷◌, ◌++◌, map, length, Option, Some, None, refl, sym, ◌∙◌, ap, ap₂, subst, arith}
 use Rattle.std.specs.Prelude.{◌==◌, nat_eq, slice_get, is_some, option_to_list, IfSome}
 use Rattle.std.specs.List.{AllByRecursion, AllZip, zip, IsDistinct}
 use Rattle.std.specs.FinMap as maps
@@ -17,7 +17,7 @@ use Rattle.rz_events.specs.declared.files.NodeSpec.{NodeSpec}
 use Rattle.rz_events.specs.declared.keys.Actor.{Actor}
 use Rattle.rz_events.specs.declared.keys.Actor.TheVariants.{Client, Rebuilder}
 use Rattle.rz_events.specs.declared.export.Call.{Call}
-use Rattle.rz_events.specs.declared.events.Word.TheVariants.{Export as ExportWord, Node}
+use Rattle.rz_events.specs.declared.events.Word.TheVariants.{Node}
 use Rattle.rz_events.specs.declared.events.Event.{Event}
 use Rattle.rz_cells.specs.declared.geometry.Geometry.{Geometry}
 use Rattle.rz_cells.specs.Held.{Records}
@@ -47,25 +47,25 @@ use Rattle.rz_opening.specs.declared.refusal.OpenRefusal.{OpenRefusal}
 use Rattle.rz_opening.specs.declared.refusal.OpenRefusal.TheVariants as refusal
 use Rattle.rz_opening.specs.Opened.{IsOpened, IsKept, AreKept, AreOpened, IsCause}
 use Rattle.rz_continuation.specs.Earlier.{IsEarlier, IsRestarted}
-use Rattle.rz_continuation.specs.Calls.{HasLength, changing_calls}
-use Rattle.rz_continuation.specs.Calls as calls
+use Rattle.rz_continuation.specs.Calls.{calls_told, changing_calls}
 use Rattle.rz_continuation.specs.Found.{IsFound, AreFound, StandsByLog}
-use Rattle.rz_continuation.specs.Laws.{IsFoundLaw, MayGoOn, GoesOn, AreCallsTold}
+use Rattle.rz_continuation.specs.Laws.{IsFoundLaw, MayGoOn, GoesOn}
 use Rattle.rz_locks.specs.Held.{Held}
 use Rattle.rz_play.specs.World.{World, Seat as APlayer, empty_seat, world_after}
 use Rattle.rz_play_laws.specs.Fine.{IsFine}
-use Rattle.rz_asks.specs.Journals.{AddsCall, AreTold, AreCallsOf, KeepsLog}
 use Rattle.rz_lines.specs.Behind.{Before, behind}
 use Rattle.rz_stations.specs.Images.{AreDisksImaged, AreImaged, HasImages, fused_image}
 use Rattle.rz_stations.specs.Meters.{AreMetered, GoesWith, OfEach, faults_at, faults_in}
 use Rattle.rz_stations.specs.Stations.{state_in, numbers_of, IsStation}
 use Rattle.rz_driver.specs.declared.driver.Driver.{Driver}
 use Rattle.rz_driver.specs.declared.seat.Seat.{Seat}
-use Rattle.rz_driver.specs.Continued.{journal_refusal, losses_of, AreLeft, IsCauseAgain, IsJournalCause, IsNodeCause, IsOpenedAgain, IsOpenedOver, IsRefusedOver, IsUnopened, StandsInLength}
-use Rattle.rz_driver.specs.Journals.{journal_place, HasJournal}
+use Rattle.rz_driver.specs.Continued.{journal_refusal, losses_of, AreLeft, IsCauseAgain, IsJournalCause, IsNodeCause, IsOpenedAgain, IsOpenedOver, IsRefusedOver, IsUnopened}
+use Rattle.rz_driver.specs.Endings.{StandsForLog}
+use Rattle.rz_driver.specs.Journals.{KeepsLog, journal_place, HasJournal}
 use Rattle.rz_driver.specs.Pictures.{AreBytes, IsPicture, KnowsLengths}
 use Rattle.rz_driver.specs.Seats.{IsEmptySeat}
 use Rattle.rz_driver.specs.Worlds.{exact_if, is_exact, left_behind, seat_in, world_of, numbers_in, IsDriver, GoesAfter, Holds}
+use Rattle.rz_driver.proofs.KeptCalls.{told-calls}
 use Rattle.rz_driver.proofs.MadeLemmas.{own-cells, empty-in, empty-seats}
 use Rattle.rz_driver.proofs.NewPictures.{no-hands}
 
@@ -215,10 +215,6 @@ numbers-among all (x ∷ nodes) into = (into x.sid (inl refl), numbers-among all
 
 -- ---- calls
 
-told-again : (w : List Event) (cs : List Call) → AreTold w cs → calls.AreTold w cs
-told-again [] cs told = told
-told-again (x ∷ w) cs (before, told, adds) = (before, told-again w before told, record { by = adds.by; call = adds.call; reply = adds.reply; event_is = adds.event_is; after_is = adds.after_is })
-
 -- what a journal stands for, its export has answered
 answered-all : {D : Type 0} (tells : Bool) (meter : D → Meter) (image : D → List ℕ → Type 0) (first : ℕ) (m : Metadata D) (v : Volume) (cs : List Call) → is_journaled m ≡ true → (export_in m).volume ≡ v → Stands tells meter image first m cs
     → export_in m ≡ after_all (new_export v 0) cs
@@ -314,10 +310,10 @@ module _ {D : Type 0} {G : Ghosts D} (v : Volume) (rules : IsVolume v) (export :
 
     -- over disks that do, after the log of the earlier runs
     module _ (told : IsTrue G.tells) (imaged : (e : D) → IsTrue G.tells → G.image e (G.text e)) (h : List Event) (earlier : IsEarlier v h) (bytes : AreBytes (facts h)) (each : AreDisksImaged G.image v (map (λ (n : NodeSpec). n.sid) specs) nodes h)
-        (last : StandsInLength (G.image journal) v h) (journaled : is_journaled export ≡ true) (volume : (export_in export).volume ≡ v)
+        (last : StandsForLog (G.image journal) v h) (journaled : is_journaled export ≡ true) (volume : (export_in export).volume ≡ v)
         (stands : (cs : List Call) → AllTextsOf v (G.image journal) cs → Stands G.tells G.meter G.image (faults (G.meter journal)) export cs) where
-      kept : Stands G.tells G.meter G.image (faults (G.meter journal)) export last.calls
-      kept = stands last.calls last.images
+      kept : Stands G.tells G.meter G.image (faults (G.meter journal)) export (changing_calls h)
+      kept = stands (changing_calls h) last
 
       found : AllByRecursion (λ (s : Station (UnderFuse D)). IsFound v h s.sid (G.text s.node.disk.disk) s.node.state) row
       found = found-all G.tells G.meter G.text G.image v f told imaged h earlier specs nodes row count over.made (numbers-among specs specs (λ n is. is)) cells each
@@ -325,10 +321,9 @@ module _ {D : Type 0} {G : Ghosts D} (v : Volume) (rules : IsVolume v) (export :
       among : (n : ℕ) → IsNodeOf v n → IsAmong n (numbers_of row)
       among n is = subst (IsAmong n) (sym numbers) is
 
-      are-found : AreCallsTold → AreFound v h (export_in export) (state_in row)
-      are-found law = record {
-        export_is = answered-all G.tells G.meter G.image (faults (G.meter journal)) export v last.calls journaled volume kept
-            ∙ ap (after_all (new_export v 0)) (law h last.calls (told-again (of_word ExportWord h) last.calls last.told) last.lengths);
+      are-found : AreFound v h (export_in export) (state_in row)
+      are-found = record {
+        export_is = answered-all G.tells G.meter G.image (faults (G.meter journal)) export v (changing_calls h) journaled volume kept;
         found = λ n is. state-so (λ m s. (text : List ℕ) × IsFound v h m text s) row (with-text row found) n (among n is);
         losses = λ n is. state-so (λ m s. s.losses ≡ loss_of (export_in export) m) row (opened-losses G.tells G.meter G.text G.image v f (export_in export) (λ x. refl) specs nodes row count over.made) n (among n is);
         others = λ n no. state-none row n (λ is. no (subst (IsAmong n) numbers is));
@@ -365,21 +360,21 @@ module _ {D : Type 0} {G : Ghosts D} (v : Volume) (rules : IsVolume v) (export :
             let place : journal_place d ≡ length nodes = ap (λ (u : Volume). length (nodes_of u.clusters)) over.volume ∙ sym count in
             let counted : faults (G.meter journal) ≡ counts (journal_place d) =
             ap (faults_in G.meter) (sym (get-behind nodes journal [])) ∙ ap (λ (ds : List D). faults_in G.meter (slice_get ds (length nodes))) (sym are) ∙ ap counts (sym place) in
-            let calls_are : AreCallsOf (d.shared.log.events ++ old) last.calls =
-            subst (λ (k : List Event). AreCallsOf k last.calls) (sym whole) (subst (λ (w : List Event). AreTold w last.calls) (sym on.restart.export_word) last.told) in
-            let here : KeepsLog G.tells G.meter G.image (faults (G.meter journal)) export (d.shared.log.events ++ old) = (last.calls, calls_are, kept) in
+            let same : changing_calls h ≡ changing_calls (d.shared.log.events ++ old) = ap₂ calls_told (sym on.restart.facts_are) (sym on.restart.export_word) ∙ ap changing_calls (sym whole) in
+            let here : KeepsLog G.tells G.meter G.image (faults (G.meter journal)) export (d.shared.log.events ++ old) = (changing_calls h, told-calls G.tells told (d.shared.log.events ++ old) (changing_calls h) same, kept) in
             record {
               volume = ap (λ (m : Metadata D). (export_in m).volume) over.export_is ∙ volume ∙ sym over.volume;
-              keeps = subst (λ (n : ℕ). KeepsLog G.tells G.meter G.image n d.shared.export (d.shared.log.events ++ old)) counted
+              bytes = λ tells. subst AreBytes (sym on.restart.facts_are ∙ ap facts (sym whole)) bytes;
+              keeps = λ few. subst (λ (n : ℕ). KeepsLog G.tells G.meter G.image n d.shared.export (d.shared.log.events ++ old)) counted
                   (subst (λ (m : Metadata D). KeepsLog G.tells G.meter G.image (faults (G.meter journal)) m (d.shared.log.events ++ old)) (sym over.export_is) here);
             }
 
         over-holds : Holds d (left_behind counts old)
         over-holds = (metered, λ told few. picture, λ exact. has-journal, after-it old short)
 
-      pub over-held : IsFoundLaw G.image → AreCallsTold → MayGoOn v → (old : List Event) × IsRestarted v h old × Holds d (left_behind counts old)
-      over-held images calls_told on =
-          let next = on h (export_in export) (state_in row) earlier (are-found calls_told) in
+      pub over-held : IsFoundLaw G.image → MayGoOn v → (old : List Event) × IsRestarted v h old × Holds d (left_behind counts old)
+      over-held images on =
+          let next = on h (export_in export) (state_in row) earlier are-found in
           (next.0, next.1, over-holds images next.0 next.2)
 
 -- ---- why the journal was not opened

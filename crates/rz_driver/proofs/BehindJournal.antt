@@ -11,14 +11,12 @@ use Rattle.rz_disk.specs.declared.disk.Disk.{Ghosts}
 use Rattle.rz_events.specs.Volume.{Volume, nodes_of}
 use Rattle.rz_events.specs.declared.files.NodeSpec.{NodeSpec}
 use Rattle.rz_events.specs.declared.events.Event.{Event}
-use Rattle.rz_core.specs.History.{of_word}
+use Rattle.rz_core.specs.History.{facts, of_word}
 use Rattle.rz_events.specs.declared.events.Word.TheVariants.{Node}
 use Rattle.rz_export_model.specs.Export.{Export, new_export}
 use Rattle.rz_node.specs.Seen.{NodeView}
 use Rattle.rz_metadata.specs.Stands.{export_in, Stands}
 use Rattle.rz_play.specs.World.{World, new_world}
-use Rattle.rz_asks.specs.Journals.{KeepsLog}
-use Rattle.rz_asks.proofs.Keeping.{keeps-first}
 use Rattle.rz_formatting.specs.declared.fault.DriverFault.{DriverFault}
 use Rattle.rz_formatting.specs.declared.fault.DriverFault.TheVariants as driver
 use Rattle.rz_formatting.specs.declared.formatting.Station.{Station}
@@ -34,9 +32,11 @@ use Rattle.rz_driver.specs.declared.driver.Driver.{Driver}
 use Rattle.rz_driver.specs.declared.seat.Seat.{Seat}
 use Rattle.rz_driver.specs.declared.station.Shared.{Shared}
 use Rattle.rz_driver.specs.Formatted.{IsBehindJournal, IsJournalBack, AreBackWithJournal, IsFault, IsJournalRefused}
-use Rattle.rz_driver.specs.Journals.{journal_place, HasJournal}
-use Rattle.rz_driver.specs.Pictures.{IsPicture}
+use Rattle.rz_driver.specs.Journals.{KeepsLog, journal_place, HasJournal}
+use Rattle.rz_driver.specs.Pictures.{AreBytes, IsPicture}
 use Rattle.rz_driver.specs.Worlds.{anew, exact_if, is_exact, world, world_of, numbers_in, IsDriver, HasPicture, Holds}
+use Rattle.rz_driver.proofs.ExportWords.{bytes-none}
+use Rattle.rz_driver.proofs.KeptCalls.{no-calls}
 use Rattle.rz_driver.proofs.NodeOrders.{ready-with}
 
 -- ---- lists with one element more
@@ -155,7 +155,8 @@ module _ {D : Type 0} {G : Ghosts D} (journal : D) (d e : Driver D G) (behind : 
           let first = subst (λ (n : ℕ). Stands G.tells G.meter G.image n e.shared.export []) counted behind.stands in
           record {
             volume = ap (λ (s : Export). s.volume) behind.export ∙ sym behind.volume;
-            keeps = subst (λ (h : List Event). KeepsLog G.tells G.meter G.image (now (journal_place e)) e.shared.export h) (sym none) (keeps-first G.tells G.meter G.image (now (journal_place e)) e.shared.export first);
+            bytes = λ told. subst (λ (h : List Event). AreBytes (facts h)) (sym none) bytes-none;
+            keeps = λ few. subst (λ (h : List Event). KeepsLog G.tells G.meter G.image (now (journal_place e)) e.shared.export h) (sym none) ([], no-calls G.tells, first);
           }
 
       pub behind-holds : Holds d (anew before) → Holds e (anew now)

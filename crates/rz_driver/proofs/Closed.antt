@@ -1,15 +1,25 @@
 -- A driver that is closed.
-use Rattle.std.proofs.Common.{ℕ, ◌+◌, ◌-◌, ◌^◌, ◌<◌, ◌≤◌, IsTrue, List, ◌++◌, length, subst, arith}
+use Rattle.std.proofs.Common.{◌≡◌, inl, inr, ℕ, ◌+◌, ◌-◌, ◌^◌, ◌<◌, ◌≤◌, true, IsTrue, List, ◌++◌, Option, Some, None, length, refl, ◌∙◌, ap, subst, arith}
+use Rattle.std.specs.Prelude.{is_some, option_to_list}
 use Rattle.std.proofs.lemmas.List.{length-append}
+use Rattle.rz_disk.specs.Meter.{faults}
 use Rattle.rz_disk.specs.declared.disk.Disk.{Ghosts}
+use Rattle.rz_events.specs.declared.events.Event.{Event}
 use Rattle.rz_image_laws.specs.Laws.{IsLogLaw}
 use Rattle.rz_formatting.specs.Formatted.{disks_of}
+use Rattle.rz_metadata.specs.declared.journaled.Refusal.{Refusal}
+use Rattle.rz_metadata.specs.Stands.{disk_of, is_journaled, refusal_of}
 use Rattle.rz_stations.specs.Images.{AreDisksImaged}
 use Rattle.rz_stations.proofs.PictureLemmas.{disks-imaged}
 use Rattle.rz_lines.specs.Behind.{Before}
 use Rattle.rz_driver.specs.declared.driver.Driver.{Driver}
-use Rattle.rz_driver.specs.Worlds.{numbers_in, Leaves}
+use Rattle.rz_driver.specs.Continued.{AreLeft, EndsWhole}
+use Rattle.rz_driver.specs.Endings.{EndsAsRefused, StandsForLog}
+use Rattle.rz_driver.specs.Journals.{journal_place}
+use Rattle.rz_driver.specs.Worlds.{numbers_in, is_exact, tells-exactly, Holds, Leaves}
 use Rattle.rz_driver.proofs.DriverPictures.{leaves-named, leaves-right, leaves-short}
+use Rattle.rz_driver.proofs.JournalEndings.{stands-closed, ends-closed, full-stands}
+use Rattle.rz_driver.proofs.JournalLemmas.{leaves-journal}
 
 -- a log that fits into memory has room for an event more, behind that of earlier runs too
 pub has-few : {D : Type 0} {G : Ghosts D} (d : Driver D G) (b : Before) → Leaves d b → length d.shared.log.events ≤ 2 ^ 62 + 2 → length (d.shared.log.events ++ b.log) < 2 ^ 64 - 1
@@ -25,3 +35,51 @@ left-imaged {G = G} d b law left told few =
     let row = d.shared.stations.items in
     let h = d.shared.log.events ++ b.log in
     subst (λ (ns : List ℕ). AreDisksImaged G.image d.volume ns (disks_of row) h) (leaves-named d b left) (disks-imaged G.image law d.volume h row (leaves-right d b left told few))
+
+-- The disk of the journal.
+
+some-disk : {D : Type 0} (o : Option D) → is_some o ≡ true → (disk : D) × (o ≡ Some disk)
+some-disk None is = absurd (cc)
+some-disk (Some disk) is = (disk, refl)
+
+-- however a play ended
+pub whole-left : {D : Type 0} {G : Ghosts D} (d : Driver D G) (b : Before) → EndsWhole d b → Leaves d b
+whole-left d b (inl held) = inl held
+whole-left d b (inr (left, full)) = left
+
+module _ {D : Type 0} {G : Ghosts D} (d : Driver D G) (b : Before) (short : length d.shared.log.events ≤ 2 ^ 62 + 2) where
+  abbrev h : List Event
+  h = d.shared.log.events ++ b.log
+
+  pub held-journal : Holds d b → (disk : D) → disk_of d.shared.export ≡ Some disk → IsTrue G.tells → StandsForLog (G.image disk) d.volume h
+  held-journal held disk is told =
+      let journal = held.2 (tells-exactly d told) in
+      stands-closed G.tells G.meter G.image (b.counts (journal_place d)) d.volume h d.shared.export disk journal.volume is (journal.keeps (has-few d b (inl held) short)) told
+
+  pub left-journal : Leaves d b → is_exact d ≡ true → (disk : D) → disk_of d.shared.export ≡ Some disk
+      → EndsAsRefused (refusal_of d.shared.export) G.tells (G.image disk) (b.counts (journal_place d)) (faults (G.meter disk)) d.volume h
+  left-journal left exact disk is =
+      let journal = leaves-journal d b left exact in
+      ends-closed G.tells G.meter G.image (b.counts (journal_place d)) d.volume h d.shared.export disk journal.volume is (journal.ends (has-few d b left short))
+
+  whole-journal : EndsWhole d b → (disk : D) → disk_of d.shared.export ≡ Some disk → IsTrue G.tells → StandsForLog (G.image disk) d.volume h
+  whole-journal (inl held) disk is told = held-journal held disk is told
+  whole-journal (inr (left, full)) disk is told =
+      full-stands G.tells (G.image disk) (b.counts (journal_place d)) (faults (G.meter disk)) d.volume h
+      (subst (λ (r : Option Refusal). EndsAsRefused r G.tells (G.image disk) (b.counts (journal_place d)) (faults (G.meter disk)) d.volume h) full (left-journal left (tells-exactly d told) disk is)) told
+
+  -- what a play left that ended between two turns, or where the journal was full
+  pub whole-disks : IsLogLaw G.image → EndsWhole d b → is_journaled d.shared.export ≡ true → IsTrue G.tells → (disks : List D) → disks ≡ disks_of d.shared.stations.items ++ option_to_list (disk_of d.shared.export)
+      → AreLeft G.image d.volume h disks
+  whole-disks law ended journaled told disks are =
+      let left = whole-left d b ended in
+      let disk = some-disk (disk_of d.shared.export) journaled in
+      let row = disks_of d.shared.stations.items in
+      record {
+        nodes = row;
+        journal = disk.0;
+        disks_are = are ∙ ap (λ (o : Option D). row ++ option_to_list o) disk.1;
+        each = left-imaged d b law left told (has-few d b left short);
+        last = whole-journal ended disk.0 disk.1 told;
+        bytes = (leaves-journal d b left (tells-exactly d told)).bytes told;
+      }

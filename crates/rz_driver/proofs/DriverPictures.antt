@@ -10,6 +10,7 @@ use Rattle.rz_disk.specs.UnderFuse.{UnderFuse, fused_meter}
 use Rattle.rz_events.specs.Volume.{Volume, IsVolume}
 use Rattle.rz_events.specs.declared.keys.Actor.{Actor}
 use Rattle.rz_events.specs.declared.keys.Actor.TheVariants.{Client, Rebuilder, Admin}
+use Rattle.rz_events.specs.declared.export.Call.{Call}
 use Rattle.rz_events.specs.declared.events.Event.{Event}
 use Rattle.rz_events.specs.Events.{same_actor}
 use Rattle.rz_core.specs.History.{Facts, facts, of_actor}
@@ -23,10 +24,12 @@ use Rattle.rz_operation_model.specs.Ask.{Ask, Say, Saying, ask_of}
 use Rattle.rz_play.specs.World.{World, Seat as APlayer, with_seat, at_work}
 use Rattle.rz_play.specs.Turns.{IsTurn, text_said}
 use Rattle.rz_play.specs.Lines.{PlaysLine}
-use Rattle.rz_play_laws.specs.Own.{IsOwn, IsUnderWay}
+use Rattle.rz_play_laws.specs.Own.{IsOwn, IsOwnProper, IsUnderWay}
 use Rattle.rz_play_laws.specs.Fine.{IsFine, IsFineIfShort, IsSeated, IsTelling}
 use Rattle.rz_play_laws.proofs.Frames.{same_actor-true}
 use Rattle.rz_play_laws.proofs.Turning.{in-runs}
+use Rattle.rz_continuation.specs.Calls.{HasLength}
+use Rattle.rz_asks.specs.Journals.{call_asked}
 use Rattle.rz_asks.specs.Logged.{Logged}
 use Rattle.rz_asks.specs.Parts.{IsUnbegun}
 use Rattle.rz_lines.specs.Behind.{Before, behind}
@@ -43,6 +46,7 @@ use Rattle.rz_driver.specs.Worlds.{place_of, world, world_of, numbers_in, exact_
 use Rattle.rz_stations.proofs.MeterLemmas.{metered-counts, named-vector}
 use Rattle.rz_stations.proofs.PictureLemmas.{all-then, GrowsBy, grows-behind, grown-short, are-right}
 use Rattle.rz_stations.proofs.Rows.{all-set, all-at}
+use Rattle.rz_driver.proofs.KeptCalls.{asked-length}
 use Rattle.rz_driver.proofs.WorldLemmas.{seat-here}
 use Rattle.rz_driver.proofs.TurnLemmas.{AreTexts}
 use Rattle.rz_driver.proofs.LengthLemmas.{at-work-knows, lengths-grow, lengths-turn}
@@ -158,6 +162,15 @@ module _ {D : Type 0} {G : Ghosts D} (by : Actor) (place : ℕ) (d f : Driver D 
             | inl same ↦ same ∙ ap (λ (k : List Event). text_said (facts k) said) (sym whole)
             | inr unbegun ↦ is-not log.earlier unbegun.0 new
           ]
+
+  -- the call that it asks for tells the length of its text, however the log grows
+  pub turn-lengths : ((v : Volume) → IsOwnProper v) → HasPicture d old → IsTrue G.tells → length (log.events ++ old) < 2 ^ 64 - 1
+      → (asker : Machine) (c : Call) → a.machine ≡ Some asker → call_asked (ask_of asker.layout asker.work) ≡ Some c → (g : Facts) → Extends (facts (log.events ++ old)) g → HasLength g c
+  turn-lengths proper picture told few asker c has asks g grows =
+      let v = d.volume in
+      let was = picture told (subst (λ (k : List Event). length (k ++ old) < 2 ^ 64 - 1) events few) in
+      let seat : IsTrueSeat v (facts (log.events ++ old)) by (Some asker) = subst (λ (o : Option Machine). IsTrueSeat v (facts (log.events ++ old)) by o) has (known was).0 in
+      asked-length v (facts (log.events ++ old)) g grows seat.own seat.run by seat.number (proper v) asker.layout asker.work seat.true_to.layout_is seat.true_to.own seat.way c asks
 
   pub turn-picture : (b : Seat) (next : World) (ys : List (Station (UnderFuse D))) → TurnedLaw → TellingLaw → ((v : Volume) → IsLastingLaw v) → (IsTrue G.tells → IsTurn d.volume by (behind old (world_of d)) (behind old next))
       → (IsTrue G.tells → KeepsPicture image by a.machine b.machine d.shared.stations.items log.events ys next.log) → GrowsBy h next.log → HasPicture f old

@@ -14,8 +14,10 @@ use Rattle.rz_metadata.specs.declared.journaled.Refusal.TheVariants.{Full, Faile
 use Rattle.rz_metadata.specs.declared.metadata.Metadata.{Metadata}
 use Rattle.rz_metadata.specs.declared.metadata.Metadata.TheVariants.{InMemory, Journaled}
 use Rattle.rz_metadata.specs.Stands.{export_in, disk_of, refusal_of, IsKept, IsLeft, IsLeftBy, OverfillsHalf}
-use Rattle.rz_asks.specs.Journals.{AreCallsOf, KeepsLog, EndsLog, EndsWith}
-use Rattle.rz_driver.specs.Endings.{StandFor, StandForEither, StandsForLog, EndsFor, EndsAsRefused}
+use Rattle.rz_asks.specs.Journals.{EndsWith}
+use Rattle.rz_driver.specs.Endings.{AreCallsOf, StandFor, StandForEither, StandsForLog, EndsFor, EndsAsRefused}
+use Rattle.rz_driver.specs.Journals.{KeepsLog, EndsLog}
+use Rattle.rz_driver.proofs.KeptCalls.{exactly}
 
 the-disk : {D : Type 0} (x y : D) → Some x ≡ Some y → x ≡ y
 the-disk x y is = cc
@@ -40,14 +42,14 @@ module _ {D : Type 0} (tells : Bool) (meter : D → Meter) (image : D → List �
   kept-so : (j : Behind D) → j.journal.export.volume ≡ v → KeepsLog tells meter image first (Journaled j) h → IsTrue tells → StandsForLog (image j.journal.disk) v h
   kept-so j volume keeps told =
       let kept : IsKept tells meter image first j keeps.0 = keeps.2 in
-      record { calls = keeps.0; told = keeps.1; images = for-volume (image j.journal.disk) j.journal.export v volume keeps.0 (kept.images told) }
+      subst (StandFor (image j.journal.disk) v) (exactly tells told h keeps.0 keeps.1) (for-volume (image j.journal.disk) j.journal.export v volume keeps.0 (kept.images told))
 
   -- between two turns
   pub stands-closed : (m : Metadata D) (disk : D) → (export_in m).volume ≡ v → disk_of m ≡ Some disk → KeepsLog tells meter image first m h → IsTrue tells → StandsForLog (image disk) v h
   stands-closed (InMemory s) disk volume is keeps told = absurd (cc)
   stands-closed (Journaled j) disk volume is keeps told = subst (λ (d : D). StandsForLog (image d) v h) (the-disk j.journal.disk disk is) (kept-so j volume keeps told)
 
-  module _ (j : Behind D) (volume : j.journal.export.volume ≡ v) (calls : List Call) (tell : AreCallsOf h calls) where
+  module _ (j : Behind D) (volume : j.journal.export.volume ≡ v) (calls : List Call) (tell : AreCallsOf tells h calls) where
     abbrev here : List ℕ → Type 0
     here = image j.journal.disk
 
@@ -58,7 +60,7 @@ module _ {D : Type 0} (tells : Bool) (meter : D → Meter) (image : D → List �
     kept-ends : IsKept tells meter image first j calls → EndsBy j.refusal
     kept-ends kept = subst EndsBy (sym kept.unrefused) (record {
       calls = calls;
-      told = tell;
+      calls_are = tell;
       call = call.Enroll 0 0;
       ends = λ told text is. inl (for-volume here j.journal.export v volume calls (kept.images told) text is);
     })
@@ -67,7 +69,7 @@ module _ {D : Type 0} (tells : Bool) (meter : D → Meter) (image : D → List �
     more-ends : (c : Call) → IsKept tells meter image first j (calls ++ c ∷ []) → EndsBy j.refusal
     more-ends c kept = subst EndsBy (sym kept.unrefused) (record {
       calls = calls;
-      told = tell;
+      calls_are = tell;
       call = c;
       ends = λ told text is. inr (for-volume here j.journal.export v volume (calls ++ c ∷ []) (kept.images told) text is);
     })
@@ -75,7 +77,7 @@ module _ {D : Type 0} (tells : Bool) (meter : D → Meter) (image : D → List �
     left-ends : (c : Call) → IsLeft tells meter image first j calls c → EndsBy j.refusal
     left-ends c left = record {
       calls = calls;
-      told = tell;
+      calls_are = tell;
       call = c;
       ends = left-for here j.journal.export v volume calls tells first (faults (meter j.journal.disk)) c j.refusal left;
     }
@@ -91,3 +93,7 @@ module _ {D : Type 0} (tells : Bool) (meter : D → Meter) (image : D → List �
   ends-closed (InMemory s) disk volume is ends = absurd (cc)
   ends-closed (Journaled j) disk volume is ends =
       subst (λ (d : D). EndsAsRefused j.refusal tells (image d) first (faults (meter d)) v h) (the-disk j.journal.disk disk is) (ended-so j volume ends.0 ends.1 ends.2)
+
+-- where the journal was full it stands for the calls of the log
+pub full-stands : (tells : Bool) (image : List ℕ → Type 0) (first now : ℕ) (v : Volume) (h : List Event) → EndsAsRefused (Some Full) tells image first now v h → IsTrue tells → StandsForLog image v h
+full-stands tells image first now v h ended told = subst (StandFor image v) (exactly tells told h ended.calls ended.calls_are) (ended.ends.1 told)

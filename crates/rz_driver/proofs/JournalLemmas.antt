@@ -1,5 +1,5 @@
 -- The journal of a driver: what its disk stands for after a turn, after an order, and where a play ended.
-use Rattle.std.proofs.Common.{◌≡◌, inl, inr, ℕ, Bool, true, false, List, length, ◌∷◌, ◌++◌, Option, Some, IfSome, refl, sym, ◌∙◌, ap, subst}
+use Rattle.std.proofs.Common.{◌≡◌, inl, inr, ℕ, ◌-◌, ◌^◌, ◌<◌, Bool, true, IsTrue, List, [], length, ◌∷◌, ◌++◌, Option, Some, IfSome, refl, sym, ◌∙◌, ap, subst}
 use Rattle.rz_disk.specs.Meter.{Meter}
 use Rattle.rz_disk.specs.declared.disk.Disk.{Ghosts}
 use Rattle.rz_events.specs.Volume.{Volume, nodes_of}
@@ -8,30 +8,43 @@ use Rattle.rz_events.specs.declared.keys.Actor.TheVariants.{Admin}
 use Rattle.rz_events.specs.declared.nodes.NodeAnswer.{NodeAnswer}
 use Rattle.rz_events.specs.declared.nodes.NodeAsk.{NodeAsk}
 use Rattle.rz_events.specs.declared.nodes.NodeAsk.TheVariants as ask
+use Rattle.rz_events.specs.declared.export.Call.{Call}
 use Rattle.rz_events.specs.declared.events.Event.{Event}
 use Rattle.rz_events.specs.declared.events.Event.TheVariants as e
 use Rattle.rz_events.specs.declared.events.Word.TheVariants.{Export, Node, Own}
 use Rattle.rz_events.specs.Events.{word_of}
-use Rattle.rz_core.specs.History.{of_word}
+use Rattle.rz_core.specs.History.{Facts, facts, of_word}
+use Rattle.rz_core.specs.Legal.{IsLegalInRuns}
+use Rattle.rz_core.proofs.Extends.{Extends, extends-more}
 use Rattle.rz_node_model.specs.NodeEvents.{node_event}
+use Rattle.rz_export_model.specs.Export.{export_reply}
+use Rattle.rz_export_model.specs.ExportEvents.{export_event}
+use Rattle.rz_journal.specs.Seen.{calls_after}
 use Rattle.rz_operation.specs.Machine.{Machine, text_of}
-use Rattle.rz_operation_model.specs.Ask.{Saying, SayGot, SayGave, SayLeft, SayDone}
+use Rattle.rz_operation_model.specs.Ask.{Saying, SayGot, SayGave, SayLeft, SayDone, ask_of}
 use Rattle.rz_operation_model.specs.Turns.{said_event}
-use Rattle.rz_lines.specs.Behind.{Before}
+use Rattle.rz_lines.specs.Behind.{Before, behind}
 use Rattle.rz_play.specs.Lines.{noted}
-use Rattle.rz_asks.specs.Journals.{KeepsLog, EndsLog, KeepsOn, EndsOn}
-use Rattle.rz_asks.specs.Parts.{IsSayPart}
-use Rattle.rz_asks.proofs.Keeping.{keeps-same, keeps-ends, node-stays, own-stays, noted-stays, ends-unasked}
+use Rattle.rz_play_laws.proofs.Turning.{in-runs}
+use Rattle.rz_continuation.specs.Calls.{HasLength}
+use Rattle.rz_continuation.specs.Laws.{IsCallTold, IsNoCall}
+use Rattle.rz_asks.specs.Journals.{call_asked, KeepsCall, EndsOn}
+use Rattle.rz_asks.specs.Parts.{IsNoted, IsSayPart}
 use Rattle.rz_metadata.specs.declared.metadata.Metadata.{Metadata}
-use Rattle.rz_metadata.specs.Stands.{export_in, is_journaled}
+use Rattle.rz_metadata.specs.Stands.{export_in, is_journaled, Stands}
 use Rattle.rz_formatting.specs.declared.formatting.Station.{Station}
 use Rattle.rz_stations.specs.Administration.{IsStarted}
 use Rattle.rz_stations.proofs.EventWords.{node-word}
+use Rattle.rz_stations.proofs.PictureLemmas.{GrowsBy, grows-behind, grown-short}
 use Rattle.rz_driver.specs.declared.driver.Driver.{Driver}
 use Rattle.rz_driver.specs.declared.station.Shared.{Shared}
 use Rattle.rz_driver.specs.Acts.{IsFate, Through, ReplyLost, RequestLost}
-use Rattle.rz_driver.specs.Journals.{IsSameStore, journal_place, HasJournal, LeavesJournal}
-use Rattle.rz_driver.specs.Worlds.{exact_if, is_exact, GoesAfter, Leaves}
+use Rattle.rz_driver.specs.Endings.{AreCallsOf}
+use Rattle.rz_driver.specs.Journals.{IsSameStore, IsExportTurn, Asks, AsksNothing, KeepsLog, EndsLog, journal_place, HasJournal, LeavesJournal}
+use Rattle.rz_driver.specs.Pictures.{AreBytes}
+use Rattle.rz_driver.specs.Worlds.{exact_if, is_exact, world_of, GoesAfter, HasPicture, Leaves}
+use Rattle.rz_driver.proofs.ExportWords.{node-stays, own-stays, noted-stays, same-behind, bytes-same, bytes-more, event-bytes}
+use Rattle.rz_driver.proofs.KeptCalls.{calls-more, calls-same}
 
 -- ---- events that are no word of the export
 
@@ -75,13 +88,9 @@ arming-stays n passes pick h h' log_is = ap (of_word Export) log_is ∙ node-sta
 pub same-store : {D : Type 0} (m m' : Metadata D) → m' ≡ m → IsSameStore m m'
 same-store m m' is = record { journal = ap is_journaled is; volume = ap (λ (x : Metadata _). (export_in x).volume) is }
 
-module _ {D : Type 0} (tells : Bool) (meter : D → Meter) (image : D → List ℕ → Type 0) (m m' : Metadata D) (is : m' ≡ m) (h h' : List Event) where
-  pub store-keeps : of_word Export h' ≡ of_word Export h → KeepsOn tells meter image m h m' h'
-  store-keeps same = subst (λ (x : Metadata D). KeepsOn tells meter image m h x h') (sym is) (keeps-same tells meter image m h h' same)
-
-  pub store-ends : h' ≡ h → EndsOn tells meter image m h m' h'
-  store-ends same = subst (λ (x : Metadata D). EndsOn tells meter image m h x h') (sym is)
-      (subst (λ (k : List Event). EndsOn tells meter image m h m k) (sym same) (ends-unasked tells meter image m h))
+-- nothing was asked of them, and they stand as they did
+pub ends-with-it : {D : Type 0} (tells : Bool) (meter : D → Meter) (image : D → List ℕ → Type 0) (m m' : Metadata D) → m' ≡ m → EndsOn tells meter image m m'
+ends-with-it tells meter image m m' is = subst (EndsOn tells meter image m) (sym is) (λ first calls stood. inl stood)
 
 -- ---- a driver
 
@@ -92,8 +101,18 @@ exact-still {G = G} d e same = ap (exact_if G.tells) same
 pub goes-after : {D : Type 0} {G : Ghosts D} (d e : Driver D G) → e.shared.log.earlier ≡ d.shared.log.earlier → (b : Before) → GoesAfter d b → GoesAfter e b
 goes-after d e same b after = record { anew = λ no. after.anew (sym same ∙ no); short = after.short }
 
+-- its log is one of several runs
+picture-legal : {D : Type 0} {G : Ghosts D} (d : Driver D G) (old : List Event) → HasPicture d old → IsTrue G.tells → length (d.shared.log.events ++ old) < 2 ^ 64 - 1 → IsLegalInRuns d.volume (d.shared.log.events ++ old)
+picture-legal d old picture told few = in-runs d.volume old (behind old (world_of d)) (picture told few).fine
+
 module _ {D : Type 0} {G : Ghosts D} (d e : Driver D G) (volume : e.volume ≡ d.volume) (earlier : e.shared.log.earlier ≡ d.shared.log.earlier) (store : IsSameStore d.shared.export e.shared.export) (b : Before) (h : List Event) (log : h ≡ d.shared.log.events)
     (has : is_exact d ≡ true → HasJournal d b) (exact : is_exact e ≡ true) where
+  abbrev h' : List Event
+  h' = e.shared.log.events
+
+  abbrev Keeps : Metadata D → List Event → Type 0
+  Keeps = KeepsLog G.tells G.meter G.image (b.counts (journal_place d))
+
   had : HasJournal d b
   had = has (sym (exact-still d e earlier) ∙ exact)
 
@@ -103,39 +122,100 @@ module _ {D : Type 0} {G : Ghosts D} (d e : Driver D G) (volume : e.volume ≡ d
   place-there : b.counts (journal_place d) ≡ b.counts (journal_place e)
   place-there = ap (λ (v : Volume). b.counts (length (nodes_of v.clusters))) (sym volume)
 
-  had-there : KeepsLog G.tells G.meter G.image (b.counts (journal_place d)) d.shared.export (h ++ b.log)
-  had-there = subst (λ (k : List Event). KeepsLog G.tells G.meter G.image (b.counts (journal_place d)) d.shared.export (k ++ b.log)) (sym log) had.keeps
+  had-calls : length (h ++ b.log) < 2 ^ 64 - 1 → Keeps d.shared.export (h ++ b.log)
+  had-calls = subst (λ (k : List Event). length (k ++ b.log) < 2 ^ 64 - 1 → Keeps d.shared.export (k ++ b.log)) (sym log) had.keeps
 
-  pub journal-goes-on : KeepsOn G.tells G.meter G.image d.shared.export h e.shared.export e.shared.log.events → HasJournal e b
-  journal-goes-on keeps = record {
+  had-bytes : IsTrue G.tells → AreBytes (facts (h ++ b.log))
+  had-bytes = subst (λ (k : List Event). IsTrue G.tells → AreBytes (facts (k ++ b.log))) (sym log) had.bytes
+
+  journal-now : (IsTrue G.tells → AreBytes (facts (h' ++ b.log))) → (length (h' ++ b.log) < 2 ^ 64 - 1 → Keeps e.shared.export (h' ++ b.log)) → HasJournal e b
+  journal-now bytes keeps = record {
     volume = volume-there;
-    keeps = subst (λ (n : ℕ). KeepsLog G.tells G.meter G.image n e.shared.export (e.shared.log.events ++ b.log)) place-there (keeps (b.counts (journal_place d)) b.log had-there);
+    bytes = bytes;
+    keeps = λ few. subst (λ (n : ℕ). KeepsLog G.tells G.meter G.image n e.shared.export (h' ++ b.log)) place-there (keeps few);
   }
 
-  pub journal-ends : EndsOn G.tells G.meter G.image d.shared.export h e.shared.export e.shared.log.events → LeavesJournal e b
-  journal-ends ends = record {
+  module _ (picture : HasPicture d b.log) (grown : GrowsBy h h') where
+    whole : GrowsBy (h ++ b.log) (h' ++ b.log)
+    whole = grows-behind b.log h h' grown
+
+    legal : IsTrue G.tells → length (h ++ b.log) < 2 ^ 64 - 1 → IsLegalInRuns d.volume (h ++ b.log)
+    legal told = subst (λ (k : List Event). length (k ++ b.log) < 2 ^ 64 - 1 → IsLegalInRuns d.volume (k ++ b.log)) (sym log) (picture-legal d b.log picture told)
+
+    -- nothing was asked of the export
+    pub journal-no-more : IsNoCall d.volume → e.shared.export ≡ d.shared.export → of_word Export h' ≡ of_word Export h → HasJournal e b
+    journal-no-more untold same words = journal-now
+        (λ told. bytes-same (h ++ b.log) (h' ++ b.log) (same-behind h h' b.log words) (had-bytes told))
+        (λ few.
+        let short = grown-short (h ++ b.log) (h' ++ b.log) whole few in
+        let was = had-calls short in
+        let word : of_word Export (whole.0 ++ (h ++ b.log)) ≡ of_word Export (h ++ b.log) = ap (of_word Export) (sym whole.1) ∙ same-behind h h' b.log words in
+        let now = calls-same d.volume untold (h ++ b.log) whole.0 G.tells (λ told. legal told short) word was.0 was.1 in (
+          was.0,
+          subst (λ (k : List Event). AreCallsOf G.tells k was.0) (sym whole.1) now,
+          subst (λ (m : Metadata D). Stands G.tells G.meter G.image (b.counts (journal_place d)) m was.0) (sym same) was.2,
+        ))
+
+    -- a call was replied to
+    journal-one-more : IsCallTold d.volume → (by : Actor) (c : Call) → (IsTrue G.tells → length (h ++ b.log) < 2 ^ 64 - 1 → (g : Facts) → Extends (facts (h ++ b.log)) g → HasLength g c)
+        → KeepsCall G.tells G.meter G.image c d.shared.export e.shared.export → IsNoted (export_event by c (export_reply (export_in d.shared.export) c)) h h' → HasJournal e b
+    journal-one-more told by c long keeps note =
+        let x = note.0 in
+        let r = export_reply (export_in d.shared.export) c in
+        let old = h ++ b.log in journal-now
+        (λ tells. subst (λ (k : List Event). AreBytes (facts (k ++ b.log))) (sym note.2) (bytes-more x old (had-bytes tells) (event-bytes by c r x keeps.bytes note.1)))
+        (λ few.
+        let short = grown-short old (h' ++ b.log) whole few in
+        let was = had-calls short in
+        let calls = calls_after r c was.0 in
+        let now : AreCallsOf G.tells (x ∷ old) calls =
+        calls-more d.volume told old x by c r G.tells (λ tells. legal tells short) (λ tells. long tells short (facts (x ∷ old)) (extends-more (x ∷ []) old)) note.1 was.0 was.1 in
+        (calls, subst (λ (k : List Event). AreCallsOf G.tells (k ++ b.log) calls) (sym note.2) now, keeps.stands (b.counts (journal_place d)) was.0 was.2))
+
+    -- after a turn
+    pub journal-goes-on : IsCallTold d.volume → IsNoCall d.volume → (by : Actor) (machine : Option Machine)
+        → (IsTrue G.tells → length (h ++ b.log) < 2 ^ 64 - 1 → (asker : Machine) (c : Call) → machine ≡ Some asker → call_asked (ask_of asker.layout asker.work) ≡ Some c → (g : Facts) → Extends (facts (h ++ b.log)) g → HasLength g c)
+        → IsExportTurn G.tells G.meter G.image by machine d.shared.export e.shared.export h h' → HasJournal e b
+    journal-goes-on told untold by machine long (Asks asker c is asks keeps note) = journal-one-more told by c (λ tells short. long tells short asker c is asks) keeps note
+    journal-goes-on told untold by machine long (AsksNothing same words) = journal-no-more untold same words
+
+  -- where a turn was not taken
+  pub journal-ends : h' ≡ h → EndsOn G.tells G.meter G.image d.shared.export e.shared.export → LeavesJournal e b
+  journal-ends same ends = record {
     volume = volume-there;
-    ends = subst (λ (n : ℕ). EndsLog G.tells G.meter G.image n e.shared.export (e.shared.log.events ++ b.log)) place-there (ends (b.counts (journal_place d)) b.log had-there);
+    bytes = subst (λ (k : List Event). IsTrue G.tells → AreBytes (facts (k ++ b.log))) (sym same) had-bytes;
+    ends = λ few.
+        let was = had-calls (subst (λ (k : List Event). length (k ++ b.log) < 2 ^ 64 - 1) same few) in
+        subst (λ (n : ℕ). EndsLog G.tells G.meter G.image n e.shared.export (h' ++ b.log)) place-there
+        (was.0, subst (λ (k : List Event). AreCallsOf G.tells (k ++ b.log) was.0) (sym same) was.1, ends (b.counts (journal_place d)) was.0 was.2);
   }
+
+  -- where nothing was noted
+  journal-as-it-was : h' ≡ h → e.shared.export ≡ d.shared.export → HasJournal e b
+  journal-as-it-was same export = journal-now
+      (subst (λ (k : List Event). IsTrue G.tells → AreBytes (facts (k ++ b.log))) (sym same) had-bytes)
+      (subst (λ (k : List Event). length (k ++ b.log) < 2 ^ 64 - 1 → Keeps e.shared.export (k ++ b.log)) (sym same)
+      (subst (λ (m : Metadata D). length (h ++ b.log) < 2 ^ 64 - 1 → Keeps m (h ++ b.log)) (sym export) had-calls))
 
 -- where nothing was asked of the export
 module _ {D : Type 0} {G : Ghosts D} (d e : Driver D G) (volume : e.volume ≡ d.volume) (earlier : e.shared.log.earlier ≡ d.shared.log.earlier) (export : e.shared.export ≡ d.shared.export) (b : Before) (has : is_exact d ≡ true → HasJournal d b) where
   stored : IsSameStore d.shared.export e.shared.export
   stored = same-store d.shared.export e.shared.export export
 
-  pub journal-stays : of_word Export e.shared.log.events ≡ of_word Export d.shared.log.events → is_exact e ≡ true → HasJournal e b
-  journal-stays same exact = journal-goes-on d e volume earlier stored b d.shared.log.events refl has exact
-      (store-keeps G.tells G.meter G.image d.shared.export e.shared.export export d.shared.log.events e.shared.log.events same)
+  -- a node was ordered something
+  pub journal-ordered : IsNoCall d.volume → HasPicture d b.log → GrowsBy d.shared.log.events e.shared.log.events → of_word Export e.shared.log.events ≡ of_word Export d.shared.log.events → is_exact e ≡ true → HasJournal e b
+  journal-ordered untold picture grown same exact = journal-no-more d e volume earlier stored b d.shared.log.events refl has exact picture grown untold export same
+
+  -- an actor was
+  pub journal-stays : e.shared.log.events ≡ d.shared.log.events → is_exact e ≡ true → HasJournal e b
+  journal-stays same exact = journal-as-it-was d e volume earlier stored b d.shared.log.events refl has exact same export
 
   pub journal-still : e.shared.log.events ≡ d.shared.log.events → is_exact e ≡ true → LeavesJournal e b
-  journal-still same exact = journal-ends d e volume earlier stored b d.shared.log.events refl has exact
-      (store-ends G.tells G.meter G.image d.shared.export e.shared.export export d.shared.log.events e.shared.log.events same)
+  journal-still same exact = journal-ends d e volume earlier stored b d.shared.log.events refl has exact same
+      (ends-with-it G.tells G.meter G.image d.shared.export e.shared.export export)
 
 pub journal-left : {D : Type 0} {G : Ghosts D} (d : Driver D G) (b : Before) → HasJournal d b → LeavesJournal d b
-journal-left {G = G} d b had = record {
-  volume = had.volume;
-  ends = keeps-ends G.tells G.meter G.image (b.counts (journal_place d)) d.shared.export (d.shared.log.events ++ b.log) had.keeps;
-}
+journal-left d b had = record { volume = had.volume; bytes = had.bytes; ends = λ few. (let keeps = had.keeps few in (keeps.0, keeps.1, inl keeps.2)) }
 
 -- however a play ended
 pub leaves-journal : {D : Type 0} {G : Ghosts D} (d : Driver D G) (b : Before) → Leaves d b → is_exact d ≡ true → LeavesJournal d b

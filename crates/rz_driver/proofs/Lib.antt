@@ -16,6 +16,8 @@ mod ActPictures
 mod DriverPictures
 mod NewPictures
 mod FetchLemmas
+mod ExportWords
+mod KeptCalls
 mod JournalLemmas
 mod JournalEndings
 mod BehindJournal

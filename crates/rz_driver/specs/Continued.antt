@@ -1,5 +1,5 @@
 -- A driver that goes on over the disks which earlier runs left.
-use Rattle.std.specs.Prelude.{ℕ, ◌≡◌, ◌≢◌, ◌⊎◌, Bool, true, IsTrue, List, [], ◌∷◌, ◌++◌, map, length, option_to_list}
+use Rattle.std.specs.Prelude.{ℕ, ◌≡◌, ◌≢◌, ◌⊎◌, Bool, true, IsTrue, List, [], ◌∷◌, ◌++◌, map, length, Some, option_to_list}
 use Rattle.std.specs.List.{AllByRecursion}
 use Rattle.std.specs.FinMap as maps
 use Rattle.mj_angles.specs.Layout.{max_bins_of}
@@ -7,7 +7,6 @@ use Rattle.rz_disk.specs.Meter.{Meter, Rises, faults}
 use Rattle.rz_disk.specs.declared.disk.Disk.{Ghosts}
 use Rattle.rz_events.specs.Volume.{Volume, nodes_of}
 use Rattle.rz_events.specs.declared.files.NodeSpec.{NodeSpec}
-use Rattle.rz_events.specs.declared.export.Call.{Call}
 use Rattle.rz_events.specs.declared.events.Event.{Event}
 use Rattle.rz_core.specs.History.{facts}
 use Rattle.rz_export_model.specs.Export.{Export}
@@ -17,36 +16,36 @@ use Rattle.rz_journal.specs.declared.rebuilding.JournalFault.TheVariants as faul
 use Rattle.rz_metadata.specs.declared.metadata.Metadata.{Metadata}
 use Rattle.rz_metadata.specs.Enrolled.{loss_of}
 use Rattle.rz_metadata.specs.Reopened.{MakesExport, number_of}
-use Rattle.rz_metadata.specs.Stands.{disk_of, export_in}
+use Rattle.rz_metadata.specs.Stands.{disk_of, export_in, refusal_of}
+use Rattle.rz_metadata.specs.declared.journaled.Refusal.TheVariants.{Full}
 use Rattle.rz_opening.specs.declared.refusal.OpenRefusal.{OpenRefusal}
 use Rattle.rz_opening.specs.declared.refusal.OpenRefusal.TheVariants as refusal
 use Rattle.rz_opening.specs.Opened.{AreKept, AreOpened, IsCause}
-use Rattle.rz_continuation.specs.Calls.{HasLength}
+use Rattle.rz_lines.specs.Behind.{Before}
 use Rattle.rz_play.specs.World.{world_after}
-use Rattle.rz_asks.specs.Journals.{AreCallsOf}
 use Rattle.rz_stations.specs.Images.{AreDisksImaged}
 use Rattle.rz_stations.specs.Stations.{state_in}
 use Rattle.rz_driver.specs.declared.driver.Driver.{Driver}
-use Rattle.rz_driver.specs.Endings.{StandFor}
+use Rattle.rz_driver.specs.Endings.{StandsForLog}
+use Rattle.rz_driver.specs.Pictures.{AreBytes}
 use Rattle.rz_driver.specs.Seats.{IsEmptySeat}
-use Rattle.rz_driver.specs.Worlds.{world_of}
+use Rattle.rz_driver.specs.Worlds.{world_of, Holds, Leaves}
 
--- What earlier runs left.
+-- What earlier runs left, and what a run leaves for the next.
 
--- each image stands for the calls that the log tells, each publish with the length of its text
-pub record StandsInLength (image : List ℕ → Type 0) (v : Volume) (h : List Event) : Type 0 where
-  pub calls : List Call
-  pub told : AreCallsOf h calls
-  pub lengths : AllByRecursion (HasLength (facts h)) calls
-  pub images : StandFor image v calls
-
--- the disks of the nodes, in their order, and a journal's behind them, as earlier runs with this log left them
+-- The disks of the nodes, in their order, and a journal's behind them, as earlier runs with this log left them: those of the nodes
+-- stand for what the log says that each holds, and that of the journal for the calls that changed its export. Its texts are of bytes.
 pub record AreLeft {D : Type 0} (image : D → List ℕ → Type 0) (v : Volume) (h : List Event) (disks : List D) : Type 0 where
   pub nodes : List D
   pub journal : D
   pub disks_are : disks ≡ nodes ++ journal ∷ []
   pub each : AreDisksImaged image v (map (λ (n : NodeSpec). n.sid) (nodes_of v.clusters)) nodes h
-  pub last : StandsInLength (image journal) v h
+  pub last : StandsForLog (image journal) v h
+  pub bytes : AreBytes (facts h)
+
+-- A play ended so that its disks stand for its log: between two turns, or where the journal was full.
+abbrev pub EndsWhole : {D : Type 0} {G : Ghosts D} → Driver D G → Before → Type 0
+EndsWhole d b = Holds d b ⊎ (Leaves d b × (refusal_of d.shared.export ≡ Some Full))
 
 -- What was opened.
 

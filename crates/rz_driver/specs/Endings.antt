@@ -1,9 +1,11 @@
 -- For which calls the journal's disk stands where a play ended.
-use Rattle.std.specs.Prelude.{ℕ, ◌⊎◌, Bool, IsTrue, List, [], ◌∷◌, ◌++◌, Option, Some, None}
+use Rattle.std.specs.Prelude.{ℕ, ◌≡◌, ◌⊎◌, Bool, true, false, IsTrue, List, [], ◌∷◌, ◌++◌, Option, Some, None}
 use Rattle.rz_disk.specs.Meter.{Rises}
 use Rattle.rz_events.specs.Volume.{Volume}
 use Rattle.rz_events.specs.declared.export.Call.{Call}
 use Rattle.rz_events.specs.declared.events.Event.{Event}
+use Rattle.rz_events.specs.declared.events.Word.TheVariants.{Export}
+use Rattle.rz_core.specs.History.{of_word}
 use Rattle.rz_export_model.specs.Export.{new_export}
 use Rattle.rz_journal.specs.JournalText.{IsTextOf, after_all}
 use Rattle.rz_metadata.specs.declared.journaled.Refusal.{Refusal}
@@ -11,7 +13,7 @@ use Rattle.rz_metadata.specs.declared.journaled.Refusal.TheVariants.{Full, Faile
 use Rattle.rz_metadata.specs.Stands.{OverfillsHalf}
 use Rattle.rz_lines.specs.declared.lines.PlayEnd.{PlayEnd}
 use Rattle.rz_lines.specs.declared.lines.PlayEnd.TheVariants as end
-use Rattle.rz_asks.specs.Journals.{AreCallsOf}
+use Rattle.rz_continuation.specs.Calls.{changing_calls, AreTold}
 
 -- how a play ends where a turn was not taken
 abbrev pub end_by : Option Refusal → PlayEnd
@@ -27,11 +29,15 @@ StandFor image v calls = (text : List ℕ) → image text → IsTextOf v text ca
 abbrev pub StandForEither : (List ℕ → Type 0) → Volume → List Call → Call → Type 0
 StandForEither image v calls c = (text : List ℕ) → image text → IsTextOf v text calls ⊎ IsTextOf v text (calls ++ c ∷ [])
 
--- each image stands for the calls that the log tells
-pub record StandsForLog (image : List ℕ → Type 0) (v : Volume) (h : List Event) : Type 0 where
-  pub calls : List Call
-  pub told : AreCallsOf h calls
-  pub images : StandFor image v calls
+-- The calls of a log for which a journal stands: those that changed the export, each as it was called. Over disks that do not tell
+-- their texts the length of a publish is left open.
+abbrev pub AreCallsOf : Bool → List Event → List Call → Type 0
+AreCallsOf true h calls = calls ≡ changing_calls h
+AreCallsOf false h calls = AreTold (of_word Export h) calls
+
+-- each image stands for the calls that changed the export of the log
+abbrev pub StandsForLog : (List ℕ → Type 0) → Volume → List Event → Type 0
+StandsForLog image v h = StandFor image v (changing_calls h)
 
 -- Where the journal was full, there is no half for the export and one call more. Where its disk failed, its count of faults rose.
 
@@ -40,9 +46,9 @@ EndsFor None tells image first now v calls c = IsTrue tells → StandForEither i
 EndsFor (Some Full) tells image first now v calls c = OverfillsHalf (after_all (new_export v 0) calls) c × (IsTrue tells → StandFor image v calls)
 EndsFor (Some Failed) tells image first now v calls c = Rises first now × (IsTrue tells → StandForEither image v calls c)
 
--- the calls that the log tells, and the one that was not replied to, if there was one
+-- the calls of the log, and the one that was not replied to, if there was one
 pub record EndsAsRefused (refusal : Option Refusal) (tells : Bool) (image : List ℕ → Type 0) (first now : ℕ) (v : Volume) (h : List Event) : Type 0 where
   pub calls : List Call
-  pub told : AreCallsOf h calls
+  pub calls_are : AreCallsOf tells h calls
   pub call : Call
   pub ends : EndsFor refusal tells image first now v calls call

@@ -1,30 +1,61 @@
 -- The journal of a driver: for which calls its disk stands.
-use Rattle.std.specs.Prelude.{ℕ, ◌≡◌, ◌++◌, length}
+use Rattle.std.specs.Prelude.{ℕ, Bool, IsTrue, ◌≡◌, ◌-◌, ◌^◌, ◌<◌, List, ◌++◌, length, Option, Some}
+use Rattle.rz_disk.specs.Meter.{Meter}
 use Rattle.rz_disk.specs.declared.disk.Disk.{Ghosts}
 use Rattle.rz_events.specs.Volume.{nodes_of}
+use Rattle.rz_events.specs.declared.keys.Actor.{Actor}
+use Rattle.rz_events.specs.declared.export.Call.{Call}
+use Rattle.rz_events.specs.declared.events.Event.{Event}
+use Rattle.rz_events.specs.declared.events.Word.TheVariants.{Export}
+use Rattle.rz_export_model.specs.Export.{export_reply}
+use Rattle.rz_export_model.specs.ExportEvents.{export_event}
+use Rattle.rz_core.specs.History.{facts, of_word}
 use Rattle.rz_lines.specs.Behind.{Before}
+use Rattle.rz_operation.specs.Machine.{Machine}
+use Rattle.rz_operation_model.specs.Ask.{ask_of}
 use Rattle.rz_metadata.specs.declared.metadata.Metadata.{Metadata}
-use Rattle.rz_metadata.specs.Stands.{export_in, is_journaled}
-use Rattle.rz_asks.specs.Journals.{KeepsLog, EndsLog}
+use Rattle.rz_metadata.specs.Stands.{export_in, is_journaled, Stands}
+use Rattle.rz_asks.specs.Journals.{call_asked, KeepsCall, EndsWith}
+use Rattle.rz_asks.specs.Parts.{IsNoted}
 use Rattle.rz_driver.specs.declared.driver.Driver.{Driver}
+use Rattle.rz_driver.specs.Endings.{AreCallsOf}
+use Rattle.rz_driver.specs.Pictures.{AreBytes}
 
 -- the metadata of one volume still, in memory still or behind a journal still
 pub record IsSameStore {D : Type 0} (m m' : Metadata D) : Type 0 where
   pub journal : is_journaled m' ≡ is_journaled m
   pub volume : (export_in m').volume ≡ (export_in m).volume
 
+-- What a turn makes of the journal and of the events of the export's word: the machine's call was replied to and the event of the
+-- reply noted, or nothing was asked of the export.
+pub data IsExportTurn {D : Type 0} (tells : Bool) (meter : D → Meter) (image : D → List ℕ → Type 0) (by : Actor) (machine : Option Machine) (m m' : Metadata D) (h h' : List Event) : Type 0 where
+  Asks : (asker : Machine) (c : Call) → machine ≡ Some asker → call_asked (ask_of asker.layout asker.work) ≡ Some c → KeepsCall tells meter image c m m' → IsNoted (export_event by c (export_reply (export_in m) c)) h h'
+      → IsExportTurn tells meter image by machine m m' h h'
+  AsksNothing : m' ≡ m → of_word Export h' ≡ of_word Export h → IsExportTurn tells meter image by machine m m' h h'
+
+-- the journal stands for the calls of this log
+abbrev pub KeepsLog : {D : Type 0} → Bool → (D → Meter) → (D → List ℕ → Type 0) → ℕ → Metadata D → List Event → Type 0
+KeepsLog tells meter image first m h = (calls : List Call) × AreCallsOf tells h calls × Stands tells meter image first m calls
+
+-- or for these and one more, or it did not keep one
+abbrev pub EndsLog : {D : Type 0} → Bool → (D → Meter) → (D → List ℕ → Type 0) → ℕ → Metadata D → List Event → Type 0
+EndsLog tells meter image first m h = (calls : List Call) × AreCallsOf tells h calls × EndsWith tells meter image first m calls
+
 -- the journal's disk comes behind those of the nodes
 abbrev pub journal_place : {D : Type 0} {G : Ghosts D} → Driver D G → ℕ
 journal_place d = length (nodes_of d.volume.clusters)
 
--- What there was before the first line: what the disks had counted, and the log of earlier runs.
+-- What there was before the first line: what the disks had counted, and the log of earlier runs. The whole log has room for an
+-- event more.
 
--- between two turns a journal stands for the calls that the whole log tells
+-- between two turns a journal stands for the calls of the whole log, whose texts are of bytes
 pub record HasJournal {D : Type 0} {G : Ghosts D} (d : Driver D G) (b : Before) : Type 0 where
   pub volume : (export_in d.shared.export).volume ≡ d.volume
-  pub keeps : KeepsLog G.tells G.meter G.image (b.counts (journal_place d)) d.shared.export (d.shared.log.events ++ b.log)
+  pub bytes : IsTrue G.tells → AreBytes (facts (d.shared.log.events ++ b.log))
+  pub keeps : length (d.shared.log.events ++ b.log) < 2 ^ 64 - 1 → KeepsLog G.tells G.meter G.image (b.counts (journal_place d)) d.shared.export (d.shared.log.events ++ b.log)
 
 -- where a play ended it does, or it stands for one call more, or it did not keep one
 pub record LeavesJournal {D : Type 0} {G : Ghosts D} (d : Driver D G) (b : Before) : Type 0 where
   pub volume : (export_in d.shared.export).volume ≡ d.volume
-  pub ends : EndsLog G.tells G.meter G.image (b.counts (journal_place d)) d.shared.export (d.shared.log.events ++ b.log)
+  pub bytes : IsTrue G.tells → AreBytes (facts (d.shared.log.events ++ b.log))
+  pub ends : length (d.shared.log.events ++ b.log) < 2 ^ 64 - 1 → EndsLog G.tells G.meter G.image (b.counts (journal_place d)) d.shared.export (d.shared.log.events ++ b.log)

@@ -10,8 +10,8 @@ ghost use Rattle.rz_asks.specs.Locking.{lock_of};
 ghost use Rattle.rz_stations.specs.Nodes.{IsAsked};
 ghost use Rattle.rz_driver.specs.Seats.{HasLayout};
 ghost use Rattle.rz_stations.specs.Meters.{AreMetered, AreCounted, CarriesCounts};
-ghost use Rattle.rz_asks.specs.Journals.{KeepsOn, EndsOn};
-ghost use Rattle.rz_driver.specs.Journals.{IsSameStore};
+ghost use Rattle.rz_asks.specs.Journals.{EndsOn};
+ghost use Rattle.rz_driver.specs.Journals.{IsExportTurn, IsSameStore};
 ghost use Rattle.rz_driver.specs.Pictures.{KeepsPicture, SparesPicture};
 ghost use Rattle.rz_driver.specs.Acts.{IsKind, IsMessage, IsReleased, IsAct, HasLayouts};
 
@@ -74,8 +74,8 @@ pub(crate) fn act<D: Disk, J: Disk, L: Link>(
     ensures held { OnOk result ((numbers : List ℕ) → CarriesCounts (AreMetered D.meter numbers shared.old.stations.items shared.old.log.events) (AreMetered D.meter numbers shared.new.stations.items shared.new.log.events)) }
     ensures left { OnErr result ((numbers : List ℕ) → CarriesCounts (AreMetered D.meter numbers shared.old.stations.items shared.old.log.events) (AreCounted D.meter numbers shared.new.stations.items shared.new.log.events)) }
     ensures store { IsSameStore shared.old.export shared.new.export }
-    ensures kept { OnOk result (KeepsOn J.tells J.meter J.image shared.old.export shared.old.log.events shared.new.export shared.new.log.events) }
-    ensures ended { OnErr result (EndsOn J.tells J.meter J.image shared.old.export shared.old.log.events shared.new.export shared.new.log.events) }
+    ensures kept { OnOk result (IsExportTurn J.tells J.meter J.image by seat.old.machine shared.old.export shared.new.export shared.old.log.events shared.new.log.events) }
+    ensures ended { OnErr result (EndsOn J.tells J.meter J.image shared.old.export shared.new.export) }
     ensures pictured { OnOk result (IsTrue D.tells → KeepsPicture D.image by seat.old.machine seat.new.machine shared.old.stations.items shared.old.log.events shared.new.stations.items shared.new.log.events) }
     ensures spared { OnErr result (IsTrue D.tells → SparesPicture D.image by seat.old.machine shared.old.stations.items shared.old.log.events shared.new.stations.items) }
 {

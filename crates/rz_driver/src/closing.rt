@@ -4,12 +4,13 @@ ghost use Rattle.std.specs.Vec.{vec_len, vec_capacity};
 ghost use Rattle.rz_disk.specs.Meter.{faults};
 ghost use Rattle.rz_events.specs.declared.events.Event.{Event};
 ghost use Rattle.rz_lines.specs.Behind.{Before};
-ghost use Rattle.rz_metadata.specs.Stands.{disk_of, refusal_of};
+ghost use Rattle.rz_metadata.specs.Stands.{disk_of, is_journaled, refusal_of};
 ghost use Rattle.rz_driver.specs.Fetches.{Metered};
 ghost use Rattle.rz_stations.specs.Meters.{AreDisksCounted};
 ghost use Rattle.rz_driver.specs.OnlyAsked.{IsLeftSince};
 ghost use Rattle.rz_stations.specs.Images.{AreDisksImaged};
 ghost use Rattle.rz_formatting.specs.Formatted.{disks_of};
+ghost use Rattle.rz_driver.specs.Continued.{AreLeft, EndsWhole};
 ghost use Rattle.rz_driver.specs.Endings.{EndsAsRefused, StandsForLog};
 ghost use Rattle.rz_driver.specs.Journals.{journal_place};
 ghost use Rattle.rz_driver.specs.Worlds.{numbers_in, is_exact, Holds, Leaves};
@@ -55,12 +56,16 @@ impl<D: Disk> Driver<D> {
         ensures counted { (b : Before) → Leaves self b → AreDisksCounted D.meter b.counts 0 (numbers_in self) (disks_of self.shared.stations.items) self.shared.log.events }
         ensures imaged { (b : Before) → Leaves self b → IsTrue D.tells → AreDisksImaged D.image self.volume (numbers_in self) (disks_of self.shared.stations.items) (self.shared.log.events ++ b.log) }
 
-        // Between two turns a journal's disk stands for the calls that the log tells.
+        // Between two turns a journal's disk stands for the calls that changed the export of the log.
         ensures stands { (b : Before) (disk : D) → Holds self b → disk_of self.shared.export ≡ Some disk → IsTrue D.tells → StandsForLog (D.image disk) self.volume (self.shared.log.events ++ b.log) }
 
         // Where a play ended, for these still, or also for one call more, by what the journal refused.
         ensures ends { (b : Before) (disk : D) → Leaves self b → is_exact self ≡ true → disk_of self.shared.export ≡ Some disk
             → EndsAsRefused (refusal_of self.shared.export) D.tells (D.image disk) (b.counts (journal_place self)) (faults (D.meter disk)) self.volume (self.shared.log.events ++ b.log) }
+
+        // Where the play ended between two turns, or the journal was full, the disks are what a next run wants: `again` takes
+        // the same record.
+        ensures left { (b : Before) → EndsWhole self b → is_journaled self.shared.export ≡ true → IsTrue D.tells → AreLeft D.image self.volume (self.shared.log.events ++ b.log) result.1.items }
     {
         rz_image_laws::logged::<D>();
         let Driver { shared, home, .. } = self;

@@ -5,14 +5,12 @@ ghost use Rattle.rz_disk.specs.Meter.{faults};
 ghost use Rattle.rz_events.specs.Volume.{IsVolume, nodes_of};
 ghost use Rattle.rz_events.specs.declared.export.Call.{Call as ACall};
 ghost use Rattle.rz_events.specs.declared.events.Event.{Event as AnEvent};
-ghost use Rattle.rz_core.specs.History.{facts};
 ghost use Rattle.rz_metadata.specs.Reopened.{AllTextsOf, IsAsItCame, MakesExport};
 ghost use Rattle.rz_metadata.specs.Stands.{disk_of, export_in, is_journaled, Stands};
 ghost use Rattle.rz_opening.specs.Opened.{AreKept};
 ghost use Rattle.rz_continuation.specs.Earlier.{IsEarlier, IsRestarted};
 ghost use Rattle.rz_stations.specs.Meters.{faults_at};
 ghost use Rattle.rz_driver.specs.Continued.{journal_refusal, AreLeft, IsCauseAgain, IsJournalCause, IsOpenedAgain, IsOpenedOver, IsRefusedOver};
-ghost use Rattle.rz_driver.specs.Pictures.{AreBytes};
 ghost use Rattle.rz_driver.specs.Worlds.{left_behind, IsDriver, Holds};
 
 use crate::driver::Driver;
@@ -45,7 +43,7 @@ impl<D: Disk> Driver<D> {
 
         // Over disks that tell their texts a play goes on after the log of the earlier runs, in which each node that was up is
         // stopped and each node is started, whatever that log is.
-        ensures held { IfOk result (λ d. IsTrue D.tells → (h : List AnEvent) → IsEarlier volume.now h → AreBytes (facts h) → AreLeft D.image volume.now h disks.items
+        ensures held { IfOk result (λ d. IsTrue D.tells → (h : List AnEvent) → IsEarlier volume.now h → AreLeft D.image volume.now h disks.items
             → (old : List AnEvent) × IsRestarted volume.now h old × Holds d (left_behind (faults_at D.meter disks.items) old)) }
 
         // Over others nothing is said of the earlier log.
@@ -55,7 +53,6 @@ impl<D: Disk> Driver<D> {
     {
         rz_continuation::found::<D>();
         rz_continuation::goes_on();
-        rz_continuation::all_told();
         match split_last(alloc, disks) {
             Ok((nodes, journal, room)) => match open_journal(alloc, volume, nodes.len(), journal) {
                 Ok(export) => open_nodes(alloc, volume, export, nodes, room),

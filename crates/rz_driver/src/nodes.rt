@@ -33,6 +33,7 @@ impl<D: Disk> Driver<D> {
     {
         rz_play_laws::lined();
         rz_block_laws::lasting();
+        rz_continuation::untold();
         let shared = &mut self.shared;
         stop_node(shared.stations.as_mut_slice(), &mut shared.log, sid)
     }
@@ -54,6 +55,7 @@ impl<D: Disk> Driver<D> {
     {
         rz_play_laws::lined();
         rz_block_laws::lasting();
+        rz_continuation::untold();
         let shared = &mut self.shared;
         start_node(
             self.alloc,
@@ -79,6 +81,7 @@ impl<D: Disk> Driver<D> {
     {
         rz_play_laws::lined();
         rz_block_laws::lasting();
+        rz_continuation::untold();
         let shared = &mut self.shared;
         lose_node(shared.stations.as_mut_slice(), &mut shared.log, sid)
     }
@@ -99,6 +102,7 @@ impl<D: Disk> Driver<D> {
     {
         rz_play_laws::lined();
         rz_block_laws::lasting();
+        rz_continuation::untold();
         let shared = &mut self.shared;
         arm_node(
             shared.stations.as_mut_slice(),

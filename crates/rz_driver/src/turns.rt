@@ -43,10 +43,13 @@ impl<D: Disk> Driver<D> {
         ensures held { OnOk result (Carries (Holds self.old) (Holds self.new)) }
         ensures left { OnErr result (Carries (Holds self.old) (Leaves self.new)) }
     {
+        rz_play_laws::own_proper();
         rz_play_laws::working();
         rz_play_laws::turned();
         rz_play_laws::facts_told();
         rz_block_laws::lasting();
+        rz_continuation::told();
+        rz_continuation::untold();
         let Some(place) = place(by) else {
             return Err(NoMemory);
         };

@@ -12,6 +12,8 @@ mod calls;
 #[cfg(test)]
 mod checker;
 #[cfg(test)]
+mod comparing;
+#[cfg(test)]
 mod locking;
 #[cfg(test)]
 mod sharing;

@@ -6,6 +6,7 @@ ghost use Rattle.rz_config.specs.Plain.{plain_volume};
 ghost use Rattle.rz_chronicle.specs.Kinds.{kind_of};
 ghost use Rattle.rz_honest_tests.specs.Written.{HasWritten};
 
+use crate::comparing::compare;
 use crate::sharing::{checked, played};
 use crate::stage::{Stage, room, staged};
 use crate::working::{Account, create_both, write_and_read};
@@ -17,7 +18,6 @@ use rz_meeting::{MeetDisk, Meeting};
 use rz_shared::Cluster;
 use std::alloc::{AllocError, Global};
 use std::marker::Brand;
-use std::process::Abort;
 use std::sync::{Mutex, Wait};
 use std::test::*;
 use std::thread::{Threads, join};
@@ -40,11 +40,10 @@ fn writes_of_two_clients_meet(rt: HostRuntime) -> Result<(), Fail> {
     let meeting = Meeting::new();
     let disks = four(rt.alloc(), &meeting)?;
     meet::<Brand, _>(&rt, rt.alloc(), opened, volume, disks)?;
-    assert!(rt; meeting.met());
-    Ok(())
+    compare(&meeting.met(), &true, "a meeting")
 }
 
-fn meet<J: Counting + Send + Sync, R: Threads + Wait + Abort + AllocGlobal + Sync>(
+fn meet<J: Counting + Send + Sync, R: Threads + Wait + AllocGlobal + Sync>(
     rt: &R,
     alloc: Global,
     opened: Opened,
@@ -124,11 +123,10 @@ fn under_one_lock_no_writes_meet(rt: HostRuntime) -> Result<(), Fail> {
     let meeting = Meeting::new();
     let disks = four(rt.alloc(), &meeting)?;
     miss::<Brand, _>(&rt, rt.alloc(), opened, volume, disks)?;
-    assert!(rt; !meeting.met());
-    Ok(())
+    compare(&meeting.met(), &false, "a meeting")
 }
 
-fn miss<J: Counting + Send + Sync, R: Threads + Wait + Abort + AllocGlobal + Sync>(
+fn miss<J: Counting + Send + Sync, R: Threads + Wait + AllocGlobal + Sync>(
     rt: &R,
     alloc: Global,
     opened: Opened,
@@ -147,7 +145,8 @@ fn miss<J: Counting + Send + Sync, R: Threads + Wait + Abort + AllocGlobal + Syn
         mut one,
         two,
     } = staged::<MeetDisk<'_, PlainDisk>, J>(alloc, opened, volume, disks)?;
-    assert!(rt; create_both(rt, alloc, &book, &cluster, &mut one)?);
+    let created = create_both(rt, alloc, &book, &cluster, &mut one)?;
+    compare(&created, &true, "files")?;
     let left = room(alloc)?;
     let right = room(alloc)?;
     let all = Mutex::new(0);
@@ -158,5 +157,5 @@ fn miss<J: Counting + Send + Sync, R: Threads + Wait + Abort + AllocGlobal + Syn
     let Some(second) = second else {
         return Err("the second client was refused")?;
     };
-    checked(rt, alloc, &book, first, second)
+    checked(alloc, &book, first, second)
 }

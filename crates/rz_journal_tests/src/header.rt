@@ -1,6 +1,7 @@
 //! Sizes of a disk and bytes of its header, one at a time.
 
-use crate::making::{disk_with, opened, store, zeros};
+use crate::comparing::compare;
+use crate::disks::{disk_with, opened, store, zeros};
 use crate::sample::{HEADER, SIZE};
 use rz_journal::JournalFault;
 use std::test::Fail;
@@ -10,7 +11,7 @@ fn another_size_is_told(rt: HostRuntime) -> Result<(), Fail> {
     for have in [0, 1, 64, SIZE - 1, SIZE + 1] {
         let (_, fault) = opened(rt.alloc(), zeros(rt.alloc(), have)?)?;
         let wanted = JournalFault::WrongSize { have, need: SIZE };
-        assert_eq!(rt; fault, Some(wanted));
+        compare(&fault, &Some(wanted), have)?;
     }
     Ok(())
 }
@@ -23,13 +24,12 @@ fn each_byte_before_the_gate_is_compared(rt: HostRuntime) -> Result<(), Fail> {
             store(&mut disk, at as u64, &[byte ^ flips])?;
             let (back, fault) = opened(rt.alloc(), disk)?;
             disk = back;
-            assert_eq!(rt; fault, Some(JournalFault::BadHeader), "byte {at}");
+            compare(&fault, &Some(JournalFault::BadHeader), (at, flips))?;
         }
         store(&mut disk, at as u64, &[*byte])?;
     }
     let (_, fault) = opened(rt.alloc(), disk)?;
-    assert_eq!(rt; fault, None);
-    Ok(())
+    compare(&fault, &None, "as it was")
 }
 
 /// A shut header is told before another one.
@@ -49,7 +49,7 @@ fn the_low_bit_of_its_gate_opens_a_header(rt: HostRuntime) -> Result<(), Fail> {
             } else {
                 Some(JournalFault::BadHeader)
             };
-            assert_eq!(rt; fault, wanted, "gate {gate}");
+            compare(&fault, &wanted, (magic, gate))?;
         }
     }
     Ok(())
@@ -68,7 +68,7 @@ fn the_low_bit_of_its_gate_picks_a_half(rt: HostRuntime) -> Result<(), Fail> {
         } else {
             None
         };
-        assert_eq!(rt; fault, wanted, "gate {gate}");
+        compare(&fault, &wanted, gate)?;
     }
     Ok(())
 }

@@ -1,5 +1,6 @@
 //! Sequences of beads, some of them marked.
 
+use crate::comparing::compare;
 use rz_sequence::{Mark, Sequence};
 use std::alloc::{AllocError, Global};
 use std::test::Fail;
@@ -72,7 +73,7 @@ fn items_stand_where_they_are_put(rt: HostRuntime) -> Result<(), Fail> {
         let right = stands(&beads, order);
         drop(beads);
         made?;
-        assert!(rt; right);
+        compare(&right, &true, order)?;
     }
     Ok(())
 }
@@ -101,8 +102,7 @@ fn items_come_out_and_go_back(rt: HostRuntime) -> Result<(), Fail> {
     let turned = turn_round(rt.alloc(), &mut beads, &mut tail);
     drop(beads);
     drop(tail);
-    assert!(rt; turned?);
-    Ok(())
+    compare(&turned?, &true, "cut and joined")
 }
 
 // Puts another bead in the place of one.
@@ -140,8 +140,7 @@ fn marks_are_found(rt: HostRuntime) -> Result<(), Fail> {
     let mut beads = Sequence::new();
     let found = find_marks(rt.alloc(), &mut beads);
     drop(beads);
-    assert!(rt; found?);
-    Ok(())
+    compare(&found?, &true, "marks")
 }
 
 // Whether trees of 1000 and of 70 beads are as low as balanced ones: those put in at the front, others
@@ -175,6 +174,5 @@ fn trees_are_low(rt: HostRuntime) -> Result<(), Fail> {
     let low = stay_low(rt.alloc(), &mut first, &mut last);
     drop(first);
     drop(last);
-    assert!(rt; low?);
-    Ok(())
+    compare(&low?, &true, "depth")
 }

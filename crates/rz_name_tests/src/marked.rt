@@ -1,5 +1,6 @@
 //! Marks of two lists over several rows and files: gone through, taken away and forgotten.
 
+use crate::comparing::compare;
 use rz_events::Key;
 use rz_marks::Marks;
 use std::alloc::AllocError;
@@ -34,13 +35,10 @@ fn goes_through_a_list(rt: HostRuntime) -> Result<(), Fail> {
             last = Some(key);
         }
     }
-    assert_eq!(rt;
-        seen.as_slice(),
-        [(7, 63), (7, 64), (7, 200), (u128::MAX, u64::MAX)].as_slice()
-    );
-    assert_eq!(rt; next(&marks, 2, 7, 64), Some((7, 65)));
-    assert_eq!(rt; next(&marks, 2, 7, 65), None);
-    Ok(())
+    let wanted = [(7, 63), (7, 64), (7, 200), (u128::MAX, u64::MAX)];
+    compare(&seen.as_slice(), &wanted.as_slice(), "list 1")?;
+    compare(&next(&marks, 2, 7, 64), &Some((7, 65)), "above 64")?;
+    compare(&next(&marks, 2, 7, 65), &None, "above 65")
 }
 
 #[test]
@@ -55,11 +53,10 @@ fn passes_room_without_marks(rt: HostRuntime) -> Result<(), Fail> {
             },
         )?;
     }
-    assert_eq!(rt; marks.next(3, None), None);
+    compare(&marks.next(3, None), &None, "no mark")?;
     mark(&mut marks, 3, 5, 90 * 64 + 5)?;
-    assert_eq!(rt; next(&marks, 3, 4, u64::MAX), Some((5, 5765)));
-    assert_eq!(rt; next(&marks, 3, 5, 5765), None);
-    Ok(())
+    compare(&next(&marks, 3, 4, u64::MAX), &Some((5, 5765)), "below")?;
+    compare(&next(&marks, 3, 5, 5765), &None, "above")
 }
 
 #[test]
@@ -69,10 +66,9 @@ fn forgets_a_file(rt: HostRuntime) -> Result<(), Fail> {
         mark(&mut marks, list, fid, block)?;
     }
     marks.forget(1, 5);
-    assert_eq!(rt; next(&marks, 1, 3, 0), Some((4, 0)));
-    assert_eq!(rt; next(&marks, 1, 4, 0), Some((6, 0)));
-    assert_eq!(rt; next(&marks, 2, 0, 0), Some((5, 0)));
-    Ok(())
+    compare(&next(&marks, 1, 3, 0), &Some((4, 0)), "file 4")?;
+    compare(&next(&marks, 1, 4, 0), &Some((6, 0)), "file 6")?;
+    compare(&next(&marks, 2, 0, 0), &Some((5, 0)), "list 2")
 }
 
 #[test]
@@ -82,8 +78,8 @@ fn keeps_room(rt: HostRuntime) -> Result<(), Fail> {
     marks.make_room(1, key)?;
     marks.set(1, key, true);
     marks.set(1, key, false);
-    assert_eq!(rt; marks.next(1, None), None);
+    let taken_away = marks.next(1, None);
     marks.set(1, key, true);
-    assert_eq!(rt; marks.next(1, None), Some(key));
-    Ok(())
+    compare(&taken_away, &None, "mark taken away")?;
+    compare(&marks.next(1, None), &Some(key), "mark set again")
 }

@@ -1,11 +1,14 @@
 //! Operations driven by hand.
 
+ghost use Rattle.std.specs.Prelude.{IsTrue};
+
 use rz_events::{
     Answer, Datum, Denial, DropAnswer, FileInfo, KeepAnswer, Layout, NodeAnswer, NodeAsk,
     Operation, Places, Reply, Text, TreeCall, TreeReply,
 };
 use rz_operation::{Ask, ExportAsk, Machine, Saying};
 use std::alloc::AllocError;
+use std::fmt::Debug;
 use std::process::Abort;
 use std::test::Fail;
 
@@ -39,17 +42,29 @@ fn word(ask: &Ask<'_>) -> &'static str {
     }
 }
 
+/// Ends the test where what was found is not what is wanted.
+fn compare<T: PartialEq + Debug>(rt: &impl Abort, found: &T, wanted: &T) {
+    assert!(rt; found == wanted, "{found:?} in place of {wanted:?}");
+}
+
+/// Ends the test where something does not hold.
+fn hold(rt: &impl Abort, is_so: bool, what: &str)
+    ensures { IsTrue is_so }
+{
+    assert!(rt; is_so, "not so: {what}");
+}
+
 /// The export is asked, and replies.
 fn reply(rt: &impl Abort, machine: &mut Machine, want: &str, reply: Reply) {
-    assert_eq!(rt; word(&machine.next()), want);
-    assert!(rt; machine.takes_reply(&reply));
+    compare(rt, &word(&machine.next()), &want);
+    hold(rt, machine.takes_reply(&reply), "it takes the reply");
     machine.tell_reply(reply);
 }
 
 /// The file is opened with a lock.
 fn lock(rt: &impl Abort, machine: &mut Machine, granted: bool) {
     let opened = Reply::Tree(TreeReply::File(file()));
-    assert!(rt; machine.takes_locked(&opened));
+    hold(rt, machine.takes_locked(&opened), "it takes the file");
     machine.tell_locked(granted, opened);
 }
 
@@ -62,8 +77,8 @@ fn kept(rt: &impl Abort, machine: &mut Machine, node: u16) {
     else {
         panic!(rt; "no keep")
     };
-    assert_eq!(rt; asked, node);
-    assert!(rt; machine.has_room());
+    compare(rt, &asked, &node);
+    hold(rt, machine.has_room(), "it has room");
     machine.tell_answer(NodeAnswer::Keep(KeepAnswer::Kept), &[]);
 }
 
@@ -76,8 +91,8 @@ fn missed(rt: &impl Abort, machine: &mut Machine, node: u16) {
     else {
         panic!(rt; "no keep")
     };
-    assert_eq!(rt; asked, node);
-    assert!(rt; machine.has_room());
+    compare(rt, &asked, &node);
+    hold(rt, machine.has_room(), "it has room");
     machine.tell_missed();
 }
 
@@ -90,8 +105,8 @@ fn dropped(rt: &impl Abort, machine: &mut Machine, node: u16, answer: DropAnswer
     else {
         panic!(rt; "no drop")
     };
-    assert_eq!(rt; asked, node);
-    assert!(rt; machine.has_room());
+    compare(rt, &asked, &node);
+    hold(rt, machine.has_room(), "it has room");
     machine.tell_answer(NodeAnswer::Drop(answer), &[]);
 }
 
@@ -100,7 +115,7 @@ fn gave(rt: &impl Abort, machine: &mut Machine) {
     let Ask::Say(Saying::Gave { .. }) = machine.next() else {
         panic!(rt; "no end of a write")
     };
-    assert!(rt; machine.has_room());
+    hold(rt, machine.has_room(), "it has room");
     machine.tell_said();
 }
 
@@ -109,7 +124,7 @@ fn got(rt: &impl Abort, machine: &mut Machine) {
     let Ask::Say(Saying::Got { .. }) = machine.next() else {
         panic!(rt; "no end of a read")
     };
-    assert!(rt; machine.has_room());
+    hold(rt, machine.has_room(), "it has room");
     machine.tell_said();
 }
 
@@ -131,7 +146,7 @@ fn put(rt: &impl Abort, machine: &mut Machine) {
     kept(rt, machine, 4);
     reply(rt, machine, "publish", Reply::Accepted);
     gave(rt, machine);
-    assert!(rt; machine.is_over());
+    hold(rt, machine.is_over(), "it is over");
 }
 
 /// A file that has no name left is dropped: the first node has one version, two others cannot answer.
@@ -179,7 +194,7 @@ fn unlink_drops(rt: HostRuntime) -> Result<(), Fail> {
     let mut machine = Machine::start(rt.alloc(), Layout::L0, op)?;
     unlink(&rt, &mut machine);
     let answer = finish(&rt, &mut machine);
-    assert!(&rt; matches!(&answer, Answer::Plain));
+    hold(&rt, matches!(&answer, Answer::Plain), "a plain answer");
     Ok(())
 }
 
@@ -193,6 +208,7 @@ fn update_waits_twice(rt: HostRuntime) -> Result<(), Fail> {
     let mut machine = Machine::start(rt.alloc(), Layout::L0, op)?;
     update(&rt, &mut machine);
     let answer = finish(&rt, &mut machine);
-    assert!(&rt; matches!(&answer, Answer::ShortWrite { bytes: 0, .. }));
+    let is_short = matches!(&answer, Answer::ShortWrite { bytes: 0, .. });
+    hold(&rt, is_short, "an answer that no byte was written");
     Ok(())
 }

@@ -1,2 +1,3 @@
 pub mod Stopped
 mod Nodes
+pub mod Judged

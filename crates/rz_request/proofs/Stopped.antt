@@ -1,5 +1,5 @@
 -- What words ask for that are refused.
-use Rattle.std.proofs.Common.{ℕ, ◌≡◌, Option, Some, None, Result, Ok, Err, ap, refl}
+use Rattle.std.proofs.Common.{ℕ, ◌≡◌, Option, Some, None, Err, ap, refl}
 use Rattle.rz_command.specs.Line.{Meaning}
 use Rattle.rz_request.specs.declared.refusal.Stop.{Stop}
 use Rattle.rz_request.specs.declared.refusal.Stop.TheVariants as stops

@@ -1,5 +1,5 @@
 -- What is asked for where an old disk is to be carried over.
-use Rattle.std.specs.Prelude.{ℕ, ◌≡◌, ◌≢◌, ◌⊎◌, ◌≤◌, ◌<◌, ◌==◌, List, Option, Some, None, IfSome, Result, Ok, Err, length}
+use Rattle.std.specs.Prelude.{ℕ, ◌≡◌, ◌≢◌, ◌⊎◌, ◌<◌, ◌==◌, List, Option, Some, None, IfSome, Result, Ok, Err, length}
 use Rattle.std.specs.List.{find}
 use Rattle.rz_ports.specs.Counts.{Rises}
 use Rattle.mj_angles.specs.Layout.{bsize_of}

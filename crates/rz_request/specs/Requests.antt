@@ -10,11 +10,11 @@ use Rattle.rz_generate.specs.Workload.{workload}
 use Rattle.rz_script.specs.Grammar.{script}
 use Rattle.rz_script.specs.Scripts.{Script}
 use Rattle.rz_script.specs.Weights.{script_weight}
+use Rattle.rz_script.specs.declared.form.Form.{Form}
 use Rattle.rz_script.specs.declared.form.Form.TheVariants as forms
 use Rattle.rz_script.specs.declared.fault.ScriptError.{ScriptError}
 use Rattle.rz_script.specs.declared.fault.ScriptError.TheVariants as errors
 use Rattle.rz_request.specs.Input.{limit}
-use Rattle.rz_request.specs.declared.refusal.Refusal.{Refusal}
 use Rattle.rz_request.specs.declared.refusal.Refusal.TheVariants as refusals
 use Rattle.rz_request.specs.declared.refusal.Stop.{Stop}
 use Rattle.rz_request.specs.declared.refusal.Stop.TheVariants as stops
@@ -57,15 +57,24 @@ disks_for _ s = nodes_in s
 
 -- What a reading of a script comes to over so many disks: the script, which is not too large and has the disks that it needs; or
 -- its first fault; or a script that is too large; or one that needs other disks. Want of memory says nothing.
+abbrev pub JudgesScript : Result Script ScriptError → (Script → ℕ) → ℕ → Result Script Stop → Type 0
+JudgesScript read needs disks (Ok s) = (read ≡ Ok s) × (is_large s ≡ false) × (disks ≡ needs s)
+JudgesScript read needs disks (Err stops.NoMemory) = Unit {0}
+JudgesScript read needs disks (Err (stops.Refused (refusals.Script line cause))) = read ≡ Err (errors.Script line cause)
+JudgesScript read needs disks (Err (stops.Refused (refusals.Volume fault))) = read ≡ Err (errors.Volume fault)
+JudgesScript read needs disks (Err (stops.Refused refusals.Large)) = (s : Script) × (read ≡ Ok s) × (is_large s ≡ true)
+JudgesScript read needs disks (Err (stops.Refused (refusals.Disks have need))) =
+    (s : Script) × (read ≡ Ok s) × (is_large s ≡ false) × (have ≡ disks) × (need ≡ needs s) × (have ≢ need)
+JudgesScript read needs disks (Err _) = ⊥
+
+-- the script of a request
+abbrev pub script_in : Result Request Stop → Result Script Stop
+script_in (Ok r) = Ok r.script
+script_in (Err e) = Err e
+
+-- the same of a request for a wish
 abbrev pub Judges : Result Script ScriptError → Wish → ℕ → Result Request Stop → Type 0
-Judges read wish disks (Ok r) = (read ≡ Ok r.script) × (is_large r.script ≡ false) × (disks ≡ disks_for wish r.script)
-Judges read wish disks (Err stops.NoMemory) = Unit {0}
-Judges read wish disks (Err (stops.Refused (refusals.Script line cause))) = read ≡ Err (errors.Script line cause)
-Judges read wish disks (Err (stops.Refused (refusals.Volume fault))) = read ≡ Err (errors.Volume fault)
-Judges read wish disks (Err (stops.Refused refusals.Large)) = (s : Script) × (read ≡ Ok s) × (is_large s ≡ true)
-Judges read wish disks (Err (stops.Refused (refusals.Disks have need))) =
-    (s : Script) × (read ≡ Ok s) × (is_large s ≡ false) × (have ≡ disks) × (need ≡ disks_for wish s) × (have ≢ need)
-Judges read wish disks (Err _) = ⊥
+Judges read wish disks result = JudgesScript read (disks_for wish) disks (script_in result)
 
 -- a request is for this wish
 abbrev pub IsFor : Wish → Result Request Stop → Type 0
@@ -84,19 +93,28 @@ abbrev pub IsRead : Reading → List ℕ → Type 0
 IsRead source text = IfSome source.before (λ left. (left ≡ text) × (source.after ≡ Some [])) × (length text ≤ limit)
 
 -- What a source comes to over so many disks: more was left than the limit; its faults rose; or all that was left is judged as a
--- script. Want of memory says nothing.
+-- script of this form. Want of memory says nothing.
+abbrev pub ReadsScript : Form → Reading → (Script → ℕ) → ℕ → Result Script Stop → Type 0
+ReadsScript form source needs disks (Err stops.Source) = Rises source.old source.new
+ReadsScript form source needs disks (Err stops.NoMemory) = Unit {0}
+ReadsScript form source needs disks (Err (stops.Refused refusals.Long)) = IfSome source.before (λ left. limit < length left)
+ReadsScript form source needs disks result = (text : List ℕ) × IsRead source text × JudgesScript (script form text) needs disks result
+
+-- the same of a request for a wish
 abbrev pub Reads : Reading → Wish → ℕ → Result Request Stop → Type 0
-Reads source wish disks (Err stops.Source) = Rises source.old source.new
-Reads source wish disks (Err stops.NoMemory) = Unit {0}
-Reads source wish disks (Err (stops.Refused refusals.Long)) = IfSome source.before (λ left. limit < length left)
-Reads source wish disks result = (text : List ℕ) × IsRead source text × Judges (script forms.Replay text) wish disks result
+Reads source wish disks result = ReadsScript forms.Replay source (disks_for wish) disks (script_in result)
+
+-- the script of all that was left of a source; or why there is none, whatever disks there are
+abbrev pub HasScript : Form → Reading → Result Script Stop → Type 0
+HasScript form source (Ok s) = (text : List ℕ) × IsRead source text × (script form text ≡ Ok s)
+HasScript form source (Err e) = (needs : Script → ℕ) (disks : ℕ) → ReadsScript form source needs disks (Err e)
 
 -- the source is as it was
 abbrev pub IsUnread : Reading → Type 0
 IsUnread source = (source.after ≡ source.before) × (source.new ≡ source.old)
 
 -- words of this meaning are refused as usage; memory is wanted only for words that mean something
-abbrev pub IsUsage : Option Meaning → Result Request Stop → Type 0
+abbrev pub IsUsage : {A : Type 0} → Option Meaning → Result A Stop → Type 0
 IsUsage m (Err stops.NoMemory) = IsSome m
 IsUsage m result = result ≡ Err (stops.Refused refusals.Usage)
 

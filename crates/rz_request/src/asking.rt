@@ -1,34 +1,18 @@
 //! The request that words and an input make.
 
-ghost use Rattle.std.specs.Prelude.{◌≡◌, ◌≤◌, length, map, string_bytes};
+ghost use Rattle.std.specs.Prelude.{◌≡◌, map, string_bytes};
 ghost use Rattle.rz_command.specs.Line.{meaning};
 ghost use Rattle.rz_generate.specs.Workload.{workload};
-ghost use Rattle.rz_script.specs.Grammar.{script};
-ghost use Rattle.rz_script.specs.declared.form.Form.TheVariants as forms;
-ghost use Rattle.rz_request.specs.Input.{limit};
-ghost use Rattle.rz_request.specs.Requests.{Asks, IsFor, IsWished, Judges, Reads, disks_for as needed_for, is_large as too_large, wish_of as wish_in};
+ghost use Rattle.rz_request.specs.Requests.{Asks, IsFor, IsWished, Judges, Reads, disks_for as needed_for, wish_of as wish_in};
 ghost use Rattle.rz_request.specs.declared.wishes.Wish.TheVariants as wishes;
 
-use crate::input::{Taken, take};
+use crate::reading::{fit, read_script};
 use crate::{Refusal, Request, Stop, Wish};
 use rz_command::{Command, WordsError, wanted};
 use rz_generate::generate;
 use rz_ports::Source;
-use rz_script::{Form, Script, ScriptError};
+use rz_script::{Form, Script};
 use std::alloc::Global;
-
-/// The most bytes of all disks.
-const DISK_BYTES: u64 = 536_870_912;
-
-/// The most work of a script, in pieces of 4096 bytes.
-const WORK: u64 = 32_768;
-
-/// Whether the disks or the work of a script are too large.
-fn is_large(script: &Script) -> bool
-    ensures { result ≡ too_large script.now }
-{
-    script.volume().disk_bytes() > DISK_BYTES || script.weight() > WORK
-}
 
 /// The disks that a wish needs: one for each node, and one for a journal.
 fn disks_for(wish: Wish, script: &Script) -> u64
@@ -44,33 +28,14 @@ fn disks_for(wish: Wish, script: &Script) -> u64
 }
 
 /// A script over so many disks.
-fn fit(wish: Wish, script: Script, disks: u64) -> Result<Request, Stop>
+fn fit_for(wish: Wish, script: Script, disks: u64) -> Result<Request, Stop>
     ensures judged { Judges (Ok script) wish disks result }
     ensures wish { IsFor wish result }
 {
-    if is_large(&script) {
-        return Err(Stop::Refused(Refusal::Large));
-    }
     let need = disks_for(wish, &script);
-    if need != disks {
-        return Err(Stop::Refused(Refusal::Disks { have: disks, need }));
-    }
-    Ok(Request { wish, script })
-}
-
-/// The script of a text over so many disks.
-fn read(alloc: Global, wish: Wish, text: &[u8], disks: u64) -> Result<Request, Stop>
-    requires { length text.now ≤ limit }
-    ensures judged { Judges (script forms.Replay text.now) wish disks result }
-    ensures wish { IsFor wish result }
-{
-    match Script::read(alloc, text, Form::Replay) {
-        Ok(script) => fit(wish, script, disks),
-        Err(ScriptError::NoMemory) => Err(Stop::NoMemory),
-        Err(ScriptError::Script { line, cause }) => {
-            Err(Stop::Refused(Refusal::Script { line, cause }))
-        }
-        Err(ScriptError::Volume(fault)) => Err(Stop::Refused(Refusal::Volume(fault))),
+    match fit(script, need, disks) {
+        Ok(script) => Ok(Request { wish, script }),
+        Err(stop) => Err(stop),
     }
 }
 
@@ -84,11 +49,9 @@ fn read_input<I: Source>(
     ensures asked { Reads (record { before = I.left input.old; after = I.left input.new; old = I.faults input.old; new = I.faults input.new }) wish disks result }
     ensures wish { IsFor wish result }
 {
-    match take(alloc, input) {
-        Taken::All(bytes) => read(alloc, wish, &bytes, disks),
-        Taken::Long => Err(Stop::Refused(Refusal::Long)),
-        Taken::Failed => Err(Stop::Source),
-        Taken::NoMemory => Err(Stop::NoMemory),
+    match read_script(alloc, Form::Replay, input) {
+        Ok(script) => fit_for(wish, script, disks),
+        Err(stop) => Err(stop),
     }
 }
 
@@ -98,7 +61,7 @@ fn load(alloc: Global, seed: u64, disks: u64) -> Result<Request, Stop>
     ensures wish { IsFor (wishes.Load seed) result }
 {
     match generate(alloc, seed) {
-        Ok(script) => fit(Wish::Load { seed }, script, disks),
+        Ok(script) => fit_for(Wish::Load { seed }, script, disks),
         Err(_) => Err(Stop::NoMemory),
     }
 }

@@ -7,17 +7,22 @@
 //! the line of each refusal, those too that come later: of a disk, of too many turns, and of a journal. It says
 //! nothing of what playing a script comes to, nor that there is memory.
 //!
+//! [`run_script`] does the same for a run, in which each actor has a thread of its own: the words are those
+//! of that command, and no line of the text speaks of turns.
+//!
 //! [`migration`] asks for another thing: the node of which an old disk is carried over. It reads a volume
 //! alone.
 //!
-//! In reading order: `refusal`, `causes`, `input`, `wishes`, `asking`, `old`.
+//! In reading order: `refusal`, `causes`, `input`, `reading`, `wishes`, `asking`, `running`, `old`.
 #![tactic(auto)]
 
 mod asking;
 mod causes;
 mod input;
 mod old;
+mod reading;
 mod refusal;
+mod running;
 #[cfg(test)]
 mod tests;
 mod wishes;
@@ -25,4 +30,5 @@ mod wishes;
 pub use asking::request;
 pub use old::{OldNode, migration};
 pub use refusal::{Refusal, Stop};
+pub use running::run_script;
 pub use wishes::{Request, Wish};

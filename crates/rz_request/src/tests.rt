@@ -1,6 +1,6 @@
 //! Rows of requests, with the status and the line of what is refused.
 
-use crate::{Refusal, Stop, request};
+use crate::{Refusal, Stop, request, run_script};
 use rz_ports::PlainSource;
 use std::alloc::{AllocError, Global};
 use std::test::Fail;
@@ -22,15 +22,32 @@ fn told(alloc: Global, refusal: &Refusal) -> Result<String, Fail> {
     Ok(format!(in alloc; "{status} {text}")?)
 }
 
+/// Why there is nothing to play.
+fn why(alloc: Global, stop: &Stop) -> Result<String, Fail> {
+    match stop {
+        Stop::NoMemory => Ok(String::from_str(alloc, "memory")?),
+        Stop::Source => Ok(String::from_str(alloc, "source")?),
+        Stop::Refused(refusal) => told(alloc, refusal),
+    }
+}
+
 /// What a command line and an input come to over four disks: the status and the line of a refusal.
 fn asked(alloc: Global, line: &str, script: &str) -> Result<String, Fail> {
     let words = words_of(alloc, line)?;
     let mut input = PlainSource::new(Vec::from_slice(alloc, script.as_bytes())?);
     match request(alloc, &words, &mut input, 4) {
         Ok(_) => Ok(String::from_str(alloc, "played")?),
-        Err(Stop::NoMemory) => Ok(String::from_str(alloc, "memory")?),
-        Err(Stop::Source) => Ok(String::from_str(alloc, "source")?),
-        Err(Stop::Refused(refusal)) => told(alloc, &refusal),
+        Err(stop) => why(alloc, &stop),
+    }
+}
+
+/// What they come to as a run over so many disks.
+fn run_asked(alloc: Global, line: &str, script: &str, disks: u64) -> Result<String, Fail> {
+    let words = words_of(alloc, line)?;
+    let mut input = PlainSource::new(Vec::from_slice(alloc, script.as_bytes())?);
+    match run_script(alloc, &words, &mut input, disks) {
+        Ok(_) => Ok(String::from_str(alloc, "played")?),
+        Err(stop) => why(alloc, &stop),
     }
 }
 
@@ -69,6 +86,49 @@ fn rows(rt: HostRuntime) -> Result<(), Fail> {
         ("rozo run --disks 4", "rest\n", "2 refused usage\n"),
     ] {
         let told = asked(rt.alloc(), line, script)?;
+        assert_eq!(rt; told.as_str(), want, "at {script}");
+    }
+    Ok(())
+}
+
+#[test]
+fn runs(rt: HostRuntime) -> Result<(), Fail> {
+    for (line, script, disks, want) in [
+        (
+            "rozo run --disks 4",
+            "op c1 create /f\nlose n2\n",
+            4,
+            "played",
+        ),
+        ("rozo replay --disks 4", "lose n2\n", 4, "2 refused usage\n"),
+        ("rozo run", "lose n2\n", 4, "2 refused usage\n"),
+        (
+            "rozo run --disks 4",
+            "op c1 create /f\nturn c1\n",
+            4,
+            "3 refused script 2 NotForRun\n",
+        ),
+        (
+            "rozo run --disks 4",
+            "op c1 update /f 0 1\n",
+            4,
+            "3 refused script 1 NotForRun\n",
+        ),
+        (
+            "rozo run --disks 4",
+            SMALL,
+            4,
+            "6 refused volume clusters[0].nodes TooFewNodes\n",
+        ),
+        (
+            "rozo run --disks 4",
+            "op c1 write /f 0 g:67108865:0",
+            5,
+            "9 refused large\n",
+        ),
+        ("rozo run --disks 4", "", 5, "10 refused disks 5 4\n"),
+    ] {
+        let told = run_asked(rt.alloc(), line, script, disks)?;
         assert_eq!(rt; told.as_str(), want, "at {script}");
     }
     Ok(())

@@ -7,6 +7,7 @@ ghost use Rattle.rz_core.specs.NodeRows.{IsNodeOf};
 ghost use Rattle.rz_config.specs.Plain.{plain_volume};
 ghost use Rattle.rz_chronicle.specs.Kinds.{kind_of};
 
+use crate::comparing::compare;
 use crate::stage::{FIRST, SECOND, Stage, staged, words};
 use rz_chronicle::{Book, Naming, Opened, Pass};
 use rz_config::Volume;
@@ -16,7 +17,6 @@ use rz_locked::Counting;
 use rz_shared::Cluster;
 use std::alloc::{AllocError, Global};
 use std::marker::Brand;
-use std::process::Abort;
 use std::sync::Wait;
 use std::test::*;
 use std::thread::{Threads, join};
@@ -128,7 +128,7 @@ fn fetches_of_two_threads_are_counted(rt: HostRuntime) -> Result<(), Fail> {
     counted::<Brand, _>(&rt, rt.alloc(), opened, volume, disks)
 }
 
-fn counted<J: Counting + Send + Sync, R: Threads + Wait + Abort + Sync>(
+fn counted<J: Counting + Send + Sync, R: Threads + Wait + Sync>(
     rt: &R,
     alloc: Global,
     opened: Opened,
@@ -151,8 +151,7 @@ fn counted<J: Counting + Send + Sync, R: Threads + Wait + Abort + Sync>(
     let right = words(alloc, 0)?;
     let (mut one, two) = fetch_on_both(rt, &book, &cluster, one, two, left, right);
     book.meet(&mut one, &two);
-    assert_eq!(rt; book.count(&mut one, 1), 200);
-    Ok(())
+    compare(&book.count(&mut one, 1), &200, "events of node 1")
 }
 
 /// What a thread comes back with: its pass, the answer to its write, and that to its read.
@@ -228,7 +227,7 @@ fn of_two_threads_one_reads_what_the_other_wrote(rt: HostRuntime) -> Result<(), 
     read_across::<Brand, _>(&rt, rt.alloc(), opened, volume, disks)
 }
 
-fn read_across<J: Counting + Send + Sync, R: Threads + Wait + Abort + Sync>(
+fn read_across<J: Counting + Send + Sync, R: Threads + Wait + Sync>(
     rt: &R,
     alloc: Global,
     opened: Opened,
@@ -250,15 +249,15 @@ fn read_across<J: Counting + Send + Sync, R: Threads + Wait + Abort + Sync>(
     let left = words(alloc, 5)?;
     let right = words(alloc, 6)?;
     let (a, b) = write_on_both(rt, &book, &cluster, one, two, left, right);
-    assert!(rt; is_kept(&a.kept) && is_kept(&b.kept));
     // In whatever order the four calls stand in the log, a write stands before the other's read.
-    assert!(rt; is_found(&a.read) || is_found(&b.read));
+    let is_read = is_found(&a.read) || is_found(&b.read);
+    let all_kept = is_kept(&a.kept) && is_kept(&b.kept);
+    compare(&(all_kept, is_read), &(true, true), "kept and read")?;
     let (mut one, two) = (a.pass, b.pass);
     book.meet(&mut one, &two);
-    assert_eq!(rt; book.count(&mut one, 1), 4);
+    let before = book.count(&mut one, 1);
     let (disks, desk) = cluster.close();
-    assert_eq!(rt; disks.len(), 4);
     book.settle(&mut one, desk);
-    assert_eq!(rt; book.count(&mut one, 1), 4);
-    Ok(())
+    let found = (before, disks.len(), book.count(&mut one, 1));
+    compare(&found, &(4, 4, 4), "events, disks and events again")
 }

@@ -1,6 +1,7 @@
 //! Each call that takes memory, with ample memory, and a keep, a fetch and a drop.
 ghost use Rattle.std.specs.Prelude.{◌≡◌, IfOk, vec_len};
 
+use crate::comparing::compare;
 use rz_disk::{Disk, Fused, PlainDisk};
 use rz_events::Layout;
 use rz_node::{
@@ -60,19 +61,17 @@ fn a_node_is_opened_and_started(rt: HostRuntime) -> Result<(), Fail> {
     let Ok(mut node) = Node::reopen(rt.alloc(), ONE, 3, disk) else {
         return Err("not opened")?;
     };
-    assert!(rt; node.stop());
-    assert_eq!(rt; node.phase(), Phase::Down);
+    let stopped = (node.stop(), node.phase());
+    compare(&stopped, &(true, Phase::Down), "stopped")?;
     let answer = node.start(rt.alloc());
-    assert_eq!(rt; answer, StartAnswer::Started { took: false });
-    Ok(())
+    compare(&answer, &StartAnswer::Started { took: false }, "started")
 }
 
 #[test]
 fn a_lost_disk_is_replaced(rt: HostRuntime) -> Result<(), Fail> {
     let mut node = formatted(rt.alloc(), PlainDisk::new(rt.alloc()))?;
-    assert_eq!(rt; node.lose(), Some(1));
-    assert_eq!(rt; node.replace(rt.alloc(), 1, 7), ReplaceAnswer::Replaced);
-    Ok(())
+    let answers = (node.lose(), node.replace(rt.alloc(), 1, 7));
+    compare(&answers, &(Some(1), ReplaceAnswer::Replaced), "answers")
 }
 
 #[test]
@@ -80,21 +79,24 @@ fn a_lost_disk_is_replaced(rt: HostRuntime) -> Result<(), Fail> {
 fn a_record_is_kept_fetched_and_dropped(rt: HostRuntime) -> Result<(), Fail> {
     let mut node = formatted(rt.alloc(), PlainDisk::new(rt.alloc()))?;
     let bins = words(rt.alloc(), 9)?;
-    assert_eq!(rt; node.keep(&FIRST, &bins), KeepAnswer::Kept);
+    let kept = node.keep(&FIRST, &bins);
     let mut out = words(rt.alloc(), 7)?;
     let held = Held {
         stamp: 1,
         length: 4096,
         base: 0,
     };
-    let answer = node.fetch_into(KEY, 1, &mut out);
-    assert_eq!(rt; answer, FetchAnswer::Held(held));
-    assert_eq!(rt; out, bins);
-    let dropped = DropAnswer::Dropped {
+    let fetched = node.fetch_into(KEY, 1, &mut out);
+    let gone = DropAnswer::Dropped {
         block: 2,
         stamp: 1,
         more: false,
     };
-    assert_eq!(rt; node.drop_next(1), dropped);
-    Ok(())
+    let answers = (kept, fetched, node.drop_next(1));
+    compare(
+        &answers,
+        &(KeepAnswer::Kept, FetchAnswer::Held(held), gone),
+        "answers",
+    )?;
+    compare(&out, &bins, "bins")
 }

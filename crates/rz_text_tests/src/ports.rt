@@ -1,9 +1,11 @@
 //! Calls that fail by their numbers, and the adapters over a reader and a writer that falter.
+use crate::comparing::compare;
 use rz_ports::{
     Failed, MemSink, MemSource, PlainSink, PlainSource, Sink, Source, StdSink, StdSource,
 };
 use std::io;
 use std::io::{Error, ErrorKind, Read, Write};
+use std::test::Fail;
 
 /// Reads once, through the bound, and gives the bytes that were moved.
 fn piece<'a, S: Source>(source: &mut S, out: &'a mut [u8]) -> Result<&'a [u8], Failed> {
@@ -17,11 +19,11 @@ fn offer<S: Sink>(sink: &mut S, piece: &[u8]) -> Result<usize, Failed> {
 }
 
 #[test]
-fn reads_in_memory(rt: HostRuntime) -> io::Result<()> {
+fn reads_in_memory(rt: HostRuntime) -> Result<(), Fail> {
     let bytes = Vec::from_slice(rt.alloc(), b"abcde")?;
     let mut plain = PlainSource::new(bytes);
     for want in [&b"ab"[..], b"cd", b"e", b"", b""] {
-        assert_eq!(rt; piece(&mut plain, &mut [0; 2]), Ok(want));
+        compare(&piece(&mut plain, &mut [0; 2]), &Ok(want), "plain")?;
     }
 
     let bytes = Vec::from_slice(rt.alloc(), b"abcde")?;
@@ -38,18 +40,18 @@ fn reads_in_memory(rt: HostRuntime) -> io::Result<()> {
         Ok(b""),
     ];
     for want in answers {
-        assert_eq!(rt; piece(&mut source, &mut [0; 3]), want);
+        compare(&piece(&mut source, &mut [0; 3]), &want, "failing")?;
     }
     Ok(())
 }
 
 #[test]
-fn writes_in_memory(rt: HostRuntime) -> io::Result<()> {
+fn writes_in_memory(rt: HostRuntime) -> Result<(), Fail> {
     let mut plain = PlainSink::with_room(rt.alloc(), 5)?;
     for (text, want) in [("abc", 3), ("", 0), ("def", 2), ("g", 0), ("", 0)] {
-        assert_eq!(rt; offer(&mut plain, text.as_bytes()), Ok(want), "at {text}");
+        compare(&offer(&mut plain, text.as_bytes()), &Ok(want), text)?;
     }
-    assert_eq!(rt; plain.taken(), b"abcde".as_slice());
+    compare(&plain.taken(), &b"abcde".as_slice(), "plain")?;
 
     let fails = Vec::from_slice(rt.alloc(), &[1, 3])?;
     let mut sink = MemSink::with_room(rt.alloc(), 5, fails)?;
@@ -62,10 +64,9 @@ fn writes_in_memory(rt: HostRuntime) -> io::Result<()> {
         ("h", Ok(0)),
     ];
     for (text, want) in answers {
-        assert_eq!(rt; offer(&mut sink, text.as_bytes()), want, "at {text}");
+        compare(&offer(&mut sink, text.as_bytes()), &want, text)?;
     }
-    assert_eq!(rt; sink.taken(), b"abcde".as_slice());
-    Ok(())
+    compare(&sink.taken(), &b"abcde".as_slice(), "failing")
 }
 
 /// A reader and a writer that is interrupted, moves one byte, fails and then moves none.
@@ -105,18 +106,19 @@ impl Write for Faltering {
 }
 
 #[test]
-fn adapts_std(rt: HostRuntime) {
+fn adapts_std() -> Result<(), Fail> {
     let mut source = StdSource::new(Faltering { calls: 0 });
     for want in [Ok(&b"r"[..]), Err(Failed), Ok(b"")] {
-        assert_eq!(rt; piece(&mut source, &mut [0; 4]), want);
+        compare(&piece(&mut source, &mut [0; 4]), &want, "a reader")?;
     }
     let mut text = StdSource::new(&b"abc"[..]);
     for want in [&b"ab"[..], b"c", b""] {
-        assert_eq!(rt; piece(&mut text, &mut [0; 2]), Ok(want));
+        compare(&piece(&mut text, &mut [0; 2]), &Ok(want), "a text")?;
     }
 
     let mut sink = StdSink::new(Faltering { calls: 0 });
     for want in [Ok(1), Err(Failed), Ok(0)] {
-        assert_eq!(rt; offer(&mut sink, b"abc"), want);
+        compare(&offer(&mut sink, b"abc"), &want, "a writer")?;
     }
+    Ok(())
 }

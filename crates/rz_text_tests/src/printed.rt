@@ -1,4 +1,5 @@
 //! The text of logs, byte for byte.
+use crate::comparing::compare;
 use rz_events::{
     Actor, Answer, Attr, Denial, Event, FileInfo, Key, Kind, Listing, Places, ReadEnd, RebuildEnd,
     Seen, Text, TreeCall, TreeFault, TreeReply, Why, WriteEnd,
@@ -62,6 +63,10 @@ const ATTR: Attr = Attr {
     size: 5,
 };
 
+/// What is printed of all events.
+const LINES: &[u8] =
+    b"r2 1 rebuilt 2 3\nr2 1 left 2 3 4\nr2 1 notlost\nr2 1 otherloss 5\nr2 1 otherfence 6\nr2 1 lostagain\nr2 1 diskfault\nr2 4294967295 hole\nn1 unopened 2\nn65535 started 0\nadmin 1 refused OldLoss\nend 13\n";
+
 const REBUILT: [RebuildEnd; 7] = [
     RebuildEnd::Rebuilt {
         fence: 2,
@@ -107,31 +112,39 @@ fn printed(alloc: Global, answer: Answer) -> Result<Vec<u8>, AllocError> {
     show(alloc, &log, false)
 }
 
+/// Compares what is printed of such an answer.
+fn prints(alloc: Global, answer: Answer, line: &str) -> Result<(), Fail> {
+    let text = printed(alloc, answer)?;
+    compare(&text.as_slice(), &line.as_bytes(), line)
+}
+
 #[test]
 fn answers(rt: HostRuntime) -> Result<(), Fail> {
     let alloc = rt.alloc();
-    let text = printed(alloc, Answer::Attr(ATTR))?;
-    assert_eq!(rt;
-        text.as_slice(),
-        b"c64 7 attr file 644 18446744073709551615 2 5 00000000-0000-0000-0000-0000000000ff\n".as_slice()
-    );
+    prints(
+        alloc,
+        Answer::Attr(ATTR),
+        "c64 7 attr file 644 18446744073709551615 2 5 00000000-0000-0000-0000-0000000000ff\n",
+    )?;
     let mut names = Vec::new(alloc);
     names.push(Text::from_bytes(alloc, b"a b")?)?;
-    let text = printed(alloc, Answer::Names(Listing::of(names)))?;
-    assert_eq!(rt; text.as_slice(), b"c64 7 names 1 a b\n".as_slice());
-    let text = printed(alloc, Answer::Read(Text::from_bytes(alloc, &BYTES[..32])?))?;
-    assert_eq!(rt;
-        text.as_slice(),
-        b"c64 7 read 32 x:000102030405060708090a0b0c0d0e0f101112131415161718191a1b1c1d1e1f\n".as_slice()
-    );
-    let text = printed(alloc, Answer::Read(Text::from_bytes(alloc, &BYTES)?))?;
-    assert_eq!(rt;
-        text.as_slice(),
-        b"c64 7 read 33 h:5d8fcfefa9aeeb711fb8ed1e4b7d5c8a9bafa46e8e76e68aa18adce5a10df6ab\n".as_slice()
-    );
-    let text = printed(alloc, Answer::Refused(TreeFault::TooManyLinks))?;
-    assert_eq!(rt; text.as_slice(), b"c64 7 refused TooManyLinks\n".as_slice());
-    Ok(())
+    prints(
+        alloc,
+        Answer::Names(Listing::of(names)),
+        "c64 7 names 1 a b\n",
+    )?;
+    prints(
+        alloc,
+        Answer::Read(Text::from_bytes(alloc, &BYTES[..32])?),
+        "c64 7 read 32 x:000102030405060708090a0b0c0d0e0f101112131415161718191a1b1c1d1e1f\n",
+    )?;
+    prints(
+        alloc,
+        Answer::Read(Text::from_bytes(alloc, &BYTES)?),
+        "c64 7 read 33 h:5d8fcfefa9aeeb711fb8ed1e4b7d5c8a9bafa46e8e76e68aa18adce5a10df6ab\n",
+    )?;
+    let refused = Answer::Refused(TreeFault::TooManyLinks);
+    prints(alloc, refused, "c64 7 refused TooManyLinks\n")
 }
 
 #[test]
@@ -141,44 +154,24 @@ fn ends(rt: HostRuntime) -> Result<(), Fail> {
         stamp: 9,
         mask: 0x8001,
     };
-    let text = printed(alloc, Answer::ShortWrite { bytes: 3, end })?;
-    assert_eq!(rt;
-        text.as_slice(),
-        b"c64 7 short 3 acked 9 1000000000000001\n".as_slice()
-    );
+    let acked = Answer::ShortWrite { bytes: 3, end };
+    prints(alloc, acked, "c64 7 short 3 acked 9 1000000000000001\n")?;
     let end = WriteEnd::TooFew { why: WHY };
-    let text = printed(alloc, Answer::ShortWrite { bytes: 3, end })?;
-    assert_eq!(rt;
-        text.as_slice(),
-        b"c64 7 short 3 toofew -kpdlfuxme???--k\n".as_slice()
-    );
+    let unwritten = Answer::ShortWrite { bytes: 3, end };
+    prints(alloc, unwritten, "c64 7 short 3 toofew -kpdlfuxme???--k\n")?;
     let end = ReadEnd::TooFew { seen: SEEN };
-    let text = printed(alloc, Answer::ShortRead { bytes: 0, end })?;
-    assert_eq!(rt;
-        text.as_slice(),
-        b"c64 7 short 0 toofew -sndlxm---------\n".as_slice()
-    );
+    let unread = Answer::ShortRead { bytes: 0, end };
+    prints(alloc, unread, "c64 7 short 0 toofew -sndlxm---------\n")?;
     let end = ReadEnd::Moved { was: 1, now: 3 };
-    let text = printed(alloc, Answer::ShortRead { bytes: 0, end })?;
-    assert_eq!(rt; text.as_slice(), b"c64 7 short 0 moved 1 3\n".as_slice());
-    Ok(())
+    let moved = Answer::ShortRead { bytes: 0, end };
+    prints(alloc, moved, "c64 7 short 0 moved 1 3\n")
 }
 
-/// A play of a client and a rebuilder, of whose events some have no line.
-#[test]
-fn log(rt: HostRuntime) -> Result<(), Fail> {
-    let alloc = rt.alloc();
+/// The events of a client's and a rebuilder's play behind the ends of its rebuilds.
+fn others() -> [Event; 6] {
     let by = Actor::Rebuilder(2);
     let denied = RebuildEnd::Denied(Denial::OldLoss { kept: 9 });
-    let mut log = Vec::new(alloc);
-    for end in REBUILT {
-        log.push(Event::Done {
-            by,
-            number: 1,
-            answer: Answer::Rebuild(end),
-        })?;
-    }
-    for event in [
+    [
         Event::Stop { node: 1 },
         Event::Got {
             by,
@@ -204,13 +197,24 @@ fn log(rt: HostRuntime) -> Result<(), Fail> {
             number: 1,
             answer: Answer::Rebuild(denied),
         },
-    ] {
+    ]
+}
+
+/// Some of these events have no line.
+#[test]
+fn log(rt: HostRuntime) -> Result<(), Fail> {
+    let by = Actor::Rebuilder(2);
+    let mut log = Vec::new(rt.alloc());
+    for end in REBUILT {
+        log.push(Event::Done {
+            by,
+            number: 1,
+            answer: Answer::Rebuild(end),
+        })?;
+    }
+    for event in others() {
         log.push(event)?;
     }
-    let text = show(alloc, &log, true)?;
-    assert_eq!(rt;
-        text.as_slice(),
-        b"r2 1 rebuilt 2 3\nr2 1 left 2 3 4\nr2 1 notlost\nr2 1 otherloss 5\nr2 1 otherfence 6\nr2 1 lostagain\nr2 1 diskfault\nr2 4294967295 hole\nn1 unopened 2\nn65535 started 0\nadmin 1 refused OldLoss\nend 13\n".as_slice()
-    );
-    Ok(())
+    let text = show(rt.alloc(), &log, true)?;
+    compare(&text.as_slice(), &LINES, "log")
 }

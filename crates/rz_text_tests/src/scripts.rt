@@ -1,8 +1,8 @@
 //! The first bad line of texts with its cause, and the printed form of every line.
+use crate::comparing::compare;
 use ScriptCause::*;
 use rz_script::{Form, Line, Script, ScriptCause, ScriptError, Volume};
 use std::alloc::Global;
-use std::process::Abort;
 use std::test::Fail;
 
 /// Eight nodes in two clusters with the largest blocks, and every line and operation in a loose
@@ -82,11 +82,10 @@ miss r1 reply\n";
 fn prints_what_reads_back(rt: HostRuntime) -> Result<(), Fail> {
     let script = Script::read(rt.alloc(), LOOSE.as_bytes(), Form::Replay)?;
     let once = script.print(rt.alloc())?;
-    assert!(rt; once.as_slice() == PRINTED.as_bytes());
     let again = read(rt.alloc(), once.as_slice(), Form::Replay)?;
     let twice = again.print(rt.alloc())?;
-    assert!(rt; twice.as_slice() == PRINTED.as_bytes());
-    Ok(())
+    compare(&once.as_slice(), &PRINTED.as_bytes(), "once")?;
+    compare(&twice.as_slice(), &PRINTED.as_bytes(), "twice")
 }
 
 /// What texts are read under, and where and why the first bad line is refused.
@@ -146,29 +145,17 @@ fn read(alloc: Global, text: &[u8], form: Form) -> Result<Script, ScriptError> {
 }
 
 /// The text is refused at this line for this cause.
-fn refused(
-    rt: &impl Abort,
-    alloc: Global,
-    text: &[u8],
-    form: Form,
-    at: u32,
-    why: ScriptCause,
-) -> Result<(), Fail> {
+fn refused(alloc: Global, text: &[u8], form: Form, at: u32, why: ScriptCause) -> Result<(), Fail> {
     match read(alloc, text, form) {
-        Err(ScriptError::Script { line, cause }) => {
-            assert_eq!(rt; cause, why);
-            assert_eq!(rt; line, at);
-            Ok(())
-        }
+        Err(ScriptError::Script { line, cause }) => compare(&(line, cause), &(at, why), text),
         _ => Err(Fail::from("not refused by a line")),
     }
 }
 
 #[test]
 fn refuses_the_first_bad_line(rt: HostRuntime) -> Result<(), Fail> {
-    let alloc = rt.alloc();
     for (text, form, line, cause) in REFUSED {
-        refused(&rt, alloc, text, form, line, cause)?;
+        refused(rt.alloc(), text, form, line, cause)?;
     }
     Ok(())
 }
@@ -177,6 +164,5 @@ fn refuses_the_first_bad_line(rt: HostRuntime) -> Result<(), Fail> {
 fn adds_lines_at_the_end(rt: HostRuntime) -> Result<(), Fail> {
     let mut script = Script::new(rt.alloc(), Volume::plain(rt.alloc())?);
     script.push(Line::Rest)?;
-    assert_eq!(rt; script.lines().len(), 1);
-    Ok(())
+    compare(&script.lines().len(), &1, "lines")
 }

@@ -1,4 +1,5 @@
 //! Refusals with their paths, and the sizes of disks.
+use crate::comparing::compare;
 use rz_config::{Layout, Volume, VolumeCause, VolumeError};
 use std::test::Fail;
 
@@ -87,8 +88,8 @@ fn refuses_the_first_fault(rt: HostRuntime) -> Result<(), Fail> {
     for (text, path, cause) in REFUSED {
         match Volume::read(rt.alloc(), text) {
             Err(VolumeError::Refused(fault)) => {
-                assert_eq!(rt; fault.cause, cause);
-                assert!(rt; fault.path.bytes() == path.as_bytes());
+                let found = (fault.path.bytes(), fault.cause);
+                compare(&found, &(path.as_bytes(), cause), text)?;
             }
             _ => return Err(Fail::from("not refused")),
         }
@@ -103,10 +104,8 @@ const EIGHT: &str =
 #[test]
 fn sizes_disks(rt: HostRuntime) -> Result<(), Fail> {
     let plain = Volume::plain(rt.alloc())?;
-    assert_eq!(rt; plain.disk_bytes(), 2_163_456);
+    compare(&plain.disk_bytes(), &2_163_456, "plain")?;
     let volume = Volume::read(rt.alloc(), EIGHT)?.copy(rt.alloc())?;
-    assert_eq!(rt; volume.layout, Layout::L1);
-    assert_eq!(rt; volume.node_count(), 8);
-    assert_eq!(rt; volume.disk_bytes(), 153_158_144);
-    Ok(())
+    let found = (volume.layout, volume.node_count(), volume.disk_bytes());
+    compare(&found, &(Layout::L1, 8, 153_158_144), "eight nodes")
 }

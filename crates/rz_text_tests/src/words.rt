@@ -1,5 +1,6 @@
 //! Lines of the form, and lines near it that are refused, of which `clap` alone takes many.
 
+use crate::comparing::compare;
 use rz_command::{Command, WordsError, wanted};
 use std::alloc::{AllocError, Global};
 use std::test::Fail;
@@ -123,28 +124,28 @@ const REFUSED: &[&str] = &[
     "rozo load 18446744073709551616 --disks 4",
 ];
 
-#[test]
-fn plain_lines(rt: HostRuntime) -> Result<(), Fail> {
-    for line in PLAIN {
-        assert_eq!(rt; meant(rt.alloc(), *line)?.as_str(), "4 none", "at {line}");
+/// Compares what each of these lines means.
+fn mean(alloc: Global, lines: &[&str], wanted: &str) -> Result<(), Fail> {
+    for line in lines {
+        let found = meant(alloc, *line)?;
+        compare(&found.as_str(), &wanted, *line)?;
     }
     Ok(())
+}
+
+#[test]
+fn plain_lines(rt: HostRuntime) -> Result<(), Fail> {
+    mean(rt.alloc(), PLAIN, "4 none")
 }
 
 #[test]
 fn folder_lines(rt: HostRuntime) -> Result<(), Fail> {
-    for line in FOLDERS {
-        assert_eq!(rt; meant(rt.alloc(), *line)?.as_str(), "4 x", "at {line}");
-    }
-    Ok(())
+    mean(rt.alloc(), FOLDERS, "4 x")
 }
 
 #[test]
 fn refused_lines(rt: HostRuntime) -> Result<(), Fail> {
-    for line in REFUSED {
-        assert_eq!(rt; meant(rt.alloc(), *line)?.as_str(), "usage", "at {line}");
-    }
-    Ok(())
+    mean(rt.alloc(), REFUSED, "usage")
 }
 
 /// What a line commands.
@@ -168,15 +169,14 @@ fn commands(rt: HostRuntime) -> Result<(), Fail> {
             "rozo migrate 065535 --disks 2",
             Command::Migrate { sid: 65535 },
         ),
+        (
+            "rozo load 18446744073709551615 --disks 4",
+            Command::Load {
+                seed: 18446744073709551615,
+            },
+        ),
     ] {
-        assert_eq!(rt; commanded(rt.alloc(), line)?, Some(want), "at {line}");
+        compare(&commanded(rt.alloc(), line)?, &Some(want), line)?;
     }
-    let most = commanded(rt.alloc(), "rozo load 18446744073709551615 --disks 4")?;
-    assert_eq!(rt;
-        most,
-        Some(Command::Load {
-            seed: 18446744073709551615
-        })
-    );
     Ok(())
 }

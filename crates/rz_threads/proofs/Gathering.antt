@@ -6,9 +6,13 @@ use Rattle.rz_chronicle.specs.Keys.{IsOneOf}
 use Rattle.rz_chronicle.specs.Rules.{PassView}
 use Rattle.rz_crew.specs.Gathered.{GoesOn, IsHeld, IsHeldLaw}
 
-one-of-left : (k : ℕ) (xs ys : List ℕ) → IsOneOf k xs → IsOneOf k (xs ++ ys)
+pub one-of-left : (k : ℕ) (xs ys : List ℕ) → IsOneOf k xs → IsOneOf k (xs ++ ys)
 one-of-left k [] ys h = absurd h
 one-of-left k (x ∷ xs) ys h = elim h [ inl e ↦ inl e | inr more ↦ inr (one-of-left k xs ys more) ]
+
+pub one-of-right : (k : ℕ) (xs ys : List ℕ) → IsOneOf k ys → IsOneOf k (xs ++ ys)
+one-of-right k [] ys h = h
+one-of-right k (x ∷ xs) ys h = inr (one-of-right k xs ys h)
 
 pub goes-further : (a b c : PassView) → GoesOn a b → GoesOn b c → GoesOn a c
 goes-further a b c p q = record {

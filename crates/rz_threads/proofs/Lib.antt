@@ -4,3 +4,4 @@ pub mod Sending
 pub mod Gathering
 pub mod Leaving
 pub mod Members
+pub mod Tallies

@@ -1,14 +1,18 @@
 //! A whole play on threads, and the one log that has all of it.
-ghost use Rattle.std.specs.Prelude.{◌≡◌, ◌&&◌, true, map};
+ghost use Rattle.std.specs.Prelude.{◌≡◌, ◌&&◌, ◌++◌, ◌∷◌, true, map};
 ghost use Rattle.std.specs.List.{AllByRecursion, AllZip};
 ghost use Rattle.std.specs.Global.{Vec as AVec};
 ghost use Rattle.rz_events.specs.declared.events.Event.{Event as AnEvent};
+ghost use Rattle.rz_events.specs.declared.events.Word.TheVariants as w;
 ghost use Rattle.rz_script.specs.Lines.{AreLines};
-ghost use Rattle.rz_chronicle.specs.Keys.{IsLater, sids_of};
+ghost use Rattle.rz_play.specs.World.{actors};
+ghost use Rattle.rz_chronicle.specs.Keys.{IsLater, sids_of, word_key};
 ghost use Rattle.rz_chronicle.specs.Kinds.{IsFit, volume_in};
+ghost use Rattle.rz_chronicle.specs.Rules.{PassView};
 ghost use Rattle.rz_crew.specs.Gathered.{GoesOn, IsHeld};
+ghost use Rattle.rz_crew.specs.Moves.{HoldsAll};
 ghost use Rattle.rz_admin.specs.Orders.{AreBegun, AreDone, Waits};
-ghost use Rattle.rz_staff.specs.Staff.{CanWork};
+ghost use Rattle.rz_staff.specs.Staff.{CanWork, actor_of};
 ghost use Rattle.rz_threads.specs.Left.{IsLeft};
 ghost use Rattle.rz_threads.specs.Played.{HasBegun, HasFinished, HasLost, shown_for};
 
@@ -34,6 +38,7 @@ fn settled<D: Disk, J: Counting>(
     cluster: Cluster<D, J>,
 ) -> Vec<D>
     ensures goes { GoesOn front.old front.new }
+    ensures keys { front.new.keys ≡ front.old.keys ++ map word_key (w.Export ∷ map w.Node (sids_of cluster)) }
     ensures disks { AllZip (IsLeft D.meter D.image J.kind J.first front.new.log) (sids_of cluster) result.items }
     ensures fit { IsFit J.kind front.new.log }
 {
@@ -61,6 +66,8 @@ fn gather_up<D: Disk, J: Counting>(
     requires admin { admin.actor ≡ Actor.Admin }
     ensures waits { Waits admin.log result.front.log }
     ensures held { AllByRecursion (IsHeld result.front) passes.items }
+    ensures words { map (λ (p : PassView). p.actor) passes.items ≡ actors → HoldsAll (sids_of store.cluster) result.front.keys }
+    ensures book { result.book ≡ store.book }
     ensures disks { AllZip (IsLeft D.meter D.image J.kind J.first result.front.log) (sids_of store.cluster) result.disks.items }
     ensures fit { IsFit J.kind result.front.log }
 {
@@ -100,7 +107,8 @@ pub struct Played<D: Disk, J: Counting, L: Link> {
 }
 
 /// A play: the members do their operations on threads, beside the administrator's lines. Where memory is
-/// wanting for one of them, it stops early, and the others go on.
+/// wanting for one of them, it stops early, and the others go on. Where the members are all clients and all
+/// rebuilders, the pass then holds the tally of each word of the book.
 pub fn play<R: Threads + Wait + Sync, D: Disk + Send, J: Counting + Send + Sync, L: Link + Send>(
     rt: &R,
     alloc: Global,
@@ -114,6 +122,8 @@ pub fn play<R: Threads + Wait + Sync, D: Disk + Send, J: Counting + Send + Sync,
     requires admin { admin.actor ≡ Actor.Admin }
     requires lines { AreLines (volume_in J.kind) lines.now }
     ensures fit { IsFit J.kind result.front.log }
+    ensures book { result.book ≡ store.book }
+    ensures held { map actor_of staff.members.items ≡ actors → HoldsAll (sids_of store.cluster) result.front.keys }
     ensures begun { AllByRecursion (HasBegun J.kind result.front.log) staff.members.items }
     ensures finished { result.ended ≡ true → AllByRecursion (HasFinished J.kind result.front.log) staff.members.items }
     ensures ordered { AreBegun J.kind lines.now admin.log result.front.log }

@@ -6,7 +6,6 @@ use Rattle.rz_disk.specs.UnderFuse.{UnderFuse}
 use Rattle.rz_driver.specs.declared.station.Shared.{Shared}
 use Rattle.rz_driver.specs.Continued.{AreLeft, IsCauseAgain}
 use Rattle.rz_driver.specs.Endings.{EndsAsRefused, StandsForLog}
-use Rattle.rz_driver.specs.Pictures.{AreBytes}
 use Rattle.rz_driver.specs.Worlds.{Holds, Leaves, exact_if, is_exact, left_behind, tells-exactly, world_of}
 use Rattle.rz_continuation.specs.Earlier.{IsEarlier, IsRestarted}
 use Rattle.rz_events.specs.Volume.{Volume, nodes_of}
@@ -21,6 +20,7 @@ use Rattle.rz_stations.specs.Meters.{faults_at}
 use Rattle.rz_stations.specs.Stations.{state_in}
 use Rattle.rz_core.specs.HeldRecords.{block_of}
 use Rattle.rz_core.specs.History.{facts}
+use Rattle.rz_core.specs.Legal.{IsLegalInRuns}
 use Rattle.rz_scrub_laws.specs.Untouched.{text_in}
 use Rattle.rz_play.specs.World.{World, world_after}
 use Rattle.rz_play_laws.specs.Fine.{IsFine}
@@ -35,10 +35,10 @@ use Rattle.rz_perform.specs.Telling.{IsPlayOf, TellsOwn}
 use Rattle.rz_perform.proofs.Anew.{told_own}
 use Rattle.rz_request.specs.declared.wishes.Wish.{Wish}
 use Rattle.rz_request.specs.declared.wishes.Wish.TheVariants.{Again, Scrub}
-use Rattle.rozo_program.specs.Disks.{AreBackAgain, AreFaultsTold, AreImagesTold, AreUsedAgain, IsGoneOn, IsJournalLeft, faulted}
+use Rattle.rozo_program.specs.Disks.{AreBackAgain, AreFaultsTold, AreImagesTold, AreUsedAgain, IsGoneOn, IsJournalLeft, LeavesNext, MayFollow, faulted}
 use Rattle.rozo_program.specs.Replays.{FailsAgain}
 use Rattle.rozo_program.proofs.Continuing.{any_told, not-reopened, own_as}
-use Rattle.rozo_program.proofs.Journals.{again-back, again-end, at-last, between-on, has-disk, journal-left, split-last}
+use Rattle.rozo_program.proofs.Journals.{again-back, again-end, at-last, between-on, has-disk, journal-left, may-follow, next-on, split-last, whole-end}
 use Rattle.rozo_program.proofs.replay.play_again.Given as given
 use Rattle.rozo_program.proofs.replay.play_again.Goals as goal
 
@@ -101,10 +101,10 @@ module _ (g : given.Over) (c : goal.After-drop-disks g) where
   world_is = c.in-Ok.ensures.opened.world
 
   -- over disks that tell their texts the driver holds with each log that the disks were left with
-  went_on : IsTrue g.D.Disk.tells → (h : List Event) → IsEarlier volume h → AreBytes (facts h) → AreLeft g.D.Disk.image volume h c.args.disks.now.items
+  went_on : IsTrue g.D.Disk.tells → (h : List Event) → IsEarlier volume h → AreLeft g.D.Disk.image volume h c.args.disks.now.items
       → (old : List Event) × IsRestarted volume h old × Holds c.in-Ok.driver (left_behind counts old)
   went_on =
-      let K : Volume → List g.row.D.Denot → Type 0 = λ v xs. IsTrue g.D.Disk.tells → (h : List Event) → IsEarlier v h → AreBytes (facts h) → AreLeft g.D.Disk.image v h xs
+      let K : Volume → List g.row.D.Denot → Type 0 = λ v xs. IsTrue g.D.Disk.tells → (h : List Event) → IsEarlier v h → AreLeft g.D.Disk.image v h xs
       → (old : List Event) × IsRestarted v h old × Holds c.in-Ok.driver (left_behind (faults_at g.D.Disk.meter xs) old) in
       subst (λ (v : Volume). K v c.args.disks.now.items) c.volume-volume.ensures (subst (λ (xs : List g.row.D.Denot). K c.volume-volume.result.now xs) lent c.in-Ok.ensures.held)
 
@@ -176,6 +176,19 @@ module _ (g : given.Over) (c : goal.After-drop-disks g) where
           c.afterwards.ensures volume lines c.keeps_rules.ensures nodes export old fine (omega (arith, short)) (log ++ old)
           (c.begins.ensures volume (world_after nodes export old) lines end lost (log ++ old) ended)
 
+      -- what is left for the next run
+      next_run : LeavesNext end (MayFollow g.D.Disk.image volume (log ++ old) c.close_all-log.result.1.items)
+      next_run =
+          let new = c.close_all-log.result.1.items in
+          let stage = c.perform-status.new.stage in
+          let it = run_after in
+          let legal : IsLegalInRuns volume (log ++ old) = subst (IsLegalInRuns volume) (sym it.log_is) (c.next_run.ensures volume old it.run it.legal) in
+          next-on end _ (MayFollow g.D.Disk.image volume (log ++ old) new)
+          (λ whole.
+          let left = c.close_all-log.ensures.left (left_behind counts old) whole (c.perform-status.ensures.journal ∙ c.in-Ok.ensures.journal) telling in
+          may-follow g.D.Disk.image volume (log ++ old) new legal (subst (λ (v : Volume). AreLeft g.D.Disk.image v (log ++ old) new) volume_is left))
+          (whole-end (Holds stage (left_behind counts old)) (Leaves stage (left_behind counts old)) end (refusal_of stage.shared.export) _ c.perform-status.ensures.performed.3 holds_by left_by)
+
 pub returns-in-Ok : goal.returns-in-Ok
 returns-in-Ok g c =
     let lines : List Line = c.args.request.now.script.lines in
@@ -200,8 +213,8 @@ returns-in-Ok g c =
       journal_back = disk.0;
       new_are = new_is;
       untold = λ silent. counted g c [] (untold g c silent);
-      goes_on = λ telling earlier is bytes are.
-          let on = went_on g c telling earlier is bytes are in
+      goes_on = λ telling earlier is are.
+          let on = went_on g c telling earlier is are in
           record {
             old = on.0;
             restarted = on.1;
@@ -210,6 +223,7 @@ returns-in-Ok g c =
             faults_told = counted g c on.0 on.2;
             images_told = imaged g c on.0 on.2 telling;
             journal_told = left_journal g c on.0 on.2 telling split.0 split.1 disk.0 split.2 split.3 disk.1;
+            next = subst (λ (xs : List g.row.D.Denot). LeavesNext (end g c) (MayFollow g.D.Disk.image (volume g c) (log g c ++ on.0) xs)) new_is (next_run g c on.0 on.2 telling);
           };
     } in
     let U : List Event → Type 0 = λ h. AreUsedAgain g.D.Disk.tells g.D.Disk.meter g.D.Disk.image (end g c) (volume g c) lines (lost g c) old new h in

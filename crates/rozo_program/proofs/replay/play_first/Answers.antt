@@ -4,6 +4,7 @@ use Rattle.std.proofs.lemmas.List.{append-nil, reverse-reverse, length-map}
 use Rattle.rz_disk.specs.Meter.{faults}
 use Rattle.rz_disk.specs.UnderFuse.{UnderFuse}
 use Rattle.rz_driver.specs.declared.station.Shared.{Shared}
+use Rattle.rz_driver.specs.Continued.{AreLeft}
 use Rattle.rz_driver.specs.Endings.{EndsAsRefused, StandsForLog}
 use Rattle.rz_driver.specs.Formatted.{AreBackWithJournal}
 use Rattle.rz_driver.specs.Worlds.{Holds, Leaves, anew, exact_if, is_exact, world_of}
@@ -28,8 +29,8 @@ use Rattle.rz_perform.specs.Output.{Sunk}
 use Rattle.rz_perform.specs.Replays.{Unplayed, Performed, IsToldAs, MayEnd}
 use Rattle.rz_perform.specs.Scrubs.{BetweenTurns}
 use Rattle.rz_request.specs.declared.wishes.Wish.TheVariants.{First, Again, Scrub}
-use Rattle.rozo_program.specs.Disks.{AreAllBack, AreBackFrom, AreFaultsTold, AreImagesTold, IsJournalLeft, faulted}
-use Rattle.rozo_program.proofs.Journals.{all-back-faults, at-front, at-last, between-on, counted-length, first-back, first-end, has-disk, journal-left, length-joined, split-last}
+use Rattle.rozo_program.specs.Disks.{AreAllBack, AreBackFrom, AreFaultsTold, AreImagesTold, IsJournalLeft, IsNextTold, MayFollow, faulted}
+use Rattle.rozo_program.proofs.Journals.{all-back-faults, at-front, at-last, between-on, counted-length, first-back, first-end, has-disk, journal-left, length-joined, may-follow, next-on, split-last, whole-end}
 use Rattle.rozo_program.proofs.Lent.{counted-none, not-opened}
 use Rattle.rozo_program.proofs.Untold.{told-none}
 use Rattle.rozo_program.proofs.replay.play_first.Given as given
@@ -151,6 +152,16 @@ returns-in-Ok g c =
     let told : IsJournalLeft g.D.Disk.tells meter g.D.Disk.image end v split.1 disk.0 log =
     journal-left g.D.Disk.tells meter g.D.Disk.image v split.1 disk.0 log end (refusal_of c.perform-status.new.stage.shared.export) _ c.perform-status.ensures.performed.3 stands
     (subst (λ (k : ℕ). EndsAsRefused (refusal_of c.perform-status.new.stage.shared.export) g.D.Disk.tells (g.D.Disk.image disk.0) k (faults (meter disk.0)) v log) was ended) in
+    let next : IsNextTold g.D.Disk.tells g.D.Disk.image (Performed end later) v new log =
+    λ tells.
+    let true_log = c.perform-status.ensures.told (before g c) (held g c) refl new_so tells in
+    next-on end _ (MayFollow g.D.Disk.image v log new)
+    (λ whole.
+    let left = c.close_all-log.ensures.left (before g c) whole (c.perform-status.ensures.journal ∙ c.in-Ok.ensures.journal) tells in
+    let here = subst (λ (x : Volume). AreLeft g.D.Disk.image x (log ++ []) new) (volume_is g c) left in
+    may-follow g.D.Disk.image v log new (c.one_run.ensures v log true_log.legal) (subst (λ (h : List Event). AreLeft g.D.Disk.image v h new) no_more here))
+    (whole-end (Holds c.perform-status.new.stage (before g c)) (Leaves c.perform-status.new.stage (before g c)) end (refusal_of c.perform-status.new.stage.shared.export) _ c.perform-status.ensures.performed.3 (holds_by g c) (left_by g c))
+    in
     let all : AreAllBack g.D.Disk.tells meter g.D.Disk.image (Performed end later) v old new log = record {
       nodes = split.0;
       journal = split.1;
@@ -161,6 +172,7 @@ returns-in-Ok g c =
       faults_told = subst (λ (x : List Event). AreFaultsTold meter v old back (x ++ log)) (sym (none_asked g c)) counted;
       images_told = imaged;
       journal_told = told;
+      next = next;
     } in
     let B : List Event → Type 0 = λ x. AreAllBack g.D.Disk.tells meter g.D.Disk.image (Performed end later) v old new x in (
       Performed end later,
@@ -218,6 +230,7 @@ returns-in-Err g c =
       faults_told = counted;
       images_told = b.each;
       journal_told = b.last;
+      next = tt;
     } in
     let B : List Event → Type 0 = λ x. AreAllBack g.D.Disk.tells meter g.D.Disk.image Unplayed v old new x in (
       Unplayed,

@@ -1,13 +1,9 @@
-use Rattle.std.proofs.Common.{refl, sym, ◌∙◌, subst}
-use Rattle.rz_events.specs.declared.keys.Actor.TheVariants.{Client}
-use Rattle.rz_events.specs.declared.tree.TreeCall.{TreeCall}
+use Rattle.std.proofs.Common.{sym, ◌∙◌}
 use Rattle.rz_events.specs.declared.export.Call.TheVariants as call
-use Rattle.rz_export_model.specs.ExportEvents.{export_event}
 use Rattle.rz_operation.specs.Meaning.{path_in}
 use Rattle.rz_metadata.specs.Stands.{export_in}
 use Rattle.rz_asks.specs.Locking.{lock_of}
-use Rattle.rz_asks.specs.Parts.{IsNoted}
-use Rattle.rz_asks.proofs.Keeping.{keeps-noted, ends-unasked, ends-refused, ends-unnoted, on-err, at-err}
+use Rattle.rz_asks.proofs.Keeping.{keeps-opened, ends-unasked, ends-refused, ends-unnoted, on-err, at-err}
 use Rattle.rz_asks.proofs.OpenLemmas.{none-lock, opened}
 use Rattle.rz_asks.proofs.locking.open.Goals as goal
 
@@ -32,37 +28,38 @@ returns-clause-ok g c =
 
 pub returns-clause-kept : goal.returns-clause-kept
 returns-clause-kept g c =
-    keeps-noted g.D.Disk.tells g.D.Disk.meter g.D.Disk.image c.args.export.now c.reply.new.self c.args.log.now.events c.note_names.new.log.events (Client c.in-Client.owner) (call.Tree c.in-Lock.call.now) c.in-Ok.reply
-    (subst (λ (x : TreeCall). IsNoted (export_event (Client c.in-Client.owner) (call.Tree x) c.in-Ok.reply) c.args.log.now.events c.note_names.new.log.events) c.in_ok-copy.ensures c.in_ok-note_names.ensures.ok)
-    c.in-Ok.ensures.kept
+    let opened_by = c.in-Lock.call.now in
+    keeps-opened g.D.Disk.tells g.D.Disk.meter g.D.Disk.image c.args.export.now c.reply.new.self c.args.machine.now opened_by (path_in opened_by) c.in-Lock.exclusive c.in-Lock.from c.in-Lock.count c.in-Ok.reply
+    c.in-Lock.ensures.value (c.opens.ensures c.if-not-opens.false) c.in-Ok.ensures.reply c.in-Ok.ensures.kept
 
 -- where the export was asked nothing
 
 pub returns-in_default-clause-left : goal.returns-in_default-clause-left
-returns-in_default-clause-left g c = ends-unasked g.D.Disk.tells g.D.Disk.meter g.D.Disk.image c.args.export.now c.args.log.now.events
+returns-in_default-clause-left g c = ends-unasked g.D.Disk.tells g.D.Disk.meter g.D.Disk.image c.args.export.now
 
 pub returns-in_default-by-clause-left : goal.returns-in_default-by-clause-left
-returns-in_default-by-clause-left g c = ends-unasked g.D.Disk.tells g.D.Disk.meter g.D.Disk.image c.args.export.now c.args.log.now.events
+returns-in_default-by-clause-left g c = ends-unasked g.D.Disk.tells g.D.Disk.meter g.D.Disk.image c.args.export.now
 
 pub returns-then-is_some-clause-left : goal.returns-then-is_some-clause-left
-returns-then-is_some-clause-left g c = ends-unasked g.D.Disk.tells g.D.Disk.meter g.D.Disk.image c.args.export.now c.args.log.now.events
+returns-then-is_some-clause-left g c = ends-unasked g.D.Disk.tells g.D.Disk.meter g.D.Disk.image c.args.export.now
 
 pub returns-then-not-opens-clause-left : goal.returns-then-not-opens-clause-left
-returns-then-not-opens-clause-left g c = ends-unasked g.D.Disk.tells g.D.Disk.meter g.D.Disk.image c.args.export.now c.args.log.now.events
+returns-then-not-opens-clause-left g c = ends-unasked g.D.Disk.tells g.D.Disk.meter g.D.Disk.image c.args.export.now
 
 pub returns-in_err-copy-clause-left : goal.returns-in_err-copy-clause-left
-returns-in_err-copy-clause-left g c = on-err c.from_residual.result (ends-unasked g.D.Disk.tells g.D.Disk.meter g.D.Disk.image c.args.export.now c.args.log.now.events)
+returns-in_err-copy-clause-left g c = on-err c.from_residual.result (ends-unasked g.D.Disk.tells g.D.Disk.meter g.D.Disk.image c.args.export.now)
 
 -- where it gave no reply, or one that was not noted
 
 pub returns-in_default-reply-clause-left : goal.returns-in_default-reply-clause-left
-returns-in_default-reply-clause-left g c = ends-refused g.D.Disk.tells g.D.Disk.meter g.D.Disk.image c.args.export.now c.reply.new.self c.args.log.now.events (call.Tree c.in-Lock.call.now) (at-err c.reply.result c.in_default-reply.not-Ok c.reply.ensures.left)
+returns-in_default-reply-clause-left g c =
+    ends-refused g.D.Disk.tells g.D.Disk.meter g.D.Disk.image c.args.export.now c.reply.new.self (call.Tree c.in-Lock.call.now) (at-err c.reply.result c.in_default-reply.not-Ok c.reply.ensures.left)
 
 pub returns-then-not-takes_locked-clause-left : goal.returns-then-not-takes_locked-clause-left
 returns-then-not-takes_locked-clause-left g c =
-    ends-unnoted g.D.Disk.tells g.D.Disk.meter g.D.Disk.image c.args.export.now c.reply.new.self c.args.log.now.events c.args.log.now.events (call.Tree c.in-Lock.call.now) c.in-Ok.reply refl c.in-Ok.ensures.kept
+    ends-unnoted g.D.Disk.tells g.D.Disk.meter g.D.Disk.image c.args.export.now c.reply.new.self (call.Tree c.in-Lock.call.now) c.in-Ok.reply c.in-Ok.ensures.kept
 
 pub returns-in_err-note_names-clause-left : goal.returns-in_err-note_names-clause-left
 returns-in_err-note_names-clause-left g c =
     on-err c.from_residual-in_err-note_names.result
-    (ends-unnoted g.D.Disk.tells g.D.Disk.meter g.D.Disk.image c.args.export.now c.reply.new.self c.args.log.now.events c.note_names.new.log.events (call.Tree c.in-Lock.call.now) c.in-Ok.reply c.in_err-note_names.ensures.err c.in-Ok.ensures.kept)
+    (ends-unnoted g.D.Disk.tells g.D.Disk.meter g.D.Disk.image c.args.export.now c.reply.new.self (call.Tree c.in-Lock.call.now) c.in-Ok.reply c.in-Ok.ensures.kept)

@@ -1,32 +1,31 @@
-use Rattle.std.proofs.Common.{refl}
 use Rattle.rz_operation.specs.Meaning.{call_of}
-use Rattle.rz_asks.proofs.Keeping.{keeps-noted, ends-unasked, ends-refused, ends-unnoted, on-err, at-err}
+use Rattle.rz_asks.proofs.Keeping.{keeps-asked, ends-unasked, ends-refused, ends-unnoted, on-err, at-err}
 use Rattle.rz_asks.proofs.replies.ask_export.Goals as goal
 
 pub returns-clause-kept : goal.returns-clause-kept
 returns-clause-kept g c =
-    keeps-noted g.D.Disk.tells g.D.Disk.meter g.D.Disk.image c.args.export.now c.reply.new.self c.args.log.now.events c.note_reply.new.log.events c.args.by _ c.in-Ok.reply
-    c.in_ok-note_reply.ensures.ok c.in-Ok.ensures.kept
+    keeps-asked g.D.Disk.tells g.D.Disk.meter g.D.Disk.image c.args.export.now c.reply.new.self c.args.machine.now (call_of c.in-Export.ask) c.in-Ok.reply
+    c.in-Export.ensures.value c.in-Ok.ensures.reply c.look_into.ensures c.in-Ok.ensures.kept
 
 -- where the export was asked nothing
 
 pub returns-in_default-clause-left : goal.returns-in_default-clause-left
-returns-in_default-clause-left g c = ends-unasked g.D.Disk.tells g.D.Disk.meter g.D.Disk.image c.args.export.now c.args.log.now.events
+returns-in_default-clause-left g c = ends-unasked g.D.Disk.tells g.D.Disk.meter g.D.Disk.image c.args.export.now
 
 pub returns-in_err-words-clause-left : goal.returns-in_err-words-clause-left
-returns-in_err-words-clause-left g c = on-err c.from_residual.result (ends-unasked g.D.Disk.tells g.D.Disk.meter g.D.Disk.image c.args.export.now c.args.log.now.events)
+returns-in_err-words-clause-left g c = on-err c.from_residual.result (ends-unasked g.D.Disk.tells g.D.Disk.meter g.D.Disk.image c.args.export.now)
 
 -- where it gave no reply, or one that was not noted
 
 pub returns-in_default-reply-clause-left : goal.returns-in_default-reply-clause-left
-returns-in_default-reply-clause-left g c = ends-refused g.D.Disk.tells g.D.Disk.meter g.D.Disk.image c.args.export.now c.reply.new.self c.args.log.now.events (call_of c.in-Export.ask) (at-err c.reply.result c.in_default-reply.not-Ok c.reply.ensures.left)
+returns-in_default-reply-clause-left g c =
+    ends-refused g.D.Disk.tells g.D.Disk.meter g.D.Disk.image c.args.export.now c.reply.new.self (call_of c.in-Export.ask) (at-err c.reply.result c.in_default-reply.not-Ok c.reply.ensures.left)
 
 pub returns-then-not-takes_reply-clause-left : goal.returns-then-not-takes_reply-clause-left
 returns-then-not-takes_reply-clause-left g c =
-    ends-unnoted g.D.Disk.tells g.D.Disk.meter g.D.Disk.image c.args.export.now c.reply.new.self c.args.log.now.events c.args.log.now.events (call_of c.in-Export.ask) c.in-Ok.reply refl c.in-Ok.ensures.kept
+    ends-unnoted g.D.Disk.tells g.D.Disk.meter g.D.Disk.image c.args.export.now c.reply.new.self (call_of c.in-Export.ask) c.in-Ok.reply c.in-Ok.ensures.kept
 
 pub returns-in_err-note_reply-clause-left : goal.returns-in_err-note_reply-clause-left
 returns-in_err-note_reply-clause-left g c =
     on-err c.from_residual-in_err-note_reply.result
-    (ends-unnoted g.D.Disk.tells g.D.Disk.meter g.D.Disk.image c.args.export.now c.reply.new.self c.args.log.now.events c.note_reply.new.log.events (call_of c.in-Export.ask) c.in-Ok.reply
-    c.in_err-note_reply.ensures.err c.in-Ok.ensures.kept)
+    (ends-unnoted g.D.Disk.tells g.D.Disk.meter g.D.Disk.image c.args.export.now c.reply.new.self (call_of c.in-Export.ask) c.in-Ok.reply c.in-Ok.ensures.kept)

@@ -1,4 +1,4 @@
-use Rattle.std.proofs.Common.{◌≡◌, IsTrue, Some, refl}
+use Rattle.std.proofs.Common.{◌≡◌, IsTrue, Some, refl, ap}
 use Rattle.std.proofs.lemmas.Result.{on_ok_weaker, on_err_weaker}
 use Rattle.rz_driver.specs.Acts.{IsMessage, Exports, Opens, Sends, Says}
 use Rattle.rz_events.specs.declared.export.Call.TheVariants as call
@@ -6,15 +6,15 @@ use Rattle.rz_events.specs.declared.tree.TreeCall.TheVariants as tree
 use Rattle.rz_export_model.specs.Export.{export_reply}
 use Rattle.rz_metadata.specs.Stands.{export_in}
 use Rattle.rz_operation.specs.Machine.{text_of}
-use Rattle.rz_asks.specs.Journals.{EndsOn}
-use Rattle.rz_asks.proofs.Keeping.{keeps-same}
-use Rattle.rz_driver.proofs.JournalLemmas.{fate-stays, said-stays-export, same-store, store-keeps, store-ends}
+use Rattle.rz_asks.specs.Journals.{call_asked, EndsOn, KeepsAsked}
+use Rattle.rz_driver.specs.Journals.{Asks, AsksNothing}
+use Rattle.rz_driver.proofs.JournalLemmas.{ends-with-it, fate-stays, said-stays-export, same-store}
 use Rattle.rz_stations.proofs.MeterLemmas.{still-err, metered-stays, still-left, export-stays, said-stays}
 use Rattle.rz_asks.specs.Locking.{IsOpenPart, open_reply}
 use Rattle.rz_asks.specs.Parts.{IsExportPart}
 use Rattle.rz_driver.specs.Pictures.{KeepsPicture, SparesPicture}
 use Rattle.rz_driver.proofs.ActPictures.{still-keeps, still-spares, at-machine, at-spares, export-keeps, open-keeps, say-keeps}
-use Rattle.rz_stations.proofs.PictureLemmas.{on-err}
+use Rattle.rz_stations.proofs.PictureLemmas.{both-ok, on-err}
 use Rattle.rz_driver.proofs.acting.act.Goals as goal
 
 pub returns-in-Export-clause-ok : goal.returns-in-Export-clause-ok
@@ -192,16 +192,32 @@ pub returns-in_err-done-in-Say-clause-store : goal.returns-in_err-done-in-Say-cl
 returns-in_err-done-in-Say-clause-store g c = same-store c.args.shared.now.export c.args.shared.now.export refl
 
 pub returns-in_default-clause-kept : goal.returns-in_default-clause-kept
-returns-in_default-clause-kept g c = λ first old keeps. keeps
+returns-in_default-clause-kept g c = AsksNothing refl refl
 
 pub returns-in-Rest-clause-kept : goal.returns-in-Rest-clause-kept
-returns-in-Rest-clause-kept g c = λ first old keeps. keeps
+returns-in-Rest-clause-kept g c = AsksNothing refl refl
 
 pub returns-in-Export-clause-kept : goal.returns-in-Export-clause-kept
-returns-in-Export-clause-kept g c = c.ask_export.ensures.kept
+returns-in-Export-clause-kept g c =
+    let m = c.in-Some.machine in
+    let p = c.args.shared.now in
+    let q = c.ask_export.new in
+    both-ok c.ask_export.result
+    (λ (keeps : KeepsAsked g.J.Disk.tells g.J.Disk.meter g.J.Disk.image m p.export q.export) (part : IsExportPart c.args.by m q.machine (export_in p.export) (export_in q.export) p.log.events q.log.events).
+    let asks = ap call_asked part.1 in
+    Asks m part.0 c.in-Some.is asks (keeps part.0 asks) part.2.noted)
+    c.ask_export.ensures.kept c.ask_export.ensures.ok
 
 pub returns-in-Lock-clause-kept : goal.returns-in-Lock-clause-kept
-returns-in-Lock-clause-kept g c = c.open.ensures.kept
+returns-in-Lock-clause-kept g c =
+    let m = c.in-Some.machine in
+    let p = c.args.shared.now in
+    let q = c.open.new in
+    both-ok c.open.result
+    (λ (keeps : KeepsAsked g.J.Disk.tells g.J.Disk.meter g.J.Disk.image m p.export q.export) (part : IsOpenPart c.args.by m q.machine (export_in p.export) (export_in q.export) p.locks q.locks c.args.seat.now.lock q.held p.log.events q.log.events).
+    let asks = ap call_asked part.4 in
+    Asks m (call.Tree (tree.OpenFile part.0)) c.in-Some.is asks (keeps (call.Tree (tree.OpenFile part.0)) asks) part.5.1.noted)
+    c.open.ensures.kept c.open.ensures.ok
 
 pub returns-in-Node-clause-kept : goal.returns-in-Node-clause-kept
 returns-in-Node-clause-kept g c =
@@ -209,13 +225,13 @@ returns-in-Node-clause-kept g c =
     let q = c.message.new.shared in
     on_ok_weaker c.message.result
     (λ (sent : IsMessage c.args.by c.in-Node.node c.in-Node.ask c.in-Some.machine c.message.new.machine c.args.seat.now.miss c.message.new.miss p q).
-    store-keeps g.J.Disk.tells g.J.Disk.meter g.J.Disk.image p.export q.export sent.export p.log.events q.log.events (fate-stays sent.fate))
+    AsksNothing sent.export (fate-stays sent.fate))
     c.message.ensures.ok
 
 pub returns-in_ok-done-in-Say-clause-kept : goal.returns-in_ok-done-in-Say-clause-kept
 returns-in_ok-done-in-Say-clause-kept g c =
     let p = c.args.shared.now in
-    keeps-same g.J.Disk.tells g.J.Disk.meter g.J.Disk.image p.export p.log.events c.say.new.log.events
+    AsksNothing refl
     (said-stays-export p.log.earlier c.args.by c.args.seat.now.number c.in_ok-done-in-Say.done c.in-Some.machine c.say.new.machine p.log.events c.say.new.log.events c.in_ok-done-in-Say.ensures.ok)
 
 pub returns-in-Export-clause-ended : goal.returns-in-Export-clause-ended
@@ -227,13 +243,11 @@ returns-in-Lock-clause-ended g c = c.open.ensures.left
 pub returns-in-Node-clause-ended : goal.returns-in-Node-clause-ended
 returns-in-Node-clause-ended g c =
     let p = c.args.shared.now in
-    let q = c.message.new.shared in
-    on_err_weaker c.message.result (λ (same : q.log.events ≡ p.log.events).
-    store-ends g.J.Disk.tells g.J.Disk.meter g.J.Disk.image p.export q.export c.message.ensures.export p.log.events q.log.events same) c.message.ensures.err
+    let P : Type 0 = EndsOn g.J.Disk.tells g.J.Disk.meter g.J.Disk.image p.export c.message.new.shared.export in
+    on-err {P = P} c.message.result (ends-with-it g.J.Disk.tells g.J.Disk.meter g.J.Disk.image p.export c.message.new.shared.export c.message.ensures.export)
 
 pub returns-in_err-done-in-Say-clause-ended : goal.returns-in_err-done-in-Say-clause-ended
 returns-in_err-done-in-Say-clause-ended g c =
     let p = c.args.shared.now in
-    let h' = c.say.new.log.events in
-    let P : Type 0 = EndsOn g.J.Disk.tells g.J.Disk.meter g.J.Disk.image p.export p.log.events p.export h' in
-    on-err {P = P} c.from_residual.result (store-ends g.J.Disk.tells g.J.Disk.meter g.J.Disk.image p.export p.export refl p.log.events h' c.in_err-done-in-Say.ensures.err)
+    let P : Type 0 = EndsOn g.J.Disk.tells g.J.Disk.meter g.J.Disk.image p.export p.export in
+    on-err {P = P} c.from_residual.result (ends-with-it g.J.Disk.tells g.J.Disk.meter g.J.Disk.image p.export p.export refl)

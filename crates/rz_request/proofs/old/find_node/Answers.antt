@@ -1,5 +1,5 @@
 -- The clusters before held no such node, and this one holds it or does not.
-use Rattle.std.proofs.Common.{◌≡◌, ◌==◌, ℕ, ◌+◌, ◌++◌, Bool, Some, None, List, length, drop, get_or, sym, ◌∙◌, ap, subst, arith}
+use Rattle.std.proofs.Common.{◌≡◌, ◌==◌, ◌+◌, Bool, Some, None, List, length, drop, get_or, sym, ◌∙◌, ap, subst, arith}
 use Rattle.std.specs.List.{find}
 use Rattle.mj_angles.specs.Layout.{safe_of}
 use Rattle.rz_events.specs.Volume.{Cluster, IsCluster, IsNode, Volume, nodes_of}

@@ -3,15 +3,21 @@ use Rattle.std.specs.List.{AllByRecursion, AllZip}
 use Rattle.std.specs.Global.{Vec}
 use Rattle.std.proofs.lemmas.Slice.Zip.{AllZip-long}
 use Rattle.rz_events.specs.declared.events.Event.{Event}
+use Rattle.rz_chronicle.specs.Rules.{PassView}
 use Rattle.rz_crew.specs.Gathered.{IsHeld}
 use Rattle.rz_admin.proofs.Done.{begun-on, done-on}
 use Rattle.rz_staff.specs.Staff.{IsRoomFor, WantsNothing}
 use Rattle.rz_threads.specs.Played.{HasLost}
 use Rattle.rz_threads.proofs.Members.{and-both, begun-all, finished-all, lost-all, shown-all}
+use Rattle.rz_threads.proofs.Tallies.{same-actors}
 use Rattle.rz_threads.proofs.playing.play.Goals as goal
 
 pub dismiss-links-requires : goal.dismiss-links-requires
 dismiss-links-requires g c = record { room = subst (λ (n : ℕ). IsRoomFor n c.args.staff.room) (sym (AllZip-long _ _ _ c.at_work-members.ensures.worked)) c.args.staff.fits }
+
+pub returns-clause-held : goal.returns-clause-held
+returns-clause-held g c = λ are.
+    c.gather_up-front.ensures.words (ap (map (λ (p : PassView). p.actor)) c.dismiss-links.ensures.passes ∙ (same-actors g.L.Link.lost g.J.Naming.kind c.args.staff.members.items c.at_work-members.result.members.items c.at_work-members.ensures.worked ∙ are))
 
 pub returns-clause-begun : goal.returns-clause-begun
 returns-clause-begun g c =

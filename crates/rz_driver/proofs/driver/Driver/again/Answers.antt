@@ -2,14 +2,13 @@ use Rattle.std.proofs.Common.{arith, ◌≡◌, ◌<◌, ◌≤◌, ◌+◌, ◌
 use Rattle.std.proofs.lemmas.Result.{IfOk-weaker, IfErr-weaker}
 use Rattle.rz_events.specs.Volume.{nodes_of}
 use Rattle.rz_events.specs.declared.events.Event.{Event}
-use Rattle.rz_core.specs.History.{facts}
 use Rattle.rz_metadata.specs.Stands.{is_journaled}
 use Rattle.rz_opening.specs.Opened.{AreKept}
 use Rattle.rz_continuation.specs.Earlier.{IsEarlier, IsRestarted}
 use Rattle.rz_stations.specs.Images.{AreDisksImaged}
 use Rattle.rz_stations.specs.Meters.{faults_at}
-use Rattle.rz_driver.specs.Continued.{AreLeft, IsCauseAgain, IsOpenedAgain, IsOpenedOver, IsRefusedOver, StandsInLength}
-use Rattle.rz_driver.specs.Pictures.{AreBytes}
+use Rattle.rz_driver.specs.Continued.{AreLeft, IsCauseAgain, IsOpenedAgain, IsOpenedOver, IsRefusedOver}
+use Rattle.rz_driver.specs.Endings.{StandsForLog}
 use Rattle.rz_driver.specs.Worlds.{left_behind, IsDriver, Holds}
 use Rattle.rz_driver.proofs.AgainLemmas.{over-ready, over-again, over-held, over-untold, over-back, over-cause, journal-back, journal-cause, kept-same, split-same}
 use Rattle.rz_driver.proofs.BehindJournal.{front-count}
@@ -85,14 +84,14 @@ returns-in-Ok-open_journal-clause-held g c =
     let count = front-count disks nodes journal (length (nodes_of v.clusters)) c.in-Ok.ensures.split c.requires.count in
     let rules = c.open_nodes.ensures.rules in
     IfOk-weaker c.open_nodes.result (λ d. IsOpenedOver v export nodes d)
-    (λ d. IsTrue g.D.Disk.tells → (h : List Event) → IsEarlier v h → AreBytes (facts h) → AreLeft image v h disks
+    (λ d. IsTrue g.D.Disk.tells → (h : List Event) → IsEarlier v h → AreLeft image v h disks
     → (old : List Event) × IsRestarted v h old × Holds d (left_behind (faults_at g.D.Disk.meter disks) old))
-    (λ d over told h earlier bytes left.
+    (λ d over told h earlier left.
     let same = split-same left.nodes nodes left.journal journal (sym left.disks_are ∙ c.in-Ok.ensures.split) in
     let each = subst (λ (ds : List g.row.D.Denot). AreDisksImaged image v _ ds h) same.0 left.each in
-    let last = subst (λ (j : g.row.D.Denot). StandsInLength (image j) v h) same.1 left.last in
-    over-held v rules export nodes count d over disks journal c.in-Ok.ensures.split told g.met.D.Disk.text_is_image h earlier bytes each last c.in-Ok-open_journal.ensures.journal c.in-Ok-open_journal.ensures.volume
-    (c.in-Ok-open_journal.ensures.stands told) c.found.ensures c.all_told.ensures (c.goes_on.ensures v rules))
+    let last = subst (λ (j : g.row.D.Denot). StandsForLog (image j) v h) same.1 left.last in
+    over-held v rules export nodes count d over disks journal c.in-Ok.ensures.split told g.met.D.Disk.text_is_image h earlier left.bytes each last c.in-Ok-open_journal.ensures.journal c.in-Ok-open_journal.ensures.volume
+    (c.in-Ok-open_journal.ensures.stands told) c.found.ensures (c.goes_on.ensures v rules))
     c.open_nodes.ensures.opened
 
 pub returns-in-Ok-open_journal-clause-back : goal.returns-in-Ok-open_journal-clause-back

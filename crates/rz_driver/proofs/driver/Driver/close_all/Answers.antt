@@ -1,11 +1,10 @@
-use Rattle.std.proofs.Common.{◌++◌}
-use Rattle.rz_driver.specs.Journals.{journal_place}
-use Rattle.rz_driver.specs.Worlds.{numbers_in, tells-exactly}
+use Rattle.std.proofs.Common.{◌++◌, ◌∙◌, Option, ap}
+use Rattle.std.specs.Prelude.{option_to_list}
+use Rattle.rz_formatting.specs.Formatted.{disks_of}
+use Rattle.rz_driver.specs.Worlds.{numbers_in}
 use Rattle.rz_stations.proofs.MeterLemmas.{counted-disks}
-use Rattle.rz_driver.proofs.Closed.{has-few, left-imaged}
+use Rattle.rz_driver.proofs.Closed.{has-few, held-journal, left-imaged, left-journal, whole-disks}
 use Rattle.rz_driver.proofs.DriverMeters.{leaves-counted}
-use Rattle.rz_driver.proofs.JournalEndings.{stands-closed, ends-closed}
-use Rattle.rz_driver.proofs.JournalLemmas.{leaves-journal}
 use Rattle.rz_driver.proofs.driver.Driver.close_all.Goals as goal
 
 pub returns-clause-counted : goal.returns-clause-counted
@@ -19,13 +18,11 @@ returns-clause-imaged g c = λ b left told.
     left-imaged d b c.logged.ensures left told (has-few d b left c.close-log.ensures.short)
 
 pub returns-clause-stands : goal.returns-clause-stands
-returns-clause-stands g c = λ b disk held is told.
-    let d = c.args.self in
-    let journal = held.2 (tells-exactly d told) in
-    stands-closed g.D.Disk.tells g.D.Disk.meter g.D.Disk.image (b.counts (journal_place d)) d.volume (d.shared.log.events ++ b.log) d.shared.export disk journal.volume is journal.keeps told
+returns-clause-stands g c = λ b disk held is told. held-journal c.args.self b c.close-log.ensures.short held disk is told
 
 pub returns-clause-ends : goal.returns-clause-ends
-returns-clause-ends g c = λ b disk left exact is.
-    let d = c.args.self in
-    let journal = leaves-journal d b left exact in
-    ends-closed g.D.Disk.tells g.D.Disk.meter g.D.Disk.image (b.counts (journal_place d)) d.volume (d.shared.log.events ++ b.log) d.shared.export disk journal.volume is journal.ends
+returns-clause-ends g c = λ b disk left exact is. left-journal c.args.self b c.close-log.ensures.short left exact disk is
+
+pub returns-clause-left : goal.returns-clause-left
+returns-clause-left g c = λ b ended journaled told.
+    whole-disks c.args.self b c.close-log.ensures.short c.logged.ensures ended journaled told _ (c.hand_back_with.ensures ∙ ap (λ (o : Option g.row.D.Denot). disks_of c.args.self.shared.stations.items ++ option_to_list o) c.into_disk-journal.ensures)

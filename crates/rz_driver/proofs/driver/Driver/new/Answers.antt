@@ -6,8 +6,11 @@ use Rattle.rz_events.specs.Volume.{Volume, IsNode, nodes_of}
 use Rattle.rz_events.specs.declared.files.NodeSpec.{NodeSpec}
 use Rattle.rz_events.specs.declared.events.Event.{Event}
 use Rattle.rz_export_model.specs.Export.{Export}
-use Rattle.rz_asks.specs.Journals.{KeepsLog}
-use Rattle.rz_asks.proofs.Keeping.{keeps-first}
+use Rattle.rz_core.specs.History.{facts}
+use Rattle.rz_driver.specs.Journals.{KeepsLog}
+use Rattle.rz_driver.specs.Pictures.{AreBytes}
+use Rattle.rz_driver.proofs.ExportWords.{bytes-none}
+use Rattle.rz_driver.proofs.KeptCalls.{no-calls}
 use Rattle.rz_formatting.specs.Formatted.{AreFormatted, AreBack}
 use Rattle.rz_formatting.proofs.FormatLemmas.{untouched}
 use Rattle.rz_stations.proofs.MeterLemmas.{new-holds}
@@ -67,8 +70,9 @@ returns-in-Ok-format_all-clause-held g c =
           c.in-Ok.parts.volume c.in-Ok.ensures.volume,
       (λ exact. record {
         volume = ap (λ (s : Export). s.volume) c.in-Ok.ensures.export ∙ sym c.in-Ok.ensures.volume;
-        keeps = subst (λ (h : List Event). KeepsLog g.D.Disk.tells g.D.Disk.meter g.D.Disk.image at c.in-Ok.parts.export h) (sym none)
-            (keeps-first g.D.Disk.tells g.D.Disk.meter g.D.Disk.image at c.in-Ok.parts.export (c.in-Ok.ensures.stands at));
+        bytes = λ told. subst (λ (h : List Event). AreBytes (facts h)) (sym none) bytes-none;
+        keeps = λ few. subst (λ (h : List Event). KeepsLog g.D.Disk.tells g.D.Disk.meter g.D.Disk.image at c.in-Ok.parts.export h) (sym none)
+            ([], no-calls g.D.Disk.tells, c.in-Ok.ensures.stands at);
       }),
       record { anew = λ no. refl; short = omega arith },
     )

@@ -11,7 +11,7 @@ use Rattle.rz_stations.specs.Meters.{AreMetered, AreCounted, CarriesCounts}
 use Rattle.rz_stations.specs.Images.{KeepsRow, SparesRow, fused_image}
 use Rattle.rz_driver.specs.Worlds.{world, world_of, exact_if}
 use Rattle.rz_driver.proofs.DriverPictures.{order-holds, order-leaves}
-use Rattle.rz_driver.proofs.JournalLemmas.{goes-after, journal-stays, journal-still, arming-stays}
+use Rattle.rz_driver.proofs.JournalLemmas.{goes-after, journal-ordered, journal-still, arming-stays}
 use Rattle.rz_stations.proofs.PictureLemmas.{three-ok, three-err}
 use Rattle.rz_driver.proofs.NodeOrders.{arming-in, armed-ready, armed-world}
 use Rattle.rz_driver.proofs.driver.Driver.order_break.Goals as goal
@@ -50,7 +50,7 @@ returns-clause-held g c =
     let log = ap (λ (w : World). w.log) armed in
     let o = order-holds d xs ys c.as_mut_slice.ensures.value b held c.lasting.ensures next refl (e.Armed c.args.sid c.args.passes c.args.pick ∷ [], log) keeps
     (λ told rules fine. c.lined.ensures d.volume rules b.log (line.Break c.args.sid c.args.passes c.args.pick) c.requires.line (behind b.log (world_of d)) (behind b.log next) (ap (behind b.log) armed) fine) holds in
-    (o.0, o.1, journal-stays d _ refl c.arm_node.ensures.earlier refl b held.2 (arming-stays c.args.sid c.args.passes c.args.pick h h' log), goes-after d _ c.arm_node.ensures.earlier b held.3))
+    (o.0, o.1, journal-ordered d _ refl c.arm_node.ensures.earlier refl b held.2 (c.untold.ensures d.volume) held.1 (e.Armed c.args.sid c.args.passes c.args.pick ∷ [], log) (arming-stays c.args.sid c.args.passes c.args.pick h h' log), goes-after d _ c.arm_node.ensures.earlier b held.3))
     c.arm_node.ensures.held c.arm_node.ensures.pictured (returns-clause-armed g c)
 
 pub returns-clause-left : goal.returns-clause-left

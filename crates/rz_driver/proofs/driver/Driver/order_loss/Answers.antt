@@ -12,7 +12,7 @@ use Rattle.rz_stations.specs.Meters.{AreMetered, AreCounted, CarriesCounts}
 use Rattle.rz_stations.specs.Images.{KeepsRow, SparesRow, fused_image}
 use Rattle.rz_driver.specs.Worlds.{world, world_of, exact_if}
 use Rattle.rz_driver.proofs.DriverPictures.{order-holds, order-leaves}
-use Rattle.rz_driver.proofs.JournalLemmas.{goes-after, journal-stays, journal-still, order-stays}
+use Rattle.rz_driver.proofs.JournalLemmas.{goes-after, journal-ordered, journal-still, order-stays}
 use Rattle.rz_stations.proofs.PictureLemmas.{noted-grows, three-ok, three-err}
 use Rattle.rz_driver.proofs.NodeOrders.{admin-behind, called-of, ordered-in, called-ready, admin-call}
 use Rattle.rz_driver.proofs.driver.Driver.order_loss.Goals as goal
@@ -51,7 +51,7 @@ returns-clause-held g c =
     let log = ap (λ (w : World). w.log) called.next_is in
     let o = order-holds d xs ys c.as_mut_slice.ensures.value b held c.lasting.ensures next refl (noted-grows _ h h' log) keeps
     (λ told rules fine. c.lined.ensures d.volume rules b.log (line.Lose c.args.sid) c.requires.line (behind b.log (world_of d)) (behind b.log next) (admin-behind b.log d.volume c.args.sid ask.Lose (world_of d) next called) fine) holds in
-    (o.0, o.1, journal-stays d _ refl c.lose_node.ensures.earlier refl b held.2 (order-stays c.args.sid ask.Lose called.given h h' log), goes-after d _ c.lose_node.ensures.earlier b held.3))
+    (o.0, o.1, journal-ordered d _ refl c.lose_node.ensures.earlier refl b held.2 (c.untold.ensures d.volume) held.1 (noted-grows _ h h' log) (order-stays c.args.sid ask.Lose called.given h h' log), goes-after d _ c.lose_node.ensures.earlier b held.3))
     c.lose_node.ensures.held c.lose_node.ensures.pictured (returns-clause-called g c)
 
 pub returns-clause-left : goal.returns-clause-left

@@ -11,7 +11,7 @@ use Rattle.rz_stations.specs.Meters.{AreMetered, AreCounted, CarriesCounts}
 use Rattle.rz_stations.specs.Images.{KeepsRow, SparesRow, fused_image}
 use Rattle.rz_driver.specs.Worlds.{world, world_of, exact_if}
 use Rattle.rz_driver.proofs.DriverPictures.{order-holds, order-leaves}
-use Rattle.rz_driver.proofs.JournalLemmas.{goes-after, journal-stays, journal-still, started-stays}
+use Rattle.rz_driver.proofs.JournalLemmas.{goes-after, journal-ordered, journal-still, started-stays}
 use Rattle.rz_stations.proofs.PictureLemmas.{both-ok, noted-grows, three-ok, three-err}
 use Rattle.rz_driver.proofs.NodeOrders.{admin-behind, ordered-in, started-in, called-in, called-ready, admin-call, free-start, start-over}
 use Rattle.rz_driver.proofs.driver.Driver.order_start.Goals as goal
@@ -57,7 +57,7 @@ returns-clause-held g c =
     let o = order-holds d xs ys c.as_mut_slice.ensures.value b held c.lasting.ensures next refl (noted-grows orders.1.event h h' orders.1.log_is) keeps
     (λ told rules fine. c.lined.ensures d.volume rules b.log (line.Start c.args.sid) c.requires.line (behind b.log (world_of d)) (behind b.log next)
     (admin-behind b.log d.volume c.args.sid ask.Start (world_of d) next (admin-call d c.requires.ready q refl refl ask.Start c.args.sid (ordered-in ask.Start c.args.sid d.shared.stations xs ys h h' c.as_mut_slice.ensures.value (orders.0 told)))) fine) holds in
-    (o.0, o.1, journal-stays d _ refl c.start_node.ensures.earlier refl b held.2 (started-stays c.args.sid xs ys h h' orders.1), goes-after d _ c.start_node.ensures.earlier b held.3))
+    (o.0, o.1, journal-ordered d _ refl c.start_node.ensures.earlier refl b held.2 (c.untold.ensures d.volume) held.1 (noted-grows orders.1.event h h' orders.1.log_is) (started-stays c.args.sid xs ys h h' orders.1), goes-after d _ c.start_node.ensures.earlier b held.3))
     c.start_node.ensures.held c.start_node.ensures.pictured orders
 
 pub returns-clause-left : goal.returns-clause-left

@@ -2,7 +2,7 @@ use Rattle.std.proofs.Common.{◌≡◌, ◌+◌, true, inl, inr, List, ◌++◌
 use Rattle.rz_events.specs.declared.events.Event.{Event}
 use Rattle.rz_driver.specs.declared.driver.Driver.{Driver}
 use Rattle.rz_driver.specs.Worlds.{exact_if, is_exact, tells-exactly, IsDriver, Holds}
-use Rattle.rz_driver.proofs.DriverPictures.{turn-picture, turn-texts, turn-spares, right-disks, still-right, still-counted}
+use Rattle.rz_driver.proofs.DriverPictures.{turn-lengths, turn-picture, turn-texts, turn-spares, right-disks, still-right, still-counted}
 use Rattle.rz_driver.proofs.DriverMeters.{log-kept}
 use Rattle.rz_driver.proofs.JournalLemmas.{goes-after, journal-goes-on, journal-ends, journal-still}
 use Rattle.rz_stations.proofs.PictureLemmas.{on-err}
@@ -84,7 +84,10 @@ returns-clause-held g c = λ b met.
       turn-picture c.args.by c.in-Some.place _ c.args.self.now c.self.view_is c.make_room.new.self a0 c.take_up.new.self at there.0 c.in_ok-take_up.ensures.seat.machine
           c.in_ok-take_up.ensures.ok c.make_room.ensures.same c.in_ok-take_up.ensures.hand c.working.ensures b.log c.act.new.seat _ c.act.new.shared.stations.items c.turned.ensures c.facts_told.ensures c.lasting.ensures
           (λ told. turn (tells-exactly c.args.self.now told)) c.in_ok-act.ensures.pictured (grown.0, grown.1 ∙ ap (λ (k : List Event). grown.0 ++ k) c.make_room.ensures.same) met.1,
-      (λ now. journal-goes-on _ _ refl (c.act.ensures.earlier ∙ c.make_room.ensures.earlier) c.act.ensures.store b c.make_room.new.self.events c.make_room.ensures.same here.2 now c.in_ok-act.ensures.kept),
+      (λ now. journal-goes-on _ _ refl (c.act.ensures.earlier ∙ c.make_room.ensures.earlier) c.act.ensures.store b c.make_room.new.self.events c.make_room.ensures.same here.2 now here.1 grown (c.told.ensures _) (c.untold.ensures _) c.args.by c.take_up.new.self.machine
+          (turn-lengths c.args.by c.in-Some.place _ c.args.self.now c.self.view_is c.make_room.new.self a0 c.take_up.new.self at there.0 c.in_ok-take_up.ensures.seat.machine
+          c.in_ok-take_up.ensures.ok c.make_room.ensures.same c.in_ok-take_up.ensures.hand c.working.ensures b.log c.own_proper.ensures here.1)
+          c.in_ok-act.ensures.kept),
       goes-after _ _ (c.act.ensures.earlier ∙ c.make_room.ensures.earlier) b here.3,
     )
 
@@ -126,6 +129,6 @@ returns-in_err-act-clause-left g c = on-err c.from_residual-in_err-act.result (�
     inr (
       counted,
       right-disks _ c.args.self.now c.self.view_is c.act.new.shared.log.events (c.in_err-act.ensures.err ∙ c.make_room.ensures.same) b met ys (counted.named ∙ sym here.0.named) spares,
-      (λ now. journal-ends _ _ refl (c.act.ensures.earlier ∙ c.make_room.ensures.earlier) c.act.ensures.store b c.make_room.new.self.events c.make_room.ensures.same here.2 now c.in_err-act.ensures.ended),
+      (λ now. journal-ends _ _ refl (c.act.ensures.earlier ∙ c.make_room.ensures.earlier) c.act.ensures.store b c.make_room.new.self.events c.make_room.ensures.same here.2 now c.in_err-act.ensures.err c.in_err-act.ensures.ended),
       goes-after _ _ (c.act.ensures.earlier ∙ c.make_room.ensures.earlier) b here.3,
     ))

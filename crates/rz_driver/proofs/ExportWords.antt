@@ -1,0 +1,117 @@
+-- The events of the export's word, and the texts of the writes that begin, which stand in it alone.
+use Rattle.std.proofs.Common.{◌≡◌, ℕ, Bool, true, false, cond, ◌==◌, ◌<◌, List, [], ◌∷◌, ◌++◌, Option, Some, None, IfSome, refl, sym, ◌∙◌, ap, subst}
+use Rattle.std.specs.List.{All}
+use Rattle.std.proofs.lemmas.List.Elements.{filter-append}
+use Rattle.rz_events.specs.declared.keys.Actor.{Actor}
+use Rattle.rz_events.specs.declared.keys.Key.{Key}
+use Rattle.rz_events.specs.declared.export.Call.{Call}
+use Rattle.rz_events.specs.declared.export.Call.TheVariants as call
+use Rattle.rz_events.specs.declared.export.Reply.{Reply}
+use Rattle.rz_events.specs.declared.export.Reply.TheVariants as reply
+use Rattle.rz_events.specs.declared.events.Word.TheVariants.{Export, Node, Own}
+use Rattle.rz_events.specs.declared.events.Event.{Event}
+use Rattle.rz_events.specs.declared.events.Event.TheVariants as e
+use Rattle.rz_events.specs.Events.{word_of, same_word}
+use Rattle.rz_export_model.specs.ExportEvents.{export_event}
+use Rattle.rz_core.specs.History.{Begun, facts, wrote, begun_by, first_some, of_word}
+use Rattle.rz_core.proofs.NodeSteps.{the_some}
+use Rattle.rz_play.specs.Lines.{noted}
+use Rattle.rz_play_laws.proofs.Events.{export-event}
+use Rattle.rz_asks.specs.Journals.{HasBytes}
+use Rattle.rz_driver.specs.Pictures.{AreBytes}
+
+-- ---- one event more
+
+in-word : (x : Event) (h : List Event) (b : Bool) → same_word Export (word_of x) ≡ b → of_word Export (x ∷ h) ≡ cond b (x ∷ of_word Export h) (of_word Export h)
+in-word x h b is = ap (λ b. cond b (x ∷ of_word Export h) (of_word Export h)) is
+
+-- the event of a reply is one of them
+pub word-grows : (by : Actor) (c : Call) (r : Reply) (x : Event) (h : List Event) → export_event by c r ≡ Some x → of_word Export (x ∷ h) ≡ x ∷ of_word Export h
+word-grows by c r x h is = in-word x h true (ap (same_word Export) (export-event by c r x is).word_is)
+
+-- Those of other words are not.
+
+pub node-stays : (n : ℕ) (x : Event) (h : List Event) → word_of x ≡ Node n → of_word Export (x ∷ h) ≡ of_word Export h
+node-stays n x h word = in-word x h false (ap (same_word Export) word)
+
+pub own-stays : (by : Actor) (x : Event) (h : List Event) → word_of x ≡ Own by → of_word Export (x ∷ h) ≡ of_word Export h
+own-stays by x h word = in-word x h false (ap (same_word Export) word)
+
+pub noted-stays : (n : ℕ) (o : Option Event) (h : List Event) → IfSome o (λ x. word_of x ≡ Node n) → of_word Export (noted o h) ≡ of_word Export h
+noted-stays n None h word = refl
+noted-stays n (Some x) h word = node-stays n x h word
+
+-- ---- behind an earlier log
+
+word-behind : (log old : List Event) → of_word Export (log ++ old) ≡ of_word Export log ++ of_word Export old
+word-behind log old = filter-append (λ x. same_word Export (word_of x)) log old
+
+pub same-behind : (log log2 old : List Event) → of_word Export log2 ≡ of_word Export log → of_word Export (log2 ++ old) ≡ of_word Export (log ++ old)
+same-behind log log2 old same = word-behind log2 old ∙ ap (λ (h : List Event). h ++ of_word Export old) same ∙ sym (word-behind log old)
+
+-- ---- the texts of writes
+
+none-begun : {A : Type 0} (b : Begun) → None ≡ Some b → A
+none-begun b is = absurd (cc)
+
+-- only the export's word has writes that begin
+not-begun : (s : ℕ) (x : Event) → same_word Export (word_of x) ≡ false → begun_by s x ≡ None
+not-begun s (e.Begin by key stamp base text) is = absurd cc
+not-begun s _ is = refl
+
+first-none : (o : Option Begun) (p : Option Begun) → p ≡ None → first_some o p ≡ o
+first-none None p none = none
+first-none (Some b) p none = refl
+
+wrote-export : (h : List Event) (s : ℕ) → wrote (of_word Export h) s ≡ wrote h s
+wrote-export [] s = refl
+wrote-export (x ∷ h) s = go (same_word Export (word_of x)) refl (wrote-export h s)
+  where
+    go : (b : Bool) → same_word Export (word_of x) ≡ b → wrote (of_word Export h) s ≡ wrote h s → wrote (cond b (x ∷ of_word Export h) (of_word Export h)) s ≡ first_some (wrote h s) (begun_by s x)
+    go true is rest = ap (λ (o : Option Begun). first_some o (begun_by s x)) rest
+    go false is rest = rest ∙ sym (first-none (wrote h s) (begun_by s x) (not-begun s x is))
+
+-- a log with the same events of the export
+pub bytes-same : (h h' : List Event) → of_word Export h' ≡ of_word Export h → AreBytes (facts h) → AreBytes (facts h')
+bytes-same h h' same bytes s b is = bytes s b (sym (wrote-export h s) ∙ ap (λ (w : List Event). wrote w s) (sym same) ∙ wrote-export h' s ∙ is)
+
+pub bytes-none : AreBytes (facts [])
+bytes-none s b is = none-begun b is
+
+-- if an event begins a write, the text is of bytes
+abbrev pub BeginsBytes : Event → Type 0
+BeginsBytes x = (s : ℕ) (b : Begun) → begun_by s x ≡ Some b → All (λ x. x < 256) b.text
+
+by-stamp : (by : Actor) (key : Key) (stamp base : ℕ) (text : List ℕ) → All (λ x. x < 256) text → (s : ℕ) (b : Begun) (same : Bool) → cond same (Some (record { by = by; key = key; base = base; text = text })) None ≡ Some b → All (λ x. x < 256) b.text
+by-stamp by key stamp base text bytes s b true is = let it : record { by = by; key = key; base = base; text = text } ≡ b = cc in subst (λ (w : Begun). All (λ x. x < 256) w.text) it bytes
+by-stamp by key stamp base text bytes s b false is = none-begun b is
+
+pub event-bytes : (by : Actor) (c : Call) (r : Reply) (x : Event) → HasBytes c → export_event by c r ≡ Some x → BeginsBytes x
+event-bytes by (call.Tree c) (reply.Tree r) x bytes is = subst BeginsBytes (the_some _ x is) (λ s b no. none-begun b no)
+event-bytes by (call.Tree c) (_) x bytes is = absurd cc
+event-bytes by (call.Begin key text) (reply.Begun stamp base) x bytes is = subst BeginsBytes (the_some _ x is) (λ s b begun. by-stamp by key stamp base text bytes s b (s == stamp) begun)
+event-bytes by (call.Begin key text) (reply.Denied why) x bytes is = subst BeginsBytes (the_some _ x is) (λ s b no. none-begun b no)
+event-bytes by (call.Begin key text) (_) x bytes is = absurd cc
+event-bytes by (call.Publish key stamp mask size) reply.Accepted x bytes is = subst BeginsBytes (the_some _ x is) (λ s b no. none-begun b no)
+event-bytes by (call.Publish key stamp mask size) (reply.Enrolled p fence) x bytes is = subst BeginsBytes (the_some _ x is) (λ s b no. none-begun b no)
+event-bytes by (call.Publish key stamp mask size) (reply.Revoked later) x bytes is = subst BeginsBytes (the_some _ x is) (λ s b no. none-begun b no)
+event-bytes by (call.Publish key stamp mask size) (reply.Denied why) x bytes is = subst BeginsBytes (the_some _ x is) (λ s b no. none-begun b no)
+event-bytes by (call.Publish key stamp mask size) (_) x bytes is = absurd cc
+event-bytes by (call.Look key) (reply.Looked p) x bytes is = subst BeginsBytes (the_some _ x is) (λ s b no. none-begun b no)
+event-bytes by (call.Look key) (reply.Denied why) x bytes is = subst BeginsBytes (the_some _ x is) (λ s b no. none-begun b no)
+event-bytes by (call.Look key) (_) x bytes is = absurd cc
+event-bytes by (call.Recheck key) (reply.Looked p) x bytes is = subst BeginsBytes (the_some _ x is) (λ s b no. none-begun b no)
+event-bytes by (call.Recheck key) (reply.Denied why) x bytes is = subst BeginsBytes (the_some _ x is) (λ s b no. none-begun b no)
+event-bytes by (call.Recheck key) (_) x bytes is = absurd cc
+event-bytes by (call.Enroll node loss) (reply.Fence fence) x bytes is = subst BeginsBytes (the_some _ x is) (λ s b no. none-begun b no)
+event-bytes by (call.Enroll node loss) (reply.Denied why) x bytes is = subst BeginsBytes (the_some _ x is) (λ s b no. none-begun b no)
+event-bytes by (call.Enroll node loss) (_) x bytes is = absurd cc
+event-bytes by (call.Next node after) (reply.Listed l) x bytes is = subst BeginsBytes (the_some _ x is) (λ s b no. none-begun b no)
+event-bytes by (call.Next node after) (_) x bytes is = absurd cc
+
+first-bytes : (old : Option Begun) (x : Event) (s : ℕ) (b : Begun) → ((c : Begun) → old ≡ Some c → All (λ x. x < 256) c.text) → BeginsBytes x → first_some old (begun_by s x) ≡ Some b → All (λ x. x < 256) b.text
+first-bytes None x s b before now is = now s b is
+first-bytes (Some c) x s b before now is = before b is
+
+pub bytes-more : (x : Event) (h : List Event) → AreBytes (facts h) → BeginsBytes x → AreBytes (facts (x ∷ h))
+bytes-more x h bytes now s b is = first-bytes (wrote h s) x s b (bytes s) now is
