@@ -37,16 +37,16 @@ pub new-requires-clause-counts : goal.new-requires-clause-counts
 new-requires-clause-counts g c = subst (λ (v : Volume). map g.J.Counting.first (sids_of v) ≡ map (λ d. faults (g.D.Disk.meter d)) c.args.disks.items) (sym c.requires.volume) c.requires.counts
 
 pub play-front-requires-clause-volume : goal.play-front-requires-clause-volume
-play-front-requires-clause-volume g c = c.requires.known ∙ sym (volume-is c.read_back.ensures g.J.Naming.kind c.args.script.now.volume c.requires.kind)
+play-front-requires-clause-volume g c κs within = c.requires.known ∙ sym (volume-is c.read_back.ensures g.J.Naming.kind c.args.script.now.volume c.requires.kind)
 
 pub play-front-requires-clause-ready : goal.play-front-requires-clause-ready
-play-front-requires-clause-ready g c = ready-all g.J.Naming.kind c.args.script.now.lines (map new_pass actors) c.args.cast.staff.members.items c.requires.staffed
+play-front-requires-clause-ready g c κs within = ready-all g.J.Naming.kind c.args.script.now.lines (map new_pass actors) c.args.cast.staff.members.items c.requires.staffed
 
 pub play-front-requires-clause-admin : goal.play-front-requires-clause-admin
-play-front-requires-clause-admin g c = ap (λ (p : PassView). p.actor) c.requires.admin
+play-front-requires-clause-admin g c κs within = ap (λ (p : PassView). p.actor) c.requires.admin
 
 pub play-front-requires-clause-lines : goal.play-front-requires-clause-lines
-play-front-requires-clause-lines g c =
+play-front-requires-clause-lines g c κs within =
     let at = volume-is c.read_back.ensures g.J.Naming.kind c.args.script.now.volume c.requires.kind in
     subst (λ (ls : List Line). AreLines (volume_in g.J.Naming.kind) ls) (sym c.lines.ensures.value) (subst (λ (v : Volume). AreLines v c.args.script.now.lines) (sym at) c.lines.ensures.limits)
 

@@ -14,16 +14,16 @@ use Rattle.rz_run.proofs.Told.{honest-is, kind-is, lacking}
 use Rattle.rz_run.proofs.running.play_script.Goals as goal
 
 pub play_book-requires-clause-kind : goal.play_book-requires-clause-kind
-play_book-requires-clause-kind g c =
+play_book-requires-clause-kind g c κs within =
     kind-is c.read_back.ensures c.args.honest c.args.script.now.volume c.in-Ok.opened.hand.kind (c.in-Ok.ensures ∙ ap (kind_of c.args.honest) c.volume-volume.ensures)
 
 pub play_book-requires-clause-tells : goal.play_book-requires-clause-tells
-play_book-requires-clause-tells g c =
+play_book-requires-clause-tells g c κs within =
     let same = honest-is c.read_back.ensures c.args.honest c.args.script.now.volume c.in-Ok.opened.hand.kind (c.in-Ok.ensures ∙ ap (kind_of c.args.honest) c.volume-volume.ensures) in
     subst (λ (b : Bool). IsTrue b → IsTrue g.D.Disk.tells) (sym same) c.requires.tells
 
 pub play_book-requires-clause-counts : goal.play_book-requires-clause-counts
-play_book-requires-clause-counts g c =
+play_book-requires-clause-counts g c κs within =
     let v : Volume = c.args.script.now.volume in
     let distinct = subst (λ (u : Volume). IsDistinct nat_eq (sids_of u)) c.volume-volume.ensures c.node_count-rules.ensures.rules.distinct_sids in
     let same : length (sids_of v) ≡ length (map (λ d. faults (g.D.Disk.meter d)) c.args.disks.items) =

@@ -6,7 +6,7 @@ use Rattle.rz_run.proofs.Asked.{run-fits}
 use Rattle.rz_run.proofs.running.run.Goals as goal
 
 pub play_script-requires-clause-count : goal.play_script-requires-clause-count
-play_script-requires-clause-count g c =
+play_script-requires-clause-count g c κs within =
     let source : Reading = record {
       before = g.I.Source.left c.args.input.now;
       after = g.I.Source.left c.run_script.new.input;
