@@ -24,3 +24,4 @@ mod telling;
 
 pub use outcome::Ran;
 pub use running::run;
+pub use telling::refuse_disks;

@@ -21,7 +21,7 @@ use std::sync::Wait;
 pub(crate) const NO_MEMORY: u8 = 70;
 
 /// Writes why the disks were not formatted, and gives the status.
-pub(crate) fn refuse_disks<O: Sink>(alloc: Global, fault: DriverFault, output: &mut O) -> u8
+pub fn refuse_disks<O: Sink>(alloc: Global, fault: DriverFault, output: &mut O) -> u8
     ensures { Fails fault (record { before = O.taken output.old; after = O.taken output.new; old = O.faults output.old; new = O.faults output.new }) result }
 {
     match fault {
