@@ -1,12 +1,13 @@
-//! The program `rozo`: it plays a script over a store whose disks lie in memory or in files, and prints
-//! what came of each operation; or it carries an old disk of a node over onto a new one.
+//! The program `rozo`: it plays a script over a store whose disks lie in memory or in files, in one thread or
+//! in many, and prints what came of each operation; or it carries an old disk of a node over onto a new one.
 //!
 //! The contract of `replay` says which status comes when, that the source was read to its end, that the
 //! log is that of the script's play and what it says is true, which bytes the sink took, that the disks are
 //! back in their order, and that their counts of faults go with the faults in the log. Of an old disk it
 //! says that it is as it was, and what stands on the new one. Of the disk of a journal it says for which
 //! calls it stands. It does not say what a real file or a terminal holds, or that memory is there, whose
-//! want is status 70.
+//! want is status 70. The command `run` is `run` of `rz_run`, whose contract says as much of the one log that
+//! all threads write.
 //!
 //! In reading order: `replay`, `migrating`, `disks`.
 #![tactic(auto)]
@@ -15,7 +16,11 @@ mod disks;
 mod migrating;
 mod replay;
 #[cfg(test)]
+mod running;
+#[cfg(test)]
 mod tests;
+
+ghost use Rattle.std.specs.Prelude.{◌≡◌, IfOk, IsTrue, length};
 
 use disks::{FilesFault, files, memory};
 use replay::replay;
@@ -25,6 +30,8 @@ use rz_link::PlainLink;
 use rz_perform::refuse;
 use rz_ports::{StdSink, StdSource};
 use rz_request::Refusal;
+use rz_run::run;
+use std::alloc::{AllocError, Global};
 use std::io::ErrorKind;
 use std::process::ExitCode;
 use std::{env, io};
@@ -41,8 +48,42 @@ fn words_of(rt: &HostRuntime) -> io::Result<Vec<String>> {
     Ok(words)
 }
 
-/// Plays what the words ask for, and gives the status.
-fn play<D: Disk>(rt: &HostRuntime, words: &[String], mut disks: Vec<D>) -> u8 {
+/// A link for each client and each rebuilder.
+fn links(alloc: Global) -> Result<Vec<PlainLink>, AllocError>
+    ensures { IfOk result (λ links. length links.items ≡ 80) }
+{
+    vec![in alloc; PlainLink::new(); 80]
+}
+
+/// Plays on threads what the words ask for, and gives the status.
+fn play_on_threads<D: Disk + Send>(
+    rt: &HostRuntime,
+    words: &[String],
+    disks: Vec<D>,
+    honest: bool,
+) -> u8
+    requires tells { IsTrue honest → IsTrue D.tells }
+{
+    let Ok(links) = links(rt.alloc()) else {
+        return NO_MEMORY;
+    };
+    let mut input = StdSource::new(rt.reader());
+    let mut output = StdSink::new(io::writer(rt));
+    let ran = run(
+        rt,
+        rt.alloc(),
+        words,
+        &mut input,
+        &mut output,
+        disks,
+        links,
+        honest,
+    );
+    ran.status
+}
+
+/// Plays in turns what the words ask for, and gives the status.
+fn play_in_turns<D: Disk>(rt: &HostRuntime, words: &[String], mut disks: Vec<D>) -> u8 {
     let mut input = StdSource::new(rt.reader());
     let mut output = StdSink::new(io::writer(rt));
     let mut link = PlainLink::new();
@@ -57,10 +98,26 @@ fn play<D: Disk>(rt: &HostRuntime, words: &[String], mut disks: Vec<D>) -> u8 {
     played.status
 }
 
-/// Plays over disks in memory.
-fn play_in_memory(rt: &HostRuntime, words: &[String], count: u16) -> u8 {
+/// Plays what the words ask for, and gives the status.
+fn play<D: Disk + Send>(
+    rt: &HostRuntime,
+    words: &[String],
+    command: Command,
+    disks: Vec<D>,
+    honest: bool,
+) -> u8
+    requires tells { IsTrue honest → IsTrue D.tells }
+{
+    match command {
+        Command::Run => play_on_threads(rt, words, disks, honest),
+        _ => play_in_turns(rt, words, disks),
+    }
+}
+
+/// Plays over disks in memory, which tell what they hold.
+fn play_in_memory(rt: &HostRuntime, words: &[String], command: Command, count: u16) -> u8 {
     match memory(rt.alloc(), count) {
-        Ok(disks) => play(rt, words, disks),
+        Ok(disks) => play(rt, words, command, disks, true),
         Err(_) => NO_MEMORY,
     }
 }
@@ -81,14 +138,14 @@ fn kept(command: Command, disks: u16) -> u16 {
     }
 }
 
-/// Plays over the disks that the words want.
+/// Plays over the disks that the words want. Nobody knows what a file holds.
 fn play_wanted(rt: &HostRuntime, words: &[String], wanted: &Wanted) -> u8 {
     let Some(folder) = &wanted.folder else {
-        return play_in_memory(rt, words, wanted.disks);
+        return play_in_memory(rt, words, wanted.command, wanted.disks);
     };
     let kept = kept(wanted.command, wanted.disks);
     match files(rt, rt.alloc(), folder.as_str(), kept, wanted.disks) {
-        Ok(disks) => play(rt, words, disks),
+        Ok(disks) => play(rt, words, wanted.command, disks, false),
         Err(FilesFault::Unopened { index }) => refuse_file(rt, index),
         Err(FilesFault::NoMemory) => NO_MEMORY,
     }
@@ -98,7 +155,7 @@ fn play_wanted(rt: &HostRuntime, words: &[String], wanted: &Wanted) -> u8 {
 fn perform(rt: &HostRuntime, words: &[String]) -> u8 {
     match wanted(rt.alloc(), words) {
         Ok(wanted) => play_wanted(rt, words, &wanted),
-        Err(WordsError::Usage) => play_in_memory(rt, words, 0),
+        Err(WordsError::Usage) => play_in_memory(rt, words, Command::Replay, 0),
         Err(WordsError::NoMemory) => NO_MEMORY,
     }
 }

@@ -65,7 +65,7 @@ end 11
 ";
 
 /// The words between single spaces.
-fn words_of(alloc: Global, line: &str) -> Result<Vec<String>, AllocError> {
+pub(super) fn words_of(alloc: Global, line: &str) -> Result<Vec<String>, AllocError> {
     let mut words = Vec::new(alloc);
     for word in line.split(' ') {
         words.push(String::from_str(alloc, word)?)?;
@@ -371,7 +371,7 @@ fn what_a_scrub_finds(rt: HostRuntime) -> Result<(), Fail> {
 const FOLDER: &str = "rozo_program_test";
 
 /// All that a read of a disk gives.
-fn bytes_of<D: Disk>(alloc: Global, disk: &mut D) -> Result<Vec<u8>, Fail> {
+pub(super) fn bytes_of<D: Disk>(alloc: Global, disk: &mut D) -> Result<Vec<u8>, Fail> {
     let mut bytes = vec![in alloc; 0; disk.size() as usize]?;
     disk.read(0, &mut bytes)?;
     Ok(bytes)
