@@ -52,7 +52,7 @@ c1 3 data 2 4 x:61626364
 end 38
 ";
 
-const WRITTEN: &str = "op c1 create /f\nop c1 put /f 0 t:hello\nrest\n";
+pub(super) const WRITTEN: &str = "op c1 create /f\nop c1 put /f 0 t:hello\nrest\n";
 
 const WRITTEN_TOLD: &str = "0 with 4 disks: c1 1 created 00000000-0000-0000-0000-000000000001
 c1 2 acked 1 1110
@@ -65,7 +65,7 @@ end 11
 ";
 
 /// The words between single spaces.
-fn words_of(alloc: Global, line: &str) -> Result<Vec<String>, AllocError> {
+pub(super) fn words_of(alloc: Global, line: &str) -> Result<Vec<String>, AllocError> {
     let mut words = Vec::new(alloc);
     for word in line.split(' ') {
         words.push(String::from_str(alloc, word)?)?;
@@ -74,7 +74,7 @@ fn words_of(alloc: Global, line: &str) -> Result<Vec<String>, AllocError> {
 }
 
 /// The status, how many disks are back, and what was written.
-fn told<D: Disk>(
+pub(super) fn told<D: Disk>(
     alloc: Global,
     line: &str,
     script: &str,
@@ -139,7 +139,7 @@ fn a_message_or_a_disk_fails(rt: HostRuntime) -> Result<(), Fail> {
     Ok(())
 }
 
-const FIRST: &str = "rozo first --disks 5";
+pub(super) const FIRST: &str = "rozo first --disks 5";
 
 const FIRST_TOLD: &str = "0 with 5 disks: c1 1 created 00000000-0000-0000-0000-000000000001
 c1 2 acked 1 1110
@@ -182,7 +182,7 @@ fn a_journal_beside_the_nodes(rt: HostRuntime) -> Result<(), Fail> {
     Ok(())
 }
 
-const AGAIN: &str = "rozo again --disks 5";
+pub(super) const AGAIN: &str = "rozo again --disks 5";
 
 const NEXT: &str = "op c1 get /f 0\nop c1 put /f 0 t:next\nrest\n";
 
@@ -371,7 +371,7 @@ fn what_a_scrub_finds(rt: HostRuntime) -> Result<(), Fail> {
 const FOLDER: &str = "rozo_program_test";
 
 /// All that a read of a disk gives.
-fn bytes_of<D: Disk>(alloc: Global, disk: &mut D) -> Result<Vec<u8>, Fail> {
+pub(super) fn bytes_of<D: Disk>(alloc: Global, disk: &mut D) -> Result<Vec<u8>, Fail> {
     let mut bytes = vec![in alloc; 0; disk.size() as usize]?;
     disk.read(0, &mut bytes)?;
     Ok(bytes)
