@@ -12,8 +12,12 @@
 //! In reading order: `replay`, `migrating`, `disks`.
 #![tactic(auto)]
 
+#[cfg(test)]
+mod damage;
 mod disks;
 mod migrating;
+#[cfg(test)]
+mod outages;
 mod replay;
 #[cfg(test)]
 mod running;

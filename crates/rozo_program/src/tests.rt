@@ -52,7 +52,7 @@ c1 3 data 2 4 x:61626364
 end 38
 ";
 
-const WRITTEN: &str = "op c1 create /f\nop c1 put /f 0 t:hello\nrest\n";
+pub(super) const WRITTEN: &str = "op c1 create /f\nop c1 put /f 0 t:hello\nrest\n";
 
 const WRITTEN_TOLD: &str = "0 with 4 disks: c1 1 created 00000000-0000-0000-0000-000000000001
 c1 2 acked 1 1110
@@ -74,7 +74,7 @@ pub(super) fn words_of(alloc: Global, line: &str) -> Result<Vec<String>, AllocEr
 }
 
 /// The status, how many disks are back, and what was written.
-fn told<D: Disk>(
+pub(super) fn told<D: Disk>(
     alloc: Global,
     line: &str,
     script: &str,
@@ -139,7 +139,7 @@ fn a_message_or_a_disk_fails(rt: HostRuntime) -> Result<(), Fail> {
     Ok(())
 }
 
-const FIRST: &str = "rozo first --disks 5";
+pub(super) const FIRST: &str = "rozo first --disks 5";
 
 const FIRST_TOLD: &str = "0 with 5 disks: c1 1 created 00000000-0000-0000-0000-000000000001
 c1 2 acked 1 1110
@@ -182,7 +182,7 @@ fn a_journal_beside_the_nodes(rt: HostRuntime) -> Result<(), Fail> {
     Ok(())
 }
 
-const AGAIN: &str = "rozo again --disks 5";
+pub(super) const AGAIN: &str = "rozo again --disks 5";
 
 const NEXT: &str = "op c1 get /f 0\nop c1 put /f 0 t:next\nrest\n";
 
