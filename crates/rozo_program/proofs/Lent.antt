@@ -13,7 +13,7 @@ use Rattle.rz_request.specs.declared.wishes.Request.{Request}
 use Rattle.rz_perform.specs.Output.{Sunk}
 use Rattle.rz_perform.specs.Replays.{Unplayed, Opens}
 use Rattle.rozo_program.specs.Disks.{faulted}
-use Rattle.rozo_program.specs.Replays.{Fails}
+use Rattle.rz_run.specs.Runs.{Fails}
 
 module _ {D : Type 0} (tells : Bool) (meter : D → Meter) (image : D → List ℕ → Type 0) (layout : Layout) where
   -- no count fell

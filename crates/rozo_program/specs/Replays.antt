@@ -4,8 +4,6 @@ use Rattle.rz_command.specs.Line.{Meaning}
 use Rattle.rz_command.specs.declared.command.Command.{Command}
 use Rattle.rz_command.specs.declared.command.Command.TheVariants.{Migrate}
 use Rattle.rz_disk.specs.Meter.{Meter}
-use Rattle.rz_formatting.specs.declared.fault.DriverFault.{DriverFault}
-use Rattle.rz_formatting.specs.declared.fault.DriverFault.TheVariants as faults
 use Rattle.rz_events.specs.declared.events.Event.{Event}
 use Rattle.rz_opening.specs.declared.refusal.OpenRefusal.{OpenRefusal}
 use Rattle.rz_opening.specs.declared.refusal.OpenRefusal.TheVariants as opens
@@ -18,11 +16,6 @@ use Rattle.rz_perform.specs.Replays.{Course, Ensues}
 use Rattle.rz_perform.specs.Telling.{Refuses}
 use Rattle.rozo_program.specs.Disks.{HandsBack, faulted}
 use Rattle.rozo_program.specs.Migrations.{Carries}
-
--- there is no driver: memory is wanting, or the line of the disk that failed was to be written
-abbrev pub Fails : DriverFault → Sunk → ℕ → Type 0
-Fails faults.NoMemory sink status = Lacks sink status
-Fails (faults.Disk index) sink status = Refuses (refusals.Disk index) sink status
 
 -- disks do not open again: memory is wanting, or the line of the disk that does not was to be written
 abbrev pub FailsAgain : OpenRefusal → Sunk → ℕ → Type 0

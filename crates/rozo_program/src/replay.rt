@@ -7,18 +7,19 @@ ghost use Rattle.rz_request.specs.declared.wishes.Wish.TheVariants.{First, Again
 ghost use Rattle.rz_play_laws.specs.Runs.{IsScript};
 ghost use Rattle.rz_perform.specs.Replays.{Course, Follows};
 ghost use Rattle.rozo_program.specs.Disks.{HandsBack, faulted};
-ghost use Rattle.rozo_program.specs.Replays.{Fails, FailsAgain, Plays, Replays, old_node_of};
+ghost use Rattle.rozo_program.specs.Replays.{FailsAgain, Plays, Replays, old_node_of};
 
 use crate::migrating::carry;
 use rz_command::{Command, WordsError, wanted};
 use rz_disk::Disk;
-use rz_driver::{Driver, DriverFault};
+use rz_driver::Driver;
 use rz_events::Event;
 use rz_link::Link;
 use rz_opening::OpenRefusal;
 use rz_perform::{begins, perform, refuse, stop};
 use rz_ports::{Sink, Source};
 use rz_request::{Refusal, Request, Wish, request};
+use rz_run::refuse_disks;
 use rz_script::Script;
 use std::alloc::{AllocError, Global};
 use std::mem;
@@ -53,16 +54,6 @@ fn old_node(alloc: Global, words: &[String]) -> Result<Option<u16>, AllocError>
         },
         Err(WordsError::Usage) => Ok(None),
         Err(WordsError::NoMemory) => Err(AllocError),
-    }
-}
-
-/// Writes why no driver was made, and gives the status.
-fn refuse_disks<O: Sink>(alloc: Global, fault: DriverFault, output: &mut O) -> u8
-    ensures { Fails fault (record { before = O.taken output.old; after = O.taken output.new; old = O.faults output.old; new = O.faults output.new }) result }
-{
-    match fault {
-        DriverFault::NoMemory => 70,
-        DriverFault::Disk { index } => refuse(alloc, &Refusal::Disk { index }, output),
     }
 }
 
