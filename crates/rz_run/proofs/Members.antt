@@ -1,5 +1,5 @@
 -- What the log of a play says of a staff, said of the actors.
-use Rattle.std.proofs.Common.{◌≡◌, ◌+◌, ◌≤◌, [], ◌∷◌, ℕ, List, map, refl, ap, ◌∙◌, subst, arith}
+use Rattle.std.proofs.Common.{◌≡◌, ◌+◌, ◌≤◌, [], ◌∷◌, ℕ, List, map, sym, refl, ap, ◌∙◌, subst, arith}
 use Rattle.std.specs.List.{AllByRecursion, AllZip, zip}
 use Rattle.rz_events.specs.declared.keys.Actor.{Actor}
 use Rattle.rz_events.specs.declared.events.Event.{Event}
@@ -7,13 +7,14 @@ use Rattle.rz_script.specs.declared.line.Line.{Line}
 use Rattle.rz_core.specs.History.{of_actor}
 use Rattle.rz_play.specs.World.{Seat}
 use Rattle.rz_play.specs.Faults.{missed}
+use Rattle.rz_play_locks.specs.Operations.{given}
 use Rattle.rz_chronicle.specs.Deals.{new_pass}
 use Rattle.rz_chronicle.specs.Kinds.{is_honest, volume_in}
 use Rattle.rz_chronicle.specs.Rules.{PassView}
 use Rattle.rz_shown.specs.Shown.{shown_of}
 use Rattle.rz_worker.specs.Doing.{IsBegun}
 use Rattle.rz_worker.specs.Turned.{AreLost}
-use Rattle.rz_worker.specs.Workers.{IsAllDone, seat_of}
+use Rattle.rz_worker.specs.Workers.{IsAllDone, seat_of, seat_with}
 use Rattle.rz_staff.specs.declared.member.Member.{Member}
 use Rattle.rz_staff.specs.Staff.{actor_of, link_of, CanWork, IsStaffed}
 use Rattle.rz_threads.specs.Played as member

@@ -1,5 +1,6 @@
 -- What the log of a play says by the kind of its book, said of the volume.
 use Rattle.std.proofs.Common.{◌≡◌, [], ◌∷◌, ℕ, Bool, true, List, length, map, sym, ap, ◌∙◌, subst, ◌⊎◌, inl, inr}
+use Rattle.std.specs.Prelude.{IsTrue}
 use Rattle.std.specs.List.{AllByRecursion, AllZip, zip}
 use Rattle.rz_disk.specs.Meter.{Meter, faults}
 use Rattle.rz_events.specs.Volume.{Volume, nodes_of}

@@ -1,4 +1,4 @@
-use Rattle.std.proofs.Common.{List, refl, sym, ap, subst, inl}
+use Rattle.std.proofs.Common.{◌≡◌, ℕ, List, map, refl, sym, ap, subst, inl}
 use Rattle.std.specs.Global.{Vec}
 use Rattle.rz_chronicle.specs.Kinds.{is_honest}
 use Rattle.rz_perform.specs.Output.{Sunk}

@@ -1,4 +1,5 @@
 use Rattle.std.proofs.Common.{◌≡◌, ℕ, List, map, length, sym, ap, ◌∙◌, subst, inl, inr, true}
+use Rattle.std.specs.List.{AllZip}
 use Rattle.std.specs.Global.{Vec}
 use Rattle.rz_disk.specs.Meter.{faults}
 use Rattle.rz_events.specs.Volume.{Volume, nodes_of}

@@ -1,4 +1,4 @@
-use Rattle.std.proofs.Common.{◌≡◌, Bool, map, length, refl, sym, ap, ◌∙◌, subst, inl}
+use Rattle.std.proofs.Common.{◌≡◌, ℕ, Bool, List, map, length, refl, sym, ap, ◌∙◌, subst, inl}
 use Rattle.std.proofs.lemmas.List.{length-map}
 use Rattle.std.specs.Prelude.{IsTrue, nat_eq}
 use Rattle.std.specs.List.{IsDistinct}
@@ -6,7 +6,7 @@ use Rattle.rz_disk.specs.Meter.{faults}
 use Rattle.rz_events.specs.Volume.{Volume, nodes_of}
 use Rattle.rz_events.specs.declared.files.NodeSpec.{NodeSpec}
 use Rattle.rz_chronicle.specs.Keys.{sids_of}
-use Rattle.rz_chronicle.specs.Kinds.{kind_of}
+use Rattle.rz_chronicle.specs.Kinds.{is_honest, kind_of}
 use Rattle.rz_perform.specs.Output.{Sunk}
 use Rattle.rz_run.specs.Runs.{Plays}
 use Rattle.rz_run.proofs.Firsts.{beside-all}
