@@ -4,7 +4,7 @@ ghost use Rattle.std.specs.Prelude.{◌≡◌, IfOk, length};
 
 use crate::checker::first_wrong;
 use crate::clock::{Clock, ClockDisk, ClockLink};
-use crate::reading::{are_rebuilt, is_in_time, printed};
+use crate::reading::{are_rebuilt, is_in_time, read_back};
 use crate::stage::told;
 use crate::workload::script;
 use rz_disk::PlainDisk;
@@ -78,11 +78,11 @@ struct Judged {
     in_time: bool,
 }
 
-fn judged(alloc: Global, text: &str) -> Result<Judged, AllocError> {
+fn judge(alloc: Global, text: &str) -> Result<Judged, AllocError> {
     let mut wrong = Some((0, 0));
     let mut in_time = false;
     if let Some(text) = text.strip_prefix("0: ") {
-        if let Some(printed) = printed(alloc, text)? {
+        if let Some(printed) = read_back(alloc, text)? {
             wrong = first_wrong(&printed.all);
             in_time = is_in_time(&printed.rebuilds);
             if in_time && !are_rebuilt(&printed.rebuilds) {
@@ -103,7 +103,7 @@ fn each_of_many_runs_could_be_that_of_a_store(rt: HostRuntime) -> Result<(), Fai
         let disks = disks(alloc, &clock)?;
         let links = links(alloc, &clock, run)?;
         let text = told(&rt, alloc, LINE, script.as_bytes(), disks, links)?;
-        let judged = judged(alloc, &text)?;
+        let judged = judge(alloc, &text)?;
         assert_eq!(rt; judged.wrong, None, "run {run}: {text}");
         if judged.in_time {
             in_time = in_time.saturating_add(1);

@@ -128,7 +128,7 @@ fn take_rebuilds<'a>(
 }
 
 /// What the printed text tells, where it has all lines that are to be there, and no others.
-pub fn printed(alloc: Global, text: &str) -> Result<Option<Printed>, AllocError> {
+pub fn read_back(alloc: Global, text: &str) -> Result<Option<Printed>, AllocError> {
     let mut all = Vec::new(alloc);
     let mut rebuilds = Vec::new(alloc);
     let Some(rest) = take_clients(alloc, text, &mut all)? else {
