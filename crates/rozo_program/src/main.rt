@@ -38,6 +38,8 @@ use rz_run::run;
 use std::alloc::{AllocError, Global};
 use std::io::ErrorKind;
 use std::process::ExitCode;
+use std::sync::Wait;
+use std::thread::Threads;
 use std::{env, io};
 
 /// There was no memory.
@@ -59,8 +61,10 @@ fn links(alloc: Global) -> Result<Vec<PlainLink>, AllocError>
     vec![in alloc; PlainLink::new(); 80]
 }
 
-/// Plays on threads what the words ask for, and gives the status.
-fn play_on_threads<D: Disk + Send>(
+/// Plays on threads what the words ask for, and gives the status. Only `main` has a runtime with threads, and
+/// so it is passed on beside the runtime.
+fn play_on_threads<T: Threads + Wait + Sync, D: Disk + Send>(
+    threads: &T,
     rt: &HostRuntime,
     words: &[String],
     disks: Vec<D>,
@@ -74,7 +78,7 @@ fn play_on_threads<D: Disk + Send>(
     let mut input = StdSource::new(rt.reader());
     let mut output = StdSink::new(io::writer(rt));
     let ran = run(
-        rt,
+        threads,
         rt.alloc(),
         words,
         &mut input,
@@ -103,7 +107,8 @@ fn play_in_turns<D: Disk>(rt: &HostRuntime, words: &[String], mut disks: Vec<D>)
 }
 
 /// Plays what the words ask for, and gives the status.
-fn play<D: Disk + Send>(
+fn play<T: Threads + Wait + Sync, D: Disk + Send>(
+    threads: &T,
     rt: &HostRuntime,
     words: &[String],
     command: Command,
@@ -113,15 +118,21 @@ fn play<D: Disk + Send>(
     requires tells { IsTrue honest → IsTrue D.tells }
 {
     match command {
-        Command::Run => play_on_threads(rt, words, disks, honest),
+        Command::Run => play_on_threads(threads, rt, words, disks, honest),
         _ => play_in_turns(rt, words, disks),
     }
 }
 
 /// Plays over disks in memory, which tell what they hold.
-fn play_in_memory(rt: &HostRuntime, words: &[String], command: Command, count: u16) -> u8 {
+fn play_in_memory<T: Threads + Wait + Sync>(
+    threads: &T,
+    rt: &HostRuntime,
+    words: &[String],
+    command: Command,
+    count: u16,
+) -> u8 {
     match memory(rt.alloc(), count) {
-        Ok(disks) => play(rt, words, command, disks, true),
+        Ok(disks) => play(threads, rt, words, command, disks, true),
         Err(_) => NO_MEMORY,
     }
 }
@@ -143,30 +154,35 @@ fn kept(command: Command, disks: u16) -> u16 {
 }
 
 /// Plays over the disks that the words want. Nobody knows what a file holds.
-fn play_wanted(rt: &HostRuntime, words: &[String], wanted: &Wanted) -> u8 {
+fn play_wanted<T: Threads + Wait + Sync>(
+    threads: &T,
+    rt: &HostRuntime,
+    words: &[String],
+    wanted: &Wanted,
+) -> u8 {
     let Some(folder) = &wanted.folder else {
-        return play_in_memory(rt, words, wanted.command, wanted.disks);
+        return play_in_memory(threads, rt, words, wanted.command, wanted.disks);
     };
     let kept = kept(wanted.command, wanted.disks);
     match files(rt, rt.alloc(), folder.as_str(), kept, wanted.disks) {
-        Ok(disks) => play(rt, words, wanted.command, disks, false),
+        Ok(disks) => play(threads, rt, words, wanted.command, disks, false),
         Err(FilesFault::Unopened { index }) => refuse_file(rt, index),
         Err(FilesFault::NoMemory) => NO_MEMORY,
     }
 }
 
 /// Does what the words ask for, and gives the status. Words of no meaning are refused by the call.
-fn perform(rt: &HostRuntime, words: &[String]) -> u8 {
+fn perform<T: Threads + Wait + Sync>(threads: &T, rt: &HostRuntime, words: &[String]) -> u8 {
     match wanted(rt.alloc(), words) {
-        Ok(wanted) => play_wanted(rt, words, &wanted),
-        Err(WordsError::Usage) => play_in_memory(rt, words, Command::Replay, 0),
+        Ok(wanted) => play_wanted(threads, rt, words, &wanted),
+        Err(WordsError::Usage) => play_in_memory(threads, rt, words, Command::Replay, 0),
         Err(WordsError::NoMemory) => NO_MEMORY,
     }
 }
 
 fn main(rt: HostRuntime) -> ExitCode {
     let status = match words_of(&rt) {
-        Ok(words) => perform(&rt, &words),
+        Ok(words) => perform(&rt, &rt, &words),
         Err(error) if error.kind() == ErrorKind::OutOfMemory => NO_MEMORY,
         Err(_) => NO_WORDS,
     };

@@ -8,7 +8,7 @@ use rz_link::PlainLink;
 use rz_ports::{PlainSink, PlainSource};
 use rz_run::{Ran, run};
 use std::alloc::Global;
-use std::fs;
+use std::fs::{self, Files};
 use std::sync::Wait;
 use std::test::Fail;
 use std::thread::Threads;
