@@ -56,7 +56,7 @@ fn ran<R: Threads + Wait + Sync, D: Disk + Send>(
 }
 
 /// The first disk whose file has other bytes, if there is one.
-fn first_other<R: Files>(
+fn first_other<R: Files + AllocGlobal>(
     rt: &R,
     alloc: Global,
     disks: &mut [PlainDisk],
