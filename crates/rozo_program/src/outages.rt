@@ -118,7 +118,7 @@ struct Known {
 }
 
 /// What a client knew by the text of its play.
-fn known(alloc: Global, text: &str, client: u64) -> Result<Known, AllocError> {
+fn known_by(alloc: Global, text: &str, client: u64) -> Result<Known, AllocError> {
     let mut known = Known {
         acked: [0; 3],
         in_hand: 1,
@@ -164,7 +164,7 @@ fn judge(
     before: &str,
     after: &str,
 ) -> Result<(), Fail> {
-    let known = known(alloc, before, client)?;
+    let known = known_by(alloc, before, client)?;
     for (block, &acked) in known.acked.iter().enumerate() {
         let block = block as u64;
         let words = words_on(alloc, after, client, block.saturating_add(1))?;
