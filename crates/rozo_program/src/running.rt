@@ -1,5 +1,7 @@
 //! The script of the program's example on threads, over disks in memory and in files.
 
+ghost use Rattle.std.specs.Prelude.{IsTrue};
+
 use super::disks::{files, memory};
 use super::replay::replay;
 use super::tests::{bytes_of, words_of};
