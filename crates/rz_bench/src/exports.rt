@@ -1,6 +1,6 @@
 //! An export with files in directories of 256 names, and published blocks spread over the files.
 
-ghost use Rattle.std.specs.Prelude.{◌≡◌, ◌<◌, ◌≤◌, IfOk, length, vec_len};
+ghost use Rattle.std.specs.Prelude.{◌≡◌, ◌-◌, ◌<◌, ◌≤◌, IfOk, length, vec_len};
 
 use crate::tally::{Tally, spread};
 use rz_config::{Volume, VolumeError};
@@ -35,33 +35,6 @@ const USED: u16 = 1;
 
 /// The node that has no block.
 const UNUSED: u16 = 17;
-
-/// A question about a block.
-#[derive(Clone, Copy, Debug, Drop)]
-pub enum BlockAsk {
-    /// What is published of it.
-    Look,
-    /// The same, as a reader asks that met too few records.
-    Recheck,
-    /// The next block of one node above it.
-    Next,
-    /// The next block above it of a node that has none.
-    NextOfNone,
-    /// The published block above all that are below it, which is this one.
-    Published,
-}
-
-/// A kind of call.
-#[derive(Clone, Copy, Debug, Drop)]
-pub enum ExportCall {
-    /// Makes the next file.
-    Create,
-    /// Publishes the next of the blocks that are not the first of their file.
-    Fill,
-    /// Publishes a new version of a block.
-    Write,
-    Ask(BlockAsk),
-}
 
 /// An export. Block `n` of all blocks stands in file `n % files`.
 #[derive(Drop)]
@@ -133,16 +106,6 @@ fn made(reply: &TreeReply) -> u128 {
         TreeReply::MadeFile(info) => info.fid,
         _ => 0,
     }
-}
-
-/// Whether a reply has a published version.
-fn is_looked(reply: &Reply) -> bool {
-    matches!(reply, Reply::Looked(Some(_)))
-}
-
-/// Whether a reply says that there is no block.
-fn is_none(reply: &Reply) -> bool {
-    matches!(reply, Reply::Listed(None))
 }
 
 /// Whether a reply lists a block above this one, or says that there is none.
@@ -221,53 +184,113 @@ impl FilledExport {
         Ok(())
     }
 
-    /// Makes a file, and its directory before the first one there, and publishes its first block, so that
-    /// the files spread over the nodes.
-    fn create(&mut self, file: u32) -> Result<bool, AllocError> {
-        if file % NAMES == 0 {
-            self.make_directory(file)?;
-        }
-        self.make_file(file)?;
-        self.publish(file)
-    }
-
-    /// Makes so many calls of a kind.
-    pub fn run(&mut self, kind: ExportCall, calls: u32) -> Result<Tally, AllocError>
-        ensures { IfOk result (λ t. t.calls ≡ calls) }
+    /// Makes the files, and publishes the first block of each, so that they spread over the nodes.
+    pub fn create(&mut self) -> Result<Tally, AllocError>
+        ensures { IfOk result (λ t. t.calls ≡ self.old.files) }
     {
+        let files = self.files;
         let mut tally = Tally::none();
-        for call in 0..calls {
-            let as_expected = self.call(kind, call)?;
-            tally.note(as_expected);
+        for file in 0..files {
+            if file % NAMES == 0 {
+                self.make_directory(file)?;
+            }
+            self.make_file(file)?;
+            let accepted = self.publish(file)?;
+            tally.note(accepted);
         }
         Ok(tally)
     }
 
-    /// Makes a call, the one with this number, and says whether it was answered as expected.
-    fn call(&mut self, kind: ExportCall, call: u32) -> Result<bool, AllocError> {
-        match kind {
-            ExportCall::Create => self.create(call),
-            ExportCall::Fill => self.publish(self.files.saturating_add(call)),
-            ExportCall::Write => self.publish(spread(call, self.blocks)),
-            ExportCall::Ask(ask) => {
-                let key = self.key_of(spread(call, self.blocks));
-                Ok(self.ask(ask, key))
-            }
+    /// Publishes all other blocks.
+    pub fn fill(&mut self) -> Result<Tally, AllocError>
+        ensures { IfOk result (λ t. t.calls ≡ self.old.blocks - self.old.files) }
+    {
+        let files = self.files;
+        let blocks = self.blocks;
+        let mut tally = Tally::none();
+        for number in files..blocks {
+            let accepted = self.publish(number)?;
+            tally.note(accepted);
         }
+        Ok(tally)
     }
 
-    /// Asks about a block, and says whether the answer is as expected.
-    fn ask(&self, ask: BlockAsk, key: Key) -> bool {
-        match ask {
-            BlockAsk::Look => is_looked(&self.export.look(key)),
-            BlockAsk::Recheck => is_looked(&self.export.recheck(key)),
-            BlockAsk::Next => is_above(&self.export.next(USED, Some(key)), key),
-            BlockAsk::NextOfNone => is_none(&self.export.next(UNUSED, Some(key))),
-            BlockAsk::Published => match self.export.published(Some(before(key))) {
+    /// Publishes new versions of blocks.
+    pub fn renew(&mut self, calls: u32) -> Result<Tally, AllocError>
+        ensures { IfOk result (λ t. t.calls ≡ calls) }
+    {
+        let mut tally = Tally::none();
+        for call in 0..calls {
+            let accepted = self.publish(spread(call, self.blocks))?;
+            tally.note(accepted);
+        }
+        Ok(tally)
+    }
+
+    /// Looks at blocks.
+    pub fn look(&self, calls: u32) -> Tally
+        ensures { result.calls ≡ calls }
+    {
+        let mut tally = Tally::none();
+        for call in 0..calls {
+            let reply = self.export.look(self.key_of(spread(call, self.blocks)));
+            tally.note(matches!(reply, Reply::Looked(Some(_))));
+        }
+        tally
+    }
+
+    /// Looks at blocks as a reader does that met too few records.
+    pub fn recheck(&self, calls: u32) -> Tally
+        ensures { result.calls ≡ calls }
+    {
+        let mut tally = Tally::none();
+        for call in 0..calls {
+            let reply = self.export.recheck(self.key_of(spread(call, self.blocks)));
+            tally.note(matches!(reply, Reply::Looked(Some(_))));
+        }
+        tally
+    }
+
+    /// Asks for the next block of one node above blocks.
+    pub fn next(&self, calls: u32) -> Tally
+        ensures { result.calls ≡ calls }
+    {
+        let mut tally = Tally::none();
+        for call in 0..calls {
+            let key = self.key_of(spread(call, self.blocks));
+            let reply = self.export.next(USED, Some(key));
+            tally.note(is_above(&reply, key));
+        }
+        tally
+    }
+
+    /// Asks for the next block of a node that has none above blocks.
+    pub fn next_of_none(&self, calls: u32) -> Tally
+        ensures { result.calls ≡ calls }
+    {
+        let mut tally = Tally::none();
+        for call in 0..calls {
+            let key = self.key_of(spread(call, self.blocks));
+            let reply = self.export.next(UNUSED, Some(key));
+            tally.note(matches!(reply, Reply::Listed(None)));
+        }
+        tally
+    }
+
+    /// Asks for the published block above all that are below a block, which is this one.
+    pub fn published(&self, calls: u32) -> Tally
+        ensures { result.calls ≡ calls }
+    {
+        let mut tally = Tally::none();
+        for call in 0..calls {
+            let key = self.key_of(spread(call, self.blocks));
+            let is_it = match self.export.published(Some(before(key))) {
                 Some(listed) => listed.key == key,
                 None => false,
-            },
+            };
+            tally.note(is_it);
         }
+        tally
     }
 
     /// Calls that look up the paths of files.

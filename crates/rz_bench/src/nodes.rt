@@ -25,23 +25,6 @@ pub struct FullNode {
     ghost some: { 1 ≤ pairs },
 }
 
-/// A kind of call.
-#[derive(Clone, Copy, Debug, Drop)]
-pub enum NodeCall {
-    /// Keeps a record of a new key on the next pair.
-    Fill,
-    /// Keeps a record of a key for which no pair is left.
-    Overfill,
-    /// Drops the one record of a key, and keeps it anew.
-    DropAndKeep,
-    /// Fetches a record with its first stamp.
-    Fetch,
-    /// Refills a record that is held.
-    Refill,
-    /// Keeps a newer record of a key that is held, with a stamp of its own.
-    Renew,
-}
-
 /// The key of this number, which is the one block of its file.
 fn key_of(number: u32) -> Key
     ensures { result ≡ record { fid = number + 1; block = 0 } }
@@ -98,50 +81,85 @@ impl FullNode {
         self.node.keep(&head, &BINS)
     }
 
-    /// Makes so many calls of a kind.
-    pub fn run(&mut self, kind: NodeCall, calls: u32) -> Tally
-        ensures { result.calls ≡ calls }
+    /// Keeps a record of a new key on each pair.
+    pub fn fill(&mut self) -> Tally
+        ensures { result.calls ≡ self.old.pairs }
     {
+        let pairs = self.pairs;
         let mut tally = Tally::none();
-        let mut room = BINS;
-        for call in 0..calls {
-            let as_expected = self.call(kind, call, &mut room);
-            tally.note(as_expected);
+        for number in 0..pairs {
+            let answer = self.keep(number, FIRST);
+            tally.note(matches!(answer, KeepAnswer::Kept));
         }
         tally
     }
 
-    /// Makes a call, the one with this number, and says whether it was answered as expected.
-    fn call(&mut self, kind: NodeCall, call: u32, room: &mut [u64; 258]) -> bool {
-        match kind {
-            NodeCall::Fill => matches!(self.keep(call, FIRST), KeepAnswer::Kept),
-            NodeCall::Overfill => {
-                let number = self.pairs.saturating_add(call);
-                matches!(self.keep(number, FIRST), KeepAnswer::Full)
-            }
-            NodeCall::DropAndKeep => self.drop_and_keep(spread(call, self.pairs)),
-            NodeCall::Fetch => {
-                let key = key_of(spread(call, self.pairs));
-                let answer = self.node.fetch_into(key, FIRST, room);
-                matches!(answer, FetchAnswer::Held(_))
-            }
-            NodeCall::Refill => {
-                let head = head_of(spread(call, self.pairs), FIRST);
-                let answer = self.node.refill(0, &head, &BINS);
-                matches!(answer, RefillAnswer::Passed { held: FIRST })
-            }
-            NodeCall::Renew => {
-                let stamp = FIRST + 1 + u64::from(call);
-                let answer = self.keep(spread(call, self.pairs), stamp);
-                matches!(answer, KeepAnswer::Kept)
-            }
+    /// Keeps records of keys for which no pair is left.
+    pub fn overfill(&mut self, calls: u32) -> Tally
+        ensures { result.calls ≡ calls }
+    {
+        let mut tally = Tally::none();
+        for call in 0..calls {
+            let answer = self.keep(self.pairs.saturating_add(call), FIRST);
+            tally.note(matches!(answer, KeepAnswer::Full));
         }
+        tally
     }
 
     /// Drops the one record of a key, and keeps it anew.
-    fn drop_and_keep(&mut self, number: u32) -> bool {
-        let gone = self.node.drop_next(key_of(number).fid);
-        let back = self.keep(number, FIRST);
-        matches!(gone, DropAnswer::Dropped { more: false, .. }) && matches!(back, KeepAnswer::Kept)
+    pub fn drop_and_keep(&mut self, calls: u32) -> Tally
+        ensures { result.calls ≡ calls }
+    {
+        let mut tally = Tally::none();
+        for call in 0..calls {
+            let number = spread(call, self.pairs);
+            let gone = self.node.drop_next(key_of(number).fid);
+            let back = self.keep(number, FIRST);
+            tally.note(
+                matches!(gone, DropAnswer::Dropped { more: false, .. })
+                    && matches!(back, KeepAnswer::Kept),
+            );
+        }
+        tally
+    }
+
+    /// Fetches records with their first stamp.
+    pub fn fetch(&mut self, calls: u32) -> Tally
+        ensures { result.calls ≡ calls }
+    {
+        let mut tally = Tally::none();
+        let mut bins = BINS;
+        for call in 0..calls {
+            let key = key_of(spread(call, self.pairs));
+            let answer = self.node.fetch_into(key, FIRST, &mut bins);
+            tally.note(matches!(answer, FetchAnswer::Held(_)));
+        }
+        tally
+    }
+
+    /// Refills records that are held.
+    pub fn refill(&mut self, calls: u32) -> Tally
+        ensures { result.calls ≡ calls }
+    {
+        let mut tally = Tally::none();
+        for call in 0..calls {
+            let head = head_of(spread(call, self.pairs), FIRST);
+            let answer = self.node.refill(0, &head, &BINS);
+            tally.note(matches!(answer, RefillAnswer::Passed { held: FIRST }));
+        }
+        tally
+    }
+
+    /// Keeps newer records of keys that are held, each with a stamp of its own.
+    pub fn renew(&mut self, calls: u32) -> Tally
+        ensures { result.calls ≡ calls }
+    {
+        let mut tally = Tally::none();
+        for call in 0..calls {
+            let number = spread(call, self.pairs);
+            let answer = self.keep(number, FIRST + 1 + u64::from(call));
+            tally.note(matches!(answer, KeepAnswer::Kept));
+        }
+        tally
     }
 }

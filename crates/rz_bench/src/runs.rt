@@ -1,7 +1,7 @@
 //! What is run, and the lines that tell of it.
 
-use crate::exports::{BlockAsk, ExportCall, FilledExport};
-use crate::nodes::{FullNode, NodeCall};
+use crate::exports::FilledExport;
+use crate::nodes::FullNode;
 use crate::tally::Tally;
 use crate::words::{ExportSize, NodeSize, Plan};
 use std::alloc::Global;
@@ -58,41 +58,23 @@ pub fn run<R: Print + Clock + Drop>(rt: &R, alloc: Global, plan: &Plan) -> io::R
     Ok(())
 }
 
-/// The calls on a node behind its filling: a line's name, how the expected answer is told, and the kind.
-const NODE_LINES: [(&str, &str, NodeCall); 5] = [
-    ("overfill", "full", NodeCall::Overfill),
-    ("drop-keep", "kept", NodeCall::DropAndKeep),
-    ("fetch", "held", NodeCall::Fetch),
-    ("refill", "passed", NodeCall::Refill),
-    ("keep", "kept", NodeCall::Renew),
-];
-
 fn run_node<R: Print + Clock + Drop>(teller: &Teller<R>, size: NodeSize) -> io::Result<()> {
     let pairs = size.pairs;
     println!(teller.rt; "node of {pairs} pairs")?;
     let start = teller.now()?;
     let mut node = FullNode::format(teller.alloc, pairs)?;
-    teller.tell("fill", "kept", start, node.run(NodeCall::Fill, pairs))?;
-    for (name, answer, kind) in NODE_LINES {
-        let start = teller.now()?;
-        teller.tell(name, answer, start, node.run(kind, size.calls))?;
-    }
-    Ok(())
+    teller.tell("fill", "kept", start, node.fill())?;
+    let start = teller.now()?;
+    teller.tell("overfill", "full", start, node.overfill(size.calls))?;
+    let start = teller.now()?;
+    teller.tell("drop-keep", "kept", start, node.drop_and_keep(size.calls))?;
+    let start = teller.now()?;
+    teller.tell("fetch", "held", start, node.fetch(size.calls))?;
+    let start = teller.now()?;
+    teller.tell("refill", "passed", start, node.refill(size.calls))?;
+    let start = teller.now()?;
+    teller.tell("keep", "kept", start, node.renew(size.calls))
 }
-
-/// The calls about blocks of an export, likewise.
-const BLOCK_LINES: [(&str, &str, ExportCall); 6] = [
-    ("look", "looked", ExportCall::Ask(BlockAsk::Look)),
-    ("recheck", "looked", ExportCall::Ask(BlockAsk::Recheck)),
-    ("write", "accepted", ExportCall::Write),
-    ("next", "listed", ExportCall::Ask(BlockAsk::Next)),
-    (
-        "next-of-none",
-        "listed",
-        ExportCall::Ask(BlockAsk::NextOfNone),
-    ),
-    ("published", "listed", ExportCall::Ask(BlockAsk::Published)),
-];
 
 fn run_export<R: Print + Clock + Drop>(teller: &Teller<R>, size: ExportSize) -> io::Result<()> {
     let files = size.files;
@@ -100,11 +82,9 @@ fn run_export<R: Print + Clock + Drop>(teller: &Teller<R>, size: ExportSize) -> 
     println!(teller.rt; "export of {files} files, {blocks} blocks")?;
     let start = teller.now()?;
     let mut export = FilledExport::new(teller.alloc, files, blocks)?;
-    let tally = export.run(ExportCall::Create, files)?;
-    teller.tell("create", "accepted", start, tally)?;
+    teller.tell("create", "accepted", start, export.create()?)?;
     let start = teller.now()?;
-    let tally = export.run(ExportCall::Fill, blocks - files)?;
-    teller.tell("fill", "accepted", start, tally)?;
+    teller.tell("fill", "accepted", start, export.fill()?)?;
     run_blocks(teller, &mut export, size.calls)?;
     run_names(teller, &mut export, size.calls)
 }
@@ -114,11 +94,18 @@ fn run_blocks<R: Print + Clock + Drop>(
     export: &mut FilledExport,
     calls: u32,
 ) -> io::Result<()> {
-    for (name, answer, kind) in BLOCK_LINES {
-        let start = teller.now()?;
-        teller.tell(name, answer, start, export.run(kind, calls)?)?;
-    }
-    Ok(())
+    let start = teller.now()?;
+    teller.tell("look", "looked", start, export.look(calls))?;
+    let start = teller.now()?;
+    teller.tell("recheck", "looked", start, export.recheck(calls))?;
+    let start = teller.now()?;
+    teller.tell("write", "accepted", start, export.renew(calls)?)?;
+    let start = teller.now()?;
+    teller.tell("next", "listed", start, export.next(calls))?;
+    let start = teller.now()?;
+    teller.tell("next-of-none", "listed", start, export.next_of_none(calls))?;
+    let start = teller.now()?;
+    teller.tell("published", "listed", start, export.published(calls))
 }
 
 fn run_names<R: Print + Clock + Drop>(

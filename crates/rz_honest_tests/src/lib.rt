@@ -12,8 +12,6 @@ mod calls;
 #[cfg(test)]
 mod checker;
 #[cfg(test)]
-mod comparing;
-#[cfg(test)]
 mod locking;
 #[cfg(test)]
 mod sharing;

@@ -6,7 +6,6 @@ ghost use Rattle.rz_config.specs.Plain.{plain_volume};
 ghost use Rattle.rz_chronicle.specs.Kinds.{kind_of};
 ghost use Rattle.rz_honest_tests.specs.Written.{HasWritten};
 
-use crate::comparing::compare;
 use crate::sharing::{checked, played};
 use crate::stage::{Stage, room, staged};
 use crate::working::{Account, create_both, write_and_read};
@@ -18,6 +17,7 @@ use rz_meeting::{MeetDisk, Meeting};
 use rz_shared::Cluster;
 use std::alloc::{AllocError, Global};
 use std::marker::Brand;
+use std::process::Abort;
 use std::sync::{Mutex, Wait};
 use std::test::*;
 use std::thread::{Threads, join};
@@ -40,10 +40,11 @@ fn writes_of_two_clients_meet(rt: HostRuntime) -> Result<(), Fail> {
     let meeting = Meeting::new();
     let disks = four(rt.alloc(), &meeting)?;
     meet::<Brand, _>(&rt, rt.alloc(), opened, volume, disks)?;
-    compare(&meeting.met(), &true, "a meeting")
+    assert!(rt; meeting.met());
+    Ok(())
 }
 
-fn meet<J: Counting + Send + Sync, R: Threads + Wait + AllocGlobal + Sync>(
+fn meet<J: Counting + Send + Sync, R: Threads + Wait + Abort + AllocGlobal + Sync>(
     rt: &R,
     alloc: Global,
     opened: Opened,
@@ -123,10 +124,11 @@ fn under_one_lock_no_writes_meet(rt: HostRuntime) -> Result<(), Fail> {
     let meeting = Meeting::new();
     let disks = four(rt.alloc(), &meeting)?;
     miss::<Brand, _>(&rt, rt.alloc(), opened, volume, disks)?;
-    compare(&meeting.met(), &false, "a meeting")
+    assert!(rt; !meeting.met());
+    Ok(())
 }
 
-fn miss<J: Counting + Send + Sync, R: Threads + Wait + AllocGlobal + Sync>(
+fn miss<J: Counting + Send + Sync, R: Threads + Wait + Abort + AllocGlobal + Sync>(
     rt: &R,
     alloc: Global,
     opened: Opened,
@@ -145,8 +147,7 @@ fn miss<J: Counting + Send + Sync, R: Threads + Wait + AllocGlobal + Sync>(
         mut one,
         two,
     } = staged::<MeetDisk<'_, PlainDisk>, J>(alloc, opened, volume, disks)?;
-    let created = create_both(rt, alloc, &book, &cluster, &mut one)?;
-    compare(&created, &true, "files")?;
+    assert!(rt; create_both(rt, alloc, &book, &cluster, &mut one)?);
     let left = room(alloc)?;
     let right = room(alloc)?;
     let all = Mutex::new(0);
@@ -157,5 +158,5 @@ fn miss<J: Counting + Send + Sync, R: Threads + Wait + AllocGlobal + Sync>(
     let Some(second) = second else {
         return Err("the second client was refused")?;
     };
-    checked(alloc, &book, first, second)
+    checked(rt, alloc, &book, first, second)
 }

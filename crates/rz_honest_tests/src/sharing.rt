@@ -6,7 +6,6 @@ ghost use Rattle.rz_chronicle.specs.Kinds.{kind_of};
 ghost use Rattle.rz_honest_tests.specs.Written.{HasWritten};
 
 use crate::checker::is_one_history;
-use crate::comparing::compare;
 use crate::stage::{Stage, room, staged};
 use crate::working::{Account, create_both, met, on_both};
 use rz_chronicle::{Book, Opened, Pass};
@@ -15,6 +14,7 @@ use rz_disk::{Disk, PlainDisk};
 use rz_locked::Counting;
 use std::alloc::{AllocError, Global};
 use std::marker::Brand;
+use std::process::Abort;
 use std::sync::Wait;
 use std::test::*;
 use std::thread::Threads;
@@ -42,11 +42,11 @@ fn events<J: Counting>(book: &Book<J>, pass: &mut Pass<J>) -> (u64, u64) {
 
 /// Two clients at work, each on its own thread: what they saw is one history, and each event of it stands
 /// in the log once.
-pub fn played<D: Disk + Send, J: Counting + Send + Sync, R: Threads + Wait + AllocGlobal + Sync>(
-    rt: &R,
-    alloc: Global,
-    stage: Stage<D, J>,
-) -> Result<(), Fail>
+pub fn played<
+    D: Disk + Send,
+    J: Counting + Send + Sync,
+    R: Threads + Wait + Abort + AllocGlobal + Sync,
+>(rt: &R, alloc: Global, stage: Stage<D, J>) -> Result<(), Fail>
     requires kind { J.kind ≡ kind_of true plain_volume }
     requires one { ¬ (stage.one.actor ≡ a.Admin) }
     requires two { ¬ (stage.two.actor ≡ a.Admin) }
@@ -57,8 +57,7 @@ pub fn played<D: Disk + Send, J: Counting + Send + Sync, R: Threads + Wait + All
         mut one,
         two,
     } = stage;
-    let created = create_both(rt, alloc, &book, &cluster, &mut one)?;
-    compare(&created, &true, "files")?;
+    assert!(rt; create_both(rt, alloc, &book, &cluster, &mut one)?);
     let left = room(alloc)?;
     let right = room(alloc)?;
     let (first, second) = on_both(rt, &book, &cluster, one, two, left, right);
@@ -68,12 +67,13 @@ pub fn played<D: Disk + Send, J: Counting + Send + Sync, R: Threads + Wait + All
     let Some(second) = second else {
         return Err("the second client was refused")?;
     };
-    checked(alloc, &book, first, second)
+    checked(rt, alloc, &book, first, second)
 }
 
 /// Goes over what both saw. Two files were made and four times opened, two writes began, two records were
 /// kept and four times read.
-pub fn checked<J: Counting>(
+pub fn checked<J: Counting, R: Abort>(
+    rt: &R,
     alloc: Global,
     book: &Book<J>,
     first: Account<J>,
@@ -83,10 +83,10 @@ pub fn checked<J: Counting>(
     requires first { HasWritten first.pass.log first.pass.actor first.stamp }
     requires second { HasWritten second.pass.log second.pass.actor second.stamp }
 {
-    let is_one = is_one_history(alloc, &first.notes, &second.notes)?;
+    assert!(rt; is_one_history(alloc, &first.notes, &second.notes)?);
     let mut pass = met(book, first.pass, &second.pass, first.stamp, second.stamp);
-    let found = (is_one, events(book, &mut pass));
-    compare(&found, &(true, (8, 6)), "one history, events")
+    assert_eq!(rt; events(book, &mut pass), (8, 6));
+    Ok(())
 }
 
 #[test]
@@ -97,7 +97,7 @@ fn two_clients_stand_in_one_history(rt: HostRuntime) -> Result<(), Fail> {
     shared::<Brand, _>(&rt, rt.alloc(), opened, volume, disks)
 }
 
-fn shared<J: Counting + Send + Sync, R: Threads + Wait + AllocGlobal + Sync>(
+fn shared<J: Counting + Send + Sync, R: Threads + Wait + Abort + AllocGlobal + Sync>(
     rt: &R,
     alloc: Global,
     opened: Opened,

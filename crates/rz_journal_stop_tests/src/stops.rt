@@ -5,8 +5,7 @@
 //! later sync. In both a change counts once its gate is written, and a crash decides on a gate that is not
 //! synced.
 
-use crate::comparing::compare;
-use crate::disks::{disk_with, entries, failing_at, open, prepare};
+use crate::disks::{entries, failing_at, prepare};
 use crate::exports::{after, before, last_call, parts_of};
 use rz_cells::FormatFault;
 use rz_config::Volume;
@@ -23,6 +22,13 @@ const PICKS: [u64; 4] = [0, 1, 300, 301];
 
 /// So many calls of 265 bytes fill a half, with the gate behind them.
 const FILLING: u64 = 31_655;
+
+fn open<D: Disk>(alloc: Global, disk: D) -> Result<Journal<D>, Fail> {
+    match Journal::reopen(alloc, Volume::plain(alloc)?, disk) {
+        Ok(journal) => Ok(journal),
+        Err(_) => Err("not opened")?,
+    }
+}
 
 /// Asks the journal the call that stops.
 fn ask<D: Disk>(alloc: Global, journal: &mut Journal<D>) -> Result<JournalReply, Fail> {
@@ -122,7 +128,11 @@ fn first_other(
 #[test]
 fn an_entry_that_stops_is_there_or_not(rt: HostRuntime) -> Result<(), Fail> {
     for pick in PICKS {
-        compare(&first_other(rt.alloc(), 2, 4, 594, pick)?, &None, pick)?;
+        assert_eq!(rt;
+            first_other(rt.alloc(), 2, 4, 594, pick)?,
+            None,
+            "pick {pick}"
+        );
     }
     Ok(())
 }
@@ -132,15 +142,19 @@ fn an_entry_that_stops_is_there_or_not(rt: HostRuntime) -> Result<(), Fail> {
 fn a_change_of_halves_that_stops_is_done_or_not(rt: HostRuntime) -> Result<(), Fail> {
     let gate_at = 64 + 8_388_576 + 404;
     for pick in PICKS {
-        let other = first_other(rt.alloc(), FILLING, 8, gate_at, pick)?;
-        compare(&other, &None, pick)?;
+        assert_eq!(rt;
+            first_other(rt.alloc(), FILLING, 8, gate_at, pick)?,
+            None,
+            "pick {pick}"
+        );
     }
     Ok(())
 }
 
 /// The parts that are found after a reply to the call and a crash.
 fn found_after_reply(alloc: Global, row: &[u8], pick: u64) -> Result<String, Fail> {
-    let disk = disk_with(alloc, row)?;
+    let mut disk = PlainDisk::new(alloc);
+    prepare(alloc, &mut disk, row)?;
     let mut journal = open(alloc, disk)?;
     match ask(alloc, &mut journal)? {
         JournalReply::Reply(_) => found(alloc, journal.into_disk(), pick),
@@ -156,7 +170,7 @@ fn a_call_that_was_answered_is_there(rt: HostRuntime) -> Result<(), Fail> {
         let wanted = after(rt.alloc(), count)?;
         for pick in PICKS {
             let parts = found_after_reply(rt.alloc(), row.as_slice(), pick)?;
-            compare(&parts, &wanted, (count, pick))?;
+            assert!(rt; parts == wanted, "{count} entries, pick {pick}");
         }
     }
     Ok(())
@@ -183,7 +197,7 @@ fn a_formatting_that_fails_is_done_or_shut(rt: HostRuntime) -> Result<(), Fail> 
             let disk = stopped_format(rt.alloc(), disk, 0)?;
             let parts = found(rt.alloc(), disk, pick)?;
             let wanted = left(call, was.as_str(), by_gate);
-            compare(&parts.as_str(), &wanted, (call, pick))?;
+            assert_eq!(rt; parts.as_str(), wanted, "call {call}, pick {pick}");
         }
     }
     Ok(())
@@ -199,7 +213,7 @@ fn a_formatting_that_stops_is_done_or_shut(rt: HostRuntime) -> Result<(), Fail> 
             let parts = found(rt.alloc(), disk, pick)?;
             let is_there = passes >= 2 && opens(32, pick);
             let wanted = either(is_there, anew.as_str(), "");
-            compare(&parts.as_str(), &wanted, (passes, pick))?;
+            assert_eq!(rt; parts.as_str(), wanted, "passes {passes}, pick {pick}");
         }
     }
     Ok(())

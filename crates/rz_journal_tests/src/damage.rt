@@ -1,8 +1,7 @@
 //! Journals of which bytes are altered, one at a time.
 
-use crate::comparing::compare;
-use crate::disks::{disk_with, joined, opened, store};
 use crate::flips::{LOWEST_OF_CALLS, LOWEST_OF_PARTS};
+use crate::making::{disk_with, joined, opened, store};
 use crate::sample::{CALLS, FIRST_HALF, PARTS};
 use rz_disk::Disk;
 use rz_journal::JournalFault;
@@ -56,12 +55,12 @@ fn first_other(alloc: Global, entries: &[&[u8]], wanted: &[&[u8]]) -> Result<Opt
 
 #[test]
 fn each_byte_of_a_call_counts(rt: HostRuntime) -> Result<(), Fail> {
-    let other = first_other(rt.alloc(), &CALLS, &LOWEST_OF_CALLS)?;
-    compare(&other, &None, "calls")
+    assert_eq!(rt; first_other(rt.alloc(), &CALLS, &LOWEST_OF_CALLS)?, None);
+    Ok(())
 }
 
 #[test]
 fn each_byte_of_a_part_counts(rt: HostRuntime) -> Result<(), Fail> {
-    let other = first_other(rt.alloc(), &PARTS, &LOWEST_OF_PARTS)?;
-    compare(&other, &None, "parts")
+    assert_eq!(rt; first_other(rt.alloc(), &PARTS, &LOWEST_OF_PARTS)?, None);
+    Ok(())
 }

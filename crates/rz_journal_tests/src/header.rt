@@ -1,7 +1,6 @@
 //! Sizes of a disk and bytes of its header, one at a time.
 
-use crate::comparing::compare;
-use crate::disks::{disk_with, opened, store, zeros};
+use crate::making::{disk_with, opened, store, zeros};
 use crate::sample::{HEADER, SIZE};
 use rz_journal::JournalFault;
 use std::test::Fail;
@@ -11,7 +10,7 @@ fn another_size_is_told(rt: HostRuntime) -> Result<(), Fail> {
     for have in [0, 1, 64, SIZE - 1, SIZE + 1] {
         let (_, fault) = opened(rt.alloc(), zeros(rt.alloc(), have)?)?;
         let wanted = JournalFault::WrongSize { have, need: SIZE };
-        compare(&fault, &Some(wanted), have)?;
+        assert_eq!(rt; fault, Some(wanted));
     }
     Ok(())
 }
@@ -24,12 +23,13 @@ fn each_byte_before_the_gate_is_compared(rt: HostRuntime) -> Result<(), Fail> {
             store(&mut disk, at as u64, &[byte ^ flips])?;
             let (back, fault) = opened(rt.alloc(), disk)?;
             disk = back;
-            compare(&fault, &Some(JournalFault::BadHeader), (at, flips))?;
+            assert_eq!(rt; fault, Some(JournalFault::BadHeader), "byte {at}");
         }
         store(&mut disk, at as u64, &[*byte])?;
     }
     let (_, fault) = opened(rt.alloc(), disk)?;
-    compare(&fault, &None, "as it was")
+    assert_eq!(rt; fault, None);
+    Ok(())
 }
 
 /// A shut header is told before another one.
@@ -49,7 +49,7 @@ fn the_low_bit_of_its_gate_opens_a_header(rt: HostRuntime) -> Result<(), Fail> {
             } else {
                 Some(JournalFault::BadHeader)
             };
-            compare(&fault, &wanted, (magic, gate))?;
+            assert_eq!(rt; fault, wanted, "gate {gate}");
         }
     }
     Ok(())
@@ -68,7 +68,7 @@ fn the_low_bit_of_its_gate_picks_a_half(rt: HostRuntime) -> Result<(), Fail> {
         } else {
             None
         };
-        compare(&fault, &wanted, gate)?;
+        assert_eq!(rt; fault, wanted, "gate {gate}");
     }
     Ok(())
 }

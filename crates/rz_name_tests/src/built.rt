@@ -4,12 +4,11 @@ ghost use Rattle.std.specs.Prelude.{◌≡◌, []};
 ghost use Rattle.rz_events.specs.declared.files.Kind.{Kind};
 ghost use Rattle.rz_tree.specs.declared.parts.Part.{Part};
 
-use crate::comparing::compare;
 use rz_config::Volume;
 use rz_events::{Kind, Places, Text, TreeCall, TreeReply};
 use rz_export::Export;
 use rz_tree::Part;
-use std::alloc::{AllocError, Global};
+use std::alloc::Global;
 use std::test::Fail;
 
 // The root as a part.
@@ -28,23 +27,6 @@ fn root_part(alloc: Global, mode: u16, mtime: u64) -> Part
     }
 }
 
-// Whether an export knows of the counters and of the root, and of nothing else.
-fn has_both(export: &Export) -> Result<bool, AllocError> {
-    let first = export.part(0)?;
-    let second = export.part(1)?;
-    let third = export.part(2)?;
-    let has_root = matches!(
-        &second,
-        Some(Part::Object {
-            fid: 0,
-            mode: 0o700,
-            mtime: 7,
-            ..
-        })
-    );
-    Ok(matches!(&first, Some(Part::Counters { last: 5, made: 9 })) && has_root && third.is_none())
-}
-
 #[test]
 fn builds_the_root(rt: HostRuntime) -> Result<(), Fail> {
     let alloc = rt.alloc();
@@ -52,9 +34,24 @@ fn builds_the_root(rt: HostRuntime) -> Result<(), Fail> {
     let counters = Part::Counters { last: 5, made: 9 };
     let parts = vec![in alloc; counters, root_part(alloc, 0o700, 7)]?;
     let mut export = Export::build(alloc, volume, parts.as_slice())?;
-    compare(&has_both(&export)?, &true, "parts")?;
+    let first = export.part(0)?;
+    assert!(rt; matches!(&first, Some(Part::Counters { last: 5, made: 9 })));
+    let second = export.part(1)?;
+    assert!(rt;
+        matches!(
+            &second,
+            Some(Part::Object {
+                fid: 0,
+                mode: 0o700,
+                mtime: 7,
+                ..
+            })
+        )
+    );
+    let third = export.part(2)?;
+    assert!(rt; third.is_none());
     let path = Text::from_bytes(alloc, b"/d")?;
     let reply = export.name(&TreeCall::Mkdir { path })?;
-    let is_next = matches!(&reply, TreeReply::Made { fid: 10 });
-    compare(&is_next, &true, "object made next")
+    assert!(rt; matches!(&reply, TreeReply::Made { fid: 10 }));
+    Ok(())
 }

@@ -6,8 +6,6 @@
 #[cfg(test)]
 mod built;
 #[cfg(test)]
-mod comparing;
-#[cfg(test)]
 mod lists;
 #[cfg(test)]
 mod marked;

@@ -1,6 +1,5 @@
 //! Marks of two lists over several rows and files: gone through, taken away and forgotten.
 
-use crate::comparing::compare;
 use rz_events::Key;
 use rz_marks::Marks;
 use std::alloc::AllocError;
@@ -35,10 +34,13 @@ fn goes_through_a_list(rt: HostRuntime) -> Result<(), Fail> {
             last = Some(key);
         }
     }
-    let wanted = [(7, 63), (7, 64), (7, 200), (u128::MAX, u64::MAX)];
-    compare(&seen.as_slice(), &wanted.as_slice(), "list 1")?;
-    compare(&next(&marks, 2, 7, 64), &Some((7, 65)), "above 64")?;
-    compare(&next(&marks, 2, 7, 65), &None, "above 65")
+    assert_eq!(rt;
+        seen.as_slice(),
+        [(7, 63), (7, 64), (7, 200), (u128::MAX, u64::MAX)].as_slice()
+    );
+    assert_eq!(rt; next(&marks, 2, 7, 64), Some((7, 65)));
+    assert_eq!(rt; next(&marks, 2, 7, 65), None);
+    Ok(())
 }
 
 #[test]
@@ -53,10 +55,11 @@ fn passes_room_without_marks(rt: HostRuntime) -> Result<(), Fail> {
             },
         )?;
     }
-    compare(&marks.next(3, None), &None, "no mark")?;
+    assert_eq!(rt; marks.next(3, None), None);
     mark(&mut marks, 3, 5, 90 * 64 + 5)?;
-    compare(&next(&marks, 3, 4, u64::MAX), &Some((5, 5765)), "below")?;
-    compare(&next(&marks, 3, 5, 5765), &None, "above")
+    assert_eq!(rt; next(&marks, 3, 4, u64::MAX), Some((5, 5765)));
+    assert_eq!(rt; next(&marks, 3, 5, 5765), None);
+    Ok(())
 }
 
 #[test]
@@ -66,9 +69,10 @@ fn forgets_a_file(rt: HostRuntime) -> Result<(), Fail> {
         mark(&mut marks, list, fid, block)?;
     }
     marks.forget(1, 5);
-    compare(&next(&marks, 1, 3, 0), &Some((4, 0)), "file 4")?;
-    compare(&next(&marks, 1, 4, 0), &Some((6, 0)), "file 6")?;
-    compare(&next(&marks, 2, 0, 0), &Some((5, 0)), "list 2")
+    assert_eq!(rt; next(&marks, 1, 3, 0), Some((4, 0)));
+    assert_eq!(rt; next(&marks, 1, 4, 0), Some((6, 0)));
+    assert_eq!(rt; next(&marks, 2, 0, 0), Some((5, 0)));
+    Ok(())
 }
 
 #[test]
@@ -78,8 +82,8 @@ fn keeps_room(rt: HostRuntime) -> Result<(), Fail> {
     marks.make_room(1, key)?;
     marks.set(1, key, true);
     marks.set(1, key, false);
-    let taken_away = marks.next(1, None);
+    assert_eq!(rt; marks.next(1, None), None);
     marks.set(1, key, true);
-    compare(&taken_away, &None, "mark taken away")?;
-    compare(&marks.next(1, None), &Some(key), "mark set again")
+    assert_eq!(rt; marks.next(1, None), Some(key));
+    Ok(())
 }

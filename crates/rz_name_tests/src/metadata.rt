@@ -1,6 +1,5 @@
 //! Calls that take memory, with ample memory.
 
-use crate::comparing::compare;
 use rz_config::Volume;
 use rz_events::{Call, Key, Reply, Text, TreeCall, TreeReply};
 use rz_export::Export;
@@ -22,8 +21,8 @@ fn with_file(alloc: Global) -> Result<Export, Fail> {
 fn begins_a_write(rt: HostRuntime) -> Result<(), Fail> {
     let mut export = with_file(rt.alloc())?;
     let reply = export.begin(Key { fid: 1, block: 0 })?;
-    let is_begun = matches!(&reply, Reply::Begun { stamp: 1, base: 0 });
-    compare(&is_begun, &true, "begun")
+    assert!(rt; matches!(&reply, Reply::Begun { stamp: 1, base: 0 }));
+    Ok(())
 }
 
 #[test]
@@ -31,6 +30,6 @@ fn takes_a_name_away(rt: HostRuntime) -> Result<(), Fail> {
     let mut export = with_file(rt.alloc())?;
     let path = Text::from_bytes(rt.alloc(), b"/f")?;
     let reply = export.answer(&Call::Tree(TreeCall::Unlink { path }));
-    let is_gone = matches!(&reply, Reply::Tree(TreeReply::Gone(Some(_))));
-    compare(&is_gone, &true, "gone")
+    assert!(rt; matches!(&reply, Reply::Tree(TreeReply::Gone(Some(_)))));
+    Ok(())
 }

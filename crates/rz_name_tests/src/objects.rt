@@ -1,6 +1,5 @@
 //! Each call once with memory enough, and what it replies.
 
-use crate::comparing::compare;
 use rz_events::{Places, Text, TreeCall, TreeReply};
 use rz_tree::Tree;
 use std::alloc::{AllocError, Global};
@@ -62,12 +61,6 @@ fn answer(tree: &mut Tree, call: &TreeCall) -> Result<(&'static str, u128), Allo
     Ok(told(&reply))
 }
 
-// Compares what is told of the reply to a call.
-fn tells(tree: &mut Tree, call: &TreeCall, word: &str, number: u128) -> Result<(), Fail> {
-    let answer = answer(tree, call)?;
-    compare(&answer, &(word, number), word)
-}
-
 fn link(alloc: Global, path: &[u8], to: &[u8]) -> Result<TreeCall, AllocError> {
     let path = Text::from_bytes(alloc, path)?;
     let to = Text::from_bytes(alloc, to)?;
@@ -108,7 +101,7 @@ fn calls_on_one_path(rt: HostRuntime) -> Result<(), Fail> {
     let mut tree = Tree::new(rt.alloc())?;
     for (op, path, word, number) in ROWS {
         let call = call_of(*op, Text::from_bytes(rt.alloc(), path)?);
-        tells(&mut tree, &call, *word, *number)?;
+        assert_eq!(rt; answer(&mut tree, &call)?, (*word, *number));
     }
     Ok(())
 }
@@ -120,14 +113,24 @@ fn calls_on_two_paths(rt: HostRuntime) -> Result<(), Fail> {
     let call = TreeCall::Create {
         path: Text::from_bytes(alloc, b"/f")?,
     };
-    tells(&mut tree, &call, "file", 1)?;
-    tells(&mut tree, &symlink(alloc, b"target", b"/s")?, "made", 2)?;
+    assert_eq!(rt; answer(&mut tree, &call)?, ("file", 1));
+    assert_eq!(rt;
+        answer(&mut tree, &symlink(alloc, b"target", b"/s")?)?,
+        ("made", 2)
+    );
     let call = TreeCall::Readlink {
         path: Text::from_bytes(alloc, b"/s")?,
     };
-    tells(&mut tree, &call, "target", 6)?;
-    tells(&mut tree, &link(alloc, b"/f", b"/g")?, "done", 0)?;
-    tells(&mut tree, &rename(alloc, b"/g", b"/s")?, "gone", 0)?;
-    let found = (tree.made(), tree.file_after(0).is_some());
-    compare(&found, &(2, true), "tree")
+    assert_eq!(rt; answer(&mut tree, &call)?, ("target", 6));
+    assert_eq!(rt;
+        answer(&mut tree, &link(alloc, b"/f", b"/g")?)?,
+        ("done", 0)
+    );
+    assert_eq!(rt;
+        answer(&mut tree, &rename(alloc, b"/g", b"/s")?)?,
+        ("gone", 0)
+    );
+    assert_eq!(rt; tree.made(), 2);
+    assert!(rt; tree.file_after(0).is_some());
+    Ok(())
 }

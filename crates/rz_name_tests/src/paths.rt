@@ -3,7 +3,6 @@
 ghost use Rattle.std.specs.Prelude.{◌≡◌, ◌∷◌, [], IfOk, Some};
 ghost use Rattle.rz_export_model.specs.Paths.{path_of};
 
-use crate::comparing::compare;
 use rz_names::{NameMap, Path};
 use std::test::Fail;
 
@@ -26,7 +25,7 @@ fn reads_paths(rt: HostRuntime) -> Result<(), Fail> {
             Ok(path) => Some(path.names().len()),
             Err(_) => None,
         };
-        compare(&read, &names, text)?;
+        assert_eq!(rt; read, names);
     }
     Ok(())
 }
@@ -47,11 +46,12 @@ fn adds_and_renames(rt: HostRuntime) -> Result<(), Fail> {
     let old = short_path(&rt, b'a')?;
     let new = short_path(&rt, b'b')?;
     map.add(&old, 1)?;
-    let added = map.find(&old, 1);
+    assert_eq!(rt; map.find(&old, 1), Some(1));
     map.rename(&old, &new)?;
-    let found = (added, map.find(&old, 1), map.find(&new, 1));
-    compare(&found, &(Some(1), None, Some(1)), "names")?;
-    compare(&map.after(None)?.is_some(), &true, "any name")?;
+    assert_eq!(rt; map.find(&old, 1), None);
+    assert_eq!(rt; map.find(&new, 1), Some(1));
+    assert!(rt; map.after(None)?.is_some());
     let long = Path::long(rt.alloc(), b"/a/b")?.copy(rt.alloc())?;
-    compare(&long.names().len(), &2, "long path")
+    assert_eq!(rt; long.names().len(), 2);
+    Ok(())
 }

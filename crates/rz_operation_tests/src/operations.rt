@@ -1,14 +1,11 @@
 //! Operations driven by hand.
 
-ghost use Rattle.std.specs.Prelude.{IsTrue};
-
 use rz_events::{
     Answer, Datum, Denial, DropAnswer, FileInfo, KeepAnswer, Layout, NodeAnswer, NodeAsk,
     Operation, Places, Reply, Text, TreeCall, TreeReply,
 };
 use rz_operation::{Ask, ExportAsk, Machine, Saying};
 use std::alloc::AllocError;
-use std::fmt::Debug;
 use std::process::Abort;
 use std::test::Fail;
 
@@ -42,29 +39,17 @@ fn word(ask: &Ask<'_>) -> &'static str {
     }
 }
 
-/// Ends the test where what was found is not what is wanted.
-fn compare<T: PartialEq + Debug>(rt: &impl Abort, found: &T, wanted: &T) {
-    assert!(rt; found == wanted, "{found:?} in place of {wanted:?}");
-}
-
-/// Ends the test where something does not hold.
-fn hold(rt: &impl Abort, is_so: bool, what: &str)
-    ensures { IsTrue is_so }
-{
-    assert!(rt; is_so, "not so: {what}");
-}
-
 /// The export is asked, and replies.
 fn reply(rt: &impl Abort, machine: &mut Machine, want: &str, reply: Reply) {
-    compare(rt, &word(&machine.next()), &want);
-    hold(rt, machine.takes_reply(&reply), "it takes the reply");
+    assert_eq!(rt; word(&machine.next()), want);
+    assert!(rt; machine.takes_reply(&reply));
     machine.tell_reply(reply);
 }
 
 /// The file is opened with a lock.
 fn lock(rt: &impl Abort, machine: &mut Machine, granted: bool) {
     let opened = Reply::Tree(TreeReply::File(file()));
-    hold(rt, machine.takes_locked(&opened), "it takes the file");
+    assert!(rt; machine.takes_locked(&opened));
     machine.tell_locked(granted, opened);
 }
 
@@ -77,8 +62,8 @@ fn kept(rt: &impl Abort, machine: &mut Machine, node: u16) {
     else {
         panic!(rt; "no keep")
     };
-    compare(rt, &asked, &node);
-    hold(rt, machine.has_room(), "it has room");
+    assert_eq!(rt; asked, node);
+    assert!(rt; machine.has_room());
     machine.tell_answer(NodeAnswer::Keep(KeepAnswer::Kept), &[]);
 }
 
@@ -91,8 +76,8 @@ fn missed(rt: &impl Abort, machine: &mut Machine, node: u16) {
     else {
         panic!(rt; "no keep")
     };
-    compare(rt, &asked, &node);
-    hold(rt, machine.has_room(), "it has room");
+    assert_eq!(rt; asked, node);
+    assert!(rt; machine.has_room());
     machine.tell_missed();
 }
 
@@ -105,8 +90,8 @@ fn dropped(rt: &impl Abort, machine: &mut Machine, node: u16, answer: DropAnswer
     else {
         panic!(rt; "no drop")
     };
-    compare(rt, &asked, &node);
-    hold(rt, machine.has_room(), "it has room");
+    assert_eq!(rt; asked, node);
+    assert!(rt; machine.has_room());
     machine.tell_answer(NodeAnswer::Drop(answer), &[]);
 }
 
@@ -115,7 +100,7 @@ fn gave(rt: &impl Abort, machine: &mut Machine) {
     let Ask::Say(Saying::Gave { .. }) = machine.next() else {
         panic!(rt; "no end of a write")
     };
-    hold(rt, machine.has_room(), "it has room");
+    assert!(rt; machine.has_room());
     machine.tell_said();
 }
 
@@ -124,7 +109,7 @@ fn got(rt: &impl Abort, machine: &mut Machine) {
     let Ask::Say(Saying::Got { .. }) = machine.next() else {
         panic!(rt; "no end of a read")
     };
-    hold(rt, machine.has_room(), "it has room");
+    assert!(rt; machine.has_room());
     machine.tell_said();
 }
 
@@ -146,7 +131,7 @@ fn put(rt: &impl Abort, machine: &mut Machine) {
     kept(rt, machine, 4);
     reply(rt, machine, "publish", Reply::Accepted);
     gave(rt, machine);
-    hold(rt, machine.is_over(), "it is over");
+    assert!(rt; machine.is_over());
 }
 
 /// A file that has no name left is dropped: the first node has one version, two others cannot answer.
@@ -194,7 +179,7 @@ fn unlink_drops(rt: HostRuntime) -> Result<(), Fail> {
     let mut machine = Machine::start(rt.alloc(), Layout::L0, op)?;
     unlink(&rt, &mut machine);
     let answer = finish(&rt, &mut machine);
-    hold(&rt, matches!(&answer, Answer::Plain), "a plain answer");
+    assert!(&rt; matches!(&answer, Answer::Plain));
     Ok(())
 }
 
@@ -208,7 +193,6 @@ fn update_waits_twice(rt: HostRuntime) -> Result<(), Fail> {
     let mut machine = Machine::start(rt.alloc(), Layout::L0, op)?;
     update(&rt, &mut machine);
     let answer = finish(&rt, &mut machine);
-    let is_short = matches!(&answer, Answer::ShortWrite { bytes: 0, .. });
-    hold(&rt, is_short, "an answer that no byte was written");
+    assert!(&rt; matches!(&answer, Answer::ShortWrite { bytes: 0, .. }));
     Ok(())
 }

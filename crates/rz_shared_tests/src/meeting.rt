@@ -7,7 +7,6 @@ ghost use Rattle.rz_core.specs.NodeRows.{IsNodeOf};
 ghost use Rattle.rz_config.specs.Plain.{plain_volume};
 ghost use Rattle.rz_chronicle.specs.Kinds.{kind_of};
 
-use crate::comparing::compare;
 use crate::sharing::{is_kept, keep};
 use crate::stage::{FIRST, SECOND, Stage, staged, words};
 use rz_chronicle::{Book, Opened, Pass};
@@ -19,6 +18,7 @@ use rz_meeting::{MeetDisk, Meeting};
 use rz_shared::Cluster;
 use std::alloc::{AllocError, Global};
 use std::marker::Brand;
+use std::process::Abort;
 use std::sync::Wait;
 use std::test::*;
 use std::thread::{Threads, join};
@@ -88,10 +88,11 @@ fn keeps_of_two_nodes_meet(rt: HostRuntime) -> Result<(), Fail> {
     let meeting = Meeting::new();
     let disks = four(rt.alloc(), &meeting)?;
     met::<Brand, _>(&rt, rt.alloc(), opened, volume, disks)?;
-    compare(&meeting.met(), &true, "a meeting")
+    assert!(rt; meeting.met());
+    Ok(())
 }
 
-fn met<J: Counting + Send + Sync, R: Threads + Wait + Sync>(
+fn met<J: Counting + Send + Sync, R: Threads + Wait + Abort + Sync>(
     rt: &R,
     alloc: Global,
     opened: Opened,
@@ -113,5 +114,6 @@ fn met<J: Counting + Send + Sync, R: Threads + Wait + Sync>(
     let left = words(alloc, 5)?;
     let right = words(alloc, 6)?;
     let (a, b) = keep_on_both(rt, &book, &cluster, one, two, left, right);
-    compare(&(is_kept(&a), is_kept(&b)), &(true, true), "kept")
+    assert!(rt; is_kept(&a) && is_kept(&b));
+    Ok(())
 }

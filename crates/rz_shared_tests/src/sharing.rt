@@ -7,7 +7,6 @@ ghost use Rattle.rz_core.specs.NodeRows.{IsNodeOf};
 ghost use Rattle.rz_config.specs.Plain.{plain_volume};
 ghost use Rattle.rz_chronicle.specs.Kinds.{kind_of};
 
-use crate::comparing::compare;
 use crate::stage::{FIRST, SECOND, Stage, staged, words};
 use rz_chronicle::{Book, Naming, Opened, Pass};
 use rz_config::Volume;
@@ -17,6 +16,7 @@ use rz_locked::Counting;
 use rz_shared::Cluster;
 use std::alloc::{AllocError, Global};
 use std::marker::Brand;
+use std::process::Abort;
 use std::sync::Wait;
 use std::test::*;
 use std::thread::{Threads, join};
@@ -128,7 +128,7 @@ fn fetches_of_two_threads_are_counted(rt: HostRuntime) -> Result<(), Fail> {
     counted::<Brand, _>(&rt, rt.alloc(), opened, volume, disks)
 }
 
-fn counted<J: Counting + Send + Sync, R: Threads + Wait + Sync>(
+fn counted<J: Counting + Send + Sync, R: Threads + Wait + Abort + Sync>(
     rt: &R,
     alloc: Global,
     opened: Opened,
@@ -151,7 +151,8 @@ fn counted<J: Counting + Send + Sync, R: Threads + Wait + Sync>(
     let right = words(alloc, 0)?;
     let (mut one, two) = fetch_on_both(rt, &book, &cluster, one, two, left, right);
     book.meet(&mut one, &two);
-    compare(&book.count(&mut one, 1), &200, "events of node 1")
+    assert_eq!(rt; book.count(&mut one, 1), 200);
+    Ok(())
 }
 
 /// What a thread comes back with: its pass, the answer to its write, and that to its read.
@@ -227,7 +228,7 @@ fn of_two_threads_one_reads_what_the_other_wrote(rt: HostRuntime) -> Result<(), 
     read_across::<Brand, _>(&rt, rt.alloc(), opened, volume, disks)
 }
 
-fn read_across<J: Counting + Send + Sync, R: Threads + Wait + Sync>(
+fn read_across<J: Counting + Send + Sync, R: Threads + Wait + Abort + Sync>(
     rt: &R,
     alloc: Global,
     opened: Opened,
@@ -249,15 +250,15 @@ fn read_across<J: Counting + Send + Sync, R: Threads + Wait + Sync>(
     let left = words(alloc, 5)?;
     let right = words(alloc, 6)?;
     let (a, b) = write_on_both(rt, &book, &cluster, one, two, left, right);
+    assert!(rt; is_kept(&a.kept) && is_kept(&b.kept));
     // In whatever order the four calls stand in the log, a write stands before the other's read.
-    let is_read = is_found(&a.read) || is_found(&b.read);
-    let all_kept = is_kept(&a.kept) && is_kept(&b.kept);
-    compare(&(all_kept, is_read), &(true, true), "kept and read")?;
+    assert!(rt; is_found(&a.read) || is_found(&b.read));
     let (mut one, two) = (a.pass, b.pass);
     book.meet(&mut one, &two);
-    let before = book.count(&mut one, 1);
+    assert_eq!(rt; book.count(&mut one, 1), 4);
     let (disks, desk) = cluster.close();
+    assert_eq!(rt; disks.len(), 4);
     book.settle(&mut one, desk);
-    let found = (before, disks.len(), book.count(&mut one, 1));
-    compare(&found, &(4, 4, 4), "events, disks and events again")
+    assert_eq!(rt; book.count(&mut one, 1), 4);
+    Ok(())
 }

@@ -1,4 +1,3 @@
-use crate::comparing::compare;
 use rz_disk::{Disk, DiskError, FileDisk, Fused, MemDisk, PlainDisk, RotDisk, store};
 use std::alloc::Global;
 use std::fs;
@@ -32,28 +31,19 @@ fn stored<D: Disk>(disk: &mut D, alloc: Global) -> Result<[u8; 5], DiskError> {
     Ok(back)
 }
 
-/// Compares the bytes that are read after such a store, and how many the disk had before it and has then.
-fn stores<D: Disk>(
-    disk: &mut D,
-    alloc: Global,
-    before: u64,
-    bytes: [u8; 5],
-    name: &str,
-) -> Result<(), Fail> {
-    let found = (disk.size(), stored(disk, alloc), disk.size());
-    compare(&found, &(before, Ok(bytes), 8), name)
-}
-
 #[test]
 fn a_store_is_read_back(rt: HostRuntime) -> Result<(), Fail> {
     let mut plain = PlainDisk::new(rt.alloc());
-    stores(&mut plain, rt.alloc(), 0, *b"\0abc\0", "plain")?;
+    assert_eq!(rt; plain.size(), 0);
+    assert_eq!(rt; stored(&mut plain, rt.alloc()), Ok(*b"\0abc\0"));
+    assert_eq!(rt; plain.size(), 8);
     let mut mem = MemDisk::new(rt.alloc(), Vec::new(rt.alloc()));
-    stores(&mut mem, rt.alloc(), 0, *b"\0abc\0", "mem")?;
+    assert_eq!(rt; stored(&mut mem, rt.alloc()), Ok(*b"\0abc\0"));
     let mut fused = Fused::new(plain);
-    stores(&mut fused, rt.alloc(), 8, *b"\0abc\0", "fused")?;
+    assert_eq!(rt; stored(&mut fused, rt.alloc()), Ok(*b"\0abc\0"));
     let mut rot = RotDisk::new(fused.into_inner(), 3, 0x80);
-    stores(&mut rot, rt.alloc(), 8, *b"\0a\xe2c\0", "rot")
+    assert_eq!(rt; stored(&mut rot, rt.alloc()), Ok(*b"\0a\xe2c\0"));
+    Ok(())
 }
 
 /// What a crash leaves of eight bytes `1`, of which two were overwritten by `7` after the sync.
@@ -79,21 +69,15 @@ fn a_crash_leaves_what_its_pick_says(rt: HostRuntime) -> Result<(), Fail> {
     ];
     for (pick, bytes) in rows {
         let mut plain = PlainDisk::new(rt.alloc());
-        compare(
-            &left(&mut plain, rt.alloc(), pick),
-            &Ok(bytes),
-            ("plain", pick),
-        )?;
+        assert_eq!(rt;
+            left(&mut plain, rt.alloc(), pick),
+            Ok(bytes),
+            "pick {pick}"
+        );
         let mut mem = MemDisk::new(rt.alloc(), Vec::new(rt.alloc()));
-        compare(&left(&mut mem, rt.alloc(), pick), &Ok(bytes), ("mem", pick))?;
+        assert_eq!(rt; left(&mut mem, rt.alloc(), pick), Ok(bytes), "pick {pick}");
     }
     Ok(())
-}
-
-/// Compares the bytes of a file.
-fn has_bytes(rt: &HostRuntime, file: &str, bytes: &[u8]) -> Result<(), Fail> {
-    let found = fs::read(rt, file)?;
-    compare(&found.as_slice(), &bytes, file)
 }
 
 #[test]
@@ -101,15 +85,20 @@ fn a_file_is_written_synced_read_and_reset(rt: HostRuntime) -> Result<(), Fail> 
     let _ = fs::create_dir(&rt, FOLDER);
     let _ = fs::remove_file(&rt, FILE);
     let mut disk = FileDisk::new(&rt, rt.alloc(), FILE)?;
-    compare(&fs::exists(&rt, FILE)?, &false, "not there yet")?;
-    stores(&mut disk, rt.alloc(), 0, *b"\0abc\0", "file")?;
-    has_bytes(&rt, FILE, b"\0\0abc\0\0\0")?;
-    disk.reset(rt.alloc(), 3)?;
-    has_bytes(&rt, FILE, b"\0\0\0")?;
+    assert_eq!(rt; disk.size(), 0);
+    assert!(rt; !fs::exists(&rt, FILE)?);
+    assert_eq!(rt; stored(&mut disk, rt.alloc()), Ok(*b"\0abc\0"));
+    assert_eq!(rt; disk.size(), 8);
+    assert_eq!(rt;
+        fs::read(&rt, FILE)?.as_slice(),
+        b"\0\0abc\0\0\0".as_slice()
+    );
+    assert_eq!(rt; disk.reset(rt.alloc(), 3), Ok(()));
+    assert_eq!(rt; fs::read(&rt, FILE)?.as_slice(), b"\0\0\0".as_slice());
     let mut back = [9; 3];
-    disk.read(0, &mut back)?;
-    compare(&back, &[0; 3], "read back")?;
-    compare(&fs::exists(&rt, DRAFT)?, &false, DRAFT)?;
+    assert_eq!(rt; disk.read(0, &mut back), Ok(()));
+    assert_eq!(rt; back, [0; 3]);
+    assert!(rt; !fs::exists(&rt, DRAFT)?);
     fs::remove_file(&rt, FILE)?;
     Ok(())
 }
@@ -118,23 +107,22 @@ fn a_file_is_written_synced_read_and_reset(rt: HostRuntime) -> Result<(), Fail> 
 fn a_file_that_is_there_stays_as_it_is(rt: HostRuntime) -> Result<(), Fail> {
     let _ = fs::create_dir(&rt, FOLDER);
     let _ = fs::remove_file(&rt, OTHER);
-    let fails = matches!(
-        FileDisk::existing(&rt, rt.alloc(), OTHER),
-        Err(DiskError::Failed)
+    assert!(rt;
+        matches!(
+            FileDisk::existing(&rt, rt.alloc(), OTHER),
+            Err(DiskError::Failed)
+        )
     );
-    compare(&fails, &true, "not there")?;
     fs::write(&rt, OTHER, b"there".as_slice())?;
     let mut disk = FileDisk::existing(&rt, rt.alloc(), OTHER)?;
-    if disk.size() != 5 {
-        return Err("another size")?;
-    }
+    assert_eq!(rt; disk.size(), 5);
     let mut back = [9; 5];
-    disk.read(0, &mut back)?;
-    compare(&back, b"there", "read back")?;
-    has_bytes(&rt, OTHER, b"there")?;
-    disk.write_at(4, b"m")?;
-    disk.sync()?;
-    has_bytes(&rt, OTHER, b"therm")?;
+    assert_eq!(rt; disk.read(0, &mut back), Ok(()));
+    assert_eq!(rt; back, *b"there");
+    assert_eq!(rt; fs::read(&rt, OTHER)?.as_slice(), b"there".as_slice());
+    assert_eq!(rt; disk.write_at(4, b"m"), Ok(()));
+    assert_eq!(rt; disk.sync(), Ok(()));
+    assert_eq!(rt; fs::read(&rt, OTHER)?.as_slice(), b"therm".as_slice());
     fs::remove_file(&rt, OTHER)?;
     Ok(())
 }

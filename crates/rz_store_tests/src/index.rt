@@ -2,7 +2,6 @@
 
 ghost use Rattle.std.specs.Prelude.{◌≡◌, None};
 
-use crate::comparing::compare;
 use rz_events::Key;
 use rz_index::{Entry, Index};
 use rz_versions::Versions;
@@ -16,12 +15,15 @@ fn a_key_takes_a_cell_and_gives_it_back(rt: HostRuntime) -> Result<(), Fail> {
         (None, None, Some(0))
     );
     index.set(entry(7, 5, 0));
-    let held = (index.first_of(7), index.first_of(5), index.free_cell());
+    assert_eq!(rt; index.free_cell(), Some(1));
+    assert_eq!(rt;
+        (index.first_of(7), index.first_of(5)),
+        (Some(entry(7, 5, 0)), None)
+    );
     index.remove(key(7, 4));
     index.remove(key(7, 5));
-    let left = (index.find(key(7, 5)), index.free_cell());
-    compare(&held, &(Some(entry(7, 5, 0)), None, Some(1)), "held")?;
-    compare(&left, &(None, Some(1)), "left")
+    assert_eq!(rt; (index.find(key(7, 5)), index.free_cell()), (None, Some(1)));
+    Ok(())
 }
 
 fn key(fid: u128, block: u64) -> Key

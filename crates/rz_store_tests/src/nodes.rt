@@ -1,7 +1,6 @@
 //! Each call that takes memory, with ample memory, and a keep, a fetch and a drop.
 ghost use Rattle.std.specs.Prelude.{◌≡◌, IfOk, vec_len};
 
-use crate::comparing::compare;
 use rz_disk::{Disk, Fused, PlainDisk};
 use rz_events::Layout;
 use rz_node::{
@@ -61,17 +60,19 @@ fn a_node_is_opened_and_started(rt: HostRuntime) -> Result<(), Fail> {
     let Ok(mut node) = Node::reopen(rt.alloc(), ONE, 3, disk) else {
         return Err("not opened")?;
     };
-    let stopped = (node.stop(), node.phase());
-    compare(&stopped, &(true, Phase::Down), "stopped")?;
+    assert!(rt; node.stop());
+    assert_eq!(rt; node.phase(), Phase::Down);
     let answer = node.start(rt.alloc());
-    compare(&answer, &StartAnswer::Started { took: false }, "started")
+    assert_eq!(rt; answer, StartAnswer::Started { took: false });
+    Ok(())
 }
 
 #[test]
 fn a_lost_disk_is_replaced(rt: HostRuntime) -> Result<(), Fail> {
     let mut node = formatted(rt.alloc(), PlainDisk::new(rt.alloc()))?;
-    let answers = (node.lose(), node.replace(rt.alloc(), 1, 7));
-    compare(&answers, &(Some(1), ReplaceAnswer::Replaced), "answers")
+    assert_eq!(rt; node.lose(), Some(1));
+    assert_eq!(rt; node.replace(rt.alloc(), 1, 7), ReplaceAnswer::Replaced);
+    Ok(())
 }
 
 #[test]
@@ -79,24 +80,21 @@ fn a_lost_disk_is_replaced(rt: HostRuntime) -> Result<(), Fail> {
 fn a_record_is_kept_fetched_and_dropped(rt: HostRuntime) -> Result<(), Fail> {
     let mut node = formatted(rt.alloc(), PlainDisk::new(rt.alloc()))?;
     let bins = words(rt.alloc(), 9)?;
-    let kept = node.keep(&FIRST, &bins);
+    assert_eq!(rt; node.keep(&FIRST, &bins), KeepAnswer::Kept);
     let mut out = words(rt.alloc(), 7)?;
     let held = Held {
         stamp: 1,
         length: 4096,
         base: 0,
     };
-    let fetched = node.fetch_into(KEY, 1, &mut out);
-    let gone = DropAnswer::Dropped {
+    let answer = node.fetch_into(KEY, 1, &mut out);
+    assert_eq!(rt; answer, FetchAnswer::Held(held));
+    assert_eq!(rt; out, bins);
+    let dropped = DropAnswer::Dropped {
         block: 2,
         stamp: 1,
         more: false,
     };
-    let answers = (kept, fetched, node.drop_next(1));
-    compare(
-        &answers,
-        &(KeepAnswer::Kept, FetchAnswer::Held(held), gone),
-        "answers",
-    )?;
-    compare(&out, &bins, "bins")
+    assert_eq!(rt; node.drop_next(1), dropped);
+    Ok(())
 }

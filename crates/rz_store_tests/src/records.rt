@@ -1,7 +1,6 @@
 //! The record of a small file's first write, and each refusal.
 ghost use Rattle.std.specs.Prelude.{◌≡◌, IfOk, vec_len};
 
-use crate::comparing::compare;
 use rz_events::{Key, Layout};
 use rz_record::{Field, Head, RecordFault, decode_into, encode_into, head_of};
 use std::alloc::{AllocError, Global};
@@ -59,7 +58,8 @@ fn writes_the_first_record(rt: HostRuntime) -> Result<(), Fail> {
     for (i, byte) in b"hello".iter().enumerate() {
         alter(&mut want, 64 + i, *byte);
     }
-    compare(&out, &want, "record")
+    assert_eq!(rt; out.as_slice(), want.as_slice());
+    Ok(())
 }
 
 /// Reads a record into so many words of 7.
@@ -75,16 +75,17 @@ fn reads_it_again(rt: HostRuntime) -> Result<(), Fail> {
     let mut out = spelled(rt.alloc())?;
     out.extend_from_slice(b"more")?;
     let (head, bins) = read(rt.alloc(), &out)?;
-    compare(&head, &Ok(FIRST), "head")?;
+    assert_eq!(rt; head, Ok(FIRST));
     for (at, word) in [(1, 0), (2, 0x6f_6c6c_6568), (257, 0), (258, 7)] {
-        compare(&bins.get(at).copied(), &Some(word), at)?;
+        assert_eq!(rt; bins.get(at).copied(), Some(word), "at {at}");
     }
     let (head, _) = read(rt.alloc(), front(&out, 2111))?;
     let short = RecordFault::Short {
         have: 2111,
         need: 2112,
     };
-    compare(&head, &Err(short), "one byte less")
+    assert_eq!(rt; head, Err(short));
+    Ok(())
 }
 
 fn bad(field: Field, value: u64) -> RecordFault {
@@ -109,10 +110,11 @@ fn refuses_in_order(rt: HostRuntime) -> Result<(), Fail> {
     let mut all = spelled(rt.alloc())?;
     for (at, byte, fault) in wrong_fields() {
         alter(&mut all, at, byte);
-        compare(&head_of(&all), &Err(fault), at)?;
+        assert_eq!(rt; head_of(&all), Err(fault), "before later ones, at {at}");
     }
     let short = RecordFault::Short { have: 47, need: 48 };
-    compare(&head_of(front(&all, 47)), &Err(short), "one byte less")
+    assert_eq!(rt; head_of(front(&all, 47)), Err(short));
+    Ok(())
 }
 
 #[test]
@@ -124,7 +126,7 @@ fn of_two_wrong_fields_the_first_is_told(rt: HostRuntime) -> Result<(), Fail> {
         for (at_too, byte_too, fault) in wrong_fields().iter().skip(later) {
             let mut two = one.clone()?;
             alter(&mut two, *at_too, *byte_too);
-            compare(&head_of(&two), &Err(*fault), (*at, *at_too))?;
+            assert_eq!(rt; head_of(&two), Err(*fault), "at {at} and {at_too}");
         }
     }
     Ok(())
@@ -164,7 +166,7 @@ fn each_value_of_a_byte_with_a_rule(rt: HostRuntime) -> Result<(), Fail> {
             } else {
                 Some(bad(field, told))
             };
-            compare(&head_of(&bytes).err(), &wanted, (at, value))?;
+            assert_eq!(rt; head_of(&bytes).err(), wanted, "{value} at {at}");
         }
     }
     Ok(())
@@ -207,11 +209,11 @@ fn each_layout_has_its_bounds(rt: HostRuntime) -> Result<(), Fail> {
         let last = head_bytes(number, bsize, safe.saturating_sub(1), block);
         let past = head_bytes(number, bsize, safe, block);
         let long = head_bytes(number, bsize, 0, block.saturating_add(1));
-        compare(&head_of(&last).is_ok(), &true, (number, bsize))?;
+        assert!(rt; head_of(&last).is_ok(), "{number} {bsize}");
         let position = bad(Field::Position, safe.into());
-        compare(&head_of(&past), &Err(position), (number, bsize))?;
+        assert_eq!(rt; head_of(&past), Err(position), "{number} {bsize}");
         let length = bad(Field::Length, u64::from(block) + 1);
-        compare(&head_of(&long), &Err(length), (number, bsize))?;
+        assert_eq!(rt; head_of(&long), Err(length), "{number} {bsize}");
     }
     Ok(())
 }
@@ -222,7 +224,7 @@ fn no_part_of_a_record_is_read(rt: HostRuntime) -> Result<(), Fail> {
     for have in 0..2112 {
         let need = if have < 48 { 48 } else { 2112 };
         let (head, _) = read(rt.alloc(), front(&good, have))?;
-        compare(&head, &Err(RecordFault::Short { have, need }), have)?;
+        assert_eq!(rt; head, Err(RecordFault::Short { have, need }));
     }
     Ok(())
 }

@@ -2,7 +2,6 @@
 ghost use Rattle.std.specs.Prelude.{◌≡◌, ◌<◌, IfOk, length, vec_len};
 ghost use Rattle.mj_angles.specs.Layout.{inverse_of, cols_of, safe_of, bins_at_of, max_bins_of};
 
-use crate::comparing::compare;
 use crate::nodes::KEY;
 use mj_angles::Layout;
 use mj_forward::project;
@@ -11,6 +10,7 @@ use rz_node::{FetchAnswer, Geometry, Head, KeepAnswer, Node};
 use rz_scrub::{Scrub, Verdict};
 use rz_words::Block;
 use std::alloc::{AllocError, Global};
+use std::process::Abort;
 use std::test::Fail;
 
 /// What a node gives back of a record's bins, where its disk flips bits of a byte of the first bin. The
@@ -100,59 +100,49 @@ fn counted(alloc: Global, layout: Layout) -> Result<Block, AllocError>
 ///
 /// Their bins have another sum, the same for all of them. So a block fits none but those, or none of them,
 /// and past the reach there is none that fits enough.
-fn verdict_on(alloc: Global, layout: Layout, altered: &[u8]) -> Result<Verdict, Fail> {
-    let block = counted(alloc, layout)?;
-    let mut scrub = Scrub::start(alloc, layout)?;
+fn verdict_on(
+    rt: &(impl Abort + AllocGlobal),
+    layout: Layout,
+    altered: &[u8],
+) -> Result<Verdict, Fail> {
+    let block = counted(rt.alloc(), layout)?;
+    let mut scrub = Scrub::start(rt.alloc(), layout)?;
     for position in 0..layout.safe() as u8 {
         let flips = if altered.contains(&position) { 0x80 } else { 0 };
-        add_fetched(alloc, &mut scrub, &block, layout, position, flips)?;
+        add_fetched(rt.alloc(), &mut scrub, &block, layout, position, flips)?;
     }
     if scrub.added() < layout.inverse() {
         return Err("too few records")?;
     }
-    let mut out = Block::zero(alloc, layout.inverse(), layout.cols())?;
+    let mut out = Block::zero(rt.alloc(), layout.inverse(), layout.cols())?;
     let verdict = scrub.judge(&mut out);
     if verdict != Verdict::Unsure {
-        compare(&out.words(), &block.words(), layout)?;
+        assert_eq!(rt; out.words(), block.words());
     }
     Ok(verdict)
-}
-
-/// Compares that verdict.
-fn names(alloc: Global, layout: Layout, altered: &[u8], wanted: Verdict) -> Result<(), Fail> {
-    compare(&verdict_on(alloc, layout, altered)?, &wanted, altered)
 }
 
 /// The reach is 1, 2 and 4.
 #[test]
 fn rot_is_named_up_to_the_reach(rt: HostRuntime) -> Result<(), Fail> {
-    names(rt.alloc(), Layout::L0, &[], Verdict::Clean)?;
-    names(rt.alloc(), Layout::L0, &[3], Verdict::Altered { mask: 0x8 })?;
-    names(
-        rt.alloc(),
-        Layout::L1,
-        &[5],
-        Verdict::Altered { mask: 0x20 },
-    )?;
-    names(
-        rt.alloc(),
-        Layout::L1,
-        &[1, 6],
-        Verdict::Altered { mask: 0x42 },
-    )?;
-    names(
-        rt.alloc(),
-        Layout::L2,
-        &[9],
-        Verdict::Altered { mask: 0x200 },
-    )?;
-    let four = Verdict::Altered { mask: 0x8442 };
-    names(rt.alloc(), Layout::L2, &[1, 6, 10, 15], four)
+    let named = |mask| Verdict::Altered { mask };
+    assert_eq!(rt; verdict_on(&rt, Layout::L0, &[])?, Verdict::Clean);
+    assert_eq!(rt; verdict_on(&rt, Layout::L0, &[3])?, named(0x8));
+    assert_eq!(rt; verdict_on(&rt, Layout::L1, &[5])?, named(0x20));
+    assert_eq!(rt; verdict_on(&rt, Layout::L1, &[1, 6])?, named(0x42));
+    assert_eq!(rt; verdict_on(&rt, Layout::L2, &[9])?, named(0x200));
+    assert_eq!(rt;
+        verdict_on(&rt, Layout::L2, &[1, 6, 10, 15])?,
+        named(0x8442)
+    );
+    Ok(())
 }
 
 #[test]
 fn rot_past_the_reach_is_not_named(rt: HostRuntime) -> Result<(), Fail> {
-    names(rt.alloc(), Layout::L0, &[1, 2], Verdict::Unsure)?;
-    names(rt.alloc(), Layout::L1, &[0, 3, 6], Verdict::Unsure)?;
-    names(rt.alloc(), Layout::L2, &[1, 4, 6, 10, 15], Verdict::Unsure)
+    assert_eq!(rt; verdict_on(&rt, Layout::L0, &[1, 2])?, Verdict::Unsure);
+    assert_eq!(rt; verdict_on(&rt, Layout::L1, &[0, 3, 6])?, Verdict::Unsure);
+    let many = [1, 4, 6, 10, 15];
+    assert_eq!(rt; verdict_on(&rt, Layout::L2, &many)?, Verdict::Unsure);
+    Ok(())
 }

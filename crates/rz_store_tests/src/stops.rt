@@ -7,7 +7,6 @@ ghost use Rattle.std.specs.Prelude.{◌≡◌, IfOk, length};
 ghost use Rattle.mj_angles.specs.declared.layout.Layout.TheVariants.{L0};
 ghost use Rattle.rz_record.specs.Record.{IsValid};
 
-use crate::comparing::compare;
 use crate::nodes::{KEY, ONE, formatted, words};
 use rz_disk::{Disk, Fused, MemDisk, PlainDisk};
 use rz_events::Layout;
@@ -220,20 +219,20 @@ fn a_change_that_stops_is_done_or_not(rt: HostRuntime) -> Result<(), Fail> {
                 let node = stopped(rt.alloc(), failing_at(rt.alloc(), begin + call)?, row, 0)?;
                 let took = is_flipped && call == 3;
                 let held = if took { row.after } else { row.before };
-                compare(
-                    &started(rt.alloc(), node, pick)?,
-                    &(took, held),
-                    ("call", call, pick),
-                )?;
+                assert_eq!(rt;
+                    started(rt.alloc(), node, pick)?,
+                    (took, held),
+                    "call {call}, pick {pick}"
+                );
                 let disk = Fused::new(PlainDisk::new(rt.alloc()));
                 let node = stopped(rt.alloc(), disk, row, call)?;
                 let took = is_flipped && call >= 2;
                 let held = if took { row.after } else { row.before };
-                compare(
-                    &started(rt.alloc(), node, pick)?,
-                    &(took, held),
-                    ("passes", call, pick),
-                )?;
+                assert_eq!(rt;
+                    started(rt.alloc(), node, pick)?,
+                    (took, held),
+                    "passes {call}, pick {pick}"
+                );
             }
         }
     }
@@ -304,20 +303,20 @@ fn a_replacement_that_stops_is_done_or_shut(rt: HostRuntime) -> Result<(), Fail>
         for (call, wanted) in [WAS, None, None, None, by_gate].iter().enumerate() {
             let disk = failing_at(rt.alloc(), 9 + call as u64)?;
             let node = lost(rt.alloc(), disk, 0)?;
-            compare(
-                &found(rt.alloc(), node, pick)?,
-                wanted,
-                ("call", call, pick),
-            )?;
+            assert_eq!(rt;
+                found(rt.alloc(), node, pick)?,
+                *wanted,
+                "call {call}, pick {pick}"
+            );
         }
         for (passes, wanted) in [None, None, by_gate, by_gate].iter().enumerate() {
             let disk = Fused::new(PlainDisk::new(rt.alloc()));
             let node = lost(rt.alloc(), disk, passes as u64)?;
-            compare(
-                &found(rt.alloc(), node, pick)?,
-                wanted,
-                ("passes", passes, pick),
-            )?;
+            assert_eq!(rt;
+                found(rt.alloc(), node, pick)?,
+                *wanted,
+                "passes {passes}, pick {pick}"
+            );
         }
     }
     Ok(())
@@ -327,9 +326,12 @@ fn a_replacement_that_stops_is_done_or_shut(rt: HostRuntime) -> Result<(), Fail>
 fn a_second_replacement_is_done(rt: HostRuntime) -> Result<(), Fail> {
     for passes in 0..4 {
         let mut node = lost(rt.alloc(), Fused::new(PlainDisk::new(rt.alloc())), passes)?;
-        let answer = node.replace(rt.alloc(), 1, 7);
-        let found = seen(rt.alloc(), &mut node)?;
-        compare(&(answer, found), &(ReplaceAnswer::Replaced, ANEW), passes)?;
+        assert_eq!(rt;
+            node.replace(rt.alloc(), 1, 7),
+            ReplaceAnswer::Replaced,
+            "passes {passes}"
+        );
+        assert_eq!(rt; seen(rt.alloc(), &mut node)?, ANEW, "passes {passes}");
     }
     Ok(())
 }

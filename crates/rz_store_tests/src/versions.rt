@@ -2,7 +2,6 @@
 
 ghost use Rattle.std.specs.Prelude.{◌≡◌};
 
-use crate::comparing::compare;
 use rz_versions::{Room, Version, Versions};
 use std::test::Fail;
 
@@ -25,11 +24,8 @@ fn one_gives_way(rt: HostRuntime) -> Result<(), Fail> {
         let versions = Versions::none()
             .with(0, version(zero))
             .with(1, version(one));
-        let found = (
-            versions.for_keep(version(new)),
-            versions.for_refill(version(new)),
-        );
-        compare(&found, &(keep, refill), new)?;
+        assert_eq!(rt; versions.for_keep(version(new)), keep);
+        assert_eq!(rt; versions.for_refill(version(new)), refill);
     }
     Ok(())
 }
@@ -37,35 +33,33 @@ fn one_gives_way(rt: HostRuntime) -> Result<(), Fail> {
 #[test]
 fn sides_fill_and_empty(rt: HostRuntime) -> Result<(), Fail> {
     let none = Versions::none();
+    assert_eq!(rt;
+        (none.greatest(), none.lesser(), none.side_of(4)),
+        (None, None, None)
+    );
+    assert_eq!(rt; none.for_keep(version((4, 0))), Room::Put { side: 0 });
     let one = none.with(0, version((4, 0)));
+    assert_eq!(rt; one.for_keep(version((6, 4))), Room::Put { side: 1 });
+    assert_eq!(rt;
+        (one.greatest(), one.lesser()),
+        (Some(version((4, 0))), Some(version((4, 0))))
+    );
     let two = one.with(1, version((6, 4)));
+    assert_eq!(rt;
+        (two.greatest(), two.lesser()),
+        (Some(version((6, 4))), Some(version((4, 0))))
+    );
+    assert_eq!(rt;
+        (two.side_of(4), two.side_of(6), two.side_of(5)),
+        (Some(0), Some(1), None)
+    );
     let left = two.without(0);
-    compare(&none.side_of(4), &None, "none")?;
-    let sides = (two.side_of(4), two.side_of(6), two.side_of(5));
-    compare(&sides, &(Some(0), Some(1), None), "two")?;
-    let (first, second) = (Some(version((4, 0))), Some(version((6, 4))));
-    ends(&none, None, None)?;
-    ends(&one, first, first)?;
-    ends(&two, second, first)?;
-    ends(&left, second, second)?;
-    goes_to(&none, (4, 0), 0)?;
-    goes_to(&one, (6, 4), 1)?;
-    goes_to(&left, (8, 6), 0)
-}
-
-// Compares the greatest version that is held and the lesser one.
-fn ends(
-    versions: &Versions,
-    greatest: Option<Version>,
-    lesser: Option<Version>,
-) -> Result<(), Fail> {
-    let found = (versions.greatest(), versions.lesser());
-    compare(&found, &(greatest, lesser), "greatest and lesser")
-}
-
-// Compares the side on which a new version is kept.
-fn goes_to(versions: &Versions, new: (u64, u64), side: u8) -> Result<(), Fail> {
-    compare(&versions.for_keep(version(new)), &Room::Put { side }, new)
+    assert_eq!(rt;
+        (left.greatest(), left.lesser()),
+        (Some(version((6, 4))), Some(version((6, 4))))
+    );
+    assert_eq!(rt; left.for_keep(version((8, 6))), Room::Put { side: 0 });
+    Ok(())
 }
 
 fn version(numbers: (u64, u64)) -> Version

@@ -2,4 +2,4 @@ use Rattle.std.proofs.Common.{◌≡◌}
 use Rattle.rz_store_tests.proofs.rot.verdict_on.Given as goal
 
 abbrev pub invariant-loop-position : goal.invariant-loop-position
-invariant-loop-position l = l.scrub.layout ≡ l.layout
+invariant-loop-position g l = l.scrub.layout ≡ l.layout

@@ -1,31 +1,42 @@
 //! What a journal writes.
 
-use crate::calls::{COUNT, call};
-use crate::disks::{has, store};
-use crate::sample::{CALLS, FIRST_HALF, HEADER, PARTS};
+use crate::bytes::{CALL_BYTES, CALLS, PART_BYTES};
+use crate::calls::call;
 use rz_config::Volume;
-use rz_disk::{Disk, PlainDisk};
+use rz_disk::{Disk, Failed, PlainDisk};
 use rz_events::Call;
 use rz_journal::{Journal, JournalReply};
 use std::alloc::{AllocError, Global};
 use std::test::Fail;
 
-/// Where the second half begins.
+/// Where the halves begin.
+const FIRST_HALF: u64 = 64;
+
 const SECOND_HALF: u64 = 8_388_640;
 
-/// Compares the entries that stand on a disk, one behind the other, with these, and says where they end.
-fn all_stand<D: Disk>(
-    alloc: Global,
-    disk: &mut D,
-    start: u64,
-    entries: &[&[u8]],
-) -> Result<u64, Fail> {
-    let mut at = start;
-    for entry in entries {
-        has(alloc, disk, at, entry)?;
-        at = at.saturating_add(entry.len() as u64);
+/// The front of a formatted disk, whose first half counts.
+const HEADER: &[u8; 34] = b"MJROZJ01\0\0\0\0\0\0\0\0\0\0\0\0\0\0\0\0\0\0\0\0\0\0\0\0\x01\0";
+
+/// Whether these bytes stand on a disk.
+fn stands<D: Disk>(alloc: Global, disk: &mut D, at: u64, bytes: &[u8]) -> Result<bool, Fail> {
+    let mut there = Vec::from_elem(alloc, 0u8, bytes.len())?;
+    let size = disk.size();
+    if at <= size && there.len() as u64 <= size - at {
+        disk.read(at, &mut there)?;
+        Ok(there.as_slice() == bytes)
+    } else {
+        Ok(false)
     }
-    Ok(at)
+}
+
+/// Writes bytes and syncs them, where there is room for them.
+fn store<D: Disk>(disk: &mut D, at: u64, bytes: &[u8]) -> Result<(), Failed> {
+    let size = disk.size();
+    if at <= size && bytes.len() as u64 <= size - at {
+        disk.write_at(at, bytes)?;
+        disk.sync()?;
+    }
+    Ok(())
 }
 
 /// Asks a journal, which is to reply.
@@ -45,7 +56,7 @@ fn disk_of_calls(alloc: Global) -> Result<PlainDisk, Fail> {
     let Ok(mut journal) = Journal::format(alloc, Volume::plain(alloc)?, disk) else {
         return Err("not formatted")?;
     };
-    for number in 0..COUNT {
+    for number in 0..CALLS {
         ask(&mut journal, &call(alloc, number)?)?;
     }
     Ok(journal.into_disk())
@@ -70,9 +81,14 @@ fn filling(alloc: Global, count: u64) -> Result<Vec<u8>, AllocError> {
 #[test]
 fn each_call_has_its_bytes(rt: HostRuntime) -> Result<(), Fail> {
     let mut disk = disk_of_calls(rt.alloc())?;
-    has(rt.alloc(), &mut disk, 0, HEADER)?;
-    let at = all_stand(rt.alloc(), &mut disk, FIRST_HALF, &CALLS)?;
-    has(rt.alloc(), &mut disk, at, b"\0")
+    assert!(rt; stands(rt.alloc(), &mut disk, 0, HEADER)?);
+    let mut at = FIRST_HALF;
+    for (number, entry) in CALL_BYTES.iter().enumerate() {
+        assert!(rt; stands(rt.alloc(), &mut disk, at, entry)?, "call {number}");
+        at = at.saturating_add(entry.len() as u64);
+    }
+    assert!(rt; stands(rt.alloc(), &mut disk, at, b"\0")?);
+    Ok(())
 }
 
 /// The calls and the filling leave 12 bytes of the half, so the next entry stands behind the parts.
@@ -86,8 +102,13 @@ fn each_part_has_its_bytes(rt: HostRuntime) -> Result<(), Fail> {
     };
     ask(&mut journal, &Call::Enroll { node: 4, loss: 1 })?;
     let mut disk = journal.into_disk();
-    let at = all_stand(rt.alloc(), &mut disk, SECOND_HALF, &PARTS)?;
+    let mut at = SECOND_HALF;
+    for (number, entry) in PART_BYTES.iter().enumerate() {
+        assert!(rt; stands(rt.alloc(), &mut disk, at, entry)?, "part {number}");
+        at = at.saturating_add(entry.len() as u64);
+    }
     let last = b"\x01\x0b\0\0\0\x04\x04\0\x01\0\0\0\0\0\0\0\0";
-    has(rt.alloc(), &mut disk, at, last)?;
-    has(rt.alloc(), &mut disk, 32, b"\x01\x01")
+    assert!(rt; stands(rt.alloc(), &mut disk, at, last)?);
+    assert!(rt; stands(rt.alloc(), &mut disk, 32, b"\x01\x01")?);
+    Ok(())
 }

@@ -1,10 +1,7 @@
 //! The last entry and the last gate of a half.
 
 use crate::calls::{Told, link};
-use crate::comparing::compare;
-use crate::disks::{
-    FIRST_HALF, HALF_GATE, SECOND_HALF, disk_with, entries, has, open, opened, opens, store,
-};
+use crate::disks::{FIRST_HALF, HALF_GATE, SECOND_HALF, disk_with, open, opened, stands, store};
 use rz_disk::PlainDisk;
 use rz_journal::JournalFault;
 use std::alloc::{AllocError, Global};
@@ -17,6 +14,23 @@ const COUNT: u64 = 31_654;
 const END: u64 = FIRST_HALF + 8_388_310;
 
 const LAST: u64 = FIRST_HALF + 8_388_575;
+
+/// The entries of so many calls that make a directory and take it away in turn: behind the gate and the
+/// length of four stand the kind, the number of `mkdir` or `rmdir`, and a path of 256 bytes behind its
+/// length of two.
+fn entries(alloc: Global, count: u64) -> Result<Vec<u8>, AllocError> {
+    let mut row = Vec::new(alloc);
+    for number in 0..count {
+        let front = if number % 2 == 0 {
+            b"\x01\x04\x01\0\0\x01\x03\0\x01/"
+        } else {
+            b"\x01\x04\x01\0\0\x01\x02\0\x01/"
+        };
+        row.extend_from_slice(front)?;
+        row.extend_from_slice(&[b'n'; 255])?;
+    }
+    Ok(row)
+}
 
 /// The entry of a symbolic link with a target of 100 bytes and a path of so many, which is 154 or 155. It
 /// takes 265 bytes or 266.
@@ -48,10 +62,11 @@ fn with_link(alloc: Global, size: usize) -> Result<PlainDisk, Fail> {
 fn an_entry_fits_to_the_last_byte(rt: HostRuntime) -> Result<(), Fail> {
     let mut disk = with_link(rt.alloc(), 154)?;
     let entry = link_entry(rt.alloc(), 154)?;
-    has(rt.alloc(), &mut disk, HALF_GATE, b"\0")?;
-    has(rt.alloc(), &mut disk, END, entry.as_slice())?;
-    has(rt.alloc(), &mut disk, LAST, b"\0")?;
-    opens(rt.alloc(), disk)
+    assert!(rt; stands(rt.alloc(), &mut disk, HALF_GATE, b"\0")?);
+    assert!(rt; stands(rt.alloc(), &mut disk, END, entry.as_slice())?);
+    assert!(rt; stands(rt.alloc(), &mut disk, LAST, b"\0")?);
+    assert_eq!(rt; opened(rt.alloc(), disk)?.1, None);
+    Ok(())
 }
 
 /// It stands in the other half, behind the counters of 30 bytes and the root of 46.
@@ -59,10 +74,11 @@ fn an_entry_fits_to_the_last_byte(rt: HostRuntime) -> Result<(), Fail> {
 fn an_entry_of_a_byte_more_does_not_fit(rt: HostRuntime) -> Result<(), Fail> {
     let mut disk = with_link(rt.alloc(), 155)?;
     let entry = link_entry(rt.alloc(), 155)?;
-    has(rt.alloc(), &mut disk, HALF_GATE, b"\x01")?;
-    has(rt.alloc(), &mut disk, SECOND_HALF + 76, entry.as_slice())?;
-    has(rt.alloc(), &mut disk, LAST, b"\xff")?;
-    opens(rt.alloc(), disk)
+    assert!(rt; stands(rt.alloc(), &mut disk, HALF_GATE, b"\x01")?);
+    assert!(rt; stands(rt.alloc(), &mut disk, SECOND_HALF + 76, entry.as_slice())?);
+    assert!(rt; stands(rt.alloc(), &mut disk, LAST, b"\xff")?);
+    assert_eq!(rt; opened(rt.alloc(), disk)?.1, None);
+    Ok(())
 }
 
 /// What is told of the entries with these bytes behind them.
@@ -77,19 +93,16 @@ fn fault_with(alloc: Global, bytes: &[u8]) -> Result<Option<JournalFault>, Fail>
 /// An entry that leaves no room for the gate behind it is damaged, and so is an open gate at the end.
 #[test]
 fn the_last_gate_has_room(rt: HostRuntime) -> Result<(), Fail> {
-    let damaged = |entry| Some(JournalFault::Damaged { entry });
-    for (size, gate, wanted) in [
-        (154, None, None),
-        (154, Some(2), None),
-        (154, Some(1), damaged(31_655)),
-        (155, None, damaged(31_654)),
-    ] {
-        let mut entry = link_entry(rt.alloc(), size)?;
-        if let Some(gate) = gate {
-            entry.push(gate)?;
-        }
-        let fault = fault_with(rt.alloc(), entry.as_slice())?;
-        compare(&fault, &wanted, (size, gate))?;
-    }
+    let mut entry = link_entry(rt.alloc(), 154)?;
+    assert_eq!(rt; fault_with(rt.alloc(), entry.as_slice())?, None);
+    entry.push(2)?;
+    assert_eq!(rt; fault_with(rt.alloc(), entry.as_slice())?, None);
+    let mut entry = link_entry(rt.alloc(), 154)?;
+    entry.push(1)?;
+    let wanted = Some(JournalFault::Damaged { entry: 31_655 });
+    assert_eq!(rt; fault_with(rt.alloc(), entry.as_slice())?, wanted);
+    let entry = link_entry(rt.alloc(), 155)?;
+    let wanted = Some(JournalFault::Damaged { entry: 31_654 });
+    assert_eq!(rt; fault_with(rt.alloc(), entry.as_slice())?, wanted);
     Ok(())
 }

@@ -3,9 +3,6 @@
 use rz_events::{Call, Key, Text, TreeCall};
 use std::alloc::{AllocError, Global};
 
-/// How many calls there are.
-pub const COUNT: u8 = 13;
-
 /// The call of this number.
 pub fn call(alloc: Global, number: u8) -> Result<Call, AllocError> {
     match number {

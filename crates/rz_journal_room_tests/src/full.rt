@@ -1,7 +1,7 @@
 //! A journal whose parts leave little room in a half.
 
 use crate::calls::{Told, link};
-use crate::disks::{HALF_GATE, SECOND_HALF, disk_with, has, open, opens, store};
+use crate::disks::{HALF_GATE, SECOND_HALF, disk_with, open, opened, stands, store};
 use rz_disk::PlainDisk;
 use std::alloc::{AllocError, Global};
 use std::test::Fail;
@@ -87,8 +87,9 @@ fn parts_leave_room_for_an_entry(rt: HostRuntime) -> Result<(), Fail> {
     let row = parts(rt.alloc())?;
     let disk = disk_with(rt.alloc(), row.as_slice())?;
     let mut disk = asked(rt.alloc(), disk)?;
-    has(rt.alloc(), &mut disk, HALF_GATE, b"\0")?;
-    opens(rt.alloc(), disk)
+    assert!(rt; stands(rt.alloc(), &mut disk, HALF_GATE, b"\0")?);
+    assert_eq!(rt; opened(rt.alloc(), disk)?.1, None);
+    Ok(())
 }
 
 /// Where a call stands behind the parts, they are written into the other half first.
@@ -99,7 +100,8 @@ fn parts_and_an_entry_fill_a_half(rt: HostRuntime) -> Result<(), Fail> {
     let mut disk = disk_with(rt.alloc(), row.as_slice())?;
     store(&mut disk, SECOND_HALF + 8_388_575, b"\xff")?;
     let mut disk = asked(rt.alloc(), disk)?;
-    has(rt.alloc(), &mut disk, HALF_GATE, b"\x01")?;
-    has(rt.alloc(), &mut disk, SECOND_HALF + 8_388_575, b"\0")?;
-    opens(rt.alloc(), disk)
+    assert!(rt; stands(rt.alloc(), &mut disk, HALF_GATE, b"\x01")?);
+    assert!(rt; stands(rt.alloc(), &mut disk, SECOND_HALF + 8_388_575, b"\0")?);
+    assert_eq!(rt; opened(rt.alloc(), disk)?.1, None);
+    Ok(())
 }

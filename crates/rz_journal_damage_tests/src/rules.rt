@@ -1,6 +1,5 @@
 //! One byte of an entry is altered, so that one rule is broken or all are kept.
 
-use crate::comparing::compare;
 use crate::disks::{damaged, disk_of, place_of, store};
 use crate::entries::{CALLS, PARTS, entry};
 use std::alloc::Global;
@@ -28,11 +27,6 @@ fn first_other(alloc: Global, letters: &[u8], rules: &[Rule]) -> Result<Option<u
         store(&mut disk, at, &[*was])?;
     }
     Ok(None)
-}
-
-/// Compares what is told of each of these rules.
-fn all_hold(alloc: Global, letters: &[u8], rules: &[Rule]) -> Result<(), Fail> {
-    compare(&first_other(alloc, letters, rules)?, &None, letters)
 }
 
 /// The number of the entry of a letter, or none for a point.
@@ -242,19 +236,19 @@ const OLD_LOSSES: [Rule; 4] = [
 
 #[test]
 fn parts_keep_their_rules(rt: HostRuntime) -> Result<(), Fail> {
-    all_hold(rt.alloc(), PARTS, &COUNTERS)?;
-    all_hold(rt.alloc(), PARTS, &OBJECTS)?;
-    all_hold(rt.alloc(), PARTS, &NAMES)?;
-    all_hold(rt.alloc(), PARTS, &BLOCKS)?;
-    all_hold(rt.alloc(), PARTS, &ENROLMENTS)?;
+    assert_eq!(rt; first_other(rt.alloc(), PARTS, &COUNTERS)?, None);
+    assert_eq!(rt; first_other(rt.alloc(), PARTS, &OBJECTS)?, None);
+    assert_eq!(rt; first_other(rt.alloc(), PARTS, &NAMES)?, None);
+    assert_eq!(rt; first_other(rt.alloc(), PARTS, &BLOCKS)?, None);
+    assert_eq!(rt; first_other(rt.alloc(), PARTS, &ENROLMENTS)?, None);
     Ok(())
 }
 
 #[test]
 fn calls_are_accepted(rt: HostRuntime) -> Result<(), Fail> {
-    all_hold(rt.alloc(), CALLS, &TREE_CALLS)?;
-    all_hold(rt.alloc(), CALLS, &OTHER_CALLS)?;
-    all_hold(rt.alloc(), BEHIND_A_LOSS, &LOSSES)?;
-    all_hold(rt.alloc(), TWO_LOSSES, &OLD_LOSSES)?;
+    assert_eq!(rt; first_other(rt.alloc(), CALLS, &TREE_CALLS)?, None);
+    assert_eq!(rt; first_other(rt.alloc(), CALLS, &OTHER_CALLS)?, None);
+    assert_eq!(rt; first_other(rt.alloc(), BEHIND_A_LOSS, &LOSSES)?, None);
+    assert_eq!(rt; first_other(rt.alloc(), TWO_LOSSES, &OLD_LOSSES)?, None);
     Ok(())
 }

@@ -1,6 +1,5 @@
 //! Whole journals: which entries may stand behind which.
 
-use crate::comparing::compare;
 use crate::disks::{damaged, disk_of};
 use crate::entries::{CALLS, PARTS};
 use std::test::Fail;
@@ -61,7 +60,7 @@ fn these_open(rt: HostRuntime) -> Result<(), Fail> {
     for (number, letters) in OPEN.iter().enumerate() {
         let disk = disk_of(rt.alloc(), letters)?;
         let (_, found) = damaged(rt.alloc(), disk)?;
-        compare(&found, &None, number)?;
+        assert_eq!(rt; found, None, "journal {number}");
     }
     Ok(())
 }
@@ -71,7 +70,7 @@ fn these_are_damaged(rt: HostRuntime) -> Result<(), Fail> {
     for (number, (letters, place)) in DAMAGED.iter().enumerate() {
         let disk = disk_of(rt.alloc(), letters)?;
         let (_, found) = damaged(rt.alloc(), disk)?;
-        compare(&found, &Some(*place), number)?;
+        assert_eq!(rt; found, Some(*place), "journal {number}");
     }
     Ok(())
 }
