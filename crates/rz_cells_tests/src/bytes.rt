@@ -1,5 +1,4 @@
 //! Every value of each byte of a header, of a record's head and of a gate.
-use crate::comparing::compare;
 use crate::damage::{ONE, ONE_SIZE, TWO, TWO_SIZE, bad, blank, damaged, opened, reopened};
 use crate::making::{alter, disk_of, store_byte};
 use rz_cells::OpenFault;
@@ -29,7 +28,7 @@ fn each_byte_of_a_field_is_compared(rt: HostRuntime) -> Result<(), Fail> {
             alter(&mut bytes, at, byte ^ 0x81);
             let told = value ^ place.wrapping_mul(0x81);
             let wanted = ([0; 4], Some(bad(field, told)));
-            compare(&opened(rt.alloc(), ONE, &bytes)?, &wanted, at)?;
+            assert_eq!(rt; opened(rt.alloc(), ONE, &bytes)?, wanted, "at {at}");
             place = place.wrapping_mul(256);
         }
     }
@@ -43,8 +42,8 @@ fn other_bytes_of_a_header_are_free(rt: HostRuntime) -> Result<(), Fail> {
     for at in (16..24).chain(33..64) {
         store_byte(&mut disk, at, 0x81)?;
         let (back, opened) = reopened(rt.alloc(), ONE, disk);
+        assert_eq!(rt; opened, ([0; 4], None), "at {at}");
         disk = back;
-        compare(&opened, &([0; 4], None), at)?;
     }
     Ok(())
 }
@@ -60,8 +59,8 @@ fn the_low_bit_of_its_gate_opens_a_header(rt: HostRuntime) -> Result<(), Fail> {
         } else {
             Some(OpenFault::Unformatted)
         };
+        assert_eq!(rt; opened, ([0; 4], fault), "gate {gate}");
         disk = back;
-        compare(&opened, &([0; 4], fault), gate)?;
     }
     Ok(())
 }
@@ -93,10 +92,10 @@ fn each_byte_of_a_head_has_its_values(rt: HostRuntime) -> Result<(), Fail> {
         for value in 0..=255u8 {
             store_byte(&mut disk, SECOND + at, value)?;
             let (back, (_, fault)) = reopened(rt.alloc(), ONE, disk);
-            disk = back;
             let is_fine = u32::from(value) < fine_values(at);
             let wanted = if is_fine { None } else { Some(damaged(1)) };
-            compare(&fault, &wanted, (at, value))?;
+            assert_eq!(rt; fault, wanted, "byte {at} as {value}");
+            disk = back;
         }
         store_byte(&mut disk, SECOND + at, if at == 0 { 5 } else { 0 })?;
     }
@@ -121,10 +120,10 @@ fn the_low_bit_of_a_gate_picks_a_slot(rt: HostRuntime) -> Result<(), Fail> {
         for gate in 0..=255u8 {
             store_byte(&mut disk, 64 + cell as u64, gate)?;
             let (back, opened) = reopened(rt.alloc(), TWO, disk);
-            disk = back;
             let mut stamps = [1, 3, 5, 7];
             stamps[cell] += u64::from(gate % 2);
-            compare(&opened, &(stamps, None), (cell, gate))?;
+            assert_eq!(rt; opened, (stamps, None), "cell {cell}, gate {gate}");
+            disk = back;
         }
         store_byte(&mut disk, 64 + cell as u64, 0)?;
     }

@@ -1,7 +1,6 @@
 //! The bytes of a header, and each call that takes memory, with ample memory.
 ghost use Rattle.std.specs.Prelude.{◌≡◌, IfOk, vec_len};
 
-use crate::comparing::compare;
 use rz_cells::{Cells, Geometry};
 use rz_disk::{Disk, PlainDisk};
 use rz_events::{Key, Layout};
@@ -53,12 +52,11 @@ fn cells_may_go_to_other_threads(rt: HostRuntime) -> Result<(), Fail> {
 #[test]
 fn a_header_has_its_bytes(rt: HostRuntime) -> Result<(), Fail> {
     let mut disk = formatted(rt.alloc())?.into_disk();
-    if disk.size() != SIZE {
-        return Err("another size")?;
-    }
+    assert_eq!(rt; disk.size(), SIZE);
     let mut bytes = [9; 33];
     disk.read(0, &mut bytes)?;
-    compare(&bytes, HEADER, "header")
+    assert_eq!(rt; &bytes, HEADER);
+    Ok(())
 }
 
 #[test]
@@ -67,9 +65,10 @@ fn cells_are_opened_and_made_anew(rt: HostRuntime) -> Result<(), Fail> {
     let Ok(mut cells) = Cells::reopen(rt.alloc(), ONE, disk) else {
         return Err("not opened")?;
     };
-    cells.open_again(rt.alloc())?;
-    cells.format_again(rt.alloc(), 8)?;
-    compare(&cells.fence(), &8, "fence")
+    assert_eq!(rt; cells.open_again(rt.alloc()), Ok(()));
+    assert!(rt; cells.format_again(rt.alloc(), 8).is_ok());
+    assert_eq!(rt; cells.fence(), 8);
+    Ok(())
 }
 
 fn words(alloc: Global, word: u64) -> Result<Vec<u64>, AllocError>
@@ -87,7 +86,8 @@ fn bins_are_read(rt: HostRuntime) -> Result<(), Fail> {
     let bins = words(rt.alloc(), 9)?;
     cells.put(0, &FIRST, &bins)?;
     let mut out = words(rt.alloc(), 7)?;
-    let count = cells.bins_into(0, &mut out)?;
+    assert_eq!(rt; cells.bins_into(0, &mut out)?, 258);
+    assert_eq!(rt; out, bins);
     cells.clear(0)?;
-    compare(&(count, out), &(258, bins), "bins")
+    Ok(())
 }

@@ -1,7 +1,6 @@
 //! Disks of which bytes are altered, one at a time and together, and shorter disks.
 ghost use Rattle.rz_cells.specs.Shape.{IsGeometry};
 
-use crate::comparing::compare;
 use crate::making::{alter, disk_of, failing_at, fill, write, zeros};
 use rz_cells::{Cells, Geometry, OpenFault};
 use rz_disk::Disk;
@@ -119,7 +118,7 @@ fn a_blank_disk_is_opened_by_what_stands_on_it(rt: HostRuntime) -> Result<(), Fa
         alter(&mut bytes, at_too, byte_too);
         alter(&mut bytes, at, byte);
         let wanted = (stamps, fault);
-        compare(&opened(rt.alloc(), ONE, &bytes)?, &wanted, at)?;
+        assert_eq!(rt; opened(rt.alloc(), ONE, &bytes)?, wanted, "at {at}");
     }
     Ok(())
 }
@@ -181,13 +180,12 @@ fn damages() -> [(usize, u8, OpenFault); 20] {
 #[test]
 fn a_disk_is_refused_for_its_first_damage(rt: HostRuntime) -> Result<(), Fail> {
     let good = two_pairs(rt.alloc())?;
-    let whole = opened(rt.alloc(), TWO, &good)?;
-    compare(&whole, &([5, 9, 6, 0], None), "whole")?;
+    assert_eq!(rt; opened(rt.alloc(), TWO, &good)?, ([5, 9, 6, 0], None));
     let mut all = good;
     for (at, byte, fault) in damages() {
         alter(&mut all, at, byte);
         let wanted = ([0; 4], Some(fault));
-        compare(&opened(rt.alloc(), TWO, &all)?, &wanted, at)?;
+        assert_eq!(rt; opened(rt.alloc(), TWO, &all)?, wanted, "at {at}");
     }
     Ok(())
 }
@@ -203,7 +201,11 @@ fn of_two_damages_the_first_is_told(rt: HostRuntime) -> Result<(), Fail> {
             let mut two = one.clone()?;
             alter(&mut two, *at_too, *byte_too);
             let wanted = ([0; 4], Some(*fault));
-            compare(&opened(rt.alloc(), TWO, &two)?, &wanted, (*at, *at_too))?;
+            assert_eq!(rt;
+                opened(rt.alloc(), TWO, &two)?,
+                wanted,
+                "at {at} and {at_too}"
+            );
         }
     }
     Ok(())
@@ -229,7 +231,7 @@ fn a_wrong_size_is_told_before_any_call(rt: HostRuntime) -> Result<(), Fail> {
             OpenFault::WrongSize { have, need: 4098 }
         };
         let (_, (_, fault)) = reopened(rt.alloc(), SMALL, disk);
-        compare(&fault, &Some(wanted), have)?;
+        assert_eq!(rt; fault, Some(wanted), "{have}");
     }
     Ok(())
 }
@@ -245,7 +247,7 @@ fn no_part_of_a_disk_is_opened(rt: HostRuntime) -> Result<(), Fail> {
         };
         let part = &good[..have.min(good.len())];
         let wanted = ([0; 4], Some(short));
-        compare(&opened(rt.alloc(), ONE, part)?, &wanted, have)?;
+        assert_eq!(rt; opened(rt.alloc(), ONE, part)?, wanted, "{have}");
     }
     Ok(())
 }

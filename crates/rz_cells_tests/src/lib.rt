@@ -8,8 +8,6 @@ mod bytes;
 #[cfg(test)]
 mod calls;
 #[cfg(test)]
-mod comparing;
-#[cfg(test)]
 mod damage;
 #[cfg(test)]
 mod making;

@@ -1,6 +1,5 @@
 //! A disk of version 1 with three cells: the first holds a record in its slot 0, the second one in its
 //! slot 1, and the third holds nothing. Bytes that are not looked at are no zeros.
-use crate::comparing::compare;
 use crate::making::{alter, bytes_of, disk_of, fill, write, zeros};
 use rz_cells::{Cells, Geometry, MigrateFault, OpenFault};
 use rz_disk::{Disk, Fused, PlainDisk};
@@ -90,18 +89,6 @@ fn new_bytes(alloc: Global) -> Result<Vec<u8>, AllocError> {
     Ok(bytes)
 }
 
-/// Compares the heads of the new cells.
-fn has_heads(cells: &Cells<PlainDisk>) -> Result<(), Fail> {
-    if cells.geometry() != THREE {
-        return Err("other cells")?;
-    }
-    let heads = [Some(FIRST), None, Some(SECOND), None, None, None];
-    for (cell, head) in heads.iter().enumerate() {
-        compare(&cells.head(cell as u32), head, cell)?;
-    }
-    Ok(())
-}
-
 #[test]
 fn an_old_disk_is_carried_over(rt: HostRuntime) -> Result<(), Fail> {
     let bytes = old_bytes(rt.alloc())?;
@@ -109,14 +96,18 @@ fn an_old_disk_is_carried_over(rt: HostRuntime) -> Result<(), Fail> {
     let Ok(cells) = Cells::migrate(rt.alloc(), THREE, &mut old, PlainDisk::new(rt.alloc())) else {
         return Err("not carried over")?;
     };
-    compare(&cells.fence(), &3, "fence")?;
-    has_heads(&cells)?;
+    assert_eq!(rt; cells.fence(), 3);
+    let heads = [Some(FIRST), None, Some(SECOND), None, None, None];
+    for (cell, head) in heads.iter().enumerate() {
+        if cells.geometry() == THREE {
+            assert_eq!(rt; cells.head(cell as u32), *head, "cell {cell}");
+        }
+    }
     let mut new = cells.into_disk();
-    let found = bytes_of(rt.alloc(), &mut new)?;
-    compare(&found, &new_bytes(rt.alloc())?, "new disk")?;
-    compare(&bytes_of(rt.alloc(), &mut old)?, &bytes, "old disk")?;
-    let opened = Cells::reopen(rt.alloc(), THREE, new).is_ok();
-    compare(&opened, &true, "opening")
+    assert_eq!(rt; bytes_of(rt.alloc(), &mut new)?, new_bytes(rt.alloc())?);
+    assert_eq!(rt; bytes_of(rt.alloc(), &mut old)?, bytes);
+    assert!(rt; Cells::reopen(rt.alloc(), THREE, new).is_ok());
+    Ok(())
 }
 
 /// Why these bytes are not carried over. The new disk stays without bytes.
@@ -168,7 +159,7 @@ fn an_old_disk_is_refused_for_its_first_fault(rt: HostRuntime) -> Result<(), Fai
     for (at, byte, fault) in faults() {
         alter(&mut all, at, byte);
         let wanted = Some(MigrateFault::Old(fault));
-        compare(&refused(rt.alloc(), &all)?, &wanted, at)?;
+        assert_eq!(rt; refused(rt.alloc(), &all)?, wanted, "at {at}");
     }
     Ok(())
 }
@@ -184,7 +175,7 @@ fn of_two_faults_of_an_old_disk_the_first_is_told(rt: HostRuntime) -> Result<(),
             let mut two = one.clone()?;
             alter(&mut two, *at_too, *byte_too);
             let wanted = Some(MigrateFault::Old(*fault));
-            compare(&refused(rt.alloc(), &two)?, &wanted, (*at, *at_too))?;
+            assert_eq!(rt; refused(rt.alloc(), &two)?, wanted, "at {at} and {at_too}");
         }
     }
     Ok(())
@@ -194,14 +185,17 @@ fn of_two_faults_of_an_old_disk_the_first_is_told(rt: HostRuntime) -> Result<(),
 fn a_key_in_two_old_cells_is_refused(rt: HostRuntime) -> Result<(), Fail> {
     let mut bytes = old_bytes(rt.alloc())?;
     alter(&mut bytes, OLD_SLOTS[1] + 8, 1);
-    compare(&refused(rt.alloc(), &bytes)?, &None, "another block")?;
+    assert_eq!(rt; refused(rt.alloc(), &bytes)?, None);
     alter(&mut bytes, OLD_SLOTS[1] + 24, 2);
     let twice = OpenFault::Twice {
         first: 0,
         second: 1,
     };
-    let wanted = Some(MigrateFault::Old(twice));
-    compare(&refused(rt.alloc(), &bytes)?, &wanted, "same block")
+    assert_eq!(rt;
+        refused(rt.alloc(), &bytes)?,
+        Some(MigrateFault::Old(twice))
+    );
+    Ok(())
 }
 
 #[test]
@@ -213,8 +207,7 @@ fn an_old_disk_of_another_size_is_refused(rt: HostRuntime) -> Result<(), Fail> {
             need: 12691,
         };
         let part = &bytes[..(797 * have as usize).min(bytes.len())];
-        let wanted = Some(MigrateFault::Old(short));
-        compare(&refused(rt.alloc(), part)?, &wanted, have)?;
+        assert_eq!(rt; refused(rt.alloc(), part)?, Some(MigrateFault::Old(short)));
     }
     Ok(())
 }
@@ -242,7 +235,7 @@ fn an_old_disk_of_any_other_length_is_refused(rt: HostRuntime) -> Result<(), Fai
             Ok(_) => None,
             Err((_, fault)) => Some(fault),
         };
-        compare(&fault, &Some(MigrateFault::Old(wanted)), have)?;
+        assert_eq!(rt; fault, Some(MigrateFault::Old(wanted)), "{have}");
     }
     Ok(())
 }
@@ -288,19 +281,6 @@ fn failed(
     }
 }
 
-/// How a migration fails, if it does, and whether the new disk opens after a crash.
-fn end_of_new(
-    alloc: Global,
-    old: &mut Fused<PlainDisk>,
-    new: Fused<PlainDisk>,
-    pick: u64,
-) -> Result<Option<(MigrateFault, bool)>, Fail> {
-    match failed(alloc, old, new) {
-        None => Ok(None),
-        Some((new, fault)) => Ok(Some((fault, opened(alloc, new, pick)?))),
-    }
-}
-
 #[test]
 fn a_stop_of_the_new_disk_leaves_it_whole_or_shut(rt: HostRuntime) -> Result<(), Fail> {
     let bytes = old_bytes(rt.alloc())?;
@@ -309,35 +289,21 @@ fn a_stop_of_the_new_disk_leaves_it_whole_or_shut(rt: HostRuntime) -> Result<(),
             let mut old = Fused::new(disk_of(rt.alloc(), &bytes)?);
             let mut new = Fused::new(PlainDisk::new(rt.alloc()));
             new.arm(Some(passes));
-            let end = end_of_new(rt.alloc(), &mut old, new, pick)?;
-            let is_open = opens_after(passes, pick);
-            let wanted = if passes == 6 {
-                None
-            } else {
-                Some((MigrateFault::New, is_open))
-            };
-            compare(&end, &wanted, (passes, pick))?;
-            compare(&bytes_of(rt.alloc(), &mut old)?, &bytes, (passes, pick))?;
+            match failed(rt.alloc(), &mut old, new) {
+                None => assert_eq!(rt; passes, 6),
+                Some((new, fault)) => {
+                    assert_eq!(rt; fault, MigrateFault::New);
+                    assert_eq!(rt;
+                        opened(rt.alloc(), new, pick)?,
+                        opens_after(passes, pick),
+                        "passes {passes}, pick {pick}"
+                    );
+                }
+            }
+            assert_eq!(rt; bytes_of(rt.alloc(), &mut old)?, bytes);
         }
     }
     Ok(())
-}
-
-/// How a migration fails, if it does, and whether the new disk opens after a crash, if it has bytes.
-fn end_of_old(
-    alloc: Global,
-    old: &mut Fused<PlainDisk>,
-    new: Fused<PlainDisk>,
-) -> Result<Option<(MigrateFault, Option<bool>)>, Fail> {
-    match failed(alloc, old, new) {
-        None => Ok(None),
-        Some((new, fault)) => {
-            if new.size() == 0 {
-                return Ok(Some((fault, None)));
-            }
-            Ok(Some((fault, Some(opened(alloc, new, 1)?))))
-        }
-    }
 }
 
 /// The calls of the old disk: a sync, a read of the header, one of the gates, one for each cell, and one
@@ -349,17 +315,18 @@ fn a_stop_of_the_old_disk_leaves_it_as_it_is(rt: HostRuntime) -> Result<(), Fail
         let mut old = Fused::new(disk_of(rt.alloc(), &bytes)?);
         old.arm(Some(passes));
         let new = Fused::new(PlainDisk::new(rt.alloc()));
-        let end = end_of_old(rt.alloc(), &mut old, new)?;
-        let fault = MigrateFault::Old(OpenFault::DiskFault);
-        let shut = if passes < 6 { None } else { Some(false) };
-        let wanted = if passes == 8 {
-            None
-        } else {
-            Some((fault, shut))
-        };
-        compare(&end, &wanted, passes)?;
+        match failed(rt.alloc(), &mut old, new) {
+            None => assert_eq!(rt; passes, 8),
+            Some((new, fault)) => {
+                assert_eq!(rt; fault, MigrateFault::Old(OpenFault::DiskFault));
+                assert_eq!(rt; new.size() == 0, passes < 6);
+                if passes >= 6 {
+                    assert!(rt; !opened(rt.alloc(), new, 1)?);
+                }
+            }
+        }
         old.arm(None);
-        compare(&bytes_of(rt.alloc(), &mut old)?, &bytes, passes)?;
+        assert_eq!(rt; bytes_of(rt.alloc(), &mut old)?, bytes);
     }
     Ok(())
 }

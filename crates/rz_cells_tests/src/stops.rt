@@ -5,7 +5,6 @@
 //! synced.
 ghost use Rattle.std.specs.Prelude.{◌≡◌, IfOk, vec_len};
 
-use crate::comparing::compare;
 use crate::damage::{ONE, stamps_of};
 use crate::making::{failing_at, left};
 use rz_cells::{Cells, FormatFault, OpenFault};
@@ -116,18 +115,18 @@ fn a_put_that_stops_is_done_or_not(rt: HostRuntime) -> Result<(), Fail> {
         for call in 0..4 {
             let disk = stopped_put(rt.alloc(), failing_at(rt.alloc(), 5 + call)?, 0)?;
             let wanted = if call == 3 { by_gate } else { EMPTY };
-            compare(
-                &found(rt.alloc(), disk, pick)?,
-                &wanted,
-                ("call", call, pick),
-            )?;
+            assert_eq!(rt;
+                found(rt.alloc(), disk, pick)?,
+                wanted,
+                "call {call}, pick {pick}"
+            );
             let disk = stopped_put(rt.alloc(), Fused::new(PlainDisk::new(rt.alloc())), call)?;
             let wanted = if call >= 2 { by_gate } else { EMPTY };
-            compare(
-                &found(rt.alloc(), disk, pick)?,
-                &wanted,
-                ("passes", call, pick),
-            )?;
+            assert_eq!(rt;
+                found(rt.alloc(), disk, pick)?,
+                wanted,
+                "passes {call}, pick {pick}"
+            );
         }
     }
     Ok(())
@@ -145,18 +144,18 @@ fn a_clear_that_stops_is_done_or_not(rt: HostRuntime) -> Result<(), Fail> {
         for call in 0..4 {
             let disk = stopped_clear(rt.alloc(), failing_at(rt.alloc(), 9 + call)?, 0)?;
             let wanted = if call == 3 { by_gate } else { HELD };
-            compare(
-                &found(rt.alloc(), disk, pick)?,
-                &wanted,
-                ("call", call, pick),
-            )?;
+            assert_eq!(rt;
+                found(rt.alloc(), disk, pick)?,
+                wanted,
+                "call {call}, pick {pick}"
+            );
             let disk = stopped_clear(rt.alloc(), Fused::new(PlainDisk::new(rt.alloc())), call)?;
             let wanted = if call >= 2 { by_gate } else { HELD };
-            compare(
-                &found(rt.alloc(), disk, pick)?,
-                &wanted,
-                ("passes", call, pick),
-            )?;
+            assert_eq!(rt;
+                found(rt.alloc(), disk, pick)?,
+                wanted,
+                "passes {call}, pick {pick}"
+            );
         }
     }
     Ok(())
@@ -178,20 +177,20 @@ fn a_formatting_that_stops_is_done_or_shut(rt: HostRuntime) -> Result<(), Fail> 
                 4 => by_gate,
                 _ => None,
             };
-            compare(
-                &found(rt.alloc(), disk, pick)?,
-                &wanted,
-                ("call", call, pick),
-            )?;
+            assert_eq!(rt;
+                found(rt.alloc(), disk, pick)?,
+                wanted,
+                "call {call}, pick {pick}"
+            );
         }
         for passes in 0..4 {
             let disk = stopped_format(rt.alloc(), Fused::new(PlainDisk::new(rt.alloc())), passes)?;
             let wanted = if passes >= 2 { by_gate } else { None };
-            compare(
-                &found(rt.alloc(), disk, pick)?,
-                &wanted,
-                ("passes", passes, pick),
-            )?;
+            assert_eq!(rt;
+                found(rt.alloc(), disk, pick)?,
+                wanted,
+                "passes {passes}, pick {pick}"
+            );
         }
     }
     Ok(())

@@ -1,6 +1,5 @@
 //! A disk of version 1 with 64 cells, of which the last holds a record in its slot 1, and a migration of it
 //! that stops at each device call.
-use crate::comparing::compare;
 use crate::making::{alter, bytes_of, disk_of, write, zeros};
 use rz_cells::{Cells, Geometry, MigrateFault, OpenFault};
 use rz_disk::{Disk, Fused, PlainDisk};
@@ -92,15 +91,18 @@ fn a_stop_of_a_new_disk_of_64_pairs(rt: HostRuntime) -> Result<(), Fail> {
             let Some((new, fault)) = stopped(rt.alloc(), &mut old, Some(passes)) else {
                 return Err("it did not stop")?;
             };
+            assert_eq!(rt; fault, MigrateFault::New);
             let is_open = opens(rt.alloc(), new, pick, &whole)?;
-            let wanted = (MigrateFault::New, passes >= 3 && pick != 0);
-            compare(&(fault, is_open), &wanted, (passes, pick))?;
+            assert_eq!(rt;
+                is_open,
+                passes >= 3 && pick != 0,
+                "passes {passes}, pick {pick}"
+            );
         }
     }
-    let stops = stopped(rt.alloc(), &mut old, Some(5)).is_some();
-    compare(&stops, &false, "all calls pass")?;
-    let left = bytes_of(rt.alloc(), &mut old)?;
-    compare(&left, &old_bytes(rt.alloc())?, "old disk")
+    assert!(rt; stopped(rt.alloc(), &mut old, Some(5)).is_none());
+    assert_eq!(rt; bytes_of(rt.alloc(), &mut old)?, old_bytes(rt.alloc())?);
+    Ok(())
 }
 
 /// The calls of the old disk: a sync, a read of the header and one of the gates, one for each cell, and one
@@ -114,15 +116,15 @@ fn a_stop_of_an_old_disk_of_64_cells(rt: HostRuntime) -> Result<(), Fail> {
         let Some((new, fault)) = stopped(rt.alloc(), &mut old, None) else {
             return Err("it did not stop")?;
         };
-        let wanted = (MigrateFault::Old(OpenFault::DiskFault), passes < 67);
-        compare(&(fault, new.size() == 0), &wanted, passes)?;
-        if passes == 67 && opens(rt.alloc(), new, 1, &bytes)? {
-            return Err("an empty disk opened")?;
+        assert_eq!(rt; fault, MigrateFault::Old(OpenFault::DiskFault));
+        assert_eq!(rt; new.size() == 0, passes < 67, "passes {passes}");
+        if passes == 67 {
+            assert!(rt; !opens(rt.alloc(), new, 1, &bytes)?);
         }
     }
     old.arm(Some(68));
-    let stops = stopped(rt.alloc(), &mut old, None).is_some();
-    compare(&stops, &false, "all calls pass")?;
+    assert!(rt; stopped(rt.alloc(), &mut old, None).is_none());
     old.arm(None);
-    compare(&bytes_of(rt.alloc(), &mut old)?, &bytes, "old disk")
+    assert_eq!(rt; bytes_of(rt.alloc(), &mut old)?, bytes);
+    Ok(())
 }

@@ -8,7 +8,6 @@ ghost use Rattle.rz_client_model.specs.Write.{IsWriterAnswer};
 ghost use Rattle.rz_operation_model.specs.Files.{IsFileAnswer};
 ghost use Rattle.rz_file.specs.Machine.{ComeWith, IsKeep};
 
-use crate::comparing::{compare, hold, mark};
 use mj_angles::Layout;
 use rz_events::{
     Denial, FetchAnswer, FileAnswer, FileAsk, FileEnd, FileInfo, Held, KeepAnswer, Places,
@@ -96,18 +95,19 @@ fn step(rt: &impl Abort, machine: &mut FileMachine, ask: FileAsk, answer: FileAn
     ensures { machine.new.layout ≡ L0 }
 {
     let asked = machine.next();
-    compare(rt, &asked, &ask, &answer);
+    assert_eq!(rt; asked, ask);
     let mut bins = [0u64; ROOM];
     if let FileAsk::Read {
         ask: ReaderAsk::Fetch { position, .. },
         ..
     } = asked
     {
-        mark(rt, &mut bins, &FIRST, position, 1);
-        mark(rt, &mut bins, &SECOND, position, 2);
+        assert!(rt; position < 2);
+        bins[FIRST[position as usize]] |= 1;
+        bins[SECOND[position as usize]] |= 2;
     }
-    hold(rt, belongs(asked, answer), &answer);
-    hold(rt, are_enough(asked, &bins), &asked);
+    assert!(rt; belongs(asked, answer), "{answer:?}");
+    assert!(rt; are_enough(asked, &bins));
     machine.tell(answer, &bins);
 }
 
@@ -196,8 +196,8 @@ fn acknowledge(rt: &impl Abort, machine: &mut FileMachine, block: u64, length: u
 }
 
 fn check_end(rt: &impl Abort, machine: &FileMachine, end: FileEnd) {
-    let found = (machine.next(), machine.end());
-    compare(rt, &found, &(FileAsk::End, Some(end)), &"end");
+    assert_eq!(rt; machine.next(), FileAsk::End);
+    assert_eq!(rt; machine.end(), Some(end));
 }
 
 /// Whether a node is asked to keep a record.
@@ -225,10 +225,10 @@ fn keep_second(rt: &impl Abort, plan: FilePlan)
     let ask = WriterAsk::Begin { length: 4096 };
     let begun = FileAnswer::Write(WriterAnswer::Begun { stamp: 12, base: 9 });
     step(rt, &mut machine, FileAsk::Write { block: 2, ask }, begun);
-    hold(rt, is_keep(machine.next()), &"block 2");
+    assert!(rt; is_keep(machine.next()));
     let bins = machine.bins();
-    let found = (bins.get(FIRST[0]).copied(), bins.get(SECOND[0]).copied());
-    compare(rt, &found, &(Some(1), Some(0)), &"bins");
+    assert_eq!(rt; bins.get(FIRST[0]), Some(&1));
+    assert_eq!(rt; bins.get(SECOND[0]), Some(&0));
 }
 
 /// A file of this size.
@@ -252,14 +252,12 @@ fn file(size: u64) -> FileInfo
 fn within_a_block(rt: HostRuntime) -> Result<(), Fail> {
     let bytes = b"ab".to_vec(rt.alloc())?;
     let plan = FilePlan::write(rt.alloc(), Layout::L0, 1, bytes)?;
-    let found = (plan.is_write(), plan.offset(), plan.count());
-    compare(&rt, &found, &(true, 1, 2), &"plan");
+    assert!(rt; plan.is_write() && plan.offset() == 1 && plan.count() == 2);
     let mut machine = plan.open(&file(9000));
     find_text(&rt, &mut machine, 0);
     let text = machine.text();
-    let found = (text.len(), text.get(..4), text.get(2048..));
-    let wanted = (2049, Some(&b"\x01ab\0"[..]), Some(&b"\x02"[..]));
-    compare(&rt, &found, &wanted, &"text");
+    assert!(rt; text.len() == 2049);
+    assert!(rt; text[..4] == [1, b'a', b'b', 0] && text[2048] == 2);
     acknowledge(&rt, &mut machine, 0, 2049);
     check_end(&rt, &machine, FileEnd::Whole { bytes: 2 });
     Ok(())
@@ -271,8 +269,8 @@ fn three_blocks(rt: HostRuntime) -> Result<(), Fail> {
     let mut machine = FilePlan::write(rt.alloc(), Layout::L0, 4094, bytes)?.open(&file(0));
     find_hole(&rt, &mut machine, 0);
     let text = machine.text();
-    let wanted = (4096, Some(&b"\0\x07\x07"[..]));
-    compare(&rt, &(text.len(), text.get(4093..)), &wanted, &"text");
+    assert!(rt; text.len() == 4096);
+    assert!(rt; text[4093] == 0 && text[4094] == 7 && text[4095] == 7);
     acknowledge(&rt, &mut machine, 0, 4096);
     acknowledge(&rt, &mut machine, 1, 4096);
     find_hole(&rt, &mut machine, 2);
@@ -336,15 +334,15 @@ fn short_by_a_write(rt: HostRuntime) -> Result<(), Fail> {
 #[test]
 fn read_past_a_text(rt: HostRuntime) -> Result<(), Fail> {
     let plan = FilePlan::read(rt.alloc(), Layout::L0, 2047, 2100)?;
-    compare(&rt, &plan.is_write(), &false, &"plan");
+    assert!(rt; !plan.is_write());
     let mut machine = plan.open(&file(4098));
     find_text(&rt, &mut machine, 0);
     let bytes = machine.bytes();
-    let found = (bytes.len(), bytes.get(..3), machine.is_read());
-    compare(&rt, &found, &(2049, Some(&b"\0\x02\0"[..]), true), &"bytes");
+    assert!(rt; bytes.len() == 2049);
+    assert!(rt; bytes[..3] == [0, 2, 0] && machine.is_read());
     find_hole(&rt, &mut machine, 1);
     check_end(&rt, &machine, FileEnd::Whole { bytes: 2051 });
-    compare(&rt, &machine.into_bytes().len(), &2051, &"all bytes");
+    assert_eq!(rt; machine.into_bytes().len(), 2051);
     Ok(())
 }
 
@@ -352,10 +350,11 @@ fn read_past_a_text(rt: HostRuntime) -> Result<(), Fail> {
 fn nothing(rt: HostRuntime) -> Result<(), Fail> {
     let whole = Some(FileEnd::Whole { bytes: 0 });
     let write = FileWrite::start(rt.alloc(), Layout::L0, &file(0), 4096, b"")?;
-    compare(&rt, &write.end(), &whole, &"write");
+    assert_eq!(rt; write.end(), whole);
     let many = FileWrite::start_par(&rt, rt.alloc(), Layout::L0, &file(0), 4096, b"")?;
-    compare(&rt, &many.end(), &whole, &"write in threads");
+    assert_eq!(rt; many.end(), whole);
     let read = FileRead::start(rt.alloc(), Layout::L0, &file(4096), 4096, 1)?;
-    compare(&rt, &(read.end(), read.bytes().len()), &(whole, 0), &"read");
+    assert_eq!(rt; read.end(), whole);
+    assert_eq!(rt; read.bytes().len(), 0);
     Ok(())
 }

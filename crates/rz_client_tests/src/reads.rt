@@ -7,7 +7,6 @@ ghost use Rattle.rz_events.specs.declared.machines.ReaderAnswer.{ReaderAnswer as
 ghost use Rattle.rz_client_model.specs.Read.{IsReaderAnswer, IsTold};
 ghost use Rattle.rz_reader.specs.Machine.{HasBins};
 
-use crate::comparing::{compare, hold, mark};
 use mj_angles::Layout;
 use rz_events::{
     Denial, FetchAnswer, FileInfo, Held, Places, Published, ReadMark, ReaderAnswer, ReaderAsk, Seen,
@@ -89,15 +88,27 @@ fn step(rt: &impl Abort, reader: &mut Reader, row: &Row, ask: ReaderAsk, answer:
     requires { reader.old.state.layout ≡ row.now.layout }
     ensures { reader.new.state.layout ≡ reader.old.state.layout }
 {
+    assert_eq!(rt; reader.end(), None, "before {ask:?}");
     let asked = reader.next();
-    compare(rt, &(reader.end(), asked), &(None, ask), &answer);
+    assert_eq!(rt; asked, ask);
     let mut bins = [0u64; ROOM];
     if let ReaderAsk::Fetch { position, .. } = asked {
-        mark(rt, &mut bins, row.first, position, 1);
-        mark(rt, &mut bins, row.second, position, 2);
+        let first = row
+            .first
+            .get(position as usize)
+            .copied()
+            .expect(rt, "a place");
+        let second = row
+            .second
+            .get(position as usize)
+            .copied()
+            .expect(rt, "a place");
+        assert!(rt; first < ROOM && second < ROOM);
+        bins[first] |= 1;
+        bins[second] |= 2;
     }
-    hold(rt, belongs(row.layout, asked, answer), &answer);
-    hold(rt, are_enough(row.layout, asked, &bins), &asked);
+    assert!(rt; belongs(row.layout, asked, answer), "{answer:?}");
+    assert!(rt; are_enough(row.layout, asked, &bins));
     reader.tell(answer, &bins);
 }
 
@@ -116,8 +127,8 @@ fn play(
     for (ask, answer) in turns {
         step(rt, reader, &ROW, *ask, *answer);
     }
-    let found = (reader.next(), reader.end());
-    compare(rt, &found, &(ReaderAsk::End, Some(end)), &mask);
+    assert_eq!(rt; reader.next(), ReaderAsk::End);
+    assert_eq!(rt; reader.end(), Some(end));
 }
 
 fn looked(stamp: u64, mask: u16) -> ReaderAnswer {
@@ -246,15 +257,10 @@ fn outcomes(rt: HostRuntime) -> Result<(), Fail> {
         ReaderAsk::Look,
         ReaderAnswer::Looked(None),
     );
-    compare(&rt, &reader.end(), &Some(ReadMark::Hole), &"hole");
+    assert_eq!(rt; reader.end(), Some(ReadMark::Hole));
     reader.again(&info, 9);
     step(&rt, &mut reader, &ROW, ReaderAsk::Look, denied);
-    compare(
-        &rt,
-        &reader.end(),
-        &Some(ReadMark::Denied(unknown)),
-        &"denied",
-    );
+    assert_eq!(rt; reader.end(), Some(ReadMark::Denied(unknown)));
     Ok(())
 }
 
@@ -275,7 +281,7 @@ fn inconsistent(rt: HostRuntime) -> Result<(), Fail> {
     step(&rt, &mut reader, &ROW, ReaderAsk::Look, looked(7, 0b0111));
     step(&rt, &mut reader, &ROW, fetch(0), held(7));
     step(&rt, &mut reader, &WRONG, fetch(1), held(7));
-    compare(&rt, &reader.end(), &Some(ReadMark::Inconsistent), &"end");
+    assert_eq!(rt; reader.end(), Some(ReadMark::Inconsistent));
     Ok(())
 }
 
@@ -348,8 +354,7 @@ fn read(
         );
     }
     let end = reader.end();
-    let wanted = Some(ReadMark::Found { stamp: 7, length });
-    compare(rt, &end, &wanted, &row.layout);
+    assert_eq!(rt; end, Some(ReadMark::Found { stamp: 7, length }));
     if let Some(ReadMark::Found { length, .. }) = end {
         let mut out = vec![in rt.alloc(); 9u8; length as usize]?;
         reader.text_into(&mut out);
@@ -368,7 +373,7 @@ fn check_text(rt: &impl Abort, text: &[u8], place: usize) {
         if i == place {
             want = 2;
         }
-        compare(rt, byte, &want, &i);
+        assert_eq!(rt; *byte, want, "byte {i}");
     }
 }
 

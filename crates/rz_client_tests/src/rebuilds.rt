@@ -7,7 +7,6 @@ ghost use Rattle.rz_client_model.specs.Read.{IsTold};
 ghost use Rattle.rz_operation_model.specs.Rebuild.{IsNextAnswer, IsRebuildAnswer};
 ghost use Rattle.rz_rebuild.specs.Machine.{ComeWith};
 
-use crate::comparing::{compare, hold, mark};
 use mj_angles::Layout;
 use rz_events::{
     Denial, FetchAnswer, FileInfo, Held, Key, LeftWhy, Listed, Places, Published, RebuildAnswer,
@@ -103,16 +102,19 @@ fn step(
     ensures layout { rebuilder.new.layout ≡ L0 }
     ensures node { rebuilder.new.node ≡ 12 }
 {
+    assert_eq!(rt; rebuilder.end(), None, "before {ask:?}");
     let asked = rebuilder.next();
-    compare(rt, &(rebuilder.end(), asked), &(None, ask), &answer);
+    assert_eq!(rt; asked, ask);
     let mut bins = [0u64; ROOM];
     if let RebuildAsk::Fetch { position, .. } = asked {
-        mark(rt, &mut bins, first, position, 1);
-        mark(rt, &mut bins, &SECOND, position, 2);
+        assert!(rt; position < 4);
+        let (first, second) = (first[position as usize], SECOND[position as usize]);
+        assert!(rt; first < ROOM && second < ROOM);
+        bins[first] |= 1;
+        bins[second] |= 2;
     }
-    hold(rt, belongs(asked, &answer), &answer);
-    hold(rt, are_enough(asked, &bins), &asked);
-    hold(rt, rebuilder.has_room(), &"room");
+    assert!(rt; belongs(asked, &answer), "{answer:?}");
+    assert!(rt; are_enough(asked, &bins) && rebuilder.has_room());
     rebuilder.tell(answer, &bins);
 }
 
@@ -229,8 +231,8 @@ fn copy(
 }
 
 fn check_end(rt: &impl Abort, rebuilder: &Rebuilder, end: RebuildEnd) {
-    let found = (rebuilder.next(), rebuilder.end());
-    compare(rt, &found, &(RebuildAsk::End, Some(end)), &"end");
+    assert_eq!(rt; rebuilder.next(), RebuildAsk::End);
+    assert_eq!(rt; rebuilder.end(), Some(end));
 }
 
 #[test]
@@ -240,7 +242,7 @@ fn two_blocks(rt: HostRuntime) -> Result<(), Fail> {
     let asked = rebuilder.next();
     assert!(rt; matches!(asked, RebuildAsk::Refill { .. }));
     let bins = rebuilder.bins();
-    compare(&rt, &bins.get(..2), &Some([3, 0].as_slice()), &"bins");
+    assert!(rt; bins.len() > 1 && bins[0] == 3 && bins[1] == 0);
     let kept = RebuildAnswer::Refilled(RefillAnswer::Kept);
     step(&rt, &mut rebuilder, &FIRST, refill(3), kept);
     copy(&rt, &mut rebuilder, &FIRST, next_after(3), 4);

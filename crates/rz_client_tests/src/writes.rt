@@ -5,7 +5,6 @@ ghost use Rattle.std.specs.Int.{bit_at};
 ghost use Rattle.rz_client_model.specs.Write.{IsWriterAnswer};
 ghost use Rattle.rz_writer.specs.Machine.{HasPlaces};
 
-use crate::comparing::{compare, hold};
 use mj_angles::Layout;
 use rz_events::{Denial, FileInfo, KeepAnswer, Places, Why, WriteEnd, WriterAnswer, WriterAsk};
 use rz_writer::Writer;
@@ -45,9 +44,10 @@ fn step(rt: &impl Abort, writer: &mut Writer, ask: WriterAsk, answer: WriterAnsw
     ensures block { writer.new.block ≡ writer.old.block }
     ensures layout { writer.new.state.layout ≡ writer.old.state.layout }
 {
+    assert_eq!(rt; writer.end(), None, "before {ask:?}");
     let asked = writer.next();
-    compare(rt, &(writer.end(), asked), &(None, ask), &answer);
-    hold(rt, belongs(asked, answer), &answer);
+    assert_eq!(rt; asked, ask);
+    assert!(rt; belongs(asked, answer), "{answer:?}");
     writer.tell(answer);
 }
 
@@ -59,8 +59,8 @@ fn play(rt: &impl Abort, writer: &mut Writer, rows: &[(WriterAsk, WriterAnswer)]
     for (ask, answer) in rows {
         step(rt, writer, *ask, *answer);
     }
-    let found = (writer.next(), writer.end());
-    compare(rt, &found, &(WriterAsk::End, Some(end)), &"end");
+    assert_eq!(rt; writer.next(), WriterAsk::End);
+    assert_eq!(rt; writer.end(), Some(end));
 }
 
 /// A file whose position `i` is on node `100 + i`.
@@ -273,7 +273,7 @@ fn check_bins(rt: &impl Abort, bins: &[u64], first: usize, second: usize) {
         if i == second {
             want |= 2;
         }
-        compare(rt, bin, &want, &(i, first, second));
+        assert_eq!(rt; *bin, want, "bin {i} of {first} and {second}");
     }
 }
 
@@ -292,13 +292,12 @@ fn check_keep(
     let asked = writer.next();
     if let WriterAsk::Keep { position: next, .. } = asked {
         let bins = writer.bins();
-        let found = (usize::from(next), Some(bins.len()));
-        let wanted = (position, row.bins.get(position).copied());
-        compare(rt, &found, &wanted, &asked);
+        assert_eq!(rt; usize::from(next), position);
+        assert_eq!(rt; Some(bins.len()), row.bins.get(position).copied());
         let first = row.first.get(position).copied().expect(rt, "a place");
         let second = row.second.get(position).copied().expect(rt, "a place");
         check_bins(rt, bins, first, second);
-        hold(rt, belongs(asked, answer), &answer);
+        assert!(rt; belongs(asked, answer));
         writer.tell(answer);
     }
 }
