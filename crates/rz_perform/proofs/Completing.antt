@@ -1,173 +1,174 @@
 -- Where nothing stands in the way of a replay, each answer but the end of the play and want of memory is excluded.
-use Rattle.std.proofs.Common.{ℕ, true, false, ◌≡◌, ◌≤◌, ◌<◌, ◌⊎◌, inl, inr, IfSome, List, [], Option, Some, None, Result, Ok, Err, length, refl, sym, ◌∙◌, ap, subst, arith}
+use Rattle.std.proofs.Common.{ℕ, Bool, true, false, IsTrue, ◌≡◌, ◌≢◌, ◌⊎◌, inl, inr, List, [], Option, Some, Result, Ok, Err, refl, sym, ◌∙◌, ap, subst, arith}
 use Rattle.rz_disk.specs.Meter.{Rises as HasRisen}
 use Rattle.rz_ports.specs.Counts.{Rises}
+use Rattle.rz_command.specs.Line.{Meaning}
 use Rattle.rz_events.specs.declared.events.Event.{Event}
 use Rattle.rz_generate.specs.Workload.{workload}
-use Rattle.rz_script.specs.Grammar.{script}
 use Rattle.rz_script.specs.Scripts.{Script}
 use Rattle.rz_script.specs.declared.form.Form.TheVariants as forms
 use Rattle.rz_script.specs.declared.fault.ScriptError.{ScriptError}
-use Rattle.rz_play.specs.World.{new_world}
+use Rattle.rz_play.specs.World.{World, new_world}
 use Rattle.rz_play.specs.Stops.{TurnsSpent}
-use Rattle.rz_play.specs.Played.{IsStopped}
+use Rattle.rz_play.specs.Free.{StopsLinesOver}
 use Rattle.rz_lines.specs.Ends.{IsEnded}
+use Rattle.rz_lines.specs.Free.{IsEndedOver}
 use Rattle.rz_lines.specs.declared.lines.PlayEnd.{PlayEnd}
 use Rattle.rz_lines.specs.declared.lines.PlayEnd.TheVariants as ends
-use Rattle.rz_request.specs.Input.{limit}
-use Rattle.rz_request.specs.Requests.{Reading, Judges, Reads, IsRead, IsFor, AsksFor, disks_for, is_large, wished}
-use Rattle.rz_request.specs.declared.refusal.Refusal.TheVariants as refusals
+use Rattle.rz_request.specs.Requests.{Asks, Reading, AsksFor, IsFor, Reads, disks_for, is_large, nodes_in, script_in, wished}
+use Rattle.rz_request.specs.declared.refusal.Refusal.{Refusal}
 use Rattle.rz_request.specs.declared.refusal.Stop.{Stop}
 use Rattle.rz_request.specs.declared.refusal.Stop.TheVariants as stops
 use Rattle.rz_request.specs.declared.wishes.Request.{Request}
 use Rattle.rz_request.specs.declared.wishes.Wish.{Wish}
 use Rattle.rz_request.specs.declared.wishes.Wish.TheVariants as wishes
-use Rattle.rz_perform.specs.Output.{Sunk}
-use Rattle.rz_perform.specs.Telling.{Tells, Performs, PerformsAs}
+use Rattle.rz_perform.specs.Output.{Sunk, Lacks}
+use Rattle.rz_perform.specs.Telling.{Tells, Performs, PerformsAs, TellsOwn}
 use Rattle.rz_perform.specs.Replays.{Faulted, Course, Unplayed, Unopened, Performed, HasJournal, MayEnd, Opens, Ensues}
-use Rattle.rz_perform.specs.Clear.{Means, IsFinished, IsComplete}
+use Rattle.rz_perform.specs.Clear.{Means, IsPlayable, IsFinished, IsFinishedAgain, IsComplete, IsCompleteAgain}
+use Rattle.rz_perform.proofs.Asked.{HasCome, judged, has-come}
 
 -- What is asked for.
 
--- the request is for this script and this wish; or memory was wanting
-abbrev Came : Script → Wish → Result Request Stop → Type 0
-Came s wish (Ok r) = (r.script ≡ s) × (r.wish ≡ wish)
-Came s wish (Err stops.NoMemory) = Unit {0}
-Came s wish (Err _) = ⊥
+module _ (words : Option Meaning) (source : Reading) (count : ℕ) (disks : Faulted) (course : Course) (sink : Sunk) (s : Script) (result : Result Request Stop) where
+  from-text : (wish : Wish) → IsPlayable words source count disks course sink wish s → Means wishes.Replay source.before s → Reads source wish count result → HasCome s (script_in result)
+  from-text wish playable (text, left, short, means) reads =
+      has-come forms.Replay source (disks_for wish) count s playable.source_whole text left short means playable.small playable.fits (script_in result) reads
 
-ok-same : (x : Result Script ScriptError) (a b : Script) → x ≡ Ok a → x ≡ Ok b → a ≡ b
-ok-same x a b at_a at_b = cc
+  asked-for : (wish : Wish) → IsPlayable words source count disks course sink wish s → AsksFor (Some wish) words source count result → HasCome s (script_in result) × IsFor wish result
+  asked-for wishes.Replay playable asked = (from-text wishes.Replay playable playable.means asked.0, asked.1)
+  asked-for wishes.Scrub playable asked = (from-text wishes.Scrub playable playable.means asked.0, asked.1)
+  asked-for wishes.First playable asked = (from-text wishes.First playable playable.means asked.0, asked.1)
+  asked-for wishes.Again playable asked = (from-text wishes.Again playable playable.means asked.0, asked.1)
+  asked-for (wishes.Load seed) playable asked =
+      let is : ◌≡◌ {A = Result Script ScriptError} (Ok (workload seed)) (Ok s) = ap (λ (x : Script). Ok x) playable.means in
+      (judged (Ok (workload seed)) (disks_for (wishes.Load seed)) count s is playable.small playable.fits (script_in result) asked.0, asked.1)
 
-module _ (read : Result Script ScriptError) (disks : ℕ) (s : Script) (wish : Wish) (is : read ≡ Ok s) (small : is_large s ≡ false) (fits : disks ≡ disks_for wish s) where
-  judged : (result : Result Request Stop) → Judges read wish disks result → IsFor wish result → Came s wish result
-  judged (Ok r) h for = (ok-same read r.script s h.0 is, for)
-  judged (Err stops.NoMemory) h for = tt
-  judged (Err stops.Source) h for = absurd h
-  judged (Err (stops.Refused refusals.Usage)) h for = absurd h
-  judged (Err (stops.Refused (refusals.Script line cause))) h for = cc
-  judged (Err (stops.Refused (refusals.Volume fault))) h for = cc
-  judged (Err (stops.Refused refusals.Long)) h for = absurd h
-  judged (Err (stops.Refused refusals.Turns)) h for = absurd h
-  judged (Err (stops.Refused refusals.Large)) h for =
-      let large : is_large s ≡ true = subst (λ (x : Script). is_large x ≡ true) (ok-same read h.0 s h.1 is) h.2 in cc
-  judged (Err (stops.Refused (refusals.Disks have need))) h for =
-      let need_is : need ≡ disks_for wish s = subst (λ (x : Script). need ≡ disks_for wish x) (ok-same read h.0 s h.1 is) h.4 in
-      absurd (h.5 (h.3 ∙ fits ∙ sym need_is))
-  judged (Err (stops.Refused (refusals.Disk index))) h for = absurd h
-  judged (Err (stops.Refused (refusals.Node sid))) h for = absurd h
-  judged (Err (stops.Refused (refusals.Old cause))) h for = absurd h
-  judged (Err (stops.Refused refusals.Journal)) h for = absurd h
-  judged (Err (stops.Refused refusals.Full)) h for = absurd h
-  judged (Err (stops.Refused (refusals.Open index cause))) h for = absurd h
-
-module _ (wish : Wish) (source : Reading) (disks : ℕ) (s : Script) (whole : ¬ Rises source.old source.new) (text : List ℕ) (left : source.before ≡ Some text) (short : length text ≤ limit)
-    (means : script forms.Replay text ≡ Ok s) (small : is_large s ≡ false) (fits : disks ≡ disks_for wish s) where
-  -- the text that was read is the one that was left
-  came-read : (result : Result Request Stop) → (t : List ℕ) × IsRead source t × Judges (script forms.Replay t) wish disks result → IsFor wish result → Came s wish result
-  came-read result h for =
-      let same = subst (λ (b : Option (List ℕ)). IfSome b (λ x. (x ≡ h.0) × (source.after ≡ Some []))) left h.1.0 in
-      let is : script forms.Replay h.0 ≡ Ok s = subst (λ (t : List ℕ). script forms.Replay t ≡ Ok s) same.0 means in
-      judged (script forms.Replay h.0) disks s wish is small fits result h.2 for
-
-  came-source : (result : Result Request Stop) → Reads source wish disks result → IsFor wish result → Came s wish result
-  came-source (Ok r) h for = came-read (Ok r) h for
-  came-source (Err stops.NoMemory) h for = tt
-  came-source (Err stops.Source) h for = absurd (whole h)
-  came-source (Err (stops.Refused refusals.Usage)) h for = came-read (Err (stops.Refused refusals.Usage)) h for
-  came-source (Err (stops.Refused (refusals.Script line cause))) h for = came-read (Err (stops.Refused (refusals.Script line cause))) h for
-  came-source (Err (stops.Refused (refusals.Volume fault))) h for = came-read (Err (stops.Refused (refusals.Volume fault))) h for
-  came-source (Err (stops.Refused refusals.Long)) h for =
-      let long = subst (λ (b : Option (List ℕ)). IfSome b (λ x. limit < length x)) left h in absurd (omega (arith, long, short))
-  came-source (Err (stops.Refused refusals.Turns)) h for = came-read (Err (stops.Refused refusals.Turns)) h for
-  came-source (Err (stops.Refused refusals.Large)) h for = came-read (Err (stops.Refused refusals.Large)) h for
-  came-source (Err (stops.Refused (refusals.Disks have need))) h for = came-read (Err (stops.Refused (refusals.Disks have need))) h for
-  came-source (Err (stops.Refused (refusals.Disk index))) h for = came-read (Err (stops.Refused (refusals.Disk index))) h for
-  came-source (Err (stops.Refused (refusals.Node sid))) h for = came-read (Err (stops.Refused (refusals.Node sid))) h for
-  came-source (Err (stops.Refused (refusals.Old cause))) h for = came-read (Err (stops.Refused (refusals.Old cause))) h for
-  came-source (Err (stops.Refused refusals.Journal)) h for = came-read (Err (stops.Refused refusals.Journal)) h for
-  came-source (Err (stops.Refused refusals.Full)) h for = came-read (Err (stops.Refused refusals.Full)) h for
-  came-source (Err (stops.Refused (refusals.Open index cause))) h for = came-read (Err (stops.Refused (refusals.Open index cause))) h for
+  -- it is the script, or memory was wanting
+  come : (wish : Wish) → IsPlayable words source count disks course sink wish s → Asks words source count result → HasCome s (script_in result) × IsFor wish result
+  come wish playable asks = asked-for wish playable (subst (λ (w : Option Wish). AsksFor w words source count result) playable.wanted asks)
 
 -- What comes of it.
-
-abbrev IsAnew : Wish → Type 0
-IsAnew wishes.Again = ⊥
-IsAnew _ = Unit {0}
-
--- a play that begins anew has a journal for `first` alone
-only-first : (w : Wish) → IsAnew w → HasJournal w → w ≡ wishes.First
-only-first wishes.Replay anew has = absurd has
-only-first (wishes.Load seed) anew has = absurd has
-only-first wishes.Scrub anew has = absurd has
-only-first wishes.First anew has = refl
-only-first wishes.Again anew has = absurd anew
 
 -- a count that rose as a stream counts has risen as a disk counts
 has-risen : (old new : ℕ) → Rises old new → HasRisen old new
 has-risen old new rises = omega (arith, rises)
 
-module _ (disks : Faulted) (lost : ℕ) (sink : Sunk) (status : ℕ) (h : List Event) (s : Script)
-    (turns : (g : List Event) → ¬ IsStopped s.volume TurnsSpent s.lines g) (disks_whole : (i : ℕ) → ¬ HasRisen (disks.old i) (disks.new i)) (sink_whole : ¬ Rises sink.old sink.new) where
-  -- the journal's disk did not end the play
-  kept-journal : (end : PlayEnd) (r : Request) → IsAnew r.wish → MayEnd end r disks → end ≡ ends.Journal → ⊥
-  kept-journal ends.Journal r anew may is = disks_whole _ (may.1 (only-first r.wish anew may.0))
-  kept-journal ends.Ended r anew may is = cc
-  kept-journal ends.TooManyTurns r anew may is = cc
-  kept-journal ends.NoMemory r anew may is = cc
-  kept-journal ends.JournalFull r anew may is = cc
+-- a play that begins anew has a journal for `first` alone
+only-first : (w : Wish) → w ≢ wishes.Again → HasJournal w → w ≡ wishes.First
+only-first wishes.Replay anew has = absurd has
+only-first (wishes.Load seed) anew has = absurd has
+only-first wishes.Scrub anew has = absurd has
+only-first wishes.First anew has = refl
+only-first wishes.Again anew has = absurd (anew refl)
 
-  told-end : (wish : Wish) (end : PlayEnd) (later : List Event) → ¬ (end ≡ ends.Journal) → ¬ (end ≡ ends.JournalFull) → IsEnded s.volume (new_world s.volume) s.lines end lost h
-      → Tells true s.volume s.lines end wish h later sink status → IsFinished (Some wish) s sink status h ⊎ (status ≡ 70)
-  told-end wish ends.Ended later kept room ended (may, inl (found, sought, inl took)) = inl (later, found, took.0, ended.0, sought, took.1)
-  told-end wish ends.Ended later kept room ended (may, inl (found, sought, inr failed)) = absurd (sink_whole failed.1)
-  told-end wish ends.Ended later kept room ended (may, inr lacks) = inr lacks.0
-  told-end wish ends.TooManyTurns later kept room ended t = absurd (turns h ended.0)
-  told-end wish ends.NoMemory later kept room ended (may, inl (found, sought, says)) = absurd says
-  told-end wish ends.NoMemory later kept room ended (may, inr lacks) = inr lacks.0
-  told-end wish ends.Journal later kept room ended t = absurd (kept refl)
-  told-end wish ends.JournalFull later kept room ended t = absurd (room refl)
+module _ (tells : Bool) (disks : Faulted) (lost : ℕ) (sink : Sunk) (status : ℕ) (h : List Event) (s : Script) (sink_whole : ¬ Rises sink.old sink.new) where
+  -- of a request that came, what follows; or memory was wanting
+  ensued : (Goal : Type 0) (wish : Wish) (course : Course) (result : Result Request Stop) → ((r : Request) → r.script ≡ s → r.wish ≡ wish → Opens tells course r disks lost sink status h → Goal ⊎ Lacks sink status)
+      → HasCome s (script_in result) → IsFor wish result → Ensues tells course result disks lost sink status h → Goal ⊎ Lacks sink status
+  ensued Goal wish course (Ok r) follows came for e = follows r came for e.0
+  ensued Goal wish course (Err stops.NoMemory) follows came for e = inr e.0
+  ensued Goal wish course (Err stops.Source) follows came for e = absurd came
+  ensued Goal wish course (Err (stops.Refused refusal)) follows came for e = absurd came
 
-  -- a play that begins anew
-  performed-as : (wish : Wish) (end : PlayEnd) (later : List Event) → IsAnew wish → PerformsAs true s.volume s.lines wish end later lost h sink status → Performs true s.volume s.lines wish end later lost h sink status
-  performed-as wishes.Replay end later anew p = p
-  performed-as (wishes.Load seed) end later anew p = p
-  performed-as wishes.Scrub end later anew p = p
-  performed-as wishes.First end later anew p = p
-  performed-as wishes.Again end later anew p = absurd anew
+  -- A play that begins anew.
 
-  followed : (wish : Wish) (course : Course) (r : Request) → IsAnew wish → ((later : List Event) → ¬ (course ≡ Performed ends.JournalFull later)) → r.script ≡ s → r.wish ≡ wish → Opens true course r disks lost sink status h
-      → IsFinished (Some wish) s sink status h ⊎ (status ≡ 70)
-  followed wish Unplayed r anew room script_is wish_is (inl lacks) = inr lacks.0.0
-  followed wish (Unopened index cause) r anew room script_is wish_is unopened = absurd (subst IsAnew (sym wish_is ∙ unopened.0) anew)
-  followed wish Unplayed r anew room script_is wish_is (inr failed) = absurd (disks_whole failed.0 (has-risen (disks.old failed.0) (disks.new failed.0) failed.1))
-  followed wish (Performed end later) r anew room script_is wish_is performed =
-      let P : Script → Type 0 = λ x. PerformsAs true x.volume x.lines r.wish end later lost h sink status in
-      let Q : Wish → Type 0 = λ x. PerformsAs true s.volume s.lines x end later lost h sink status in
-      let p = performed-as wish end later anew (subst Q wish_is (subst P script_is performed.1)) in
-      told-end wish end later (kept-journal end r (subst IsAnew (sym wish_is) anew) performed.0) (λ is. room later (ap (λ (e : PlayEnd). Performed e later) is)) (p.0 refl) p.3
+  module _ (wish : Wish) (anew : wish ≢ wishes.Again) (turns : (last : World) → ¬ StopsLinesOver s.volume TurnsSpent s.lines tells (new_world s.volume) last)
+      (journal : wish ≡ wishes.First → ¬ HasRisen (disks.old (nodes_in s)) (disks.new (nodes_in s))) where
+    -- the journal's disk did not end the play
+    kept-journal : (end : PlayEnd) (r : Request) → r.script ≡ s → r.wish ≡ wish → MayEnd end r disks → end ≡ ends.Journal → ⊥
+    kept-journal ends.Journal r script_is wish_is may is =
+        let first : r.wish ≡ wishes.First = only-first r.wish (λ again. anew (sym wish_is ∙ again)) may.0 in
+        journal (sym wish_is ∙ first) (subst (λ (x : Script). HasRisen (disks.old (nodes_in x)) (disks.new (nodes_in x))) script_is (may.1 first))
+    kept-journal ends.Ended r script_is wish_is may is = cc
+    kept-journal ends.TooManyTurns r script_is wish_is may is = cc
+    kept-journal ends.NoMemory r script_is wish_is may is = cc
+    kept-journal ends.JournalFull r script_is wish_is may is = cc
 
-  ensued : (wish : Wish) (course : Course) (result : Result Request Stop) → IsAnew wish → ((later : List Event) → ¬ (course ≡ Performed ends.JournalFull later)) → Came s wish result → Ensues true course result disks lost sink status h → IsFinished (Some wish) s sink status h ⊎ (status ≡ 70)
-  ensued wish course (Ok r) anew room came e = followed wish course r anew room came.0 came.1 e.0
-  ensued wish course (Err stops.NoMemory) anew room came e = inr e.0.0
-  ensued wish course (Err stops.Source) anew room came e = absurd came
-  ensued wish course (Err (stops.Refused refusal)) anew room came e = absurd came
+    told-end : (end : PlayEnd) (later : List Event) → ¬ (end ≡ ends.Journal) → ¬ (end ≡ ends.JournalFull) → (IsTrue tells → IsEnded s.volume (new_world s.volume) s.lines end lost h)
+        → IsEndedOver tells s.volume (new_world s.volume) s.lines end lost h → Tells tells s.volume s.lines end wish h later sink status → IsFinished tells wish s lost sink status h ⊎ Lacks sink status
+    told-end ends.Ended later kept room ended over (may, inl (found, sought, inl took)) = inl (record {
+      status_is = took.0;
+      played = λ telling. (ended telling).0;
+      over = over;
+      later = later;
+      found = found;
+      sought = sought;
+      taken = took.1;
+    })
+    told-end ends.Ended later kept room ended over (may, inl (found, sought, inr failed)) = absurd (sink_whole failed.1)
+    told-end ends.Ended later kept room ended over (may, inr lacks) = inr lacks
+    told-end ends.TooManyTurns later kept room ended over t = absurd (turns over.last over.played)
+    told-end ends.NoMemory later kept room ended over (may, inl (found, sought, says)) = absurd says
+    told-end ends.NoMemory later kept room ended over (may, inr lacks) = inr lacks
+    told-end ends.Journal later kept room ended over t = absurd (kept refl)
+    told-end ends.JournalFull later kept room ended over t = absurd (room refl)
+
+    performed-as : (w : Wish) (end : PlayEnd) (later : List Event) → w ≢ wishes.Again → PerformsAs tells s.volume s.lines w end later lost h sink status → Performs tells s.volume s.lines w end later lost h sink status
+    performed-as wishes.Replay end later new p = p
+    performed-as (wishes.Load seed) end later new p = p
+    performed-as wishes.Scrub end later new p = p
+    performed-as wishes.First end later new p = p
+    performed-as wishes.Again end later new p = absurd (new refl)
+
+    followed : (course : Course) → (course ≡ Unplayed → (i : ℕ) → ¬ HasRisen (disks.old i) (disks.new i)) → ((later : List Event) → ¬ (course ≡ Performed ends.JournalFull later)) → (r : Request) → r.script ≡ s → r.wish ≡ wish
+        → Opens tells course r disks lost sink status h → IsFinished tells wish s lost sink status h ⊎ Lacks sink status
+    followed Unplayed formatted room r script_is wish_is (inl lacks) = inr lacks.0
+    followed Unplayed formatted room r script_is wish_is (inr failed) = absurd (formatted refl failed.0 (has-risen (disks.old failed.0) (disks.new failed.0) failed.1))
+    followed (Unopened index cause) formatted room r script_is wish_is unopened = absurd (anew (sym wish_is ∙ unopened.0))
+    followed (Performed end later) formatted room r script_is wish_is performed =
+        let P : Script → Type 0 = λ x. PerformsAs tells x.volume x.lines r.wish end later lost h sink status in
+        let Q : Wish → Type 0 = λ w. PerformsAs tells s.volume s.lines w end later lost h sink status in
+        let p = performed-as wish end later anew (subst Q wish_is (subst P script_is performed.1)) in
+        told-end end later (kept-journal end r script_is wish_is performed.0) (λ is. room later (ap (λ (e : PlayEnd). Performed e later) is)) p.0 p.1 p.3
+
+  -- A play after earlier runs.
+
+  own-end : (end : PlayEnd) (later : List Event) → ¬ (end ≡ ends.TooManyTurns) → ¬ (end ≡ ends.Journal) → ¬ (end ≡ ends.JournalFull) → TellsOwn end wishes.Again later h sink status
+      → IsFinishedAgain (Performed end later) sink status h ⊎ Lacks sink status
+  own-end ends.Ended later turns journal room (may, inl (found, inl took)) = inl (record {
+    status_is = took.0;
+    ended = ap (λ (events : List Event). Performed ends.Ended events) may;
+    taken = took.1;
+  })
+  own-end ends.Ended later turns journal room (may, inl (found, inr failed)) = absurd (sink_whole failed.1)
+  own-end ends.Ended later turns journal room (may, inr lacks) = inr lacks
+  own-end ends.TooManyTurns later turns journal room own = absurd (turns refl)
+  own-end ends.NoMemory later turns journal room (may, inl (found, says)) = absurd says
+  own-end ends.NoMemory later turns journal room (may, inr lacks) = inr lacks
+  own-end ends.Journal later turns journal room own = absurd (journal refl)
+  own-end ends.JournalFull later turns journal room own = absurd (room refl)
+
+  gone-on : (course : Course) → (course ≡ Unplayed → (i : ℕ) → ¬ HasRisen (disks.old i) (disks.new i)) → ((index cause : ℕ) → ¬ (course ≡ Unopened index cause))
+      → ((end : PlayEnd) (later : List Event) → course ≡ Performed end later → ¬ (end ≡ ends.TooManyTurns) × ¬ (end ≡ ends.Journal) × ¬ (end ≡ ends.JournalFull)) → (r : Request) → r.script ≡ s → r.wish ≡ wishes.Again
+      → Opens tells course r disks lost sink status h → IsFinishedAgain course sink status h ⊎ Lacks sink status
+  gone-on Unplayed formatted opened uncut r script_is wish_is (inl lacks) = inr lacks.0
+  gone-on Unplayed formatted opened uncut r script_is wish_is (inr failed) = absurd (formatted refl failed.0 (has-risen (disks.old failed.0) (disks.new failed.0) failed.1))
+  gone-on (Unopened index cause) formatted opened uncut r script_is wish_is unopened = absurd (opened index cause refl)
+  gone-on (Performed end later) formatted opened uncut r script_is wish_is performed =
+      let Q : Wish → Type 0 = λ w. PerformsAs tells r.script.volume r.script.lines w end later lost h sink status in
+      let kept = uncut end later refl in
+      own-end end later kept.0 kept.1 kept.2 (subst Q wish_is performed.1)
+
+-- The laws.
 
 pub complete : IsComplete
-complete words source count disks lost sink status h course result asks ensues s clear = go (wished words) clear.means clear.fits asks
-  where
-    from_text : (wish : Wish) → IsAnew wish → count ≡ disks_for wish s → (text : List ℕ) × (source.before ≡ Some text) × (length text ≤ limit) × (script forms.Replay text ≡ Ok s) → Reads source wish count result → IsFor wish result
-        → IsFinished (Some wish) s sink status h ⊎ (status ≡ 70)
-    from_text wish anew fits (text, left, short, means) reads for =
-        ensued disks lost sink status h s clear.turns clear.disks_whole clear.sink_whole wish course result anew clear.room
-        (came-source wish source count s clear.source_whole text left short means clear.small fits result reads for) ensues
+complete tells words source count disks lost sink status h course result asks ensues wish s clear =
+    let p = clear.playable in
+    let came = come words source count disks course sink s result wish p asks in
+    ensued tells disks lost sink status h s p.sink_whole (IsFinished tells wish s lost sink status h) wish course result
+    (followed tells disks lost sink status h s p.sink_whole wish clear.anew clear.turns clear.journal course p.formatted clear.room) came.0 came.1 ensues
 
-    go : (w : Option Wish) → Means w source.before s → IfSome w (λ wish. count ≡ disks_for wish s) → AsksFor w words source count result → IsFinished w s sink status h ⊎ (status ≡ 70)
-    go None means fits asked = absurd means
-    go (Some wishes.Replay) means fits asked = from_text wishes.Replay tt fits means asked.0 asked.1
-    go (Some wishes.Scrub) means fits asked = from_text wishes.Scrub tt fits means asked.0 asked.1
-    go (Some wishes.First) means fits asked = from_text wishes.First tt fits means asked.0 asked.1
-    go (Some wishes.Again) means fits asked = absurd means
-    go (Some (wishes.Load seed)) means fits asked =
-        let is : ◌≡◌ {A = Result Script ScriptError} (Ok (workload seed)) (Ok s) = ap (λ (x : Script). Ok x) means in
-        ensued disks lost sink status h s clear.turns clear.disks_whole clear.sink_whole (wishes.Load seed) course result tt clear.room
-        (judged (Ok (workload seed)) count s (wishes.Load seed) is clear.small fits result asked.0 asked.1) ensues
+pub complete-again : IsCompleteAgain
+complete-again tells words source count disks lost sink status h course result asks ensues s clear =
+    let p = clear.playable in
+    let came = come words source count disks course sink s result wishes.Again p asks in
+    let at : (end not : PlayEnd) (later : List Event) → course ≡ Performed end later → end ≡ not → course ≡ Performed not later = λ end not later is ends. is ∙ ap (λ (e : PlayEnd). Performed e later) ends in
+    ensued tells disks lost sink status h s p.sink_whole (IsFinishedAgain course sink status h) wishes.Again course result
+    (gone-on tells disks lost sink status h s p.sink_whole course p.formatted clear.opened
+    (λ end later is. (
+      λ spent. clear.turns later (at end ends.TooManyTurns later is spent),
+      λ failed. clear.journal later (at end ends.Journal later is failed),
+      λ full. clear.room later (at end ends.JournalFull later is full),
+    )))
+    came.0 came.1 ensues

@@ -1,6 +1,6 @@
 //! Laws without code: what the log of a performance says is true, and when a replay comes to its end.
 
-ghost use Rattle.rz_perform.specs.Clear.{IsComplete};
+ghost use Rattle.rz_perform.specs.Clear.{IsComplete, IsCompleteAgain};
 ghost use Rattle.rz_perform.specs.Told.{AreBegun, AreLossesTold, AreTold};
 
 /// What the log of a script's play says is true, however the play ended: what is proved of each play that
@@ -36,9 +36,15 @@ pub fn begins()
     rz_play_laws::stopped();
 }
 
-/// A replay comes to its end where nothing stands in its way: the words and the source mean a script
-/// within the limits, there is a disk for each node, no turn too many is called for, and nothing outside
-/// failed. Want of memory is the one other answer.
+/// A replay that begins anew comes to its end where nothing stands in its way: the words and the source mean
+/// a script within the limits, there is a disk for each node, no turn too many is called for, and nothing
+/// outside failed. Want of memory is the one other answer. Over disks that do not tell their texts it is so too.
 pub fn completes()
     ensures { IsComplete }
+{}
+
+/// So does one that goes on after earlier runs, where all disks open, and neither a turn too many nor the
+/// journal cuts the play off.
+pub fn completes_again()
+    ensures { IsCompleteAgain }
 {}

@@ -9,8 +9,8 @@
 //! finished rebuild is whole, no update is lost, each view is whole, and each lost message has its cause.
 //! A play may go on after earlier runs: it is then that of the script behind each log that they may have had.
 //! `specs/Replays` says what a replay of what was asked for comes to, of which this is the last part, and
-//! [`completes`] when it comes to its end. Nothing here says what a real file or terminal takes,
-//! nor that there is memory.
+//! [`completes`] and [`completes_again`] when it comes to its end. Nothing here says what a real file or
+//! terminal takes, nor that there is memory.
 //!
 //! In reading order: `output`, `telling`, `scrubbing`, `performing`, `laws`.
 #![tactic(auto)]
@@ -21,7 +21,7 @@ mod performing;
 mod scrubbing;
 mod telling;
 
-pub use laws::{begins, completes};
+pub use laws::{begins, completes, completes_again};
 pub use output::finish;
 pub use performing::perform;
 pub use rz_lines::LoggedStage;

@@ -1,3 +1,4 @@
+pub mod Clear
 pub mod Done
 pub mod Handed
 pub mod Runs

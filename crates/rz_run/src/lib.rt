@@ -8,7 +8,7 @@
 //! counted. Over an honest book the log is legal and sound, and each disk stands for what the log says that
 //! its node holds. Where the play came to its end the text of this log is written. Where memory was wanting
 //! for someone, nothing is, and each has done the first part of what it was given. Disks and links come back
-//! in their order, whatever comes of it.
+//! in their order, whatever comes of it. [`completes`] says when a run that returns has come to its end.
 //!
 //! Nothing here says that a thread runs, whose turn comes first, or that there is memory.
 //!
@@ -22,6 +22,7 @@ mod playing;
 mod running;
 mod telling;
 
+pub use laws::completes;
 pub use outcome::Ran;
 pub use running::run;
 pub use telling::refuse_disks;
