@@ -21,8 +21,13 @@ use Rattle.rz_opening.specs.declared.refusal.OpenRefusal.TheVariants.{Open}
 use Rattle.rz_driver.specs.Continued.{AreLeft, IsCauseAgain}
 use Rattle.rz_continuation.specs.Earlier.{IsEarlier, IsRestarted}
 use Rattle.rz_script.specs.declared.line.Line.{Line}
+use Rattle.rz_node_model.specs.States.{NodeState}
+use Rattle.rz_export_model.specs.Export.{Export}
 use Rattle.rz_play.specs.Faults.{missed, misses}
+use Rattle.rz_play.specs.World.{world_after}
+use Rattle.rz_play_laws.specs.Fine.{IsFine}
 use Rattle.rz_play_laws.specs.Runs.{IsRunAfter}
+use Rattle.rz_lines.specs.Ends.{IsEnded}
 use Rattle.rz_lines.specs.declared.lines.PlayEnd.TheVariants.{Ended, TooManyTurns, NoMemory, Journal, JournalFull}
 use Rattle.rz_lines.specs.declared.lines.PlayEnd.{PlayEnd}
 use Rattle.rz_request.specs.declared.refusal.Stop.{Stop}
@@ -112,13 +117,22 @@ pub record AreAllBack {D : Type 0} (tells : Bool) (meter : D → Meter) (image :
   pub journal_told : IsJournalTold tells meter image course v journal journal_back h
   pub next : IsNextTold tells image course v new h
 
--- A play that went on after this earlier log. Behind that log, with the nodes stopped and started, its own is legal, and both are
--- sound. Each of its lost messages was lost by a line or by the link, and its disks' faults are counted by its own events. The
--- images of each disk stand for what both logs say, and one more run may go on after both.
+-- The log of a play of these lines that went on after this one, by how it ended: when it began, nodes and export stood as that log
+-- says. The link has lost at most so many messages then.
+pub record IsPlayAfter (v : Volume) (old : List Event) (lines : List Line) (end : PlayEnd) (lost : ℕ) (h : List Event) : Type 0 where
+  pub nodes : ℕ → NodeState
+  pub export : Export
+  pub fine : IsFine v old (world_after nodes export old)
+  pub ended : IsEnded v (world_after nodes export old) lines end lost h
+
+-- A play that went on after this earlier log. Behind that log, with the nodes stopped and started, its own is that of a play of the
+-- lines and is legal, and both are sound. Each of its lost messages was lost by a line or by the link, and its disks' faults are
+-- counted by its own events. The images of each disk stand for what both logs say, and one more run may go on after both.
 pub record IsGoneOn {D : Type 0} (tells : Bool) (meter : D → Meter) (image : D → List ℕ → Type 0) (end : PlayEnd) (v : Volume) (lines : List Line) (lost : ℕ) (earlier : List Event)
     (disks : List D) (journal : D) (nodes_back : List D) (journal_back : D) (h : List Event) : Type 0 where
   pub old : List Event
   pub restarted : IsRestarted v earlier old
+  pub played : IsPlayAfter v old lines end lost (h ++ old)
   pub run : IsRunAfter v old (h ++ old)
   pub losses : missed h ≤ misses lines + lost
   pub faults_told : AreFaultsTold meter v disks nodes_back h

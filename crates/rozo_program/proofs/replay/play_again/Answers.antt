@@ -35,7 +35,7 @@ use Rattle.rz_perform.specs.Telling.{IsPlayOf, TellsOwn}
 use Rattle.rz_perform.proofs.Anew.{told_own}
 use Rattle.rz_request.specs.declared.wishes.Wish.{Wish}
 use Rattle.rz_request.specs.declared.wishes.Wish.TheVariants.{Again, Scrub}
-use Rattle.rozo_program.specs.Disks.{AreBackAgain, AreFaultsTold, AreImagesTold, AreUsedAgain, IsGoneOn, IsJournalLeft, LeavesNext, MayFollow, faulted}
+use Rattle.rozo_program.specs.Disks.{AreBackAgain, AreFaultsTold, AreImagesTold, AreUsedAgain, IsGoneOn, IsJournalLeft, IsPlayAfter, LeavesNext, MayFollow, faulted}
 use Rattle.rozo_program.specs.Replays.{FailsAgain}
 use Rattle.rozo_program.proofs.Continuing.{any_told, not-reopened, own_as}
 use Rattle.rozo_program.proofs.Journals.{again-back, again-end, at-last, between-on, has-disk, journal-left, may-follow, next-on, split-last, whole-end}
@@ -165,6 +165,16 @@ module _ (g : given.Over) (c : goal.After-drop-disks g) where
       fine : IsFine volume old (world_after (state_in c.in-Ok.driver.shared.stations.items) (export_in c.in-Ok.driver.shared.export) old)
       fine = subst (λ (w : World). IsFine volume old (behind old w)) world_is (subst (λ (v : Volume). IsFine v old (behind old (world_of c.in-Ok.driver))) driver_volume (held.1 telling few).fine)
 
+      played : IsPlayAfter volume old c.args.request.now.script.lines end lost (log ++ old)
+      played =
+          let E : World → Type 0 = λ w. IsEnded volume (behind old w) c.args.request.now.script.lines end lost (log ++ old) in
+          record {
+            nodes = state_in c.in-Ok.driver.shared.stations.items;
+            export = export_in c.in-Ok.driver.shared.export;
+            fine = fine;
+            ended = subst E world_is (plays.0 telling);
+          }
+
       run_after : IsRunAfter volume old (log ++ old)
       run_after =
           let lines : List Line = c.args.request.now.script.lines in
@@ -218,6 +228,7 @@ returns-in-Ok g c =
           record {
             old = on.0;
             restarted = on.1;
+            played = played g c on.0 on.2 telling;
             run = run_after g c on.0 on.2 telling;
             losses = (plays g c on.0 on.2 telling).2;
             faults_told = counted g c on.0 on.2;
