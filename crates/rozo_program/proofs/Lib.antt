@@ -1,4 +1,5 @@
 pub mod Asked
+pub mod Completing
 pub mod Continuing
 pub mod Journals
 pub mod Lent

@@ -1,3 +1,4 @@
+pub mod Clear
 pub mod Disks
 pub mod Migrations
 pub mod Replays

@@ -9,12 +9,13 @@
 //! want is status 70. The command `run` is `run` of `rz_run`, whose contract says as much of the one log that
 //! all threads write.
 //!
-//! In reading order: `replay`, `migrating`, `disks`.
+//! In reading order: `replay`, `laws`, `migrating`, `disks`.
 #![tactic(auto)]
 
 #[cfg(test)]
 mod damage;
 mod disks;
+mod laws;
 mod migrating;
 #[cfg(test)]
 mod outages;

@@ -45,7 +45,7 @@ module _ (words : Option Meaning) (source : Reading) (count : ℕ) (disks : Faul
       (judged (Ok (workload seed)) (disks_for (wishes.Load seed)) count s is playable.small playable.fits (script_in result) asked.0, asked.1)
 
   -- it is the script, or memory was wanting
-  come : (wish : Wish) → IsPlayable words source count disks course sink wish s → Asks words source count result → HasCome s (script_in result) × IsFor wish result
+  pub come : (wish : Wish) → IsPlayable words source count disks course sink wish s → Asks words source count result → HasCome s (script_in result) × IsFor wish result
   come wish playable asks = asked-for wish playable (subst (λ (w : Option Wish). AsksFor w words source count result) playable.wanted asks)
 
 -- What comes of it.
