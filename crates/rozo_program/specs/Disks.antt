@@ -24,9 +24,11 @@ use Rattle.rz_script.specs.declared.line.Line.{Line}
 use Rattle.rz_node_model.specs.States.{NodeState}
 use Rattle.rz_export_model.specs.Export.{Export}
 use Rattle.rz_play.specs.Faults.{missed, misses}
-use Rattle.rz_play.specs.World.{world_after}
+use Rattle.rz_play.specs.World.{World, world_after}
 use Rattle.rz_play_laws.specs.Fine.{IsFine}
 use Rattle.rz_play_laws.specs.Runs.{IsRunAfter}
+use Rattle.rz_play_locks.specs.Kept.{IsKeptAfter}
+use Rattle.rz_play_locks.specs.Operations.{given}
 use Rattle.rz_lines.specs.Ends.{IsEnded}
 use Rattle.rz_lines.specs.declared.lines.PlayEnd.TheVariants.{Ended, TooManyTurns, NoMemory, Journal, JournalFull}
 use Rattle.rz_lines.specs.declared.lines.PlayEnd.{PlayEnd}
@@ -125,15 +127,21 @@ pub record IsPlayAfter (v : Volume) (old : List Event) (lines : List Line) (end 
   pub fine : IsFine v old (world_after nodes export old)
   pub ended : IsEnded v (world_after nodes export old) lines end lost h
 
+-- No update of such a play is lost, also where its block was published before, and each view of guarded blocks is whole.
+abbrev pub AreLocksKept : Volume → List Event → List Line → List Event → Type 0
+AreLocksKept v old lines h = (last : World) × IsKeptAfter v.layout (λ a. given a lines) old h last
+
 -- A play that went on after this earlier log. Behind that log, with the nodes stopped and started, its own is that of a play of the
--- lines and is legal, and both are sound. Each of its lost messages was lost by a line or by the link, and its disks' faults are
--- counted by its own events. The images of each disk stand for what both logs say, and one more run may go on after both.
+-- lines and is legal, and both are sound. No update is lost, if there are fewer than 2^63 events behind it. Each of its lost messages
+-- was lost by a line or by the link, and its disks' faults are counted by its own events. The images of each disk stand for what both
+-- logs say, and one more run may go on after both.
 pub record IsGoneOn {D : Type 0} (tells : Bool) (meter : D → Meter) (image : D → List ℕ → Type 0) (end : PlayEnd) (v : Volume) (lines : List Line) (lost : ℕ) (earlier : List Event)
     (disks : List D) (journal : D) (nodes_back : List D) (journal_back : D) (h : List Event) : Type 0 where
   pub old : List Event
   pub restarted : IsRestarted v earlier old
   pub played : IsPlayAfter v old lines end lost (h ++ old)
   pub run : IsRunAfter v old (h ++ old)
+  pub kept : length old < 2 ^ 63 → AreLocksKept v old lines (h ++ old)
   pub losses : missed h ≤ misses lines + lost
   pub faults_told : AreFaultsTold meter v disks nodes_back h
   pub images_told : AreImagesTold tells meter image (Performed end []) v disks nodes_back (h ++ old)

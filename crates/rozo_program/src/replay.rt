@@ -175,7 +175,9 @@ fn play_again<D: Disk, L: Link, O: Sink>(
 {
     rz_scrub_laws::untouched::<D>();
     begins();
+    rz_continuation::restarting();
     rz_continuation::afterwards();
+    rz_play_locks::after();
     rz_core::next_run();
     keeps_rules(&request.script);
     let volume = request.script.volume();

@@ -23,7 +23,7 @@ use Rattle.rz_core.specs.History.{facts}
 use Rattle.rz_core.specs.Legal.{IsLegalInRuns}
 use Rattle.rz_scrub_laws.specs.Untouched.{text_in}
 use Rattle.rz_play.specs.World.{World, world_after}
-use Rattle.rz_play_laws.specs.Fine.{IsFine}
+use Rattle.rz_play_laws.specs.Fine.{IsFine, MayBegin}
 use Rattle.rz_play_laws.specs.Runs.{IsRunAfter}
 use Rattle.rz_lines.specs.Behind.{Before, behind}
 use Rattle.rz_lines.specs.Ends.{IsEnded}
@@ -35,7 +35,7 @@ use Rattle.rz_perform.specs.Telling.{IsPlayOf, TellsOwn}
 use Rattle.rz_perform.proofs.Anew.{told_own}
 use Rattle.rz_request.specs.declared.wishes.Wish.{Wish}
 use Rattle.rz_request.specs.declared.wishes.Wish.TheVariants.{Again, Scrub}
-use Rattle.rozo_program.specs.Disks.{AreBackAgain, AreFaultsTold, AreImagesTold, AreUsedAgain, IsGoneOn, IsJournalLeft, IsPlayAfter, LeavesNext, MayFollow, faulted}
+use Rattle.rozo_program.specs.Disks.{AreBackAgain, AreFaultsTold, AreImagesTold, AreLocksKept, AreUsedAgain, IsGoneOn, IsJournalLeft, IsPlayAfter, LeavesNext, MayFollow, faulted}
 use Rattle.rozo_program.specs.Replays.{FailsAgain}
 use Rattle.rozo_program.proofs.Continuing.{any_told, not-reopened, own_as}
 use Rattle.rozo_program.proofs.Journals.{again-back, again-end, at-last, between-on, has-disk, journal-left, may-follow, next-on, split-last, whole-end}
@@ -186,6 +186,22 @@ module _ (g : given.Over) (c : goal.After-drop-disks g) where
           c.afterwards.ensures volume lines c.keeps_rules.ensures nodes export old fine (omega (arith, short)) (log ++ old)
           (c.begins.ensures volume (world_after nodes export old) lines end lost (log ++ old) ended)
 
+      -- and what locks promise
+      kept : (earlier : List Event) → IsEarlier volume earlier → IsRestarted volume earlier old → length old < 2 ^ 63 → AreLocksKept volume old c.args.request.now.script.lines (log ++ old)
+      kept earlier is (took, may, restarted_is) below =
+          let lines : List Line = c.args.request.now.script.lines in
+          let nodes = state_in c.in-Ok.driver.shared.stations.items in
+          let export = export_in c.in-Ok.driver.shared.export in
+          let restart = c.restarting.ensures volume c.keeps_rules.ensures.volume earlier is took may in
+          let begun = c.begins.ensures volume (world_after nodes export old) lines end lost (log ++ old) played.ended in
+          let may_begin : MayBegin volume nodes export old = record {
+            legal = subst (IsLegalInRuns volume) (sym restarted_is) restart.legal;
+            nodes_are = fine.nodes_are;
+            export_is = fine.export_is;
+            few = below;
+          } in
+          (begun.last, c.after.ensures volume lines c.keeps_rules.ensures nodes export old may_begin (log ++ old) begun)
+
       -- what is left for the next run
       next_run : LeavesNext end (MayFollow g.D.Disk.image volume (log ++ old) c.close_all-log.result.1.items)
       next_run =
@@ -230,6 +246,7 @@ returns-in-Ok g c =
             restarted = on.1;
             played = played g c on.0 on.2 telling;
             run = run_after g c on.0 on.2 telling;
+            kept = kept g c on.0 on.2 telling earlier is on.1;
             losses = (plays g c on.0 on.2 telling).2;
             faults_told = counted g c on.0 on.2;
             images_told = imaged g c on.0 on.2 telling;
