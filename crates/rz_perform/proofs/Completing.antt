@@ -1,5 +1,5 @@
 -- Where nothing stands in the way of a replay, each answer but the end of the play and want of memory is excluded.
-use Rattle.std.proofs.Common.{ℕ, Bool, true, false, IsTrue, ◌≡◌, ◌≢◌, ◌⊎◌, inl, inr, List, [], Option, Some, Result, Ok, Err, refl, sym, ◌∙◌, ap, subst, arith}
+use Rattle.std.proofs.Common.{ℕ, Bool, IsTrue, ◌≡◌, ◌≢◌, ◌⊎◌, inl, inr, List, Option, Some, Result, Ok, Err, refl, sym, ◌∙◌, ap, subst, arith}
 use Rattle.rz_disk.specs.Meter.{Rises as HasRisen}
 use Rattle.rz_ports.specs.Counts.{Rises}
 use Rattle.rz_command.specs.Line.{Meaning}
@@ -15,8 +15,7 @@ use Rattle.rz_lines.specs.Ends.{IsEnded}
 use Rattle.rz_lines.specs.Free.{IsEndedOver}
 use Rattle.rz_lines.specs.declared.lines.PlayEnd.{PlayEnd}
 use Rattle.rz_lines.specs.declared.lines.PlayEnd.TheVariants as ends
-use Rattle.rz_request.specs.Requests.{Asks, Reading, AsksFor, IsFor, Reads, disks_for, is_large, nodes_in, script_in, wished}
-use Rattle.rz_request.specs.declared.refusal.Refusal.{Refusal}
+use Rattle.rz_request.specs.Requests.{Asks, Reading, AsksFor, IsFor, Reads, disks_for, nodes_in, script_in}
 use Rattle.rz_request.specs.declared.refusal.Stop.{Stop}
 use Rattle.rz_request.specs.declared.refusal.Stop.TheVariants as stops
 use Rattle.rz_request.specs.declared.wishes.Request.{Request}
