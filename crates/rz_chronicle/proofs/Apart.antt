@@ -1,11 +1,12 @@
 -- Each word of a book has a key of its own.
-use Rattle.std.proofs.Common.{◌≡◌, ◌≢◌, ◌==◌, ℕ, zero, suc, ◌+◌, ◌-◌, ◌*◌, ◌<◌, ◌≤◌, nat_le, nat_eq, Bool, true, false, cond, List, [], ◌∷◌, Option, Some, None, slice_get, refl, ap, ◌∙◌, arith}
+use Rattle.std.proofs.Common.{◌≡◌, ◌≢◌, ◌==◌, ℕ, zero, suc, ◌+◌, ◌-◌, ◌*◌, ◌<◌, ◌≤◌, nat_le, nat_eq, Bool, true, false, cond, List, [], ◌∷◌, Option, Some, None, slice_get, sym, refl, ap, ◌∙◌, inl, inr, arith}
 use Rattle.std.specs.List.{AllByRecursion, IsDistinct}
 use Rattle.std.specs.Option.{option_map}
 use Rattle.std.proofs.lemmas.Bool.Decides.{nat_tests}
 use Rattle.rz_events.specs.declared.keys.Actor.TheVariants.{Client, Rebuilder, Admin}
 use Rattle.rz_events.specs.declared.events.Word.TheVariants.{Export, Node, Own}
-use Rattle.rz_chronicle.specs.Keys.{owner, key_of_owner, key_at}
+use Rattle.rz_chronicle.specs.Keys.{owner, key_of_owner, key_at, StandApart}
+use Rattle.rz_chronicle.proofs.Adding.{eq_or}
 
 -- What is known of a key by its place. At a place that is a node's the key tells the node, at any other the place.
 pub data Shape (sids : List ℕ) (place key : ℕ) : Type 0 where
@@ -79,6 +80,13 @@ apart-by sids i j a b d l m apart e (OfAdmin s p) (OfAdmin o q) = apart (omega (
 -- no two places have one key
 pub keys-apart : (sids : List ℕ) (i j : ℕ) → IsDistinct nat_eq sids → i < 338 → j < 338 → i ≢ j → key_at sids i ≢ key_at sids j
 keys-apart sids i j d l m apart e = apart-by sids i j (key_at sids i) (key_at sids j) d l m apart e (shape sids i) (shape sids j)
+
+-- so no word stands at two places
+pub stand-apart : (sids : List ℕ) → IsDistinct nat_eq sids → StandApart sids
+stand-apart sids d i j w l m a b = elim (eq_or i j) [
+  | inl e ↦ e
+  | inr apart ↦ absurd (keys-apart sids i j d l m apart (ap (key_of_owner i) a ∙ sym (ap (key_of_owner j) b)))
+]
 
 -- the nodes stand from the place 1 on
 pub node-owner : (sids : List ℕ) (i place n : ℕ) → place ≡ i + 1 → i < 256 → slice_get sids i ≡ Some n → owner sids place ≡ Some (Node n)

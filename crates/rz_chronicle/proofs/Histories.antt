@@ -14,7 +14,7 @@ use Rattle.rz_events.specs.Events.{by_of, word_of, same_actor, same_word}
 use Rattle.rz_events.specs.Volume.{Volume}
 use Rattle.rz_core.specs.Legal.{IsLegal, IsAllowed, IsForeign, IsLocal}
 use Rattle.rz_chronicle.specs.Keys.{touches, events_at, count_at, word_key, actor_key, IsLater}
-use Rattle.rz_chronicle.specs.Kinds.{history, MayCome, volume_in}
+use Rattle.rz_chronicle.specs.Kinds.{history, HasPlace, HavePlaces, MayCome, volume_in}
 use Rattle.rz_chronicle.specs.Tally.{at, Agree, IsHolding, HasCount, Covers, MayFollow, counts}
 use Rattle.rz_chronicle.specs.Holds.{keys, Stays}
 use Rattle.rz_chronicle.proofs.Keys.{count-append}
@@ -36,6 +36,9 @@ later-self h = ([], refl)
 
 pub history-more : (xs : List Event) (x : Event) → history (xs ++ x ∷ []) ≡ x ∷ history xs
 history-more xs x = reverse-append xs (x ∷ [])
+
+pub placed-more : (kind : List ℕ) (xs : List Event) (x : Event) → HavePlaces kind (history xs) → HasPlace kind x → HavePlaces kind (history (xs ++ x ∷ []))
+placed-more kind xs x all one = subst (HavePlaces kind) (sym (history-more xs x)) (one, all)
 
 all-append : {A : Type 0} (P : A → Type 0) (xs ys : List A) → AllByRecursion P xs → AllByRecursion P ys → AllByRecursion P (xs ++ ys)
 all-append P [] ys a b = b

@@ -27,10 +27,11 @@ use Rattle.rz_events.specs.contracts.events.Event.{the_row}
 use Rattle.rz_events.specs.declared.events.Event.{Event}
 use Rattle.rz_chronicle.specs.declared.told.Told.{Told}
 use Rattle.rz_chronicle.specs.Keys.{rows, IsInRow}
-use Rattle.rz_chronicle.specs.Kinds.{history, IsFit}
-use Rattle.rz_chronicle.specs.Tally.{halves, parts, at, Agree, AreApart, counts, grown, kept, hand_owns, gained, AllInRow, IsHolding, Covers, MayFollow, zeros, without, count_in}
+use Rattle.rz_chronicle.specs.Kinds.{history, HasPlace, IsFit}
+use Rattle.rz_chronicle.specs.Tally.{halves, parts, at, Agree, AreApart, counts, grown, kept, hand_owns, gained, AllInRow, IsHolding, IsOfKind, Covers, MayFollow, zeros, without, count_in}
 use Rattle.rz_chronicle.specs.Rules.{IsMove}
 use Rattle.rz_chronicle.proofs.Keys.{fit-first, outside, at-at, at-keys}
+use Rattle.rz_chronicle.proofs.Histories.{placed-more}
 
 pub halves_keyless : (δ k n : ℕ) (f : ℕ → ℕ) → Keyless (halves δ k n f)
 halves_keyless δ k zero f = tt
@@ -222,24 +223,24 @@ module _ {M : Type 1} {𝓤 : Ura M} (𝓛 : Logic 𝓤) (δ : ℕ) where
 
   -- what a step may do: its event stands next, or nothing does
   abbrev May : List ℕ → List (ℕ × ℕ) → List Event → Event → Type 0
-  May kind held log ask = IsInRow ask → Covers held ask × MayFollow kind held log ask
+  May kind held log ask = IsInRow ask → Covers held ask × MayFollow kind held log ask × HasPlace kind ask
 
   record Goes (kind : List ℕ) (held : List (ℕ × ℕ)) (xs ys : List Event) : Type 0 where
     outer : (k : ℕ) → mathlib.Core.Logic.◌⊎◌ (IsHolding k held) (counts xs k ≡ counts ys k)
-    fit : IsFit kind (history ys)
+    of_kind : IsOfKind kind ys
     longer : IsPrefix xs ys
 
   goes : (kind : List ℕ) (held : List (ℕ × ℕ)) (log : List Event) (ask : Event) → May kind held log ask → (xs ys : List Event) (won : Bool)
-      → MatchBool won (IsInRow ask × (ys ≡ xs ++ ask ∷ [])) (ys ≡ xs) → IsPrefix log xs → Agree (counts xs) held → IsFit kind (history xs) → Goes kind held xs ys
-  goes kind held log ask may xs ys true m pre agree fit =
+      → MatchBool won (IsInRow ask × (ys ≡ xs ++ ask ∷ [])) (ys ≡ xs) → IsPrefix log xs → Agree (counts xs) held → IsOfKind kind xs → Goes kind held xs ys
+  goes kind held log ask may xs ys true m pre agree was =
       let both = may m.0 in
       subst (Goes kind held xs) (sym m.1) (record {
         outer = outside held ask xs both.0;
-        fit = both.1 xs pre agree fit;
+        of_kind = (both.1 xs pre agree was.0, placed-more kind xs ask was.1 both.2);
         longer = (ask ∷ [], refl);
       })
-  goes kind held log ask may xs ys false m pre agree fit =
-      subst (Goes kind held xs) (sym m) (record { outer = λ k. inr refl; fit = fit; longer = ([], append-nil xs) })
+  goes kind held log ask may xs ys false m pre agree was =
+      subst (Goes kind held xs) (sym m) (record { outer = λ k. inr refl; of_kind = was; longer = ([], append-nil xs) })
 
   trade : (η : ℕ) (kind : List ℕ) (held : List (ℕ × ℕ)) (log : List Event) (ask : Event) → AllInRow held → May kind held log ask → (xs ys : List Event) (won : Bool)
       → MatchBool won (IsInRow ask × (ys ≡ xs ++ ask ∷ [])) (ys ≡ xs)
@@ -248,9 +249,9 @@ module _ {M : Type 1} {𝓤 : Ura M} (𝓛 : Logic 𝓤) (δ : ℕ) where
       let c = the_row.coded.code in let Z : Pr = ⟦ kept (δ ∷ η ∷ kind) ys ⟧ ∗ ⟦ gained (δ ∷ η ∷ kind) held xs ys ⟧ in
       let mine : Fml = fsep (parts δ (at (counts xs) held)) (fact (Agree (counts xs) held)) in
       let single : Fml = fsep (parts δ held) (fact (AreApart held)) in
-      let all : Type 0 = Agree (counts xs) held × IsFit kind (history ys) × AreApart held in
+      let all : Type 0 = Agree (counts xs) held × IsOfKind kind ys × AreApart held in
       qed 𝓛 (‵ (kept (δ ∷ η ∷ kind) xs) ∷ ‵ (hand_owns δ η held log) ∷ []) ∵
-      fsplit3 ! $ move ! (2 ∷ []) $ fpick ! (λ fit. drop ! $ move ! (2 ∷ []) $ fsplit ! $
+      fsplit3 ! $ move ! (2 ∷ []) $ fpick ! (λ was. drop ! $ move ! (2 ∷ []) $ fsplit ! $
       -- parts, reached, halves, grown
       move ! (3 ∷ 1 ∷ []) $
       use2 𝓛 (given (IsPrefix (map c log) (map c xs)) (‵ (grown η xs) ⊛ ‵ (reached c η log))) (latest_bounds logs 𝓛 full_share η (map c xs) (map c log)) $ learn ! (λ below. split ! $
@@ -264,7 +265,7 @@ module _ {M : Type 1} {𝓤 : Ura M} (𝓛 : Logic 𝓤) (δ : ℕ) where
       use2 𝓛 (raw (upd 𝓤 (⟦ halves δ 0 rows (counts xs) ⟧ ∗ ⟦ mine ⟧))) (agrees rows (counts xs) held low) $ settle 𝓛 Z (‵ (halves δ 0 rows (counts xs)) ⊛ ‵ mine) $ split ! $
       move ! (1 ∷ []) $ fsplit ! $ move ! (1 ∷ []) $ fpick ! (λ agree. drop ! $
       -- parts, halves, grown, reached
-      let so : Goes kind held xs ys = goes kind held log ask may xs ys won m pre agree fit in
+      let so : Goes kind held xs ys = goes kind held log ask may xs ys won m pre agree was in
       let out : (k : ℕ) → mathlib.Core.Logic.◌⊎◌ (IsHolding k (at (counts xs) held)) (counts xs k ≡ counts ys k) =
       (λ k. elim (so.outer k) [ inl h ↦ inl (Rattle.rz_chronicle.proofs.Keys.at-holding k (counts xs) held h) | inr e ↦ inr e ]) in
       move ! (1 ∷ 0 ∷ []) $
@@ -277,11 +278,11 @@ module _ {M : Type 1} {𝓤 : Ura M} (𝓛 : Logic 𝓤) (δ : ℕ) where
       use1 𝓛 (‵ (grown η ys) ⊛ ‵ (reached c η ys)) (latest_shows logs 𝓛 full_share η (map c ys) (map c ys) (logs.same (map c ys))) $ split ! $
       suffices ! _ (upd_i 𝓤 Z) $
       -- grown, reached, halves, parts, the old reached
-      move ! (3 ∷ 1 ∷ []) $ fjoin ! $ nothing ! $ fpack ! all (λ _. ftrue) (agree, so.fit, apart) $ move ! (1 ∷ 0 ∷ []) $ fjoin ! $
+      move ! (3 ∷ 1 ∷ []) $ fjoin ! $ nothing ! $ fpack ! all (λ _. ftrue) (agree, so.of_kind, apart) $ move ! (1 ∷ 0 ∷ []) $ fjoin ! $
       -- gained, grown, halves, the old reached
-      move ! (1 ∷ []) $ nothing ! $ fpack ! (IsFit kind (history ys)) (λ _. ftrue) so.fit $ move ! (1 ∷ 0 ∷ []) $ fjoin ! $ move ! (2 ∷ 0 ∷ []) $ fjoin ! $ keep ! (0 ∷ 1 ∷ []) $ done !))))
+      move ! (1 ∷ []) $ nothing ! $ fpack ! (IsOfKind kind ys) (λ _. ftrue) so.of_kind $ move ! (1 ∷ 0 ∷ []) $ fjoin ! $ move ! (2 ∷ 0 ∷ []) $ fjoin ! $ keep ! (0 ∷ 1 ∷ []) $ done !))))
 
-  pub offers : (η : ℕ) (kind : List ℕ) (held : List (ℕ × ℕ)) (log : List Event) (ask : Event) → AllInRow held → (IsInRow ask → Covers held ask × MayFollow kind held log ask)
+  pub offers : (η : ℕ) (kind : List ℕ) (held : List (ℕ × ℕ)) (log : List Event) (ask : Event) → AllInRow held → May kind held log ask
       → ⟦ hand_owns δ η held log ⟧ ⊢ ⟦ offer_owns (kept (δ ∷ η ∷ kind)) (IsMove ask) (λ answer. gained (δ ∷ η ∷ kind) held answer.before answer.log) None ⟧
   offers η kind held log ask low may =
       let names : List ℕ = δ ∷ η ∷ kind in
@@ -320,7 +321,7 @@ module _ {M : Type 1} {𝓤 : Ura M} (𝓛 : Logic 𝓤) where
       use0 𝓛 (later (some (λ (η : ℕ). ‵ (grown η [])))) (via 𝓤 _ (latest_new logs 𝓛 []) (basic 𝓛 _)) $ await ! tt $ pick ! (λ η.
       use1 𝓛 (‵ (grown η []) ⊛ ‵ (reached the_row.coded.code η [])) (latest_shows logs 𝓛 full_share η [] [] (logs.same [])) $ split ! $ now ! $
       -- grown, reached, halves, parts
-      nothing ! $ fpack ! (IsFit kind (history [])) (λ _. ftrue) (fit-first kind) $ move ! (1 ∷ 0 ∷ []) $ fjoin ! $ move ! (2 ∷ 0 ∷ []) $ fjoin ! $
+      nothing ! $ fpack ! (IsOfKind kind []) (λ _. ftrue) (fit-first kind, tt) $ move ! (1 ∷ 0 ∷ []) $ fjoin ! $ move ! (2 ∷ 0 ∷ []) $ fjoin ! $
       -- kept, reached, parts
       move ! (2 ∷ 1 ∷ []) $ fjoin ! $ move ! (1 ∷ 0 ∷ []) $ show ! (Begun kind) (δ, η) $ done !))
 

@@ -89,6 +89,10 @@ key_of_owner place None = 4 * place
 abbrev pub key_at : List ℕ → ℕ → ℕ
 key_at sids place = key_of_owner place (owner sids place)
 
+-- no word stands at two places
+abbrev pub StandApart : List ℕ → Type 0
+StandApart sids = (i j : ℕ) (w : Word) → i < 338 → j < 338 → owner sids i ≡ Some w → owner sids j ≡ Some w → i ≡ j
+
 -- how many events of its owner's word a history has
 abbrev pub moves_of : Option Word → List Event → ℕ
 moves_of (Some w) h = count_at (word_key w) h

@@ -1,12 +1,15 @@
 -- The kind of a book: whether it is honest, and the volume whose log it has. It stands as numbers among the ghost names of the
 -- book, and is read back from them.
-use Rattle.std.specs.Prelude.{ℕ, zero, suc, Bool, true, false, IsTrue, cond, List, [], ◌∷◌, reverse, slice_index_or}
+use Rattle.std.specs.Prelude.{ℕ, zero, suc, ◌≡◌, ◌<◌, Bool, true, false, IsTrue, cond, List, [], ◌∷◌, Some, reverse, slice_index_or}
+use Rattle.std.specs.List.{AllByRecursion}
 use Rattle.mj_angles.specs.declared.layout.Layout.{Layout}
 use Rattle.mj_angles.specs.declared.layout.Layout.TheVariants.{L0, L1, L2, L0B1, L0B2, L0B3, L1B1, L1B2, L1B3, L2B1, L2B2, L2B3}
 use Rattle.rz_events.specs.declared.files.NodeSpec.{NodeSpec}
 use Rattle.rz_events.specs.declared.events.Event.{Event}
+use Rattle.rz_events.specs.Events.{word_of}
 use Rattle.rz_events.specs.Volume.{Cluster, Volume}
 use Rattle.rz_core.specs.Legal.{IsLegal, IsAllowed}
+use Rattle.rz_chronicle.specs.Keys.{owner, sids_of}
 
 -- The numbers of a kind.
 
@@ -74,3 +77,11 @@ IsFit kind h = IsTrue (is_honest kind) → IsLegal (volume_in kind) h
 -- the event may come next: in an honest book it is allowed
 abbrev pub MayCome : List ℕ → List Event → Event → Type 0
 MayCome kind h x = IsTrue (is_honest kind) → IsAllowed (volume_in kind) h x
+
+-- the event's word stands at a place of the book
+abbrev pub HasPlace : List ℕ → Event → Type 0
+HasPlace kind x = (place : ℕ) × (place < 338) × (owner (sids_of (volume_in kind)) place ≡ Some (word_of x))
+
+-- the word of each event does
+abbrev pub HavePlaces : List ℕ → List Event → Type 0
+HavePlaces kind h = AllByRecursion (HasPlace kind) h

@@ -12,7 +12,7 @@ use Rattle.rz_events.specs.declared.events.Event.{Event}
 use Rattle.rz_events.specs.declared.events.Event.TheVariants as e
 use Rattle.rz_events.specs.Events.{by_of, word_of}
 use Rattle.rz_chronicle.specs.Keys.{count_at, rows, word_key, actor_key}
-use Rattle.rz_chronicle.specs.Kinds.{history, IsFit}
+use Rattle.rz_chronicle.specs.Kinds.{history, HavePlaces, IsFit}
 
 -- the book's halves of n tallies from k on
 abbrev pub halves : ℕ → ℕ → ℕ → (ℕ → ℕ) → Fml
@@ -42,11 +42,15 @@ counts log k = count_at k log
 abbrev pub grown : ℕ → List Event → Fml
 grown η log = latest logs full_share η (map the_row.coded.code log)
 
+-- what the kind of a book says of its log
+abbrev pub IsOfKind : List ℕ → List Event → Type 0
+IsOfKind kind log = IsFit kind (history log) × HavePlaces kind (history log)
+
 -- what callers keep beside the log: a half of each tally, a second copy of the log, and what the kind of the book says of it
 abbrev pub kept : List ℕ → List Event → Fml
 kept [] log = ftrue
 kept (δ ∷ []) log = ftrue
-kept (δ ∷ η ∷ kind) log = fsep (halves δ 0 rows (counts log)) (fsep (grown η log) (fact (IsFit kind (history log))))
+kept (δ ∷ η ∷ kind) log = fsep (halves δ 0 rows (counts log)) (fsep (grown η log) (fact (IsOfKind kind log)))
 
 -- what a hand owns: its halves, and that the second copy has reached this log
 abbrev pub hand_owns : ℕ → ℕ → List (ℕ × ℕ) → List Event → Fml
@@ -58,7 +62,7 @@ abbrev pub gained : List ℕ → List (ℕ × ℕ) → List Event → List Event
 gained [] held before log = ftrue
 gained (δ ∷ []) held before log = ftrue
 gained (δ ∷ η ∷ kind) held before log =
-    fsep (hand_owns δ η (at (counts log) held) log) (fact (Agree (counts before) held × IsFit kind (history log) × AreApart held))
+    fsep (hand_owns δ η (at (counts log) held) log) (fact (Agree (counts before) held × IsOfKind kind log × AreApart held))
 
 -- The data of an offer is a list of events, so that keys with counts are written as such.
 abbrev pub note : ℕ × ℕ → Event

@@ -4,7 +4,7 @@ ghost use Rattle.std.specs.List.{AllByRecursion, IsDistinct};
 ghost use Rattle.rz_events.specs.declared.events.Word.{Word as AWord};
 ghost use Rattle.rz_events.specs.declared.events.Word.TheVariants as w;
 ghost use Rattle.rz_events.specs.Events.{word_of as word_at, by_of};
-ghost use Rattle.rz_chronicle.specs.Keys.{count_at, word_key, rows, owner, key_at, moves_of, sids_of, IsLater};
+ghost use Rattle.rz_chronicle.specs.Keys.{count_at, word_key, rows, owner, key_at, moves_of, sids_of, IsLater, StandApart};
 ghost use Rattle.rz_chronicle.specs.Kinds.{IsFit, MayCome, history, volume_in};
 ghost use Rattle.rz_chronicle.specs.Rules.{named, AreWords};
 ghost use Rattle.rz_chronicle.specs.Holds.{Commits, Stays, IsHand, IsSettled, keys};
@@ -27,7 +27,8 @@ pub struct Book<J: Naming> {
 }
 
 impl<J: Naming> Model for Book<J> {
-    ghost use Rattle.std.specs.Prelude.{◌≡◌, length};
+    ghost use Rattle.std.specs.Prelude.{◌≡◌, length, nat_eq};
+    ghost use Rattle.std.specs.List.{IsDistinct};
     ghost use Rattle.rz_events.specs.Volume.{Volume};
     ghost use Rattle.rz_chronicle.specs.Keys.{sids_of};
     ghost use Rattle.rz_chronicle.specs.Kinds.{volume_in};
@@ -38,13 +39,15 @@ impl<J: Naming> Model for Book<J> {
     ghost view = { λ b. volume_in J.kind };
 
     ghost invariant = { λ b. (b.nodes.items ≡ sids_of (volume_in J.kind)) × (length b.words.items ≡ 338)
-        × AreWords J.book (sids_of (volume_in J.kind)) b.words.items };
+        × AreWords J.book (sids_of (volume_in J.kind)) b.words.items
+        × IsDistinct nat_eq b.nodes.items };
 }
 
 impl<J: Naming> Book<J> {
     // The book of these words.
     pub(crate) fn of_words(words: Vec<Word<Event, Told, Law>>, nodes: Vec<u16>) -> Book<J>
         requires nodes { nodes.items ≡ sids_of (volume_in J.kind) }
+        requires distinct { IsDistinct nat_eq nodes.items }
         requires words { (length words.items ≡ 338) × AreWords J.book nodes.items words.items }
         ensures { result ≡ volume_in J.kind }
     {
@@ -253,6 +256,14 @@ impl<J: Naming> Book<J> {
             }
             None => 0,
         }
+    }
+
+    /// No word stands at two places of the book, which is of its kind's volume.
+    pub fn stands(&self)
+        ensures volume { self.now ≡ volume_in J.kind }
+        ensures apart { StandApart (sids_of self.now) }
+    {
+        let _nodes = self.nodes.len();
     }
 
     /// How many events the owner of a word has of it, in the log that the pass has then seen. The words

@@ -2,7 +2,7 @@
 ghost use Rattle.std.specs.Prelude.{◌≡◌, ◌<◌, ℕ, [], ◌∷◌, ◌++◌, List, None, length};
 ghost use Rattle.rz_events.specs.declared.events.Event.{Event as AnEvent};
 ghost use Rattle.rz_chronicle.specs.Keys.{rows};
-ghost use Rattle.rz_chronicle.specs.Kinds.{IsFit, history};
+ghost use Rattle.rz_chronicle.specs.Kinds.{HasPlace, HavePlaces, IsFit, history};
 ghost use Rattle.rz_chronicle.specs.Tally.{AllInRow, AreApart, Covers, MayFollow, Agree, IsHolding, at, counts, notes, held_in, mark, zeros, without, count_in};
 
 use crate::kinds::Kind;
@@ -88,7 +88,7 @@ pub fn begin(kind: &Kind) -> (Start<Event, Told, Law>, Hand)
 impl Hand {
     /// An update that adds the event of a value.
     pub fn offer<X, N: Asks<X>>(self, about: &X) -> Offer<Event, Told, Law, Mine>
-        requires { AllInRow self.held × Covers self.held (N.event about.now) × MayFollow self.kind self.held self.log (N.event about.now) }
+        requires { AllInRow self.held × Covers self.held (N.event about.now) × MayFollow self.kind self.held self.log (N.event about.now) × HasPlace self.kind (N.event about.now) }
         ensures { (result.names ≡ self.tallies ∷ self.copy ∷ self.kind) × (result.ask ≡ N.event about.now) × (result.about ≡ notes self.held) × (result.state ≡ None) }
     {
         let Self { marker: _ } = self;
@@ -111,7 +111,7 @@ impl Hand {
     /// The tallies after the step.
     pub fn back(gained: Gained<Event, Told, Mine>) -> Hand
         requires { (n : ℕ × (ℕ × List ℕ)) × (gained.names ≡ n.0 ∷ n.1.0 ∷ n.1.1) }
-        ensures { (result.tallies ∷ result.copy ∷ result.kind ≡ gained.names) × (result.held ≡ at (counts gained.answer.log) (held_in gained.about)) × (result.log ≡ gained.answer.log) × Agree (counts gained.answer.before) (held_in gained.about) × IsFit result.kind (history gained.answer.log) × AreApart (held_in gained.about) }
+        ensures { (result.tallies ∷ result.copy ∷ result.kind ≡ gained.names) × (result.held ≡ at (counts gained.answer.log) (held_in gained.about)) × (result.log ≡ gained.answer.log) × Agree (counts gained.answer.before) (held_in gained.about) × IsFit result.kind (history gained.answer.log) × AreApart (held_in gained.about) × HavePlaces result.kind (history gained.answer.log) }
     {
         let Gained { marker: _ } = gained;
         Hand {

@@ -2,7 +2,7 @@
 ghost use Rattle.std.specs.Prelude.{◌≡◌, ◌+◌, ◌<◌, ◌^◌, [], ◌∷◌, IsTrue, ◌↔◌, Some};
 ghost use Rattle.rz_events.specs.declared.events.Word.TheVariants as w;
 ghost use Rattle.rz_chronicle.specs.Keys.{count_at, word_key, actor_key, rows, IsOneOf, IsMember, own_keys, owner, sids_of};
-ghost use Rattle.rz_chronicle.specs.Kinds.{IsFit, volume_in};
+ghost use Rattle.rz_chronicle.specs.Kinds.{HavePlaces, IsFit, volume_in};
 ghost use Rattle.rz_chronicle.specs.Holds.{IsShared};
 
 use crate::hand::{Hand, Law};
@@ -51,7 +51,7 @@ impl<J: Naming> Model for Pass<J> {
     ghost use Rattle.std.specs.Prelude.{◌≡◌, ◌<◌, ◌∷◌, IsSomeAnd};
     ghost use Rattle.rz_events.specs.declared.events.Word.TheVariants as w;
     ghost use Rattle.rz_chronicle.specs.Keys.{count_at, word_key, IsMember};
-    ghost use Rattle.rz_chronicle.specs.Kinds.{history, IsFit};
+    ghost use Rattle.rz_chronicle.specs.Kinds.{history, HavePlaces, IsFit};
     ghost use Rattle.rz_chronicle.specs.Holds.{keys_in, IsHand, IsOwn};
     ghost use Rattle.rz_chronicle.specs.Rules.{PassView};
 
@@ -63,7 +63,8 @@ impl<J: Naming> Model for Pass<J> {
         × IsSomeAnd p.hand (λ h. IsHand J.tallies J.copy J.kind p.seen.log h × IsOwn p.actor h.held)
         × (p.moved ≡ count_at (word_key (w.Own p.actor)) p.seen.log)
         × IsMember p.actor
-        × IsFit J.kind (history p.seen.log) };
+        × IsFit J.kind (history p.seen.log)
+        × HavePlaces J.kind (history p.seen.log) };
 }
 
 impl<J: Naming> Pass<J> {
@@ -84,13 +85,15 @@ impl<J: Naming> Pass<J> {
         }
     }
 
-    /// Whose it is. A pass holds the tallies of its actor's events and of its own word.
+    /// Whose it is. A pass holds the tallies of its actor's events and of its own word. The word of each
+    /// event that it has seen stands in the book.
     pub fn actor(&self) -> Actor
         ensures value { result ≡ self.now.actor }
         ensures member { IsMember self.now.actor }
         ensures own { IsOneOf (actor_key self.now.actor) self.now.keys }
         ensures word { IsOneOf (word_key (w.Own self.now.actor)) self.now.keys }
         ensures fit { IsFit J.kind self.now.log }
+        ensures places { HavePlaces J.kind self.now.log }
     {
         self.actor
     }

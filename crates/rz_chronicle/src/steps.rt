@@ -4,7 +4,7 @@ ghost use Rattle.rz_events.specs.declared.events.Word.{Word as AWord};
 ghost use mathlib.Core.List.{IsPrefix};
 ghost use Rattle.rz_events.specs.Events.{word_of as word_at, by_of};
 ghost use Rattle.rz_chronicle.specs.Keys.{count_at, word_key, actor_key, IsInRow, rows};
-ghost use Rattle.rz_chronicle.specs.Kinds.{IsFit, MayCome, history};
+ghost use Rattle.rz_chronicle.specs.Kinds.{HasPlace, HavePlaces, IsFit, MayCome, history};
 ghost use Rattle.rz_chronicle.specs.Tally.{AllInRow, AreApart, Covers, HasCount, IsHolding, Ends, Agree, at, counts};
 ghost use Rattle.rz_chronicle.specs.Holds.{AreOfOne, IsRight, Commits, keys};
 
@@ -45,6 +45,7 @@ pub fn append<X, N: Asks<X>>(
     requires names { seen.old.names ≡ hand.tallies ∷ hand.copy ∷ hand.kind }
     requires held { IsRight hand × Covers hand.held (N.event about.now) }
     requires legal { MayCome hand.kind (history hand.log) (N.event about.now) }
+    requires place { HasPlace hand.kind (N.event about.now) }
     requires count { HasCount hand.held (word_key (word_at (N.event about.now))) moved }
     requires room { moved + 1 < 2 ^ 64 }
     ensures book { (seen.new.book ≡ seen.old.book) × (seen.new.names ≡ seen.old.names) }
@@ -52,6 +53,7 @@ pub fn append<X, N: Asks<X>>(
     ensures held { (result.held ≡ at (counts seen.new.log) hand.held) × (result.log ≡ seen.new.log) }
     ensures ends { Ends hand.held seen.old.log (N.event about.now) seen.new.log }
     ensures fit { IsFit hand.kind (history seen.new.log) }
+    ensures places { HavePlaces hand.kind (history seen.new.log) }
 {
     rz_core::local();
     let mut offer = hand.offer::<X, N>(about);
@@ -79,6 +81,7 @@ pub fn view(
     ensures apart { AreApart hand.held }
     ensures seen { IsPrefix seen.old.log seen.new.log }
     ensures fit { IsFit hand.kind (history seen.new.log) }
+    ensures places { HavePlaces hand.kind (history seen.new.log) }
     ensures count { result.1 ≡ count_at word.now.key seen.new.log }
 {
     let mut offer = hand.look();
@@ -110,6 +113,7 @@ pub fn view_both(
     ensures agree { Agree (counts seen.new.log) mine.held × (count_at key seen.new.log ≡ moved) }
     ensures seen { IsPrefix seen.old.log seen.new.log }
     ensures fit { IsFit mine.kind (history seen.new.log) }
+    ensures places { HavePlaces mine.kind (history seen.new.log) }
 {
     let (hand, _) = view(word, seen, its.join(mine));
     hand.parted(key)
@@ -133,6 +137,7 @@ pub fn append_both<X, N: Asks<X>>(
     requires mine { IsRight mine × IsHolding (actor_key (by_of (N.event about.now))) mine.held × (mine.log ≡ seen.old.log) }
     requires its { (its.held ≡ (key, moved) ∷ []) × (its.log ≡ mine.log) × (count_at key mine.log ≡ moved) }
     requires legal { MayCome mine.kind (history mine.log) (N.event about.now) }
+    requires place { HasPlace mine.kind (N.event about.now) }
     requires room { moved + 1 < 2 ^ 64 }
     ensures book { (seen.new.book ≡ seen.old.book) × (seen.new.names ≡ seen.old.names) }
     ensures one { AreOfOne result.0 mine × AreOfOne result.1 mine }
@@ -141,6 +146,7 @@ pub fn append_both<X, N: Asks<X>>(
     ensures count { count_at key seen.new.log ≡ moved + 1 }
     ensures commits { Commits (key ∷ keys mine.held) (history mine.log) (N.event about.now) (history seen.new.log) }
     ensures fit { IsFit mine.kind (history seen.new.log) }
+    ensures places { HavePlaces mine.kind (history seen.new.log) }
 {
     let hand = append::<X, N>(word, seen, its.join(mine), moved, about);
     hand.parted(key)

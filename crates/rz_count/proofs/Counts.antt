@@ -4,11 +4,19 @@ use Rattle.std.proofs.lemmas.List.Sums.{sum_by-cons}
 use Rattle.rz_events.specs.declared.events.Word.{Word}
 use Rattle.rz_events.specs.declared.events.Event.{Event}
 use Rattle.rz_chronicle.specs.Keys.{IsLater, IsOneOf, count_at, events_at, moves_of, owner, touches, word_key}
-use Rattle.rz_chronicle.specs.Kinds.{IsFit}
 use Rattle.rz_chronicle.specs.Holds.{Stays}
 use Rattle.rz_chronicle.specs.Rules.{PassView}
 use Rattle.rz_crew.specs.Gathered.{GoesOn}
-use Rattle.rz_crew.specs.Moves.{HoldsAll, moves_before, moves_in}
+use Rattle.rz_crew.specs.Moves.{HoldsAll}
+
+-- how many events of the words at the first places of a book of these nodes a history has
+unfoldable pub moves_before : ℕ → List ℕ → List Event → ℕ
+moves_before zero sids h = 0
+moves_before (suc place) sids h = moves_before place sids h + moves_of (owner sids place) h
+
+-- the same of all its 338 places
+abbrev pub moves_in : List ℕ → List Event → ℕ
+moves_in sids h = moves_before 338 sids h
 
 -- A pass that goes on, and goes on again.
 
@@ -61,35 +69,34 @@ module _ (sids ks : List ℕ) (old new : List Event) (holds : HoldsAll sids ks) 
   before-same (suc place) low = ap₂ (λ (a b : ℕ). a + b) (before-same place (omega (arith, low))) (place-same place (omega (arith, low)))
 
 -- the words at the first places are counted
-pub record Counted (kind sids : List ℕ) (old now : PassView) (place sum : ℕ) : Type 0 where
+pub record Counted (sids : List ℕ) (old now : PassView) (place sum : ℕ) : Type 0 where
   pub goes : GoesOn old now
   pub few : place ≤ 338
   pub sum_is : sum ≡ moves_before place sids old.log
-  pub fit : IsFit kind now.log
 
 none-moved : (sids : List ℕ) (h : List Event) → 0 ≡ moves_before 0 sids h
 unfolding moves_before
 none-moved sids h = refl
 
-pub counted-first : (kind sids : List ℕ) (p : PassView) → IsFit kind p.log → Counted kind sids p p 0 0
-counted-first kind sids p fit = record { goes = goes-nowhere p; few = omega arith; sum_is = none-moved sids p.log; fit = fit }
+pub counted-first : (sids : List ℕ) (p : PassView) → Counted sids p p 0 0
+counted-first sids p = record { goes = goes-nowhere p; few = omega arith; sum_is = none-moved sids p.log }
 
 -- one step of a pass that keeps its tallies
 steps-on : (mid new : PassView) → new.actor ≡ mid.actor → new.keys ≡ mid.keys → IsLater mid.log new.log → Stays mid.keys mid.log new.log → GoesOn mid new
 steps-on mid new actor keys later stays = record { actor = actor; more = []; keys = keys ∙ sym (append-nil mid.keys); stays = stays; later = later }
 
-pub counted-more : (kind sids : List ℕ) (old mid new : PassView) (place sum count all : ℕ) → HoldsAll sids old.keys → place < 338 → Counted kind sids old mid place sum
-    → new.actor ≡ mid.actor → new.keys ≡ mid.keys → IsLater mid.log new.log → Stays mid.keys mid.log new.log → count ≡ moves_of (owner sids place) new.log → IsFit kind new.log → all ≡ sum + count
-    → Counted kind sids old new (place + 1) all
-counted-more kind sids old mid new place sum count all holds low so actor keys later stays moved fit is =
+pub counted-more : (sids : List ℕ) (old mid new : PassView) (place sum count all : ℕ) → HoldsAll sids old.keys → place < 338 → Counted sids old mid place sum
+    → new.actor ≡ mid.actor → new.keys ≡ mid.keys → IsLater mid.log new.log → Stays mid.keys mid.log new.log → count ≡ moves_of (owner sids place) new.log → all ≡ sum + count
+    → Counted sids old new (place + 1) all
+counted-more sids old mid new place sum count all holds low so actor keys later stays moved is =
     let goes = goes-further old mid new so.goes (steps-on mid new actor keys later stays) in
     let here : count ≡ moves_of (owner sids place) old.log = moved ∙ place-same sids old.keys old.log new.log holds goes.stays place low in
-    record { goes = goes; few = omega (arith, low); sum_is = is ∙ (ap₂ (λ (a b : ℕ). a + b) so.sum_is here ∙ sym (moves-more place sids old.log)); fit = fit }
+    record { goes = goes; few = omega (arith, low); sum_is = is ∙ (ap₂ (λ (a b : ℕ). a + b) so.sum_is here ∙ sym (moves-more place sids old.log)) }
 
 -- all words are counted
-pub counted-old : (kind sids : List ℕ) (old now : PassView) (place sum : ℕ) → 338 ≤ place → Counted kind sids old now place sum → sum ≡ moves_in sids old.log
-counted-old kind sids old now place sum past so = let last : place ≡ 338 = omega (arith, past, so.few) in so.sum_is ∙ ap (λ (n : ℕ). moves_before n sids old.log) last
+pub counted-old : (sids : List ℕ) (old now : PassView) (place sum : ℕ) → 338 ≤ place → Counted sids old now place sum → sum ≡ moves_in sids old.log
+counted-old sids old now place sum past so = let last : place ≡ 338 = omega (arith, past, so.few) in so.sum_is ∙ ap (λ (n : ℕ). moves_before n sids old.log) last
 
-pub counted-now : (kind sids : List ℕ) (old now : PassView) (place sum : ℕ) → HoldsAll sids old.keys → 338 ≤ place → Counted kind sids old now place sum → sum ≡ moves_in sids now.log
-counted-now kind sids old now place sum holds past so =
-    counted-old kind sids old now place sum past so ∙ sym (before-same sids old.keys old.log now.log holds so.goes.stays 338 (omega arith))
+pub counted-now : (sids : List ℕ) (old now : PassView) (place sum : ℕ) → HoldsAll sids old.keys → 338 ≤ place → Counted sids old now place sum → sum ≡ moves_in sids now.log
+counted-now sids old now place sum holds past so =
+    counted-old sids old now place sum past so ∙ sym (before-same sids old.keys old.log now.log holds so.goes.stays 338 (omega arith))

@@ -1,9 +1,9 @@
 //! How many events the log has.
-ghost use Rattle.std.specs.Prelude.{◌≡◌, ◌+◌};
+ghost use Rattle.std.specs.Prelude.{◌≡◌, ◌+◌, length};
 ghost use Rattle.rz_chronicle.specs.Keys.{sids_of};
 ghost use Rattle.rz_chronicle.specs.Kinds.{IsFit};
 ghost use Rattle.rz_crew.specs.Gathered.{GoesOn};
-ghost use Rattle.rz_crew.specs.Moves.{HoldsAll, moves_in};
+ghost use Rattle.rz_crew.specs.Moves.{HoldsAll};
 
 use rz_chronicle::{Book, Naming, Pass};
 use std::sync::Wait;
@@ -29,20 +29,22 @@ fn sum_of<R: Wait>(rt: &R, one: u64, other: u64) -> u64
     }
 }
 
-/// How many events all words of the book have. The pass holds the tally of each of them, so that no event
-/// comes while it counts. It does not return where there are too many to be counted.
+/// How many events the log has. Each is of one word of the book, and of no other. The pass holds the tally
+/// of each word, so that no event comes while it counts. It does not return where there are too many to be
+/// counted.
 pub fn count_all<R: Wait, J: Naming>(rt: &R, book: &Book<J>, pass: &mut Pass<J>) -> u64
     requires held { HoldsAll (sids_of book.now) pass.old.keys }
     ensures goes { GoesOn pass.old pass.new }
-    ensures count { result ≡ moves_in (sids_of book.now) pass.new.log }
-    ensures old { result ≡ moves_in (sids_of book.now) pass.old.log }
+    ensures count { result ≡ length pass.new.log }
+    ensures old { result ≡ length pass.old.log }
     ensures fit { IsFit J.kind pass.new.log }
 {
-    let _fit = pass.actor();
     let mut sum = 0;
     for place in 0..WORDS {
         let count = book.count(pass, place);
         sum = sum_of(rt, sum, count);
     }
+    book.stands();
+    let _placed = pass.actor();
     sum
 }

@@ -1,6 +1,6 @@
 //! How an operation begins, and how it goes on once its file is open.
 
-ghost use Rattle.std.specs.Prelude.{◌≡◌, ◌≤◌, ◌+◌, length, IsSome, IfOk};
+ghost use Rattle.std.specs.Prelude.{◌≡◌, ◌≤◌, ◌<◌, ◌+◌, ◌^◌, length, vec_len, IsSome, IfOk};
 ghost use Rattle.mj_angles.specs.Layout.{safe_of, block_bytes_of};
 ghost use Rattle.rz_operation_model.specs.Ranges.{bytes_of};
 ghost use Rattle.rz_operation_model.specs.Steps.{begun, planned, after_open, after_lock, after_call};
@@ -19,6 +19,11 @@ use rz_reader::Reader;
 use rz_rebuild::Rebuilder;
 use rz_writer::Writer;
 use std::alloc::{AllocError, Global};
+use std::thread::Threads;
+
+/// A write of so many blocks makes its bins in threads. A batch gives each thread at least eight blocks, so
+/// with fewer than these there is nothing to do for a second one.
+const BLOCKS_FOR_THREADS: usize = 16;
 
 /// A file that has a node for each position, for machines that wait for theirs.
 fn blank(layout: Layout) -> FileInfo
@@ -79,6 +84,38 @@ pub fn begun(alloc: Global, layout: Layout, op: Operation) -> Result<Stage, Allo
             let plan = FilePlan::read(alloc, layout, offset, length)?;
             Ok(locking(layout, path, plan))
         }
+    }
+}
+
+/// The same, where the bins of a long write are made in as many threads as there are processors.
+pub fn begun_par<R: Threads + Sync>(
+    rt: &R,
+    alloc: Global,
+    layout: Layout,
+    op: Operation,
+) -> Result<Stage, AllocError>
+    requires { IsOperation layout op }
+    ensures work { IfOk result (λ s. work_of s ≡ begun op) }
+    ensures inside { IfOk result (λ s. IsStage layout s) }
+{
+    match op {
+        Operation::Write {
+            path,
+            offset,
+            datum,
+        } => {
+            let plan = write_plan_par(rt, alloc, layout, offset, datum)?;
+            Ok(opening(layout, path, Plan::Range(plan)))
+        }
+        Operation::Update {
+            path,
+            offset,
+            datum,
+        } => {
+            let plan = write_plan_par(rt, alloc, layout, offset, datum)?;
+            Ok(locking(layout, path, plan))
+        }
+        other => begun(alloc, layout, other),
     }
 }
 
@@ -158,6 +195,38 @@ fn write_plan(
 {
     let text = text_of(alloc, datum)?;
     FilePlan::write(alloc, layout, offset, text.into_vec())
+}
+
+/// The same, where the bins of many blocks are made in threads.
+fn write_plan_par<R: Threads + Sync>(
+    rt: &R,
+    alloc: Global,
+    layout: Layout,
+    offset: u64,
+    datum: Datum,
+) -> Result<FilePlan, AllocError>
+    requires { offset + length (bytes_of datum) ≤ 4294967296 }
+    ensures { IfOk result (λ p. p ≡ record { layout = layout; plan = WriteBytes offset (bytes_of datum) }) }
+{
+    let text = text_of(alloc, datum)?;
+    plan_of_bytes(rt, alloc, layout, offset, text.into_vec())
+}
+
+/// The write of these bytes from an offset on. Where they fill many blocks, its bins are made in threads.
+fn plan_of_bytes<R: Threads + Sync>(
+    rt: &R,
+    alloc: Global,
+    layout: Layout,
+    offset: u64,
+    bytes: Vec<u8>,
+) -> Result<FilePlan, AllocError>
+    requires { offset + vec_len bytes < 2 ^ 64 }
+    ensures { IfOk result (λ p. p ≡ record { layout = layout; plan = WriteBytes offset bytes.items }) }
+{
+    if bytes.len() / layout.block_bytes() < BLOCKS_FOR_THREADS {
+        return FilePlan::write(alloc, layout, offset, bytes);
+    }
+    FilePlan::write_par(rt, alloc, layout, offset, bytes)
 }
 
 /// The bytes of a datum.

@@ -3,7 +3,8 @@
 //! A `Machine` says what it asks next, is told the answer, and goes on. Its contracts say that it is the
 //! machine of `rz_operation_model`, for every list of answers that belong to what was asked. They say
 //! nothing of which answers a node or the export gives, nor of which event an answer has in the log.
-//! Memory is taken by `start` alone.
+//! Memory is taken by `start` and `start_par` alone, which differ in how many threads make the bins of a
+//! long write.
 //!
 //! In reading order: `ask`, `stage`, `machine`, `begins`, `replies`, `drops`, `locks`, `blocks`,
 //! `ranges`, `rebuilds`, `takes`.

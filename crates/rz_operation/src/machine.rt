@@ -9,7 +9,7 @@ ghost use Rattle.rz_operation.specs.Records.{HasHead, IsCount};
 ghost use Rattle.rz_operation.specs.Answers.{IsOperation, IsReply, IsLockReply, IsAnswer, ComeWith, MayMiss, IsPartSaid, IsDone, HasRoom, Goes, IsAnswered};
 
 use crate::ask::{Ask, ExportAsk, Saying};
-use crate::begins::begun;
+use crate::begins::{begun, begun_par};
 use crate::blocks::{read_ask, write_ask};
 use crate::drops::drop_ask;
 use crate::locks::lock_ask;
@@ -23,6 +23,7 @@ use rz_events::{Answer, NodeAnswer, Operation, Reply};
 use std::alloc::{AllocError, Global};
 use std::marker::Model;
 use std::mem::replace;
+use std::thread::Threads;
 
 /// An operation in hand.
 ///
@@ -54,6 +55,21 @@ impl Machine {
         ensures work { IfOk result (λ m. m.work ≡ begun op) }
     {
         let stage = begun(alloc, layout, op)?;
+        Ok(Machine { layout, stage })
+    }
+
+    /// The same, where the bins of a long write are made in as many threads as there are processors.
+    pub fn start_par<R: Threads + Sync>(
+        rt: &R,
+        alloc: Global,
+        layout: Layout,
+        op: Operation,
+    ) -> Result<Machine, AllocError>
+        requires { IsOperation layout op }
+        ensures layout { IfOk result (λ m. m.layout ≡ layout) }
+        ensures work { IfOk result (λ m. m.work ≡ begun op) }
+    {
+        let stage = begun_par(rt, alloc, layout, op)?;
         Ok(Machine { layout, stage })
     }
 

@@ -17,7 +17,6 @@ use Rattle.rz_chronicle.specs.Kinds.{is_honest, kind_of, volume_in}
 use Rattle.rz_chronicle.specs.Rules.{PassView}
 use Rattle.rz_locked.specs.Counts.{AreCountedSince}
 use Rattle.rz_shared.proofs.NewSeats.{untouched}
-use Rattle.rz_crew.specs.Moves.{moves_in}
 use Rattle.rz_shown.specs.Text.{run_text}
 use Rattle.rz_admin.specs.Orders.{AreBegun, AreDone}
 use Rattle.rz_staff.specs.declared.member.Member.{Member}
@@ -97,12 +96,11 @@ module _ (read_back : IsReadBack) (kind : List ℕ) (v : Volume) (is : kind ≡ 
       admin = moved (λ u k. AreDone k lines [] log) (subst (λ (p : PassView). AreDone kind lines p.log log) new orders);
     }
 
--- what was written of it, with the number of events of the words of the book's volume
-pub told-of : (honest ended : Bool) (v book : Volume) (lines : List Line) (log : List Event) (sink : Sunk) (status : ℕ) → book ≡ v → (ended ≡ true → IsAllFinished honest v lines log) → IsAllBegun honest v lines log
-    → ((ended ≡ true) × Ends sink 0 (run_text log (moves_in (sids_of book) log)) status) ⊎ Lacks sink status → IsToldOf honest v lines log sink status
-told-of honest ended v book lines log sink status is finished begun (inl ends) =
-    inl (finished ends.0, subst (λ (u : Volume). Ends sink 0 (run_text log (moves_in (sids_of u) log)) status) is ends.1)
-told-of honest ended v book lines log sink status is finished begun (inr lacks) = inr (begun, lacks)
+-- what was written of it, with the number of its events
+pub told-of : (honest ended : Bool) (v : Volume) (lines : List Line) (log : List Event) (sink : Sunk) (status : ℕ) → (ended ≡ true → IsAllFinished honest v lines log) → IsAllBegun honest v lines log
+    → ((ended ≡ true) × Ends sink 0 (run_text log (length log)) status) ⊎ Lacks sink status → IsToldOf honest v lines log sink status
+told-of honest ended v lines log sink status finished begun (inl ends) = inl (finished ends.0, ends.1)
+told-of honest ended v lines log sink status finished begun (inr lacks) = inr (begun, lacks)
 
 -- memory was wanting before the disks were formatted
 pub lacking : {D L : Type 0} (tells : Bool) (meter : D → Meter) (image : D → List ℕ → Type 0) (v : Volume) (disks : List D) (links back : List L) (sink : Sunk) (status : ℕ) → length disks ≡ length (nodes_of v.clusters)

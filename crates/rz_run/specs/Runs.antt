@@ -8,8 +8,6 @@ use Rattle.rz_formatting.specs.declared.fault.DriverFault.{DriverFault}
 use Rattle.rz_formatting.specs.declared.fault.DriverFault.TheVariants as faults
 use Rattle.rz_script.specs.Scripts.{Script}
 use Rattle.rz_script.specs.declared.line.Line.{Line}
-use Rattle.rz_chronicle.specs.Keys.{sids_of}
-use Rattle.rz_crew.specs.Moves.{moves_in}
 use Rattle.rz_shown.specs.Text.{run_text}
 use Rattle.rz_command.specs.Line.{Meaning}
 use Rattle.rz_request.specs.Requests.{Reading}
@@ -39,7 +37,7 @@ pub record IsUnplayed {D L : Type 0} (tells : Bool) (meter : D → Meter) (image
 -- or for the text: then the first part of everything was done, and nothing is written.
 abbrev pub IsToldOf : Bool → Volume → List Line → List Event → Sunk → ℕ → Type 0
 IsToldOf honest v lines h sink status =
-    (IsAllFinished honest v lines h × Ends sink 0 (run_text h (moves_in (sids_of v) h)) status)
+    (IsAllFinished honest v lines h × Ends sink 0 (run_text h (length h)) status)
     ⊎ (IsAllBegun honest v lines h × Lacks sink status)
 
 -- A script was played with this log, the newest event first. The log says what each actor did, and how disks and links come back.

@@ -1,7 +1,7 @@
 //! What is written of a play.
-ghost use Rattle.std.specs.Prelude.{◌≡◌, ◌⊎◌, true};
+ghost use Rattle.std.specs.Prelude.{◌≡◌, ◌⊎◌, length, true};
 ghost use Rattle.rz_chronicle.specs.Keys.{sids_of};
-ghost use Rattle.rz_crew.specs.Moves.{HoldsAll, moves_in};
+ghost use Rattle.rz_crew.specs.Moves.{HoldsAll};
 ghost use Rattle.rz_shown.specs.Text.{AreShownOf, run_text};
 ghost use Rattle.rz_perform.specs.Output.{Ends, Lacks, Sunk};
 ghost use Rattle.rz_run.specs.Runs.{Fails};
@@ -42,7 +42,7 @@ fn tell_log<R: Wait, J: Naming, O: Sink>(
 ) -> u8
     requires held { HoldsAll (sids_of book.now) front.keys }
     requires shown { AreShownOf shown.now front.log }
-    ensures { let sink : Sunk = record { before = O.taken output.old; after = O.taken output.new; old = O.faults output.old; new = O.faults output.new } in Ends sink 0 (run_text front.log (moves_in (sids_of book.now) front.log)) result ⊎ Lacks sink result }
+    ensures { let sink : Sunk = record { before = O.taken output.old; after = O.taken output.new; old = O.faults output.old; new = O.faults output.new } in Ends sink 0 (run_text front.log (length front.log)) result ⊎ Lacks sink result }
 {
     let mut front = front;
     let events = count_all(rt, book, &mut front);
@@ -64,7 +64,7 @@ pub(crate) fn tell<R: Wait, J: Naming, O: Sink>(
 ) -> u8
     requires held { HoldsAll (sids_of book.now) front.keys }
     requires shown { AreShownOf shown.now front.log }
-    ensures { let sink : Sunk = record { before = O.taken output.old; after = O.taken output.new; old = O.faults output.old; new = O.faults output.new } in ((ended ≡ true) × Ends sink 0 (run_text front.log (moves_in (sids_of book.now) front.log)) result) ⊎ Lacks sink result }
+    ensures { let sink : Sunk = record { before = O.taken output.old; after = O.taken output.new; old = O.faults output.old; new = O.faults output.new } in ((ended ≡ true) × Ends sink 0 (run_text front.log (length front.log)) result) ⊎ Lacks sink result }
 {
     if ended {
         tell_log(rt, alloc, book, front, shown, output)

@@ -17,6 +17,9 @@ const LINE: &str = "rozo run --disks 18";
 /// How often all of it is done.
 const RUNS: u64 = 20;
 
+/// So many messages go out between two strokes of the clock.
+const MESSAGES: u64 = 150;
+
 /// How often the clock has struck when all losses have come.
 const STROKES: u64 = 3;
 
@@ -99,7 +102,7 @@ fn each_of_many_runs_could_be_that_of_a_store(rt: HostRuntime) -> Result<(), Fai
     let script = script(alloc)?;
     let mut in_time = 0u64;
     for run in 0..RUNS {
-        let clock = Clock::new();
+        let clock = Clock::new(MESSAGES);
         let disks = disks(alloc, &clock)?;
         let links = links(alloc, &clock, run)?;
         let text = told(&rt, alloc, LINE, script.as_bytes(), disks, links)?;

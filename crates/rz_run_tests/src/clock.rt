@@ -13,14 +13,12 @@ use std::thread::yield_now;
 /// How often somebody looks whether the time has come, and lets others go on, before it waits no longer.
 const LOOKS: u64 = 10_000_000;
 
-/// So many messages go out between two strokes.
-const MESSAGES: u64 = 150;
-
 /// It counts messages, and strikes.
 #[derive(Drop)]
 pub struct Clock {
     messages: AtomicU64,
     strokes: AtomicU64,
+    between: u64,
 }
 
 /// Waits a while for a number to come up to another.
@@ -34,17 +32,19 @@ fn await_number(number: &AtomicU64, least: u64) {
 }
 
 impl Clock {
-    pub fn new() -> Clock {
+    /// So many messages go out between two strokes.
+    pub fn new(between: u64) -> Clock {
         Clock {
             messages: AtomicU64::new(0),
             strokes: AtomicU64::new(0),
+            between,
         }
     }
 
     /// Strikes, and waits until more messages have gone out.
     fn strike(&self) {
         let strokes = self.strokes.fetch_add(1, Ordering::SeqCst);
-        let messages = MESSAGES.saturating_mul(strokes.saturating_add(1));
+        let messages = self.between.saturating_mul(strokes.saturating_add(1));
         await_number(&self.messages, messages);
     }
 

@@ -79,7 +79,7 @@ const ROWS: [(&str, &str, u64, u64, &str); 12] = [
 #[test]
 fn rows(rt: HostRuntime) -> Result<(), Fail> {
     let alloc = rt.alloc();
-    let clock = Clock::new();
+    let clock = Clock::new(0);
     for (line, script, count, failing, want) in ROWS {
         let disks = disks(alloc, &clock, count, failing)?;
         let links = links(alloc, &clock)?;
@@ -92,7 +92,7 @@ fn rows(rt: HostRuntime) -> Result<(), Fail> {
 #[test]
 fn a_long_input(rt: HostRuntime) -> Result<(), Fail> {
     let alloc = rt.alloc();
-    let clock = Clock::new();
+    let clock = Clock::new(0);
     let disks = disks(alloc, &clock, 4, 9)?;
     let links = links(alloc, &clock)?;
     let script = vec![in alloc; b'#'; 4_194_305]?;

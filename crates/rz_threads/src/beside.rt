@@ -24,7 +24,7 @@ const THREADS: usize = 80;
 
 /// A member does its operations, and notes whether memory was wanting.
 #[tactic(auto, using(crate::proofs::Working::all_begun))]
-fn work_one<R: Wait, D: Disk, J: Counting, L: Link>(
+fn work_one<R: Threads + Wait + Sync, D: Disk, J: Counting, L: Link>(
     rt: &R,
     alloc: Global,
     store: &Store<D, J>,

@@ -9,7 +9,8 @@
 //!
 //! A [`Worker`] is one actor at work: [`work`] does its operations in order, each turn with its events, and
 //! stops only where they are done or memory is wanting. Where an answer is none to what was asked, which no
-//! store over an honest book gives, it stops as for want of memory.
+//! store over an honest book gives, it stops as for want of memory. A long write makes its bins in as many
+//! threads as there are processors.
 //!
 //! In reading order: `store`, `adding`, `showing`, `exports`, `locking`, `sending`, `words`, `acting`, `seat`,
 //! `worker`, `working`, `laws`.

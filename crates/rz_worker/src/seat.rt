@@ -11,6 +11,7 @@ use rz_lines::NoMemory;
 use rz_operation::Machine;
 use std::alloc::Global;
 use std::collections::VecDeque;
+use std::thread::Threads;
 
 /// The operations that it has not begun, the number of the last one that it began, and the one in hand.
 #[derive(Drop)]
@@ -41,8 +42,13 @@ impl Seat {
         }
     }
 
-    /// Takes up the next operation, where none is in hand.
-    pub(crate) fn take_up(&mut self, alloc: Global, layout: Layout) -> Result<(), NoMemory>
+    /// Takes up the next operation, where none is in hand. A long write makes its bins in many threads.
+    pub(crate) fn take_up<R: Threads + Sync>(
+        &mut self,
+        rt: &R,
+        alloc: Global,
+        layout: Layout,
+    ) -> Result<(), NoMemory>
         requires { AllByRecursion (IsOperation layout) self.old.todo.items }
         ensures { OnOk result (TakesUp layout self.old self.new) }
     {
@@ -55,7 +61,7 @@ impl Seat {
         let Some(number) = self.number.checked_add(1) else {
             return Err(NoMemory);
         };
-        self.machine = Some(Machine::start(alloc, layout, op)?);
+        self.machine = Some(Machine::start_par(rt, alloc, layout, op)?);
         self.number = number;
         Ok(())
     }

@@ -19,9 +19,10 @@ use rz_link::Link;
 use rz_locked::Counting;
 use std::alloc::Global;
 use std::sync::Wait;
+use std::thread::Threads;
 
 /// Takes a turn: takes up the next operation, where none is in hand, and does what it asks next.
-fn take_turn<R: Wait, D: Disk, J: Counting, L: Link>(
+fn take_turn<R: Threads + Wait + Sync, D: Disk, J: Counting, L: Link>(
     rt: &R,
     alloc: Global,
     store: &Store<D, J>,
@@ -39,7 +40,7 @@ fn take_turn<R: Wait, D: Disk, J: Counting, L: Link>(
     rz_acting::begins();
     let _fit = worker.pass.actor();
     let layout = store.layout();
-    worker.seat.take_up(alloc, layout)?;
+    worker.seat.take_up(rt, alloc, layout)?;
     let number = worker.seat.number;
     let Some(machine) = &mut worker.seat.machine else {
         return Err(NoMemory);
@@ -75,7 +76,7 @@ fn release_after<R: Wait, D: Disk, J: Counting, L: Link>(
 
 /// Does all operations of a worker, in their order. Where memory is wanting it stops, and has done the
 /// first of them and begun one more.
-pub fn work<R: Wait, D: Disk, J: Counting, L: Link>(
+pub fn work<R: Threads + Wait + Sync, D: Disk, J: Counting, L: Link>(
     rt: &R,
     alloc: Global,
     store: &Store<D, J>,

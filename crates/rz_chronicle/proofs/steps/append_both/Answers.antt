@@ -2,7 +2,7 @@ use Rattle.std.proofs.Common.{◌≡◌, ◌<◌, [], ◌∷◌, ℕ, List, sym,
 use Rattle.rz_events.specs.declared.events.Event.{Event}
 use Rattle.rz_events.specs.Events.{word_of}
 use Rattle.rz_chronicle.specs.Keys.{rows, word_key}
-use Rattle.rz_chronicle.specs.Kinds.{MayCome, history}
+use Rattle.rz_chronicle.specs.Kinds.{HasPlace, MayCome, history}
 use Rattle.rz_chronicle.specs.Tally.{at, counts, AllInRow, Covers, Ends, HasCount}
 use Rattle.rz_chronicle.proofs.Joint.{joined, all-right, first-count, first-without, first-held, moved-by-one, both-commit}
 use Rattle.rz_chronicle.proofs.steps.append_both.Goals as goal
@@ -29,6 +29,11 @@ append-hand-requires-clause-legal g c =
     let log : c.join.result.log ≡ c.args.mine.log = c.join.ensures.4 ∙ c.requires.its.1 in
     subst (λ (k : List ℕ). MayCome k (history c.join.result.log) x) (sym (c.join.ensures.2 ∙ c.requires.one.kind))
     (subst (λ (l : List Event). MayCome c.args.mine.kind (history l) x) (sym log) c.requires.legal)
+
+pub append-hand-requires-clause-place : goal.append-hand-requires-clause-place
+append-hand-requires-clause-place g c =
+    let x = g.N.Asks.event c.args.about.now in
+    subst (λ (k : List ℕ). HasPlace k x) (sym (c.join.ensures.2 ∙ c.requires.one.kind)) c.requires.place
 
 pub append-hand-requires-clause-count : goal.append-hand-requires-clause-count
 append-hand-requires-clause-count g c =

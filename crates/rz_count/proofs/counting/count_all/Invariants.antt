@@ -4,4 +4,4 @@ use Rattle.rz_count.proofs.counting.count_all.Given as goal
 
 -- the words at the places so far are counted
 abbrev pub invariant-loop-place : goal.invariant-loop-place
-invariant-loop-place g l = Counted g.J.Naming.kind (sids_of l.book) l.fn.pass l.pass l.place l.sum
+invariant-loop-place g l = Counted (sids_of l.book) l.fn.pass l.pass l.place l.sum

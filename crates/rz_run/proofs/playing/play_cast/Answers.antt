@@ -73,7 +73,6 @@ returns-in-Ok g c =
       new = g.O.Sink.faults c.tell-status.new.output;
     } in
     let at = volume-is c.read_back.ensures kind v c.requires.kind in
-    let book_is : c.play-front.result.book ≡ v = c.play-front.ensures.book ∙ (c.requires.book ∙ at) in
     let begun = all-begun c.read_back.ensures kind v c.requires.kind lines c.args.cast.staff.members.items c.requires.staffed c.args.cast.admin c.requires.admin log c.play-front.ensures.begun
     (subst (λ (ls : List Line). AreBegun kind ls c.args.cast.admin.log log) c.lines.ensures.value c.play-front.ensures.ordered) in
     let finished : c.play-front.result.ended ≡ true → IsAllFinished (is_honest kind) v lines log = λ ended. all-finished c.read_back.ensures kind v c.requires.kind lines c.args.cast.staff.members.items c.requires.staffed c.args.cast.admin c.requires.admin log (c.play-front.ensures.finished ended)
@@ -81,7 +80,7 @@ returns-in-Ok g c =
     inr (
       log,
       record {
-        told = told-of (is_honest kind) c.play-front.result.ended v c.play-front.result.book lines log sink c.tell-status.result book_is finished begun c.tell-status.ensures;
+        told = told-of (is_honest kind) c.play-front.result.ended v lines log sink c.tell-status.result finished begun c.tell-status.ensures;
         true_log = λ honest. c.true_logs.ensures v log (subst (λ (u : Volume). IsLegal u log) at (c.play-front.ensures.fit honest));
         disks_told = disks-at c.read_back.ensures kind v c.requires.kind g.D.Disk.meter g.D.Disk.image g.J.Counting.first log c.in-Ok.cluster c.args.disks.items c.play-front.result.disks.items c.in-Ok.ensures.volume c.requires.counts c.play-front.ensures.disks;
         links_told = lost-all kind lines log g.L.Link.lost actors c.args.cast.staff.members.items c.play-front.result.links.items c.requires.staffed c.play-front.ensures.links;

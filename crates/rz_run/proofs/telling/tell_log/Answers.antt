@@ -1,7 +1,5 @@
-use Rattle.std.proofs.Common.{◌≡◌, ℕ, List, ap, ◌∙◌, subst, inl}
+use Rattle.std.proofs.Common.{◌≡◌, ℕ, List, length, ap, ◌∙◌, subst, inl}
 use Rattle.rz_events.specs.declared.events.Event.{Event}
-use Rattle.rz_chronicle.specs.Keys.{sids_of}
-use Rattle.rz_crew.specs.Moves.{moves_in}
 use Rattle.rz_shown.specs.Text.{run_text}
 use Rattle.rz_perform.specs.Output.{Sunk, Ends}
 use Rattle.rz_run.proofs.telling.tell_log.Goals as goal
@@ -15,5 +13,5 @@ returns-in-Ok g c =
       new = g.O.Sink.faults c.finish.new.output;
     } in
     let log : List Event = c.args.front.log in
-    let text : c.deref.result.now ≡ run_text log (moves_in (sids_of c.args.book.now) log) = c.deref.ensures.value ∙ (c.in-Ok.ensures log c.requires.shown ∙ ap (run_text log) c.count_all-events.ensures.old) in
+    let text : c.deref.result.now ≡ run_text log (length log) = c.deref.ensures.value ∙ (c.in-Ok.ensures log c.requires.shown ∙ ap (run_text log) c.count_all-events.ensures.old) in
     inl (subst (λ (t : List ℕ). Ends sink 0 t c.finish.result) text c.finish.ensures)

@@ -6,7 +6,7 @@ use Rattle.logbook.specs.Pages.{Named}
 use base.Growing.{prefix_trans}
 use Rattle.rz_events.specs.declared.events.Word.TheVariants.{Own}
 use Rattle.rz_chronicle.specs.Keys.{rows, count_at, IsLater, sids_of}
-use Rattle.rz_chronicle.specs.Kinds.{history, IsFit, volume_in}
+use Rattle.rz_chronicle.specs.Kinds.{history, HavePlaces, IsFit, volume_in}
 use Rattle.rz_chronicle.specs.Tally.{at, counts, Agree, AllInRow}
 use Rattle.rz_chronicle.specs.Holds.{IsHand, IsOwn, Stays, keys}
 use Rattle.rz_chronicle.specs.Rules.{PassView}
@@ -47,6 +47,7 @@ invariant_of-front g c =
       c.front.invariant.3 ∙ own-same c.front.inside.actor mine.held log new h.0.right (agree-left (counts new) mine.held theirs.held agree) h.1,
       c.front.invariant.4,
       subst (λ (k : List ℕ). IsFit k (history new)) (c.join.ensures.2 ∙ h.0.kind_is) a.fit,
+      subst (λ (k : List ℕ). HavePlaces k (history new)) (c.join.ensures.2 ∙ h.0.kind_is) a.places,
     )
 
 pub returns-in-Some-clause-same : goal.returns-in-Some-clause-same

@@ -1,9 +1,9 @@
-use Rattle.std.proofs.Common.{◌≡◌, ◌<◌, ◌∙◌, [], ◌∷◌, List, ℕ, sym, ap, subst}
+use Rattle.std.proofs.Common.{◌≡◌, ◌<◌, ◌∙◌, [], ◌∷◌, List, Some, ℕ, sym, ap, subst}
 use Rattle.logbook.specs.Pages.{Named}
 use Rattle.rz_events.specs.declared.events.Event.{Event}
 use Rattle.rz_events.specs.Events.{word_of, by_of}
 use Rattle.rz_chronicle.specs.Keys.{rows, word_key, actor_key, count_at, sids_of}
-use Rattle.rz_chronicle.specs.Kinds.{history, IsFit, MayCome, volume_in}
+use Rattle.rz_chronicle.specs.Kinds.{history, HasPlace, HavePlaces, IsFit, MayCome, volume_in}
 use Rattle.rz_chronicle.specs.Tally.{counts, IsHolding}
 use Rattle.rz_chronicle.specs.Holds.{IsHand, IsOwn, IsShared, Commits, keys}
 use Rattle.rz_chronicle.specs.Rules.{PassView, PostView}
@@ -55,6 +55,13 @@ append_both-its-requires-clause-legal g c =
     let may : MayCome g.J.Naming.kind (history log) x = subst (λ (v : PassView). MayCome g.J.Naming.kind v.log x) (sym c.pass.view_is) c.requires.legal in
     hand-may g.J.Naming.tallies g.J.Naming.copy g.J.Naming.kind log x c.in-Some.mine h.0 may
 
+pub append_both-its-requires-clause-place : goal.append_both-its-requires-clause-place
+append_both-its-requires-clause-place g c =
+    let x = g.N.Asks.event c.args.about.now in let log = c.pass.inside.seen.log in
+    let h = taken (λ h. IsHand g.J.Naming.tallies g.J.Naming.copy g.J.Naming.kind log h × IsOwn c.pass.inside.actor h.held) c.pass.inside.hand c.take.result c.in-Some.mine c.take.ensures.value c.in-Some.is c.pass.invariant.2 in
+    let word : word_of x ≡ c.post.inside.word = c.requires.word ∙ ap (λ (v : PostView). v.word) (sym c.post.view_is) in
+    subst (λ (k : List ℕ). HasPlace k x) (sym h.0.kind_is) (c.post.inside.place, c.post.invariant.6, c.post.invariant.3 ∙ ap Some (sym word))
+
 pub invariant_of-pass : goal.invariant_of-pass
 invariant_of-pass g c =
     let x = g.N.Asks.event c.args.about.now in let log = c.pass.inside.seen.log in let mine = c.in-Some.mine in
@@ -73,6 +80,7 @@ invariant_of-pass g c =
       c.pass.invariant.3 ∙ own-stays c.pass.inside.actor mine.held log new x shared h.1 commits,
       c.pass.invariant.4,
       subst (λ (k : List ℕ). IsFit k (history new)) h.0.kind_is a.fit,
+      subst (λ (k : List ℕ). HavePlaces k (history new)) h.0.kind_is a.places,
     )
 
 pub returns-in-Some-take-clause-same : goal.returns-in-Some-take-clause-same

@@ -1,9 +1,9 @@
-use Rattle.std.proofs.Common.{◌≡◌, ◌∙◌, List, ℕ, sym, ap, subst, ◌<◌}
+use Rattle.std.proofs.Common.{◌≡◌, ◌∙◌, List, ℕ, sym, ap, subst, ◌<◌, Some}
 use Rattle.rz_events.specs.declared.events.Word.TheVariants.{Own}
 use Rattle.rz_events.specs.Events.{word_of}
 use Rattle.logbook.specs.Pages.{Named}
 use Rattle.rz_chronicle.specs.Keys.{word_key, count_at, rows, sids_of}
-use Rattle.rz_chronicle.specs.Kinds.{MayCome, history, volume_in}
+use Rattle.rz_chronicle.specs.Kinds.{HasPlace, HavePlaces, MayCome, history, volume_in}
 use Rattle.rz_chronicle.specs.Tally.{IsHolding}
 use Rattle.rz_chronicle.specs.Holds.{IsHand, IsOwn, Commits, keys}
 use Rattle.rz_chronicle.specs.Rules.{PassView}
@@ -35,6 +35,14 @@ append-hand-requires-clause-legal g c =
     let may : MayCome g.J.Naming.kind (history log) c.args.event.now = subst (λ (v : PassView). MayCome g.J.Naming.kind v.log c.args.event.now) (sym c.pass.view_is) c.requires.legal in
     hand-may g.J.Naming.tallies g.J.Naming.copy g.J.Naming.kind log c.args.event.now c.in-Some.hand h.0 may
 
+pub append-hand-requires-clause-place : goal.append-hand-requires-clause-place
+append-hand-requires-clause-place g c =
+    let log = c.pass.inside.seen.log in let sids = sids_of (volume_in g.J.Naming.kind) in
+    let h = taken (λ h. IsHand g.J.Naming.tallies g.J.Naming.copy g.J.Naming.kind log h × IsOwn c.pass.inside.actor h.held) c.pass.inside.hand c.take.result c.in-Some.hand c.take.ensures.value c.in-Some.is c.pass.invariant.2 in
+    let who : c.pass.inside.actor ≡ c.args.pass.now.actor = ap (λ (v : PassView). v.actor) c.pass.view_is in
+    let at-word : Own c.pass.inside.actor ≡ word_of c.args.event.now = sym (c.requires.word ∙ ap Own (sym who)) in
+    subst (λ (k : List ℕ). HasPlace k c.args.event.now) (sym h.0.kind_is) (c.place_of.result, c.place_of.ensures.place, c.place_of.ensures.owner sids ∙ ap Some at-word)
+
 pub append-hand-requires-clause-count : goal.append-hand-requires-clause-count
 append-hand-requires-clause-count g c =
     let log = c.pass.inside.seen.log in
@@ -60,6 +68,7 @@ invariant_of-pass g c =
       moved-on c.in-Some.hand.held log new c.args.event.now c.pass.inside.moved h.0.right has from a.ends ∙ ap (λ w. count_at (word_key w) new) at-word,
       c.pass.invariant.4,
       subst (λ (k : List ℕ). Rattle.rz_chronicle.specs.Kinds.IsFit k (history new)) h.0.kind_is a.fit,
+      subst (λ (k : List ℕ). HavePlaces k (history new)) h.0.kind_is a.places,
     )
 
 pub returns-in-Some-clause-same : goal.returns-in-Some-clause-same

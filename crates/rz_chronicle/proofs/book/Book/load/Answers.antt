@@ -1,7 +1,7 @@
 use Rattle.std.proofs.Common.{◌∙◌, List, ℕ, sym, ap, subst}
 use mathlib.Core.List.{IsPrefix}
 use Rattle.rz_chronicle.specs.Keys.{count_at, IsLater}
-use Rattle.rz_chronicle.specs.Kinds.{history, IsFit}
+use Rattle.rz_chronicle.specs.Kinds.{history, HavePlaces, IsFit}
 use Rattle.rz_chronicle.specs.Holds.{IsHand, IsOwn, Stays, keys}
 use Rattle.rz_chronicle.specs.Rules.{PassView}
 use Rattle.rz_chronicle.proofs.Histories.{later, stays}
@@ -23,6 +23,7 @@ invariant_of-pass g c =
       c.pass.invariant.3 ∙ own-same c.pass.inside.actor mine.held log new h.0.right a.agree h.1,
       c.pass.invariant.4,
       subst (λ (k : List ℕ). IsFit k (history new)) h.0.kind_is a.fit,
+      subst (λ (k : List ℕ). HavePlaces k (history new)) h.0.kind_is a.places,
     )
 
 pub returns-in-Some-clause-same : goal.returns-in-Some-clause-same

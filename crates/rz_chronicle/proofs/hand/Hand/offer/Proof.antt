@@ -57,7 +57,7 @@ offer_spec 𝓤 𝓛 𝓜 𝓡 wired X N _ _ gn dn _ =
     let about = notes me.held in let names : List ℕ = me.tallies ∷ me.copy ∷ me.kind in let answer = λ (r : Told.the_row.Denot). gained names (held_in about) r.before r.log in
     let mine : ent 𝓤 (sem 𝓛 (hand_owns me.tallies me.copy me.held me.log)) (sem 𝓛 (offer_owns (kept names) (IsMove ask) answer None)) =
     subst (λ (hs : List (ℕ × ℕ)). ent 𝓤 (sem 𝓛 (hand_owns me.tallies me.copy me.held me.log)) (sem 𝓛 (offer_owns (kept names) (IsMove ask) (λ (r : Told.the_row.Denot). gained names hs r.before r.log) None))) (sym (notes-back me.held))
-    (trades.offers 𝓛 me.tallies me.copy me.kind me.held me.log ask asked.0 (λ _. (asked.1, asked.2))) in
+    (trades.offers 𝓛 me.tallies me.copy me.kind me.held me.log ask asked.0 (λ _. (asked.1, asked.2, asked.3))) in
     enter ! 𝓣.C 𝓣.Λ fn (token ∷ at ∷ []) Post $ alloc_all ! (λ l. pass_all ! refl ((tt, (tt, tt)), ((tt, tt), tt)) $
     use1 𝓛 (‵ (offer_owns (kept names) (IsMove ask) answer None)) mine $
     use0 𝓛 (‵ ((Token All).own_val (record {}, tt) (token ∷ []))) (token_made All 𝓛) $ fjoin ! $ sets ! (agg ! (no_more !)) refl (tt, tt) $ sets ! (agg ! (and_then ! (get ! refl) (no_more !))) refl (tt, (tt, tt)) $

@@ -2,7 +2,7 @@ use Rattle.std.proofs.Common.{◌≡◌, [], List, sym, ap, subst}
 use Rattle.rz_events.specs.declared.events.Event.{Event}
 use Rattle.rz_events.specs.declared.events.Word.TheVariants.{Own}
 use Rattle.rz_chronicle.specs.Keys.{word_key, count_at}
-use Rattle.rz_chronicle.specs.Kinds.{history, IsFit}
+use Rattle.rz_chronicle.specs.Kinds.{history, HavePlaces, IsFit}
 use Rattle.rz_chronicle.specs.Holds.{IsHand, IsOwn}
 use Rattle.rz_chronicle.proofs.Keys.{fit-first}
 use Rattle.rz_chronicle.proofs.Hands.{pass-first}
@@ -19,4 +19,5 @@ invariant_of-result g c =
       ap (count_at (word_key (Own c.args.actor))) (sym empty),
       c.requires.member,
       subst (λ (l : List Event). IsFit kind (history l)) (sym empty) (fit-first kind),
+      subst (λ (l : List Event). HavePlaces kind (history l)) (sym empty) tt,
     )
