@@ -36,7 +36,7 @@ module _ {D L : Type 0} (tells honest : Bool) (meter : D â†’ Meter) (image : D â
       status_is = took.0;
       played = played;
       all_done = all;
-      taken = (_, took.1);
+      taken = took.1;
     },
   )
   told h played (inl (all, inr failed)) = absurd (sink_whole failed.1)

@@ -37,7 +37,7 @@ pub record IsFinished {D L : Type 0} (honest : Bool) (meter : D → Meter) (imag
   pub status_is : status ≡ 0
   pub played : IsPlayed honest meter image count s disks links sink status h
   pub all_done : IsAllFinished honest s.volume s.lines h
-  pub taken : (events : ℕ) × Appends sink.before sink.after (run_text h events)
+  pub taken : Appends sink.before sink.after (run_text h (length h))
 
 -- Where nothing stands in its way, a run that returns has played the script, everyone to its end, or memory was wanting: what comes of
 -- the words and the source leaves nothing else.
