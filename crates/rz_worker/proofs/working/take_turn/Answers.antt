@@ -37,9 +37,11 @@ pub returns-in_default-clause-begun : goal.returns-in_default-clause-begun
 returns-in_default-clause-begun g c = (seat_of c.args.worker.now.seat, none-done (is_honest g.J.Naming.kind) (volume_in g.J.Naming.kind).layout c.args.worker.now.pass.actor (seat_of c.args.worker.now.seat) c.args.worker.now.pass.log c.args.worker.now.pass.log refl)
 
 pub take_up-requires : goal.take_up-requires
-take_up-requires g c = (c.type_bounds.sync-R,
-    subst (λ (y : Layout). AllByRecursion (answers.IsOperation y) c.args.worker.now.seat.todo.items) (sym (c.layout-layout.ensures ∙ ap (λ (v : Volume). v.layout) c.requires.volume))
-    (all-taken (volume_in g.J.Naming.kind) (c.begins.ensures (volume_in g.J.Naming.kind)) c.args.worker.now.pass.actor c.args.worker.now.seat.todo.items c.requires.ready.todo))
+take_up-requires g c = (
+  c.type_bounds.sync-R,
+  subst (λ (y : Layout). AllByRecursion (answers.IsOperation y) c.args.worker.now.seat.todo.items) (sym (c.layout-layout.ensures ∙ ap (λ (v : Volume). v.layout) c.requires.volume))
+      (all-taken (volume_in g.J.Naming.kind) (c.begins.ensures (volume_in g.J.Naming.kind)) c.args.worker.now.pass.actor c.args.worker.now.seat.todo.items c.requires.ready.todo),
+)
 
 pub act-requires-clause-actor : goal.act-requires-clause-actor
 act-requires-clause-actor g c = c.requires.ready.actor
