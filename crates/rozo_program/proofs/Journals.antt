@@ -1,5 +1,5 @@
 -- The disk of a journal behind those of the nodes, and how a journal ends a play.
-use Rattle.std.proofs.Common.{ℕ, zero, suc, inl, inr, ◌⊎◌, ◌≡◌, ◌≢◌, ◌+◌, ◌<◌, ◌≤◌, Bool, true, false, IsTrue, List, [], ◌∷◌, ◌++◌, Option, Some, None, length, map, refl, sym, ap, ◌∙◌, subst, arith}
+use Rattle.std.proofs.Common.{ℕ, zero, suc, inl, inr, ◌⊎◌, ◌≡◌, ◌≢◌, ◌+◌, ◌<◌, ◌≤◌, Bool, true, false, IsTrue, List, [], ◌∷◌, ◌++◌, Option, Some, None, length, refl, sym, ap, ◌∙◌, subst, arith}
 use Rattle.mj_angles.specs.declared.layout.Layout.{Layout}
 use Rattle.rz_disk.specs.Meter.{Meter, faults, Rises as HasRisen}
 use Rattle.rz_events.specs.Volume.{Volume}
@@ -25,7 +25,7 @@ use Rattle.rz_request.specs.declared.wishes.Wish.{Wish}
 use Rattle.rz_request.specs.declared.wishes.Wish.TheVariants as wishes
 use Rattle.rz_perform.specs.Replays.{Course, Faulted, HasJournal, MayEnd}
 use Rattle.rz_perform.specs.Scrubs.{BetweenTurns}
-use Rattle.rozo_program.specs.Disks.{AreAllBack, AreBackAgain, AreBackFrom, AreFaultsTold, AreImagesTold, IsJournalLeft, LeavesNext, MayFollow, asked_in, faulted, refused_by}
+use Rattle.rozo_program.specs.Disks.{AreAllBack, AreBackAgain, AreBackFrom, AreFaultsTold, AreImagesTold, IsJournalLeft, LeavesNext, MayFollow, asked_in, refused_by}
 
 -- Without a journal.
 

@@ -1,4 +1,4 @@
-use Rattle.std.proofs.Common.{◌≡◌, ◌-◌, ◌++◌, ◌∷◌, ◌<◌, ◌^◌, ℕ, true, false, IsTrue, List, [], Option, Some, length, map, reverse, refl, sym, ap, ◌∙◌, subst, inl, inr, ◌+◌, arith}
+use Rattle.std.proofs.Common.{◌≡◌, ◌-◌, ◌++◌, ◌∷◌, ◌<◌, ◌^◌, ℕ, true, false, IsTrue, List, [], Option, Some, length, reverse, refl, sym, ap, ◌∙◌, subst, inl, inr, arith}
 use Rattle.std.specs.Prelude.{option_to_list}
 use Rattle.std.proofs.lemmas.List.{reverse-reverse}
 use Rattle.rz_disk.specs.Meter.{faults}
@@ -13,8 +13,6 @@ use Rattle.rz_events.specs.declared.events.Event.{Event}
 use Rattle.rz_formatting.specs.Formatted.{disks_of}
 use Rattle.rz_metadata.specs.Stands.{disk_of, export_in, is_journaled, refusal_of}
 use Rattle.rz_opening.specs.Opened.{AreKept}
-use Rattle.rz_opening.specs.declared.refusal.OpenRefusal.{OpenRefusal}
-use Rattle.rz_opening.specs.declared.refusal.OpenRefusal.TheVariants.{NoMemory, Open}
 use Rattle.rz_script.specs.declared.line.Line.{Line}
 use Rattle.rz_stations.specs.Meters.{faults_at}
 use Rattle.rz_stations.specs.Stations.{state_in}
@@ -23,20 +21,19 @@ use Rattle.rz_core.specs.History.{facts}
 use Rattle.rz_core.specs.Legal.{IsLegalInRuns}
 use Rattle.rz_scrub_laws.specs.Untouched.{text_in}
 use Rattle.rz_play.specs.World.{World, world_after}
+use Rattle.rz_play.specs.Played.{IsBegunFrom}
 use Rattle.rz_play_laws.specs.Fine.{IsFine, MayBegin}
 use Rattle.rz_play_laws.specs.Runs.{IsRunAfter}
 use Rattle.rz_lines.specs.Behind.{Before, behind}
 use Rattle.rz_lines.specs.Ends.{IsEnded}
 use Rattle.rz_lines.specs.declared.lines.PlayEnd.{PlayEnd}
 use Rattle.rz_perform.specs.Output.{Sunk}
-use Rattle.rz_perform.specs.Replays.{Unplayed, Unopened, Performed, Follows, IsToldAs}
+use Rattle.rz_perform.specs.Replays.{Performed}
 use Rattle.rz_perform.specs.Scrubs.{BetweenTurns}
 use Rattle.rz_perform.specs.Telling.{IsPlayOf, TellsOwn}
 use Rattle.rz_perform.proofs.Anew.{told_own}
-use Rattle.rz_request.specs.declared.wishes.Wish.{Wish}
 use Rattle.rz_request.specs.declared.wishes.Wish.TheVariants.{Again, Scrub}
-use Rattle.rozo_program.specs.Disks.{AreBackAgain, AreFaultsTold, AreImagesTold, AreLocksKept, AreUsedAgain, IsGoneOn, IsJournalLeft, IsPlayAfter, LeavesNext, MayFollow, faulted}
-use Rattle.rozo_program.specs.Replays.{FailsAgain}
+use Rattle.rozo_program.specs.Disks.{AreFaultsTold, AreImagesTold, AreLocksKept, AreUsedAgain, IsJournalLeft, IsPlayAfter, LeavesNext, MayFollow, faulted}
 use Rattle.rozo_program.proofs.Continuing.{any_told, not-reopened, own_as}
 use Rattle.rozo_program.proofs.Journals.{again-back, again-end, at-last, between-on, has-disk, journal-left, may-follow, next-on, split-last, whole-end}
 use Rattle.rozo_program.proofs.replay.play_again.Given as given
@@ -175,32 +172,25 @@ module _ (g : given.Over) (c : goal.After-drop-disks g) where
             ended = subst E world_is (plays.0 telling);
           }
 
+      begun : IsBegunFrom volume (world_after played.nodes played.export old) c.args.request.now.script.lines (log ++ old)
+      begun = c.begins.ensures volume (world_after played.nodes played.export old) c.args.request.now.script.lines end lost (log ++ old) played.ended
+
       run_after : IsRunAfter volume old (log ++ old)
       run_after =
-          let lines : List Line = c.args.request.now.script.lines in
-          let nodes = state_in c.in-Ok.driver.shared.stations.items in
-          let export = export_in c.in-Ok.driver.shared.export in
-          let E : World → Type 0 = λ w. IsEnded volume (behind old w) lines end lost (log ++ old) in
-          let ended : IsEnded volume (world_after nodes export old) lines end lost (log ++ old) = subst E world_is (plays.0 telling) in
           let short = held.3.short in
-          c.afterwards.ensures volume lines c.keeps_rules.ensures nodes export old fine (omega (arith, short)) (log ++ old)
-          (c.begins.ensures volume (world_after nodes export old) lines end lost (log ++ old) ended)
+          c.afterwards.ensures volume c.args.request.now.script.lines c.keeps_rules.ensures played.nodes played.export old played.fine (omega (arith, short)) (log ++ old) begun
 
       -- and what locks promise
       kept : (earlier : List Event) → IsEarlier volume earlier → IsRestarted volume earlier old → length old < 2 ^ 63 → AreLocksKept volume old c.args.request.now.script.lines (log ++ old)
       kept earlier is (took, may, restarted_is) below =
-          let lines : List Line = c.args.request.now.script.lines in
-          let nodes = state_in c.in-Ok.driver.shared.stations.items in
-          let export = export_in c.in-Ok.driver.shared.export in
           let restart = c.restarting.ensures volume c.keeps_rules.ensures.volume earlier is took may in
-          let begun = c.begins.ensures volume (world_after nodes export old) lines end lost (log ++ old) played.ended in
-          let may_begin : MayBegin volume nodes export old = record {
+          let may_begin : MayBegin volume played.nodes played.export old = record {
             legal = subst (IsLegalInRuns volume) (sym restarted_is) restart.legal;
-            nodes_are = fine.nodes_are;
-            export_is = fine.export_is;
+            nodes_are = played.fine.nodes_are;
+            export_is = played.fine.export_is;
             few = below;
           } in
-          (begun.last, c.after.ensures volume lines c.keeps_rules.ensures nodes export old may_begin (log ++ old) begun)
+          (begun.last, c.after.ensures volume c.args.request.now.script.lines c.keeps_rules.ensures played.nodes played.export old may_begin (log ++ old) begun)
 
       -- what is left for the next run
       next_run : LeavesNext end (MayFollow g.D.Disk.image volume (log ++ old) c.close_all-log.result.1.items)
