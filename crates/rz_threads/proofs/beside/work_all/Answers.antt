@@ -1,16 +1,23 @@
+use denote.Exit.{no}
 use denote.Param.{param}
-use denote.Param.Send.{shr_sync}
-use Rattle.std.proofs.Common.{subst, slice_index_or, List}
+use denote.Param.Send.{arg_send, arg_sync, param_send, param_sync, shr_sync}
+use Rattle.std.proofs.Common.{subst, sym, slice_index_or, List}
 use Rattle.std.proofs.Crossing.{sync}
-use Rattle.rz_staff.specs.Staff.{HasWorked}
+use Rattle.rz_staff.specs.Staff.{CanWork, HasWorked}
 use Rattle.rz_staff.specs.declared.member.Member.{Member}
-use Rattle.rz_threads.proofs.Each.{all-zip}
+use Rattle.rz_threads.proofs.Each.{all-zip, at-place}
 use Rattle.rz_threads.proofs.Sending.{three-shared, store_sync}
 use Rattle.rz_threads.proofs.beside.work_all.Goals as goal
 
 pub for_each_mut-requires-sync-F : goal.for_each_mut-requires-sync-F
 for_each_mut-requires-sync-F g c κs within = three-shared _ (shr_sync _ _ _ c.type_bounds.sync-R) sync
     (shr_sync _ _ _ (store_sync (param 1 g.row.D) (param 2 g.row.J) g.D.Disk g.J.Counting g.J.Naming c.type_bounds.send-D))
+
+pub for_each_mut-requires-clause-accepts : goal.for_each_mut-requires-clause-accepts
+for_each_mut-requires-clause-accepts g c κs within = λ i p lt is. (
+  (c.requires.volume, subst (CanWork g.J.Naming.kind) (sym is) (at-place (CanWork g.J.Naming.kind) c.args.members.now i p.now lt c.requires.ready)),
+  (param_send 1 _ (arg_send _ no _ (param_send 1 _ c.type_bounds.send-D)), param_send 2 _ (arg_send _ no _ (param_send 2 _ c.type_bounds.send-J)), param_send 3 _ (arg_send _ no _ (param_send 3 _ c.type_bounds.send-L)), param_sync 0 _ (arg_sync _ no _ (param_sync 0 _ c.type_bounds.sync-R)), param_sync 2 _ (arg_sync _ no _ (param_sync 2 _ c.type_bounds.sync-J))),
+)
 
 pub returns : goal.returns
 returns g c =
