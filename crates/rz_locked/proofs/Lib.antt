@@ -7,5 +7,4 @@ mod Seats
 mod Replies
 mod Offices
 mod Metering
-mod Picks
 mod Texts
