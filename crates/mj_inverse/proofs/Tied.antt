@@ -1,12 +1,12 @@
 -- From the bins of words to the values of their rows, and back.
-use Rattle.std.proofs.Common.{◌≡◌, ℕ, zero, suc, ◌+◌, ◌*◌, ◌<◌, ◌≤◌, refl, sym, ap, ◌∙◌, arith, ◌⊎◌, inl, inr, ℤ, List, [], ◌∷◌}
+use Rattle.std.proofs.Common.{◌≡◌, ℕ, zero, suc, ◌+◌, ◌*◌, ◌<◌, ◌≤◌, refl, sym, ap, ◌∙◌, arith, ◌⊎◌, inl, inr, ℤ, List, [], ◌∷◌, get_or}
 use Rattle.std.specs.Prelude.{◌==◌, if◌then◌else◌}
 use Rattle.std.proofs.lemmas.Bool.{cases_lt}
 use mathlib.Core.Path.{fun_ext}
-use Rattle.mj_angles.specs.Projection.{bin, row_start}
+use Rattle.mj_angles.specs.Projection.{bins, bin, row_start}
 use Rattle.mj_angles.proofs.Sums.{xor_below-same}
 use Rattle.mj_inverse.specs.Rows.{Every, HaveValues, block_rows, raised, cut}
-use Rattle.mj_inverse.specs.Series.{seq, angle}
+use Rattle.mj_inverse.specs.Series.{seq, angle, IsSeries}
 use Rattle.mj_inverse.specs.Store.{IsGiven}
 use Rattle.mj_inverse.specs.Padded.{HasBins}
 use Rattle.mj_inverse.specs.declared.series.Series.{Series}
@@ -22,14 +22,18 @@ bins_same rows cols i f g [] same every = tt
 bins_same rows cols i f g (s ∷ rest) same (has, every) = (λ b h. has b h ∙ bin-same f g rows cols s.direction b same, bins_same rows cols i f g rest same every)
 
 pub values_from_bins : (rows cols j : ℕ) (w : ℕ → ℕ) (all : List Series) → j < 8 → Every (IsGiven 8 rows cols) all → Every (HasBins rows cols j (λ l k. w (l * cols + k))) all →
-    HaveValues angle (seq 8 j) (block_rows cols 0 rows w) all
+    HaveValues angle (seq 8 j) (block_rows cols (32 * rows) rows w) all
 values_from_bins rows cols j w [] h given every = tt
 values_from_bins rows cols j w (s ∷ rest) h (g, given) (has, every) = (value_from_words 8 rows cols j s h g w has, values_from_bins rows cols j w rest h given every)
 
-pub bins_from_values : (rows cols j : ℕ) (w : ℕ → ℕ) (all : List Series) → j < 8 → Every (IsGiven 8 rows cols) all → HaveValues angle (seq 8 j) (block_rows cols 0 rows w) all →
+pub bins_from_values : (rows cols j : ℕ) (w : ℕ → ℕ) (all : List Series) → j < 8 → Every (IsGiven 8 rows cols) all → HaveValues angle (seq 8 j) (block_rows cols (32 * rows) rows w) all →
     Every (HasBins rows cols j (λ l k. w (l * cols + k))) all
 bins_from_values rows cols j w [] h given values = tt
 bins_from_values rows cols j w (s ∷ rest) h (g, given) (v, values) = (words_from_value 8 rows cols j s h g w v, bins_from_values rows cols j w rest h given values)
+
+pub series_from_given : (rows cols : ℕ) (all : List Series) → Every (IsGiven 8 rows cols) all → Every (IsSeries 8) all
+series_from_given rows cols [] given = tt
+series_from_given rows cols (s ∷ rest) (g, given) = (g.is, series_from_given rows cols rest given)
 
 -- rows of the same words are the same
 pub rows_from_words : (cols low n : ℕ) (v w : ℕ → ℕ) → ((l k : ℕ) → l < n → k < cols → v (l * cols + k) ≡ w (l * cols + k)) → block_rows cols low n v ≡ block_rows cols low n w

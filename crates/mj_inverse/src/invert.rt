@@ -2,7 +2,7 @@
 
 ghost use Rattle.std.specs.Prelude.{◌≡◌, ◌≢◌, ◌≤◌, ◌<◌, ◌+◌, ◌-◌, ◌*◌, ◌^◌, ℕ, List, ◌∷◌, length, map, slice_index};
 ghost use Rattle.mj_inverse.specs.Rows.{joined, IsFinite, Every, Both, HaveValues, Differ, IsDividedOut, Divides, block_rows};
-ghost use Rattle.mj_inverse.specs.Series.{seq, angle as angle_of, angles, IsAt, IsWide, IsNext, IsUnmarked, IsBlank, KeepsRoom, Meet};
+ghost use Rattle.mj_inverse.specs.Series.{seq, angle as angle_of, IsAt, IsWide, IsNext, IsUnmarked, IsBlank, SameRoom, Meet};
 
 use crate::series::Series;
 
@@ -31,40 +31,37 @@ fn join(
     rest: &mut [Series],
     angle: usize,
     unit: usize,
-    inner: usize,
     high: usize,
     most: usize,
 )
     requires first { IsWide unit high most first.old }
-    requires rest { Every (IsWide unit inner most) rest.old }
-    requires raise { inner + angle ≤ high }
-    requires room { high ≤ most }
+    requires rest { Every (IsWide unit high most) rest.old }
+    requires angle { angle ≤ 32 }
+    requires room { high + 32 ≤ most }
     requires limit { most < 2 ^ 32 }
     ensures rows { (j : ℕ) → j < unit → map (seq unit j) (first.new ∷ rest.new) ≡ joined angle (seq unit j first.old) (map (seq unit j) rest.old) }
-    ensures first { IsWide unit high most first.new }
-    ensures rest { Every (IsWide unit high most) rest.new }
-    ensures same { Both KeepsRoom (first.old ∷ rest.old) (first.new ∷ rest.new) }
+    ensures first { IsWide unit (high + 32) most first.new }
+    ensures rest { Every (IsWide unit (high + 32) most) rest.new }
+    ensures same { Both SameRoom (first.old ∷ rest.old) (first.new ∷ rest.new) }
 {
     match rest.split_first_mut() {
         None => {}
         Some((next, others)) => {
             first.add_raised(next, angle, unit);
-            join(next, others, angle, unit, inner, high, most);
+            join(next, others, angle, unit, high, most);
         }
     }
 }
 
 /// Makes the rows of each block out of its projections, and marks the blocks that have none.
 pub fn invert(all: &mut [Series], unit: usize, bad: &mut [u64], high: usize, most: usize)
-    requires at { Every (IsAt unit (angles all.old) high most) all.old }
+    requires at { Every (IsAt unit (length all.old) high most) all.old }
     requires differ { Differ angle_of all.old }
-    requires high { angles all.old ≤ high }
-    requires room { high ≤ most }
-    requires least { 32 ≤ most }
+    requires room { high + 32 * length all.old ≤ most }
     requires limit { most < 2 ^ 32 }
     requires blocks { length bad.old ≡ unit }
-    ensures wide { Every (IsWide unit high most) all.new }
-    ensures same { Both KeepsRoom all.old all.new }
+    ensures wide { Every (IsWide unit (high + 32 * length all.old) most) all.new }
+    ensures same { Both SameRoom all.old all.new }
     ensures values { (j : ℕ) → j < unit → IsUnmarked bad.new j →
         IsUnmarked bad.old j × HaveValues angle_of (seq unit j) (map (seq unit j) all.new) all.old }
     ensures complete { (j : ℕ) (fs : List (ℕ → ℕ)) → j < unit → IsUnmarked bad.old j → length fs ≡ length all.old → Every IsFinite fs →
@@ -74,10 +71,9 @@ pub fn invert(all: &mut [Series], unit: usize, bad: &mut [u64], high: usize, mos
         None => {}
         Some((pivot, rest)) => {
             divide_all(rest, pivot, unit, bad);
+            invert(rest, unit, bad, high, most);
             let angle = pivot.angle;
-            let inner = high - angle;
-            invert(rest, unit, bad, inner, most);
-            join(pivot, rest, angle, unit, inner, high, most);
+            join(pivot, rest, angle, unit, high + 32 * rest.len(), most);
         }
     }
 }
@@ -98,8 +94,8 @@ fn give_rows(
     requires limit { most < 2 ^ 32 }
     requires blocks { length bad.old ≡ unit }
     requires out { length out.old ≡ unit * (cols * length all.old) }
-    ensures blank { Every IsBlank all.new }
-    ensures same { Both KeepsRoom all.old all.new }
+    ensures blank { Every (IsBlank unit) all.new }
+    ensures same { Both SameRoom all.old all.new }
     ensures rows { (j : ℕ) → j < unit → IsUnmarked bad.new j → IsUnmarked bad.old j ×
         (map (seq unit j) all.old ≡ block_rows cols low (length all.old) (λ i. slice_index out.new (unit * i + j))) }
     ensures fits { (j : ℕ) (w : ℕ → ℕ) → j < unit → IsUnmarked bad.old j → map (seq unit j) all.old ≡ block_rows cols low (length all.old) w →
@@ -127,23 +123,21 @@ pub fn solve(
     high: usize,
     most: usize,
 )
-    requires at { Every (IsAt unit (angles all.old) high most) all.old }
+    requires at { Every (IsAt unit (length all.old) high most) all.old }
     requires differ { Differ angle_of all.old }
-    requires high { angles all.old ≤ high }
-    requires room { high ≤ most }
-    requires least { 32 ≤ most }
+    requires room { high + 32 * length all.old ≤ most }
     requires columns { low + 16 * length all.old + cols ≤ most }
     requires limit { most < 2 ^ 32 }
     requires blocks { length bad.old ≡ unit }
     requires unmarked { (j : ℕ) → j < unit → IsUnmarked bad.old j }
     requires out { length out.old ≡ unit * (cols * length all.old) }
-    ensures blank { Every IsBlank all.new }
-    ensures same { Both KeepsRoom all.old all.new }
+    ensures blank { Every (IsBlank unit) all.new }
+    ensures same { Both SameRoom all.old all.new }
     ensures exact { (j : ℕ) → j < unit → IsUnmarked bad.new j →
         HaveValues angle_of (seq unit j) (block_rows cols low (length all.old) (λ i. slice_index out.new (unit * i + j))) all.old }
     ensures complete { (j : ℕ) (w : ℕ → ℕ) → j < unit → HaveValues angle_of (seq unit j) (block_rows cols low (length all.old) w) all.old →
         IsUnmarked bad.new j × (block_rows cols low (length all.old) w ≡ block_rows cols low (length all.old) (λ i. slice_index out.new (unit * i + j))) }
 {
     invert(all, unit, bad, high, most);
-    give_rows(all, low, cols, unit, out, bad, high, most);
+    give_rows(all, low, cols, unit, out, bad, high + 32 * all.len(), most);
 }

@@ -1,6 +1,6 @@
 //! The running exclusive or.
 
-ghost use Rattle.std.specs.Prelude.{◌≡◌, ◌≤◌, ◌<◌, ◌+◌, ◌-◌, ◌*◌, ℕ, length, slice_index, bit_xor, vec_len, vec_capacity};
+ghost use Rattle.std.specs.Prelude.{◌≡◌, ◌≤◌, ◌<◌, ◌+◌, ◌-◌, ◌*◌, ℕ, length, slice_index, bit_xor, vec_len};
 
 use rz_lanes::{all_zero, xor_into};
 use std::simd::prelude::*;
@@ -15,7 +15,7 @@ pub fn run(c: &mut [u64], d: &[u64], step: usize)
 {
     match step {
         1 => run_one(c, d),
-        2 => run_two(c, d),
+        2 => run_columns::<1, 1>(c, d, step),
         3 => run_columns::<2, 1>(c, d, step),
         4 => run_columns::<2, 2>(c, d, step),
         5 => run_columns::<4, 1>(c, d, step),
@@ -29,75 +29,19 @@ pub fn run(c: &mut [u64], d: &[u64], step: usize)
     }
 }
 
-/// `run` by one place, four words at a time. Three vectors keep what was made of the four before.
+/// `run` by one place: what was written last is kept apart.
 fn run_one(c: &mut [u64], d: &[u64])
     requires { length c.old ≡ length d.now }
     ensures first { (k : ℕ) → k < length d.now → k < 1 → slice_index c.new k ≡ bit_xor (slice_index c.old k) (slice_index d.now k) }
     ensures next { (k : ℕ) → k + 1 < length d.now →
         slice_index c.new (k + 1) ≡ bit_xor (bit_xor (slice_index c.old (k + 1)) (slice_index d.now (k + 1))) (slice_index c.new k) }
 {
-    let mut words = u64x4::splat(0);
-    let mut pairs = u64x4::splat(0);
-    let mut last = u64x4::splat(0);
-    let mut place = 0;
-    'fours: while c.len() - place >= 4 {
-        let new_words = u64x4::from_slice(&c[place..]) ^ u64x4::from_slice(&d[place..]);
-        let new_pairs = pair_up(words, new_words);
-        last = four_more(pairs, new_pairs, last);
-        last.copy_to_slice(&mut c[place..]);
-        words = new_words;
-        pairs = new_pairs;
-        place += 4;
+    let mut last = 0;
+    for t in 0..c.len() {
+        let word = c[t] ^ d[t] ^ last;
+        c[t] = word;
+        last = word;
     }
-    'rest: for t in place..c.len() {
-        let before = word_before(c, t, 1);
-        c[t] = c[t] ^ d[t] ^ before;
-    }
-}
-
-/// `run` by two places, four words at a time. Two vectors keep what was made of the four before.
-fn run_two(c: &mut [u64], d: &[u64])
-    requires { length c.old ≡ length d.now }
-    ensures first { (k : ℕ) → k < length d.now → k < 2 → slice_index c.new k ≡ bit_xor (slice_index c.old k) (slice_index d.now k) }
-    ensures next { (k : ℕ) → k + 2 < length d.now →
-        slice_index c.new (k + 2) ≡ bit_xor (bit_xor (slice_index c.old (k + 2)) (slice_index d.now (k + 2))) (slice_index c.new k) }
-{
-    let mut words = u64x4::splat(0);
-    let mut last = u64x4::splat(0);
-    let mut place = 0;
-    'fours: while c.len() - place >= 4 {
-        let new_words = u64x4::from_slice(&c[place..]) ^ u64x4::from_slice(&d[place..]);
-        last = four_more(words, new_words, last);
-        last.copy_to_slice(&mut c[place..]);
-        words = new_words;
-        place += 4;
-    }
-    'rest: for t in place..c.len() {
-        let before = word_before(c, t, 2);
-        c[t] = c[t] ^ d[t] ^ before;
-    }
-}
-
-/// Adds to each of four words the one before it, of which the first is the last of four others.
-#[inline(always)]
-fn pair_up(before: u64x4, words: u64x4) -> u64x4
-    ensures first { slice_index result 0 ≡ bit_xor (slice_index words 0) (slice_index before 3) }
-    ensures second { slice_index result 1 ≡ bit_xor (slice_index words 1) (slice_index words 0) }
-    ensures third { slice_index result 2 ≡ bit_xor (slice_index words 2) (slice_index words 1) }
-    ensures fourth { slice_index result 3 ≡ bit_xor (slice_index words 3) (slice_index words 2) }
-{
-    words ^ before.shuffle(words, [3, 4, 5, 6])
-}
-
-/// Adds to each of four sums the one two places before it, and what became of the one four places before.
-#[inline(always)]
-fn four_more(before: u64x4, sums: u64x4, last: u64x4) -> u64x4
-    ensures first { slice_index result 0 ≡ bit_xor (bit_xor (slice_index sums 0) (slice_index before 2)) (slice_index last 0) }
-    ensures second { slice_index result 1 ≡ bit_xor (bit_xor (slice_index sums 1) (slice_index before 3)) (slice_index last 1) }
-    ensures third { slice_index result 2 ≡ bit_xor (bit_xor (slice_index sums 2) (slice_index sums 0)) (slice_index last 2) }
-    ensures fourth { slice_index result 3 ≡ bit_xor (bit_xor (slice_index sums 3) (slice_index sums 1)) (slice_index last 3) }
-{
-    sums ^ before.shuffle(sums, [2, 3, 4, 5]) ^ last
 }
 
 /// `run` by at most `A + B` places. Two vectors keep the words that were written last: the first `A` of them,
@@ -195,7 +139,6 @@ pub fn run_within(
     ensures below { (t : ℕ) → t < from → slice_index words.new.items t ≡ slice_index words.old.items t }
     ensures above { (t : ℕ) → to ≤ t → slice_index words.new.items t ≡ slice_index words.old.items t }
     ensures len { vec_len words.new ≡ vec_len words.old }
-    ensures capacity { vec_capacity words.new ≡ vec_capacity words.old }
 {
     run(&mut words[from..to], &by[at..at + (to - from)], step);
 }
@@ -209,7 +152,6 @@ pub fn add_within(words: &mut Vec<u64>, from: usize, by: &Vec<u64>, at: usize, e
     ensures below { (t : ℕ) → t < from → slice_index words.new.items t ≡ slice_index words.old.items t }
     ensures above { (t : ℕ) → from + (end - at) ≤ t → slice_index words.new.items t ≡ slice_index words.old.items t }
     ensures len { vec_len words.new ≡ vec_len words.old }
-    ensures capacity { vec_capacity words.new ≡ vec_capacity words.old }
 {
     xor_into(&mut words[from..from + (end - at)], &by[at..end]);
 }
@@ -223,7 +165,6 @@ pub fn take_rest(words: &mut Vec<u64>, unit: usize, from: usize, to: usize, bad:
     ensures below { (i : ℕ) → i < unit * from → slice_index words.new.items i ≡ slice_index words.old.items i }
     ensures above { (i : ℕ) → unit * to ≤ i → slice_index words.new.items i ≡ slice_index words.old.items i }
     ensures len { vec_len words.new ≡ vec_len words.old }
-    ensures capacity { vec_capacity words.new ≡ vec_capacity words.old }
     ensures marked { (j : ℕ) → j < unit → slice_index bad.new j ≡ 0 →
         (slice_index bad.old j ≡ 0) × ((t : ℕ) → from ≤ t → t < to → slice_index words.old.items (unit * t + j) ≡ 0) }
     ensures unmarked { (j : ℕ) → j < unit → slice_index bad.old j ≡ 0 →
@@ -243,7 +184,6 @@ fn take_each(words: &mut Vec<u64>, unit: usize, from: usize, to: usize, bad: &mu
     ensures below { (i : ℕ) → i < unit * from → slice_index words.new.items i ≡ slice_index words.old.items i }
     ensures above { (i : ℕ) → unit * to ≤ i → slice_index words.new.items i ≡ slice_index words.old.items i }
     ensures len { vec_len words.new ≡ vec_len words.old }
-    ensures capacity { vec_capacity words.new ≡ vec_capacity words.old }
     ensures marked { (j : ℕ) → j < unit → slice_index bad.new j ≡ 0 →
         (slice_index bad.old j ≡ 0) × ((t : ℕ) → from ≤ t → t < to → slice_index words.old.items (unit * t + j) ≡ 0) }
     ensures unmarked { (j : ℕ) → j < unit → slice_index bad.old j ≡ 0 →
@@ -262,7 +202,6 @@ fn take_place(words: &mut Vec<u64>, unit: usize, t: usize, bad: &mut [u64])
     ensures below { (i : ℕ) → i < unit * t → slice_index words.new.items i ≡ slice_index words.old.items i }
     ensures above { (i : ℕ) → unit * t + unit ≤ i → slice_index words.new.items i ≡ slice_index words.old.items i }
     ensures len { vec_len words.new ≡ vec_len words.old }
-    ensures capacity { vec_capacity words.new ≡ vec_capacity words.old }
     ensures marked { (j : ℕ) → j < unit → slice_index bad.new j ≡ 0 →
         (slice_index bad.old j ≡ 0) × (slice_index words.old.items (unit * t + j) ≡ 0) }
     ensures unmarked { (j : ℕ) → j < unit → slice_index bad.old j ≡ 0 → slice_index words.old.items (unit * t + j) ≡ 0 → slice_index bad.new j ≡ 0 }
@@ -285,45 +224,40 @@ fn take_group(group: &mut [u64], bad: &mut [u64])
     }
 }
 
-/// Writes the words from place `from` to place `to` into `out`, and forgets all words.
+/// Writes the words from place `from` to place `to` into `out`, and makes them zero.
 pub fn give_words(words: &mut Vec<u64>, from: usize, to: usize, out: &mut [u64])
     requires order { from ≤ to }
     requires within { to ≤ vec_len words.old }
     requires room { from + length out.old ≡ to }
     ensures out { (k : ℕ) → from + k < to → slice_index out.new k ≡ slice_index words.old.items (from + k) }
-    ensures blank { vec_len words.new ≡ 0 }
-    ensures capacity { vec_capacity words.new ≡ vec_capacity words.old }
+    ensures zero { (i : ℕ) → from ≤ i → i < to → slice_index words.new.items i ≡ 0 }
+    ensures below { (i : ℕ) → i < from → slice_index words.new.items i ≡ slice_index words.old.items i }
+    ensures above { (i : ℕ) → to ≤ i → slice_index words.new.items i ≡ slice_index words.old.items i }
+    ensures len { vec_len words.new ≡ vec_len words.old }
 {
     out.copy_from_slice(&words[from..to]);
-    words.clear();
+    words[from..to].fill(0);
 }
 
-/// Writes `from` zeros and then `bins` into `words`, where there are none.
+/// Writes `bins` into `words` from place `from` on.
 pub fn put_words(words: &mut Vec<u64>, from: usize, bins: &[u64])
-    requires blank { vec_len words.old ≡ 0 }
-    requires room { from + length bins.now ≤ vec_capacity words.old }
+    requires { from + length bins.now ≤ vec_len words.old }
     ensures inside { (k : ℕ) → k < length bins.now → slice_index words.new.items (from + k) ≡ slice_index bins.now k }
-    ensures below { (i : ℕ) → i < from → slice_index words.new.items i ≡ 0 }
-    ensures len { vec_len words.new ≡ from + length bins.now }
-    ensures capacity { vec_capacity words.old ≤ vec_capacity words.new }
+    ensures below { (i : ℕ) → i < from → slice_index words.new.items i ≡ slice_index words.old.items i }
+    ensures above { (i : ℕ) → from + length bins.now ≤ i → slice_index words.new.items i ≡ slice_index words.old.items i }
+    ensures len { vec_len words.new ≡ vec_len words.old }
 {
-    let Ok(()) = words.resize(from, 0) else {
-        return;
-    };
-    let Ok(()) = words.extend_from_slice(bins) else {
-        return;
-    };
+    words[from..from + bins.len()].copy_from_slice(bins);
 }
 
-/// Adds zeros until there are `n` words.
-pub fn add_zeros(words: &mut Vec<u64>, n: usize)
-    requires more { vec_len words.old ≤ n }
-    requires room { n ≤ vec_capacity words.old }
-    ensures same { (i : ℕ) → slice_index words.new.items i ≡ slice_index words.old.items i }
-    ensures len { vec_len words.new ≡ n }
-    ensures capacity { vec_capacity words.old ≤ vec_capacity words.new }
+/// Makes the words from place `from` to place `to` zero.
+pub fn zero_words(words: &mut Vec<u64>, from: usize, to: usize)
+    requires order { from ≤ to }
+    requires within { to ≤ vec_len words.old }
+    ensures zero { (i : ℕ) → from ≤ i → i < to → slice_index words.new.items i ≡ 0 }
+    ensures below { (i : ℕ) → i < from → slice_index words.new.items i ≡ slice_index words.old.items i }
+    ensures above { (i : ℕ) → to ≤ i → slice_index words.new.items i ≡ slice_index words.old.items i }
+    ensures len { vec_len words.new ≡ vec_len words.old }
 {
-    let Ok(()) = words.resize(n, 0) else {
-        return;
-    };
+    words[from..to].fill(0);
 }

@@ -1,14 +1,14 @@
 //! A projection, or what is left of one.
 
-ghost use Rattle.std.specs.Prelude.{IfOk, ◌≡◌, ◌≢◌, ◌≤◌, ◌<◌, ◌+◌, ◌-◌, ◌*◌, ℕ, length, vec_len, vec_capacity, slice_index, slice_range, unsigned_abs, min, max, bit_xor};
+ghost use Rattle.std.specs.Prelude.{IfOk, ◌≡◌, ◌≢◌, ◌≤◌, ◌<◌, ◌+◌, ◌-◌, ◌*◌, ℕ, length, vec_len, slice_index, slice_range, unsigned_abs, min, max, bit_xor};
 ghost use Rattle.mj_inverse.specs.Rows.{plus, raised, times, cut, IsFinite};
 ghost use Rattle.rz_words.specs.Grid.{IsShape};
 ghost use Rattle.mj_angles.specs.Projection.{bins as bin_count};
 ghost use Rattle.mj_angles.proofs.Order.{lifted};
 ghost use Rattle.mj_inverse.specs.Store.{IsSpare, IsGiven};
-ghost use Rattle.mj_inverse.specs.Series.{seq, IsSeries, IsNext, IsUnmarked, IsBlank, IsSpread, KeepsRoom, Meet};
+ghost use Rattle.mj_inverse.specs.Series.{seq, IsSeries, IsNext, IsUnmarked, IsBlank, SameRoom, Meet};
 
-use crate::run::{add_within, add_zeros, give_words, put_words, run_within, take_rest};
+use crate::run::{add_within, give_words, put_words, run_within, take_rest, zero_words};
 use std::alloc::{AllocError, Global};
 
 /// The words of a sequence: place `origin` of the list holds its word number 0.
@@ -23,7 +23,7 @@ pub struct Series {
     pub from: usize,
     /// All words from this place on are zero.
     pub to: usize,
-    /// So many places there are now.
+    /// So many places there are.
     pub room: usize,
     pub words: Vec<u64>,
 }
@@ -48,20 +48,21 @@ pub fn zeros(alloc: Global, n: usize) -> Result<Vec<u64>, AllocError>
 }
 
 impl Series {
-    /// Blank, with room for a projection of a block of this size, and for what becomes of it.
+    /// Blank, with room for a block of this size.
     pub fn new(alloc: Global, rows: usize, cols: usize, unit: usize) -> Result<Series, AllocError>
         requires shape { IsShape rows cols }
         requires few { unit ≤ 8 }
         ensures { IfOk result (IsSpare unit rows cols) }
     {
-        let words = Vec::with_capacity(alloc, unit * (cols + 64 * rows))?;
+        let room = cols + 128 * rows + 40;
+        let words = zeros(alloc, unit * room)?;
         Ok(Series {
             direction: 0,
             angle: 0,
             origin: 0,
             from: 0,
             to: 0,
-            room: 0,
+            room,
             words,
         })
     }
@@ -79,7 +80,6 @@ impl Series {
     {
         let down = self.angle.min(by.angle);
         let step = self.angle.max(by.angle) - down;
-        let start = self.origin + down;
         let from = self.from.min(self.origin + (by.from - by.origin));
         let to = self.to.max(self.origin + (by.to - by.origin));
         let at = by.origin + (from - self.origin);
@@ -91,13 +91,10 @@ impl Series {
             unit * at,
             unit * step,
         );
-        let first = from.max(start);
-        let end = to.saturating_sub(step).max(start);
-        let last = to.max(end);
-        take_rest(&mut self.words, unit, from, first, bad);
-        take_rest(&mut self.words, unit, end, last, bad);
-        self.origin = start;
-        self.from = first.min(end);
+        let end = to.saturating_sub(step).max(from);
+        take_rest(&mut self.words, unit, end, to, bad);
+        self.origin += down;
+        self.from = from;
         self.to = end;
     }
 
@@ -110,7 +107,6 @@ impl Series {
         ensures is { IsSeries unit self.new }
         ensures angle { self.new.angle ≡ self.old.angle }
         ensures room { self.new.room ≡ self.old.room }
-        ensures capacity { KeepsRoom self.old self.new }
         ensures origin { self.new.origin ≡ self.old.origin }
         ensures from { self.new.from ≡ min self.old.from (self.old.origin + up + (other.now.from - other.now.origin)) }
         ensures to { self.new.to ≡ max self.old.to (self.old.origin + up + (other.now.to - other.now.origin)) }
@@ -129,7 +125,7 @@ impl Series {
         self.to = self.to.max(to);
     }
 
-    /// Writes the words from number `at` on into `out`, and forgets all words. Marks the blocks that had other words.
+    /// Writes the words from number `at` on into `out`, and makes all words zero. Marks the blocks that had other words.
     pub fn give_row(
         &mut self,
         at: usize,
@@ -143,8 +139,8 @@ impl Series {
         requires room { self.old.origin + at + cols ≤ self.old.room }
         requires blocks { length bad.old ≡ unit }
         requires out { length out.old ≡ unit * cols }
-        ensures blank { IsBlank self.new }
-        ensures capacity { KeepsRoom self.old self.new }
+        ensures blank { IsBlank unit self.new }
+        ensures same { SameRoom self.old self.new }
         ensures row { (j : ℕ) → j < unit → IsUnmarked bad.new j → IsUnmarked bad.old j ×
             (seq unit j self.old ≡ raised at (cut cols (λ k. slice_index out.new (unit * k + j)))) }
         ensures fits { (j : ℕ) (w : ℕ → ℕ) → j < unit → IsUnmarked bad.old j → seq unit j self.old ≡ raised at (cut cols w) → IsUnmarked bad.new j }
@@ -167,7 +163,7 @@ impl Series {
         ensures direction { self.new.direction ≡ p }
         ensures bins { slice_range self.new.words.items (unit * self.new.from) (unit * self.new.to) ≡ bins.now }
     {
-        let from = 16 * rows - mj_angles::offset(p, rows);
+        let from = 48 * rows - mj_angles::offset(p, rows);
         let to = from + mj_angles::bins(p, rows, cols);
         put_words(&mut self.words, unit * from, bins);
         self.direction = p;
@@ -175,25 +171,14 @@ impl Series {
         self.origin = 0;
         self.from = from;
         self.to = to;
-        self.room = to;
     }
 
-    /// Makes places until there are `room`.
-    pub fn spread(&mut self, unit: usize, room: usize)
-        requires is { IsSeries unit self.old }
-        requires more { self.old.room ≤ room }
-        requires capacity { unit * room ≤ vec_capacity self.old.words }
-        ensures { IsSpread unit room self.old self.new }
+    /// Makes all words zero.
+    pub fn wipe(&mut self, unit: usize)
+        requires { IsSeries unit self.old }
+        ensures blank { IsBlank unit self.new }
+        ensures same { SameRoom self.old self.new }
     {
-        add_zeros(&mut self.words, unit * room);
-        self.room = room;
-    }
-
-    /// Forgets all words.
-    pub fn wipe(&mut self)
-        ensures blank { IsBlank self.new }
-        ensures capacity { KeepsRoom self.old self.new }
-    {
-        self.words.clear();
+        zero_words(&mut self.words, unit * self.from, unit * self.to);
     }
 }

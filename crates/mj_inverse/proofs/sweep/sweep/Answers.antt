@@ -1,7 +1,10 @@
-use Rattle.std.proofs.Common.{◌+◌, ◌*◌, ℕ, get_or, sym, ◌∙◌}
+use Rattle.std.proofs.Common.{◌≡◌, ◌+◌, ◌*◌, ℕ, get_or, sym, ◌∙◌}
 use Rattle.mj_inverse.specs.Padded.{inner, reach_of, width_of}
-use Rattle.mj_inverse.proofs.Tied.{bins_same, values_from_bins, bins_from_values, rows_from_words}
+use Rattle.mj_inverse.proofs.Tied.{bins_same, values_from_bins, bins_from_values, series_from_given, rows_from_words}
 use Rattle.mj_inverse.proofs.sweep.sweep.Goals as goal
+
+pub wipe_each-requires : goal.wipe_each-requires
+wipe_each-requires c = series_from_given c.args.rows c.args.cols c.args.all.now c.requires.given
 
 pub returns-clause-exact : goal.returns-clause-exact
 returns-clause-exact c = λ j h unmarked.
@@ -22,5 +25,5 @@ returns-clause-complete c = λ j w h values.
     let has = bins_from_values rows cols j w c.args.all.now h c.requires.given values in
     let same = c.peel_rows.ensures.only j g h has in (
       (c.mark.ensures j h).1 (bins_same rows cols j g f c.args.all.now same has),
-      rows_from_words cols 0 rows w out (λ l k a b. same l k a b ∙ sym (c.copy_rows.ensures j l k h a b)),
+      rows_from_words cols (32 * rows) rows w out (λ l k a b. same l k a b ∙ sym (c.copy_rows.ensures j l k h a b)),
     )
