@@ -1,7 +1,5 @@
 //! Operations driven by hand.
 
-ghost use Rattle.std.specs.Prelude.{◌≡◌, IfOk, length};
-
 use rz_events::{
     Answer, Datum, Denial, DropAnswer, FileInfo, KeepAnswer, Layout, NodeAnswer, NodeAsk,
     Operation, Places, Reply, Text, TreeCall, TreeReply,
@@ -136,24 +134,6 @@ fn put(rt: &impl Abort, machine: &mut Machine) {
     assert!(rt; machine.is_over());
 }
 
-/// So many bytes that are alike.
-fn alike(rt: &HostRuntime, count: usize) -> Result<Text, AllocError>
-    ensures { IfOk result (λ text. length text ≡ count) }
-{
-    let bytes = vec![in rt.alloc(); 7u8; count]?;
-    Ok(Text::from_vec(bytes))
-}
-
-/// A whole block of a range is written, and as many nodes as are asked keep their records.
-fn whole_block(rt: &impl Abort, machine: &mut Machine) {
-    reply(rt, machine, "begin", Reply::Begun { stamp: 9, base: 0 });
-    kept(rt, machine, 1);
-    kept(rt, machine, 2);
-    kept(rt, machine, 3);
-    reply(rt, machine, "publish", Reply::Accepted);
-    gave(rt, machine);
-}
-
 /// A file that has no name left is dropped: the first node has one version, two others cannot answer.
 fn unlink(rt: &impl Abort, machine: &mut Machine) {
     let gone = TreeReply::Gone(Some(file()));
@@ -214,23 +194,5 @@ fn update_waits_twice(rt: HostRuntime) -> Result<(), Fail> {
     update(&rt, &mut machine);
     let answer = finish(&rt, &mut machine);
     assert!(&rt; matches!(&answer, Answer::ShortWrite { bytes: 0, .. }));
-    Ok(())
-}
-
-#[test]
-fn long_write_in_threads(rt: HostRuntime) -> Result<(), Fail> {
-    let op = Operation::Write {
-        path: path(&rt)?,
-        offset: 0,
-        datum: Datum::Bytes(alike(&rt, 65536)?),
-    };
-    let mut machine = Machine::start_par(&rt, rt.alloc(), Layout::L0, op)?;
-    let opened = Reply::Tree(TreeReply::File(file()));
-    reply(&rt, &mut machine, "tree", opened);
-    for _ in 0..16 {
-        whole_block(&rt, &mut machine);
-    }
-    let answer = finish(&rt, &mut machine);
-    assert!(&rt; matches!(&answer, Answer::Wrote { bytes: 65536 }));
     Ok(())
 }
