@@ -4,7 +4,7 @@ use Rattle.std.specs.Prelude.{bit_xor}
 use Rattle.std.proofs.lemmas.Bool.{cases_lt}
 use mathlib.Core.Path.{fun_ext}
 use Rattle.mj_inverse.specs.Rows.{plus, times, IsFinite}
-use Rattle.mj_inverse.proofs.Places.{IsRun, IsAdded, from_place, run_exact, run_spent, times_of}
+use Rattle.mj_inverse.proofs.Places.{IsRun, IsAdded, from_place, run_exact, run_start, run_spent, times_of}
 use Rattle.mj_inverse.proofs.Taken.{place_below, place_le}
 
 abbrev pub lane : ℕ → ℕ → (ℕ → ℕ) → ℕ → ℕ
@@ -29,7 +29,7 @@ pub record IsFlatRun (unit : ℕ) (xs ys zs : ℕ → ℕ) (f t at s : ℕ) : Ty
 
 -- what holds of the places
 pub record IsSpan (unit : ℕ) (xs ys : ℕ → ℕ) (o p f t a s : ℕ) : Type 0 where
-  pub low : o + a ≤ f
+  pub low : o ≤ f
   pub order : f ≤ t
   pub stride : 0 < s
   pub x_below : (k j : ℕ) → k < f → j < unit → xs (unit * k + j) ≡ 0
@@ -90,22 +90,75 @@ lane_cut unit j zs ws m t h cut zeros k = by (cases_lt k m) (cases_lt k t)
     by (inr l) (inl r) = cut.zero k j l r h ∙ sym (zeros k l r)
     by (inr l) (inr r) = cut.above (unit * k + j) (let n = place_le unit t k r in omega arith)
 
-module _ (unit j : ℕ) (xs ys zs ws : ℕ → ℕ) (o p f t a s m q q' : ℕ) (h : j < unit) (span : IsSpan unit xs ys o p f t a s)
-    (run : IsFlatRun unit xs ys zs f t (p + (f - o)) s) (cut : IsCut unit zs ws m t) (down : a + s ≡ max q q') (less : a ≡ min q q') (end : m ≡ max (t - s) f) where
-  -- with no other words behind place m, it is divided
-  pub lane_exact : ((k : ℕ) → m ≤ k → k < t → zs (unit * k + j) ≡ 0) →
-      plus (from_place (lane unit j xs) o) (from_place (lane unit j ys) p) ≡ times q q' (from_place (lane unit j ws) (o + a))
-  lane_exact zeros =
-      run_exact (lane unit j xs) (lane unit j ys) (lane unit j zs) o p f t a s (lane_run unit j xs ys zs o p f t a s h span run) (λ k far near. zeros k (omega arith) near)
-      ∙ ap (times a (a + s)) (fun_ext (λ e. sym (lane_cut unit j zs ws m t h cut zeros (o + a + e))))
-      ∙ sym (times_of q q' a s (from_place (lane unit j ws) (o + a)) less (omega arith))
+-- after both cuts only the places from f and o + a to m may have words other than zero
+pub cut_zero : (unit : ℕ) (xs ys zs vs ws : ℕ → ℕ) (o p f t a s g m n : ℕ) → IsSpan unit xs ys o p f t a s → IsFlatRun unit xs ys zs f t (p + (f - o)) s →
+    IsCut unit zs vs f g → IsCut unit vs ws m n → n ≡ max t m →
+    ((k j : ℕ) → j < unit → k < g → ws (unit * k + j) ≡ 0) × ((k j : ℕ) → j < unit → m ≤ k → ws (unit * k + j) ≡ 0)
+cut_zero unit xs ys zs vs ws o p f t a s g m n span run first last over =
+    (λ k j h l. below k j h l (cases_lt k f) (cases_lt k m) (cases_lt k n), λ k j h l. above k j h l (cases_lt k n))
+  where
+    early : (k j : ℕ) → j < unit → k < g → (k < f) ⊎ (f ≤ k) → vs (unit * k + j) ≡ 0
+    early k j h l (inl b) = first.below (unit * k + j) (place_below unit k j f h b) ∙ run.below (unit * k + j) (place_below unit k j f h b) ∙ span.x_below k j b h
+    early k j h l (inr b) = first.zero k j b l h
 
-  -- where it can be divided, there are no other words behind place m
-  pub lane_spent : (g : ℕ → ℕ) → IsFinite g → plus (from_place (lane unit j xs) o) (from_place (lane unit j ys) p) ≡ times q q' g →
-      (k : ℕ) → m ≤ k → k < t → zs (unit * k + j) ≡ 0
-  lane_spent g finite is k far near =
-      run_spent (lane unit j xs) (lane unit j ys) (lane unit j zs) o p f t a s (lane_run unit j xs ys zs o p f t a s h span run) g finite
-      (is ∙ times_of q q' a s g less (omega arith)) k (omega arith) near
+    below : (k j : ℕ) → j < unit → k < g → (k < f) ⊎ (f ≤ k) → (k < m) ⊎ (m ≤ k) → (k < n) ⊎ (n ≤ k) → ws (unit * k + j) ≡ 0
+    below k j h l d (inl b) _ = last.below (unit * k + j) (place_below unit k j m h b) ∙ early k j h l d
+    below k j h l d (inr b) (inl e) = last.zero k j b e h
+    below k j h l d (inr b) (inr e) = last.above (unit * k + j) (let i = place_le unit n k e in omega arith) ∙ early k j h l d
+
+    late : (k j : ℕ) → j < unit → t ≤ k → (k < f) ⊎ (f ≤ k) → (k < g) ⊎ (g ≤ k) → vs (unit * k + j) ≡ 0
+    late k j h l d (inl b) = early k j h b d
+    late k j h l d (inr b) =
+        first.above (unit * k + j) (let i = place_le unit g k b in omega arith) ∙ run.above (unit * k + j) (let i = place_le unit t k l in omega arith) ∙ span.x_above k j l h
+
+    above : (k j : ℕ) → j < unit → m ≤ k → (k < n) ⊎ (n ≤ k) → ws (unit * k + j) ≡ 0
+    above k j h l (inl b) = last.zero k j l b h
+    above k j h l (inr b) =
+        last.above (unit * k + j) (let i = place_le unit n k b in omega arith) ∙ late k j h (omega arith) (cases_lt k f) (cases_lt k g)
+
+-- vs are the words after the run, zs, with zeros from place f to place o + a, and ws are those with zeros from place m on
+module _ (unit j : ℕ) (xs ys zs vs ws : ℕ → ℕ) (o p f t a s g m n q q' : ℕ) (h : j < unit) (span : IsSpan unit xs ys o p f t a s)
+    (run : IsFlatRun unit xs ys zs f t (p + (f - o)) s) (first : IsCut unit zs vs f g) (last : IsCut unit vs ws m n)
+    (down : a + s ≡ max q q') (less : a ≡ min q q') (begin : g ≡ max f (o + a)) (end : m ≡ max (t - s) (o + a)) (over : n ≡ max t m) where
+  one_run : IsRun (lane unit j xs) (lane unit j ys) (lane unit j zs) o p f t a s
+  one_run = lane_run unit j xs ys zs o p f t a s h span run
+
+  kept : (k : ℕ) → m ≤ k → vs (unit * k + j) ≡ zs (unit * k + j)
+  kept k far = by (cases_lt k f)
+    where
+      by : (k < f) ⊎ (f ≤ k) → vs (unit * k + j) ≡ zs (unit * k + j)
+      by (inl l) = first.below (unit * k + j) (place_below unit k j f h l)
+      by (inr l) = first.above (unit * k + j) (let n = place_le unit g k (omega arith) in omega arith)
+
+  -- with no other words before place o + a and from place m on, it is divided
+  pub lane_exact : ((k : ℕ) → f ≤ k → k < g → zs (unit * k + j) ≡ 0) → ((k : ℕ) → m ≤ k → k < n → vs (unit * k + j) ≡ 0) →
+      plus (from_place (lane unit j xs) o) (from_place (lane unit j ys) p) ≡ times q q' (from_place (lane unit j ws) (o + a))
+  lane_exact before behind =
+      run_exact (lane unit j xs) (lane unit j ys) (lane unit j zs) o p f t a s one_run (λ k far near. before k far (omega arith)) (λ k far near. rest k far near (cases_lt k m) (cases_lt k f))
+      ∙ ap (times a (a + s)) (fun_ext (λ e. sym (lane_cut unit j vs ws m n h last behind (o + a + e) ∙ lane_cut unit j zs vs f g h first before (o + a + e))))
+      ∙ sym (times_of q q' a s (from_place (lane unit j ws) (o + a)) less (omega arith))
+    where
+      rest : (k : ℕ) → t - s ≤ k → k < t → (k < m) ⊎ (m ≤ k) → (k < f) ⊎ (f ≤ k) → zs (unit * k + j) ≡ 0
+      rest k far near (inl l) (inl b) = one_run.below k b ∙ one_run.x_below k b
+      rest k far near (inl l) (inr b) = before k b (omega arith)
+      rest k far near (inr l) _ = sym (kept k l) ∙ behind k l (omega arith)
+
+  -- where it can be divided, there are no other words before place o + a
+  pub lane_start : (d : ℕ → ℕ) → plus (from_place (lane unit j xs) o) (from_place (lane unit j ys) p) ≡ times q q' d →
+      (k : ℕ) → f ≤ k → k < g → zs (unit * k + j) ≡ 0
+  lane_start d is k far near =
+      run_start (lane unit j xs) (lane unit j ys) (lane unit j zs) o p f t a s one_run d (is ∙ times_of q q' a s d less (omega arith)) k far (omega arith)
+
+  -- nor from place m on
+  pub lane_spent : (d : ℕ → ℕ) → IsFinite d → plus (from_place (lane unit j xs) o) (from_place (lane unit j ys) p) ≡ times q q' d →
+      (k : ℕ) → m ≤ k → k < n → vs (unit * k + j) ≡ 0
+  lane_spent d finite is k far near = kept k far ∙ by (cases_lt k t)
+    where
+      by : (k < t) ⊎ (t ≤ k) → zs (unit * k + j) ≡ 0
+      by (inl l) =
+          run_spent (lane unit j xs) (lane unit j ys) (lane unit j zs) o p f t a s one_run d finite
+          (is ∙ times_of q q' a s d less (omega arith)) k (omega arith) l
+      by (inr l) = one_run.above k l ∙ one_run.x_above k l
 
 -- what an addition over the words of all blocks gives
 pub record IsFlatAdded (unit : ℕ) (xs ys zs : ℕ → ℕ) (at f t : ℕ) : Type 0 where

@@ -1,5 +1,5 @@
 -- What each step keeps of the places.
-use Rattle.std.proofs.Common.{◌≡◌, ◌≢◌, ℕ, suc, refl, sym, ap, ◌∙◌, arith, List, [], ◌∷◌, length}
+use Rattle.std.proofs.Common.{◌≡◌, ◌≢◌, ℕ, suc, refl, sym, ap, ◌∙◌, ◌-◌, arith, List, [], ◌∷◌, length}
 use Rattle.mj_inverse.specs.declared.series.Series.{Series}
 use Rattle.mj_inverse.specs.Rows.{Every, Both, Differ}
 use Rattle.mj_inverse.specs.Series.{angle, IsAt, IsNext, SameRoom}
@@ -36,7 +36,7 @@ next_differ unit p (x ∷ xs) (y ∷ ys) (ne, differ) (n, both) = (
     moved (z ∷ zs) (e, d) = (λ h. e (h ∙ n.angle), moved zs d)
 
 pub next_at : (unit n high most : ℕ) (p : Series) (xs ys : List Series) → IsAt unit (suc n) high most p → Every (IsAt unit (suc n) high most) xs →
-    Both (IsNext unit p) xs ys → Every (IsAt unit n high most) ys
+    Both (IsNext unit p) xs ys → Every (IsAt unit n (high - p.angle) most) ys
 next_at unit n high most p [] [] at_p at both = tt
 next_at unit n high most p [] (y ∷ ys) at_p at both = absurd both
 next_at unit n high most p (x ∷ xs) [] at_p at both = absurd both
@@ -45,23 +45,16 @@ next_at unit n high most p (x ∷ xs) (y ∷ ys) at_p (at_x, at) (m, both) = (
   next_at unit n high most p xs ys at_p at both,
 )
   where
-    one : IsAt unit n high most y
+    one : IsAt unit n (high - p.angle) most y
     one =
-        let a = at_x.low in
-        let b = at_x.reach in
         let d = at_x.room in
-        let f = at_p.low in
-        let g = at_p.reach in
-        let i = m.from in
         let j = m.origin in
         let k = m.room in
-        let r = m.to in
-        let l = at_x.is.angle in
+        let r = m.reach high at_x.reach at_p.reach in
         let o = at_p.is.angle in
-        let q = at_p.is.order in
         record {
           is = m.is;
-          low = omega arith;
+          low = m.low;
           reach = omega arith;
           room = omega arith;
         }

@@ -6,7 +6,7 @@ use mathlib.Core.Path.{fun_ext}
 use lib.Bits.{xor_zero_r, xor_self}
 use Rattle.mj_inverse.specs.Rows.{plus, raised, times, IsFinite}
 use Rattle.mj_inverse.proofs.Divided.{split, plus_at, raised_below, raised_at, times-comm, finite-raised}
-use Rattle.mj_inverse.proofs.Running.{Runs, IsSpent, exact, spent, lowered, raised-lowered, times_is}
+use Rattle.mj_inverse.proofs.Running.{Runs, IsSpent, exact, spent, same_words, lowered, raised-lowered, times_is}
 
 -- the words from place o on
 abbrev pub from_place : (ℕ → ℕ) → ℕ → ℕ → ℕ
@@ -14,7 +14,7 @@ from_place xs o e = xs (o + e)
 
 -- from place f to place t zs is the running exclusive or, with stride s; o and p are the places of word number 0
 pub record IsRun (xs ys zs : ℕ → ℕ) (o p f t a s : ℕ) : Type 0 where
-  pub low : o + a ≤ f
+  pub low : o ≤ f
   pub order : f ≤ t
   pub stride : 0 < s
   pub x_below : (k : ℕ) → k < f → xs k ≡ 0
@@ -97,39 +97,64 @@ module _ (xs ys zs : ℕ → ℕ) (o p f t a s : ℕ) (run : IsRun xs ys zs o p 
     runs = λ e near. by_start e near (cases_lt (o + e) f);
   }
 
-  r_low : (e : ℕ) → e < a → r e ≡ 0
-  r_low e h = r_below e (let l = run.low in omega arith)
-
   shifted : lowered a r ≡ from_place zs (o + a)
   shifted = fun_ext (λ e. r_at (a + e) ∙ at_place zs (o + (a + e)) (o + a + e) (omega arith))
 
-  unspent : ((k : ℕ) → max (t - s) f ≤ k → k < t → zs k ≡ 0) → IsSpent r s (t - o) (t - o)
+  unspent : ((k : ℕ) → t - s ≤ k → k < t → zs k ≡ 0) → IsSpent r s (t - o) (t - o)
   unspent zeros e far near = by (cases_lt (o + e) f)
     where
       by : (o + e < f) ⊎ (f ≤ o + e) → r e ≡ 0
       by (inl h) = r_below e h
       by (inr h) = r_at e ∙ zeros (o + e) (let l = run.low in let g = run.order in omega arith) (omega arith)
 
+  -- there are no other words before place o + a
+  r_low : ((k : ℕ) → f ≤ k → k < o + a → zs k ≡ 0) → (e : ℕ) → e < a → r e ≡ 0
+  r_low start e h = by (cases_lt (o + e) f)
+    where
+      by : (o + e < f) ⊎ (f ≤ o + e) → r e ≡ 0
+      by (inl l) = r_below e l
+      by (inr l) = r_at e ∙ start (o + e) l (omega arith)
+
   -- without a remainder it is divided
-  pub run_exact : ((k : ℕ) → max (t - s) f ≤ k → k < t → zs k ≡ 0) →
+  pub run_exact : ((k : ℕ) → f ≤ k → k < o + a → zs k ≡ 0) → ((k : ℕ) → t - s ≤ k → k < t → zs k ≡ 0) →
       plus (from_place xs o) (from_place ys p) ≡ times a (a + s) (from_place zs (o + a))
   unfolding z
-  run_exact zeros =
+  run_exact start zeros =
       exact z r s (t - o) (t - o) runs (unspent zeros)
-      ∙ ap (λ x. plus x (raised s x)) (sym (raised-lowered a r r_low))
+      ∙ ap (λ x. plus x (raised s x)) (sym (raised-lowered a r (r_low start)))
       ∙ sym (times_is a s (lowered a r))
       ∙ ap (times a (a + s)) shifted
 
   -- where it can be divided, there is no remainder
   pub run_spent : (h : ℕ → ℕ) → IsFinite h → plus (from_place xs o) (from_place ys p) ≡ times a (a + s) h →
-      (k : ℕ) → max (t - s) f ≤ k → k < t → zs k ≡ 0
+      (k : ℕ) → t - s ≤ k → k < t → zs k ≡ 0
   unfolding z
-  run_spent h finite is k far near =
-      let l = run.low in
-      let e : ℕ = k - o in
-      let place : o + e ≡ k = omega arith in
-      at_place zs k (o + e) (sym place) ∙ sym (r_at e)
-      ∙ spent z r (raised a h) s (t - o) (t - o) runs (finite-raised a h finite) (is ∙ times_is a s h) e (omega arith) (omega arith)
+  run_spent h finite is k far near = by (cases_lt k f)
+    where
+      by : (k < f) ⊎ (f ≤ k) → zs k ≡ 0
+      by (inl less) = run.below k less ∙ run.x_below k less
+      by (inr more) =
+          let l = run.low in
+          let e : ℕ = k - o in
+          let place : o + e ≡ k = omega arith in
+          at_place zs k (o + e) (sym place) ∙ sym (r_at e)
+          ∙ spent z r (raised a h) s (t - o) (t - o) runs (finite-raised a h finite) (is ∙ times_is a s h) e (omega arith) (omega arith)
+
+  -- nor before the place from which the quotient stands
+  pub run_start : (h : ℕ → ℕ) → plus (from_place xs o) (from_place ys p) ≡ times a (a + s) h →
+      (k : ℕ) → f ≤ k → k < o + a → zs k ≡ 0
+  unfolding z
+  run_start h is k far near = by (cases_lt k t)
+    where
+      by : (k < t) ⊎ (t ≤ k) → zs k ≡ 0
+      by (inl less) =
+          let l = run.low in
+          let e : ℕ = k - o in
+          let place : o + e ≡ k = omega arith in
+          at_place zs k (o + e) (sym place) ∙ sym (r_at e)
+          ∙ same_words z r (raised a h) s (t - o) (t - o) runs (is ∙ times_is a s h) e (omega arith)
+          ∙ raised_below a h e (omega arith)
+      by (inr more) = run.above k more ∙ run.x_above k more
 
 pub times_of : (p q a s : ℕ) (x : ℕ → ℕ) → a ≡ min p q → s ≡ max p q - a → times p q x ≡ times a (a + s) x
 times_of p q a s x h k = by (cases_lt p q)

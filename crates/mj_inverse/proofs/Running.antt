@@ -50,19 +50,12 @@ repeats h s m pos (n, zero_from) again e le = down n e le (omega arith)
     down zero e le far = zero_from e (omega arith)
     down (suc k) e le far = again e le ∙ down k (e + s) (omega arith) (omega arith)
 
--- where z is some finite h times 1 + x^s, nothing remains
-pub spent : (z r h : ℕ → ℕ) (s top most : ℕ) → Runs z r s top most → IsFinite h → z ≡ plus h (raised s h) → IsSpent r s top most
-spent z r h s top most run finite is e far near =
-    same (suc e) e (omega arith) near ∙ repeats h s (top - s) run.stride finite (λ e le. again e le) e (omega arith)
+-- where z is some h times 1 + x^s, r is that h as far as place most
+pub same_words : (z r h : ℕ → ℕ) (s top most : ℕ) → Runs z r s top most → z ≡ plus h (raised s h) → (e : ℕ) → e < most → r e ≡ h e
+same_words z r h s top most run is e near = same (suc e) e (omega arith) near
   where
     at : (e : ℕ) → z e ≡ bit_xor (h e) (raised s h e)
     at e = ap (λ (f : ℕ → ℕ). f e) is ∙ plus_at h (raised s h) e
-
-    again : (e : ℕ) → top - s ≤ e → h e ≡ h (e + s)
-    again e le =
-        let none : z (e + s) ≡ 0 = run.ends (e + s) (omega arith) in
-        let here : z (e + s) ≡ bit_xor (h (e + s)) (h e) = at (e + s) ∙ ap (bit_xor (h (e + s))) (raised_at s h (e + s) e (omega arith)) in
-        sym (xor_back (z (e + s)) (h (e + s)) (h e) here ∙ ap (λ x. bit_xor x (h e)) none ∙ xor_zero_l (h e))
 
     lower : (e : ℕ) → ((d : ℕ) → e ≡ s + d → r d ≡ h d) → (e < s) ⊎ ((d : ℕ) × (e ≡ s + d)) → raised s r e ≡ raised s h e
     lower e before (inl k) = raised_below s r e k ∙ sym (raised_below s h e k)
@@ -75,6 +68,20 @@ spent z r h s top most run finite is e far near =
         run.runs e near
         ∙ ap (bit_xor (z e)) (lower e (λ d k. same n d (omega arith) (omega arith)) (split s e))
         ∙ sym (xor_back (z e) (h e) (raised s h e) (at e))
+
+-- where z is some finite h times 1 + x^s, nothing remains
+pub spent : (z r h : ℕ → ℕ) (s top most : ℕ) → Runs z r s top most → IsFinite h → z ≡ plus h (raised s h) → IsSpent r s top most
+spent z r h s top most run finite is e far near =
+    same_words z r h s top most run is e near ∙ repeats h s (top - s) run.stride finite (λ e le. again e le) e (omega arith)
+  where
+    at : (e : ℕ) → z e ≡ bit_xor (h e) (raised s h e)
+    at e = ap (λ (f : ℕ → ℕ). f e) is ∙ plus_at h (raised s h) e
+
+    again : (e : ℕ) → top - s ≤ e → h e ≡ h (e + s)
+    again e le =
+        let none : z (e + s) ≡ 0 = run.ends (e + s) (omega arith) in
+        let here : z (e + s) ≡ bit_xor (h (e + s)) (h e) = at (e + s) ∙ ap (bit_xor (h (e + s))) (raised_at s h (e + s) e (omega arith)) in
+        sym (xor_back (z (e + s)) (h (e + s)) (h e) here ∙ ap (λ x. bit_xor x (h e)) none ∙ xor_zero_l (h e))
 
 -- the same of a division by x^a + x^(a + s): below place a r is zero, and the quotient is r moved down by a
 abbrev pub lowered : ℕ → (ℕ → ℕ) → ℕ → ℕ

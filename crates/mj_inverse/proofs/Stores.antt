@@ -19,13 +19,13 @@ use Rattle.std.proofs.lemmas.Int.{ints}
 use Rattle.mj_inverse.specs.Store.{IsStore, IsSpare, Distinct, IsGiven, IsFilled, pair_of, pairs_in, search_in, lane_of, lane_pair, lane_search, lane_grid}
 use Rattle.mj_inverse.proofs.Divided.{split, raised_below, raised_at}
 use Rattle.mj_inverse.proofs.Taken.{place_below, place_le}
-use Rattle.mj_inverse.proofs.Blocks.{value-block_rows, bin_none, cut_in}
+use Rattle.mj_inverse.proofs.Blocks.{first_place, value-block_rows, bin_none, cut_in}
 use Rattle.mj_inverse.proofs.Put.{offset_le}
 
 bins_le : (p : ℤ) (rows cols : ℕ) → unsigned_abs p ≤ 16 → bins p rows cols ≤ cols + 16 * (rows - 1)
 bins_le p rows cols h = let k = mul-le-mul_right (rows - 1) h in omega arith
 
-pub given_at : (unit rows cols : ℕ) (s : Series) → IsShape rows cols → IsGiven unit rows cols s → IsAt unit rows (cols + 64 * rows) (cols + 96 * rows) s
+pub given_at : (unit rows cols : ℕ) (s : Series) → IsShape rows cols → IsGiven unit rows cols s → IsAt unit rows (cols + 32 * rows) (cols + 32 * rows + 32) s
 given_at unit rows cols s shape given =
     let a = offset_le s.direction rows given.small in
     let b = bins_le s.direction rows cols given.small in
@@ -41,7 +41,7 @@ given_at unit rows cols s shape given =
       room = omega arith;
     }
 
-pub all_at : (unit rows cols n : ℕ) (all : List Series) → IsShape rows cols → n ≡ length all → IsFilled unit rows cols n all → Every (IsAt unit rows (cols + 64 * rows) (cols + 96 * rows)) all
+pub all_at : (unit rows cols n : ℕ) (all : List Series) → IsShape rows cols → n ≡ length all → IsFilled unit rows cols n all → Every (IsAt unit rows (cols + 32 * rows) (cols + 32 * rows + 32)) all
 all_at unit rows cols zero [] shape e filled = tt
 all_at unit rows cols zero (s ∷ rest) shape e filled = absurd (cc)
 all_at unit rows cols (suc n) [] shape e filled = absurd filled
@@ -58,12 +58,12 @@ module _ (unit rows cols j : ℕ) (s : Series) (h : j < unit) (given : IsGiven u
   raised_bins : ℕ → ℕ
   raised_bins = raised s.from (bin (λ l k. w (l * cols + k)) rows cols s.direction)
 
-  value_is : value s.angle (block_rows cols (32 * rows) rows w) ≡ raised_bins
+  value_is : value s.angle (block_rows cols 0 rows w) ≡ raised_bins
   unfolding raised_bins
   value_is =
-      ap (λ q. value q (block_rows cols (32 * rows) rows w)) given.lifts
-      ∙ value-block_rows s.direction rows cols (32 * rows) w given.small
-      ∙ ap (λ d. raised d (bin (λ l k. w (l * cols + k)) rows cols s.direction)) (sym given.first)
+      ap (λ q. value q (block_rows cols 0 rows w)) given.lifts
+      ∙ value-block_rows s.direction rows cols 0 w given.small
+      ∙ ap (λ d. raised d (bin (λ l k. w (l * cols + k)) rows cols s.direction)) (let g = given.first in let e : first_place 0 rows s.direction ≡ s.from = omega arith in e)
 
   seq_at : (e : ℕ) → seq unit j s e ≡ get_or s.words.items (unit * e + j) 0
   seq_at e = let k : s.origin + e ≡ e = (let z = given.start in omega arith) in ap (λ n. get_or s.words.items (unit * n + j) 0) k
@@ -72,7 +72,7 @@ module _ (unit rows cols j : ℕ) (s : Series) (h : j < unit) (given : IsGiven u
   SameBins : Type 0
   SameBins = (b : ℕ) → b < bins s.direction rows cols → get_or s.words.items (unit * (s.from + b) + j) 0 ≡ bin (λ l k. w (l * cols + k)) rows cols s.direction b
 
-  value_from_bins : SameBins → value s.angle (block_rows cols (32 * rows) rows w) ≡ seq unit j s
+  value_from_bins : SameBins → value s.angle (block_rows cols 0 rows w) ≡ seq unit j s
   unfolding SameBins raised_bins
   value_from_bins same = value_is ∙ fun_ext (λ e. by e (split s.from e))
     where
@@ -88,7 +88,7 @@ module _ (unit rows cols j : ℕ) (s : Series) (h : j < unit) (given : IsGiven u
       by e (inl l) = raised_below s.from (bin (λ l k. w (l * cols + k)) rows cols s.direction) e l ∙ sym (seq_at e ∙ given.is.below e j l h)
       by e (inr (b, k)) = inner e b k (cases_lt b (bins s.direction rows cols))
 
-  bins_from_value : value s.angle (block_rows cols (32 * rows) rows w) ≡ seq unit j s → SameBins
+  bins_from_value : value s.angle (block_rows cols 0 rows w) ≡ seq unit j s → SameBins
   unfolding SameBins raised_bins
   bins_from_value is b near =
       sym (seq_at (s.from + b)) ∙ ap (λ (g : ℕ → ℕ). g (s.from + b)) (sym is ∙ value_is)
@@ -128,23 +128,23 @@ module _ (unit rows cols j : ℕ) (s : Series) (h : j < unit) (given : IsGiven u
   bins_from_pair is b near =
       sym (bin_at b near) ∙ ap (λ xs. get_or xs b 0) is ∙ get_or-projection (λ l k. w (l * cols + k)) rows cols s.direction b near
 
-  pub pair_from_value : value s.angle (block_rows cols (32 * rows) rows w) ≡ seq unit j s →
+  pub pair_from_value : value s.angle (block_rows cols 0 rows w) ≡ seq unit j s →
       (lane_pair unit j rows cols (pair_of unit s)).1 ≡ projection (λ l k. w (l * cols + k)) rows cols s.direction
   unfolding bs
   pair_from_value is = pair_from_bins (bins_from_value is)
 
   pub value_from_pair : (lane_pair unit j rows cols (pair_of unit s)).1 ≡ projection (λ l k. w (l * cols + k)) rows cols s.direction →
-      value s.angle (block_rows cols (32 * rows) rows w) ≡ seq unit j s
+      value s.angle (block_rows cols 0 rows w) ≡ seq unit j s
   unfolding bs
   value_from_pair is = value_from_bins (bins_from_pair is)
 
   -- the same of the bins themselves
   pub value_from_words : ((b : ℕ) → b < bins s.direction rows cols → get_or s.words.items (unit * (s.from + b) + j) 0 ≡ bin (λ l k. w (l * cols + k)) rows cols s.direction b) →
-      value s.angle (block_rows cols (32 * rows) rows w) ≡ seq unit j s
+      value s.angle (block_rows cols 0 rows w) ≡ seq unit j s
   unfolding SameBins
   value_from_words same = value_from_bins same
 
-  pub words_from_value : value s.angle (block_rows cols (32 * rows) rows w) ≡ seq unit j s →
+  pub words_from_value : value s.angle (block_rows cols 0 rows w) ≡ seq unit j s →
       (b : ℕ) → b < bins s.direction rows cols → get_or s.words.items (unit * (s.from + b) + j) 0 ≡ bin (λ l k. w (l * cols + k)) rows cols s.direction b
   unfolding SameBins
   words_from_value is = bins_from_value is
@@ -154,7 +154,7 @@ abbrev pub FitsWords : ℕ → ℕ → (ℕ → ℕ) → Pair → Type 0
 FitsWords rows cols w pair = pair.1 ≡ projection (λ l k. w (l * cols + k)) rows cols pair.0
 
 pub fits_from_values : (unit rows cols j n : ℕ) (w : ℕ → ℕ) (all : List Series) → j < unit → n ≡ length all → IsFilled unit rows cols n all →
-    HaveValues angle (seq unit j) (block_rows cols (32 * rows) rows w) all → Every (FitsWords rows cols w) (map (lane_pair unit j rows cols) (pairs_in unit n all))
+    HaveValues angle (seq unit j) (block_rows cols 0 rows w) all → Every (FitsWords rows cols w) (map (lane_pair unit j rows cols) (pairs_in unit n all))
 fits_from_values unit rows cols j zero w [] h e filled values = tt
 fits_from_values unit rows cols j zero w (s ∷ rest) h e filled values = absurd (cc)
 fits_from_values unit rows cols j (suc n) w [] h e filled values = absurd filled
@@ -164,7 +164,7 @@ fits_from_values unit rows cols j (suc n) w (s ∷ rest) h e (given, filled) (v,
 )
 
 pub values_from_fits : (unit rows cols j n : ℕ) (w : ℕ → ℕ) (all : List Series) → j < unit → n ≡ length all → IsFilled unit rows cols n all →
-    Every (FitsWords rows cols w) (map (lane_pair unit j rows cols) (pairs_in unit n all)) → HaveValues angle (seq unit j) (block_rows cols (32 * rows) rows w) all
+    Every (FitsWords rows cols w) (map (lane_pair unit j rows cols) (pairs_in unit n all)) → HaveValues angle (seq unit j) (block_rows cols 0 rows w) all
 values_from_fits unit rows cols j zero w [] h e filled fits = tt
 values_from_fits unit rows cols j zero w (s ∷ rest) h e filled fits = absurd (cc)
 values_from_fits unit rows cols j (suc n) w [] h e filled fits = absurd filled
@@ -223,7 +223,7 @@ module _ (unit rows cols j : ℕ) (all : List Series) (shape : IsShape rows cols
 
   -- words that have the projections are a block that is found
   pub found_from_values : (out : List ℕ) → length out ≡ unit * (rows * cols) →
-      HaveValues angle (seq unit j) (block_rows cols (32 * rows) rows (λ i. get_or out (unit * i + j) 0)) all →
+      HaveValues angle (seq unit j) (block_rows cols 0 rows (λ i. get_or out (unit * i + j) 0)) all →
       IsFound (lane_search unit j (search_in unit rows cols rows all)) (lane_grid unit j rows cols out)
   found_from_values out long values =
       let w : ℕ → ℕ = λ i. get_or out (unit * i + j) 0 in
@@ -240,7 +240,7 @@ module _ (unit rows cols j : ℕ) (all : List Series) (shape : IsShape rows cols
 
   -- a block that is found has the projections
   pub values_from_found : (g : Grid) → IsFound (lane_search unit j (search_in unit rows cols rows all)) g →
-      HaveValues angle (seq unit j) (block_rows cols (32 * rows) rows (λ i. get_or g.words i 0)) all
+      HaveValues angle (seq unit j) (block_rows cols 0 rows (λ i. get_or g.words i 0)) all
   values_from_found g found =
       let w : ℕ → ℕ = λ i. get_or g.words i 0 in
       let ps : List Pair = map (lane_pair unit j rows cols) (pairs_in unit rows all) in
@@ -253,13 +253,13 @@ module _ (unit rows cols j : ℕ) (all : List Series) (shape : IsShape rows cols
 
   -- blocks with the same rows are the same
   pub same_grid : (g : Grid) (out : List ℕ) → length out ≡ unit * (rows * cols) → IsFound (lane_search unit j (search_in unit rows cols rows all)) g →
-      block_rows cols (32 * rows) rows (λ i. get_or g.words i 0) ≡ block_rows cols (32 * rows) rows (λ i. get_or out (unit * i + j) 0) → g ≡ lane_grid unit j rows cols out
+      block_rows cols 0 rows (λ i. get_or g.words i 0) ≡ block_rows cols 0 rows (λ i. get_or out (unit * i + j) 0) → g ≡ lane_grid unit j rows cols out
   same_grid g out long found same =
       let m : g.rows * g.cols ≡ rows * cols = ap (λ r. r * g.cols) found.rows ∙ ap (λ c. rows * c) found.cols in
       let k : length (lane_of unit j (rows * cols) out) ≡ rows * cols = length-map-range_with_len (λ i. get_or out (unit * i + j) 0) 0 (rows * cols) in
       let n : length g.words ≡ rows * cols = found.grid.full ∙ m in
       let at : (i : ℕ) → i < length g.words → get_or g.words i 0 ≡ get_or (lane_of unit j (rows * cols) out) i 0 = λ i l.
-      words_from_rows cols (32 * rows) rows (λ i. get_or g.words i 0) (λ i. get_or out (unit * i + j) 0) same i (let e : cols * rows ≡ rows * cols = omega arith in omega arith)
+      words_from_rows cols 0 rows (λ i. get_or g.words i 0) (λ i. get_or out (unit * i + j) 0) same i (let e : cols * rows ≡ rows * cols = omega arith in omega arith)
       ∙ ap (λ (f : ℕ → ℕ). f i) (sym (lane_words unit j (rows * cols) out h long)) in
       let words : g.words ≡ lane_of unit j (rows * cols) out = ext_get_or 0 g.words (lane_of unit j (rows * cols) out) (n ∙ sym k) at in
       ap (λ r. grid_of r g.cols g.words) found.rows ∙ ap (λ c. grid_of rows c g.words) found.cols ∙ ap (grid_of rows cols) words

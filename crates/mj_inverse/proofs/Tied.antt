@@ -22,11 +22,11 @@ bins_same rows cols i f g [] same every = tt
 bins_same rows cols i f g (s ∷ rest) same (has, every) = (λ b h. has b h ∙ bin-same f g rows cols s.direction b same, bins_same rows cols i f g rest same every)
 
 pub values_from_bins : (rows cols j : ℕ) (w : ℕ → ℕ) (all : List Series) → j < 8 → Every (IsGiven 8 rows cols) all → Every (HasBins rows cols j (λ l k. w (l * cols + k))) all →
-    HaveValues angle (seq 8 j) (block_rows cols (32 * rows) rows w) all
+    HaveValues angle (seq 8 j) (block_rows cols 0 rows w) all
 values_from_bins rows cols j w [] h given every = tt
 values_from_bins rows cols j w (s ∷ rest) h (g, given) (has, every) = (value_from_words 8 rows cols j s h g w has, values_from_bins rows cols j w rest h given every)
 
-pub bins_from_values : (rows cols j : ℕ) (w : ℕ → ℕ) (all : List Series) → j < 8 → Every (IsGiven 8 rows cols) all → HaveValues angle (seq 8 j) (block_rows cols (32 * rows) rows w) all →
+pub bins_from_values : (rows cols j : ℕ) (w : ℕ → ℕ) (all : List Series) → j < 8 → Every (IsGiven 8 rows cols) all → HaveValues angle (seq 8 j) (block_rows cols 0 rows w) all →
     Every (HasBins rows cols j (λ l k. w (l * cols + k))) all
 bins_from_values rows cols j w [] h given values = tt
 bins_from_values rows cols j w (s ∷ rest) h (g, given) (v, values) = (words_from_value 8 rows cols j s h g w v, bins_from_values rows cols j w rest h given values)

@@ -22,7 +22,7 @@ pub record IsSeries (unit : ℕ) (s : Series) : Type 0 where
 -- so many more angles may be divided out, and so many places are used
 pub record IsAt (unit n high most : ℕ) (s : Series) : Type 0 where
   pub is : IsSeries unit s
-  pub low : s.origin + 32 * n ≤ s.from
+  pub low : s.origin ≤ s.from
   pub reach : s.to ≤ s.origin + high
   pub room : s.origin + most + 32 * n ≤ s.room
 
@@ -30,8 +30,9 @@ pub record IsAt (unit n high most : ℕ) (s : Series) : Type 0 where
 pub record Meet (unit : ℕ) (x y : Series) : Type 0 where
   pub first : IsSeries unit x
   pub second : IsSeries unit y
-  pub first_low : x.origin + 32 ≤ x.from
-  pub second_low : y.origin + 32 ≤ y.from
+  pub first_low : x.origin ≤ x.from
+  pub second_low : y.origin ≤ y.from
+  pub own_room : x.origin + 32 ≤ x.room
   pub first_room : x.origin + y.to ≤ y.origin + x.room
   pub second_room : y.origin + x.to ≤ x.origin + y.room
 
@@ -48,8 +49,8 @@ pub record IsNext (unit : ℕ) (p x y : Series) : Type 0 where
   pub angle : y.angle ≡ x.angle
   pub room : y.room ≡ x.room
   pub origin : y.origin ≡ x.origin + min x.angle p.angle
-  pub from : y.from ≡ min x.from (x.origin + (p.from - p.origin))
-  pub to : y.to ≤ max x.to (x.origin + (p.to - p.origin))
+  pub low : y.origin ≤ y.from
+  pub reach : (high : ℕ) → x.to ≤ x.origin + high → p.to ≤ p.origin + high → y.to ≤ y.origin + (high - max x.angle p.angle)
 
 abbrev pub SameRoom : Series → Series → Type 0
 SameRoom x y = y.room ≡ x.room

@@ -11,7 +11,7 @@ use Rattle.mj_inverse.specs.Series.{IsSeries, IsBlank}
 
 -- so many places each series has
 abbrev pub room_of : ℕ → ℕ → ℕ
-room_of rows cols = cols + 128 * rows + 40
+room_of rows cols = cols + 64 * rows + 32
 
 -- blank, and with enough room
 pub record IsSpare (unit rows cols : ℕ) (s : Series) : Type 0 where
@@ -25,7 +25,7 @@ pub record IsGiven (unit rows cols : ℕ) (s : Series) : Type 0 where
   pub small : unsigned_abs s.direction ≤ 16
   pub lifts : s.angle ≡ lifted 16 s.direction
   pub start : s.origin ≡ 0
-  pub first : s.from ≡ 32 * rows + 16 * rows - offset s.direction rows
+  pub first : s.from ≡ 16 * rows - offset s.direction rows
   pub last : s.to ≡ s.from + bins s.direction rows cols
 
 -- the first n are given, and the others spare

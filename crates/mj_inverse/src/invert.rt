@@ -31,24 +31,25 @@ fn join(
     rest: &mut [Series],
     angle: usize,
     unit: usize,
+    inner: usize,
     high: usize,
     most: usize,
 )
     requires first { IsWide unit high most first.old }
-    requires rest { Every (IsWide unit high most) rest.old }
-    requires angle { angle ≤ 32 }
-    requires room { high + 32 ≤ most }
+    requires rest { Every (IsWide unit inner most) rest.old }
+    requires raise { inner + angle ≤ high }
+    requires room { high ≤ most }
     requires limit { most < 2 ^ 32 }
     ensures rows { (j : ℕ) → j < unit → map (seq unit j) (first.new ∷ rest.new) ≡ joined angle (seq unit j first.old) (map (seq unit j) rest.old) }
-    ensures first { IsWide unit (high + 32) most first.new }
-    ensures rest { Every (IsWide unit (high + 32) most) rest.new }
+    ensures first { IsWide unit high most first.new }
+    ensures rest { Every (IsWide unit high most) rest.new }
     ensures same { Both SameRoom (first.old ∷ rest.old) (first.new ∷ rest.new) }
 {
     match rest.split_first_mut() {
         None => {}
         Some((next, others)) => {
             first.add_raised(next, angle, unit);
-            join(next, others, angle, unit, high, most);
+            join(next, others, angle, unit, inner, high, most);
         }
     }
 }
@@ -57,10 +58,11 @@ fn join(
 pub fn invert(all: &mut [Series], unit: usize, bad: &mut [u64], high: usize, most: usize)
     requires at { Every (IsAt unit (length all.old) high most) all.old }
     requires differ { Differ angle_of all.old }
-    requires room { high + 32 * length all.old ≤ most }
+    requires high { 32 * length all.old ≤ high }
+    requires room { high + 32 ≤ most }
     requires limit { most < 2 ^ 32 }
     requires blocks { length bad.old ≡ unit }
-    ensures wide { Every (IsWide unit (high + 32 * length all.old) most) all.new }
+    ensures wide { Every (IsWide unit high most) all.new }
     ensures same { Both SameRoom all.old all.new }
     ensures values { (j : ℕ) → j < unit → IsUnmarked bad.new j →
         IsUnmarked bad.old j × HaveValues angle_of (seq unit j) (map (seq unit j) all.new) all.old }
@@ -71,9 +73,10 @@ pub fn invert(all: &mut [Series], unit: usize, bad: &mut [u64], high: usize, mos
         None => {}
         Some((pivot, rest)) => {
             divide_all(rest, pivot, unit, bad);
-            invert(rest, unit, bad, high, most);
             let angle = pivot.angle;
-            join(pivot, rest, angle, unit, high + 32 * rest.len(), most);
+            let inner = high - angle;
+            invert(rest, unit, bad, inner, most);
+            join(pivot, rest, angle, unit, inner, high, most);
         }
     }
 }
@@ -125,7 +128,8 @@ pub fn solve(
 )
     requires at { Every (IsAt unit (length all.old) high most) all.old }
     requires differ { Differ angle_of all.old }
-    requires room { high + 32 * length all.old ≤ most }
+    requires high { 32 * length all.old ≤ high }
+    requires room { high + 32 ≤ most }
     requires columns { low + 16 * length all.old + cols ≤ most }
     requires limit { most < 2 ^ 32 }
     requires blocks { length bad.old ≡ unit }
@@ -139,5 +143,5 @@ pub fn solve(
         IsUnmarked bad.new j × (block_rows cols low (length all.old) w ≡ block_rows cols low (length all.old) (λ i. slice_index out.new (unit * i + j))) }
 {
     invert(all, unit, bad, high, most);
-    give_rows(all, low, cols, unit, out, bad, high + 32 * all.len(), most);
+    give_rows(all, low, cols, unit, out, bad, high, most);
 }

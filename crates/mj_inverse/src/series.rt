@@ -54,7 +54,7 @@ impl Series {
         requires few { unit ≤ 8 }
         ensures { IfOk result (IsSpare unit rows cols) }
     {
-        let room = cols + 128 * rows + 40;
+        let room = cols + 64 * rows + 32;
         let words = zeros(alloc, unit * room)?;
         Ok(Series {
             direction: 0,
@@ -80,6 +80,7 @@ impl Series {
     {
         let down = self.angle.min(by.angle);
         let step = self.angle.max(by.angle) - down;
+        let start = self.origin + down;
         let from = self.from.min(self.origin + (by.from - by.origin));
         let to = self.to.max(self.origin + (by.to - by.origin));
         let at = by.origin + (from - self.origin);
@@ -91,10 +92,13 @@ impl Series {
             unit * at,
             unit * step,
         );
-        let end = to.saturating_sub(step).max(from);
-        take_rest(&mut self.words, unit, end, to, bad);
-        self.origin += down;
-        self.from = from;
+        let first = from.max(start);
+        let end = to.saturating_sub(step).max(start);
+        let last = to.max(end);
+        take_rest(&mut self.words, unit, from, first, bad);
+        take_rest(&mut self.words, unit, end, last, bad);
+        self.origin = start;
+        self.from = first.min(end);
         self.to = end;
     }
 
@@ -163,7 +167,7 @@ impl Series {
         ensures direction { self.new.direction ≡ p }
         ensures bins { slice_range self.new.words.items (unit * self.new.from) (unit * self.new.to) ≡ bins.now }
     {
-        let from = 48 * rows - mj_angles::offset(p, rows);
+        let from = 16 * rows - mj_angles::offset(p, rows);
         let to = from + mj_angles::bins(p, rows, cols);
         put_words(&mut self.words, unit * from, bins);
         self.direction = p;

@@ -107,13 +107,13 @@ pub fn solve_all(
     bad.fill(0);
     solve(
         all,
-        32 * rows,
+        0,
         cols,
         unit,
         out,
         bad,
-        cols + 64 * rows,
-        cols + 96 * rows,
+        cols + 32 * rows,
+        cols + 32 * rows + 32,
     );
 }
 

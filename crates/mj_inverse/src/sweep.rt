@@ -338,9 +338,9 @@ pub fn sweep(
     ensures blank { Every (IsBlank 8) all.new }
     ensures same { Both SameRoom all.old all.new }
     ensures exact { (j : ℕ) → j < 8 → IsUnmarked bad.new j →
-        HaveValues angle_of (seq 8 j) (block_rows cols (32 * rows) rows (λ i. slice_index out.new (8 * i + j))) all.old }
-    ensures complete { (j : ℕ) (w : ℕ → ℕ) → j < 8 → HaveValues angle_of (seq 8 j) (block_rows cols (32 * rows) rows w) all.old →
-        IsUnmarked bad.new j × (block_rows cols (32 * rows) rows w ≡ block_rows cols (32 * rows) rows (λ i. slice_index out.new (8 * i + j))) }
+        HaveValues angle_of (seq 8 j) (block_rows cols 0 rows (λ i. slice_index out.new (8 * i + j))) all.old }
+    ensures complete { (j : ℕ) (w : ℕ → ℕ) → j < 8 → HaveValues angle_of (seq 8 j) (block_rows cols 0 rows w) all.old →
+        IsUnmarked bad.new j × (block_rows cols 0 rows w ≡ block_rows cols 0 rows (λ i. slice_index out.new (8 * i + j))) }
 {
     fill_turns(turns, all, rows, cols);
     peel_rows(all, turns, rows, cols, grid);

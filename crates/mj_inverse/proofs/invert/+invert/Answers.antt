@@ -25,12 +25,14 @@ invert-requires t c =
     (let P : List Series → Type 0 = λ zs. Every (IsAt u (length c.args.all.now) c.args.high c.args.most) zs in
     let Q : ℕ → Type 0 = λ n. Every (IsAt u n c.args.high c.args.most) (p ∷ xs) in subst Q n (subst P e c.requires.at)) in
     let differ : Differ angle (p ∷ xs) = (let P : List Series → Type 0 = λ zs. Differ angle zs in subst P e c.requires.differ) in
+    let high = c.requires.high in
     let room = c.requires.room in
+    let small = at.0.is.angle in
     let fall : length ys < length c.args.all.now = omega arith in (
       search rules,
       (
         next_at u (length ys) c.args.high c.args.most p xs ys at.0 at.1 c.divide_all.ensures.next,
-        (next_differ u p xs ys differ.1 c.divide_all.ensures.next, (omega arith, (c.requires.limit, search rules))),
+        (next_differ u p xs ys differ.1 c.divide_all.ensures.next, (omega arith, (omega arith, (c.requires.limit, search rules)))),
       ),
     )
 

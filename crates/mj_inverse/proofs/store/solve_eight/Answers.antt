@@ -22,7 +22,7 @@ returns-clause-filled c =
 pub returns-clause-found : goal.returns-clause-found
 returns-clause-found c = λ j h unmarked.
     let w : ℕ → ℕ = λ i. get_or c.sweep.new.out (8 * i + j) 0 in
-    let has : Series → Type 0 = λ s. value (angle s) (block_rows c.args.cols (32 * c.args.rows) c.args.rows w) ≡ seq 8 j s in
+    let has : Series → Type 0 = λ s. value (angle s) (block_rows c.args.cols 0 c.args.rows w) ≡ seq 8 j s in
     let long : length c.sweep.new.out ≡ 8 * (c.args.rows * c.args.cols) = search rules in
     found_from_values 8 c.args.rows c.args.cols j c.args.all.now c.requires.shape h c.requires.full c.requires.filled c.sweep.new.out long
     (every-arranged has (arranged-back c.sort_falling.ensures.same) (c.sweep.ensures.exact j h unmarked))
@@ -30,7 +30,7 @@ returns-clause-found c = λ j h unmarked.
 pub returns-clause-complete : goal.returns-clause-complete
 returns-clause-complete c = λ j g h found.
     let w : ℕ → ℕ = λ i. get_or g.words i 0 in
-    let has : Series → Type 0 = λ s. value (angle s) (block_rows c.args.cols (32 * c.args.rows) c.args.rows w) ≡ seq 8 j s in
+    let has : Series → Type 0 = λ s. value (angle s) (block_rows c.args.cols 0 c.args.rows w) ≡ seq 8 j s in
     let values = every-arranged has c.sort_falling.ensures.same (values_from_found 8 c.args.rows c.args.cols j c.args.all.now c.requires.shape h c.requires.full c.requires.filled g found) in
     let got = c.sweep.ensures.complete j w h values in
     let long : length c.sweep.new.out ≡ 8 * (c.args.rows * c.args.cols) = search rules in

@@ -25,5 +25,5 @@ returns-clause-complete c = λ j w h values.
     let has = bins_from_values rows cols j w c.args.all.now h c.requires.given values in
     let same = c.peel_rows.ensures.only j g h has in (
       (c.mark.ensures j h).1 (bins_same rows cols j g f c.args.all.now same has),
-      rows_from_words cols (32 * rows) rows w out (λ l k a b. same l k a b ∙ sym (c.copy_rows.ensures j l k h a b)),
+      rows_from_words cols 0 rows w out (λ l k a b. same l k a b ∙ sym (c.copy_rows.ensures j l k h a b)),
     )

@@ -1,8 +1,7 @@
-use Rattle.std.proofs.Common.{arith, ◌≡◌, ◌≤◌, ◌<◌, ◌+◌, ◌-◌, ◌*◌, ℕ, get_or, refl, ◌∙◌, ◌⊎◌, inl, inr}
+use Rattle.std.proofs.Common.{arith, ◌≡◌, ◌≤◌, ◌<◌, ◌+◌, ◌-◌, ◌*◌, ℕ, get_or, refl, ◌∙◌}
 use Rattle.std.proofs.Math.Nat.{mul-le-mul_left}
-use Rattle.std.proofs.lemmas.Bool.{cases_lt}
 use Rattle.mj_inverse.proofs.Taken.{place_below, place_le}
-use Rattle.mj_inverse.proofs.Lanes.{place_span, IsSpan, IsFlatRun, IsCut, lane_exact, lane_spent}
+use Rattle.mj_inverse.proofs.Lanes.{place_span, IsSpan, IsFlatRun, IsCut, cut_zero, lane_exact, lane_start, lane_spent}
 use Rattle.mj_inverse.proofs.series.Series.divide_out.Goals as goal
 
 pub run_within-requires-clause-by : goal.run_within-requires-clause-by
@@ -31,12 +30,15 @@ returns-clause-next c =
     let xs : ℕ → ℕ = λ i. get_or c.args.self.now.words.items i 0 in
     let ys : ℕ → ℕ = λ i. get_or c.args.by.now.words.items i 0 in
     let zs : ℕ → ℕ = λ i. get_or c.run_within.new.words.items i 0 in
-    let ws : ℕ → ℕ = λ i. get_or c.take_rest.new.words.items i 0 in
+    let vs : ℕ → ℕ = λ i. get_or c.take_rest.new.words.items i 0 in
+    let ws : ℕ → ℕ = λ i. get_or c.take_rest-2.new.words.items i 0 in
     let o : ℕ = c.args.self.now.origin in
     let p : ℕ = c.args.by.now.origin in
     let f : ℕ = c.min-from.result in
     let t : ℕ = c.max-to.result in
+    let g : ℕ = c.max-first.result in
     let m : ℕ = c.max-end.result in
+    let n : ℕ = c.max-last.result in
     let meet = c.requires.meet in
     let span : IsSpan u xs ys o p f t a s = record {
       low = omega arith;
@@ -53,32 +55,32 @@ returns-clause-next c =
       below = c.run_within.ensures.below;
       above = c.run_within.ensures.above;
     } in
-    let cut : IsCut u zs ws m t = record {
+    let first : IsCut u zs vs f g = record {
       zero = c.take_rest.ensures.zero;
       below = c.take_rest.ensures.below;
       above = c.take_rest.ensures.above;
     } in
-    let above : (k j : ℕ) → m ≤ k → j < u → (k < t) ⊎ (t ≤ k) → ws (u * k + j) ≡ 0 = λ k j far h d. elim d as (λ _. ws (u * k + j) ≡ 0) [
-      | inl near ↦ cut.zero k j far near h
-      | inr farther ↦ (let i : u * t ≤ u * k + j = (let l = place_le u t k farther in omega arith) in cut.above (u * k + j) i ∙ run.above (u * k + j) i ∙ span.x_above k j farther h)
-    ] in
-    let below : (k j : ℕ) → k < f → j < u → ws (u * k + j) ≡ 0 = λ k j near h.
-    cut.below (u * k + j) (place_below u k j m h (omega arith)) ∙ run.below (u * k + j) (place_below u k j f h near) ∙ span.x_below k j near h in
+    let last : IsCut u vs ws m n = record {
+      zero = c.take_rest-2.ensures.zero;
+      below = c.take_rest-2.ensures.below;
+      above = c.take_rest-2.ensures.above;
+    } in
+    let flat = cut_zero u xs ys zs vs ws o p f t a s g m n span run first last (omega arith) in
     record {
       is = record {
         some = meet.first.some;
         angle = meet.first.angle;
         order = omega arith;
         within = omega arith;
-        room = c.take_rest.ensures.len ∙ c.run_within.ensures.len ∙ meet.first.room;
-        below = below;
-        above = λ k j far h. above k j far h (cases_lt k t);
+        room = c.take_rest-2.ensures.len ∙ c.take_rest.ensures.len ∙ c.run_within.ensures.len ∙ meet.first.room;
+        below = λ k j l h. flat.0 k j h (omega arith);
+        above = λ k j l h. flat.1 k j h l;
       };
       angle = refl;
       room = refl;
       origin = omega arith;
-      from = omega arith;
-      to = omega arith;
+      low = omega arith;
+      reach = λ high x y. omega arith;
     }
 
 pub returns-clause-exact : goal.returns-clause-exact
@@ -89,12 +91,15 @@ returns-clause-exact c = λ j h unmarked.
     let xs : ℕ → ℕ = λ i. get_or c.args.self.now.words.items i 0 in
     let ys : ℕ → ℕ = λ i. get_or c.args.by.now.words.items i 0 in
     let zs : ℕ → ℕ = λ i. get_or c.run_within.new.words.items i 0 in
-    let ws : ℕ → ℕ = λ i. get_or c.take_rest.new.words.items i 0 in
+    let vs : ℕ → ℕ = λ i. get_or c.take_rest.new.words.items i 0 in
+    let ws : ℕ → ℕ = λ i. get_or c.take_rest-2.new.words.items i 0 in
     let o : ℕ = c.args.self.now.origin in
     let p : ℕ = c.args.by.now.origin in
     let f : ℕ = c.min-from.result in
     let t : ℕ = c.max-to.result in
+    let g : ℕ = c.max-first.result in
     let m : ℕ = c.max-end.result in
+    let n : ℕ = c.max-last.result in
     let meet = c.requires.meet in
     let span : IsSpan u xs ys o p f t a s = record {
       low = omega arith;
@@ -111,28 +116,42 @@ returns-clause-exact c = λ j h unmarked.
       below = c.run_within.ensures.below;
       above = c.run_within.ensures.above;
     } in
-    let cut : IsCut u zs ws m t = record {
+    let first : IsCut u zs vs f g = record {
       zero = c.take_rest.ensures.zero;
       below = c.take_rest.ensures.below;
       above = c.take_rest.ensures.above;
     } in
-    let was = c.take_rest.ensures.marked j h unmarked in
-    (was.0, lane_exact u j xs ys zs ws o p f t a s m c.args.self.now.angle c.args.by.now.angle h span run cut (omega arith) (omega arith) (omega arith) was.1)
+    let last : IsCut u vs ws m n = record {
+      zero = c.take_rest-2.ensures.zero;
+      below = c.take_rest-2.ensures.below;
+      above = c.take_rest-2.ensures.above;
+    } in
+    let x : ℕ = c.args.self.now.angle in
+    let y : ℕ = c.args.by.now.angle in
+    let behind = c.take_rest-2.ensures.marked j h unmarked in
+    let before = c.take_rest.ensures.marked j h behind.0 in
+    (
+      before.0,
+      lane_exact u j xs ys zs vs ws o p f t a s g m n x y h span run first last (omega arith) (omega arith) (omega arith) (omega arith) (omega arith) before.1 behind.1,
+    )
 
 pub returns-clause-divides : goal.returns-clause-divides
-returns-clause-divides c = λ j g h unmarked finite is.
+returns-clause-divides c = λ j d h unmarked finite is.
     let u : ℕ = c.args.unit in
     let a : ℕ = c.min-down.result in
     let s : ℕ = c.max.result - a in
     let xs : ℕ → ℕ = λ i. get_or c.args.self.now.words.items i 0 in
     let ys : ℕ → ℕ = λ i. get_or c.args.by.now.words.items i 0 in
     let zs : ℕ → ℕ = λ i. get_or c.run_within.new.words.items i 0 in
-    let ws : ℕ → ℕ = λ i. get_or c.take_rest.new.words.items i 0 in
+    let vs : ℕ → ℕ = λ i. get_or c.take_rest.new.words.items i 0 in
+    let ws : ℕ → ℕ = λ i. get_or c.take_rest-2.new.words.items i 0 in
     let o : ℕ = c.args.self.now.origin in
     let p : ℕ = c.args.by.now.origin in
     let f : ℕ = c.min-from.result in
     let t : ℕ = c.max-to.result in
+    let g : ℕ = c.max-first.result in
     let m : ℕ = c.max-end.result in
+    let n : ℕ = c.max-last.result in
     let meet = c.requires.meet in
     let span : IsSpan u xs ys o p f t a s = record {
       low = omega arith;
@@ -149,10 +168,19 @@ returns-clause-divides c = λ j g h unmarked finite is.
       below = c.run_within.ensures.below;
       above = c.run_within.ensures.above;
     } in
-    let cut : IsCut u zs ws m t = record {
+    let first : IsCut u zs vs f g = record {
       zero = c.take_rest.ensures.zero;
       below = c.take_rest.ensures.below;
       above = c.take_rest.ensures.above;
     } in
-    c.take_rest.ensures.unmarked j h unmarked
-    (lane_spent u j xs ys zs ws o p f t a s m c.args.self.now.angle c.args.by.now.angle h span run cut (omega arith) (omega arith) (omega arith) g finite is)
+    let last : IsCut u vs ws m n = record {
+      zero = c.take_rest-2.ensures.zero;
+      below = c.take_rest-2.ensures.below;
+      above = c.take_rest-2.ensures.above;
+    } in
+    let x : ℕ = c.args.self.now.angle in
+    let y : ℕ = c.args.by.now.angle in
+    let before = c.take_rest.ensures.unmarked j h unmarked
+    (lane_start u j xs ys zs vs ws o p f t a s g m n x y h span run first last (omega arith) (omega arith) (omega arith) (omega arith) (omega arith) d is) in
+    c.take_rest-2.ensures.unmarked j h before
+    (lane_spent u j xs ys zs vs ws o p f t a s g m n x y h span run first last (omega arith) (omega arith) (omega arith) (omega arith) (omega arith) d finite is)

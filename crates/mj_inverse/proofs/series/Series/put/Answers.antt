@@ -10,7 +10,7 @@ pub put_words-requires : goal.put_words-requires
 put_words-requires c =
     let u : ℕ = c.args.unit in
     let is : to_z w32 (of_z w32 c.args.p) ≡ c.args.p = to_z-of_z w32 c.args.p (search rules) in
-    let from : ℕ = 48 * c.args.rows - c.offset.result in
+    let from : ℕ = 16 * c.args.rows - c.offset.result in
     let n : ℕ = c.bins.result in
     let size : length c.args.bins.now ≡ u * n = c.requires.size ∙ ap (λ p. u * bins p c.args.rows c.args.cols) (sym is) ∙ ap (λ n. u * n) (sym c.bins.ensures.value) in
     let few = c.bins.ensures.few in
@@ -24,7 +24,7 @@ pub returns-clause-given : goal.returns-clause-given
 returns-clause-given c =
     let u : ℕ = c.args.unit in
     let is : to_z w32 (of_z w32 c.args.p) ≡ c.args.p = to_z-of_z w32 c.args.p (search rules) in
-    let from : ℕ = 48 * c.args.rows - c.offset.result in
+    let from : ℕ = 16 * c.args.rows - c.offset.result in
     let n : ℕ = c.bins.result in
     let size : length c.args.bins.now ≡ u * n = c.requires.size ∙ ap (λ p. u * bins p c.args.rows c.args.cols) (sym is) ∙ ap (λ n. u * n) (sym c.bins.ensures.value) in
     let few = c.bins.ensures.few in
@@ -55,7 +55,7 @@ pub returns-clause-bins : goal.returns-clause-bins
 returns-clause-bins c =
     let u : ℕ = c.args.unit in
     let is : to_z w32 (of_z w32 c.args.p) ≡ c.args.p = to_z-of_z w32 c.args.p (search rules) in
-    let from : ℕ = 48 * c.args.rows - c.offset.result in
+    let from : ℕ = 16 * c.args.rows - c.offset.result in
     let n : ℕ = c.bins.result in
     let size : length c.args.bins.now ≡ u * n = c.requires.size ∙ ap (λ p. u * bins p c.args.rows c.args.cols) (sym is) ∙ ap (λ n. u * n) (sym c.bins.ensures.value) in
     let few = c.bins.ensures.few in
