@@ -1,5 +1,5 @@
--- A row is given out: first the words before it are tested and made zero, then those behind it, and then it is copied and made zero.
-use Rattle.std.proofs.Common.{◌≡◌, ℕ, ◌+◌, ◌-◌, ◌*◌, ◌/◌, ◌%◌, ◌<◌, ◌≤◌, min, max, sym, ap, ◌∙◌, arith, ◌⊎◌, inl, inr}
+-- A row is given out: first the words before it are tested and made zero, then those behind it, and then it is copied.
+use Rattle.std.proofs.Common.{◌≡◌, ℕ, ◌+◌, ◌-◌, ◌*◌, ◌<◌, ◌≤◌, min, max, sym, ap, ◌∙◌, arith, ◌⊎◌, inl, inr}
 use Rattle.std.proofs.lemmas.Bool.{cases_lt}
 use mathlib.Core.Path.{fun_ext}
 use Rattle.mj_inverse.specs.Rows.{raised, cut}
@@ -7,8 +7,8 @@ use Rattle.mj_inverse.proofs.Divided.{split, raised_below, raised_at}
 use Rattle.mj_inverse.proofs.Taken.{place_below, place_le}
 use Rattle.mj_inverse.proofs.Blocks.{cut_in, cut_out}
 
--- s and e are the ends of the row, f and t those of all words; a to d are the words at first and after each step
-pub record IsGivenRow (unit s e f t : ℕ) (a b c d out : ℕ → ℕ) : Type 0 where
+-- s and e are the ends of the row, f and t those of all words; a, b and c are the words at first and after each step
+pub record IsGivenRow (unit s e f t : ℕ) (a b c out : ℕ → ℕ) : Type 0 where
   pub some : 0 < unit
   pub order : s ≤ e
   pub a_below : (k j : ℕ) → k < f → j < unit → a (unit * k + j) ≡ 0
@@ -19,42 +19,11 @@ pub record IsGivenRow (unit s e f t : ℕ) (a b c d out : ℕ → ℕ) : Type 0 
   pub c_zero : (k j : ℕ) → e ≤ k → k < max t e → j < unit → c (unit * k + j) ≡ 0
   pub c_below : (i : ℕ) → i < unit * e → c i ≡ b i
   pub c_above : (i : ℕ) → unit * max t e ≤ i → c i ≡ b i
-  pub d_out : (k : ℕ) → unit * s + k < unit * e → out k ≡ c (unit * s + k)
-  pub d_zero : (i : ℕ) → unit * s ≤ i → i < unit * e → d i ≡ 0
-  pub d_below : (i : ℕ) → i < unit * s → d i ≡ c i
-  pub d_above : (i : ℕ) → unit * e ≤ i → d i ≡ c i
+  pub given : (k : ℕ) → unit * s + k < unit * e → out k ≡ c (unit * s + k)
 
-module _ (unit s e f t : ℕ) (a b c d out : ℕ → ℕ) (given : IsGivenRow unit s e f t a b c d out) where
+module _ (unit s e f t : ℕ) (a b c out : ℕ → ℕ) (given : IsGivenRow unit s e f t a b c out) where
   from_le : (k j n : ℕ) → n ≤ k → unit * n ≤ unit * k + j
   from_le k j n h = let l = place_le unit n k h in omega arith
-
-  zero_low : (k j : ℕ) → j < unit → k < s → (k < min f s) ⊎ (min f s ≤ k) → d (unit * k + j) ≡ 0
-  zero_low k j h low (inl less) =
-      given.d_below (unit * k + j) (place_below unit k j s h low)
-      ∙ given.c_below (unit * k + j) (place_below unit k j e h (let o = given.order in omega arith))
-      ∙ given.b_below (unit * k + j) (place_below unit k j (min f s) h less) ∙ given.a_below k j (omega arith) h
-  zero_low k j h low (inr more) =
-      given.d_below (unit * k + j) (place_below unit k j s h low)
-      ∙ given.c_below (unit * k + j) (place_below unit k j e h (let o = given.order in omega arith)) ∙ given.b_zero k j more low h
-
-  zero_high : (k j : ℕ) → j < unit → e ≤ k → (k < max t e) ⊎ (max t e ≤ k) → d (unit * k + j) ≡ 0
-  zero_high k j h high (inl less) = given.d_above (unit * k + j) (from_le k j e high) ∙ given.c_zero k j high less h
-  zero_high k j h high (inr more) =
-      given.d_above (unit * k + j) (from_le k j e high) ∙ given.c_above (unit * k + j) (from_le k j (max t e) more)
-      ∙ given.b_above (unit * k + j) (from_le k j s (let o = given.order in omega arith)) ∙ given.a_above k j (omega arith) h
-
-  zero_place : (k j : ℕ) → j < unit → (k < s) ⊎ (s ≤ k) → (k < e) ⊎ (e ≤ k) → d (unit * k + j) ≡ 0
-  zero_place k j h (inl low) _ = zero_low k j h low (cases_lt k (min f s))
-  zero_place k j h (inr from) (inl near) = given.d_zero (unit * k + j) (from_le k j s from) (place_below unit k j e h near)
-  zero_place k j h (inr from) (inr far) = zero_high k j h far (cases_lt k (max t e))
-
-  -- no word is left
-  pub given_zero : (i : ℕ) → d i ≡ 0
-  given_zero i =
-      let some = given.some in
-      let is : i ≡ unit * (i / unit) + i % unit = omega arith in
-      let small : i % unit < unit = omega arith in
-      ap d is ∙ zero_place (i / unit) (i % unit) small (cases_lt (i / unit) s) (cases_lt (i / unit) e)
 
   module _ (o at cols j : ℕ) (h : j < unit) (start : s ≡ o + at) (end : e ≡ s + cols) (low : o ≤ f) where
     -- the row is what was given, where there were no other words
@@ -76,7 +45,7 @@ module _ (unit s e f t : ℕ) (a b c d out : ℕ → ℕ) (given : IsGivenRow un
             let place' : unit * (o + x) + j ≡ unit * (s + n) + j = ap (λ y. unit * y + j) (let y : o + x ≡ s + n = omega arith in y) in
             let below : unit * (s + n) + j < unit * e = place_below unit (s + n) j e h (omega arith) in
             ap a place' ∙ sym (given.b_above (unit * (s + n) + j) (from_le (s + n) j s (omega arith))) ∙ sym (given.c_below (unit * (s + n) + j) below)
-            ∙ ap c (sym place) ∙ sym (given.d_out (unit * n + j) (omega arith))
+            ∙ ap c (sym place) ∙ sym (given.given (unit * n + j) (omega arith))
             ∙ sym (raised_at at (cut cols (λ k. out (unit * k + j))) x n is ∙ cut_in cols (λ k. out (unit * k + j)) n near)
         inner x n is (inr far) =
             after (o + x) (omega arith) (cases_lt (o + x) t)

@@ -1,14 +1,14 @@
 -- What each step keeps of the places.
-use Rattle.std.proofs.Common.{◌≡◌, ◌≢◌, ℕ, suc, refl, sym, ap, ◌∙◌, ◌-◌, arith, List, [], ◌∷◌, length}
+use Rattle.std.proofs.Common.{◌≡◌, ◌≢◌, ℕ, suc, refl, sym, ap, ◌∙◌, ◌+◌, ◌-◌, arith, List, [], ◌∷◌, length}
 use Rattle.mj_inverse.specs.declared.series.Series.{Series}
 use Rattle.mj_inverse.specs.Rows.{Every, Both, Differ}
-use Rattle.mj_inverse.specs.Series.{angle, IsAt, IsNext, SameRoom}
+use Rattle.mj_inverse.specs.Series.{angle, angles, IsAt, IsNext, KeepsRoom}
 
-pub next_room : (unit : ℕ) (p : Series) (xs ys : List Series) → Both (IsNext unit p) xs ys → Both SameRoom xs ys
+pub next_room : (unit : ℕ) (p : Series) (xs ys : List Series) → Both (IsNext unit p) xs ys → Both KeepsRoom xs ys
 next_room unit p [] [] both = tt
 next_room unit p [] (y ∷ ys) both = absurd both
 next_room unit p (x ∷ xs) [] both = absurd both
-next_room unit p (x ∷ xs) (y ∷ ys) (n, both) = (n.room, next_room unit p xs ys both)
+next_room unit p (x ∷ xs) (y ∷ ys) (n, both) = (n.capacity, next_room unit p xs ys both)
 
 pub next_length : (unit : ℕ) (p : Series) (xs ys : List Series) → Both (IsNext unit p) xs ys → length ys ≡ length xs
 next_length unit p [] [] both = refl
@@ -35,7 +35,14 @@ next_differ unit p (x ∷ xs) (y ∷ ys) (ne, differ) (n, both) = (
     moved [] d = tt
     moved (z ∷ zs) (e, d) = (λ h. e (h ∙ n.angle), moved zs d)
 
-pub next_at : (unit n high most : ℕ) (p : Series) (xs ys : List Series) → IsAt unit (suc n) high most p → Every (IsAt unit (suc n) high most) xs →
+pub next_angles : (unit : ℕ) (p : Series) (xs ys : List Series) → Both (IsNext unit p) xs ys → angles ys ≡ angles xs
+next_angles unit p [] [] both = refl
+next_angles unit p [] (y ∷ ys) both = absurd both
+next_angles unit p (x ∷ xs) [] both = absurd both
+next_angles unit p (x ∷ xs) (y ∷ ys) (n, both) =
+    ap (λ a. a + angles ys) n.angle ∙ ap (λ a. x.angle + a) (next_angles unit p xs ys both)
+
+pub next_at : (unit n high most : ℕ) (p : Series) (xs ys : List Series) → IsAt unit (p.angle + n) high most p → Every (IsAt unit (p.angle + n) high most) xs →
     Both (IsNext unit p) xs ys → Every (IsAt unit n (high - p.angle) most) ys
 next_at unit n high most p [] [] at_p at both = tt
 next_at unit n high most p [] (y ∷ ys) at_p at both = absurd both
@@ -51,7 +58,6 @@ next_at unit n high most p (x ∷ xs) (y ∷ ys) at_p (at_x, at) (m, both) = (
         let j = m.origin in
         let k = m.room in
         let r = m.reach high at_x.reach at_p.reach in
-        let o = at_p.is.angle in
         record {
           is = m.is;
           low = m.low;
@@ -59,14 +65,14 @@ next_at unit n high most p (x ∷ xs) (y ∷ ys) at_p (at_x, at) (m, both) = (
           room = omega arith;
         }
 
-pub same_room : (xs ys zs : List Series) → Both SameRoom xs ys → Both SameRoom ys zs → Both SameRoom xs zs
+pub same_room : (xs ys zs : List Series) → Both KeepsRoom xs ys → Both KeepsRoom ys zs → Both KeepsRoom xs zs
 same_room [] [] zs a b = b
 same_room [] (y ∷ ys) zs a b = absurd a
 same_room (x ∷ xs) [] zs a b = absurd a
 same_room (x ∷ xs) (y ∷ ys) [] a b = absurd b
-same_room (x ∷ xs) (y ∷ ys) (z ∷ zs) (a, as') (b, bs) = (b ∙ a, same_room xs ys zs as' bs)
+same_room (x ∷ xs) (y ∷ ys) (z ∷ zs) (a, as') (b, bs) = (omega arith, same_room xs ys zs as' bs)
 
-pub same_length : (xs ys : List Series) → Both SameRoom xs ys → length ys ≡ length xs
+pub same_length : (xs ys : List Series) → Both KeepsRoom xs ys → length ys ≡ length xs
 same_length [] [] a = refl
 same_length [] (y ∷ ys) a = absurd a
 same_length (x ∷ xs) [] a = absurd a

@@ -1,5 +1,5 @@
 -- A projection is put into a blank series, or taken away.
-use Rattle.std.proofs.Common.{◌≡◌, ℕ, ◌+◌, ◌-◌, ◌*◌, ◌/◌, ◌%◌, ◌<◌, ◌≤◌, sym, ap, ◌∙◌, arith, rules, ◌⊎◌, inl, inr, List, length, get_or, take, drop, ℤ, pos}
+use Rattle.std.proofs.Common.{◌≡◌, ℕ, ◌+◌, ◌-◌, ◌*◌, ◌<◌, ◌≤◌, sym, ap, ◌∙◌, arith, rules, ◌⊎◌, inl, inr, List, length, get_or, take, drop, ℤ, pos}
 use Rattle.std.specs.Prelude.{negsuc, unsigned_abs, slice_range}
 use Rattle.std.proofs.Math.Nat.{mul-le-mul_right}
 use Rattle.std.proofs.lemmas.Bool.{cases_lt}
@@ -24,21 +24,6 @@ slice_is xs ys a b long fits same =
     let l : length (slice_range xs a b) ≡ length ys = search (rules, places) in
     ext_get_or 0 (slice_range xs a b) ys l (λ k m. here xs a b k (omega arith) fits (let n : k < length ys = rw (sym l) m in omega arith) ∙ same k (rw (sym l) m))
 
--- each word stands at a place of a block
-pub by_place : (unit : ℕ) (w : ℕ → ℕ) → 0 < unit → ((t j : ℕ) → j < unit → w (unit * t + j) ≡ 0) → (i : ℕ) → w i ≡ 0
-by_place unit w some each i =
-    let is : i ≡ unit * (i / unit) + i % unit = omega arith in
-    let small : i % unit < unit = omega arith in
-    ap w is ∙ each (i / unit) (i % unit) small
-
--- the words from place f to place t are made zero
-pub wiped : (unit f t : ℕ) (a b : ℕ → ℕ) → 0 < unit →
-    ((k j : ℕ) → k < f → j < unit → a (unit * k + j) ≡ 0) → ((k j : ℕ) → t ≤ k → j < unit → a (unit * k + j) ≡ 0) →
-    ((i : ℕ) → unit * f ≤ i → i < unit * t → b i ≡ 0) → ((i : ℕ) → i < unit * f → b i ≡ a i) → ((i : ℕ) → unit * t ≤ i → b i ≡ a i) →
-    (i : ℕ) → b i ≡ 0
-wiped unit f t a b some a_below a_above none below above = by_place unit b some (λ k j h. by k j h (cases_lt k f) (cases_lt k t))
-  where
-    by : (k j : ℕ) → j < unit → (k < f) ⊎ (f ≤ k) → (k < t) ⊎ (t ≤ k) → b (unit * k + j) ≡ 0
-    by k j h (inl l) _ = below (unit * k + j) (place_below unit k j f h l) ∙ a_below k j l h
-    by k j h (inr l) (inl m) = none (unit * k + j) (let n = place_le unit f k l in omega arith) (place_below unit k j t h m)
-    by k j h (inr l) (inr m) = above (unit * k + j) (let n = place_le unit t k m in omega arith) ∙ a_above k j m h
+-- there are no words beyond the last
+pub past : (xs : List ℕ) (n i : ℕ) → length xs ≡ n → n ≤ i → get_or xs i 0 ≡ 0
+past xs n i long far = search (rules, places)

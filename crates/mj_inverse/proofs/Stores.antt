@@ -1,5 +1,6 @@
 -- The series of a work and the pairs that contracts see.
 use Rattle.std.proofs.Common.{◌≡◌, ◌≢◌, ℕ, zero, suc, ◌+◌, ◌-◌, ◌*◌, ◌<◌, ◌≤◌, refl, sym, ap, ◌∙◌, subst, arith, rules, ◌⊎◌, inl, inr, List, [], ◌∷◌, ◌++◌, length, get_or, take, drop, map, ℤ, pos, vec_len}
+use Rattle.std.specs.Prelude.{vec_capacity}
 use Rattle.std.specs.Prelude.{negsuc, unsigned_abs, All, slice_range}
 use Rattle.std.proofs.Math.Nat.{mul-le-mul_right}
 use Rattle.std.proofs.lemmas.Bool.{cases_lt}
@@ -14,9 +15,9 @@ use Rattle.mj_angles.proofs.Order.{lifted}
 use Rattle.mj_inverse.specs.Fits.{Pair, Search, IsFound}
 use Rattle.mj_inverse.specs.declared.series.Series.{Series}
 use Rattle.mj_inverse.specs.Rows.{raised, value, cut, block_rows, Every, Both, HaveValues, Differ}
-use Rattle.mj_inverse.specs.Series.{seq, angle, IsAt, IsBlank, SameRoom}
+use Rattle.mj_inverse.specs.Series.{seq, angle, angles, IsAt, IsBlank, IsSeries, IsSpread, KeepsRoom}
 use Rattle.std.proofs.lemmas.Int.{ints}
-use Rattle.mj_inverse.specs.Store.{IsStore, IsSpare, Distinct, IsGiven, IsFilled, pair_of, pairs_in, search_in, lane_of, lane_pair, lane_search, lane_grid}
+use Rattle.mj_inverse.specs.Store.{room_of, IsStore, IsSpare, Distinct, IsGiven, IsFilled, pair_of, pairs_in, search_in, lane_of, lane_pair, lane_search, lane_grid}
 use Rattle.mj_inverse.proofs.Divided.{split, raised_below, raised_at}
 use Rattle.mj_inverse.proofs.Taken.{place_below, place_le}
 use Rattle.mj_inverse.proofs.Blocks.{first_place, value-block_rows, bin_none, cut_in}
@@ -25,28 +26,95 @@ use Rattle.mj_inverse.proofs.Put.{offset_le}
 bins_le : (p : ℤ) (rows cols : ℕ) → unsigned_abs p ≤ 16 → bins p rows cols ≤ cols + 16 * (rows - 1)
 bins_le p rows cols h = let k = mul-le-mul_right (rows - 1) h in omega arith
 
-pub given_at : (unit rows cols : ℕ) (s : Series) → IsShape rows cols → IsGiven unit rows cols s → IsAt unit rows (cols + 32 * rows) (cols + 32 * rows + 32) s
-given_at unit rows cols s shape given =
+-- no projection reaches further
+pub given_to : (unit rows cols : ℕ) (s : Series) → IsShape rows cols → IsGiven unit rows cols s → s.to ≤ 32 * rows + cols
+given_to unit rows cols s shape given =
     let a = offset_le s.direction rows given.small in
     let b = bins_le s.direction rows cols given.small in
     let d = given.first in
     let e = given.last in
-    let f = given.start in
-    let g = given.places in
     let h = shape.some_row in
-    record {
-      is = given.is;
-      low = omega arith;
-      reach = omega arith;
-      room = omega arith;
-    }
+    omega arith
 
-pub all_at : (unit rows cols n : ℕ) (all : List Series) → IsShape rows cols → n ≡ length all → IsFilled unit rows cols n all → Every (IsAt unit rows (cols + 32 * rows) (cols + 32 * rows + 32)) all
-all_at unit rows cols zero [] shape e filled = tt
-all_at unit rows cols zero (s ∷ rest) shape e filled = absurd (cc)
-all_at unit rows cols (suc n) [] shape e filled = absurd filled
-all_at unit rows cols (suc n) (s ∷ rest) shape e (given, filled) =
-    (given_at unit rows cols s shape given, all_at unit rows cols n rest shape (let k : suc n ≡ suc (length rest) = e in omega arith) filled)
+pub every_to : (unit rows cols : ℕ) (all : List Series) → IsShape rows cols → Every (IsGiven unit rows cols) all → Every (λ s. s.to ≤ 32 * rows + cols) all
+every_to unit rows cols [] shape given = tt
+every_to unit rows cols (s ∷ rest) shape (g, given) = (given_to unit rows cols s shape g, every_to unit rows cols rest shape given)
+
+pub every_angle : (unit rows cols : ℕ) (all : List Series) → Every (IsGiven unit rows cols) all → Every (λ s. s.angle ≤ 32) all
+every_angle unit rows cols [] given = tt
+every_angle unit rows cols (s ∷ rest) (g, given) = (g.is.angle, every_angle unit rows cols rest given)
+
+pub can_spread : (unit rows cols high n : ℕ) (all : List Series) → high + n ≤ room_of rows cols → Every (λ s. s.to ≤ high) all → Every (IsGiven unit rows cols) all →
+    Every (λ s. IsSeries unit s × (s.room ≤ high + n) × (unit * (high + n) ≤ vec_capacity s.words)) all
+can_spread unit rows cols high n [] le to given = tt
+can_spread unit rows cols high n (s ∷ rest) le (t, to) (g, given) =
+    let full = g.full in
+    let capacity = g.capacity in
+    let fits : unit * (high + n) ≤ unit * room_of rows cols = place_le unit (high + n) (room_of rows cols) le in
+    ((g.is, omega arith, omega arith), can_spread unit rows cols high n rest le to given)
+
+pub spread_at : (unit rows cols high n : ℕ) (xs ys : List Series) → Every (IsGiven unit rows cols) xs → Every (λ s. s.to ≤ high) xs →
+    Both (IsSpread unit (high + n)) xs ys → Every (IsAt unit n high high) ys
+spread_at unit rows cols high n [] [] given to both = tt
+spread_at unit rows cols high n [] (y ∷ ys) given to both = absurd both
+spread_at unit rows cols high n (x ∷ xs) [] given to both = absurd both
+spread_at unit rows cols high n (x ∷ xs) (y ∷ ys) (g, given) (t, to) (s, both) =
+    let o = s.origin in
+    let start = g.start in
+    let end = s.to in
+    let room = s.room in (
+      record { is = s.is; low = omega arith; reach = omega arith; room = omega arith },
+      spread_at unit rows cols high n xs ys given to both,
+    )
+
+pub spread_angles : (unit room : ℕ) (xs ys : List Series) → Both (IsSpread unit room) xs ys → angles ys ≡ angles xs
+spread_angles unit room [] [] both = refl
+spread_angles unit room [] (y ∷ ys) both = absurd both
+spread_angles unit room (x ∷ xs) [] both = absurd both
+spread_angles unit room (x ∷ xs) (y ∷ ys) (s, both) = ap (λ a. a + angles ys) s.angle ∙ ap (λ a. x.angle + a) (spread_angles unit room xs ys both)
+
+pub spread_length : (unit room : ℕ) (xs ys : List Series) → Both (IsSpread unit room) xs ys → length ys ≡ length xs
+spread_length unit room [] [] both = refl
+spread_length unit room [] (y ∷ ys) both = absurd both
+spread_length unit room (x ∷ xs) [] both = absurd both
+spread_length unit room (x ∷ xs) (y ∷ ys) (s, both) = ap suc (spread_length unit room xs ys both)
+
+pub spread_keeps : (unit room : ℕ) (xs ys : List Series) → Both (IsSpread unit room) xs ys → Both KeepsRoom xs ys
+spread_keeps unit room [] [] both = tt
+spread_keeps unit room [] (y ∷ ys) both = absurd both
+spread_keeps unit room (x ∷ xs) [] both = absurd both
+spread_keeps unit room (x ∷ xs) (y ∷ ys) (s, both) = (s.capacity, spread_keeps unit room xs ys both)
+
+other_spread : (unit room a : ℕ) (xs ys : List Series) → Every (λ x. angle x ≢ a) xs → Both (IsSpread unit room) xs ys → Every (λ y. angle y ≢ a) ys
+other_spread unit room a [] [] differ both = tt
+other_spread unit room a [] (y ∷ ys) differ both = absurd both
+other_spread unit room a (x ∷ xs) [] differ both = absurd both
+other_spread unit room a (x ∷ xs) (y ∷ ys) (ne, differ) (s, both) = (λ e. ne (sym s.angle ∙ e), other_spread unit room a xs ys differ both)
+
+pub spread_differ : (unit room : ℕ) (xs ys : List Series) → Differ angle xs → Both (IsSpread unit room) xs ys → Differ angle ys
+spread_differ unit room [] [] differ both = tt
+spread_differ unit room [] (y ∷ ys) differ both = absurd both
+spread_differ unit room (x ∷ xs) [] differ both = absurd both
+spread_differ unit room (x ∷ xs) (y ∷ ys) (ne, differ) (s, both) =
+    let P : ℕ → Type 0 = λ a. Every (λ z. angle z ≢ a) xs in
+    (other_spread unit room y.angle xs ys (subst P (sym s.angle) ne) both, spread_differ unit room xs ys differ both)
+
+-- the projections stay the same
+pub spread_values : (unit room j : ℕ) (fs : List (ℕ → ℕ)) (xs ys : List Series) → Both (IsSpread unit room) xs ys →
+    HaveValues angle (seq unit j) fs xs → HaveValues angle (seq unit j) fs ys
+spread_values unit room j fs [] [] both values = tt
+spread_values unit room j fs [] (y ∷ ys) both values = absurd both
+spread_values unit room j fs (x ∷ xs) [] both values = absurd both
+spread_values unit room j fs (x ∷ xs) (y ∷ ys) (s, both) (v, values) =
+    (ap (λ a. value a fs) s.angle ∙ v ∙ sym (s.words j), spread_values unit room j fs xs ys both values)
+
+pub values_spread : (unit room j : ℕ) (fs : List (ℕ → ℕ)) (xs ys : List Series) → Both (IsSpread unit room) xs ys →
+    HaveValues angle (seq unit j) fs ys → HaveValues angle (seq unit j) fs xs
+values_spread unit room j fs [] [] both values = tt
+values_spread unit room j fs [] (y ∷ ys) both values = absurd both
+values_spread unit room j fs (x ∷ xs) [] both values = absurd both
+values_spread unit room j fs (x ∷ xs) (y ∷ ys) (s, both) (v, values) =
+    (ap (λ a. value a fs) (sym s.angle) ∙ v ∙ s.words j, values_spread unit room j fs xs ys both values)
 
 module _ (unit rows cols j : ℕ) (s : Series) (h : j < unit) (given : IsGiven unit rows cols s) (w : ℕ → ℕ) where
   f : ℕ → ℕ → ℕ
@@ -264,14 +332,14 @@ module _ (unit rows cols j : ℕ) (all : List Series) (shape : IsShape rows cols
       let words : g.words ≡ lane_of unit j (rows * cols) out = ext_get_or 0 g.words (lane_of unit j (rows * cols) out) (n ∙ sym k) at in
       ap (λ r. grid_of r g.cols g.words) found.rows ∙ ap (λ c. grid_of rows c g.words) found.cols ∙ ap (grid_of rows cols) words
 
-pub filled_blank : (unit rows cols n : ℕ) (xs ys : List Series) → IsFilled unit rows cols n xs → Every (IsBlank unit) ys → Both SameRoom xs ys → IsFilled unit rows cols 0 ys
+pub filled_blank : (unit rows cols n : ℕ) (xs ys : List Series) → IsFilled unit rows cols n xs → Every IsBlank ys → Both KeepsRoom xs ys → IsFilled unit rows cols 0 ys
 filled_blank unit rows cols n [] [] filled blank both = tt
 filled_blank unit rows cols n [] (y ∷ ys) filled blank both = absurd both
 filled_blank unit rows cols n (x ∷ xs) [] filled blank both = absurd both
 filled_blank unit rows cols zero (x ∷ xs) (y ∷ ys) (s, filled) (b, blank) (r, both) =
-    (record { blank = b; places = r ∙ s.places }, filled_blank unit rows cols zero xs ys filled blank both)
+    (record { blank = b; capacity = (let k = s.capacity in omega arith) }, filled_blank unit rows cols zero xs ys filled blank both)
 filled_blank unit rows cols (suc n) (x ∷ xs) (y ∷ ys) (s, filled) (b, blank) (r, both) =
-    (record { blank = b; places = r ∙ s.places }, filled_blank unit rows cols n xs ys filled blank both)
+    (record { blank = b; capacity = (let k = s.capacity in omega arith) }, filled_blank unit rows cols n xs ys filled blank both)
 
 pub length-pairs_in : (unit n : ℕ) (all : List Series) → n ≤ length all → length (pairs_in unit n all) ≡ n
 length-pairs_in unit zero all h = refl

@@ -6,7 +6,7 @@ use mathlib.Core.Path.{fun_ext}
 use Rattle.mj_angles.specs.Projection.{bins, bin, row_start}
 use Rattle.mj_angles.proofs.Sums.{xor_below-same}
 use Rattle.mj_inverse.specs.Rows.{Every, HaveValues, block_rows, raised, cut}
-use Rattle.mj_inverse.specs.Series.{seq, angle, IsSeries}
+use Rattle.mj_inverse.specs.Series.{seq, angle}
 use Rattle.mj_inverse.specs.Store.{IsGiven}
 use Rattle.mj_inverse.specs.Padded.{HasBins}
 use Rattle.mj_inverse.specs.declared.series.Series.{Series}
@@ -30,10 +30,6 @@ pub bins_from_values : (rows cols j : ℕ) (w : ℕ → ℕ) (all : List Series)
     Every (HasBins rows cols j (λ l k. w (l * cols + k))) all
 bins_from_values rows cols j w [] h given values = tt
 bins_from_values rows cols j w (s ∷ rest) h (g, given) (v, values) = (words_from_value 8 rows cols j s h g w v, bins_from_values rows cols j w rest h given values)
-
-pub series_from_given : (rows cols : ℕ) (all : List Series) → Every (IsGiven 8 rows cols) all → Every (IsSeries 8) all
-series_from_given rows cols [] given = tt
-series_from_given rows cols (s ∷ rest) (g, given) = (g.is, series_from_given rows cols rest given)
 
 -- rows of the same words are the same
 pub rows_from_words : (cols low n : ℕ) (v w : ℕ → ℕ) → ((l k : ℕ) → l < n → k < cols → v (l * cols + k) ≡ w (l * cols + k)) → block_rows cols low n v ≡ block_rows cols low n w

@@ -1,5 +1,5 @@
 -- A projection, or what is left of one, in a list of words: `unit` blocks stand side by side, and each place has a word of each.
-use Rattle.std.specs.Prelude.{◌≡◌, ℕ, ◌+◌, ◌-◌, ◌*◌, ◌≤◌, ◌<◌, min, max, List, slice_index, vec_len}
+use Rattle.std.specs.Prelude.{◌≡◌, ℕ, ◌+◌, ◌-◌, ◌*◌, ◌≤◌, ◌<◌, min, max, List, [], ◌∷◌, slice_index, vec_len, vec_capacity}
 use Rattle.mj_inverse.specs.declared.series.Series.{Series}
 
 -- the words of block j, from place `origin` on
@@ -8,6 +8,11 @@ seq unit j s e = slice_index s.words.items (unit * (s.origin + e) + j)
 
 abbrev pub angle : Series → ℕ
 angle s = s.angle
+
+-- all angles together
+abbrev pub angles : List Series → ℕ
+angles [] = 0
+angles (s ∷ rest) = s.angle + angles rest
 
 -- only the places from `from` to `to` may hold words other than zero
 pub record IsSeries (unit : ℕ) (s : Series) : Type 0 where
@@ -19,12 +24,12 @@ pub record IsSeries (unit : ℕ) (s : Series) : Type 0 where
   pub below : (t j : ℕ) → t < s.from → j < unit → slice_index s.words.items (unit * t + j) ≡ 0
   pub above : (t j : ℕ) → s.to ≤ t → j < unit → slice_index s.words.items (unit * t + j) ≡ 0
 
--- so many more angles may be divided out, and so many places are used
+-- angles of n together may yet be divided out, and so many places are used
 pub record IsAt (unit n high most : ℕ) (s : Series) : Type 0 where
   pub is : IsSeries unit s
   pub low : s.origin ≤ s.from
   pub reach : s.to ≤ s.origin + high
-  pub room : s.origin + most + 32 * n ≤ s.room
+  pub room : s.origin + most + n ≤ s.room
 
 -- the two series can be brought together
 pub record Meet (unit : ℕ) (x y : Series) : Type 0 where
@@ -48,18 +53,30 @@ pub record IsNext (unit : ℕ) (p x y : Series) : Type 0 where
   pub is : IsSeries unit y
   pub angle : y.angle ≡ x.angle
   pub room : y.room ≡ x.room
+  pub capacity : vec_capacity x.words ≤ vec_capacity y.words
   pub origin : y.origin ≡ x.origin + min x.angle p.angle
   pub low : y.origin ≤ y.from
   pub reach : (high : ℕ) → x.to ≤ x.origin + high → p.to ≤ p.origin + high → y.to ≤ y.origin + (high - max x.angle p.angle)
 
-abbrev pub SameRoom : Series → Series → Type 0
-SameRoom x y = y.room ≡ x.room
+-- y may have as many words as x
+abbrev pub KeepsRoom : Series → Series → Type 0
+KeepsRoom x y = vec_capacity x.words ≤ vec_capacity y.words
+
+-- y is x with more places, whose words are zero
+pub record IsSpread (unit n : ℕ) (x y : Series) : Type 0 where
+  pub is : IsSeries unit y
+  pub room : y.room ≡ n
+  pub capacity : vec_capacity x.words ≤ vec_capacity y.words
+  pub angle : y.angle ≡ x.angle
+  pub origin : y.origin ≡ x.origin
+  pub from : y.from ≡ x.from
+  pub to : y.to ≡ x.to
+  pub words : (j : ℕ) → seq unit j y ≡ seq unit j x
 
 -- blocks that were not marked before are not marked now
 abbrev pub IsUnmarked : List ℕ → ℕ → Type 0
 IsUnmarked bad j = slice_index bad j ≡ 0
 
--- all words are zero
-pub record IsBlank (unit : ℕ) (s : Series) : Type 0 where
-  pub room : vec_len s.words ≡ unit * s.room
-  pub zero : (i : ℕ) → slice_index s.words.items i ≡ 0
+-- there are no words
+abbrev pub IsBlank : Series → Type 0
+IsBlank s = vec_len s.words ≡ 0

@@ -1,5 +1,5 @@
 -- Where a work keeps its pairs: the first `count` of its series have one each, and the others are blank.
-use Rattle.std.specs.Prelude.{◌≡◌, ◌≢◌, length, ℕ, zero, suc, ◌+◌, ◌-◌, ◌*◌, ◌≤◌, List, [], ◌∷◌, map, slice_range, slice_index, unsigned_abs}
+use Rattle.std.specs.Prelude.{◌≡◌, ◌≢◌, length, ℕ, zero, suc, ◌+◌, ◌-◌, ◌*◌, ◌≤◌, List, [], ◌∷◌, map, slice_range, slice_index, unsigned_abs, vec_capacity}
 use Rattle.std.specs.List.{range_with_len}
 use Rattle.rz_words.specs.Grid.{Grid, IsShape, grid_of}
 use Rattle.mj_inverse.specs.Rows.{Every}
@@ -9,24 +9,25 @@ use Rattle.mj_inverse.specs.Fits.{Pair, Search}
 use Rattle.mj_inverse.specs.declared.series.Series.{Series}
 use Rattle.mj_inverse.specs.Series.{IsSeries, IsBlank}
 
--- so many places each series has
+-- so many places each series may have
 abbrev pub room_of : ℕ → ℕ → ℕ
-room_of rows cols = cols + 64 * rows + 32
+room_of rows cols = cols + 64 * rows
 
 -- blank, and with enough room
 pub record IsSpare (unit rows cols : ℕ) (s : Series) : Type 0 where
-  pub blank : IsBlank unit s
-  pub places : s.room ≡ room_of rows cols
+  pub blank : IsBlank s
+  pub capacity : unit * room_of rows cols ≤ vec_capacity s.words
 
 -- the projection of a block at an angle from -16 to 16
 pub record IsGiven (unit rows cols : ℕ) (s : Series) : Type 0 where
   pub is : IsSeries unit s
-  pub places : s.room ≡ room_of rows cols
+  pub capacity : unit * room_of rows cols ≤ vec_capacity s.words
   pub small : unsigned_abs s.direction ≤ 16
   pub lifts : s.angle ≡ lifted 16 s.direction
   pub start : s.origin ≡ 0
   pub first : s.from ≡ 16 * rows - offset s.direction rows
   pub last : s.to ≡ s.from + bins s.direction rows cols
+  pub full : s.room ≡ s.to
 
 -- the first n are given, and the others spare
 abbrev pub IsFilled : ℕ → ℕ → ℕ → ℕ → List Series → Type 0

@@ -2,7 +2,7 @@
 
 ghost use Rattle.std.specs.Prelude.{◌≡◌, ◌≢◌, ◌≤◌, ◌<◌, ◌+◌, ◌-◌, ◌*◌, ◌^◌, ℕ, List, ◌∷◌, length, map, slice_index};
 ghost use Rattle.mj_inverse.specs.Rows.{joined, IsFinite, Every, Both, HaveValues, Differ, IsDividedOut, Divides, block_rows};
-ghost use Rattle.mj_inverse.specs.Series.{seq, angle as angle_of, IsAt, IsWide, IsNext, IsUnmarked, IsBlank, SameRoom, Meet};
+ghost use Rattle.mj_inverse.specs.Series.{seq, angle as angle_of, angles, IsAt, IsWide, IsNext, IsUnmarked, IsBlank, KeepsRoom, Meet};
 
 use crate::series::Series;
 
@@ -43,7 +43,7 @@ fn join(
     ensures rows { (j : ℕ) → j < unit → map (seq unit j) (first.new ∷ rest.new) ≡ joined angle (seq unit j first.old) (map (seq unit j) rest.old) }
     ensures first { IsWide unit high most first.new }
     ensures rest { Every (IsWide unit high most) rest.new }
-    ensures same { Both SameRoom (first.old ∷ rest.old) (first.new ∷ rest.new) }
+    ensures same { Both KeepsRoom (first.old ∷ rest.old) (first.new ∷ rest.new) }
 {
     match rest.split_first_mut() {
         None => {}
@@ -56,14 +56,15 @@ fn join(
 
 /// Makes the rows of each block out of its projections, and marks the blocks that have none.
 pub fn invert(all: &mut [Series], unit: usize, bad: &mut [u64], high: usize, most: usize)
-    requires at { Every (IsAt unit (length all.old) high most) all.old }
+    requires at { Every (IsAt unit (angles all.old) high most) all.old }
     requires differ { Differ angle_of all.old }
-    requires high { 32 * length all.old ≤ high }
-    requires room { high + 32 ≤ most }
+    requires high { angles all.old ≤ high }
+    requires room { high ≤ most }
+    requires least { 32 ≤ most }
     requires limit { most < 2 ^ 32 }
     requires blocks { length bad.old ≡ unit }
     ensures wide { Every (IsWide unit high most) all.new }
-    ensures same { Both SameRoom all.old all.new }
+    ensures same { Both KeepsRoom all.old all.new }
     ensures values { (j : ℕ) → j < unit → IsUnmarked bad.new j →
         IsUnmarked bad.old j × HaveValues angle_of (seq unit j) (map (seq unit j) all.new) all.old }
     ensures complete { (j : ℕ) (fs : List (ℕ → ℕ)) → j < unit → IsUnmarked bad.old j → length fs ≡ length all.old → Every IsFinite fs →
@@ -97,8 +98,8 @@ fn give_rows(
     requires limit { most < 2 ^ 32 }
     requires blocks { length bad.old ≡ unit }
     requires out { length out.old ≡ unit * (cols * length all.old) }
-    ensures blank { Every (IsBlank unit) all.new }
-    ensures same { Both SameRoom all.old all.new }
+    ensures blank { Every IsBlank all.new }
+    ensures same { Both KeepsRoom all.old all.new }
     ensures rows { (j : ℕ) → j < unit → IsUnmarked bad.new j → IsUnmarked bad.old j ×
         (map (seq unit j) all.old ≡ block_rows cols low (length all.old) (λ i. slice_index out.new (unit * i + j))) }
     ensures fits { (j : ℕ) (w : ℕ → ℕ) → j < unit → IsUnmarked bad.old j → map (seq unit j) all.old ≡ block_rows cols low (length all.old) w →
@@ -126,17 +127,18 @@ pub fn solve(
     high: usize,
     most: usize,
 )
-    requires at { Every (IsAt unit (length all.old) high most) all.old }
+    requires at { Every (IsAt unit (angles all.old) high most) all.old }
     requires differ { Differ angle_of all.old }
-    requires high { 32 * length all.old ≤ high }
-    requires room { high + 32 ≤ most }
+    requires high { angles all.old ≤ high }
+    requires room { high ≤ most }
+    requires least { 32 ≤ most }
     requires columns { low + 16 * length all.old + cols ≤ most }
     requires limit { most < 2 ^ 32 }
     requires blocks { length bad.old ≡ unit }
     requires unmarked { (j : ℕ) → j < unit → IsUnmarked bad.old j }
     requires out { length out.old ≡ unit * (cols * length all.old) }
-    ensures blank { Every (IsBlank unit) all.new }
-    ensures same { Both SameRoom all.old all.new }
+    ensures blank { Every IsBlank all.new }
+    ensures same { Both KeepsRoom all.old all.new }
     ensures exact { (j : ℕ) → j < unit → IsUnmarked bad.new j →
         HaveValues angle_of (seq unit j) (block_rows cols low (length all.old) (λ i. slice_index out.new (unit * i + j))) all.old }
     ensures complete { (j : ℕ) (w : ℕ → ℕ) → j < unit → HaveValues angle_of (seq unit j) (block_rows cols low (length all.old) w) all.old →

@@ -1,6 +1,6 @@
 //! The running exclusive or.
 
-ghost use Rattle.std.specs.Prelude.{◌≡◌, ◌≤◌, ◌<◌, ◌+◌, ◌-◌, ◌*◌, ℕ, length, slice_index, bit_xor, vec_len};
+ghost use Rattle.std.specs.Prelude.{◌≡◌, ◌≤◌, ◌<◌, ◌+◌, ◌-◌, ◌*◌, ℕ, length, slice_index, bit_xor, vec_len, vec_capacity};
 
 use rz_lanes::{all_zero, xor_into};
 use std::simd::prelude::*;
@@ -139,6 +139,7 @@ pub fn run_within(
     ensures below { (t : ℕ) → t < from → slice_index words.new.items t ≡ slice_index words.old.items t }
     ensures above { (t : ℕ) → to ≤ t → slice_index words.new.items t ≡ slice_index words.old.items t }
     ensures len { vec_len words.new ≡ vec_len words.old }
+    ensures capacity { vec_capacity words.new ≡ vec_capacity words.old }
 {
     run(&mut words[from..to], &by[at..at + (to - from)], step);
 }
@@ -152,6 +153,7 @@ pub fn add_within(words: &mut Vec<u64>, from: usize, by: &Vec<u64>, at: usize, e
     ensures below { (t : ℕ) → t < from → slice_index words.new.items t ≡ slice_index words.old.items t }
     ensures above { (t : ℕ) → from + (end - at) ≤ t → slice_index words.new.items t ≡ slice_index words.old.items t }
     ensures len { vec_len words.new ≡ vec_len words.old }
+    ensures capacity { vec_capacity words.new ≡ vec_capacity words.old }
 {
     xor_into(&mut words[from..from + (end - at)], &by[at..end]);
 }
@@ -165,6 +167,7 @@ pub fn take_rest(words: &mut Vec<u64>, unit: usize, from: usize, to: usize, bad:
     ensures below { (i : ℕ) → i < unit * from → slice_index words.new.items i ≡ slice_index words.old.items i }
     ensures above { (i : ℕ) → unit * to ≤ i → slice_index words.new.items i ≡ slice_index words.old.items i }
     ensures len { vec_len words.new ≡ vec_len words.old }
+    ensures capacity { vec_capacity words.new ≡ vec_capacity words.old }
     ensures marked { (j : ℕ) → j < unit → slice_index bad.new j ≡ 0 →
         (slice_index bad.old j ≡ 0) × ((t : ℕ) → from ≤ t → t < to → slice_index words.old.items (unit * t + j) ≡ 0) }
     ensures unmarked { (j : ℕ) → j < unit → slice_index bad.old j ≡ 0 →
@@ -184,6 +187,7 @@ fn take_each(words: &mut Vec<u64>, unit: usize, from: usize, to: usize, bad: &mu
     ensures below { (i : ℕ) → i < unit * from → slice_index words.new.items i ≡ slice_index words.old.items i }
     ensures above { (i : ℕ) → unit * to ≤ i → slice_index words.new.items i ≡ slice_index words.old.items i }
     ensures len { vec_len words.new ≡ vec_len words.old }
+    ensures capacity { vec_capacity words.new ≡ vec_capacity words.old }
     ensures marked { (j : ℕ) → j < unit → slice_index bad.new j ≡ 0 →
         (slice_index bad.old j ≡ 0) × ((t : ℕ) → from ≤ t → t < to → slice_index words.old.items (unit * t + j) ≡ 0) }
     ensures unmarked { (j : ℕ) → j < unit → slice_index bad.old j ≡ 0 →
@@ -202,6 +206,7 @@ fn take_place(words: &mut Vec<u64>, unit: usize, t: usize, bad: &mut [u64])
     ensures below { (i : ℕ) → i < unit * t → slice_index words.new.items i ≡ slice_index words.old.items i }
     ensures above { (i : ℕ) → unit * t + unit ≤ i → slice_index words.new.items i ≡ slice_index words.old.items i }
     ensures len { vec_len words.new ≡ vec_len words.old }
+    ensures capacity { vec_capacity words.new ≡ vec_capacity words.old }
     ensures marked { (j : ℕ) → j < unit → slice_index bad.new j ≡ 0 →
         (slice_index bad.old j ≡ 0) × (slice_index words.old.items (unit * t + j) ≡ 0) }
     ensures unmarked { (j : ℕ) → j < unit → slice_index bad.old j ≡ 0 → slice_index words.old.items (unit * t + j) ≡ 0 → slice_index bad.new j ≡ 0 }
@@ -224,40 +229,45 @@ fn take_group(group: &mut [u64], bad: &mut [u64])
     }
 }
 
-/// Writes the words from place `from` to place `to` into `out`, and makes them zero.
+/// Writes the words from place `from` to place `to` into `out`, and forgets all words.
 pub fn give_words(words: &mut Vec<u64>, from: usize, to: usize, out: &mut [u64])
     requires order { from ≤ to }
     requires within { to ≤ vec_len words.old }
     requires room { from + length out.old ≡ to }
     ensures out { (k : ℕ) → from + k < to → slice_index out.new k ≡ slice_index words.old.items (from + k) }
-    ensures zero { (i : ℕ) → from ≤ i → i < to → slice_index words.new.items i ≡ 0 }
-    ensures below { (i : ℕ) → i < from → slice_index words.new.items i ≡ slice_index words.old.items i }
-    ensures above { (i : ℕ) → to ≤ i → slice_index words.new.items i ≡ slice_index words.old.items i }
-    ensures len { vec_len words.new ≡ vec_len words.old }
+    ensures blank { vec_len words.new ≡ 0 }
+    ensures capacity { vec_capacity words.new ≡ vec_capacity words.old }
 {
     out.copy_from_slice(&words[from..to]);
-    words[from..to].fill(0);
+    words.clear();
 }
 
-/// Writes `bins` into `words` from place `from` on.
+/// Writes `from` zeros and then `bins` into `words`, where there are none.
 pub fn put_words(words: &mut Vec<u64>, from: usize, bins: &[u64])
-    requires { from + length bins.now ≤ vec_len words.old }
+    requires blank { vec_len words.old ≡ 0 }
+    requires room { from + length bins.now ≤ vec_capacity words.old }
     ensures inside { (k : ℕ) → k < length bins.now → slice_index words.new.items (from + k) ≡ slice_index bins.now k }
-    ensures below { (i : ℕ) → i < from → slice_index words.new.items i ≡ slice_index words.old.items i }
-    ensures above { (i : ℕ) → from + length bins.now ≤ i → slice_index words.new.items i ≡ slice_index words.old.items i }
-    ensures len { vec_len words.new ≡ vec_len words.old }
+    ensures below { (i : ℕ) → i < from → slice_index words.new.items i ≡ 0 }
+    ensures len { vec_len words.new ≡ from + length bins.now }
+    ensures capacity { vec_capacity words.old ≤ vec_capacity words.new }
 {
-    words[from..from + bins.len()].copy_from_slice(bins);
+    let Ok(()) = words.resize(from, 0) else {
+        return;
+    };
+    let Ok(()) = words.extend_from_slice(bins) else {
+        return;
+    };
 }
 
-/// Makes the words from place `from` to place `to` zero.
-pub fn zero_words(words: &mut Vec<u64>, from: usize, to: usize)
-    requires order { from ≤ to }
-    requires within { to ≤ vec_len words.old }
-    ensures zero { (i : ℕ) → from ≤ i → i < to → slice_index words.new.items i ≡ 0 }
-    ensures below { (i : ℕ) → i < from → slice_index words.new.items i ≡ slice_index words.old.items i }
-    ensures above { (i : ℕ) → to ≤ i → slice_index words.new.items i ≡ slice_index words.old.items i }
-    ensures len { vec_len words.new ≡ vec_len words.old }
+/// Adds zeros until there are `n` words.
+pub fn add_zeros(words: &mut Vec<u64>, n: usize)
+    requires more { vec_len words.old ≤ n }
+    requires room { n ≤ vec_capacity words.old }
+    ensures same { (i : ℕ) → slice_index words.new.items i ≡ slice_index words.old.items i }
+    ensures len { vec_len words.new ≡ n }
+    ensures capacity { vec_capacity words.old ≤ vec_capacity words.new }
 {
-    words[from..to].fill(0);
+    let Ok(()) = words.resize(n, 0) else {
+        return;
+    };
 }

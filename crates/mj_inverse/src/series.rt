@@ -1,14 +1,14 @@
 //! A projection, or what is left of one.
 
-ghost use Rattle.std.specs.Prelude.{IfOk, ◌≡◌, ◌≢◌, ◌≤◌, ◌<◌, ◌+◌, ◌-◌, ◌*◌, ℕ, length, vec_len, slice_index, slice_range, unsigned_abs, min, max, bit_xor};
+ghost use Rattle.std.specs.Prelude.{IfOk, ◌≡◌, ◌≢◌, ◌≤◌, ◌<◌, ◌+◌, ◌-◌, ◌*◌, ℕ, length, vec_len, vec_capacity, slice_index, slice_range, unsigned_abs, min, max, bit_xor};
 ghost use Rattle.mj_inverse.specs.Rows.{plus, raised, times, cut, IsFinite};
 ghost use Rattle.rz_words.specs.Grid.{IsShape};
 ghost use Rattle.mj_angles.specs.Projection.{bins as bin_count};
 ghost use Rattle.mj_angles.proofs.Order.{lifted};
 ghost use Rattle.mj_inverse.specs.Store.{IsSpare, IsGiven};
-ghost use Rattle.mj_inverse.specs.Series.{seq, IsSeries, IsNext, IsUnmarked, IsBlank, SameRoom, Meet};
+ghost use Rattle.mj_inverse.specs.Series.{seq, IsSeries, IsNext, IsUnmarked, IsBlank, IsSpread, KeepsRoom, Meet};
 
-use crate::run::{add_within, give_words, put_words, run_within, take_rest, zero_words};
+use crate::run::{add_within, add_zeros, give_words, put_words, run_within, take_rest};
 use std::alloc::{AllocError, Global};
 
 /// The words of a sequence: place `origin` of the list holds its word number 0.
@@ -23,7 +23,7 @@ pub struct Series {
     pub from: usize,
     /// All words from this place on are zero.
     pub to: usize,
-    /// So many places there are.
+    /// So many places there are now.
     pub room: usize,
     pub words: Vec<u64>,
 }
@@ -48,21 +48,20 @@ pub fn zeros(alloc: Global, n: usize) -> Result<Vec<u64>, AllocError>
 }
 
 impl Series {
-    /// Blank, with room for a block of this size.
+    /// Blank, with room for a projection of a block of this size, and for what becomes of it.
     pub fn new(alloc: Global, rows: usize, cols: usize, unit: usize) -> Result<Series, AllocError>
         requires shape { IsShape rows cols }
         requires few { unit ≤ 8 }
         ensures { IfOk result (IsSpare unit rows cols) }
     {
-        let room = cols + 64 * rows + 32;
-        let words = zeros(alloc, unit * room)?;
+        let words = Vec::with_capacity(alloc, unit * (cols + 64 * rows))?;
         Ok(Series {
             direction: 0,
             angle: 0,
             origin: 0,
             from: 0,
             to: 0,
-            room,
+            room: 0,
             words,
         })
     }
@@ -111,6 +110,7 @@ impl Series {
         ensures is { IsSeries unit self.new }
         ensures angle { self.new.angle ≡ self.old.angle }
         ensures room { self.new.room ≡ self.old.room }
+        ensures capacity { KeepsRoom self.old self.new }
         ensures origin { self.new.origin ≡ self.old.origin }
         ensures from { self.new.from ≡ min self.old.from (self.old.origin + up + (other.now.from - other.now.origin)) }
         ensures to { self.new.to ≡ max self.old.to (self.old.origin + up + (other.now.to - other.now.origin)) }
@@ -129,7 +129,7 @@ impl Series {
         self.to = self.to.max(to);
     }
 
-    /// Writes the words from number `at` on into `out`, and makes all words zero. Marks the blocks that had other words.
+    /// Writes the words from number `at` on into `out`, and forgets all words. Marks the blocks that had other words.
     pub fn give_row(
         &mut self,
         at: usize,
@@ -143,8 +143,8 @@ impl Series {
         requires room { self.old.origin + at + cols ≤ self.old.room }
         requires blocks { length bad.old ≡ unit }
         requires out { length out.old ≡ unit * cols }
-        ensures blank { IsBlank unit self.new }
-        ensures same { SameRoom self.old self.new }
+        ensures blank { IsBlank self.new }
+        ensures capacity { KeepsRoom self.old self.new }
         ensures row { (j : ℕ) → j < unit → IsUnmarked bad.new j → IsUnmarked bad.old j ×
             (seq unit j self.old ≡ raised at (cut cols (λ k. slice_index out.new (unit * k + j)))) }
         ensures fits { (j : ℕ) (w : ℕ → ℕ) → j < unit → IsUnmarked bad.old j → seq unit j self.old ≡ raised at (cut cols w) → IsUnmarked bad.new j }
@@ -175,14 +175,25 @@ impl Series {
         self.origin = 0;
         self.from = from;
         self.to = to;
+        self.room = to;
     }
 
-    /// Makes all words zero.
-    pub fn wipe(&mut self, unit: usize)
-        requires { IsSeries unit self.old }
-        ensures blank { IsBlank unit self.new }
-        ensures same { SameRoom self.old self.new }
+    /// Makes places until there are `room`.
+    pub fn spread(&mut self, unit: usize, room: usize)
+        requires is { IsSeries unit self.old }
+        requires more { self.old.room ≤ room }
+        requires capacity { unit * room ≤ vec_capacity self.old.words }
+        ensures { IsSpread unit room self.old self.new }
     {
-        zero_words(&mut self.words, unit * self.from, unit * self.to);
+        add_zeros(&mut self.words, unit * room);
+        self.room = room;
+    }
+
+    /// Forgets all words.
+    pub fn wipe(&mut self)
+        ensures blank { IsBlank self.new }
+        ensures capacity { KeepsRoom self.old self.new }
+    {
+        self.words.clear();
     }
 }

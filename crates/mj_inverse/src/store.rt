@@ -1,12 +1,12 @@
 //! The series of a work: the first ones have a projection each, and the others are blank.
 
-ghost use Rattle.std.specs.Prelude.{◌≡◌, ◌≢◌, ◌≤◌, ◌<◌, ◌+◌, ◌*◌, ◌++◌, ◌∷◌, [], ℕ, IfOk, length, unsigned_abs, slice_index, vec_len};
+ghost use Rattle.std.specs.Prelude.{◌≡◌, ◌≢◌, ◌≤◌, ◌<◌, ◌+◌, ◌*◌, ◌++◌, ◌∷◌, [], ℕ, IfOk, length, unsigned_abs, slice_index, vec_len, vec_capacity};
 ghost use Rattle.rz_words.specs.Grid.{Grid, IsShape};
 ghost use Rattle.mj_angles.specs.Projection.{bins as bin_count};
 ghost use Rattle.mj_inverse.specs.Fits.{IsFound};
-ghost use Rattle.mj_inverse.specs.Rows.{Differ, Every, HaveValues, block_rows};
+ghost use Rattle.mj_inverse.specs.Rows.{Both, Differ, Every, HaveValues, block_rows};
 ghost use Rattle.mj_inverse.specs.Padded.{IsPadded, reach_of, width_of};
-ghost use Rattle.mj_inverse.specs.Series.{seq, angle as angle_of, IsUnmarked};
+ghost use Rattle.mj_inverse.specs.Series.{seq, angle as angle_of, angles, IsSeries, IsSpread, IsUnmarked};
 ghost use Rattle.mj_inverse.specs.Store.{IsFilled, pairs_in, search_in, lane_search, lane_grid};
 
 use crate::invert::solve;
@@ -43,7 +43,7 @@ pub fn wipe_all(all: &mut [Series], count: usize, unit: usize, rows: usize, cols
         None => {}
         Some((first, rest)) => {
             if count > 0 {
-                first.wipe(unit);
+                first.wipe();
                 wipe_all(rest, count - 1, unit, rows, cols);
             }
         }
@@ -82,6 +82,47 @@ pub fn put_at(
     }
 }
 
+/// All angles together.
+fn total_angle(all: &[Series]) -> usize
+    requires angles { Every (λ s. s.angle ≤ 32) all.now }
+    requires few { length all.now ≤ 16 }
+    ensures value { result ≡ angles all.now }
+    ensures few { result ≤ 32 * length all.now }
+{
+    match all.split_first() {
+        None => 0,
+        Some((first, rest)) => first.angle + total_angle(rest),
+    }
+}
+
+/// So many places are used, or `least` if that is more. That is `most` at most.
+fn reach(all: &[Series], least: usize, most: usize) -> usize
+    requires order { least ≤ most }
+    requires within { Every (λ s. s.to ≤ most) all.now }
+    ensures least { least ≤ result }
+    ensures most { result ≤ most }
+    ensures each { Every (λ s. s.to ≤ result) all.now }
+{
+    match all.split_first() {
+        None => least,
+        Some((first, rest)) => reach(rest, least.max(first.to), most),
+    }
+}
+
+/// Makes `room` places in each series.
+fn spread_all(all: &mut [Series], unit: usize, room: usize)
+    requires { Every (λ s. IsSeries unit s × (s.room ≤ room) × (unit * room ≤ vec_capacity s.words)) all.old }
+    ensures { Both (IsSpread unit room) all.old all.new }
+{
+    match all.split_first_mut() {
+        None => {}
+        Some((first, rest)) => {
+            first.spread(unit, room);
+            spread_all(rest, unit, room);
+        }
+    }
+}
+
 /// Writes the words of each block into `out`, and marks the blocks that no words fit.
 pub fn solve_all(
     all: &mut [Series],
@@ -105,16 +146,11 @@ pub fn solve_all(
 {
     sort(all);
     bad.fill(0);
-    solve(
-        all,
-        0,
-        cols,
-        unit,
-        out,
-        bad,
-        cols + 32 * rows,
-        cols + 32 * rows + 32,
-    );
+    let total = total_angle(all);
+    let least = total.max(16 * rows + cols + 16);
+    let high = reach(all, least, 32 * rows + cols);
+    spread_all(all, unit, high + total);
+    solve(all, 0, cols, unit, out, bad, high, high);
 }
 
 /// The same of eight blocks, read off word by word. `grid` and `turns` are room for that.

@@ -11,7 +11,7 @@ ghost use Rattle.mj_angles.specs.Projection.{bin, bins as bin_count, offset as o
 ghost use Rattle.mj_angles.proofs.Order.{lifted};
 ghost use Rattle.mj_angles.proofs.Peel.{turn_of};
 ghost use Rattle.mj_inverse.specs.Rows.{Differ, Every, Both, HaveValues, block_rows};
-ghost use Rattle.mj_inverse.specs.Series.{seq, angle as angle_of, IsSeries, IsBlank, IsUnmarked, SameRoom};
+ghost use Rattle.mj_inverse.specs.Series.{seq, angle as angle_of, IsSeries, IsBlank, IsUnmarked, KeepsRoom};
 ghost use Rattle.mj_inverse.specs.Store.{IsGiven};
 ghost use Rattle.mj_inverse.specs.Padded.{IsPadded, inner, step_of, reach_of, width_of, direction_at, HasBins, IsFalling, IsOnly, IsSwept};
 
@@ -299,16 +299,15 @@ fn mark(all: &[Series], rows: usize, cols: usize, grid: &[u64], bad: &mut [u64])
     rest.copy_to_slice(bad);
 }
 
-/// Makes all words of all series zero.
+/// Forgets the words of all series.
 fn wipe_each(all: &mut [Series])
-    requires { Every (IsSeries 8) all.old }
-    ensures blank { Every (IsBlank 8) all.new }
-    ensures same { Both SameRoom all.old all.new }
+    ensures blank { Every IsBlank all.new }
+    ensures same { Both KeepsRoom all.old all.new }
 {
     match all.split_first_mut() {
         None => {}
         Some((first, rest)) => {
-            first.wipe(8);
+            first.wipe();
             wipe_each(rest);
         }
     }
@@ -335,8 +334,8 @@ pub fn sweep(
     requires blocks { length bad.old ≡ 8 }
     requires out { length out.old ≡ 8 * (rows * cols) }
     ensures padded { IsPadded rows cols (reach_of rows) grid.new }
-    ensures blank { Every (IsBlank 8) all.new }
-    ensures same { Both SameRoom all.old all.new }
+    ensures blank { Every IsBlank all.new }
+    ensures same { Both KeepsRoom all.old all.new }
     ensures exact { (j : ℕ) → j < 8 → IsUnmarked bad.new j →
         HaveValues angle_of (seq 8 j) (block_rows cols 0 rows (λ i. slice_index out.new (8 * i + j))) all.old }
     ensures complete { (j : ℕ) (w : ℕ → ℕ) → j < 8 → HaveValues angle_of (seq 8 j) (block_rows cols 0 rows w) all.old →

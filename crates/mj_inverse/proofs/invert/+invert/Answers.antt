@@ -1,10 +1,10 @@
-use Rattle.std.proofs.Common.{rules, arith, ◌≡◌, ◌<◌, ℕ, suc, List, ◌∷◌, length, map, refl, sym, ap, ◌∙◌, subst}
+use Rattle.std.proofs.Common.{rules, arith, ◌≡◌, ◌<◌, ◌+◌, ◌-◌, ℕ, suc, List, ◌∷◌, length, map, refl, sym, ap, ◌∙◌, subst}
 use Rattle.mj_inverse.specs.declared.series.Series.{Series}
 use Rattle.mj_inverse.specs.Rows.{joined, IsFinite, Every, Both, HaveValues, Differ, IsDividedOut}
-use Rattle.mj_inverse.specs.Series.{seq, angle, IsAt, IsUnmarked, SameRoom}
+use Rattle.mj_inverse.specs.Series.{seq, angle, angles, IsAt, IsUnmarked, KeepsRoom}
 use Rattle.mj_inverse.proofs.Divided.{quotient}
 use Rattle.mj_inverse.proofs.Steps.{Left, joined_values, left_of, left_divides, left_values}
-use Rattle.mj_inverse.proofs.Levels.{next_room, next_length, next_differ, next_at, same_room}
+use Rattle.mj_inverse.proofs.Levels.{next_room, next_length, next_differ, next_angles, next_at, same_room}
 use Rattle.mj_inverse.proofs.invert.+invert.Goals as goal
 
 -- what rows leave, where they have the projections all, which are p and rest
@@ -21,18 +21,21 @@ invert-requires t c =
     let ys : List Series = c.divide_all.new.rest in
     let e : c.args.all.now ≡ p ∷ xs = search rules in
     let n : length c.args.all.now ≡ suc (length ys) = ap length e ∙ ap suc (sym (next_length u p xs ys c.divide_all.ensures.next)) in
-    let at : Every (IsAt u (suc (length ys)) c.args.high c.args.most) (p ∷ xs) =
-    (let P : List Series → Type 0 = λ zs. Every (IsAt u (length c.args.all.now) c.args.high c.args.most) zs in
-    let Q : ℕ → Type 0 = λ n. Every (IsAt u n c.args.high c.args.most) (p ∷ xs) in subst Q n (subst P e c.requires.at)) in
+    let sum : angles ys ≡ angles xs = next_angles u p xs ys c.divide_all.ensures.next in
+    let total : angles c.args.all.now ≡ p.angle + angles xs = ap angles e in
+    let at : Every (IsAt u (p.angle + angles xs) c.args.high c.args.most) (p ∷ xs) =
+    (let P : List Series → Type 0 = λ zs. Every (IsAt u (angles zs) c.args.high c.args.most) zs in subst P e c.requires.at) in
     let differ : Differ angle (p ∷ xs) = (let P : List Series → Type 0 = λ zs. Differ angle zs in subst P e c.requires.differ) in
+    let next : Every (IsAt u (angles ys) (c.args.high - p.angle) c.args.most) ys =
+    (let P : ℕ → Type 0 = λ n. Every (IsAt u n (c.args.high - p.angle) c.args.most) ys in
+    subst P (sym sum) (next_at u (angles xs) c.args.high c.args.most p xs ys at.0 at.1 c.divide_all.ensures.next)) in
     let high = c.requires.high in
     let room = c.requires.room in
-    let small = at.0.is.angle in
     let fall : length ys < length c.args.all.now = omega arith in (
       search rules,
       (
-        next_at u (length ys) c.args.high c.args.most p xs ys at.0 at.1 c.divide_all.ensures.next,
-        (next_differ u p xs ys differ.1 c.divide_all.ensures.next, (omega arith, (omega arith, (c.requires.limit, search rules)))),
+        next,
+        (next_differ u p xs ys differ.1 c.divide_all.ensures.next, (omega arith, (omega arith, (c.requires.least, (c.requires.limit, search rules))))),
       ),
     )
 
@@ -43,8 +46,8 @@ returns-in-Some-clause-same t c =
     let ys : List Series = c.divide_all.new.rest in
     let zs : List Series = c.invert.new.all in
     let e : c.args.all.now ≡ p ∷ xs = search rules in
-    let P : List Series → Type 0 = λ ws. Both SameRoom ws (c.join.new.first ∷ c.join.new.rest) in
-    let before : Both SameRoom (p ∷ xs) (p ∷ zs) = (refl, same_room xs ys zs (next_room c.args.unit p xs ys c.divide_all.ensures.next) c.invert.ensures.same) in
+    let P : List Series → Type 0 = λ ws. Both KeepsRoom ws (c.join.new.first ∷ c.join.new.rest) in
+    let before : Both KeepsRoom (p ∷ xs) (p ∷ zs) = (omega arith, same_room xs ys zs (next_room c.args.unit p xs ys c.divide_all.ensures.next) c.invert.ensures.same) in
     subst P (sym e) (same_room (p ∷ xs) (p ∷ zs) (c.join.new.first ∷ c.join.new.rest) before c.join.ensures.same)
 
 pub returns-in-Some-clause-values : goal.returns-in-Some-clause-values

@@ -1,10 +1,7 @@
 use Rattle.std.proofs.Common.{◌≡◌, ◌+◌, ◌*◌, ℕ, get_or, sym, ◌∙◌}
 use Rattle.mj_inverse.specs.Padded.{inner, reach_of, width_of}
-use Rattle.mj_inverse.proofs.Tied.{bins_same, values_from_bins, bins_from_values, series_from_given, rows_from_words}
+use Rattle.mj_inverse.proofs.Tied.{bins_same, values_from_bins, bins_from_values, rows_from_words}
 use Rattle.mj_inverse.proofs.sweep.sweep.Goals as goal
-
-pub wipe_each-requires : goal.wipe_each-requires
-wipe_each-requires c = series_from_given c.args.rows c.args.cols c.args.all.now c.requires.given
 
 pub returns-clause-exact : goal.returns-clause-exact
 returns-clause-exact c = λ j h unmarked.

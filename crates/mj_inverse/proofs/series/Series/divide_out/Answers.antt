@@ -78,6 +78,7 @@ returns-clause-next c =
       };
       angle = refl;
       room = refl;
+      capacity = (let i = c.run_within.ensures.capacity in let j = c.take_rest.ensures.capacity in let k = c.take_rest-2.ensures.capacity in omega arith);
       origin = omega arith;
       low = omega arith;
       reach = λ high x y. omega arith;
