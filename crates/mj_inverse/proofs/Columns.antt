@@ -1,5 +1,5 @@
 -- A running exclusive or with stride s, a row of s words at a time, of which the last row is kept apart in two vectors.
-use Rattle.std.proofs.Common.{◌≡◌, ◌≢◌, refl, replicate, ℕ, ◌+◌, ◌*◌, ◌<◌, ◌≤◌, sym, ap, ◌∙◌, subst, arith, rules, ◌⊎◌, inl, inr, List, length, get_or}
+use Rattle.std.proofs.Common.{◌≡◌, refl, replicate, ℕ, ◌+◌, ◌<◌, ◌≤◌, sym, ap, ◌∙◌, subst, arith, rules, ◌⊎◌, inl, inr, List, length, get_or}
 use Rattle.std.specs.Prelude.{bit_xor, ◌-◌}
 use Rattle.std.specs.Simd.Lanes.{zip2, chunk, put_chunk}
 use Rattle.std.proofs.lemmas.Bool.{cases_lt}

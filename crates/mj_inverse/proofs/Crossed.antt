@@ -1,6 +1,6 @@
 -- The words on a line, where each row has room for zeros on both sides of its columns.
-use Rattle.std.proofs.Common.{◌≡◌, ◌≢◌, ℕ, ◌+◌, ◌-◌, ◌*◌, ◌<◌, ◌≤◌, refl, sym, ap, ◌∙◌, subst, arith, ◌⊎◌, inl, inr, ℤ, pos, List, length, get_or}
-use Rattle.std.specs.Prelude.{bit_xor, negsuc, unsigned_abs, ◌==◌, if◌then◌else◌}
+use Rattle.std.proofs.Common.{◌≡◌, ◌≢◌, ℕ, ◌+◌, ◌-◌, ◌*◌, ◌<◌, ◌≤◌, sym, ap, ◌∙◌, subst, arith, ◌⊎◌, inl, inr, ℤ, pos, List, get_or}
+use Rattle.std.specs.Prelude.{negsuc, unsigned_abs, ◌==◌, if◌then◌else◌}
 use Rattle.std.proofs.Math.Nat.{mul-le-mul_left, mul-le-mul_right}
 use Rattle.std.proofs.lemmas.Nat.{mul-add-lt, same_from_place, row_fits}
 use Rattle.std.proofs.lemmas.Bool.{cases_lt}

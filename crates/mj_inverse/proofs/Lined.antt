@@ -1,5 +1,5 @@
 -- Sums of lines, eight lanes at a time.
-use Rattle.std.proofs.Common.{◌≡◌, ℕ, ◌+◌, ◌*◌, ◌<◌, ◌≤◌, sym, ap, ◌∙◌, arith, List, length, get_or, ◌↔◌}
+use Rattle.std.proofs.Common.{◌≡◌, ℕ, ◌+◌, ◌*◌, ◌<◌, ◌≤◌, sym, ap, ◌∙◌, arith, List, length, get_or}
 use Rattle.std.specs.Prelude.{bit_xor, bit_or}
 use Rattle.std.specs.Simd.Lanes.{zip2, chunk, put_chunk}
 use Rattle.std.proofs.lemmas.Simd.{get_or-put_chunk_at, get_or-chunk, get_or-zip2, length-chunk, length-zip2}

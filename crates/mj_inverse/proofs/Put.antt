@@ -1,12 +1,10 @@
 -- A projection is put into a blank series, or taken away.
-use Rattle.std.proofs.Common.{◌≡◌, ℕ, ◌+◌, ◌-◌, ◌*◌, ◌<◌, ◌≤◌, sym, ap, ◌∙◌, arith, rules, ◌⊎◌, inl, inr, List, length, get_or, take, drop, ℤ, pos}
+use Rattle.std.proofs.Common.{◌≡◌, ℕ, ◌+◌, ◌-◌, ◌*◌, ◌<◌, ◌≤◌, sym, ◌∙◌, arith, rules, List, length, get_or, take, drop, ℤ, pos}
 use Rattle.std.specs.Prelude.{negsuc, unsigned_abs, slice_range}
 use Rattle.std.proofs.Math.Nat.{mul-le-mul_right}
-use Rattle.std.proofs.lemmas.Bool.{cases_lt}
 use Rattle.std.proofs.lemmas.List.{places, ext_get_or}
 use Rattle.mj_angles.specs.Projection.{offset}
 use Rattle.mj_angles.proofs.Order.{lifted}
-use Rattle.mj_inverse.proofs.Taken.{place_below, place_le}
 
 pub offset_le : (p : ℤ) (rows : ℕ) → unsigned_abs p ≤ 16 → offset p rows ≤ 16 * (rows - 1)
 offset_le (pos n) rows h = omega arith

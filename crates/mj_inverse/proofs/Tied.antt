@@ -1,9 +1,9 @@
 -- From the bins of words to the values of their rows, and back.
-use Rattle.std.proofs.Common.{◌≡◌, ℕ, zero, suc, ◌+◌, ◌*◌, ◌<◌, ◌≤◌, refl, sym, ap, ◌∙◌, arith, ◌⊎◌, inl, inr, ℤ, List, [], ◌∷◌, get_or}
+use Rattle.std.proofs.Common.{◌≡◌, ℕ, zero, suc, ◌+◌, ◌*◌, ◌<◌, ◌≤◌, refl, sym, ap, ◌∙◌, arith, ◌⊎◌, inl, inr, ℤ, List, [], ◌∷◌}
 use Rattle.std.specs.Prelude.{◌==◌, if◌then◌else◌}
 use Rattle.std.proofs.lemmas.Bool.{cases_lt}
 use mathlib.Core.Path.{fun_ext}
-use Rattle.mj_angles.specs.Projection.{bins, bin, row_start}
+use Rattle.mj_angles.specs.Projection.{bin, row_start}
 use Rattle.mj_angles.proofs.Sums.{xor_below-same}
 use Rattle.mj_inverse.specs.Rows.{Every, HaveValues, block_rows, raised, cut}
 use Rattle.mj_inverse.specs.Series.{seq, angle}

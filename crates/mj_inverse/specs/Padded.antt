@@ -1,5 +1,5 @@
 -- Eight blocks side by side, in rows with room for zeros on both sides of the columns.
-use Rattle.std.specs.Prelude.{◌≡◌, ℕ, zero, suc, ◌+◌, ◌-◌, ◌*◌, ◌<◌, ◌≤◌, ℤ, pos, negsuc, List, [], ◌∷◌, length, slice_index, bit_xor}
+use Rattle.std.specs.Prelude.{◌≡◌, ℕ, zero, suc, ◌+◌, ◌-◌, ◌*◌, ◌<◌, ◌≤◌, ℤ, pos, negsuc, List, [], ◌∷◌, slice_index, bit_xor}
 use Rattle.mj_angles.specs.Xor.{xor_below}
 use Rattle.mj_angles.specs.Projection.{bin, bins}
 use Rattle.mj_angles.proofs.Peel.{ZeroBefore}

@@ -1,4 +1,4 @@
-use Rattle.std.proofs.Common.{rules, ◌≡◌, ◌<◌, ℕ, length}
+use Rattle.std.proofs.Common.{rules, ◌≡◌, length}
 use Rattle.mj_inverse.proofs.Lined.{added}
 use Rattle.mj_inverse.proofs.lines.add_difference.Goals as goal
 

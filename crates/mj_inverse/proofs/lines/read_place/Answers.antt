@@ -1,4 +1,4 @@
-use Rattle.std.proofs.Common.{rules, arith, ◌≡◌, ◌<◌, ℕ, length}
+use Rattle.std.proofs.Common.{rules, arith, ◌≡◌, length}
 use Rattle.std.proofs.lemmas.Simd.{get_or-put_chunk_below, get_or-put_chunk_above}
 use Rattle.mj_inverse.proofs.Lined.{written, zip_long}
 use Rattle.mj_inverse.proofs.lines.read_place.Goals as goal

@@ -1,4 +1,4 @@
-use Rattle.std.proofs.Common.{rules, arith, ◌≡◌, ◌<◌, ◌≤◌, ℕ, ap, ◌∙◌, length}
+use Rattle.std.proofs.Common.{arith, ◌≡◌, ap, ◌∙◌}
 use Rattle.mj_inverse.specs.Padded.{line_sum}
 use Rattle.mj_inverse.proofs.Lined.{line_more}
 use Rattle.mj_inverse.proofs.lines.sum_of_line.Goals as goal

@@ -1,7 +1,6 @@
-use Rattle.std.proofs.Common.{rules, arith, ◌≡◌, ◌≤◌, ◌<◌, ◌+◌, ◌-◌, ◌*◌, ℕ, length, get_or, refl, sym, ap, ◌∙◌, subst, List}
-use Rattle.std.specs.Prelude.{bit_xor, slice_set}
-use Rattle.mj_inverse.proofs.Delayed.{IsDelayed, delay}
-use Rattle.mj_inverse.proofs.Columns.{IsCarried, delayed_none, carried_none, row_delayed, front_carried, back_carried_at}
+use Rattle.std.proofs.Common.{rules, arith, ◌≡◌, ◌≤◌, ◌<◌, ◌+◌, ◌-◌, ℕ, length}
+use Rattle.mj_inverse.proofs.Delayed.{delay}
+use Rattle.mj_inverse.proofs.Columns.{delayed_none, carried_none, row_delayed, front_carried, back_carried_at}
 use Rattle.mj_inverse.proofs.run.run_columns.Goals as goal
 
 pub rows-init : goal.rows-init

@@ -1,4 +1,4 @@
-use Rattle.std.proofs.Common.{◌≡◌, ◌≤◌, ◌-◌, ◌<◌, ◌+◌, length}
+use Rattle.std.proofs.Common.{◌≤◌, ◌-◌, ◌+◌, length}
 use Rattle.mj_inverse.proofs.Delayed.{IsDelayed}
 use Rattle.mj_inverse.proofs.Columns.{IsCarried}
 use Rattle.mj_inverse.proofs.run.run_columns.Given as goal

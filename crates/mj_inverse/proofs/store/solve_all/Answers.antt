@@ -1,7 +1,7 @@
-use Rattle.std.proofs.Common.{rules, arith, ◌≡◌, ◌≤◌, ◌+◌, ◌*◌, ℕ, List, get_or, length, sym, ap, ◌∙◌, subst}
+use Rattle.std.proofs.Common.{rules, arith, ◌≡◌, ◌+◌, ◌*◌, ℕ, get_or, length, sym, ap, ◌∙◌, subst}
 use Rattle.mj_inverse.specs.declared.series.Series.{Series}
-use Rattle.mj_inverse.specs.Rows.{Both, Every, HaveValues, block_rows, value}
-use Rattle.mj_inverse.specs.Series.{seq, angle, angles, IsAt, IsSpread}
+use Rattle.mj_inverse.specs.Rows.{Every, HaveValues, block_rows, value}
+use Rattle.mj_inverse.specs.Series.{seq, angle, angles, IsAt}
 use Rattle.mj_inverse.specs.Store.{IsGiven}
 use Rattle.mj_inverse.proofs.Exchanged.{arranged-back, every-arranged, every_given, length-arranged, differ-arranged, filled-arranged}
 use Rattle.mj_inverse.proofs.Levels.{same_room}

@@ -1,6 +1,6 @@
-use Rattle.std.proofs.Common.{rules, ◌≡◌, ◌+◌, ◌*◌, ℕ, List, get_or, length, sym, ◌∙◌, subst}
+use Rattle.std.proofs.Common.{rules, ◌≡◌, ◌+◌, ◌*◌, ℕ, get_or, length, sym, ◌∙◌}
 use Rattle.mj_inverse.specs.declared.series.Series.{Series}
-use Rattle.mj_inverse.specs.Rows.{Every, block_rows, value}
+use Rattle.mj_inverse.specs.Rows.{block_rows, value}
 use Rattle.mj_inverse.specs.Series.{seq, angle}
 use Rattle.mj_inverse.specs.Store.{IsGiven}
 use Rattle.mj_inverse.proofs.Exchanged.{arranged-back, every-arranged, length-arranged, every_given, filled-arranged}

@@ -1,5 +1,4 @@
-use Rattle.std.proofs.Common.{rules, arith, ◌≡◌, ◌≤◌, ◌<◌, ◌+◌, ◌*◌, ◌-◌, ℕ, ℤ, List, length, get_or, sym, ap, ◌∙◌, vec_len, below_more}
-use Rattle.std.specs.Prelude.{unsigned_abs}
+use Rattle.std.proofs.Common.{rules, arith, ◌≡◌, ◌<◌, ◌+◌, ◌*◌, ℕ, ℤ, length, get_or, sym, ap, ◌∙◌, vec_len, below_more}
 use Rattle.mj_angles.specs.Projection.{bins, bin}
 use Rattle.mj_inverse.specs.Padded.{inner, reach_of, width_of, line_sum}
 use Rattle.mj_inverse.proofs.Crossed.{line-is, line_fits, reaches}

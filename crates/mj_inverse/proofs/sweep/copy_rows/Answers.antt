@@ -1,6 +1,4 @@
-use Rattle.std.proofs.Common.{rules, arith, ◌≡◌, ◌≤◌, ◌<◌, ◌+◌, ◌*◌, ℕ}
-use Rattle.std.proofs.lemmas.Nat.{row_fits}
-use Rattle.mj_inverse.specs.Padded.{reach_of, width_of}
+use Rattle.std.proofs.Common.{arith}
 use Rattle.mj_inverse.proofs.Crossed.{copied_more}
 use Rattle.mj_inverse.proofs.sweep.copy_rows.Goals as goal
 

@@ -1,11 +1,6 @@
-use Rattle.std.proofs.Common.{rules, arith, ◌≡◌, ◌<◌, ◌*◌, ◌-◌, ◌+◌, ℕ, List, length, get_or, refl, sym, ap, ◌∙◌, subst}
-use Rattle.mj_angles.specs.Projection.{bins, row_start}
-use Rattle.mj_angles.proofs.Sums.{row_within}
-use Rattle.mj_inverse.specs.Store.{IsGiven}
-use Rattle.mj_inverse.specs.declared.series.Series.{Series}
+use Rattle.std.proofs.Common.{arith, ◌≡◌, ◌<◌, ℕ, subst}
 use Rattle.mj_inverse.specs.Padded.{IsSwept}
-use Rattle.mj_inverse.proofs.Falling.{angles_fall, every_at, direction_here}
-use Rattle.mj_inverse.proofs.Swept.{swept_start, swept_more, swept_none, swept_turn, swept_all}
+use Rattle.mj_inverse.proofs.Swept.{swept_start, swept_none, swept_turn, swept_all}
 use Rattle.mj_inverse.proofs.sweep.peel.Goals as goal
 use Rattle.mj_inverse.proofs.sweep.peel.Goals.{then-turn-t+then-t-turn, else-turn-t, else-turn-t-via-then-turn-t+else-t-turn, else-turn-t-via-else-turn-t}
 

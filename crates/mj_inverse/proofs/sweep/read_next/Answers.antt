@@ -1,4 +1,4 @@
-use Rattle.std.proofs.Common.{rules, arith, ◌≡◌, ◌<◌, ◌+◌, ℕ, length}
+use Rattle.std.proofs.Common.{arith, ◌<◌, ◌+◌, ℕ, length}
 use Rattle.mj_angles.specs.Projection.{bins, row_start}
 use Rattle.mj_angles.proofs.Sums.{row_within}
 use Rattle.mj_inverse.specs.Store.{IsGiven}

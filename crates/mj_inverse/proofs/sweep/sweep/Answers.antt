@@ -1,4 +1,4 @@
-use Rattle.std.proofs.Common.{◌≡◌, ◌+◌, ◌*◌, ℕ, get_or, sym, ◌∙◌}
+use Rattle.std.proofs.Common.{◌+◌, ◌*◌, ℕ, get_or, sym, ◌∙◌}
 use Rattle.mj_inverse.specs.Padded.{inner, reach_of, width_of}
 use Rattle.mj_inverse.proofs.Tied.{bins_same, values_from_bins, bins_from_values, rows_from_words}
 use Rattle.mj_inverse.proofs.sweep.sweep.Goals as goal

@@ -1,6 +1,6 @@
-use Rattle.std.proofs.Common.{arith, ◌≡◌, ◌≤◌, ◌<◌, ◌+◌, ◌-◌, ◌*◌, ℕ, get_or, refl, ◌∙◌}
+use Rattle.std.proofs.Common.{arith, ◌≤◌, ◌+◌, ◌-◌, ◌*◌, ℕ, get_or, refl, ◌∙◌}
 use Rattle.std.proofs.Math.Nat.{mul-le-mul_left}
-use Rattle.mj_inverse.proofs.Taken.{place_below, place_le}
+use Rattle.mj_inverse.proofs.Taken.{place_le}
 use Rattle.mj_inverse.proofs.Lanes.{place_span, IsSpan, IsFlatRun, IsCut, cut_zero, lane_exact, lane_start, lane_spent}
 use Rattle.mj_inverse.proofs.series.Series.divide_out.Goals as goal
 
@@ -130,8 +130,7 @@ returns-clause-exact c = λ j h unmarked.
     let x : ℕ = c.args.self.now.angle in
     let y : ℕ = c.args.by.now.angle in
     let behind = c.take_rest-2.ensures.marked j h unmarked in
-    let before = c.take_rest.ensures.marked j h behind.0 in
-    (
+    let before = c.take_rest.ensures.marked j h behind.0 in (
       before.0,
       lane_exact u j xs ys zs vs ws o p f t a s g m n x y h span run first last (omega arith) (omega arith) (omega arith) (omega arith) (omega arith) before.1 behind.1,
     )

@@ -1,4 +1,4 @@
-use Rattle.std.proofs.Common.{rules, arith, ◌≡◌, ◌+◌, ℕ, get_or, min, max, refl, ◌∙◌}
+use Rattle.std.proofs.Common.{rules, arith, ◌≡◌, ◌+◌, ℕ, get_or, min, max, refl}
 use Rattle.mj_inverse.proofs.Given.{IsGivenRow, given_row, none_before, none_behind}
 use Rattle.mj_inverse.proofs.series.Series.give_row.Goals as goal
 
