@@ -13,6 +13,7 @@ pub mod Stores
 pub mod Delayed
 pub mod Marks
 pub mod Columns
+pub mod Fours
 pub mod Exchanged
 pub mod Crossed
 pub mod Falling

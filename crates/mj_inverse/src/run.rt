@@ -29,19 +29,52 @@ pub fn run(c: &mut [u64], d: &[u64], step: usize)
     }
 }
 
-/// `run` by one place: what was written last is kept apart.
+/// `run` by one place, four words at a time. Three vectors keep what was made of the four before.
 fn run_one(c: &mut [u64], d: &[u64])
     requires { length c.old ≡ length d.now }
     ensures first { (k : ℕ) → k < length d.now → k < 1 → slice_index c.new k ≡ bit_xor (slice_index c.old k) (slice_index d.now k) }
     ensures next { (k : ℕ) → k + 1 < length d.now →
         slice_index c.new (k + 1) ≡ bit_xor (bit_xor (slice_index c.old (k + 1)) (slice_index d.now (k + 1))) (slice_index c.new k) }
 {
-    let mut last = 0;
-    for t in 0..c.len() {
-        let word = c[t] ^ d[t] ^ last;
-        c[t] = word;
-        last = word;
+    let mut words = u64x4::splat(0);
+    let mut pairs = u64x4::splat(0);
+    let mut last = u64x4::splat(0);
+    let mut place = 0;
+    'fours: while c.len() - place >= 4 {
+        let new_words = u64x4::from_slice(&c[place..]) ^ u64x4::from_slice(&d[place..]);
+        let new_pairs = pair_up(words, new_words);
+        last = four_more(pairs, new_pairs, last);
+        last.copy_to_slice(&mut c[place..]);
+        words = new_words;
+        pairs = new_pairs;
+        place += 4;
     }
+    'rest: for t in place..c.len() {
+        let before = word_before(c, t, 1);
+        c[t] = c[t] ^ d[t] ^ before;
+    }
+}
+
+/// Adds to each of four words the one before it, of which the first is the last of four others.
+#[inline(always)]
+fn pair_up(before: u64x4, words: u64x4) -> u64x4
+    ensures first { slice_index result 0 ≡ bit_xor (slice_index words 0) (slice_index before 3) }
+    ensures second { slice_index result 1 ≡ bit_xor (slice_index words 1) (slice_index words 0) }
+    ensures third { slice_index result 2 ≡ bit_xor (slice_index words 2) (slice_index words 1) }
+    ensures fourth { slice_index result 3 ≡ bit_xor (slice_index words 3) (slice_index words 2) }
+{
+    words ^ before.shuffle(words, [3, 4, 5, 6])
+}
+
+/// Adds to each of four sums the one two places before it, and what became of the one four places before.
+#[inline(always)]
+fn four_more(before: u64x4, sums: u64x4, last: u64x4) -> u64x4
+    ensures first { slice_index result 0 ≡ bit_xor (bit_xor (slice_index sums 0) (slice_index before 2)) (slice_index last 0) }
+    ensures second { slice_index result 1 ≡ bit_xor (bit_xor (slice_index sums 1) (slice_index before 3)) (slice_index last 1) }
+    ensures third { slice_index result 2 ≡ bit_xor (bit_xor (slice_index sums 2) (slice_index sums 0)) (slice_index last 2) }
+    ensures fourth { slice_index result 3 ≡ bit_xor (bit_xor (slice_index sums 3) (slice_index sums 1)) (slice_index last 3) }
+{
+    sums ^ before.shuffle(sums, [2, 3, 4, 5]) ^ last
 }
 
 /// `run` by at most `A + B` places. Two vectors keep the words that were written last: the first `A` of them,

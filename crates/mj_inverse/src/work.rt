@@ -47,9 +47,9 @@ impl Work {
         requires { IsShape rows cols }
         ensures { IfOk result (λ w. w ≡ empty_search rows cols) }
     {
-        let all = blanks(alloc, rows, cols, 1)?;
         let marks = vec![in alloc; 0u64; 1]?;
         let words = zeros(alloc, rows * cols)?;
+        let all = blanks(alloc, rows, cols, 1)?;
         Ok(Work {
             rows,
             cols,

@@ -1,12 +1,19 @@
-use Rattle.std.proofs.Common.{◌≡◌, ◌<◌, ◌≤◌, ◌+◌, ℕ, get_or}
-use Rattle.std.specs.Prelude.{bit_xor}
+use Rattle.std.proofs.Common.{◌≡◌, ◌<◌, ◌≤◌, ◌-◌, ◌+◌, ℕ, length, get_or}
+use Rattle.mj_inverse.proofs.Delayed.{IsDelayed}
+use Rattle.mj_inverse.proofs.Fours.{IsFour}
 use Rattle.mj_inverse.proofs.run.run_one.Given as goal
 
-abbrev pub invariant-loop-t : goal.invariant-loop-t
-invariant-loop-t l = record {
-  first : (k : ℕ) → k < l.t → k < 1 → get_or l.c k 0 ≡ bit_xor (get_or l.initial.c k 0) (get_or l.d k 0);
-  next : (k : ℕ) → k + 1 < l.t → get_or l.c (k + 1) 0 ≡ bit_xor (bit_xor (get_or l.initial.c (k + 1) 0) (get_or l.d (k + 1) 0)) (get_or l.c k 0);
-  left : (k : ℕ) → l.t ≤ k → get_or l.c k 0 ≡ get_or l.initial.c k 0;
-  start : l.t < 1 → l.last ≡ 0;
-  last : (k : ℕ) → k + 1 ≡ l.t → l.last ≡ get_or l.c k 0;
+abbrev pub invariant-fours : goal.invariant-fours
+invariant-fours l = record {
+  within : l.place ≤ length l.c;
+  delayed : IsDelayed 1 l.place l.initial.c l.c l.d;
+  four : IsFour l.words l.pairs l.last;
+  start : l.place < 1 → get_or l.last 3 0 ≡ 0;
+  back : (k : ℕ) → k + 1 ≡ l.place → get_or l.last 3 0 ≡ get_or l.c k 0;
 }
+
+abbrev pub decreases-fours : goal.decreases-fours
+decreases-fours l = length l.c - l.place
+
+abbrev pub invariant-rest : goal.invariant-rest
+invariant-rest l = IsDelayed 1 l.t l.fn.c l.c l.d
