@@ -1,4 +1,4 @@
--- A running exclusive or by one place, four words at a time.
+-- A running exclusive or by one place or by two, four words at a time.
 use Rattle.std.proofs.Common.{◌≡◌, refl, replicate, zero, suc, ℕ, ◌+◌, ◌-◌, ◌<◌, ◌≤◌, sym, ap, ◌∙◌, arith, ◌⊎◌, inl, inr, List, length, get_or}
 use Rattle.std.specs.Prelude.{bit_xor}
 use Rattle.std.specs.Simd.Lanes.{zip2, chunk, put_chunk}
@@ -152,3 +152,106 @@ word_of t c d fc fd j small =
 -- before the first four
 pub four_none : IsFour (replicate 4 0) (replicate 4 0) (replicate 4 0)
 four_none = record { third = refl; fourth = refl; one = refl; two = refl; three = refl }
+
+-- The same by two places: the words of four places, and what they became.
+pub record IsTwice (words last : List ℕ) : Type 0 where
+  pub two : get_or last 2 0 ≡ bit_xor (get_or words 2 0) (get_or last 0 0)
+  pub three : get_or last 3 0 ≡ bit_xor (get_or words 3 0) (get_or last 1 0)
+
+pub record IsNextTwice (words last words' last' : List ℕ) : Type 0 where
+  pub last_0 : get_or last' 0 0 ≡ bit_xor (bit_xor (get_or words' 0 0) (get_or words 2 0)) (get_or last 0 0)
+  pub last_1 : get_or last' 1 0 ≡ bit_xor (bit_xor (get_or words' 1 0) (get_or words 3 0)) (get_or last 1 0)
+  pub last_2 : get_or last' 2 0 ≡ bit_xor (bit_xor (get_or words' 2 0) (get_or words' 0 0)) (get_or last 2 0)
+  pub last_3 : get_or last' 3 0 ≡ bit_xor (bit_xor (get_or words' 3 0) (get_or words' 1 0)) (get_or last 3 0)
+
+pub twice_none : IsTwice (replicate 4 0) (replicate 4 0)
+twice_none = record { two = refl; three = refl }
+
+pub none_of_four : (j : ℕ) → j < 2 → ◌≡◌ {A = ℕ} (get_or (replicate 4 0) (2 + j) 0) 0
+none_of_four zero h = refl
+none_of_four (suc zero) h = refl
+none_of_four (suc (suc j)) h = absurd (omega arith)
+
+module _ (words last words' last' : List ℕ) (four : IsTwice words last) (next : IsNextTwice words last words' last') where
+  even : get_or last' 0 0 ≡ bit_xor (get_or words' 0 0) (get_or last 2 0)
+  even = next.last_0 ∙ xor_assoc (get_or words' 0 0) (get_or words 2 0) (get_or last 0 0) ∙ ap (bit_xor (get_or words' 0 0)) (sym four.two)
+
+  odd : get_or last' 1 0 ≡ bit_xor (get_or words' 1 0) (get_or last 3 0)
+  odd = next.last_1 ∙ xor_assoc (get_or words' 1 0) (get_or words 3 0) (get_or last 1 0) ∙ ap (bit_xor (get_or words' 1 0)) (sym four.three)
+
+  even_more : get_or last' 2 0 ≡ bit_xor (get_or words' 2 0) (get_or last' 0 0)
+  even_more = next.last_2 ∙ xor_assoc (get_or words' 2 0) (get_or words' 0 0) (get_or last 2 0) ∙ ap (bit_xor (get_or words' 2 0)) (sym even)
+
+  odd_more : get_or last' 3 0 ≡ bit_xor (get_or words' 3 0) (get_or last' 1 0)
+  odd_more = next.last_3 ∙ xor_assoc (get_or words' 3 0) (get_or words' 1 0) (get_or last 3 0) ∙ ap (bit_xor (get_or words' 3 0)) (sym odd)
+
+  pub next_twice : IsTwice words' last'
+  next_twice = record { two = even_more; three = odd_more }
+
+  -- the first two go on from the last two before
+  begins : (j : ℕ) → j < 2 → get_or last' j 0 ≡ bit_xor (get_or words' j 0) (get_or last (2 + j) 0)
+  begins zero h = even
+  begins (suc zero) h = odd
+  begins (suc (suc j)) h = absurd (omega arith)
+
+  grows_twice : (j : ℕ) → j < 2 → get_or last' (suc (suc j)) 0 ≡ bit_xor (get_or words' (suc (suc j)) 0) (get_or last' j 0)
+  grows_twice zero h = even_more
+  grows_twice (suc zero) h = odd_more
+  grows_twice (suc (suc j)) h = absurd (omega arith)
+
+  module _ (t : ℕ) (old c d : List ℕ) (fc : t + 4 ≤ length c) (long : length last' ≡ 4) (is : IsDelayed 2 t old c d)
+      (same : (j : ℕ) → j < 4 → get_or words' j 0 ≡ bit_xor (get_or c (t + j) 0) (get_or d (t + j) 0))
+      (start : (j : ℕ) → t < 2 → j < 2 → get_or last (2 + j) 0 ≡ 0) (back : (k j : ℕ) → k + 2 ≡ t + j → j < 2 → get_or last (2 + j) 0 ≡ get_or c k 0) where
+    at_two : (j : ℕ) → j < 4 → get_or (put_chunk t c last') (t + j) 0 ≡ get_or last' j 0
+    at_two j h = get_or-put_chunk_at t c last' j 0 (omega arith) (omega arith)
+
+    below_two : (k : ℕ) → k < t → get_or (put_chunk t c last') k 0 ≡ get_or c k 0
+    below_two k h = get_or-put_chunk_below t c last' k 0 h
+
+    -- a word of the four, and the one that is added to it
+    of_four : (n j carry : ℕ) → n ≡ t + j → j < 4 → get_or last' j 0 ≡ bit_xor (get_or words' j 0) carry →
+        get_or (put_chunk t c last') n 0 ≡ bit_xor (bit_xor (get_or old n 0) (get_or d n 0)) carry
+    of_four n j carry e h grown =
+        ap (λ i. get_or (put_chunk t c last') i 0) e ∙ at_two j h ∙ grown
+        ∙ ap (λ x. bit_xor x carry) (same j h)
+        ∙ ap (λ i. bit_xor (bit_xor (get_or c i 0) (get_or d i 0)) carry) (sym e)
+        ∙ ap (λ x. bit_xor (bit_xor x (get_or d n 0)) carry) (is.left n (omega arith))
+
+    inside_twice : (k j : ℕ) → k + 2 ≡ t + j → j < 4 → (j < 2) ⊎ ((i : ℕ) × (j ≡ suc (suc i))) →
+        get_or (put_chunk t c last') (k + 2) 0 ≡ bit_xor (bit_xor (get_or old (k + 2) 0) (get_or d (k + 2) 0)) (get_or (put_chunk t c last') k 0)
+    inside_twice k j e h (inl near) =
+        of_four (k + 2) j (get_or last (2 + j) 0) e h (begins j near)
+        ∙ ap (bit_xor (bit_xor (get_or old (k + 2) 0) (get_or d (k + 2) 0))) (back k j e near ∙ sym (below_two k (omega arith)))
+    inside_twice k j e h (inr (i, f)) =
+        let m : t + i ≡ k = omega arith in
+        let g : k + 2 ≡ t + suc (suc i) = omega arith in
+        of_four (k + 2) (suc (suc i)) (get_or last' i 0) g (omega arith) (grows_twice i (omega arith))
+        ∙ ap (bit_xor (bit_xor (get_or old (k + 2) 0) (get_or d (k + 2) 0))) (sym (at_two i (omega arith)) ∙ ap (λ n. get_or (put_chunk t c last') n 0) m)
+
+    pub twice_delayed : IsDelayed 2 (t + 4) old (put_chunk t c last') d
+    twice_delayed = record {
+      first = λ k less small. by_first k small (cases_lt k t);
+      next = λ k less. by_next k less (cases_lt (k + 2) t);
+      left = λ k more. get_or-put_chunk_above t c last' k 0 (omega arith) ∙ is.left k (omega arith);
+    }
+      where
+        which : (j : ℕ) → (j < 2) ⊎ (2 ≤ j) → (j < 2) ⊎ ((i : ℕ) × (j ≡ suc (suc i)))
+        which j (inl h) = inl h
+        which j (inr h) = inr (j - 2, omega arith)
+
+        by_first : (k : ℕ) → k < 2 → (k < t) ⊎ (t ≤ k) → get_or (put_chunk t c last') k 0 ≡ bit_xor (get_or old k 0) (get_or d k 0)
+        by_first k small (inl h) = below_two k h ∙ is.first k h small
+        by_first k small (inr h) =
+            let j : ℕ = k - t in
+            of_four k j (get_or last (2 + j) 0) (omega arith) (omega arith) (begins j (omega arith))
+            ∙ ap (bit_xor (bit_xor (get_or old k 0) (get_or d k 0))) (start j (omega arith) (omega arith)) ∙ xor_zero_r (bit_xor (get_or old k 0) (get_or d k 0))
+
+        by_next : (k : ℕ) → k + 2 < t + 4 → (k + 2 < t) ⊎ (t ≤ k + 2) →
+            get_or (put_chunk t c last') (k + 2) 0 ≡ bit_xor (bit_xor (get_or old (k + 2) 0) (get_or d (k + 2) 0)) (get_or (put_chunk t c last') k 0)
+        by_next k less (inl h) =
+            below_two (k + 2) h ∙ is.next k h ∙ ap (bit_xor (bit_xor (get_or old (k + 2) 0) (get_or d (k + 2) 0))) (sym (below_two k (omega arith)))
+        by_next k less (inr h) = inside_twice k (k + 2 - t) (omega arith) (omega arith) (which (k + 2 - t) (cases_lt (k + 2 - t) 2))
+
+    -- the last two of the four are the words before the next places
+    pub twice_back : (k j : ℕ) → k + 2 ≡ t + 4 + j → j < 2 → get_or last' (2 + j) 0 ≡ get_or (put_chunk t c last') k 0
+    twice_back k j e h = let m : t + (2 + j) ≡ k = omega arith in sym (at_two (2 + j) (omega arith)) ∙ ap (λ i. get_or (put_chunk t c last') i 0) m

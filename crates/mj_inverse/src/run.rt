@@ -15,7 +15,7 @@ pub fn run(c: &mut [u64], d: &[u64], step: usize)
 {
     match step {
         1 => run_one(c, d),
-        2 => run_columns::<1, 1>(c, d, step),
+        2 => run_two(c, d),
         3 => run_columns::<2, 1>(c, d, step),
         4 => run_columns::<2, 2>(c, d, step),
         5 => run_columns::<4, 1>(c, d, step),
@@ -51,6 +51,29 @@ fn run_one(c: &mut [u64], d: &[u64])
     }
     'rest: for t in place..c.len() {
         let before = word_before(c, t, 1);
+        c[t] = c[t] ^ d[t] ^ before;
+    }
+}
+
+/// `run` by two places, four words at a time. Two vectors keep what was made of the four before.
+fn run_two(c: &mut [u64], d: &[u64])
+    requires { length c.old ≡ length d.now }
+    ensures first { (k : ℕ) → k < length d.now → k < 2 → slice_index c.new k ≡ bit_xor (slice_index c.old k) (slice_index d.now k) }
+    ensures next { (k : ℕ) → k + 2 < length d.now →
+        slice_index c.new (k + 2) ≡ bit_xor (bit_xor (slice_index c.old (k + 2)) (slice_index d.now (k + 2))) (slice_index c.new k) }
+{
+    let mut words = u64x4::splat(0);
+    let mut last = u64x4::splat(0);
+    let mut place = 0;
+    'fours: while c.len() - place >= 4 {
+        let new_words = u64x4::from_slice(&c[place..]) ^ u64x4::from_slice(&d[place..]);
+        last = four_more(words, new_words, last);
+        last.copy_to_slice(&mut c[place..]);
+        words = new_words;
+        place += 4;
+    }
+    'rest: for t in place..c.len() {
+        let before = word_before(c, t, 2);
         c[t] = c[t] ^ d[t] ^ before;
     }
 }
