@@ -73,14 +73,16 @@ uint32_t mj_c_solve(uint32_t layout, const uint32_t *positions, size_t count, co
 
 /* Writes as many blocks as `out` has room for, one after the other. `bins` has the projections of the
  * first block, then those of the second, and so on. Room is taken once for all blocks. After
- * MJ_C_INCONSISTENT, which says that some block has no words, `out` holds any words. */
+ * MJ_C_INCONSISTENT, which says that some block has no words, `out` holds any words; anything else but
+ * MJ_C_DONE leaves it as it was. */
 uint32_t mj_c_solve_many(uint32_t layout, const uint32_t *positions, size_t count,
                          const uint64_t *bins, size_t all, uint64_t *out, size_t words);
 
 /* Writes the blocks of `groups` groups of eight side by side, and a byte for each group into `answers`:
  * bit i is 1 where block i of the group has no words, and these are any words then. In a group word j of
  * block i stands at out[8 * j + i], and so do its bins in each projection; `bins` has the projections of
- * the first group one after the other, then those of the second, and so on. Room is taken once for all. */
+ * the first group one after the other, then those of the second, and so on. Room is taken once for all.
+ * Anything but MJ_C_DONE leaves `out` and `answers` as they were. */
 uint32_t mj_c_solve_eight(uint32_t layout, const uint32_t *positions, size_t count,
                           const uint64_t *bins, size_t all, uint64_t *out, size_t words,
                           uint8_t *answers, size_t groups);

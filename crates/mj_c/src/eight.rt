@@ -30,6 +30,8 @@ pub fn solve_eight_at(
         (result ≡ Answer.Done) ⊎ (result ≡ Answer.NoMemory) }
     ensures done { result ≡ Answer.Done → IfSome (layout_at layout)
         (λ y. (i j : ℕ) → i < length answers.old → j < 8 → IsSolved y (group_search y positions.now bins.now i) (group_at y out.new i) (slice_index answers.new i) j) }
+    ensures unchanged { result ≢ Answer.Done → out.new ≡ out.old }
+    ensures unanswered { result ≢ Answer.Done → answers.new ≡ answers.old }
 {
     let Some(layout) = layout_of(layout) else {
         return Answer::BadLayout;

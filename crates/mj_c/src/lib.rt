@@ -142,7 +142,8 @@ pub extern "C" fn mj_c_solve(
 
 /// Writes into `out` as many blocks as it has room for, one after the other. `bins` has the projections of the
 /// first block at the positions one after the other, then those of the second, and so on. Room is taken
-/// once for them all. Where the answer is 5, some block has no words, and `out` holds any words.
+/// once for them all. Where the answer is 5, some block has no words, and `out` holds any words. After any
+/// other answer but 0 it is as it was.
 #[unsafe(no_mangle)]
 pub extern "C" fn mj_c_solve_many(
     alloc: Global,
@@ -159,6 +160,7 @@ pub extern "C" fn mj_c_solve_many(
         (λ y. (i : ℕ) → i < length out.old / words_of y → IsAnswered y positions.now bins.now out.new i) }
     ensures none { result ≡ 5 → IfSome (layout_at layout)
         (λ y. (i : ℕ) × (i < length out.old / words_of y) × ((g : Grid) → ¬ IsFound (search_at y positions.now bins.now i) g)) }
+    ensures unchanged { result ≢ 0 → result ≢ 5 → out.new ≡ out.old }
 {
     many::solve_many_at(alloc, layout, positions, bins, out).code()
 }
@@ -167,7 +169,7 @@ pub extern "C" fn mj_c_solve_many(
 /// place `8 * j + i` of its words in `out`, and so do its bins in each projection; `bins` has the
 /// projections of the first group one after the other, then those of the second, and so on. Room is taken
 /// once for them all. Bit `i` of a group's answer is 1 where its block `i` has no words, and these are any
-/// words then.
+/// words then. After any answer but 0 `out` and `answers` are as they were.
 #[unsafe(no_mangle)]
 pub extern "C" fn mj_c_solve_eight(
     alloc: Global,
@@ -183,6 +185,8 @@ pub extern "C" fn mj_c_solve_eight(
         (result ≡ 0) ⊎ (result ≡ 6) }
     ensures done { result ≡ 0 → IfSome (layout_at layout)
         (λ y. (i j : ℕ) → i < length answers.old → j < 8 → IsSolved y (group_search y positions.now bins.now i) (group_at y out.new i) (slice_index answers.new i) j) }
+    ensures unchanged { result ≢ 0 → out.new ≡ out.old }
+    ensures unanswered { result ≢ 0 → answers.new ≡ answers.old }
 {
     eight::solve_eight_at(alloc, layout, positions, bins, out, answers).code()
 }

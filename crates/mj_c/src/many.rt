@@ -32,6 +32,7 @@ pub fn solve_many_at(
         (λ y. (i : ℕ) → i < length out.old / words_of y → IsAnswered y positions.now bins.now out.new i) }
     ensures none { result ≡ Answer.Inconsistent → IfSome (layout_at layout)
         (λ y. (i : ℕ) × (i < length out.old / words_of y) × ((g : Grid) → ¬ IsFound (search_at y positions.now bins.now i) g)) }
+    ensures unchanged { result ≢ Answer.Done → result ≢ Answer.Inconsistent → out.new ≡ out.old }
 {
     let Some(layout) = layout_of(layout) else {
         return Answer::BadLayout;
@@ -80,6 +81,7 @@ fn find_many(
     ensures tried { (result ≡ Answer.Done) ⊎ (result ≡ Answer.Inconsistent) ⊎ (result ≡ Answer.NoMemory) }
     ensures done { result ≡ Answer.Done → (i : ℕ) → i < blocks → IsAnswered layout positions.now bins.now out.new i }
     ensures none { result ≡ Answer.Inconsistent → (i : ℕ) × (i < blocks) × ((g : Grid) → ¬ IsFound (search_at layout positions.now bins.now i) g) }
+    ensures unchanged { result ≢ Answer.Done → result ≢ Answer.Inconsistent → out.new ≡ out.old }
 {
     let rows = layout.inverse();
     let cols = layout.cols();
