@@ -1,6 +1,6 @@
 //! The write of a block.
 
-ghost use Rattle.std.specs.Prelude.{◌≡◌, ◌≤◌, ◌<◌, IfOk, IfSome, IsSome, length};
+ghost use Rattle.std.specs.Prelude.{◌≡◌, ◌≤◌, ◌<◌, IfOk, IfSome, IsOk, IsSome, length};
 ghost use Rattle.mj_angles.specs.Layout.{block_bytes_of};
 ghost use Rattle.rz_client_model.specs.Write.{IsWrite, IsWriterAnswer, writer_ask, writer_told, writer_end, writer_start};
 ghost use Rattle.rz_writer.specs.Machine.{machine_with, bare_machine, key_in, block_of, HasPlaces, IsAskOf, HasBins, AreBins, IsCountOf};
@@ -63,7 +63,10 @@ impl Writer {
     ) -> Result<Writer, AllocError>
         requires places { HasPlaces layout info.now }
         requires fits { length ≤ block_bytes_of layout }
-        ensures { IfOk result (λ w. w ≡ bare_machine layout info.now block length) }
+        ensures machine { IfOk result (λ w. w ≡ bare_machine layout info.now block length) }
+
+        // It takes no memory.
+        ensures made { IsOk result }
     {
         let state = begun(layout, info, block, length);
         Ok(Writer { state, sheet: None })
