@@ -16,6 +16,10 @@ in_run_order history = flat_map (λ a. reverse (of_actor a history)) actors
 abbrev pub run_text : List Event → ℕ → List ℕ
 run_text history events = lines [] (in_run_order history) ++ end_line events
 
+-- the lines of each actor's events by themselves, and that last line
+abbrev pub shown_text : List (Vec Event) → ℕ → List ℕ
+shown_text shown events = flat_map (λ s. lines [] s.items) shown ++ end_line events
+
 -- these are the events of a history that are shown, those of each actor by themselves, in the order of the actors
 abbrev pub AreShownOf : List (Vec Event) → List Event → Type 0
 AreShownOf shown history = map (λ s. s.items) shown ≡ map (λ a. shown_of (of_actor a history)) actors

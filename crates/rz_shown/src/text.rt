@@ -2,7 +2,7 @@
 
 ghost use Rattle.std.specs.Prelude.{◌≡◌, ◌++◌, [], IfOk, OnOk};
 ghost use Rattle.rz_show.specs.Text.{end_line, lines};
-ghost use Rattle.rz_shown.specs.Text.{IsRunText};
+ghost use Rattle.rz_shown.specs.Text.{shown_text, IsRunText};
 
 use rz_events::Event;
 use rz_show::show;
@@ -30,7 +30,8 @@ fn push_end(alloc: Global, out: &mut Vec<u8>, events: u64) -> Result<(), AllocEr
 ///
 /// The one error is want of memory. Each event is read once.
 pub fn show_run(alloc: Global, shown: &[Vec<Event>], events: u64) -> Result<Vec<u8>, AllocError>
-    ensures { IfOk result (λ text. IsRunText shown.now events text.items) }
+    ensures exact { IfOk result (λ text. text.items ≡ shown_text shown.now events) }
+    ensures run { IfOk result (λ text. IsRunText shown.now events text.items) }
 {
     let mut out = Vec::new(alloc);
     for own in shown {
