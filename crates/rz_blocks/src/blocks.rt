@@ -1,6 +1,6 @@
 //! The map from keys to what is begun and published of them.
 
-ghost use Rattle.std.specs.Prelude.{ℕ, ◌≡◌, ◌<◌, ◌^◌, ◌==◌, ◌&&◌, cond, nat_le, None, OnOk, OnErr, IsSome};
+ghost use Rattle.std.specs.Prelude.{ℕ, ◌≡◌, ◌<◌, ◌^◌, ◌==◌, ◌&&◌, cond, nat_le, None, OnOk, OnErr, IsOk, IsSome};
 ghost use Rattle.std.specs.List.Sorted.{IsStrictlySortedBy};
 ghost use Rattle.std.specs.Map.{keys_of};
 ghost use Rattle.std.specs.Option.{option_map};
@@ -68,6 +68,9 @@ impl Blocks {
     /// Makes the entry of a key, where there is none.
     pub fn prepare(&mut self, key: Key) -> Result<(), AllocError>
         ensures ok { OnOk result (self.new ≡ prepared self.old key) }
+
+        // An entry that is there takes no memory.
+        ensures there { IsSome (maps.get self.old key) → IsOk result }
         ensures err { OnErr result (self.new ≡ self.old) }
     {
         if self.entry(key).is_some() {
