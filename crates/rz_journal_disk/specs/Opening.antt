@@ -27,6 +27,12 @@ Refuses tells text Unformatted = (length text ≡ disk_bytes) × (IsTrue tells �
 Refuses tells text BadHeader =
     (length text ≡ disk_bytes) × (IsTrue tells → (slice_index text 32 % 2 ≡ 1) × (window 0 32 text ≢ header_bytes))
 
+-- the fault was found by a call of the disk
+abbrev pub IsOfCall : OpenFault → Type 0
+IsOfCall NoMemory = ⊥
+IsOfCall (WrongSize have need) = ⊥
+IsOfCall fault = Unit {0}
+
 -- a half holds some entries from its front on, which take so many bytes
 abbrev pub HoldsSoFar : List ℕ → ℕ → Type 0
 HoldsSoFar bytes used = (entries : Entries) × EndsAt 0 entries bytes × (taken entries ≡ used)

@@ -1,10 +1,10 @@
 //! A disk opened again.
 
-ghost use Rattle.std.specs.Prelude.{◌≡◌, ◌<◌, length, IsTrue, IsErrOf, IfOk, IfErr, MatchResult};
+ghost use Rattle.std.specs.Prelude.{◌≡◌, ◌⊎◌, ◌<◌, length, IsTrue, IsErrOf, IfOk, IfErr, MatchResult};
 ghost use Rattle.rz_disk.specs.Images.{Within};
 ghost use Rattle.rz_disk.specs.Meter.{Lasts, Rises, faults};
 ghost use Rattle.rz_journal_disk.specs.Stands.{disk_bytes, half_bytes, IsOpen};
-ghost use Rattle.rz_journal_disk.specs.Opening.{IsHalf, IsPicked, Refuses, HoldsSoFar};
+ghost use Rattle.rz_journal_disk.specs.Opening.{IsHalf, IsPicked, Refuses, IsOfCall, HoldsSoFar};
 
 use crate::Entries;
 use crate::shape::{disk_bytes, half_at, half_bytes, header};
@@ -45,6 +45,9 @@ impl<D: Disk> Half<D> {
         ensures crash { MatchResult result (λ h. Within (D.image disk) (D.image h.disk)) (λ e. Within (D.image disk) (D.image e.0)) }
         ensures meter { MatchResult result (λ h. Lasts (D.meter disk) (D.meter h.disk)) (λ e. Lasts (D.meter disk) (D.meter e.0)) }
         ensures risen { IfErr result (λ e. e.1 ≡ OpenFault.DiskFault → Rises (faults (D.meter disk)) (faults (D.meter e.0))) }
+
+        // It is not called for want of memory or a wrong size.
+        ensures uncalled { IfErr result (λ e. IsOfCall e.1 ⊎ (e.0 ≡ disk)) }
     {
         let mut disk = disk;
         let Ok(bytes) = Vec::from_elem(alloc, 0, half_bytes() as usize) else {
@@ -97,6 +100,7 @@ fn read_half<D: Disk>(disk: &mut D, bytes: Vec<u8>) -> Result<(u8, Vec<u8>), Ope
     ensures crash { Within (D.image disk.old) (D.image disk.new) }
     ensures meter { Lasts (D.meter disk.old) (D.meter disk.new) }
     ensures risen { IsErrOf result OpenFault.DiskFault → Rises (faults (D.meter disk.old)) (faults (D.meter disk.new)) }
+    ensures uncalled { IfErr result (λ e. IsOfCall e ⊎ (disk.new ≡ disk.old)) }
 {
     let have = disk.size();
     let need = disk_bytes();
@@ -123,6 +127,7 @@ fn read_header<D: Disk>(disk: &mut D) -> Result<u8, OpenFault>
     ensures crash { Within (D.image disk.old) (D.image disk.new) }
     ensures meter { Lasts (D.meter disk.old) (D.meter disk.new) }
     ensures risen { IsErrOf result OpenFault.DiskFault → Rises (faults (D.meter disk.old)) (faults (D.meter disk.new)) }
+    ensures called { IfErr result IsOfCall }
 {
     let mut front = [0u8; 32];
     let Ok(()) = disk.read(0, &mut front) else {
