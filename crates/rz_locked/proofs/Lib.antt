@@ -7,4 +7,5 @@ mod Seats
 mod Replies
 mod Offices
 mod Metering
+mod Picks
 mod Texts

@@ -3,3 +3,4 @@ pub mod Seats
 pub mod Offices
 pub mod Laws
 pub mod Counts
+pub mod Picks

@@ -53,6 +53,7 @@ impl<D: Disk, J: Counting> Model for Seat<D, J> {
     ghost use Rattle.rz_chronicle.specs.Kinds.{is_honest, volume_in};
     ghost use Rattle.rz_image_laws.specs.Images.{geometry_in};
     ghost use Rattle.rz_locked.specs.Counts.{GoesWith};
+    ghost use Rattle.rz_locked.specs.Picks.{pick_of};
     ghost use Rattle.rz_locked.specs.Seats.{SeatView, IsLogged};
 
     ghost Value = { SeatView };
@@ -64,7 +65,8 @@ impl<D: Disk, J: Counting> Model for Seat<D, J> {
         × (IsTrue (is_honest J.kind) → IsTrue D.tells × IsLogged D.image (volume_in J.kind) s.post.log s.sid s.node)
         × IsTrue D.has_fuse
         × (s.left ≡ fuse_of (of_word (w.Node s.sid) s.post.log))
-        × GoesWith D.meter (J.first s.sid) (of_word (w.Node s.sid) s.post.log) s.node };
+        × GoesWith D.meter (J.first s.sid) (of_word (w.Node s.sid) s.post.log) s.node
+        × (s.pick ≡ pick_of (of_word (w.Node s.sid) s.post.log)) };
 }
 
 impl<D: Disk, J: Counting> Seat<D, J> {
@@ -218,7 +220,16 @@ impl<D: Disk, J: Counting> Seat<D, J> {
         rz_image_laws::longer::<D>();
         let by = pass.actor();
         rz_chronicle::words_kept();
-        let answer = serve(self.alloc, self.pick, self.left, &mut self.node, ask, bins);
+        let answer = serve(
+            self.alloc,
+            &self.post,
+            self.sid,
+            self.pick,
+            self.left,
+            &mut self.node,
+            ask,
+            bins,
+        );
         let event = node_event(by, self.sid, ask, &answer);
         self.left = left_with(self.left, &event);
         add(book, pass, &mut self.post, event);

@@ -1,4 +1,4 @@
-use Rattle.std.proofs.Common.{rules, ◌≡◌, sym, ◌∙◌, subst, true≢false}
+use Rattle.std.proofs.Common.{rules, ◌≡◌, ℕ, sym, ◌∙◌, subst, true≢false}
 use Rattle.rz_events.specs.declared.nodes.NodeAsk.{NodeAsk}
 use Rattle.rz_events.specs.declared.nodes.NodeAsk.TheVariants as ask
 use Rattle.rz_events.specs.declared.nodes.NodeAnswer.TheVariants as answer
@@ -25,6 +25,18 @@ pub returns-then-matches-clause-counts : goal.returns-then-matches-clause-counts
 returns-then-matches-clause-counts g c = λ first n w by by_word was.
     let is : c.args.ask.now ≡ ask.Start = search rules in
     subst (λ (q : NodeAsk). GoesWith g.D.Disk.meter first (noted (node_event by n q (answer.Start c.start.result)) w) c.start.new.node) (sym is) (c.start.ensures.counts first n w by_word was)
+
+pub returns-then-matches-clause-crashed : goal.returns-then-matches-clause-crashed
+returns-then-matches-clause-crashed g c = λ is down.
+    subst (λ (p : ℕ). g.D.Disk.picks c.args.node.now.disk p (g.D.Disk.text c.start.new.node.disk)) c.requires.picked (c.start.ensures.crashed down)
+
+pub returns-clause-crashed : goal.returns-clause-crashed
+returns-clause-crashed g c = λ is down.
+    let no_start : calls.IsNoStart c.args.ask.now = elim c.match-matches.branch [
+      | in-Start w ↦ absurd (true≢false (sym w.matches-is ∙ c.if-matches.false))
+      | in_default w ↦ no-start-of c.args.ask.now (λ is. search rules)
+    ] in
+    absurd (subst calls.IsNoStart is no_start)
 
 pub returns-clause-counts : goal.returns-clause-counts
 returns-clause-counts g c = λ first n w by by_word was.

@@ -14,7 +14,9 @@ use Rattle.rz_chronicle.specs.Keys.{count_at, word_key}
 use Rattle.rz_chronicle.specs.Kinds.{MayCome, is_honest, volume_in}
 use Rattle.rz_locked.specs.Adding.{Adds}
 use Rattle.rz_locked.specs.Counts.{GoesWith}
+use Rattle.rz_locked.specs.Picks.{pick_of}
 use Rattle.rz_locked.specs.Seats.{SeatView, IsLogged, MayAsk, Answered, IsRead}
+use Rattle.rz_locked.proofs.Picks.{call-picks}
 use Rattle.rz_locked.proofs.Seats.{Served, its-event, may-come, logged-after, answered, later-adds, word-after}
 use Rattle.rz_locked.proofs.seat.Seat.answered.Goals as goal
 
@@ -129,6 +131,7 @@ invariant_of-self g c =
       c.left_with-self-inside.ensures (of_word (w.Node n) c.self.inside.post.log) inv.5 ∙ ap (λ (o : Option Event). fuse_of (noted o (of_word (w.Node n) c.self.inside.post.log))) event ∙ ap fuse_of (sym word),
       subst (λ (u : List Event). GoesWith g.D.Disk.meter (g.J.Counting.first n) u after) (sym word)
           (c.serve-answer.ensures.counts (g.J.Counting.first n) n (of_word (w.Node n) c.self.inside.post.log) by inv.5 inv.6),
+      inv.7 ∙ sym (call-picks by n q given (of_word (w.Node n) c.self.inside.post.log)) ∙ ap pick_of (sym word),
     )
 
 pub returns-clause-answered : goal.returns-clause-answered

@@ -11,6 +11,7 @@ use Rattle.rz_chronicle.specs.Kinds.{is_honest, volume_in}
 use Rattle.rz_locked.specs.Adding.{Adds}
 use Rattle.rz_locked.specs.Counts.{GoesWith}
 use Rattle.rz_locked.specs.Laws.{IsStep}
+use Rattle.rz_locked.specs.Picks.{pick_of}
 use Rattle.rz_locked.specs.Seats.{SeatView, IsLogged}
 use Rattle.rz_locked.proofs.Metering.{arm-goes, armed-there}
 use Rattle.rz_locked.proofs.Seats.{armed-logged, word-after}
@@ -74,4 +75,5 @@ invariant_of-self g c =
       subst (λ (u : List Event). GoesWith g.D.Disk.meter (g.J.Counting.first n) u after) (sym word)
           (arm-goes g.D.Disk.meter c.armed.ensures (g.J.Counting.first n) n c.args.passes c.args.pick (of_word (w.Node n) c.self.inside.post.log) was after c.arm.ensures.state
           (armed-there g.D.Disk.has_fuse (Some c.args.passes) (g.D.Disk.meter was.disk) (g.D.Disk.meter after.disk) inv.4 c.arm.ensures.meter) inv.6),
+      ap pick_of (sym word),
     )

@@ -7,6 +7,7 @@ use Rattle.rz_play.specs.Faults.{fuse_of}
 use Rattle.rz_chronicle.specs.Keys.{events_at, word_key}
 use Rattle.rz_chronicle.specs.Kinds.{volume_in}
 use Rattle.rz_locked.specs.Counts.{GoesWith}
+use Rattle.rz_locked.specs.Picks.{pick_of}
 use Rattle.rz_locked.specs.Seats.{IsLogged}
 use Rattle.rz_locked.proofs.Seats.{entered}
 use Rattle.rz_locked.proofs.seat.Seat.enter.Goals as goal
@@ -35,4 +36,5 @@ invariant_of-self g c =
       inv.4,
       inv.5 ∙ ap fuse_of (sym word),
       subst (λ (v : List Event). GoesWith g.D.Disk.meter (g.J.Counting.first n) v node) (sym word) inv.6,
+      inv.7 ∙ ap pick_of (sym word),
     )

@@ -11,6 +11,7 @@ use Rattle.rz_chronicle.specs.Kinds.{volume_in}
 use Rattle.rz_chronicle.specs.Rules.{PostView}
 use Rattle.rz_play.specs.Faults.{fuse_of}
 use Rattle.rz_locked.specs.Counts.{GoesWith}
+use Rattle.rz_locked.specs.Picks.{pick_of}
 use Rattle.rz_locked.proofs.Metering.{fresh-goes}
 use Rattle.rz_locked.proofs.seat.Seat.new.Goals as goal
 
@@ -38,4 +39,5 @@ invariant_of-result g c =
       ap (λ (h : List Event). fuse_of (of_word (w.Node n) h)) (sym empty),
       subst (λ (h : List Event). GoesWith g.D.Disk.meter (g.J.Counting.first n) (of_word (w.Node n) h) node) (sym empty)
           (fresh-goes g.D.Disk.meter (g.J.Counting.first n) node c.requires.count c.requires.unarmed),
+      ap (λ (h : List Event). pick_of (of_word (w.Node n) h)) (sym empty),
     )
