@@ -1,5 +1,5 @@
--- What a node asks of the arguments of any call, and what the call leaves of its disk's meter.
-use Rattle.std.specs.Prelude.{ℕ, ◌≡◌, ◌≤◌, List, length}
+-- What a node asks of the arguments of any call, which calls read a record, and what a call leaves of its disk's meter.
+use Rattle.std.specs.Prelude.{ℕ, ◌≡◌, ◌≢◌, ◌≤◌, true, List, Some, length}
 use Rattle.mj_angles.specs.declared.layout.Layout.{Layout}
 use Rattle.mj_angles.specs.Layout.{max_bins_of}
 use Rattle.rz_events.specs.declared.nodes.NodeAsk.{NodeAsk}
@@ -28,6 +28,11 @@ Takes layout _ bins = Unit {0}
 abbrev pub IsNoStart : NodeAsk → Type 0
 IsNoStart ask.Start = ⊥
 IsNoStart question = Unit {0}
+
+-- the answer gives no record that was read
+abbrev pub IsUnread : NodeAnswer → Type 0
+IsUnread (answer.Fetch a) = fetch_used a ≢ Some true
+IsUnread _ = Unit {0}
 
 -- an opening makes so many device calls
 abbrev pub Counts : ℕ → NodeAnswer → Meter → Meter → Type 0

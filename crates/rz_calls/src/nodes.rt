@@ -1,9 +1,10 @@
 //! Any call of a node.
-ghost use Rattle.std.specs.Prelude.{◌≡◌, IsTrue};
+ghost use Rattle.std.specs.Prelude.{◌≡◌, IsTrue, drop};
+ghost use Rattle.mj_angles.specs.Layout.{max_bins_of};
 ghost use Rattle.rz_cells.specs.Opening.{opening_calls};
 ghost use Rattle.rz_node_model.specs.Answers.{IsNodeAnswer};
 ghost use Rattle.rz_node_model.specs.Afterwards.{after_answer};
-ghost use Rattle.rz_calls.specs.Calls.{Takes, IsNoStart, Counts};
+ghost use Rattle.rz_calls.specs.Calls.{Takes, IsNoStart, IsUnread, Counts};
 ghost use Rattle.rz_calls.specs.Leaves.{Leaves};
 
 use rz_disk::Disk;
@@ -26,6 +27,11 @@ pub fn answer_node<D: Disk>(
     ensures after { IsTrue D.tells → node.new.state ≡ after_answer ask.now result node.old.state }
     ensures after_call { IsNoStart ask.now → node.new.state ≡ after_answer ask.now result node.old.state }
     ensures geometry { node.new.geometry ≡ node.old.geometry }
+
+    // The caller's bins are written where a record was read, and not behind the most bins that one has.
+    ensures unread { IsUnread result → bins.new ≡ bins.old }
+    ensures rest { drop (max_bins_of node.old.geometry.layout) bins.new ≡ drop (max_bins_of node.old.geometry.layout) bins.old }
+
     ensures counts { Counts (opening_calls node.old.geometry) result (D.meter node.old.disk) (D.meter node.new.disk) }
     ensures leaves { IsTrue D.tells → Leaves node.old.geometry node.old.state ask.now result bins.old bins.new (D.text node.old.disk) (D.text node.new.disk) (D.image node.old.disk) (D.image node.new.disk) }
 {
