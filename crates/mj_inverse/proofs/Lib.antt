@@ -20,3 +20,4 @@ pub mod Falling
 pub mod Swept
 pub mod Lined
 pub mod Tied
+pub mod Trimmed

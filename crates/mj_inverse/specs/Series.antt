@@ -73,6 +73,16 @@ pub record IsSpread (unit n : ℕ) (x y : Series) : Type 0 where
   pub to : y.to ≡ x.to
   pub words : (j : ℕ) → seq unit j y ≡ seq unit j x
 
+-- y is x without some places at its ends, whose words are zero
+pub record IsTrimmed (unit : ℕ) (x y : Series) : Type 0 where
+  pub is : IsSeries unit y
+  pub angle : y.angle ≡ x.angle
+  pub room : y.room ≡ x.room
+  pub origin : y.origin ≡ x.origin
+  pub words : y.words ≡ x.words
+  pub from : x.from ≤ y.from
+  pub to : y.to ≤ x.to
+
 -- blocks that were not marked before are not marked now
 abbrev pub IsUnmarked : List ℕ → ℕ → Type 0
 IsUnmarked bad j = slice_index bad j ≡ 0

@@ -7,7 +7,7 @@ ghost use Rattle.mj_inverse.specs.Series.{seq, angle as angle_of, angles, IsAt, 
 use crate::series::Series;
 
 /// Divides the angle of `by` out of each of `rest`. Marks the blocks where something remains.
-fn divide_all(rest: &mut [Series], by: &Series, unit: usize, bad: &mut [u64])
+fn divide_each(rest: &mut [Series], by: &Series, unit: usize, bad: &mut [u64])
     requires meet { Every (λ s. Meet unit s by.now) rest.old }
     requires differ { Every (λ s. s.angle ≢ by.now.angle) rest.old }
     requires blocks { length bad.old ≡ unit }
@@ -20,8 +20,26 @@ fn divide_all(rest: &mut [Series], by: &Series, unit: usize, bad: &mut [u64])
         None => {}
         Some((first, others)) => {
             first.divide_out(by, unit, bad);
-            divide_all(others, by, unit, bad);
+            divide_each(others, by, unit, bad);
         }
+    }
+}
+
+/// Divides the angle of `by` out of each of `rest`, and trims the first of them, by which the others are
+/// divided next. Marks the blocks where something remains.
+fn divide_all(rest: &mut [Series], by: &Series, unit: usize, bad: &mut [u64])
+    requires meet { Every (λ s. Meet unit s by.now) rest.old }
+    requires differ { Every (λ s. s.angle ≢ by.now.angle) rest.old }
+    requires blocks { length bad.old ≡ unit }
+    ensures next { Both (IsNext unit by.now) rest.old rest.new }
+    ensures exact { (j : ℕ) → j < unit → IsUnmarked bad.new j →
+        IsUnmarked bad.old j × Both (IsDividedOut angle_of (seq unit j) by.now) rest.old rest.new }
+    ensures divides { (j : ℕ) → j < unit → IsUnmarked bad.old j → Every (Divides angle_of (seq unit j) by.now) rest.old → IsUnmarked bad.new j }
+{
+    divide_each(rest, by, unit, bad);
+    match rest.split_first_mut() {
+        None => {}
+        Some((first, _others)) => first.trim(unit),
     }
 }
 

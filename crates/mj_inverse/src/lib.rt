@@ -15,6 +15,7 @@
 #![tactic(auto)]
 
 mod eight;
+mod ends;
 mod invert;
 mod lines;
 mod order;

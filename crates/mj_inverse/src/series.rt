@@ -6,8 +6,9 @@ ghost use Rattle.rz_words.specs.Grid.{IsShape};
 ghost use Rattle.mj_angles.specs.Projection.{bins as bin_count};
 ghost use Rattle.mj_angles.proofs.Order.{lifted};
 ghost use Rattle.mj_inverse.specs.Store.{IsSpare, IsGiven};
-ghost use Rattle.mj_inverse.specs.Series.{seq, IsSeries, IsNext, IsUnmarked, IsBlank, IsSpread, KeepsRoom, Meet};
+ghost use Rattle.mj_inverse.specs.Series.{seq, IsSeries, IsNext, IsUnmarked, IsBlank, IsSpread, IsTrimmed, KeepsRoom, Meet};
 
+use crate::ends::{end_of_used, first_used};
 use crate::run::{add_within, add_zeros, give_words, put_words, run_within, take_rest};
 use std::alloc::{AllocError, Global};
 
@@ -99,6 +100,18 @@ impl Series {
         self.origin = start;
         self.from = first.min(end);
         self.to = end;
+    }
+
+    /// Leaves out the places at both ends that have no word but zero. What is made of the rows later is as
+    /// much shorter.
+    pub fn trim(&mut self, unit: usize)
+        requires { IsSeries unit self.old }
+        ensures { IsTrimmed unit self.old self.new }
+    {
+        let from = first_used(&self.words, unit, self.from, self.to);
+        let to = end_of_used(&self.words, unit, from, self.to);
+        self.from = from;
+        self.to = to;
     }
 
     /// Adds `other`, moved up by `up` places.

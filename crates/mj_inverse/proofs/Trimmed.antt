@@ -1,0 +1,95 @@
+-- What trimming a series keeps.
+use Rattle.std.proofs.Common.{◌≡◌, ℕ, ◌+◌, ◌*◌, ◌<◌, ◌≤◌, sym, ap, ◌∙◌, arith, rules, ◌⊎◌, inl, inr, List, [], ◌∷◌, length, get_or, subst}
+use Rattle.std.specs.Prelude.{slice_range, ◌-◌, vec_capacity, vec_items}
+use Rattle.std.proofs.lemmas.Bool.{cases_lt}
+use Rattle.std.proofs.lemmas.List.{places}
+use Rattle.mj_inverse.specs.declared.series.Series.{Series}
+use Rattle.mj_inverse.specs.Rows.{Both, IsDividedOut, times}
+use Rattle.mj_inverse.specs.Series.{seq, angle, IsNext, IsSeries, IsTrimmed}
+
+-- a word among those that are all zero
+pub zero_between : (xs ys : List ℕ) (a b i : ℕ) → ys ≡ xs → ((k : ℕ) → k < length (slice_range ys a b) → get_or (slice_range ys a b) k 0 ≡ 0) → b ≤ length xs → a ≤ i → i < b → get_or xs i 0 ≡ 0
+zero_between xs ys a b i same all room low high =
+    let P : List ℕ → Type 0 = λ zs. (k : ℕ) → k < length (slice_range zs a b) → get_or (slice_range zs a b) k 0 ≡ 0 in
+    let now = subst P same all in
+    let long : length (slice_range xs a b) ≡ b - a = search (rules, places) in
+    let at : get_or (slice_range xs a b) (i - a) 0 ≡ get_or xs (a + (i - a)) 0 = search (rules, places) in
+    let e : a + (i - a) ≡ i = omega arith in
+    ap (λ k. get_or xs k 0) (sym e) ∙ sym at ∙ now (i - a) (omega arith)
+
+-- one more place that is zero, behind the others
+pub zero_up : (unit a t : ℕ) (w : ℕ → ℕ) → ((t' j : ℕ) → a ≤ t' → t' < t → j < unit → w (unit * t' + j) ≡ 0) → ((j : ℕ) → j < unit → w (unit * t + j) ≡ 0) →
+    (t' j : ℕ) → a ≤ t' → t' < t + 1 → j < unit → w (unit * t' + j) ≡ 0
+zero_up unit a t w before now t' j from less h = by (cases_lt t' t)
+  where
+    by : (t' < t) ⊎ (t ≤ t') → w (unit * t' + j) ≡ 0
+    by (inl l) = before t' j from l h
+    by (inr l) = let e : t' ≡ t = omega arith in ap (λ x. w (unit * x + j)) e ∙ now j h
+
+-- one more place that is zero, before the others
+pub zero_down : (unit b n t : ℕ) (w : ℕ → ℕ) → t + (n + 1) ≡ b → ((t' j : ℕ) → b ≤ t' + n → t' < b → j < unit → w (unit * t' + j) ≡ 0) → ((j : ℕ) → j < unit → w (unit * t + j) ≡ 0) →
+    (t' j : ℕ) → b ≤ t' + (n + 1) → t' < b → j < unit → w (unit * t' + j) ≡ 0
+zero_down unit b n t w is after now t' j from less h = by (cases_lt t t')
+  where
+    by : (t < t') ⊎ (t' ≤ t) → w (unit * t' + j) ≡ 0
+    by (inl l) = after t' j (omega arith) less h
+    by (inr l) = let e : t' ≡ t = omega arith in ap (λ x. w (unit * x + j)) e ∙ now j h
+
+-- fewer places, where the words left out are zero
+pub trimmed_series : (unit : ℕ) (s : Series) (f t : ℕ) → IsSeries unit s → s.from ≤ f → f ≤ t → t ≤ s.to →
+    ((k j : ℕ) → s.from ≤ k → k < f → j < unit → get_or s.words.items (unit * k + j) 0 ≡ 0) →
+    ((k j : ℕ) → t ≤ k → k < s.to → j < unit → get_or s.words.items (unit * k + j) 0 ≡ 0) →
+    IsSeries unit (record { direction = s.direction; angle = s.angle; origin = s.origin; from = f; to = t; room = s.room; words = s.words })
+trimmed_series unit s f t is low order high before behind = record {
+  some = is.some;
+  angle = is.angle;
+  order = order;
+  within = (let w = is.within in omega arith);
+  room = is.room;
+  below = λ k j l h. below k j l h (cases_lt k s.from);
+  above = λ k j l h. above k j l h (cases_lt k s.to);
+}
+  where
+    below : (k j : ℕ) → k < f → j < unit → (k < s.from) ⊎ (s.from ≤ k) → get_or s.words.items (unit * k + j) 0 ≡ 0
+    below k j l h (inl b) = is.below k j b h
+    below k j l h (inr b) = before k j b l h
+
+    above : (k j : ℕ) → t ≤ k → j < unit → (k < s.to) ⊎ (s.to ≤ k) → get_or s.words.items (unit * k + j) 0 ≡ 0
+    above k j l h (inl b) = behind k j l b h
+    above k j l h (inr b) = is.above k j b h
+
+pub seq_trimmed : (unit j : ℕ) (x y : Series) → IsTrimmed unit x y → seq unit j y ≡ seq unit j x
+seq_trimmed unit j x y t =
+    let at : ℕ → ℕ → ℕ = λ o e. get_or y.words.items (unit * (o + e) + j) 0 in
+    let from : List ℕ → ℕ → ℕ = λ ws e. get_or ws (unit * (x.origin + e) + j) 0 in
+    ap at t.origin ∙ ap from (ap vec_items t.words)
+
+pub next_series : (unit : ℕ) (p m : Series) (xs ms : List Series) → Both (IsNext unit p) xs (m ∷ ms) → IsSeries unit m
+next_series unit p m [] ms both = absurd both
+next_series unit p m (x ∷ xs) ms (n, both) = n.is
+
+-- the first has been trimmed
+pub next_trimmed : (unit : ℕ) (p m y : Series) (xs ms : List Series) → IsTrimmed unit m y → Both (IsNext unit p) xs (m ∷ ms) → Both (IsNext unit p) xs (y ∷ ms)
+next_trimmed unit p m y [] ms t both = absurd both
+next_trimmed unit p m y (x ∷ xs) ms t (n, both) = (
+  (let to = t.to in
+      let from = t.from in
+      let low = n.low in
+      let o = t.origin in
+      record {
+        is = t.is;
+        angle = t.angle ∙ n.angle;
+        room = t.room ∙ n.room;
+        capacity = (let c = n.capacity in let w = ap vec_capacity t.words in omega arith);
+        origin = t.origin ∙ n.origin;
+        low = omega arith;
+        reach = λ high a b. (let r = n.reach high a b in omega arith);
+      }),
+  both,
+)
+
+pub divided_trimmed : (unit j : ℕ) (p m y : Series) (xs ms : List Series) → IsTrimmed unit m y →
+    Both (IsDividedOut angle (seq unit j) p) xs (m ∷ ms) → Both (IsDividedOut angle (seq unit j) p) xs (y ∷ ms)
+divided_trimmed unit j p m y [] ms t both = absurd both
+divided_trimmed unit j p m y (x ∷ xs) ms t (d, both) =
+    (record { angle = t.angle ∙ d.angle; exact = d.exact ∙ ap (times x.angle p.angle) (sym (seq_trimmed unit j m y t)) }, both)
