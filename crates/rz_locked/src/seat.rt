@@ -1,5 +1,6 @@
 //! A node under its lock.
-ghost use Rattle.std.specs.Prelude.{◌≡◌, ◌+◌, ◌<◌, ◌≤◌, ◌^◌, [], IsTrue, Some, None};
+ghost use Rattle.std.specs.Prelude.{◌≡◌, ◌+◌, ◌<◌, ◌≤◌, ◌^◌, [], IsTrue, Some, None, drop};
+ghost use Rattle.mj_angles.specs.Layout.{max_bins_of};
 ghost use Rattle.rz_events.specs.declared.events.Word.TheVariants as w;
 ghost use Rattle.rz_events.specs.declared.events.Event.TheVariants as e;
 ghost use Rattle.rz_disk.specs.Images.{Only};
@@ -7,7 +8,7 @@ ghost use Rattle.rz_cells.specs.Held.{nothing};
 ghost use Rattle.rz_cells.specs.Stands.{StandsFor};
 ghost use Rattle.rz_node_model.specs.States.{fresh};
 ghost use Rattle.rz_node_model.specs.NodeEvents as model;
-ghost use Rattle.rz_calls.specs.Calls.{Takes};
+ghost use Rattle.rz_calls.specs.Calls.{Takes, IsUnread};
 ghost use Rattle.rz_core.specs.History.{facts, of_word};
 ghost use Rattle.rz_core.specs.NodeRows.{IsNodeOf};
 ghost use Rattle.rz_image_laws.specs.Images.{geometry_in};
@@ -145,6 +146,11 @@ impl<D: Disk, J: Counting> Seat<D, J> {
         ensures same { (pass.new.actor ≡ pass.old.actor) × (pass.new.keys ≡ pass.old.keys) }
         ensures answered { Answered J.kind node ask.now result (model.node_event pass.old.actor node ask.now result) pass.old.keys pass.old.log pass.new.log }
         ensures read { IsTrue (is_honest J.kind) → IsRead (volume_in J.kind) (facts pass.new.log) node ask.now result bins.old bins.new }
+
+        // The caller's bins are written where a record was read, and not behind the most bins that one has.
+        ensures unread { IsUnread result → bins.new ≡ bins.old }
+        ensures rest { drop (max_bins_of (volume_in J.kind).layout) bins.new ≡ drop (max_bins_of (volume_in J.kind).layout) bins.old }
+
         ensures fit { IsFit J.kind pass.new.log }
     {
         crate::laws::asker_kept();
@@ -212,6 +218,8 @@ impl<D: Disk, J: Counting> Seat<D, J> {
         ensures same { (pass.new.actor ≡ pass.old.actor) × (pass.new.keys ≡ pass.old.keys) }
         ensures answered { Answered J.kind self.old.node ask.now result (model.node_event pass.old.actor self.old.node ask.now result) pass.old.keys pass.old.log pass.new.log }
         ensures read { IsTrue (is_honest J.kind) → IsRead (volume_in J.kind) (facts pass.new.log) self.old.node ask.now result bins.old bins.new }
+        ensures unread { IsUnread result → bins.new ≡ bins.old }
+        ensures rest { drop (max_bins_of (volume_in J.kind).layout) bins.new ≡ drop (max_bins_of (volume_in J.kind).layout) bins.old }
         ensures fit { IsFit J.kind pass.new.log }
     {
         crate::laws::seat_kept::<D>();

@@ -1,5 +1,6 @@
 //! A call of a node, and what it leaves of the node and of its disk.
-ghost use Rattle.std.specs.Prelude.{◌≡◌, ℕ, IsTrue, List, None};
+ghost use Rattle.std.specs.Prelude.{◌≡◌, ℕ, IsTrue, List, None, drop};
+ghost use Rattle.mj_angles.specs.Layout.{max_bins_of};
 ghost use Rattle.rz_disk.specs.Meter.{armed};
 ghost use Rattle.rz_events.specs.Volume.{Volume};
 ghost use Rattle.rz_events.specs.declared.keys.Actor.{Actor as AnActor};
@@ -14,7 +15,7 @@ ghost use Rattle.rz_cells.specs.Opening.{opening_calls};
 ghost use Rattle.rz_node.specs.Opens.{Opens};
 ghost use Rattle.rz_play.specs.Faults.{fuse_of};
 ghost use Rattle.rz_play.specs.Lines.{noted};
-ghost use Rattle.rz_calls.specs.Calls.{Takes};
+ghost use Rattle.rz_calls.specs.Calls.{Takes, IsUnread};
 ghost use Rattle.rz_core.specs.History.{Facts, of_word};
 ghost use Rattle.rz_core.specs.Tied.{IsOpening};
 ghost use Rattle.rz_image_laws.specs.Records.{HandsRecord};
@@ -55,6 +56,8 @@ pub(crate) fn serve<D: Disk, J: Naming>(
 
     ensures imaged { IsTrue D.tells → (v : Volume) (f : Facts) (n : ℕ) → HandsRecord v f n ask.now bins.old → IsImaged v f n node.old.state node.old.geometry (D.image node.old.disk) → IsImaged v f n node.new.state node.new.geometry (D.image node.new.disk) }
     ensures read { IsTrue D.tells → (v : Volume) (f : Facts) (n : ℕ) → IsImaged v f n node.old.state node.old.geometry (D.image node.old.disk) → IsRead v f n ask.now result bins.old bins.new }
+    ensures unread { IsUnread result → bins.new ≡ bins.old }
+    ensures rest { drop (max_bins_of node.old.geometry.layout) bins.new ≡ drop (max_bins_of node.old.geometry.layout) bins.old }
     ensures counts { (first n : ℕ) (w : List AnEvent) (by : AnActor) → left ≡ fuse_of w → GoesWith D.meter first w node.old → GoesWith D.meter first (noted (node_event by n ask.now result) w) node.new }
 {
     let _ = post;

@@ -1,4 +1,6 @@
 use Rattle.std.proofs.Common.{◌≡◌, ◌+◌, ◌<◌, ◌^◌, ℕ, IsTrue, IfSome, List, ◌∷◌, Option, refl, sym, ap, ◌∙◌, subst}
+use Rattle.std.specs.Prelude.{drop}
+use Rattle.mj_angles.specs.Layout.{max_bins_of}
 use Rattle.rz_events.specs.declared.keys.Actor.{Actor}
 use Rattle.rz_events.specs.declared.events.Word.{Word}
 use Rattle.rz_events.specs.declared.events.Word.TheVariants as w
@@ -206,3 +208,7 @@ returns-clause-read g c =
     λ honest. subst (λ (m : ℕ). IsRead v (facts new) m q given c.args.bins.now c.serve-answer.new.bins) node
     (c.read_kept.ensures v h new n q given c.args.bins.now c.serve-answer.new.bins (later-adds (word_key (w.Node n) ∷ ks) h (node_event by n q given) new adds)
     (c.serve-answer.ensures.read (inv.3 honest).0 v (facts h) n (logged honest).imaged))
+
+pub returns-clause-rest : goal.returns-clause-rest
+returns-clause-rest g c =
+    subst (λ (k : Geometry). drop (max_bins_of k.layout) c.serve-answer.new.bins ≡ drop (max_bins_of k.layout) c.args.bins.now) c.self.invariant.2 c.serve-answer.ensures.rest
