@@ -2,6 +2,7 @@
 
 ghost use Rattle.std.specs.Prelude.{◌≡◌, ◌+◌, ◌<◌, ◌≤◌, Some, length, map, IfOk, MatchOption};
 ghost use Rattle.std.specs.List.{Contains, IsDistinct, remove, range_with_len};
+ghost use Rattle.std.specs.Option.{option_copied};
 ghost use Rattle.std.specs.Ordering.{eq_by_cmp};
 ghost use Rattle.std.specs.Vec.{vec_len};
 ghost use Rattle.std.specs.VecDeque.{deque_len, deque_capacity};
@@ -10,6 +11,7 @@ ghost use Rattle.rz_events.specs.Keys.{key_cmp};
 ghost use Rattle.rz_events.specs.declared.keys.Key.{Key};
 ghost use Rattle.rz_index.specs.Indexed.{first_of_file, head_of, erase, taken_out, freed};
 
+use crate::packed::Packed;
 use crate::spare::Spare;
 use crate::tree::Tree;
 use rz_events::Key;
@@ -94,14 +96,14 @@ impl Index {
     pub fn find(&self, key: Key) -> Option<Entry>
         ensures { result ≡ maps.get self.now.entries key }
     {
-        self.entries.find(key).copied()
+        unpacked(self.entries.find(key))
     }
 
     /// The entry of the least block of a file.
     pub fn first_of(&self, fid: u128) -> Option<Entry>
         ensures { result ≡ first_of_file self.now.entries fid }
     {
-        self.entries.first_of(fid).copied()
+        unpacked(self.entries.first_of(fid))
     }
 
     /// The first of the free cells.
@@ -135,9 +137,19 @@ impl Index {
     {
         if let Some(node) = self.entries.remove(key) {
             // Entries and free cells together are as many as there is room for.
-            let _fits = self.free.push_back(node.entry().cell);
+            let _fits = self.free.push_back(node.entry().entry().cell);
             self.spare.give(node);
         }
+    }
+}
+
+// The entry that was found.
+fn unpacked(found: Option<&Packed>) -> Option<Entry>
+    ensures { result ≡ option_copied found.entry }
+{
+    match found {
+        Some(packed) => Some(packed.entry()),
+        None => None,
     }
 }
 

@@ -9,6 +9,7 @@ ghost use Rattle.rz_events.specs.Keys.{key_cmp};
 ghost use Rattle.rz_index.specs.Indexed.{pairs_of, IsSorted};
 
 use crate::index::Entry;
+use crate::packed::Packed;
 use rz_events::Key;
 use rz_versions::Versions;
 use std::cmp::Ordering;
@@ -28,9 +29,8 @@ pub struct Tree {
 #[derive(Drop)]
 pub struct Node {
     left: Tree,
-    entry: Entry,
+    packed: Packed,
     right: Tree,
-    height: u8,
 }
 
 impl Model for Tree {
@@ -54,7 +54,7 @@ impl Model for Node {
 
     ghost Value = { List Entry };
 
-    ghost view = { λ n. n.left ++ n.entry ∷ n.right };
+    ghost view = { λ n. n.left ++ n.packed ∷ n.right };
 
     ghost size = { λ items. 2 * length items };
 
@@ -67,7 +67,7 @@ impl Model for Node {
 #[derive(Drop)]
 struct Fork<'a> {
     left: &'a Tree,
-    entry: &'a Entry,
+    entry: &'a Packed,
     right: &'a Tree,
 }
 
@@ -93,7 +93,7 @@ impl Tree {
             None => 0,
             Some(node) => {
                 let node: &Node = node;
-                node.height
+                node.packed.height()
             }
         }
     }
@@ -107,7 +107,7 @@ impl Tree {
                 let node: &Node = node;
                 Some(Fork {
                     left: &node.left,
-                    entry: &node.entry,
+                    entry: &node.packed,
                     right: &node.right,
                 })
             }
@@ -115,12 +115,12 @@ impl Tree {
     }
 
     /// The entry of a key.
-    pub fn find(&self, key: Key) -> Option<&Entry>
+    pub fn find(&self, key: Key) -> Option<&Packed>
         requires { IsSorted self.now }
         ensures { option_copied result ≡ find key_cmp key (pairs_of self.now) }
     {
         let fork = self.fork()?;
-        match key.cmp(&fork.entry.key) {
+        match fork.entry.compare(key) {
             Ordering::Less => fork.left.find(key),
             Ordering::Equal => Some(fork.entry),
             Ordering::Greater => fork.right.find(key),
@@ -128,16 +128,17 @@ impl Tree {
     }
 
     /// The first entry of a file.
-    pub fn first_of(&self, fid: u128) -> Option<&Entry>
+    pub fn first_of(&self, fid: u128) -> Option<&Packed>
         requires { IsSorted self.now }
         ensures { option_copied result ≡ option_map (λ p. p.1) (lists.find (λ p. p.0.fid == fid) (pairs_of self.now)) }
     {
         let fork = self.fork()?;
-        if fork.entry.key.fid < fid {
+        let file = fork.entry.fid();
+        if file < fid {
             return fork.right.first_of(fid);
         }
         let before = fork.left.first_of(fid);
-        if before.is_none() && fork.entry.key.fid == fid {
+        if before.is_none() && file == fid {
             Some(fork.entry)
         } else {
             before
@@ -173,9 +174,9 @@ impl Tree {
         ensures { pairs_of result ≡ put key_cmp entry.now.key entry.now (pairs_of self) }
     {
         let Some(parts) = self.apart() else {
-            return of_node(spare, *entry);
+            return of_node(spare, entry);
         };
-        match entry.key.cmp(&parts.middle.entry().key) {
+        match parts.middle.entry().compare(entry.key) {
             Ordering::Less => {
                 let height = parts.left.height();
                 let left = parts.left.put(entry, spare);
@@ -184,7 +185,7 @@ impl Tree {
             }
             Ordering::Equal => {
                 let mut middle = parts.middle;
-                middle.set(*entry);
+                middle.set(entry);
                 settled(parts.left, middle, parts.right, false)
             }
             Ordering::Greater => {
@@ -201,7 +202,7 @@ impl Tree {
         ensures { result ≡ self ++ entry ∷ [] }
     {
         let Some(parts) = self.apart() else {
-            return of_node(Some(node), entry);
+            return of_node(Some(node), &entry);
         };
         balanced(parts.left, parts.middle, parts.right.with_last(entry, node))
     }
@@ -215,7 +216,7 @@ impl Tree {
         let Some(parts) = self.apart() else {
             return (Tree::new(), None);
         };
-        match key.cmp(&parts.middle.entry().key) {
+        match parts.middle.entry().compare(key) {
             Ordering::Less => {
                 let height = parts.left.height();
                 let (left, node) = parts.left.take(key);
@@ -262,26 +263,25 @@ impl Node {
     pub fn blank() -> Node {
         Node {
             left: Tree::new(),
-            entry: blank(),
+            packed: Packed::new(&blank(), 1),
             right: Tree::new(),
-            height: 1,
         }
     }
 
     /// The one entry.
-    pub fn entry(&self) -> &Entry
+    pub fn entry(&self) -> &Packed
         requires one { length self.now ≡ 1 }
         ensures { self.now ≡ result.now ∷ [] }
     {
-        &self.entry
+        &self.packed
     }
 
-    // Puts an entry in the place of the one.
-    fn set(&mut self, entry: Entry)
+    // Puts an entry in the place of the one. The height stays as it was.
+    fn set(&mut self, entry: &Entry)
         requires one { length self.old ≡ 1 }
-        ensures { self.new ≡ entry ∷ [] }
+        ensures { self.new ≡ entry.now ∷ [] }
     {
-        self.entry = entry;
+        self.packed = Packed::new(entry, self.packed.height());
     }
 
     // Takes off what stands below. The height stays as it was.
@@ -307,11 +307,8 @@ impl Node {
     fn measure(&mut self)
         ensures { self.new ≡ self.old }
     {
-        self.height = self
-            .left
-            .height()
-            .max(self.right.height())
-            .saturating_add(1);
+        let height = self.left.height().max(self.right.height());
+        self.packed.set_height(height.saturating_add(1));
     }
 }
 
@@ -325,9 +322,9 @@ pub fn blank() -> Entry {
 }
 
 // The tree of one entry on a node.
-fn of_node(node: Option<Box<Node>>, entry: Entry) -> Tree
+fn of_node(node: Option<Box<Node>>, entry: &Entry) -> Tree
     requires { node ≢ None }
-    ensures { result ≡ entry ∷ [] }
+    ensures { result ≡ entry.now ∷ [] }
 {
     let Some(mut node) = node else {
         return Tree::new();

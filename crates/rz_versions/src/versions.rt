@@ -58,6 +58,24 @@ impl Versions {
         }
     }
 
+    /// The versions on these sides.
+    pub fn of_sides(zero: Option<Version>, one: Option<Version>) -> Versions
+        requires { Differ version_stamp zero one }
+        ensures { result ≡ record { zero = zero; one = one } }
+    {
+        Versions { sides: [zero, one] }
+    }
+
+    /// What stands on the sides 0 and 1.
+    pub fn both_sides(&self) -> (Option<Version>, Option<Version>)
+        ensures zero { result.0 ≡ self.now.zero }
+        ensures one { result.1 ≡ self.now.one }
+        ensures differ { Differ version_stamp result.0 result.1 }
+    {
+        let zero = self.sides[0];
+        (zero, self.sides[1])
+    }
+
     /// The version of greater stamp.
     pub fn greatest(&self) -> Option<Version>
         ensures { result ≡ first_of (in_order version_stamp self.now) }

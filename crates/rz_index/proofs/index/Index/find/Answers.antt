@@ -6,5 +6,5 @@ use Rattle.rz_index.proofs.index.Index.find.Goals as goal
 
 pub returns : goal.returns
 returns c =
-    c.copied.ensures ∙ c.find.ensures
+    c.unpacked.ensures ∙ c.find.ensures
     ∙ sym (ap (λ (s : Indexed). maps.get s.entries c.args.key) (sym c.self.view_is) ∙ get-made c.self.inside.entries c.args.key c.self.invariant.sorted)

@@ -5,5 +5,5 @@ use Rattle.rz_index.proofs.index.Index.first_of.Goals as goal
 
 pub returns : goal.returns
 returns c =
-    c.copied.ensures ∙ c.first_of.ensures
+    c.unpacked.ensures ∙ c.first_of.ensures
     ∙ sym (ap (λ (s : Indexed). first_of_file s.entries c.args.fid) (sym c.self.view_is) ∙ first-made c.args.fid c.self.inside.entries c.self.invariant.sorted)

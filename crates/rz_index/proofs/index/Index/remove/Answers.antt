@@ -51,6 +51,7 @@ returns-in-Some-clause-free c =
     let fewer : 1 + length fs ≡ length es = ap (λ (o : Option Entry). cond (is_some o) 1 0 + length fs) (sym found) ∙ take-length k es fs c.self.invariant.sorted c.remove.ensures.entries in
     let fits = c.push_back-fits.ensures.succeeds (omega (arith, fewer, c.self.invariant.room_free)) in
     c.push_back-fits.ensures.items
+    ∙ ap (λ (x : Entry). cond (is_ok c.push_back-fits.result) (free ++ x.cell ∷ []) free) c.entry-in-Some.ensures
     ∙ ap (λ b. cond b (free ++ e.cell ∷ []) free) fits
     ∙ sym (ap (λ (s : Indexed). freed_by (maps.get s.entries k) s.free) (sym c.self.view_is) ∙ ap (λ o. freed_by o free) (get-made es k c.self.invariant.sorted ∙ found))
 

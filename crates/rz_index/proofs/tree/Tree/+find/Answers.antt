@@ -24,17 +24,17 @@ returns-in-Less t c =
     let f = c.in_ok-fork.fork in
     let sorted = subst IsSorted c.in_ok-fork.ensures c.requires in
     c.find.ensures
-    ∙ sym (ap (λ es. find key_cmp c.args.key (pairs_of es)) c.in_ok-fork.ensures ∙ find-left c.args.key f.left.now f.entry.now f.right.now sorted (sym c.cmp.ensures ∙ c.in-Less.is))
+    ∙ sym (ap (λ es. find key_cmp c.args.key (pairs_of es)) c.in_ok-fork.ensures ∙ find-left c.args.key f.left.now f.entry.now f.right.now sorted (sym c.compare.ensures ∙ c.in-Less.is))
 
 pub returns-in-Equal : goal.returns-in-Equal
 returns-in-Equal t c =
     let f = c.in_ok-fork.fork in
     let sorted = subst IsSorted c.in_ok-fork.ensures c.requires in
-    sym (ap (λ es. find key_cmp c.args.key (pairs_of es)) c.in_ok-fork.ensures ∙ find-middle c.args.key f.left.now f.entry.now f.right.now sorted (sym c.cmp.ensures ∙ c.in-Equal.is))
+    sym (ap (λ es. find key_cmp c.args.key (pairs_of es)) c.in_ok-fork.ensures ∙ find-middle c.args.key f.left.now f.entry.now f.right.now sorted (sym c.compare.ensures ∙ c.in-Equal.is))
 
 pub returns-in-Greater : goal.returns-in-Greater
 returns-in-Greater t c =
     let f = c.in_ok-fork.fork in
     let sorted = subst IsSorted c.in_ok-fork.ensures c.requires in
     c.find-in-Greater.ensures
-    ∙ sym (ap (λ es. find key_cmp c.args.key (pairs_of es)) c.in_ok-fork.ensures ∙ find-right c.args.key f.left.now f.entry.now f.right.now sorted (sym c.cmp.ensures ∙ c.in-Greater.is))
+    ∙ sym (ap (λ es. find key_cmp c.args.key (pairs_of es)) c.in_ok-fork.ensures ∙ find-right c.args.key f.left.now f.entry.now f.right.now sorted (sym c.compare.ensures ∙ c.in-Greater.is))

@@ -18,7 +18,7 @@ put-left-requires t c =
       (
         front-sorted p.left (m ∷ p.right) sorted,
         λ none missing.
-            c.requires.room none (ap (λ es. find key_cmp k (pairs_of es)) whole ∙ find-left k p.left m p.right sorted (sym c.cmp.ensures ∙ c.in-Less.is) ∙ missing),
+            c.requires.room none (ap (λ es. find key_cmp k (pairs_of es)) whole ∙ find-left k p.left m p.right sorted (sym c.compare.ensures ∙ c.in-Less.is) ∙ missing),
       ),
     )
 
@@ -35,7 +35,7 @@ put-right-requires t c =
       (
         rest-sorted p.left m p.right sorted,
         λ none missing.
-            c.requires.room none (ap (λ es. find key_cmp k (pairs_of es)) whole ∙ find-right k p.left m p.right sorted (sym c.cmp.ensures ∙ c.in-Greater.is) ∙ missing),
+            c.requires.room none (ap (λ es. find key_cmp k (pairs_of es)) whole ∙ find-right k p.left m p.right sorted (sym c.compare.ensures ∙ c.in-Greater.is) ∙ missing),
       ),
     )
 
@@ -47,7 +47,7 @@ returns-in-Less t c =
     let one : p.middle.value ≡ m ∷ [] = search rules in
     let whole = parted c.args.self p.left p.middle.value p.right m c.in-Some.ensures.0 one in
     ap pairs_of (parted c.settled.result c.put-left.result p.middle.value p.right m c.settled.ensures one)
-    ∙ put-left x p.left c.put-left.result m p.right (sym c.cmp.ensures ∙ c.in-Less.is) c.put-left.ensures ∙ sym (ap (λ es. put key_cmp x.key x (pairs_of es)) whole)
+    ∙ put-left x p.left c.put-left.result m p.right (sym c.compare.ensures ∙ c.in-Less.is) c.put-left.ensures ∙ sym (ap (λ es. put key_cmp x.key x (pairs_of es)) whole)
 
 pub returns-in-Equal : goal.returns-in-Equal
 returns-in-Equal t c =
@@ -58,7 +58,7 @@ returns-in-Equal t c =
     let whole = parted c.args.self p.left p.middle.value p.right m c.in-Some.ensures.0 one in
     let sorted = subst IsSorted whole c.requires.sorted in
     let now : c.settled-in-Equal.result ≡ p.left ++ x ∷ p.right = parted c.settled-in-Equal.result p.left _ p.right x c.settled-in-Equal.ensures (search rules) in
-    ap pairs_of now ∙ put-middle x p.left m p.right sorted (sym c.cmp.ensures ∙ c.in-Equal.is) ∙ sym (ap (λ es. put key_cmp x.key x (pairs_of es)) whole)
+    ap pairs_of now ∙ put-middle x p.left m p.right sorted (sym c.compare.ensures ∙ c.in-Equal.is) ∙ sym (ap (λ es. put key_cmp x.key x (pairs_of es)) whole)
 
 pub returns-in-Greater : goal.returns-in-Greater
 returns-in-Greater t c =
@@ -69,4 +69,4 @@ returns-in-Greater t c =
     let whole = parted c.args.self p.left p.middle.value p.right m c.in-Some.ensures.0 one in
     let sorted = subst IsSorted whole c.requires.sorted in
     ap pairs_of (parted c.settled-in-Greater.result p.left p.middle.value c.put-right.result m c.settled-in-Greater.ensures one)
-    ∙ put-right x p.left m p.right c.put-right.result sorted (sym c.cmp.ensures ∙ c.in-Greater.is) c.put-right.ensures ∙ sym (ap (λ es. put key_cmp x.key x (pairs_of es)) whole)
+    ∙ put-right x p.left m p.right c.put-right.result sorted (sym c.compare.ensures ∙ c.in-Greater.is) c.put-right.ensures ∙ sym (ap (λ es. put key_cmp x.key x (pairs_of es)) whole)

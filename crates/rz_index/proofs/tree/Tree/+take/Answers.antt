@@ -33,7 +33,7 @@ returns-in-Less-clause-entries t c =
     let one : p.middle.value ≡ m ∷ [] = search rules in
     let whole = parted c.args.self p.left p.middle.value p.right m c.in-Some.ensures.0 one in
     ap pairs_of (parted c.settled.result c.take-left.result.0 p.middle.value p.right m c.settled.ensures one)
-    ∙ take-left k p.left c.take-left.result.0 m p.right (subst IsSorted whole c.requires) (sym c.cmp.ensures ∙ c.in-Less.is) c.take-left.ensures.entries ∙ sym (ap (without k) whole)
+    ∙ take-left k p.left c.take-left.result.0 m p.right (subst IsSorted whole c.requires) (sym c.compare.ensures ∙ c.in-Less.is) c.take-left.ensures.entries ∙ sym (ap (without k) whole)
 
 pub returns-in-Less-clause-node : goal.returns-in-Less-clause-node
 returns-in-Less-clause-node t c =
@@ -43,7 +43,7 @@ returns-in-Less-clause-node t c =
     let one : p.middle.value ≡ m ∷ [] = search rules in
     let whole = parted c.args.self p.left p.middle.value p.right m c.in-Some.ensures.0 one in
     c.take-left.ensures.node
-    ∙ ap (option_map (λ (e : Entry). e ∷ [])) (sym (ap (λ es. find key_cmp k (pairs_of es)) whole ∙ find-left k p.left m p.right (subst IsSorted whole c.requires) (sym c.cmp.ensures ∙ c.in-Less.is)))
+    ∙ ap (option_map (λ (e : Entry). e ∷ [])) (sym (ap (λ es. find key_cmp k (pairs_of es)) whole ∙ find-left k p.left m p.right (subst IsSorted whole c.requires) (sym c.compare.ensures ∙ c.in-Less.is)))
 
 pub returns-in-Equal-clause-entries : goal.returns-in-Equal-clause-entries
 returns-in-Equal-clause-entries t c =
@@ -52,7 +52,7 @@ returns-in-Equal-clause-entries t c =
     let m = c.entry.result.now in
     let one : p.middle.value ≡ m ∷ [] = search rules in
     let whole = parted c.args.self p.left p.middle.value p.right m c.in-Some.ensures.0 one in
-    ap pairs_of c.merged.ensures ∙ take-middle k p.left m p.right (subst IsSorted whole c.requires) (sym c.cmp.ensures ∙ c.in-Equal.is) ∙ sym (ap (without k) whole)
+    ap pairs_of c.merged.ensures ∙ take-middle k p.left m p.right (subst IsSorted whole c.requires) (sym c.compare.ensures ∙ c.in-Equal.is) ∙ sym (ap (without k) whole)
 
 pub returns-in-Equal-clause-node : goal.returns-in-Equal-clause-node
 returns-in-Equal-clause-node t c =
@@ -62,7 +62,7 @@ returns-in-Equal-clause-node t c =
     let one : p.middle.value ≡ m ∷ [] = search rules in
     let whole = parted c.args.self p.left p.middle.value p.right m c.in-Some.ensures.0 one in
     ap (λ (es : List Entry). Some es) one
-    ∙ ap (option_map (λ (e : Entry). e ∷ [])) (sym (ap (λ es. find key_cmp k (pairs_of es)) whole ∙ find-middle k p.left m p.right (subst IsSorted whole c.requires) (sym c.cmp.ensures ∙ c.in-Equal.is)))
+    ∙ ap (option_map (λ (e : Entry). e ∷ [])) (sym (ap (λ es. find key_cmp k (pairs_of es)) whole ∙ find-middle k p.left m p.right (subst IsSorted whole c.requires) (sym c.compare.ensures ∙ c.in-Equal.is)))
 
 pub returns-in-Greater-clause-entries : goal.returns-in-Greater-clause-entries
 returns-in-Greater-clause-entries t c =
@@ -72,7 +72,7 @@ returns-in-Greater-clause-entries t c =
     let one : p.middle.value ≡ m ∷ [] = search rules in
     let whole = parted c.args.self p.left p.middle.value p.right m c.in-Some.ensures.0 one in
     ap pairs_of (parted c.settled-in-Greater.result p.left p.middle.value c.take-right.result.0 m c.settled-in-Greater.ensures one)
-    ∙ take-right k p.left m p.right c.take-right.result.0 (subst IsSorted whole c.requires) (sym c.cmp.ensures ∙ c.in-Greater.is) c.take-right.ensures.entries ∙ sym (ap (without k) whole)
+    ∙ take-right k p.left m p.right c.take-right.result.0 (subst IsSorted whole c.requires) (sym c.compare.ensures ∙ c.in-Greater.is) c.take-right.ensures.entries ∙ sym (ap (without k) whole)
 
 pub returns-in-Greater-clause-node : goal.returns-in-Greater-clause-node
 returns-in-Greater-clause-node t c =
@@ -82,4 +82,4 @@ returns-in-Greater-clause-node t c =
     let one : p.middle.value ≡ m ∷ [] = search rules in
     let whole = parted c.args.self p.left p.middle.value p.right m c.in-Some.ensures.0 one in
     c.take-right.ensures.node
-    ∙ ap (option_map (λ (e : Entry). e ∷ [])) (sym (ap (λ es. find key_cmp k (pairs_of es)) whole ∙ find-right k p.left m p.right (subst IsSorted whole c.requires) (sym c.cmp.ensures ∙ c.in-Greater.is)))
+    ∙ ap (option_map (λ (e : Entry). e ∷ [])) (sym (ap (λ es. find key_cmp k (pairs_of es)) whole ∙ find-right k p.left m p.right (subst IsSorted whole c.requires) (sym c.compare.ensures ∙ c.in-Greater.is)))
