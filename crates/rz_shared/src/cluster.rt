@@ -1,5 +1,6 @@
 //! The cluster and its calls.
-ghost use Rattle.std.specs.Prelude.{◌≡◌, ◌+◌, ◌<◌, ◌^◌, IsTrue, length, map};
+ghost use Rattle.std.specs.Prelude.{◌≡◌, ◌+◌, ◌<◌, ◌^◌, IsTrue, drop, length, map};
+ghost use Rattle.mj_angles.specs.Layout.{max_bins_of};
 ghost use Rattle.rz_events.specs.declared.files.NodeSpec.{NodeSpec as ANodeSpec};
 ghost use Rattle.rz_events.specs.declared.events.Word.TheVariants as w;
 ghost use Rattle.rz_events.specs.declared.events.Event.TheVariants as e;
@@ -7,7 +8,7 @@ ghost use Rattle.rz_events.specs.Events.{word_of, by_of};
 ghost use Rattle.rz_export_model.specs.ExportEvents.{export_event};
 ghost use Rattle.rz_node_model.specs.NodeEvents.{node_event};
 ghost use Rattle.rz_node_model.specs.Versions.{Stands};
-ghost use Rattle.rz_calls.specs.Calls.{Takes};
+ghost use Rattle.rz_calls.specs.Calls.{Takes, IsUnread};
 ghost use Rattle.rz_core.specs.History.{facts, of_actor};
 ghost use Rattle.rz_core.specs.NodeRows.{IsNodeOf};
 ghost use Rattle.rz_core.specs.Tied.{IsProperCall};
@@ -91,6 +92,11 @@ impl<D: Disk, J: Counting> Cluster<D, J> {
         ensures same { (pass.new.actor ≡ pass.old.actor) × (pass.new.keys ≡ pass.old.keys) }
         ensures answered { Answered J.kind node ask.now result (node_event pass.old.actor node ask.now result) pass.old.keys pass.old.log pass.new.log }
         ensures read { IsTrue (is_honest J.kind) → IsRead (volume_in J.kind) (facts pass.new.log) node ask.now result bins.old bins.new }
+
+        // The caller's bins are written where a record was read, and not behind the most bins that one has.
+        ensures unread { IsUnread result → bins.new ≡ bins.old }
+        ensures rest { drop (max_bins_of (volume_in J.kind).layout) bins.new ≡ drop (max_bins_of (volume_in J.kind).layout) bins.old }
+
         ensures fit { IsFit J.kind pass.new.log }
     {
         let seat = self.seat(node);
