@@ -8,7 +8,7 @@ ghost use Rattle.mj_angles.proofs.Order.{lifted};
 ghost use Rattle.mj_inverse.specs.Store.{IsSpare, IsGiven};
 ghost use Rattle.mj_inverse.specs.Series.{seq, IsSeries, IsNext, IsUnmarked, IsBlank, IsSpread, IsTrimmed, KeepsRoom, Meet};
 
-use crate::ends::{end_of_used, first_used};
+use crate::ends::{end_of_used, first_used, padded_end};
 use crate::run::{add_within, add_zeros, give_words, put_words, run_within, take_rest};
 use std::alloc::{AllocError, Global};
 
@@ -131,12 +131,14 @@ impl Series {
     {
         let from = self.origin + up + (other.from - other.origin);
         let to = from + (other.to - other.from);
+        let most = other.room.min(other.from + (self.room - from));
+        let end = padded_end(other.from, other.to, most);
         add_within(
             &mut self.words,
             unit * from,
             &other.words,
             unit * other.from,
-            unit * other.to,
+            unit * end,
         );
         self.from = self.from.min(from);
         self.to = self.to.max(to);
