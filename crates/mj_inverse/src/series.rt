@@ -94,7 +94,8 @@ impl Series {
         );
         let first = from.max(start);
         let end = to.saturating_sub(step).max(start);
-        let last = to.max(end);
+        let far = to.max(end);
+        let last = padded_end(end, far, self.room);
         take_rest(&mut self.words, unit, from, first, bad);
         take_rest(&mut self.words, unit, end, last, bad);
         self.origin = start;
