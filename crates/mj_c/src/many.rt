@@ -13,7 +13,6 @@ use crate::inverse::{are_positions, find_one, is_ascending, total_bins};
 use crate::layouts::layout_of;
 use mj_angles::Layout;
 use mj_inverse::Work;
-use rz_words::Block;
 use std::alloc::Global;
 
 /// Tests everything, and looks for as many blocks as `out` has room for.
@@ -88,10 +87,7 @@ fn find_many(
     let Ok(mut work) = Work::new(alloc, rows, cols) else {
         return Answer::NoMemory;
     };
-    let Ok(mut block) = Block::zero(alloc, rows, cols) else {
-        return Answer::NoMemory;
-    };
-    if find_each(&mut work, &mut block, layout, positions, blocks, bins, out) {
+    if find_each(&mut work, layout, positions, blocks, bins, out) {
         Answer::Done
     } else {
         Answer::Inconsistent
@@ -101,7 +97,6 @@ fn find_many(
 /// Looks for so many blocks, and stops at the first that is not found.
 fn find_each(
     work: &mut Work,
-    block: &mut Block,
     layout: Layout,
     positions: &[u32],
     blocks: usize,
@@ -109,8 +104,6 @@ fn find_each(
     out: &mut [u64],
 ) -> bool
     requires empty { work.old ≡ empty_search (inverse_of layout) (cols_of layout) }
-    requires rows { block.old.rows ≡ inverse_of layout }
-    requires cols { block.old.cols ≡ cols_of layout }
     requires positions { list_all (λ i. nat_lt i (safe_of layout)) positions.now ≡ true }
     requires ascending { is_ascending_from 0 positions.now ≡ true }
     requires count { length positions.now ≡ inverse_of layout }
@@ -124,7 +117,7 @@ fn find_each(
     for i in 0..blocks {
         let given = &bins[i * each..i * each + each];
         let room = &mut out[i * words..i * words + words];
-        if !find_one(work, block, layout, positions, given, room) {
+        if !find_one(work, layout, positions, given, room) {
             return false;
         }
     }

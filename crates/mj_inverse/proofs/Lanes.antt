@@ -92,7 +92,7 @@ lane_cut unit j zs ws m t h cut zeros k = by (cases_lt k m) (cases_lt k t)
 
 -- after both cuts only the places from f and o + a to m may have words other than zero
 pub cut_zero : (unit : ℕ) (xs ys zs vs ws : ℕ → ℕ) (o p f t a s g m n : ℕ) → IsSpan unit xs ys o p f t a s → IsFlatRun unit xs ys zs f t (p + (f - o)) s →
-    IsCut unit zs vs f g → IsCut unit vs ws m n → n ≡ max t m →
+    IsCut unit zs vs f g → IsCut unit vs ws m n → max t m ≤ n →
     ((k j : ℕ) → j < unit → k < g → ws (unit * k + j) ≡ 0) × ((k j : ℕ) → j < unit → m ≤ k → ws (unit * k + j) ≡ 0)
 cut_zero unit xs ys zs vs ws o p f t a s g m n span run first last over =
     (λ k j h l. below k j h l (cases_lt k f) (cases_lt k m) (cases_lt k n), λ k j h l. above k j h l (cases_lt k n))
@@ -119,7 +119,7 @@ cut_zero unit xs ys zs vs ws o p f t a s g m n span run first last over =
 -- vs are the words after the run, zs, with zeros from place f to place o + a, and ws are those with zeros from place m on
 module _ (unit j : ℕ) (xs ys zs vs ws : ℕ → ℕ) (o p f t a s g m n q q' : ℕ) (h : j < unit) (span : IsSpan unit xs ys o p f t a s)
     (run : IsFlatRun unit xs ys zs f t (p + (f - o)) s) (first : IsCut unit zs vs f g) (last : IsCut unit vs ws m n)
-    (down : a + s ≡ max q q') (less : a ≡ min q q') (begin : g ≡ max f (o + a)) (end : m ≡ max (t - s) (o + a)) (over : n ≡ max t m) where
+    (down : a + s ≡ max q q') (less : a ≡ min q q') (begin : g ≡ max f (o + a)) (end : m ≡ max (t - s) (o + a)) (over : max t m ≤ n) where
   one_run : IsRun (lane unit j xs) (lane unit j ys) (lane unit j zs) o p f t a s
   one_run = lane_run unit j xs ys zs o p f t a s h span run
 

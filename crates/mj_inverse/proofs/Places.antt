@@ -207,3 +207,21 @@ added_raised xs ys zs o p u f t add = fun_ext (λ e. by e (split u e))
     by : (e : ℕ) → (e < u) ⊎ ((d : ℕ) × (e ≡ u + d)) → zs (o + e) ≡ plus (from_place xs o) (raised u (from_place ys p)) e
     by e (inl h) = unchanged e (add.below (o + e) (omega arith)) (raised_below u (from_place ys p) e h)
     by e (inr (d, h)) = inner e d h (cases_lt (p + d) f) (cases_lt (p + d) t)
+
+-- where both words are zero, so is their sum
+pub added_zero : (xs ys zs : ℕ → ℕ) (o p u f t : ℕ) → IsAdded xs ys zs o p u f t → (k : ℕ) → xs k ≡ 0 →
+    (o + u + (f - p) ≤ k → ys (f + (k - (o + u + (f - p)))) ≡ 0) → zs k ≡ 0
+added_zero xs ys zs o p u f t add k x y = by (cases_lt k (o + u + (f - p))) (cases_lt (f + (k - (o + u + (f - p)))) t)
+  where
+    place : (zs : ℕ → ℕ) (i j : ℕ) → i ≡ j → zs i ≡ zs j
+    place zs i j h = ap (λ n. zs n) h
+
+    by : (k < o + u + (f - p)) ⊎ (o + u + (f - p) ≤ k) → (f + (k - (o + u + (f - p))) < t) ⊎ (t ≤ f + (k - (o + u + (f - p)))) → zs k ≡ 0
+    by (inl low) _ = add.below k low ∙ x
+    by (inr high) (inr far) = add.above k (let g = add.order in omega arith) ∙ x
+    by (inr high) (inl near) =
+        let at : ℕ = o + u + (f - p) in
+        let n : ℕ = k - at in
+        let e : at + n ≡ k = omega arith in
+        place zs k (at + n) (sym e) ∙ add.inside n near
+        ∙ ap (λ w. bit_xor w (ys (f + n))) (place xs (at + n) k e ∙ x) ∙ ap (bit_xor 0) (y high) ∙ xor_zero_r 0

@@ -1,10 +1,11 @@
 -- The series of a work and the pairs that contracts see.
-use Rattle.std.proofs.Common.{◌≡◌, ◌≢◌, ℕ, zero, suc, ◌+◌, ◌-◌, ◌*◌, ◌<◌, ◌≤◌, refl, sym, ap, ◌∙◌, subst, arith, rules, ◌⊎◌, inl, inr, List, [], ◌∷◌, ◌++◌, length, get_or, take, drop, map, ℤ, pos, vec_len}
+use Rattle.std.proofs.Common.{◌≡◌, ◌≢◌, ℕ, zero, suc, ◌+◌, ◌-◌, ◌*◌, ◌<◌, ◌≤◌, refl, sym, ap, ◌∙◌, subst, arith, rules, ◌⊎◌, inl, inr, List, [], ◌∷◌, ◌++◌, length, get_or, take, drop, map, reverse, ℤ, pos, vec_len}
 use Rattle.std.specs.Prelude.{vec_capacity}
 use Rattle.std.specs.Prelude.{negsuc, unsigned_abs, All, slice_range}
 use Rattle.std.proofs.Math.Nat.{mul-le-mul_right}
 use Rattle.std.proofs.lemmas.Bool.{cases_lt}
 use Rattle.std.proofs.lemmas.List.{places, ext_get_or}
+use Rattle.std.proofs.lemmas.Grind.{reverse_onto}
 use Rattle.std.proofs.lemmas.List.FromFn.{get_or-map-range_with_len, length-map-range_with_len}
 use mathlib.Core.Path.{fun_ext}
 use Rattle.std.proofs.Math.Seq.{take-append_seam}
@@ -432,3 +433,9 @@ first_word (x ∷ xs) d h = refl
 pub filled_more : (unit rows cols : ℕ) (xs : List Series) (s : Series) → IsFilled unit rows cols 0 xs → IsSpare unit rows cols s → IsFilled unit rows cols 0 (xs ++ s ∷ [])
 filled_more unit rows cols [] s filled spare = (spare, tt)
 filled_more unit rows cols (x ∷ xs) s (f, filled) spare = (f, filled_more unit rows cols xs s filled spare)
+
+pub filled_reverse : (unit rows cols : ℕ) (xs : List Series) → IsFilled unit rows cols 0 xs → IsFilled unit rows cols 0 (reverse xs)
+filled_reverse unit rows cols [] filled = tt
+filled_reverse unit rows cols (x ∷ xs) (f, filled) =
+    let P : List Series → Type 0 = λ ys. IsFilled unit rows cols 0 ys in
+    subst P (sym (reverse_onto xs x [])) (filled_more unit rows cols (reverse xs) x (filled_reverse unit rows cols xs filled) f)

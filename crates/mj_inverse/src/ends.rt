@@ -38,6 +38,22 @@ pub fn end_of_used(words: &Vec<u64>, unit: usize, from: usize, to: usize) -> usi
     from
 }
 
+/// An end from `to` on, and not past `most`, that makes whole groups of eight places where there is room for
+/// that, so that no single words are left over.
+pub fn padded_end(from: usize, to: usize, most: usize) -> usize
+    requires order { from ≤ to }
+    requires room { to ≤ most }
+    ensures low { to ≤ result }
+    ensures high { result ≤ most }
+{
+    let over = (to - from) % 8;
+    if over > 0 && most - to >= 8 {
+        to + (8 - over)
+    } else {
+        to
+    }
+}
+
 /// Whether all words of a place are zero.
 fn is_zero_place(words: &Vec<u64>, unit: usize, t: usize) -> bool
     requires { unit * t + unit ≤ vec_len words.now }

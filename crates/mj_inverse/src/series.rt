@@ -8,7 +8,7 @@ ghost use Rattle.mj_angles.proofs.Order.{lifted};
 ghost use Rattle.mj_inverse.specs.Store.{IsSpare, IsGiven};
 ghost use Rattle.mj_inverse.specs.Series.{seq, IsSeries, IsNext, IsUnmarked, IsBlank, IsSpread, IsTrimmed, KeepsRoom, Meet};
 
-use crate::ends::{end_of_used, first_used};
+use crate::ends::{end_of_used, first_used, padded_end};
 use crate::run::{add_within, add_zeros, give_words, put_words, run_within, take_rest};
 use std::alloc::{AllocError, Global};
 
@@ -94,7 +94,8 @@ impl Series {
         );
         let first = from.max(start);
         let end = to.saturating_sub(step).max(start);
-        let last = to.max(end);
+        let far = to.max(end);
+        let last = padded_end(end, far, self.room);
         take_rest(&mut self.words, unit, from, first, bad);
         take_rest(&mut self.words, unit, end, last, bad);
         self.origin = start;
@@ -131,12 +132,14 @@ impl Series {
     {
         let from = self.origin + up + (other.from - other.origin);
         let to = from + (other.to - other.from);
+        let most = other.room.min(other.from + (self.room - from));
+        let end = padded_end(other.from, other.to, most);
         add_within(
             &mut self.words,
             unit * from,
             &other.words,
             unit * other.from,
-            unit * other.to,
+            unit * end,
         );
         self.from = self.from.min(from);
         self.to = self.to.max(to);

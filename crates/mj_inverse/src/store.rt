@@ -15,7 +15,8 @@ use crate::series::Series;
 use crate::sweep::sweep;
 use std::alloc::{AllocError, Global};
 
-/// As many blank series as rows.
+/// As many blank series as rows. The last one that took memory stands first, so that memory is given back
+/// from its end on, which costs the least.
 pub fn blanks(
     alloc: Global,
     rows: usize,
@@ -30,6 +31,7 @@ pub fn blanks(
     for _i in 0..rows {
         all.push(Series::new(alloc, rows, cols, unit)?)?;
     }
+    all.reverse();
     Ok(all)
 }
 

@@ -1,7 +1,7 @@
 //! The projections by which a block is looked for.
 
-ghost use Rattle.std.specs.Prelude.{◌≡◌, ◌≢◌, ◌≤◌, ◌<◌, ◌+◌, ◌↔◌, length, unsigned_abs, All, IfOk, IsOk, OnOk, vec_len};
-ghost use Rattle.rz_words.specs.Grid.{IsShape, Grid};
+ghost use Rattle.std.specs.Prelude.{◌≡◌, ◌≢◌, ◌≤◌, ◌<◌, ◌+◌, ◌↔◌, ◌*◌, length, unsigned_abs, All, IfOk, IsOk, OnOk, OnErr, vec_len};
+ghost use Rattle.rz_words.specs.Grid.{IsShape, Grid, grid_of};
 ghost use Rattle.mj_angles.specs.Projection.{bins as bin_count};
 ghost use Rattle.mj_inverse.specs.Fits.{IsFound, empty_search, with_pair};
 
@@ -117,6 +117,38 @@ impl Work {
             return Err(Inconsistent);
         }
         out.swap_words(&mut self.words);
+        Ok(())
+    }
+
+    /// The same into words, row by row, which stay as they are where no block has the projections.
+    ///
+    /// # Errors
+    ///
+    /// `Inconsistent` where no block has them.
+    pub fn solve_words(&mut self, out: &mut [u64]) -> Result<(), Inconsistent>
+        requires full { length self.old.pairs ≡ self.old.rows }
+        requires room { length out.old ≡ self.old.rows * self.old.cols }
+        ensures exact { IsOk result ↔ ((g : Grid) × IsFound self.old g) }
+        ensures found { OnOk result (IsFound self.old (grid_of self.old.rows self.old.cols out.new)) }
+        ensures only { OnOk result ((g : Grid) → IsFound self.old g → g ≡ grid_of self.old.rows self.old.cols out.new) }
+        ensures unchanged { OnErr result (out.new ≡ out.old) }
+        ensures clear { self.new ≡ empty_search self.old.rows self.old.cols }
+    {
+        let rows = self.rows;
+        let cols = self.cols;
+        solve_all(
+            &mut self.all,
+            rows,
+            cols,
+            1,
+            &mut self.words,
+            &mut self.marks,
+        );
+        self.count = 0;
+        if self.marks[0] > 0 {
+            return Err(Inconsistent);
+        }
+        out.copy_from_slice(&self.words);
         Ok(())
     }
 }

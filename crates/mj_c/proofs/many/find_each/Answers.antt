@@ -23,8 +23,6 @@ loop-i-preserved c =
     let room : length c.find_one.new.out ≡ w = (let same = c.find_one.auto.out in search (rules, places)) in
     record {
       empty = c.find_one.ensures.empty;
-      rows = c.find_one.ensures.rows;
-      cols = c.find_one.ensures.cols;
       found = answered_at y c.args.positions.now c.args.bins.now c.loop-i.out (take (i * each + each - i * each) (drop (i * each) c.args.bins.now)) c.find_one.new.out c.args.blocks i w (i * w + w - i * w) each
           words (back (i * w) w) c.total_bins-each.ensures few long room refl
           (c.if-not-find_one.ensures.found refl) (c.if-not-find_one.ensures.only refl) c.loop-i.invariant.found;

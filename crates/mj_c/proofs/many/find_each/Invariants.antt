@@ -7,7 +7,5 @@ use Rattle.mj_c.proofs.many.find_each.Given as goal
 abbrev pub invariant-loop-i : goal.invariant-loop-i
 invariant-loop-i l = record {
   empty : l.work ≡ empty_search (inverse_of l.layout) (cols_of l.layout);
-  rows : l.block.rows ≡ inverse_of l.layout;
-  cols : l.block.cols ≡ cols_of l.layout;
   found : (k : ℕ) → k < l.i → IsAnswered l.layout l.positions l.bins l.out k;
 }

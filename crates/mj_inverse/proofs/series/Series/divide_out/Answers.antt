@@ -22,6 +22,18 @@ run_within-requires-clause-step c =
     let k : c.args.unit * 1 ≤ c.args.unit * (c.max.result - c.min-down.result) = mul-le-mul_left c.args.unit one in
     omega arith
 
+pub padded_end-last-requires-clause-room : goal.padded_end-last-requires-clause-room
+padded_end-last-requires-clause-room c =
+    let meet = c.requires.meet in
+    omega arith
+
+pub take_rest-requires-2-clause-within : goal.take_rest-requires-2-clause-within
+take_rest-requires-2-clause-within c =
+    let first = c.requires.meet.first in
+    let fits = place_le c.args.unit c.padded_end-last.result c.args.self.now.room c.padded_end-last.ensures.high in
+    let len = c.take_rest.ensures.len ∙ c.run_within.ensures.len ∙ first.room in
+    omega arith
+
 pub returns-clause-next : goal.returns-clause-next
 returns-clause-next c =
     let u : ℕ = c.args.unit in
@@ -38,7 +50,8 @@ returns-clause-next c =
     let t : ℕ = c.max-to.result in
     let g : ℕ = c.max-first.result in
     let m : ℕ = c.max-end.result in
-    let n : ℕ = c.max-last.result in
+    let n : ℕ = c.padded_end-last.result in
+    let past = c.padded_end-last.ensures.low in
     let meet = c.requires.meet in
     let span : IsSpan u xs ys o p f t a s = record {
       low = omega arith;
@@ -100,7 +113,8 @@ returns-clause-exact c = λ j h unmarked.
     let t : ℕ = c.max-to.result in
     let g : ℕ = c.max-first.result in
     let m : ℕ = c.max-end.result in
-    let n : ℕ = c.max-last.result in
+    let n : ℕ = c.padded_end-last.result in
+    let past = c.padded_end-last.ensures.low in
     let meet = c.requires.meet in
     let span : IsSpan u xs ys o p f t a s = record {
       low = omega arith;
@@ -151,7 +165,8 @@ returns-clause-divides c = λ j d h unmarked finite is.
     let t : ℕ = c.max-to.result in
     let g : ℕ = c.max-first.result in
     let m : ℕ = c.max-end.result in
-    let n : ℕ = c.max-last.result in
+    let n : ℕ = c.padded_end-last.result in
+    let past = c.padded_end-last.ensures.low in
     let meet = c.requires.meet in
     let span : IsSpan u xs ys o p f t a s = record {
       low = omega arith;
