@@ -6,6 +6,7 @@ use Rattle.rz_events.specs.declared.nodes.NodeAsk.TheVariants as ask
 use Rattle.rz_events.specs.declared.nodes.NodeAnswer.{NodeAnswer}
 use Rattle.rz_events.specs.declared.nodes.NodeAnswer.TheVariants as answer
 use Rattle.rz_events.specs.declared.nodes.StartAnswer.TheVariants as start
+use Rattle.rz_events.specs.declared.nodes.Phase.TheVariants.{Down}
 use Rattle.rz_events.specs.declared.events.Event.{Event}
 use Rattle.rz_events.specs.declared.events.Event.TheVariants as e
 use Rattle.rz_node_model.specs.Answers.{IsNodeAnswer}
@@ -72,6 +73,16 @@ pub record IsCalledAt {D : Type 0} (n : ℕ) (old new : List (Station D)) : Type
   pub is : slice_get old place ≡ Some station
   pub stations : new ≡ slice_set old place after
   pub called : IsCalled station after
+
+-- The node of this number was started. Where it was down its disk crashed first, by the pick of its last arming.
+pub record IsCrashedAt {D : Type 0} (picks : D → ℕ → List ℕ → Type 0) (text : D → List ℕ) (n : ℕ) (old new : List (Station D)) : Type 0 where
+  pub place : ℕ
+  pub station : Station D
+  pub after : Station D
+  pub at : IsAt old n place
+  pub is : slice_get old place ≡ Some station
+  pub stations : new ≡ slice_set old place after
+  pub crashed : station.node.state.phase ≡ Down → picks station.node.disk station.pick (text after.node.disk)
 
 -- the disk of the node of this number was armed, and that was noted
 pub record IsArming {D : Type 0} (passes pick n : ℕ) (old new : List (Station D)) (log log' : List Event) : Type 0 where

@@ -1,5 +1,5 @@
 //! The administrator's lines: a node stops, starts or loses its disk, or its disk is armed.
-ghost use Rattle.std.specs.Prelude.{◌≡◌, ◌≢◌, ◌<◌, ◌≤◌, ℕ, List, Some, None, IfOk, IsSomeAnd, OnOk, OnErr, IsTrue};
+ghost use Rattle.std.specs.Prelude.{◌≡◌, ◌≢◌, ◌⊎◌, ◌<◌, ◌≤◌, ℕ, List, Some, None, IfOk, IsSomeAnd, OnOk, OnErr, IsTrue};
 ghost use Rattle.rz_events.specs.declared.nodes.NodeAsk.TheVariants as ask;
 ghost use Rattle.rz_events.specs.declared.events.Event.TheVariants as e;
 ghost use Rattle.rz_play.specs.Lines.{noted};
@@ -7,7 +7,7 @@ ghost use Rattle.rz_asks.specs.Logged.{stamp_begun};
 ghost use Rattle.rz_stations.specs.Images.{KeepsImages, KeepsRow, SparesRow};
 ghost use Rattle.rz_stations.specs.Meters.{AreMetered, AreCounted, CarriesCounts, Goes};
 ghost use Rattle.rz_stations.specs.Stations.{IsCalled};
-ghost use Rattle.rz_stations.specs.Administration.{IsOrdered, IsOrder, IsFreeOrder, IsStarted, IsArmed, IsArming, IsCalledAt};
+ghost use Rattle.rz_stations.specs.Administration.{IsOrdered, IsOrder, IsFreeOrder, IsStarted, IsArmed, IsArming, IsCalledAt, IsCrashedAt};
 
 use crate::station::find;
 use rz_asks::Log;
@@ -73,6 +73,11 @@ pub fn start_node<D: Disk>(
 ) -> Result<(), NoMemory>
     requires fuse { IsTrue D.has_fuse }
     ensures called { OnOk result (IsCalledAt sid stations.old stations.new) }
+
+    // A node that is down crashes by its own pick before it starts, which the last arming left there.
+    ensures crashed { OnOk result (IsCrashedAt D.picks D.text sid stations.old stations.new) }
+    ensures stayed { OnErr result ((stations.new ≡ stations.old) ⊎ IsCrashedAt D.picks D.text sid stations.old stations.new) }
+
     ensures ok { OnOk result (IsTrue D.tells → IsOrdered ask.Start sid stations.old stations.new log.old.events log.new.events) }
     ensures started { OnOk result (IsStarted sid stations.old stations.new log.old.events log.new.events) }
     ensures err { OnErr result (log.new.events ≡ log.old.events) }

@@ -1,4 +1,4 @@
-use Rattle.std.proofs.Common.{◌≡◌, ◌<◌, ◌∙◌, IsTrue, get_or, length, refl, ap, rules}
+use Rattle.std.proofs.Common.{◌≡◌, ◌<◌, ◌∙◌, IsTrue, get_or, inl, inr, length, refl, ap, rules}
 use Rattle.std.specs.Prelude.{◌≢◌, IsSomeAnd, None}
 use Rattle.std.proofs.lemmas.Option.{slice_get-get_or}
 use Rattle.std.proofs.lemmas.Result.{on_ok_weaker, on_err_weaker}
@@ -60,6 +60,51 @@ returns-clause-called g c =
       stations = refl;
       called = c.start.ensures.called;
     }) c.note.ensures.ok
+
+pub returns-clause-crashed : goal.returns-clause-crashed
+returns-clause-crashed g c =
+    let low = at-within c.args.stations.now c.args.sid c.in-Some.place c.in-Some.ensures in
+    on_ok_weaker c.note.result (λ (h : c.note.new.log.events ≡ noted c.in_ok-event.event c.make_room.new.self.events). record {
+      place = c.in-Some.place;
+      station = get_or c.args.stations.now c.in-Some.place c.index-stations-place.result;
+      after = c.start.new.station;
+      at = c.in-Some.ensures;
+      is = slice_get-get_or c.args.stations.now c.in-Some.place c.index-stations-place.result low;
+      stations = refl;
+      crashed = c.start.ensures.crashed;
+    }) c.note.ensures.ok
+
+pub returns-clause-stayed : goal.returns-clause-stayed
+returns-clause-stayed g c =
+    let low = at-within c.args.stations.now c.args.sid c.in-Some.place c.in-Some.ensures in
+    on-err c.note.result (inr (record {
+      place = c.in-Some.place;
+      station = get_or c.args.stations.now c.in-Some.place c.index-stations-place.result;
+      after = c.start.new.station;
+      at = c.in-Some.ensures;
+      is = slice_get-get_or c.args.stations.now c.in-Some.place c.index-stations-place.result low;
+      stations = refl;
+      crashed = c.start.ensures.crashed;
+    }))
+
+pub returns-in_default-clause-stayed : goal.returns-in_default-clause-stayed
+returns-in_default-clause-stayed g c = inl refl
+
+pub returns-in_err-make_room-clause-stayed : goal.returns-in_err-make_room-clause-stayed
+returns-in_err-make_room-clause-stayed g c = on-err c.from_residual.result (inl refl)
+
+pub returns-in_err-event-clause-stayed : goal.returns-in_err-event-clause-stayed
+returns-in_err-event-clause-stayed g c =
+    let low = at-within c.args.stations.now c.args.sid c.in-Some.place c.in-Some.ensures in
+    on-err c.from_residual-in_err-event.result (inr (record {
+      place = c.in-Some.place;
+      station = get_or c.args.stations.now c.in-Some.place c.index-stations-place.result;
+      after = c.start.new.station;
+      at = c.in-Some.ensures;
+      is = slice_get-get_or c.args.stations.now c.in-Some.place c.index-stations-place.result low;
+      stations = refl;
+      crashed = c.start.ensures.crashed;
+    }))
 
 pub returns-clause-held : goal.returns-clause-held
 returns-clause-held g c =
