@@ -13,5 +13,5 @@ returns-in-Ok g c =
       new = g.O.Sink.faults c.finish.new.output;
     } in
     let log : List Event = c.args.front.log in
-    let text : c.deref.result.now ≡ run_text log (length log) = c.deref.ensures.value ∙ (c.in-Ok.ensures log c.requires.shown ∙ ap (run_text log) c.count_all-events.ensures.old) in
+    let text : c.deref.result.now ≡ run_text log (length log) = c.deref.ensures.value ∙ (c.in-Ok.ensures.run log c.requires.shown ∙ ap (run_text log) c.count_all-events.ensures.old) in
     inl (subst (λ (t : List ℕ). Ends sink 0 t c.finish.result) text c.finish.ensures)
