@@ -1,4 +1,0 @@
-use Rattle.rz_index.proofs.nodes.+find.Given as goal
-
-abbrev pub decreases-find : goal.decreases-find
-decreases-find l = l.room
