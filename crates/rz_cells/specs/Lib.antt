@@ -2,6 +2,8 @@ pub mod Held
 pub mod Shape
 pub mod Stands
 pub mod Open
+pub mod Seen
+pub mod Spends
 pub mod Opening
 pub mod Old
 pub mod OldOpening
