@@ -1,11 +1,11 @@
 -- A new disk onto which an old one was copied.
-use Rattle.std.proofs.Common.{◌≡◌, ◌⊎◌, inl, inr, ⊎_elim, ℕ, ◌*◌, ◌/◌, Bool, true, IsTrue, Option, List, length, refl, sym, ◌∙◌, ap, subst}
+use Rattle.std.proofs.Common.{◌≡◌, ◌⊎◌, inl, inr, ⊎_elim, ℕ, ◌*◌, ◌/◌, ◌%◌, Bool, IsTrue, Option, List, length, get_or, sym, ◌∙◌, ap, subst}
 use Rattle.rz_disk.specs.Images.{Only}
 use Rattle.rz_events.specs.declared.records.Head.{Head}
 use Rattle.rz_record.specs.Slot.{Rec}
 use Rattle.rz_cells.specs.declared.geometry.Geometry.{Geometry}
 use Rattle.rz_cells.specs.Held.{Apart, Made, Records, heads_of}
-use Rattle.rz_cells.specs.Shape.{IsGeometry, disk_bytes}
+use Rattle.rz_cells.specs.Shape.{disk_bytes}
 use Rattle.rz_cells.specs.Stands.{IsShut, StandsFor}
 use Rattle.rz_cells.specs.Open.{IsOpen}
 use Rattle.rz_cells.specs.Old.{CarriesOver, HoldsOld, OldStandsFor, paired}
@@ -52,16 +52,15 @@ module _ (g : Geometry) (fence : ℕ) (old : List ℕ) (heads : List (Option Hea
       left
 
 -- a disk that was copied makes open cells
-pub open_copied : (tells : Bool) (text : List ℕ) (image : List ℕ → Type 0) (g : Geometry) (fence : ℕ) (heads : List (Option Head)) → IsGeometry g → length text ≡ disk_bytes g → Only text image → length heads ≡ g.cells → OldFitTo g heads g.cells
-    → (IsTrue tells → (its : List (Option Rec)) × HoldsPairs g fence text its × (heads_of its ≡ heads)) → IsOpen tells text image g fence true (paired heads)
-open_copied tells text image g fence heads geometry size settled count fits has = record {
-  is = refl;
-  geometry = geometry;
+pub open_copied : (tells : Bool) (text : List ℕ) (image : List ℕ → Type 0) (g : Geometry) (fence : ℕ) (gates : List ℕ) (heads : List (Option Head)) → length text ≡ disk_bytes g → Only text image → length heads ≡ g.cells → OldFitTo g heads g.cells
+    → ((c : ℕ) → get_or gates c 0 ≡ 0) → (IsTrue tells → (its : List (Option Rec)) × HoldsPairs g fence text its × (heads_of its ≡ heads)) → IsOpen tells text image g fence gates (paired heads)
+open_copied tells text image g fence gates heads size settled count fits shut has = record {
   size = size;
   settled = settled;
   count = paired_long heads ∙ ap (λ (n : ℕ). 2 * n) count;
   apart = paired_apart heads fits.once;
   valid = λ c h is. fits.valid (c / 2) h (paired_some heads c h is).1;
   layout = λ c h is. fits.layout (c / 2) h (paired_some heads c h is).1;
+  known = λ told c lt. ap (λ (b : ℕ). b % 2) (shut c ∙ sym ((has told).1.gates c lt));
   holds = λ told. let its = has told in (paired its.0, its.1.holds, paired_heads its.0 ∙ ap paired its.2);
 }

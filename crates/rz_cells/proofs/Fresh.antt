@@ -1,5 +1,5 @@
 -- A disk that was formatted holds nothing.
-use Rattle.std.proofs.Common.{zero, suc, ◌≡◌, ◌⊎◌, Bool, true, IsTrue, inl, inr, ⊎_elim, ℕ, ◌+◌, ◌*◌, ◌%◌, ◌<◌, ◌≤◌, min, Option, Some, None, List, [], ◌∷◌, length, take, drop, replicate, get_or, refl, sym, ◌∙◌, ap, subst, arith, length-take}
+use Rattle.std.proofs.Common.{zero, suc, ◌≡◌, ◌⊎◌, Bool, IsTrue, inl, inr, ⊎_elim, ℕ, ◌+◌, ◌*◌, ◌%◌, ◌<◌, ◌≤◌, min, Option, Some, None, List, [], ◌∷◌, length, take, drop, replicate, get_or, refl, sym, ◌∙◌, ap, subst, arith, length-take}
 use Rattle.std.proofs.lemmas.Bool.{cases_lt}
 use Rattle.std.proofs.lemmas.List.{ext_get_or, get_or-take, get_or-drop, get_or-replicate, get_or_past, length-replicate, length-map, take_all}
 use Rattle.byteorder.specs.Endian.{little_from}
@@ -10,7 +10,7 @@ use Rattle.rz_record.specs.Fields.{number_at}
 use Rattle.rz_record.specs.Slot.{Rec, Reads}
 use Rattle.rz_cells.specs.declared.geometry.Geometry.{Geometry}
 use Rattle.rz_cells.specs.Held.{in_cell, heads_of, head_in, nothing}
-use Rattle.rz_cells.specs.Shape.{IsGeometry, picked, slot_at, slot_of, disk_bytes, gate_at}
+use Rattle.rz_cells.specs.Shape.{picked, slot_at, slot_of, disk_bytes, gate_at}
 use Rattle.rz_cells.specs.Stands.{IsHeader, IsShut, IsFresh, ShutOrFresh, HoldsCells, StandsFor}
 use Rattle.rz_cells.specs.Open.{IsOpen, Knows, HoldsHeads}
 use Rattle.rz_cells.proofs.Made.{made_nothing, head_in-cell}
@@ -113,16 +113,15 @@ shut_or_nothing g fence image Was left = ⊎_elim
     left
 
 -- a disk that was formatted makes open cells
-pub open_fresh : (tells : Bool) (text : List ℕ) (image : List ℕ → Type 0) (g : Geometry) (fence : ℕ) (heads : List (Option Head)) → IsGeometry g → length text ≡ disk_bytes g → Only text image → (IsTrue tells → IsFresh g fence text)
-    → length heads ≡ 2 * g.cells → ((c : ℕ) → in_cell heads c ≡ None) → IsOpen tells text image g fence true heads
-open_fresh tells text image g fence heads geometry size settled fresh count empty = record {
-  is = refl;
-  geometry = geometry;
+pub open_fresh : (tells : Bool) (text : List ℕ) (image : List ℕ → Type 0) (g : Geometry) (fence : ℕ) (gates : List ℕ) (heads : List (Option Head)) → length text ≡ disk_bytes g → Only text image → (IsTrue tells → IsFresh g fence text)
+    → ((c : ℕ) → get_or gates c 0 ≡ 0) → length heads ≡ 2 * g.cells → ((c : ℕ) → in_cell heads c ≡ None) → IsOpen tells text image g fence gates heads
+open_fresh tells text image g fence gates heads size settled fresh shut count empty = record {
   size = size;
   settled = settled;
   count = count;
   apart = λ a b h k ne is is'. let none : None ≡ Some h = sym (empty a) ∙ is in absurd (cc);
   valid = λ a h is. let none : None ≡ Some h = sym (empty a) ∙ is in absurd (cc);
   layout = λ a h is. let none : None ≡ Some h = sym (empty a) ∙ is in absurd (cc);
+  known = λ told. fresh_gates g fence text (fresh told) gates shut;
   holds = λ told. fresh_heads g fence text (fresh told) heads count empty;
 }

@@ -14,4 +14,3 @@ mod OldOpened
 mod Pairs
 mod Carried
 mod Copies
-mod Views

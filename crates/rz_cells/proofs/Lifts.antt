@@ -1,5 +1,5 @@
 -- From cells to the records that they stand for.
-use Rattle.std.proofs.Common.{◌≡◌, ◌≢◌, inl, inr, ⊎_elim, ℕ, ◌*◌, ◌^◌, ◌<◌, ◌≤◌, Bool, true, IsTrue, Option, Some, None, List, [], ◌∷◌, length, length-set, take, set, refl, sym, ◌∙◌, ap, subst, arith}
+use Rattle.std.proofs.Common.{◌≡◌, ◌≢◌, inl, inr, ⊎_elim, ℕ, ◌*◌, ◌^◌, ◌<◌, ◌≤◌, Bool, IsTrue, Option, Some, None, List, [], ◌∷◌, length, length-set, take, set, sym, ◌∙◌, ap, subst, arith}
 use Rattle.std.proofs.Math.Nat.{mul-le-mul_left}
 use Rattle.std.proofs.lemmas.Bool.{cases_eq}
 use Rattle.std.proofs.lemmas.List.{ext_get_or, length-take-le, get_or-set_same, get_or-set_other, map-set}
@@ -15,7 +15,7 @@ use Rattle.rz_cells.specs.declared.geometry.Geometry.{Geometry}
 use Rattle.rz_cells.specs.Held.{Records, Made, Goes, in_cell, heads_of, head_in, changed}
 use Rattle.rz_cells.specs.Shape.{IsGeometry, picked, slot_of, disk_bytes}
 use Rattle.rz_cells.specs.Stands.{Suits, HoldsCells, HoldsEither, HoldsChanged, StandsEither, StandsChanged}
-use Rattle.rz_cells.specs.Open.{IsOpen, HoldsHeads}
+use Rattle.rz_cells.specs.Open.{IsOpen, HoldsHeads, Knows}
 use Rattle.rz_cells.proofs.Made.{made_set, apart-set}
 
 -- a slot has room for a head
@@ -84,13 +84,12 @@ module _ (g : Geometry) (fence : ℕ) (text : List ℕ) (heads : List (Option He
     stands_changed after changes held (cells, holds, made) = (set cells cell new, changes cells holds, made_after cells held holds made)
 
 -- a change leaves the cells open
-pub open_after : (tells : Bool) (text after : List ℕ) (image image' : List ℕ → Type 0) (g : Geometry) (fence : ℕ) (is_open : Bool) (heads : List (Option Head)) (cell : ℕ) (new : Option Rec) → cell < 2 * g.cells
-    → IsOpen tells text image g fence is_open heads → Only after image' → length after ≡ length text
+pub open_after : (tells : Bool) (text after : List ℕ) (image image' : List ℕ → Type 0) (g : Geometry) (fence : ℕ) (gates gates' : List ℕ) (heads : List (Option Head)) (cell : ℕ) (new : Option Rec) → cell < 2 * g.cells
+    → IsOpen tells text image g fence gates heads → Only after image' → length after ≡ length text
     → ((h : Head) → head_in new ≡ Some h → Goes heads cell h) → ((h : Head) → head_in new ≡ Some h → IsValid h) → ((h : Head) → head_in new ≡ Some h → h.layout ≡ g.layout)
-    → (IsTrue tells → HoldsChanged g fence text after cell new) → IsOpen tells after image' g fence true (set heads cell (head_in new))
-open_after tells text after image image' g fence is_open heads cell new in_range was_open settled size goes valid layout changes = record {
-  is = refl;
-  geometry = was_open.geometry;
+    → (IsTrue tells → HoldsChanged g fence text after cell new) → (IsTrue tells → Knows g gates' after)
+    → IsOpen tells after image' g fence gates' (set heads cell (head_in new))
+open_after tells text after image image' g fence gates gates' heads cell new in_range was_open settled size goes valid layout changes known = record {
   size = size ∙ was_open.size;
   settled = settled;
   count = length-set heads cell (head_in new) ∙ was_open.count;
@@ -103,6 +102,7 @@ open_after tells text after image image' g fence is_open heads cell new in_range
       (λ (here : c ≡ cell). layout h (own c h here is))
       (λ (other : c ≢ cell). was_open.layout c h (sym (get_or-set_other heads cell c (head_in new) None other) ∙ is))
       (cases_eq c cell);
+  known = known;
   holds = λ told.
       let was = was_open.holds told in
       (set was.0 cell new, changes told was.0 was.1, map-set head_in was.0 cell new ∙ ap (λ (hs : List (Option Head)). set hs cell (head_in new)) was.2);
@@ -112,16 +112,15 @@ open_after tells text after image image' g fence is_open heads cell new in_range
     own c h here is = sym (get_or-set_same heads cell (head_in new) None (omega (arith, was_open.count))) ∙ ap (λ (d : ℕ). in_cell (set heads cell (head_in new)) d) (sym here) ∙ is
 
 -- a disk that reads the same, with no new image, is open as before
-pub open_same : (tells : Bool) (text after : List ℕ) (image image' : List ℕ → Type 0) (g : Geometry) (fence : ℕ) (is_open : Bool) (heads : List (Option Head)) → after ≡ text → Within image image'
-    → IsOpen tells text image g fence is_open heads → IsOpen tells after image' g fence is_open heads
-open_same tells text after image image' g fence is_open heads same within was_open = record {
-  is = was_open.is;
-  geometry = was_open.geometry;
+pub open_same : (tells : Bool) (text after : List ℕ) (image image' : List ℕ → Type 0) (g : Geometry) (fence : ℕ) (gates : List ℕ) (heads : List (Option Head)) → after ≡ text → Within image image'
+    → IsOpen tells text image g fence gates heads → IsOpen tells after image' g fence gates heads
+open_same tells text after image image' g fence gates heads same within was_open = record {
   size = ap length same ∙ was_open.size;
   settled = λ c left. was_open.settled c (within c left) ∙ sym same;
   count = was_open.count;
   apart = was_open.apart;
   valid = was_open.valid;
   layout = was_open.layout;
+  known = λ told. subst (Knows g gates) (sym same) (was_open.known told);
   holds = λ told. subst (λ (t : List ℕ). HoldsHeads g fence t heads) (sym same) (was_open.holds told);
 }

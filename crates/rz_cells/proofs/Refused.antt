@@ -18,7 +18,7 @@ use Rattle.rz_cells.specs.Held.{Records, Together, Apart, Made, in_cell, heads_o
 use Rattle.std.proofs.Props.{props}
 use Rattle.rz_cells.specs.Shape.{IsGeometry, picked, disk_bytes, slot_of}
 use Rattle.rz_cells.specs.Stands.{IsHeader, IsFormatted, StandsFor, Suits}
-use Rattle.rz_cells.specs.Open.{Finds, IsOpen, HoldsHeads}
+use Rattle.rz_cells.specs.Open.{Finds, IsOpen, HoldsHeads, Knows}
 use Rattle.rz_cells.specs.Opening.{CellRefused, FineTo, FitTo, GoesNext, ReadTo, ReadsHead, Refuses, Unreadable}
 use Rattle.rz_cells.proofs.Lifts.{fits_slot, same_cells}
 use Rattle.rz_cells.proofs.Made.{head_in-cell, head_some, has_head, named, names_own, bool_cases, chosen, passed}
@@ -259,17 +259,16 @@ finds_of g text fence heads known its cells holds = (
 )
 
 -- what was read of a disk makes open cells
-pub open_of : (tells : Bool) (text : List ℕ) (image : List ℕ → Type 0) (g : Geometry) (fence : ℕ) (heads : List (Option Head)) → IsGeometry g → length text ≡ disk_bytes g → Only text image → length heads ≡ 2 * g.cells → FitTo g heads (2 * g.cells)
-    → (IsTrue tells → IsHeader g fence text × IsFormatted text) → (IsTrue tells → ReadTo g text heads (2 * g.cells)) → IsOpen tells text image g fence true heads
-open_of tells text image g fence heads geometry size settled count fits header reads = record {
-  is = refl;
-  geometry = geometry;
+pub open_of : (tells : Bool) (text : List ℕ) (image : List ℕ → Type 0) (g : Geometry) (fence : ℕ) (gates : List ℕ) (heads : List (Option Head)) → length text ≡ disk_bytes g → Only text image → length heads ≡ 2 * g.cells → FitTo g heads (2 * g.cells)
+    → (IsTrue tells → IsHeader g fence text × IsFormatted text) → (IsTrue tells → Knows g gates text) → (IsTrue tells → ReadTo g text heads (2 * g.cells)) → IsOpen tells text image g fence gates heads
+open_of tells text image g fence gates heads size settled count fits header known reads = record {
   size = size;
   settled = settled;
   count = count;
   apart = fine_apart heads fits.fine;
   valid = fits.valid;
   layout = fits.layout;
+  known = known;
   holds = λ told. holds_heads g fence text heads size (header told).0 (header told).1 count (reads told);
 }
 

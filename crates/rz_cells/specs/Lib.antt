@@ -2,8 +2,6 @@ pub mod Held
 pub mod Shape
 pub mod Stands
 pub mod Open
-pub mod Seen
-pub mod Spends
 pub mod Opening
 pub mod Old
 pub mod OldOpening

@@ -6,7 +6,7 @@ use Rattle.rz_record.specs.Record.{IsValid}
 use Rattle.rz_record.specs.Slot.{Rec}
 use Rattle.rz_cells.specs.declared.geometry.Geometry.{Geometry}
 use Rattle.rz_cells.specs.Held.{Apart, heads_of, in_cell}
-use Rattle.rz_cells.specs.Shape.{IsGeometry, disk_bytes, gate_at}
+use Rattle.rz_cells.specs.Shape.{disk_bytes, gate_at}
 use Rattle.rz_cells.specs.Stands.{HoldsCells}
 
 -- the low bit of each gate is known
@@ -21,14 +21,13 @@ HoldsHeads g fence text heads = (cells : List (Option Rec)) × HoldsCells g fenc
 abbrev pub Finds : Geometry → List ℕ → ℕ → List (Option Head) → Type 0
 Finds g text fence heads = (its : ℕ) (cells : List (Option Rec)) → HoldsCells g its text cells → (fence ≡ its) × (heads ≡ heads_of cells)
 
--- The cells are known to be open: what the disk reads is all on it, and it holds records with these heads.
-pub record IsOpen (tells : Bool) (text : List ℕ) (image : List ℕ → Type 0) (g : Geometry) (fence : ℕ) (is_open : Bool) (heads : List (Option Head)) : Type 0 where
-  pub is : IsTrue is_open
-  pub geometry : IsGeometry g
+-- What the disk reads is all on it, and it holds records with these heads.
+pub record IsOpen (tells : Bool) (text : List ℕ) (image : List ℕ → Type 0) (g : Geometry) (fence : ℕ) (gates : List ℕ) (heads : List (Option Head)) : Type 0 where
   pub size : length text ≡ disk_bytes g
   pub settled : Only text image
   pub count : length heads ≡ 2 * g.cells
   pub apart : Apart heads
   pub valid : (c : ℕ) (h : Head) → in_cell heads c ≡ Some h → IsValid h
   pub layout : (c : ℕ) (h : Head) → in_cell heads c ≡ Some h → h.layout ≡ g.layout
+  pub known : IsTrue tells → Knows g gates text
   pub holds : IsTrue tells → HoldsHeads g fence text heads

@@ -4,14 +4,13 @@ ghost use Rattle.byteorder.specs.Endian.{IsRead, little_number};
 ghost use Rattle.rz_disk.specs.Images.{Within, window};
 ghost use Rattle.rz_disk.specs.Meter.{Passes};
 ghost use Rattle.rz_record.specs.Record.{IsRecord, IsValid, bins_of, record_bytes};
-ghost use Rattle.rz_cells.specs.Shape.{IsGeometry};
+ghost use Rattle.rz_cells.specs.Shape.{IsGeometry, slot_of};
 
 use crate::Geometry;
 use crate::switching::switch;
 use byteorder::{ByteOrder, LittleEndian};
 use rz_disk::{Disk, Failed};
 use rz_record::{HEAD_BYTES, Head, encode_into};
-use std::marker::Model;
 
 /// A device call failed.
 #[derive(Clone, Copy, Debug, PartialEq, Eq, Drop)]
@@ -34,38 +33,21 @@ pub struct Cells<D: Disk> {
     pub(crate) heads: Vec<Option<Head>>,
     /// Room for a record.
     pub(crate) buffer: Vec<u8>,
-    /// Whether the disk is known to hold what the gates and heads say: not after a change that failed.
-    pub(crate) is_open: bool,
-}
-
-impl<D: Disk> Model for Cells<D> {
-    ghost use Rattle.rz_cells.specs.Seen.{CellsView, IsCells, view_code};
-
-    ghost Value = { CellsView D };
-
-    ghost coded = { view_code D.code };
-
-    ghost view = { λ c. record {
-      disk = c.disk;
-      geometry = c.geometry;
-      fence = c.fence;
-      is_open = c.is_open;
-      heads = c.heads.items;
-    } };
-
-    ghost invariant = { λ c. IsCells D.tells (D.text c.disk) (D.image c.disk) c.geometry c.fence c.is_open c.gates.items c.heads.items c.buffer.items };
+    ghost geometry_ok: { IsGeometry geometry },
+    ghost gates_fit: { length gates.items ≡ 2 * geometry.cells },
+    ghost heads_fit: { length heads.items ≡ 2 * geometry.cells },
+    ghost buffer_fits: { length buffer.items ≡ slot_of geometry },
 }
 
 impl<D: Disk> Cells<D> {
-    ghost use Rattle.std.specs.Prelude.{◌<◌, ℕ, List, Option, Some, None, false, drop, slice_set, IsErr, IfOk, if◌then◌else◌, IsSome, is_ok};
+    ghost use Rattle.std.specs.Prelude.{◌<◌, ℕ, List, Option, Some, None, drop, slice_set, IsErr, IfOk, if◌then◌else◌, IsSome, is_ok};
     ghost use Rattle.rz_events.specs.declared.records.Head.{Head};
     ghost use Rattle.rz_disk.specs.Images.{Only};
-    ghost use Rattle.rz_disk.specs.Meter.{armed};
+    ghost use Rattle.rz_disk.specs.Meter.{Took, Lasts, Rises, HasPasses, faults, armed};
     ghost use Rattle.rz_record.specs.Slot.{Rec};
     ghost use Rattle.rz_cells.specs.Held.{Goes, in_cell};
-    ghost use Rattle.rz_cells.specs.Stands.{HoldsCells, LeavesChanged, LeavesEither};
-    ghost use Rattle.rz_cells.specs.Seen.{AreOpen};
-    ghost use Rattle.rz_cells.specs.Spends.{Spends};
+    ghost use Rattle.rz_cells.specs.Stands.{HoldsCells, HoldsChanged, HoldsEither, StandsChanged, StandsEither};
+    ghost use Rattle.rz_cells.specs.Open.{IsOpen};
 
     /// Keeps a record in a cell, in the place of what the cell holds.
     pub fn put(&mut self, cell: u32, head: &Head, bins: &[u64]) -> Result<(), DiskFault>
@@ -73,28 +55,33 @@ impl<D: Disk> Cells<D> {
         requires valid { IsValid head.now }
         requires layout { head.now.layout ≡ self.old.geometry.layout }
         requires bins { length bins.now ≡ bins_of head.now }
-        requires goes { Goes self.old.heads cell head.now }
-        requires open { IsTrue self.old.is_open }
+        requires goes { Goes self.old.heads.items cell head.now }
+        requires open { IsOpen D.tells (D.text self.old.disk) (D.image self.old.disk) self.old.geometry self.old.fence self.old.gates.items self.old.heads.items }
 
-        // On every exit each image holds the records from before, or with the new one.
-        ensures crash { IsTrue D.tells → LeavesEither self.old.geometry self.old.fence (D.text self.old.disk) (D.image self.new.disk)
-            self.old.heads cell (Some record { head = head.now; bins = bins.now }) }
+        // On every exit each image stands for the records from before, or with the new one.
+        ensures crash { IsTrue D.tells → StandsEither self.old.geometry self.old.fence (D.text self.old.disk) (D.image self.new.disk)
+            (in_cell self.old.heads.items cell) (Some record { head = head.now; bins = bins.now }) }
+        ensures crash_cells { IsTrue D.tells → HoldsEither self.old.geometry self.old.fence (D.text self.old.disk) (D.image self.new.disk)
+            cell (Some record { head = head.now; bins = bins.now }) }
 
-        // And then the text, which is the one image, holds them with the new one.
-        ensures done { OnOk result (IsTrue D.tells → LeavesChanged self.old.geometry self.old.fence (D.text self.old.disk) (D.text self.new.disk)
-            self.old.heads cell (Some record { head = head.now; bins = bins.now })) }
-        ensures open { OnOk result (AreOpen D.tells D.text D.image self.new) }
-        ensures shut { OnErr result (self.new.is_open ≡ false) }
-        ensures heads { self.new.heads ≡ (if is_ok result then slice_set self.old.heads cell (Some head.now) else self.old.heads) }
+        // And then the text, which is the one image, stands for them with the new one.
+        ensures done { OnOk result (IsTrue D.tells → StandsChanged self.old.geometry self.old.fence (D.text self.old.disk) (D.text self.new.disk)
+            (in_cell self.old.heads.items cell) (Some record { head = head.now; bins = bins.now })) }
+        ensures done_cells { OnOk result (IsTrue D.tells → HoldsChanged self.old.geometry self.old.fence (D.text self.old.disk) (D.text self.new.disk)
+            cell (Some record { head = head.now; bins = bins.now })) }
+        ensures open { OnOk result (IsOpen D.tells (D.text self.new.disk) (D.image self.new.disk) self.new.geometry self.new.fence self.new.gates.items self.new.heads.items) }
+        ensures heads { self.new.heads.items ≡ (if is_ok result then slice_set self.old.heads.items cell (Some head.now) else self.old.heads.items) }
         ensures geometry { self.new.geometry ≡ self.old.geometry }
         ensures fence { self.new.fence ≡ self.old.fence }
 
-        ensures spends { Spends 4 (IsErr result) result (D.meter self.old.disk) (D.meter self.new.disk) }
+        ensures took { Took 4 result (D.meter self.old.disk) (D.meter self.new.disk) }
+        ensures meter { Lasts (D.meter self.old.disk) (D.meter self.new.disk) }
+        ensures risen { IsErr result → Rises (faults (D.meter self.old.disk)) (faults (D.meter self.new.disk)) }
+        ensures own_risen { IsErr result → HasPasses 4 (D.meter self.old.disk) → Rises (D.meter self.old.disk).own (D.meter self.new.disk).own }
     {
         let index = cell as usize;
         let gate = self.gates[index];
         let size = spell(head, bins, &mut self.buffer);
-        self.is_open = false;
         switch(
             &mut self.disk,
             &self.geometry,
@@ -104,45 +91,46 @@ impl<D: Disk> Cells<D> {
         )?;
         self.gates[index] = 1 - gate % 2;
         self.heads[index] = Some(*head);
-        self.is_open = true;
         Ok(())
     }
 
     /// Empties a cell.
     pub fn clear(&mut self, cell: u32) -> Result<(), DiskFault>
         requires cell { cell < 2 * self.old.geometry.cells }
-        requires open { IsTrue self.old.is_open }
+        requires open { IsOpen D.tells (D.text self.old.disk) (D.image self.old.disk) self.old.geometry self.old.fence self.old.gates.items self.old.heads.items }
 
-        // On every exit each image holds the records from before, or without this one.
-        ensures crash { IsTrue D.tells → LeavesEither self.old.geometry self.old.fence (D.text self.old.disk) (D.image self.new.disk) self.old.heads cell None }
+        // On every exit each image stands for the records from before, or without this one.
+        ensures crash { IsTrue D.tells → StandsEither self.old.geometry self.old.fence (D.text self.old.disk) (D.image self.new.disk) (in_cell self.old.heads.items cell) None }
+        ensures crash_cells { IsTrue D.tells → HoldsEither self.old.geometry self.old.fence (D.text self.old.disk) (D.image self.new.disk) cell None }
 
-        // And then the text, which is the one image, holds them without this one.
-        ensures done { OnOk result (IsTrue D.tells → LeavesChanged self.old.geometry self.old.fence (D.text self.old.disk) (D.text self.new.disk) self.old.heads cell None) }
-        ensures open { OnOk result (AreOpen D.tells D.text D.image self.new) }
-        ensures shut { OnErr result (self.new.is_open ≡ false) }
-        ensures heads { self.new.heads ≡ (if is_ok result then slice_set self.old.heads cell None else self.old.heads) }
+        // And then the text, which is the one image, stands for them without this one.
+        ensures done { OnOk result (IsTrue D.tells → StandsChanged self.old.geometry self.old.fence (D.text self.old.disk) (D.text self.new.disk) (in_cell self.old.heads.items cell) None) }
+        ensures done_cells { OnOk result (IsTrue D.tells → HoldsChanged self.old.geometry self.old.fence (D.text self.old.disk) (D.text self.new.disk) cell None) }
+        ensures open { OnOk result (IsOpen D.tells (D.text self.new.disk) (D.image self.new.disk) self.new.geometry self.new.fence self.new.gates.items self.new.heads.items) }
+        ensures heads { self.new.heads.items ≡ (if is_ok result then slice_set self.old.heads.items cell None else self.old.heads.items) }
         ensures geometry { self.new.geometry ≡ self.old.geometry }
         ensures fence { self.new.fence ≡ self.old.fence }
 
-        ensures spends { Spends 4 (IsErr result) result (D.meter self.old.disk) (D.meter self.new.disk) }
+        ensures took { Took 4 result (D.meter self.old.disk) (D.meter self.new.disk) }
+        ensures meter { Lasts (D.meter self.old.disk) (D.meter self.new.disk) }
+        ensures risen { IsErr result → Rises (faults (D.meter self.old.disk)) (faults (D.meter self.new.disk)) }
+        ensures own_risen { IsErr result → HasPasses 4 (D.meter self.old.disk) → Rises (D.meter self.old.disk).own (D.meter self.new.disk).own }
     {
         let index = cell as usize;
         let gate = self.gates[index];
-        self.is_open = false;
         switch(&mut self.disk, &self.geometry, cell, gate, &[0; 8])?;
         self.gates[index] = 1 - gate % 2;
         self.heads[index] = None;
-        self.is_open = true;
         Ok(())
     }
 
     /// Reads the bins of a cell's record into the front of `out`, and answers their number.
     pub fn bins_into(&mut self, cell: u32, out: &mut [u64]) -> Result<usize, DiskFault>
         requires cell { cell < 2 * self.old.geometry.cells }
-        requires held { (h : Head) → in_cell self.old.heads cell ≡ Some h → bins_of h ≤ length out.old }
-        requires some { IsSome (in_cell self.old.heads cell) }
-        requires open { IsTrue self.old.is_open }
-        ensures count { IfOk result (λ n. (h : Head) → in_cell self.old.heads cell ≡ Some h → n ≡ bins_of h) }
+        requires held { (h : Head) → in_cell self.old.heads.items cell ≡ Some h → bins_of h ≤ length out.old }
+        requires some { IsSome (in_cell self.old.heads.items cell) }
+        requires open { IsOpen D.tells (D.text self.old.disk) (D.image self.old.disk) self.old.geometry self.old.fence self.old.gates.items self.old.heads.items }
+        ensures count { IfOk result (λ n. (h : Head) → in_cell self.old.heads.items cell ≡ Some h → n ≡ bins_of h) }
         ensures bins { IfOk result (λ n. IsTrue D.tells → (cells : List (Option Rec)) (r : Rec) → HoldsCells self.old.geometry self.old.fence (D.text self.old.disk) cells
             → in_cell cells cell ≡ Some r → take n out.new ≡ r.bins) }
         ensures rest { IfOk result (λ n. drop n out.new ≡ drop n out.old) }
@@ -151,8 +139,8 @@ impl<D: Disk> Cells<D> {
         // The cells and the disk stay as they were.
         ensures text { D.text self.new.disk ≡ D.text self.old.disk }
         ensures within { Within (D.image self.old.disk) (D.image self.new.disk) }
-        ensures open { AreOpen D.tells D.text D.image self.new }
-        ensures heads { self.new.heads ≡ self.old.heads }
+        ensures open { IsOpen D.tells (D.text self.new.disk) (D.image self.new.disk) self.new.geometry self.new.fence self.new.gates.items self.new.heads.items }
+        ensures heads { self.new.heads.items ≡ self.old.heads.items }
         ensures geometry { self.new.geometry ≡ self.old.geometry }
         ensures fence { self.new.fence ≡ self.old.fence }
         ensures meter { Passes result (D.meter self.old.disk) (D.meter self.new.disk) }
@@ -170,16 +158,14 @@ impl<D: Disk> Cells<D> {
     /// The head of what a cell holds.
     pub fn head(&self, cell: u32) -> Option<Head>
         requires { cell < 2 * self.now.geometry.cells }
-        ensures { result ≡ in_cell self.now.heads cell }
+        ensures { result ≡ in_cell self.now.heads.items cell }
     {
         self.heads[cell as usize]
     }
 
     /// How the disk is laid out.
     pub fn geometry(&self) -> Geometry
-        ensures value { result ≡ self.now.geometry }
-        ensures geometry { IsGeometry result }
-        ensures count { length self.now.heads ≡ 2 * result.cells }
+        ensures { result ≡ self.now.geometry }
     {
         self.geometry
     }
@@ -196,12 +182,13 @@ impl<D: Disk> Cells<D> {
         ensures text { D.text self.new.disk ≡ D.text self.old.disk }
         ensures within { Within (D.image self.old.disk) (D.image self.new.disk) }
         ensures kept { Within (D.image self.new.disk) (D.image self.old.disk) }
-        ensures open { AreOpen D.tells D.text D.image self.old → AreOpen D.tells D.text D.image self.new }
-        ensures is_open { self.new.is_open ≡ self.old.is_open }
+        ensures open { IsOpen D.tells (D.text self.old.disk) (D.image self.old.disk) self.old.geometry self.old.fence self.old.gates.items self.old.heads.items
+            → IsOpen D.tells (D.text self.new.disk) (D.image self.new.disk) self.new.geometry self.new.fence self.new.gates.items self.new.heads.items }
         ensures meter { D.meter self.new.disk ≡ (if D.has_fuse then armed passes (D.meter self.old.disk) else D.meter self.old.disk) }
         ensures geometry { self.new.geometry ≡ self.old.geometry }
         ensures fence { self.new.fence ≡ self.old.fence }
-        ensures heads { self.new.heads ≡ self.old.heads }
+        ensures gates { self.new.gates.items ≡ self.old.gates.items }
+        ensures heads { self.new.heads.items ≡ self.old.heads.items }
     {
         self.disk.arm(passes);
     }
@@ -213,17 +200,12 @@ impl<D: Disk> Cells<D> {
         ensures left { IsTrue D.tells → D.image self.old.disk (D.text self.new.disk) }
         ensures only { Only (D.text self.new.disk) (D.image self.new.disk) }
         ensures meter { D.meter self.new.disk ≡ D.meter self.old.disk }
-
-        // Open cells have one image, which is what is left, and so they stay open.
-        ensures open { IsTrue D.tells → self.new.is_open ≡ self.old.is_open }
         ensures geometry { self.new.geometry ≡ self.old.geometry }
         ensures fence { self.new.fence ≡ self.old.fence }
-        ensures heads { self.new.heads ≡ self.old.heads }
+        ensures gates { self.new.gates.items ≡ self.old.gates.items }
+        ensures heads { self.new.heads.items ≡ self.old.heads.items }
     {
         self.disk.crash(pick);
-        let have = self.disk.size();
-        let need = self.geometry.disk_bytes();
-        self.is_open = stays_open(self.is_open, have, need);
     }
 
     /// The disk.
@@ -232,14 +214,6 @@ impl<D: Disk> Cells<D> {
     {
         self.disk
     }
-}
-
-// Whether cells are still open whose disk has `have` bytes after a crash. A disk that tells then has the text that it had.
-fn stays_open(was_open: bool, have: u64, need: u64) -> bool
-    ensures same { have ≡ need → result ≡ was_open }
-    ensures open { IsTrue result → IsTrue was_open × (have ≡ need) }
-{
-    was_open && have == need
 }
 
 /// Writes a record into the front of a buffer, and answers its size.

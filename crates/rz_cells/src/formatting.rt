@@ -1,12 +1,11 @@
 //! Formatting.
-ghost use Rattle.std.specs.Prelude.{◌≡◌, ◌⊎◌, ◌*◌, ◌%◌, ◌≤◌, ℕ, List, Option, None, false, length, replicate, slice_index, IsTrue, IsErr, IsErrOf, OnOk, OnErr, IfOk, IfErr, MatchResult};
+ghost use Rattle.std.specs.Prelude.{◌≡◌, ◌⊎◌, ◌*◌, ◌%◌, ◌≤◌, ℕ, List, Option, None, length, replicate, slice_index, IsTrue, IsErr, IsErrOf, OnOk, OnErr, IfOk, IfErr, MatchResult};
 ghost use Rattle.rz_disk.specs.Images.{Only};
 ghost use Rattle.rz_disk.specs.Meter.{Took, Lasts, Rises, HasPasses, faults};
 ghost use Rattle.rz_cells.specs.Held.{in_cell, nothing};
 ghost use Rattle.rz_cells.specs.Shape.{IsGeometry, disk_bytes};
 ghost use Rattle.rz_cells.specs.Stands.{IsFresh, IsShut, ShutOrFresh, StandsFor, IsHeader};
-ghost use Rattle.rz_cells.specs.Seen.{AreOpen};
-ghost use Rattle.rz_cells.specs.Spends.{Spends};
+ghost use Rattle.rz_cells.specs.Open.{IsOpen};
 
 use crate::geometry::Version;
 use crate::room::{Room, empty};
@@ -33,16 +32,19 @@ impl<D: Disk> Cells<D> {
         disk: D,
     ) -> Result<Cells<D>, (D, FormatFault)>
         requires { IsGeometry geometry }
-        ensures open { IfOk result (AreOpen D.tells D.text D.image) }
+        ensures open { IfOk result (λ c. IsOpen D.tells (D.text c.disk) (D.image c.disk) c.geometry c.fence c.gates.items c.heads.items) }
         ensures geometry { IfOk result (λ c. c.geometry ≡ geometry) }
         ensures fence { IfOk result (λ c. c.fence ≡ fence) }
-        ensures heads { IfOk result (λ c. (cell : ℕ) → in_cell c.heads cell ≡ None) }
+        ensures heads { IfOk result (λ c. (cell : ℕ) → in_cell c.heads.items cell ≡ None) }
         ensures nothing { IfOk result (λ c. IsTrue D.tells → StandsFor geometry fence (D.text c.disk) nothing) }
 
         // Otherwise each image is one from before, or its header is shut, or it stands for nothing with the new fence.
         ensures crash { IfErr result (λ e. IsTrue D.tells → (c : List ℕ) → D.image e.0 c → D.image disk c ⊎ IsShut c ⊎ StandsFor geometry fence c nothing) }
 
-        ensures spends { MatchResult result (λ c. Spends 4 ⊥ result (D.meter disk) (D.meter c.disk)) (λ e. Spends 4 (e.1 ≡ FormatFault.DiskFault) result (D.meter disk) (D.meter e.0)) }
+        ensures took { MatchResult result (λ c. Took 4 result (D.meter disk) (D.meter c.disk)) (λ e. Took 4 result (D.meter disk) (D.meter e.0)) }
+        ensures meter { MatchResult result (λ c. Lasts (D.meter disk) (D.meter c.disk)) (λ e. Lasts (D.meter disk) (D.meter e.0)) }
+        ensures risen { IfErr result (λ e. e.1 ≡ FormatFault.DiskFault → Rises (faults (D.meter disk)) (faults (D.meter e.0))) }
+        ensures own_risen { IfErr result (λ e. e.1 ≡ FormatFault.DiskFault → HasPasses 4 (D.meter disk) → Rises (D.meter disk).own (D.meter e.0).own) }
 
         // Want of memory takes no pass.
         ensures unspent { IfErr result (λ e. e.1 ≡ FormatFault.NoMemory → (D.meter e.0).fuse ≡ (D.meter disk).fuse) }
@@ -67,7 +69,6 @@ impl<D: Disk> Cells<D> {
             gates,
             heads,
             buffer,
-            is_open: true,
         })
     }
 
@@ -75,11 +76,10 @@ impl<D: Disk> Cells<D> {
     ///
     /// It takes no memory but that of the disk's reset.
     pub fn format_again(&mut self, alloc: Global, fence: u64) -> Result<(), FormatFault>
-        ensures open { OnOk result (AreOpen D.tells D.text D.image self.new) }
-        ensures shut { OnErr result (self.new.is_open ≡ false) }
+        ensures open { OnOk result (IsOpen D.tells (D.text self.new.disk) (D.image self.new.disk) self.new.geometry self.new.fence self.new.gates.items self.new.heads.items) }
         ensures geometry { self.new.geometry ≡ self.old.geometry }
         ensures fence { OnOk result (self.new.fence ≡ fence) }
-        ensures heads { OnOk result ((cell : ℕ) → in_cell self.new.heads cell ≡ None) }
+        ensures heads { OnOk result ((cell : ℕ) → in_cell self.new.heads.items cell ≡ None) }
         ensures nothing { OnOk result (IsTrue D.tells → StandsFor self.old.geometry fence (D.text self.new.disk) nothing) }
 
         // Otherwise each image is one from before, or its header is shut, or it stands for nothing with the new fence.
@@ -87,19 +87,21 @@ impl<D: Disk> Cells<D> {
 
         // And what is known of the cells stays.
         ensures kept_fence { OnErr result (self.new.fence ≡ self.old.fence) }
-        ensures kept_heads { OnErr result (self.new.heads ≡ self.old.heads) }
+        ensures kept_gates { OnErr result (self.new.gates.items ≡ self.old.gates.items) }
+        ensures kept_heads { OnErr result (self.new.heads.items ≡ self.old.heads.items) }
 
-        ensures spends { Spends 4 (IsErrOf result FormatFault.DiskFault) result (D.meter self.old.disk) (D.meter self.new.disk) }
+        ensures took { Took 4 result (D.meter self.old.disk) (D.meter self.new.disk) }
+        ensures meter { Lasts (D.meter self.old.disk) (D.meter self.new.disk) }
+        ensures risen { IsErrOf result FormatFault.DiskFault → Rises (faults (D.meter self.old.disk)) (faults (D.meter self.new.disk)) }
+        ensures own_risen { IsErrOf result FormatFault.DiskFault → HasPasses 4 (D.meter self.old.disk) → Rises (D.meter self.old.disk).own (D.meter self.new.disk).own }
 
         // Want of memory takes no pass.
         ensures unspent { IsErrOf result FormatFault.NoMemory → (D.meter self.new.disk).fuse ≡ (D.meter self.old.disk).fuse }
         ensures unplanned { IsErrOf result FormatFault.NoMemory → (D.meter self.new.disk).planned ≡ (D.meter self.old.disk).planned }
     {
-        self.is_open = false;
         blank(&mut self.disk, alloc, &self.geometry, fence)?;
         self.fence = fence;
         empty(&mut self.gates, &mut self.heads);
-        self.is_open = true;
         Ok(())
     }
 }

@@ -1,5 +1,5 @@
 //! An old disk carried over onto a new one.
-ghost use Rattle.std.specs.Prelude.{◌≡◌, ◌≢◌, ◌⊎◌, ◌+◌, ◌*◌, ◌≤◌, ℕ, List, Option, None, true, length, slice_index, IsTrue, IsErrOf, OnErr, IfOk, IfErr, MatchResult};
+ghost use Rattle.std.specs.Prelude.{◌≡◌, ◌≢◌, ◌⊎◌, ◌+◌, ◌*◌, ◌≤◌, ℕ, List, Option, None, length, slice_index, IsTrue, IsErrOf, OnErr, IfOk, IfErr, MatchResult};
 ghost use Rattle.std.specs.HashMap.{IsEmpty, spare};
 ghost use Rattle.mj_angles.specs.Layout.{bsize_of};
 ghost use Rattle.rz_disk.specs.Images.{Within};
@@ -8,8 +8,7 @@ ghost use Rattle.rz_record.specs.Slot.{Rec};
 ghost use Rattle.rz_cells.specs.Held.{in_cell, Apart, Records, heads_of};
 ghost use Rattle.rz_cells.specs.Shape.{IsGeometry, slot_of};
 ghost use Rattle.rz_cells.specs.Stands.{IsShut, StandsFor};
-ghost use Rattle.rz_cells.specs.Open.{IsOpen, Knows};
-ghost use Rattle.rz_cells.specs.Seen.{AreOpen};
+ghost use Rattle.rz_cells.specs.Open.{IsOpen};
 ghost use Rattle.rz_cells.specs.Copied.{HoldsBoth};
 ghost use Rattle.rz_cells.specs.Opening.{NotSize, OnlyRead};
 ghost use Rattle.rz_cells.specs.Old.{CarriesOver, HoldsOld, OldStandsFor, old_disk_bytes, paired};
@@ -50,7 +49,7 @@ impl<D: Disk> Cells<D> {
     ) -> Result<Cells<D>, (D, MigrateFault)>
         requires geometry { IsGeometry geometry }
         requires small { bsize_of geometry.layout ≡ 0 }
-        ensures open { IfOk result (AreOpen D.tells D.text D.image) }
+        ensures open { IfOk result (λ c. IsOpen D.tells (D.text c.disk) (D.image c.disk) c.geometry c.fence c.gates.items c.heads.items) }
         ensures geometry { IfOk result (λ c. c.geometry ≡ geometry) }
 
         // The old text stands for a fence and some records, and the new one for these.
@@ -98,7 +97,6 @@ impl<D: Disk> Cells<D> {
                     gates,
                     heads,
                     buffer,
-                    is_open: true,
                 })
             }
             Err(fault) => Err((disk, fault)),
@@ -114,8 +112,7 @@ fn carry<D: Disk>(
     new: &mut D,
 ) -> Result<(u64, Room), MigrateFault>
     requires { IsGeometry geometry.now }
-    ensures open { IfOk result (λ r. IsOpen D.tells (D.text new.new) (D.image new.new) geometry.now r.0 true r.1.heads.items) }
-    ensures known { IfOk result (λ r. IsTrue D.tells → Knows geometry.now r.1.gates.items (D.text new.new)) }
+    ensures open { IfOk result (λ r. IsOpen D.tells (D.text new.new) (D.image new.new) geometry.now r.0 r.1.gates.items r.1.heads.items) }
     ensures gates { IfOk result (λ r. length r.1.gates.items ≡ 2 * geometry.now.cells) }
     ensures heads { IfOk result (λ r. length r.1.heads.items ≡ 2 * geometry.now.cells) }
     ensures buffer { IfOk result (λ r. length r.1.buffer.items ≡ slot_of geometry.now) }

@@ -1,15 +1,13 @@
 //! Opening.
-ghost use Rattle.std.specs.Prelude.{◌≡◌, ◌⊎◌, ◌*◌, ◌≤◌, ◌<◌, ℕ, List, Option, Some, None, true, length, IsTrue, IsErr, IsErrOf, OnOk, OnErr, IfOk, IfErr, MatchResult};
+ghost use Rattle.std.specs.Prelude.{◌≡◌, ◌⊎◌, ◌*◌, ◌≤◌, ◌<◌, ℕ, List, Option, Some, None, length, IsTrue, IsErr, IsErrOf, OnOk, OnErr, IfOk, IfErr, MatchResult};
 ghost use Rattle.std.specs.HashMap.{IsEmpty, spare};
 ghost use Rattle.rz_events.specs.declared.records.Head.{Head};
 ghost use Rattle.rz_disk.specs.Images.{Within};
-ghost use Rattle.rz_disk.specs.Meter.{Took, Rises, HasPasses, faults};
+ghost use Rattle.rz_disk.specs.Meter.{Took, Lasts, Rises, HasPasses, faults};
 ghost use Rattle.rz_cells.specs.Held.{Records, in_cell};
 ghost use Rattle.rz_cells.specs.Shape.{IsGeometry, disk_bytes, slot_of};
 ghost use Rattle.rz_cells.specs.Stands.{StandsFor};
-ghost use Rattle.rz_cells.specs.Open.{Finds, IsOpen, Knows};
-ghost use Rattle.rz_cells.specs.Seen.{AreOpen};
-ghost use Rattle.rz_cells.specs.Spends.{Spends};
+ghost use Rattle.rz_cells.specs.Open.{Finds, IsOpen};
 ghost use Rattle.rz_cells.specs.Opening.{NotSize, OnlyRead, Refuses, opening_calls};
 
 use crate::geometry::{HEADER_BYTES, Version};
@@ -28,14 +26,14 @@ impl<D: Disk> Cells<D> {
     /// All memory is taken before the disk is looked at.
     pub fn reopen(alloc: Global, geometry: Geometry, disk: D) -> Result<Cells<D>, (D, OpenFault)>
         requires { IsGeometry geometry }
-        ensures open { IfOk result (AreOpen D.tells D.text D.image) }
+        ensures open { IfOk result (λ c. IsOpen D.tells (D.text c.disk) (D.image c.disk) c.geometry c.fence c.gates.items c.heads.items) }
         ensures geometry { IfOk result (λ c. c.geometry ≡ geometry) }
 
         // The text stands for some records, with the fence that is found.
         ensures stands { IfOk result (λ c. IsTrue D.tells → (held : Records) × StandsFor geometry c.fence (D.text c.disk) held) }
 
         // The fence and the heads are those of the text.
-        ensures found { IfOk result (λ c. IsTrue D.tells → Finds geometry (D.text disk) c.fence c.heads) }
+        ensures found { IfOk result (λ c. IsTrue D.tells → Finds geometry (D.text disk) c.fence c.heads.items) }
 
         // Each fault is the first that the text has.
         ensures refused { IfErr result (λ e. IsTrue D.tells → Refuses geometry (D.text disk) e.1) }
@@ -50,9 +48,12 @@ impl<D: Disk> Cells<D> {
         // The disk stays as it is.
         ensures text { MatchResult result (λ c. D.text c.disk ≡ D.text disk) (λ e. D.text e.0 ≡ D.text disk) }
         ensures crash { MatchResult result (λ c. Within (D.image disk) (D.image c.disk)) (λ e. Within (D.image disk) (D.image e.0)) }
+        ensures meter { MatchResult result (λ c. Lasts (D.meter disk) (D.meter c.disk)) (λ e. Lasts (D.meter disk) (D.meter e.0)) }
+        ensures risen { IfErr result (λ e. e.1 ≡ OpenFault.DiskFault → Rises (faults (D.meter disk)) (faults (D.meter e.0))) }
+        ensures own_risen { IfErr result (λ e. e.1 ≡ OpenFault.DiskFault → HasPasses (opening_calls geometry) (D.meter disk) → Rises (D.meter disk).own (D.meter e.0).own) }
 
         // It takes so many passes where it opens, and none for want of memory or a wrong size.
-        ensures spends { MatchResult result (λ c. Spends (opening_calls geometry) ⊥ result (D.meter disk) (D.meter c.disk)) (λ e. Spends (opening_calls geometry) (e.1 ≡ OpenFault.DiskFault) result (D.meter disk) (D.meter e.0)) }
+        ensures took { MatchResult result (λ c. Took (opening_calls geometry) result (D.meter disk) (D.meter c.disk)) (λ e. Took (opening_calls geometry) result (D.meter disk) (D.meter e.0)) }
         ensures no_memory { IfErr result (λ e. e.1 ≡ OpenFault.NoMemory → e.0 ≡ disk) }
         ensures wrong_size { IfErr result (λ e. (have need : ℕ) → e.1 ≡ OpenFault.WrongSize have need → e.0 ≡ disk) }
     {
@@ -71,7 +72,6 @@ impl<D: Disk> Cells<D> {
                     gates,
                     heads,
                     buffer,
-                    is_open: true,
                 })
             }
             Err(fault) => Err((disk, fault)),
@@ -82,19 +82,19 @@ impl<D: Disk> Cells<D> {
     ///
     /// All memory is taken before the disk is looked at.
     pub fn open_again(&mut self, alloc: Global) -> Result<(), OpenFault>
-        ensures open { OnOk result (AreOpen D.tells D.text D.image self.new) }
+        ensures open { OnOk result (IsOpen D.tells (D.text self.new.disk) (D.image self.new.disk) self.new.geometry self.new.fence self.new.gates.items self.new.heads.items) }
         ensures geometry { self.new.geometry ≡ self.old.geometry }
 
         // The text stands for some records, with the fence that is found.
         ensures stands { OnOk result (IsTrue D.tells → (held : Records) × StandsFor self.old.geometry self.new.fence (D.text self.new.disk) held) }
 
         // The fence and the heads are those of the text.
-        ensures found { OnOk result (IsTrue D.tells → Finds self.old.geometry (D.text self.old.disk) self.new.fence self.new.heads) }
+        ensures found { OnOk result (IsTrue D.tells → Finds self.old.geometry (D.text self.old.disk) self.new.fence self.new.heads.items) }
 
         // Otherwise what is known of the cells stays.
         ensures kept_fence { OnErr result (self.new.fence ≡ self.old.fence) }
-        ensures kept_open { OnErr result (self.new.is_open ≡ self.old.is_open) }
-        ensures kept_heads { OnErr result (self.new.heads ≡ self.old.heads) }
+        ensures kept_gates { OnErr result (self.new.gates.items ≡ self.old.gates.items) }
+        ensures kept_heads { OnErr result (self.new.heads.items ≡ self.old.heads.items) }
 
         // Each fault is the first that the text has.
         ensures refused { IfErr result (λ e. IsTrue D.tells → Refuses self.old.geometry (D.text self.old.disk) e) }
@@ -109,9 +109,12 @@ impl<D: Disk> Cells<D> {
         // The disk stays as it is.
         ensures text { D.text self.new.disk ≡ D.text self.old.disk }
         ensures crash { Within (D.image self.old.disk) (D.image self.new.disk) }
+        ensures meter { Lasts (D.meter self.old.disk) (D.meter self.new.disk) }
+        ensures risen { IsErrOf result OpenFault.DiskFault → Rises (faults (D.meter self.old.disk)) (faults (D.meter self.new.disk)) }
+        ensures own_risen { IsErrOf result OpenFault.DiskFault → HasPasses (opening_calls self.old.geometry) (D.meter self.old.disk) → Rises (D.meter self.old.disk).own (D.meter self.new.disk).own }
 
         // It takes so many passes where it opens, and none for want of memory or a wrong size.
-        ensures spends { Spends (opening_calls self.old.geometry) (IsErrOf result OpenFault.DiskFault) result (D.meter self.old.disk) (D.meter self.new.disk) }
+        ensures took { Took (opening_calls self.old.geometry) result (D.meter self.old.disk) (D.meter self.new.disk) }
         ensures no_memory { IsErrOf result OpenFault.NoMemory → self.new ≡ self.old }
         ensures wrong_size { IfErr result (λ e. (have need : ℕ) → e ≡ OpenFault.WrongSize have need → self.new ≡ self.old) }
     {
@@ -125,7 +128,6 @@ impl<D: Disk> Cells<D> {
         self.gates = gates;
         self.heads = heads;
         self.buffer = buffer;
-        self.is_open = true;
         Ok(())
     }
 }
@@ -137,8 +139,7 @@ fn read_disk<D: Disk>(
     geometry: &Geometry,
 ) -> Result<(u64, Room), OpenFault>
     requires { IsGeometry geometry.now }
-    ensures open { IfOk result (λ r. IsOpen D.tells (D.text disk.new) (D.image disk.new) geometry.now r.0 true r.1.heads.items) }
-    ensures known { IfOk result (λ r. IsTrue D.tells → Knows geometry.now r.1.gates.items (D.text disk.new)) }
+    ensures open { IfOk result (λ r. IsOpen D.tells (D.text disk.new) (D.image disk.new) geometry.now r.0 r.1.gates.items r.1.heads.items) }
     ensures gates { IfOk result (λ r. length r.1.gates.items ≡ 2 * geometry.now.cells) }
     ensures heads { IfOk result (λ r. length r.1.heads.items ≡ 2 * geometry.now.cells) }
     ensures buffer { IfOk result (λ r. length r.1.buffer.items ≡ slot_of geometry.now) }
@@ -174,8 +175,7 @@ fn read_all<D: Disk>(
     requires buffer { length room.buffer.items ≡ slot_of geometry.now }
     requires firsts { IsEmpty firsts }
     requires spare { 2 * geometry.now.cells ≤ spare firsts }
-    ensures open { IfOk result (λ r. IsOpen D.tells (D.text disk.new) (D.image disk.new) geometry.now r.0 true r.1.heads.items) }
-    ensures known { IfOk result (λ r. IsTrue D.tells → Knows geometry.now r.1.gates.items (D.text disk.new)) }
+    ensures open { IfOk result (λ r. IsOpen D.tells (D.text disk.new) (D.image disk.new) geometry.now r.0 r.1.gates.items r.1.heads.items) }
     ensures gates { IfOk result (λ r. length r.1.gates.items ≡ 2 * geometry.now.cells) }
     ensures heads { IfOk result (λ r. length r.1.heads.items ≡ 2 * geometry.now.cells) }
     ensures buffer { IfOk result (λ r. length r.1.buffer.items ≡ slot_of geometry.now) }

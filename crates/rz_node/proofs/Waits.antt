@@ -243,9 +243,9 @@ tell-drop held key t there gone = (ap not there, ap not (ap (has_stamp stamp_of 
 -- ---- phases
 
 -- what is open is held, and nothing is undecided
-pub down-open : (tells : Bool) (text : List ℕ) (image : List ℕ → Type 0) (g : Geometry) (fence : ℕ) (is_open : Bool) (heads : List (Option Head)) (index : Indexed) (undecided : Option Pending)
-    → IsTied g.cells heads index → IsOpen tells text image g fence is_open heads → undecided ≡ None → IsDown tells image g fence undecided (held_by index.entries heads)
-down-open tells text image g fence flag heads index undecided tied is_open none = record {
+pub down-open : (tells : Bool) (text : List ℕ) (image : List ℕ → Type 0) (g : Geometry) (fence : ℕ) (gates : List ℕ) (heads : List (Option Head)) (index : Indexed) (undecided : Option Pending)
+    → IsTied g.cells heads index → IsOpen tells text image g fence gates heads → undecided ≡ None → IsDown tells image g fence undecided (held_by index.entries heads)
+down-open tells text image g fence gates heads index undecided tied is_open none = record {
   each = λ told c is. inl (heads, subst (λ (t : List ℕ). HoldsHeads g fence t heads) (sym (is_open.settled c is)) (is_open.holds told), is_open.apart, (index, tied, refl));
   told = subst (λ (o : Option Pending). CanTell o (held_by index.entries heads)) (sym none) tt;
 }

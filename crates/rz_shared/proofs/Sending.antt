@@ -49,7 +49,7 @@ index-send : IsSend Index.the_row
 index-send = search (Row.the_send, rows.crosses, crosses, sendable) depth 60 fits 20000
 
 node-send : (D : RattleType) (g : Disk.Ghosts D.Denot) → IsSend D → IsSend (Node.the_row D g)
-node-send D g s = view_send (NodeIn.the_row D g) _ _ _ _ (recorded_send (NodeIn.the_field D g).row _ _ (NodeIn.the_type D g).to_one (struct_send (shape (NodeIn.the_type D g)) (Phase.the_field_send, (plain_send _ _ _ _ _, (Option.the_field_send _ Pending.the_send, (Cells.the_send D g s, (index-send, tt)))))))
+node-send D g s = view_send (NodeIn.the_row D g) _ _ _ _ (recorded_send (NodeIn.the_field D g).row _ _ (NodeIn.the_type D g).to_one (struct_send (shape (NodeIn.the_type D g)) (Phase.the_field_send, (plain_send _ _ _ _ _, (Option.the_field_send _ Pending.the_send, (Cells.the_field_send D g s, (index-send, tt)))))))
 
 marks-send : IsSend Marks.the_row
 marks-send = search (Marked.the_send, items.crosses, crosses, sendable) depth 60 fits 20000

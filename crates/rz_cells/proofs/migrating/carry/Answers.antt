@@ -1,5 +1,5 @@
 -- What was copied makes open cells.
-use Rattle.std.proofs.Common.{rules, ◌≡◌, ◌⊎◌, ℕ, ◌*◌, ◌%◌, true, Err, List, Option, length, sym, ◌∙◌, ap, subst}
+use Rattle.std.proofs.Common.{rules, ◌≡◌, ◌⊎◌, ℕ, ◌*◌, Err, List, Option, length, sym, ◌∙◌, ap, subst}
 use Rattle.rz_events.specs.declared.records.Head.{Head}
 use Rattle.rz_cells.specs.Stands.{IsShut}
 use Rattle.rz_cells.specs.Open.{IsOpen}
@@ -30,23 +30,13 @@ returns-clause-open g c =
     let e = c.in-Ok-open_old.ensures in
     let its = c.in-Ok-open_old.cells in
     let end = c.copy.new.new in
-    subst (λ (hs : List (Option Head)). IsOpen g.D.Disk.tells (g.D.Disk.text c.copy.new.new) (g.D.Disk.image c.copy.new.new) c.args.geometry.now c.in-Ok-open_old.cells.fence true hs)
+    subst (λ (hs : List (Option Head)). IsOpen g.D.Disk.tells (g.D.Disk.text c.copy.new.new) (g.D.Disk.image c.copy.new.new) c.args.geometry.now c.in-Ok-open_old.cells.fence c.in-Ok.reserved.room.gates.items hs)
     (sym (c.pair_up.ensures ∙ ap paired c.deref.ensures.value))
-    (open_copied g.D.Disk.tells (g.D.Disk.text end) (g.D.Disk.image end) s its.fence its.heads.items c.requires c.in_ok-copy.ensures.size c.in_ok-copy.ensures.only e.heads e.fits
+    (open_copied g.D.Disk.tells (g.D.Disk.text end) (g.D.Disk.image end) s its.fence c.in-Ok.reserved.room.gates.items its.heads.items c.in_ok-copy.ensures.size c.in_ok-copy.ensures.only e.heads e.fits c.in-Ok.ensures.shut
     (λ told.
     let has = holds_old s its.fence text its.heads.items e.size (e.header told).0 (e.header told).1 e.heads (e.reads told) in
     let copied = subst (λ (o : List ℕ). HoldsCopy c.args.geometry.now c.in-Ok-open_old.cells.fence o c.in-Ok-open_old.cells.heads.items (g.D.Disk.text c.copy.new.new)) c.open_old.ensures.read.same (c.in_ok-copy.ensures.done told) in
     (has.0, copied its.fence has.0 has.1 has.2, has.2)))
-
-pub returns-clause-known : goal.returns-clause-known
-returns-clause-known g c told k lt =
-    let s = c.args.geometry.now in
-    let text = g.D.Disk.text c.args.old.now in
-    let e = c.in-Ok-open_old.ensures in
-    let its = c.in-Ok-open_old.cells in
-    let has = holds_old s its.fence text its.heads.items e.size (e.header told).0 (e.header told).1 e.heads (e.reads told) in
-    let copied = subst (λ (o : List ℕ). HoldsCopy c.args.geometry.now c.in-Ok-open_old.cells.fence o c.in-Ok-open_old.cells.heads.items (g.D.Disk.text c.copy.new.new)) c.open_old.ensures.read.same (c.in_ok-copy.ensures.done told) in
-    ap (λ (b : ℕ). b % 2) (c.in-Ok.ensures.shut k ∙ sym ((copied its.fence has.0 has.1 has.2).gates k lt))
 
 pub returns-clause-heads : goal.returns-clause-heads
 returns-clause-heads g c =

@@ -42,28 +42,24 @@ returns-clause-open g c =
     let s = c.args.geometry.now in
     let fence = c.in_ok-fence.fence in
     let heads = c.in_ok-heads.heads.items in
+    let out = c.read.new.out in
     let text = g.D.Disk.text c.args.disk.now in
     let end = g.D.Disk.text c.read_heads.new.disk in
     let since : end ≡ g.D.Disk.text c.sync.new.self = c.read_heads.ensures.read.same ∙ c.read.ensures.text ∙ c.read_header.ensures.read.same in
+    let to_middle : g.D.Disk.text c.read_header.new.disk ≡ end = sym (c.read_heads.ensures.read.same ∙ c.read.ensures.text) in
     let size : length text ≡ disk_bytes s = omega (arith, c.size-have.ensures, c.disk_bytes-need.ensures.value) in
-    open_of g.D.Disk.tells end (g.D.Disk.image c.read_heads.new.disk) s fence heads c.requires.geometry
+    let long : length c.deref_mut.result.now ≡ 2 * c.args.geometry.now.cells = ap length c.deref_mut.ensures.value ∙ c.requires.gates in
+    let items = with_items_is c.args.room.gates out (c.read.auto.out ∙ c.deref_mut.ensures.len) in
+    open_of g.D.Disk.tells end (g.D.Disk.image c.read_heads.new.disk) s fence _ heads
     (ap length (since ∙ c.sync.ensures.text) ∙ size)
     (λ x left. c.in-Ok.ensures.only x (c.read_header.ensures.read.within x (c.read.ensures.crash x (c.read_heads.ensures.read.within x left))) ∙ sym (since ∙ c.sync.ensures.text))
     c.in_ok-heads.ensures.heads
     c.in_ok-heads.ensures.fits
     (λ told. subst (λ (t : List ℕ). IsHeader s fence t × IsFormatted t) (sym since) (c.in_ok-fence.ensures.ok told))
-    (λ told. subst (λ (t : List ℕ). ReadTo s t heads (2 * s.cells)) (sym c.read_heads.ensures.read.same) (c.in_ok-heads.ensures.reads told))
-
-pub returns-clause-known : goal.returns-clause-known
-returns-clause-known g c told =
-    let s = c.args.geometry.now in
-    let out = c.read.new.out in
-    let end = g.D.Disk.text c.read_heads.new.disk in
-    let to_middle : g.D.Disk.text c.read_header.new.disk ≡ end = sym (c.read_heads.ensures.read.same ∙ c.read.ensures.text) in
-    let long : length c.deref_mut.result.now ≡ 2 * c.args.geometry.now.cells = ap length c.deref_mut.ensures.value ∙ c.requires.gates in
-    let items = with_items_is c.args.room.gates out (c.read.auto.out ∙ c.deref_mut.ensures.len) in
+    (λ told.
     let gives = subst (λ (n : ℕ). out ≡ window 64 n (g.D.Disk.text c.read_header.new.disk)) long (c.in-Ok-read.ensures.gives told) in
-    subst (λ (l : List ℕ). Knows s l end) (sym items) (gates_read s end out (subst (λ (t : List ℕ). out ≡ window 64 (2 * c.args.geometry.now.cells) t) to_middle gives))
+    subst (λ (l : List ℕ). Knows s l end) (sym items) (gates_read s end out (subst (λ (t : List ℕ). out ≡ window 64 (2 * c.args.geometry.now.cells) t) to_middle gives)))
+    (λ told. subst (λ (t : List ℕ). ReadTo s t heads (2 * s.cells)) (sym c.read_heads.ensures.read.same) (c.in_ok-heads.ensures.reads told))
 
 pub returns-in_default-read-clause-took : goal.returns-in_default-read-clause-took
 returns-in_default-read-clause-took g c =

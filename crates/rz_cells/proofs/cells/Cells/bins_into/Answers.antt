@@ -10,7 +10,6 @@ use Rattle.rz_cells.specs.Held.{in_cell}
 use Rattle.rz_cells.proofs.Bins.{bins_here}
 use Rattle.rz_cells.proofs.Made.{has_head, stands_there}
 use Rattle.rz_cells.proofs.Lifts.{fits_slot, heads_are, open_same}
-use Rattle.rz_cells.proofs.Views.{cell_back, cells_same, flag_back, head_back, held_back, holds_back, passes_along}
 use Rattle.rz_cells.proofs.cells.Cells.bins_into.Goals as goal
 
 on_err : {T E : Type 0} {P : Type 0} (result : Result T E) → P → OnErr result P
@@ -27,44 +26,40 @@ overflow_add-at g c =
 
 pub slice_bounds-read_bins-end : goal.slice_bounds-read_bins-end
 slice_bounds-read_bins-end g c =
-    let s = c.self.inside in
-    let held = stands_there s.heads.items c.args.cell (2 * s.geometry.cells) c.index.result.now c.in-Some.head (cell_back _ _ c.args.cell c.self.view_is c.requires.cell) c.self.invariant.heads_fit c.index.ensures c.in-Some.is in
+    let s = c.args.self.now in
+    let held = stands_there s.heads.items c.args.cell (2 * s.geometry.cells) c.index.result.now c.in-Some.head c.requires.cell s.heads_fit c.index.ensures c.in-Some.is in
     let count = count_is c.in-Some.head c.bins_at-count.result c.bins_at-count.ensures.value in
-    let room = held_back _ _ c.args.cell _ c.self.view_is c.requires.held c.in-Some.head held in
+    let room = c.requires.held c.in-Some.head held in
     omega (arith, room, count)
 
 pub slice_bounds-read_bins-end-2 : goal.slice_bounds-read_bins-end-2
 slice_bounds-read_bins-end-2 g c =
-    let s = c.self.inside in
-    let held = stands_there s.heads.items c.args.cell (2 * s.geometry.cells) c.index.result.now c.in-Some.head (cell_back _ _ c.args.cell c.self.view_is c.requires.cell) c.self.invariant.heads_fit c.index.ensures c.in-Some.is in
+    let s = c.args.self.now in
+    let held = stands_there s.heads.items c.args.cell (2 * s.geometry.cells) c.index.result.now c.in-Some.head c.requires.cell s.heads_fit c.index.ensures c.in-Some.is in
     let count = count_is c.in-Some.head c.bins_at-count.result c.bins_at-count.ensures.value in
-    let room = held_back _ _ c.args.cell _ c.self.view_is c.requires.held c.in-Some.head held in
+    let room = c.requires.held c.in-Some.head held in
     let taken = length-take-le c.bins_at-count.result c.args.out.now (omega (arith, room, count)) in
     sym taken
 
 pub read_bins-requires-clause-range : goal.read_bins-requires-clause-range
 read_bins-requires-clause-range g c =
-    let s = c.self.inside in
-    let flag = flag_back _ _ c.self.view_is c.requires.open in
-    let was_open = c.self.invariant.open_is flag in
-    let held = stands_there s.heads.items c.args.cell (2 * s.geometry.cells) c.index.result.now c.in-Some.head (cell_back _ _ c.args.cell c.self.view_is c.requires.cell) c.self.invariant.heads_fit c.index.ensures c.in-Some.is in
+    let s = c.args.self.now in
+    let held = stands_there s.heads.items c.args.cell (2 * s.geometry.cells) c.index.result.now c.in-Some.head c.requires.cell s.heads_fit c.index.ensures c.in-Some.is in
     let count = count_is c.in-Some.head c.bins_at-count.result c.bins_at-count.ensures.value in
-    let fits = fits_slot s.geometry c.in-Some.head (was_open.valid c.args.cell c.in-Some.head held) (was_open.layout c.args.cell c.in-Some.head held) in
-    let room = held_back _ _ c.args.cell _ c.self.view_is c.requires.held c.in-Some.head held in
+    let fits = fits_slot s.geometry c.in-Some.head (c.requires.open.valid c.args.cell c.in-Some.head held) (c.requires.open.layout c.args.cell c.in-Some.head held) in
+    let room = c.requires.held c.in-Some.head held in
     let taken = length-take-le c.bins_at-count.result c.args.out.now (omega (arith, room, count)) in
-    omega (arith, taken, count, fits, c.slot_at.ensures.within, was_open.size)
+    omega (arith, taken, count, fits, c.slot_at.ensures.within, c.requires.open.size)
 
 pub read_bins-requires-clause-room : goal.read_bins-requires-clause-room
 read_bins-requires-clause-room g c =
-    let s = c.self.inside in
-    let flag = flag_back _ _ c.self.view_is c.requires.open in
-    let was_open = c.self.invariant.open_is flag in
-    let held = stands_there s.heads.items c.args.cell (2 * s.geometry.cells) c.index.result.now c.in-Some.head (cell_back _ _ c.args.cell c.self.view_is c.requires.cell) c.self.invariant.heads_fit c.index.ensures c.in-Some.is in
+    let s = c.args.self.now in
+    let held = stands_there s.heads.items c.args.cell (2 * s.geometry.cells) c.index.result.now c.in-Some.head c.requires.cell s.heads_fit c.index.ensures c.in-Some.is in
     let count = count_is c.in-Some.head c.bins_at-count.result c.bins_at-count.ensures.value in
-    let fits = fits_slot s.geometry c.in-Some.head (was_open.valid c.args.cell c.in-Some.head held) (was_open.layout c.args.cell c.in-Some.head held) in
-    let room = held_back _ _ c.args.cell _ c.self.view_is c.requires.held c.in-Some.head held in
+    let fits = fits_slot s.geometry c.in-Some.head (c.requires.open.valid c.args.cell c.in-Some.head held) (c.requires.open.layout c.args.cell c.in-Some.head held) in
+    let room = c.requires.held c.in-Some.head held in
     let taken = length-take-le c.bins_at-count.result c.args.out.now (omega (arith, room, count)) in
-    omega (arith, taken, count, fits, c.self.invariant.buffer_fits)
+    omega (arith, taken, count, fits, s.buffer_fits)
 
 pub returns-in_err-read_bins-clause-err : goal.returns-in_err-read_bins-clause-err
 returns-in_err-read_bins-clause-err g c =
@@ -73,68 +68,42 @@ returns-in_err-read_bins-clause-err g c =
 
 pub returns-in_err-read_bins-clause-open : goal.returns-in_err-read_bins-clause-open
 returns-in_err-read_bins-clause-open g c =
-    let s = c.self.inside in
-    open_same g.D.Disk.tells (g.D.Disk.text s.disk) (g.D.Disk.text c.read_bins.new.disk) (g.D.Disk.image s.disk) (g.D.Disk.image c.read_bins.new.disk) s.geometry s.fence s.is_open s.heads.items c.read_bins.ensures.text c.read_bins.ensures.within
-    (c.self.invariant.open_is (flag_back _ _ c.self.view_is c.requires.open))
+    let s = c.args.self.now in
+    open_same g.D.Disk.tells (g.D.Disk.text s.disk) (g.D.Disk.text c.read_bins.new.disk) (g.D.Disk.image s.disk) (g.D.Disk.image c.read_bins.new.disk) s.geometry s.fence s.gates.items s.heads.items c.read_bins.ensures.text c.read_bins.ensures.within c.requires.open
 
 pub returns-in_err-read_bins-clause-meter : goal.returns-in_err-read_bins-clause-meter
 returns-in_err-read_bins-clause-meter g c =
     let m = c.in_err-read_bins.ensures.meter in
     let failed : IsErr c.from_residual.result = search rules in
-    passes_along g.D.Disk.meter _ _ _ (g.D.Disk.meter c.read_bins.new.disk) c.self.view_is
-    (record { fuse = m.fuse; planned = m.planned; own = m.own; planned_only = m.planned_only; blown = λ _. failed; risen = λ _. m.risen refl; own_risen = λ _. m.own_risen refl })
-
-pub invariant_of-self : goal.invariant_of-self
-invariant_of-self g c =
-    let s = c.self.inside in
-    cells_same g.D.Disk.tells (g.D.Disk.text s.disk) (g.D.Disk.text c.read_bins.new.disk) (g.D.Disk.image s.disk) (g.D.Disk.image c.read_bins.new.disk) s.geometry s.fence s.is_open s.gates.items s.heads.items s.buffer.items c.read_bins.new.buffer.items
-    c.read_bins.ensures.text c.read_bins.ensures.within c.read_bins.ensures.buffer c.self.invariant
-
-pub invariant_of-self-2 : goal.invariant_of-self-2
-invariant_of-self-2 g c =
-    let s = c.self.inside in
-    cells_same g.D.Disk.tells (g.D.Disk.text s.disk) (g.D.Disk.text c.read_bins.new.disk) (g.D.Disk.image s.disk) (g.D.Disk.image c.read_bins.new.disk) s.geometry s.fence s.is_open s.gates.items s.heads.items s.buffer.items c.read_bins.new.buffer.items
-    c.read_bins.ensures.text c.read_bins.ensures.within c.read_bins.ensures.buffer c.self.invariant
-
-pub returns-clause-meter : goal.returns-clause-meter
-returns-clause-meter g c =
-    let m = c.in_ok-read_bins.ensures.meter in
-    passes_along g.D.Disk.meter _ _ _ (g.D.Disk.meter c.read_bins.new.disk) c.self.view_is
-    (record { fuse = m.fuse; planned = m.planned; own = m.own; planned_only = m.planned_only; blown = m.blown; risen = λ never. absurd (cc); own_risen = λ never. absurd (cc) })
+    record { fuse = m.fuse; planned = m.planned; own = m.own; planned_only = m.planned_only; blown = λ _. failed; risen = λ _. m.risen refl; own_risen = λ _. m.own_risen refl }
 
 pub returns-clause-count : goal.returns-clause-count
 returns-clause-count g c h is =
-    let s = c.self.inside in
-    let held = stands_there s.heads.items c.args.cell (2 * s.geometry.cells) c.index.result.now c.in-Some.head (cell_back _ _ c.args.cell c.self.view_is c.requires.cell) c.self.invariant.heads_fit c.index.ensures c.in-Some.is in
+    let s = c.args.self.now in
+    let held = stands_there s.heads.items c.args.cell (2 * s.geometry.cells) c.index.result.now c.in-Some.head c.requires.cell s.heads_fit c.index.ensures c.in-Some.is in
     let count = count_is c.in-Some.head c.bins_at-count.result c.bins_at-count.ensures.value in
-    let here = head_back _ _ c.args.cell h c.self.view_is is in
     let one : c.in-Some.head ≡ h = cc in
     count ∙ ap bins_of one
 
 pub returns-clause-open : goal.returns-clause-open
 returns-clause-open g c =
-    let s = c.self.inside in
-    open_same g.D.Disk.tells (g.D.Disk.text s.disk) (g.D.Disk.text c.read_bins.new.disk) (g.D.Disk.image s.disk) (g.D.Disk.image c.read_bins.new.disk) s.geometry s.fence s.is_open s.heads.items c.read_bins.ensures.text c.read_bins.ensures.within
-    (c.self.invariant.open_is (flag_back _ _ c.self.view_is c.requires.open))
+    let s = c.args.self.now in
+    open_same g.D.Disk.tells (g.D.Disk.text s.disk) (g.D.Disk.text c.read_bins.new.disk) (g.D.Disk.image s.disk) (g.D.Disk.image c.read_bins.new.disk) s.geometry s.fence s.gates.items s.heads.items c.read_bins.ensures.text c.read_bins.ensures.within c.requires.open
 
 pub returns-clause-bins : goal.returns-clause-bins
-returns-clause-bins g c told cells r given is =
-    let s = c.self.inside in
-    let cell = cell_back _ _ c.args.cell c.self.view_is c.requires.cell in
-    let holds = holds_back g.D.Disk.text _ _ cells c.self.view_is given in
-    let flag = flag_back _ _ c.self.view_is c.requires.open in
-    let was_open = c.self.invariant.open_is flag in
-    let held = stands_there s.heads.items c.args.cell (2 * s.geometry.cells) c.index.result.now c.in-Some.head (cell_back _ _ c.args.cell c.self.view_is c.requires.cell) c.self.invariant.heads_fit c.index.ensures c.in-Some.is in
+returns-clause-bins g c told cells r holds is =
+    let s = c.args.self.now in
+    let held = stands_there s.heads.items c.args.cell (2 * s.geometry.cells) c.index.result.now c.in-Some.head c.requires.cell s.heads_fit c.index.ensures c.in-Some.is in
     let count = count_is c.in-Some.head c.bins_at-count.result c.bins_at-count.ensures.value in
-    let room = held_back _ _ c.args.cell _ c.self.view_is c.requires.held c.in-Some.head held in
+    let room = c.requires.held c.in-Some.head held in
     let taken = length-take-le c.bins_at-count.result c.args.out.now (omega (arith, room, count)) in
     let text = g.D.Disk.text s.disk in
     let dst = c.read_bins.new.out in
     let gate = c.index-2.result.now in
     let rest = drop c.bins_at-count.result c.args.out.now in
-    let here : in_cell s.heads.items c.args.cell ≡ Some r.head = ap (λ (hs : List (Option Head)). in_cell hs c.args.cell) (sym (heads_are s.geometry s.fence text s.heads.items (was_open.holds told) cells holds)) ∙ has_head cells c.args.cell r is in
+    let here : in_cell s.heads.items c.args.cell ≡ Some r.head = ap (λ (hs : List (Option Head)). in_cell hs c.args.cell) (sym (heads_are s.geometry s.fence text s.heads.items (c.requires.open.holds told) cells holds)) ∙ has_head cells c.args.cell r is in
     let one : c.in-Some.head ≡ r.head = cc in
     let long : length dst ≡ c.bins_at-count.result = c.read_bins.auto.out ∙ taken in
-    let known : gate % 2 ≡ get_or text (64 + c.args.cell) 0 % 2 = ap (λ (b : ℕ). b % 2) (get_or_read s.gates.items c.args.cell gate (omega (arith, cell, c.self.invariant.gates_fit)) c.index-2.ensures 0) ∙ c.self.invariant.known flag told c.args.cell cell in
+    let known : gate % 2 ≡ get_or text (64 + c.args.cell) 0 % 2 = ap (λ (b : ℕ). b % 2) (get_or_read s.gates.items c.args.cell gate (omega (arith, s.gates_fit)) c.index-2.ensures 0) ∙ c.requires.open.known told c.args.cell c.requires.cell in
     let read = subst (λ (at : ℕ). IsRead little_number 8 (window (at + 48) (8 * length dst) text) dst) c.slot_at.ensures.value (subst (λ (n : ℕ). IsRead little_number 8 (window (c.slot_at.result + 48) (8 * n) text) dst) (sym c.read_bins.auto.out) (c.in_ok-read_bins.ensures.gives told)) in
-    take_at dst rest c.bins_at-count.result long ∙ bins_here s.geometry s.fence text cells c.args.cell gate dst r holds cell known is (long ∙ count ∙ ap bins_of one) read
+    take_at dst rest c.bins_at-count.result long ∙ bins_here s.geometry s.fence text cells c.args.cell gate dst r holds c.requires.cell known is (long ∙ count ∙ ap bins_of one) read

@@ -5,11 +5,6 @@ use Rattle.rz_cells.proofs.Carried.{carried, found, over}
 use Rattle.rz_cells.proofs.OldOpened.{only_old_faults}
 use Rattle.rz_cells.proofs.cells.Cells.migrate.Goals as goal
 
-pub invariant_of-result : goal.invariant_of-result
-invariant_of-result g c =
-    let e = c.in-Ok.ensures in
-    record { geometry = c.requires.geometry; gates_fit = e.gates; heads_fit = e.heads; buffer_fits = e.buffer; open_is = λ _. e.open; known = λ _ told. e.known told }
-
 pub returns-in-Ok-clause-carried : goal.returns-in-Ok-clause-carried
 returns-in-Ok-clause-carried g c told =
     carried c.args.geometry c.in-Ok.fence (g.D.Disk.text c.args.old.now) (g.D.Disk.text c.carry.new.new) (c.in-Ok.ensures.pairs told)

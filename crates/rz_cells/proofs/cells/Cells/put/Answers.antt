@@ -1,135 +1,72 @@
 -- The bytes of a record spell it in the slot.
-use Rattle.std.proofs.Common.{rules, IsErr, ◌≡◌, ◌-◌, ◌%◌, ℕ, Some, length-set, refl, ◌∙◌, ap, arith}
-use Rattle.std.proofs.lemmas.List.{get_or_read}
-use Rattle.rz_disk.proofs.Passes.{took_failed}
+use Rattle.std.proofs.Common.{◌≡◌, ◌-◌, ◌%◌, Some, set, ◌∙◌, arith}
 use Rattle.rz_events.specs.declared.records.Head.{Head}
 use Rattle.rz_record.specs.Record.{IsValid}
 use Rattle.rz_record.specs.Slot.{Rec}
 use Rattle.rz_cells.specs.Held.{Goes}
-use Rattle.rz_cells.proofs.Lifts.{fits_slot, some_is, spelled, suits_one, open_after}
-use Rattle.rz_cells.proofs.Meters.{took_under}
-use Rattle.rz_cells.proofs.Views.{cell_back, cells_shut, flag_back, goes_back, layout_back, changed_along, either_along, spends_along}
+use Rattle.rz_cells.proofs.Lifts.{fits_slot, some_is, spelled, suits_one, stands_either, stands_changed, open_after}
 use Rattle.rz_cells.proofs.cells.Cells.put.Goals as goal
 
 pub spell-size-requires-clause-room : goal.spell-size-requires-clause-room
 spell-size-requires-clause-room g c =
-    let s = c.self.inside in
-    let layout = layout_back _ _ c.args.head.now.layout c.self.view_is c.requires.layout in
-    let room = fits_slot s.geometry c.args.head.now c.requires.valid layout in
-    omega (arith, room, c.self.invariant.buffer_fits)
+    let s = c.args.self.now in
+    let room = fits_slot s.geometry c.args.head.now c.requires.valid c.requires.layout in
+    omega (arith, room, s.buffer_fits)
 
-pub switch-requires-clause-cell : goal.switch-requires-clause-cell
-switch-requires-clause-cell g c = cell_back _ _ c.args.cell c.self.view_is c.requires.cell
-
-pub switch-requires-clause-size : goal.switch-requires-clause-size
-switch-requires-clause-size g c =
-    let was_open = c.self.invariant.open_is (flag_back _ _ c.self.view_is c.requires.open) in
-    was_open.size
-
-pub switch-requires-clause-settled : goal.switch-requires-clause-settled
-switch-requires-clause-settled g c =
-    let was_open = c.self.invariant.open_is (flag_back _ _ c.self.view_is c.requires.open) in
-    was_open.settled
-
-pub switch-requires-clause-gate : goal.switch-requires-clause-gate
-switch-requires-clause-gate g c told =
-    let cell = cell_back _ _ c.args.cell c.self.view_is c.requires.cell in
-    ap (λ (b : ℕ). b % 2) (get_or_read c.self.inside.gates.items c.args.cell c.index-gate.result.now (omega (arith, cell, c.self.invariant.gates_fit)) c.index-gate.ensures 0)
-    ∙ c.self.invariant.known (flag_back _ _ c.self.view_is c.requires.open) told c.args.cell cell
+pub returns-in_err-switch-clause-crash_cells : goal.returns-in_err-switch-clause-crash_cells
+returns-in_err-switch-clause-crash_cells g c told =
+    let s = c.args.self.now in
+    let r : Rec = record { head = c.args.head.now; bins = c.args.bins.now } in
+    let spells = spelled s.geometry r c.spell-size.result c.spell-size.new.buffer.items c.deref.result.now c.requires.valid c.requires.layout c.spell-size.ensures.size (c.spell-size.ensures.length ∙ s.buffer_fits) c.spell-size.ensures.record c.deref.ensures.value in
+    c.switch.ensures.crash told s.fence (Some r) spells (suits_one s.geometry r c.requires.layout)
 
 pub returns-in_err-switch-clause-crash : goal.returns-in_err-switch-clause-crash
 returns-in_err-switch-clause-crash g c told =
-    let s = c.self.inside in
-    let same = c.self.view_is in
-    let cell = cell_back _ _ c.args.cell same c.requires.cell in
-    let layout = layout_back _ _ c.args.head.now.layout same c.requires.layout in
-    let goes = goes_back _ _ c.args.cell c.args.head.now same c.requires.goes in
-    let was_open = c.self.invariant.open_is (flag_back _ _ same c.requires.open) in
+    let s = c.args.self.now in
     let r : Rec = record { head = c.args.head.now; bins = c.args.bins.now } in
-    let spells = spelled s.geometry r c.spell-size.result c.spell-size.new.buffer.items c.deref.result.now c.requires.valid layout c.spell-size.ensures.size (c.spell-size.ensures.length ∙ c.self.invariant.buffer_fits) c.spell-size.ensures.record c.deref.ensures.value in
-    either_along g.D.Disk.tells g.D.Disk.text g.D.Disk.image _ _ same was_open c.args.cell (Some r) cell (λ h is. some_is (Goes s.heads.items c.args.cell) c.args.head.now h is goes) told (g.D.Disk.image c.switch.new.disk)
-    (c.switch.ensures.crash told s.fence (Some r) spells (suits_one s.geometry r layout))
+    let spells = spelled s.geometry r c.spell-size.result c.spell-size.new.buffer.items c.deref.result.now c.requires.valid c.requires.layout c.spell-size.ensures.size (c.spell-size.ensures.length ∙ s.buffer_fits) c.spell-size.ensures.record c.deref.ensures.value in
+    stands_either s.geometry s.fence (g.D.Disk.text s.disk) s.heads.items (c.requires.open.holds told) c.args.cell (Some r) c.requires.cell (λ h is. some_is (Goes s.heads.items c.args.cell) c.args.head.now h is c.requires.goes) (g.D.Disk.image c.switch.new.disk)
+    (c.switch.ensures.crash told s.fence (Some r) spells (suits_one s.geometry r c.requires.layout))
 
-pub returns-in_err-switch-clause-spends : goal.returns-in_err-switch-clause-spends
-returns-in_err-switch-clause-spends g c =
-    let e = c.in_err-switch.ensures in
-    let failed : IsErr c.from_residual.result = search rules in
-    spends_along g.D.Disk.meter _ _ 4 _ _ (g.D.Disk.meter c.switch.new.disk) c.self.view_is
-    (record { took = took_failed 4 4 _ _ _ _ (omega arith) failed e.took; lasts = c.switch.ensures.meter; risen = λ _. e.risen refl; own_risen = λ _. e.own_risen refl })
+pub returns-clause-crash_cells : goal.returns-clause-crash_cells
+returns-clause-crash_cells g c told =
+    let s = c.args.self.now in
+    let r : Rec = record { head = c.args.head.now; bins = c.args.bins.now } in
+    let spells = spelled s.geometry r c.spell-size.result c.spell-size.new.buffer.items c.deref.result.now c.requires.valid c.requires.layout c.spell-size.ensures.size (c.spell-size.ensures.length ∙ s.buffer_fits) c.spell-size.ensures.record c.deref.ensures.value in
+    c.switch.ensures.crash told s.fence (Some r) spells (suits_one s.geometry r c.requires.layout)
 
 pub returns-clause-crash : goal.returns-clause-crash
 returns-clause-crash g c told =
-    let s = c.self.inside in
-    let same = c.self.view_is in
-    let cell = cell_back _ _ c.args.cell same c.requires.cell in
-    let layout = layout_back _ _ c.args.head.now.layout same c.requires.layout in
-    let goes = goes_back _ _ c.args.cell c.args.head.now same c.requires.goes in
-    let was_open = c.self.invariant.open_is (flag_back _ _ same c.requires.open) in
+    let s = c.args.self.now in
     let r : Rec = record { head = c.args.head.now; bins = c.args.bins.now } in
-    let spells = spelled s.geometry r c.spell-size.result c.spell-size.new.buffer.items c.deref.result.now c.requires.valid layout c.spell-size.ensures.size (c.spell-size.ensures.length ∙ c.self.invariant.buffer_fits) c.spell-size.ensures.record c.deref.ensures.value in
-    either_along g.D.Disk.tells g.D.Disk.text g.D.Disk.image _ _ same was_open c.args.cell (Some r) cell (λ h is. some_is (Goes s.heads.items c.args.cell) c.args.head.now h is goes) told (g.D.Disk.image c.switch.new.disk)
-    (c.switch.ensures.crash told s.fence (Some r) spells (suits_one s.geometry r layout))
+    let spells = spelled s.geometry r c.spell-size.result c.spell-size.new.buffer.items c.deref.result.now c.requires.valid c.requires.layout c.spell-size.ensures.size (c.spell-size.ensures.length ∙ s.buffer_fits) c.spell-size.ensures.record c.deref.ensures.value in
+    stands_either s.geometry s.fence (g.D.Disk.text s.disk) s.heads.items (c.requires.open.holds told) c.args.cell (Some r) c.requires.cell (λ h is. some_is (Goes s.heads.items c.args.cell) c.args.head.now h is c.requires.goes) (g.D.Disk.image c.switch.new.disk)
+    (c.switch.ensures.crash told s.fence (Some r) spells (suits_one s.geometry r c.requires.layout))
+
+pub returns-clause-done_cells : goal.returns-clause-done_cells
+returns-clause-done_cells g c told =
+    let s = c.args.self.now in
+    let r : Rec = record { head = c.args.head.now; bins = c.args.bins.now } in
+    let spells = spelled s.geometry r c.spell-size.result c.spell-size.new.buffer.items c.deref.result.now c.requires.valid c.requires.layout c.spell-size.ensures.size (c.spell-size.ensures.length ∙ s.buffer_fits) c.spell-size.ensures.record c.deref.ensures.value in
+    c.in_ok-switch.ensures.done told s.fence (Some r) spells (suits_one s.geometry r c.requires.layout)
 
 pub returns-clause-done : goal.returns-clause-done
 returns-clause-done g c told =
-    let s = c.self.inside in
-    let same = c.self.view_is in
-    let cell = cell_back _ _ c.args.cell same c.requires.cell in
-    let layout = layout_back _ _ c.args.head.now.layout same c.requires.layout in
-    let goes = goes_back _ _ c.args.cell c.args.head.now same c.requires.goes in
-    let was_open = c.self.invariant.open_is (flag_back _ _ same c.requires.open) in
+    let s = c.args.self.now in
     let r : Rec = record { head = c.args.head.now; bins = c.args.bins.now } in
-    let spells = spelled s.geometry r c.spell-size.result c.spell-size.new.buffer.items c.deref.result.now c.requires.valid layout c.spell-size.ensures.size (c.spell-size.ensures.length ∙ c.self.invariant.buffer_fits) c.spell-size.ensures.record c.deref.ensures.value in
-    changed_along g.D.Disk.tells g.D.Disk.text g.D.Disk.image _ _ same was_open c.args.cell (Some r) cell (λ h is. some_is (Goes s.heads.items c.args.cell) c.args.head.now h is goes) told (g.D.Disk.text c.switch.new.disk)
-    (c.in_ok-switch.ensures.done told s.fence (Some r) spells (suits_one s.geometry r layout))
+    let spells = spelled s.geometry r c.spell-size.result c.spell-size.new.buffer.items c.deref.result.now c.requires.valid c.requires.layout c.spell-size.ensures.size (c.spell-size.ensures.length ∙ s.buffer_fits) c.spell-size.ensures.record c.deref.ensures.value in
+    stands_changed s.geometry s.fence (g.D.Disk.text s.disk) s.heads.items (c.requires.open.holds told) c.args.cell (Some r) c.requires.cell (λ h is. some_is (Goes s.heads.items c.args.cell) c.args.head.now h is c.requires.goes) (g.D.Disk.text c.switch.new.disk)
+    (c.in_ok-switch.ensures.done told s.fence (Some r) spells (suits_one s.geometry r c.requires.layout))
 
 pub returns-clause-open : goal.returns-clause-open
 returns-clause-open g c =
-    let s = c.self.inside in
-    let same = c.self.view_is in
-    let cell = cell_back _ _ c.args.cell same c.requires.cell in
-    let layout = layout_back _ _ c.args.head.now.layout same c.requires.layout in
-    let goes = goes_back _ _ c.args.cell c.args.head.now same c.requires.goes in
-    let was_open = c.self.invariant.open_is (flag_back _ _ same c.requires.open) in
+    let s = c.args.self.now in
     let r : Rec = record { head = c.args.head.now; bins = c.args.bins.now } in
-    let spells = spelled s.geometry r c.spell-size.result c.spell-size.new.buffer.items c.deref.result.now c.requires.valid layout c.spell-size.ensures.size (c.spell-size.ensures.length ∙ c.self.invariant.buffer_fits) c.spell-size.ensures.record c.deref.ensures.value in
-    open_after g.D.Disk.tells (g.D.Disk.text s.disk) (g.D.Disk.text c.switch.new.disk) (g.D.Disk.image s.disk) (g.D.Disk.image c.switch.new.disk) s.geometry s.fence s.is_open s.heads.items c.args.cell (Some r) cell
-    was_open c.in_ok-switch.ensures.settled c.switch.ensures.size
-    (λ h is. some_is (Goes s.heads.items c.args.cell) c.args.head.now h is goes)
+    let spells = spelled s.geometry r c.spell-size.result c.spell-size.new.buffer.items c.deref.result.now c.requires.valid c.requires.layout c.spell-size.ensures.size (c.spell-size.ensures.length ∙ s.buffer_fits) c.spell-size.ensures.record c.deref.ensures.value in
+    open_after g.D.Disk.tells (g.D.Disk.text s.disk) (g.D.Disk.text c.switch.new.disk) (g.D.Disk.image s.disk) (g.D.Disk.image c.switch.new.disk) s.geometry s.fence s.gates.items (set s.gates.items c.args.cell (1 - c.index-gate.result.now % 2)) s.heads.items c.args.cell (Some r) c.requires.cell
+    c.requires.open c.in_ok-switch.ensures.settled c.switch.ensures.size
+    (λ h is. some_is (Goes s.heads.items c.args.cell) c.args.head.now h is c.requires.goes)
     (λ h is. some_is IsValid c.args.head.now h is c.requires.valid)
-    (λ h is. some_is (λ (k : Head). k.layout ≡ s.geometry.layout) c.args.head.now h is layout)
-    (λ told. c.in_ok-switch.ensures.done told s.fence (Some r) spells (suits_one s.geometry r layout))
-
-pub returns-clause-spends : goal.returns-clause-spends
-returns-clause-spends g c =
-    let e = c.in_ok-switch.ensures in
-    spends_along g.D.Disk.meter _ _ 4 _ _ (g.D.Disk.meter c.switch.new.disk) c.self.view_is
-    (record { took = took_under 4 _ _ _ _ (λ _. refl) e.took; lasts = c.switch.ensures.meter; risen = λ never. absurd (cc); own_risen = λ never. absurd (cc) })
-
-pub invariant_of-self : goal.invariant_of-self
-invariant_of-self g c =
-    cells_shut g.D.Disk.tells _ _ _ _ _ _ _ c.self.invariant.geometry c.self.invariant.gates_fit c.self.invariant.heads_fit (c.spell-size.ensures.length ∙ c.self.invariant.buffer_fits)
-
-pub invariant_of-self-2 : goal.invariant_of-self-2
-invariant_of-self-2 g c =
-    let s = c.self.inside in
-    let same = c.self.view_is in
-    let cell = cell_back _ _ c.args.cell same c.requires.cell in
-    let layout = layout_back _ _ c.args.head.now.layout same c.requires.layout in
-    let goes = goes_back _ _ c.args.cell c.args.head.now same c.requires.goes in
-    let was_open = c.self.invariant.open_is (flag_back _ _ same c.requires.open) in
-    let r : Rec = record { head = c.args.head.now; bins = c.args.bins.now } in
-    let spells = spelled s.geometry r c.spell-size.result c.spell-size.new.buffer.items c.deref.result.now c.requires.valid layout c.spell-size.ensures.size (c.spell-size.ensures.length ∙ c.self.invariant.buffer_fits) c.spell-size.ensures.record c.deref.ensures.value in
-    record {
-      geometry = c.self.invariant.geometry;
-      gates_fit = length-set s.gates.items c.args.cell _ ∙ c.self.invariant.gates_fit;
-      heads_fit = length-set s.heads.items c.args.cell _ ∙ c.self.invariant.heads_fit;
-      buffer_fits = c.spell-size.ensures.length ∙ c.self.invariant.buffer_fits;
-      open_is = λ _. open_after g.D.Disk.tells (g.D.Disk.text s.disk) (g.D.Disk.text c.switch.new.disk) (g.D.Disk.image s.disk) (g.D.Disk.image c.switch.new.disk) s.geometry s.fence s.is_open s.heads.items c.args.cell (Some r) cell
-          was_open c.in_ok-switch.ensures.settled c.switch.ensures.size
-          (λ h is. some_is (Goes s.heads.items c.args.cell) c.args.head.now h is goes)
-          (λ h is. some_is IsValid c.args.head.now h is c.requires.valid)
-          (λ h is. some_is (λ (k : Head). k.layout ≡ s.geometry.layout) c.args.head.now h is layout)
-          (λ told. c.in_ok-switch.ensures.done told s.fence (Some r) spells (suits_one s.geometry r layout));
-      known = λ _ told. c.in_ok-switch.ensures.gates told s.gates.items c.self.invariant.gates_fit (c.self.invariant.known (flag_back _ _ same c.requires.open) told);
-    }
+    (λ h is. some_is (λ (k : Head). k.layout ≡ s.geometry.layout) c.args.head.now h is c.requires.layout)
+    (λ told. c.in_ok-switch.ensures.done told s.fence (Some r) spells (suits_one s.geometry r c.requires.layout))
+    (λ told. c.in_ok-switch.ensures.gates told s.gates.items s.gates_fit (c.requires.open.known told))

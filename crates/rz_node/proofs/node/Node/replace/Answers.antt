@@ -15,7 +15,7 @@ pub invariant_of-self : goal.invariant_of-self
 invariant_of-self g c =
     let n = c.format_again.new.self in
     record {
-      tied = subst (λ (y : Geometry). IsTied y.cells n.heads c.in-Ok.index) (c.geometry.ensures.value ∙ sym c.format_again.ensures.geometry) (tied-fresh c.geometry.result.cells n.heads c.in-Ok-format_again.ensures.heads c.in-Ok.index c.in-Ok.ensures);
+      tied = subst (λ (y : Geometry). IsTied y.cells n.heads.items c.in-Ok.index) (c.geometry.ensures ∙ sym c.format_again.ensures.geometry) (tied-fresh c.geometry.result.cells n.heads.items c.in-Ok-format_again.ensures.heads c.in-Ok.index c.in-Ok.ensures);
       decided = λ down. refl;
       ready = c.in-Ok-format_again.ensures.open;
     }
@@ -23,7 +23,7 @@ invariant_of-self g c =
 pub returns-in-Ok-format_again-clause-after : goal.returns-in-Ok-format_again-clause-after
 returns-in-Ok-format_again-clause-after g c =
     let n = c.format_again.new.self in
-    let nothing : held_by c.in-Ok.index.entries n.heads ≡ maps.empty = ap (λ (x : Indexed). held_by x.entries n.heads) c.in-Ok.ensures ∙ held-empty n.heads in
+    let nothing : held_by c.in-Ok.index.entries n.heads.items ≡ maps.empty = ap (λ (x : Indexed). held_by x.entries n.heads.items) c.in-Ok.ensures ∙ held-empty n.heads.items in
     let losses = ap (λ (s : NodeState). s.losses) (state-same _ _ c.self.view_is) in
     λ i. record { phase = phase.Up; fence = c.in-Ok-format_again.ensures.fence i; losses = losses i; held = nothing i; undecided = None }
 
@@ -31,15 +31,15 @@ pub returns-in-Ok-format_again-clause-spends : goal.returns-in-Ok-format_again-c
 returns-in-Ok-format_again-clause-spends g c =
     let old = g.D.Disk.meter c.self.inside.cells.disk in
     let new = g.D.Disk.meter c.format_again.new.self.disk in
-    passed-along g.D.Disk.meter _ _ 4 new c.self.view_is (record { took = took-as 4 _ _ old new refl c.in-Ok-format_again.ensures.spends.took; lasts = c.in-Ok-format_again.ensures.spends.lasts })
+    passed-along g.D.Disk.meter _ _ 4 new c.self.view_is (record { took = took-as 4 _ _ old new refl c.in-Ok-format_again.ensures.took; lasts = c.format_again.ensures.meter })
 
 pub returns-clause-spends : goal.returns-clause-spends
 returns-clause-spends g c =
     let old = g.D.Disk.meter c.self.inside.cells.disk in
     let new = g.D.Disk.meter c.format_again.new.self.disk in
     failed-along g.D.Disk.meter _ _ 4 new c.self.view_is (record {
-      took = took-as 4 _ _ old new refl c.in-Err-DiskFault.ensures.spends.took;
-      lasts = c.in-Err-DiskFault.ensures.spends.lasts;
-      risen = c.in-Err-DiskFault.ensures.spends.risen (λ i. Err (c.in-Err-DiskFault.field-0-is i));
-      own_risen = c.in-Err-DiskFault.ensures.spends.own_risen (λ i. Err (c.in-Err-DiskFault.field-0-is i));
+      took = took-as 4 _ _ old new refl c.in-Err-DiskFault.ensures.took;
+      lasts = c.format_again.ensures.meter;
+      risen = c.in-Err-DiskFault.ensures.risen (λ i. Err (c.in-Err-DiskFault.field-0-is i));
+      own_risen = c.in-Err-DiskFault.ensures.own_risen (λ i. Err (c.in-Err-DiskFault.field-0-is i));
     })
