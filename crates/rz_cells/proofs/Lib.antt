@@ -15,3 +15,4 @@ mod Pairs
 mod Carried
 mod Copies
 mod Views
+mod Packed
