@@ -40,11 +40,12 @@ pub record IsSpan (unit : ℕ) (xs ys : ℕ → ℕ) (o p f t a s : ℕ) : Type 
 at_index : (zs : ℕ → ℕ) (i j : ℕ) → i ≡ j → zs i ≡ zs j
 at_index zs i j h = ap zs h
 
-pub lane_run : (unit j : ℕ) (xs ys zs : ℕ → ℕ) (o p f t a s : ℕ) → j < unit → IsSpan unit xs ys o p f t a s → IsFlatRun unit xs ys zs f t (p + (f - o)) s →
-    IsRun (lane unit j xs) (lane unit j ys) (lane unit j zs) o p f t a s
-lane_run unit j xs ys zs o p f t a s h span run = record {
+pub lane_run : (unit j : ℕ) (xs ys zs : ℕ → ℕ) (o p f t r a s : ℕ) → j < unit → t ≤ r → IsSpan unit xs ys o p f t a s → IsFlatRun unit xs ys zs f r (p + (f - o)) s →
+    IsRun (lane unit j xs) (lane unit j ys) (lane unit j zs) o p f t r a s
+lane_run unit j xs ys zs o p f t r a s h longer span run = record {
   low = span.low;
   order = span.order;
+  fits = longer;
   stride = span.stride;
   x_below = λ k l. span.x_below k j l h;
   x_above = λ k l. span.x_above k j l h;
@@ -53,7 +54,7 @@ lane_run unit j xs ys zs o p f t a s h span run = record {
   first = λ k near small.
       let n : ℕ = unit * k + j in
       let at : ℕ = p + (f - o) in
-      let in_range = place_below unit (f + k) j t h near in
+      let in_range = place_below unit (f + k) j r h near in
       let in_row = place_below unit k j s h small in
       let x : unit * f + n ≡ unit * (f + k) + j = omega arith in
       let y : unit * at + n ≡ unit * (at + k) + j = omega arith in
@@ -62,7 +63,7 @@ lane_run unit j xs ys zs o p f t a s h span run = record {
   next = λ k near.
       let n : ℕ = unit * k + j in
       let at : ℕ = p + (f - o) in
-      let in_range = place_below unit (f + (k + s)) j t h near in
+      let in_range = place_below unit (f + (k + s)) j r h near in
       let x : unit * f + (n + unit * s) ≡ unit * (f + (k + s)) + j = omega arith in
       let y : unit * at + (n + unit * s) ≡ unit * (at + (k + s)) + j = omega arith in
       let z : unit * f + n ≡ unit * (f + k) + j = omega arith in
@@ -71,7 +72,7 @@ lane_run unit j xs ys zs o p f t a s h span run = record {
       ∙ ap (λ i. bit_xor (bit_xor (xs (unit * (f + (k + s)) + j)) (ys i)) (zs (unit * f + n))) y
       ∙ ap (λ i. bit_xor (bit_xor (xs (unit * (f + (k + s)) + j)) (ys (unit * (at + (k + s)) + j))) (zs i)) z;
   below = λ k l. run.below (unit * k + j) (place_below unit k j f h l);
-  above = λ k l. run.above (unit * k + j) (let m = place_le unit t k l in omega arith);
+  above = λ k l. run.above (unit * k + j) (let m = place_le unit r k l in omega arith);
 }
 
 -- ws are the words zs with zeros from place m to place t
@@ -91,10 +92,10 @@ lane_cut unit j zs ws m t h cut zeros k = by (cases_lt k m) (cases_lt k t)
     by (inr l) (inr r) = cut.above (unit * k + j) (let n = place_le unit t k r in omega arith)
 
 -- after both cuts only the places from f and o + a to m may have words other than zero
-pub cut_zero : (unit : ℕ) (xs ys zs vs ws : ℕ → ℕ) (o p f t a s g m n : ℕ) → IsSpan unit xs ys o p f t a s → IsFlatRun unit xs ys zs f t (p + (f - o)) s →
-    IsCut unit zs vs f g → IsCut unit vs ws m n → max t m ≤ n →
+pub cut_zero : (unit : ℕ) (xs ys zs vs ws : ℕ → ℕ) (o p f t r a s g m n : ℕ) → t ≤ r → IsSpan unit xs ys o p f t a s → IsFlatRun unit xs ys zs f r (p + (f - o)) s →
+    IsCut unit zs vs f g → IsCut unit vs ws m n → max r m ≤ n →
     ((k j : ℕ) → j < unit → k < g → ws (unit * k + j) ≡ 0) × ((k j : ℕ) → j < unit → m ≤ k → ws (unit * k + j) ≡ 0)
-cut_zero unit xs ys zs vs ws o p f t a s g m n span run first last over =
+cut_zero unit xs ys zs vs ws o p f t r a s g m n longer span run first last over =
     (λ k j h l. below k j h l (cases_lt k f) (cases_lt k m) (cases_lt k n), λ k j h l. above k j h l (cases_lt k n))
   where
     early : (k j : ℕ) → j < unit → k < g → (k < f) ⊎ (f ≤ k) → vs (unit * k + j) ≡ 0
@@ -106,10 +107,10 @@ cut_zero unit xs ys zs vs ws o p f t a s g m n span run first last over =
     below k j h l d (inr b) (inl e) = last.zero k j b e h
     below k j h l d (inr b) (inr e) = last.above (unit * k + j) (let i = place_le unit n k e in omega arith) ∙ early k j h l d
 
-    late : (k j : ℕ) → j < unit → t ≤ k → (k < f) ⊎ (f ≤ k) → (k < g) ⊎ (g ≤ k) → vs (unit * k + j) ≡ 0
+    late : (k j : ℕ) → j < unit → r ≤ k → (k < f) ⊎ (f ≤ k) → (k < g) ⊎ (g ≤ k) → vs (unit * k + j) ≡ 0
     late k j h l d (inl b) = early k j h b d
     late k j h l d (inr b) =
-        first.above (unit * k + j) (let i = place_le unit g k b in omega arith) ∙ run.above (unit * k + j) (let i = place_le unit t k l in omega arith) ∙ span.x_above k j l h
+        first.above (unit * k + j) (let i = place_le unit g k b in omega arith) ∙ run.above (unit * k + j) (let i = place_le unit r k l in omega arith) ∙ span.x_above k j (omega arith) h
 
     above : (k j : ℕ) → j < unit → m ≤ k → (k < n) ⊎ (n ≤ k) → ws (unit * k + j) ≡ 0
     above k j h l (inl b) = last.zero k j l b h
@@ -117,11 +118,11 @@ cut_zero unit xs ys zs vs ws o p f t a s g m n span run first last over =
         last.above (unit * k + j) (let i = place_le unit n k b in omega arith) ∙ late k j h (omega arith) (cases_lt k f) (cases_lt k g)
 
 -- vs are the words after the run, zs, with zeros from place f to place o + a, and ws are those with zeros from place m on
-module _ (unit j : ℕ) (xs ys zs vs ws : ℕ → ℕ) (o p f t a s g m n q q' : ℕ) (h : j < unit) (span : IsSpan unit xs ys o p f t a s)
-    (run : IsFlatRun unit xs ys zs f t (p + (f - o)) s) (first : IsCut unit zs vs f g) (last : IsCut unit vs ws m n)
-    (down : a + s ≡ max q q') (less : a ≡ min q q') (begin : g ≡ max f (o + a)) (end : m ≡ max (t - s) (o + a)) (over : max t m ≤ n) where
-  one_run : IsRun (lane unit j xs) (lane unit j ys) (lane unit j zs) o p f t a s
-  one_run = lane_run unit j xs ys zs o p f t a s h span run
+module _ (unit j : ℕ) (xs ys zs vs ws : ℕ → ℕ) (o p f t r a s g m n q q' : ℕ) (h : j < unit) (longer : t ≤ r) (span : IsSpan unit xs ys o p f t a s)
+    (run : IsFlatRun unit xs ys zs f r (p + (f - o)) s) (first : IsCut unit zs vs f g) (last : IsCut unit vs ws m n)
+    (down : a + s ≡ max q q') (less : a ≡ min q q') (begin : g ≡ max f (o + a)) (end : m ≡ max (t - s) (o + a)) (over : max r m ≤ n) where
+  one_run : IsRun (lane unit j xs) (lane unit j ys) (lane unit j zs) o p f t r a s
+  one_run = lane_run unit j xs ys zs o p f t r a s h longer span run
 
   kept : (k : ℕ) → m ≤ k → vs (unit * k + j) ≡ zs (unit * k + j)
   kept k far = by (cases_lt k f)
@@ -134,11 +135,11 @@ module _ (unit j : ℕ) (xs ys zs vs ws : ℕ → ℕ) (o p f t a s g m n q q' :
   pub lane_exact : ((k : ℕ) → f ≤ k → k < g → zs (unit * k + j) ≡ 0) → ((k : ℕ) → m ≤ k → k < n → vs (unit * k + j) ≡ 0) →
       plus (from_place (lane unit j xs) o) (from_place (lane unit j ys) p) ≡ times q q' (from_place (lane unit j ws) (o + a))
   lane_exact before behind =
-      run_exact (lane unit j xs) (lane unit j ys) (lane unit j zs) o p f t a s one_run (λ k far near. before k far (omega arith)) (λ k far near. rest k far near (cases_lt k m) (cases_lt k f))
+      run_exact (lane unit j xs) (lane unit j ys) (lane unit j zs) o p f t r a s one_run (λ k far near. before k far (omega arith)) (λ k far near. rest k far near (cases_lt k m) (cases_lt k f))
       ∙ ap (times a (a + s)) (fun_ext (λ e. sym (lane_cut unit j vs ws m n h last behind (o + a + e) ∙ lane_cut unit j zs vs f g h first before (o + a + e))))
       ∙ sym (times_of q q' a s (from_place (lane unit j ws) (o + a)) less (omega arith))
     where
-      rest : (k : ℕ) → t - s ≤ k → k < t → (k < m) ⊎ (m ≤ k) → (k < f) ⊎ (f ≤ k) → zs (unit * k + j) ≡ 0
+      rest : (k : ℕ) → t - s ≤ k → k < r → (k < m) ⊎ (m ≤ k) → (k < f) ⊎ (f ≤ k) → zs (unit * k + j) ≡ 0
       rest k far near (inl l) (inl b) = one_run.below k b ∙ one_run.x_below k b
       rest k far near (inl l) (inr b) = before k b (omega arith)
       rest k far near (inr l) _ = sym (kept k l) ∙ behind k l (omega arith)
@@ -147,18 +148,18 @@ module _ (unit j : ℕ) (xs ys zs vs ws : ℕ → ℕ) (o p f t a s g m n q q' :
   pub lane_start : (d : ℕ → ℕ) → plus (from_place (lane unit j xs) o) (from_place (lane unit j ys) p) ≡ times q q' d →
       (k : ℕ) → f ≤ k → k < g → zs (unit * k + j) ≡ 0
   lane_start d is k far near =
-      run_start (lane unit j xs) (lane unit j ys) (lane unit j zs) o p f t a s one_run d (is ∙ times_of q q' a s d less (omega arith)) k far (omega arith)
+      run_start (lane unit j xs) (lane unit j ys) (lane unit j zs) o p f t r a s one_run d (is ∙ times_of q q' a s d less (omega arith)) k far (omega arith)
 
   -- nor from place m on
   pub lane_spent : (d : ℕ → ℕ) → IsFinite d → plus (from_place (lane unit j xs) o) (from_place (lane unit j ys) p) ≡ times q q' d →
       (k : ℕ) → m ≤ k → k < n → vs (unit * k + j) ≡ 0
-  lane_spent d finite is k far near = kept k far ∙ by (cases_lt k t)
+  lane_spent d finite is k far near = kept k far ∙ by (cases_lt k r)
     where
-      by : (k < t) ⊎ (t ≤ k) → zs (unit * k + j) ≡ 0
+      by : (k < r) ⊎ (r ≤ k) → zs (unit * k + j) ≡ 0
       by (inl l) =
-          run_spent (lane unit j xs) (lane unit j ys) (lane unit j zs) o p f t a s one_run d finite
+          run_spent (lane unit j xs) (lane unit j ys) (lane unit j zs) o p f t r a s one_run d finite
           (is ∙ times_of q q' a s d less (omega arith)) k (omega arith) l
-      by (inr l) = one_run.above k l ∙ one_run.x_above k l
+      by (inr l) = one_run.above k l ∙ one_run.x_above k (omega arith)
 
 -- what an addition over the words of all blocks gives
 pub record IsFlatAdded (unit : ℕ) (xs ys zs : ℕ → ℕ) (at f t : ℕ) : Type 0 where

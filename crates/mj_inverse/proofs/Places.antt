@@ -12,22 +12,23 @@ use Rattle.mj_inverse.proofs.Running.{Runs, IsSpent, exact, spent, same_words, l
 abbrev pub from_place : (ℕ → ℕ) → ℕ → ℕ → ℕ
 from_place xs o e = xs (o + e)
 
--- from place f to place t zs is the running exclusive or, with stride s; o and p are the places of word number 0
-pub record IsRun (xs ys zs : ℕ → ℕ) (o p f t a s : ℕ) : Type 0 where
+-- from place f to place n zs is the running exclusive or, with stride s, of words that end before place t; o and p are the places of word number 0
+pub record IsRun (xs ys zs : ℕ → ℕ) (o p f t n a s : ℕ) : Type 0 where
   pub low : o ≤ f
   pub order : f ≤ t
+  pub fits : t ≤ n
   pub stride : 0 < s
   pub x_below : (k : ℕ) → k < f → xs k ≡ 0
   pub x_above : (k : ℕ) → t ≤ k → xs k ≡ 0
   pub y_below : (e : ℕ) → o + e < f → ys (p + e) ≡ 0
   pub y_above : (e : ℕ) → t ≤ o + e → ys (p + e) ≡ 0
-  pub first : (k : ℕ) → f + k < t → k < s → zs (f + k) ≡ bit_xor (xs (f + k)) (ys (p + (f - o) + k))
-  pub next : (k : ℕ) → f + (k + s) < t →
+  pub first : (k : ℕ) → f + k < n → k < s → zs (f + k) ≡ bit_xor (xs (f + k)) (ys (p + (f - o) + k))
+  pub next : (k : ℕ) → f + (k + s) < n →
       zs (f + (k + s)) ≡ bit_xor (bit_xor (xs (f + (k + s))) (ys (p + (f - o) + (k + s)))) (zs (f + k))
   pub below : (k : ℕ) → k < f → zs k ≡ xs k
-  pub above : (k : ℕ) → t ≤ k → zs k ≡ xs k
+  pub above : (k : ℕ) → n ≤ k → zs k ≡ xs k
 
-module _ (xs ys zs : ℕ → ℕ) (o p f t a s : ℕ) (run : IsRun xs ys zs o p f t a s) where
+module _ (xs ys zs : ℕ → ℕ) (o p f t n a s : ℕ) (run : IsRun xs ys zs o p f t n a s) where
   z : ℕ → ℕ
   z = plus (from_place xs o) (from_place ys p)
 
@@ -48,7 +49,7 @@ module _ (xs ys zs : ℕ → ℕ) (o p f t a s : ℕ) (run : IsRun xs ys zs o p 
   at_place : (zs : ℕ → ℕ) (i j : ℕ) → i ≡ j → zs i ≡ zs j
   at_place zs i j h = ap (λ n. zs n) h
 
-  by_start : (e : ℕ) → e < t - o → (o + e < f) ⊎ (f ≤ o + e) → r e ≡ bit_xor (z e) (raised s r e)
+  by_start : (e : ℕ) → e < n - o → (o + e < f) ⊎ (f ≤ o + e) → r e ≡ bit_xor (z e) (raised s r e)
   by_start e near (inl h) =
       let none : z e ≡ 0 = z_at e ∙ rw (run.x_below (o + e) h, run.y_below e h) (xor_self 0) in
       let carried : raised s r e ≡ 0 = lower (split s e) in
@@ -88,19 +89,19 @@ module _ (xs ys zs : ℕ → ℕ) (o p f t a s : ℕ) (run : IsRun xs ys zs o p 
           ∙ ap (λ v. bit_xor (bit_xor (xs (o + e)) (ys (p + e))) v) (at_place zs (f + k) (o + d) w ∙ sym (r_at d) ∙ sym (raised_at s r e d is))
           ∙ ap (λ v. bit_xor v (raised s r e)) (sym (z_at e))
 
-  runs : Runs z r s (t - o) (t - o)
+  runs : Runs z r s (t - o) (n - o)
   runs = record {
     stride = run.stride;
-    fits = omega arith;
+    fits = (let g = run.fits in omega arith);
     ends = λ e far. z_at e ∙ (let l = run.low in let g = run.order in let k : t ≤ o + e = omega arith in rw (run.x_above (o + e) k, run.y_above e k) (xor_self 0));
-    none = λ e far. r_at e ∙ (let l = run.low in let g = run.order in let k : t ≤ o + e = omega arith in run.above (o + e) k ∙ run.x_above (o + e) k);
+    none = λ e far. r_at e ∙ (let l = run.low in let g = run.order in let i = run.fits in let k : n ≤ o + e = omega arith in run.above (o + e) k ∙ run.x_above (o + e) (omega arith));
     runs = λ e near. by_start e near (cases_lt (o + e) f);
   }
 
   shifted : lowered a r ≡ from_place zs (o + a)
   shifted = fun_ext (λ e. r_at (a + e) ∙ at_place zs (o + (a + e)) (o + a + e) (omega arith))
 
-  unspent : ((k : ℕ) → t - s ≤ k → k < t → zs k ≡ 0) → IsSpent r s (t - o) (t - o)
+  unspent : ((k : ℕ) → t - s ≤ k → k < n → zs k ≡ 0) → IsSpent r s (t - o) (n - o)
   unspent zeros e far near = by (cases_lt (o + e) f)
     where
       by : (o + e < f) ⊎ (f ≤ o + e) → r e ≡ 0
@@ -116,18 +117,18 @@ module _ (xs ys zs : ℕ → ℕ) (o p f t a s : ℕ) (run : IsRun xs ys zs o p 
       by (inr l) = r_at e ∙ start (o + e) l (omega arith)
 
   -- without a remainder it is divided
-  pub run_exact : ((k : ℕ) → f ≤ k → k < o + a → zs k ≡ 0) → ((k : ℕ) → t - s ≤ k → k < t → zs k ≡ 0) →
+  pub run_exact : ((k : ℕ) → f ≤ k → k < o + a → zs k ≡ 0) → ((k : ℕ) → t - s ≤ k → k < n → zs k ≡ 0) →
       plus (from_place xs o) (from_place ys p) ≡ times a (a + s) (from_place zs (o + a))
   unfolding z
   run_exact start zeros =
-      exact z r s (t - o) (t - o) runs (unspent zeros)
+      exact z r s (t - o) (n - o) runs (unspent zeros)
       ∙ ap (λ x. plus x (raised s x)) (sym (raised-lowered a r (r_low start)))
       ∙ sym (times_is a s (lowered a r))
       ∙ ap (times a (a + s)) shifted
 
   -- where it can be divided, there is no remainder
   pub run_spent : (h : ℕ → ℕ) → IsFinite h → plus (from_place xs o) (from_place ys p) ≡ times a (a + s) h →
-      (k : ℕ) → t - s ≤ k → k < t → zs k ≡ 0
+      (k : ℕ) → t - s ≤ k → k < n → zs k ≡ 0
   unfolding z
   run_spent h finite is k far near = by (cases_lt k f)
     where
@@ -138,23 +139,23 @@ module _ (xs ys zs : ℕ → ℕ) (o p f t a s : ℕ) (run : IsRun xs ys zs o p 
           let e : ℕ = k - o in
           let place : o + e ≡ k = omega arith in
           at_place zs k (o + e) (sym place) ∙ sym (r_at e)
-          ∙ spent z r (raised a h) s (t - o) (t - o) runs (finite-raised a h finite) (is ∙ times_is a s h) e (omega arith) (omega arith)
+          ∙ spent z r (raised a h) s (t - o) (n - o) runs (finite-raised a h finite) (is ∙ times_is a s h) e (omega arith) (omega arith)
 
   -- nor before the place from which the quotient stands
   pub run_start : (h : ℕ → ℕ) → plus (from_place xs o) (from_place ys p) ≡ times a (a + s) h →
       (k : ℕ) → f ≤ k → k < o + a → zs k ≡ 0
   unfolding z
-  run_start h is k far near = by (cases_lt k t)
+  run_start h is k far near = by (cases_lt k n)
     where
-      by : (k < t) ⊎ (t ≤ k) → zs k ≡ 0
+      by : (k < n) ⊎ (n ≤ k) → zs k ≡ 0
       by (inl less) =
           let l = run.low in
           let e : ℕ = k - o in
           let place : o + e ≡ k = omega arith in
           at_place zs k (o + e) (sym place) ∙ sym (r_at e)
-          ∙ same_words z r (raised a h) s (t - o) (t - o) runs (is ∙ times_is a s h) e (omega arith)
+          ∙ same_words z r (raised a h) s (t - o) (n - o) runs (is ∙ times_is a s h) e (omega arith)
           ∙ raised_below a h e (omega arith)
-      by (inr more) = run.above k more ∙ run.x_above k more
+      by (inr more) = run.above k more ∙ run.x_above k (let g = run.fits in omega arith)
 
 pub times_of : (p q a s : ℕ) (x : ℕ → ℕ) → a ≡ min p q → s ≡ max p q - a → times p q x ≡ times a (a + s) x
 times_of p q a s x h k = by (cases_lt p q)

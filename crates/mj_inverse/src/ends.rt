@@ -38,19 +38,36 @@ pub fn end_of_used(words: &Vec<u64>, unit: usize, from: usize, to: usize) -> usi
     from
 }
 
-/// An end from `to` on, and not past `most`, that makes whole groups of eight places where there is room for
+/// An end from `to` on, and not past `most`, that makes whole groups of so many places where there is room for
 /// that, so that no single words are left over.
-pub fn padded_end(from: usize, to: usize, most: usize) -> usize
+#[inline(always)]
+pub fn padded_end(from: usize, to: usize, group: usize, most: usize) -> usize
     requires order { from ≤ to }
     requires room { to ≤ most }
+    requires some { 0 < group }
     ensures low { to ≤ result }
     ensures high { result ≤ most }
 {
-    let over = (to - from) % 8;
-    if over > 0 && most - to >= 8 {
-        to + (8 - over)
+    let over = (to - from) % group;
+    if over > 0 && most - to >= group {
+        to + group.saturating_sub(over)
     } else {
         to
+    }
+}
+
+/// An end from `to` on, and not past `most`, at which a run by `step` places leaves no single words over.
+pub fn run_end(from: usize, to: usize, step: usize, most: usize) -> usize
+    requires order { from ≤ to }
+    requires room { to ≤ most }
+    requires step { 0 < step }
+    ensures low { to ≤ result }
+    ensures high { result ≤ most }
+{
+    if step < 3 {
+        padded_end(from, to, 4, most)
+    } else {
+        padded_end(from, to, step, most)
     }
 }
 

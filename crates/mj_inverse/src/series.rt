@@ -8,7 +8,7 @@ ghost use Rattle.mj_angles.proofs.Order.{lifted};
 ghost use Rattle.mj_inverse.specs.Store.{IsSpare, IsGiven};
 ghost use Rattle.mj_inverse.specs.Series.{seq, IsSeries, IsNext, IsUnmarked, IsBlank, IsSpread, IsTrimmed, KeepsRoom, Meet};
 
-use crate::ends::{end_of_used, first_used, padded_end};
+use crate::ends::{end_of_used, first_used, padded_end, run_end};
 use crate::run::{add_within, add_zeros, give_words, put_words, run_within, take_rest};
 use std::alloc::{AllocError, Global};
 
@@ -84,18 +84,20 @@ impl Series {
         let from = self.from.min(self.origin + (by.from - by.origin));
         let to = self.to.max(self.origin + (by.to - by.origin));
         let at = by.origin + (from - self.origin);
+        let spare = (self.room - to).min(by.room - (by.origin + (to - self.origin)));
+        let stop = run_end(from, to, step, to + spare);
         run_within(
             &mut self.words,
             unit * from,
-            unit * to,
+            unit * stop,
             &by.words,
             unit * at,
             unit * step,
         );
         let first = from.max(start);
         let end = to.saturating_sub(step).max(start);
-        let far = to.max(end);
-        let last = padded_end(end, far, self.room);
+        let far = stop.max(end);
+        let last = padded_end(end, far, 8, self.room);
         take_rest(&mut self.words, unit, from, first, bad);
         take_rest(&mut self.words, unit, end, last, bad);
         self.origin = start;
@@ -133,7 +135,7 @@ impl Series {
         let from = self.origin + up + (other.from - other.origin);
         let to = from + (other.to - other.from);
         let most = other.room.min(other.from + (self.room - from));
-        let end = padded_end(other.from, other.to, most);
+        let end = padded_end(other.from, other.to, 8, most);
         add_within(
             &mut self.words,
             unit * from,

@@ -9,11 +9,22 @@ run_within-requires-clause-by c =
     let u : ℕ = c.args.unit in
     let f : ℕ = c.min-from.result in
     let t : ℕ = c.max-to.result in
+    let r : ℕ = c.run_end-stop.result in
     let at : ℕ = c.args.by.now.origin + (f - c.args.self.now.origin) in
     let m = c.requires.meet in
-    let order : f ≤ t = omega arith in
-    let fits : u * (at + (t - f)) ≤ u * c.args.by.now.room = place_le u (at + (t - f)) c.args.by.now.room (omega arith) in
-    rw (place_span u at f t order) (let r = m.second.room in omega arith)
+    let low = c.run_end-stop.ensures.low in
+    let high = c.run_end-stop.ensures.high in
+    let order : f ≤ r = omega arith in
+    let fits : u * (at + (r - f)) ≤ u * c.args.by.now.room = place_le u (at + (r - f)) c.args.by.now.room (omega arith) in
+    rw (place_span u at f r order) (let r = m.second.room in omega arith)
+
+pub run_within-requires-clause-within : goal.run_within-requires-clause-within
+run_within-requires-clause-within c =
+    let first = c.requires.meet.first in
+    let room = first.room in
+    let high = c.run_end-stop.ensures.high in
+    let fits = place_le c.args.unit c.run_end-stop.result c.args.self.now.room (omega arith) in
+    omega arith
 
 pub run_within-requires-clause-step : goal.run_within-requires-clause-step
 run_within-requires-clause-step c =
@@ -25,6 +36,7 @@ run_within-requires-clause-step c =
 pub padded_end-last-requires-clause-room : goal.padded_end-last-requires-clause-room
 padded_end-last-requires-clause-room c =
     let meet = c.requires.meet in
+    let high = c.run_end-stop.ensures.high in
     omega arith
 
 pub take_rest-requires-2-clause-within : goal.take_rest-requires-2-clause-within
@@ -52,6 +64,8 @@ returns-clause-next c =
     let m : ℕ = c.max-end.result in
     let n : ℕ = c.padded_end-last.result in
     let past = c.padded_end-last.ensures.low in
+    let r : ℕ = c.run_end-stop.result in
+    let longer = c.run_end-stop.ensures.low in
     let meet = c.requires.meet in
     let span : IsSpan u xs ys o p f t a s = record {
       low = omega arith;
@@ -62,7 +76,7 @@ returns-clause-next c =
       y_below = λ e j h l. meet.second.below (p + e) j (omega arith) l;
       y_above = λ e j h l. meet.second.above (p + e) j (omega arith) l;
     } in
-    let run : IsFlatRun u xs ys zs f t (p + (f - o)) s = record {
+    let run : IsFlatRun u xs ys zs f r (p + (f - o)) s = record {
       first = c.run_within.ensures.first;
       next = c.run_within.ensures.next;
       below = c.run_within.ensures.below;
@@ -78,7 +92,7 @@ returns-clause-next c =
       below = c.take_rest-2.ensures.below;
       above = c.take_rest-2.ensures.above;
     } in
-    let flat = cut_zero u xs ys zs vs ws o p f t a s g m n span run first last (omega arith) in
+    let flat = cut_zero u xs ys zs vs ws o p f t r a s g m n longer span run first last (omega arith) in
     record {
       is = record {
         some = meet.first.some;
@@ -115,6 +129,8 @@ returns-clause-exact c = λ j h unmarked.
     let m : ℕ = c.max-end.result in
     let n : ℕ = c.padded_end-last.result in
     let past = c.padded_end-last.ensures.low in
+    let r : ℕ = c.run_end-stop.result in
+    let longer = c.run_end-stop.ensures.low in
     let meet = c.requires.meet in
     let span : IsSpan u xs ys o p f t a s = record {
       low = omega arith;
@@ -125,7 +141,7 @@ returns-clause-exact c = λ j h unmarked.
       y_below = λ e j h l. meet.second.below (p + e) j (omega arith) l;
       y_above = λ e j h l. meet.second.above (p + e) j (omega arith) l;
     } in
-    let run : IsFlatRun u xs ys zs f t (p + (f - o)) s = record {
+    let run : IsFlatRun u xs ys zs f r (p + (f - o)) s = record {
       first = c.run_within.ensures.first;
       next = c.run_within.ensures.next;
       below = c.run_within.ensures.below;
@@ -146,7 +162,7 @@ returns-clause-exact c = λ j h unmarked.
     let behind = c.take_rest-2.ensures.marked j h unmarked in
     let before = c.take_rest.ensures.marked j h behind.0 in (
       before.0,
-      lane_exact u j xs ys zs vs ws o p f t a s g m n x y h span run first last (omega arith) (omega arith) (omega arith) (omega arith) (omega arith) before.1 behind.1,
+      lane_exact u j xs ys zs vs ws o p f t r a s g m n x y h longer span run first last (omega arith) (omega arith) (omega arith) (omega arith) (omega arith) before.1 behind.1,
     )
 
 pub returns-clause-divides : goal.returns-clause-divides
@@ -167,6 +183,8 @@ returns-clause-divides c = λ j d h unmarked finite is.
     let m : ℕ = c.max-end.result in
     let n : ℕ = c.padded_end-last.result in
     let past = c.padded_end-last.ensures.low in
+    let r : ℕ = c.run_end-stop.result in
+    let longer = c.run_end-stop.ensures.low in
     let meet = c.requires.meet in
     let span : IsSpan u xs ys o p f t a s = record {
       low = omega arith;
@@ -177,7 +195,7 @@ returns-clause-divides c = λ j d h unmarked finite is.
       y_below = λ e j h l. meet.second.below (p + e) j (omega arith) l;
       y_above = λ e j h l. meet.second.above (p + e) j (omega arith) l;
     } in
-    let run : IsFlatRun u xs ys zs f t (p + (f - o)) s = record {
+    let run : IsFlatRun u xs ys zs f r (p + (f - o)) s = record {
       first = c.run_within.ensures.first;
       next = c.run_within.ensures.next;
       below = c.run_within.ensures.below;
@@ -196,6 +214,6 @@ returns-clause-divides c = λ j d h unmarked finite is.
     let x : ℕ = c.args.self.now.angle in
     let y : ℕ = c.args.by.now.angle in
     let before = c.take_rest.ensures.unmarked j h unmarked
-    (lane_start u j xs ys zs vs ws o p f t a s g m n x y h span run first last (omega arith) (omega arith) (omega arith) (omega arith) (omega arith) d is) in
+    (lane_start u j xs ys zs vs ws o p f t r a s g m n x y h longer span run first last (omega arith) (omega arith) (omega arith) (omega arith) (omega arith) d is) in
     c.take_rest-2.ensures.unmarked j h before
-    (lane_spent u j xs ys zs vs ws o p f t a s g m n x y h span run first last (omega arith) (omega arith) (omega arith) (omega arith) (omega arith) d finite is)
+    (lane_spent u j xs ys zs vs ws o p f t r a s g m n x y h longer span run first last (omega arith) (omega arith) (omega arith) (omega arith) (omega arith) d finite is)
