@@ -3,3 +3,6 @@ pub mod Parts
 pub mod Cells
 pub mod Files
 pub mod Sorting
+pub mod Standing
+pub mod Turns
+pub mod Kept

@@ -1,5 +1,5 @@
 -- What contracts see of an index, and how it is kept.
-use Rattle.std.specs.Prelude.{ℕ, ◌+◌, ◌≤◌, ◌==◌, T, cond, List, [], ◌∷◌, ◌++◌, map, length, Option, Some, None, Box, refl}
+use Rattle.std.specs.Prelude.{ℕ, ◌==◌, T, cond, List, [], ◌∷◌, ◌++◌, map, Option, Some, None, refl}
 use Rattle.std.specs.Option.{option_map}
 use Rattle.std.specs.Coded.{Coded, code_by, coded×, coded_ℕ, coded_list}
 use Rattle.std.specs.List as lists
@@ -27,20 +27,9 @@ pairs_of es = map (λ (e : Entry). (e.key, e)) es
 abbrev pub indexed : List Entry → List ℕ → Indexed
 indexed es free = record { entries = maps.from_sorted (pairs_of es); free = free }
 
--- the entries below the root of a tree, in their order
-abbrev pub items_of : {A : Type 0} → Option (Box (List Entry) A) → List Entry
-items_of None = []
-items_of (Some node) = node.value
-
 -- the keys rise
 abbrev pub IsSorted : List Entry → Type 0
 IsSorted es = T (is_sorted key_cmp (pairs_of es))
-
--- The keys rise, there is a spare node for each free cell, and the row of free cells has room for all cells.
-pub record IsIndex (entries : List Entry) (spare free free_room : ℕ) : Type 0 where
-  pub sorted : IsSorted entries
-  pub room : free ≤ spare
-  pub room_free : length entries + free ≤ free_room
 
 -- the entry of the least block of a file
 abbrev pub first_of_file : maps.FinMap key_cmp Entry → ℕ → Option Entry

@@ -1,19 +1,22 @@
 //! Entries in the order of their keys, and free cells.
 
-ghost use Rattle.std.specs.Prelude.{◌≡◌, ◌+◌, ◌<◌, ◌≤◌, Some, length, map, IfOk, MatchOption};
+ghost use Rattle.std.specs.Prelude.{◌≡◌, ◌+◌, ◌<◌, ◌≤◌, [], ◌∷◌, ◌++◌, List, Some, None, length, map, not, IfOk, MatchOption};
 ghost use Rattle.std.specs.List.{Contains, IsDistinct, remove, range_with_len};
-ghost use Rattle.std.specs.Option.{option_copied};
 ghost use Rattle.std.specs.Ordering.{eq_by_cmp};
 ghost use Rattle.std.specs.Vec.{vec_len};
 ghost use Rattle.std.specs.VecDeque.{deque_len, deque_capacity};
 ghost use Rattle.std.specs.FinMap as maps;
+ghost use Rattle.std.specs.FinMap.Entries.{find, put, where_key};
 ghost use Rattle.rz_events.specs.Keys.{key_cmp};
 ghost use Rattle.rz_events.specs.declared.keys.Key.{Key};
-ghost use Rattle.rz_index.specs.Indexed.{first_of_file, head_of, erase, taken_out, freed};
+ghost use Rattle.rz_index.specs.declared.index.Entry.{Entry};
+ghost use Rattle.rz_index.specs.Indexed.{pairs_of, IsSorted, first_of_file, head_of, erase, taken_out, freed};
+ghost use Rattle.rz_index.specs.Spares.{IsAdded, IsPlanted, IsRemoved};
+ghost use Rattle.rz_index.specs.Standing.{Holds, Tree};
 
-use crate::packed::Packed;
+use crate::nodes;
+use crate::nodes::Node;
 use crate::spare::Spare;
-use crate::tree::Tree;
 use rz_events::Key;
 use rz_versions::Versions;
 use std::alloc::{AllocError, Global};
@@ -32,23 +35,29 @@ pub struct Entry {
 /// The keys that are held, and the free pairs of cells.
 #[derive(Debug, Drop)]
 pub struct Index {
-    entries: Tree,
-    spare: Spare,
+    /// The nodes of the entries, and those that no entry needs. None stands at 0.
+    row: Vec<Node>,
+    /// The tree of the entries.
+    root: u32,
+    /// The tree of the nodes that no entry needs.
+    spare: u32,
     free: VecDeque<u32>,
 }
 
 impl Model for Index {
-    ghost use Rattle.std.specs.Prelude.{};
+    ghost use Rattle.std.specs.Prelude.{length};
     ghost use Rattle.std.specs.VecDeque.{deque_len, deque_capacity};
-    ghost use Rattle.rz_index.specs.Indexed.{Indexed, indexed_code, indexed, IsIndex};
+    ghost use Rattle.rz_index.specs.Indexed.{Indexed, indexed_code, indexed};
+    ghost use Rattle.rz_index.specs.Standing.{entries_below};
+    ghost use Rattle.rz_index.specs.Spares.{IsIndex};
 
     ghost Value = { Indexed };
 
     ghost coded = { indexed_code };
 
-    ghost view = { λ i. indexed i.entries i.free.items };
+    ghost view = { λ i. indexed (entries_below (length i.row.items) i.row.items i.root) i.free.items };
 
-    ghost invariant = { λ i. IsIndex i.entries i.spare (deque_len i.free) (deque_capacity i.free) };
+    ghost invariant = { λ i. IsIndex i.row.items i.root i.spare (deque_len i.free) (deque_capacity i.free) };
 }
 
 impl Index {
@@ -62,8 +71,9 @@ impl Index {
             free.push_back(cell)?;
         }
         Ok(Index {
-            entries: Tree::new(),
-            spare,
+            row: spare.row,
+            root: 0,
+            spare: spare.link,
             free,
         })
     }
@@ -82,11 +92,13 @@ impl Index {
         ensures free { result.free ≡ free.items }
     {
         let mut entries = entries;
-        let mut spare = spare;
         entries.sort_unstable_by_key(|entry| entry.key);
-        let entries = planted(&entries, &mut spare);
+        let mut row = spare.row;
+        let room = row.len();
+        let (root, spare) = planted(&entries, &mut row, spare.link, room);
         Index {
-            entries,
+            row,
+            root,
             spare,
             free,
         }
@@ -96,14 +108,14 @@ impl Index {
     pub fn find(&self, key: Key) -> Option<Entry>
         ensures { result ≡ maps.get self.now.entries key }
     {
-        unpacked(self.entries.find(key))
+        nodes::find(&self.row, self.root, key, self.row.len())
     }
 
     /// The entry of the least block of a file.
     pub fn first_of(&self, fid: u128) -> Option<Entry>
         ensures { result ≡ first_of_file self.now.entries fid }
     {
-        unpacked(self.entries.first_of(fid))
+        nodes::first_of(&self.row, self.root, fid, self.row.len())
     }
 
     /// The first of the free cells.
@@ -119,14 +131,15 @@ impl Index {
         ensures entries { self.new.entries ≡ maps.insert self.old.entries entry.key entry }
         ensures free { self.new.free ≡ taken_out self.old entry }
     {
-        if self.entries.find(entry.key).is_some() {
-            self.entries.set(&entry, None);
+        let room = self.row.len();
+        if nodes::find(&self.row, self.root, entry.key, room).is_some() {
+            self.root = nodes::replace(&mut self.row, self.root, &entry, room);
         } else {
             let place = place_of(&self.free, entry.cell);
             let _cell = self.free.remove(place);
-            // There is a spare node for each free cell.
-            let node = self.spare.take();
-            self.entries.set(&entry, node);
+            let (root, spare) = added(&mut self.row, self.root, self.spare, &entry, room);
+            self.root = root;
+            self.spare = spare;
         }
     }
 
@@ -135,38 +148,79 @@ impl Index {
         ensures entries { self.new.entries ≡ maps.remove self.old.entries key }
         ensures free { self.new.free ≡ freed self.old key }
     {
-        if let Some(node) = self.entries.remove(key) {
+        let room = self.row.len();
+        let (root, spare, cell) = removed(&mut self.row, self.root, self.spare, key, room);
+        self.root = root;
+        self.spare = spare;
+        if let Some(cell) = cell {
             // Entries and free cells together are as many as there is room for.
-            let _fits = self.free.push_back(node.entry().entry().cell);
-            self.spare.give(node);
+            let _fits = self.free.push_back(cell);
         }
     }
 }
 
-// The entry that was found.
-fn unpacked(found: Option<&Packed>) -> Option<Entry>
-    ensures { result ≡ option_copied found.entry }
+// The tree of entries without that of a key, where it is there, the tree of the spare nodes with its node, and
+// its cell.
+fn removed(
+    row: &mut [Node],
+    root: u32,
+    spare: u32,
+    key: Key,
+    room: usize,
+) -> (u32, u32, Option<u32>)
+    ensures { (entries blanks : List Entry) → Holds row.old (Tree root entries ∷ Tree spare blanks ∷ []) → IsSorted entries → length entries ≤ room
+        → IsRemoved row.new result.0 result.1 result.2 (find key_cmp key (pairs_of entries)) (where_key key_cmp (λ k. not (eq_by_cmp key_cmp key k)) (pairs_of entries)) (length blanks) }
 {
-    match found {
-        Some(packed) => Some(packed.entry()),
-        None => None,
+    let (root, node) = nodes::take(row, root, key, room);
+    if node == 0 {
+        return (root, spare, None);
     }
+    // The node of an entry that was there is now by itself.
+    let Some(entry) = nodes::entry_at(row, node) else {
+        return (root, spare, None);
+    };
+    (root, nodes::hung(row, 0, node, spare), Some(entry.cell))
 }
 
-// Entries in a tree, in the order in which they come, on spare nodes.
-fn planted(entries: &[Entry], spare: &mut Spare) -> Tree
-    requires { length entries.now ≤ spare.old }
-    ensures entries { result ≡ entries.now }
-    ensures spare { spare.new + length entries.now ≡ spare.old }
+// The tree of entries with one more, on a spare node, and the tree of the other spare nodes.
+fn added(row: &mut [Node], root: u32, spare: u32, entry: &Entry, room: usize) -> (u32, u32)
+    ensures { (entries blanks : List Entry) → Holds row.old (Tree root entries ∷ Tree spare blanks ∷ []) → IsSorted entries → length entries ≤ room → length blanks ≤ room
+        → find key_cmp entry.now.key (pairs_of entries) ≡ None → 0 < length blanks → IsAdded row.new result.0 result.1 (put key_cmp entry.now.key entry.now (pairs_of entries)) (length blanks) }
 {
-    let mut tree = Tree::new();
+    // There is a spare node for each free cell.
+    let Some((node, spare)) = nodes::split_first(row, spare, room) else {
+        return (root, spare);
+    };
+    nodes::refill(row, node, entry);
+    (nodes::insert(row, root, node, entry.key, room), spare)
+}
+
+// The tree of entries with one behind them, on a spare node, and the tree of the other spare nodes.
+fn added_last(row: &mut [Node], root: u32, spare: u32, entry: &Entry, room: usize) -> (u32, u32)
+    ensures { (entries blanks : List Entry) → Holds row.old (Tree root entries ∷ Tree spare blanks ∷ []) → length entries ≤ room → length blanks ≤ room → 0 < length blanks
+        → IsPlanted row.new result.0 result.1 (entries ++ entry.now ∷ []) (length entries + length blanks) }
+{
+    // There is a spare node for each entry.
+    let Some((node, spare)) = nodes::split_first(row, spare, room) else {
+        return (root, spare);
+    };
+    nodes::refill(row, node, entry);
+    (nodes::with_last(row, root, node, room), spare)
+}
+
+// Entries in a tree, in the order in which they come, on spare nodes, and the tree of the other spare nodes.
+fn planted(entries: &[Entry], row: &mut [Node], spare: u32, room: usize) -> (u32, u32)
+    ensures { (blanks : List Entry) → Holds row.old (Tree spare blanks ∷ []) → length entries.now ≤ length blanks → length blanks ≤ room
+        → IsPlanted row.new result.0 result.1 entries.now (length blanks) }
+{
+    let mut root = 0;
+    let mut spare = spare;
     for entry in entries {
-        // There is a spare node for each entry.
-        if let Some(node) = spare.take() {
-            tree = tree.with_last(*entry, node);
-        }
+        let (tree, rest) = added_last(row, root, spare, entry, room);
+        root = tree;
+        spare = rest;
     }
-    tree
+    (root, spare)
 }
 
 // The first place of a cell.

@@ -1,24 +1,35 @@
 //! Memory for entries to come.
 
-ghost use Rattle.std.specs.Prelude.{◌≡◌, ◌+◌, suc, length, IfOk, MatchOption};
+ghost use Rattle.std.specs.Prelude.{ℕ, ◌≡◌, ◌+◌, IfOk};
+ghost use Rattle.rz_index.specs.declared.nodes.Node.{Node};
+ghost use Rattle.rz_index.specs.Standing.{Holds, Tree};
 
-use crate::tree::{Node, Tree, blank};
+use crate::index::Entry;
+use crate::nodes::Node;
+use crate::packed::Packed;
+use rz_events::Key;
+use rz_versions::Versions;
 use std::alloc::{AllocError, Global};
 use std::marker::Model;
-use std::mem;
 
 /// Memory for so many entries to come.
 #[derive(Debug, Drop)]
 pub struct Spare {
-    nodes: Tree,
+    /// Nodes that no entry needs, in a tree. None stands at 0.
+    pub(crate) row: Vec<Node>,
+    pub(crate) link: u32,
+    entries: u32,
 }
 
 impl Model for Spare {
-    ghost use Rattle.std.specs.Prelude.{ℕ, length};
+    ghost use Rattle.std.specs.Prelude.{ℕ};
+    ghost use Rattle.rz_index.specs.Spares.{IsSpare};
 
     ghost Value = { ℕ };
 
-    ghost view = { λ s. length s.nodes };
+    ghost view = { λ s. s.entries };
+
+    ghost invariant = { λ s. IsSpare s.row.items s.link s.entries };
 }
 
 impl Spare {
@@ -26,28 +37,32 @@ impl Spare {
     pub fn with_room(alloc: Global, entries: u32) -> Result<Spare, AllocError>
         ensures { IfOk result (λ s. s ≡ entries) }
     {
-        let mut spare = Spare { nodes: Tree::new() };
-        for _entry in 0..entries {
-            spare.give(Box::new(alloc, Node::blank())?);
+        let mut row = Vec::with_capacity(alloc, entries as usize + 1)?;
+        row.push(node(0))?;
+        for link in 0..entries {
+            row.push(node(link))?;
         }
-        Ok(spare)
+        Ok(Spare {
+            row,
+            link: entries,
+            entries,
+        })
     }
+}
 
-    /// Memory for one entry, where there is any.
-    pub(crate) fn take(&mut self) -> Option<Box<Node>>
-        ensures { MatchOption result ((self.old ≡ 0) × (self.new ≡ 0)) (λ node. self.old ≡ suc self.new) }
-    {
-        let nodes = mem::replace(&mut self.nodes, Tree::new());
-        let (node, rest) = nodes.split_first()?;
-        self.nodes = rest;
-        Some(node)
-    }
-
-    /// Keeps memory for one more entry.
-    pub(crate) fn give(&mut self, node: Box<Node>)
-        ensures { self.new ≡ suc self.old }
-    {
-        let nodes = mem::replace(&mut self.nodes, Tree::new());
-        self.nodes = nodes.with_last(blank(), node);
+// A node of no entry before the node of a link.
+fn node(link: u32) -> Node
+    ensures left { result.left ≡ 0 }
+    ensures right { result.right ≡ link }
+{
+    let entry = Entry {
+        key: Key { fid: 0, block: 0 },
+        cell: 0,
+        versions: Versions::none(),
+    };
+    Node {
+        packed: Packed::new(&entry, 0),
+        left: 0,
+        right: link,
     }
 }

@@ -1,5 +1,8 @@
-use Rattle.std.proofs.Common.{◌≡◌}
+use Rattle.std.proofs.Common.{◌≡◌, ◌+◌, List, [], ◌∷◌, length}
+use Rattle.rz_index.specs.declared.index.Entry.{Entry}
+use Rattle.rz_index.specs.Standing.{Tree, Holds}
 use Rattle.rz_index.proofs.spare.Spare.with_room.Given as goal
 
-abbrev pub invariant-loop-entry : goal.invariant-loop-entry
-invariant-loop-entry l = l.spare ≡ l._entry
+-- the nodes so far stand in a tree, each with those before it behind it
+abbrev pub invariant-loop-link : goal.invariant-loop-link
+invariant-loop-link l = (blanks : List Entry) × (length blanks ≡ l.link) × (length l.row.items ≡ l.link + 1) × Holds l.row.items (Tree l.link blanks ∷ [])
