@@ -1,8 +1,8 @@
 -- What each step keeps of the places.
-use Rattle.std.proofs.Common.{◌≡◌, ◌≢◌, ℕ, suc, refl, sym, ap, ◌∙◌, ◌+◌, ◌-◌, arith, List, [], ◌∷◌, length}
+use Rattle.std.proofs.Common.{◌≡◌, ◌≢◌, ℕ, suc, refl, sym, ap, ◌∙◌, ◌+◌, ◌-◌, ◌≤◌, arith, List, [], ◌∷◌, length}
 use Rattle.mj_inverse.specs.declared.series.Series.{Series}
 use Rattle.mj_inverse.specs.Rows.{Every, Both, Differ}
-use Rattle.mj_inverse.specs.Series.{angle, angles, IsAt, IsNext, KeepsRoom}
+use Rattle.mj_inverse.specs.Series.{angle, angles, AreAt, IsAt, IsNext, KeepsRoom, Meet}
 
 pub next_room : (unit : ℕ) (p : Series) (xs ys : List Series) → Both (IsNext unit p) xs ys → Both KeepsRoom xs ys
 next_room unit p [] [] both = tt
@@ -42,14 +42,15 @@ next_angles unit p (x ∷ xs) [] both = absurd both
 next_angles unit p (x ∷ xs) (y ∷ ys) (n, both) =
     ap (λ a. a + angles ys) n.angle ∙ ap (λ a. x.angle + a) (next_angles unit p xs ys both)
 
-pub next_at : (unit n high most : ℕ) (p : Series) (xs ys : List Series) → IsAt unit (p.angle + n) high most p → Every (IsAt unit (p.angle + n) high most) xs →
-    Both (IsNext unit p) xs ys → Every (IsAt unit n (high - p.angle) most) ys
-next_at unit n high most p [] [] at_p at both = tt
-next_at unit n high most p [] (y ∷ ys) at_p at both = absurd both
-next_at unit n high most p (x ∷ xs) [] at_p at both = absurd both
-next_at unit n high most p (x ∷ xs) (y ∷ ys) at_p (at_x, at) (m, both) = (
+-- the angle of p has been divided out
+pub next_at : (unit n n' high most : ℕ) (p : Series) (xs ys : List Series) → n' ≡ n + p.angle → p.to ≤ p.origin + high → AreAt unit n' high most xs →
+    Both (IsNext unit p) xs ys → AreAt unit n (high - p.angle) most ys
+next_at unit n n' high most p [] [] sum reach at both = tt
+next_at unit n n' high most p [] (y ∷ ys) sum reach at both = absurd both
+next_at unit n n' high most p (x ∷ xs) [] sum reach at both = absurd both
+next_at unit n n' high most p (x ∷ xs) (y ∷ ys) sum reach (at_x, at) (m, both) = (
   one,
-  next_at unit n high most p xs ys at_p at both,
+  next_at unit (n + y.angle) (n' + x.angle) high most p xs ys (let a = m.angle in omega arith) reach at both,
 )
   where
     one : IsAt unit n (high - p.angle) most y
@@ -57,13 +58,30 @@ next_at unit n high most p (x ∷ xs) (y ∷ ys) at_p (at_x, at) (m, both) = (
         let d = at_x.room in
         let j = m.origin in
         let k = m.room in
-        let r = m.reach high at_x.reach at_p.reach in
+        let r = m.reach high at_x.reach reach in
         record {
           is = m.is;
           low = m.low;
           reach = omega arith;
           room = omega arith;
         }
+
+-- each meets p
+pub all_meet : (unit n m high most : ℕ) (p : Series) (xs : List Series) → high ≤ most → 32 ≤ most → IsAt unit m high most p → AreAt unit n high most xs →
+    Every (λ s. Meet unit s p) xs
+all_meet unit n m high most p [] le least at_p at = tt
+all_meet unit n m high most p (x ∷ xs) le least at_p (at_x, at) = (
+  record {
+    first = at_x.is;
+    second = at_p.is;
+    first_low = at_x.low;
+    second_low = at_p.low;
+    own_room = (let a = at_x.room in omega arith);
+    first_room = (let a = at_x.room in let b = at_p.reach in omega arith);
+    second_room = (let a = at_p.room in let b = at_x.reach in omega arith);
+  },
+  all_meet unit (n + x.angle) m high most p xs le least at_p at,
+)
 
 pub same_room : (xs ys zs : List Series) → Both KeepsRoom xs ys → Both KeepsRoom ys zs → Both KeepsRoom xs zs
 same_room [] [] zs a b = b

@@ -16,7 +16,7 @@ use Rattle.mj_angles.proofs.Order.{lifted}
 use Rattle.mj_inverse.specs.Fits.{Pair, Search, IsFound}
 use Rattle.mj_inverse.specs.declared.series.Series.{Series}
 use Rattle.mj_inverse.specs.Rows.{raised, value, cut, block_rows, Every, Both, HaveValues, Differ}
-use Rattle.mj_inverse.specs.Series.{seq, angle, angles, IsAt, IsBlank, IsSeries, IsSpread, KeepsRoom}
+use Rattle.mj_inverse.specs.Series.{seq, angle, angles, AreAt, HaveRoom, IsBlank, IsSpread, KeepsRoom, MaySpread}
 use Rattle.std.proofs.lemmas.Int.{ints}
 use Rattle.mj_inverse.specs.Store.{room_of, IsStore, IsSpare, Distinct, IsGiven, IsFilled, pair_of, pairs_in, search_in, lane_of, lane_pair, lane_search, lane_grid}
 use Rattle.mj_inverse.proofs.Divided.{split, raised_below, raised_at}
@@ -45,77 +45,77 @@ pub every_angle : (unit rows cols : ℕ) (all : List Series) → Every (IsGiven 
 every_angle unit rows cols [] given = tt
 every_angle unit rows cols (s ∷ rest) (g, given) = (g.is.angle, every_angle unit rows cols rest given)
 
-pub can_spread : (unit rows cols high n : ℕ) (all : List Series) → high + n ≤ room_of rows cols → Every (λ s. s.to ≤ high) all → Every (IsGiven unit rows cols) all →
-    Every (λ s. IsSeries unit s × (s.room ≤ high + n) × (unit * (high + n) ≤ vec_capacity s.words)) all
-can_spread unit rows cols high n [] le to given = tt
-can_spread unit rows cols high n (s ∷ rest) le (t, to) (g, given) =
+pub can_spread : (unit rows cols high n : ℕ) (all : List Series) → n + angles all ≤ room_of rows cols → high ≤ n → Every (λ s. s.to ≤ high) all → Every (IsGiven unit rows cols) all →
+    MaySpread unit n all
+can_spread unit rows cols high n [] le more to given = tt
+can_spread unit rows cols high n (s ∷ rest) le more (t, to) (g, given) =
     let full = g.full in
     let capacity = g.capacity in
-    let fits : unit * (high + n) ≤ unit * room_of rows cols = place_le unit (high + n) (room_of rows cols) le in
-    ((g.is, omega arith, omega arith), can_spread unit rows cols high n rest le to given)
+    let sum : n + (s.angle + angles rest) ≤ room_of rows cols = le in
+    let fits : unit * n ≤ unit * room_of rows cols = place_le unit n (room_of rows cols) (omega arith) in
+    ((g.is, omega arith, omega arith), can_spread unit rows cols high (n + s.angle) rest (omega arith) (omega arith) to given)
 
-pub spread_at : (unit rows cols high n : ℕ) (xs ys : List Series) → Every (IsGiven unit rows cols) xs → Every (λ s. s.to ≤ high) xs →
-    Both (IsSpread unit (high + n)) xs ys → Every (IsAt unit n high high) ys
-spread_at unit rows cols high n [] [] given to both = tt
-spread_at unit rows cols high n [] (y ∷ ys) given to both = absurd both
-spread_at unit rows cols high n (x ∷ xs) [] given to both = absurd both
-spread_at unit rows cols high n (x ∷ xs) (y ∷ ys) (g, given) (t, to) (s, both) =
+pub spread_at : (unit rows cols high n m : ℕ) (xs ys : List Series) → m ≡ high + n → Every (IsGiven unit rows cols) xs → Every (λ s. s.to ≤ high) xs →
+    Both (IsSpread unit) xs ys → HaveRoom m ys → AreAt unit n high high ys
+spread_at unit rows cols high n m [] [] sum given to both rooms = tt
+spread_at unit rows cols high n m [] (y ∷ ys) sum given to both rooms = absurd both
+spread_at unit rows cols high n m (x ∷ xs) [] sum given to both rooms = absurd both
+spread_at unit rows cols high n m (x ∷ xs) (y ∷ ys) sum (g, given) (t, to) (s, both) (room, rooms) =
     let o = s.origin in
     let start = g.start in
-    let end = s.to in
-    let room = s.room in (
+    let end = s.to in (
       record { is = s.is; low = omega arith; reach = omega arith; room = omega arith },
-      spread_at unit rows cols high n xs ys given to both,
+      spread_at unit rows cols high (n + y.angle) (m + y.angle) xs ys (omega arith) given to both rooms,
     )
 
-pub spread_angles : (unit room : ℕ) (xs ys : List Series) → Both (IsSpread unit room) xs ys → angles ys ≡ angles xs
-spread_angles unit room [] [] both = refl
-spread_angles unit room [] (y ∷ ys) both = absurd both
-spread_angles unit room (x ∷ xs) [] both = absurd both
-spread_angles unit room (x ∷ xs) (y ∷ ys) (s, both) = ap (λ a. a + angles ys) s.angle ∙ ap (λ a. x.angle + a) (spread_angles unit room xs ys both)
+pub spread_angles : (unit : ℕ) (xs ys : List Series) → Both (IsSpread unit) xs ys → angles ys ≡ angles xs
+spread_angles unit [] [] both = refl
+spread_angles unit [] (y ∷ ys) both = absurd both
+spread_angles unit (x ∷ xs) [] both = absurd both
+spread_angles unit (x ∷ xs) (y ∷ ys) (s, both) = ap (λ a. a + angles ys) s.angle ∙ ap (λ a. x.angle + a) (spread_angles unit xs ys both)
 
-pub spread_length : (unit room : ℕ) (xs ys : List Series) → Both (IsSpread unit room) xs ys → length ys ≡ length xs
-spread_length unit room [] [] both = refl
-spread_length unit room [] (y ∷ ys) both = absurd both
-spread_length unit room (x ∷ xs) [] both = absurd both
-spread_length unit room (x ∷ xs) (y ∷ ys) (s, both) = ap suc (spread_length unit room xs ys both)
+pub spread_length : (unit : ℕ) (xs ys : List Series) → Both (IsSpread unit) xs ys → length ys ≡ length xs
+spread_length unit [] [] both = refl
+spread_length unit [] (y ∷ ys) both = absurd both
+spread_length unit (x ∷ xs) [] both = absurd both
+spread_length unit (x ∷ xs) (y ∷ ys) (s, both) = ap suc (spread_length unit xs ys both)
 
-pub spread_keeps : (unit room : ℕ) (xs ys : List Series) → Both (IsSpread unit room) xs ys → Both KeepsRoom xs ys
-spread_keeps unit room [] [] both = tt
-spread_keeps unit room [] (y ∷ ys) both = absurd both
-spread_keeps unit room (x ∷ xs) [] both = absurd both
-spread_keeps unit room (x ∷ xs) (y ∷ ys) (s, both) = (s.capacity, spread_keeps unit room xs ys both)
+pub spread_keeps : (unit : ℕ) (xs ys : List Series) → Both (IsSpread unit) xs ys → Both KeepsRoom xs ys
+spread_keeps unit [] [] both = tt
+spread_keeps unit [] (y ∷ ys) both = absurd both
+spread_keeps unit (x ∷ xs) [] both = absurd both
+spread_keeps unit (x ∷ xs) (y ∷ ys) (s, both) = (s.capacity, spread_keeps unit xs ys both)
 
-other_spread : (unit room a : ℕ) (xs ys : List Series) → Every (λ x. angle x ≢ a) xs → Both (IsSpread unit room) xs ys → Every (λ y. angle y ≢ a) ys
-other_spread unit room a [] [] differ both = tt
-other_spread unit room a [] (y ∷ ys) differ both = absurd both
-other_spread unit room a (x ∷ xs) [] differ both = absurd both
-other_spread unit room a (x ∷ xs) (y ∷ ys) (ne, differ) (s, both) = (λ e. ne (sym s.angle ∙ e), other_spread unit room a xs ys differ both)
+other_spread : (unit a : ℕ) (xs ys : List Series) → Every (λ x. angle x ≢ a) xs → Both (IsSpread unit) xs ys → Every (λ y. angle y ≢ a) ys
+other_spread unit a [] [] differ both = tt
+other_spread unit a [] (y ∷ ys) differ both = absurd both
+other_spread unit a (x ∷ xs) [] differ both = absurd both
+other_spread unit a (x ∷ xs) (y ∷ ys) (ne, differ) (s, both) = (λ e. ne (sym s.angle ∙ e), other_spread unit a xs ys differ both)
 
-pub spread_differ : (unit room : ℕ) (xs ys : List Series) → Differ angle xs → Both (IsSpread unit room) xs ys → Differ angle ys
-spread_differ unit room [] [] differ both = tt
-spread_differ unit room [] (y ∷ ys) differ both = absurd both
-spread_differ unit room (x ∷ xs) [] differ both = absurd both
-spread_differ unit room (x ∷ xs) (y ∷ ys) (ne, differ) (s, both) =
+pub spread_differ : (unit : ℕ) (xs ys : List Series) → Differ angle xs → Both (IsSpread unit) xs ys → Differ angle ys
+spread_differ unit [] [] differ both = tt
+spread_differ unit [] (y ∷ ys) differ both = absurd both
+spread_differ unit (x ∷ xs) [] differ both = absurd both
+spread_differ unit (x ∷ xs) (y ∷ ys) (ne, differ) (s, both) =
     let P : ℕ → Type 0 = λ a. Every (λ z. angle z ≢ a) xs in
-    (other_spread unit room y.angle xs ys (subst P (sym s.angle) ne) both, spread_differ unit room xs ys differ both)
+    (other_spread unit y.angle xs ys (subst P (sym s.angle) ne) both, spread_differ unit xs ys differ both)
 
 -- the projections stay the same
-pub spread_values : (unit room j : ℕ) (fs : List (ℕ → ℕ)) (xs ys : List Series) → Both (IsSpread unit room) xs ys →
+pub spread_values : (unit j : ℕ) (fs : List (ℕ → ℕ)) (xs ys : List Series) → Both (IsSpread unit) xs ys →
     HaveValues angle (seq unit j) fs xs → HaveValues angle (seq unit j) fs ys
-spread_values unit room j fs [] [] both values = tt
-spread_values unit room j fs [] (y ∷ ys) both values = absurd both
-spread_values unit room j fs (x ∷ xs) [] both values = absurd both
-spread_values unit room j fs (x ∷ xs) (y ∷ ys) (s, both) (v, values) =
-    (ap (λ a. value a fs) s.angle ∙ v ∙ sym (s.words j), spread_values unit room j fs xs ys both values)
+spread_values unit j fs [] [] both values = tt
+spread_values unit j fs [] (y ∷ ys) both values = absurd both
+spread_values unit j fs (x ∷ xs) [] both values = absurd both
+spread_values unit j fs (x ∷ xs) (y ∷ ys) (s, both) (v, values) =
+    (ap (λ a. value a fs) s.angle ∙ v ∙ sym (s.words j), spread_values unit j fs xs ys both values)
 
-pub values_spread : (unit room j : ℕ) (fs : List (ℕ → ℕ)) (xs ys : List Series) → Both (IsSpread unit room) xs ys →
+pub values_spread : (unit j : ℕ) (fs : List (ℕ → ℕ)) (xs ys : List Series) → Both (IsSpread unit) xs ys →
     HaveValues angle (seq unit j) fs ys → HaveValues angle (seq unit j) fs xs
-values_spread unit room j fs [] [] both values = tt
-values_spread unit room j fs [] (y ∷ ys) both values = absurd both
-values_spread unit room j fs (x ∷ xs) [] both values = absurd both
-values_spread unit room j fs (x ∷ xs) (y ∷ ys) (s, both) (v, values) =
-    (ap (λ a. value a fs) (sym s.angle) ∙ v ∙ s.words j, values_spread unit room j fs xs ys both values)
+values_spread unit j fs [] [] both values = tt
+values_spread unit j fs [] (y ∷ ys) both values = absurd both
+values_spread unit j fs (x ∷ xs) [] both values = absurd both
+values_spread unit j fs (x ∷ xs) (y ∷ ys) (s, both) (v, values) =
+    (ap (λ a. value a fs) (sym s.angle) ∙ v ∙ s.words j, values_spread unit j fs xs ys both values)
 
 module _ (unit rows cols j : ℕ) (s : Series) (h : j < unit) (given : IsGiven unit rows cols s) (w : ℕ → ℕ) where
   f : ℕ → ℕ → ℕ

@@ -24,12 +24,17 @@ pub record IsSeries (unit : ℕ) (s : Series) : Type 0 where
   pub below : (t j : ℕ) → t < s.from → j < unit → slice_index s.words.items (unit * t + j) ≡ 0
   pub above : (t j : ℕ) → s.to ≤ t → j < unit → slice_index s.words.items (unit * t + j) ≡ 0
 
--- angles of n together may yet be divided out, and so many places are used
+-- angles of n together may yet be divided out of it, and so many places are used
 pub record IsAt (unit n high most : ℕ) (s : Series) : Type 0 where
   pub is : IsSeries unit s
   pub low : s.origin ≤ s.from
   pub reach : s.to ≤ s.origin + high
   pub room : s.origin + most + n ≤ s.room
+
+-- the first may have angles of n together divided out of it, and each of the others those of the series before it too
+abbrev pub AreAt : ℕ → ℕ → ℕ → ℕ → List Series → Type 0
+AreAt unit n high most [] = Unit {0}
+AreAt unit n high most (s ∷ rest) = IsAt unit n high most s × AreAt unit (n + s.angle) high most rest
 
 -- the two series can be brought together
 pub record Meet (unit : ℕ) (x y : Series) : Type 0 where
@@ -63,15 +68,24 @@ abbrev pub KeepsRoom : Series → Series → Type 0
 KeepsRoom x y = vec_capacity x.words ≤ vec_capacity y.words
 
 -- y is x with more places, whose words are zero
-pub record IsSpread (unit n : ℕ) (x y : Series) : Type 0 where
+pub record IsSpread (unit : ℕ) (x y : Series) : Type 0 where
   pub is : IsSeries unit y
-  pub room : y.room ≡ n
   pub capacity : vec_capacity x.words ≤ vec_capacity y.words
   pub angle : y.angle ≡ x.angle
   pub origin : y.origin ≡ x.origin
   pub from : y.from ≡ x.from
   pub to : y.to ≡ x.to
   pub words : (j : ℕ) → seq unit j y ≡ seq unit j x
+
+-- the first can have n places, and each of the others as many more as the angles before it
+abbrev pub MaySpread : ℕ → ℕ → List Series → Type 0
+MaySpread unit n [] = Unit {0}
+MaySpread unit n (s ∷ rest) = (IsSeries unit s × (s.room ≤ n) × (unit * n ≤ vec_capacity s.words)) × MaySpread unit (n + s.angle) rest
+
+-- they have so many places
+abbrev pub HaveRoom : ℕ → List Series → Type 0
+HaveRoom n [] = Unit {0}
+HaveRoom n (s ∷ rest) = (s.room ≡ n) × HaveRoom (n + s.angle) rest
 
 -- y is x without some places at its ends, whose words are zero
 pub record IsTrimmed (unit : ℕ) (x y : Series) : Type 0 where

@@ -2,7 +2,7 @@
 
 ghost use Rattle.std.specs.Prelude.{◌≡◌, ◌≢◌, ◌≤◌, ◌<◌, ◌+◌, ◌-◌, ◌*◌, ◌^◌, ℕ, List, ◌∷◌, length, map, slice_index};
 ghost use Rattle.mj_inverse.specs.Rows.{joined, IsFinite, Every, Both, HaveValues, Differ, IsDividedOut, Divides, block_rows};
-ghost use Rattle.mj_inverse.specs.Series.{seq, angle as angle_of, angles, IsAt, IsWide, IsNext, IsUnmarked, IsBlank, KeepsRoom, Meet};
+ghost use Rattle.mj_inverse.specs.Series.{seq, angle as angle_of, angles, AreAt, IsWide, IsNext, IsUnmarked, IsBlank, KeepsRoom, Meet};
 
 use crate::series::Series;
 
@@ -74,7 +74,7 @@ fn join(
 
 /// Makes the rows of each block out of its projections, and marks the blocks that have none.
 pub fn invert(all: &mut [Series], unit: usize, bad: &mut [u64], high: usize, most: usize)
-    requires at { Every (IsAt unit (angles all.old) high most) all.old }
+    requires at { AreAt unit 0 high most all.old }
     requires differ { Differ angle_of all.old }
     requires high { angles all.old ≤ high }
     requires room { high ≤ most }
@@ -145,7 +145,7 @@ pub fn solve(
     high: usize,
     most: usize,
 )
-    requires at { Every (IsAt unit (angles all.old) high most) all.old }
+    requires at { AreAt unit 0 high most all.old }
     requires differ { Differ angle_of all.old }
     requires high { angles all.old ≤ high }
     requires room { high ≤ most }

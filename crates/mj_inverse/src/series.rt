@@ -199,7 +199,8 @@ impl Series {
         requires is { IsSeries unit self.old }
         requires more { self.old.room ≤ room }
         requires capacity { unit * room ≤ vec_capacity self.old.words }
-        ensures { IsSpread unit room self.old self.new }
+        ensures spread { IsSpread unit self.old self.new }
+        ensures room { self.new.room ≡ room }
     {
         add_zeros(&mut self.words, unit * room);
         self.room = room;

@@ -1,12 +1,12 @@
 //! The series of a work: the first ones have a projection each, and the others are blank.
 
-ghost use Rattle.std.specs.Prelude.{◌≡◌, ◌≢◌, ◌≤◌, ◌<◌, ◌+◌, ◌*◌, ◌++◌, ◌∷◌, [], ℕ, IfOk, length, unsigned_abs, slice_index, vec_len, vec_capacity};
+ghost use Rattle.std.specs.Prelude.{◌≡◌, ◌≢◌, ◌≤◌, ◌<◌, ◌+◌, ◌*◌, ◌^◌, ◌++◌, ◌∷◌, [], ℕ, IfOk, length, unsigned_abs, slice_index, vec_len};
 ghost use Rattle.rz_words.specs.Grid.{Grid, IsShape};
 ghost use Rattle.mj_angles.specs.Projection.{bins as bin_count};
 ghost use Rattle.mj_inverse.specs.Fits.{IsFound};
 ghost use Rattle.mj_inverse.specs.Rows.{Both, Differ, Every, HaveValues, block_rows};
 ghost use Rattle.mj_inverse.specs.Padded.{IsPadded, reach_of, width_of};
-ghost use Rattle.mj_inverse.specs.Series.{seq, angle as angle_of, angles, IsSeries, IsSpread, IsUnmarked};
+ghost use Rattle.mj_inverse.specs.Series.{seq, angle as angle_of, angles, HaveRoom, IsSpread, IsUnmarked, MaySpread};
 ghost use Rattle.mj_inverse.specs.Store.{IsFilled, pairs_in, search_in, lane_search, lane_grid};
 
 use crate::invert::solve;
@@ -111,16 +111,20 @@ fn reach(all: &[Series], least: usize, most: usize) -> usize
     }
 }
 
-/// Makes `room` places in each series.
+/// Makes `room` places in the first series, and in each of the others as many more as the angles before it,
+/// which it may yet be divided by.
 fn spread_all(all: &mut [Series], unit: usize, room: usize)
-    requires { Every (λ s. IsSeries unit s × (s.room ≤ room) × (unit * room ≤ vec_capacity s.words)) all.old }
-    ensures { Both (IsSpread unit room) all.old all.new }
+    requires may { MaySpread unit room all.old }
+    requires limit { room + angles all.old < 2 ^ 32 }
+    ensures spread { Both (IsSpread unit) all.old all.new }
+    ensures room { HaveRoom room all.new }
 {
     match all.split_first_mut() {
         None => {}
         Some((first, rest)) => {
             first.spread(unit, room);
-            spread_all(rest, unit, room);
+            let more = room + first.angle;
+            spread_all(rest, unit, more);
         }
     }
 }
@@ -151,7 +155,7 @@ pub fn solve_all(
     let total = total_angle(all);
     let least = total.max(16 * rows + cols + 16);
     let high = reach(all, least, 32 * rows + cols);
-    spread_all(all, unit, high + total);
+    spread_all(all, unit, high);
     solve(all, 0, cols, unit, out, bad, high, high);
 }
 

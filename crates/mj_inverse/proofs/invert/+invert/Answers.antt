@@ -1,10 +1,10 @@
 use Rattle.std.proofs.Common.{rules, arith, ◌≡◌, ◌<◌, ◌+◌, ◌-◌, ℕ, suc, List, ◌∷◌, length, map, sym, ap, ◌∙◌, subst}
 use Rattle.mj_inverse.specs.declared.series.Series.{Series}
 use Rattle.mj_inverse.specs.Rows.{joined, IsFinite, Every, Both, HaveValues, Differ, IsDividedOut}
-use Rattle.mj_inverse.specs.Series.{seq, angle, angles, IsAt, IsUnmarked, KeepsRoom}
+use Rattle.mj_inverse.specs.Series.{seq, angle, angles, AreAt, IsUnmarked, KeepsRoom}
 use Rattle.mj_inverse.proofs.Divided.{quotient}
 use Rattle.mj_inverse.proofs.Steps.{Left, joined_values, left_of, left_divides, left_values}
-use Rattle.mj_inverse.proofs.Levels.{next_room, next_length, next_differ, next_angles, next_at, same_room}
+use Rattle.mj_inverse.proofs.Levels.{next_room, next_length, next_differ, next_angles, next_at, all_meet, same_room}
 use Rattle.mj_inverse.proofs.invert.+invert.Goals as goal
 
 -- what rows leave, where they have the projections all, which are p and rest
@@ -12,6 +12,15 @@ left : (s : Series → ℕ → ℕ) (all : List Series) (p : Series) (rest : Lis
     Every IsFinite fs → HaveValues angle s fs all → Left angle s p rest fs (quotient p.angle fs)
 left s all p rest e fs long finite values =
     left_of angle s p rest fs (long ∙ ap length e) finite (let P : List Series → Type 0 = λ xs. HaveValues angle s fs xs in subst P e values)
+
+pub divide_all-requires-clause-meet : goal.divide_all-requires-clause-meet
+divide_all-requires-clause-meet t c =
+    let p : Series = c.in-Some.pivot.now in
+    let xs : List Series = c.in-Some.rest.now in
+    let e : c.args.all.now ≡ p ∷ xs = search rules in
+    let at : AreAt c.args.unit 0 c.args.high c.args.most (p ∷ xs) =
+    (let P : List Series → Type 0 = λ zs. AreAt c.args.unit 0 c.args.high c.args.most zs in subst P e c.requires.at) in
+    all_meet c.args.unit (0 + p.angle) 0 c.args.high c.args.most p xs c.requires.room c.requires.least at.0 at.1
 
 pub invert-requires : goal.invert-requires
 invert-requires t c =
@@ -23,12 +32,11 @@ invert-requires t c =
     let n : length c.args.all.now ≡ suc (length ys) = ap length e ∙ ap suc (sym (next_length u p xs ys c.divide_all.ensures.next)) in
     let sum : angles ys ≡ angles xs = next_angles u p xs ys c.divide_all.ensures.next in
     let total : angles c.args.all.now ≡ p.angle + angles xs = ap angles e in
-    let at : Every (IsAt u (p.angle + angles xs) c.args.high c.args.most) (p ∷ xs) =
-    (let P : List Series → Type 0 = λ zs. Every (IsAt u (angles zs) c.args.high c.args.most) zs in subst P e c.requires.at) in
+    let at : AreAt u 0 c.args.high c.args.most (p ∷ xs) =
+    (let P : List Series → Type 0 = λ zs. AreAt u 0 c.args.high c.args.most zs in subst P e c.requires.at) in
     let differ : Differ angle (p ∷ xs) = (let P : List Series → Type 0 = λ zs. Differ angle zs in subst P e c.requires.differ) in
-    let next : Every (IsAt u (angles ys) (c.args.high - p.angle) c.args.most) ys =
-    (let P : ℕ → Type 0 = λ n. Every (IsAt u n (c.args.high - p.angle) c.args.most) ys in
-    subst P (sym sum) (next_at u (angles xs) c.args.high c.args.most p xs ys at.0 at.1 c.divide_all.ensures.next)) in
+    let next : AreAt u 0 (c.args.high - p.angle) c.args.most ys =
+    next_at u 0 (0 + p.angle) c.args.high c.args.most p xs ys (omega arith) at.0.reach at.1 c.divide_all.ensures.next in
     let high = c.requires.high in
     let room = c.requires.room in
     let fall : length ys < length c.args.all.now = omega arith in (

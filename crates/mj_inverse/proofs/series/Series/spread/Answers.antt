@@ -9,8 +9,8 @@ add_zeros-requires-clause-more c =
     let more = place_le c.args.unit c.args.self.now.room c.args.room c.requires.more in
     omega arith
 
-pub returns : goal.returns
-returns c =
+pub returns-clause-spread : goal.returns-clause-spread
+returns-clause-spread c =
     let u : ℕ = c.args.unit in
     let is = c.requires.is in
     record {
@@ -23,7 +23,6 @@ returns c =
         below = λ t j h l. c.add_zeros.ensures.same (u * t + j) ∙ is.below t j h l;
         above = λ t j h l. c.add_zeros.ensures.same (u * t + j) ∙ is.above t j h l;
       };
-      room = refl;
       capacity = c.add_zeros.ensures.capacity;
       angle = refl;
       origin = refl;
