@@ -1,6 +1,5 @@
 -- The series of a work and the pairs that contracts see.
 use Rattle.std.proofs.Common.{◌≡◌, ◌≢◌, ℕ, zero, suc, ◌+◌, ◌-◌, ◌*◌, ◌<◌, ◌≤◌, refl, sym, ap, ◌∙◌, subst, arith, rules, ◌⊎◌, inl, inr, List, [], ◌∷◌, ◌++◌, length, get_or, take, drop, map, reverse, ℤ, pos, vec_len}
-use Rattle.std.specs.Prelude.{vec_capacity}
 use Rattle.std.specs.Prelude.{negsuc, unsigned_abs, All, slice_range}
 use Rattle.std.proofs.Math.Nat.{mul-le-mul_right}
 use Rattle.std.proofs.lemmas.Bool.{cases_lt}

@@ -1,4 +1,4 @@
-use Rattle.std.proofs.Common.{rules, arith, ◌≡◌, ◌*◌, ◌+◌, get_or}
+use Rattle.std.proofs.Common.{rules, arith, ◌≡◌, get_or}
 use Rattle.mj_inverse.proofs.Trimmed.{zero_up}
 use Rattle.mj_inverse.proofs.ends.first_used.Goals as goal
 

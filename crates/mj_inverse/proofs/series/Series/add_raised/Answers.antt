@@ -1,5 +1,5 @@
 use Rattle.std.proofs.Common.{arith, ◌≤◌, ◌+◌, ◌-◌, ◌*◌, ℕ, get_or, ◌∙◌}
-use Rattle.mj_inverse.proofs.Places.{IsAdded, added_raised, added_zero}
+use Rattle.mj_inverse.proofs.Places.{added_raised, added_zero}
 use Rattle.mj_inverse.proofs.Taken.{place_below, place_le}
 use Rattle.mj_inverse.proofs.Lanes.{lane, place_span, lane_added, IsFlatAdded}
 use Rattle.mj_inverse.proofs.series.Series.add_raised.Goals as goal
