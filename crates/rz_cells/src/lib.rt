@@ -26,6 +26,7 @@ mod cells;
 mod copying;
 mod formatting;
 mod geometry;
+mod heads;
 mod judging;
 mod migrating;
 mod old;
