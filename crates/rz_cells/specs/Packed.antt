@@ -15,10 +15,17 @@ abbrev pub head_at : Key → Slot → Option Head
 head_at key s =
     if s.is_held then Some record { stamp = s.stamp; key = key; layout = s.layout; bsize = s.bsize; position = s.position; length = s.length; base = s.base } else None
 
+-- what stands in the first cell of a pair, and in the second
+abbrev pub zero_in : Pair → Option Head
+zero_in p = head_at (key_in p) p.zero
+
+abbrev pub one_in : Pair → Option Head
+one_in p = head_at (key_in p) p.one
+
 -- the heads of pairs, in the order of the cells
 unfoldable pub heads_in : List Pair → List (Option Head)
 heads_in [] = []
-heads_in (p ∷ ps) = head_at (key_in p) p.zero ∷ head_at (key_in p) p.one ∷ heads_in ps
+heads_in (p ∷ ps) = zero_in p ∷ one_in p ∷ heads_in ps
 
 -- the other cell of the pair is empty or holds the same key
 abbrev pub FitsPair : List (Option Head) → ℕ → Option Head → Type 0

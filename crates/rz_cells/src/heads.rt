@@ -1,9 +1,9 @@
 //! The heads of cells, in little room.
-ghost use Rattle.std.specs.Prelude.{◌≡◌, ◌*◌, ◌<◌, ◌≤◌, ℕ, IfOk, Some, None, length, slice_set};
+ghost use Rattle.std.specs.Prelude.{◌≡◌, ◌*◌, ◌<◌, ℕ, IfOk, Some, None, length, slice_set};
 ghost use Rattle.rz_events.specs.declared.keys.Key.{Key};
 ghost use Rattle.rz_events.specs.declared.records.Head.{Head};
 ghost use Rattle.rz_cells.specs.Held.{in_cell};
-ghost use Rattle.rz_cells.specs.Packed.{FitsPair, head_at, heads_in, key_in};
+ghost use Rattle.rz_cells.specs.Packed.{FitsPair, head_at, key_in, one_in, zero_in};
 
 use rz_events::{Head, Key, Layout};
 use std::alloc::{AllocError, Global};
@@ -104,18 +104,13 @@ impl Heads {
         ensures { self.new ≡ slice_set self.old cell head.now }
     {
         let index = cell as usize / 2;
-        let mut pair = self.pairs[index];
-        if let Some(head) = head {
-            pair.fid_high = (head.key.fid / HALF) as u64;
-            pair.fid_low = (head.key.fid % HALF) as u64;
-            pair.block = head.key.block;
-        }
         if cell % 2 == 0 {
-            pair.zero = slot_of(head);
+            let pair = with_zero(&self.pairs[index], head);
+            self.pairs[index] = pair;
         } else {
-            pair.one = slot_of(head);
+            let pair = with_one(&self.pairs[index], head);
+            self.pairs[index] = pair;
         }
-        self.pairs[index] = pair;
     }
 
     /// Empties all cells.
@@ -127,13 +122,55 @@ impl Heads {
     }
 }
 
-/// The key of a pair.
+/// The pair with another head in its first cell, or with none there.
+fn with_zero(pair: &Pair, head: &Option<Head>) -> Pair
+    requires { (h k : Head) → head.now ≡ Some h → one_in pair.now ≡ Some k → k.key ≡ h.key }
+    ensures zero { zero_in result ≡ head.now }
+    ensures one { one_in result ≡ one_in pair.now }
+{
+    pair_of(key_beside(pair, head), slot_of(head), pair.one)
+}
+
+/// The pair with another head in its second cell, or with none there.
+fn with_one(pair: &Pair, head: &Option<Head>) -> Pair
+    requires { (h k : Head) → head.now ≡ Some h → zero_in pair.now ≡ Some k → k.key ≡ h.key }
+    ensures zero { zero_in result ≡ zero_in pair.now }
+    ensures one { one_in result ≡ head.now }
+{
+    pair_of(key_beside(pair, head), pair.zero, slot_of(head))
+}
+
+fn pair_of(key: Key, zero: Slot, one: Slot) -> Pair
+    ensures key { key_in result ≡ key }
+    ensures zero { result.zero ≡ zero }
+    ensures one { result.one ≡ one }
+{
+    Pair {
+        fid_high: (key.fid / HALF) as u64,
+        fid_low: (key.fid % HALF) as u64,
+        block: key.block,
+        zero,
+        one,
+    }
+}
+
 fn key_of(pair: &Pair) -> Key
     ensures { result ≡ key_in pair.now }
 {
     Key {
         fid: pair.fid_high as u128 * HALF + pair.fid_low as u128,
         block: pair.block,
+    }
+}
+
+/// The head's key, or without a head the pair's.
+fn key_beside(pair: &Pair, head: &Option<Head>) -> Key
+    ensures some { (h : Head) → head.now ≡ Some h → result ≡ h.key }
+    ensures none { head.now ≡ None → result ≡ key_in pair.now }
+{
+    match head {
+        Some(head) => head.key,
+        None => key_of(pair),
     }
 }
 
@@ -156,10 +193,10 @@ fn head_of(key: Key, slot: &Slot) -> Option<Head>
     }
 }
 
-/// A head without its key.
+/// A head without its key, or that there is none.
 fn slot_of(head: &Option<Head>) -> Slot
-    ensures some { (h : Head) → head.now ≡ Some h → head_at h.key result ≡ Some h }
-    ensures none { head.now ≡ None → (key : Key) → head_at key result ≡ None }
+    ensures some { (h : Head) → head.now ≡ Some h → head_at h.key result ≡ head.now }
+    ensures none { (key : Key) → head.now ≡ None → head_at key result ≡ head.now }
 {
     match head {
         Some(head) => Slot {

@@ -7,14 +7,20 @@ use Rattle.rz_cells.specs.Old.{paired}
 use Rattle.rz_cells.proofs.Pairs.{paired_even, paired_long, paired_odd}
 use Rattle.rz_cells.proofs.copying.pair_up.Goals as goal
 
+pub set-requires-clause-key : goal.set-requires-clause-key
+set-requires-clause-key c h k d is ne pair there =
+    let le : 2 * c.loop-cell.cell ≤ d = omega (arith, ne, pair) in
+    let none : None ≡ Some k = sym (c.loop-cell.invariant.rest d le) ∙ there in
+    absurd (cc)
+
 pub loop-cell-preserved : goal.loop-cell-preserved
 loop-cell-preserved c =
     let heads = c.args.heads.now in
-    let pairs = c.loop-cell.pairs.items in
+    let pairs = c.loop-cell.pairs in
     let k = c.loop-cell.cell in
     let i = c.loop-cell.invariant in
     let x = in_cell heads k in
-    let in_range : 2 * c.loop-cell.cell < length c.loop-cell.pairs.items = omega (arith, i.count, c.loop-cell-test.true) in
+    let in_range : 2 * c.loop-cell.cell < length c.loop-cell.pairs = omega (arith, i.count, c.loop-cell-test.true) in
     record {
       count = length-set pairs (2 * k) x ∙ i.count;
       done = λ d lt. ⊎_elim
@@ -32,4 +38,4 @@ loop-cell-preserved c =
 pub returns : goal.returns
 returns c =
     let i = c.loop-cell.invariant in
-    ext_get_or None c.loop-cell.pairs.items (paired c.args.heads.now) (i.count ∙ sym (paired_long c.args.heads.now)) (λ d lt. i.done d (omega (arith, lt, i.count, c.loop-cell-test.false)))
+    ext_get_or None c.loop-cell.pairs (paired c.args.heads.now) (i.count ∙ sym (paired_long c.args.heads.now)) (λ d lt. i.done d (omega (arith, lt, i.count, c.loop-cell-test.false)))

@@ -41,7 +41,7 @@ pub returns-clause-open : goal.returns-clause-open
 returns-clause-open g c =
     let s = c.args.geometry.now in
     let fence = c.in_ok-fence.fence in
-    let heads = c.in_ok-heads.heads.items in
+    let heads = c.in_ok-heads.heads in
     let out = c.read.new.out in
     let text = g.D.Disk.text c.args.disk.now in
     let end = g.D.Disk.text c.read_heads.new.disk in
