@@ -16,14 +16,12 @@ use Rattle.rz_cells.specs.declared.geometry.Geometry.{Geometry}
 use Rattle.rz_cells.specs.declared.geometry.Version.{Version}
 use Rattle.rz_cells.specs.declared.geometry.Version.TheVariants.{Two}
 use Rattle.rz_cells.specs.Held.{in_cell}
-use Rattle.rz_cells.specs.Packed.{FitsPair}
 use Rattle.rz_cells.specs.Shape.{picked, slot_at, slot_of, disk_bytes, gate_at}
 use Rattle.rz_cells.specs.Stands.{IsHeaderOf, IsFormatted}
 use Rattle.rz_cells.specs.Open.{Knows}
 use Rattle.rz_cells.specs.Opening.{Agrees, CellFault, CellRefused, CellsFault, FieldFault, FineTo, FitTo, GoesNext, HeaderFault, ReadTo, ReadsHead, Refuses, Unreadable, Wrong, value_at}
 use Rattle.rz_cells.proofs.Slots.{picked_is, slot_within}
 use Rattle.rz_cells.proofs.Lifts.{slot_long}
-use Rattle.rz_cells.proofs.Refused.{key_cases}
 
 -- what was read from the front of a text begins as the text does
 pub read_front : (n : ℕ) (header text : List ℕ) → header ≡ window 0 n text → take n header ≡ take n text
@@ -150,16 +148,6 @@ module _ (g : Geometry) (heads : List (Option Head)) (k : ℕ) (o : Option Head)
       (λ (at : c ≡ k). subst (λ (d : ℕ). ReadsHead g (picked g text d) (in_cell (set heads k o) d)) (sym at) (subst (λ (p : Option Head). ReadsHead g (picked g text k) p) (sym here) is))
       (λ (ne : c ≢ k). subst (λ (p : Option Head). ReadsHead g (picked g text c) p) (sym (other c ne)) (reads c (omega arith)))
       (cases_eq c k)
-
--- beside an earlier head stands one of its key, and a later cell is empty
-pub fits_next : (g : Geometry) (heads : List (Option Head)) (k : ℕ) (o : Option Head) → FitTo g heads k → ((h : Head) → o ≡ Some h → GoesNext heads k h) → FitsPair heads k o
-fits_next g heads k o fits goes h q d is ne pair there = ⊎_elim
-    (λ (below : d < k). ⊎_elim
-    (λ (same : q.key ≡ h.key). same)
-    (λ (other : q.key ≢ h.key). absurd ((goes h is).no_other d q record { earlier = below; is = there; pair = pair; other = other }))
-    (key_cases q.key h.key))
-    (λ (le : k ≤ d). let none : None ≡ Some q = sym (fits.past d le) ∙ there in absurd (cc))
-    (cases_lt d k)
 
 -- a cell that was not read
 pub cell_fault : (g : Geometry) (text : List ℕ) (heads : List (Option Head)) (k : ℕ) → FineTo g text heads k → k < 2 * g.cells → (e : OpenFault) → CellFault g text k e → CellsFault g text e

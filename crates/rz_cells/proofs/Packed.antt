@@ -1,11 +1,11 @@
 -- Where the heads of pairs stand in the list of all.
-use Rattle.std.proofs.Common.{zero, suc, ◌≡◌, ◌⊎◌, inl, inr, ⊎_elim, ℕ, ◌+◌, ◌*◌, ◌<◌, Bool, true, false, if◌then◌else◌, Option, Some, None, List, [], ◌∷◌, length, get_or, set, replicate, refl, sym, ◌∙◌, ap, arith}
+use Rattle.std.proofs.Common.{zero, suc, ◌≡◌, ℕ, ◌+◌, ◌*◌, ◌<◌, Bool, true, false, if◌then◌else◌, Option, Some, None, List, [], ◌∷◌, length, get_or, set, replicate, refl, sym, ◌∙◌, ap, arith}
 use Rattle.rz_events.specs.declared.keys.Key.{Key}
 use Rattle.rz_events.specs.declared.records.Head.{Head}
 use Rattle.rz_cells.specs.declared.heads.Pair.{Pair}
 use Rattle.rz_cells.specs.declared.heads.Slot.{Slot}
 use Rattle.rz_cells.specs.Held.{in_cell}
-use Rattle.rz_cells.specs.Packed.{FitsPair, head_at, heads_in, key_in, one_in, zero_in}
+use Rattle.rz_cells.specs.Packed.{FitsPair, head_at, heads_in, one_in, zero_in}
 
 pub heads_long : (ps : List Pair) → length (heads_in ps) ≡ 2 * length ps
 unfolding heads_in

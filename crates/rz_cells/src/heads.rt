@@ -8,6 +8,7 @@ ghost use Rattle.rz_cells.specs.Packed.{FitsPair, head_at, key_in, one_in, zero_
 use rz_events::{Head, Key, Layout};
 use std::alloc::{AllocError, Global};
 use std::marker::Model;
+use std::mem::size_of;
 
 /// So many numbers has one half of a file's number.
 const HALF: u128 = 1 << 64;
@@ -34,6 +35,8 @@ pub struct Pair {
     pub zero: Slot,
     pub one: Slot,
 }
+
+const _: () = prove!(size_of::<Pair>() == 72);
 
 const EMPTY: Slot = Slot {
     stamp: 0,

@@ -1,4 +1,4 @@
-use Rattle.std.proofs.Common.{◌≡◌, sym, ◌∙◌, ap}
+use Rattle.std.proofs.Common.{◌∙◌, ap}
 use Rattle.rz_events.specs.declared.keys.Key.{Key}
 use Rattle.rz_cells.specs.declared.heads.Slot.{Slot}
 use Rattle.rz_cells.specs.Packed.{head_at, key_in}

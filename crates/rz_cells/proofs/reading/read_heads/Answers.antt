@@ -6,8 +6,8 @@ use Rattle.rz_cells.specs.Opening.{CellsFault, FitTo, KnowsFirsts, ReadTo, Reads
 use Rattle.rz_disk.specs.Meter.{Took}
 use Rattle.rz_disk.proofs.Passes.{took_then}
 use Rattle.rz_cells.proofs.Meters.{read_then, went, took_nothing, took_under, took_up_to}
-use Rattle.rz_cells.proofs.Firsts.{firsts_start}
-use Rattle.rz_cells.proofs.Opened.{fine_of, fit_more, fit_none, fits_next, read_more, wrong_fault}
+use Rattle.rz_cells.proofs.Firsts.{firsts_start, fits_next}
+use Rattle.rz_cells.proofs.Opened.{fine_of, fit_more, fit_none, read_more, wrong_fault}
 use Rattle.rz_cells.proofs.reading.read_heads.Goals as goal
 
 pub loop-cell-init : goal.loop-cell-init

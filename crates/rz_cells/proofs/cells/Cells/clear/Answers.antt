@@ -1,5 +1,5 @@
 -- Eight zeros spell no record.
-use Rattle.std.proofs.Common.{◌≡◌, ℕ, ◌-◌, ◌%◌, Option, Some, None, List, set, sym, subst, arith}
+use Rattle.std.proofs.Common.{◌≡◌, ◌-◌, ◌%◌, Option, Some, None, List, set, sym, subst, arith}
 use Rattle.rz_events.specs.declared.records.Head.{Head}
 use Rattle.rz_record.specs.Slot.{Rec}
 use Rattle.rz_cells.specs.Open.{IsOpen}

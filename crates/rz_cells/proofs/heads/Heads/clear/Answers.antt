@@ -1,5 +1,4 @@
-use Rattle.std.proofs.Common.{◌≡◌, ℕ, ◌*◌, None, replicate, length, vec_len, List, refl, sym, ◌∙◌, ap, arith}
-use Rattle.rz_events.specs.declared.records.Head.{Head}
+use Rattle.std.proofs.Common.{◌≡◌, ℕ, ◌*◌, replicate, length, vec_len, List, refl, sym, ◌∙◌, ap, arith}
 use Rattle.rz_cells.specs.declared.heads.Pair.{Pair}
 use Rattle.rz_cells.specs.Held.{in_cell}
 use Rattle.rz_cells.specs.Packed.{heads_in}

@@ -1,7 +1,6 @@
-use Rattle.std.proofs.Common.{◌≡◌, ℕ, ◌+◌, ◌*◌, ◌/◌, ◌<◌, Option, List, length, get_or, sym, ◌∙◌, ap, arith}
+use Rattle.std.proofs.Common.{◌≡◌, ℕ, ◌+◌, ◌*◌, ◌/◌, ◌<◌, Option, List, length, sym, ◌∙◌, ap, arith}
 use Rattle.rz_events.specs.declared.keys.Key.{Key}
 use Rattle.rz_events.specs.declared.records.Head.{Head}
-use Rattle.rz_cells.specs.declared.heads.Pair.{Pair}
 use Rattle.rz_cells.specs.Held.{in_cell}
 use Rattle.rz_cells.specs.Packed.{head_at, heads_in, one_in, zero_in}
 use Rattle.rz_cells.proofs.Packed.{heads_even, heads_long, heads_odd}

@@ -1,5 +1,4 @@
-use Rattle.std.proofs.Common.{◌≡◌, ℕ, ◌*◌, None, replicate, length, List, refl, ◌∙◌, ap, arith}
-use Rattle.std.proofs.lemmas.List.{length-replicate}
+use Rattle.std.proofs.Common.{◌≡◌, replicate, List, refl, ◌∙◌, ap, arith}
 use Rattle.rz_cells.specs.declared.heads.Pair.{Pair}
 use Rattle.rz_cells.specs.Held.{in_cell}
 use Rattle.rz_cells.specs.Packed.{heads_in}
