@@ -61,9 +61,9 @@ impl<D: Disk> Node<D> {
 
 /// The cell of the record of a key with this stamp, and its head.
 fn record_at<D: Disk>(index: &Index, cells: &Cells<D>, key: Key, stamp: u64) -> Option<(u32, Head)>
-    requires { IsTied cells.now.geometry.cells cells.now.heads.items index.now }
-    ensures found { option_map (λ p. record_of p.1) result ≡ found stamp (held_of (held_by index.now.entries cells.now.heads.items) key) }
-    ensures there { IfSome result (λ p. IsThere cells.now.geometry.cells cells.now.heads.items key p.0 p.1) }
+    requires { IsTied cells.now.geometry.cells cells.now.heads index.now }
+    ensures found { option_map (λ p. record_of p.1) result ≡ found stamp (held_of (held_by index.now.entries cells.now.heads) key) }
+    ensures there { IfSome result (λ p. IsThere cells.now.geometry.cells cells.now.heads key p.0 p.1) }
 {
     let Some(entry) = index.find(key) else {
         return None;

@@ -160,8 +160,8 @@ fn put_in<D: Disk>(
     head: &Head,
     bins: &[u64],
 ) -> Result<(), DiskFault>
-    requires open { IsOpen D.tells (D.text cells.old.disk) (D.image cells.old.disk) cells.old.geometry cells.old.fence cells.old.gates.items cells.old.heads.items }
-    requires tied { IsTied cells.old.geometry.cells cells.old.heads.items index.old }
+    requires open { IsOpen D.tells (D.text cells.old.disk) (D.image cells.old.disk) cells.old.geometry cells.old.fence cells.old.gates.items cells.old.heads }
+    requires tied { IsTied cells.old.geometry.cells cells.old.heads index.old }
     requires place { place_in index.old head.now.key ≡ Some entry }
     requires side { side < 2 }
     requires differ { Differ sides.version_stamp (sides.other entry.versions side) (Some (version_of (record_of head.now))) }
@@ -169,14 +169,14 @@ fn put_in<D: Disk>(
     requires layout { head.now.layout ≡ cells.old.geometry.layout }
     requires bins { length bins.now ≡ bins_of head.now }
     ensures stands { IsTrue D.tells → Around cells.old.geometry cells.old.fence (D.text cells.old.disk) (D.text cells.new.disk) (D.image cells.new.disk) (Some (is_ok result)) head.now.key
-        (records_in cells.old.heads.items entry.cell) (in_order stamp_of (put_at (sides_in cells.old.heads.items entry.cell) side (Some (record_of head.now)))) (Some record { head = head.now; bins = bins.now }) }
-    ensures open { OnOk result (IsOpen D.tells (D.text cells.new.disk) (D.image cells.new.disk) cells.new.geometry cells.new.fence cells.new.gates.items cells.new.heads.items) }
-    ensures tied { IsTied cells.new.geometry.cells cells.new.heads.items index.new }
-    ensures held { OnOk result (held_by index.new.entries cells.new.heads.items
-        ≡ with_held (held_by index.old.entries cells.old.heads.items) head.now.key (in_order stamp_of (put_at (sides_in cells.old.heads.items entry.cell) side (Some (record_of head.now))))) }
-    ensures waits { OnErr result (IsTrue D.tells → HoldsEitherHeld cells.new.geometry cells.new.fence (D.image cells.new.disk) (held_by index.new.entries cells.new.heads.items)
-        (with_held (held_by index.new.entries cells.new.heads.items) head.now.key (in_order stamp_of (put_at (sides_in cells.old.heads.items entry.cell) side (Some (record_of head.now)))))) }
-    ensures heads { OnErr result (cells.new.heads.items ≡ cells.old.heads.items) }
+        (records_in cells.old.heads entry.cell) (in_order stamp_of (put_at (sides_in cells.old.heads entry.cell) side (Some (record_of head.now)))) (Some record { head = head.now; bins = bins.now }) }
+    ensures open { OnOk result (IsOpen D.tells (D.text cells.new.disk) (D.image cells.new.disk) cells.new.geometry cells.new.fence cells.new.gates.items cells.new.heads) }
+    ensures tied { IsTied cells.new.geometry.cells cells.new.heads index.new }
+    ensures held { OnOk result (held_by index.new.entries cells.new.heads
+        ≡ with_held (held_by index.old.entries cells.old.heads) head.now.key (in_order stamp_of (put_at (sides_in cells.old.heads entry.cell) side (Some (record_of head.now))))) }
+    ensures waits { OnErr result (IsTrue D.tells → HoldsEitherHeld cells.new.geometry cells.new.fence (D.image cells.new.disk) (held_by index.new.entries cells.new.heads)
+        (with_held (held_by index.new.entries cells.new.heads) head.now.key (in_order stamp_of (put_at (sides_in cells.old.heads entry.cell) side (Some (record_of head.now)))))) }
+    ensures heads { OnErr result (cells.new.heads ≡ cells.old.heads) }
     ensures index { OnErr result (index.new ≡ index.old) }
     ensures geometry { cells.new.geometry ≡ cells.old.geometry }
     ensures fence { cells.new.fence ≡ cells.old.fence }
