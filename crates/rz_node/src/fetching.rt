@@ -6,7 +6,7 @@ ghost use Rattle.rz_disk.specs.Images.{Within};
 ghost use Rattle.rz_node_model.specs.Answers.{IsNodeAnswer};
 ghost use Rattle.rz_node_model.specs.Afterwards.{after_answer};
 ghost use Rattle.rz_node_model.specs.Records.{record_of, held_of, found};
-ghost use Rattle.rz_node.specs.Gives.{Gives, IfHeld};
+ghost use Rattle.rz_node.specs.Fetched.{Gives, IfHeld};
 ghost use Rattle.rz_node.specs.Kept.{IsTied, IsThere, held_by};
 ghost use Rattle.rz_node.specs.Spends.{Spends, fetch_used};
 

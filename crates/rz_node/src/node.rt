@@ -30,7 +30,7 @@ pub struct Node<D: Disk> {
 }
 
 impl<D: Disk> Model for Node<D> {
-    ghost use Rattle.rz_node.specs.Seen.{NodeView, IsNode, state_of, view_code};
+    ghost use Rattle.rz_node.specs.View.{NodeView, IsNode, state_of, view_code};
 
     ghost Value = { NodeView D };
 

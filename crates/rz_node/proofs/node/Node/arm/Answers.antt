@@ -1,6 +1,6 @@
 -- An arming changes no image.
 use Rattle.rz_node.specs.Kept.{held_by}
-use Rattle.rz_node.specs.Waiting.{IsDown}
+use Rattle.rz_node.specs.DownDisk.{IsDown}
 use Rattle.rz_node.proofs.Waits.{ready-again, tied-moved, down-moved}
 use Rattle.rz_node.proofs.node.Node.arm.Goals as goal
 

@@ -9,12 +9,12 @@ use Rattle.rz_node_model.specs.Answers.{drop_answer}
 use Rattle.rz_node_model.specs.Records.{Records, stamp_of, key_at, least_block, carried, with_held}
 use Rattle.rz_node_model.specs.Versions.{has_stamp, without}
 use Rattle.rz_versions.specs.Sides.{in_order, put_at}
-use Rattle.rz_node.specs.Around.{Around}
+use Rattle.rz_node.specs.CrashOutcomes.{CrashOutcomes}
 use Rattle.rz_node.specs.Kept.{held_by, sides_in, records_in}
 use Rattle.rz_node.proofs.Drops.{first-none, first-some, nothing-lesser, side-stands, dropping, held-dropped}
 use Rattle.rz_node.proofs.Ready.{ready-up}
 use Rattle.rz_node.proofs.Views.{state-same, around-along, held-up, drop-none, drop-empty, drop-some, changed-up}
-use Rattle.rz_node.specs.Waiting.{HoldsEitherHeld}
+use Rattle.rz_node.specs.DownDisk.{HoldsEitherHeld}
 use Rattle.rz_node.proofs.Waits.{down-drop}
 use Rattle.rz_node.proofs.node.Node.drop_next.Goals as goal
 
@@ -99,7 +99,7 @@ returns-in-Ok-clause-stands g c told =
     around-along g.D.Disk.text _ _ (g.D.Disk.text c.clear_in.new.cells.disk) (g.D.Disk.image c.clear_in.new.cells.disk) (Some true) (key_at c.args.fid e.key.block) (without stamp_of v.stamp)
     (records_in s.cells.heads e.cell) (in_order stamp_of (put_at (sides_in s.cells.heads e.cell) c.in-Some-side_of.side None)) None
     c.self.view_is (held-up s.phase s.index.entries s.cells.heads (key_at c.args.fid e.key.block) c.in-Up.is ∙ d.before) d.leaves
-    (subst (λ (k : Key). Around s.cells.geometry s.cells.fence (g.D.Disk.text s.cells.disk) (g.D.Disk.text c.clear_in.new.cells.disk) (g.D.Disk.image c.clear_in.new.cells.disk) (Some true) k (records_in s.cells.heads e.cell) (in_order stamp_of (put_at (sides_in s.cells.heads e.cell) c.in-Some-side_of.side None)) None) (sym d.key_is) (c.in-Ok.ensures.stands told))
+    (subst (λ (k : Key). CrashOutcomes s.cells.geometry s.cells.fence (g.D.Disk.text s.cells.disk) (g.D.Disk.text c.clear_in.new.cells.disk) (g.D.Disk.image c.clear_in.new.cells.disk) (Some true) k (records_in s.cells.heads e.cell) (in_order stamp_of (put_at (sides_in s.cells.heads e.cell) c.in-Some-side_of.side None)) None) (sym d.key_is) (c.in-Ok.ensures.stands told))
 
 pub returns-in-Err-clause-stands : goal.returns-in-Err-clause-stands
 returns-in-Err-clause-stands g c told =
@@ -111,7 +111,7 @@ returns-in-Err-clause-stands g c told =
     around-along g.D.Disk.text _ _ (g.D.Disk.text c.clear_in.new.cells.disk) (g.D.Disk.image c.clear_in.new.cells.disk) (Some false) (key_at c.args.fid e.key.block) (without stamp_of v.stamp)
     (records_in s.cells.heads e.cell) (in_order stamp_of (put_at (sides_in s.cells.heads e.cell) c.in-Some-side_of.side None)) None
     c.self.view_is (held-up s.phase s.index.entries s.cells.heads (key_at c.args.fid e.key.block) c.in-Up.is ∙ d.before) d.leaves
-    (subst (λ (k : Key). Around s.cells.geometry s.cells.fence (g.D.Disk.text s.cells.disk) (g.D.Disk.text c.clear_in.new.cells.disk) (g.D.Disk.image c.clear_in.new.cells.disk) (Some false) k (records_in s.cells.heads e.cell) (in_order stamp_of (put_at (sides_in s.cells.heads e.cell) c.in-Some-side_of.side None)) None) (sym d.key_is) (c.in-Err.ensures.stands told))
+    (subst (λ (k : Key). CrashOutcomes s.cells.geometry s.cells.fence (g.D.Disk.text s.cells.disk) (g.D.Disk.text c.clear_in.new.cells.disk) (g.D.Disk.image c.clear_in.new.cells.disk) (Some false) k (records_in s.cells.heads e.cell) (in_order stamp_of (put_at (sides_in s.cells.heads e.cell) c.in-Some-side_of.side None)) None) (sym d.key_is) (c.in-Err.ensures.stands told))
 
 pub invariant_of-self-in-Err : goal.invariant_of-self-in-Err
 invariant_of-self-in-Err g c =

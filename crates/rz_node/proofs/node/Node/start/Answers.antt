@@ -13,8 +13,8 @@ use Rattle.rz_cells.specs.Open.{Finds}
 use Rattle.rz_cells.specs.Stands.{StandsFor}
 use Rattle.rz_node.specs.Change.{IsBranch}
 use Rattle.rz_node.specs.Kept.{held_by, IsTied}
-use Rattle.rz_node.specs.Seen.{held_in, state_of}
-use Rattle.rz_node.specs.Waiting.{has_taken}
+use Rattle.rz_node.specs.View.{held_in, state_of}
+use Rattle.rz_node.specs.DownDisk.{has_taken}
 use Rattle.rz_node.proofs.AfterChange.{branch}
 use Rattle.rz_node.proofs.Shows.{shows-found}
 use Rattle.rz_node.proofs.Spent.{took-as}

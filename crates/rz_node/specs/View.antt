@@ -15,7 +15,7 @@ use Rattle.rz_cells.specs.declared.geometry.Geometry.{Geometry}
 use Rattle.rz_cells.specs.contracts.geometry.Geometry as geometries
 use Rattle.rz_cells.specs.Open.{IsOpen}
 use Rattle.rz_node.specs.Kept.{held_by, IsTied}
-use Rattle.rz_node.specs.Waiting.{IsDown}
+use Rattle.rz_node.specs.DownDisk.{IsDown}
 
 -- a node: its disk, how that is laid out, and its state
 pub record NodeView (D : Type 0) : Type 0 where

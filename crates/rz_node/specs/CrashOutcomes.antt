@@ -26,7 +26,7 @@ pub record GivesWay (key : Key) (before after : List Held) (new : Option Rec) (g
 -- A change of a key's records, which were `before` and are then `after`. On every exit each image stands for the records
 -- that the text stood for or for those with the change; where all device calls went well, the text, which is the one
 -- image, stands for those with the change.
-pub record Around (g : Geometry) (fence : ℕ) (text text' : List ℕ) (image : List ℕ → Type 0) (used : Option Bool) (key : Key) (before after : List Held) (new : Option Rec) : Type 0 where
+pub record CrashOutcomes (g : Geometry) (fence : ℕ) (text text' : List ℕ) (image : List ℕ → Type 0) (used : Option Bool) (key : Key) (before after : List Held) (new : Option Rec) : Type 0 where
   pub gone : Option Head
   pub way : GivesWay key before after new gone
   pub either : StandsEither g fence text image gone new
