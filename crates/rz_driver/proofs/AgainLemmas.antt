@@ -58,12 +58,12 @@ use Rattle.rz_stations.specs.Images.{AreDisksImaged, AreImaged, HasImages, fused
 use Rattle.rz_stations.specs.Meters.{AreMetered, GoesWith, OfEach, faults_at, faults_in}
 use Rattle.rz_stations.specs.Stations.{state_in, numbers_of, IsStation}
 use Rattle.rz_driver.specs.declared.driver.Driver.{Driver}
-use Rattle.rz_driver.specs.declared.seat.Seat.{Seat}
+use Rattle.rz_seats.specs.declared.seat.Seat.{Seat}
 use Rattle.rz_driver.specs.Continued.{journal_refusal, losses_of, AreLeft, IsCauseAgain, IsJournalCause, IsNodeCause, IsOpenedAgain, IsOpenedOver, IsRefusedOver, IsUnopened}
 use Rattle.rz_driver.specs.Endings.{StandsForLog}
 use Rattle.rz_driver.specs.Journals.{KeepsLog, journal_place, HasJournal}
 use Rattle.rz_driver.specs.Pictures.{AreBytes, IsPicture, KnowsLengths}
-use Rattle.rz_driver.specs.Seats.{IsEmptySeat}
+use Rattle.rz_seats.specs.Seats.{IsEmptySeat}
 use Rattle.rz_driver.specs.Worlds.{exact_if, is_exact, left_behind, seat_in, world_of, numbers_in, IsDriver, GoesAfter, Holds}
 use Rattle.rz_driver.proofs.KeptCalls.{told-calls}
 use Rattle.rz_driver.proofs.MadeLemmas.{own-cells, empty-in, empty-seats}

@@ -29,8 +29,8 @@ use Rattle.rz_stations.specs.Meters.{AreMetered, GoesWith, OfEach, faults_at, fa
 use Rattle.rz_stations.specs.Images.{fused_image}
 use Rattle.rz_stations.specs.Stations.{numbers_of, IsStation}
 use Rattle.rz_driver.specs.declared.driver.Driver.{Driver}
-use Rattle.rz_driver.specs.declared.seat.Seat.{Seat}
-use Rattle.rz_driver.specs.declared.station.Shared.{Shared}
+use Rattle.rz_seats.specs.declared.seat.Seat.{Seat}
+use Rattle.rz_seats.specs.declared.shared.Shared.{Shared}
 use Rattle.rz_driver.specs.Formatted.{IsBehindJournal, IsJournalBack, AreBackWithJournal, IsFault, IsJournalRefused}
 use Rattle.rz_driver.specs.Journals.{KeepsLog, journal_place, HasJournal}
 use Rattle.rz_driver.specs.Pictures.{AreBytes, IsPicture}

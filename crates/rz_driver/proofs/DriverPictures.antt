@@ -35,12 +35,13 @@ use Rattle.rz_asks.specs.Parts.{IsUnbegun}
 use Rattle.rz_lines.specs.Behind.{Before, behind}
 use Rattle.rz_block_laws.specs.Turns.{IsLastingLaw, HasInHand}
 use Rattle.rz_driver.specs.declared.driver.Driver.{Driver}
-use Rattle.rz_driver.specs.declared.seat.Seat.{Seat}
+use Rattle.rz_seats.specs.declared.seat.Seat.{Seat}
 use Rattle.rz_formatting.specs.declared.formatting.Station.{Station}
 use Rattle.rz_stations.specs.Meters.{AreMetered, AreCounted, CarriesCounts}
 use Rattle.rz_stations.specs.Images.{AreImaged, IsRight, KeepsRow, SparesRow, fused_image}
-use Rattle.rz_driver.specs.Pictures.{HasTrueHand, IsTrueSeat, IsPicture, KeepsPicture, SparesPicture, KnowsLengths}
-use Rattle.rz_driver.specs.Seats.{HasLayout, seat_of, work_in}
+use Rattle.rz_seats.specs.Hands.{HasTrueHand, IsTrueSeat, KeepsPicture, SparesPicture}
+use Rattle.rz_driver.specs.Pictures.{IsPicture, KnowsLengths}
+use Rattle.rz_seats.specs.Seats.{HasLayout, seat_of, work_in}
 use Rattle.rz_stations.specs.Stations.{state_in, numbers_of}
 use Rattle.rz_driver.specs.Worlds.{place_of, world, world_of, numbers_in, exact_if, HasPicture, HasRightDisks, Holds, Leaves}
 use Rattle.rz_stations.proofs.MeterLemmas.{metered-counts, named-vector}

@@ -11,8 +11,8 @@ use Rattle.rz_metadata.specs.Stands.{export_in}
 use Rattle.rz_node_model.specs.NodeEvents.{fetch_event}
 use Rattle.rz_scrubbing.specs.Stores.{GoesOn, IsFetched}
 use Rattle.rz_driver.specs.declared.driver.Driver.{Driver}
-use Rattle.rz_driver.specs.declared.seat.Seat.{Seat}
-use Rattle.rz_driver.specs.declared.station.Shared.{Shared}
+use Rattle.rz_seats.specs.declared.seat.Seat.{Seat}
+use Rattle.rz_seats.specs.declared.shared.Shared.{Shared}
 use Rattle.rz_stations.specs.Fetches.{IsFetch}
 use Rattle.rz_driver.specs.Fetches.{GivesOf, Metered, state_of}
 use Rattle.rz_stations.specs.Asked.{fused_text}

@@ -1,6 +1,5 @@
 -- The journal of a driver: what its disk stands for after a turn, after an order, and where a play ended.
-use Rattle.std.proofs.Common.{◌≡◌, inl, inr, ℕ, ◌-◌, ◌^◌, ◌<◌, Bool, true, false, IsTrue, List, [], length, ◌∷◌, ◌++◌, Option, Some, IfSome, refl, sym, ◌∙◌, ap, subst}
-use Rattle.rz_disk.specs.Meter.{Meter}
+use Rattle.std.proofs.Common.{◌≡◌, inl, inr, ℕ, ◌-◌, ◌^◌, ◌<◌, true, IsTrue, List, [], length, ◌∷◌, ◌++◌, Option, Some, refl, sym, ◌∙◌, ap, subst}
 use Rattle.rz_disk.specs.declared.disk.Disk.{Ghosts}
 use Rattle.rz_events.specs.Volume.{Volume, nodes_of}
 use Rattle.rz_events.specs.declared.keys.Actor.{Actor}
@@ -11,8 +10,7 @@ use Rattle.rz_events.specs.declared.nodes.NodeAsk.TheVariants as ask
 use Rattle.rz_events.specs.declared.export.Call.{Call}
 use Rattle.rz_events.specs.declared.events.Event.{Event}
 use Rattle.rz_events.specs.declared.events.Event.TheVariants as e
-use Rattle.rz_events.specs.declared.events.Word.TheVariants.{Export, Node, Own}
-use Rattle.rz_events.specs.Events.{word_of}
+use Rattle.rz_events.specs.declared.events.Word.TheVariants.{Export}
 use Rattle.rz_core.specs.History.{Facts, facts, of_word}
 use Rattle.rz_core.specs.Legal.{IsLegalInRuns}
 use Rattle.rz_core.proofs.Extends.{Extends, extends-more}
@@ -20,58 +18,33 @@ use Rattle.rz_node_model.specs.NodeEvents.{node_event}
 use Rattle.rz_export_model.specs.Export.{export_reply}
 use Rattle.rz_export_model.specs.ExportEvents.{export_event}
 use Rattle.rz_journal.specs.Seen.{calls_after}
-use Rattle.rz_operation.specs.Machine.{Machine, text_of}
-use Rattle.rz_operation_model.specs.Ask.{Saying, SayGot, SayGave, SayLeft, SayDone, ask_of}
-use Rattle.rz_operation_model.specs.Turns.{said_event}
+use Rattle.rz_operation.specs.Machine.{Machine}
+use Rattle.rz_operation_model.specs.Ask.{ask_of}
 use Rattle.rz_lines.specs.Behind.{Before, behind}
 use Rattle.rz_play.specs.Lines.{noted}
 use Rattle.rz_play_laws.proofs.Turning.{in-runs}
 use Rattle.rz_continuation.specs.Calls.{HasLength}
 use Rattle.rz_continuation.specs.Laws.{IsCallTold, IsNoCall}
 use Rattle.rz_asks.specs.Journals.{call_asked, KeepsCall, EndsOn}
-use Rattle.rz_asks.specs.Parts.{IsNoted, IsSayPart}
+use Rattle.rz_asks.specs.Parts.{IsNoted}
 use Rattle.rz_metadata.specs.declared.metadata.Metadata.{Metadata}
-use Rattle.rz_metadata.specs.Stands.{export_in, is_journaled, Stands}
+use Rattle.rz_metadata.specs.Stands.{export_in, Stands}
 use Rattle.rz_formatting.specs.declared.formatting.Station.{Station}
 use Rattle.rz_stations.specs.Administration.{IsStarted}
 use Rattle.rz_stations.proofs.EventWords.{node-word}
 use Rattle.rz_stations.proofs.PictureLemmas.{GrowsBy, grows-behind, grown-short}
 use Rattle.rz_driver.specs.declared.driver.Driver.{Driver}
-use Rattle.rz_driver.specs.declared.station.Shared.{Shared}
-use Rattle.rz_driver.specs.Acts.{IsFate, Through, ReplyLost, RequestLost}
 use Rattle.rz_driver.specs.Endings.{AreCallsOf}
-use Rattle.rz_driver.specs.Journals.{IsSameStore, IsExportTurn, Asks, AsksNothing, KeepsLog, EndsLog, journal_place, HasJournal, LeavesJournal}
+use Rattle.rz_seats.specs.Stores.{IsSameStore, IsExportTurn, Asks, AsksNothing}
+use Rattle.rz_driver.specs.Journals.{KeepsLog, EndsLog, journal_place, HasJournal, LeavesJournal}
 use Rattle.rz_driver.specs.Pictures.{AreBytes}
 use Rattle.rz_driver.specs.Worlds.{exact_if, is_exact, world_of, GoesAfter, HasPicture, Leaves}
-use Rattle.rz_driver.proofs.ExportWords.{node-stays, own-stays, noted-stays, same-behind, bytes-same, bytes-more, event-bytes}
+use Rattle.rz_seats.proofs.ExportEvents.{node-stays, noted-stays}
+use Rattle.rz_seats.proofs.StoreLemmas.{same-store, ends-with-it}
+use Rattle.rz_driver.proofs.ExportWords.{same-behind, bytes-same, bytes-more, event-bytes}
 use Rattle.rz_driver.proofs.KeptCalls.{calls-more, calls-same}
 
 -- ---- events that are no word of the export
-
--- the event of a node's answer
-answer-stays : (by : Actor) (n : ℕ) (question : NodeAsk) (given : NodeAnswer) (x : Event) (h : List Event) → node_event by n question given ≡ Some x → of_word Export (x ∷ h) ≡ of_word Export h
-answer-stays by n question given x h is = node-stays n x h (subst (λ (o : Option Event). IfSome o (λ y. word_of y ≡ Node n)) is (node-word by n question given))
-
--- a message to a node
-pub fate-stays : {D J : Type 0} {by : Actor} {n : ℕ} {question : NodeAsk} {s s' : Station D} {old new : Machine} {miss miss' : Option Bool} {p q : Shared D J} → IsFate by n question s s' old new miss miss' p q
-    → of_word Export q.log.events ≡ of_word Export p.log.events
-fate-stays {by = by} {n = n} {question = question} {p = p} (Through part comes miss lost) =
-    ap (of_word Export) part.noted.2 ∙ answer-stays by n question part.given part.noted.0 p.log.events part.noted.1
-fate-stays {by = by} {n = n} {question = question} {p = p} (ReplyLost part lost_so miss lost) =
-    ap (of_word Export) part.noted ∙ own-stays by (e.Missed by n true) (part.event ∷ p.log.events) refl ∙ answer-stays by n question part.given part.event p.log.events part.event_is
-fate-stays {by = by} {n = n} {p = p} (RequestLost stays part lost_so miss lost) =
-    ap (of_word Export) part.noted ∙ own-stays by (e.Missed by n false) p.log.events refl
-
--- a word of the actor's own
-said-own : (by : Actor) (number : ℕ) (text : List ℕ) (said : Saying) → word_of (said_event by number text said) ≡ Own by
-said-own by number text (SayGot key part mark) = refl
-said-own by number text (SayGave key part end) = refl
-said-own by number text (SayLeft key why) = refl
-said-own by number text (SayDone answer) = refl
-
-pub said-stays-export : (earlier : Bool) (by : Actor) (number : ℕ) (done : Bool) (old new : Machine) (h h' : List Event) → IsSayPart earlier by number done old new h h' → of_word Export h' ≡ of_word Export h
-said-stays-export earlier by number done old new h h' (said, asks, part) =
-    ap (of_word Export) part.noted ∙ own-stays by (said_event by number (text_of old) said) h (said-own by number (text_of old) said)
 
 -- an order to a node
 pub order-stays : (n : ℕ) (question : NodeAsk) (given : NodeAnswer) (h h' : List Event) → h' ≡ noted (node_event Admin n question given) h → of_word Export h' ≡ of_word Export h
@@ -82,15 +55,6 @@ started-stays n xs ys h h' o = order-stays o.station.sid ask.Start o.order.given
 
 pub arming-stays : (n passes pick : ℕ) (h h' : List Event) → h' ≡ e.Armed n passes pick ∷ h → of_word Export h' ≡ of_word Export h
 arming-stays n passes pick h h' log_is = ap (of_word Export) log_is ∙ node-stays n (e.Armed n passes pick) h refl
-
--- ---- the metadata beside them
-
-pub same-store : {D : Type 0} (m m' : Metadata D) → m' ≡ m → IsSameStore m m'
-same-store m m' is = record { journal = ap is_journaled is; volume = ap (λ (x : Metadata _). (export_in x).volume) is }
-
--- nothing was asked of them, and they stand as they did
-pub ends-with-it : {D : Type 0} (tells : Bool) (meter : D → Meter) (image : D → List ℕ → Type 0) (m m' : Metadata D) → m' ≡ m → EndsOn tells meter image m m'
-ends-with-it tells meter image m m' is = subst (EndsOn tells meter image m) (sym is) (λ first calls stood. inl stood)
 
 -- ---- a driver
 

@@ -22,7 +22,7 @@ use Rattle.rz_continuation.specs.Calls.{changing_calls, AreTold, HasLength}
 use Rattle.rz_continuation.specs.Laws.{IsCallTold, IsNoCall}
 use Rattle.rz_asks.specs.Journals.{call_asked}
 use Rattle.rz_driver.specs.Endings.{AreCallsOf}
-use Rattle.rz_driver.proofs.ExportWords.{word-grows}
+use Rattle.rz_seats.proofs.ExportEvents.{word-grows}
 
 -- ---- the calls of a log
 

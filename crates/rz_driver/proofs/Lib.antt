@@ -1,4 +1,3 @@
-mod SeatLemmas
 mod WorldLemmas
 mod TurnLemmas
 mod FreshLengths
@@ -6,13 +5,11 @@ mod LengthLemmas
 mod TextLemmas
 mod ReadyLemmas
 mod OrderLemmas
-mod MessageLemmas
 mod TakeLemmas
 mod ActorOrders
 mod MadeLemmas
 mod NodeOrders
 mod DriverMeters
-mod ActPictures
 mod DriverPictures
 mod NewPictures
 mod FetchLemmas

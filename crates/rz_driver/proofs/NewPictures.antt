@@ -24,14 +24,15 @@ use Rattle.rz_play.specs.World.{World, new_world}
 use Rattle.rz_play_laws.specs.Fine.{IsFine}
 use Rattle.rz_image_laws.specs.Images.{IsImaged, geometry_in}
 use Rattle.rz_image_laws.specs.Laws.{IsFreshLaw}
-use Rattle.rz_driver.specs.declared.seat.Seat.{Seat}
+use Rattle.rz_seats.specs.declared.seat.Seat.{Seat}
 use Rattle.rz_formatting.specs.declared.formatting.Station.{Station}
 use Rattle.rz_formatting.specs.Formatted.{AreFormatted, IsFormatted, geometry_of}
 use Rattle.rz_stations.specs.Images.{AreImaged, HasImages, fused_image}
 use Rattle.rz_lines.specs.Behind.{behind}
-use Rattle.rz_driver.specs.Pictures.{HasTrueHand, IsPicture, KnowsLengths}
+use Rattle.rz_seats.specs.Hands.{HasTrueHand}
+use Rattle.rz_driver.specs.Pictures.{IsPicture, KnowsLengths}
 use Rattle.rz_driver.specs.Worlds.{exact_if}
-use Rattle.rz_driver.specs.Seats.{IsEmptySeat}
+use Rattle.rz_seats.specs.Seats.{IsEmptySeat}
 use Rattle.rz_stations.specs.Stations.{IsStation}
 
 -- nothing was played

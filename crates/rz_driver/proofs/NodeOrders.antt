@@ -30,10 +30,10 @@ use Rattle.rz_lines.specs.Behind.{behind}
 use Rattle.rz_play.specs.Lines.{IsAdminCall, noted}
 use Rattle.rz_play.specs.Free.{IsFreeStart, PlaysLineOver}
 use Rattle.rz_driver.specs.declared.driver.Driver.{Driver}
-use Rattle.rz_driver.specs.declared.station.Shared.{Shared}
+use Rattle.rz_seats.specs.declared.shared.Shared.{Shared}
 use Rattle.rz_formatting.specs.declared.formatting.Station.{Station}
 use Rattle.rz_stations.specs.Administration.{IsOrdered, IsStarted, IsCalledAt, IsArming}
-use Rattle.rz_driver.specs.Seats.{IsSeat}
+use Rattle.rz_seats.specs.Seats.{IsSeat}
 use Rattle.rz_stations.specs.Stations.{state_in, numbers_of, IsStation}
 use Rattle.rz_driver.specs.Worlds.{seat_in, world, world_of, AreLocks, HaveNoLocks, IsDriver}
 use Rattle.rz_stations.proofs.Rows.{state-same, all-set, all-at, state-at, state-set}

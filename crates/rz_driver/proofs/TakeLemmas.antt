@@ -16,13 +16,13 @@ use Rattle.rz_events.specs.declared.events.Event.{Event}
 use Rattle.rz_play.specs.World.{World, Seat as APlayer, at_work}
 use Rattle.rz_play.specs.Turns.{IsTurn}
 use Rattle.rz_driver.specs.declared.driver.Driver.{Driver}
-use Rattle.rz_driver.specs.declared.seat.Seat.{Seat}
-use Rattle.rz_driver.specs.declared.station.Shared.{Shared}
+use Rattle.rz_seats.specs.declared.seat.Seat.{Seat}
+use Rattle.rz_seats.specs.declared.shared.Shared.{Shared}
 use Rattle.rz_formatting.specs.declared.formatting.Station.{Station}
-use Rattle.rz_driver.specs.Acts.{IsAct, HasLayouts}
+use Rattle.rz_seats.specs.Acts.{IsAct, HasLayouts}
 use Rattle.rz_asks.specs.Locking.{lock_of}
 use Rattle.rz_asks.specs.Logged.{Logged}
-use Rattle.rz_driver.specs.Seats.{seat_of, IsSeat}
+use Rattle.rz_seats.specs.Seats.{seat_of, IsSeat}
 use Rattle.rz_stations.specs.Stations.{IsStation}
 use Rattle.rz_driver.specs.Worlds.{place_of, seat_in, world, world_of, AreLocks, HaveNoLocks, IsDriver}
 use Rattle.rz_stations.proofs.Rows.{all-set, all-at}

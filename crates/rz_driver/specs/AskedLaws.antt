@@ -4,7 +4,7 @@ use Rattle.std.proofs.Common.{◌∙◌, ap, refl}
 use Rattle.rz_disk.specs.UnderFuse.{UnderFuse}
 use Rattle.rz_disk.specs.declared.disk.Disk.{Ghosts}
 use Rattle.rz_driver.specs.declared.driver.Driver.{Driver}
-use Rattle.rz_driver.specs.declared.station.Shared.{Shared}
+use Rattle.rz_seats.specs.declared.shared.Shared.{Shared}
 use Rattle.rz_stations.specs.Asked.{fused_text}
 use Rattle.rz_driver.specs.OnlyAsked.{WasOnlyAsked}
 use Rattle.rz_stations.specs.Images.{fused_image}

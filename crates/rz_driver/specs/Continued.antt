@@ -28,7 +28,7 @@ use Rattle.rz_stations.specs.Stations.{state_in}
 use Rattle.rz_driver.specs.declared.driver.Driver.{Driver}
 use Rattle.rz_driver.specs.Endings.{StandsForLog}
 use Rattle.rz_driver.specs.Pictures.{AreBytes}
-use Rattle.rz_driver.specs.Seats.{IsEmptySeat}
+use Rattle.rz_seats.specs.Seats.{IsEmptySeat}
 use Rattle.rz_driver.specs.Worlds.{world_of, Holds, Leaves}
 
 -- What earlier runs left, and what a run leaves for the next.

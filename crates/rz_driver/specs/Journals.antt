@@ -1,37 +1,18 @@
 -- The journal of a driver: for which calls its disk stands.
-use Rattle.std.specs.Prelude.{ℕ, Bool, IsTrue, ◌≡◌, ◌-◌, ◌^◌, ◌<◌, List, ◌++◌, length, Option, Some}
+use Rattle.std.specs.Prelude.{ℕ, Bool, IsTrue, ◌≡◌, ◌-◌, ◌^◌, ◌<◌, List, ◌++◌, length}
 use Rattle.rz_disk.specs.Meter.{Meter}
 use Rattle.rz_disk.specs.declared.disk.Disk.{Ghosts}
 use Rattle.rz_events.specs.Volume.{nodes_of}
-use Rattle.rz_events.specs.declared.keys.Actor.{Actor}
 use Rattle.rz_events.specs.declared.export.Call.{Call}
 use Rattle.rz_events.specs.declared.events.Event.{Event}
-use Rattle.rz_events.specs.declared.events.Word.TheVariants.{Export}
-use Rattle.rz_export_model.specs.Export.{export_reply}
-use Rattle.rz_export_model.specs.ExportEvents.{export_event}
-use Rattle.rz_core.specs.History.{facts, of_word}
+use Rattle.rz_core.specs.History.{facts}
 use Rattle.rz_lines.specs.Behind.{Before}
-use Rattle.rz_operation.specs.Machine.{Machine}
-use Rattle.rz_operation_model.specs.Ask.{ask_of}
 use Rattle.rz_metadata.specs.declared.metadata.Metadata.{Metadata}
-use Rattle.rz_metadata.specs.Stands.{export_in, is_journaled, Stands}
-use Rattle.rz_asks.specs.Journals.{call_asked, KeepsCall, EndsWith}
-use Rattle.rz_asks.specs.Parts.{IsNoted}
+use Rattle.rz_metadata.specs.Stands.{export_in, Stands}
+use Rattle.rz_asks.specs.Journals.{EndsWith}
 use Rattle.rz_driver.specs.declared.driver.Driver.{Driver}
 use Rattle.rz_driver.specs.Endings.{AreCallsOf}
 use Rattle.rz_driver.specs.Pictures.{AreBytes}
-
--- the metadata of one volume still, in memory still or behind a journal still
-pub record IsSameStore {D : Type 0} (m m' : Metadata D) : Type 0 where
-  pub journal : is_journaled m' ≡ is_journaled m
-  pub volume : (export_in m').volume ≡ (export_in m).volume
-
--- What a turn makes of the journal and of the events of the export's word: the machine's call was replied to and the event of the
--- reply noted, or nothing was asked of the export.
-pub data IsExportTurn {D : Type 0} (tells : Bool) (meter : D → Meter) (image : D → List ℕ → Type 0) (by : Actor) (machine : Option Machine) (m m' : Metadata D) (h h' : List Event) : Type 0 where
-  Asks : (asker : Machine) (c : Call) → machine ≡ Some asker → call_asked (ask_of asker.layout asker.work) ≡ Some c → KeepsCall tells meter image c m m' → IsNoted (export_event by c (export_reply (export_in m) c)) h h'
-      → IsExportTurn tells meter image by machine m m' h h'
-  AsksNothing : m' ≡ m → of_word Export h' ≡ of_word Export h → IsExportTurn tells meter image by machine m m' h h'
 
 -- the journal stands for the calls of this log
 abbrev pub KeepsLog : {D : Type 0} → Bool → (D → Meter) → (D → List ℕ → Type 0) → ℕ → Metadata D → List Event → Type 0

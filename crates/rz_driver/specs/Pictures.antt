@@ -1,6 +1,6 @@
 -- What is true beside the log of what actors have in hand and of the nodes' disks, where disks tell their texts. The log is the
 -- whole one: that of this run behind that of earlier runs.
-use Rattle.std.specs.Prelude.{ℕ, ◌≡◌, ◌<◌, ◌++◌, List, length, Option, Some, None}
+use Rattle.std.specs.Prelude.{ℕ, ◌≡◌, ◌<◌, ◌++◌, List, length, Some}
 use Rattle.std.specs.List.{All, AllByRecursion}
 use Rattle.rz_events.specs.Volume.{Volume, IsVolume}
 use Rattle.rz_events.specs.declared.keys.Actor.{Actor}
@@ -9,26 +9,13 @@ use Rattle.rz_events.specs.declared.events.Event.{Event}
 use Rattle.rz_client_model.specs.declared.reading.ReadStage.{ReadStage}
 use Rattle.rz_client_model.specs.declared.reading.ReadStage.TheVariants.{Fetching, Ended}
 use Rattle.rz_core.specs.History.{Facts, Begun, facts}
-use Rattle.rz_operation.specs.Machine.{Machine}
 use Rattle.rz_operation_model.specs.Work.{Work, Reading}
 use Rattle.rz_lines.specs.Behind.{behind}
 use Rattle.rz_play.specs.World.{World}
 use Rattle.rz_play_laws.specs.Fine.{IsFine}
-use Rattle.rz_block_laws.specs.Turns.{HasInHand, IsTrueActor}
-use Rattle.rz_driver.specs.declared.seat.Seat.{Seat}
+use Rattle.rz_seats.specs.declared.seat.Seat.{Seat}
 use Rattle.rz_formatting.specs.declared.formatting.Station.{Station}
-use Rattle.rz_stations.specs.Stations.{state_in}
 use Rattle.rz_stations.specs.Images.{AreImaged}
-
--- Actors, of which some have a machine.
-
-abbrev pub HasTrueHand : Volume → Facts → Option Machine → Type 0
-HasTrueHand v f None = Unit {0}
-HasTrueHand v f (Some m) = HasInHand v f m
-
-abbrev pub IsTrueSeat : Volume → Facts → Actor → Option Machine → Type 0
-IsTrueSeat v f by None = Unit {0}
-IsTrueSeat v f by (Some m) = IsTrueActor v f by m
 
 -- Texts.
 
@@ -45,17 +32,6 @@ KnowsLength f stage = Unit {0}
 abbrev pub KnowsLengths : Facts → Work → Type 0
 KnowsLengths f (Reading course s) = KnowsLength f s.stage
 KnowsLengths f work = Unit {0}
-
--- What a turn of an actor keeps, which makes of the nodes xs and the log h the nodes ys and the log h', behind any earlier log.
-
-abbrev pub KeepsPicture : {D : Type 0} → (D → List ℕ → Type 0) → Actor → Option Machine → Option Machine → List (Station D) → List Event → List (Station D) → List Event → Type 0
-KeepsPicture image by m m' xs h ys h' =
-    (v : Volume) (old : List Event) → IsTrueSeat v (facts (h ++ old)) by m → AreImaged image v (facts (h ++ old)) xs → HasTrueHand v (facts (h' ++ old)) m' × AreImaged image v (facts (h' ++ old)) ys
-
--- where it ends for want of memory, the states of all nodes are as before
-abbrev pub SparesPicture : {D : Type 0} → (D → List ℕ → Type 0) → Actor → Option Machine → List (Station D) → List Event → List (Station D) → Type 0
-SparesPicture image by m xs h ys =
-    (v : Volume) (old : List Event) → IsTrueSeat v (facts (h ++ old)) by m → AreImaged image v (facts (h ++ old)) xs → AreImaged image v (facts (h ++ old)) ys × (state_in ys ≡ state_in xs)
 
 -- Between two turns: the world of the play is in order behind the earlier log, what each actor has in hand is true, and the
 -- images of each disk are those of its node's state.

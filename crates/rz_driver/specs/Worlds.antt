@@ -14,10 +14,10 @@ use Rattle.rz_locks.specs.Held.{Held}
 use Rattle.rz_lines.specs.Behind.{Before}
 use Rattle.rz_metadata.specs.Stands.{export_in}
 use Rattle.rz_play.specs.World.{World, Seat as APlayer, empty_seat}
-use Rattle.rz_driver.specs.declared.seat.Seat.{Seat}
-use Rattle.rz_driver.specs.declared.station.Shared.{Shared}
+use Rattle.rz_seats.specs.declared.seat.Seat.{Seat}
+use Rattle.rz_seats.specs.declared.shared.Shared.{Shared}
 use Rattle.rz_driver.specs.declared.driver.Driver.{Driver}
-use Rattle.rz_driver.specs.Seats.{seat_of, IsSeat}
+use Rattle.rz_seats.specs.Seats.{seat_of, IsSeat}
 use Rattle.rz_disk.specs.UnderFuse.{fused_meter}
 use Rattle.rz_stations.specs.Meters.{AreMetered, AreCounted}
 use Rattle.rz_stations.specs.Images.{IsRight, fused_image}

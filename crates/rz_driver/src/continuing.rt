@@ -16,7 +16,6 @@ ghost use Rattle.rz_driver.specs.Worlds.{left_behind, IsDriver, Holds};
 use crate::driver::Driver;
 use crate::journaling::{split_last, with_last};
 use crate::parts::new_parts;
-use crate::station::Shared;
 use rz_asks::Log;
 use rz_config::Volume;
 use rz_disk::Disk;
@@ -24,6 +23,7 @@ use rz_journal::JournalFault;
 use rz_locks::Locks;
 use rz_metadata::{Metadata, fault_number};
 use rz_opening::{OpenRefusal, open_all};
+use rz_seats::Shared;
 use std::alloc::Global;
 
 impl<D: Disk> Driver<D> {

@@ -13,11 +13,10 @@
 //! After a play [`Driver::published`] and [`Driver::fetch`] show what is published and what the nodes hold,
 //! without an event: so a driver is a `Store` to scrub.
 //!
-//! In reading order: `station`, `seat`, `acting`, `driver`, `turns`, `orders`, `nodes`, `parts`, `making`,
-//! `closing`, `journaling`, `continuing`, `stage`, `asking`.
+//! In reading order: `driver`, `turns`, `orders`, `nodes`, `parts`, `making`, `closing`, `journaling`,
+//! `continuing`, `stage`, `asking`.
 #![tactic(auto)]
 
-mod acting;
 mod asking;
 mod closing;
 mod continuing;
@@ -27,9 +26,7 @@ mod making;
 mod nodes;
 mod orders;
 mod parts;
-mod seat;
 mod stage;
-mod station;
 mod turns;
 
 pub use driver::Driver;

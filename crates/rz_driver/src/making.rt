@@ -9,12 +9,12 @@ ghost use Rattle.rz_driver.specs.Worlds.{anew, world_of, is_exact, IsDriver, Hol
 
 use crate::driver::Driver;
 use crate::parts::new_parts;
-use crate::station::Shared;
 use rz_asks::Log;
 use rz_config::Volume;
 use rz_disk::Disk;
 use rz_formatting::{DriverFault, format_all};
 use rz_locks::Locks;
+use rz_seats::Shared;
 use std::alloc::Global;
 
 impl<D: Disk> Driver<D> {

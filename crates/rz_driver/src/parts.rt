@@ -6,14 +6,14 @@ ghost use Rattle.mj_angles.specs.Layout.{max_bins_of};
 ghost use Rattle.rz_events.specs.Volume.{IsNode, IsVolume, nodes_of};
 ghost use Rattle.rz_export_model.specs.Export.{new_export};
 ghost use Rattle.rz_metadata.specs.Stands.{export_in, is_journaled, Stands};
-ghost use Rattle.rz_driver.specs.Seats.{IsEmptySeat};
+ghost use Rattle.rz_seats.specs.Seats.{IsEmptySeat};
 
-use crate::seat::Seat;
 use rz_config::Volume;
 use rz_disk::Disk;
 use rz_events::NodeSpec;
 use rz_formatting::all_nodes;
 use rz_metadata::Metadata;
+use rz_seats::Seat;
 use std::alloc::{AllocError, Global};
 
 /// 64 clients and 16 rebuilders.

@@ -9,11 +9,11 @@ ghost use Rattle.rz_metadata.specs.Stands.{is_journaled};
 ghost use Rattle.rz_driver.specs.Worlds.{place_of, world_of, is_exact, IsDriver, Holds, Leaves};
 
 use crate::NoMemory;
-use crate::acting::act;
 use crate::driver::Driver;
 use rz_disk::Disk;
 use rz_events::Actor;
 use rz_link::Link;
+use rz_seats::act;
 
 /// Where an actor stands in the row.
 pub(crate) fn place(by: Actor) -> Option<usize>

@@ -32,7 +32,7 @@ use Rattle.rz_image_laws.specs.Laws.{IsFetchLaw, IsReadBack}
 use Rattle.rz_play.specs.World.{World}
 use Rattle.rz_scrubbing.specs.Asks.{AreGiven}
 use Rattle.rz_scrubbing.specs.Scrubs.{EachListed}
-use Rattle.rz_driver.specs.declared.seat.Seat.{Seat}
+use Rattle.rz_seats.specs.declared.seat.Seat.{Seat}
 use Rattle.rz_formatting.specs.declared.formatting.Station.{Station}
 use Rattle.rz_stations.specs.Fetches.{GivesIn}
 use Rattle.rz_stations.specs.Asked.{fused_text}

@@ -1,6 +1,6 @@
 use Rattle.std.proofs.Common.{◌≡◌, ◌-◌, ◌++◌, ℕ, List, [], reverse, refl, sym, ap, ◌∙◌, subst, inl, inr, ◌+◌, arith}
 use Rattle.rz_disk.specs.UnderFuse.{UnderFuse}
-use Rattle.rz_driver.specs.declared.station.Shared.{Shared}
+use Rattle.rz_seats.specs.declared.shared.Shared.{Shared}
 use Rattle.std.proofs.lemmas.List.{append-nil, reverse-reverse}
 use Rattle.rz_events.specs.Volume.{Volume, nodes_of}
 use Rattle.rz_events.specs.declared.events.Event.{Event}

@@ -1,6 +1,6 @@
 use Rattle.std.proofs.Common.{◌≡◌, length}
 use Rattle.std.specs.List.{AllByRecursion}
-use Rattle.rz_driver.specs.Seats.{IsEmptySeat}
+use Rattle.rz_seats.specs.Seats.{IsEmptySeat}
 use Rattle.rz_driver.proofs.parts.empty_seats.Given as goal
 
 abbrev pub invariant-loop : goal.invariant-loop

@@ -8,9 +8,9 @@ use Rattle.rz_play.specs.World.{World}
 use Rattle.rz_play.specs.Lines.{with_operation}
 use Rattle.rz_lines.specs.Behind.{behind}
 use Rattle.rz_script.specs.declared.line.Line.TheVariants as line
-use Rattle.rz_driver.specs.declared.seat.Seat.{Seat}
+use Rattle.rz_seats.specs.declared.seat.Seat.{Seat}
 use Rattle.rz_asks.specs.Locking.{lock_of}
-use Rattle.rz_driver.specs.Seats.{IsSeat, HasLayout, work_in, seat_of}
+use Rattle.rz_seats.specs.Seats.{IsSeat, HasLayout, work_in, seat_of}
 use Rattle.rz_driver.specs.Worlds.{place_of, world, world_of}
 use Rattle.rz_stations.proofs.Rows.{all-at}
 use Rattle.rz_driver.proofs.OrderLemmas.{ordered, still-ready, all-more}

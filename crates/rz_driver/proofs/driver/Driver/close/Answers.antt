@@ -4,7 +4,7 @@ use Rattle.rz_disk.specs.UnderFuse.{UnderFuse, fused_meter}
 use Rattle.rz_events.specs.Volume.{Volume, nodes_of}
 use Rattle.rz_events.specs.declared.files.NodeSpec.{NodeSpec}
 use Rattle.rz_events.specs.declared.events.Event.{Event}
-use Rattle.rz_driver.specs.declared.station.Shared.{Shared}
+use Rattle.rz_seats.specs.declared.shared.Shared.{Shared}
 use Rattle.rz_stations.specs.Asked.{fused_text}
 use Rattle.rz_stations.specs.Meters.{AreDisksCounted}
 use Rattle.rz_stations.specs.Images.{AreDisksImaged}

@@ -5,7 +5,7 @@ use Rattle.rz_play.specs.World.{World}
 use Rattle.rz_play.specs.Lines.{with_miss}
 use Rattle.rz_lines.specs.Behind.{behind}
 use Rattle.rz_script.specs.declared.line.Line.TheVariants as line
-use Rattle.rz_driver.specs.Seats.{IsSeat}
+use Rattle.rz_seats.specs.Seats.{IsSeat}
 use Rattle.rz_driver.specs.Worlds.{place_of, world, world_of}
 use Rattle.rz_stations.proofs.Rows.{all-at}
 use Rattle.rz_driver.proofs.OrderLemmas.{ordered, still-ready}

@@ -6,7 +6,7 @@ use Rattle.rz_driver.proofs.DriverPictures.{turn-lengths, turn-picture, turn-tex
 use Rattle.rz_driver.proofs.DriverMeters.{log-kept}
 use Rattle.rz_driver.proofs.JournalLemmas.{goes-after, journal-goes-on, journal-ends, journal-still}
 use Rattle.rz_stations.proofs.PictureLemmas.{on-err}
-use Rattle.rz_driver.proofs.ActPictures.{act-grows}
+use Rattle.rz_seats.proofs.ActPictures.{act-grows}
 use Rattle.rz_driver.proofs.TakeLemmas.{seat-there, have-layouts, tied-at, drives, turned}
 use Rattle.rz_driver.proofs.driver.Driver.take_turn.Goals as goal
 

@@ -10,11 +10,11 @@ use rz_metadata::Metadata;
 /// journal, the locks, how many messages the link lost of itself, the log, and room for the bins of a
 /// record.
 #[derive(Drop)]
-pub(crate) struct Shared<D: Disk, J: Disk> {
-    pub(crate) stations: Vec<Station<D>>,
-    pub(crate) export: Metadata<J>,
-    pub(crate) locks: Locks,
-    pub(crate) lost: u64,
-    pub(crate) log: Log,
-    pub(crate) bins: Vec<u64>,
+pub struct Shared<D: Disk, J: Disk> {
+    pub stations: Vec<Station<D>>,
+    pub export: Metadata<J>,
+    pub locks: Locks,
+    pub lost: u64,
+    pub log: Log,
+    pub bins: Vec<u64>,
 }

@@ -3,16 +3,16 @@ use Rattle.std.specs.Prelude.{slice_set}
 use Rattle.std.proofs.Math.Nat.{le_refl}
 use Rattle.std.proofs.lemmas.Result.{on_ok_weaker, on_err_weaker}
 use Rattle.rz_formatting.specs.declared.formatting.Station.{Station}
-use Rattle.rz_driver.specs.Acts.{Through, ReplyLost, RequestLost}
+use Rattle.rz_seats.specs.Acts.{Through, ReplyLost, RequestLost}
 use Rattle.rz_stations.specs.Nodes.{IsThroughPart}
 use Rattle.rz_stations.specs.Meters.{GoesOn}
 use Rattle.rz_stations.specs.Images.{KeepsNode, SparesNode}
-use Rattle.rz_driver.specs.Pictures.{SparesPicture}
+use Rattle.rz_seats.specs.Hands.{SparesPicture}
 use Rattle.rz_stations.proofs.MeterLemmas.{order-err, sid-at, metered-counts, metered-step, order-left, unheard-goes}
-use Rattle.rz_driver.proofs.MessageLemmas.{read-at, within-len, layout-at}
-use Rattle.rz_driver.proofs.ActPictures.{node-keeps, node-spares, still-spares, unheard-keeps, lost-by-link, through-grows, lost-grows}
+use Rattle.rz_seats.proofs.MessageLemmas.{read-at, within-len, layout-at}
+use Rattle.rz_seats.proofs.ActPictures.{node-keeps, node-spares, still-spares, unheard-keeps, lost-by-link, through-grows, lost-grows}
 use Rattle.rz_stations.proofs.PictureLemmas.{both-ok, on-err}
-use Rattle.rz_driver.proofs.acting.message.Goals as goal
+use Rattle.rz_seats.proofs.acting.message.Goals as goal
 
 pub index_mut-requires : goal.index_mut-requires
 index_mut-requires g c = within-len c.args.shared.now.stations.items c.as_slice.result.now c.args.number c.in-Some.place _ c.as_slice.ensures.value c.in-Some.ensures c.args.shared.now.stations.ok.0

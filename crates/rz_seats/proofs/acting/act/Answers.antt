@@ -1,21 +1,21 @@
 use Rattle.std.proofs.Common.{◌≡◌, IsTrue, Some, refl, ap}
 use Rattle.std.proofs.lemmas.Result.{on_ok_weaker, on_err_weaker}
-use Rattle.rz_driver.specs.Acts.{IsMessage, Exports, Opens, Sends, Says}
+use Rattle.rz_seats.specs.Acts.{IsMessage, Exports, Opens, Sends, Says}
 use Rattle.rz_events.specs.declared.export.Call.TheVariants as call
 use Rattle.rz_events.specs.declared.tree.TreeCall.TheVariants as tree
 use Rattle.rz_export_model.specs.Export.{export_reply}
 use Rattle.rz_metadata.specs.Stands.{export_in}
 use Rattle.rz_operation.specs.Machine.{text_of}
 use Rattle.rz_asks.specs.Journals.{call_asked, EndsOn, KeepsAsked}
-use Rattle.rz_driver.specs.Journals.{Asks, AsksNothing}
-use Rattle.rz_driver.proofs.JournalLemmas.{ends-with-it, fate-stays, said-stays-export, same-store}
+use Rattle.rz_seats.specs.Stores.{Asks, AsksNothing}
+use Rattle.rz_seats.proofs.StoreLemmas.{ends-with-it, fate-stays, said-stays-export, same-store}
 use Rattle.rz_stations.proofs.MeterLemmas.{still-err, metered-stays, still-left, export-stays, said-stays}
 use Rattle.rz_asks.specs.Locking.{IsOpenPart, open_reply}
 use Rattle.rz_asks.specs.Parts.{IsExportPart}
-use Rattle.rz_driver.specs.Pictures.{KeepsPicture, SparesPicture}
-use Rattle.rz_driver.proofs.ActPictures.{still-keeps, still-spares, at-machine, at-spares, export-keeps, open-keeps, say-keeps}
+use Rattle.rz_seats.specs.Hands.{KeepsPicture, SparesPicture}
+use Rattle.rz_seats.proofs.ActPictures.{still-keeps, still-spares, at-machine, at-spares, export-keeps, open-keeps, say-keeps}
 use Rattle.rz_stations.proofs.PictureLemmas.{both-ok, on-err}
-use Rattle.rz_driver.proofs.acting.act.Goals as goal
+use Rattle.rz_seats.proofs.acting.act.Goals as goal
 
 pub returns-in-Export-clause-ok : goal.returns-in-Export-clause-ok
 returns-in-Export-clause-ok g c =

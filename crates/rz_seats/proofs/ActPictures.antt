@@ -24,13 +24,13 @@ use Rattle.rz_asks.specs.Parts.{IsExportPart, IsSayPart}
 use Rattle.rz_image_laws.specs.Laws.{IsLongerLaw}
 use Rattle.rz_block_laws.specs.Laws.{IsNoFetch}
 use Rattle.rz_block_laws.specs.Turns.{HasInHand, IsToldLaw}
-use Rattle.rz_driver.specs.declared.seat.Seat.{Seat}
-use Rattle.rz_driver.specs.declared.station.Shared.{Shared}
+use Rattle.rz_seats.specs.declared.seat.Seat.{Seat}
+use Rattle.rz_seats.specs.declared.shared.Shared.{Shared}
 use Rattle.rz_formatting.specs.declared.formatting.Station.{Station}
-use Rattle.rz_driver.specs.Acts.{IsAct, IsFate, Rests, Exports, Opens, Sends, Says, Through, ReplyLost, RequestLost}
+use Rattle.rz_seats.specs.Acts.{IsAct, IsFate, Rests, Exports, Opens, Sends, Says, Through, ReplyLost, RequestLost}
 use Rattle.rz_stations.specs.Nodes.{IsAsked, IsThroughPart, IsReplyLostPart, IsRequestLostPart}
 use Rattle.rz_stations.specs.Images.{HasImages, KeepsNode, SparesNode}
-use Rattle.rz_driver.specs.Pictures.{HasTrueHand, IsTrueSeat, KeepsPicture, SparesPicture}
+use Rattle.rz_seats.specs.Hands.{HasTrueHand, IsTrueSeat, KeepsPicture, SparesPicture}
 use Rattle.rz_stations.proofs.PictureLemmas.{GrowsBy, grows-behind, row-longer, row-set, row-at, states-stay}
 
 -- a message that was lost goes through the link

@@ -13,15 +13,15 @@ use Rattle.rz_operation.specs.Machine.{Machine}
 use Rattle.rz_operation_model.specs.Ask.{Ask, AskNode, Rest, ask_of}
 use Rattle.rz_metadata.specs.Stands.{export_in}
 use Rattle.rz_play.specs.Turns.{IsLost, IsThrough, lost_after}
-use Rattle.rz_driver.specs.declared.acting.Kind.{Kind}
-use Rattle.rz_driver.specs.declared.acting.Kind.TheVariants as kind
-use Rattle.rz_driver.specs.declared.seat.Seat.{Seat}
-use Rattle.rz_driver.specs.declared.station.Shared.{Shared}
+use Rattle.rz_seats.specs.declared.acting.Kind.{Kind}
+use Rattle.rz_seats.specs.declared.acting.Kind.TheVariants as kind
+use Rattle.rz_seats.specs.declared.seat.Seat.{Seat}
+use Rattle.rz_seats.specs.declared.shared.Shared.{Shared}
 use Rattle.rz_formatting.specs.declared.formatting.Station.{Station}
 use Rattle.rz_asks.specs.Locking.{IsOpenPart}
 use Rattle.rz_stations.specs.Nodes.{IsAsked, IsThroughPart, IsReplyLostPart, IsRequestLostPart}
 use Rattle.rz_asks.specs.Parts.{IsExportPart, IsSayPart}
-use Rattle.rz_driver.specs.Seats.{work_in}
+use Rattle.rz_seats.specs.Seats.{work_in}
 use Rattle.rz_stations.specs.Stations.{IsAt, IsCalled}
 
 abbrev pub HasLayouts : {D : Type 0} → Layout → List (Station D) → Type 0

@@ -3,12 +3,12 @@ ghost use Rattle.std.specs.Prelude.{◌≡◌, ◌++◌, ◌∷◌, [], not, OnO
 ghost use Rattle.rz_core.specs.History.{Facts};
 ghost use Rattle.rz_events.specs.Volume.{Volume};
 ghost use Rattle.rz_play.specs.World.{at_work, has_work, is_over};
-ghost use Rattle.rz_driver.specs.Pictures.{HasTrueHand};
-ghost use Rattle.rz_driver.specs.Seats.{seat_of, IsSeat, IsEmptySeat};
+ghost use Rattle.rz_seats.specs.Hands.{HasTrueHand};
+ghost use Rattle.rz_seats.specs.Seats.{seat_of, IsSeat, IsEmptySeat};
 
-use crate::NoMemory;
 use mj_angles::Layout;
 use rz_events::Operation;
+use rz_lines::NoMemory;
 use rz_locks::{LockKind, Range};
 use rz_operation::Machine;
 use std::alloc::{AllocError, Global};
@@ -17,17 +17,19 @@ use std::collections::VecDeque;
 /// The operations that it has not begun, the number of the last one that it began, the one in hand, the
 /// lock that it holds, and how its next message is to be lost.
 #[derive(Drop)]
-pub(crate) struct Seat {
+pub struct Seat {
     pub(crate) todo: VecDeque<Operation>,
     pub(crate) number: u32,
     pub(crate) machine: Option<Machine>,
     pub(crate) lock: Option<(Range, LockKind)>,
-    pub(crate) miss: Option<bool>,
+    /// None: the link says of each message whether it comes through. Some(true): the next one does, and its
+    /// reply is lost.
+    pub miss: Option<bool>,
 }
 
 impl Seat {
     /// An actor with nothing to do.
-    pub(crate) fn new(alloc: Global) -> Seat
+    pub fn new(alloc: Global) -> Seat
         ensures { IsEmptySeat result }
     {
         Seat {
@@ -40,7 +42,7 @@ impl Seat {
     }
 
     /// Puts an operation at the end of what it has to do.
-    pub(crate) fn add(&mut self, op: Operation) -> Result<(), AllocError>
+    pub fn add(&mut self, op: Operation) -> Result<(), AllocError>
         ensures todo { OnOk result (self.new.todo.items ≡ self.old.todo.items ++ op ∷ []) }
         ensures number { self.new.number ≡ self.old.number }
         ensures machine { self.new.machine ≡ self.old.machine }
@@ -52,7 +54,7 @@ impl Seat {
     }
 
     /// Whether an operation is unfinished.
-    pub(crate) fn has_work(&self) -> bool
+    pub fn has_work(&self) -> bool
         ensures { result ≡ has_work (seat_of self.now) }
     {
         match &self.machine {
@@ -62,7 +64,7 @@ impl Seat {
     }
 
     /// Takes up the next operation, where none is in hand.
-    pub(crate) fn take_up(&mut self, alloc: Global, layout: Layout) -> Result<(), NoMemory>
+    pub fn take_up(&mut self, alloc: Global, layout: Layout) -> Result<(), NoMemory>
         requires { IsSeat layout self.old }
         ensures ok { OnOk result (seat_of self.new ≡ at_work (seat_of self.old)) }
         ensures seat { OnOk result (IsSeat layout self.new) }

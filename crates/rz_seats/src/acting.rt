@@ -8,20 +8,20 @@ ghost use Rattle.rz_operation_model.specs.Ask.{ask_of};
 ghost use Rattle.rz_play.specs.Turns as model;
 ghost use Rattle.rz_asks.specs.Locking.{lock_of};
 ghost use Rattle.rz_stations.specs.Nodes.{IsAsked};
-ghost use Rattle.rz_driver.specs.Seats.{HasLayout};
+ghost use Rattle.rz_seats.specs.Seats.{HasLayout};
 ghost use Rattle.rz_stations.specs.Meters.{AreMetered, AreCounted, CarriesCounts};
 ghost use Rattle.rz_asks.specs.Journals.{EndsOn};
-ghost use Rattle.rz_driver.specs.Journals.{IsExportTurn, IsSameStore};
-ghost use Rattle.rz_driver.specs.Pictures.{KeepsPicture, SparesPicture};
-ghost use Rattle.rz_driver.specs.Acts.{IsKind, IsMessage, IsReleased, IsAct, HasLayouts};
+ghost use Rattle.rz_seats.specs.Stores.{IsExportTurn, IsSameStore};
+ghost use Rattle.rz_seats.specs.Hands.{KeepsPicture, SparesPicture};
+ghost use Rattle.rz_seats.specs.Acts.{IsKind, IsMessage, IsReleased, IsAct, HasLayouts};
 
-use crate::NoMemory;
 use crate::seat::Seat;
-use crate::station::Shared;
+use crate::shared::Shared;
 use mj_angles::Layout;
 use rz_asks::{ask_export, open, say};
 use rz_disk::Disk;
 use rz_events::{Actor, NodeAsk};
+use rz_lines::NoMemory;
 use rz_link::{Link, Sent};
 use rz_locks::{LockKind, Locks, Range};
 use rz_operation::{Ask, Machine};
@@ -51,7 +51,7 @@ fn kind_of(machine: &Machine) -> Kind
 }
 
 /// The actor does what its operation asks next.
-pub(crate) fn act<D: Disk, J: Disk, L: Link>(
+pub fn act<D: Disk, J: Disk, L: Link>(
     alloc: Global,
     layout: Layout,
     by: Actor,

@@ -1,7 +1,7 @@
 use Rattle.std.proofs.Common.{sym, ◌∙◌}
-use Rattle.rz_driver.specs.Seats.{seat_of}
-use Rattle.rz_driver.proofs.SeatLemmas.{over-now, taken-up}
-use Rattle.rz_driver.proofs.seat.Seat.take_up.Goals as goal
+use Rattle.rz_seats.specs.Seats.{seat_of}
+use Rattle.rz_seats.proofs.SeatLemmas.{over-now, taken-up}
+use Rattle.rz_seats.proofs.seat.Seat.take_up.Goals as goal
 
 pub returns-clause-ok : goal.returns-clause-ok
 returns-clause-ok c =

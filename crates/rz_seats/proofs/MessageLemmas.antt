@@ -4,7 +4,7 @@ use Rattle.std.specs.Prelude.{slice_get}
 use Rattle.std.proofs.lemmas.Option.{slice_get_read}
 use Rattle.mj_angles.specs.declared.layout.Layout.{Layout}
 use Rattle.rz_formatting.specs.declared.formatting.Station.{Station}
-use Rattle.rz_driver.specs.Acts.{HasLayouts}
+use Rattle.rz_seats.specs.Acts.{HasLayouts}
 use Rattle.rz_stations.specs.Stations.{IsAt}
 use Rattle.rz_stations.proofs.Rows.{all-at, at-within}
 

@@ -6,7 +6,7 @@ use Rattle.rz_operation.specs.Machine.{Machine}
 use Rattle.rz_operation.specs.Answers.{IsOperation}
 use Rattle.rz_operation_model.specs.Work.{Work, Over}
 use Rattle.rz_play.specs.World.{Seat as APlayer}
-use Rattle.rz_driver.specs.declared.seat.Seat.{Seat}
+use Rattle.rz_seats.specs.declared.seat.Seat.{Seat}
 use Rattle.rz_asks.specs.Locking.{lock_of}
 
 abbrev pub work_in : Option Machine → Work

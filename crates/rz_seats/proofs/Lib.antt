@@ -1,0 +1,5 @@
+mod SeatLemmas
+mod MessageLemmas
+pub mod ActPictures
+pub mod ExportEvents
+pub mod StoreLemmas

@@ -1,0 +1,4 @@
+pub mod Seats
+pub mod Acts
+pub mod Hands
+pub mod Stores
