@@ -10,6 +10,7 @@ use Rattle.rz_events.specs.declared.keys.Actor.{Actor}
 use Rattle.rz_events.specs.declared.keys.Actor.TheVariants.{Client, Rebuilder, Admin}
 use Rattle.rz_events.specs.declared.tree.TreeCall.TheVariants as tree
 use Rattle.rz_events.specs.Volume.{Volume}
+use Rattle.rz_spelling.specs.Words.{Word}
 use Rattle.rz_script.specs.declared.fault.ScriptCause.{ScriptCause}
 use Rattle.rz_script.specs.declared.fault.ScriptCause.TheVariants.{BadNode, OutOfRange}
 use Rattle.rz_events.specs.declared.operations.Datum.{Datum}
@@ -30,7 +31,7 @@ use Rattle.rz_script.specs.declared.keywords.Keyword.{Keyword}
 use Rattle.rz_script.specs.declared.keywords.Keyword.TheVariants as keys
 use Rattle.rz_script.proofs.Bytes.{utf8_bytes, are_bytes}
 use Rattle.rz_script.specs.Lines.{IsActor, IsWord, IsDatum, IsCall, IsNodeOf, IsOfClient, IsOfRebuilder, IsOperation, IsLine, has_node, datum_length, most_bytes, last_byte}
-use Rattle.rz_script.specs.Grammar.{Word, Judge, Reader, and_then, ◌>>=◌, done, any, number, number_in, numbered, actor, of_volume, node, at_most, made, hex, datum, datum_from, length_from, way, verb, judged, judged_if, unless_run, verb_named, path_call, pair_call, on_path, on_pair, setattr, put, get, write, read, update, view, rebuild, operands, by_actor, op, turn, rounds, rest, on_node, break_node, miss, keyword, after_keyword, counted, line, some}
+use Rattle.rz_script.specs.Grammar.{Judge, Reader, and_then, ◌>>=◌, done, any, number, number_in, numbered, actor, of_volume, node, at_most, made, hex, datum, datum_from, length_from, way, verb, judged, judged_if, unless_run, verb_named, path_call, pair_call, on_path, on_pair, setattr, put, get, write, read, update, view, rebuild, operands, by_actor, op, turn, rounds, rest, on_node, break_node, miss, keyword, after_keyword, counted, line, some}
 
 both : (a b : Bool) → (a && b) ≡ true → (a ≡ true) × (b ≡ true)
 both true b h = (refl, h)

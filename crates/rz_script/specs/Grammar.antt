@@ -18,6 +18,7 @@ use Rattle.rz_events.specs.declared.operations.Datum.{Datum}
 use Rattle.rz_events.specs.declared.operations.Datum.TheVariants.{Bytes, Made}
 use Rattle.rz_events.specs.declared.operations.Operation.{Operation}
 use Rattle.rz_events.specs.declared.operations.Operation.TheVariants.{Tree, Put, Get, Write, Read, Rebuild, Update, View}
+use Rattle.rz_spelling.specs.Words.{Word}
 use Rattle.rz_script.specs.declared.line.Line.{Line}
 use Rattle.rz_script.specs.declared.line.Line.TheVariants.{Op, Turn, Rounds, Rest, Stop, Start, Lose, Break, Miss}
 use Rattle.rz_script.specs.declared.form.Form.{Form}
@@ -38,9 +39,6 @@ use Rattle.rz_script.specs.declared.fault.ScriptCause.{ScriptCause}
 use Rattle.rz_script.specs.declared.fault.ScriptCause.TheVariants.{NotUtf8, UnknownLine, MissingWord, ExtraWord, BadNumber, OutOfRange, BadActor, BadNode, BadDatum, BadOperation, LateVolume, NotForRun}
 use Rattle.rz_script.specs.Lines.{has_node, datum_length, most_bytes, last_byte}
 use Rattle.rz_script.specs.Scripts.{Script, no_lines}
-
-abbrev pub Word : Type 0
-Word = List ℕ
 
 -- the words of a line: what stands between spaces
 abbrev pub words : List ℕ → List Word

@@ -16,4 +16,4 @@ mod words;
 
 pub use outcomes::push_mask;
 pub use text::show;
-pub use words::{push_number, push_uuid, push_word};
+pub use words::push_uuid;
