@@ -142,11 +142,12 @@ fn push_line(
 
 /// Adds the line that ends the text of a play that ended.
 #[tactic(auto, unfolding(crate::specs::Text::end_line))]
-fn push_end(alloc: Global, out: &mut Vec<u8>, events: usize) -> Result<(), AllocError>
+pub fn push_end(alloc: Global, out: &mut Vec<u8>, events: u64) -> Result<(), AllocError>
     ensures { OnOk result (out.new.items ≡ out.old.items ++ end_line events) }
 {
-    let line = format!(in alloc; "end {events}\n")?;
-    out.extend_from_slice(line.as_bytes())
+    out.extend_from_slice(b"end")?;
+    push_number(alloc, out, events)?;
+    out.extend_from_slice(b"\n")
 }
 
 /// The text of a log, the oldest event first: a line for the end of each operation and of each block
@@ -164,7 +165,7 @@ pub fn show(alloc: Global, log: &[Event], ended: bool) -> Result<Vec<u8>, AllocE
         opened.note(event);
     }
     if ended {
-        push_end(alloc, &mut out, log.len())?;
+        push_end(alloc, &mut out, log.len() as u64)?;
     }
     Ok(out)
 }
