@@ -8,6 +8,7 @@ use Rattle.rz_events.specs.declared.ends.ReadMark.TheVariants as mark
 use Rattle.rz_events.specs.declared.ends.WriteEnd.{WriteEnd}
 use Rattle.rz_events.specs.declared.export.Reply.{Reply}
 use Rattle.rz_events.specs.declared.export.Reply.TheVariants as reply
+use Rattle.rz_events.specs.declared.files.FileInfo.{FileInfo}
 use Rattle.rz_events.specs.declared.nodes.FetchAnswer.{FetchAnswer}
 use Rattle.rz_events.specs.declared.nodes.NodeAnswer.{NodeAnswer}
 use Rattle.rz_events.specs.declared.nodes.NodeAnswer.TheVariants as node
@@ -26,16 +27,16 @@ use Rattle.rz_client_model.specs.Write.{writer_ask, writer_end}
 use Rattle.rz_reader.specs.Machine.{AreFitting}
 use Rattle.rz_operation_model.specs.Ranges.{Range}
 use Rattle.rz_operation_model.specs.Files.{FileState, Reads, Writes, Ended, ask_to_read, ask_to_write, after_part, after_written_block, file_ask, file_told}
-use Rattle.rz_operation_model.specs.Work.{Within, Reading, Writing}
+use Rattle.rz_operation_model.specs.Work.{RangePlan, WriteBytes, ReadBytes, Within, Reading, Writing}
 use Rattle.rz_operation_model.specs.Ask.{ask_of}
-use Rattle.rz_operation_model.specs.Steps.{Told, Replied, Answered, Missed, Noted, told, in_range, reader_after, writer_after, said_writing}
-use Rattle.rz_file.specs.Machine.{Machine as FileMachine, Goes as FileGoes, IsAnswered as IsFileAnswered, text_in, text_found as found_text, pairs_in as file_pairs, IsBlockIn as IsFileBlock, pairs_fetched as file_fetched}
+use Rattle.rz_operation_model.specs.Steps.{Told, Replied, Answered, Missed, Noted, told, in_range, range_planned, reader_after, writer_after, said_writing}
+use Rattle.rz_file.specs.Machine.{Machine as FileMachine, begun, Goes as FileGoes, IsAnswered as IsFileAnswered, text_in, text_found as found_text, pairs_in as file_pairs, IsBlockIn as IsFileBlock, pairs_fetched as file_fetched}
 use Rattle.rz_stages.specs.declared.stage.Stage.{Stage}
 use Rattle.rz_stages.specs.declared.stage.Stage.TheVariants as stage
 use Rattle.rz_stages.specs.Machine.{text_found, text_asked}
 use Rattle.rz_stages.specs.Told.{read_answer, write_answer, as_read, as_write, reply_to, range_reply, range_told, miss_to, range_miss}
 use Rattle.rz_stages.specs.Answers.{MayMiss, pairs_in, pairs_fetched, IsBlockIn, Goes, IsAnswered}
-use Rattle.rz_stages.specs.Inside.{IsOpen, IsRangeStage, IsStage, machine_of}
+use Rattle.rz_stages.specs.Inside.{IsOpen, IsRangeStage, IsStage, machine_of, work_of}
 
 -- Pairs and block are those of the range.
 
@@ -91,6 +92,15 @@ settled-inside y file (Reads r s) new same at is =
 settled-inside y file (Writes r text s) new same at is =
     subst (λ (x : Stage). IsStage y x) (sym is) (record { layout = same; going = subst (λ (z : FileState). IsOpen z) (sym at) tt })
 settled-inside y file (Ended r end) new same at is = subst (λ (x : Stage). IsStage y x) (sym is) tt
+
+pub settled-work : (file : FileMachine) (state : FileState) (new : Stage) → file.state ≡ state → IsRangeStage file state new → work_of new ≡ in_range state
+settled-work file (Reads r s) new at is = ap (λ (x : Stage). work_of x) is ∙ ap (λ (z : FileState). in_range z) at
+settled-work file (Writes r text s) new at is = ap (λ (x : Stage). work_of x) is ∙ ap (λ (z : FileState). in_range z) at
+settled-work file (Ended r end) new at is = ap (λ (x : Stage). work_of x) is
+
+pub range-begun : (layout : Layout) (info : FileInfo) (plan : RangePlan) → in_range (begun layout info plan) ≡ range_planned layout info plan
+range-begun layout info (WriteBytes offset bytes) = refl
+range-begun layout info (ReadBytes offset count) = refl
 
 abbrev given : Option FileAnswer → FileAnswer
 given None = files.Noted
