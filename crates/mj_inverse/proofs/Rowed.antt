@@ -1,11 +1,11 @@
 -- One row more is written out.
-use Rattle.std.proofs.Common.{◌≡◌, ℕ, suc, ◌+◌, ◌*◌, ◌<◌, ◌≤◌, sym, ap, ◌∙◌, arith, rules, ◌⊎◌, inl, inr, List, ◌∷◌, ◌++◌, length, get_or}
+use Rattle.std.proofs.Common.{◌≡◌, ℕ, zero, suc, ◌+◌, ◌*◌, ◌<◌, ◌≤◌, sym, ap, ◌∙◌, arith, rules, ◌⊎◌, inl, inr, List, ◌∷◌, ◌++◌, length, get_or}
 use Rattle.std.proofs.lemmas.Bool.{cases_lt}
 use Rattle.std.proofs.lemmas.List.{places}
 use mathlib.Core.Path.{fun_ext}
-use Rattle.mj_inverse.specs.Rows.{raised, cut, block_rows}
+use Rattle.mj_inverse.specs.Rows.{raised, cut, block_rows, AreRows}
 use Rattle.mj_inverse.proofs.Taken.{place_below}
-use Rattle.mj_inverse.proofs.Blocks.{cut_in, cut_out}
+use Rattle.mj_inverse.proofs.Blocks.{cut_in, cut_out, length-block_rows}
 
 pub cut-same : (cols : ℕ) (v w : ℕ → ℕ) → ((k : ℕ) → k < cols → v k ≡ w k) → cut cols v ≡ cut cols w
 cut-same cols v w same = fun_ext (λ k. by k (cases_lt k cols))
@@ -35,3 +35,21 @@ rows_more cols low n unit j row others h long f fs first rest =
     sym (ap (λ x. get_or (row ++ others) x 0) e ∙ back row others (unit * cols) (unit * i + j) long)) in
     ap (λ x. x ∷ fs) (first ∙ ap (λ x. raised x (cut cols (λ k. get_or row (unit * k + j) 0))) a ∙ ap (raised (low + 16 * suc n)) b)
     ∙ ap (λ x. raised (low + 16 * suc n) (cut cols (λ i. get_or (row ++ others) (unit * i + j) 0)) ∷ x) (rest ∙ ap (block_rows cols low n) d)
+
+-- one row more is a row
+pub are_more : (cols low at : ℕ) (f : ℕ → ℕ) (fs : List (ℕ → ℕ)) → at ≡ low + 16 * (length fs + 1) → (w : ℕ → ℕ) × (f ≡ raised at (cut cols w)) → AreRows cols low fs →
+    AreRows cols low (f ∷ fs)
+are_more cols low at f fs e (w, row) rest = ((w, row ∙ ap (λ n. raised n (cut cols w)) (let k : at ≡ low + 16 * suc (length fs) = omega arith in k)), rest)
+
+-- the first of the rows
+pub first_row : (cols low at : ℕ) (f : ℕ → ℕ) (fs : List (ℕ → ℕ)) → at ≡ low + 16 * (length fs + 1) → AreRows cols low (f ∷ fs) →
+    (w : ℕ → ℕ) × (f ≡ raised at (cut cols w))
+first_row cols low at f fs e ((w, row), rest) = (w, row ∙ ap (λ n. raised n (cut cols w)) (let k : low + 16 * suc (length fs) ≡ at = omega arith in k))
+
+-- the rows of a block are rows
+pub are-block_rows : (cols low n : ℕ) (w : ℕ → ℕ) → AreRows cols low (block_rows cols low n w)
+are-block_rows cols low zero w = tt
+are-block_rows cols low (suc n) w =
+    let v : ℕ → ℕ = λ i. w (cols + i) in
+    let e : low + 16 * suc n ≡ low + 16 * suc (length (block_rows cols low n v)) = ap (λ k. low + 16 * suc k) (sym (length-block_rows cols low n v)) in
+    ((w, ap (λ k. raised k (cut cols w)) e), are-block_rows cols low n (λ i. w (cols + i)))

@@ -1,11 +1,13 @@
 -- What trimming a series keeps.
-use Rattle.std.proofs.Common.{◌≡◌, ℕ, ◌+◌, ◌*◌, ◌<◌, ◌≤◌, sym, ap, ◌∙◌, arith, rules, ◌⊎◌, inl, inr, List, [], ◌∷◌, length, get_or, subst}
+use Rattle.std.proofs.Common.{◌≡◌, ℕ, ◌+◌, ◌*◌, ◌<◌, ◌≤◌, ◌/◌, ◌%◌, sym, ap, ◌∙◌, arith, rules, ◌⊎◌, inl, inr, List, [], ◌∷◌, length, get_or, subst}
 use Rattle.std.specs.Prelude.{slice_range, ◌-◌, vec_capacity, vec_items}
+use Rattle.std.proofs.Math.Nat.{div-add-mod, mod-lt}
 use Rattle.std.proofs.lemmas.Bool.{cases_lt}
 use Rattle.std.proofs.lemmas.List.{places}
 use Rattle.mj_inverse.specs.declared.series.Series.{Series}
 use Rattle.mj_inverse.specs.Rows.{Both, IsDividedOut, times}
 use Rattle.mj_inverse.specs.Series.{seq, angle, IsNext, IsSeries, IsTrimmed}
+use Rattle.mj_inverse.proofs.Taken.{place_below, place_le}
 
 -- a word among those that are all zero
 pub zero_between : (xs ys : List ℕ) (a b i : ℕ) → ys ≡ xs → ((k : ℕ) → k < length (slice_range ys a b) → get_or (slice_range ys a b) k 0 ≡ 0) → b ≤ length xs → a ≤ i → i < b → get_or xs i 0 ≡ 0
@@ -16,6 +18,32 @@ zero_between xs ys a b i same all room low high =
     let at : get_or (slice_range xs a b) (i - a) 0 ≡ get_or xs (a + (i - a)) 0 = search (rules, places) in
     let e : a + (i - a) ≡ i = omega arith in
     ap (λ k. get_or xs k 0) (sym e) ∙ sym at ∙ now (i - a) (omega arith)
+
+-- the words of places that are all zero
+pub zero_within : (unit from to : ℕ) (xs ys : List ℕ) → ys ≡ xs → 0 < unit → unit * to ≤ length xs →
+    ((t j : ℕ) → from ≤ t → t < to → j < unit → get_or xs (unit * t + j) 0 ≡ 0) →
+    (k : ℕ) → k < length (slice_range ys (unit * from) (unit * to)) → get_or (slice_range ys (unit * from) (unit * to)) k 0 ≡ 0
+zero_within unit from to xs ys same some room zeros =
+    let P : List ℕ → Type 0 = λ zs. (k : ℕ) → k < length (slice_range zs (unit * from) (unit * to)) → get_or (slice_range zs (unit * from) (unit * to)) k 0 ≡ 0 in
+    subst P (sym same) at
+  where
+    after : (i t j : ℕ) → unit * t + j ≡ i → j < unit → unit * from ≤ i → (t < from) ⊎ (from ≤ t) → from ≤ t
+    after i t j e h low (inl less) = (let l = place_below unit t j from h less in absurd (omega arith))
+    after i t j e h low (inr more) = more
+
+    before : (i t j : ℕ) → unit * t + j ≡ i → i < unit * to → (t < to) ⊎ (to ≤ t) → t < to
+    before i t j e high (inl less) = less
+    before i t j e high (inr more) = (let l = place_le unit to t more in absurd (omega arith))
+
+    word : (i t j : ℕ) → unit * t + j ≡ i → j < unit → unit * from ≤ i → i < unit * to → get_or xs i 0 ≡ 0
+    word i t j e h low high = ap (λ n. get_or xs n 0) (sym e) ∙ zeros t j (after i t j e h low (cases_lt t from)) (before i t j e high (cases_lt t to)) h
+
+    at : (k : ℕ) → k < length (slice_range xs (unit * from) (unit * to)) → get_or (slice_range xs (unit * from) (unit * to)) k 0 ≡ 0
+    at k h =
+        let i : ℕ = unit * from + k in
+        let long : length (slice_range xs (unit * from) (unit * to)) ≡ unit * to - unit * from = search (rules, places) in
+        let same : get_or (slice_range xs (unit * from) (unit * to)) k 0 ≡ get_or xs (unit * from + k) 0 = search (rules, places) in
+        same ∙ word (unit * from + k) ((unit * from + k) / unit) ((unit * from + k) % unit) (div-add-mod (unit * from + k) unit) (mod-lt (unit * from + k) some) (omega arith) (omega arith)
 
 -- one more place that is zero, behind the others
 pub zero_up : (unit a t : ℕ) (w : ℕ → ℕ) → ((t' j : ℕ) → a ≤ t' → t' < t → j < unit → w (unit * t' + j) ≡ 0) → ((j : ℕ) → j < unit → w (unit * t + j) ≡ 0) →

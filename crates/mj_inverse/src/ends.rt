@@ -54,6 +54,17 @@ pub fn padded_end(from: usize, to: usize, most: usize) -> usize
     }
 }
 
+/// Whether all words from place `from` to place `to` are zero.
+pub fn are_zero(words: &Vec<u64>, unit: usize, from: usize, to: usize) -> bool
+    requires order { from ≤ to }
+    requires within { unit * to ≤ vec_len words.now }
+    requires some { 0 < unit }
+    ensures yes { result ≡ true → (t j : ℕ) → from ≤ t → t < to → j < unit → slice_index words.now.items (unit * t + j) ≡ 0 }
+    ensures no { ((t j : ℕ) → from ≤ t → t < to → j < unit → slice_index words.now.items (unit * t + j) ≡ 0) → result ≡ true }
+{
+    all_zero(&words[unit * from..unit * to])
+}
+
 /// Whether all words of a place are zero.
 fn is_zero_place(words: &Vec<u64>, unit: usize, t: usize) -> bool
     requires { unit * t + unit ≤ vec_len words.now }

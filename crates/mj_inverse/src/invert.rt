@@ -1,10 +1,11 @@
 //! The inversion: one angle after the other is divided out, and the rows are put together on the way back.
 
-ghost use Rattle.std.specs.Prelude.{◌≡◌, ◌≢◌, ◌≤◌, ◌<◌, ◌+◌, ◌-◌, ◌*◌, ◌^◌, ℕ, List, ◌∷◌, length, map, slice_index};
-ghost use Rattle.mj_inverse.specs.Rows.{joined, IsFinite, Every, Both, HaveValues, Differ, IsDividedOut, Divides, block_rows};
+ghost use Rattle.std.specs.Prelude.{◌≡◌, ◌≢◌, ◌≤◌, ◌<◌, ◌+◌, ◌-◌, ◌*◌, ◌^◌, ℕ, List, ◌∷◌, length, map, slice_index, true, false};
+ghost use Rattle.mj_inverse.specs.Rows.{joined, IsFinite, Every, Both, HaveValues, Differ, IsDividedOut, Divides, block_rows, AreRows};
 ghost use Rattle.mj_inverse.specs.Series.{seq, angle as angle_of, angles, AreAt, IsWide, IsNext, IsUnmarked, IsBlank, KeepsRoom, Meet};
 
 use crate::series::Series;
+use rz_lanes::all_zero;
 
 /// Divides the angle of `by` out of each of `rest`. Marks the blocks where something remains.
 fn divide_each(rest: &mut [Series], by: &Series, unit: usize, bad: &mut [u64])
@@ -100,41 +101,103 @@ pub fn invert(all: &mut [Series], unit: usize, bad: &mut [u64], high: usize, mos
     }
 }
 
-/// Writes the rows into `out`, and makes all words of `all` zero. Marks the blocks whose rows have words outside their columns.
+/// Whether the words of each are those of a row of a block.
+fn are_rows(all: &[Series], low: usize, cols: usize, unit: usize, high: usize, most: usize) -> bool
+    requires wide { Every (IsWide unit high most) all.now }
+    requires room { low + 16 * length all.now + cols ≤ most }
+    requires limit { most < 2 ^ 32 }
+    ensures rows { result ≡ true → (j : ℕ) → j < unit → AreRows cols low (map (seq unit j) all.now) }
+    ensures fits { ((j : ℕ) → j < unit → AreRows cols low (map (seq unit j) all.now)) → result ≡ true }
+{
+    match all.split_first() {
+        None => true,
+        Some((first, rest)) => {
+            let at = low + 16 * (rest.len() + 1);
+            if first.is_row(at, cols, unit) {
+                are_rows(rest, low, cols, unit, high, most)
+            } else {
+                false
+            }
+        }
+    }
+}
+
+/// Writes the rows into `out`, and forgets all words of `all`.
 fn give_rows(
     all: &mut [Series],
     low: usize,
     cols: usize,
     unit: usize,
     out: &mut [u64],
-    bad: &mut [u64],
     high: usize,
     most: usize,
 )
     requires wide { Every (IsWide unit high most) all.old }
     requires room { low + 16 * length all.old + cols ≤ most }
     requires limit { most < 2 ^ 32 }
-    requires blocks { length bad.old ≡ unit }
     requires out { length out.old ≡ unit * (cols * length all.old) }
     ensures blank { Every IsBlank all.new }
     ensures same { Both KeepsRoom all.old all.new }
-    ensures rows { (j : ℕ) → j < unit → IsUnmarked bad.new j → IsUnmarked bad.old j ×
-        (map (seq unit j) all.old ≡ block_rows cols low (length all.old) (λ i. slice_index out.new (unit * i + j))) }
-    ensures fits { (j : ℕ) (w : ℕ → ℕ) → j < unit → IsUnmarked bad.old j → map (seq unit j) all.old ≡ block_rows cols low (length all.old) w →
-        IsUnmarked bad.new j }
+    ensures rows { (j : ℕ) → j < unit → AreRows cols low (map (seq unit j) all.old) →
+        map (seq unit j) all.old ≡ block_rows cols low (length all.old) (λ i. slice_index out.new (unit * i + j)) }
 {
     match all.split_first_mut() {
         None => {}
         Some((first, rest)) => {
             let at = low + 16 * (rest.len() + 1);
             let (row, others) = out.split_at_mut(unit * cols);
-            first.give_row(at, cols, unit, row, bad);
-            give_rows(rest, low, cols, unit, others, bad, high, most);
+            first.give_row(at, cols, unit, row);
+            give_rows(rest, low, cols, unit, others, high, most);
         }
     }
 }
 
-/// Writes the words of each block into `out`, and marks the blocks that no words fit.
+/// Forgets all words.
+fn forget(all: &mut [Series])
+    ensures blank { Every IsBlank all.new }
+    ensures same { Both KeepsRoom all.old all.new }
+{
+    match all.split_first_mut() {
+        None => {}
+        Some((first, rest)) => {
+            first.wipe();
+            forget(rest);
+        }
+    }
+}
+
+/// Writes the words of each block into `out` where all are rows of blocks, and forgets them. Otherwise `out`
+/// stays as it was.
+fn give_all(
+    all: &mut [Series],
+    low: usize,
+    cols: usize,
+    unit: usize,
+    out: &mut [u64],
+    high: usize,
+    most: usize,
+) -> bool
+    requires wide { Every (IsWide unit high most) all.old }
+    requires room { low + 16 * length all.old + cols ≤ most }
+    requires limit { most < 2 ^ 32 }
+    requires out { length out.old ≡ unit * (cols * length all.old) }
+    ensures blank { Every IsBlank all.new }
+    ensures same { Both KeepsRoom all.old all.new }
+    ensures rows { result ≡ true → (j : ℕ) → j < unit →
+        map (seq unit j) all.old ≡ block_rows cols low (length all.old) (λ i. slice_index out.new (unit * i + j)) }
+    ensures fits { ((j : ℕ) → j < unit → AreRows cols low (map (seq unit j) all.old)) → result ≡ true }
+    ensures unchanged { result ≡ false → out.new ≡ out.old }
+{
+    if are_rows(all, low, cols, unit, high, most) {
+        give_rows(all, low, cols, unit, out, high, most);
+        true
+    } else {
+        forget(all);
+        false
+    }
+}
+
+/// Writes the words of each block into `out`, and says whether each block has some. Otherwise `out` stays as it was.
 pub fn solve(
     all: &mut [Series],
     low: usize,
@@ -144,7 +207,7 @@ pub fn solve(
     bad: &mut [u64],
     high: usize,
     most: usize,
-)
+) -> bool
     requires at { AreAt unit 0 high most all.old }
     requires differ { Differ angle_of all.old }
     requires high { angles all.old ≤ high }
@@ -157,11 +220,18 @@ pub fn solve(
     requires out { length out.old ≡ unit * (cols * length all.old) }
     ensures blank { Every IsBlank all.new }
     ensures same { Both KeepsRoom all.old all.new }
-    ensures exact { (j : ℕ) → j < unit → IsUnmarked bad.new j →
+    ensures exact { result ≡ true → (j : ℕ) → j < unit →
         HaveValues angle_of (seq unit j) (block_rows cols low (length all.old) (λ i. slice_index out.new (unit * i + j))) all.old }
-    ensures complete { (j : ℕ) (w : ℕ → ℕ) → j < unit → HaveValues angle_of (seq unit j) (block_rows cols low (length all.old) w) all.old →
-        IsUnmarked bad.new j × (block_rows cols low (length all.old) w ≡ block_rows cols low (length all.old) (λ i. slice_index out.new (unit * i + j))) }
+    ensures only { result ≡ true → (j : ℕ) (w : ℕ → ℕ) → j < unit → HaveValues angle_of (seq unit j) (block_rows cols low (length all.old) w) all.old →
+        block_rows cols low (length all.old) w ≡ block_rows cols low (length all.old) (λ i. slice_index out.new (unit * i + j)) }
+    ensures complete { ((j : ℕ) → j < unit → (w : ℕ → ℕ) × HaveValues angle_of (seq unit j) (block_rows cols low (length all.old) w) all.old) → result ≡ true }
+    ensures unchanged { result ≡ false → out.new ≡ out.old }
 {
     invert(all, unit, bad, high, most);
-    give_rows(all, low, cols, unit, out, bad, high, most);
+    if all_zero(bad) {
+        give_all(all, low, cols, unit, out, high, most)
+    } else {
+        forget(all);
+        false
+    }
 }

@@ -1,6 +1,6 @@
 //! A projection, or what is left of one.
 
-ghost use Rattle.std.specs.Prelude.{IfOk, ◌≡◌, ◌≢◌, ◌≤◌, ◌<◌, ◌+◌, ◌-◌, ◌*◌, ℕ, length, vec_len, vec_capacity, slice_index, slice_range, unsigned_abs, min, max, bit_xor};
+ghost use Rattle.std.specs.Prelude.{IfOk, ◌≡◌, ◌≢◌, ◌≤◌, ◌<◌, ◌+◌, ◌-◌, ◌*◌, ℕ, length, vec_len, vec_capacity, slice_index, slice_range, unsigned_abs, min, max, bit_xor, true};
 ghost use Rattle.mj_inverse.specs.Rows.{plus, raised, times, cut, IsFinite};
 ghost use Rattle.rz_words.specs.Grid.{IsShape};
 ghost use Rattle.mj_angles.specs.Projection.{bins as bin_count};
@@ -8,7 +8,7 @@ ghost use Rattle.mj_angles.proofs.Order.{lifted};
 ghost use Rattle.mj_inverse.specs.Store.{IsSpare, IsGiven};
 ghost use Rattle.mj_inverse.specs.Series.{seq, IsSeries, IsNext, IsUnmarked, IsBlank, IsSpread, IsTrimmed, KeepsRoom, Meet};
 
-use crate::ends::{end_of_used, first_used, padded_end};
+use crate::ends::{are_zero, end_of_used, first_used, padded_end};
 use crate::run::{add_within, add_zeros, give_words, put_words, run_within, take_rest};
 use std::alloc::{AllocError, Global};
 
@@ -145,30 +145,33 @@ impl Series {
         self.to = self.to.max(to);
     }
 
-    /// Writes the words from number `at` on into `out`, and forgets all words. Marks the blocks that had other words.
-    pub fn give_row(
-        &mut self,
-        at: usize,
-        cols: usize,
-        unit: usize,
-        out: &mut [u64],
-        bad: &mut [u64],
-    )
-        requires is { IsSeries unit self.old }
-        requires low { self.old.origin ≤ self.old.from }
-        requires room { self.old.origin + at + cols ≤ self.old.room }
-        requires blocks { length bad.old ≡ unit }
-        requires out { length out.old ≡ unit * cols }
-        ensures blank { IsBlank self.new }
-        ensures capacity { KeepsRoom self.old self.new }
-        ensures row { (j : ℕ) → j < unit → IsUnmarked bad.new j → IsUnmarked bad.old j ×
-            (seq unit j self.old ≡ raised at (cut cols (λ k. slice_index out.new (unit * k + j)))) }
-        ensures fits { (j : ℕ) (w : ℕ → ℕ) → j < unit → IsUnmarked bad.old j → seq unit j self.old ≡ raised at (cut cols w) → IsUnmarked bad.new j }
+    /// Whether no words are other than zero but those of each block from number `at` on, which are `cols`.
+    pub fn is_row(&self, at: usize, cols: usize, unit: usize) -> bool
+        requires is { IsSeries unit self.now }
+        requires low { self.now.origin ≤ self.now.from }
+        requires room { self.now.origin + at + cols ≤ self.now.room }
+        ensures row { result ≡ true → (j : ℕ) → j < unit → (w : ℕ → ℕ) × (seq unit j self.now ≡ raised at (cut cols w)) }
+        ensures fits { ((j : ℕ) → j < unit → (w : ℕ → ℕ) × (seq unit j self.now ≡ raised at (cut cols w))) → result ≡ true }
     {
         let start = self.origin + at;
         let end = start + cols;
-        take_rest(&mut self.words, unit, self.from.min(start), start, bad);
-        take_rest(&mut self.words, unit, end, self.to.max(end), bad);
+        let before = are_zero(&self.words, unit, self.from.min(start), start);
+        let behind = are_zero(&self.words, unit, end, self.to.max(end));
+        before && behind
+    }
+
+    /// Writes the words from number `at` on into `out`, and forgets all words.
+    pub fn give_row(&mut self, at: usize, cols: usize, unit: usize, out: &mut [u64])
+        requires is { IsSeries unit self.old }
+        requires room { self.old.origin + at + cols ≤ self.old.room }
+        requires out { length out.old ≡ unit * cols }
+        ensures blank { IsBlank self.new }
+        ensures capacity { KeepsRoom self.old self.new }
+        ensures row { (j : ℕ) (w : ℕ → ℕ) → j < unit → seq unit j self.old ≡ raised at (cut cols w) →
+            seq unit j self.old ≡ raised at (cut cols (λ k. slice_index out.new (unit * k + j))) }
+    {
+        let start = self.origin + at;
+        let end = start + cols;
         give_words(&mut self.words, unit * start, unit * end, out);
     }
 

@@ -1,6 +1,6 @@
 //! The series of a work: the first ones have a projection each, and the others are blank.
 
-ghost use Rattle.std.specs.Prelude.{◌≡◌, ◌≢◌, ◌≤◌, ◌<◌, ◌+◌, ◌*◌, ◌^◌, ◌++◌, ◌∷◌, [], ℕ, IfOk, length, unsigned_abs, slice_index, vec_len};
+ghost use Rattle.std.specs.Prelude.{◌≡◌, ◌≢◌, ◌≤◌, ◌<◌, ◌+◌, ◌*◌, ◌^◌, ◌++◌, ◌∷◌, [], ℕ, IfOk, length, unsigned_abs, slice_index, vec_len, true, false};
 ghost use Rattle.rz_words.specs.Grid.{Grid, IsShape};
 ghost use Rattle.mj_angles.specs.Projection.{bins as bin_count};
 ghost use Rattle.mj_inverse.specs.Fits.{IsFound};
@@ -129,7 +129,8 @@ fn spread_all(all: &mut [Series], unit: usize, room: usize)
     }
 }
 
-/// Writes the words of each block into `out`, and marks the blocks that no words fit.
+/// Writes the words of each block into `out`, and says whether each block has some. Otherwise `out` stays as it
+/// was. `bad` is room for a mark of each block.
 pub fn solve_all(
     all: &mut [Series],
     rows: usize,
@@ -137,7 +138,7 @@ pub fn solve_all(
     unit: usize,
     out: &mut [u64],
     bad: &mut [u64],
-)
+) -> bool
     requires filled { IsFilled unit rows cols rows all.old }
     requires full { length all.old ≡ rows }
     requires differ { Differ angle_of all.old }
@@ -146,9 +147,11 @@ pub fn solve_all(
     requires out { length out.old ≡ unit * (rows * cols) }
     ensures filled { IsFilled unit rows cols 0 all.new }
     ensures len { length all.new ≡ length all.old }
-    ensures found { (j : ℕ) → j < unit → IsUnmarked bad.new j → IsFound (lane_search unit j (search_in unit rows cols rows all.old)) (lane_grid unit j rows cols out.new) }
-    ensures complete { (j : ℕ) (g : Grid) → j < unit → IsFound (lane_search unit j (search_in unit rows cols rows all.old)) g →
-        IsUnmarked bad.new j × (g ≡ lane_grid unit j rows cols out.new) }
+    ensures found { result ≡ true → (j : ℕ) → j < unit → IsFound (lane_search unit j (search_in unit rows cols rows all.old)) (lane_grid unit j rows cols out.new) }
+    ensures only { result ≡ true → (j : ℕ) (g : Grid) → j < unit → IsFound (lane_search unit j (search_in unit rows cols rows all.old)) g →
+        g ≡ lane_grid unit j rows cols out.new }
+    ensures complete { ((j : ℕ) → j < unit → (g : Grid) × IsFound (lane_search unit j (search_in unit rows cols rows all.old)) g) → result ≡ true }
+    ensures unchanged { result ≡ false → out.new ≡ out.old }
 {
     sort(all);
     bad.fill(0);
@@ -156,10 +159,11 @@ pub fn solve_all(
     let least = total.max(16 * rows + cols + 16);
     let high = reach(all, least, 32 * rows + cols);
     spread_all(all, unit, high);
-    solve(all, 0, cols, unit, out, bad, high, high);
+    solve(all, 0, cols, unit, out, bad, high, high)
 }
 
-/// The same of eight blocks, read off word by word. `grid` and `turns` are room for that.
+/// Writes the words of eight blocks into `out`, and marks the blocks that no words fit. They are read off
+/// word by word. `grid` and `turns` are room for that.
 pub fn solve_eight(
     all: &mut [Series],
     rows: usize,

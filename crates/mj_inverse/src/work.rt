@@ -5,7 +5,8 @@ ghost use Rattle.rz_words.specs.Grid.{IsShape, Grid, grid_of};
 ghost use Rattle.mj_angles.specs.Projection.{bins as bin_count};
 ghost use Rattle.mj_inverse.specs.Fits.{IsFound, empty_search, with_pair};
 
-use crate::series::{Series, zeros};
+use crate::run::add_zeros;
+use crate::series::Series;
 use crate::store::{blanks, put_at, solve_all, wipe_all};
 use rz_words::Block;
 use std::alloc::{AllocError, Global};
@@ -21,12 +22,12 @@ pub struct Work {
     cols: usize,
     count: usize,
     all: Vec<Series>,
-    marks: Vec<u64>,
+    /// Room for the words of a block.
     words: Vec<u64>,
 }
 
 impl Model for Work {
-    ghost use Rattle.std.specs.Prelude.{◌≡◌, ◌*◌, vec_len};
+    ghost use Rattle.std.specs.Prelude.{◌≤◌, ◌*◌, vec_len, vec_capacity};
     ghost use Rattle.mj_inverse.specs.Fits.{Search};
     ghost use Rattle.mj_inverse.specs.Store.{IsStore, search_in};
 
@@ -34,7 +35,7 @@ impl Model for Work {
 
     ghost view = { λ w. search_in 1 w.rows w.cols w.count w.all.items };
 
-    ghost invariant = { λ w. IsStore 1 w.rows w.cols w.count w.all.items × (vec_len w.marks ≡ 1) × (vec_len w.words ≡ w.rows * w.cols) };
+    ghost invariant = { λ w. IsStore 1 w.rows w.cols w.count w.all.items × (vec_len w.words ≤ w.rows * w.cols) × (w.rows * w.cols ≤ vec_capacity w.words) };
 }
 
 /// No block has the projections.
@@ -47,15 +48,13 @@ impl Work {
         requires { IsShape rows cols }
         ensures { IfOk result (λ w. w ≡ empty_search rows cols) }
     {
-        let marks = vec![in alloc; 0u64; 1]?;
-        let words = zeros(alloc, rows * cols)?;
+        let words = Vec::with_capacity(alloc, rows * cols)?;
         let all = blanks(alloc, rows, cols, 1)?;
         Ok(Work {
             rows,
             cols,
             count: 0,
             all,
-            marks,
             words,
         })
     }
@@ -104,16 +103,11 @@ impl Work {
     {
         let rows = self.rows;
         let cols = self.cols;
-        solve_all(
-            &mut self.all,
-            rows,
-            cols,
-            1,
-            &mut self.words,
-            &mut self.marks,
-        );
+        let mut bad = [0u64; 1];
+        add_zeros(&mut self.words, rows * cols);
+        let found = solve_all(&mut self.all, rows, cols, 1, &mut self.words, &mut bad);
         self.count = 0;
-        if self.marks[0] != 0 {
+        if !found {
             return Err(Inconsistent);
         }
         out.swap_words(&mut self.words);
@@ -136,19 +130,12 @@ impl Work {
     {
         let rows = self.rows;
         let cols = self.cols;
-        solve_all(
-            &mut self.all,
-            rows,
-            cols,
-            1,
-            &mut self.words,
-            &mut self.marks,
-        );
+        let mut bad = [0u64; 1];
+        let solved = solve_all(&mut self.all, rows, cols, 1, out, &mut bad);
         self.count = 0;
-        if self.marks[0] > 0 {
+        if !solved {
             return Err(Inconsistent);
         }
-        out.copy_from_slice(&self.words);
         Ok(())
     }
 }

@@ -19,7 +19,7 @@ use Rattle.rz_events.specs.declared.nodes.NodeAnswer.TheVariants as answer
 use Rattle.rz_events.specs.declared.machines.ReaderAsk.TheVariants as reads
 use Rattle.rz_events.specs.declared.machines.ReaderAnswer.TheVariants as told_reader
 use Rattle.rz_events.specs.declared.events.Event.{Event}
-use Rattle.rz_node.specs.Gives.{IfHeld}
+use Rattle.rz_node.specs.Fetched.{IfHeld}
 use Rattle.rz_client_model.specs.declared.reading.ReaderState.{ReaderState}
 use Rattle.rz_client_model.specs.declared.reading.ReadStage.{ReadStage}
 use Rattle.rz_client_model.specs.declared.reading.ReadStage.TheVariants.{Looking, Fetching, Ended}

@@ -23,23 +23,23 @@ use Rattle.rz_node_model.specs.Versions.{kept, refilled, without}
 use Rattle.rz_cells.specs.declared.geometry.Geometry.{Geometry}
 use Rattle.rz_cells.specs.Held.{nothing}
 use Rattle.rz_cells.specs.Stands.{IsShut, StandsFor}
-use Rattle.rz_node.specs.Around.{Around}
+use Rattle.rz_node.specs.CrashOutcomes.{CrashOutcomes}
 use Rattle.rz_node.specs.Change.{IsBranch}
-use Rattle.rz_node.specs.Gives.{Gives, IfHeld}
+use Rattle.rz_node.specs.Fetched.{Gives, IfHeld}
 use Rattle.rz_node.specs.Spends.{keep_used, refill_used}
 
 -- A change of a key's records, which were `before` and are then `after`: `Some` where it used the disk, and whether all
 -- went well.
 abbrev pub Changes : Geometry → ℕ → List ℕ → List ℕ → (List ℕ → Type 0) → (List ℕ → Type 0) → Option Bool → Key → List Held → List Held → Option Rec → Type 0
 Changes g fence text text' image image' None key before after new = Within image image'
-Changes g fence text text' image image' (Some done) key before after new = Around g fence text text' image' (Some done) key before after new
+Changes g fence text text' image image' (Some done) key before after new = CrashOutcomes g fence text text' image' (Some done) key before after new
 
 -- the lesser version of a block goes, or was to go
 abbrev pub Drops : Geometry → NodeState → List ℕ → List ℕ → (List ℕ → Type 0) → (List ℕ → Type 0) → ℕ → DropAnswer → Type 0
 Drops g s text text' image image' fid (drop.Dropped block stamp more) =
-    Around g s.fence text text' image' (Some true) (key_at fid block) (held_of s.held (key_at fid block)) (without stamp_of stamp (held_of s.held (key_at fid block))) None
+    CrashOutcomes g s.fence text text' image' (Some true) (key_at fid block) (held_of s.held (key_at fid block)) (without stamp_of stamp (held_of s.held (key_at fid block))) None
 Drops g s text text' image image' fid (drop.DiskFault block stamp) =
-    Around g s.fence text text' image' (Some false) (key_at fid block) (held_of s.held (key_at fid block)) (without stamp_of stamp (held_of s.held (key_at fid block))) None
+    CrashOutcomes g s.fence text text' image' (Some false) (key_at fid block) (held_of s.held (key_at fid block)) (without stamp_of stamp (held_of s.held (key_at fid block))) None
 Drops g s text text' image image' fid _ = Within image image'
 
 -- The disk was opened: its text, which is as before and the one image, has the undecided change as the answer tells.

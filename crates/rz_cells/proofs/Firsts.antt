@@ -8,8 +8,10 @@ use Rattle.std.specs.HashMap.{HashMap, IsEmpty, get}
 use Rattle.std.specs.Map.{lookup}
 use Rattle.rz_events.specs.declared.keys.Key.{Key}
 use Rattle.rz_events.specs.declared.records.Head.{Head}
+use Rattle.rz_cells.specs.declared.geometry.Geometry.{Geometry}
 use Rattle.rz_cells.specs.Held.{in_cell}
-use Rattle.rz_cells.specs.Opening.{IsFirst, KnowsFirsts, NotAgain, Notes, same_key}
+use Rattle.rz_cells.specs.Opening.{FitTo, GoesNext, IsFirst, KnowsFirsts, NotAgain, Notes, same_key}
+use Rattle.rz_cells.specs.Packed.{FitsPair}
 use Rattle.rz_cells.proofs.Made.{bool_cases, both, eq_from}
 use Rattle.rz_cells.proofs.Refused.{key_cases}
 
@@ -112,3 +114,13 @@ module _ (heads : List (Option Head)) (k : ℕ) (o : Option Head) (in_range : k 
         (λ (ne : key ≢ h.key). subst (IsFirst (set heads k o) (k + 1) key) (sym (notes.others key ne))
         (stays key (get same_key old (key.fid, key.block)) (λ q at same. let one : h ≡ q = cc in ne (sym same ∙ ap (λ (p : Head). p.key) (sym one))) (known key)))
         (key_cases key h.key)
+
+-- beside an earlier head stands one of its key, and a later cell is empty
+pub fits_next : (g : Geometry) (heads : List (Option Head)) (k : ℕ) (o : Option Head) → FitTo g heads k → ((h : Head) → o ≡ Some h → GoesNext heads k h) → FitsPair heads k o
+fits_next g heads k o fits goes h q d is ne pair there = ⊎_elim
+    (λ (below : d < k). ⊎_elim
+    (λ (same : q.key ≡ h.key). same)
+    (λ (other : q.key ≢ h.key). absurd ((goes h is).no_other d q record { earlier = below; is = there; pair = pair; other = other }))
+    (key_cases q.key h.key))
+    (λ (le : k ≤ d). let none : None ≡ Some q = sym (fits.past d le) ∙ there in absurd (cc))
+    (cases_lt d k)

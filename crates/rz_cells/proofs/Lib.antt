@@ -14,3 +14,4 @@ mod OldOpened
 mod Pairs
 mod Carried
 mod Copies
+mod Packed

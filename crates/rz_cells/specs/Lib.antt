@@ -1,4 +1,5 @@
 pub mod Held
+pub mod Packed
 pub mod Shape
 pub mod Stands
 pub mod Open

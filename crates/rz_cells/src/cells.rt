@@ -7,6 +7,7 @@ ghost use Rattle.rz_record.specs.Record.{IsRecord, IsValid, bins_of, record_byte
 ghost use Rattle.rz_cells.specs.Shape.{IsGeometry, slot_of};
 
 use crate::Geometry;
+use crate::heads::Heads;
 use crate::switching::switch;
 use byteorder::{ByteOrder, LittleEndian};
 use rz_disk::{Disk, Failed};
@@ -30,12 +31,12 @@ pub struct Cells<D: Disk> {
     pub(crate) fence: u64,
     /// The low bit of each is that of the cell's gate.
     pub(crate) gates: Vec<u8>,
-    pub(crate) heads: Vec<Option<Head>>,
+    pub(crate) heads: Heads,
     /// Room for a record.
     pub(crate) buffer: Vec<u8>,
     ghost geometry_ok: { IsGeometry geometry },
     ghost gates_fit: { length gates.items ≡ 2 * geometry.cells },
-    ghost heads_fit: { length heads.items ≡ 2 * geometry.cells },
+    ghost heads_fit: { length heads ≡ 2 * geometry.cells },
     ghost buffer_fits: { length buffer.items ≡ slot_of geometry },
 }
 
@@ -55,22 +56,22 @@ impl<D: Disk> Cells<D> {
         requires valid { IsValid head.now }
         requires layout { head.now.layout ≡ self.old.geometry.layout }
         requires bins { length bins.now ≡ bins_of head.now }
-        requires goes { Goes self.old.heads.items cell head.now }
-        requires open { IsOpen D.tells (D.text self.old.disk) (D.image self.old.disk) self.old.geometry self.old.fence self.old.gates.items self.old.heads.items }
+        requires goes { Goes self.old.heads cell head.now }
+        requires open { IsOpen D.tells (D.text self.old.disk) (D.image self.old.disk) self.old.geometry self.old.fence self.old.gates.items self.old.heads }
 
         // On every exit each image stands for the records from before, or with the new one.
         ensures crash { IsTrue D.tells → StandsEither self.old.geometry self.old.fence (D.text self.old.disk) (D.image self.new.disk)
-            (in_cell self.old.heads.items cell) (Some record { head = head.now; bins = bins.now }) }
+            (in_cell self.old.heads cell) (Some record { head = head.now; bins = bins.now }) }
         ensures crash_cells { IsTrue D.tells → HoldsEither self.old.geometry self.old.fence (D.text self.old.disk) (D.image self.new.disk)
             cell (Some record { head = head.now; bins = bins.now }) }
 
         // And then the text, which is the one image, stands for them with the new one.
         ensures done { OnOk result (IsTrue D.tells → StandsChanged self.old.geometry self.old.fence (D.text self.old.disk) (D.text self.new.disk)
-            (in_cell self.old.heads.items cell) (Some record { head = head.now; bins = bins.now })) }
+            (in_cell self.old.heads cell) (Some record { head = head.now; bins = bins.now })) }
         ensures done_cells { OnOk result (IsTrue D.tells → HoldsChanged self.old.geometry self.old.fence (D.text self.old.disk) (D.text self.new.disk)
             cell (Some record { head = head.now; bins = bins.now })) }
-        ensures open { OnOk result (IsOpen D.tells (D.text self.new.disk) (D.image self.new.disk) self.new.geometry self.new.fence self.new.gates.items self.new.heads.items) }
-        ensures heads { self.new.heads.items ≡ (if is_ok result then slice_set self.old.heads.items cell (Some head.now) else self.old.heads.items) }
+        ensures open { OnOk result (IsOpen D.tells (D.text self.new.disk) (D.image self.new.disk) self.new.geometry self.new.fence self.new.gates.items self.new.heads) }
+        ensures heads { self.new.heads ≡ (if is_ok result then slice_set self.old.heads cell (Some head.now) else self.old.heads) }
         ensures geometry { self.new.geometry ≡ self.old.geometry }
         ensures fence { self.new.fence ≡ self.old.fence }
 
@@ -90,24 +91,24 @@ impl<D: Disk> Cells<D> {
             &self.buffer[..size],
         )?;
         self.gates[index] = 1 - gate % 2;
-        self.heads[index] = Some(*head);
+        self.heads.set(cell, &Some(*head));
         Ok(())
     }
 
     /// Empties a cell.
     pub fn clear(&mut self, cell: u32) -> Result<(), DiskFault>
         requires cell { cell < 2 * self.old.geometry.cells }
-        requires open { IsOpen D.tells (D.text self.old.disk) (D.image self.old.disk) self.old.geometry self.old.fence self.old.gates.items self.old.heads.items }
+        requires open { IsOpen D.tells (D.text self.old.disk) (D.image self.old.disk) self.old.geometry self.old.fence self.old.gates.items self.old.heads }
 
         // On every exit each image stands for the records from before, or without this one.
-        ensures crash { IsTrue D.tells → StandsEither self.old.geometry self.old.fence (D.text self.old.disk) (D.image self.new.disk) (in_cell self.old.heads.items cell) None }
+        ensures crash { IsTrue D.tells → StandsEither self.old.geometry self.old.fence (D.text self.old.disk) (D.image self.new.disk) (in_cell self.old.heads cell) None }
         ensures crash_cells { IsTrue D.tells → HoldsEither self.old.geometry self.old.fence (D.text self.old.disk) (D.image self.new.disk) cell None }
 
         // And then the text, which is the one image, stands for them without this one.
-        ensures done { OnOk result (IsTrue D.tells → StandsChanged self.old.geometry self.old.fence (D.text self.old.disk) (D.text self.new.disk) (in_cell self.old.heads.items cell) None) }
+        ensures done { OnOk result (IsTrue D.tells → StandsChanged self.old.geometry self.old.fence (D.text self.old.disk) (D.text self.new.disk) (in_cell self.old.heads cell) None) }
         ensures done_cells { OnOk result (IsTrue D.tells → HoldsChanged self.old.geometry self.old.fence (D.text self.old.disk) (D.text self.new.disk) cell None) }
-        ensures open { OnOk result (IsOpen D.tells (D.text self.new.disk) (D.image self.new.disk) self.new.geometry self.new.fence self.new.gates.items self.new.heads.items) }
-        ensures heads { self.new.heads.items ≡ (if is_ok result then slice_set self.old.heads.items cell None else self.old.heads.items) }
+        ensures open { OnOk result (IsOpen D.tells (D.text self.new.disk) (D.image self.new.disk) self.new.geometry self.new.fence self.new.gates.items self.new.heads) }
+        ensures heads { self.new.heads ≡ (if is_ok result then slice_set self.old.heads cell None else self.old.heads) }
         ensures geometry { self.new.geometry ≡ self.old.geometry }
         ensures fence { self.new.fence ≡ self.old.fence }
 
@@ -120,17 +121,17 @@ impl<D: Disk> Cells<D> {
         let gate = self.gates[index];
         switch(&mut self.disk, &self.geometry, cell, gate, &[0; 8])?;
         self.gates[index] = 1 - gate % 2;
-        self.heads[index] = None;
+        self.heads.set(cell, &None);
         Ok(())
     }
 
     /// Reads the bins of a cell's record into the front of `out`, and answers their number.
     pub fn bins_into(&mut self, cell: u32, out: &mut [u64]) -> Result<usize, DiskFault>
         requires cell { cell < 2 * self.old.geometry.cells }
-        requires held { (h : Head) → in_cell self.old.heads.items cell ≡ Some h → bins_of h ≤ length out.old }
-        requires some { IsSome (in_cell self.old.heads.items cell) }
-        requires open { IsOpen D.tells (D.text self.old.disk) (D.image self.old.disk) self.old.geometry self.old.fence self.old.gates.items self.old.heads.items }
-        ensures count { IfOk result (λ n. (h : Head) → in_cell self.old.heads.items cell ≡ Some h → n ≡ bins_of h) }
+        requires held { (h : Head) → in_cell self.old.heads cell ≡ Some h → bins_of h ≤ length out.old }
+        requires some { IsSome (in_cell self.old.heads cell) }
+        requires open { IsOpen D.tells (D.text self.old.disk) (D.image self.old.disk) self.old.geometry self.old.fence self.old.gates.items self.old.heads }
+        ensures count { IfOk result (λ n. (h : Head) → in_cell self.old.heads cell ≡ Some h → n ≡ bins_of h) }
         ensures bins { IfOk result (λ n. IsTrue D.tells → (cells : List (Option Rec)) (r : Rec) → HoldsCells self.old.geometry self.old.fence (D.text self.old.disk) cells
             → in_cell cells cell ≡ Some r → take n out.new ≡ r.bins) }
         ensures rest { IfOk result (λ n. drop n out.new ≡ drop n out.old) }
@@ -139,18 +140,17 @@ impl<D: Disk> Cells<D> {
         // The cells and the disk stay as they were.
         ensures text { D.text self.new.disk ≡ D.text self.old.disk }
         ensures within { Within (D.image self.old.disk) (D.image self.new.disk) }
-        ensures open { IsOpen D.tells (D.text self.new.disk) (D.image self.new.disk) self.new.geometry self.new.fence self.new.gates.items self.new.heads.items }
-        ensures heads { self.new.heads.items ≡ self.old.heads.items }
+        ensures open { IsOpen D.tells (D.text self.new.disk) (D.image self.new.disk) self.new.geometry self.new.fence self.new.gates.items self.new.heads }
+        ensures heads { self.new.heads ≡ self.old.heads }
         ensures geometry { self.new.geometry ≡ self.old.geometry }
         ensures fence { self.new.fence ≡ self.old.fence }
         ensures meter { Passes result (D.meter self.old.disk) (D.meter self.new.disk) }
     {
-        let index = cell as usize;
-        let Some(head) = self.heads[index] else {
+        let Some(head) = self.heads.get(cell) else {
             unreachable!()
         };
         let count = head.layout.bins_at(head.position);
-        let at = self.geometry.slot_at(cell, self.gates[index] % 2) + HEAD_BYTES as u64;
+        let at = self.geometry.slot_at(cell, self.gates[cell as usize] % 2) + HEAD_BYTES as u64;
         read_bins(&mut self.disk, at, &mut self.buffer, &mut out[..count])?;
         Ok(count)
     }
@@ -158,9 +158,9 @@ impl<D: Disk> Cells<D> {
     /// The head of what a cell holds.
     pub fn head(&self, cell: u32) -> Option<Head>
         requires { cell < 2 * self.now.geometry.cells }
-        ensures { result ≡ in_cell self.now.heads.items cell }
+        ensures { result ≡ in_cell self.now.heads cell }
     {
-        self.heads[cell as usize]
+        self.heads.get(cell)
     }
 
     /// How the disk is laid out.
@@ -182,13 +182,13 @@ impl<D: Disk> Cells<D> {
         ensures text { D.text self.new.disk ≡ D.text self.old.disk }
         ensures within { Within (D.image self.old.disk) (D.image self.new.disk) }
         ensures kept { Within (D.image self.new.disk) (D.image self.old.disk) }
-        ensures open { IsOpen D.tells (D.text self.old.disk) (D.image self.old.disk) self.old.geometry self.old.fence self.old.gates.items self.old.heads.items
-            → IsOpen D.tells (D.text self.new.disk) (D.image self.new.disk) self.new.geometry self.new.fence self.new.gates.items self.new.heads.items }
+        ensures open { IsOpen D.tells (D.text self.old.disk) (D.image self.old.disk) self.old.geometry self.old.fence self.old.gates.items self.old.heads
+            → IsOpen D.tells (D.text self.new.disk) (D.image self.new.disk) self.new.geometry self.new.fence self.new.gates.items self.new.heads }
         ensures meter { D.meter self.new.disk ≡ (if D.has_fuse then armed passes (D.meter self.old.disk) else D.meter self.old.disk) }
         ensures geometry { self.new.geometry ≡ self.old.geometry }
         ensures fence { self.new.fence ≡ self.old.fence }
         ensures gates { self.new.gates.items ≡ self.old.gates.items }
-        ensures heads { self.new.heads.items ≡ self.old.heads.items }
+        ensures heads { self.new.heads ≡ self.old.heads }
     {
         self.disk.arm(passes);
     }
@@ -203,7 +203,7 @@ impl<D: Disk> Cells<D> {
         ensures geometry { self.new.geometry ≡ self.old.geometry }
         ensures fence { self.new.fence ≡ self.old.fence }
         ensures gates { self.new.gates.items ≡ self.old.gates.items }
-        ensures heads { self.new.heads.items ≡ self.old.heads.items }
+        ensures heads { self.new.heads ≡ self.old.heads }
     {
         self.disk.crash(pick);
     }

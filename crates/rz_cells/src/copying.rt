@@ -15,6 +15,7 @@ ghost use Rattle.rz_cells.specs.Copied.{AllShut, CopiesTo, HoldsCopy, IsBlank, P
 
 use crate::cells::{read_bins, spell};
 use crate::formatting::spell_header;
+use crate::heads::Heads;
 use crate::old::{OLD_HEAD_BYTES, OldCells};
 use crate::{Geometry, MigrateFault};
 use rz_disk::{Disk, DiskError, Failed, store};
@@ -189,13 +190,13 @@ fn open_gate<D: Disk>(disk: &mut D) -> Result<(), Failed>
 }
 
 /// Puts each head into the first cell of its pair.
-pub fn pair_up(heads: &[Option<Head>], pairs: &mut Vec<Option<Head>>)
+pub fn pair_up(heads: &[Option<Head>], pairs: &mut Heads)
     requires few { length heads.now ≤ 1048576 }
-    requires room { length pairs.old.items ≡ 2 * length heads.now }
-    requires empty { (c : ℕ) → in_cell pairs.old.items c ≡ None }
-    ensures { pairs.new.items ≡ paired heads.now }
+    requires room { length pairs.old ≡ 2 * length heads.now }
+    requires empty { (c : ℕ) → in_cell pairs.old c ≡ None }
+    ensures { pairs.new ≡ paired heads.now }
 {
     for cell in 0..heads.len() {
-        pairs[2 * cell] = heads[cell];
+        pairs.set(2 * cell as u32, &heads[cell]);
     }
 }

@@ -32,10 +32,10 @@ impl<D: Disk> Cells<D> {
         disk: D,
     ) -> Result<Cells<D>, (D, FormatFault)>
         requires { IsGeometry geometry }
-        ensures open { IfOk result (λ c. IsOpen D.tells (D.text c.disk) (D.image c.disk) c.geometry c.fence c.gates.items c.heads.items) }
+        ensures open { IfOk result (λ c. IsOpen D.tells (D.text c.disk) (D.image c.disk) c.geometry c.fence c.gates.items c.heads) }
         ensures geometry { IfOk result (λ c. c.geometry ≡ geometry) }
         ensures fence { IfOk result (λ c. c.fence ≡ fence) }
-        ensures heads { IfOk result (λ c. (cell : ℕ) → in_cell c.heads.items cell ≡ None) }
+        ensures heads { IfOk result (λ c. (cell : ℕ) → in_cell c.heads cell ≡ None) }
         ensures nothing { IfOk result (λ c. IsTrue D.tells → StandsFor geometry fence (D.text c.disk) nothing) }
 
         // Otherwise each image is one from before, or its header is shut, or it stands for nothing with the new fence.
@@ -76,10 +76,10 @@ impl<D: Disk> Cells<D> {
     ///
     /// It takes no memory but that of the disk's reset.
     pub fn format_again(&mut self, alloc: Global, fence: u64) -> Result<(), FormatFault>
-        ensures open { OnOk result (IsOpen D.tells (D.text self.new.disk) (D.image self.new.disk) self.new.geometry self.new.fence self.new.gates.items self.new.heads.items) }
+        ensures open { OnOk result (IsOpen D.tells (D.text self.new.disk) (D.image self.new.disk) self.new.geometry self.new.fence self.new.gates.items self.new.heads) }
         ensures geometry { self.new.geometry ≡ self.old.geometry }
         ensures fence { OnOk result (self.new.fence ≡ fence) }
-        ensures heads { OnOk result ((cell : ℕ) → in_cell self.new.heads.items cell ≡ None) }
+        ensures heads { OnOk result ((cell : ℕ) → in_cell self.new.heads cell ≡ None) }
         ensures nothing { OnOk result (IsTrue D.tells → StandsFor self.old.geometry fence (D.text self.new.disk) nothing) }
 
         // Otherwise each image is one from before, or its header is shut, or it stands for nothing with the new fence.
@@ -88,7 +88,7 @@ impl<D: Disk> Cells<D> {
         // And what is known of the cells stays.
         ensures kept_fence { OnErr result (self.new.fence ≡ self.old.fence) }
         ensures kept_gates { OnErr result (self.new.gates.items ≡ self.old.gates.items) }
-        ensures kept_heads { OnErr result (self.new.heads.items ≡ self.old.heads.items) }
+        ensures kept_heads { OnErr result (self.new.heads ≡ self.old.heads) }
 
         ensures took { Took 4 result (D.meter self.old.disk) (D.meter self.new.disk) }
         ensures meter { Lasts (D.meter self.old.disk) (D.meter self.new.disk) }

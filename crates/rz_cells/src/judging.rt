@@ -4,6 +4,7 @@ ghost use Rattle.std.specs.HashMap.{get, spare};
 ghost use Rattle.rz_events.specs.declared.records.Head.{Head};
 ghost use Rattle.rz_cells.specs.Opening.{GoesNext, KnowsFirsts, NoOtherKey, Notes, OtherKey, Wrong, same_key};
 
+use crate::heads::Heads;
 use rz_events::{Head, OpenFault};
 use std::collections::HashMap;
 
@@ -13,7 +14,7 @@ pub type Firsts = HashMap<(u128, u64), u32>;
 /// Whether what was read of a cell may stand behind the earlier cells. Then the first cell of each key
 /// is known of one cell more.
 pub fn admit(
-    heads: &[Option<Head>],
+    heads: &Heads,
     firsts: &mut Firsts,
     cell: u32,
     head: &Option<Head>,
@@ -37,7 +38,7 @@ pub fn admit(
 }
 
 /// Whether the head may stand in a cell, behind the heads of the earlier cells.
-fn judge(heads: &[Option<Head>], firsts: &Firsts, cell: u32, head: &Head) -> Result<(), OpenFault>
+fn judge(heads: &Heads, firsts: &Firsts, cell: u32, head: &Head) -> Result<(), OpenFault>
     requires cell { cell < length heads.now }
     requires firsts { KnowsFirsts firsts.now heads.now cell }
     ensures ok { OnOk result (GoesNext heads.now cell head.now) }
@@ -50,7 +51,7 @@ fn judge(heads: &[Option<Head>], firsts: &Firsts, cell: u32, head: &Head) -> Res
         return Ok(());
     };
     let first = *first;
-    if first >= cell || !is_again(&heads[first as usize], first, cell, head) {
+    if first >= cell || !is_again(&heads.get(first), first, cell, head) {
         return Ok(());
     }
     Err(OpenFault::Twice {
@@ -95,12 +96,12 @@ fn note(firsts: &mut Firsts, cell: u32, head: &Head)
 }
 
 /// Whether the other cell of the pair stands earlier and holds another key.
-fn beside_other_key(heads: &[Option<Head>], cell: u32, head: &Head) -> bool
+fn beside_other_key(heads: &Heads, cell: u32, head: &Head) -> bool
     requires { cell < length heads.now }
     ensures found { IsTrue result → (d : ℕ) × (q : Head) × OtherKey heads.now cell head.now d q }
     ensures none { result ≡ false → NoOtherKey heads.now cell head.now }
 {
-    cell % 2 == 1 && has_other_key(&heads[cell as usize - 1], head)
+    cell % 2 == 1 && has_other_key(&heads.get(cell - 1), head)
 }
 
 fn has_other_key(earlier: &Option<Head>, head: &Head) -> bool

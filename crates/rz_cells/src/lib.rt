@@ -18,7 +18,7 @@
 //! 48 bytes of each cell, and looks up each record's key once. Open cells can crash their disk, read it
 //! anew and make it anew, and keep what they know where that fails.
 //!
-//! In reading order: `geometry`, `room`, `switching`, `cells`, `formatting`, `judging`, `reading`,
+//! In reading order: `geometry`, `heads`, `room`, `switching`, `cells`, `formatting`, `judging`, `reading`,
 //! `opening`, `old`, `copying`, `migrating`.
 #![tactic(auto)]
 
@@ -26,6 +26,7 @@ mod cells;
 mod copying;
 mod formatting;
 mod geometry;
+mod heads;
 mod judging;
 mod migrating;
 mod old;

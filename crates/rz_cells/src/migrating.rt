@@ -49,7 +49,7 @@ impl<D: Disk> Cells<D> {
     ) -> Result<Cells<D>, (D, MigrateFault)>
         requires geometry { IsGeometry geometry }
         requires small { bsize_of geometry.layout ≡ 0 }
-        ensures open { IfOk result (λ c. IsOpen D.tells (D.text c.disk) (D.image c.disk) c.geometry c.fence c.gates.items c.heads.items) }
+        ensures open { IfOk result (λ c. IsOpen D.tells (D.text c.disk) (D.image c.disk) c.geometry c.fence c.gates.items c.heads) }
         ensures geometry { IfOk result (λ c. c.geometry ≡ geometry) }
 
         // The old text stands for a fence and some records, and the new one for these.
@@ -112,9 +112,9 @@ fn carry<D: Disk>(
     new: &mut D,
 ) -> Result<(u64, Room), MigrateFault>
     requires { IsGeometry geometry.now }
-    ensures open { IfOk result (λ r. IsOpen D.tells (D.text new.new) (D.image new.new) geometry.now r.0 r.1.gates.items r.1.heads.items) }
+    ensures open { IfOk result (λ r. IsOpen D.tells (D.text new.new) (D.image new.new) geometry.now r.0 r.1.gates.items r.1.heads) }
     ensures gates { IfOk result (λ r. length r.1.gates.items ≡ 2 * geometry.now.cells) }
-    ensures heads { IfOk result (λ r. length r.1.heads.items ≡ 2 * geometry.now.cells) }
+    ensures heads { IfOk result (λ r. length r.1.heads ≡ 2 * geometry.now.cells) }
     ensures buffer { IfOk result (λ r. length r.1.buffer.items ≡ slot_of geometry.now) }
     ensures pairs { IfOk result (λ r. IsTrue D.tells → HoldsBoth geometry.now r.0 (D.text old.old) (D.text new.new)) }
     ensures crash { IfErr result (λ e. IsTrue D.tells → (t : List ℕ) → D.image new.new t → D.image new.old t ⊎ IsShut t ⊎ CarriesOver geometry.now (D.text old.old) t) }
@@ -176,8 +176,8 @@ fn reserve(alloc: Global, geometry: &Geometry) -> Result<Reserved, AllocError>
     requires { IsGeometry geometry.now }
     ensures gates { IfOk result (λ r. length r.room.gates.items ≡ 2 * geometry.now.cells) }
     ensures shut { IfOk result (λ r. (c : ℕ) → slice_index r.room.gates.items c ≡ 0) }
-    ensures heads { IfOk result (λ r. length r.room.heads.items ≡ 2 * geometry.now.cells) }
-    ensures empty { IfOk result (λ r. (c : ℕ) → in_cell r.room.heads.items c ≡ None) }
+    ensures heads { IfOk result (λ r. length r.room.heads ≡ 2 * geometry.now.cells) }
+    ensures empty { IfOk result (λ r. (c : ℕ) → in_cell r.room.heads c ≡ None) }
     ensures buffer { IfOk result (λ r. length r.room.buffer.items ≡ slot_of geometry.now) }
     ensures old_gates { IfOk result (λ r. length r.cells.gates.items ≡ geometry.now.cells) }
     ensures old_heads { IfOk result (λ r. length r.cells.heads.items ≡ geometry.now.cells) }

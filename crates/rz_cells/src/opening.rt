@@ -26,14 +26,14 @@ impl<D: Disk> Cells<D> {
     /// All memory is taken before the disk is looked at.
     pub fn reopen(alloc: Global, geometry: Geometry, disk: D) -> Result<Cells<D>, (D, OpenFault)>
         requires { IsGeometry geometry }
-        ensures open { IfOk result (λ c. IsOpen D.tells (D.text c.disk) (D.image c.disk) c.geometry c.fence c.gates.items c.heads.items) }
+        ensures open { IfOk result (λ c. IsOpen D.tells (D.text c.disk) (D.image c.disk) c.geometry c.fence c.gates.items c.heads) }
         ensures geometry { IfOk result (λ c. c.geometry ≡ geometry) }
 
         // The text stands for some records, with the fence that is found.
         ensures stands { IfOk result (λ c. IsTrue D.tells → (held : Records) × StandsFor geometry c.fence (D.text c.disk) held) }
 
         // The fence and the heads are those of the text.
-        ensures found { IfOk result (λ c. IsTrue D.tells → Finds geometry (D.text disk) c.fence c.heads.items) }
+        ensures found { IfOk result (λ c. IsTrue D.tells → Finds geometry (D.text disk) c.fence c.heads) }
 
         // Each fault is the first that the text has.
         ensures refused { IfErr result (λ e. IsTrue D.tells → Refuses geometry (D.text disk) e.1) }
@@ -82,19 +82,19 @@ impl<D: Disk> Cells<D> {
     ///
     /// All memory is taken before the disk is looked at.
     pub fn open_again(&mut self, alloc: Global) -> Result<(), OpenFault>
-        ensures open { OnOk result (IsOpen D.tells (D.text self.new.disk) (D.image self.new.disk) self.new.geometry self.new.fence self.new.gates.items self.new.heads.items) }
+        ensures open { OnOk result (IsOpen D.tells (D.text self.new.disk) (D.image self.new.disk) self.new.geometry self.new.fence self.new.gates.items self.new.heads) }
         ensures geometry { self.new.geometry ≡ self.old.geometry }
 
         // The text stands for some records, with the fence that is found.
         ensures stands { OnOk result (IsTrue D.tells → (held : Records) × StandsFor self.old.geometry self.new.fence (D.text self.new.disk) held) }
 
         // The fence and the heads are those of the text.
-        ensures found { OnOk result (IsTrue D.tells → Finds self.old.geometry (D.text self.old.disk) self.new.fence self.new.heads.items) }
+        ensures found { OnOk result (IsTrue D.tells → Finds self.old.geometry (D.text self.old.disk) self.new.fence self.new.heads) }
 
         // Otherwise what is known of the cells stays.
         ensures kept_fence { OnErr result (self.new.fence ≡ self.old.fence) }
         ensures kept_gates { OnErr result (self.new.gates.items ≡ self.old.gates.items) }
-        ensures kept_heads { OnErr result (self.new.heads.items ≡ self.old.heads.items) }
+        ensures kept_heads { OnErr result (self.new.heads ≡ self.old.heads) }
 
         // Each fault is the first that the text has.
         ensures refused { IfErr result (λ e. IsTrue D.tells → Refuses self.old.geometry (D.text self.old.disk) e) }
@@ -139,9 +139,9 @@ fn read_disk<D: Disk>(
     geometry: &Geometry,
 ) -> Result<(u64, Room), OpenFault>
     requires { IsGeometry geometry.now }
-    ensures open { IfOk result (λ r. IsOpen D.tells (D.text disk.new) (D.image disk.new) geometry.now r.0 r.1.gates.items r.1.heads.items) }
+    ensures open { IfOk result (λ r. IsOpen D.tells (D.text disk.new) (D.image disk.new) geometry.now r.0 r.1.gates.items r.1.heads) }
     ensures gates { IfOk result (λ r. length r.1.gates.items ≡ 2 * geometry.now.cells) }
-    ensures heads { IfOk result (λ r. length r.1.heads.items ≡ 2 * geometry.now.cells) }
+    ensures heads { IfOk result (λ r. length r.1.heads ≡ 2 * geometry.now.cells) }
     ensures buffer { IfOk result (λ r. length r.1.buffer.items ≡ slot_of geometry.now) }
     ensures refused { IfErr result (λ e. IsTrue D.tells → Refuses geometry.now (D.text disk.old) e) }
     ensures wrong_size { IfErr result (λ e. NotSize e ⊎ Refuses geometry.now (D.text disk.old) e) }
@@ -170,14 +170,14 @@ fn read_all<D: Disk>(
 ) -> Result<(u64, Room), OpenFault>
     requires geometry { IsGeometry geometry.now }
     requires gates { length room.gates.items ≡ 2 * geometry.now.cells }
-    requires heads { length room.heads.items ≡ 2 * geometry.now.cells }
-    requires empty { (c : ℕ) → in_cell room.heads.items c ≡ None }
+    requires heads { length room.heads ≡ 2 * geometry.now.cells }
+    requires empty { (c : ℕ) → in_cell room.heads c ≡ None }
     requires buffer { length room.buffer.items ≡ slot_of geometry.now }
     requires firsts { IsEmpty firsts }
     requires spare { 2 * geometry.now.cells ≤ spare firsts }
-    ensures open { IfOk result (λ r. IsOpen D.tells (D.text disk.new) (D.image disk.new) geometry.now r.0 r.1.gates.items r.1.heads.items) }
+    ensures open { IfOk result (λ r. IsOpen D.tells (D.text disk.new) (D.image disk.new) geometry.now r.0 r.1.gates.items r.1.heads) }
     ensures gates { IfOk result (λ r. length r.1.gates.items ≡ 2 * geometry.now.cells) }
-    ensures heads { IfOk result (λ r. length r.1.heads.items ≡ 2 * geometry.now.cells) }
+    ensures heads { IfOk result (λ r. length r.1.heads ≡ 2 * geometry.now.cells) }
     ensures buffer { IfOk result (λ r. length r.1.buffer.items ≡ slot_of geometry.now) }
     ensures refused { IfErr result (λ e. IsTrue D.tells → Refuses geometry.now (D.text disk.old) e) }
     ensures wrong_size { IfErr result (λ e. NotSize e ⊎ Refuses geometry.now (D.text disk.old) e) }

@@ -12,6 +12,7 @@ ghost use Rattle.rz_cells.specs.Opening.{Agrees, CellFault, CellsFault, FieldFau
 
 use crate::Geometry;
 use crate::geometry::Version;
+use crate::heads::Heads;
 use crate::judging::{Firsts, admit};
 use rz_disk::Disk;
 use rz_events::{Head, HeaderField, OpenFault};
@@ -87,20 +88,20 @@ pub fn read_heads<D: Disk>(
     disk: &mut D,
     geometry: &Geometry,
     gates: &[u8],
-    heads: Vec<Option<Head>>,
+    heads: Heads,
     firsts: Firsts,
-) -> Result<Vec<Option<Head>>, OpenFault>
+) -> Result<Heads, OpenFault>
     requires geometry { IsGeometry geometry.now }
     requires size { length (D.text disk.old) ≡ disk_bytes geometry.now }
     requires gates { length gates.now ≡ 2 * geometry.now.cells }
     requires known { IsTrue D.tells → Knows geometry.now gates.now (D.text disk.old) }
-    requires heads { length heads.items ≡ 2 * geometry.now.cells }
-    requires empty { (c : ℕ) → in_cell heads.items c ≡ None }
+    requires heads { length heads ≡ 2 * geometry.now.cells }
+    requires empty { (c : ℕ) → in_cell heads c ≡ None }
     requires firsts { IsEmpty firsts }
     requires spare { 2 * geometry.now.cells ≤ spare firsts }
-    ensures reads { IfOk result (λ v. IsTrue D.tells → ReadTo geometry.now (D.text disk.old) v.items (2 * geometry.now.cells)) }
-    ensures fits { IfOk result (λ v. FitTo geometry.now v.items (2 * geometry.now.cells)) }
-    ensures heads { IfOk result (λ v. length v.items ≡ 2 * geometry.now.cells) }
+    ensures reads { IfOk result (λ v. IsTrue D.tells → ReadTo geometry.now (D.text disk.old) v (2 * geometry.now.cells)) }
+    ensures fits { IfOk result (λ v. FitTo geometry.now v (2 * geometry.now.cells)) }
+    ensures heads { IfOk result (λ v. length v ≡ 2 * geometry.now.cells) }
     ensures refused { IfErr result (λ e. IsTrue D.tells → CellsFault geometry.now (D.text disk.old) e) }
     ensures not_size { IfErr result NotSize }
     ensures read { OnlyRead (D.text disk.old) (D.text disk.new) (D.image disk.old) (D.image disk.new) (D.meter disk.old) (D.meter disk.new) }
@@ -113,7 +114,7 @@ pub fn read_heads<D: Disk>(
     for cell in 0..2 * geometry.cells {
         let head = read_head(disk, geometry, cell, gates[cell as usize])?;
         admit(&heads, &mut firsts, cell, &head)?;
-        heads[cell as usize] = head;
+        heads.set(cell, &head);
     }
     Ok(heads)
 }

@@ -1,7 +1,7 @@
 -- What a command line means.
-use Rattle.std.specs.Prelude.{ℕ, ◌≡◌, ◌<◌, ◌==◌, ◌&&◌, ◌^◌, nat_lt, nat_le, not, Bool, true, false, if◌then◌else◌, List, [], ◌∷◌, Option, Some, None, Result, Ok, Err, IsSome, codes, length, option_map, option_and_then, string_bytes}
-use Rattle.std.specs.Str.{all_ascii_digits, bytes_eq}
-use Rattle.std.specs.Str.Parse.{digits_value}
+use Rattle.std.specs.Prelude.{ℕ, ◌≡◌, ◌<◌, ◌==◌, ◌&&◌, nat_le, not, Bool, true, false, if◌then◌else◌, List, [], ◌∷◌, Option, Some, None, Result, Ok, Err, IsSome, codes, option_map, option_and_then, string_bytes}
+use Rattle.std.specs.Str.{bytes_eq}
+use Rattle.rz_spelling.specs.Numerals.{numeral}
 use Rattle.rz_command.specs.declared.items.Kind.TheVariants.{Disks, Folder, Plain}
 use Rattle.rz_command.specs.declared.command.Command.{Command}
 use Rattle.rz_command.specs.declared.command.Command.TheVariants.{Replay, Run, Load, Migrate, Scrub, First, Again}
@@ -11,13 +11,9 @@ use Rattle.rz_command.specs.declared.command.WordsError.{WordsError}
 use Rattle.rz_command.specs.declared.command.WordsError.TheVariants.{NoMemory, Usage}
 use Rattle.rz_command.specs.Items.{Item, Text, items, values}
 
--- decimal digits, whose value is a u64
-abbrev pub number : Text → Option ℕ
-number word = if all_ascii_digits word && not (length word == 0) && nat_lt (digits_value 10 word) (2 ^ 64) then Some (digits_value 10 word) else None
-
 -- a number from low to high
 abbrev pub number_in : ℕ → ℕ → Text → Option ℕ
-number_in low high word = option_and_then (λ n. if nat_le low n && nat_le n high then Some n else None) (number word)
+number_in low high word = option_and_then (λ n. if nat_le low n && nat_le n high then Some n else None) (numeral word)
 
 -- a path is not empty and does not begin with a hyphen
 abbrev pub is_path : Text → Bool

@@ -1,20 +1,9 @@
 //! The numbers of the line.
 
 ghost use Rattle.std.specs.Prelude.{◌≡◌, ◌≤◌, IfSome};
-ghost use Rattle.rz_command.specs.Line.{number, number_in};
+ghost use Rattle.rz_command.specs.Line.{number_in};
 
-/// Decimal digits, at most a `u64`.
-fn read_number(word: &str) -> Option<u64>
-    ensures { result ≡ number word.now }
-{
-    if word.starts_with('+') {
-        return None;
-    }
-    match word.parse::<u64>() {
-        Ok(n) => Some(n),
-        Err(_) => None,
-    }
-}
+use rz_spelling::read_number;
 
 /// A number from `low` to `high`.
 pub fn read_number_in(word: &str, low: u64, high: u64) -> Option<u64>

@@ -24,7 +24,7 @@ use Rattle.rz_node_model.proofs.VersionLaws.{has_stamp-map}
 use Rattle.rz_cells.specs.Held.{Records}
 use Rattle.rz_cells.specs.Stands.{StandsFor}
 use Rattle.rz_node.specs.Change.{AreHeld}
-use Rattle.rz_node.specs.Shows.{Shows}
+use Rattle.rz_node.specs.HeldOnDisk.{Shows}
 use Rattle.rz_core.specs.History.{Facts, Begun, facts, length_in, base_in}
 use Rattle.rz_core.specs.NodeWord.{last_fence, undecided, held, settled, itself}
 use Rattle.rz_core.specs.NodeRows.{DidRow}

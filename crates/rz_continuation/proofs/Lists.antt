@@ -5,7 +5,7 @@ use Rattle.std.specs.List.{AllByRecursion}
 use Rattle.rz_events.specs.declared.records.Held.{Held}
 use Rattle.rz_node_model.specs.Records.{found, stamp_of}
 use Rattle.rz_node_model.specs.Versions.{has_stamp}
-use Rattle.rz_node.specs.Shows.{Falls}
+use Rattle.rz_node.specs.HeldOnDisk.{Falls}
 use Rattle.rz_core.specs.NodeWord.{itself}
 use Rattle.rz_core.proofs.NodeLaws.{IsPair}
 

@@ -22,8 +22,8 @@ use Rattle.rz_events.specs.declared.events.Event.{Event}
 use Rattle.rz_cells.specs.declared.geometry.Geometry.{Geometry}
 use Rattle.rz_cells.specs.Held.{Records}
 use Rattle.rz_cells.specs.Stands.{StandsFor}
-use Rattle.rz_node.specs.Seen.{NodeView}
-use Rattle.rz_node.specs.Shows.{Shows}
+use Rattle.rz_node.specs.View.{NodeView}
+use Rattle.rz_node.specs.HeldOnDisk.{Shows}
 use Rattle.rz_play.specs.Faults.{unplanned}
 use Rattle.rz_node_model.specs.States.{NodeState, fresh, opened}
 use Rattle.rz_node_model.specs.Versions.{Stands as IsAmong}

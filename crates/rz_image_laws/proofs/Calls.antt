@@ -36,7 +36,7 @@ use Rattle.rz_cells.specs.declared.geometry.Geometry.{Geometry}
 use Rattle.rz_cells.specs.Held.{nothing}
 use Rattle.rz_cells.specs.Held as cells
 use Rattle.rz_cells.specs.Stands.{StandsFor}
-use Rattle.rz_node.specs.Around.{Around}
+use Rattle.rz_node.specs.CrashOutcomes.{CrashOutcomes}
 use Rattle.rz_node.specs.Change.{AreHeld, IsOf, IsChangeLaw}
 use Rattle.rz_calls.specs.Leaves.{Opened}
 use Rattle.rz_core.specs.History.{Facts}
@@ -104,13 +104,13 @@ module _ (v : Volume) (f : Facts) (n : ℕ) (g : Geometry) (s : NodeState) where
 
   module _ (law : IsChangeLaw) (text text' : List ℕ) (image image' : List ℕ → Type 0) (at : image text) (up : s.phase ≡ Up) (old : IsImaged v f n s g image)
       (change : Pending) (key : Key) (after : List Held) (is : carried change s.held ≡ with_held s.held key after) (new : Option Rec) (of : IsOf key new) (write : IsWriteOf v f n new) where
-    held-after : (used : Option Bool) → Around g s.fence text text' image' used key (held_of s.held key) after new → AreHeld (carried change s.held) (records_in v f n (carried change s.held))
+    held-after : (used : Option Bool) → CrashOutcomes g s.fence text text' image' used key (held_of s.held key) after new → AreHeld (carried change s.held) (records_in v f n (carried change s.held))
     held-after used a = subst (λ (k : Records). AreHeld k (records_in v f n k)) (sym is) (held-then v f n s.held key after new a.gone a.way of write old.held)
 
-    changes : (used : Option Bool) (a : Around g s.fence text text' image' used key (held_of s.held key) after new) → cells.changed (records_in v f n s.held) a.gone new ≡ records_in v f n (carried change s.held)
+    changes : (used : Option Bool) (a : CrashOutcomes g s.fence text text' image' used key (held_of s.held key) after new) → cells.changed (records_in v f n s.held) a.gone new ≡ records_in v f n (carried change s.held)
     changes used a = changed-is v f n s.held key after new a.gone a.way of write old.held law ∙ ap (records_in v f n) (sym is)
 
-    pub done : Around g s.fence text text' image' (Some true) key (held_of s.held key) after new → IsImaged v f n (with_change s change) g image'
+    pub done : CrashOutcomes g s.fence text text' image' (Some true) key (held_of s.held key) after new → IsImaged v f n (with_change s change) g image'
     done a =
         let none = old.decided (up-down s.phase up) in
         let now : stands (carried change s.held) text' = subst (λ (r : cells.Records). StandsFor g s.fence text' r) (changes (Some true) a) (a.done refl (records_in v f n s.held) (text-stands text image at up old)) in
@@ -121,7 +121,7 @@ module _ (v : Volume) (f : Facts) (n : ℕ) (g : Geometry) (s : NodeState) where
           each = λ there c left. inl (subst (stands (carried change s.held)) (sym (a.settled refl c left)) now);
         }
 
-    pub failed : Around g s.fence text text' image' (Some false) key (held_of s.held key) after new → IsImaged v f n (after_fault s (Some change)) g image'
+    pub failed : CrashOutcomes g s.fence text text' image' (Some false) key (held_of s.held key) after new → IsImaged v f n (after_fault s (Some change)) g image'
     failed a = record {
       decided = λ never. not-down never;
       held = old.held;

@@ -12,7 +12,7 @@ use Rattle.rz_node_model.specs.States.{NodeState}
 use Rattle.rz_node_model.specs.Answers.{IsNodeAnswer}
 use Rattle.rz_node_model.specs.Afterwards.{after_answer}
 use Rattle.rz_node_model.specs.NodeEvents.{node_event}
-use Rattle.rz_node.specs.Seen.{NodeView}
+use Rattle.rz_node.specs.View.{NodeView}
 use Rattle.rz_core.specs.History.{facts, of_word}
 use Rattle.rz_core.specs.NodeRows.{cells_of, IsNodeOf}
 use Rattle.rz_core.specs.Legal.{IsLegal}

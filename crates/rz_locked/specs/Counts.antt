@@ -4,7 +4,7 @@ use Rattle.rz_disk.specs.Meter.{Meter, armed}
 use Rattle.rz_events.specs.declared.nodes.StartAnswer.{StartAnswer}
 use Rattle.rz_events.specs.declared.nodes.StartAnswer.TheVariants as start
 use Rattle.rz_events.specs.declared.events.Event.{Event}
-use Rattle.rz_node.specs.Seen.{NodeView}
+use Rattle.rz_node.specs.View.{NodeView}
 use Rattle.rz_play.specs.Faults.{AreFaultsCounted}
 use Rattle.rz_disk_laws.specs.Metered.{IsMetered}
 

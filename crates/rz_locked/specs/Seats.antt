@@ -12,7 +12,7 @@ use Rattle.rz_events.specs.declared.events.Word.TheVariants.{Node}
 use Rattle.rz_events.specs.declared.events.Event.{Event}
 use Rattle.rz_node_model.specs.States.{NodeState}
 use Rattle.rz_node_model.specs.Answers.{IsNodeAnswer}
-use Rattle.rz_node.specs.Seen.{NodeView}
+use Rattle.rz_node.specs.View.{NodeView}
 use Rattle.rz_core.specs.History.{Facts, facts, of_word, of_actor}
 use Rattle.rz_core.specs.NodeRows.{cells_of}
 use Rattle.rz_core.specs.Tied.{IsNode, IsProperAsk, IsOpening}

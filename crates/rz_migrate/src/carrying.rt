@@ -13,7 +13,7 @@ use std::alloc::Global;
 
 /// How many records these cells hold.
 fn count<D: Disk>(cells: &Cells<D>) -> u64
-    ensures { result ≡ records_in cells.now.heads.items }
+    ensures { result ≡ records_in cells.now.heads }
 {
     let geometry = cells.geometry();
     let mut records = 0;

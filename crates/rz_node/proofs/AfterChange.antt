@@ -18,10 +18,10 @@ use Rattle.rz_versions.specs.Sides.{has}
 use Rattle.rz_cells.specs.declared.geometry.Geometry.{Geometry}
 use Rattle.rz_cells.specs.Held.{Records, head_in, names, changed}
 use Rattle.rz_cells.specs.Stands.{StandsFor}
-use Rattle.rz_node.specs.Around.{GivesWay, is_new}
+use Rattle.rz_node.specs.CrashOutcomes.{GivesWay, is_new}
 use Rattle.rz_node.specs.Change.{AreHeld, records_after, IsOf, IsChangeLaw, IsBranch}
-use Rattle.rz_node.specs.Shows.{Shows}
-use Rattle.rz_node.specs.Waiting.{has_change, has_taken, CanTell}
+use Rattle.rz_node.specs.HeldOnDisk.{Shows}
+use Rattle.rz_node.specs.DownDisk.{has_change, has_taken, CanTell}
 use Rattle.rz_node.proofs.Changes.{key-cases, not-key, get-other, gone-other}
 use Rattle.rz_node.proofs.Maps.{names-it}
 use Rattle.rz_node.proofs.Waits.{own-held}

@@ -19,7 +19,7 @@ use Rattle.rz_node_model.specs.declared.pending.Pending.{Pending}
 use Rattle.rz_node_model.specs.Answers.{fetch_answer, fetch_found}
 use Rattle.rz_node_model.specs.Records.{record_of, held_of, found}
 use Rattle.rz_node.specs.Kept.{held_by}
-use Rattle.rz_node.specs.Seen.{IsReady, state_of}
+use Rattle.rz_node.specs.View.{IsReady, state_of}
 
 pub ready-up : (phase : Phase) (P Q : Type 0) → phase ≡ Up → IsReady phase P Q → P
 ready-up phase P Q is ready = subst (λ (p : Phase). IsReady p P Q) is ready

@@ -19,7 +19,7 @@ use Rattle.rz_cells.specs.Held.{Records, Made, in_cell, heads_of, head_in}
 use Rattle.rz_cells.specs.Stands.{StandsFor}
 use Rattle.rz_cells.specs.Open.{Finds}
 use Rattle.rz_node.specs.Kept.{sides_in, records_in, held_by, IsShown, IsTied}
-use Rattle.rz_node.specs.Shows.{Falls, Shows}
+use Rattle.rz_node.specs.HeldOnDisk.{Falls, Shows}
 use Rattle.rz_node.proofs.Tied.{get-held, held-shown, held-not}
 use Rattle.rz_node.proofs.Places.{two-cells, held-key}
 use Rattle.rz_node.proofs.Keeps.{sides-differ}

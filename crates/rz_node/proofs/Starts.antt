@@ -19,8 +19,8 @@ use Rattle.rz_cells.specs.Held as cells
 use Rattle.rz_cells.specs.Open.{Finds}
 use Rattle.rz_cells.specs.Stands.{StandsFor}
 use Rattle.rz_node.specs.Kept.{held_by, IsTied}
-use Rattle.rz_node.specs.Seen.{IsReady, state_of}
-use Rattle.rz_node.specs.Waiting.{HoldsHeld, has_change, has_taken, CanTell, IsDown}
+use Rattle.rz_node.specs.View.{IsReady, state_of}
+use Rattle.rz_node.specs.DownDisk.{HoldsHeld, has_change, has_taken, CanTell, IsDown}
 use Rattle.rz_node.proofs.Listed.{same-held}
 use Rattle.rz_node.proofs.Maps.{made-apart}
 

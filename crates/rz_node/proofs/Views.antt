@@ -24,10 +24,10 @@ use Rattle.rz_node_model.specs.Versions.{passes_keep, passes_refill, lesser_of}
 use Rattle.rz_index.specs.declared.index.Entry.{Entry}
 use Rattle.rz_cells.specs.Held.{Records}
 use Rattle.rz_cells.specs.Stands.{StandsFor}
-use Rattle.rz_node.specs.Around.{Around}
+use Rattle.rz_node.specs.CrashOutcomes.{CrashOutcomes}
 use Rattle.rz_node.specs.Change.{IsBranch}
 use Rattle.rz_node.specs.Kept.{held_by}
-use Rattle.rz_node.specs.Seen.{NodeView, held_in, state_of}
+use Rattle.rz_node.specs.View.{NodeView, held_in, state_of}
 use Rattle.rz_cells.specs.Opening.{opening_calls}
 use Rattle.rz_node.specs.Opens.{Stopped}
 use Rattle.rz_node.specs.Spends.{Passed, Failed}
@@ -61,12 +61,12 @@ pub stands-along : {D : Type 0} (text : D → List ℕ) (v w : NodeView D) (reco
 stands-along {D} text v w records same p = subst (λ (x : NodeView D). StandsFor x.geometry x.state.fence (text x.disk) records) (sym same) p
 
 pub around-along : {D : Type 0} (text : D → List ℕ) (v w : NodeView D) (text' : List ℕ) (image : List ℕ → Type 0) (used : Option Bool) (key : Key) (F : List Held → List Held) (before after : List Held) (new : Option Rec)
-    → v ≡ w → held_of v.state.held key ≡ before → after ≡ F before → Around v.geometry v.state.fence (text v.disk) text' image used key before after new
-    → Around w.geometry w.state.fence (text w.disk) text' image used key (held_of w.state.held key) (F (held_of w.state.held key)) new
+    → v ≡ w → held_of v.state.held key ≡ before → after ≡ F before → CrashOutcomes v.geometry v.state.fence (text v.disk) text' image used key before after new
+    → CrashOutcomes w.geometry w.state.fence (text w.disk) text' image used key (held_of w.state.held key) (F (held_of w.state.held key)) new
 around-along {D} text v w text' image used key F before after new same before_is after_is given =
-    subst (λ (x : NodeView D). Around x.geometry x.state.fence (text x.disk) text' image used key (held_of x.state.held key) (F (held_of x.state.held key)) new) same
-    (subst (λ (b : List Held). Around v.geometry v.state.fence (text v.disk) text' image used key b (F b) new) (sym before_is)
-    (subst (λ (a : List Held). Around v.geometry v.state.fence (text v.disk) text' image used key before a new) after_is given))
+    subst (λ (x : NodeView D). CrashOutcomes x.geometry x.state.fence (text x.disk) text' image used key (held_of x.state.held key) (F (held_of x.state.held key)) new) same
+    (subst (λ (b : List Held). CrashOutcomes v.geometry v.state.fence (text v.disk) text' image used key b (F b) new) (sym before_is)
+    (subst (λ (a : List Held). CrashOutcomes v.geometry v.state.fence (text v.disk) text' image used key before a new) after_is given))
 
 -- ---- a node that is up
 

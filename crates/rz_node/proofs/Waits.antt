@@ -26,8 +26,8 @@ use Rattle.rz_cells.specs.Held.{Apart, Goes, Together, in_cell, head_in}
 use Rattle.rz_cells.specs.Stands.{HoldsCells, HoldsEither}
 use Rattle.rz_cells.specs.Open.{IsOpen, HoldsHeads}
 use Rattle.rz_node.specs.Kept.{held_by, sides_in, records_in, version_of, IsTied}
-use Rattle.rz_node.specs.Seen.{IsReady}
-use Rattle.rz_node.specs.Waiting.{Shown, HoldsEitherHeld, CanTell, IsDown}
+use Rattle.rz_node.specs.View.{IsReady}
+use Rattle.rz_node.specs.DownDisk.{Shown, HoldsEitherHeld, CanTell, IsDown}
 use Rattle.rz_node.proofs.Places.{Placed}
 use Rattle.rz_node.proofs.Puts.{tied-put, held-put}
 use Rattle.rz_node.proofs.Puts as puts

@@ -11,7 +11,7 @@ use Rattle.rz_node_model.specs.Versions.{has_stamp}
 use Rattle.rz_cells.specs.declared.geometry.Geometry.{Geometry}
 use Rattle.rz_cells.specs.Held.{Records, changed, head_in, names}
 use Rattle.rz_cells.specs.Stands.{StandsFor}
-use Rattle.rz_node.specs.Around.{GivesWay}
+use Rattle.rz_node.specs.CrashOutcomes.{GivesWay}
 
 -- there is a record for each stamp that is held of a key, and no other
 abbrev pub AreHeld : held.Records → Records → Type 0

@@ -1,10 +1,10 @@
-pub mod Around
+pub mod CrashOutcomes
 pub mod Change
-pub mod Gives
+pub mod Fetched
 pub mod Kept
 pub mod Opens
 pub mod Rows
-pub mod Seen
-pub mod Shows
+pub mod View
+pub mod HeldOnDisk
 pub mod Spends
-pub mod Waiting
+pub mod DownDisk

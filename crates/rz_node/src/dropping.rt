@@ -10,10 +10,10 @@ ghost use Rattle.rz_node_model.specs.Answers.{IsNodeAnswer};
 ghost use Rattle.rz_node_model.specs.Afterwards.{after_answer};
 ghost use Rattle.rz_node_model.specs.Records.{held_of, stamp_of, key_at, with_held};
 ghost use Rattle.rz_node_model.specs.Versions.{without};
-ghost use Rattle.rz_node.specs.Around.{Around};
+ghost use Rattle.rz_node.specs.CrashOutcomes.{CrashOutcomes};
 ghost use Rattle.rz_node.specs.Kept.{IsTied, held_by, sides_in, records_in};
 ghost use Rattle.rz_node.specs.Spends.{Spends, IfDropped, drop_used};
-ghost use Rattle.rz_node.specs.Waiting.{HoldsEitherHeld};
+ghost use Rattle.rz_node.specs.DownDisk.{HoldsEitherHeld};
 
 use crate::Node;
 use rz_cells::{Cells, DiskFault};
@@ -30,7 +30,7 @@ impl<D: Disk> Node<D> {
 
         // The disk is not used where nothing was to be dropped.
         ensures same { drop_used result ≡ None → self.new ≡ self.old }
-        ensures stands { IfDropped result (λ block stamp. IsTrue D.tells → Around self.old.geometry self.old.state.fence (D.text self.old.disk) (D.text self.new.disk) (D.image self.new.disk) (drop_used result) (key_at fid block)
+        ensures stands { IfDropped result (λ block stamp. IsTrue D.tells → CrashOutcomes self.old.geometry self.old.state.fence (D.text self.old.disk) (D.text self.new.disk) (D.image self.new.disk) (drop_used result) (key_at fid block)
             (held_of self.old.state.held (key_at fid block)) (without stamp_of stamp (held_of self.old.state.held (key_at fid block))) None) }
         ensures geometry { self.new.geometry ≡ self.old.geometry }
         ensures spends { Spends 4 (drop_used result) (D.meter self.old.disk) (D.meter self.new.disk) }
@@ -76,19 +76,19 @@ fn clear_in<D: Disk>(
     entry: Entry,
     side: u8,
 ) -> Result<(), DiskFault>
-    requires open { IsOpen D.tells (D.text cells.old.disk) (D.image cells.old.disk) cells.old.geometry cells.old.fence cells.old.gates.items cells.old.heads.items }
-    requires tied { IsTied cells.old.geometry.cells cells.old.heads.items index.old }
+    requires open { IsOpen D.tells (D.text cells.old.disk) (D.image cells.old.disk) cells.old.geometry cells.old.fence cells.old.gates.items cells.old.heads }
+    requires tied { IsTied cells.old.geometry.cells cells.old.heads index.old }
     requires there { maps.get index.old.entries entry.key ≡ Some entry }
     requires side { side < 2 }
-    ensures stands { IsTrue D.tells → Around cells.old.geometry cells.old.fence (D.text cells.old.disk) (D.text cells.new.disk) (D.image cells.new.disk) (Some (is_ok result)) entry.key
-        (records_in cells.old.heads.items entry.cell) (in_order stamp_of (put_at (sides_in cells.old.heads.items entry.cell) side None)) None }
-    ensures open { OnOk result (IsOpen D.tells (D.text cells.new.disk) (D.image cells.new.disk) cells.new.geometry cells.new.fence cells.new.gates.items cells.new.heads.items) }
-    ensures tied { IsTied cells.new.geometry.cells cells.new.heads.items index.new }
-    ensures held { OnOk result (held_by index.new.entries cells.new.heads.items
-        ≡ with_held (held_by index.old.entries cells.old.heads.items) entry.key (in_order stamp_of (put_at (sides_in cells.old.heads.items entry.cell) side None))) }
-    ensures waits { OnErr result (IsTrue D.tells → HoldsEitherHeld cells.new.geometry cells.new.fence (D.image cells.new.disk) (held_by index.new.entries cells.new.heads.items)
-        (with_held (held_by index.new.entries cells.new.heads.items) entry.key (in_order stamp_of (put_at (sides_in cells.old.heads.items entry.cell) side None)))) }
-    ensures heads { OnErr result (cells.new.heads.items ≡ cells.old.heads.items) }
+    ensures stands { IsTrue D.tells → CrashOutcomes cells.old.geometry cells.old.fence (D.text cells.old.disk) (D.text cells.new.disk) (D.image cells.new.disk) (Some (is_ok result)) entry.key
+        (records_in cells.old.heads entry.cell) (in_order stamp_of (put_at (sides_in cells.old.heads entry.cell) side None)) None }
+    ensures open { OnOk result (IsOpen D.tells (D.text cells.new.disk) (D.image cells.new.disk) cells.new.geometry cells.new.fence cells.new.gates.items cells.new.heads) }
+    ensures tied { IsTied cells.new.geometry.cells cells.new.heads index.new }
+    ensures held { OnOk result (held_by index.new.entries cells.new.heads
+        ≡ with_held (held_by index.old.entries cells.old.heads) entry.key (in_order stamp_of (put_at (sides_in cells.old.heads entry.cell) side None))) }
+    ensures waits { OnErr result (IsTrue D.tells → HoldsEitherHeld cells.new.geometry cells.new.fence (D.image cells.new.disk) (held_by index.new.entries cells.new.heads)
+        (with_held (held_by index.new.entries cells.new.heads) entry.key (in_order stamp_of (put_at (sides_in cells.old.heads entry.cell) side None)))) }
+    ensures heads { OnErr result (cells.new.heads ≡ cells.old.heads) }
     ensures index { OnErr result (index.new ≡ index.old) }
     ensures geometry { cells.new.geometry ≡ cells.old.geometry }
     ensures fence { cells.new.fence ≡ cells.old.fence }

@@ -6,7 +6,7 @@ ghost use Rattle.rz_disk.specs.Images.{Within};
 ghost use Rattle.rz_node_model.specs.Answers.{IsNodeAnswer};
 ghost use Rattle.rz_node_model.specs.Afterwards.{after_answer};
 ghost use Rattle.rz_node_model.specs.Records.{record_of, held_of, found};
-ghost use Rattle.rz_node.specs.Gives.{Gives, IfHeld};
+ghost use Rattle.rz_node.specs.Fetched.{Gives, IfHeld};
 ghost use Rattle.rz_node.specs.Kept.{IsTied, IsThere, held_by};
 ghost use Rattle.rz_node.specs.Spends.{Spends, fetch_used};
 
@@ -61,9 +61,9 @@ impl<D: Disk> Node<D> {
 
 /// The cell of the record of a key with this stamp, and its head.
 fn record_at<D: Disk>(index: &Index, cells: &Cells<D>, key: Key, stamp: u64) -> Option<(u32, Head)>
-    requires { IsTied cells.now.geometry.cells cells.now.heads.items index.now }
-    ensures found { option_map (λ p. record_of p.1) result ≡ found stamp (held_of (held_by index.now.entries cells.now.heads.items) key) }
-    ensures there { IfSome result (λ p. IsThere cells.now.geometry.cells cells.now.heads.items key p.0 p.1) }
+    requires { IsTied cells.now.geometry.cells cells.now.heads index.now }
+    ensures found { option_map (λ p. record_of p.1) result ≡ found stamp (held_of (held_by index.now.entries cells.now.heads) key) }
+    ensures there { IfSome result (λ p. IsThere cells.now.geometry.cells cells.now.heads key p.0 p.1) }
 {
     let Some(entry) = index.find(key) else {
         return None;

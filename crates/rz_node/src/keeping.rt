@@ -8,10 +8,10 @@ ghost use Rattle.rz_node_model.specs.Answers.{IsNodeAnswer};
 ghost use Rattle.rz_node_model.specs.Afterwards.{after_answer};
 ghost use Rattle.rz_node_model.specs.Records.{record_of, held_of, stamp_of, with_held};
 ghost use Rattle.rz_node_model.specs.Versions.{kept, refilled};
-ghost use Rattle.rz_node.specs.Around.{Around};
+ghost use Rattle.rz_node.specs.CrashOutcomes.{CrashOutcomes};
 ghost use Rattle.rz_node.specs.Kept.{IsTied, held_by, place_in, sides_in, records_in, version_of};
 ghost use Rattle.rz_node.specs.Spends.{Spends, keep_used, refill_used};
-ghost use Rattle.rz_node.specs.Waiting.{HoldsEitherHeld};
+ghost use Rattle.rz_node.specs.DownDisk.{HoldsEitherHeld};
 
 use crate::Node;
 use rz_cells::{Cells, DiskFault};
@@ -32,7 +32,7 @@ impl<D: Disk> Node<D> {
 
         // The disk is not used where nothing was to be kept.
         ensures same { keep_used result ≡ None → self.new ≡ self.old }
-        ensures stands { keep_used result ≢ None → IsTrue D.tells → Around self.old.geometry self.old.state.fence (D.text self.old.disk) (D.text self.new.disk) (D.image self.new.disk) (keep_used result) head.now.key
+        ensures stands { keep_used result ≢ None → IsTrue D.tells → CrashOutcomes self.old.geometry self.old.state.fence (D.text self.old.disk) (D.text self.new.disk) (D.image self.new.disk) (keep_used result) head.now.key
             (held_of self.old.state.held head.now.key) (kept stamp_of head.now.base (record_of head.now) (held_of self.old.state.held head.now.key)) (Some record { head = head.now; bins = bins.now }) }
         ensures geometry { self.new.geometry ≡ self.old.geometry }
         ensures spends { Spends 4 (keep_used result) (D.meter self.old.disk) (D.meter self.new.disk) }
@@ -77,7 +77,7 @@ impl<D: Disk> Node<D> {
 
         // The disk is not used where nothing was to be kept.
         ensures same { refill_used result ≡ None → self.new ≡ self.old }
-        ensures stands { refill_used result ≢ None → IsTrue D.tells → Around self.old.geometry self.old.state.fence (D.text self.old.disk) (D.text self.new.disk) (D.image self.new.disk) (refill_used result) head.now.key
+        ensures stands { refill_used result ≢ None → IsTrue D.tells → CrashOutcomes self.old.geometry self.old.state.fence (D.text self.old.disk) (D.text self.new.disk) (D.image self.new.disk) (refill_used result) head.now.key
             (held_of self.old.state.held head.now.key) (refilled stamp_of (record_of head.now) (held_of self.old.state.held head.now.key)) (Some record { head = head.now; bins = bins.now }) }
         ensures geometry { self.new.geometry ≡ self.old.geometry }
         ensures spends { Spends 4 (refill_used result) (D.meter self.old.disk) (D.meter self.new.disk) }
@@ -160,23 +160,23 @@ fn put_in<D: Disk>(
     head: &Head,
     bins: &[u64],
 ) -> Result<(), DiskFault>
-    requires open { IsOpen D.tells (D.text cells.old.disk) (D.image cells.old.disk) cells.old.geometry cells.old.fence cells.old.gates.items cells.old.heads.items }
-    requires tied { IsTied cells.old.geometry.cells cells.old.heads.items index.old }
+    requires open { IsOpen D.tells (D.text cells.old.disk) (D.image cells.old.disk) cells.old.geometry cells.old.fence cells.old.gates.items cells.old.heads }
+    requires tied { IsTied cells.old.geometry.cells cells.old.heads index.old }
     requires place { place_in index.old head.now.key ≡ Some entry }
     requires side { side < 2 }
     requires differ { Differ sides.version_stamp (sides.other entry.versions side) (Some (version_of (record_of head.now))) }
     requires valid { IsValid head.now }
     requires layout { head.now.layout ≡ cells.old.geometry.layout }
     requires bins { length bins.now ≡ bins_of head.now }
-    ensures stands { IsTrue D.tells → Around cells.old.geometry cells.old.fence (D.text cells.old.disk) (D.text cells.new.disk) (D.image cells.new.disk) (Some (is_ok result)) head.now.key
-        (records_in cells.old.heads.items entry.cell) (in_order stamp_of (put_at (sides_in cells.old.heads.items entry.cell) side (Some (record_of head.now)))) (Some record { head = head.now; bins = bins.now }) }
-    ensures open { OnOk result (IsOpen D.tells (D.text cells.new.disk) (D.image cells.new.disk) cells.new.geometry cells.new.fence cells.new.gates.items cells.new.heads.items) }
-    ensures tied { IsTied cells.new.geometry.cells cells.new.heads.items index.new }
-    ensures held { OnOk result (held_by index.new.entries cells.new.heads.items
-        ≡ with_held (held_by index.old.entries cells.old.heads.items) head.now.key (in_order stamp_of (put_at (sides_in cells.old.heads.items entry.cell) side (Some (record_of head.now))))) }
-    ensures waits { OnErr result (IsTrue D.tells → HoldsEitherHeld cells.new.geometry cells.new.fence (D.image cells.new.disk) (held_by index.new.entries cells.new.heads.items)
-        (with_held (held_by index.new.entries cells.new.heads.items) head.now.key (in_order stamp_of (put_at (sides_in cells.old.heads.items entry.cell) side (Some (record_of head.now)))))) }
-    ensures heads { OnErr result (cells.new.heads.items ≡ cells.old.heads.items) }
+    ensures stands { IsTrue D.tells → CrashOutcomes cells.old.geometry cells.old.fence (D.text cells.old.disk) (D.text cells.new.disk) (D.image cells.new.disk) (Some (is_ok result)) head.now.key
+        (records_in cells.old.heads entry.cell) (in_order stamp_of (put_at (sides_in cells.old.heads entry.cell) side (Some (record_of head.now)))) (Some record { head = head.now; bins = bins.now }) }
+    ensures open { OnOk result (IsOpen D.tells (D.text cells.new.disk) (D.image cells.new.disk) cells.new.geometry cells.new.fence cells.new.gates.items cells.new.heads) }
+    ensures tied { IsTied cells.new.geometry.cells cells.new.heads index.new }
+    ensures held { OnOk result (held_by index.new.entries cells.new.heads
+        ≡ with_held (held_by index.old.entries cells.old.heads) head.now.key (in_order stamp_of (put_at (sides_in cells.old.heads entry.cell) side (Some (record_of head.now))))) }
+    ensures waits { OnErr result (IsTrue D.tells → HoldsEitherHeld cells.new.geometry cells.new.fence (D.image cells.new.disk) (held_by index.new.entries cells.new.heads)
+        (with_held (held_by index.new.entries cells.new.heads) head.now.key (in_order stamp_of (put_at (sides_in cells.old.heads entry.cell) side (Some (record_of head.now)))))) }
+    ensures heads { OnErr result (cells.new.heads ≡ cells.old.heads) }
     ensures index { OnErr result (index.new ≡ index.old) }
     ensures geometry { cells.new.geometry ≡ cells.old.geometry }
     ensures fence { cells.new.fence ≡ cells.old.fence }

@@ -15,8 +15,8 @@ ghost use Rattle.rz_events.specs.declared.records.Head.{Head};
 ghost use Rattle.rz_node.specs.Change.{IsBranch};
 ghost use Rattle.rz_node.specs.Kept.{IsTied, held_by};
 ghost use Rattle.rz_node.specs.Opens.{IfStarted, IfTook, UnlessStarted, IfUnopened, TookIs, Opens};
-ghost use Rattle.rz_node.specs.Shows.{Shows};
-ghost use Rattle.rz_node.specs.Waiting.{has_taken};
+ghost use Rattle.rz_node.specs.HeldOnDisk.{Shows};
+ghost use Rattle.rz_node.specs.DownDisk.{has_taken};
 
 use crate::Node;
 use crate::rows::Rows;

@@ -43,8 +43,8 @@ impl Rows {
         requires free { self.free.items ≡ [] }
         requires room { HasRoom cells.now.geometry.cells (vec_capacity self.entries) (deque_capacity self.free) }
         requires spare { self.spare ≡ cells.now.geometry.cells }
-        requires apart { Apart cells.now.heads.items }
-        ensures { IsTied cells.now.geometry.cells cells.now.heads.items result }
+        requires apart { Apart cells.now.heads }
+        ensures { IsTied cells.now.geometry.cells cells.now.heads result }
     {
         let mut rows = self;
         for pair in 0..cells.geometry().cells {
@@ -57,9 +57,9 @@ impl Rows {
     fn add<D: Disk>(&mut self, cells: &Cells<D>, pair: u32)
         requires pair { pair < cells.now.geometry.cells }
         requires room { HasRoom cells.now.geometry.cells (vec_capacity self.old.entries) (deque_capacity self.old.free) }
-        requires apart { Apart cells.now.heads.items }
-        requires rows { IsRows cells.now.geometry.cells cells.now.heads.items pair self.old.entries.items self.old.free.items }
-        ensures rows { IsRows cells.now.geometry.cells cells.now.heads.items (pair + 1) self.new.entries.items self.new.free.items }
+        requires apart { Apart cells.now.heads }
+        requires rows { IsRows cells.now.geometry.cells cells.now.heads pair self.old.entries.items self.old.free.items }
+        ensures rows { IsRows cells.now.geometry.cells cells.now.heads (pair + 1) self.new.entries.items self.new.free.items }
         ensures room { HasRoom cells.now.geometry.cells (vec_capacity self.new.entries) (deque_capacity self.new.free) }
         ensures spare { self.new.spare ≡ self.old.spare }
     {
@@ -78,8 +78,8 @@ impl Rows {
 /// The entry of a pair, which is of the key that its cells hold.
 fn entry_of<D: Disk>(cells: &Cells<D>, pair: u32) -> Option<Entry>
     requires pair { pair < cells.now.geometry.cells }
-    requires apart { Apart cells.now.heads.items }
-    ensures { MatchOption result (IsFree cells.now.geometry.cells cells.now.heads.items pair) (λ e. IsShown cells.now.geometry.cells cells.now.heads.items e.key e × (e.cell ≡ pair)) }
+    requires apart { Apart cells.now.heads }
+    ensures { MatchOption result (IsFree cells.now.geometry.cells cells.now.heads pair) (λ e. IsShown cells.now.geometry.cells cells.now.heads e.key e × (e.cell ≡ pair)) }
 {
     let none = Versions::none();
     match (cells.head(2 * pair), cells.head(2 * pair + 1)) {

@@ -19,8 +19,8 @@ use Rattle.rz_cells.specs.Opening.{NotSize, Refuses}
 use Rattle.rz_cells.specs.Shape.{disk_bytes}
 use Rattle.rz_cells.specs.Stands.{StandsFor}
 use Rattle.rz_node_model.specs.States.{opened}
-use Rattle.rz_node.specs.Seen.{NodeView}
-use Rattle.rz_node.specs.Shows.{Shows}
+use Rattle.rz_node.specs.View.{NodeView}
+use Rattle.rz_node.specs.HeldOnDisk.{Shows}
 use Rattle.rz_opening.specs.Opened.{AreKept, IsCause, IsFaultOf, IsFirstUnopened, IsKept, IsOpened, refusal_at}
 
 -- two lists in one

@@ -14,7 +14,7 @@ use Rattle.rz_cells.specs.Opening.{NotSize, Refuses}
 use Rattle.rz_cells.specs.Shape.{disk_bytes}
 use Rattle.rz_cells.specs.Stands.{StandsFor}
 use Rattle.rz_node_model.specs.States.{opened}
-use Rattle.rz_node.specs.Shows.{Shows}
+use Rattle.rz_node.specs.HeldOnDisk.{Shows}
 use Rattle.rz_formatting.specs.declared.formatting.Station.{Station}
 use Rattle.rz_formatting.specs.Formatted.{disks_of, geometry_of}
 use Rattle.rz_opening.specs.declared.refusal.OpenRefusal.{OpenRefusal}

@@ -1,4 +1,1 @@
-mod RebuildTurns
-mod RangeTurns
 mod ReadTurns
-mod Heads

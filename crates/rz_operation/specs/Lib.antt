@@ -1,6 +1,6 @@
-pub mod Meaning
-pub mod Machine
-pub mod Records
-pub mod Answers
-pub mod Told
-pub mod Inside
+pub use Rattle.rz_stages.specs.Meaning
+pub use Rattle.rz_stages.specs.Machine
+pub use Rattle.rz_stages.specs.Records
+pub use Rattle.rz_stages.specs.Answers
+pub use Rattle.rz_stages.specs.Told
+pub use Rattle.rz_stages.specs.Inside

@@ -4,23 +4,15 @@
 //! machine of `rz_operation_model`, for every list of answers that belong to what was asked. They say
 //! nothing of which answers a node or the export gives, nor of which event an answer has in the log.
 //! Memory is taken by `start` and `start_par` alone, which differ in how many threads make the bins of a
-//! long write.
+//! long write. What each stage asks and how it goes on is `rz_stages`.
 //!
-//! In reading order: `ask`, `stage`, `machine`, `begins`, `replies`, `drops`, `locks`, `blocks`,
-//! `ranges`, `rebuilds`, `takes`.
+//! In reading order: `machine`, `begins`, `replies`, `takes`.
 #![tactic(auto)]
 
-mod ask;
 mod begins;
-mod blocks;
-mod drops;
-mod locks;
 mod machine;
-mod ranges;
-mod rebuilds;
 mod replies;
-mod stage;
 mod takes;
 
-pub use ask::{Ask, ExportAsk, Saying};
 pub use machine::Machine;
+pub use rz_stages::{Ask, ExportAsk, Saying};

@@ -3,20 +3,20 @@
 ghost use Rattle.std.specs.Prelude.{◌≡◌};
 ghost use Rattle.rz_operation_model.specs.Ask.{ask_of};
 ghost use Rattle.rz_operation_model.specs.Steps.{Replied, Locked, Missed, Noted};
-ghost use Rattle.rz_operation.specs.Answers.{IsReply, IsLockReply, IsAnswer, ComeWith, MayMiss, IsPartSaid, HasRoom, Goes, IsAnswered, IsDrop, IsKeep, IsTreeReply};
-ghost use Rattle.rz_operation.specs.Machine.{text_of};
-ghost use Rattle.rz_operation.specs.Inside.{IsStage, IsDoneStage, IsAnswerIn, machine_of, work_of};
+ghost use Rattle.rz_stages.specs.Answers.{IsReply, IsLockReply, IsAnswer, ComeWith, MayMiss, IsPartSaid, HasRoom, Goes, IsAnswered, IsDrop, IsKeep, IsTreeReply};
+ghost use Rattle.rz_stages.specs.Machine.{text_of};
+ghost use Rattle.rz_stages.specs.Inside.{IsStage, IsDoneStage, IsAnswerIn, machine_of, work_of};
 
 use crate::begins::{after_call, after_locked, after_open};
-use crate::blocks::{fetch_answer, tell_fetch, tell_keep, tell_reader, tell_writer};
-use crate::drops::{after_drop, dropped};
-use crate::ranges::{range_answered, range_missed, range_replied, range_said};
-use crate::rebuilds::{rebuild_answered, rebuild_missed, rebuild_replied, rebuild_said};
-use crate::stage::Stage;
 use mj_angles::Layout;
 use rz_events::{
     Answer, DropAnswer, KeepAnswer, NodeAnswer, ReaderAnswer, Reply, TreeReply, WriterAnswer,
 };
+use rz_stages::Stage;
+use rz_stages::blocks::{fetch_answer, tell_fetch, tell_keep, tell_reader, tell_writer};
+use rz_stages::drops::{after_drop, dropped};
+use rz_stages::ranges::{range_answered, range_missed, range_replied, range_said};
+use rz_stages::rebuilds::{rebuild_answered, rebuild_missed, rebuild_replied, rebuild_said};
 
 /// How the operation goes on after a reply of the export.
 pub fn after_reply(layout: Layout, stage: Stage, reply: Reply) -> Stage

@@ -25,6 +25,7 @@ use Rattle.rz_events.specs.declared.keys.Actor.TheVariants.{Client, Rebuilder, A
 use Rattle.rz_events.specs.declared.tree.TreeCall.{TreeCall}
 use Rattle.rz_events.specs.declared.tree.TreeCall.TheVariants as tree
 use Rattle.rz_events.specs.Volume.{Volume}
+use Rattle.rz_spelling.specs.Words.{Word, actor_word, node_word, hex_word}
 use Rattle.rz_script.specs.declared.fault.ScriptCause.{ScriptCause}
 use Rattle.rz_script.specs.declared.fault.ScriptCause.TheVariants.{BadNode, OutOfRange}
 use Rattle.rz_events.specs.declared.operations.Datum.{Datum}
@@ -40,8 +41,8 @@ use Rattle.rz_script.specs.declared.keywords.PairVerb.TheVariants as pair_verbs
 use Rattle.rz_script.specs.declared.keywords.Verb.{Verb}
 use Rattle.rz_script.specs.declared.keywords.Verb.TheVariants as verbs
 use Rattle.rz_script.specs.Lines.{is_plain, IsWord, IsActor, IsDatum, IsCall, IsNodeOf, IsOfClient, IsOfRebuilder, IsOperation, IsLine, AreLines, has_node, datum_length, most_bytes, last_byte, allows}
-use Rattle.rz_script.specs.Grammar.{Word, Judge, Reader, and_then, ◌>>=◌, words, lines, number, number_in, actor, node, datum, datum_from, length_from, way, verb, verb_named, operands, on_path, on_pair, setattr, put, get, write, read, update, view, rebuild, by_actor, op, turn, rounds, rest, on_node, break_node, miss, keyword, keyword_named, after_keyword, counted, line, lines_from}
-use Rattle.rz_script.specs.Spelling.{actor_word, node_word, datum_word, call_word, call_operands, verb_word, operands_of, way_word, line_words, line_text, lines_text}
+use Rattle.rz_script.specs.Grammar.{Judge, Reader, and_then, ◌>>=◌, words, lines, number, number_in, actor, node, datum, datum_from, length_from, way, verb, verb_named, operands, on_path, on_pair, setattr, put, get, write, read, update, view, rebuild, by_actor, op, turn, rounds, rest, on_node, break_node, miss, keyword, keyword_named, after_keyword, counted, line, lines_from}
+use Rattle.rz_script.specs.Spelling.{datum_word, call_word, call_operands, verb_word, operands_of, way_word, line_words, line_text, lines_text}
 
 -- ---- words
 
@@ -126,7 +127,7 @@ lacks_colon : (n : ℕ) → n < 2 ^ 64 → All (λ b. (b == 58) ≡ false) (deci
 lacks_colon n fits = All-from_recursion (λ b. (b == 58) ≡ false) (decimal n) (no_colon (decimal n) (digits_decimal own n fits))
 
 datum_again : (limit : ℕ) (d : Datum) → limit < 2 ^ 32 → IsDatum limit d → datum limit (datum_word d) ≡ Ok d
-unfolding datum datum_word
+unfolding datum datum_word hex_word
 datum_again limit (Bytes bytes) small h = rw (decode_of-encode_lower bytes h.0, le-leb (length bytes) limit h.1) refl
 datum_again limit (Made n s) small h =
     let parts : slice_split (λ b. b == 58) (decimal n ++ (58 ∷ decimal s)) ≡ decimal n ∷ decimal s ∷ [] =
@@ -348,7 +349,7 @@ hex_ascii w h i =
     ]
 
 datum_is_word : (limit : ℕ) (d : Datum) → limit < 2 ^ 32 → IsDatum limit d → IsWord (datum_word d)
-unfolding datum_word encode
+unfolding datum_word hex_word encode
 datum_is_word limit (Bytes bytes) small h =
     let digits = (decode_of-ok (encode_lower bytes) bytes (decode_of-encode_lower bytes h.0)).1 in
     record {

@@ -1,6 +1,7 @@
 -- What is read keeps the limits of lines.
 use Rattle.std.proofs.Common.{◌≡◌, ℕ, ◌+◌, ◌^◌, ◌<◌, ◌≤◌, ◌==◌, ◌&&◌, ◌⊎◌, Bool, true, false, cond, not, slice_index, nat_le, List, [], ◌∷◌, length, Option, Some, None, Result, Ok, Err, inl, inr, refl, subst}
 use Rattle.std.specs.List.{AllByRecursion, slice_split}
+use Rattle.std.specs.Option.{ok_or}
 use Rattle.std.proofs.lemmas.Bool.{leb-true, ltb-true}
 use Rattle.hex.specs.Hex.{decode_of, IsBytes}
 use Rattle.hex.specs.declared.error.FromHexError.{FromHexError}
@@ -10,6 +11,7 @@ use Rattle.rz_events.specs.declared.keys.Actor.{Actor}
 use Rattle.rz_events.specs.declared.keys.Actor.TheVariants.{Client, Rebuilder, Admin}
 use Rattle.rz_events.specs.declared.tree.TreeCall.TheVariants as tree
 use Rattle.rz_events.specs.Volume.{Volume}
+use Rattle.rz_spelling.specs.Words.{Word}
 use Rattle.rz_script.specs.declared.fault.ScriptCause.{ScriptCause}
 use Rattle.rz_script.specs.declared.fault.ScriptCause.TheVariants.{BadNode, OutOfRange}
 use Rattle.rz_events.specs.declared.operations.Datum.{Datum}
@@ -30,7 +32,7 @@ use Rattle.rz_script.specs.declared.keywords.Keyword.{Keyword}
 use Rattle.rz_script.specs.declared.keywords.Keyword.TheVariants as keys
 use Rattle.rz_script.proofs.Bytes.{utf8_bytes, are_bytes}
 use Rattle.rz_script.specs.Lines.{IsActor, IsWord, IsDatum, IsCall, IsNodeOf, IsOfClient, IsOfRebuilder, IsOperation, IsLine, has_node, datum_length, most_bytes, last_byte}
-use Rattle.rz_script.specs.Grammar.{Word, Judge, Reader, and_then, ◌>>=◌, done, any, number, number_in, numbered, actor, of_volume, node, at_most, made, hex, datum, datum_from, length_from, way, verb, judged, judged_if, unless_run, verb_named, path_call, pair_call, on_path, on_pair, setattr, put, get, write, read, update, view, rebuild, operands, by_actor, op, turn, rounds, rest, on_node, break_node, miss, keyword, after_keyword, counted, line, some}
+use Rattle.rz_script.specs.Grammar.{Judge, Reader, and_then, ◌>>=◌, done, any, number, number_in, numbered, actor, of_volume, node, at_most, made, hex, datum, datum_from, length_from, way, verb, judged, judged_if, unless_run, verb_named, path_call, pair_call, on_path, on_pair, setattr, put, get, write, read, update, view, rebuild, operands, by_actor, op, turn, rounds, rest, on_node, break_node, miss, keyword, after_keyword, counted, line, some}
 
 both : (a b : Bool) → (a && b) ≡ true → (a ≡ true) × (b ≡ true)
 both true b h = (refl, h)
@@ -74,6 +76,10 @@ if_ok : {A : Type 0} (b : Bool) (x y : A) (d : ScriptCause) → cond b (Ok x) (E
 if_ok true x y d e = (refl, cc)
 if_ok false x y d e = absurd cc
 
+numeral_ok : (b : Bool) (x y : ℕ) (d : ScriptCause) → ok_or (cond b (Some x) None) d ≡ Ok y → (b ≡ true) × (x ≡ y)
+numeral_ok true x y d e = (refl, cc)
+numeral_ok false x y d e = absurd cc
+
 chosen : {A : Type 0} (b : Bool) (x y z : A) → cond b x y ≡ z → ((b ≡ true) × (x ≡ z)) ⊎ ((b ≡ false) × (y ≡ z))
 chosen true x y z e = inl (refl, e)
 chosen false x y z e = inr (refl, e)
@@ -89,7 +95,7 @@ any_ok w x h e = let same : w ≡ x = cc in subst IsWord same h
 number_ok : (w : Word) (n : ℕ) → IsWord w → number w ≡ Ok n → n < 2 ^ 64
 unfolding number
 number_ok w n h e =
-    let p = if_ok _ _ _ _ e in
+    let p = numeral_ok _ _ _ _ e in
     let q = both _ _ p.0 in
     rw (← p.1) (ltb-true _ _ q.1)
 

@@ -1,8 +1,7 @@
 -- The grammar of a script: what a text means under a form of reading, or its first fault.
-use Rattle.std.specs.Prelude.{ℕ, ◌+◌, ◌^◌, Bool, true, false, not, nat_lt, nat_le, ◌==◌, ◌&&◌, if◌then◌else◌, List, [], ◌∷◌, length, filter, codes, bytes_eq, slice_index, Option, Some, None, Result, Ok, Err}
+use Rattle.std.specs.Prelude.{ℕ, ◌+◌, Bool, true, false, not, nat_le, ◌==◌, ◌&&◌, if◌then◌else◌, List, [], ◌∷◌, length, filter, codes, bytes_eq, slice_index, Option, Some, None, Result, Ok, Err, ok_or}
 use Rattle.std.specs.List.{slice_split, after_first, cons_option}
-use Rattle.std.specs.Str.{all_ascii_digits, is_utf8}
-use Rattle.std.specs.Str.Parse.{digits_value}
+use Rattle.std.specs.Str.{is_utf8}
 use Rattle.hex.specs.Hex.{decode_of}
 use Rattle.hex.specs.declared.error.FromHexError.{FromHexError}
 use Rattle.mj_angles.specs.Layout.{block_bytes_of}
@@ -18,6 +17,8 @@ use Rattle.rz_events.specs.declared.operations.Datum.{Datum}
 use Rattle.rz_events.specs.declared.operations.Datum.TheVariants.{Bytes, Made}
 use Rattle.rz_events.specs.declared.operations.Operation.{Operation}
 use Rattle.rz_events.specs.declared.operations.Operation.TheVariants.{Tree, Put, Get, Write, Read, Rebuild, Update, View}
+use Rattle.rz_spelling.specs.Words.{Word}
+use Rattle.rz_spelling.specs.Numerals.{numeral}
 use Rattle.rz_script.specs.declared.line.Line.{Line}
 use Rattle.rz_script.specs.declared.line.Line.TheVariants.{Op, Turn, Rounds, Rest, Stop, Start, Lose, Break, Miss}
 use Rattle.rz_script.specs.declared.form.Form.{Form}
@@ -38,9 +39,6 @@ use Rattle.rz_script.specs.declared.fault.ScriptCause.{ScriptCause}
 use Rattle.rz_script.specs.declared.fault.ScriptCause.TheVariants.{NotUtf8, UnknownLine, MissingWord, ExtraWord, BadNumber, OutOfRange, BadActor, BadNode, BadDatum, BadOperation, LateVolume, NotForRun}
 use Rattle.rz_script.specs.Lines.{has_node, datum_length, most_bytes, last_byte}
 use Rattle.rz_script.specs.Scripts.{Script, no_lines}
-
-abbrev pub Word : Type 0
-Word = List ℕ
 
 -- the words of a line: what stands between spaces
 abbrev pub words : List ℕ → List Word
@@ -85,7 +83,7 @@ any w = Ok w
 
 -- a number: decimal digits, at most a u64
 unfoldable pub number : Judge ℕ
-number w = if all_ascii_digits w && not (length w == 0) && nat_lt (digits_value 10 w) (2 ^ 64) then Ok (digits_value 10 w) else Err BadNumber
+number w = ok_or (numeral w) BadNumber
 
 -- a number from low to high
 unfoldable pub number_in : ℕ → ℕ → Judge ℕ

@@ -2,11 +2,8 @@
 use Rattle.std.specs.Prelude.{ℕ, ◌≤◌, List, [], ◌∷◌, ◌++◌, codes}
 use Rattle.std.specs.List.{flat_map, join_by, join_with_byte, AllByRecursion}
 use Rattle.std.specs.Fmt.{decimal}
-use Rattle.hex.specs.Hex.{encode_lower}
 use Rattle.mj_angles.specs.declared.layout.Layout.{Layout}
 use Rattle.mj_angles.specs.Layout.{number_of, block_bytes_of}
-use Rattle.rz_events.specs.declared.keys.Actor.{Actor}
-use Rattle.rz_events.specs.declared.keys.Actor.TheVariants.{Client, Rebuilder, Admin}
 use Rattle.rz_events.specs.declared.tree.TreeCall.{TreeCall}
 use Rattle.rz_events.specs.declared.tree.TreeCall.TheVariants as tree
 use Rattle.rz_events.specs.declared.files.NodeSpec.{NodeSpec}
@@ -15,25 +12,16 @@ use Rattle.rz_events.specs.declared.operations.Datum.{Datum}
 use Rattle.rz_events.specs.declared.operations.Datum.TheVariants.{Bytes, Made}
 use Rattle.rz_events.specs.declared.operations.Operation.{Operation}
 use Rattle.rz_events.specs.declared.operations.Operation.TheVariants.{Tree, Put, Get, Write, Read, Rebuild, Update, View}
+use Rattle.rz_spelling.specs.Words.{Word, actor_word, node_word, hex_word}
 use Rattle.rz_script.specs.declared.line.Line.{Line}
 use Rattle.rz_script.specs.declared.line.Line.TheVariants.{Op, Turn, Rounds, Rest, Stop, Start, Lose, Break, Miss}
-use Rattle.rz_script.specs.Grammar.{Word}
 use Rattle.rz_script.specs.Scripts.{Script}
 use Rattle.std.specs.Prelude.{Bool, true, false}
 
 -- ---- lines
 
--- the administrator has no word, and no line names it
-unfoldable pub actor_word : Actor → Word
-actor_word (Client n) = codes "c" ++ decimal n
-actor_word (Rebuilder n) = codes "r" ++ decimal n
-actor_word Admin = codes "admin"
-
-unfoldable pub node_word : ℕ → Word
-node_word sid = codes "n" ++ decimal sid
-
 unfoldable pub datum_word : Datum → Word
-datum_word (Bytes bytes) = codes "x:" ++ encode_lower bytes
+datum_word (Bytes bytes) = hex_word bytes
 datum_word (Made len seed) = codes "g:" ++ (decimal len ++ (codes ":" ++ decimal seed))
 
 -- the word of what an operation does; no operation opens a file

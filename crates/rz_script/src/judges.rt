@@ -22,16 +22,11 @@ const MOST_BYTES: u64 = 134_217_728;
 const LAST_BYTE: u64 = 4_294_967_296;
 
 /// Decimal digits, at most a `u64`.
+#[tactic(auto, unfolding(crate::specs::Grammar::number))]
 pub fn read_number(word: &str) -> Result<u64, ScriptCause>
     ensures { result ≡ number word.now }
 {
-    if word.starts_with('+') {
-        return Err(ScriptCause::BadNumber);
-    }
-    match word.parse::<u64>() {
-        Ok(n) => Ok(n),
-        Err(_) => Err(ScriptCause::BadNumber),
-    }
+    rz_spelling::read_number(word).ok_or(ScriptCause::BadNumber)
 }
 
 /// A number from `low` to `high`.

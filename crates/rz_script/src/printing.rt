@@ -3,7 +3,8 @@
 ghost use Rattle.std.specs.Prelude.{◌≡◌, ◌≤◌, ◌++◌, ◌∷◌, true, codes, Ok, OnOk, IfOk};
 ghost use Rattle.std.specs.List.{flat_map, join_by, join_with_byte, list_all};
 ghost use Rattle.std.specs.Fmt.{decimal};
-ghost use Rattle.rz_script.specs.Spelling.{actor_word, node_word, datum_word, call_word, call_operands, verb_word, operands_of, way_word, line_words, line_text, lines_text, node_text, cluster_text, description_text, volume_text, script_text, AreShortNodes, AreShortClusters};
+ghost use Rattle.rz_spelling.specs.Words.{node_word};
+ghost use Rattle.rz_script.specs.Spelling.{datum_word, call_word, call_operands, verb_word, operands_of, way_word, line_words, line_text, lines_text, node_text, cluster_text, description_text, volume_text, script_text, AreShortNodes, AreShortClusters};
 ghost use Rattle.rz_events.specs.Volume.{IsVolume};
 ghost use Rattle.rz_script.specs.Grammar.{script};
 ghost use Rattle.rz_script.specs.Lines.{AreLines, allows};
@@ -11,67 +12,23 @@ ghost use Rattle.rz_script.specs.Lines.{AreLines, allows};
 use crate::{Datum, Form, Line, Operation, Script};
 use mj_angles::Layout;
 use rz_config::{ClusterSpec, Volume};
-use rz_events::{Actor, NodeSpec, Text, TreeCall};
+use rz_events::{NodeSpec, Text, TreeCall};
+use rz_spelling::{push_actor, push_digits, push_hex, push_node, push_number};
 use std::alloc::{AllocError, Global};
-
-fn push_number(alloc: Global, out: &mut Vec<u8>, number: u64) -> Result<(), AllocError>
-    ensures { OnOk result (out.new.items ≡ out.old.items ++ decimal number) }
-{
-    let digits = format!(in alloc; "{number}")?;
-    out.extend_from_slice(digits.as_bytes())
-}
-
-/// A space and a number.
-fn push_operand(alloc: Global, out: &mut Vec<u8>, number: u64) -> Result<(), AllocError>
-    ensures { OnOk result (out.new.items ≡ out.old.items ++ 32 ∷ decimal number) }
-{
-    out.extend_from_slice(b" ")?;
-    push_number(alloc, out, number)
-}
-
-/// A space and an actor.
-#[tactic(auto, unfolding(crate::specs::Spelling::actor_word))]
-fn push_actor(alloc: Global, out: &mut Vec<u8>, actor: Actor) -> Result<(), AllocError>
-    ensures { OnOk result (out.new.items ≡ out.old.items ++ 32 ∷ actor_word actor) }
-{
-    match actor {
-        Actor::Client(number) => {
-            out.extend_from_slice(b" c")?;
-            push_number(alloc, out, u64::from(number))
-        }
-        Actor::Rebuilder(number) => {
-            out.extend_from_slice(b" r")?;
-            push_number(alloc, out, u64::from(number))
-        }
-        Actor::Admin => out.extend_from_slice(b" admin"),
-    }
-}
-
-/// A space and a node.
-#[tactic(auto, unfolding(crate::specs::Spelling::node_word))]
-fn push_node(alloc: Global, out: &mut Vec<u8>, node: u16) -> Result<(), AllocError>
-    ensures { OnOk result (out.new.items ≡ out.old.items ++ 32 ∷ node_word node) }
-{
-    out.extend_from_slice(b" n")?;
-    push_number(alloc, out, u64::from(node))
-}
 
 /// A space and a datum.
 #[tactic(auto, unfolding(crate::specs::Spelling::datum_word))]
 fn push_datum(alloc: Global, out: &mut Vec<u8>, datum: &Datum) -> Result<(), AllocError>
     ensures { OnOk result (out.new.items ≡ out.old.items ++ 32 ∷ datum_word datum.now) }
 {
+    out.extend_from_slice(b" ")?;
     match datum {
-        Datum::Bytes(text) => {
-            let digits = hex::encode(alloc, text.bytes())?;
-            out.extend_from_slice(b" x:")?;
-            out.extend_from_slice(digits.as_bytes())
-        }
+        Datum::Bytes(text) => push_hex(alloc, out, text.bytes()),
         Datum::Made { length, seed } => {
-            out.extend_from_slice(b" g:")?;
-            push_number(alloc, out, u64::from(*length))?;
+            out.extend_from_slice(b"g:")?;
+            push_digits(alloc, out, u64::from(*length))?;
             out.extend_from_slice(b":")?;
-            push_number(alloc, out, u64::from(*seed))
+            push_digits(alloc, out, u64::from(*seed))
         }
     }
 }
@@ -110,7 +67,16 @@ fn push_on_place(
     ensures { OnOk result (out.new.items ≡ out.old.items ++ (name.now ++ 32 ∷ (path.now ++ 32 ∷ decimal number))) }
 {
     push_on_path(out, name, path)?;
-    push_operand(alloc, out, number)
+    push_number(alloc, out, number)
+}
+
+/// A word and a node.
+fn push_on_node(alloc: Global, out: &mut Vec<u8>, name: &[u8], node: u16) -> Result<(), AllocError>
+    ensures { OnOk result (out.new.items ≡ out.old.items ++ (name.now ++ 32 ∷ node_word node)) }
+{
+    out.extend_from_slice(name)?;
+    out.extend_from_slice(b" ")?;
+    push_node(alloc, out, node)
 }
 
 /// A call on the tree.
@@ -129,7 +95,7 @@ fn push_call(alloc: Global, out: &mut Vec<u8>, call: &TreeCall) -> Result<(), Al
         TreeCall::OpenFile { path } => push_on_path(out, b"open", path),
         TreeCall::Setattr { path, mode, mtime } => {
             push_on_place(alloc, out, b"setattr", path, u64::from(*mode))?;
-            push_operand(alloc, out, *mtime)
+            push_number(alloc, out, *mtime)
         }
         TreeCall::Rename { path, to } => push_on_pair(out, b"rename", path, to),
         TreeCall::Link { path, to } => push_on_pair(out, b"link", path, to),
@@ -162,12 +128,9 @@ fn push_operation(alloc: Global, out: &mut Vec<u8>, op: &Operation) -> Result<()
             length,
         } => {
             push_on_place(alloc, out, b"read", path, *offset)?;
-            push_operand(alloc, out, *length)
+            push_number(alloc, out, *length)
         }
-        Operation::Rebuild { node } => {
-            out.extend_from_slice(b"rebuild")?;
-            push_node(alloc, out, *node)
-        }
+        Operation::Rebuild { node } => push_on_node(alloc, out, b"rebuild", *node),
         Operation::Update {
             path,
             offset,
@@ -182,17 +145,9 @@ fn push_operation(alloc: Global, out: &mut Vec<u8>, op: &Operation) -> Result<()
             length,
         } => {
             push_on_place(alloc, out, b"view", path, *offset)?;
-            push_operand(alloc, out, *length)
+            push_number(alloc, out, *length)
         }
     }
-}
-
-/// A word and a node.
-fn push_on_node(alloc: Global, out: &mut Vec<u8>, name: &[u8], node: u16) -> Result<(), AllocError>
-    ensures { OnOk result (out.new.items ≡ out.old.items ++ (name.now ++ 32 ∷ node_word node)) }
-{
-    out.extend_from_slice(name)?;
-    push_node(alloc, out, node)
 }
 
 /// A space and what is lost of a message.
@@ -213,19 +168,19 @@ fn push_words(alloc: Global, out: &mut Vec<u8>, line: &Line) -> Result<(), Alloc
 {
     match line {
         Line::Op { by, op } => {
-            out.extend_from_slice(b"op")?;
+            out.extend_from_slice(b"op ")?;
             push_actor(alloc, out, *by)?;
             out.extend_from_slice(b" ")?;
             push_operation(alloc, out, op)
         }
         Line::Turn { by, k } => {
-            out.extend_from_slice(b"turn")?;
+            out.extend_from_slice(b"turn ")?;
             push_actor(alloc, out, *by)?;
-            push_operand(alloc, out, u64::from(*k))
+            push_number(alloc, out, u64::from(*k))
         }
         Line::Rounds { k } => {
             out.extend_from_slice(b"rounds")?;
-            push_operand(alloc, out, u64::from(*k))
+            push_number(alloc, out, u64::from(*k))
         }
         Line::Rest => out.extend_from_slice(b"rest"),
         Line::Stop { node } => push_on_node(alloc, out, b"stop", *node),
@@ -233,11 +188,11 @@ fn push_words(alloc: Global, out: &mut Vec<u8>, line: &Line) -> Result<(), Alloc
         Line::Lose { node } => push_on_node(alloc, out, b"lose", *node),
         Line::Break { node, k, pick } => {
             push_on_node(alloc, out, b"break", *node)?;
-            push_operand(alloc, out, *k)?;
-            push_operand(alloc, out, *pick)
+            push_number(alloc, out, *k)?;
+            push_number(alloc, out, *pick)
         }
         Line::Miss { by, reply } => {
-            out.extend_from_slice(b"miss")?;
+            out.extend_from_slice(b"miss ")?;
             push_actor(alloc, out, *by)?;
             push_way(out, *reply)
         }
@@ -271,9 +226,9 @@ fn push_node_spec(alloc: Global, out: &mut Vec<u8>, node: &NodeSpec) -> Result<(
     ensures short { OnOk result (node.now.sid ≤ 65535) }
 {
     out.extend_from_slice(b"{\"sid\":")?;
-    push_number(alloc, out, u64::from(node.sid))?;
+    push_digits(alloc, out, u64::from(node.sid))?;
     out.extend_from_slice(b",\"cells\":")?;
-    push_number(alloc, out, u64::from(node.cells))?;
+    push_digits(alloc, out, u64::from(node.cells))?;
     out.extend_from_slice(b"}")
 }
 
@@ -314,7 +269,7 @@ fn push_cluster(alloc: Global, out: &mut Vec<u8>, cluster: &ClusterSpec) -> Resu
     ensures short_nodes { OnOk result (AreShortNodes cluster.now.nodes) }
 {
     out.extend_from_slice(b"{\"cid\":")?;
-    push_number(alloc, out, u64::from(cluster.cid))?;
+    push_digits(alloc, out, u64::from(cluster.cid))?;
     out.extend_from_slice(b",\"nodes\":[")?;
     push_node_specs(alloc, out, cluster.nodes.as_slice())?;
     out.extend_from_slice(b"]}")
@@ -369,9 +324,9 @@ fn push_description(
     ensures short { OnOk result (AreShortClusters clusters.now) }
 {
     out.extend_from_slice(b"{\"layout\":")?;
-    push_number(alloc, out, u64::from(layout.number()))?;
+    push_digits(alloc, out, u64::from(layout.number()))?;
     out.extend_from_slice(b",\"bsize\":")?;
-    push_number(alloc, out, layout.block_bytes() as u64)?;
+    push_digits(alloc, out, layout.block_bytes() as u64)?;
     out.extend_from_slice(b",\"clusters\":[")?;
     push_clusters(alloc, out, clusters)?;
     out.extend_from_slice(b"]}")

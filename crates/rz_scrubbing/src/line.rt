@@ -8,7 +8,8 @@ use crate::finding::Finding;
 use mj_angles::Layout;
 use rz_events::Key;
 use rz_scrub::Verdict;
-use rz_show::{push_mask, push_number, push_uuid, push_word};
+use rz_show::{push_mask, push_uuid};
+use rz_spelling::{push_number, push_word};
 use std::alloc::{AllocError, Global};
 
 /// Adds the words of a verdict.

@@ -7,22 +7,13 @@ use Rattle.hex.specs.Hex.{encode_lower}
 use Rattle.sha2.specs.Sha256.{sha256}
 use Rattle.uuid.specs.Text.{hyphenated_text, lower}
 use Rattle.rz_events.specs.declared.keys.Actor.{Actor}
-use Rattle.rz_events.specs.declared.keys.Actor.TheVariants.{Client, Rebuilder, Admin}
 use Rattle.rz_events.specs.declared.files.Kind.{Kind}
 use Rattle.rz_events.specs.declared.files.Kind.TheVariants.{File, Dir, Link}
-
-abbrev pub Word : Type 0
-Word = List ℕ
+use Rattle.rz_spelling.specs.Words.{Word, actor_word, node_word, hex_word}
 
 -- words, each after a space
 abbrev pub spaced : List Word → List ℕ
 spaced words = flat_map (λ w. 32 ∷ w) words
-
--- who acted
-unfoldable pub actor_word : Actor → Word
-actor_word (Client n) = codes "c" ++ decimal n
-actor_word (Rebuilder n) = codes "r" ++ decimal n
-actor_word Admin = codes "admin"
 
 -- a line of an actor: the number of its operation, and words on it
 unfoldable pub actor_line : Actor → ℕ → List Word → List ℕ
@@ -30,7 +21,7 @@ actor_line by number words = actor_word by ++ spaced (decimal number ∷ words) 
 
 -- a line of a node
 unfoldable pub node_line : ℕ → List Word → List ℕ
-node_line node words = codes "n" ++ decimal node ++ spaced words ++ codes "\n"
+node_line node words = node_word node ++ spaced words ++ codes "\n"
 
 -- the number of an object, in the form 8-4-4-4-12 of hexadecimal digits
 unfoldable pub uuid_word : ℕ → Word
@@ -43,4 +34,4 @@ kind_word Link = codes "link"
 
 -- bytes: up to 32 in hexadecimal, and more by their SHA-256
 unfoldable pub bytes_word : List ℕ → Word
-bytes_word bytes = if nat_le (length bytes) 32 then codes "x:" ++ encode_lower bytes else codes "h:" ++ encode_lower (sha256 bytes)
+bytes_word bytes = if nat_le (length bytes) 32 then hex_word bytes else codes "h:" ++ encode_lower (sha256 bytes)

@@ -3,7 +3,8 @@
 //! The contract of `show` says that the text is exactly the one that `specs/Text.antt` defines: a line
 //! for the end of each operation and of each block that is read or written by itself, a line for each
 //! start of a node, and a last line with the number of events. It says nothing of which logs there
-//! are, nor that there is memory. Some words of a line are public, so that other lines are printed alike.
+//! are, nor that there is memory. Some words of a line and the last line are public, so that other texts
+//! are printed alike.
 //!
 //! In reading order: `words`, `outcomes`, `ends`, `opened`, `text`.
 #![tactic(auto)]
@@ -15,5 +16,5 @@ mod text;
 mod words;
 
 pub use outcomes::push_mask;
-pub use text::show;
-pub use words::{push_number, push_uuid, push_word};
+pub use text::{push_end, show};
+pub use words::push_uuid;

@@ -3,14 +3,15 @@
 ghost use Rattle.std.specs.Prelude.{◌≡◌, ◌≤◌, ◌++◌, [], ◌∷◌, IfOk, OnOk, codes};
 ghost use Rattle.rz_events.specs.Events.{by_of};
 ghost use Rattle.std.specs.Fmt.{decimal};
-ghost use Rattle.rz_show.specs.Words.{actor_line, actor_word, node_line};
+ghost use Rattle.rz_spelling.specs.Words.{actor_word};
+ghost use Rattle.rz_show.specs.Words.{actor_line, node_line};
 ghost use Rattle.rz_show.specs.Ends.{answer_words, read_words, write_words};
 ghost use Rattle.rz_show.specs.Text.{end_line, line, text_of};
 
 use crate::ends::{push_answer, push_read, push_write};
 use crate::opened::Opened;
-use crate::words::{push_actor, push_number, push_word};
 use rz_events::{Actor, Answer, Event, ReadEnd, WriteEnd, actor_of};
+use rz_spelling::{push_actor, push_node, push_number, push_word};
 use std::alloc::{AllocError, Global};
 
 /// Adds the first two words of an actor's line: who acted, and the number of the operation.
@@ -77,7 +78,7 @@ fn push_done(
 
 /// Adds the line of a node: what became of it, and a word on that.
 #[tactic(auto, unfolding(crate::specs::Words::node_line))]
-fn push_node(
+fn push_became(
     alloc: Global,
     out: &mut Vec<u8>,
     node: u16,
@@ -86,8 +87,7 @@ fn push_node(
 ) -> Result<(), AllocError>
     ensures { OnOk result (out.new.items ≡ out.old.items ++ node_line node (what.now ∷ decimal number ∷ [])) }
 {
-    let name = format!(in alloc; "n{node}")?;
-    out.extend_from_slice(name.as_bytes())?;
+    push_node(alloc, out, node)?;
     push_word(out, what)?;
     push_number(alloc, out, u64::from(number))?;
     out.extend_from_slice(b"\n")
@@ -132,19 +132,22 @@ fn push_line(
         Event::Done { by, number, answer } => {
             push_done(alloc, out, positions, *by, *number, answer)
         }
-        Event::Start { node, took } => push_node(alloc, out, *node, b"started", u8::from(*took)),
-        Event::Unopened { node, cause } => push_node(alloc, out, *node, b"unopened", *cause),
+        Event::Start { node, took } => {
+            push_became(alloc, out, *node, b"started", u8::from(*took))
+        }
+        Event::Unopened { node, cause } => push_became(alloc, out, *node, b"unopened", *cause),
         _ => Ok(()),
     }
 }
 
 /// Adds the line that ends the text of a play that ended.
 #[tactic(auto, unfolding(crate::specs::Text::end_line))]
-fn push_end(alloc: Global, out: &mut Vec<u8>, events: usize) -> Result<(), AllocError>
+pub fn push_end(alloc: Global, out: &mut Vec<u8>, events: u64) -> Result<(), AllocError>
     ensures { OnOk result (out.new.items ≡ out.old.items ++ end_line events) }
 {
-    let line = format!(in alloc; "end {events}\n")?;
-    out.extend_from_slice(line.as_bytes())
+    out.extend_from_slice(b"end")?;
+    push_number(alloc, out, events)?;
+    out.extend_from_slice(b"\n")
 }
 
 /// The text of a log, the oldest event first: a line for the end of each operation and of each block
@@ -162,7 +165,7 @@ pub fn show(alloc: Global, log: &[Event], ended: bool) -> Result<Vec<u8>, AllocE
         opened.note(event);
     }
     if ended {
-        push_end(alloc, &mut out, log.len())?;
+        push_end(alloc, &mut out, log.len() as u64)?;
     }
     Ok(out)
 }

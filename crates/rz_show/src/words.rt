@@ -1,12 +1,13 @@
 //! The words of a line.
 
 ghost use Rattle.std.specs.Prelude.{◌≡◌, ◌∷◌, ◌++◌, IfOk, OnOk, false, string_bytes};
-ghost use Rattle.std.specs.Fmt.{decimal, digits};
+ghost use Rattle.std.specs.Fmt.{digits};
 ghost use Rattle.hex.specs.Hex.{encode_lower};
 ghost use Rattle.sha2.specs.Sha256.{sha256};
-ghost use Rattle.rz_show.specs.Words.{actor_word, bytes_word, kind_word, uuid_word};
+ghost use Rattle.rz_show.specs.Words.{bytes_word, kind_word, uuid_word};
 
-use rz_events::{Actor, Kind};
+use rz_events::Kind;
+use rz_spelling::{push_hex, push_word};
 use sha2::{Digest, Sha256};
 use std::alloc::{AllocError, Global};
 use uuid::Uuid;
@@ -14,46 +15,12 @@ use uuid::Uuid;
 /// The most bytes that are printed whole.
 const WHOLE: usize = 32;
 
-/// Adds a word after a space.
-pub fn push_word(out: &mut Vec<u8>, word: &[u8]) -> Result<(), AllocError>
-    ensures { OnOk result (out.new.items ≡ out.old.items ++ 32 ∷ word.now) }
-{
-    out.push(b' ')?;
-    out.extend_from_slice(word)
-}
-
-/// Adds a number after a space.
-pub fn push_number(alloc: Global, out: &mut Vec<u8>, number: u64) -> Result<(), AllocError>
-    ensures { OnOk result (out.new.items ≡ out.old.items ++ 32 ∷ decimal number) }
-{
-    let word = format!(in alloc; "{number}")?;
-    push_word(out, word.as_bytes())
-}
-
 /// Adds a number in octal after a space.
 pub fn push_octal(alloc: Global, out: &mut Vec<u8>, number: u16) -> Result<(), AllocError>
     ensures { OnOk result (out.new.items ≡ out.old.items ++ 32 ∷ digits 8 false number) }
 {
     let word = format!(in alloc; "{number:o}")?;
     push_word(out, word.as_bytes())
-}
-
-/// Adds the word of an actor.
-#[tactic(auto, unfolding(crate::specs::Words::actor_word))]
-pub fn push_actor(alloc: Global, out: &mut Vec<u8>, by: Actor) -> Result<(), AllocError>
-    ensures { OnOk result (out.new.items ≡ out.old.items ++ actor_word by) }
-{
-    match by {
-        Actor::Client(number) => {
-            let word = format!(in alloc; "c{number}")?;
-            out.extend_from_slice(word.as_bytes())
-        }
-        Actor::Rebuilder(number) => {
-            let word = format!(in alloc; "r{number}")?;
-            out.extend_from_slice(word.as_bytes())
-        }
-        Actor::Admin => out.extend_from_slice(b"admin"),
-    }
 }
 
 /// The text of an object's number.
@@ -99,9 +66,8 @@ pub fn push_bytes(alloc: Global, out: &mut Vec<u8>, bytes: &[u8]) -> Result<(), 
     ensures { OnOk result (out.new.items ≡ out.old.items ++ 32 ∷ bytes_word bytes.now) }
 {
     if bytes.len() <= WHOLE {
-        let digits = hex::encode(alloc, bytes)?;
-        push_word(out, b"x:")?;
-        out.extend_from_slice(digits.as_bytes())
+        out.push(b' ')?;
+        push_hex(alloc, out, bytes)
     } else {
         let digits = digest_text(alloc, bytes)?;
         push_word(out, b"h:")?;

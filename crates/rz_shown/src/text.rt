@@ -1,11 +1,11 @@
 //! The text of a run.
 
 ghost use Rattle.std.specs.Prelude.{◌≡◌, ◌++◌, [], IfOk, OnOk};
-ghost use Rattle.rz_show.specs.Text.{end_line, lines};
+ghost use Rattle.rz_show.specs.Text.{lines};
 ghost use Rattle.rz_shown.specs.Text.{shown_text, IsRunText};
 
 use rz_events::Event;
-use rz_show::show;
+use rz_show::{push_end, show};
 use std::alloc::{AllocError, Global};
 
 /// Adds the lines of an actor's events, the oldest event first.
@@ -14,15 +14,6 @@ fn push_own(alloc: Global, out: &mut Vec<u8>, own: &[Event]) -> Result<(), Alloc
 {
     let text = show(alloc, own, false)?;
     out.extend_from_slice(text.as_slice())
-}
-
-/// Adds the line that ends the text of a run.
-#[tactic(auto, unfolding(rz_show::specs::Text::end_line))]
-fn push_end(alloc: Global, out: &mut Vec<u8>, events: u64) -> Result<(), AllocError>
-    ensures { OnOk result (out.new.items ≡ out.old.items ++ end_line events) }
-{
-    let line = format!(in alloc; "end {events}\n")?;
-    out.extend_from_slice(line.as_bytes())
 }
 
 /// The text of a run, from the events of each actor that are shown, the clients first and then the

@@ -32,7 +32,7 @@ use Rattle.rz_export_model.specs.ExportEvents.{export_event}
 use Rattle.rz_operation_model.specs.Ask.{Saying}
 use Rattle.rz_operation_model.specs.Turns.{said_event}
 use Rattle.rz_core.specs.History.{of_word}
-use Rattle.rz_node.specs.Seen.{NodeView}
+use Rattle.rz_node.specs.View.{NodeView}
 use Rattle.rz_node.specs.Opens.{Opens, IfStarted, UnlessStarted}
 use Rattle.rz_node.specs.Spends.{Spends, keep_used, fetch_used, refill_used, drop_used}
 use Rattle.rz_calls.specs.Calls as calls

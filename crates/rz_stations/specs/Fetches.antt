@@ -5,7 +5,7 @@ use Rattle.mj_angles.specs.Layout.{max_bins_of}
 use Rattle.rz_events.specs.declared.keys.Key.{Key}
 use Rattle.rz_events.specs.declared.records.Held.{Held}
 use Rattle.rz_events.specs.declared.nodes.FetchAnswer.{FetchAnswer}
-use Rattle.rz_node.specs.Gives.{Gives}
+use Rattle.rz_node.specs.Fetched.{Gives}
 use Rattle.rz_node_model.specs.Answers.{IsFetchAnswer, fetch_answer}
 use Rattle.rz_node_model.specs.Afterwards.{after_fetch}
 use Rattle.rz_formatting.specs.declared.formatting.Station.{Station}

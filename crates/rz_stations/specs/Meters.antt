@@ -5,7 +5,7 @@ use Rattle.rz_disk.specs.Meter.{Meter, faults}
 use Rattle.rz_events.specs.declared.events.Word.TheVariants.{Node}
 use Rattle.rz_events.specs.declared.events.Event.{Event}
 use Rattle.rz_core.specs.History.{of_word}
-use Rattle.rz_node.specs.Seen.{NodeView}
+use Rattle.rz_node.specs.View.{NodeView}
 use Rattle.rz_play.specs.Faults.{AreFaultsCounted}
 use Rattle.rz_play.specs.Lines.{noted}
 use Rattle.rz_disk_laws.specs.Metered.{IsMetered}

@@ -4,8 +4,8 @@ use Rattle.rz_events.specs.declared.events.Event.{Event}
 use Rattle.rz_core.specs.History.{of_actor}
 use Rattle.rz_chronicle.specs.Kinds.{is_honest, volume_in}
 use Rattle.rz_shown.specs.Shown.{shown_of}
+use Rattle.rz_steps.specs.Turned.{AreLost}
 use Rattle.rz_worker.specs.Doing.{IsBegun}
-use Rattle.rz_worker.specs.Turned.{AreLost}
 use Rattle.rz_worker.specs.Workers.{IsAllDone, seat_of}
 use Rattle.rz_staff.specs.declared.member.Member.{Member}
 use Rattle.rz_staff.specs.Staff.{actor_of}

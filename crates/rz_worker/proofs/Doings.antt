@@ -1,28 +1,19 @@
 -- Turns one after another.
-use Rattle.std.proofs.Common.{◌≡◌, ℕ, Bool, true, List, [], ◌++◌, refl, sym, ◌∙◌, ap, subst, inl, inr, append_assoc, append-nil, arith}
+use Rattle.std.proofs.Common.{◌≡◌, ℕ, Bool, List, [], ◌++◌, sym, ◌∙◌, ap, subst, inl, inr, append_assoc, append-nil, arith}
 use Rattle.mj_angles.specs.declared.layout.Layout.{Layout}
 use Rattle.rz_events.specs.declared.keys.Actor.{Actor}
 use Rattle.rz_events.specs.declared.events.Event.{Event}
 use Rattle.rz_operation_model.specs.Ask.{ask_of}
 use Rattle.rz_operation_model.specs.Work.{Work}
-use Rattle.rz_operation_model.specs.Steps.{Told, Replied, Locked, Answered, Missed, Noted, told}
+use Rattle.rz_operation_model.specs.Steps.{Told, told}
 use Rattle.rz_operation_model.specs.Turns.{IsStep}
 use Rattle.rz_operation.specs.Machine.{Machine}
 use Rattle.rz_core.specs.History.{of_actor}
+use Rattle.rz_play.specs.Faults.{missed}
 use Rattle.rz_play.specs.World.{Seat, at_work, with_work}
-use Rattle.rz_worker.specs.Turned.{with_fits, GoesOn, IsTurned, IsCutOff, AreLost}
+use Rattle.rz_steps.specs.Turned.{GoesOn, IsTurned, IsCutOff, AreLost}
+use Rattle.rz_steps.proofs.Acts.{goes-as-told}
 use Rattle.rz_worker.specs.Doing.{IsDoing, Begins, Turns, HasDone, IsBegun}
-
--- what is told says itself whether records fit
-pub as-told : (t : Told) → (fits : Bool) × (with_fits fits t ≡ t)
-as-told (Answered fits given) = (fits, refl)
-as-told (Replied r) = (true, refl)
-as-told (Locked granted r) = (true, refl)
-as-told Missed = (true, refl)
-as-told (Noted text) = (true, refl)
-
-pub goes-as-told : (honest : Bool) (layout : Layout) (old : Work) (t : Told) → GoesOn honest layout old t (told layout old t)
-goes-as-told honest layout old t = let it = as-told t in record { by_told = (it.0, ap (told layout old) (sym it.1)); fitting = λ honest. refl }
 
 module _ (honest : Bool) (layout : Layout) (by : Actor) where
   -- turns after turns
@@ -72,6 +63,16 @@ module _ (honest : Bool) (layout : Layout) (by : Actor) where
       | inl none ↦ (s, none-done s old new (it.own ∙ ap (λ (xs : List Event). xs ++ of_actor by old) none))
       | inr step ↦ (with_work w (told m.layout m.work step.0), stepped step.0 it.events (told m.layout m.work step.0) it.own step.1 (goes-as-told honest m.layout m.work step.0))
     ]
+
+-- ---- messages that were lost
+
+-- nothing was done
+pub still-lost : (by : Actor) (h : List Event) (n : ℕ) → AreLost by h h n n
+still-lost by h n = omega arith
+
+-- no message was lost
+pub quiet-lost : (by : Actor) (old new : List Event) (n : ℕ) → missed (of_actor by new) ≡ missed (of_actor by old) → AreLost by old new n n
+quiet-lost by old new n same = omega (arith, same)
 
 -- losses add up
 pub lost-on : (by : Actor) (old between new : List Event) (a b c : ℕ) → AreLost by old between a b → AreLost by between new b c → AreLost by old new a c

@@ -1,9 +1,3 @@
-pub mod Added
-pub mod Shows
 pub mod Doings
-pub mod Locks
-pub mod Acts
-pub mod Sayings
-pub mod Messages
 pub mod Seats
 pub mod Workings

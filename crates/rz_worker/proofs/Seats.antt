@@ -18,8 +18,8 @@ use Rattle.rz_play_laws.specs.Own.{IsOwn}
 use Rattle.rz_acting.specs.Laws.{IsBeginningLaw}
 use Rattle.rz_chronicle.specs.Kinds.{volume_in}
 use Rattle.rz_chronicle.specs.Rules.{PassView}
+use Rattle.rz_steps.specs.Acted.{IsRight}
 use Rattle.rz_worker.specs.declared.seat.Seat.{Seat}
-use Rattle.rz_worker.specs.Acted.{IsRight}
 use Rattle.rz_worker.specs.Workers.{work_in, seat_of, HasLayout, IsAtHand, IsReady, TakesUp, Works, Rests, Begins}
 
 -- ---- in the words of a play

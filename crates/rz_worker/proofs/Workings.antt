@@ -13,10 +13,10 @@ use Rattle.rz_play.specs.World.{Seat as APlayer}
 use Rattle.rz_chronicle.specs.Kinds.{is_honest, volume_in}
 use Rattle.rz_chronicle.specs.Rules.{PassView}
 use Rattle.rz_shown.specs.Shown.{shown_of}
+use Rattle.rz_steps.specs.Acted.{Lasts, HasActed}
+use Rattle.rz_steps.specs.Turned.{IsCutOff, AreLost}
 use Rattle.rz_worker.specs.declared.seat.Seat.{Seat}
-use Rattle.rz_worker.specs.Acted.{Lasts, HasActed}
 use Rattle.rz_worker.specs.Doing.{HasDone, IsBegun}
-use Rattle.rz_worker.specs.Turned.{IsCutOff, AreLost}
 use Rattle.rz_worker.specs.Workers.{IsReady, TakesUp, seat_of, work_in}
 use Rattle.rz_worker.proofs.Doings.{turn-done, cut-begun, done-on, lost-on}
 use Rattle.rz_worker.proofs.Seats.{taken-up}

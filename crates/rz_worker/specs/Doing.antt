@@ -9,7 +9,7 @@ use Rattle.rz_operation_model.specs.Steps.{Told}
 use Rattle.rz_operation_model.specs.Turns.{IsStep}
 use Rattle.rz_core.specs.History.{of_actor}
 use Rattle.rz_play.specs.World.{Seat, at_work, with_work}
-use Rattle.rz_worker.specs.Turned.{GoesOn}
+use Rattle.rz_steps.specs.Turned.{GoesOn}
 
 -- The actor has come from one seat to another by turns with these events of its own, the newest first: each of them once.
 pub data IsDoing (honest : Bool) (layout : Layout) (by : Actor) (from : Seat) : List Event → Seat → Type 0 where

@@ -5,7 +5,7 @@ use Rattle.rz_events.specs.declared.keys.Actor.{Actor}
 use Rattle.rz_events.specs.declared.events.Event.{Event}
 use Rattle.rz_operation.specs.Machine.{Machine}
 use Rattle.rz_play.specs.World.{Seat, at_work, with_work}
-use Rattle.rz_worker.specs.Turned.{IsTurned, IsCutOff}
+use Rattle.rz_steps.specs.Turned.{IsTurned, IsCutOff}
 use Rattle.rz_worker.specs.Doing.{HasDone, IsBegun}
 
 -- an actor goes to work with this machine

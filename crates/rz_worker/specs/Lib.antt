@@ -1,8 +1,4 @@
-pub mod Turned
 pub mod Doing
 pub mod Laws
-pub mod Adding
-pub mod Saying
-pub mod Acted
 pub mod Asking
 pub mod Workers

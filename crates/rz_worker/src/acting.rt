@@ -5,15 +5,10 @@ ghost use Rattle.rz_operation_model.specs.Ask.{ask_of};
 ghost use Rattle.rz_core.specs.History.{of_actor};
 ghost use Rattle.rz_chronicle.specs.Kinds.{volume_in};
 ghost use Rattle.rz_shown.specs.Shown.{shown_of};
-ghost use Rattle.rz_worker.specs.Acted.{Lasts, IsRight, HasActed};
+ghost use Rattle.rz_steps.specs.Acted.{Lasts, IsRight, HasActed};
+ghost use Rattle.rz_steps.specs.Turned.{AreLost, IsCutOff};
 ghost use Rattle.rz_worker.specs.Asking.{IsKind};
-ghost use Rattle.rz_worker.specs.Turned.{AreLost, IsCutOff};
 
-use crate::exports::ask_export;
-use crate::locking::open_locked;
-use crate::sending::message;
-use crate::store::Store;
-use crate::words::say;
 use rz_chronicle::Pass;
 use rz_disk::Disk;
 use rz_events::{Actor, Event, NodeAsk};
@@ -21,6 +16,7 @@ use rz_lines::NoMemory;
 use rz_link::Link;
 use rz_locked::Counting;
 use rz_operation::{Ask, Machine};
+use rz_steps::{Store, ask_export, message, open_locked, say};
 use std::alloc::Global;
 use std::sync::Wait;
 

@@ -1,4 +1,5 @@
 use Rattle.std.proofs.Common.{rules, arith, ◌≡◌, ◌+◌, ◌*◌, ℕ, get_or, length, sym, ap, ◌∙◌, subst}
+use Rattle.rz_words.specs.Grid.{Grid}
 use Rattle.mj_inverse.specs.declared.series.Series.{Series}
 use Rattle.mj_inverse.specs.Rows.{Every, HaveValues, block_rows, value}
 use Rattle.mj_inverse.specs.Series.{seq, angle, angles}
@@ -99,7 +100,7 @@ returns-clause-filled c =
     (same_room c.sort.new.all c.spread_all.new.all c.solve.new.all keeps c.solve.ensures.same)
 
 pub returns-clause-found : goal.returns-clause-found
-returns-clause-found c = λ j h unmarked.
+returns-clause-found c = λ yes j h.
     let u : ℕ = c.args.unit in
     let w : ℕ → ℕ = λ i. get_or c.solve.new.out (u * i + j) 0 in
     let P : ℕ → Type 0 = λ n. HaveValues angle (seq u j) (block_rows c.args.cols 0 n w) c.spread_all.new.all in
@@ -109,10 +110,10 @@ returns-clause-found c = λ j h unmarked.
     let long : length c.solve.new.out ≡ u * (c.args.rows * c.args.cols) = search rules in
     found_from_values u c.args.rows c.args.cols j c.args.all.now c.requires.shape h c.requires.full c.requires.filled c.solve.new.out long
     (every-arranged has (arranged-back c.sort.ensures)
-    (values_spread u j (block_rows c.args.cols 0 c.args.rows w) c.sort.new.all c.spread_all.new.all c.spread_all.ensures.spread (subst P spread (c.solve.ensures.exact j h unmarked))))
+    (values_spread u j (block_rows c.args.cols 0 c.args.rows w) c.sort.new.all c.spread_all.new.all c.spread_all.ensures.spread (subst P spread (c.solve.ensures.exact yes j h))))
 
-pub returns-clause-complete : goal.returns-clause-complete
-returns-clause-complete c = λ j g h found.
+pub returns-clause-only : goal.returns-clause-only
+returns-clause-only c = λ yes j g h found.
     let u : ℕ = c.args.unit in
     let w : ℕ → ℕ = λ i. get_or g.words i 0 in
     let v : ℕ → ℕ = λ i. get_or c.solve.new.out (u * i + j) 0 in
@@ -122,7 +123,19 @@ returns-clause-complete c = λ j g h found.
     spread_length u c.sort.new.all c.spread_all.new.all c.spread_all.ensures.spread ∙ length-arranged c.sort.ensures ∙ c.requires.full in
     let has : Series → Type 0 = λ s. value (angle s) (block_rows c.args.cols 0 c.args.rows w) ≡ seq u j s in
     let values = every-arranged has c.sort.ensures (values_from_found u c.args.rows c.args.cols j c.args.all.now c.requires.shape h c.requires.full c.requires.filled g found) in
-    let got = c.solve.ensures.complete j w h
+    let same = c.solve.ensures.only yes j w h
     (subst P (sym spread) (spread_values u j (block_rows c.args.cols 0 c.args.rows w) c.sort.new.all c.spread_all.new.all c.spread_all.ensures.spread values)) in
     let long : length c.solve.new.out ≡ u * (c.args.rows * c.args.cols) = search rules in
-    (got.0, same_grid u c.args.rows c.args.cols j c.args.all.now c.requires.shape h c.requires.full c.requires.filled g c.solve.new.out long found (subst Q spread got.1))
+    same_grid u c.args.rows c.args.cols j c.args.all.now c.requires.shape h c.requires.full c.requires.filled g c.solve.new.out long found (subst Q spread same)
+
+pub returns-clause-complete : goal.returns-clause-complete
+returns-clause-complete c = λ each. c.solve.ensures.complete (λ j h.
+    let u : ℕ = c.args.unit in
+    let g : Grid = (each j h).0 in
+    let w : ℕ → ℕ = λ i. get_or g.words i 0 in
+    let P : ℕ → Type 0 = λ n. HaveValues angle (seq u j) (block_rows c.args.cols 0 n w) c.spread_all.new.all in
+    let spread : length c.spread_all.new.all ≡ c.args.rows =
+    spread_length u c.sort.new.all c.spread_all.new.all c.spread_all.ensures.spread ∙ length-arranged c.sort.ensures ∙ c.requires.full in
+    let has : Series → Type 0 = λ s. value (angle s) (block_rows c.args.cols 0 c.args.rows w) ≡ seq u j s in
+    let values = every-arranged has c.sort.ensures (values_from_found u c.args.rows c.args.cols j c.args.all.now c.requires.shape h c.requires.full c.requires.filled g (each j h).1) in
+    (w, subst P (sym spread) (spread_values u j (block_rows c.args.cols 0 c.args.rows w) c.sort.new.all c.spread_all.new.all c.spread_all.ensures.spread values)))

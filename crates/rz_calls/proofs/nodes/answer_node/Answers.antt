@@ -5,7 +5,7 @@ use Rattle.rz_events.specs.declared.nodes.NodeAnswer.TheVariants as given
 use Rattle.rz_node_model.specs.Answers.{IsNodeAnswer}
 use Rattle.rz_node_model.specs.Afterwards.{after_answer}
 use Rattle.rz_events.specs.declared.records.Held.{Held}
-use Rattle.rz_node.specs.Gives.{Gives}
+use Rattle.rz_node.specs.Fetched.{Gives}
 use Rattle.rz_calls.specs.Leaves.{Leaves}
 use Rattle.rz_calls.proofs.Leaving.{held-if, starts}
 use Rattle.rz_calls.proofs.nodes.answer_node.Goals as goal

@@ -5,7 +5,7 @@ use Rattle.rz_cells.proofs.copying.pair_up.Given as goal
 
 abbrev pub invariant-loop-cell : goal.invariant-loop-cell
 invariant-loop-cell l = record {
-  count : length l.pairs.items ≡ 2 * length l.heads;
-  done : (c : ℕ) → c < 2 * l.cell → in_cell l.pairs.items c ≡ in_cell (paired l.heads) c;
-  rest : (c : ℕ) → 2 * l.cell ≤ c → in_cell l.pairs.items c ≡ None;
+  count : length l.pairs ≡ 2 * length l.heads;
+  done : (c : ℕ) → c < 2 * l.cell → in_cell l.pairs c ≡ in_cell (paired l.heads) c;
+  rest : (c : ℕ) → 2 * l.cell ≤ c → in_cell l.pairs c ≡ None;
 }

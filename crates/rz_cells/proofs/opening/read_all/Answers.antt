@@ -41,7 +41,7 @@ pub returns-clause-open : goal.returns-clause-open
 returns-clause-open g c =
     let s = c.args.geometry.now in
     let fence = c.in_ok-fence.fence in
-    let heads = c.in_ok-heads.heads.items in
+    let heads = c.in_ok-heads.heads in
     let out = c.read.new.out in
     let text = g.D.Disk.text c.args.disk.now in
     let end = g.D.Disk.text c.read_heads.new.disk in
@@ -60,6 +60,15 @@ returns-clause-open g c =
     let gives = subst (λ (n : ℕ). out ≡ window 64 n (g.D.Disk.text c.read_header.new.disk)) long (c.in-Ok-read.ensures.gives told) in
     subst (λ (l : List ℕ). Knows s l end) (sym items) (gates_read s end out (subst (λ (t : List ℕ). out ≡ window 64 (2 * c.args.geometry.now.cells) t) to_middle gives)))
     (λ told. subst (λ (t : List ℕ). ReadTo s t heads (2 * s.cells)) (sym c.read_heads.ensures.read.same) (c.in_ok-heads.ensures.reads told))
+
+pub returns-in_err-fence-clause-took : goal.returns-in_err-fence-clause-took
+returns-in_err-fence-clause-took g c =
+    let a = g.D.Disk.meter c.args.disk.now in
+    let b = g.D.Disk.meter c.sync.new.self in
+    let m = g.D.Disk.meter c.read_header.new.disk in
+    let one = took_more 0 c.sync.result a a b (ap is_ok c.in-Ok.is) (took_nothing a) (took_one c.sync.result a b c.sync.ensures.meter) in
+    let failed : IsErr c.from_residual.result = search rules in
+    took_up_to 1 1 (opening_calls c.args.geometry.now) c.read_header.result c.from_residual.result a b m (omega arith) failed one c.read_header.ensures.took
 
 pub returns-in_default-read-clause-took : goal.returns-in_default-read-clause-took
 returns-in_default-read-clause-took g c =

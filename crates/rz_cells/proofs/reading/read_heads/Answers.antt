@@ -1,12 +1,12 @@
 -- Each cell is read and judged before the next.
-use Rattle.std.proofs.Common.{rules, ℕ, ◌+◌, ◌*◌, ◌<◌, ◌≡◌, Ok, IsErr, Option, List, length, length-set, set, refl, is_ok, IsTrue, ap, ◌∙◌, subst, arith}
+use Rattle.std.proofs.Common.{rules, ℕ, ◌+◌, ◌*◌, ◌<◌, ◌≡◌, Ok, IsErr, Option, List, length, length-set, refl, sym, is_ok, IsTrue, ap, ◌∙◌, subst, arith}
 use Rattle.rz_events.specs.declared.records.Head.{Head}
 use Rattle.rz_cells.specs.Shape.{picked}
-use Rattle.rz_cells.specs.Opening.{CellsFault, GoesNext, KnowsFirsts, ReadsHead, Wrong}
+use Rattle.rz_cells.specs.Opening.{CellsFault, FitTo, KnowsFirsts, ReadTo, ReadsHead}
 use Rattle.rz_disk.specs.Meter.{Took}
 use Rattle.rz_disk.proofs.Passes.{took_then}
 use Rattle.rz_cells.proofs.Meters.{read_then, went, took_nothing, took_under, took_up_to}
-use Rattle.rz_cells.proofs.Firsts.{firsts_start}
+use Rattle.rz_cells.proofs.Firsts.{firsts_start, fits_next}
 use Rattle.rz_cells.proofs.Opened.{fine_of, fit_more, fit_none, read_more, wrong_fault}
 use Rattle.rz_cells.proofs.reading.read_heads.Goals as goal
 
@@ -15,11 +15,14 @@ loop-cell-init g c = record {
   read = record { same = refl; within = λ image left. left; lasts = record { planned = omega arith; own = omega arith } };
   took = took_nothing (g.D.Disk.meter c.args.disk.now);
   count = c.requires.heads;
-  firsts = firsts_start c.args.firsts c.args.heads.items c.requires.firsts;
+  firsts = firsts_start c.args.firsts c.args.heads c.requires.firsts;
   room = omega (arith, c.requires.spare);
-  fits = fit_none c.args.geometry.now c.args.heads.items c.requires.empty;
+  fits = fit_none c.args.geometry.now c.args.heads c.requires.empty;
   reads = λ told d lt. absurd (omega arith);
 }
+
+pub set-requires-clause-key : goal.set-requires-clause-key
+set-requires-clause-key g c = fits_next c.args.geometry.now c.loop-cell.heads c.loop-cell.cell c.in_ok-head.head c.loop-cell.invariant.fits c.in_ok-admit.ensures.ok
 
 pub returns-in_err-admit-clause-refused : goal.returns-in_err-admit-clause-refused
 returns-in_err-admit-clause-refused g c =
@@ -30,8 +33,8 @@ returns-in_err-admit-clause-refused g c =
     let reads = subst (λ (t : List ℕ). ReadsHead s (picked s t c.loop-cell.cell) c.in_ok-head.head) i.read.same (c.in_ok-head.ensures.reads told) in
     let w = c.in_err-admit.ensures.wrong in
     let is = subst (λ (o : Option Head). ReadsHead s (picked s text c.loop-cell.cell) o) w.1 reads in
-    wrong_fault s text c.loop-cell.heads.items c.loop-cell.cell (fine_of s text c.loop-cell.heads.items c.loop-cell.cell i.fits (i.reads told)) (omega arith) w.0 is c.in_err-admit.field-0.0
-    (subst (λ (l : List (Option Head)). Wrong l c.loop-cell.cell w.0 c.in_err-admit.field-0.0) c.deref.ensures.value w.2) in
+    wrong_fault s text c.loop-cell.heads c.loop-cell.cell (fine_of s text c.loop-cell.heads c.loop-cell.cell i.fits (i.reads told)) (omega arith) w.0 is c.in_err-admit.field-0.0
+    w.2 in
     search rules
 
 pub returns-in_err-head-clause-took : goal.returns-in_err-head-clause-took
@@ -58,17 +61,17 @@ loop-cell-preserved g c =
     let s = c.args.geometry.now in
     let text = g.D.Disk.text c.args.disk.now in
     let i = c.loop-cell.invariant in
-    let heads = c.loop-cell.heads.items in
+    let heads = c.loop-cell.heads in
     let k = c.loop-cell.cell in
-    let in_range : c.loop-cell.cell < length c.loop-cell.heads.items = omega (arith, i.count) in
+    let in_range : c.loop-cell.cell < length c.loop-cell.heads = omega (arith, i.count) in
     record {
       read = read_then text (g.D.Disk.text c.loop-cell.disk) (g.D.Disk.text c.read_head.new.disk) (g.D.Disk.image c.args.disk.now) (g.D.Disk.image c.loop-cell.disk) (g.D.Disk.image c.read_head.new.disk) (g.D.Disk.meter c.args.disk.now) (g.D.Disk.meter c.loop-cell.disk) (g.D.Disk.meter c.read_head.new.disk) i.read c.read_head.ensures.read;
       took = took_then k 1 went went (g.D.Disk.meter c.args.disk.now) (g.D.Disk.meter c.loop-cell.disk) (g.D.Disk.meter c.read_head.new.disk) refl i.took (took_under 1 c.read_head.result went (g.D.Disk.meter c.loop-cell.disk) (g.D.Disk.meter c.read_head.new.disk) (λ _. ap is_ok c.in_ok-head.was) c.read_head.ensures.took);
-      count = length-set heads k c.in_ok-head.head ∙ i.count;
-      firsts = subst (λ (l : List (Option Head)). KnowsFirsts c.admit.new.firsts (set l c.loop-cell.cell c.in_ok-head.head) (c.loop-cell.cell + 1)) c.deref.ensures.value c.in_ok-admit.ensures.firsts;
+      count = ap length c.set.ensures ∙ length-set heads k c.in_ok-head.head ∙ i.count;
+      firsts = subst (λ (l : List (Option Head)). KnowsFirsts c.admit.new.firsts l (c.loop-cell.cell + 1)) (sym c.set.ensures) c.in_ok-admit.ensures.firsts;
       room = omega (arith, i.room, c.admit.ensures.spare);
-      fits = fit_more s heads k c.in_ok-head.head in_range i.fits
-          (λ h is. subst (λ (l : List (Option Head)). GoesNext l c.loop-cell.cell h) c.deref.ensures.value (c.in_ok-admit.ensures.ok h is))
-          c.in_ok-head.ensures.valid;
-      reads = λ told. read_more s heads k c.in_ok-head.head in_range text (i.reads told) (subst (λ (t : List ℕ). ReadsHead s (picked s t c.loop-cell.cell) c.in_ok-head.head) i.read.same (c.in_ok-head.ensures.reads told));
+      fits = subst (λ (l : List (Option Head)). FitTo c.args.geometry.now l (c.loop-cell.cell + 1)) (sym c.set.ensures)
+          (fit_more s heads k c.in_ok-head.head in_range i.fits c.in_ok-admit.ensures.ok c.in_ok-head.ensures.valid);
+      reads = λ told. subst (λ (l : List (Option Head)). ReadTo c.args.geometry.now (g.D.Disk.text c.args.disk.now) l (c.loop-cell.cell + 1)) (sym c.set.ensures)
+          (read_more s heads k c.in_ok-head.head in_range text (i.reads told) (subst (λ (t : List ℕ). ReadsHead s (picked s t c.loop-cell.cell) c.in_ok-head.head) i.read.same (c.in_ok-head.ensures.reads told)));
     }

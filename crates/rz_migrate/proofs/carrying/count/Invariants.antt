@@ -4,6 +4,6 @@ use Rattle.rz_migrate.proofs.carrying.count.Given as goal
 
 abbrev pub invariant-loop-cell : goal.invariant-loop-cell
 invariant-loop-cell g l = record {
-  counted : l.records ≡ records_in (take l.cell l.cells.heads.items);
+  counted : l.records ≡ records_in (take l.cell l.cells.heads);
   few : l.records ≤ l.cell;
 }

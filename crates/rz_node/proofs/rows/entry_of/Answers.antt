@@ -14,7 +14,7 @@ with-versions-requires-clause-other g c =
     let n = c.args.cells.now in
     let zero = ap (λ (s : Sides Version). s.zero) c.with.ensures in
     subst (λ (o : Option Version). Differ sides.version_stamp o (Some c.version-in-Some-Some.result)) (sym zero) (λ same.
-    pair-stamps n.heads.items c.args.pair c.in-Some-Some.zero c.in-Some-Some.one c.requires.apart (sym c.in-Some-Some.ensures) (sym c.in-Some-Some.ensures')
+    pair-stamps n.heads c.args.pair c.in-Some-Some.zero c.in-Some-Some.one c.requires.apart (sym c.in-Some-Some.ensures) (sym c.in-Some-Some.ensures')
     (sym (ap (λ (v : Version). v.stamp) c.version.ensures) ∙ same ∙ ap (λ (v : Version). v.stamp) c.version-in-Some-Some.ensures))
 
 pub returns-in-Some-Some : goal.returns-in-Some-Some
@@ -25,9 +25,9 @@ returns-in-Some-Some g c =
     let e : Entry = record { key = h.key; cell = c.args.pair; versions = c.with-versions.result } in
     let zero = ap (λ (s : Sides Version). s.zero) c.with-versions.ensures ∙ ap (λ (s : Sides Version). s.zero) c.with.ensures ∙ ap (λ (v : Version). Some v) c.version.ensures in
     let one = ap (λ (s : Sides Version). s.one) c.with-versions.ensures ∙ ap (λ (v : Version). Some v) c.version-in-Some-Some.ensures in (
-      shown-pair n.geometry.cells n.heads.items c.args.pair c.requires.pair e refl (Some h) (Some k) (sym c.in-Some-Some.ensures) (sym c.in-Some-Some.ensures')
+      shown-pair n.geometry.cells n.heads c.args.pair c.requires.pair e refl (Some h) (Some k) (sym c.in-Some-Some.ensures) (sym c.in-Some-Some.ensures')
           (λ i. record { zero = zero i; one = one i }) (λ x is. some-key h x is)
-          (λ x is. some-key k x is ∙ pair-key n.heads.items c.args.pair h k c.requires.apart (sym c.in-Some-Some.ensures) (sym c.in-Some-Some.ensures'))
+          (λ x is. some-key k x is ∙ pair-key n.heads c.args.pair h k c.requires.apart (sym c.in-Some-Some.ensures) (sym c.in-Some-Some.ensures'))
           (some-left (record_of h) (Some (record_of k))),
       refl,
     )

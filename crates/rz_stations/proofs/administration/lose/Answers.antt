@@ -1,6 +1,6 @@
 use Rattle.std.proofs.Common.{Option, ap, refl, sym, subst, arith}
 use Rattle.rz_events.specs.declared.nodes.NodeAnswer.TheVariants as answer
-use Rattle.rz_node.specs.Seen.{NodeView}
+use Rattle.rz_node.specs.View.{NodeView}
 use Rattle.rz_events.specs.declared.events.Event.{Event}
 use Rattle.rz_events.specs.declared.keys.Actor.TheVariants.{Admin}
 use Rattle.rz_events.specs.declared.nodes.NodeAsk.TheVariants as ask

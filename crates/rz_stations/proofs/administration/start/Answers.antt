@@ -19,7 +19,7 @@ use Rattle.rz_node_model.specs.Answers.{IsNodeAnswer, IsStartAnswer}
 use Rattle.rz_node_model.specs.Afterwards.{after_answer}
 use Rattle.rz_node_model.specs.NodeEvents.{node_event, start_event}
 use Rattle.rz_cells.specs.declared.geometry.Geometry.{Geometry}
-use Rattle.rz_node.specs.Seen.{NodeView}
+use Rattle.rz_node.specs.View.{NodeView}
 use Rattle.rz_formatting.specs.declared.formatting.Station.{Station}
 use Rattle.rz_stations.specs.Stations.{IsCalled}
 use Rattle.rz_stations.specs.Administration.{IsOrder, IsFreeOrder, IsArmed}

@@ -1,8 +1,9 @@
 use Rattle.std.proofs.Common.{ℕ, sym, ◌∙◌}
 use Rattle.std.proofs.lemmas.Result.{on_ok_weaker, on_err_weaker}
-use Rattle.rz_worker.specs.Acted.{IsRight, HasActed}
-use Rattle.rz_worker.specs.Turned.{IsCutOff}
-use Rattle.rz_worker.proofs.Acts.{still-lasts, still-cut, still-lost, quiet-lost}
+use Rattle.rz_steps.specs.Acted.{IsRight, HasActed}
+use Rattle.rz_steps.specs.Turned.{IsCutOff}
+use Rattle.rz_steps.proofs.Acts.{still-lasts, still-cut}
+use Rattle.rz_worker.proofs.Doings.{still-lost, quiet-lost}
 use Rattle.rz_worker.proofs.acting.act.Goals as goal
 
 pub returns-in-Rest-clause-lasts : goal.returns-in-Rest-clause-lasts

@@ -5,9 +5,9 @@ use Rattle.mj_angles.specs.Layout.{max_bins_of}
 use Rattle.rz_events.specs.Volume.{Volume}
 use Rattle.rz_operation.specs.Answers as answers
 use Rattle.rz_chronicle.specs.Kinds.{is_honest, volume_in}
+use Rattle.rz_steps.proofs.Acts.{still-lasts, on-err}
 use Rattle.rz_worker.specs.Workers.{seat_of}
-use Rattle.rz_worker.proofs.Acts.{still-lasts, still-lost, on-err}
-use Rattle.rz_worker.proofs.Doings.{none-done}
+use Rattle.rz_worker.proofs.Doings.{none-done, still-lost}
 use Rattle.rz_worker.proofs.Seats.{all-taken, ready-on, hand-layout, hand-right}
 use Rattle.rz_worker.proofs.Workings.{written, ready-again, turn-begun, turn-taken}
 use Rattle.rz_worker.proofs.working.take_turn.Goals as goal

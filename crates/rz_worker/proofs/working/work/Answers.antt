@@ -1,8 +1,8 @@
 use Rattle.std.proofs.Common.{◌∙◌, refl, sym}
 use Rattle.rz_chronicle.specs.Kinds.{is_honest, volume_in}
+use Rattle.rz_steps.proofs.Acts.{still-lasts, lasts-on}
 use Rattle.rz_worker.specs.Workers.{seat_of}
-use Rattle.rz_worker.proofs.Acts.{still-lasts, still-lost, lasts-on}
-use Rattle.rz_worker.proofs.Doings.{none-done}
+use Rattle.rz_worker.proofs.Doings.{none-done, still-lost}
 use Rattle.rz_worker.proofs.Workings.{done-both, lost-both, shown-at}
 use Rattle.rz_worker.proofs.working.work.Goals as goal
 

@@ -1,7 +1,7 @@
 use Rattle.rz_chronicle.specs.Kinds.{is_honest, volume_in}
-use Rattle.rz_worker.specs.Acted.{Lasts}
+use Rattle.rz_steps.specs.Acted.{Lasts}
+use Rattle.rz_steps.specs.Turned.{AreLost}
 use Rattle.rz_worker.specs.Doing.{HasDone}
-use Rattle.rz_worker.specs.Turned.{AreLost}
 use Rattle.rz_worker.specs.Workers.{IsReady, seat_of}
 use Rattle.rz_worker.proofs.working.work.Given as goal
 

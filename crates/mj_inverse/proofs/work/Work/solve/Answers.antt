@@ -1,15 +1,15 @@
-use Rattle.std.proofs.Common.{rules, arith, ◌≡◌, ◌<◌, ◌*◌, ◌++◌, ℕ, List, length, get_or, take, drop, refl, sym, ap, ◌∙◌, subst}
+use Rattle.std.proofs.Common.{rules, arith, true, ◌≡◌, ◌*◌, ◌++◌, ℕ, List, length, take, drop, refl, sym, ap, ◌∙◌, subst}
 use Rattle.rz_words.specs.Grid.{Grid, grid_of, with_words}
 use Rattle.mj_inverse.specs.Fits.{Search, IsFound}
 use Rattle.mj_inverse.specs.declared.series.Series.{Series}
 use Rattle.mj_inverse.specs.Rows.{Differ}
 use Rattle.mj_inverse.specs.Series.{angle}
 use Rattle.mj_inverse.specs.Store.{IsStore, IsFilled, pairs_in, search_in, lane_search, lane_grid}
-use Rattle.mj_inverse.proofs.Stores.{length-pairs_in, differ_from_pairs, lane_grid-one, lane_search-one, whole, first_word}
+use Rattle.mj_inverse.proofs.Stores.{length-pairs_in, differ_from_pairs, lane_grid-one, lane_search-one, whole}
 use Rattle.mj_inverse.proofs.work.Work.solve.Goals as goal
 
-pub solve_all-requires-clause-filled : goal.solve_all-requires-clause-filled
-solve_all-requires-clause-filled c =
+pub solve_all-found-requires-clause-filled : goal.solve_all-found-requires-clause-filled
+solve_all-found-requires-clause-filled c =
     let s = c.self.inside in
     let i = c.self.invariant.0 in
     let few = i.few in
@@ -22,8 +22,8 @@ solve_all-requires-clause-filled c =
     let Q : List Series → Type 0 = λ xs. IsFilled 1 s.rows s.cols s.rows xs in
     subst Q (sym c.deref_mut.ensures.value) (subst P full i.filled)
 
-pub solve_all-requires-clause-differ : goal.solve_all-requires-clause-differ
-solve_all-requires-clause-differ c =
+pub solve_all-found-requires-clause-differ : goal.solve_all-found-requires-clause-differ
+solve_all-found-requires-clause-differ c =
     let s = c.self.inside in
     let i = c.self.invariant.0 in
     let few = i.few in
@@ -45,43 +45,39 @@ looked rows cols count now xs ys store seen full same =
     let k : rows ≡ count = ap (λ (v : Search). v.rows) seen ∙ sym full ∙ sym (ap (λ (v : Search). length v.pairs) seen) ∙ n in
     ap (λ ys. lane_search 1 0 (search_in 1 rows cols rows ys)) same ∙ ap (λ k. lane_search 1 0 (search_in 1 rows cols k xs)) k ∙ lane_search-one rows cols count xs store.filled ∙ seen
 
-pub returns-then-index-ne0-clause-exact : goal.returns-then-index-ne0-clause-exact
-returns-then-index-ne0-clause-exact c =
+pub returns-then-not-found-clause-exact : goal.returns-then-not-found-clause-exact
+returns-then-not-found-clause-exact c =
     let s = c.self.inside in
-    let l = looked s.rows s.cols s.count c.args.self.now s.all.items c.deref_mut.result.now c.self.invariant.0 c.self.view_is c.requires.full c.deref_mut.ensures.value in
-    let marks : take s.marks.len (c.solve_all.new.bad ++ drop (length c.solve_all.new.bad) s.marks.items) ≡ c.solve_all.new.bad =
-    whole s.marks.len s.marks.items c.solve_all.new.bad (search rules) (search rules) in
-    let one : 0 < length c.solve_all.new.bad = (let k : length c.solve_all.new.bad ≡ 1 = search rules in omega arith) in
-    let mark : c.index.result.now ≡ get_or c.solve_all.new.bad 0 0 =
-    c.index.ensures ∙ ap (λ xs. get_or xs 0 c.index.result.now) marks ∙ first_word c.solve_all.new.bad c.index.result.now one in (
+    let l = looked s.rows s.cols s.count c.args.self.now s.all.items c.deref_mut.result.now c.self.invariant.0 c.self.view_is c.requires.full c.deref_mut.ensures.value in (
       λ e. absurd (cc e),
       λ x.
+          let no = c.if-not-found.true in
           let P : Search → Type 0 = λ v. IsFound v x.0 in
-          let got = c.solve_all.ensures.complete 0 x.0 (omega arith) (subst P (sym l) x.1) in
-          absurd (c.if-index-ne0.true (mark ∙ got.0)),
+          let yes = c.solve_all-found.ensures.complete (λ j h.
+          let Q : ℕ → Type 0 = λ j. (g : Grid) × IsFound (lane_search 1 j (search_in 1 s.rows s.cols s.rows c.deref_mut.result.now)) g in
+          let first : Q 0 = (x.0, subst P (sym l) x.1) in
+          let e : 0 ≡ j = omega arith in
+          subst Q e first) in
+          absurd (search rules),
     )
 
 pub returns-clause-found : goal.returns-clause-found
 returns-clause-found c =
     let s = c.self.inside in
     let l = looked s.rows s.cols s.count c.args.self.now s.all.items c.deref_mut.result.now c.self.invariant.0 c.self.view_is c.requires.full c.deref_mut.ensures.value in
-    let marks : take s.marks.len (c.solve_all.new.bad ++ drop (length c.solve_all.new.bad) s.marks.items) ≡ c.solve_all.new.bad =
-    whole s.marks.len s.marks.items c.solve_all.new.bad (search rules) (search rules) in
-    let one : 0 < length c.solve_all.new.bad = (let k : length c.solve_all.new.bad ≡ 1 = search rules in omega arith) in
-    let mark : c.index.result.now ≡ get_or c.solve_all.new.bad 0 0 =
-    c.index.ensures ∙ ap (λ xs. get_or xs 0 c.index.result.now) marks ∙ first_word c.solve_all.new.bad c.index.result.now one in
-    let words : take s.words.len (c.solve_all.new.out ++ drop (length c.solve_all.new.out) s.words.items) ≡ c.solve_all.new.out =
-    whole s.words.len s.words.items c.solve_all.new.out (search rules) (search rules) in
-    let long : length c.solve_all.new.out ≡ s.rows * s.cols = search rules in
+    let v = c.add_zeros.new.words in
+    let words : take v.len (c.solve_all-found.new.out ++ drop (length c.solve_all-found.new.out) v.items) ≡ c.solve_all-found.new.out =
+    whole v.len v.items c.solve_all-found.new.out (search rules) (search rules) in
+    let long : length c.solve_all-found.new.out ≡ s.rows * s.cols = search rules in
     let rows : s.rows ≡ c.args.out.now.rows = ap (λ (v : Search). v.rows) c.self.view_is ∙ sym c.requires.rows in
     let cols : s.cols ≡ c.args.out.now.cols = ap (λ (v : Search). v.cols) c.self.view_is ∙ sym c.requires.cols in
-    let out : lane_grid 1 0 s.rows s.cols c.solve_all.new.out ≡ c.swap_words.new.self =
-    lane_grid-one s.rows s.cols c.solve_all.new.out long
-    ∙ ap (λ r. grid_of r s.cols c.solve_all.new.out) rows ∙ ap (λ k. grid_of c.args.out.now.rows k c.solve_all.new.out) cols
+    let out : lane_grid 1 0 s.rows s.cols c.solve_all-found.new.out ≡ c.swap_words.new.self =
+    lane_grid-one s.rows s.cols c.solve_all-found.new.out long
+    ∙ ap (λ r. grid_of r s.cols c.solve_all-found.new.out) rows ∙ ap (λ k. grid_of c.args.out.now.rows k c.solve_all-found.new.out) cols
     ∙ ap (with_words c.args.out.now) (sym words) ∙ sym c.swap_words.ensures.block in
-    let unmarked : get_or c.solve_all.new.bad 0 0 ≡ 0 = sym mark ∙ (let f = c.if-index-ne0.false in search rules) in
-    let found = c.solve_all.ensures.found 0 (omega arith) unmarked in
-    let P : Search → Type 0 = λ v. IsFound v (lane_grid 1 0 s.rows s.cols c.solve_all.new.out) in
+    let yes : c.solve_all-found.result ≡ true = (let no = c.if-not-found.false in search rules) in
+    let found = c.solve_all-found.ensures.found yes 0 (omega arith) in
+    let P : Search → Type 0 = λ v. IsFound v (lane_grid 1 0 s.rows s.cols c.solve_all-found.new.out) in
     let Q : Grid → Type 0 = λ g. IsFound c.args.self.now g in
     subst Q out (subst P l found)
 
@@ -89,22 +85,19 @@ pub returns-clause-only : goal.returns-clause-only
 returns-clause-only c = λ g found.
     let s = c.self.inside in
     let l = looked s.rows s.cols s.count c.args.self.now s.all.items c.deref_mut.result.now c.self.invariant.0 c.self.view_is c.requires.full c.deref_mut.ensures.value in
-    let marks : take s.marks.len (c.solve_all.new.bad ++ drop (length c.solve_all.new.bad) s.marks.items) ≡ c.solve_all.new.bad =
-    whole s.marks.len s.marks.items c.solve_all.new.bad (search rules) (search rules) in
-    let one : 0 < length c.solve_all.new.bad = (let k : length c.solve_all.new.bad ≡ 1 = search rules in omega arith) in
-    let mark : c.index.result.now ≡ get_or c.solve_all.new.bad 0 0 =
-    c.index.ensures ∙ ap (λ xs. get_or xs 0 c.index.result.now) marks ∙ first_word c.solve_all.new.bad c.index.result.now one in
-    let words : take s.words.len (c.solve_all.new.out ++ drop (length c.solve_all.new.out) s.words.items) ≡ c.solve_all.new.out =
-    whole s.words.len s.words.items c.solve_all.new.out (search rules) (search rules) in
-    let long : length c.solve_all.new.out ≡ s.rows * s.cols = search rules in
+    let v = c.add_zeros.new.words in
+    let words : take v.len (c.solve_all-found.new.out ++ drop (length c.solve_all-found.new.out) v.items) ≡ c.solve_all-found.new.out =
+    whole v.len v.items c.solve_all-found.new.out (search rules) (search rules) in
+    let long : length c.solve_all-found.new.out ≡ s.rows * s.cols = search rules in
     let rows : s.rows ≡ c.args.out.now.rows = ap (λ (v : Search). v.rows) c.self.view_is ∙ sym c.requires.rows in
     let cols : s.cols ≡ c.args.out.now.cols = ap (λ (v : Search). v.cols) c.self.view_is ∙ sym c.requires.cols in
-    let out : lane_grid 1 0 s.rows s.cols c.solve_all.new.out ≡ c.swap_words.new.self =
-    lane_grid-one s.rows s.cols c.solve_all.new.out long
-    ∙ ap (λ r. grid_of r s.cols c.solve_all.new.out) rows ∙ ap (λ k. grid_of c.args.out.now.rows k c.solve_all.new.out) cols
+    let out : lane_grid 1 0 s.rows s.cols c.solve_all-found.new.out ≡ c.swap_words.new.self =
+    lane_grid-one s.rows s.cols c.solve_all-found.new.out long
+    ∙ ap (λ r. grid_of r s.cols c.solve_all-found.new.out) rows ∙ ap (λ k. grid_of c.args.out.now.rows k c.solve_all-found.new.out) cols
     ∙ ap (with_words c.args.out.now) (sym words) ∙ sym c.swap_words.ensures.block in
+    let yes : c.solve_all-found.result ≡ true = (let no = c.if-not-found.false in search rules) in
     let P : Search → Type 0 = λ v. IsFound v g in
-    (c.solve_all.ensures.complete 0 g (omega arith) (subst P (sym l) found)).1 ∙ out
+    c.solve_all-found.ensures.only yes 0 g (omega arith) (subst P (sym l) found) ∙ out
 
 pub returns-clause-exact : goal.returns-clause-exact
 returns-clause-exact c = (λ _. (c.swap_words.new.self, returns-clause-found c), λ _. refl)

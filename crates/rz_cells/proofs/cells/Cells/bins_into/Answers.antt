@@ -8,7 +8,7 @@ use Rattle.rz_events.specs.declared.records.Head.{Head}
 use Rattle.rz_record.specs.Record.{bins_of}
 use Rattle.rz_cells.specs.Held.{in_cell}
 use Rattle.rz_cells.proofs.Bins.{bins_here}
-use Rattle.rz_cells.proofs.Made.{has_head, stands_there}
+use Rattle.rz_cells.proofs.Made.{has_head}
 use Rattle.rz_cells.proofs.Lifts.{fits_slot, heads_are, open_same}
 use Rattle.rz_cells.proofs.cells.Cells.bins_into.Goals as goal
 
@@ -27,7 +27,7 @@ overflow_add-at g c =
 pub slice_bounds-read_bins-end : goal.slice_bounds-read_bins-end
 slice_bounds-read_bins-end g c =
     let s = c.args.self.now in
-    let held = stands_there s.heads.items c.args.cell (2 * s.geometry.cells) c.index.result.now c.in-Some.head c.requires.cell s.heads_fit c.index.ensures c.in-Some.is in
+    let held = sym c.get.ensures ∙ c.in-Some.is in
     let count = count_is c.in-Some.head c.bins_at-count.result c.bins_at-count.ensures.value in
     let room = c.requires.held c.in-Some.head held in
     omega (arith, room, count)
@@ -35,7 +35,7 @@ slice_bounds-read_bins-end g c =
 pub slice_bounds-read_bins-end-2 : goal.slice_bounds-read_bins-end-2
 slice_bounds-read_bins-end-2 g c =
     let s = c.args.self.now in
-    let held = stands_there s.heads.items c.args.cell (2 * s.geometry.cells) c.index.result.now c.in-Some.head c.requires.cell s.heads_fit c.index.ensures c.in-Some.is in
+    let held = sym c.get.ensures ∙ c.in-Some.is in
     let count = count_is c.in-Some.head c.bins_at-count.result c.bins_at-count.ensures.value in
     let room = c.requires.held c.in-Some.head held in
     let taken = length-take-le c.bins_at-count.result c.args.out.now (omega (arith, room, count)) in
@@ -44,7 +44,7 @@ slice_bounds-read_bins-end-2 g c =
 pub read_bins-requires-clause-range : goal.read_bins-requires-clause-range
 read_bins-requires-clause-range g c =
     let s = c.args.self.now in
-    let held = stands_there s.heads.items c.args.cell (2 * s.geometry.cells) c.index.result.now c.in-Some.head c.requires.cell s.heads_fit c.index.ensures c.in-Some.is in
+    let held = sym c.get.ensures ∙ c.in-Some.is in
     let count = count_is c.in-Some.head c.bins_at-count.result c.bins_at-count.ensures.value in
     let fits = fits_slot s.geometry c.in-Some.head (c.requires.open.valid c.args.cell c.in-Some.head held) (c.requires.open.layout c.args.cell c.in-Some.head held) in
     let room = c.requires.held c.in-Some.head held in
@@ -54,7 +54,7 @@ read_bins-requires-clause-range g c =
 pub read_bins-requires-clause-room : goal.read_bins-requires-clause-room
 read_bins-requires-clause-room g c =
     let s = c.args.self.now in
-    let held = stands_there s.heads.items c.args.cell (2 * s.geometry.cells) c.index.result.now c.in-Some.head c.requires.cell s.heads_fit c.index.ensures c.in-Some.is in
+    let held = sym c.get.ensures ∙ c.in-Some.is in
     let count = count_is c.in-Some.head c.bins_at-count.result c.bins_at-count.ensures.value in
     let fits = fits_slot s.geometry c.in-Some.head (c.requires.open.valid c.args.cell c.in-Some.head held) (c.requires.open.layout c.args.cell c.in-Some.head held) in
     let room = c.requires.held c.in-Some.head held in
@@ -69,7 +69,7 @@ returns-in_err-read_bins-clause-err g c =
 pub returns-in_err-read_bins-clause-open : goal.returns-in_err-read_bins-clause-open
 returns-in_err-read_bins-clause-open g c =
     let s = c.args.self.now in
-    open_same g.D.Disk.tells (g.D.Disk.text s.disk) (g.D.Disk.text c.read_bins.new.disk) (g.D.Disk.image s.disk) (g.D.Disk.image c.read_bins.new.disk) s.geometry s.fence s.gates.items s.heads.items c.read_bins.ensures.text c.read_bins.ensures.within c.requires.open
+    open_same g.D.Disk.tells (g.D.Disk.text s.disk) (g.D.Disk.text c.read_bins.new.disk) (g.D.Disk.image s.disk) (g.D.Disk.image c.read_bins.new.disk) s.geometry s.fence s.gates.items s.heads c.read_bins.ensures.text c.read_bins.ensures.within c.requires.open
 
 pub returns-in_err-read_bins-clause-meter : goal.returns-in_err-read_bins-clause-meter
 returns-in_err-read_bins-clause-meter g c =
@@ -80,7 +80,7 @@ returns-in_err-read_bins-clause-meter g c =
 pub returns-clause-count : goal.returns-clause-count
 returns-clause-count g c h is =
     let s = c.args.self.now in
-    let held = stands_there s.heads.items c.args.cell (2 * s.geometry.cells) c.index.result.now c.in-Some.head c.requires.cell s.heads_fit c.index.ensures c.in-Some.is in
+    let held = sym c.get.ensures ∙ c.in-Some.is in
     let count = count_is c.in-Some.head c.bins_at-count.result c.bins_at-count.ensures.value in
     let one : c.in-Some.head ≡ h = cc in
     count ∙ ap bins_of one
@@ -88,22 +88,22 @@ returns-clause-count g c h is =
 pub returns-clause-open : goal.returns-clause-open
 returns-clause-open g c =
     let s = c.args.self.now in
-    open_same g.D.Disk.tells (g.D.Disk.text s.disk) (g.D.Disk.text c.read_bins.new.disk) (g.D.Disk.image s.disk) (g.D.Disk.image c.read_bins.new.disk) s.geometry s.fence s.gates.items s.heads.items c.read_bins.ensures.text c.read_bins.ensures.within c.requires.open
+    open_same g.D.Disk.tells (g.D.Disk.text s.disk) (g.D.Disk.text c.read_bins.new.disk) (g.D.Disk.image s.disk) (g.D.Disk.image c.read_bins.new.disk) s.geometry s.fence s.gates.items s.heads c.read_bins.ensures.text c.read_bins.ensures.within c.requires.open
 
 pub returns-clause-bins : goal.returns-clause-bins
 returns-clause-bins g c told cells r holds is =
     let s = c.args.self.now in
-    let held = stands_there s.heads.items c.args.cell (2 * s.geometry.cells) c.index.result.now c.in-Some.head c.requires.cell s.heads_fit c.index.ensures c.in-Some.is in
+    let held = sym c.get.ensures ∙ c.in-Some.is in
     let count = count_is c.in-Some.head c.bins_at-count.result c.bins_at-count.ensures.value in
     let room = c.requires.held c.in-Some.head held in
     let taken = length-take-le c.bins_at-count.result c.args.out.now (omega (arith, room, count)) in
     let text = g.D.Disk.text s.disk in
     let dst = c.read_bins.new.out in
-    let gate = c.index-2.result.now in
+    let gate = c.index.result.now in
     let rest = drop c.bins_at-count.result c.args.out.now in
-    let here : in_cell s.heads.items c.args.cell ≡ Some r.head = ap (λ (hs : List (Option Head)). in_cell hs c.args.cell) (sym (heads_are s.geometry s.fence text s.heads.items (c.requires.open.holds told) cells holds)) ∙ has_head cells c.args.cell r is in
+    let here : in_cell s.heads c.args.cell ≡ Some r.head = ap (λ (hs : List (Option Head)). in_cell hs c.args.cell) (sym (heads_are s.geometry s.fence text s.heads (c.requires.open.holds told) cells holds)) ∙ has_head cells c.args.cell r is in
     let one : c.in-Some.head ≡ r.head = cc in
     let long : length dst ≡ c.bins_at-count.result = c.read_bins.auto.out ∙ taken in
-    let known : gate % 2 ≡ get_or text (64 + c.args.cell) 0 % 2 = ap (λ (b : ℕ). b % 2) (get_or_read s.gates.items c.args.cell gate (omega (arith, s.gates_fit)) c.index-2.ensures 0) ∙ c.requires.open.known told c.args.cell c.requires.cell in
+    let known : gate % 2 ≡ get_or text (64 + c.args.cell) 0 % 2 = ap (λ (b : ℕ). b % 2) (get_or_read s.gates.items c.args.cell gate (omega (arith, s.gates_fit)) c.index.ensures 0) ∙ c.requires.open.known told c.args.cell c.requires.cell in
     let read = subst (λ (at : ℕ). IsRead little_number 8 (window (at + 48) (8 * length dst) text) dst) c.slot_at.ensures.value (subst (λ (n : ℕ). IsRead little_number 8 (window (c.slot_at.result + 48) (8 * n) text) dst) (sym c.read_bins.auto.out) (c.in_ok-read_bins.ensures.gives told)) in
     take_at dst rest c.bins_at-count.result long ∙ bins_here s.geometry s.fence text cells c.args.cell gate dst r holds c.requires.cell known is (long ∙ count ∙ ap bins_of one) read

@@ -1,7 +1,8 @@
 -- Eight zeros spell no record.
-use Rattle.std.proofs.Common.{◌≡◌, ◌-◌, ◌%◌, Some, None, set, arith}
+use Rattle.std.proofs.Common.{◌≡◌, ◌-◌, ◌%◌, Option, Some, None, List, set, sym, subst, arith}
 use Rattle.rz_events.specs.declared.records.Head.{Head}
 use Rattle.rz_record.specs.Slot.{Rec}
+use Rattle.rz_cells.specs.Open.{IsOpen}
 use Rattle.rz_cells.proofs.Lifts.{slot_long, zeros_spell, stands_either, stands_changed, open_after}
 use Rattle.rz_cells.proofs.cells.Cells.clear.Goals as goal
 
@@ -21,7 +22,7 @@ returns-in_err-switch-clause-crash_cells g c told =
 pub returns-in_err-switch-clause-crash : goal.returns-in_err-switch-clause-crash
 returns-in_err-switch-clause-crash g c told =
     let s = c.args.self.now in
-    stands_either s.geometry s.fence (g.D.Disk.text s.disk) s.heads.items (c.requires.open.holds told) c.args.cell None c.requires.cell (λ h is. no_head h _ is) (g.D.Disk.image c.switch.new.disk)
+    stands_either s.geometry s.fence (g.D.Disk.text s.disk) s.heads (c.requires.open.holds told) c.args.cell None c.requires.cell (λ h is. no_head h _ is) (g.D.Disk.image c.switch.new.disk)
     (c.switch.ensures.crash told s.fence None (zeros_spell _) (λ r is. no_suit r _ is))
 
 pub returns-clause-crash_cells : goal.returns-clause-crash_cells
@@ -31,7 +32,7 @@ returns-clause-crash_cells g c told =
 pub returns-clause-crash : goal.returns-clause-crash
 returns-clause-crash g c told =
     let s = c.args.self.now in
-    stands_either s.geometry s.fence (g.D.Disk.text s.disk) s.heads.items (c.requires.open.holds told) c.args.cell None c.requires.cell (λ h is. no_head h _ is) (g.D.Disk.image c.switch.new.disk)
+    stands_either s.geometry s.fence (g.D.Disk.text s.disk) s.heads (c.requires.open.holds told) c.args.cell None c.requires.cell (λ h is. no_head h _ is) (g.D.Disk.image c.switch.new.disk)
     (c.switch.ensures.crash told s.fence None (zeros_spell _) (λ r is. no_suit r _ is))
 
 pub returns-clause-done_cells : goal.returns-clause-done_cells
@@ -41,13 +42,14 @@ returns-clause-done_cells g c told =
 pub returns-clause-done : goal.returns-clause-done
 returns-clause-done g c told =
     let s = c.args.self.now in
-    stands_changed s.geometry s.fence (g.D.Disk.text s.disk) s.heads.items (c.requires.open.holds told) c.args.cell None c.requires.cell (λ h is. no_head h _ is) (g.D.Disk.text c.switch.new.disk)
+    stands_changed s.geometry s.fence (g.D.Disk.text s.disk) s.heads (c.requires.open.holds told) c.args.cell None c.requires.cell (λ h is. no_head h _ is) (g.D.Disk.text c.switch.new.disk)
     (c.in_ok-switch.ensures.done told s.fence None (zeros_spell _) (λ r is. no_suit r _ is))
 
 pub returns-clause-open : goal.returns-clause-open
 returns-clause-open g c =
     let s = c.args.self.now in
-    open_after g.D.Disk.tells (g.D.Disk.text s.disk) (g.D.Disk.text c.switch.new.disk) (g.D.Disk.image s.disk) (g.D.Disk.image c.switch.new.disk) s.geometry s.fence s.gates.items (set s.gates.items c.args.cell (1 - c.index-gate.result.now % 2)) s.heads.items c.args.cell None c.requires.cell
+    subst (λ (hs : List (Option Head)). IsOpen g.D.Disk.tells (g.D.Disk.text c.switch.new.disk) (g.D.Disk.image c.switch.new.disk) c.args.self.now.geometry c.args.self.now.fence (set c.args.self.now.gates.items c.args.cell (1 - c.index-gate.result.now % 2)) hs) (sym c.set.ensures)
+    (open_after g.D.Disk.tells (g.D.Disk.text s.disk) (g.D.Disk.text c.switch.new.disk) (g.D.Disk.image s.disk) (g.D.Disk.image c.switch.new.disk) s.geometry s.fence s.gates.items (set s.gates.items c.args.cell (1 - c.index-gate.result.now % 2)) s.heads c.args.cell None c.requires.cell
     c.requires.open c.in_ok-switch.ensures.settled c.switch.ensures.size (λ h is. no_head h _ is) (λ h is. no_head h _ is) (λ h is. no_head h _ is)
     (λ told. c.in_ok-switch.ensures.done told s.fence None (zeros_spell _) (λ r is. no_suit r _ is))
-    (λ told. c.in_ok-switch.ensures.gates told s.gates.items (omega arith) (c.requires.open.known told))
+    (λ told. c.in_ok-switch.ensures.gates told s.gates.items (omega arith) (c.requires.open.known told)))

@@ -9,7 +9,7 @@ pub returns-clause-open : goal.returns-clause-open
 returns-clause-open g c =
     let e = c.in_default-blank.ensures in
     let room = c.in-Ok.room in
-    open_fresh g.D.Disk.tells (g.D.Disk.text c.blank.new.disk) (g.D.Disk.image c.blank.new.disk) c.args.geometry c.args.fence room.gates.items room.heads.items
+    open_fresh g.D.Disk.tells (g.D.Disk.text c.blank.new.disk) (g.D.Disk.image c.blank.new.disk) c.args.geometry c.args.fence room.gates.items room.heads
     e.size e.only e.done c.in-Ok.ensures.shut c.in-Ok.ensures.heads c.in-Ok.ensures.empty
 
 pub returns-clause-nothing : goal.returns-clause-nothing

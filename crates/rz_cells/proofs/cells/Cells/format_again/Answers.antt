@@ -15,7 +15,7 @@ returns-in_err-blank-clause-crash g c =
 pub returns-clause-open : goal.returns-clause-open
 returns-clause-open g c =
     let e = c.in_ok-blank.ensures in
-    open_fresh g.D.Disk.tells (g.D.Disk.text c.blank.new.disk) (g.D.Disk.image c.blank.new.disk) c.args.self.now.geometry c.args.fence c.empty.new.gates.items c.empty.new.heads.items
+    open_fresh g.D.Disk.tells (g.D.Disk.text c.blank.new.disk) (g.D.Disk.image c.blank.new.disk) c.args.self.now.geometry c.args.fence c.empty.new.gates.items c.empty.new.heads
     e.size e.only e.done c.empty.ensures.shut (search rules) c.empty.ensures.empty
 
 pub returns-clause-nothing : goal.returns-clause-nothing

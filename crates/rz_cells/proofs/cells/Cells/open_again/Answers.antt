@@ -12,16 +12,16 @@ pub returns-clause-stands : goal.returns-clause-stands
 returns-clause-stands g c told =
     let s = c.args.self.now.geometry in
     let is_open = c.in_ok-fence.ensures.open in
-    stands_of s c.in_ok-fence.fence (g.D.Disk.text c.read_disk.new.disk) c.in_ok-fence.room.heads.items (is_open.holds told) is_open.apart
+    stands_of s c.in_ok-fence.fence (g.D.Disk.text c.read_disk.new.disk) c.in_ok-fence.room.heads (is_open.holds told) is_open.apart
 
 pub returns-clause-found : goal.returns-clause-found
 returns-clause-found g c told =
     let s = c.args.self.now.geometry in
-    subst (λ (t : List ℕ). Finds s t c.in_ok-fence.fence c.in_ok-fence.room.heads.items) c.in_ok-fence.ensures.read.same
-    (finds_of s (g.D.Disk.text c.read_disk.new.disk) c.in_ok-fence.fence c.in_ok-fence.room.heads.items (c.in_ok-fence.ensures.open.holds told))
+    subst (λ (t : List ℕ). Finds s t c.in_ok-fence.fence c.in_ok-fence.room.heads) c.in_ok-fence.ensures.read.same
+    (finds_of s (g.D.Disk.text c.read_disk.new.disk) c.in_ok-fence.fence c.in_ok-fence.room.heads (c.in_ok-fence.ensures.open.holds told))
 
 -- cells of which only the disk may differ are the same where it is
-remade : (g : Over) (s : Cells g.row.D.Denot g.D.Disk) (disk : g.row.D.Denot) (a : IsGeometry s.geometry) (b : length s.gates.items ≡ 2 * s.geometry.cells) (c : length s.heads.items ≡ 2 * s.geometry.cells) (d : length s.buffer.items ≡ slot_of s.geometry) → disk ≡ s.disk
+remade : (g : Over) (s : Cells g.row.D.Denot g.D.Disk) (disk : g.row.D.Denot) (a : IsGeometry s.geometry) (b : length s.gates.items ≡ 2 * s.geometry.cells) (c : length s.heads ≡ 2 * s.geometry.cells) (d : length s.buffer.items ≡ slot_of s.geometry) → disk ≡ s.disk
     → ◌≡◌ {A = Cells g.row.D.Denot g.D.Disk} record { disk = disk; geometry = s.geometry; fence = s.fence; gates = s.gates; heads = s.heads; buffer = s.buffer; geometry_ok = a; gates_fit = b; heads_fit = c; buffer_fits = d } s
 remade g s disk a b c d same = λ i. record {
   disk = same i;
@@ -32,7 +32,7 @@ remade g s disk a b c d same = λ i. record {
   buffer = s.buffer;
   geometry_ok = geometry_prop s.geometry a s.geometry_ok i;
   gates_fit = ℕ_set (length s.gates.items) (2 * s.geometry.cells) b s.gates_fit i;
-  heads_fit = ℕ_set (length s.heads.items) (2 * s.geometry.cells) c s.heads_fit i;
+  heads_fit = ℕ_set (length s.heads) (2 * s.geometry.cells) c s.heads_fit i;
   buffer_fits = ℕ_set (length s.buffer.items) (slot_of s.geometry) d s.buffer_fits i;
 }
 

@@ -7,12 +7,12 @@ use Rattle.rz_cells.proofs.cells.Cells.reopen.Goals as goal
 pub returns-in-Ok-clause-stands : goal.returns-in-Ok-clause-stands
 returns-in-Ok-clause-stands g c told =
     let is_open = c.in-Ok.ensures.open in
-    stands_of c.args.geometry c.in-Ok.fence (g.D.Disk.text c.read_disk.new.disk) c.in-Ok.room.heads.items (is_open.holds told) is_open.apart
+    stands_of c.args.geometry c.in-Ok.fence (g.D.Disk.text c.read_disk.new.disk) c.in-Ok.room.heads (is_open.holds told) is_open.apart
 
 pub returns-in-Ok-clause-found : goal.returns-in-Ok-clause-found
 returns-in-Ok-clause-found g c told =
-    subst (λ (t : List ℕ). Finds c.args.geometry t c.in-Ok.fence c.in-Ok.room.heads.items) c.in-Ok.ensures.read.same
-    (finds_of c.args.geometry (g.D.Disk.text c.read_disk.new.disk) c.in-Ok.fence c.in-Ok.room.heads.items (c.in-Ok.ensures.open.holds told))
+    subst (λ (t : List ℕ). Finds c.args.geometry t c.in-Ok.fence c.in-Ok.room.heads) c.in-Ok.ensures.read.same
+    (finds_of c.args.geometry (g.D.Disk.text c.read_disk.new.disk) c.in-Ok.fence c.in-Ok.room.heads (c.in-Ok.ensures.open.holds told))
 
 pub returns-in-Err-clause-exact : goal.returns-in-Err-clause-exact
 returns-in-Err-clause-exact g c told fence held stands =

@@ -12,10 +12,10 @@ invariant_of-self g c =
     let n = c.crash.new.self in
     let down = ap (λ (x : NodeState). x.phase) (state-same _ _ c.self.view_is) ∙ c.requires.down in
     record {
-      tied = tied-moved s.cells.geometry n.geometry s.cells.heads.items n.heads.items s.index c.crash.ensures.geometry c.crash.ensures.heads c.self.invariant.tied;
+      tied = tied-moved s.cells.geometry n.geometry s.cells.heads n.heads s.index c.crash.ensures.geometry c.crash.ensures.heads c.self.invariant.tied;
       decided = c.self.invariant.decided;
       ready = down-ready s.phase _ _ down
-          (down-moved g.D.Disk.tells (g.D.Disk.image s.cells.disk) (g.D.Disk.image n.disk) s.cells.geometry n.geometry s.cells.fence n.fence s.cells.heads.items n.heads.items s.index s.undecided
+          (down-moved g.D.Disk.tells (g.D.Disk.image s.cells.disk) (g.D.Disk.image n.disk) s.cells.geometry n.geometry s.cells.fence n.fence s.cells.heads n.heads s.index s.undecided
           c.crash.ensures.geometry c.crash.ensures.fence c.crash.ensures.heads
           (λ told t is. subst (g.D.Disk.image s.cells.disk) (sym (c.crash.ensures.only t is)) (c.crash.ensures.left told))
           (ready-down s.phase _ _ down c.self.invariant.ready));

@@ -53,7 +53,7 @@ returns-in-Ok-clause-bins g c told records stands =
     let room : c.bins_at-count.result ≤ length c.args.out.now = bins-fit c.in-Some.head.layout c.args.self.now.geometry.layout c.bins_at-count.result (length c.args.out.now) c.bins_at-count.ensures.within
     (is_open.layout c.in-Some.cell c.in-Some.head c.in-Some.ensures.there.is ∙ ap (λ (y : Geometry). y.layout) (geometry-same _ _ c.self.view_is)) c.requires.room in
     let stood = stands-along g.D.Disk.text _ _ records c.self.view_is stands in
-    let r = one-record s.cells.geometry s.cells.fence s.cells.fence (g.D.Disk.text s.cells.disk) s.cells.heads.items (is_open.holds told) stood.0 stood.1 c.in-Some.cell c.in-Some.head c.in-Some.ensures.there.within c.in-Some.ensures.there.is in
+    let r = one-record s.cells.geometry s.cells.fence s.cells.fence (g.D.Disk.text s.cells.disk) s.cells.heads (is_open.holds told) stood.0 stood.1 c.in-Some.cell c.in-Some.head c.in-Some.ensures.there.within c.in-Some.ensures.there.is in
     gives-bins records c.args.key c.in-Some.head r.0 c.in-Ok.field-0 c.bins_at-count.result c.args.out.now c.bins_into.new.out room c.bins_into.auto.out c.bins_at-count.ensures.value
     (c.in-Ok.ensures.count c.in-Some.head c.in-Some.ensures.there.is) c.in-Some.ensures.there.named
     (ap (λ (k : Key). records k c.in-Some.head.stamp) (sym r.2) ∙ ap (records r.0.head.key) (ap (λ (t : Held). t.stamp) (sym r.3)) ∙ stood.2.only c.in-Some.cell r.0 r.1) r.3 (c.in-Ok.ensures.bins told stood.0 r.0 stood.1 r.1)
@@ -76,7 +76,7 @@ returns-in-Err-clause-answer g c position =
     let s = c.self.inside in (
       record_of c.in-Some.head,
       subst (λ (v : NodeState). fetch_answer v c.args.key c.args.stamp ≡ fetch.Held (record_of c.in-Some.head)) (state-same _ _ c.self.view_is)
-          (fetch-holds s.phase s.losses s.undecided s.cells.fence s.index.entries s.cells.heads.items c.args.key c.args.stamp (record_of c.in-Some.head) c.in-Up.is c.in-Some.ensures.found),
+          (fetch-holds s.phase s.losses s.undecided s.cells.fence s.index.entries s.cells.heads c.args.key c.args.stamp (record_of c.in-Some.head) c.in-Up.is c.in-Some.ensures.found),
     )
 
 pub returns-in-Err-clause-spends : goal.returns-in-Err-clause-spends
@@ -87,9 +87,9 @@ returns-in-Err-clause-spends g c =
 pub invariant_of-self-in-Err : goal.invariant_of-self-in-Err
 invariant_of-self-in-Err g c =
     let n = c.bins_into.new.self in
-    let tied = subst (λ (y : Geometry). IsTied y.cells n.heads.items c.self.inside.index) (sym c.bins_into.ensures.geometry) (subst (λ (hs : List (Option Head)). IsTied c.self.inside.cells.geometry.cells hs c.self.inside.index) (sym c.bins_into.ensures.heads) c.self.invariant.tied) in
+    let tied = subst (λ (y : Geometry). IsTied y.cells n.heads c.self.inside.index) (sym c.bins_into.ensures.geometry) (subst (λ (hs : List (Option Head)). IsTied c.self.inside.cells.geometry.cells hs c.self.inside.index) (sym c.bins_into.ensures.heads) c.self.invariant.tied) in
     record {
       tied = tied;
       decided = λ down. absurd (down refl);
-      ready = down-open g.D.Disk.tells (g.D.Disk.text n.disk) (g.D.Disk.image n.disk) n.geometry n.fence n.gates.items n.heads.items c.self.inside.index None tied c.bins_into.ensures.open refl;
+      ready = down-open g.D.Disk.tells (g.D.Disk.text n.disk) (g.D.Disk.image n.disk) n.geometry n.fence n.gates.items n.heads c.self.inside.index None tied c.bins_into.ensures.open refl;
     }

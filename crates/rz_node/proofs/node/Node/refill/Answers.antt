@@ -21,79 +21,79 @@ use Rattle.rz_node.proofs.node.Node.refill.Goals as goal
 pub returns-in_default-clause-answer : goal.returns-in_default-clause-answer
 returns-in_default-clause-answer g c =
     let s = c.self.inside in
-    sym (refill-up s.phase s.losses s.undecided s.cells.fence s.index.entries s.cells.heads.items c.in-Up.is s.cells.geometry.cells c.args.fence c.args.head.now.key c.args.head.now.stamp true None true
+    sym (refill-up s.phase s.losses s.undecided s.cells.fence s.index.entries s.cells.heads c.in-Up.is s.cells.geometry.cells c.args.fence c.args.head.now.key c.args.head.now.stamp true None true
     (eq-eqb c.args.fence s.cells.fence (omega (arith, c.if-fence-own.false, c.fence-own.ensures)))
-    (ap (λ (rs : List Held). passes_refill stamp_of base_of c.args.head.now.stamp rs) (nothing-held s.cells.geometry.cells s.cells.heads.items s.index c.self.invariant.tied c.args.head.now.key (sym c.in_default.ensures))) (full s.cells.geometry.cells s.cells.heads.items s.index c.self.invariant.tied c.args.head.now.key (sym c.in_default.ensures)))
+    (ap (λ (rs : List Held). passes_refill stamp_of base_of c.args.head.now.stamp rs) (nothing-held s.cells.geometry.cells s.cells.heads s.index c.self.invariant.tied c.args.head.now.key (sym c.in_default.ensures))) (full s.cells.geometry.cells s.cells.heads s.index c.self.invariant.tied c.args.head.now.key (sym c.in_default.ensures)))
     ∙ (λ i. refill_answer (geometry-same _ _ c.self.view_is i).cells (state-same _ _ c.self.view_is i) c.args.fence c.args.head.now.key c.args.head.now.stamp)
 
 pub returns-in-Passed-clause-answer : goal.returns-in-Passed-clause-answer
 returns-in-Passed-clause-answer g c =
     let s = c.self.inside in
-    let p = placed s.cells.geometry.cells s.cells.heads.items s.index c.self.invariant.tied c.args.head.now.key c.in-Some.entry (sym c.in-Some.ensures) in
-    let passed = refill-passed s.cells.geometry.cells s.cells.heads.items s.index c.args.head.now c.in-Some.entry p c.in-Passed.held (subst (λ (v : Version). Passed c.in-Passed.held ≡ room (passes_refill sides.version_stamp sides.version_base v.stamp (in_order sides.version_stamp c.in-Some.entry.versions)) (side_for sides.version_stamp never c.in-Some.entry.versions)) c.version.ensures c.in-Passed.ensures.room) in
-    sym (refill-up s.phase s.losses s.undecided s.cells.fence s.index.entries s.cells.heads.items c.in-Up.is s.cells.geometry.cells c.args.fence c.args.head.now.key c.args.head.now.stamp true (Some c.in-Passed.held) false
+    let p = placed s.cells.geometry.cells s.cells.heads s.index c.self.invariant.tied c.args.head.now.key c.in-Some.entry (sym c.in-Some.ensures) in
+    let passed = refill-passed s.cells.geometry.cells s.cells.heads s.index c.args.head.now c.in-Some.entry p c.in-Passed.held (subst (λ (v : Version). Passed c.in-Passed.held ≡ room (passes_refill sides.version_stamp sides.version_base v.stamp (in_order sides.version_stamp c.in-Some.entry.versions)) (side_for sides.version_stamp never c.in-Some.entry.versions)) c.version.ensures c.in-Passed.ensures.room) in
+    sym (refill-up s.phase s.losses s.undecided s.cells.fence s.index.entries s.cells.heads c.in-Up.is s.cells.geometry.cells c.args.fence c.args.head.now.key c.args.head.now.stamp true (Some c.in-Passed.held) false
     (eq-eqb c.args.fence s.cells.fence (omega (arith, c.if-fence-own.false, c.fence-own.ensures)))
-    passed (not-full s.cells.geometry.cells s.cells.heads.items s.index c.self.invariant.tied c.args.head.now.key c.in-Some.entry (sym c.in-Some.ensures)))
+    passed (not-full s.cells.geometry.cells s.cells.heads s.index c.self.invariant.tied c.args.head.now.key c.in-Some.entry (sym c.in-Some.ensures)))
     ∙ (λ i. refill_answer (geometry-same _ _ c.self.view_is i).cells (state-same _ _ c.self.view_is i) c.args.fence c.args.head.now.key c.args.head.now.stamp)
 
 pub returns-in-Ok-clause-answer : goal.returns-in-Ok-clause-answer
 returns-in-Ok-clause-answer g c =
     let s = c.self.inside in
-    let p = placed s.cells.geometry.cells s.cells.heads.items s.index c.self.invariant.tied c.args.head.now.key c.in-Some.entry (sym c.in-Some.ensures) in
-    let put = refill-put s.cells.geometry.cells s.cells.heads.items s.index c.args.head.now c.in-Some.entry p c.in-Put.side (subst (λ (v : Version). Put c.in-Put.side ≡ room (passes_refill sides.version_stamp sides.version_base v.stamp (in_order sides.version_stamp c.in-Some.entry.versions)) (side_for sides.version_stamp never c.in-Some.entry.versions)) c.version.ensures c.in-Put.ensures.room) in
-    sym (refill-up s.phase s.losses s.undecided s.cells.fence s.index.entries s.cells.heads.items c.in-Up.is s.cells.geometry.cells c.args.fence c.args.head.now.key c.args.head.now.stamp true None false
+    let p = placed s.cells.geometry.cells s.cells.heads s.index c.self.invariant.tied c.args.head.now.key c.in-Some.entry (sym c.in-Some.ensures) in
+    let put = refill-put s.cells.geometry.cells s.cells.heads s.index c.args.head.now c.in-Some.entry p c.in-Put.side (subst (λ (v : Version). Put c.in-Put.side ≡ room (passes_refill sides.version_stamp sides.version_base v.stamp (in_order sides.version_stamp c.in-Some.entry.versions)) (side_for sides.version_stamp never c.in-Some.entry.versions)) c.version.ensures c.in-Put.ensures.room) in
+    sym (refill-up s.phase s.losses s.undecided s.cells.fence s.index.entries s.cells.heads c.in-Up.is s.cells.geometry.cells c.args.fence c.args.head.now.key c.args.head.now.stamp true None false
     (eq-eqb c.args.fence s.cells.fence (omega (arith, c.if-fence-own.false, c.fence-own.ensures)))
-    put.0 (not-full s.cells.geometry.cells s.cells.heads.items s.index c.self.invariant.tied c.args.head.now.key c.in-Some.entry (sym c.in-Some.ensures)))
+    put.0 (not-full s.cells.geometry.cells s.cells.heads s.index c.self.invariant.tied c.args.head.now.key c.in-Some.entry (sym c.in-Some.ensures)))
     ∙ (λ i. refill_answer (geometry-same _ _ c.self.view_is i).cells (state-same _ _ c.self.view_is i) c.args.fence c.args.head.now.key c.args.head.now.stamp)
 
 pub returns-in-Err-clause-answer : goal.returns-in-Err-clause-answer
 returns-in-Err-clause-answer g c =
     let s = c.self.inside in
-    let p = placed s.cells.geometry.cells s.cells.heads.items s.index c.self.invariant.tied c.args.head.now.key c.in-Some.entry (sym c.in-Some.ensures) in
-    let put = refill-put s.cells.geometry.cells s.cells.heads.items s.index c.args.head.now c.in-Some.entry p c.in-Put.side (subst (λ (v : Version). Put c.in-Put.side ≡ room (passes_refill sides.version_stamp sides.version_base v.stamp (in_order sides.version_stamp c.in-Some.entry.versions)) (side_for sides.version_stamp never c.in-Some.entry.versions)) c.version.ensures c.in-Put.ensures.room) in
+    let p = placed s.cells.geometry.cells s.cells.heads s.index c.self.invariant.tied c.args.head.now.key c.in-Some.entry (sym c.in-Some.ensures) in
+    let put = refill-put s.cells.geometry.cells s.cells.heads s.index c.args.head.now c.in-Some.entry p c.in-Put.side (subst (λ (v : Version). Put c.in-Put.side ≡ room (passes_refill sides.version_stamp sides.version_base v.stamp (in_order sides.version_stamp c.in-Some.entry.versions)) (side_for sides.version_stamp never c.in-Some.entry.versions)) c.version.ensures c.in-Put.ensures.room) in
     sym (λ i. refill_answer (geometry-same _ _ c.self.view_is i).cells (state-same _ _ c.self.view_is i) c.args.fence c.args.head.now.key c.args.head.now.stamp)
-    ∙ refill-up s.phase s.losses s.undecided s.cells.fence s.index.entries s.cells.heads.items c.in-Up.is s.cells.geometry.cells c.args.fence c.args.head.now.key c.args.head.now.stamp true None false
+    ∙ refill-up s.phase s.losses s.undecided s.cells.fence s.index.entries s.cells.heads c.in-Up.is s.cells.geometry.cells c.args.fence c.args.head.now.key c.args.head.now.stamp true None false
     (eq-eqb c.args.fence s.cells.fence (omega (arith, c.if-fence-own.false, c.fence-own.ensures)))
-    put.0 (not-full s.cells.geometry.cells s.cells.heads.items s.index c.self.invariant.tied c.args.head.now.key c.in-Some.entry (sym c.in-Some.ensures))
+    put.0 (not-full s.cells.geometry.cells s.cells.heads s.index c.self.invariant.tied c.args.head.now.key c.in-Some.entry (sym c.in-Some.ensures))
 
 pub returns-in-Ok-clause-after : goal.returns-in-Ok-clause-after
 returns-in-Ok-clause-after g c =
     let s = c.self.inside in
-    let p = placed s.cells.geometry.cells s.cells.heads.items s.index c.self.invariant.tied c.args.head.now.key c.in-Some.entry (sym c.in-Some.ensures) in
-    let put = refill-put s.cells.geometry.cells s.cells.heads.items s.index c.args.head.now c.in-Some.entry p c.in-Put.side (subst (λ (v : Version). Put c.in-Put.side ≡ room (passes_refill sides.version_stamp sides.version_base v.stamp (in_order sides.version_stamp c.in-Some.entry.versions)) (side_for sides.version_stamp never c.in-Some.entry.versions)) c.version.ensures c.in-Put.ensures.room) in
-    changed-up s.phase s.losses s.undecided s.cells.fence s.index.entries s.cells.heads.items c.in-Up.is c.put_in.new.cells.fence c.put_in.new.index.entries c.put_in.new.cells.heads.items (pending.Refill c.args.head.now.key (record_of c.args.head.now))
-    c.put_in.ensures.fence (c.in-Ok.ensures.held ∙ ap (with_held (held_by s.index.entries s.cells.heads.items) c.args.head.now.key) put.1)
+    let p = placed s.cells.geometry.cells s.cells.heads s.index c.self.invariant.tied c.args.head.now.key c.in-Some.entry (sym c.in-Some.ensures) in
+    let put = refill-put s.cells.geometry.cells s.cells.heads s.index c.args.head.now c.in-Some.entry p c.in-Put.side (subst (λ (v : Version). Put c.in-Put.side ≡ room (passes_refill sides.version_stamp sides.version_base v.stamp (in_order sides.version_stamp c.in-Some.entry.versions)) (side_for sides.version_stamp never c.in-Some.entry.versions)) c.version.ensures c.in-Put.ensures.room) in
+    changed-up s.phase s.losses s.undecided s.cells.fence s.index.entries s.cells.heads c.in-Up.is c.put_in.new.cells.fence c.put_in.new.index.entries c.put_in.new.cells.heads (pending.Refill c.args.head.now.key (record_of c.args.head.now))
+    c.put_in.ensures.fence (c.in-Ok.ensures.held ∙ ap (with_held (held_by s.index.entries s.cells.heads) c.args.head.now.key) put.1)
     ∙ (λ i. with_change (state-same _ _ c.self.view_is i) (pending.Refill c.args.head.now.key (record_of c.args.head.now)))
 
 pub returns-in-Ok-clause-stands : goal.returns-in-Ok-clause-stands
 returns-in-Ok-clause-stands g c ne told =
     let s = c.self.inside in
-    let p = placed s.cells.geometry.cells s.cells.heads.items s.index c.self.invariant.tied c.args.head.now.key c.in-Some.entry (sym c.in-Some.ensures) in
-    let put = refill-put s.cells.geometry.cells s.cells.heads.items s.index c.args.head.now c.in-Some.entry p c.in-Put.side (subst (λ (v : Version). Put c.in-Put.side ≡ room (passes_refill sides.version_stamp sides.version_base v.stamp (in_order sides.version_stamp c.in-Some.entry.versions)) (side_for sides.version_stamp never c.in-Some.entry.versions)) c.version.ensures c.in-Put.ensures.room) in
+    let p = placed s.cells.geometry.cells s.cells.heads s.index c.self.invariant.tied c.args.head.now.key c.in-Some.entry (sym c.in-Some.ensures) in
+    let put = refill-put s.cells.geometry.cells s.cells.heads s.index c.args.head.now c.in-Some.entry p c.in-Put.side (subst (λ (v : Version). Put c.in-Put.side ≡ room (passes_refill sides.version_stamp sides.version_base v.stamp (in_order sides.version_stamp c.in-Some.entry.versions)) (side_for sides.version_stamp never c.in-Some.entry.versions)) c.version.ensures c.in-Put.ensures.room) in
     let r : Rec = record { head = c.args.head.now; bins = c.args.bins.now } in
     around-along g.D.Disk.text _ _ (g.D.Disk.text c.put_in.new.cells.disk) (g.D.Disk.image c.put_in.new.cells.disk) (Some true) c.args.head.now.key (refilled stamp_of (record_of c.args.head.now))
-    (records_in s.cells.heads.items c.in-Some.entry.cell) (in_order stamp_of (put_at (sides_in s.cells.heads.items c.in-Some.entry.cell) c.in-Put.side (Some (record_of c.args.head.now)))) (Some r)
-    c.self.view_is (held-up s.phase s.index.entries s.cells.heads.items c.args.head.now.key c.in-Up.is ∙ p.held) (put.1 ∙ ap (refilled stamp_of (record_of c.args.head.now)) p.held) (c.in-Ok.ensures.stands told)
+    (records_in s.cells.heads c.in-Some.entry.cell) (in_order stamp_of (put_at (sides_in s.cells.heads c.in-Some.entry.cell) c.in-Put.side (Some (record_of c.args.head.now)))) (Some r)
+    c.self.view_is (held-up s.phase s.index.entries s.cells.heads c.args.head.now.key c.in-Up.is ∙ p.held) (put.1 ∙ ap (refilled stamp_of (record_of c.args.head.now)) p.held) (c.in-Ok.ensures.stands told)
 
 pub returns-in-Err-clause-stands : goal.returns-in-Err-clause-stands
 returns-in-Err-clause-stands g c ne told =
     let s = c.self.inside in
-    let p = placed s.cells.geometry.cells s.cells.heads.items s.index c.self.invariant.tied c.args.head.now.key c.in-Some.entry (sym c.in-Some.ensures) in
-    let put = refill-put s.cells.geometry.cells s.cells.heads.items s.index c.args.head.now c.in-Some.entry p c.in-Put.side (subst (λ (v : Version). Put c.in-Put.side ≡ room (passes_refill sides.version_stamp sides.version_base v.stamp (in_order sides.version_stamp c.in-Some.entry.versions)) (side_for sides.version_stamp never c.in-Some.entry.versions)) c.version.ensures c.in-Put.ensures.room) in
+    let p = placed s.cells.geometry.cells s.cells.heads s.index c.self.invariant.tied c.args.head.now.key c.in-Some.entry (sym c.in-Some.ensures) in
+    let put = refill-put s.cells.geometry.cells s.cells.heads s.index c.args.head.now c.in-Some.entry p c.in-Put.side (subst (λ (v : Version). Put c.in-Put.side ≡ room (passes_refill sides.version_stamp sides.version_base v.stamp (in_order sides.version_stamp c.in-Some.entry.versions)) (side_for sides.version_stamp never c.in-Some.entry.versions)) c.version.ensures c.in-Put.ensures.room) in
     let r : Rec = record { head = c.args.head.now; bins = c.args.bins.now } in
     around-along g.D.Disk.text _ _ (g.D.Disk.text c.put_in.new.cells.disk) (g.D.Disk.image c.put_in.new.cells.disk) (Some false) c.args.head.now.key (refilled stamp_of (record_of c.args.head.now))
-    (records_in s.cells.heads.items c.in-Some.entry.cell) (in_order stamp_of (put_at (sides_in s.cells.heads.items c.in-Some.entry.cell) c.in-Put.side (Some (record_of c.args.head.now)))) (Some r)
-    c.self.view_is (held-up s.phase s.index.entries s.cells.heads.items c.args.head.now.key c.in-Up.is ∙ p.held) (put.1 ∙ ap (refilled stamp_of (record_of c.args.head.now)) p.held) (c.in-Err.ensures.stands told)
+    (records_in s.cells.heads c.in-Some.entry.cell) (in_order stamp_of (put_at (sides_in s.cells.heads c.in-Some.entry.cell) c.in-Put.side (Some (record_of c.args.head.now)))) (Some r)
+    c.self.view_is (held-up s.phase s.index.entries s.cells.heads c.args.head.now.key c.in-Up.is ∙ p.held) (put.1 ∙ ap (refilled stamp_of (record_of c.args.head.now)) p.held) (c.in-Err.ensures.stands told)
 
 pub invariant_of-self-in-Err : goal.invariant_of-self-in-Err
 invariant_of-self-in-Err g c =
     let s = c.self.inside in
-    let p = placed s.cells.geometry.cells s.cells.heads.items s.index c.self.invariant.tied c.args.head.now.key c.in-Some.entry (sym c.in-Some.ensures) in
-    let put = refill-put s.cells.geometry.cells s.cells.heads.items s.index c.args.head.now c.in-Some.entry p c.in-Put.side (subst (λ (v : Version). Put c.in-Put.side ≡ room (passes_refill sides.version_stamp sides.version_base v.stamp (in_order sides.version_stamp c.in-Some.entry.versions)) (side_for sides.version_stamp never c.in-Some.entry.versions)) c.version.ensures c.in-Put.ensures.room) in
+    let p = placed s.cells.geometry.cells s.cells.heads s.index c.self.invariant.tied c.args.head.now.key c.in-Some.entry (sym c.in-Some.ensures) in
+    let put = refill-put s.cells.geometry.cells s.cells.heads s.index c.args.head.now c.in-Some.entry p c.in-Put.side (subst (λ (v : Version). Put c.in-Put.side ≡ room (passes_refill sides.version_stamp sides.version_base v.stamp (in_order sides.version_stamp c.in-Some.entry.versions)) (side_for sides.version_stamp never c.in-Some.entry.versions)) c.version.ensures c.in-Put.ensures.room) in
     record {
       tied = c.put_in.ensures.tied;
       decided = λ down. absurd (down refl);
-      ready = down-refill g.D.Disk.tells (g.D.Disk.image c.put_in.new.cells.disk) c.put_in.new.cells.geometry c.put_in.new.cells.fence (held_by s.index.entries s.cells.heads.items) (held_by c.put_in.new.index.entries c.put_in.new.cells.heads.items)
-          (λ i. held_by (c.in-Err.ensures.index i).entries (c.in-Err.ensures.heads i)) c.args.head.now.key (in_order stamp_of (put_at (sides_in s.cells.heads.items c.in-Some.entry.cell) c.in-Put.side (Some (record_of c.args.head.now)))) c.in-Err.ensures.waits
+      ready = down-refill g.D.Disk.tells (g.D.Disk.image c.put_in.new.cells.disk) c.put_in.new.cells.geometry c.put_in.new.cells.fence (held_by s.index.entries s.cells.heads) (held_by c.put_in.new.index.entries c.put_in.new.cells.heads)
+          (λ i. held_by (c.in-Err.ensures.index i).entries (c.in-Err.ensures.heads i)) c.args.head.now.key (in_order stamp_of (put_at (sides_in s.cells.heads c.in-Some.entry.cell) c.in-Put.side (Some (record_of c.args.head.now)))) c.in-Err.ensures.waits
           (record_of c.args.head.now) c.told.result c.told.ensures put.0 put.1;
     }

@@ -12,6 +12,6 @@ invariant_of-result g c = record { tied = c.index_of-index.ensures; decided = λ
 pub returns-in-Ok-reopen-clause-shows : goal.returns-in-Ok-reopen-clause-shows
 returns-in-Ok-reopen-clause-shows g c told records stands =
     let n = c.in-Ok-reopen.cells in
-    shows-found c.args.geometry n.fence n.fence (g.D.Disk.text n.disk) n.heads.items c.index_of-index.result records
-    (subst (λ (y : Geometry). IsTied y.cells n.heads.items c.index_of-index.result) c.in-Ok-reopen.ensures.geometry c.index_of-index.ensures)
-    (subst (λ (t : List ℕ). Finds c.args.geometry t n.fence n.heads.items) (sym c.in-Ok-reopen.ensures.text) (c.in-Ok-reopen.ensures.found told)) stands
+    shows-found c.args.geometry n.fence n.fence (g.D.Disk.text n.disk) n.heads c.index_of-index.result records
+    (subst (λ (y : Geometry). IsTied y.cells n.heads c.index_of-index.result) c.in-Ok-reopen.ensures.geometry c.index_of-index.ensures)
+    (subst (λ (t : List ℕ). Finds c.args.geometry t n.fence n.heads) (sym c.in-Ok-reopen.ensures.text) (c.in-Ok-reopen.ensures.found told)) stands

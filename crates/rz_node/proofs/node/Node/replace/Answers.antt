@@ -15,7 +15,7 @@ pub invariant_of-self : goal.invariant_of-self
 invariant_of-self g c =
     let n = c.format_again.new.self in
     record {
-      tied = subst (λ (y : Geometry). IsTied y.cells n.heads.items c.in-Ok.index) (c.geometry.ensures ∙ sym c.format_again.ensures.geometry) (tied-fresh c.geometry.result.cells n.heads.items c.in-Ok-format_again.ensures.heads c.in-Ok.index c.in-Ok.ensures);
+      tied = subst (λ (y : Geometry). IsTied y.cells n.heads c.in-Ok.index) (c.geometry.ensures ∙ sym c.format_again.ensures.geometry) (tied-fresh c.geometry.result.cells n.heads c.in-Ok-format_again.ensures.heads c.in-Ok.index c.in-Ok.ensures);
       decided = λ down. refl;
       ready = c.in-Ok-format_again.ensures.open;
     }
@@ -23,7 +23,7 @@ invariant_of-self g c =
 pub returns-in-Ok-format_again-clause-after : goal.returns-in-Ok-format_again-clause-after
 returns-in-Ok-format_again-clause-after g c =
     let n = c.format_again.new.self in
-    let nothing : held_by c.in-Ok.index.entries n.heads.items ≡ maps.empty = ap (λ (x : Indexed). held_by x.entries n.heads.items) c.in-Ok.ensures ∙ held-empty n.heads.items in
+    let nothing : held_by c.in-Ok.index.entries n.heads ≡ maps.empty = ap (λ (x : Indexed). held_by x.entries n.heads) c.in-Ok.ensures ∙ held-empty n.heads in
     let losses = ap (λ (s : NodeState). s.losses) (state-same _ _ c.self.view_is) in
     λ i. record { phase = phase.Up; fence = c.in-Ok-format_again.ensures.fence i; losses = losses i; held = nothing i; undecided = None }
 

@@ -13,8 +13,8 @@ use Rattle.rz_cells.specs.Open.{Finds}
 use Rattle.rz_cells.specs.Stands.{StandsFor}
 use Rattle.rz_node.specs.Change.{IsBranch}
 use Rattle.rz_node.specs.Kept.{held_by, IsTied}
-use Rattle.rz_node.specs.Seen.{held_in, state_of}
-use Rattle.rz_node.specs.Waiting.{has_taken}
+use Rattle.rz_node.specs.View.{held_in, state_of}
+use Rattle.rz_node.specs.DownDisk.{has_taken}
 use Rattle.rz_node.proofs.AfterChange.{branch}
 use Rattle.rz_node.proofs.Shows.{shows-found}
 use Rattle.rz_node.proofs.Spent.{took-as}
@@ -27,18 +27,18 @@ pub returns-in-Ok-open_again-clause-after : goal.returns-in-Ok-open_again-clause
 returns-in-Ok-open_again-clause-after g c told =
     let s = c.self.inside in
     let n = c.open_again.new.self in
-    let tied = subst (λ (y : Geometry). IsTied y.cells n.heads.items c.index_of.result) c.open_again.ensures.geometry c.index_of.ensures in
-    started g.D.Disk.tells (g.D.Disk.text s.cells.disk) (g.D.Disk.image s.cells.disk) s.cells.geometry s.losses s.cells.fence s.undecided s.index.entries s.cells.heads.items
-    (ready-down s.phase _ _ c.in-Down.is c.self.invariant.ready) told (g.met.D.Disk.text_is_image s.cells.disk told) s.phase c.in-Down.is n.fence n.heads.items c.index_of.result c.has_taken-took.result tied (c.in-Ok-open_again.ensures.found told)
-    (c.has_taken-took.ensures n.geometry.cells n.heads.items c.index_of.ensures)
+    let tied = subst (λ (y : Geometry). IsTied y.cells n.heads c.index_of.result) c.open_again.ensures.geometry c.index_of.ensures in
+    started g.D.Disk.tells (g.D.Disk.text s.cells.disk) (g.D.Disk.image s.cells.disk) s.cells.geometry s.losses s.cells.fence s.undecided s.index.entries s.cells.heads
+    (ready-down s.phase _ _ c.in-Down.is c.self.invariant.ready) told (g.met.D.Disk.text_is_image s.cells.disk told) s.phase c.in-Down.is n.fence n.heads c.index_of.result c.has_taken-took.result tied (c.in-Ok-open_again.ensures.found told)
+    (c.has_taken-took.ensures n.geometry.cells n.heads c.index_of.ensures)
     ∙ (λ i. after_start (start.Started c.has_taken-took.result) (state-same _ _ c.self.view_is i))
 
 pub returns-in-Ok-open_again-clause-shows : goal.returns-in-Ok-open_again-clause-shows
 returns-in-Ok-open_again-clause-shows g c told records stands =
     let s = c.self.inside in
     let n = c.open_again.new.self in
-    shows-found n.geometry n.fence n.fence (g.D.Disk.text n.disk) n.heads.items c.index_of.result records c.index_of.ensures
-    (subst (λ (t : List ℕ). Finds n.geometry t n.fence n.heads.items) (sym c.open_again.ensures.text) (subst (λ (y : Geometry). Finds y (g.D.Disk.text s.cells.disk) n.fence n.heads.items) (sym c.open_again.ensures.geometry) (c.in-Ok-open_again.ensures.found told))) stands
+    shows-found n.geometry n.fence n.fence (g.D.Disk.text n.disk) n.heads c.index_of.result records c.index_of.ensures
+    (subst (λ (t : List ℕ). Finds n.geometry t n.fence n.heads) (sym c.open_again.ensures.text) (subst (λ (y : Geometry). Finds y (g.D.Disk.text s.cells.disk) n.fence n.heads) (sym c.open_again.ensures.geometry) (c.in-Ok-open_again.ensures.found told))) stands
 
 pub returns-in-Ok-open_again-clause-branch : goal.returns-in-Ok-open_again-clause-branch
 returns-in-Ok-open_again-clause-branch g c told =
@@ -46,14 +46,14 @@ returns-in-Ok-open_again-clause-branch g c told =
     let n = c.open_again.new.self in
     let same = state-same _ _ c.self.view_is in
     let down = ready-down s.phase _ _ c.in-Down.is c.self.invariant.ready in
-    let tied = subst (λ (y : Geometry). IsTied y.cells n.heads.items c.index_of.result) c.open_again.ensures.geometry c.index_of.ensures in
-    let at : IsBranch s.cells.geometry s.cells.fence (g.D.Disk.text n.disk) s.undecided (held_by s.index.entries s.cells.heads.items) c.has_taken-took.result =
-    branch s.cells.geometry s.cells.fence (g.D.Disk.text n.disk) s.undecided (held_by s.index.entries s.cells.heads.items) (held_by c.index_of.result.entries n.heads.items) c.has_taken-took.result down.told
-    (c.has_taken-took.ensures n.geometry.cells n.heads.items c.index_of.ensures)
-    (λ records stands. shows-found s.cells.geometry n.fence s.cells.fence (g.D.Disk.text n.disk) n.heads.items c.index_of.result records tied
-    (subst (λ (t : List ℕ). Finds s.cells.geometry t n.fence n.heads.items) (sym c.open_again.ensures.text) (c.in-Ok-open_again.ensures.found told)) stands) in
+    let tied = subst (λ (y : Geometry). IsTied y.cells n.heads c.index_of.result) c.open_again.ensures.geometry c.index_of.ensures in
+    let at : IsBranch s.cells.geometry s.cells.fence (g.D.Disk.text n.disk) s.undecided (held_by s.index.entries s.cells.heads) c.has_taken-took.result =
+    branch s.cells.geometry s.cells.fence (g.D.Disk.text n.disk) s.undecided (held_by s.index.entries s.cells.heads) (held_by c.index_of.result.entries n.heads) c.has_taken-took.result down.told
+    (c.has_taken-took.ensures n.geometry.cells n.heads c.index_of.ensures)
+    (λ records stands. shows-found s.cells.geometry n.fence s.cells.fence (g.D.Disk.text n.disk) n.heads c.index_of.result records tied
+    (subst (λ (t : List ℕ). Finds s.cells.geometry t n.fence n.heads) (sym c.open_again.ensures.text) (c.in-Ok-open_again.ensures.found told)) stands) in
     branch-along _ _ (g.D.Disk.text n.disk) c.has_taken-took.result c.self.view_is
-    (subst (λ (p : Phase). IsBranch s.cells.geometry s.cells.fence (g.D.Disk.text n.disk) s.undecided (held_in p s.index.entries s.cells.heads.items) c.has_taken-took.result) (sym c.in-Down.is) at)
+    (subst (λ (p : Phase). IsBranch s.cells.geometry s.cells.fence (g.D.Disk.text n.disk) s.undecided (held_in p s.index.entries s.cells.heads) c.has_taken-took.result) (sym c.in-Down.is) at)
 
 pub returns-in-Ok-open_again-clause-answer : goal.returns-in-Ok-open_again-clause-answer
 returns-in-Ok-open_again-clause-answer g c =
@@ -61,14 +61,14 @@ returns-in-Ok-open_again-clause-answer g c =
     let n = c.open_again.new.self in
     let same = state-same _ _ c.self.view_is in (
       ap (λ (x : NodeState). x.phase) (sym same) ∙ c.in-Down.is,
-      λ took_it. subst (λ (x : NodeState). IsSome x.undecided) same (some-taken s.undecided c.has_taken-took.result (held_by c.index_of.result.entries n.heads.items) (c.has_taken-took.ensures n.geometry.cells n.heads.items c.index_of.ensures) took_it),
+      λ took_it. subst (λ (x : NodeState). IsSome x.undecided) same (some-taken s.undecided c.has_taken-took.result (held_by c.index_of.result.entries n.heads) (c.has_taken-took.ensures n.geometry.cells n.heads c.index_of.ensures) took_it),
     )
 
 pub returns-in-Ok-open_again-clause-took : goal.returns-in-Ok-open_again-clause-took
 returns-in-Ok-open_again-clause-took g c =
     let n = c.open_again.new.self in
-    c.has_taken-took.ensures n.geometry.cells n.heads.items c.index_of.ensures
-    ∙ ap (λ (x : NodeState). has_taken x.undecided (held_by c.index_of.result.entries n.heads.items)) (state-same _ _ c.self.view_is)
+    c.has_taken-took.ensures n.geometry.cells n.heads c.index_of.ensures
+    ∙ ap (λ (x : NodeState). has_taken x.undecided (held_by c.index_of.result.entries n.heads)) (state-same _ _ c.self.view_is)
 
 pub returns-in-Ok-open_again-clause-stands : goal.returns-in-Ok-open_again-clause-stands
 returns-in-Ok-open_again-clause-stands g c told =
@@ -87,17 +87,17 @@ invariant_of-self-in-Err g c =
     let s = c.self.inside in
     let n = c.open_again.new.self in
     record {
-      tied = tied-moved s.cells.geometry n.geometry s.cells.heads.items n.heads.items s.index c.open_again.ensures.geometry c.in-Err.ensures.kept_heads c.self.invariant.tied;
+      tied = tied-moved s.cells.geometry n.geometry s.cells.heads n.heads s.index c.open_again.ensures.geometry c.in-Err.ensures.kept_heads c.self.invariant.tied;
       decided = c.self.invariant.decided;
       ready = down-ready s.phase _ _ c.in-Down.is
-          (down-moved g.D.Disk.tells (g.D.Disk.image s.cells.disk) (g.D.Disk.image n.disk) s.cells.geometry n.geometry s.cells.fence n.fence s.cells.heads.items n.heads.items s.index s.undecided
+          (down-moved g.D.Disk.tells (g.D.Disk.image s.cells.disk) (g.D.Disk.image n.disk) s.cells.geometry n.geometry s.cells.fence n.fence s.cells.heads n.heads s.index s.undecided
           c.open_again.ensures.geometry c.in-Err.ensures.kept_fence c.in-Err.ensures.kept_heads (λ told. c.open_again.ensures.crash) (ready-down s.phase _ _ c.in-Down.is c.self.invariant.ready));
     }
 
 pub returns-clause-exact : goal.returns-clause-exact
 returns-clause-exact g c told =
     let s = c.self.inside in
-    let d = down-stands g.D.Disk.tells (g.D.Disk.text s.cells.disk) (g.D.Disk.image s.cells.disk) s.cells.geometry s.cells.fence s.undecided (held_by s.index.entries s.cells.heads.items) (ready-down s.phase _ _ c.in-Down.is c.self.invariant.ready) told (g.met.D.Disk.text_is_image s.cells.disk told) in
+    let d = down-stands g.D.Disk.tells (g.D.Disk.text s.cells.disk) (g.D.Disk.image s.cells.disk) s.cells.geometry s.cells.fence s.undecided (held_by s.index.entries s.cells.heads) (ready-down s.phase _ _ c.in-Down.is c.self.invariant.ready) told (g.met.D.Disk.text_is_image s.cells.disk told) in
     ⊎_elim (λ (none : c.in-Err.cause ≡ fault.NoMemory). absurd (c.in_default-cause.not-NoMemory none)) (λ (failed : c.in-Err.cause ≡ fault.DiskFault). failed) (c.in-Err.ensures.exact told s.cells.fence d.0 d.1)
 
 pub returns-clause-answer : goal.returns-clause-answer

@@ -10,6 +10,6 @@ invariant_of-self g c =
     record {
       tied = c.self.invariant.tied;
       decided = λ down. absurd (down refl);
-      ready = down-open g.D.Disk.tells (g.D.Disk.text s.cells.disk) (g.D.Disk.image s.cells.disk) s.cells.geometry s.cells.fence s.cells.gates.items s.cells.heads.items s.index s.undecided c.self.invariant.tied
+      ready = down-open g.D.Disk.tells (g.D.Disk.text s.cells.disk) (g.D.Disk.image s.cells.disk) s.cells.geometry s.cells.fence s.cells.gates.items s.cells.heads s.index s.undecided c.self.invariant.tied
           (ready-up s.phase _ _ c.in-Up.is c.self.invariant.ready) (up-decided s.phase s.undecided c.in-Up.is c.self.invariant.decided);
     }

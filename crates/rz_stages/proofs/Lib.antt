@@ -1,0 +1,3 @@
+mod RebuildTurns
+mod RangeTurns
+mod Heads

@@ -1,0 +1,5 @@
+pub mod Turned
+pub mod Adding
+pub mod Saying
+pub mod Acted
+pub mod Asking
