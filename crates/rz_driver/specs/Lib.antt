@@ -1,5 +1,3 @@
-pub mod Seats
-pub mod Acts
 pub mod Journals
 pub mod Worlds
 pub mod Pictures

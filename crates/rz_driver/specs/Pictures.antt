@@ -14,6 +14,7 @@ use Rattle.rz_lines.specs.Behind.{behind}
 use Rattle.rz_play.specs.World.{World}
 use Rattle.rz_play_laws.specs.Fine.{IsFine}
 use Rattle.rz_seats.specs.declared.seat.Seat.{Seat}
+use Rattle.rz_seats.specs.Hands.{HasTrueHand}
 use Rattle.rz_formatting.specs.declared.formatting.Station.{Station}
 use Rattle.rz_stations.specs.Images.{AreImaged}
 

@@ -16,8 +16,7 @@ use Rattle.rz_events.proofs.files.NodeSpec.TheSendSync as NodeSpec
 use Rattle.rz_events.proofs.nodes.Phase.TheSendSync as Phase
 use Rattle.rz_node_model.proofs.pending.Pending.TheSendSync as Pending
 use Rattle.rz_cells.proofs.cells.Cells.TheSendSync as Cells
-use Rattle.rz_index.proofs.index.Entry.TheSendSync as Row
-use Rattle.rz_index.proofs.tree.Node.TheLaws.TheKnot as rows
+use Rattle.rz_index.proofs.nodes.Node.TheSendSync as Row
 use Rattle.rz_index.specs.contracts.index.Index as Index
 use Rattle.rz_node.specs.contracts.node.Node as Node
 use Rattle.rz_node.specs.contracts.node.Node.TheInside as NodeIn
@@ -46,7 +45,7 @@ use Rattle.rz_shared.specs.contracts.cluster.Cluster as Cluster
 use Rattle.rz_shared.specs.contracts.cluster.Cluster.TheInside as ClusterIn
 
 index-send : IsSend Index.the_row
-index-send = search (Row.the_send, rows.crosses, crosses, sendable) depth 60 fits 20000
+index-send = search (Row.the_send, crosses, sendable) depth 60 fits 20000
 
 node-send : (D : RattleType) (g : Disk.Ghosts D.Denot) → IsSend D → IsSend (Node.the_row D g)
 node-send D g s = view_send (NodeIn.the_row D g) _ _ _ _ (recorded_send (NodeIn.the_field D g).row _ _ (NodeIn.the_type D g).to_one (struct_send (shape (NodeIn.the_type D g)) (Phase.the_field_send, (plain_send _ _ _ _ _, (Option.the_field_send _ Pending.the_send, (Cells.the_field_send D g s, (index-send, tt)))))))
