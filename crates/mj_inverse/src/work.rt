@@ -5,7 +5,6 @@ ghost use Rattle.rz_words.specs.Grid.{IsShape, Grid, grid_of};
 ghost use Rattle.mj_angles.specs.Projection.{bins as bin_count};
 ghost use Rattle.mj_inverse.specs.Fits.{IsFound, empty_search, with_pair};
 
-use crate::run::add_zeros;
 use crate::series::Series;
 use crate::store::{blanks, put_at, solve_all, wipe_all};
 use rz_words::Block;
@@ -22,12 +21,9 @@ pub struct Work {
     cols: usize,
     count: usize,
     all: Vec<Series>,
-    /// Room for the words of a block.
-    words: Vec<u64>,
 }
 
 impl Model for Work {
-    ghost use Rattle.std.specs.Prelude.{◌≤◌, ◌*◌, vec_len, vec_capacity};
     ghost use Rattle.mj_inverse.specs.Fits.{Search};
     ghost use Rattle.mj_inverse.specs.Store.{IsStore, search_in};
 
@@ -35,7 +31,7 @@ impl Model for Work {
 
     ghost view = { λ w. search_in 1 w.rows w.cols w.count w.all.items };
 
-    ghost invariant = { λ w. IsStore 1 w.rows w.cols w.count w.all.items × (vec_len w.words ≤ w.rows * w.cols) × (w.rows * w.cols ≤ vec_capacity w.words) };
+    ghost invariant = { λ w. IsStore 1 w.rows w.cols w.count w.all.items };
 }
 
 /// No block has the projections.
@@ -48,14 +44,12 @@ impl Work {
         requires { IsShape rows cols }
         ensures { IfOk result (λ w. w ≡ empty_search rows cols) }
     {
-        let words = Vec::with_capacity(alloc, rows * cols)?;
         let all = blanks(alloc, rows, cols, 1)?;
         Ok(Work {
             rows,
             cols,
             count: 0,
             all,
-            words,
         })
     }
 
@@ -101,17 +95,7 @@ impl Work {
         ensures cols { out.new.cols ≡ out.old.cols }
         ensures clear { self.new ≡ empty_search self.old.rows self.old.cols }
     {
-        let rows = self.rows;
-        let cols = self.cols;
-        let mut bad = [0u64; 1];
-        add_zeros(&mut self.words, rows * cols);
-        let found = solve_all(&mut self.all, rows, cols, 1, &mut self.words, &mut bad);
-        self.count = 0;
-        if !found {
-            return Err(Inconsistent);
-        }
-        out.swap_words(&mut self.words);
-        Ok(())
+        self.solve_words(out.words_mut())
     }
 
     /// The same into words, row by row, which stay as they are where no block has the projections.

@@ -1,6 +1,6 @@
 -- What contracts see of a block.
 use Rattle.std.specs.Prelude.{◌≡◌, ℕ, ◌+◌, ◌*◌, ◌<◌, ◌≤◌, List, length, map, drop, replicate, slice_index, slice_set}
-use Rattle.std.specs.List.{flat_map, range_with_len}
+use Rattle.std.specs.List.{flat_map, range_with_len, refill}
 use Rattle.byteorder.specs.Endian.{little_number, little_bytes}
 
 -- a block: so many rows and columns, and its words row by row
@@ -31,6 +31,10 @@ word g l k = slice_index g.words (l * g.cols + k)
 -- the block with other words
 abbrev pub with_words : Grid → List ℕ → Grid
 with_words g ws = record { rows = g.rows; cols = g.cols; words = ws }
+
+-- the block after a write of its words as a slice, which keeps how many there are
+abbrev pub written_over : Grid → List ℕ → Grid
+written_over g ws = with_words g (refill (length g.words) g.words ws)
 
 -- the block with another word in column k of row l
 abbrev pub with_word : Grid → ℕ → ℕ → ℕ → Grid

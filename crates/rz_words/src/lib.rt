@@ -6,6 +6,7 @@
 #![tactic(auto)]
 
 ghost use Rattle.std.specs.Prelude.{◌≡◌, ◌≤◌, ◌<◌, ◌*◌, ◌+◌, ◌^◌, ℕ, List, All, length, take, IfOk, vec_len};
+ghost use Rattle.std.specs.Borrow.{sem};
 ghost use Rattle.rz_words.specs.Grid.{IsShape, IsGrid, word, with_word, with_words, zero_grid, zero_words, words_from, bytes_from, grid_of, grid_from_bytes};
 
 mod bytes;
@@ -34,6 +35,8 @@ impl Model for Block {
 }
 
 impl Block {
+    ghost use Rattle.rz_words.specs.Lends.{lends_words};
+
     /// A block of zeros.
     pub fn zero(alloc: Global, rows: usize, cols: usize) -> Result<Block, AllocError>
         requires { IsShape rows cols }
@@ -112,6 +115,15 @@ impl Block {
         &self.words
     }
 
+    /// The words row by row, for writing.
+    pub fn words_mut(&mut self) -> &mut [u64]
+        ensures* writes_back { sem 𝓛 (lends_words self.entry result) }
+        ensures value { result.now ≡ self.old.words }
+        ensures grid { IsGrid self.old }
+    {
+        &mut self.words
+    }
+
     /// The word in column `k` of row `l`.
     pub fn get(&self, k: usize, l: usize) -> u64
         requires column { k < self.now.cols }
@@ -184,6 +196,8 @@ mod tests {
         let mut words = vec![in rt.alloc(); 1u64, 2, 3]?;
         block.swap_words(&mut words);
         assert_eq!(rt; block.words(), [1u64, 2, 3].as_slice());
+        block.words_mut()[1] = 5;
+        assert_eq!(rt; block.words(), [1u64, 5, 3].as_slice());
         assert_eq!(rt; words.as_slice(), [0u64, 0, 0].as_slice());
         let other = Block::from_words(3, 1, words);
         assert_eq!(rt; other.rows(), 3);

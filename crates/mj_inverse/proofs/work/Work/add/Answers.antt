@@ -10,7 +10,7 @@ use Rattle.mj_inverse.proofs.work.Work.add.Goals as goal
 pub put_at-requires-clause-room : goal.put_at-requires-clause-room
 put_at-requires-clause-room c =
     let s = c.self.inside in
-    let i = c.self.invariant.0 in
+    let i = c.self.invariant in
     let few = i.few in
     let count = i.count in
     let n : length (pairs_in 1 s.count s.all.items) ≡ s.count = length-pairs_in 1 s.count s.all.items (omega arith) in
@@ -24,8 +24,8 @@ pub invariant_of-self : goal.invariant_of-self
 invariant_of-self c =
     let s = c.self.inside in
     let i = c.self.invariant in
-    let few = i.0.few in
-    let count = i.0.count in
+    let few = i.few in
+    let count = i.count in
     let is : to_z w32 (of_z w32 c.args.p) ≡ c.args.p = to_z-of_z w32 c.args.p (search rules) in
     let xs : List Series = s.all.items in
     let ys : List Series = c.put_at.new.all in
@@ -42,6 +42,6 @@ invariant_of-self c =
     let other : All (λ (pair : Pair). pair.0 ≢ c.args.p) (pairs_in 1 s.count xs) =
     (let P : List Pair → Type 0 = λ ps. All (λ (pair : Pair). pair.0 ≢ c.args.p) ps in subst P (sym seen) c.requires.other_angle) in
     let store : IsStore 1 s.rows s.cols (s.count + 1) ys =
-    add_store 1 s.rows s.cols s.count xs ys c.args.p c.args.bins.now i.0 (omega arith) c.put_at.ensures.filled added (c.put_at.ensures.len ∙ ap length value) other in
+    add_store 1 s.rows s.cols s.count xs ys c.args.p c.args.bins.now i (omega arith) c.put_at.ensures.filled added (c.put_at.ensures.len ∙ ap length value) other in
     let Q : List Series → Type 0 = λ zs. IsStore 1 s.rows s.cols (s.count + 1) zs in
-    (subst Q (sym all) store, i.1, i.2)
+    subst Q (sym all) store

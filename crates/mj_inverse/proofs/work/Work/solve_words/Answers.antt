@@ -11,7 +11,7 @@ use Rattle.mj_inverse.proofs.work.Work.solve_words.Goals as goal
 pub solve_all-solved-requires-clause-filled : goal.solve_all-solved-requires-clause-filled
 solve_all-solved-requires-clause-filled c =
     let s = c.self.inside in
-    let i = c.self.invariant.0 in
+    let i = c.self.invariant in
     let few = i.few in
     let count = i.count in
     let n : length (pairs_in 1 s.count s.all.items) ≡ s.count = length-pairs_in 1 s.count s.all.items (omega arith) in
@@ -25,7 +25,7 @@ solve_all-solved-requires-clause-filled c =
 pub solve_all-solved-requires-clause-differ : goal.solve_all-solved-requires-clause-differ
 solve_all-solved-requires-clause-differ c =
     let s = c.self.inside in
-    let i = c.self.invariant.0 in
+    let i = c.self.invariant in
     let few = i.few in
     let count = i.count in
     let n : length (pairs_in 1 s.count s.all.items) ≡ s.count = length-pairs_in 1 s.count s.all.items (omega arith) in
@@ -48,7 +48,7 @@ looked rows cols count now xs ys store seen full same =
 pub returns-then-not-solved-clause-exact : goal.returns-then-not-solved-clause-exact
 returns-then-not-solved-clause-exact c =
     let s = c.self.inside in
-    let l = looked s.rows s.cols s.count c.args.self.now s.all.items c.deref_mut.result.now c.self.invariant.0 c.self.view_is c.requires.full c.deref_mut.ensures.value in (
+    let l = looked s.rows s.cols s.count c.args.self.now s.all.items c.deref_mut.result.now c.self.invariant c.self.view_is c.requires.full c.deref_mut.ensures.value in (
       λ e. absurd (cc e),
       λ x.
           let no = c.if-not-solved.true in
@@ -64,7 +64,7 @@ returns-then-not-solved-clause-exact c =
 pub returns-clause-found : goal.returns-clause-found
 returns-clause-found c =
     let s = c.self.inside in
-    let l = looked s.rows s.cols s.count c.args.self.now s.all.items c.deref_mut.result.now c.self.invariant.0 c.self.view_is c.requires.full c.deref_mut.ensures.value in
+    let l = looked s.rows s.cols s.count c.args.self.now s.all.items c.deref_mut.result.now c.self.invariant c.self.view_is c.requires.full c.deref_mut.ensures.value in
     let long : length c.solve_all-solved.new.out ≡ s.rows * s.cols = search rules in
     let rows : s.rows ≡ c.args.self.now.rows = ap (λ (v : Search). v.rows) c.self.view_is in
     let cols : s.cols ≡ c.args.self.now.cols = ap (λ (v : Search). v.cols) c.self.view_is in
@@ -80,7 +80,7 @@ returns-clause-found c =
 pub returns-clause-only : goal.returns-clause-only
 returns-clause-only c = λ g found.
     let s = c.self.inside in
-    let l = looked s.rows s.cols s.count c.args.self.now s.all.items c.deref_mut.result.now c.self.invariant.0 c.self.view_is c.requires.full c.deref_mut.ensures.value in
+    let l = looked s.rows s.cols s.count c.args.self.now s.all.items c.deref_mut.result.now c.self.invariant c.self.view_is c.requires.full c.deref_mut.ensures.value in
     let long : length c.solve_all-solved.new.out ≡ s.rows * s.cols = search rules in
     let rows : s.rows ≡ c.args.self.now.rows = ap (λ (v : Search). v.rows) c.self.view_is in
     let cols : s.cols ≡ c.args.self.now.cols = ap (λ (v : Search). v.cols) c.self.view_is in
