@@ -106,7 +106,8 @@ impl Machine {
         ensures { Goes self.old self.old.pairs (Replied reply) self.new }
     {
         let stage = replace(&mut self.stage, Stage::Over);
-        self.stage = after_reply(self.layout, stage, reply);
+        let next = after_reply(self.layout, stage, reply);
+        put_back(&mut self.stage, next);
     }
 
     /// Takes the reply of the export to an open with a lock, and whether the lock was granted.
@@ -115,7 +116,8 @@ impl Machine {
         ensures { Goes self.old self.old.pairs (Locked granted reply) self.new }
     {
         let stage = replace(&mut self.stage, Stage::Over);
-        self.stage = after_lock(self.layout, stage, granted, reply);
+        let next = after_lock(self.layout, stage, granted, reply);
+        put_back(&mut self.stage, next);
     }
 
     /// Takes the answer of a node, and with a record the bins of its position.
@@ -126,7 +128,8 @@ impl Machine {
         ensures { IsAnswered self.old answer bins.now self.new }
     {
         let stage = replace(&mut self.stage, Stage::Over);
-        self.stage = after_answer(self.layout, stage, answer, bins);
+        let next = after_answer(self.layout, stage, answer, bins);
+        put_back(&mut self.stage, next);
     }
 
     /// Takes it that the message to the node, or its answer, was lost.
@@ -136,7 +139,8 @@ impl Machine {
         ensures { Goes self.old self.old.pairs Missed self.new }
     {
         let stage = replace(&mut self.stage, Stage::Over);
-        self.stage = after_miss(self.layout, stage);
+        let next = after_miss(self.layout, stage);
+        put_back(&mut self.stage, next);
     }
 
     /// Takes it that the end of a block was said, or that a block was left.
@@ -146,7 +150,8 @@ impl Machine {
         ensures { Goes self.old self.old.pairs (Noted (text_of self.old)) self.new }
     {
         let stage = replace(&mut self.stage, Stage::Over);
-        self.stage = after_said(self.layout, stage);
+        let next = after_said(self.layout, stage);
+        put_back(&mut self.stage, next);
     }
 
     /// Takes it that the answer is said, and gives it out.
@@ -215,4 +220,11 @@ impl Machine {
             _ => unreachable!(),
         }
     }
+}
+
+/// Puts a stage in place of the old one, which is dropped here, once, and not in each function that goes on.
+fn put_back(stage: &mut Stage, next: Stage)
+    ensures { stage.new ≡ next }
+{
+    *stage = next;
 }

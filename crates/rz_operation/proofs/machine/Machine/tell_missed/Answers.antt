@@ -1,4 +1,4 @@
-use Rattle.std.proofs.Common.{subst}
+use Rattle.std.proofs.Common.{subst, sym}
 use Rattle.rz_operation_model.specs.Steps.{Missed}
 use Rattle.rz_stages.specs.declared.stage.Stage.{Stage}
 use Rattle.rz_stages.specs.Machine.{Machine}
@@ -11,6 +11,8 @@ returns c =
     let i = c.self.inside in
     let at : Stage → Machine = λ s. machine_of i.layout s in
     let told = Missed in
-    let new = at c.after_miss.result in
+    let new = at c.put_back.new.stage in
+    let before = at c.replace-stage.result in
     subst (λ (m : Machine). Goes m m.pairs told new) c.self.view_is
-    (subst (λ (s : Stage). Goes (at s) (at s).pairs told new) c.replace-stage.ensures.value c.after_miss.ensures.goes)
+    (subst (λ (s : Stage). Goes (at s) (at s).pairs told new) c.replace-stage.ensures.value
+    (subst (λ (s : Stage). Goes before before.pairs told (at s)) (sym c.put_back.ensures) c.after_miss.ensures.goes))
