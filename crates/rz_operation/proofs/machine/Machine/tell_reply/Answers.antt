@@ -15,4 +15,4 @@ returns c =
     let before = at c.replace-stage.result in
     subst (λ (m : Machine). Goes m m.pairs told new) c.self.view_is
     (subst (λ (s : Stage). Goes (at s) (at s).pairs told new) c.replace-stage.ensures.value
-    (subst (λ (s : Stage). Goes before before.pairs told (at s)) (sym c.put_back.ensures) c.after_reply.ensures.goes))
+    (subst (λ (s : Stage). Goes before before.pairs told (at s)) (sym c.put_back.ensures) c.after_reply-next.ensures.goes))

@@ -14,4 +14,4 @@ returns c =
     let before = at c.replace-stage.result in
     subst (λ (m : Machine). Goes m m.pairs (Noted (text_of m)) new) c.self.view_is
     (subst (λ (s : Stage). Goes (at s) (at s).pairs (Noted (text_of (at s))) new) c.replace-stage.ensures.value
-    (subst (λ (s : Stage). Goes before before.pairs (Noted (text_of before)) (at s)) (sym c.put_back.ensures) c.after_said.ensures.goes))
+    (subst (λ (s : Stage). Goes before before.pairs (Noted (text_of before)) (at s)) (sym c.put_back.ensures) c.after_said-next.ensures.goes))
