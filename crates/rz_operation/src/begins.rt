@@ -348,17 +348,14 @@ pub fn after_locked(
     ensures fresh { IsFresh result }
 {
     if granted {
-        let_go(call);
+        drop(call);
         return after_open(layout, Plan::Range(plan), &answer);
     }
     match &answer {
         TreeReply::File(_) => Stage::Locking { call, plan },
         _ => {
-            let_go(call);
+            drop(call);
             after_open(layout, Plan::Range(plan), &answer)
         }
     }
 }
-
-/// Drops a call here, once, and not in each arm that is done with one.
-pub fn let_go(call: TreeCall) {}

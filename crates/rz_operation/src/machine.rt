@@ -107,7 +107,7 @@ impl Machine {
     {
         let stage = replace(&mut self.stage, Stage::Over);
         let next = after_reply(self.layout, stage, reply);
-        put_back(&mut self.stage, next);
+        drop(replace(&mut self.stage, next));
     }
 
     /// Takes the reply of the export to an open with a lock, and whether the lock was granted.
@@ -117,7 +117,7 @@ impl Machine {
     {
         let stage = replace(&mut self.stage, Stage::Over);
         let next = after_lock(self.layout, stage, granted, reply);
-        put_back(&mut self.stage, next);
+        drop(replace(&mut self.stage, next));
     }
 
     /// Takes the answer of a node, and with a record the bins of its position.
@@ -129,7 +129,7 @@ impl Machine {
     {
         let stage = replace(&mut self.stage, Stage::Over);
         let next = after_answer(self.layout, stage, answer, bins);
-        put_back(&mut self.stage, next);
+        drop(replace(&mut self.stage, next));
     }
 
     /// Takes it that the message to the node, or its answer, was lost.
@@ -140,7 +140,7 @@ impl Machine {
     {
         let stage = replace(&mut self.stage, Stage::Over);
         let next = after_miss(self.layout, stage);
-        put_back(&mut self.stage, next);
+        drop(replace(&mut self.stage, next));
     }
 
     /// Takes it that the end of a block was said, or that a block was left.
@@ -151,7 +151,7 @@ impl Machine {
     {
         let stage = replace(&mut self.stage, Stage::Over);
         let next = after_said(self.layout, stage);
-        put_back(&mut self.stage, next);
+        drop(replace(&mut self.stage, next));
     }
 
     /// Takes it that the answer is said, and gives it out.
@@ -220,11 +220,4 @@ impl Machine {
             _ => unreachable!(),
         }
     }
-}
-
-/// Puts a stage in place of the old one, which is dropped here, once, and not in each function that goes on.
-fn put_back(stage: &mut Stage, next: Stage)
-    ensures { stage.new ≡ next }
-{
-    *stage = next;
 }

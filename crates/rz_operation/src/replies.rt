@@ -7,18 +7,16 @@ ghost use Rattle.rz_stages.specs.Answers.{IsReply, IsLockReply, IsAnswer, ComeWi
 ghost use Rattle.rz_stages.specs.Machine.{text_of};
 ghost use Rattle.rz_stages.specs.Inside.{IsStage, IsDoneStage, IsAnswerIn, machine_of, work_of};
 
-use crate::begins::{after_call, after_locked, after_open, let_go};
+use crate::begins::{after_call, after_locked, after_open};
 use mj_angles::Layout;
 use rz_events::{
-    Answer, DropAnswer, KeepAnswer, NodeAnswer, ReaderAnswer, Reply, Text, TreeReply, WriterAnswer,
+    Answer, DropAnswer, KeepAnswer, NodeAnswer, ReaderAnswer, Reply, TreeReply, WriterAnswer,
 };
-use rz_reader::Reader;
 use rz_stages::Stage;
 use rz_stages::blocks::{fetch_answer, tell_fetch, tell_keep, tell_reader, tell_writer};
 use rz_stages::drops::{after_drop, dropped};
 use rz_stages::ranges::{range_answered, range_missed, range_replied, range_said};
 use rz_stages::rebuilds::{rebuild_answered, rebuild_missed, rebuild_replied, rebuild_said};
-use rz_writer::Writer;
 
 /// How the operation goes on after a reply of the export.
 pub fn after_reply(layout: Layout, stage: Stage, reply: Reply) -> Stage
@@ -29,11 +27,11 @@ pub fn after_reply(layout: Layout, stage: Stage, reply: Reply) -> Stage
 {
     match stage {
         Stage::Calling(call) => {
-            let_go(call);
+            drop(call);
             after_call(tree_reply(layout, reply))
         }
         Stage::Opening { call, plan } => {
-            let_go(call);
+            drop(call);
             after_open(layout, plan, &tree_reply(layout, reply))
         }
         Stage::Writing { mut writer, text } => {
@@ -145,11 +143,12 @@ pub fn after_said(layout: Layout, stage: Stage) -> Stage
 {
     match stage {
         Stage::Writing { writer, text } => {
-            leave_writer(writer, text);
+            drop(writer);
+            drop(text);
             Stage::Over
         }
         Stage::Reading(reader) => {
-            leave_reader(reader);
+            drop(reader);
             Stage::Over
         }
         Stage::Ranging(file) => range_said(layout, file),
@@ -214,9 +213,3 @@ fn tree_reply(layout: Layout, reply: Reply) -> TreeReply
     };
     answer
 }
-
-/// Drops a writer and its text here, once.
-fn leave_writer(writer: Writer, text: Text) {}
-
-/// Drops a reader here, once.
-fn leave_reader(reader: Reader) {}

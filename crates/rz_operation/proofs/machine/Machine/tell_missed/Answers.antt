@@ -11,8 +11,8 @@ returns c =
     let i = c.self.inside in
     let at : Stage → Machine = λ s. machine_of i.layout s in
     let told = Missed in
-    let new = at c.put_back.new.stage in
+    let new = at c.replace.new.dest in
     let before = at c.replace-stage.result in
     subst (λ (m : Machine). Goes m m.pairs told new) c.self.view_is
     (subst (λ (s : Stage). Goes (at s) (at s).pairs told new) c.replace-stage.ensures.value
-    (subst (λ (s : Stage). Goes before before.pairs told (at s)) (sym c.put_back.ensures) c.after_miss-next.ensures.goes))
+    (subst (λ (s : Stage). Goes before before.pairs told (at s)) (sym c.replace.ensures.after) c.after_miss-next.ensures.goes))
