@@ -10,6 +10,7 @@ ghost use Rattle.rz_steps.specs.Acted.{Lasts, IsRight, HasActed};
 ghost use Rattle.rz_steps.specs.Turned.{IsCutOff};
 
 use crate::adding::call_export;
+use crate::dropping::drop_reply;
 use crate::showing::show_open;
 use crate::store::Store;
 use rz_chronicle::Pass;
@@ -77,12 +78,13 @@ pub fn ask_export<R: Wait, D: Disk, J: Counting>(
     rz_acting::asks();
     rz_acting::goes();
     let by = pass.actor();
-    let call = next_call(alloc, machine)?;
     shown.reserve(1)?;
+    let call = next_call(alloc, machine)?;
     let reply = call_export(rt, store, pass, &call);
     let takes = machine.takes_reply(&reply);
     show_open(by, call, &reply, shown);
     if !takes {
+        drop_reply(reply);
         return Err(NoMemory);
     }
     machine.tell_reply(reply);

@@ -12,6 +12,7 @@ ghost use Rattle.rz_steps.specs.Acted.{Lasts, IsRight, HasActed};
 ghost use Rattle.rz_steps.specs.Turned.{IsCutOff};
 
 use crate::adding::call_export;
+use crate::dropping::drop_reply;
 use crate::showing::show_open;
 use crate::store::Store;
 use rz_chronicle::Pass;
@@ -127,13 +128,14 @@ pub fn open_locked<R: Wait, D: Disk, J: Counting>(
 {
     rz_acting::goes();
     let by = pass.actor();
-    let opening = next_open(alloc, machine)?;
     shown.reserve(1)?;
+    let opening = next_open(alloc, machine)?;
     let (call, wish) = opening;
     let reply = call_export(rt, store, pass, &call);
     let takes = machine.takes_locked(&reply);
     show_open(by, call, &reply, shown);
     if !takes {
+        drop_reply(reply);
         return Err(NoMemory);
     }
     let granted = take(rt, &store.locks, by, &reply, wish);

@@ -23,6 +23,7 @@ ghost use Rattle.rz_steps.specs.Asking.{IsPlaced};
 ghost use Rattle.rz_steps.specs.Turned.{AreLost, IsCutOff};
 
 use crate::adding::{add_own, call_node};
+use crate::dropping::drop_event;
 use crate::store::Store;
 use mj_angles::Layout;
 use rz_chronicle::Pass;
@@ -197,6 +198,7 @@ fn add_missed<D: Disk, J: Counting>(store: &Store<D, J>, pass: &mut Pass<J>, nod
     let by = pass.actor();
     let event = Event::Missed { by, node, reply };
     add_own(store, pass, &event);
+    drop_event(event);
 }
 
 /// The node is given the call, and its answer is lost.

@@ -6,10 +6,8 @@ ghost use Rattle.rz_events.specs.declared.tree.TreeReply.TheVariants as reply;
 ghost use Rattle.rz_export_model.specs.ExportEvents.{export_event};
 ghost use Rattle.rz_shown.specs.Shown as model;
 
+use crate::dropping::{drop_call, drop_event};
 use rz_events::{Actor, Call, Event, FileInfo, Reply, TreeCall, TreeReply};
-
-/// Lets an event go.
-fn let_go(_event: Event) {}
 
 /// The file that a reply tells.
 fn file_in(reply: &Reply) -> Option<FileInfo>
@@ -34,12 +32,16 @@ fn show_file(by: Actor, call: Call, info: FileInfo, shown: &mut Vec<Event>)
     requires room { vec_len shown.old + 1 ≤ vec_capacity shown.old }
     ensures { shown.new.items ≡ shown.old.items ++ model.shown_in (export_event by call (answer.Tree (reply.File info))) }
 {
-    let Call::Tree(call) = call else {
-        return;
-    };
-    if is_open(&call, &info) {
-        let reply = TreeReply::File(info);
-        let _kept = shown.push(Event::Meta { by, call, reply });
+    match call {
+        Call::Tree(call) => {
+            if is_open(&call, &info) {
+                let reply = TreeReply::File(info);
+                let _kept = shown.push(Event::Meta { by, call, reply });
+            } else {
+                drop_call(Call::Tree(call));
+            }
+        }
+        other => drop_call(other),
     }
 }
 
@@ -50,6 +52,8 @@ pub(crate) fn show_open(by: Actor, call: Call, reply: &Reply, shown: &mut Vec<Ev
 {
     if let Some(info) = file_in(reply) {
         show_file(by, call, info, shown);
+    } else {
+        drop_call(call);
     }
 }
 
@@ -76,6 +80,6 @@ pub(crate) fn show(event: Event, shown: &mut Vec<Event>)
     if is_shown(&event) {
         let _kept = shown.push(event);
     } else {
-        let_go(event);
+        drop_event(event);
     }
 }

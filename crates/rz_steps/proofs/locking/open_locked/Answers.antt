@@ -17,10 +17,10 @@ pub returns-in_err-opening-clause-quiet : goal.returns-in_err-opening-clause-qui
 returns-in_err-opening-clause-quiet g c = refl
 
 pub returns-in_err-opening-clause-shows : goal.returns-in_err-opening-clause-shows
-returns-in_err-opening-clause-shows g c = c.requires.shows
+returns-in_err-opening-clause-shows g c = c.reserve.ensures.items ∙ c.requires.shows
 
 pub returns-in_err-opening-clause-cut : goal.returns-in_err-opening-clause-cut
-returns-in_err-opening-clause-cut g c = on-err c.from_residual.result (still-cut c.args.pass.now.actor c.args.pass.now.log c.args.machine.now)
+returns-in_err-opening-clause-cut g c = on-err c.from_residual-in_err-opening.result (still-cut c.args.pass.now.actor c.args.pass.now.log c.args.machine.now)
 
 pub returns-in_err-reserve-clause-lasts : goal.returns-in_err-reserve-clause-lasts
 returns-in_err-reserve-clause-lasts g c = still-lasts g.J.Naming.kind c.args.pass.now c.actor-by.ensures.fit
@@ -32,7 +32,7 @@ pub returns-in_err-reserve-clause-shows : goal.returns-in_err-reserve-clause-sho
 returns-in_err-reserve-clause-shows g c = c.reserve.ensures.items ∙ c.requires.shows
 
 pub returns-in_err-reserve-clause-cut : goal.returns-in_err-reserve-clause-cut
-returns-in_err-reserve-clause-cut g c = on-err c.from_residual-in_err-reserve.result (still-cut c.args.pass.now.actor c.args.pass.now.log c.args.machine.now)
+returns-in_err-reserve-clause-cut g c = on-err c.from_residual.result (still-cut c.args.pass.now.actor c.args.pass.now.log c.args.machine.now)
 
 pub call_export-reply-requires-clause-may : goal.call_export-reply-requires-clause-may
 call_export-reply-requires-clause-may g c =
