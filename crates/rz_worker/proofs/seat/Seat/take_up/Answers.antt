@@ -10,7 +10,7 @@ returns-then-is_at_work g c = Works (negated-too _ (sym c.if-is_at_work.true ∙
 
 pub returns : goal.returns
 returns g c =
-    Begins c.in-Some.op c.in_ok-start_par.field-0 (negated _ (sym c.if-is_at_work.false ∙ c.is_at_work.ensures)) c.in-Some.ensures.items c.in-Some-checked_add.ensures.1 refl c.in_ok-start_par.ensures.layout c.in_ok-start_par.ensures.work
+    Begins c.in-Some.op c.in_ok-machine.machine (negated _ (sym c.if-is_at_work.false ∙ c.is_at_work.ensures)) c.in-Some.ensures.items c.in-Some-checked_add.ensures.1 c.replace.ensures.after c.in_ok-machine.ensures.layout c.in_ok-machine.ensures.work
 
 pub returns-in_default : goal.returns-in_default
 returns-in_default g c =
