@@ -79,9 +79,11 @@ impl Seat {
             return Ok(());
         };
         let Some(number) = self.number.checked_add(1) else {
+            drop(op);
             return Err(NoMemory);
         };
-        self.machine = Some(Machine::start(alloc, layout, op)?);
+        let machine = Machine::start(alloc, layout, op)?;
+        drop(self.machine.replace(machine));
         self.number = number;
         Ok(())
     }

@@ -1,13 +1,22 @@
-use Rattle.std.proofs.Common.{sym, ◌∙◌}
-use Rattle.rz_seats.specs.Seats.{seat_of}
+use Rattle.std.proofs.Common.{sym, ◌∙◌, ap, subst}
+use Rattle.std.specs.List.{AllByRecursion}
+use Rattle.rz_operation.specs.Answers.{IsOperation}
+use Rattle.rz_seats.specs.Hands.{HasTrueHand}
+use Rattle.rz_seats.specs.Seats.{seat_of, work_in, HasLayout}
 use Rattle.rz_seats.proofs.SeatLemmas.{over-now, taken-up}
 use Rattle.rz_seats.proofs.seat.Seat.take_up.Goals as goal
 
 pub returns-clause-ok : goal.returns-clause-ok
 returns-clause-ok c =
     let s = seat_of c.args.self.now in
-    taken-up s c.in-Some.op c.pop_front.new.self.items c.in-Some-checked_add.number c.in_ok-start.field-0.work (over-now _ (sym c.is_at_work.ensures ∙ c.if-is_at_work.false))
-    c.in-Some.ensures.items c.in-Some-checked_add.ensures.1 c.in_ok-start.ensures.work
+    taken-up s c.in-Some.op c.pop_front.new.self.items c.in-Some-checked_add.number (work_in c.replace.new.self) (over-now _ (sym c.is_at_work.ensures ∙ c.if-is_at_work.false))
+    c.in-Some.ensures.items c.in-Some-checked_add.ensures.1 (ap work_in c.replace.ensures.after ∙ c.in_ok-machine.ensures.work)
+
+pub returns-clause-seat : goal.returns-clause-seat
+returns-clause-seat c = record {
+  machine = subst (HasLayout c.args.layout) (sym c.replace.ensures.after) c.in_ok-machine.ensures.layout;
+  todo = (subst (AllByRecursion (IsOperation c.args.layout)) c.in-Some.ensures.items c.requires.todo).1;
+}
 
 pub returns-clause-hand : goal.returns-clause-hand
-returns-clause-hand c = λ v f hand. c.beginning.ensures v f c.in-Some.op c.in_ok-start.field-0 c.in_ok-start.ensures.work
+returns-clause-hand c = λ v f hand. subst (HasTrueHand v f) (sym c.replace.ensures.after) (c.beginning.ensures v f c.in-Some.op c.in_ok-machine.machine c.in_ok-machine.ensures.work)
