@@ -23,7 +23,6 @@ ghost use Rattle.rz_steps.specs.Asking.{IsPlaced};
 ghost use Rattle.rz_steps.specs.Turned.{AreLost, IsCutOff};
 
 use crate::adding::{add_own, call_node};
-use crate::dropping::drop_event;
 use crate::store::Store;
 use mj_angles::Layout;
 use rz_chronicle::Pass;
@@ -198,7 +197,7 @@ fn add_missed<D: Disk, J: Counting>(store: &Store<D, J>, pass: &mut Pass<J>, nod
     let by = pass.actor();
     let event = Event::Missed { by, node, reply };
     add_own(store, pass, &event);
-    drop_event(event);
+    drop(event);
 }
 
 /// The node is given the call, and its answer is lost.

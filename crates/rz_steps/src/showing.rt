@@ -6,7 +6,6 @@ ghost use Rattle.rz_events.specs.declared.tree.TreeReply.TheVariants as reply;
 ghost use Rattle.rz_export_model.specs.ExportEvents.{export_event};
 ghost use Rattle.rz_shown.specs.Shown as model;
 
-use crate::dropping::{drop_call, drop_event};
 use rz_events::{Actor, Call, Event, FileInfo, Reply, TreeCall, TreeReply};
 
 /// The file that a reply tells.
@@ -38,10 +37,10 @@ fn show_file(by: Actor, call: Call, info: FileInfo, shown: &mut Vec<Event>)
                 let reply = TreeReply::File(info);
                 let _kept = shown.push(Event::Meta { by, call, reply });
             } else {
-                drop_call(Call::Tree(call));
+                drop(call);
             }
         }
-        other => drop_call(other),
+        other => drop(other),
     }
 }
 
@@ -53,7 +52,7 @@ pub(crate) fn show_open(by: Actor, call: Call, reply: &Reply, shown: &mut Vec<Ev
     if let Some(info) = file_in(reply) {
         show_file(by, call, info, shown);
     } else {
-        drop_call(call);
+        drop(call);
     }
 }
 
@@ -80,6 +79,6 @@ pub(crate) fn show(event: Event, shown: &mut Vec<Event>)
     if is_shown(&event) {
         let _kept = shown.push(event);
     } else {
-        drop_event(event);
+        drop(event);
     }
 }
