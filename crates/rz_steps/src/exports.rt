@@ -10,7 +10,6 @@ ghost use Rattle.rz_steps.specs.Acted.{Lasts, IsRight, HasActed};
 ghost use Rattle.rz_steps.specs.Turned.{IsCutOff};
 
 use crate::adding::call_export;
-use crate::dropping::drop_reply;
 use crate::showing::show_open;
 use crate::store::Store;
 use rz_chronicle::Pass;
@@ -84,7 +83,7 @@ pub fn ask_export<R: Wait, D: Disk, J: Counting>(
     let takes = machine.takes_reply(&reply);
     show_open(by, call, &reply, shown);
     if !takes {
-        drop_reply(reply);
+        drop(reply);
         return Err(NoMemory);
     }
     machine.tell_reply(reply);

@@ -11,11 +11,10 @@
 //! right beside the log again. Where memory is wanting, or an answer is none to what was asked, which no store
 //! over an honest book gives, the turn was cut off: the answer's event may be there, and the machine was not told.
 //!
-//! In reading order: `store`, `adding`, `dropping`, `showing`, `exports`, `locking`, `sending`, `words`.
+//! In reading order: `store`, `adding`, `showing`, `exports`, `locking`, `sending`, `words`.
 #![tactic(auto)]
 
 mod adding;
-mod dropping;
 mod exports;
 mod locking;
 mod sending;

@@ -12,7 +12,6 @@ ghost use Rattle.rz_steps.specs.Acted.{Lasts, IsRight, HasActed};
 ghost use Rattle.rz_steps.specs.Turned.{IsCutOff};
 
 use crate::adding::call_export;
-use crate::dropping::drop_reply;
 use crate::showing::show_open;
 use crate::store::Store;
 use rz_chronicle::Pass;
@@ -135,7 +134,7 @@ pub fn open_locked<R: Wait, D: Disk, J: Counting>(
     let takes = machine.takes_locked(&reply);
     show_open(by, call, &reply, shown);
     if !takes {
-        drop_reply(reply);
+        drop(reply);
         return Err(NoMemory);
     }
     let granted = take(rt, &store.locks, by, &reply, wish);
