@@ -6,7 +6,7 @@ ghost use Rattle.rz_staff.specs.Staff.{link_of, pass_of, shown_by, IsRoomFor, Wa
 use crate::member::{Member, Room};
 use rz_link::Link;
 use rz_locked::Counting;
-use rz_worker::{Seat, Worker};
+use rz_worker::Worker;
 
 /// Whether memory was wanting for none of the members, so that all came to the end of their operations.
 pub fn have_finished<J: Counting, L: Link>(members: &[Member<J, L>]) -> bool
@@ -20,9 +20,6 @@ pub fn have_finished<J: Counting, L: Link>(members: &[Member<J, L>]) -> bool
     }
     true
 }
-
-/// Lets a seat go.
-fn let_go(_seat: Seat) {}
 
 /// Takes the links of the members, their passes and the events that they show, each in the order of the
 /// members.
@@ -46,7 +43,7 @@ pub fn dismiss<J: Counting, L: Link>(members: Vec<Member<J, L>>, room: Room<J, L
             bins: _bins,
             shown: events,
         } = worker;
-        let_go(seat);
+        drop(seat);
         let _link = links.push(link);
         let _pass = passes.push(pass);
         let _events = shown.push(events);
