@@ -7,14 +7,13 @@
 
 ghost use Rattle.std.specs.Prelude.{◌≡◌, ◌≤◌, ◌<◌, ◌*◌, ◌+◌, ◌^◌, ℕ, List, All, length, take, IfOk, vec_len};
 ghost use Rattle.std.specs.Borrow.{sem};
-ghost use Rattle.rz_words.specs.Grid.{IsShape, IsGrid, word, with_word, with_words, zero_grid, zero_words, words_from, bytes_from, grid_of, grid_from_bytes};
+ghost use Rattle.rz_words.specs.Grid.{IsShape, IsGrid, word, with_word, zero_grid, zero_words, words_from, bytes_from, grid_of, grid_from_bytes};
 
 mod bytes;
 
 use bytes::{load_words, store_words};
 use std::alloc::{AllocError, Global};
 use std::marker::Model;
-use std::mem;
 
 /// A block of `rows` rows of `cols` words: 1 to 16 rows, and 1 to 2048 columns.
 #[derive(Debug, Drop)]
@@ -141,16 +140,6 @@ impl Block {
     {
         self.words[l * self.cols + k] = w;
     }
-
-    /// Replaces the words by as many others, and gives the old ones in their place.
-    pub fn swap_words(&mut self, words: &mut Vec<u64>)
-        requires { vec_len words.old ≡ self.old.rows * self.old.cols }
-        ensures block { self.new ≡ with_words self.old words.old.items }
-        ensures rest { words.new.items ≡ self.old.words }
-        ensures len { vec_len words.new ≡ vec_len words.old }
-    {
-        mem::swap(&mut self.words, words);
-    }
 }
 
 /// `count` zeros.
@@ -193,14 +182,12 @@ mod tests {
     fn other_words(rt: HostRuntime) -> Result<(), Fail> {
         let mut block = Block::zero(rt.alloc(), 1, 3)?;
         assert_eq!(rt; block.words(), [0u64, 0, 0].as_slice());
-        let mut words = vec![in rt.alloc(); 1u64, 2, 3]?;
-        block.swap_words(&mut words);
-        assert_eq!(rt; block.words(), [1u64, 2, 3].as_slice());
         block.words_mut()[1] = 5;
-        assert_eq!(rt; block.words(), [1u64, 5, 3].as_slice());
-        assert_eq!(rt; words.as_slice(), [0u64, 0, 0].as_slice());
+        assert_eq!(rt; block.words(), [0u64, 5, 0].as_slice());
+        let words = vec![in rt.alloc(); 1u64, 2, 3]?;
         let other = Block::from_words(3, 1, words);
         assert_eq!(rt; other.rows(), 3);
+        assert_eq!(rt; other.words(), [1u64, 2, 3].as_slice());
         Ok(())
     }
 }
