@@ -130,11 +130,7 @@ ReadTo g text heads k = (c : ℕ) → c < k → ReadsHead g (picked g text c) (i
 abbrev pub Wrong : List (Option Head) → ℕ → Head → OpenFault → Type 0
 Wrong heads c h (Damaged cell) = (cell ≡ c) × ((d : ℕ) × (q : Head) × OtherKey heads c h d q)
 Wrong heads c h (Twice first second) = (second ≡ c) × NoOtherKey heads c h × ((q : Head) × Again heads c h first q) × NotAgain heads c h first
-Wrong heads c h NoMemory = ⊥
-Wrong heads c h (WrongSize have need) = ⊥
-Wrong heads c h DiskFault = ⊥
-Wrong heads c h Unformatted = ⊥
-Wrong heads c h (BadHeader field value) = ⊥
+Wrong heads c h _ = ⊥
 
 -- a slot begins with no head of the geometry and no zero stamp
 abbrev pub Unreadable : Geometry → List ℕ → Type 0
@@ -150,11 +146,7 @@ CellRefused g text c e =
 abbrev pub CellFault : Geometry → List ℕ → ℕ → OpenFault → Type 0
 CellFault g text c (Damaged cell) = (cell ≡ c) × Unreadable g (picked g text c)
 CellFault g text c DiskFault = Unit {0}
-CellFault g text c NoMemory = ⊥
-CellFault g text c (WrongSize have need) = ⊥
-CellFault g text c Unformatted = ⊥
-CellFault g text c (BadHeader field value) = ⊥
-CellFault g text c (Twice first second) = ⊥
+CellFault g text c _ = ⊥
 
 -- why the cells were not read
 abbrev pub CellsFault : Geometry → List ℕ → OpenFault → Type 0
@@ -163,40 +155,25 @@ CellsFault g text (Damaged cell) =
     ⊎ ((cell < 2 * g.cells) × ((heads : List (Option Head)) × FineTo g text heads cell × Unreadable g (picked g text cell)))
 CellsFault g text (Twice first second) = CellRefused g text second (Twice first second)
 CellsFault g text DiskFault = Unit {0}
-CellsFault g text NoMemory = ⊥
-CellsFault g text (WrongSize have need) = ⊥
-CellsFault g text Unformatted = ⊥
-CellsFault g text (BadHeader field value) = ⊥
+CellsFault g text _ = ⊥
 
 -- the first field of a header that differs
 abbrev pub FieldFault : Version → Geometry → List ℕ → OpenFault → Type 0
 FieldFault v g text (BadHeader field value) = FirstDiffers v g text field value
-FieldFault v g text (Damaged cell) = ⊥
-FieldFault v g text DiskFault = ⊥
-FieldFault v g text NoMemory = ⊥
-FieldFault v g text (WrongSize have need) = ⊥
-FieldFault v g text Unformatted = ⊥
-FieldFault v g text (Twice first second) = ⊥
+FieldFault v g text _ = ⊥
 
 -- why a header was not read
 abbrev pub HeaderFault : Version → Geometry → List ℕ → OpenFault → Type 0
 HeaderFault v g text (BadHeader field value) = IsFormatted text × FirstDiffers v g text field value
 HeaderFault v g text Unformatted = ¬ IsFormatted text
 HeaderFault v g text DiskFault = Unit {0}
-HeaderFault v g text (Damaged cell) = ⊥
-HeaderFault v g text NoMemory = ⊥
-HeaderFault v g text (WrongSize have need) = ⊥
-HeaderFault v g text (Twice first second) = ⊥
+HeaderFault v g text _ = ⊥
 
 -- the fault is not of the size
 abbrev pub NotSize : OpenFault → Type 0
 NotSize (WrongSize have need) = ⊥
 NotSize NoMemory = ⊥
-NotSize DiskFault = Unit {0}
-NotSize Unformatted = Unit {0}
-NotSize (BadHeader field value) = Unit {0}
-NotSize (Damaged cell) = Unit {0}
-NotSize (Twice first second) = Unit {0}
+NotSize _ = Unit {0}
 
 -- the device calls of an opening: a sync, a read of the header, one of the gates, and one for each cell
 abbrev pub opening_calls : Geometry → ℕ

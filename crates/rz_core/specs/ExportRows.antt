@@ -61,8 +61,7 @@ abbrev pub TooFarRow : List Event → Asked → Type 0
 TooFarRow w (asked.Begin key) = IsTooFar w key
 TooFarRow w (asked.Look key) = IsTooFar w key
 TooFarRow w (asked.Recheck key) = IsTooFar w key
-TooFarRow w (asked.Publish key) = ⊥
-TooFarRow w (asked.Enroll node loss) = ⊥
+TooFarRow w _ = ⊥
 
 -- the last number was drawn
 abbrev pub IsSpent : List Event → Type 0
@@ -76,9 +75,7 @@ IsNewLoss w node loss = (by : Actor) (l fence : ℕ) → Has w (e.Enroll by node
 abbrev pub SpentRow : List Event → Asked → Type 0
 SpentRow w (asked.Begin key) = IsSpent w × (is_live w key.fid ≡ true) × IsInFile key
 SpentRow w (asked.Enroll node loss) = IsSpent w × IsNewLoss w node loss
-SpentRow w (asked.Publish key) = ⊥
-SpentRow w (asked.Look key) = ⊥
-SpentRow w (asked.Recheck key) = ⊥
+SpentRow w _ = ⊥
 
 -- `kept` is the greatest loss enrolled of the node
 pub record IsGreatestLoss (w : List Event) (node kept : ℕ) : Type 0 where

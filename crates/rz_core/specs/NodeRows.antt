@@ -153,11 +153,7 @@ RefusedRow v f w node why.Full told = (phase w ≡ Up) × IsFull v f w node × (
 RefusedRow v f w node why.NotLost told = ¬ (phase w ≡ Lost) × (told ≡ 0)
 RefusedRow v f w node why.OtherLoss told = (phase w ≡ Lost) × (told ≡ losses w)
 RefusedRow v f w node why.DiskFault told = (phase w ≡ Lost) × (told ≡ 0)
-RefusedRow v f w node why.NotAsked told = ⊥
-RefusedRow v f w node why.Kept told = ⊥
-RefusedRow v f w node why.Passed told = ⊥
-RefusedRow v f w node why.Missed told = ⊥
-RefusedRow v f w node why.Enrolled told = ⊥
+RefusedRow v f w node _ told = ⊥
 
 -- Fetches.
 

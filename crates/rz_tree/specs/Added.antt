@@ -61,12 +61,9 @@ pub record IsRoot (fid : ℕ) (o : Object) : Type 0 where
 
 -- the root as a part, which comes before all other objects
 abbrev pub IsRootPart : Part → Type 0
-IsRootPart (part.Counters last made) = ⊥
 IsRootPart (part.Object fid kind mode mtime size cid places target) =
     IsRoot fid (record { kind = kind; mode = mode; mtime = mtime; target = target; size = size; cid = cid; places = places })
-IsRootPart (part.Name path fid) = ⊥
-IsRootPart (part.Block key latest published) = ⊥
-IsRootPart (part.Enrolled node loss fence) = ⊥
+IsRootPart _ = ⊥
 
 -- the root may be added where no object was added yet
 abbrev pub IsFirstObject : Tree → ℕ → Object → Type 0
@@ -115,12 +112,10 @@ MayAdd t (part.Enrolled node loss fence) = Unit {0}
 
 -- an object or a name that may come next; no other part of a tree may
 abbrev pub MayBeNext : Tree → Part → Type 0
-MayBeNext t (part.Counters last made) = ⊥
 MayBeNext t (part.Object fid kind mode mtime size cid places target) =
     IsNextObject t fid (record { kind = kind; mode = mode; mtime = mtime; target = target; size = size; cid = cid; places = places })
 MayBeNext t (part.Name path fid) = IsNextName t path fid
-MayBeNext t (part.Block key latest published) = ⊥
-MayBeNext t (part.Enrolled node loss fence) = ⊥
+MayBeNext t _ = ⊥
 
 -- no object lacks a name
 abbrev pub AreNamed : Tree → Type 0
