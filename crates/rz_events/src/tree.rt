@@ -6,7 +6,7 @@ use crate::{Attr, FileInfo, Kind, Listing, Text};
 use std::alloc::{AllocError, Global};
 
 /// A call on the tree. A path in a call is its text, which the export reads.
-#[derive(Debug, Drop)]
+#[derive(Drop)]
 pub enum TreeCall {
     Lookup { path: Text },
     Getattr { path: Text },
@@ -78,7 +78,7 @@ impl TreeCall {
 }
 
 /// A reply to a call on the tree.
-#[derive(Debug, Drop)]
+#[derive(Drop)]
 pub enum TreeReply {
     /// A directory or a symbolic link was made.
     Made { fid: u128 },
@@ -119,7 +119,7 @@ impl TreeReply {
 }
 
 /// Why a call on the tree was refused.
-#[derive(Clone, Copy, Debug, PartialEq, Eq, Drop)]
+#[derive(Clone, Copy, Drop)]
 pub enum TreeFault {
     NoEntry,
     NotDir,
