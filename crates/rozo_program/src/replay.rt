@@ -25,7 +25,7 @@ use std::alloc::{AllocError, Global};
 use std::mem;
 
 /// What a replay came to: its status, and the log of the play, the oldest event first.
-#[derive(Debug, Drop)]
+#[derive(Drop)]
 pub struct Played {
     pub status: u8,
     pub log: Vec<Event>,

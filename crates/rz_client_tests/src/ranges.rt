@@ -106,7 +106,7 @@ fn step(rt: &impl Abort, machine: &mut FileMachine, ask: FileAsk, answer: FileAn
         bins[FIRST[position as usize]] |= 1;
         bins[SECOND[position as usize]] |= 2;
     }
-    assert!(rt; belongs(asked, answer), "{answer:?}");
+    assert!(rt; belongs(asked, answer), "no answer to {asked:?}");
     assert!(rt; are_enough(asked, &bins));
     machine.tell(answer, &bins);
 }

@@ -107,7 +107,10 @@ fn step(rt: &impl Abort, reader: &mut Reader, row: &Row, ask: ReaderAsk, answer:
         bins[first] |= 1;
         bins[second] |= 2;
     }
-    assert!(rt; belongs(row.layout, asked, answer), "{answer:?}");
+    assert!(rt;
+        belongs(row.layout, asked, answer),
+        "no answer to {asked:?}"
+    );
     assert!(rt; are_enough(row.layout, asked, &bins));
     reader.tell(answer, &bins);
 }

@@ -113,7 +113,7 @@ fn step(
         bins[first] |= 1;
         bins[second] |= 2;
     }
-    assert!(rt; belongs(asked, &answer), "{answer:?}");
+    assert!(rt; belongs(asked, &answer), "no answer to {asked:?}");
     assert!(rt; are_enough(asked, &bins) && rebuilder.has_room());
     rebuilder.tell(answer, &bins);
 }

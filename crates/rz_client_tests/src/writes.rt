@@ -47,7 +47,7 @@ fn step(rt: &impl Abort, writer: &mut Writer, ask: WriterAsk, answer: WriterAnsw
     assert_eq!(rt; writer.end(), None, "before {ask:?}");
     let asked = writer.next();
     assert_eq!(rt; asked, ask);
-    assert!(rt; belongs(asked, answer), "{answer:?}");
+    assert!(rt; belongs(asked, answer), "no answer to {asked:?}");
     writer.tell(answer);
 }
 

@@ -4,4 +4,5 @@ pub mod Places
 pub mod Masks
 pub mod Volume
 pub mod Nodes
+pub mod Calls
 pub mod Events

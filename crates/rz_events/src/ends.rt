@@ -63,7 +63,7 @@ pub enum ReadMark {
 }
 
 /// How the read of a block ends.
-#[derive(Debug, Drop)]
+#[derive(Drop)]
 pub enum ReadEnd {
     Found { stamp: u64, text: Text },
     Hole,

@@ -10,7 +10,7 @@ use crate::{
 };
 
 /// The answer of an operation.
-#[derive(Debug, Drop)]
+#[derive(Drop)]
 pub enum Answer {
     Created { fid: u128 },
     Plain,
@@ -27,7 +27,7 @@ pub enum Answer {
 }
 
 /// One atomic step of the store.
-#[derive(Debug, Drop)]
+#[derive(Drop)]
 pub enum Event {
     Meta {
         by: Actor,
@@ -188,7 +188,7 @@ pub enum Event {
 
 /// Which stream of the log an event belongs to: the export's, a node's, or an actor's own. An event moves
 /// its stream's word by one.
-#[derive(Clone, Copy, Debug, PartialEq, Eq, Drop)]
+#[derive(Clone, Copy, Drop)]
 pub enum Word {
     Export,
     Node(u16),

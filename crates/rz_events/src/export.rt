@@ -3,7 +3,7 @@
 use crate::{Denial, Key, Listed, Published, Text, TreeCall, TreeReply};
 
 /// A call of the export.
-#[derive(Debug, Drop)]
+#[derive(Drop)]
 pub enum Call {
     Tree(TreeCall),
     /// A write of a block begins; the text is the block's new content.
@@ -38,7 +38,7 @@ pub enum Call {
 }
 
 /// The export's reply.
-#[derive(Debug, Drop)]
+#[derive(Drop)]
 pub enum Reply {
     Tree(TreeReply),
     Begun { stamp: u64, base: u64 },
@@ -55,7 +55,7 @@ pub enum Reply {
 }
 
 /// What was asked of the export when it denied it.
-#[derive(Clone, Copy, Debug, PartialEq, Eq, Drop)]
+#[derive(Clone, Copy, Drop)]
 pub enum Asked {
     Begin { key: Key },
     Publish { key: Key },

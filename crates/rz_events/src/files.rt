@@ -58,7 +58,7 @@ impl Places {
 }
 
 /// What a client learns of a file when it opens it.
-#[derive(Clone, Copy, Debug, PartialEq, Eq, Drop)]
+#[derive(Clone, Copy, Drop)]
 pub struct FileInfo {
     /// The number of the file.
     pub fid: u128,
@@ -80,7 +80,7 @@ pub struct Published {
 }
 
 /// A published block with its file.
-#[derive(Clone, Copy, Debug, PartialEq, Eq, Drop)]
+#[derive(Clone, Copy, Drop)]
 pub struct Listed {
     pub key: Key,
     pub info: FileInfo,
@@ -96,7 +96,7 @@ pub enum Kind {
 }
 
 /// The attributes of an object.
-#[derive(Clone, Copy, Debug, PartialEq, Eq, Drop)]
+#[derive(Clone, Copy, Drop)]
 pub struct Attr {
     pub fid: u128,
     pub kind: Kind,

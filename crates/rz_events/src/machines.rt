@@ -25,7 +25,7 @@ pub enum WriterAsk {
 }
 
 /// What the write of a block is told.
-#[derive(Clone, Copy, Debug, PartialEq, Eq, Drop)]
+#[derive(Clone, Copy, Drop)]
 pub enum WriterAnswer {
     Begun { stamp: u64, base: u64 },
     Denied(Denial),
@@ -46,7 +46,7 @@ pub enum ReaderAsk {
 }
 
 /// What the read of a block is told.
-#[derive(Clone, Copy, Debug, PartialEq, Eq, Drop)]
+#[derive(Clone, Copy, Drop)]
 pub enum ReaderAnswer {
     Looked(Option<Published>),
     Denied(Denial),
@@ -93,7 +93,7 @@ pub enum RebuildAsk {
 }
 
 /// What a rebuild is told.
-#[derive(Clone, Copy, Debug, PartialEq, Eq, Drop)]
+#[derive(Clone, Copy, Drop)]
 pub enum RebuildAnswer {
     Probed(Option<u64>),
     Enrolled { fence: u64 },
@@ -118,7 +118,7 @@ pub enum FileAsk {
 }
 
 /// What a write or read of a range of bytes is told.
-#[derive(Clone, Copy, Debug, PartialEq, Eq, Drop)]
+#[derive(Clone, Copy, Drop)]
 pub enum FileAnswer {
     Read(ReaderAnswer),
     Write(WriterAnswer),

@@ -36,7 +36,7 @@ pub enum FetchAnswer {
 }
 
 /// The answers to a refill.
-#[derive(Clone, Copy, Debug, PartialEq, Eq, Drop)]
+#[derive(Clone, Copy, Drop)]
 pub enum RefillAnswer {
     Kept,
     Passed { held: u64 },
@@ -119,7 +119,7 @@ pub enum ReplaceAnswer {
 }
 
 /// A call of a node.
-#[derive(Clone, Copy, Debug, PartialEq, Eq, Drop)]
+#[derive(Clone, Copy, Drop)]
 pub enum NodeAsk {
     Keep(Head),
     Fetch { key: Key, position: u8, stamp: u64 },
@@ -133,7 +133,7 @@ pub enum NodeAsk {
 }
 
 /// The answer of a node, of the kind of the call.
-#[derive(Clone, Copy, Debug, PartialEq, Eq, Drop)]
+#[derive(Clone, Copy, Drop)]
 pub enum NodeAnswer {
     Keep(KeepAnswer),
     Fetch(FetchAnswer),

@@ -5,7 +5,7 @@ use crate::{Text, TreeCall};
 use std::alloc::{AllocError, Global};
 
 /// The bytes that an operation writes.
-#[derive(Debug, Drop)]
+#[derive(Drop)]
 pub enum Datum {
     /// These bytes.
     Bytes(Text),
@@ -14,7 +14,7 @@ pub enum Datum {
 }
 
 /// What an actor does. A path is its text, which the export reads.
-#[derive(Debug, Drop)]
+#[derive(Drop)]
 pub enum Operation {
     /// A call on the tree; never `OpenFile`.
     Tree(TreeCall),

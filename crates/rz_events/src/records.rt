@@ -30,7 +30,7 @@ pub struct Held {
 }
 
 /// A change of what a node holds.
-#[derive(Clone, Copy, Debug, PartialEq, Eq, Drop)]
+#[derive(Clone, Copy, Drop)]
 pub enum Change {
     /// A writer's record is kept.
     Keep {

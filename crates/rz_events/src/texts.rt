@@ -59,7 +59,7 @@ impl Text {
 }
 
 /// The names in a directory, in byte order.
-#[derive(Debug, Drop)]
+#[derive(Drop)]
 pub struct Listing {
     names: Vec<Text>,
 }

@@ -1,12 +1,13 @@
 //! The calls of the tree of names, and the export's replies to them.
 
 ghost use Rattle.std.specs.Prelude.{◌≡◌, IfOk};
+ghost use Rattle.rz_events.specs.Calls.{path_of};
 
 use crate::{Attr, FileInfo, Kind, Listing, Text};
 use std::alloc::{AllocError, Global};
 
 /// A call on the tree. A path in a call is its text, which the export reads.
-#[derive(Debug, Drop)]
+#[derive(Drop)]
 pub enum TreeCall {
     Lookup { path: Text },
     Getattr { path: Text },
@@ -28,57 +29,61 @@ impl TreeCall {
     pub fn copy(&self, alloc: Global) -> Result<TreeCall, AllocError>
         ensures { IfOk result (λ c. c ≡ self.now) }
     {
+        let path = self.path().copy(alloc)?;
         Ok(match self {
-            TreeCall::Lookup { path } => TreeCall::Lookup {
-                path: path.copy(alloc)?,
-            },
-            TreeCall::Getattr { path } => TreeCall::Getattr {
-                path: path.copy(alloc)?,
-            },
-            TreeCall::Rmdir { path } => TreeCall::Rmdir {
-                path: path.copy(alloc)?,
-            },
-            TreeCall::Mkdir { path } => TreeCall::Mkdir {
-                path: path.copy(alloc)?,
-            },
-            TreeCall::Create { path } => TreeCall::Create {
-                path: path.copy(alloc)?,
-            },
-            TreeCall::Unlink { path } => TreeCall::Unlink {
-                path: path.copy(alloc)?,
-            },
-            TreeCall::Readlink { path } => TreeCall::Readlink {
-                path: path.copy(alloc)?,
-            },
-            TreeCall::Readdir { path } => TreeCall::Readdir {
-                path: path.copy(alloc)?,
-            },
-            TreeCall::OpenFile { path } => TreeCall::OpenFile {
-                path: path.copy(alloc)?,
-            },
-            TreeCall::Setattr { path, mode, mtime } => TreeCall::Setattr {
-                path: path.copy(alloc)?,
+            TreeCall::Lookup { .. } => TreeCall::Lookup { path },
+            TreeCall::Getattr { .. } => TreeCall::Getattr { path },
+            TreeCall::Rmdir { .. } => TreeCall::Rmdir { path },
+            TreeCall::Mkdir { .. } => TreeCall::Mkdir { path },
+            TreeCall::Create { .. } => TreeCall::Create { path },
+            TreeCall::Unlink { .. } => TreeCall::Unlink { path },
+            TreeCall::Readlink { .. } => TreeCall::Readlink { path },
+            TreeCall::Readdir { .. } => TreeCall::Readdir { path },
+            TreeCall::OpenFile { .. } => TreeCall::OpenFile { path },
+            TreeCall::Setattr { mode, mtime, .. } => TreeCall::Setattr {
+                path,
                 mode: *mode,
                 mtime: *mtime,
             },
-            TreeCall::Rename { path, to } => TreeCall::Rename {
-                path: path.copy(alloc)?,
+            TreeCall::Rename { to, .. } => TreeCall::Rename {
+                path,
                 to: to.copy(alloc)?,
             },
-            TreeCall::Link { path, to } => TreeCall::Link {
-                path: path.copy(alloc)?,
+            TreeCall::Link { to, .. } => TreeCall::Link {
+                path,
                 to: to.copy(alloc)?,
             },
-            TreeCall::Symlink { target, path } => TreeCall::Symlink {
+            TreeCall::Symlink { target, .. } => TreeCall::Symlink {
                 target: target.copy(alloc)?,
-                path: path.copy(alloc)?,
+                path,
             },
         })
+    }
+
+    /// The path of the object that the call is about.
+    fn path(&self) -> &Text
+        ensures { result.now ≡ path_of self.now }
+    {
+        match self {
+            TreeCall::Lookup { path } => path,
+            TreeCall::Getattr { path } => path,
+            TreeCall::Rmdir { path } => path,
+            TreeCall::Mkdir { path } => path,
+            TreeCall::Create { path } => path,
+            TreeCall::Unlink { path } => path,
+            TreeCall::Readlink { path } => path,
+            TreeCall::Readdir { path } => path,
+            TreeCall::OpenFile { path } => path,
+            TreeCall::Setattr { path, .. } => path,
+            TreeCall::Rename { path, .. } => path,
+            TreeCall::Link { path, .. } => path,
+            TreeCall::Symlink { path, .. } => path,
+        }
     }
 }
 
 /// A reply to a call on the tree.
-#[derive(Debug, Drop)]
+#[derive(Drop)]
 pub enum TreeReply {
     /// A directory or a symbolic link was made.
     Made { fid: u128 },
@@ -119,7 +124,7 @@ impl TreeReply {
 }
 
 /// Why a call on the tree was refused.
-#[derive(Clone, Copy, Debug, PartialEq, Eq, Drop)]
+#[derive(Clone, Copy, Drop)]
 pub enum TreeFault {
     NoEntry,
     NotDir,

@@ -180,10 +180,11 @@ pub fn push_ends(script: &mut Script) -> Result<(), AllocError>
     requires room { length script.old.lines + 4 < 2 ^ 32 - 1 }
     ensures { OnOk result (script.new ≡ with_lines script.old ends) }
 {
-    let rebuilder = Actor::Rebuilder(1);
-    let op = Operation::Rebuild { node: 3 };
     script.push(Line::Rounds { k: 2000 })?;
     script.push(Line::Lose { node: 3 })?;
-    script.push(Line::Op { by: rebuilder, op })?;
+    script.push(Line::Op {
+        by: Actor::Rebuilder(1),
+        op: Operation::Rebuild { node: 3 },
+    })?;
     script.push(Line::Rest)
 }

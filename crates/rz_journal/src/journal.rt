@@ -24,7 +24,7 @@ use std::alloc::Global;
 use std::marker::Model;
 
 /// What a journal answers.
-#[derive(Debug, Drop)]
+#[derive(Drop)]
 pub enum JournalReply {
     /// The export's reply.
     Reply(Reply),

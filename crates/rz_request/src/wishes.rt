@@ -18,7 +18,7 @@ pub enum Wish {
 }
 
 /// A script that is to be played, for a wish.
-#[derive(Debug, Drop)]
+#[derive(Drop)]
 pub struct Request {
     pub wish: Wish,
     pub script: Script,

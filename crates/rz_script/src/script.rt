@@ -14,7 +14,7 @@ use std::alloc::{AllocError, Global};
 use std::marker::Model;
 
 /// A script: its volume and its lines, which keep the limits of the volume.
-#[derive(Debug, Drop)]
+#[derive(Drop)]
 pub struct Script {
     volume: Volume,
     lines: Vec<Line>,
