@@ -55,6 +55,3 @@ pub fn row_start(p: i32, rows: usize, l: usize) -> usize
         size * (rows - 1 - l)
     }
 }
-
-#[cfg(test)]
-mod tests;

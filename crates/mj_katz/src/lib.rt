@@ -104,31 +104,3 @@ fn moved(
         0
     }
 }
-
-#[cfg(test)]
-mod tests {
-    use super::*;
-    use mj_forward::project;
-    use std::test::Fail;
-
-    #[test]
-    fn two_angles(rt: HostRuntime) -> Result<(), Fail> {
-        let block = phantom(rt.alloc(), &[0, 1], 3, 2)?;
-        assert_eq!(rt; block.words(), [0u64, 1, 1, 1, 1, 0].as_slice());
-        let mut straight = [9u64; 2];
-        project(&block, 0, &mut straight);
-        assert_eq!(rt; straight, [0, 0]);
-        let mut slanted = [9u64; 4];
-        project(&block, 1, &mut slanted);
-        assert_eq!(rt; slanted, [0, 0, 0, 0]);
-        two_blocks_equal(&block, &block, &[0, 1, 2]);
-        Ok(())
-    }
-
-    #[test]
-    fn negative_angle(rt: HostRuntime) -> Result<(), Fail> {
-        let block = phantom(rt.alloc(), &[-2], 2, 3)?;
-        assert_eq!(rt; block.words(), [1u64, 0, 0, 0, 0, 1].as_slice());
-        Ok(())
-    }
-}

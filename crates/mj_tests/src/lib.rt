@@ -8,6 +8,10 @@ mod batches;
 #[cfg(test)]
 mod inversions;
 #[cfg(test)]
+mod layouts;
+#[cfg(test)]
+mod phantoms;
+#[cfg(test)]
 mod projections;
 #[cfg(test)]
 mod verdicts;

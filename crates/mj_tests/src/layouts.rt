@@ -1,6 +1,6 @@
 //! The numbers of the twelve layouts, one by one.
 
-use super::*;
+use mj_angles::{Layout, bins, offset, row_start};
 use std::process::Abort;
 
 /// A layout with its numbers, and the bins of its positions.
@@ -195,41 +195,52 @@ fn layouts(rt: HostRuntime) {
 
 fn check_numbers(rt: &impl Abort, row: &Row) {
     let layout = row.layout;
-    assert_eq!(rt; layout.number(), row.number, "{layout:?}");
-    assert_eq!(rt; layout.bsize(), row.bsize, "{layout:?}");
-    assert!(rt;
-        Layout::of(row.number, row.bsize) == Some(layout),
-        "{layout:?}"
+    let found = [
+        layout.block_bytes(),
+        layout.inverse(),
+        layout.forward(),
+        layout.safe(),
+        layout.cols(),
+        48 + 8 * layout.max_bins(),
+    ];
+    let wanted = [
+        row.block_bytes,
+        row.inverse,
+        row.forward,
+        row.safe,
+        row.cols,
+        row.slot_bytes,
+    ];
+    assert_eq!(rt;
+        (layout.number(), layout.bsize(), found),
+        (row.number, row.bsize, wanted)
     );
-    assert_eq!(rt; layout.block_bytes(), row.block_bytes, "{layout:?}");
-    assert_eq!(rt; layout.inverse(), row.inverse, "{layout:?}");
-    assert_eq!(rt; layout.forward(), row.forward, "{layout:?}");
-    assert_eq!(rt; layout.safe(), row.safe, "{layout:?}");
-    assert_eq!(rt; layout.cols(), row.cols, "{layout:?}");
-    assert_eq!(rt; 48 + 8 * layout.max_bins(), row.slot_bytes, "{layout:?}");
+    assert_eq!(rt; Layout::of(row.number, row.bsize), Some(layout));
 }
 
 fn check_positions(rt: &impl Abort, row: &Row) {
     let layout = row.layout;
-    assert_eq!(rt; row.bins.len(), layout.safe(), "{layout:?}");
+    assert_eq!(rt; row.bins.len(), layout.safe());
     let mut angle = row.first_angle;
     for (position, bins) in row.bins.iter().enumerate() {
         let position = position as u8;
-        assert_eq!(rt; layout.angle(position), angle, "{layout:?} at {position}");
-        assert_eq!(rt; layout.bins_at(position), *bins, "{layout:?} at {position}");
+        let found = (position, layout.angle(position), layout.bins_at(position));
+        assert_eq!(rt; found, (position, angle, *bins));
         angle = angle.wrapping_add(1);
     }
 }
 
 #[test]
 fn lines(rt: HostRuntime) {
-    assert!(rt; Layout::of(3, 0).is_none());
-    assert!(rt; Layout::of(0, 4).is_none());
-    assert_eq!(rt; bins(-2, 2, 3), 5);
-    assert_eq!(rt; bins(16, 16, 2048), 2288);
-    assert_eq!(rt; offset(-2, 2), 2);
-    assert_eq!(rt; offset(2, 2), 0);
-    assert_eq!(rt; row_start(2, 4, 3), 6);
-    assert_eq!(rt; row_start(-2, 4, 0), 6);
-    assert_eq!(rt; row_start(-2, 4, 3), 0);
+    assert_eq!(rt; (Layout::of(3, 0), Layout::of(0, 4)), (None, None));
+    let found = [
+        bins(-2, 2, 3),
+        bins(16, 16, 2048),
+        offset(-2, 2),
+        offset(2, 2),
+        row_start(2, 4, 3),
+        row_start(-2, 4, 0),
+        row_start(-2, 4, 3),
+    ];
+    assert_eq!(rt; found, [5, 2288, 2, 0, 6, 6, 0]);
 }
