@@ -159,7 +159,7 @@ fn an_old_disk_is_refused_for_its_first_fault(rt: HostRuntime) -> Result<(), Fai
     for (at, byte, fault) in faults() {
         alter(&mut all, at, byte);
         let wanted = Some(MigrateFault::Old(fault));
-        assert_eq!(rt; refused(rt.alloc(), &all)?, wanted, "at {at}");
+        assert!(rt; refused(rt.alloc(), &all)? == wanted, "at {at}");
     }
     Ok(())
 }
@@ -175,7 +175,10 @@ fn of_two_faults_of_an_old_disk_the_first_is_told(rt: HostRuntime) -> Result<(),
             let mut two = one.clone()?;
             alter(&mut two, *at_too, *byte_too);
             let wanted = Some(MigrateFault::Old(*fault));
-            assert_eq!(rt; refused(rt.alloc(), &two)?, wanted, "at {at} and {at_too}");
+            assert!(rt;
+                refused(rt.alloc(), &two)? == wanted,
+                "at {at} and {at_too}"
+            );
         }
     }
     Ok(())
@@ -185,16 +188,13 @@ fn of_two_faults_of_an_old_disk_the_first_is_told(rt: HostRuntime) -> Result<(),
 fn a_key_in_two_old_cells_is_refused(rt: HostRuntime) -> Result<(), Fail> {
     let mut bytes = old_bytes(rt.alloc())?;
     alter(&mut bytes, OLD_SLOTS[1] + 8, 1);
-    assert_eq!(rt; refused(rt.alloc(), &bytes)?, None);
+    assert!(rt; refused(rt.alloc(), &bytes)?.is_none());
     alter(&mut bytes, OLD_SLOTS[1] + 24, 2);
     let twice = OpenFault::Twice {
         first: 0,
         second: 1,
     };
-    assert_eq!(rt;
-        refused(rt.alloc(), &bytes)?,
-        Some(MigrateFault::Old(twice))
-    );
+    assert!(rt; refused(rt.alloc(), &bytes)? == Some(MigrateFault::Old(twice)));
     Ok(())
 }
 
@@ -207,7 +207,10 @@ fn an_old_disk_of_another_size_is_refused(rt: HostRuntime) -> Result<(), Fail> {
             need: 12691,
         };
         let part = &bytes[..(797 * have as usize).min(bytes.len())];
-        assert_eq!(rt; refused(rt.alloc(), part)?, Some(MigrateFault::Old(short)));
+        assert!(rt;
+            refused(rt.alloc(), part)? == Some(MigrateFault::Old(short)),
+            "{have}"
+        );
     }
     Ok(())
 }
@@ -235,7 +238,7 @@ fn an_old_disk_of_any_other_length_is_refused(rt: HostRuntime) -> Result<(), Fai
             Ok(_) => None,
             Err((_, fault)) => Some(fault),
         };
-        assert_eq!(rt; fault, Some(MigrateFault::Old(wanted)), "{have}");
+        assert!(rt; fault == Some(MigrateFault::Old(wanted)), "{have}");
     }
     Ok(())
 }
@@ -292,7 +295,7 @@ fn a_stop_of_the_new_disk_leaves_it_whole_or_shut(rt: HostRuntime) -> Result<(),
             match failed(rt.alloc(), &mut old, new) {
                 None => assert_eq!(rt; passes, 6),
                 Some((new, fault)) => {
-                    assert_eq!(rt; fault, MigrateFault::New);
+                    assert!(rt; fault == MigrateFault::New);
                     assert_eq!(rt;
                         opened(rt.alloc(), new, pick)?,
                         opens_after(passes, pick),
@@ -318,7 +321,7 @@ fn a_stop_of_the_old_disk_leaves_it_as_it_is(rt: HostRuntime) -> Result<(), Fail
         match failed(rt.alloc(), &mut old, new) {
             None => assert_eq!(rt; passes, 8),
             Some((new, fault)) => {
-                assert_eq!(rt; fault, MigrateFault::Old(OpenFault::DiskFault));
+                assert!(rt; fault == MigrateFault::Old(OpenFault::DiskFault));
                 assert_eq!(rt; new.size() == 0, passes < 6);
                 if passes >= 6 {
                     assert!(rt; !opened(rt.alloc(), new, 1)?);

@@ -91,7 +91,7 @@ fn a_stop_of_a_new_disk_of_64_pairs(rt: HostRuntime) -> Result<(), Fail> {
             let Some((new, fault)) = stopped(rt.alloc(), &mut old, Some(passes)) else {
                 return Err("it did not stop")?;
             };
-            assert_eq!(rt; fault, MigrateFault::New);
+            assert!(rt; fault == MigrateFault::New);
             let is_open = opens(rt.alloc(), new, pick, &whole)?;
             assert_eq!(rt;
                 is_open,
@@ -116,7 +116,7 @@ fn a_stop_of_an_old_disk_of_64_cells(rt: HostRuntime) -> Result<(), Fail> {
         let Some((new, fault)) = stopped(rt.alloc(), &mut old, None) else {
             return Err("it did not stop")?;
         };
-        assert_eq!(rt; fault, MigrateFault::Old(OpenFault::DiskFault));
+        assert!(rt; fault == MigrateFault::Old(OpenFault::DiskFault));
         assert_eq!(rt; new.size() == 0, passes < 67, "passes {passes}");
         if passes == 67 {
             assert!(rt; !opens(rt.alloc(), new, 1, &bytes)?);
