@@ -14,7 +14,7 @@ use rz_disk::{Disk, Failed};
 use rz_record::{HEAD_BYTES, Head, encode_into};
 
 /// A device call failed.
-#[derive(Clone, Copy, Debug, PartialEq, Eq, Drop)]
+#[derive(Clone, Copy, Debug, Drop)]
 pub struct DiskFault;
 
 impl From<Failed> for DiskFault {

@@ -15,7 +15,7 @@ use rz_record::fields::{put_u16, put_u32, put_u64};
 use std::alloc::Global;
 
 /// Why a disk was not formatted.
-#[derive(Clone, Copy, Debug, PartialEq, Eq, Drop)]
+#[derive(Clone, Copy, Drop)]
 pub enum FormatFault {
     NoMemory,
     DiskFault,

@@ -8,7 +8,7 @@ use rz_events::Layout;
 pub const HEADER_BYTES: u64 = 64;
 
 /// The forms of a disk: one cell where there is now a pair, and pairs.
-#[derive(Clone, Copy, Debug, PartialEq, Eq, Drop)]
+#[derive(Clone, Copy, Drop)]
 pub enum Version {
     One,
     Two,
@@ -28,7 +28,7 @@ impl Version {
 }
 
 /// The layout of a node's records, the node, and its pairs of cells, 1 to 1,048,576.
-#[derive(Clone, Copy, Debug, PartialEq, Eq, Drop)]
+#[derive(Clone, Copy, Drop)]
 pub struct Geometry {
     pub layout: Layout,
     /// The byte of the block size, which is the layout's own.

@@ -25,7 +25,7 @@ use std::alloc::{AllocError, Global};
 use std::collections::HashMap;
 
 /// Why an old disk was not carried over.
-#[derive(Clone, Copy, Debug, PartialEq, Eq, Drop)]
+#[derive(Clone, Copy, PartialEq, Eq, Drop)]
 pub enum MigrateFault {
     NoMemory,
     /// The old disk was not opened, or a later read of it failed.

@@ -1,7 +1,12 @@
 //! Every value of each byte of a header, of a record's head and of a gate.
-use crate::damage::{ONE, ONE_SIZE, TWO, TWO_SIZE, bad, blank, damaged, opened, reopened};
+ghost use Rattle.rz_cells.specs.Shape.{IsGeometry};
+
+use crate::damage::{
+    ONE, ONE_SIZE, Opened, TWO, TWO_SIZE, bad, blank, damaged, opened_but, reopened,
+};
 use crate::making::{alter, disk_of, store_byte};
-use rz_cells::OpenFault;
+use rz_cells::{Geometry, OpenFault};
+use rz_disk::PlainDisk;
 use rz_events::HeaderField;
 use std::alloc::{AllocError, Global};
 use std::test::Fail;
@@ -24,15 +29,28 @@ fn each_byte_of_a_field_is_compared(rt: HostRuntime) -> Result<(), Fail> {
         let mut place = 1u64;
         for at in start..start.saturating_add(width) {
             let byte = good.get(at).copied().unwrap_or(0);
-            let mut bytes = good.clone()?;
-            alter(&mut bytes, at, byte ^ 0x81);
             let told = value ^ place.wrapping_mul(0x81);
-            let wanted = ([0; 4], Some(bad(field, told)));
-            assert_eq!(rt; opened(rt.alloc(), ONE, &bytes)?, wanted, "at {at}");
+            let opened = opened_but(rt.alloc(), ONE, &good, &[(at, byte ^ 0x81)])?;
+            assert_eq!(rt; opened, ([0; 4], Some(bad(field, told))), "at {at}");
             place = place.wrapping_mul(256);
         }
     }
     Ok(())
+}
+
+/// Opens a disk on which a byte was written.
+fn opened_with(
+    alloc: Global,
+    geometry: Geometry,
+    disk: PlainDisk,
+    at: u64,
+    byte: u8,
+) -> Result<(PlainDisk, Opened), Fail>
+    requires { IsGeometry geometry }
+{
+    let mut disk = disk;
+    store_byte(&mut disk, at, byte)?;
+    Ok(reopened(alloc, geometry, disk))
 }
 
 /// The fence may have any value, and the bytes behind the header gate are not looked at.
@@ -40,8 +58,7 @@ fn each_byte_of_a_field_is_compared(rt: HostRuntime) -> Result<(), Fail> {
 fn other_bytes_of_a_header_are_free(rt: HostRuntime) -> Result<(), Fail> {
     let mut disk = disk_of(rt.alloc(), &blank(rt.alloc(), ONE_SIZE, 1)?)?;
     for at in (16..24).chain(33..64) {
-        store_byte(&mut disk, at, 0x81)?;
-        let (back, opened) = reopened(rt.alloc(), ONE, disk);
+        let (back, opened) = opened_with(rt.alloc(), ONE, disk, at, 0x81)?;
         assert_eq!(rt; opened, ([0; 4], None), "at {at}");
         disk = back;
     }
@@ -52,8 +69,7 @@ fn other_bytes_of_a_header_are_free(rt: HostRuntime) -> Result<(), Fail> {
 fn the_low_bit_of_its_gate_opens_a_header(rt: HostRuntime) -> Result<(), Fail> {
     let mut disk = disk_of(rt.alloc(), &blank(rt.alloc(), ONE_SIZE, 1)?)?;
     for gate in 0..=255u8 {
-        store_byte(&mut disk, 32, gate)?;
-        let (back, opened) = reopened(rt.alloc(), ONE, disk);
+        let (back, opened) = opened_with(rt.alloc(), ONE, disk, 32, gate)?;
         let fault = if gate % 2 == 1 {
             None
         } else {
@@ -90,8 +106,7 @@ fn each_byte_of_a_head_has_its_values(rt: HostRuntime) -> Result<(), Fail> {
     store_byte(&mut disk, SECOND, 5)?;
     for at in 0..48 {
         for value in 0..=255u8 {
-            store_byte(&mut disk, SECOND + at, value)?;
-            let (back, (_, fault)) = reopened(rt.alloc(), ONE, disk);
+            let (back, (_, fault)) = opened_with(rt.alloc(), ONE, disk, SECOND + at, value)?;
             let is_fine = u32::from(value) < fine_values(at);
             let wanted = if is_fine { None } else { Some(damaged(1)) };
             assert_eq!(rt; fault, wanted, "byte {at} as {value}");
@@ -118,8 +133,7 @@ fn the_low_bit_of_a_gate_picks_a_slot(rt: HostRuntime) -> Result<(), Fail> {
     let mut disk = disk_of(rt.alloc(), &both_slots(rt.alloc())?)?;
     for cell in 0..4usize {
         for gate in 0..=255u8 {
-            store_byte(&mut disk, 64 + cell as u64, gate)?;
-            let (back, opened) = reopened(rt.alloc(), TWO, disk);
+            let (back, opened) = opened_with(rt.alloc(), TWO, disk, 64 + cell as u64, gate)?;
             let mut stamps = [1, 3, 5, 7];
             stamps[cell] += u64::from(gate % 2);
             assert_eq!(rt; opened, (stamps, None), "cell {cell}, gate {gate}");

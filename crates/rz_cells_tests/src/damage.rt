@@ -52,6 +52,22 @@ pub fn opened(alloc: Global, geometry: Geometry, bytes: &[u8]) -> Result<Opened,
     Ok(opened)
 }
 
+/// Opens a copy of bytes of which some are altered, one after the other.
+pub fn opened_but(
+    alloc: Global,
+    geometry: Geometry,
+    good: &Vec<u8>,
+    changes: &[(usize, u8)],
+) -> Result<Opened, Fail>
+    requires { IsGeometry geometry }
+{
+    let mut bytes = good.clone()?;
+    for (at, byte) in changes.iter() {
+        alter(&mut bytes, *at, *byte);
+    }
+    opened(alloc, geometry, &bytes)
+}
+
 /// Opens a disk, and gives it back.
 pub fn reopened<D: Disk>(alloc: Global, geometry: Geometry, disk: D) -> (D, Opened)
     requires { IsGeometry geometry }
@@ -114,11 +130,9 @@ fn a_blank_disk_is_opened_by_what_stands_on_it(rt: HostRuntime) -> Result<(), Fa
         (66, 1, 4290, 1, Some(twice(0, 1)), [0; 4]),
     ];
     for (at, byte, at_too, byte_too, fault, stamps) in table {
-        let mut bytes = good.clone()?;
-        alter(&mut bytes, at_too, byte_too);
-        alter(&mut bytes, at, byte);
-        let wanted = (stamps, fault);
-        assert_eq!(rt; opened(rt.alloc(), ONE, &bytes)?, wanted, "at {at}");
+        let changes = [(at_too, byte_too), (at, byte)];
+        let opened = opened_but(rt.alloc(), ONE, &good, &changes)?;
+        assert_eq!(rt; opened, (stamps, fault), "at {at}");
     }
     Ok(())
 }
@@ -184,8 +198,8 @@ fn a_disk_is_refused_for_its_first_damage(rt: HostRuntime) -> Result<(), Fail> {
     let mut all = good;
     for (at, byte, fault) in damages() {
         alter(&mut all, at, byte);
-        let wanted = ([0; 4], Some(fault));
-        assert_eq!(rt; opened(rt.alloc(), TWO, &all)?, wanted, "at {at}");
+        let opened = opened(rt.alloc(), TWO, &all)?;
+        assert_eq!(rt; opened, ([0; 4], Some(fault)), "at {at}");
     }
     Ok(())
 }
@@ -195,17 +209,10 @@ fn a_disk_is_refused_for_its_first_damage(rt: HostRuntime) -> Result<(), Fail> {
 fn of_two_damages_the_first_is_told(rt: HostRuntime) -> Result<(), Fail> {
     let good = two_pairs(rt.alloc())?;
     for (later, (at, byte, _)) in damages().iter().enumerate() {
-        let mut one = good.clone()?;
-        alter(&mut one, *at, *byte);
         for (at_too, byte_too, fault) in damages().iter().skip(later) {
-            let mut two = one.clone()?;
-            alter(&mut two, *at_too, *byte_too);
-            let wanted = ([0; 4], Some(*fault));
-            assert_eq!(rt;
-                opened(rt.alloc(), TWO, &two)?,
-                wanted,
-                "at {at} and {at_too}"
-            );
+            let changes = [(*at, *byte), (*at_too, *byte_too)];
+            let opened = opened_but(rt.alloc(), TWO, &good, &changes)?;
+            assert_eq!(rt; opened, ([0; 4], Some(*fault)), "at {at} and {at_too}");
         }
     }
     Ok(())

@@ -3,7 +3,7 @@
 //! A disk with a failing call loses what that call was to do. A disk under a fuse loses no write, but each
 //! later sync. In both a change counts once its gate is written, and a crash decides on a gate that is not
 //! synced.
-ghost use Rattle.std.specs.Prelude.{◌≡◌, IfOk, vec_len};
+ghost use Rattle.std.specs.Prelude.{◌≡◌, ◌<◌, IfOk, vec_len};
 
 use crate::damage::{ONE, stamps_of};
 use crate::making::{failing_at, left};
@@ -103,6 +103,16 @@ const HELD: Found = Some((7, [5, 0, 0, 0]));
 
 const ANEW: Found = Some((8, [0, 0, 0, 0]));
 
+/// What is found after a put that stops at a call that fails, and at one behind so many passes.
+fn after_put(alloc: Global, call: u64, pick: u64) -> Result<[Found; 2], Fail>
+    requires { call < 4 }
+{
+    let failing = stopped_put(alloc, failing_at(alloc, 5 + call)?, 0)?;
+    let by_fault = found(alloc, failing, pick)?;
+    let fused = stopped_put(alloc, Fused::new(PlainDisk::new(alloc)), call)?;
+    Ok([by_fault, found(alloc, fused, pick)?])
+}
+
 /// The formatting makes the calls 0 to 4 of the disk, and the put the next four.
 #[test]
 fn a_put_that_stops_is_done_or_not(rt: HostRuntime) -> Result<(), Fail> {
@@ -113,23 +123,23 @@ fn a_put_that_stops_is_done_or_not(rt: HostRuntime) -> Result<(), Fail> {
             EMPTY
         };
         for call in 0..4 {
-            let disk = stopped_put(rt.alloc(), failing_at(rt.alloc(), 5 + call)?, 0)?;
-            let wanted = if call == 3 { by_gate } else { EMPTY };
-            assert_eq!(rt;
-                found(rt.alloc(), disk, pick)?,
-                wanted,
-                "call {call}, pick {pick}"
-            );
-            let disk = stopped_put(rt.alloc(), Fused::new(PlainDisk::new(rt.alloc())), call)?;
-            let wanted = if call >= 2 { by_gate } else { EMPTY };
-            assert_eq!(rt;
-                found(rt.alloc(), disk, pick)?,
-                wanted,
-                "passes {call}, pick {pick}"
-            );
+            let by_fault = if call == 3 { by_gate } else { EMPTY };
+            let by_fuse = if call >= 2 { by_gate } else { EMPTY };
+            let found = after_put(rt.alloc(), call, pick)?;
+            assert_eq!(rt; found, [by_fault, by_fuse], "call {call}, pick {pick}");
         }
     }
     Ok(())
+}
+
+/// What is found after a clear that stops at a call that fails, and at one behind so many passes.
+fn after_clear(alloc: Global, call: u64, pick: u64) -> Result<[Found; 2], Fail>
+    requires { call < 4 }
+{
+    let failing = stopped_clear(alloc, failing_at(alloc, 9 + call)?, 0)?;
+    let by_fault = found(alloc, failing, pick)?;
+    let fused = stopped_clear(alloc, Fused::new(PlainDisk::new(alloc)), call)?;
+    Ok([by_fault, found(alloc, fused, pick)?])
 }
 
 /// The put before it makes the calls 5 to 8.
@@ -142,23 +152,19 @@ fn a_clear_that_stops_is_done_or_not(rt: HostRuntime) -> Result<(), Fail> {
             EMPTY
         };
         for call in 0..4 {
-            let disk = stopped_clear(rt.alloc(), failing_at(rt.alloc(), 9 + call)?, 0)?;
-            let wanted = if call == 3 { by_gate } else { HELD };
-            assert_eq!(rt;
-                found(rt.alloc(), disk, pick)?,
-                wanted,
-                "call {call}, pick {pick}"
-            );
-            let disk = stopped_clear(rt.alloc(), Fused::new(PlainDisk::new(rt.alloc())), call)?;
-            let wanted = if call >= 2 { by_gate } else { HELD };
-            assert_eq!(rt;
-                found(rt.alloc(), disk, pick)?,
-                wanted,
-                "passes {call}, pick {pick}"
-            );
+            let by_fault = if call == 3 { by_gate } else { HELD };
+            let by_fuse = if call >= 2 { by_gate } else { HELD };
+            let found = after_clear(rt.alloc(), call, pick)?;
+            assert_eq!(rt; found, [by_fault, by_fuse], "call {call}, pick {pick}");
         }
     }
     Ok(())
+}
+
+/// What is found after a formatting of a disk that stops.
+fn after_format<D: Disk>(alloc: Global, disk: D, passes: u64, pick: u64) -> Result<Found, Fail> {
+    let disk = stopped_format(alloc, disk, passes)?;
+    found(alloc, disk, pick)
 }
 
 /// A reset that fails leaves what was there, and one that is done leaves a shut header.
@@ -171,26 +177,20 @@ fn a_formatting_that_stops_is_done_or_shut(rt: HostRuntime) -> Result<(), Fail> 
             None
         };
         for call in 0..5 {
-            let disk = stopped_format(rt.alloc(), failing_at(rt.alloc(), 9 + call)?, 0)?;
+            let disk = failing_at(rt.alloc(), 9 + call)?;
             let wanted = match call {
                 0 => HELD,
                 4 => by_gate,
                 _ => None,
             };
-            assert_eq!(rt;
-                found(rt.alloc(), disk, pick)?,
-                wanted,
-                "call {call}, pick {pick}"
-            );
+            let found = after_format(rt.alloc(), disk, 0, pick)?;
+            assert_eq!(rt; found, wanted, "call {call}, pick {pick}");
         }
         for passes in 0..4 {
-            let disk = stopped_format(rt.alloc(), Fused::new(PlainDisk::new(rt.alloc())), passes)?;
+            let disk = Fused::new(PlainDisk::new(rt.alloc()));
             let wanted = if passes >= 2 { by_gate } else { None };
-            assert_eq!(rt;
-                found(rt.alloc(), disk, pick)?,
-                wanted,
-                "passes {passes}, pick {pick}"
-            );
+            let found = after_format(rt.alloc(), disk, passes, pick)?;
+            assert_eq!(rt; found, wanted, "passes {passes}, pick {pick}");
         }
     }
     Ok(())

@@ -80,6 +80,25 @@ fn opens(alloc: Global, disk: Fused<PlainDisk>, pick: u64, whole: &[u8]) -> Resu
     }
 }
 
+/// Whether a new disk opens after a migration that it stops and a crash.
+fn opens_after(
+    alloc: Global,
+    old: &mut Fused<PlainDisk>,
+    passes: u64,
+    pick: u64,
+    whole: &[u8],
+) -> Result<bool, Fail> {
+    let Some((new, fault)) = stopped(alloc, old, Some(passes)) else {
+        return Err("it did not stop")?;
+    };
+    let is_open = opens(alloc, new, pick, whole)?;
+    if fault == MigrateFault::New {
+        Ok(is_open)
+    } else {
+        Err("another fault")?
+    }
+}
+
 /// The calls of the new disk: a write of the header and one of the record, a sync, a write of the gate and
 /// a sync.
 #[test]
@@ -88,11 +107,7 @@ fn a_stop_of_a_new_disk_of_64_pairs(rt: HostRuntime) -> Result<(), Fail> {
     let mut old = Fused::new(disk_of(rt.alloc(), &old_bytes(rt.alloc())?)?);
     for pick in [0, 1, 301] {
         for passes in 0..5 {
-            let Some((new, fault)) = stopped(rt.alloc(), &mut old, Some(passes)) else {
-                return Err("it did not stop")?;
-            };
-            assert_eq!(rt; fault, MigrateFault::New);
-            let is_open = opens(rt.alloc(), new, pick, &whole)?;
+            let is_open = opens_after(rt.alloc(), &mut old, passes, pick, &whole)?;
             assert_eq!(rt;
                 is_open,
                 passes >= 3 && pick != 0,
@@ -105,6 +120,32 @@ fn a_stop_of_a_new_disk_of_64_pairs(rt: HostRuntime) -> Result<(), Fail> {
     Ok(())
 }
 
+/// Whether a disk has bytes. They must not open.
+fn has_bytes(alloc: Global, disk: Fused<PlainDisk>) -> Result<bool, Fail> {
+    if disk.size() == 0 {
+        return Ok(false);
+    }
+    if opens(alloc, disk, 1, &[])? {
+        Err("opened")?
+    } else {
+        Ok(true)
+    }
+}
+
+/// Whether a migration that the old disk stops leaves bytes on the new one.
+fn leaves_bytes(alloc: Global, old: &mut Fused<PlainDisk>, passes: u64) -> Result<bool, Fail> {
+    old.arm(Some(passes));
+    let Some((new, fault)) = stopped(alloc, old, None) else {
+        return Err("it did not stop")?;
+    };
+    let has_bytes = has_bytes(alloc, new)?;
+    if fault == MigrateFault::Old(OpenFault::DiskFault) {
+        Ok(has_bytes)
+    } else {
+        Err("another fault")?
+    }
+}
+
 /// The calls of the old disk: a sync, a read of the header and one of the gates, one for each cell, and one
 /// for the record's bins, after which the new disk is there.
 #[test]
@@ -112,15 +153,8 @@ fn a_stop_of_an_old_disk_of_64_cells(rt: HostRuntime) -> Result<(), Fail> {
     let bytes = old_bytes(rt.alloc())?;
     let mut old = Fused::new(disk_of(rt.alloc(), &bytes)?);
     for passes in 0..68 {
-        old.arm(Some(passes));
-        let Some((new, fault)) = stopped(rt.alloc(), &mut old, None) else {
-            return Err("it did not stop")?;
-        };
-        assert_eq!(rt; fault, MigrateFault::Old(OpenFault::DiskFault));
-        assert_eq!(rt; new.size() == 0, passes < 67, "passes {passes}");
-        if passes == 67 {
-            assert!(rt; !opens(rt.alloc(), new, 1, &bytes)?);
-        }
+        let has_bytes = leaves_bytes(rt.alloc(), &mut old, passes)?;
+        assert_eq!(rt; has_bytes, passes == 67, "passes {passes}");
     }
     old.arm(Some(68));
     assert!(rt; stopped(rt.alloc(), &mut old, None).is_none());

@@ -5,7 +5,7 @@ ghost use Rattle.rz_formatting.specs.Formatted.{fault_at};
 use rz_node::FormatFault;
 
 /// Why the nodes of a volume were not made.
-#[derive(Clone, Copy, Debug, PartialEq, Eq, Drop)]
+#[derive(Clone, Copy, Drop)]
 pub enum DriverFault {
     NoMemory,
     /// The disk with this index failed while it was formatted.

@@ -24,7 +24,7 @@ use std::collections::VecDeque;
 use std::marker::Model;
 
 /// A key that is held: the pair of cells that has its records, and their versions.
-#[derive(Clone, Copy, Debug, PartialEq, Eq, Drop)]
+#[derive(Clone, Copy, PartialEq, Eq, Drop)]
 pub struct Entry {
     pub key: Key,
     /// The number of the pair.
@@ -33,7 +33,7 @@ pub struct Entry {
 }
 
 /// The keys that are held, and the free pairs of cells.
-#[derive(Debug, Drop)]
+#[derive(Drop)]
 pub struct Index {
     /// The nodes of the entries, and those that no entry needs. None stands at 0.
     row: Vec<Node>,

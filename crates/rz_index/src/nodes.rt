@@ -15,8 +15,6 @@ use crate::index::Entry;
 use crate::packed::Packed;
 use rz_events::Key;
 use std::cmp::Ordering;
-use std::fmt;
-use std::fmt::{Debug, Formatter};
 
 /// An entry with the links to those before it and behind it, in 72 bytes. A link is a place in the row, and
 /// 0 leads nowhere: the node at that place is never used.
@@ -312,11 +310,5 @@ pub fn take(row: &mut [Node], link: u32, key: Key, room: usize) -> (u32, u32)
             let changed = height(row, right) != before;
             (settled(row, left, link, right, changed), node)
         }
-    }
-}
-
-impl Debug for Node {
-    fn fmt<W: fmt::Write>(&self, f: &mut Formatter<W>) -> fmt::Result {
-        f.write_str("Node")
     }
 }

@@ -13,7 +13,7 @@ use std::alloc::{AllocError, Global};
 use std::marker::Model;
 
 /// Memory for so many entries to come.
-#[derive(Debug, Drop)]
+#[derive(Drop)]
 pub struct Spare {
     /// Nodes that no entry needs, in a tree. None stands at 0.
     pub(crate) row: Vec<Node>,

@@ -5,7 +5,7 @@ ghost use Rattle.rz_opening.specs.Opened.{refusal_at};
 use rz_events::OpenFault;
 
 /// Why the disks of a volume were not opened.
-#[derive(Clone, Copy, Debug, PartialEq, Eq, Drop)]
+#[derive(Clone, Copy, Drop)]
 pub enum OpenRefusal {
     NoMemory,
     /// The disk with this index did not open, for the fault with this number.

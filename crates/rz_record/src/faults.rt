@@ -1,7 +1,7 @@
 //! Why bytes are refused.
 
 /// The fields of a head with a rule, in the order in which they are looked at.
-#[derive(Clone, Copy, Debug, PartialEq, Eq, Drop)]
+#[derive(Clone, Copy, PartialEq, Eq, Drop)]
 pub enum Field {
     Layout,
     Bsize,
@@ -12,7 +12,7 @@ pub enum Field {
 }
 
 /// Why bytes are not read as a record.
-#[derive(Clone, Copy, Debug, PartialEq, Eq, Drop)]
+#[derive(Clone, Copy, PartialEq, Eq, Drop)]
 pub enum RecordFault {
     /// There are fewer bytes than the head, or the record, has.
     Short { have: usize, need: usize },

@@ -10,19 +10,16 @@ use std::test::Fail;
 #[test]
 fn a_key_takes_a_cell_and_gives_it_back(rt: HostRuntime) -> Result<(), Fail> {
     let mut index = Index::with_room(rt.alloc(), 3)?;
-    assert_eq!(rt;
-        (index.find(key(7, 5)), index.first_of(7), index.free_cell()),
-        (None, None, Some(0))
-    );
+    assert!(rt; (index.find(key(7, 5)), index.first_of(7)) == (None, None));
+    assert_eq!(rt; index.free_cell(), Some(0));
     index.set(entry(7, 5, 0));
     assert_eq!(rt; index.free_cell(), Some(1));
-    assert_eq!(rt;
-        (index.first_of(7), index.first_of(5)),
-        (Some(entry(7, 5, 0)), None)
-    );
+    assert!(rt; index.first_of(7) == Some(entry(7, 5, 0)));
+    assert!(rt; index.first_of(5).is_none());
     index.remove(key(7, 4));
     index.remove(key(7, 5));
-    assert_eq!(rt; (index.find(key(7, 5)), index.free_cell()), (None, Some(1)));
+    assert!(rt; index.find(key(7, 5)).is_none());
+    assert_eq!(rt; index.free_cell(), Some(1));
     Ok(())
 }
 

@@ -75,7 +75,7 @@ fn reads_it_again(rt: HostRuntime) -> Result<(), Fail> {
     let mut out = spelled(rt.alloc())?;
     out.extend_from_slice(b"more")?;
     let (head, bins) = read(rt.alloc(), &out)?;
-    assert_eq!(rt; head, Ok(FIRST));
+    assert!(rt; head == Ok(FIRST));
     for (at, word) in [(1, 0), (2, 0x6f_6c6c_6568), (257, 0), (258, 7)] {
         assert_eq!(rt; bins.get(at).copied(), Some(word), "at {at}");
     }
@@ -84,7 +84,7 @@ fn reads_it_again(rt: HostRuntime) -> Result<(), Fail> {
         have: 2111,
         need: 2112,
     };
-    assert_eq!(rt; head, Err(short));
+    assert!(rt; head == Err(short));
     Ok(())
 }
 
@@ -110,23 +110,32 @@ fn refuses_in_order(rt: HostRuntime) -> Result<(), Fail> {
     let mut all = spelled(rt.alloc())?;
     for (at, byte, fault) in wrong_fields() {
         alter(&mut all, at, byte);
-        assert_eq!(rt; head_of(&all), Err(fault), "before later ones, at {at}");
+        assert!(rt; head_of(&all) == Err(fault), "before later ones, at {at}");
     }
     let short = RecordFault::Short { have: 47, need: 48 };
-    assert_eq!(rt; head_of(front(&all, 47)), Err(short));
+    assert!(rt; head_of(front(&all, 47)) == Err(short));
     Ok(())
+}
+
+/// Reads the head of a copy of bytes of which two are altered, one after the other.
+fn head_but(
+    good: &Vec<u8>,
+    changes: &[(usize, u8); 2],
+) -> Result<Result<Head, RecordFault>, AllocError> {
+    let mut bytes = good.clone()?;
+    for (at, byte) in changes.iter() {
+        alter(&mut bytes, *at, *byte);
+    }
+    Ok(head_of(&bytes))
 }
 
 #[test]
 fn of_two_wrong_fields_the_first_is_told(rt: HostRuntime) -> Result<(), Fail> {
     let good = spelled(rt.alloc())?;
     for (later, (at, byte, _)) in wrong_fields().iter().enumerate() {
-        let mut one = good.clone()?;
-        alter(&mut one, *at, *byte);
         for (at_too, byte_too, fault) in wrong_fields().iter().skip(later) {
-            let mut two = one.clone()?;
-            alter(&mut two, *at_too, *byte_too);
-            assert_eq!(rt; head_of(&two), Err(*fault), "at {at} and {at_too}");
+            let head = head_but(&good, &[(*at, *byte), (*at_too, *byte_too)])?;
+            assert!(rt; head == Err(*fault), "at {at} and {at_too}");
         }
     }
     Ok(())
@@ -166,7 +175,7 @@ fn each_value_of_a_byte_with_a_rule(rt: HostRuntime) -> Result<(), Fail> {
             } else {
                 Some(bad(field, told))
             };
-            assert_eq!(rt; head_of(&bytes).err(), wanted, "{value} at {at}");
+            assert!(rt; head_of(&bytes).err() == wanted, "{value} at {at}");
         }
     }
     Ok(())
@@ -211,9 +220,9 @@ fn each_layout_has_its_bounds(rt: HostRuntime) -> Result<(), Fail> {
         let long = head_bytes(number, bsize, 0, block.saturating_add(1));
         assert!(rt; head_of(&last).is_ok(), "{number} {bsize}");
         let position = bad(Field::Position, safe.into());
-        assert_eq!(rt; head_of(&past), Err(position), "{number} {bsize}");
+        assert!(rt; head_of(&past) == Err(position), "{number} {bsize}");
         let length = bad(Field::Length, u64::from(block) + 1);
-        assert_eq!(rt; head_of(&long), Err(length), "{number} {bsize}");
+        assert!(rt; head_of(&long) == Err(length), "{number} {bsize}");
     }
     Ok(())
 }
@@ -224,7 +233,7 @@ fn no_part_of_a_record_is_read(rt: HostRuntime) -> Result<(), Fail> {
     for have in 0..2112 {
         let need = if have < 48 { 48 } else { 2112 };
         let (head, _) = read(rt.alloc(), front(&good, have))?;
-        assert_eq!(rt; head, Err(RecordFault::Short { have, need }));
+        assert!(rt; head == Err(RecordFault::Short { have, need }), "{have}");
     }
     Ok(())
 }

@@ -24,8 +24,11 @@ fn one_gives_way(rt: HostRuntime) -> Result<(), Fail> {
         let versions = Versions::none()
             .with(0, version(zero))
             .with(1, version(one));
-        assert_eq!(rt; versions.for_keep(version(new)), keep);
-        assert_eq!(rt; versions.for_refill(version(new)), refill);
+        let room = (
+            versions.for_keep(version(new)),
+            versions.for_refill(version(new)),
+        );
+        assert!(rt; room == (keep, refill), "{new:?}");
     }
     Ok(())
 }
@@ -33,32 +36,27 @@ fn one_gives_way(rt: HostRuntime) -> Result<(), Fail> {
 #[test]
 fn sides_fill_and_empty(rt: HostRuntime) -> Result<(), Fail> {
     let none = Versions::none();
+    let low = version((4, 0));
+    let high = version((6, 4));
+    assert!(rt; (none.greatest(), none.lesser()) == (None, None));
+    assert!(rt; none.for_keep(low) == Room::Put { side: 0 });
+    let one = none.with(0, low);
+    assert!(rt; one.for_keep(high) == Room::Put { side: 1 });
+    assert!(rt; (one.greatest(), one.lesser()) == (Some(low), Some(low)));
+    let two = one.with(1, high);
+    assert!(rt; (two.greatest(), two.lesser()) == (Some(high), Some(low)));
     assert_eq!(rt;
-        (none.greatest(), none.lesser(), none.side_of(4)),
-        (None, None, None)
-    );
-    assert_eq!(rt; none.for_keep(version((4, 0))), Room::Put { side: 0 });
-    let one = none.with(0, version((4, 0)));
-    assert_eq!(rt; one.for_keep(version((6, 4))), Room::Put { side: 1 });
-    assert_eq!(rt;
-        (one.greatest(), one.lesser()),
-        (Some(version((4, 0))), Some(version((4, 0))))
-    );
-    let two = one.with(1, version((6, 4)));
-    assert_eq!(rt;
-        (two.greatest(), two.lesser()),
-        (Some(version((6, 4))), Some(version((4, 0))))
-    );
-    assert_eq!(rt;
-        (two.side_of(4), two.side_of(6), two.side_of(5)),
-        (Some(0), Some(1), None)
+        (
+            none.side_of(4),
+            two.side_of(4),
+            two.side_of(6),
+            two.side_of(5)
+        ),
+        (None, Some(0), Some(1), None)
     );
     let left = two.without(0);
-    assert_eq!(rt;
-        (left.greatest(), left.lesser()),
-        (Some(version((6, 4))), Some(version((6, 4))))
-    );
-    assert_eq!(rt; left.for_keep(version((8, 6))), Room::Put { side: 0 });
+    assert!(rt; (left.greatest(), left.lesser()) == (Some(high), Some(high)));
+    assert!(rt; left.for_keep(version((8, 6))) == Room::Put { side: 0 });
     Ok(())
 }
 

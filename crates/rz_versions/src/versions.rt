@@ -7,14 +7,14 @@ ghost use Rattle.rz_versions.specs.Sides.{at, other, put_at, in_order, version_s
 use std::marker::Model;
 
 /// A version of a block: the stamp of its write, and the stamp that was published when it began.
-#[derive(Clone, Copy, Debug, PartialEq, Eq, Drop)]
+#[derive(Clone, Copy, PartialEq, Eq, Drop)]
 pub struct Version {
     pub stamp: u64,
     pub base: u64,
 }
 
 /// Where a new version goes.
-#[derive(Clone, Copy, Debug, PartialEq, Eq, Drop)]
+#[derive(Clone, Copy, PartialEq, Eq, Drop)]
 pub enum Room {
     /// On this side, in the place of what is there.
     Put { side: u8 },
@@ -23,7 +23,7 @@ pub enum Room {
 }
 
 /// At most two versions of distinct stamps, each on a side, 0 or 1.
-#[derive(Clone, Copy, Debug, PartialEq, Eq, Drop)]
+#[derive(Clone, Copy, PartialEq, Eq, Drop)]
 pub struct Versions {
     sides: [Option<Version>; 2],
 }
