@@ -23,14 +23,14 @@ use std::ops::Bound;
 const PUBLISHED: u16 = 0;
 
 /// What is known of a block: the newest stamp begun, or 0, and what is published.
-#[derive(Clone, Copy, Debug, PartialEq, Eq, Drop)]
+#[derive(Clone, Copy, Drop)]
 pub struct Entry {
     pub latest: u64,
     pub published: Option<Published>,
 }
 
 /// The blocks of all files, in the order of their keys.
-#[derive(Debug, Drop)]
+#[derive(Drop)]
 pub struct Blocks {
     entries: BTreeMap<Key, Entry>,
     // The published blocks are marked, and there is room for the mark of each entry.

@@ -20,7 +20,7 @@ use std::alloc::{AllocError, Global};
 use std::marker::Model;
 
 /// The metadata server of a volume.
-#[derive(Debug, Drop)]
+#[derive(Drop)]
 pub struct Export {
     pub(crate) alloc: Global,
     pub(crate) volume: Volume,
@@ -51,8 +51,8 @@ impl Export {
     pub fn new(alloc: Global, volume: Volume, last: u64) -> Result<Export, AllocError>
         ensures { IfOk result (λ e. e ≡ new_export volume last) }
     {
-        let tree = Tree::new(alloc)?;
         let nodes = nodes_in(alloc, &volume)?;
+        let tree = Tree::new(alloc)?;
         let blocks = Blocks::new(alloc);
         let listed = Marks::new(alloc);
         Ok(Export {

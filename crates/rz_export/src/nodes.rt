@@ -14,7 +14,7 @@ use rz_events::{NodeSpec, Published};
 use std::alloc::{AllocError, Global};
 
 /// An enrolment of a node: the loss, and the fence that it got.
-#[derive(Clone, Copy, Debug, PartialEq, Eq, Drop)]
+#[derive(Clone, Copy, Drop)]
 pub struct Enrolment {
     pub loss: u64,
     pub fence: u64,
@@ -22,7 +22,7 @@ pub struct Enrolment {
 
 /// A node of the volume, with the number of its cells that published blocks use, and its last
 /// enrolment.
-#[derive(Clone, Copy, Debug, PartialEq, Eq, Drop)]
+#[derive(Clone, Copy, Drop)]
 pub struct KeptNode {
     pub spec: NodeSpec,
     pub used: u64,

@@ -15,7 +15,7 @@ use std::alloc::{AllocError, Global};
 use std::marker::Model;
 
 /// Marked blocks in numbered lists.
-#[derive(Debug, Drop)]
+#[derive(Drop)]
 pub struct Marks {
     alloc: Global,
     rows: Sequence<Row>,

@@ -11,7 +11,7 @@ use rz_events::Key;
 use rz_sequence::Mark;
 
 /// Which of 64 blocks are marked in a list, a bit for each.
-#[derive(Clone, Copy, Debug, PartialEq, Eq, Drop)]
+#[derive(Clone, Copy, Drop)]
 pub struct Row {
     /// The number of the list.
     pub list: u16,

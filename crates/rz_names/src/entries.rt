@@ -19,7 +19,7 @@ use std::alloc::{AllocError, Global};
 use std::marker::Model;
 
 /// A path with the number of its object.
-#[derive(Debug, Drop)]
+#[derive(Drop)]
 pub struct Entry {
     path: Path,
     fid: u128,

@@ -26,7 +26,7 @@ const ROOT: u128 = 0;
 ///
 /// The entries but the root's are kept in one sequence in the order of their paths, so that all paths
 /// below a directory stand together, and a search goes down the sequence's tree.
-#[derive(Debug, Drop)]
+#[derive(Drop)]
 pub struct NameMap {
     alloc: Global,
     entries: Sequence<Entry>,

@@ -15,7 +15,7 @@ use std::marker::Model;
 use std::ops::Bound;
 
 /// A file, a directory or a symbolic link, with the count of the paths that lead to it.
-#[derive(Debug, Drop)]
+#[derive(Drop)]
 pub struct Inode {
     pub kind: Kind,
     pub mode: u16,
@@ -59,7 +59,7 @@ impl Inode {
 ///
 /// The numbers of the files stand in a set of their own too, so that the next file is found without
 /// passing over the directories and links between.
-#[derive(Debug, Drop)]
+#[derive(Drop)]
 pub struct Inodes {
     entries: BTreeMap<u128, Inode>,
     files: BTreeSet<u128>,

@@ -18,7 +18,7 @@ pub const ROOT: u128 = 0;
 pub const DIRECTORY_MODE: u16 = 0o755;
 
 /// The names of a volume, and the objects to which they lead.
-#[derive(Debug, Drop)]
+#[derive(Drop)]
 pub struct Tree {
     pub(crate) alloc: Global,
     pub(crate) names: NameMap,
