@@ -280,8 +280,14 @@ pub fn after_open(layout: Layout, plan: Plan, answer: &TreeReply) -> Stage
 {
     match answer {
         TreeReply::File(info) => planned(layout, info, plan),
-        TreeReply::Refused(fault) => Stage::Ending(Answer::Refused(*fault)),
-        _ => Stage::Over,
+        TreeReply::Refused(fault) => {
+            drop(plan);
+            Stage::Ending(Answer::Refused(*fault))
+        }
+        _ => {
+            drop(plan);
+            Stage::Over
+        }
     }
 }
 
@@ -337,25 +343,25 @@ pub fn after_locked(
     call: TreeCall,
     plan: FilePlan,
     granted: bool,
-    answer: TreeReply,
+    answer: &TreeReply,
 ) -> Stage
     requires call { call ≡ TreeCall.OpenFile (path_in call) }
     requires layout { plan.layout ≡ layout }
     requires within { IsWithinFile plan.plan }
-    requires places { HasPlaces layout answer }
-    ensures work { work_of result ≡ after_lock layout (path_in call) plan.plan granted answer }
+    requires places { HasPlaces layout answer.now }
+    ensures work { work_of result ≡ after_lock layout (path_in call) plan.plan granted answer.now }
     ensures inside { IsStage layout result }
     ensures fresh { IsFresh result }
 {
     if granted {
         drop(call);
-        return after_open(layout, Plan::Range(plan), &answer);
+        return after_open(layout, Plan::Range(plan), answer);
     }
-    match &answer {
+    match answer {
         TreeReply::File(_) => Stage::Locking { call, plan },
         _ => {
             drop(call);
-            after_open(layout, Plan::Range(plan), &answer)
+            after_open(layout, Plan::Range(plan), answer)
         }
     }
 }

@@ -32,19 +32,32 @@ pub fn after_reply(layout: Layout, stage: Stage, reply: Reply) -> Stage
         }
         Stage::Opening { call, plan } => {
             drop(call);
-            after_open(layout, plan, &tree_reply(layout, reply))
+            let answer = tree_reply(layout, reply);
+            let next = after_open(layout, plan, &answer);
+            drop(answer);
+            next
         }
         Stage::Writing { mut writer, text } => {
             tell_writer(&mut writer, &reply);
+            drop(reply);
             Stage::Writing { writer, text }
         }
         Stage::Reading(mut reader) => {
             tell_reader(&mut reader, &reply);
+            drop(reply);
             Stage::Reading(reader)
         }
-        Stage::Ranging(file) => range_replied(layout, file, &reply),
+        Stage::Ranging(file) => {
+            let next = range_replied(layout, file, &reply);
+            drop(reply);
+            next
+        }
         Stage::Locking { .. } => unreachable!(),
-        Stage::Rebuilding { node, rebuilder } => rebuild_replied(layout, node, rebuilder, &reply),
+        Stage::Rebuilding { node, rebuilder } => {
+            let next = rebuild_replied(layout, node, rebuilder, &reply);
+            drop(reply);
+            next
+        }
         Stage::Dropping { .. } => unreachable!(),
         Stage::Ending(_) => unreachable!(),
         Stage::Over => unreachable!(),
@@ -60,7 +73,10 @@ pub fn after_lock(layout: Layout, stage: Stage, granted: bool, reply: Reply) -> 
 {
     match stage {
         Stage::Locking { call, plan } => {
-            after_locked(layout, call, plan, granted, tree_reply(layout, reply))
+            let answer = tree_reply(layout, reply);
+            let next = after_locked(layout, call, plan, granted, &answer);
+            drop(answer);
+            next
         }
         Stage::Calling(_) => unreachable!(),
         Stage::Dropping { .. } => unreachable!(),
