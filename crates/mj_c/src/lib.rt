@@ -29,7 +29,7 @@ mod many;
 use std::alloc::Global;
 
 /// How a call ends.
-#[derive(Clone, Copy, PartialEq, Eq, Debug)]
+#[derive(Clone, Copy)]
 enum Answer {
     Done = 0,
     BadLayout = 1,
