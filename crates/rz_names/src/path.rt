@@ -17,7 +17,7 @@ const MOST_NAMES: usize = 64;
 const MOST_BYTES: usize = 255;
 
 /// The way from the root to an object, name by name. The root's path has no names.
-#[derive(Drop)]
+#[derive(Debug, Drop)]
 pub struct Path {
     names: Vec<Text>,
 }
