@@ -44,7 +44,7 @@ pub enum ScriptError {
 }
 
 /// Why a line was not read.
-#[derive(Clone, Copy, Debug, PartialEq, Eq, Drop)]
+#[derive(Clone, Copy, Drop)]
 pub enum LineError {
     NoMemory,
     Cause(ScriptCause),

@@ -7,7 +7,7 @@ use crate::{Form, ScriptCause};
 use rz_events::{Actor, Text, TreeCall};
 
 /// The calls on the tree with one path.
-#[derive(Clone, Copy, Debug, PartialEq, Eq, Drop)]
+#[derive(Clone, Copy, Drop)]
 pub enum PathVerb {
     Lookup,
     Getattr,
@@ -20,7 +20,7 @@ pub enum PathVerb {
 }
 
 /// The calls on the tree with two words.
-#[derive(Clone, Copy, Debug, PartialEq, Eq, Drop)]
+#[derive(Clone, Copy, Drop)]
 pub enum PairVerb {
     Rename,
     Link,
@@ -28,7 +28,7 @@ pub enum PairVerb {
 }
 
 /// What an operation does.
-#[derive(Clone, Copy, Debug, PartialEq, Eq, Drop)]
+#[derive(Clone, Copy, Drop)]
 pub enum Verb {
     OnPath(PathVerb),
     OnPair(PairVerb),
@@ -43,7 +43,7 @@ pub enum Verb {
 }
 
 /// What a line is.
-#[derive(Clone, Copy, Debug, PartialEq, Eq, Drop)]
+#[derive(Clone, Copy, Drop)]
 pub enum Keyword {
     Volume,
     Op,

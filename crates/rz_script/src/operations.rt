@@ -20,8 +20,9 @@ use std::alloc::Global;
 fn read_on_path(alloc: Global, verb: PathVerb, words: &mut Words) -> Result<Operation, LineError>
     ensures { Gives result (on_path verb words.old) }
 {
-    let path = Text::from_bytes(alloc, words.next()?.as_bytes())?;
+    let path = words.next()?;
     words.end()?;
+    let path = Text::from_bytes(alloc, path.as_bytes())?;
     Ok(Operation::Tree(path_call(verb, path)))
 }
 
@@ -30,9 +31,11 @@ fn read_on_path(alloc: Global, verb: PathVerb, words: &mut Words) -> Result<Oper
 fn read_on_pair(alloc: Global, verb: PairVerb, words: &mut Words) -> Result<Operation, LineError>
     ensures { Gives result (on_pair verb words.old) }
 {
-    let first = Text::from_bytes(alloc, words.next()?.as_bytes())?;
-    let second = Text::from_bytes(alloc, words.next()?.as_bytes())?;
+    let first = words.next()?;
+    let second = words.next()?;
     words.end()?;
+    let first = Text::from_bytes(alloc, first.as_bytes())?;
+    let second = Text::from_bytes(alloc, second.as_bytes())?;
     Ok(Operation::Tree(pair_call(verb, first, second)))
 }
 
@@ -40,10 +43,11 @@ fn read_on_pair(alloc: Global, verb: PairVerb, words: &mut Words) -> Result<Oper
 fn read_setattr(alloc: Global, words: &mut Words) -> Result<Operation, LineError>
     ensures { Gives result (setattr words.old) }
 {
-    let path = Text::from_bytes(alloc, words.next()?.as_bytes())?;
+    let path = words.next()?;
     let mode = read_number_in(words.next()?, 0, 4095)? as u16;
     let mtime = read_number(words.next()?)?;
     words.end()?;
+    let path = Text::from_bytes(alloc, path.as_bytes())?;
     Ok(Operation::Tree(TreeCall::Setattr { path, mode, mtime }))
 }
 
@@ -51,11 +55,12 @@ fn read_setattr(alloc: Global, words: &mut Words) -> Result<Operation, LineError
 fn read_put(alloc: Global, volume: &Volume, words: &mut Words) -> Result<Operation, LineError>
     ensures { Gives result (put volume.now words.old) }
 {
-    let path = Text::from_bytes(alloc, words.next()?.as_bytes())?;
+    let path = words.next()?;
     let block = read_number(words.next()?)?;
     let limit = volume.layout.block_bytes() as u64;
     let datum = read_datum(alloc, limit, words.next()?)?;
     words.end()?;
+    let path = Text::from_bytes(alloc, path.as_bytes())?;
     Ok(Operation::Put { path, block, datum })
 }
 
@@ -63,9 +68,10 @@ fn read_put(alloc: Global, volume: &Volume, words: &mut Words) -> Result<Operati
 fn read_get(alloc: Global, words: &mut Words) -> Result<Operation, LineError>
     ensures { Gives result (get words.old) }
 {
-    let path = Text::from_bytes(alloc, words.next()?.as_bytes())?;
+    let path = words.next()?;
     let block = read_number(words.next()?)?;
     words.end()?;
+    let path = Text::from_bytes(alloc, path.as_bytes())?;
     Ok(Operation::Get { path, block })
 }
 
@@ -73,10 +79,11 @@ fn read_get(alloc: Global, words: &mut Words) -> Result<Operation, LineError>
 fn read_write(alloc: Global, words: &mut Words) -> Result<Operation, LineError>
     ensures { Gives result (write words.old) }
 {
-    let path = Text::from_bytes(alloc, words.next()?.as_bytes())?;
+    let path = words.next()?;
     let offset = read_number(words.next()?)?;
     let datum = read_datum_from(alloc, offset, words.next()?)?;
     words.end()?;
+    let path = Text::from_bytes(alloc, path.as_bytes())?;
     Ok(Operation::Write {
         path,
         offset,
@@ -88,10 +95,11 @@ fn read_write(alloc: Global, words: &mut Words) -> Result<Operation, LineError>
 fn read_read(alloc: Global, words: &mut Words) -> Result<Operation, LineError>
     ensures { Gives result (read words.old) }
 {
-    let path = Text::from_bytes(alloc, words.next()?.as_bytes())?;
+    let path = words.next()?;
     let offset = read_number(words.next()?)?;
     let length = read_length_from(offset, words.next()?)?;
     words.end()?;
+    let path = Text::from_bytes(alloc, path.as_bytes())?;
     Ok(Operation::Read {
         path,
         offset,
@@ -103,10 +111,11 @@ fn read_read(alloc: Global, words: &mut Words) -> Result<Operation, LineError>
 fn read_update(alloc: Global, words: &mut Words) -> Result<Operation, LineError>
     ensures { Gives result (update words.old) }
 {
-    let path = Text::from_bytes(alloc, words.next()?.as_bytes())?;
+    let path = words.next()?;
     let offset = read_number(words.next()?)?;
     let datum = read_datum_from(alloc, offset, words.next()?)?;
     words.end()?;
+    let path = Text::from_bytes(alloc, path.as_bytes())?;
     Ok(Operation::Update {
         path,
         offset,
@@ -118,10 +127,11 @@ fn read_update(alloc: Global, words: &mut Words) -> Result<Operation, LineError>
 fn read_view(alloc: Global, words: &mut Words) -> Result<Operation, LineError>
     ensures { Gives result (view words.old) }
 {
-    let path = Text::from_bytes(alloc, words.next()?.as_bytes())?;
+    let path = words.next()?;
     let offset = read_number(words.next()?)?;
     let length = read_length_from(offset, words.next()?)?;
     words.end()?;
+    let path = Text::from_bytes(alloc, path.as_bytes())?;
     Ok(Operation::View {
         path,
         offset,

@@ -14,7 +14,7 @@ use rz_config::VolumeError;
 use std::alloc::Global;
 
 /// What a line is to the head of a script.
-#[derive(Clone, Copy, Debug, PartialEq, Eq, Drop)]
+#[derive(Clone, Copy, Drop)]
 pub enum Head {
     /// It has no word, or is a comment.
     Passed,
