@@ -17,7 +17,7 @@ pub struct CountingDisk {
 }
 
 /// What was written on a disk. The counts stay at the last u64.
-#[derive(Clone, Copy, Debug, Drop)]
+#[derive(Clone, Copy, Drop)]
 pub struct Written {
     pub bytes: u64,
     /// How often another half was picked.

@@ -51,7 +51,7 @@ pub struct FilledJournal {
 }
 
 /// How many writes were accepted, and how many nanoseconds the longest took.
-#[derive(Clone, Copy, Debug, Drop)]
+#[derive(Clone, Copy, Drop)]
 pub struct Writes {
     pub accepted: u32,
     pub longest: u128,
@@ -80,6 +80,19 @@ fn path_of(alloc: Global, file: u32) -> Result<Text, AllocError> {
     Text::from_bytes(alloc, path.as_bytes())
 }
 
+/// The stamp of a write that was begun.
+fn stamp_of(reply: &Option<Reply>) -> Option<u64> {
+    match reply {
+        Some(Reply::Begun { stamp, .. }) => Some(*stamp),
+        _ => None,
+    }
+}
+
+/// Whether a call was accepted.
+fn is_accepted(reply: &Option<Reply>) -> bool {
+    matches!(reply, Some(Reply::Accepted))
+}
+
 /// The number of the file that was made, or 0.
 fn made(reply: &Option<Reply>) -> u128 {
     match reply {
@@ -102,9 +115,9 @@ impl Files {
 impl FilledJournal {
     /// A journal on a new disk, with no file.
     pub fn format(alloc: Global, plan: Plan) -> Result<FilledJournal, AllocError> {
-        let volume = volume(alloc)?;
         let fids = Vec::with_capacity(alloc, plan.files as usize)?;
         let files = Files { plan, fids };
+        let volume = volume(alloc)?;
         match Journal::format(alloc, volume, CountingDisk::new(alloc)) {
             Ok(journal) => Ok(FilledJournal {
                 alloc,
@@ -168,8 +181,7 @@ impl FilledJournal {
         ensures { self.new.files ≡ self.old.files }
     {
         let key = self.files.key_of(number);
-        let text = Text::from_vec(Vec::new(self.alloc));
-        let Some(Reply::Begun { stamp, .. }) = self.ask(&Call::Begin { key, text }) else {
+        let Some(stamp) = self.begin(key) else {
             return false;
         };
         let publish = Call::Publish {
@@ -178,7 +190,36 @@ impl FilledJournal {
             mask: MASKS[(number % 4) as usize],
             length: BLOCK,
         };
-        matches!(self.ask(&publish), Some(Reply::Accepted))
+        let reply = self.ask(&publish);
+        let is_accepted = is_accepted(&reply);
+        drop(reply);
+        drop(publish);
+        is_accepted
+    }
+
+    /// Begins a write of a block, and answers its stamp.
+    fn begin(&mut self, key: Key) -> Option<u64>
+        ensures { self.new.files ≡ self.old.files }
+    {
+        let text = Text::from_vec(Vec::new(self.alloc));
+        let begin = Call::Begin { key, text };
+        let reply = self.ask(&begin);
+        let stamp = stamp_of(&reply);
+        drop(reply);
+        drop(begin);
+        stamp
+    }
+
+    /// Makes a call on names, and answers the number of the file that it made, or 0.
+    fn name(&mut self, call: TreeCall) -> u128
+        ensures { self.new.files ≡ self.old.files }
+    {
+        let call = Call::Tree(call);
+        let reply = self.ask(&call);
+        let fid = made(&reply);
+        drop(reply);
+        drop(call);
+        fid
     }
 
     /// Makes a file, and its directory before the first one there.
@@ -187,11 +228,11 @@ impl FilledJournal {
     {
         if file % NAMES == 0 {
             let path = directory(self.alloc, file)?;
-            let _ = self.ask(&Call::Tree(TreeCall::Mkdir { path }));
+            self.name(TreeCall::Mkdir { path });
         }
         let path = path_of(self.alloc, file)?;
-        let reply = self.ask(&Call::Tree(TreeCall::Create { path }));
-        self.files.fids.push(made(&reply))?;
+        let fid = self.name(TreeCall::Create { path });
+        self.files.fids.push(fid)?;
         Ok(())
     }
 

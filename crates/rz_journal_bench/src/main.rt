@@ -13,16 +13,24 @@ mod filled;
 mod runs;
 mod words;
 
+use crate::words::Plan;
 use std::io::ErrorKind;
 use std::process::ExitCode;
 use std::{env, io};
 
 const USAGE: &str = "usage: rz_journal_bench FILES BLOCKS WRITES [times]";
 
+/// What the words of the command line want to be run, where they are understood.
+fn plan(rt: &HostRuntime) -> io::Result<Option<Plan>> {
+    let words: Vec<String> = env::args(rt)?.collect(rt.alloc())?;
+    let plan = words::plan_of(words.get(1..).unwrap_or(&[]));
+    drop(words);
+    Ok(plan)
+}
+
 /// Reads the words of the command line, and runs what they want.
 fn run(rt: &HostRuntime) -> io::Result<ExitCode> {
-    let words: Vec<String> = env::args(rt)?.collect(rt.alloc())?;
-    let Some(plan) = words::plan_of(words.get(1..).unwrap_or(&[])) else {
+    let Some(plan) = plan(rt)? else {
         eprintln!(rt; "{USAGE}")?;
         return Ok(ExitCode::from(2));
     };

@@ -1,7 +1,7 @@
 //! What is run, and the lines that tell of it.
 
-use crate::counting::{CountingDisk, Written};
-use crate::filled::{Files, FilledJournal};
+use crate::counting::Written;
+use crate::filled::FilledJournal;
 use crate::words::Plan;
 use std::alloc::Global;
 use std::io;
@@ -56,38 +56,57 @@ pub fn run<R: Print + Clock + Drop>(rt: &R, alloc: Global, plan: Plan) -> io::Re
     let files = plan.files;
     let blocks = plan.blocks;
     println!(rt; "journal of {files} files, {blocks} blocks")?;
-    let journal = FilledJournal::format(alloc, plan)?;
-    let (disk, files) = fill(&teller, journal)?;
-    let start = teller.now()?;
-    match FilledJournal::reopen(alloc, disk, files)? {
-        Some(journal) => {
-            teller.tell("reopen", 1, "opened", start)?;
-            write(&teller, journal)
+    let mut journal = FilledJournal::format(alloc, plan)?;
+    match fill(&teller, &mut journal) {
+        Ok(()) => reopen(&teller, alloc, journal),
+        Err(error) => {
+            drop(journal);
+            Err(error)
         }
-        None => teller.tell("reopen", 0, "opened", start),
     }
 }
 
 fn fill<R: Print + Clock + Drop>(
     teller: &Teller<R>,
-    mut journal: FilledJournal,
-) -> io::Result<(CountingDisk, Files)> {
+    journal: &mut FilledJournal,
+) -> io::Result<()> {
     let start = teller.now()?;
     let accepted = journal.create()?;
     teller.tell("create", accepted, "accepted", start)?;
     let start = teller.now()?;
     let accepted = journal.fill();
-    teller.tell("fill", accepted, "accepted", start)?;
+    teller.tell("fill", accepted, "accepted", start)
+}
+
+/// Closes a journal that was filled, opens it again, and writes on it.
+fn reopen<R: Print + Clock + Drop>(
+    teller: &Teller<R>,
+    alloc: Global,
+    journal: FilledJournal,
+) -> io::Result<()> {
     let calls = journal.replies();
     let (mut disk, files) = journal.close();
     teller.tell_written("fill", disk.take_written(), calls)?;
-    Ok((disk, files))
+    let start = teller.now()?;
+    match FilledJournal::reopen(alloc, disk, files)? {
+        Some(mut journal) => {
+            let wrote = write(teller, &mut journal, start);
+            let calls = journal.replies();
+            let (mut disk, _) = journal.close();
+            wrote?;
+            teller.tell_written("write", disk.take_written(), calls)
+        }
+        None => teller.tell("reopen", 0, "opened", start),
+    }
 }
 
+/// Tells of a journal that was opened since `start`, and writes on it.
 fn write<R: Print + Clock + Drop>(
     teller: &Teller<R>,
-    mut journal: FilledJournal,
+    journal: &mut FilledJournal,
+    start: Instant,
 ) -> io::Result<()> {
+    teller.tell("reopen", 1, "opened", start)?;
     let start = teller.now()?;
     let writes = journal.renew(teller.rt)?;
     teller.tell("write", writes.accepted, "accepted", start)?;
@@ -95,7 +114,5 @@ fn write<R: Print + Clock + Drop>(
         print!(teller.rt; "longest-write 1 of them")?;
         teller.tell_time(writes.longest)?;
     }
-    let calls = journal.replies();
-    let (mut disk, _) = journal.close();
-    teller.tell_written("write", disk.take_written(), calls)
+    Ok(())
 }

@@ -3,7 +3,7 @@
 ghost use Rattle.std.specs.Prelude.{◌≤◌, IfSome};
 
 /// How large the export of a journal is, how many writes are made on it, and whether times are told.
-#[derive(Clone, Copy, Debug, Drop)]
+#[derive(Clone, Copy, Drop)]
 pub struct Plan {
     pub files: u32,
     /// Of all files together.
