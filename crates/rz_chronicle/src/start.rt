@@ -143,6 +143,7 @@ impl Opened {
         let kind = Kind::of(volume.copy(alloc)?, honest);
         read_back();
         let (start, hand) = begin(&kind);
+        drop(kind);
         let count = key_count();
         let (seen, pens) = Seen::open_row::<Empty, Empty>(&Empty, start, count);
         let pens = all_pens(alloc, pens, count)?;
