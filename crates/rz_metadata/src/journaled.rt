@@ -40,9 +40,12 @@ impl<D: Disk> Journaled<D> {
     {
         let call = call_asked(alloc, ask)?;
         if self.refusal.is_some() || !self.journal.export().takes(&call) {
+            drop(call);
             return Err(NoReply);
         }
-        self.answer(&call)
+        let reply = self.answer(&call);
+        drop(call);
+        reply
     }
 
     // The reply to a call that the export takes.
@@ -57,6 +60,7 @@ impl<D: Disk> Journaled<D> {
         match self.journal.answer(call) {
             JournalReply::Reply(reply) => {
                 if wants_memory(&reply) {
+                    drop(reply);
                     return Err(NoReply);
                 }
                 Ok(reply)

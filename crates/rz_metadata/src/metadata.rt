@@ -144,7 +144,10 @@ impl<D: Disk> Metadata<D> {
         ensures { result ≡ disk_of self }
     {
         match self {
-            Metadata::InMemory(_) => None,
+            Metadata::InMemory(export) => {
+                drop(export);
+                None
+            }
             Metadata::Journaled(journaled) => Some(journaled.journal.into_disk()),
         }
     }
