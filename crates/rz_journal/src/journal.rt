@@ -24,7 +24,7 @@ use std::alloc::Global;
 use std::marker::Model;
 
 /// What a journal answers.
-#[derive(Debug, Drop)]
+#[derive(Drop)]
 pub enum JournalReply {
     /// The export's reply.
     Reply(Reply),
@@ -87,8 +87,10 @@ impl<D: Disk> Journal<D> {
                 entries,
                 closed: false,
             }),
-            Err((disk, DiskError::NoMemory)) => Err((disk, FormatFault::NoMemory)),
-            Err((disk, DiskError::Failed)) => Err((disk, FormatFault::DiskFault)),
+            Err((disk, error)) => {
+                drop(export);
+                Err((disk, format_fault(error)))
+            }
         }
     }
 
@@ -159,6 +161,16 @@ impl<D: Disk> Journal<D> {
         ensures { result ≡ self.disk }
     {
         self.entries.into_disk()
+    }
+}
+
+// Why a disk was not made anew, as the fault of a format.
+fn format_fault(error: DiskError) -> FormatFault
+    ensures { result ≡ FormatFault.DiskFault → error ≡ DiskError.Failed }
+{
+    match error {
+        DiskError::NoMemory => FormatFault::NoMemory,
+        DiskError::Failed => FormatFault::DiskFault,
     }
 }
 

@@ -48,7 +48,10 @@ pub fn keep<D: Disk>(
     }
     match entries.append(row) {
         Ok(()) => Ok(reply),
-        Err(Failed) => Err(Halt::Failed),
+        Err(Failed) => {
+            drop(reply);
+            Err(Halt::Failed)
+        }
     }
 }
 

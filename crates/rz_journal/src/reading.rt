@@ -9,7 +9,7 @@ use rz_journal_text::{Entry, EntryFault, read};
 use std::alloc::{AllocError, Global};
 
 /// What stands at an address of a half.
-#[derive(Debug, Drop)]
+#[derive(Drop)]
 pub enum Step {
     /// The entries before are all.
     End,

@@ -2,7 +2,7 @@
 
 ghost use Rattle.std.specs.Prelude.{◌≡◌, ◌↔◌, ◌<◌, ◌≤◌, length, replicate, Some, true, IsTrue, IsSome, IfOk, IfErr};
 ghost use Rattle.rz_events.specs.declared.export.Call.{Call};
-ghost use Rattle.rz_export_model.specs.Export.{is_proper, export_reply, export_after};
+ghost use Rattle.rz_export_model.specs.Export.{new_export, is_proper, export_reply, export_after};
 ghost use Rattle.rz_export.specs.Building.{IsCounters};
 ghost use Rattle.rz_journal_text.specs.declared.entry.Entry.{Entry};
 ghost use Rattle.rz_journal.specs.Said.{entry_of, call_said, accepts};
@@ -34,7 +34,7 @@ pub enum JournalFault {
 }
 
 /// How far the entries went.
-#[derive(Clone, Copy, Debug, PartialEq, Eq, Drop)]
+#[derive(Clone, Copy, Drop)]
 pub enum Stage {
     Empty,
     /// The counters alone stand so far.
@@ -53,27 +53,65 @@ pub struct Rebuilt {
 }
 
 impl Rebuilt {
-    /// Adds an entry, and tells whether it may stand behind those before it.
-    pub fn add(&mut self, alloc: Global, entry: Entry) -> Result<bool, AllocError>
+    // Adds the entries of a half to a new export, and gives how many bytes they take; or the number of the
+    // first that is damaged.
+    fn add_all(&mut self, alloc: Global, half: &[u8]) -> Result<usize, JournalFault>
+        requires some { 1 ≤ length half.now }
+        requires new { self.old.export ≡ new_export self.old.export.volume 0 }
+        requires empty { self.old.stage ≡ Stage.Empty }
+        ensures rebuilt { IfOk result (λ used. IsRebuilt self.old.export.volume half.now used self.new.export) }
+        ensures used { IfOk result (λ used. used < length half.now) }
+        ensures stopped { IfErr result (IsStopped self.old.export.volume half.now) }
+    {
+        let mut at = 0;
+        let mut count = 0;
+        loop {
+            let Ok(step) = next_entry(alloc, half, at) else {
+                return Err(JournalFault::NoMemory);
+            };
+            match step {
+                Step::End => {
+                    if !self.ends_well() {
+                        return Err(JournalFault::Damaged { entry: count });
+                    }
+                    return Ok(at);
+                }
+                Step::Damaged => return Err(JournalFault::Damaged { entry: count }),
+                Step::Entry { entry, next } => {
+                    let Ok(goes) = self.add(alloc, entry) else {
+                        return Err(JournalFault::NoMemory);
+                    };
+                    if !goes {
+                        return Err(JournalFault::Damaged { entry: count });
+                    }
+                    at = next;
+                    count += 1;
+                }
+            }
+        }
+    }
+
+    // Adds an entry, and tells whether it may stand behind those before it.
+    fn add(&mut self, alloc: Global, entry: Entry) -> Result<bool, AllocError>
         requires { IsSomeStage self.old.stage self.old.export }
         ensures { IfOk result (λ goes. IsAdded entry self.old.stage self.old.export goes self.new.stage self.new.export) }
     {
         match entry {
-            Entry::Built(part) => self.add_part(&part),
-            Entry::Tree(call) => self.add_call(&Call::Tree(call)),
+            Entry::Built(part) => self.take_part(part),
+            Entry::Tree(call) => self.take_call(Call::Tree(call)),
             Entry::Begin { key, bytes } => self.add_begin(alloc, key, bytes),
             Entry::Publish {
                 key,
                 stamp,
                 mask,
                 bytes,
-            } => self.add_call(&Call::Publish {
+            } => self.take_call(Call::Publish {
                 key,
                 stamp,
                 mask,
                 length: bytes,
             }),
-            Entry::Enroll { node, loss } => self.add_call(&Call::Enroll { node, loss }),
+            Entry::Enroll { node, loss } => self.take_call(Call::Enroll { node, loss }),
         }
     }
 
@@ -99,7 +137,26 @@ impl Rebuilt {
             return Ok(false);
         }
         let text = zeros(alloc, bytes)?;
-        self.add_call(&Call::Begin { key, text })
+        self.take_call(Call::Begin { key, text })
+    }
+
+    // Adds a part, which goes then.
+    fn take_part(&mut self, part: Part) -> Result<bool, AllocError>
+        requires { IsSomeStage self.old.stage self.old.export }
+        ensures { IfOk result (λ goes. IsAdded (Entry.Built part) self.old.stage self.old.export goes self.new.stage self.new.export) }
+    {
+        let goes = self.add_part(&part);
+        drop(part);
+        goes
+    }
+
+    // Adds a call, which goes then.
+    fn take_call(&mut self, call: Call) -> Result<bool, AllocError>
+        ensures { IfOk result (λ goes. (e : Entry) → call_said e ≡ Some call → IsAdded e self.old.stage self.old.export goes self.new.stage self.new.export) }
+    {
+        let goes = self.add_call(&call);
+        drop(call);
+        goes
     }
 
     // Adds a call, and tells whether it may stand behind the entries before it.
@@ -132,8 +189,8 @@ impl Rebuilt {
         }
     }
 
-    /// Whether the parts so far end well: there are none, or the root is there and each object has a name.
-    pub fn ends_well(&self) -> bool
+    // Whether the parts so far end well: there are none, or the root is there and each object has a name.
+    fn ends_well(&self) -> bool
         ensures { TellsEnd self.now.stage self.now.export result }
     {
         match self.stage {
@@ -167,30 +224,11 @@ pub fn rebuild(alloc: Global, volume: Volume, half: &[u8]) -> Result<(Export, us
         export,
         stage: Stage::Empty,
     };
-    let mut at = 0;
-    let mut count = 0;
-    loop {
-        let Ok(step) = next_entry(alloc, half, at) else {
-            return Err(JournalFault::NoMemory);
-        };
-        match step {
-            Step::End => {
-                if !so_far.ends_well() {
-                    return Err(JournalFault::Damaged { entry: count });
-                }
-                return Ok((so_far.export, at));
-            }
-            Step::Damaged => return Err(JournalFault::Damaged { entry: count }),
-            Step::Entry { entry, next } => {
-                let Ok(goes) = so_far.add(alloc, entry) else {
-                    return Err(JournalFault::NoMemory);
-                };
-                if !goes {
-                    return Err(JournalFault::Damaged { entry: count });
-                }
-                at = next;
-                count += 1;
-            }
+    match so_far.add_all(alloc, half) {
+        Ok(used) => Ok((so_far.export, used)),
+        Err(fault) => {
+            drop(so_far);
+            Err(fault)
         }
     }
 }
@@ -202,10 +240,13 @@ fn ask(export: &mut Export, call: &Call) -> Result<bool, AllocError>
     ensures after { IfOk result (λ yes. export.new ≡ export_after export.old call.now) }
 {
     let reply = export.answer(call);
-    if is_want(&reply) {
+    let is_wanting = is_want(&reply);
+    let is_accepted = accepts(&reply);
+    drop(reply);
+    if is_wanting {
         return Err(AllocError);
     }
-    Ok(accepts(&reply))
+    Ok(is_accepted)
 }
 
 // The stage behind a part more.

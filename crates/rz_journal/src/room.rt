@@ -12,7 +12,7 @@ use rz_journal_disk::{Entries, HALF_BYTES};
 use std::alloc::Global;
 
 /// Why an entry was not written.
-#[derive(Clone, Copy, Debug, PartialEq, Eq, Drop)]
+#[derive(Clone, Copy, Drop)]
 pub enum Halt {
     NoMemory,
     /// The parts of the export and the entry take so many bytes in a half.

@@ -1,52 +1,22 @@
--- One entry more, or the end of all, or the first that is damaged.
-use Rattle.std.proofs.Common.{rules, ◌≡◌, false, true, subst, arith}
-use Rattle.rz_journal.specs.Opening.{TellsEnd, IsAdded}
-use Rattle.rz_journal.proofs.Listings.{next_is}
-use Rattle.rz_journal.proofs.Openings.{go_first, go_end, go_badly, go_damaged, go_stop, go_on}
+-- The entries are added to a new export of the volume.
+use Rattle.std.proofs.Common.{List, ℕ, sym, ◌∙◌, ap, subst}
+use Rattle.rz_events.specs.Volume.{Volume}
+use Rattle.rz_export_model.specs.Export.{Export, new_export}
+use Rattle.rz_journal.specs.declared.rebuilding.JournalFault.{JournalFault}
+use Rattle.rz_journal.specs.Opening.{IsRebuilt, IsStopped}
 use Rattle.rz_journal.proofs.rebuilding.rebuild.Goals as goal
 
-pub loop-step-init : goal.loop-step-init
-loop-step-init c = go_first c.args.volume c.args.half.now c.in-Ok.export c.requires c.in-Ok.ensures
+pub add_all-requires-clause-new : goal.add_all-requires-clause-new
+add_all-requires-clause-new c =
+    let same = ap (λ (x : Export). x.volume) c.in-Ok.ensures in
+    c.in-Ok.ensures ∙ ap (λ (v : Volume). new_export v 0) (sym same)
 
-pub returns-then-not-ends_well-clause-stopped : goal.returns-then-not-ends_well-clause-stopped
-returns-then-not-ends_well-clause-stopped c =
-    let l = c.loop-step in
-    let no : c.ends_well.result ≡ false = search rules in
-    go_badly c.args.volume c.args.half.now l.at l.count l.so_far.stage l.so_far.export l.invariant c.in-Ok-next_entry.step c.in-Ok-next_entry.ensures c.in-End.is
-    (subst (TellsEnd l.so_far.stage l.so_far.export) no c.ends_well.ensures)
+pub returns-in-Ok-add_all-clause-rebuilt : goal.returns-in-Ok-add_all-clause-rebuilt
+returns-in-Ok-add_all-clause-rebuilt c =
+    let same = ap (λ (x : Export). x.volume) c.in-Ok.ensures in
+    subst (λ (v : Volume). IsRebuilt v c.args.half.now c.in-Ok-add_all.used c.add_all.new.self.export) same c.in-Ok-add_all.ensures.rebuilt
 
-pub returns-in-End-clause-rebuilt : goal.returns-in-End-clause-rebuilt
-returns-in-End-clause-rebuilt c =
-    let l = c.loop-step in
-    let yes : c.ends_well.result ≡ true = search rules in
-    go_end c.args.volume c.args.half.now l.at l.count l.so_far.stage l.so_far.export l.invariant c.in-Ok-next_entry.step c.in-Ok-next_entry.ensures c.in-End.is
-    (subst (TellsEnd l.so_far.stage l.so_far.export) yes c.ends_well.ensures)
-
-pub returns-in-End-clause-used : goal.returns-in-End-clause-used
-returns-in-End-clause-used c = c.loop-step.invariant.inside
-
-pub returns-in-Damaged-clause-stopped : goal.returns-in-Damaged-clause-stopped
-returns-in-Damaged-clause-stopped c =
-    let l = c.loop-step in
-    go_damaged c.args.volume c.args.half.now l.at l.count l.so_far.stage l.so_far.export l.invariant c.in-Ok-next_entry.step c.in-Ok-next_entry.ensures c.in-Damaged.is
-
-pub returns-then-not-goes-clause-stopped : goal.returns-then-not-goes-clause-stopped
-returns-then-not-goes-clause-stopped c =
-    let l = c.loop-step in
-    let new = c.add.new.self in
-    let no : c.in-Ok-add.goes ≡ false = search rules in
-    go_stop c.args.volume c.args.half.now l.at l.count l.so_far.stage l.so_far.export l.invariant c.in-Ok-next_entry.step c.in-Ok-next_entry.ensures c.in-Entry.entry c.in-Entry.next c.in-Entry.is new.stage new.export
-    (subst (λ (goes : _). IsAdded c.in-Entry.entry l.so_far.stage l.so_far.export goes new.stage new.export) no c.in-Ok-add.ensures)
-
-pub loop-step-preserved : goal.loop-step-preserved
-loop-step-preserved c =
-    let l = c.loop-step in
-    let new = c.add.new.self in
-    let yes : c.in-Ok-add.goes ≡ true = search rules in
-    go_on c.args.volume c.args.half.now l.at l.count l.so_far.stage l.so_far.export l.invariant c.in-Ok-next_entry.step c.in-Ok-next_entry.ensures c.in-Entry.entry c.in-Entry.next c.in-Entry.is new.stage new.export
-    (subst (λ (goes : _). IsAdded c.in-Entry.entry l.so_far.stage l.so_far.export goes new.stage new.export) yes c.in-Ok-add.ensures)
-
-pub loop-step-smaller : goal.loop-step-smaller
-loop-step-smaller c =
-    let after = next_is c.args.half.now c.loop-step.at c.in-Ok-next_entry.step c.in-Entry.entry c.in-Entry.next c.in-Entry.is c.in-Ok-next_entry.ensures in
-    omega (arith, after.0, after.1)
+pub returns-in-Err-clause-stopped : goal.returns-in-Err-clause-stopped
+returns-in-Err-clause-stopped c =
+    let same = ap (λ (x : Export). x.volume) c.in-Ok.ensures in
+    subst (λ (v : Volume). IsStopped v c.args.half.now c.in-Err.fault) same c.in-Err.ensures.stopped

@@ -16,8 +16,8 @@ loop-preserved c =
     let parts = export_parts c.args.export.now in
     let at = sym c.loop.invariant.here ∙ c.in-Some.is in
     record {
-      so_far = row_goes parts c.loop.counter c.in-Some.part c.loop.row.items c.push_row.new.row.items at c.loop.invariant.so_far c.in_ok-push_row.ensures.row c.in_ok-push_row.ensures.spelled;
-      here = later_next parts c.loop.counter c.in-Some.part c.part_after-in-loop.result c.in_ok-next-2.next at c.in_ok-next-2.was c.part_after-in-loop.ensures;
+      so_far = row_goes parts c.loop.counter c.in-Some.part c.loop.row.items c.push_part.new.row.items at c.loop.invariant.so_far c.in_ok-next-2.ensures.row c.in_ok-next-2.ensures.spelled;
+      here = later_next parts c.loop.counter c.in-Some.part c.push_part.result c.in_ok-next-2.next at c.in_ok-next-2.was c.push_part.ensures.next;
     }
 
 pub returns-in_default : goal.returns-in_default
@@ -25,5 +25,5 @@ returns-in_default c =
     row_ends (export_parts c.args.export.now) c.loop.counter c.loop.row.items c.close_row.new.row.items (sym c.loop.invariant.here ∙ c.in_default.is) c.loop.invariant.so_far
     c.in_ok-close_row.ensures
 
-pub push_row-requires : goal.push_row-requires
-push_row-requires c = part_stands c.paths_written.ensures c.args.export.now c.requires c.loop.counter c.in-Some.part (sym c.loop.invariant.here ∙ c.in-Some.is)
+pub push_part-requires : goal.push_part-requires
+push_part-requires c = part_stands c.paths_written.ensures c.args.export.now c.requires c.loop.counter c.in-Some.part (sym c.loop.invariant.here ∙ c.in-Some.is)

@@ -10,8 +10,5 @@ invariant_of-result g c = λ _.
 pub returns-in-Ok-format-clause-stands : goal.returns-in-Ok-format-clause-stands
 returns-in-Ok-format-clause-stands g c told = none_text c.args.volume (g.D.Disk.text c.in-Ok-format.entries.disk) (c.in-Ok-format.ensures.none told)
 
-pub returns-in-Err-default-NoMemory-clause-crash : goal.returns-in-Err-default-NoMemory-clause-crash
-returns-in-Err-default-NoMemory-clause-crash g c told text left = none_left (g.D.Disk.image c.args.disk text) c.args.volume text (c.in-Err-default-NoMemory.ensures.crash told text left)
-
-pub returns-clause-crash : goal.returns-clause-crash
-returns-clause-crash g c told text left = none_left (g.D.Disk.image c.args.disk text) c.args.volume text (c.in-Err-default-Failed.ensures.crash told text left)
+pub returns-in-Err-clause-crash : goal.returns-in-Err-clause-crash
+returns-in-Err-clause-crash g c told text left = none_left (g.D.Disk.image c.args.disk text) c.args.volume text (c.in-Err.ensures.crash told text left)
