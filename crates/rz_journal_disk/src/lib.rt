@@ -20,8 +20,6 @@ mod formatting;
 mod framing;
 mod opening;
 mod shape;
-#[cfg(test)]
-mod tests;
 mod walking;
 
 pub use entries::Entries;

@@ -12,7 +12,7 @@ use rz_disk::Disk;
 use std::alloc::Global;
 
 /// Why a disk was not opened.
-#[derive(Clone, Copy, Debug, PartialEq, Eq, Drop)]
+#[derive(Clone, Copy, Drop)]
 pub enum OpenFault {
     NoMemory,
     /// The disk has other bytes than so many.

@@ -6,7 +6,7 @@ ghost use Rattle.rz_journal_disk.specs.Walk.{IsPlace};
 use byteorder::{ByteOrder, LittleEndian};
 
 /// What stands at an address of a half.
-#[derive(Clone, Copy, Debug, PartialEq, Eq, Drop)]
+#[derive(Clone, Copy, Drop)]
 pub enum Place {
     /// A shut gate: the entries before it are all.
     End,

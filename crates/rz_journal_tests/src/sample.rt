@@ -5,10 +5,16 @@
 pub const HEADER: &[u8] =
     b"MJROZJ01\0\0\0\0\0\0\0\0\0\0\0\0\0\0\0\0\0\0\0\0\0\0\0\0\x01\0\0\0\0\0\0\0\0\0\0\0\0\0\0\0\0\0\0\0\0\0\0\0\0\0\0\0\0\0\0\0";
 
-/// The size of a disk, and where its first half begins.
+/// The size of a disk.
 pub const SIZE: u64 = 16_777_216;
 
+/// Where the halves begin.
 pub const FIRST_HALF: u64 = 64;
+
+pub const SECOND_HALF: u64 = 8_388_640;
+
+/// The byte that picks the half.
+pub const HALF_GATE: u64 = 33;
 
 /// Calls that a new store accepts one after the other. They take 254 bytes.
 pub const CALLS: [&[u8]; 13] = [
@@ -40,7 +46,7 @@ pub const CALLS: [&[u8]; 13] = [
     b"\x01\x06\0\0\0\x01\x03\x02\0/d",
 ];
 
-/// The parts of the export then, but for the object made last. They take 423 bytes.
+/// The parts behind these calls and 15,827 directories that were made and taken away. They take 423 bytes.
 pub const PARTS: [&[u8]; 11] = [
     // the last number drawn is 3, and object 15831 was made last
     b"\x01\x19\0\0\0\x05\x03\0\0\0\0\0\0\0\xd7\x3d\0\0\0\0\0\0\0\0\0\0\0\0\0\0",

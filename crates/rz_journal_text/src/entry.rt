@@ -4,7 +4,7 @@ use rz_events::{Key, TreeCall};
 use rz_tree::Part;
 
 /// A call that changed the export, or a part of the export from which the calls go on.
-#[derive(Debug, Drop)]
+#[derive(Drop)]
 pub enum Entry {
     Tree(TreeCall),
     /// A write of a block began, whose text has so many bytes.

@@ -3,7 +3,7 @@
 use std::alloc::AllocError;
 
 /// Why bytes were not read as an entry.
-#[derive(Clone, Copy, Debug, PartialEq, Eq, Drop)]
+#[derive(Clone, Copy, Debug, Drop)]
 pub enum EntryFault {
     NoMemory,
     /// No entry has these bytes.

@@ -23,8 +23,6 @@ mod numbers;
 mod part_reading;
 mod parts;
 mod reading;
-#[cfg(test)]
-mod tests;
 mod widths;
 mod writing;
 

@@ -29,6 +29,7 @@ fn read_whole(alloc: Global, front: &mut Front) -> Result<Entry, EntryFault>
 {
     let entry = read_entry(alloc, front)?;
     if !front.is_empty() {
+        drop(entry);
         return Err(EntryFault::BadEntry);
     }
     Ok(entry)

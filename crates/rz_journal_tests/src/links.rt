@@ -1,8 +1,9 @@
 //! Calls whose entries have any number of bytes.
 
+use crate::answers::{Told, ask};
 use rz_disk::Disk;
-use rz_events::{Call, Reply, Text, TreeCall, TreeReply};
-use rz_journal::{Journal, JournalReply};
+use rz_events::{Call, Text, TreeCall};
+use rz_journal::Journal;
 use std::alloc::{AllocError, Global};
 use std::test::Fail;
 
@@ -23,15 +24,6 @@ fn symlink(alloc: Global, target: usize, size: usize) -> Result<Call, AllocError
     Ok(Call::Tree(TreeCall::Symlink { target, path }))
 }
 
-/// What a journal answers.
-#[derive(Clone, Copy, Debug, PartialEq, Eq, Drop)]
-pub enum Told {
-    /// The object of this number was made.
-    Made(u128),
-    Full { need: u64, have: u64 },
-    Other,
-}
-
 /// What a journal answers to the making of such a link.
 pub fn link<D: Disk>(
     alloc: Global,
@@ -40,12 +32,7 @@ pub fn link<D: Disk>(
     size: usize,
 ) -> Result<Told, Fail> {
     let call = symlink(alloc, target, size)?;
-    if !journal.export().takes(&call) {
-        return Err("not taken")?;
-    }
-    Ok(match journal.answer(&call) {
-        JournalReply::Reply(Reply::Tree(TreeReply::Made { fid })) => Told::Made(fid),
-        JournalReply::Full { need, have } => Told::Full { need, have },
-        _ => Told::Other,
-    })
+    let told = ask(journal, &call);
+    drop(call);
+    told
 }

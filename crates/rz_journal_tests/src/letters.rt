@@ -1,10 +1,57 @@
 //! Entries of a journal, each behind its gate and its length in four bytes. A letter names each.
 
+use crate::making::{opened, prepare};
+use crate::sample::FIRST_HALF;
+use rz_disk::{Disk, PlainDisk};
+use rz_journal::JournalFault;
+use std::alloc::{AllocError, Global};
+use std::test::Fail;
+
+/// The disk of a journal with the entries of these letters.
+pub fn disk_of(alloc: Global, letters: &[u8]) -> Result<PlainDisk, Fail> {
+    let mut row = Vec::new(alloc);
+    for letter in letters {
+        row.extend_from_slice(entry(*letter))?;
+    }
+    let mut disk = PlainDisk::new(alloc);
+    prepare(alloc, &mut disk, row.as_slice())?;
+    Ok(disk)
+}
+
+/// The number of the entry of a letter and where it begins, or those of the place behind the last.
+pub fn place_of(letters: &[u8], letter: u8) -> (u64, u64) {
+    let mut number = 0u64;
+    let mut at = FIRST_HALF;
+    for other in letters {
+        if *other == letter {
+            break;
+        }
+        number = number.saturating_add(1);
+        at = at.saturating_add(entry(*other).len() as u64);
+    }
+    (number, at)
+}
+
+/// Opens a disk, and gives it back with the number of the entry that is damaged, or none where it opens.
+pub fn damaged<D: Disk>(alloc: Global, disk: D) -> Result<(D, Option<u64>), AllocError> {
+    let (disk, fault) = opened(alloc, disk)?;
+    Ok((disk, number_in(fault)))
+}
+
+/// The number of the damaged entry. A fault of another kind is told as a number that no entry has.
+fn number_in(fault: Option<JournalFault>) -> Option<u64> {
+    match fault {
+        None => None,
+        Some(JournalFault::Damaged { entry }) => Some(entry),
+        Some(_) => Some(u64::MAX),
+    }
+}
+
 /// Parts of an export, in their order.
-pub const PARTS: &[u8] = b"CRFLDdfhl0124";
+pub const PART_LETTERS: &[u8] = b"CRFLDdfhl0124";
 
 /// Calls that a new store accepts one after the other.
-pub const CALLS: &[u8] = b"mcbBpeksynurM";
+pub const CALL_LETTERS: &[u8] = b"mcbBpeksynurM";
 
 /// The entry of a letter.
 pub fn entry(letter: u8) -> &'static [u8] {

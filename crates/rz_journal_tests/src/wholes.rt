@@ -1,13 +1,29 @@
 //! Whole journals: which entries may stand behind which.
 
-use crate::disks::{damaged, disk_of};
-use crate::entries::{CALLS, PARTS};
+use crate::letters::{CALL_LETTERS, PART_LETTERS, damaged, disk_of};
+use std::alloc::Global;
 use std::test::Fail;
 
 /// Journals that open.
 const OPEN: [&[u8]; 18] = [
-    b"", CALLS, PARTS, b"CR", b"CRDd", b"CRFh", b"CRFLhl", b"CRFDdf", b"CRFh0", b"CRFh1",
-    b"CRFh01", b"CR2", b"CR24", b"CRFh024", b"m", b"CRm", b"CRFhm", b"CR2e",
+    b"",
+    CALL_LETTERS,
+    PART_LETTERS,
+    b"CR",
+    b"CRDd",
+    b"CRFh",
+    b"CRFLhl",
+    b"CRFDdf",
+    b"CRFh0",
+    b"CRFh1",
+    b"CRFh01",
+    b"CR2",
+    b"CR24",
+    b"CRFh024",
+    b"m",
+    b"CRm",
+    b"CRFhm",
+    b"CR2e",
 ];
 
 /// Journals that do not, and the place of the entry that is told.
@@ -55,11 +71,17 @@ const DAMAGED: [(&[u8], u64); 34] = [
     (b"mm", 1),
 ];
 
+/// The number of the entry that is damaged in a journal of these letters, or none where it opens.
+fn damaged_in(alloc: Global, letters: &[u8]) -> Result<Option<u64>, Fail> {
+    let (disk, found) = damaged(alloc, disk_of(alloc, letters)?)?;
+    drop(disk);
+    Ok(found)
+}
+
 #[test]
 fn these_open(rt: HostRuntime) -> Result<(), Fail> {
     for (number, letters) in OPEN.iter().enumerate() {
-        let disk = disk_of(rt.alloc(), letters)?;
-        let (_, found) = damaged(rt.alloc(), disk)?;
+        let found = damaged_in(rt.alloc(), letters)?;
         assert_eq!(rt; found, None, "journal {number}");
     }
     Ok(())
@@ -68,8 +90,7 @@ fn these_open(rt: HostRuntime) -> Result<(), Fail> {
 #[test]
 fn these_are_damaged(rt: HostRuntime) -> Result<(), Fail> {
     for (number, (letters, place)) in DAMAGED.iter().enumerate() {
-        let disk = disk_of(rt.alloc(), letters)?;
-        let (_, found) = damaged(rt.alloc(), disk)?;
+        let found = damaged_in(rt.alloc(), letters)?;
         assert_eq!(rt; found, Some(*place), "journal {number}");
     }
     Ok(())

@@ -5,14 +5,15 @@
 //! later sync. In both a change counts once its gate is written, and a crash decides on a gate that is not
 //! synced.
 
-use crate::disks::{entries, failing_at, prepare};
+use crate::answers::{Told, ask};
 use crate::exports::{after, before, last_call, parts_of};
+use crate::making::{filling, open, prepare};
 use rz_cells::FormatFault;
 use rz_config::Volume;
-use rz_disk::{Disk, Fused, PlainDisk};
+use rz_disk::{Disk, Fused, MemDisk, PlainDisk};
 use rz_events::Call;
-use rz_journal::{Journal, JournalFault, JournalReply};
-use std::alloc::Global;
+use rz_journal::{Journal, JournalFault};
+use std::alloc::{AllocError, Global};
 use std::test::Fail;
 
 /// The device calls of an opening.
@@ -23,46 +24,54 @@ const PICKS: [u64; 4] = [0, 1, 300, 301];
 /// So many calls of 265 bytes fill a half, with the gate behind them.
 const FILLING: u64 = 31_655;
 
-fn open<D: Disk>(alloc: Global, disk: D) -> Result<Journal<D>, Fail> {
-    match Journal::reopen(alloc, Volume::plain(alloc)?, disk) {
-        Ok(journal) => Ok(journal),
-        Err(_) => Err("not opened")?,
-    }
+/// A disk in memory whose call of this number is the one that fails.
+fn failing_at(alloc: Global, number: u64) -> Result<MemDisk, AllocError> {
+    let fails = vec![in alloc; number; 1]?;
+    Ok(MemDisk::new(alloc, fails))
 }
 
-/// Asks the journal the call that stops.
-fn ask<D: Disk>(alloc: Global, journal: &mut Journal<D>) -> Result<JournalReply, Fail> {
+/// What a journal answers to the call that stops.
+fn ask_last<D: Disk>(alloc: Global, journal: &mut Journal<D>) -> Result<Told, Fail> {
     let call = Call::Tree(last_call(alloc)?);
-    if journal.export().takes(&call) {
-        Ok(journal.answer(&call))
-    } else {
-        Err("not taken")?
-    }
+    let told = ask(journal, &call);
+    drop(call);
+    told
 }
 
-/// The disk of a journal of these entries whose next call stops. Then the journal is closed.
+/// Asks a journal the call that stops, and once more. Then it is closed.
+fn stop<D: Disk>(alloc: Global, journal: &mut Journal<D>) -> Result<(), Fail> {
+    if ask_last(alloc, journal)? != Told::DiskFault {
+        return Err("it did not stop")?;
+    }
+    if ask_last(alloc, journal)? != Told::Closed {
+        return Err("it is not closed")?;
+    }
+    Ok(())
+}
+
+/// The disk of a journal of these entries whose next call stops.
 fn stopped<D: Disk>(alloc: Global, disk: D, row: &[u8], passes: u64) -> Result<D, Fail> {
     let mut disk = disk;
     prepare(alloc, &mut disk, row)?;
     disk.arm(Some(passes.saturating_add(OPENING)));
     let mut journal = open(alloc, disk)?;
-    if !matches!(ask(alloc, &mut journal)?, JournalReply::DiskFault) {
-        return Err("it did not stop")?;
-    }
-    if !matches!(ask(alloc, &mut journal)?, JournalReply::Closed) {
-        return Err("it is not closed")?;
-    }
-    Ok(journal.into_disk())
+    let stopped = stop(alloc, &mut journal);
+    let disk = journal.into_disk();
+    stopped?;
+    Ok(disk)
 }
 
 /// The disk of a journal of one entry that is formatted anew, which stops.
 fn stopped_format<D: Disk>(alloc: Global, disk: D, passes: u64) -> Result<D, Fail> {
     let mut disk = disk;
-    prepare(alloc, &mut disk, entries(alloc, 1)?.as_slice())?;
+    prepare(alloc, &mut disk, filling(alloc, 1)?.as_slice())?;
     disk.arm(Some(passes));
     match Journal::format(alloc, Volume::plain(alloc)?, disk) {
         Err((disk, FormatFault::DiskFault)) => Ok(disk),
-        _ => Err("it did not stop")?,
+        other => {
+            drop(other);
+            Err("it did not stop")?
+        }
     }
 }
 
@@ -72,7 +81,11 @@ fn found<D: Disk>(alloc: Global, disk: D, pick: u64) -> Result<String, Fail> {
     disk.arm(None);
     disk.crash(pick);
     match Journal::reopen(alloc, Volume::plain(alloc)?, disk) {
-        Ok(journal) => parts_of(alloc, journal.export()),
+        Ok(journal) => {
+            let parts = parts_of(alloc, journal.export());
+            drop(journal);
+            parts
+        }
         Err((_, JournalFault::Unformatted)) => Ok(String::new(alloc)),
         Err(_) => Err("refused otherwise")?,
     }
@@ -92,8 +105,54 @@ fn either<'a>(is_there: bool, after: &'a str, before: &'a str) -> &'a str {
     if is_there { after } else { before }
 }
 
-/// The first device call at whose stop another export is found, in a call that makes so many of them. It
-/// is numbered from 0 where it fails, and from 100 where the fuse is at it.
+/// What is to be found after a stop, in a call that makes so many device calls: the parts before it, and those
+/// after it where the gate is open.
+#[derive(Drop)]
+struct Stopped<'a> {
+    calls: u64,
+    is_open: bool,
+    before: &'a str,
+    after: &'a str,
+}
+
+impl<'a> Stopped<'a> {
+    /// The parts that are to be found where so many device calls were made.
+    fn wanted(&self, made: u64) -> &'a str {
+        either(self.is_open && made >= self.calls, self.after, self.before)
+    }
+}
+
+/// Whether other parts are found after a crash than these.
+fn is_other<D: Disk>(alloc: Global, disk: D, pick: u64, wanted: &str) -> Result<bool, Fail> {
+    let parts = found(alloc, disk, pick)?;
+    Ok(parts.as_str() != wanted)
+}
+
+/// The first device call at whose stop another export is found than is wanted. It is numbered from 0 where it
+/// fails, and from 100 where the fuse is at it.
+fn first_other_of(
+    alloc: Global,
+    row: &[u8],
+    stop: &Stopped<'_>,
+    pick: u64,
+) -> Result<Option<u64>, Fail> {
+    for call in 0..stop.calls {
+        let made = call.saturating_add(1);
+        let disk = failing_at(alloc, call.saturating_add(9))?;
+        let disk = stopped(alloc, disk, row, 0)?;
+        if is_other(alloc, disk, pick, stop.wanted(made))? {
+            return Ok(Some(call));
+        }
+        let disk = Fused::new(PlainDisk::new(alloc));
+        let disk = stopped(alloc, disk, row, call)?;
+        if is_other(alloc, disk, pick, stop.wanted(made.saturating_add(1)))? {
+            return Ok(Some(call.saturating_add(100)));
+        }
+    }
+    Ok(None)
+}
+
+/// The same behind so many entries, for a call whose gate stands at an address.
 fn first_other(
     alloc: Global,
     count: u64,
@@ -101,27 +160,16 @@ fn first_other(
     gate_at: u64,
     pick: u64,
 ) -> Result<Option<u64>, Fail> {
-    let row = entries(alloc, count)?;
+    let row = filling(alloc, count)?;
     let old = before(alloc, count)?;
     let new = after(alloc, count)?;
-    let is_open = opens(gate_at, pick);
-    for call in 0..calls {
-        let disk = failing_at(alloc, call.saturating_add(9))?;
-        let disk = stopped(alloc, disk, row.as_slice(), 0)?;
-        let parts = found(alloc, disk, pick)?;
-        let is_there = is_open && call.saturating_add(1) >= calls;
-        if parts.as_str() != either(is_there, new.as_str(), old.as_str()) {
-            return Ok(Some(call));
-        }
-        let disk = Fused::new(PlainDisk::new(alloc));
-        let disk = stopped(alloc, disk, row.as_slice(), call)?;
-        let parts = found(alloc, disk, pick)?;
-        let is_there = is_open && call.saturating_add(2) >= calls;
-        if parts.as_str() != either(is_there, new.as_str(), old.as_str()) {
-            return Ok(Some(call.saturating_add(100)));
-        }
-    }
-    Ok(None)
+    let stop = Stopped {
+        calls,
+        is_open: opens(gate_at, pick),
+        before: old.as_str(),
+        after: new.as_str(),
+    };
+    first_other_of(alloc, row.as_slice(), &stop, pick)
 }
 
 /// Two entries take 530 bytes behind the header.
@@ -151,13 +199,15 @@ fn a_change_of_halves_that_stops_is_done_or_not(rt: HostRuntime) -> Result<(), F
     Ok(())
 }
 
-/// The parts that are found after a reply to the call and a crash.
-fn found_after_reply(alloc: Global, row: &[u8], pick: u64) -> Result<String, Fail> {
-    let mut disk = PlainDisk::new(alloc);
+/// The disk of a journal of these entries that replied to the call.
+fn replied<D: Disk>(alloc: Global, disk: D, row: &[u8]) -> Result<D, Fail> {
+    let mut disk = disk;
     prepare(alloc, &mut disk, row)?;
     let mut journal = open(alloc, disk)?;
-    match ask(alloc, &mut journal)? {
-        JournalReply::Reply(_) => found(alloc, journal.into_disk(), pick),
+    let told = ask_last(alloc, &mut journal);
+    let disk = journal.into_disk();
+    match told? {
+        Told::Made(_) | Told::Replied => Ok(disk),
         _ => Err("no reply")?,
     }
 }
@@ -166,11 +216,12 @@ fn found_after_reply(alloc: Global, row: &[u8], pick: u64) -> Result<String, Fai
 #[test]
 fn a_call_that_was_answered_is_there(rt: HostRuntime) -> Result<(), Fail> {
     for count in [2, FILLING] {
-        let row = entries(rt.alloc(), count)?;
+        let row = filling(rt.alloc(), count)?;
         let wanted = after(rt.alloc(), count)?;
         for pick in PICKS {
-            let parts = found_after_reply(rt.alloc(), row.as_slice(), pick)?;
-            assert!(rt; parts == wanted, "{count} entries, pick {pick}");
+            let disk = replied(rt.alloc(), PlainDisk::new(rt.alloc()), row.as_slice())?;
+            let other = is_other(rt.alloc(), disk, pick, wanted.as_str())?;
+            assert!(rt; !other, "{count} entries, pick {pick}");
         }
     }
     Ok(())
@@ -195,9 +246,9 @@ fn a_formatting_that_fails_is_done_or_shut(rt: HostRuntime) -> Result<(), Fail> 
         for call in 0..5 {
             let disk = failing_at(rt.alloc(), 5 + call)?;
             let disk = stopped_format(rt.alloc(), disk, 0)?;
-            let parts = found(rt.alloc(), disk, pick)?;
             let wanted = left(call, was.as_str(), by_gate);
-            assert_eq!(rt; parts.as_str(), wanted, "call {call}, pick {pick}");
+            let other = is_other(rt.alloc(), disk, pick, wanted)?;
+            assert!(rt; !other, "call {call}, pick {pick}");
         }
     }
     Ok(())
@@ -210,10 +261,10 @@ fn a_formatting_that_stops_is_done_or_shut(rt: HostRuntime) -> Result<(), Fail> 
         for passes in 0..4 {
             let disk = Fused::new(PlainDisk::new(rt.alloc()));
             let disk = stopped_format(rt.alloc(), disk, passes)?;
-            let parts = found(rt.alloc(), disk, pick)?;
             let is_there = passes >= 2 && opens(32, pick);
             let wanted = either(is_there, anew.as_str(), "");
-            assert_eq!(rt; parts.as_str(), wanted, "passes {passes}, pick {pick}");
+            let other = is_other(rt.alloc(), disk, pick, wanted)?;
+            assert!(rt; !other, "passes {passes}, pick {pick}");
         }
     }
     Ok(())

@@ -1,8 +1,11 @@
 //! A journal whose parts leave little room in a half.
 
-use crate::calls::{Told, link};
-use crate::disks::{HALF_GATE, SECOND_HALF, disk_with, open, opened, stands, store};
-use rz_disk::PlainDisk;
+use crate::answers::Told;
+use crate::links::link;
+use crate::making::{all_stand, disk_with, fault_of, open, store};
+use crate::sample::{HALF_GATE, SECOND_HALF};
+use rz_disk::Disk;
+use rz_journal::Journal;
 use std::alloc::{AllocError, Global};
 use std::test::Fail;
 
@@ -61,24 +64,31 @@ fn full(need: u64) -> Told {
     }
 }
 
-/// The disk behind calls of which one takes a byte more than the parts leave, one as many and is refused,
-/// and one as many and is accepted: links with a target and a path of so many bytes. Then the parts take
-/// 134 bytes more.
-fn asked(alloc: Global, disk: PlainDisk) -> Result<PlainDisk, Fail> {
-    let mut journal = open(alloc, disk)?;
+/// Asks calls of which one takes a byte more than the parts leave, one as many and is refused, and one as many
+/// and is accepted: links with a target and a path of so many bytes. Then the parts take 134 bytes more.
+fn ask_links<D: Disk>(alloc: Global, journal: &mut Journal<D>) -> Result<(), Fail> {
     for (target, size, wanted) in [
         (31, 32, full(8_388_577)),
         (0, 63, full(8_388_577)),
         (1024, 255, full(8_389_793)),
-        (0, 62, Told::Other),
+        (0, 62, Told::Replied),
         (30, 32, Told::Made(2)),
         (1, 2, full(8_388_651)),
     ] {
-        if link(alloc, &mut journal, target, size)? != wanted {
+        if link(alloc, journal, target, size)? != wanted {
             return Err(wanted)?;
         }
     }
-    Ok(journal.into_disk())
+    Ok(())
+}
+
+/// The disk behind these calls.
+fn asked<D: Disk>(alloc: Global, disk: D) -> Result<D, Fail> {
+    let mut journal = open(alloc, disk)?;
+    let asked = ask_links(alloc, &mut journal);
+    let disk = journal.into_disk();
+    asked?;
+    Ok(disk)
 }
 
 /// Where the parts stand in the half in use, the entry is written behind them.
@@ -87,21 +97,26 @@ fn parts_leave_room_for_an_entry(rt: HostRuntime) -> Result<(), Fail> {
     let row = parts(rt.alloc())?;
     let disk = disk_with(rt.alloc(), row.as_slice())?;
     let mut disk = asked(rt.alloc(), disk)?;
-    assert!(rt; stands(rt.alloc(), &mut disk, HALF_GATE, b"\0")?);
-    assert_eq!(rt; opened(rt.alloc(), disk)?.1, None);
+    let stand = all_stand(rt.alloc(), &mut disk, &[(HALF_GATE, b"\0".as_slice())])?;
+    let fault = fault_of(rt.alloc(), disk)?;
+    assert!(rt; stand);
+    assert_eq!(rt; fault, None);
     Ok(())
 }
 
 /// Where a call stands behind the parts, they are written into the other half first.
 #[test]
 fn parts_and_an_entry_fill_a_half(rt: HostRuntime) -> Result<(), Fail> {
+    let last = SECOND_HALF + 8_388_575;
     let mut row = parts(rt.alloc())?;
     row.extend_from_slice(SETATTR)?;
     let mut disk = disk_with(rt.alloc(), row.as_slice())?;
-    store(&mut disk, SECOND_HALF + 8_388_575, b"\xff")?;
+    store(&mut disk, last, b"\xff")?;
     let mut disk = asked(rt.alloc(), disk)?;
-    assert!(rt; stands(rt.alloc(), &mut disk, HALF_GATE, b"\x01")?);
-    assert!(rt; stands(rt.alloc(), &mut disk, SECOND_HALF + 8_388_575, b"\0")?);
-    assert_eq!(rt; opened(rt.alloc(), disk)?.1, None);
+    let rows = [(HALF_GATE, b"\x01".as_slice()), (last, b"\0".as_slice())];
+    let stand = all_stand(rt.alloc(), &mut disk, &rows)?;
+    let fault = fault_of(rt.alloc(), disk)?;
+    assert!(rt; stand);
+    assert_eq!(rt; fault, None);
     Ok(())
 }

@@ -1,7 +1,7 @@
 //! Entries beside their bytes, worked out by hand.
 
-use crate::{Entry, EntryFault, read, write};
 use rz_events::{Key, Text, TreeCall};
+use rz_journal_text::{Entry, EntryFault, read, write};
 use std::test::Fail;
 
 #[test]

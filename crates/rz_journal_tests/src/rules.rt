@@ -1,7 +1,8 @@
 //! One byte of an entry is altered, so that one rule is broken or all are kept.
 
-use crate::disks::{damaged, disk_of, place_of, store};
-use crate::entries::{CALLS, PARTS, entry};
+use crate::letters::{CALL_LETTERS, PART_LETTERS, damaged, disk_of, entry, place_of};
+use crate::making::store;
+use rz_disk::Disk;
 use std::alloc::Global;
 use std::test::Fail;
 
@@ -9,9 +10,14 @@ use std::test::Fail;
 /// damaged, `!` for the place behind the last, or a point where the journal opens.
 type Rule = (u8, usize, u8, u8);
 
-/// The first of the rules of which something else is told.
-fn first_other(alloc: Global, letters: &[u8], rules: &[Rule]) -> Result<Option<usize>, Fail> {
-    let mut disk = disk_of(alloc, letters)?;
+/// The first of the rules of which something else is told, on the disk of a journal of these letters.
+fn first_other<D: Disk>(
+    alloc: Global,
+    disk: D,
+    letters: &[u8],
+    rules: &[Rule],
+) -> Result<Option<usize>, Fail> {
+    let mut disk = disk;
     for (number, (letter, place, byte, wanted)) in rules.iter().enumerate() {
         let Some(was) = entry(*letter).get(*place) else {
             return Ok(Some(number));
@@ -236,19 +242,31 @@ const OLD_LOSSES: [Rule; 4] = [
 
 #[test]
 fn parts_keep_their_rules(rt: HostRuntime) -> Result<(), Fail> {
-    assert_eq!(rt; first_other(rt.alloc(), PARTS, &COUNTERS)?, None);
-    assert_eq!(rt; first_other(rt.alloc(), PARTS, &OBJECTS)?, None);
-    assert_eq!(rt; first_other(rt.alloc(), PARTS, &NAMES)?, None);
-    assert_eq!(rt; first_other(rt.alloc(), PARTS, &BLOCKS)?, None);
-    assert_eq!(rt; first_other(rt.alloc(), PARTS, &ENROLMENTS)?, None);
+    for rules in [
+        COUNTERS.as_slice(),
+        OBJECTS.as_slice(),
+        NAMES.as_slice(),
+        BLOCKS.as_slice(),
+        ENROLMENTS.as_slice(),
+    ] {
+        let disk = disk_of(rt.alloc(), PART_LETTERS)?;
+        let other = first_other(rt.alloc(), disk, PART_LETTERS, rules)?;
+        assert_eq!(rt; other, None);
+    }
     Ok(())
 }
 
 #[test]
 fn calls_are_accepted(rt: HostRuntime) -> Result<(), Fail> {
-    assert_eq!(rt; first_other(rt.alloc(), CALLS, &TREE_CALLS)?, None);
-    assert_eq!(rt; first_other(rt.alloc(), CALLS, &OTHER_CALLS)?, None);
-    assert_eq!(rt; first_other(rt.alloc(), BEHIND_A_LOSS, &LOSSES)?, None);
-    assert_eq!(rt; first_other(rt.alloc(), TWO_LOSSES, &OLD_LOSSES)?, None);
+    for (letters, rules) in [
+        (CALL_LETTERS, TREE_CALLS.as_slice()),
+        (CALL_LETTERS, OTHER_CALLS.as_slice()),
+        (BEHIND_A_LOSS, LOSSES.as_slice()),
+        (TWO_LOSSES, OLD_LOSSES.as_slice()),
+    ] {
+        let disk = disk_of(rt.alloc(), letters)?;
+        let other = first_other(rt.alloc(), disk, letters, rules)?;
+        assert_eq!(rt; other, None);
+    }
     Ok(())
 }
