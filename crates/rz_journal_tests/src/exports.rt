@@ -2,29 +2,113 @@
 
 use crate::making::long_path;
 use rz_config::Volume;
-use rz_events::{Text, TreeCall};
+use rz_events::{Kind, Published, Text, TreeCall};
 use rz_export::Export;
+use rz_journal_text::path_text;
 use rz_tree::Part;
 use std::alloc::{AllocError, Global};
-use std::test::Fail;
 
-/// All parts of an export, written out.
-pub fn parts_of(alloc: Global, export: &Export) -> Result<String, Fail> {
-    let mut all = String::new(alloc);
+/// All parts of an export, one behind the other: of each a letter for its kind, its numbers, and its text behind
+/// its length.
+pub fn parts_of(alloc: Global, export: &Export) -> Result<Vec<u8>, AllocError> {
+    let mut row = Vec::new(alloc);
     for place in 0..usize::MAX {
         let Some(part) = export.part(place)? else {
             break;
         };
-        push_part(alloc, part, &mut all)?;
+        let pushed = push_part(alloc, &part, &mut row);
+        drop(part);
+        pushed?;
     }
-    Ok(all)
+    Ok(row)
 }
 
-/// Adds a line with a part.
-fn push_part(alloc: Global, part: Part, all: &mut String) -> Result<(), Fail> {
-    let line = format!(in alloc; "{part:?}\n");
-    drop(part);
-    all.push_str(line?.as_str())?;
+fn push_part(alloc: Global, part: &Part, row: &mut Vec<u8>) -> Result<(), AllocError> {
+    match part {
+        Part::Counters { last, made } => push_numbers(b'c', &[u128::from(*last), *made], row),
+        Part::Object {
+            fid,
+            kind,
+            mode,
+            mtime,
+            size,
+            cid,
+            places,
+            target,
+        } => {
+            push_numbers(letter_of(*kind), &[*fid, u128::from(*mode)], row)?;
+            push_numbers(b't', &[u128::from(*mtime), u128::from(*size)], row)?;
+            push_nodes(*cid, places.list(), row)?;
+            push_text(target.bytes(), row)
+        }
+        Part::Name { path, fid } => {
+            push_numbers(b'n', &[*fid], row)?;
+            push_text(path_text(alloc, path)?.as_slice(), row)
+        }
+        Part::Block {
+            key,
+            latest,
+            published,
+        } => {
+            push_numbers(b'b', &[key.fid, u128::from(key.block)], row)?;
+            push_stamps(*latest, *published, row)
+        }
+        Part::Enrolled { node, loss, fence } => push_numbers(
+            b'e',
+            &[u128::from(*node), u128::from(*loss), u128::from(*fence)],
+            row,
+        ),
+    }
+}
+
+fn letter_of(kind: Kind) -> u8 {
+    match kind {
+        Kind::File => b'f',
+        Kind::Dir => b'd',
+        Kind::Link => b'l',
+    }
+}
+
+fn push_numbers(letter: u8, numbers: &[u128], row: &mut Vec<u8>) -> Result<(), AllocError> {
+    row.push(letter)?;
+    for number in numbers {
+        row.extend_from_slice(number.to_le_bytes().as_slice())?;
+    }
+    Ok(())
+}
+
+fn push_text(text: &[u8], row: &mut Vec<u8>) -> Result<(), AllocError> {
+    push_numbers(b'x', &[text.len() as u128], row)?;
+    row.extend_from_slice(text)
+}
+
+/// Adds a cluster and the nodes of a file.
+fn push_nodes(cid: u16, nodes: &[u16], row: &mut Vec<u8>) -> Result<(), AllocError> {
+    push_numbers(b'p', &[u128::from(cid)], row)?;
+    for node in nodes {
+        push_numbers(b'p', &[u128::from(*node)], row)?;
+    }
+    Ok(())
+}
+
+/// Adds the newest stamp begun, and what is published.
+fn push_stamps(
+    latest: u64,
+    published: Option<Published>,
+    row: &mut Vec<u8>,
+) -> Result<(), AllocError> {
+    push_numbers(b's', &[u128::from(latest)], row)?;
+    if let Some(p) = published {
+        push_numbers(
+            b's',
+            &[
+                u128::from(p.stamp),
+                u128::from(p.mask),
+                u128::from(p.length),
+            ],
+            row,
+        )?;
+    }
     Ok(())
 }
 
@@ -59,7 +143,7 @@ fn parts_behind(
     export: &mut Export,
     count: u64,
     is_last: bool,
-) -> Result<String, Fail> {
+) -> Result<Vec<u8>, AllocError> {
     for number in 0..count {
         make_or_take_away(alloc, export, number)?;
     }
@@ -70,7 +154,7 @@ fn parts_behind(
 }
 
 /// The parts of an export of a new store that answers these.
-fn parts_of_new(alloc: Global, count: u64, is_last: bool) -> Result<String, Fail> {
+fn parts_of_new(alloc: Global, count: u64, is_last: bool) -> Result<Vec<u8>, AllocError> {
     let mut export = Export::new(alloc, Volume::plain(alloc)?, 0)?;
     let parts = parts_behind(alloc, &mut export, count, is_last);
     drop(export);
@@ -78,11 +162,11 @@ fn parts_of_new(alloc: Global, count: u64, is_last: bool) -> Result<String, Fail
 }
 
 /// The parts after so many calls.
-pub fn before(alloc: Global, count: u64) -> Result<String, Fail> {
+pub fn before(alloc: Global, count: u64) -> Result<Vec<u8>, AllocError> {
     parts_of_new(alloc, count, false)
 }
 
 /// The parts after these and the call that stops.
-pub fn after(alloc: Global, count: u64) -> Result<String, Fail> {
+pub fn after(alloc: Global, count: u64) -> Result<Vec<u8>, AllocError> {
     parts_of_new(alloc, count, true)
 }

@@ -76,7 +76,7 @@ fn stopped_format<D: Disk>(alloc: Global, disk: D, passes: u64) -> Result<D, Fai
 }
 
 /// The parts that an opening finds after a crash, or none where the header is shut.
-fn found<D: Disk>(alloc: Global, disk: D, pick: u64) -> Result<String, Fail> {
+fn found<D: Disk>(alloc: Global, disk: D, pick: u64) -> Result<Vec<u8>, Fail> {
     let mut disk = disk;
     disk.arm(None);
     disk.crash(pick);
@@ -84,9 +84,9 @@ fn found<D: Disk>(alloc: Global, disk: D, pick: u64) -> Result<String, Fail> {
         Ok(journal) => {
             let parts = parts_of(alloc, journal.export());
             drop(journal);
-            parts
+            Ok(parts?)
         }
-        Err((_, JournalFault::Unformatted)) => Ok(String::new(alloc)),
+        Err((_, JournalFault::Unformatted)) => Ok(Vec::new(alloc)),
         Err(_) => Err("refused otherwise")?,
     }
 }
@@ -101,7 +101,7 @@ fn opens(gate_at: u64, pick: u64) -> bool {
 }
 
 /// The parts that are to be found.
-fn either<'a>(is_there: bool, after: &'a str, before: &'a str) -> &'a str {
+fn either<'a>(is_there: bool, after: &'a [u8], before: &'a [u8]) -> &'a [u8] {
     if is_there { after } else { before }
 }
 
@@ -111,21 +111,21 @@ fn either<'a>(is_there: bool, after: &'a str, before: &'a str) -> &'a str {
 struct Stopped<'a> {
     calls: u64,
     is_open: bool,
-    before: &'a str,
-    after: &'a str,
+    before: &'a [u8],
+    after: &'a [u8],
 }
 
 impl<'a> Stopped<'a> {
     /// The parts that are to be found where so many device calls were made.
-    fn wanted(&self, made: u64) -> &'a str {
+    fn wanted(&self, made: u64) -> &'a [u8] {
         either(self.is_open && made >= self.calls, self.after, self.before)
     }
 }
 
 /// Whether other parts are found after a crash than these.
-fn is_other<D: Disk>(alloc: Global, disk: D, pick: u64, wanted: &str) -> Result<bool, Fail> {
+fn is_other<D: Disk>(alloc: Global, disk: D, pick: u64, wanted: &[u8]) -> Result<bool, Fail> {
     let parts = found(alloc, disk, pick)?;
-    Ok(parts.as_str() != wanted)
+    Ok(parts.as_slice() != wanted)
 }
 
 /// The first device call at whose stop another export is found than is wanted. It is numbered from 0 where it
@@ -166,8 +166,8 @@ fn first_other(
     let stop = Stopped {
         calls,
         is_open: opens(gate_at, pick),
-        before: old.as_str(),
-        after: new.as_str(),
+        before: old.as_slice(),
+        after: new.as_slice(),
     };
     first_other_of(alloc, row.as_slice(), &stop, pick)
 }
@@ -220,7 +220,7 @@ fn a_call_that_was_answered_is_there(rt: HostRuntime) -> Result<(), Fail> {
         let wanted = after(rt.alloc(), count)?;
         for pick in PICKS {
             let disk = replied(rt.alloc(), PlainDisk::new(rt.alloc()), row.as_slice())?;
-            let other = is_other(rt.alloc(), disk, pick, wanted.as_str())?;
+            let other = is_other(rt.alloc(), disk, pick, wanted.as_slice())?;
             assert!(rt; !other, "{count} entries, pick {pick}");
         }
     }
@@ -229,11 +229,11 @@ fn a_call_that_was_answered_is_there(rt: HostRuntime) -> Result<(), Fail> {
 
 /// The parts that a formatting leaves that fails at a call: a reset that fails leaves what was there, and
 /// one that is done leaves a shut header.
-fn left<'a>(call: u64, was: &'a str, by_gate: &'a str) -> &'a str {
+fn left<'a>(call: u64, was: &'a [u8], by_gate: &'a [u8]) -> &'a [u8] {
     match call {
         0 => was,
         4 => by_gate,
-        _ => "",
+        _ => b"",
     }
 }
 
@@ -242,11 +242,11 @@ fn a_formatting_that_fails_is_done_or_shut(rt: HostRuntime) -> Result<(), Fail> 
     let was = before(rt.alloc(), 1)?;
     let anew = before(rt.alloc(), 0)?;
     for pick in PICKS {
-        let by_gate = either(opens(32, pick), anew.as_str(), "");
+        let by_gate = either(opens(32, pick), anew.as_slice(), b"");
         for call in 0..5 {
             let disk = failing_at(rt.alloc(), 5 + call)?;
             let disk = stopped_format(rt.alloc(), disk, 0)?;
-            let wanted = left(call, was.as_str(), by_gate);
+            let wanted = left(call, was.as_slice(), by_gate);
             let other = is_other(rt.alloc(), disk, pick, wanted)?;
             assert!(rt; !other, "call {call}, pick {pick}");
         }
@@ -262,7 +262,7 @@ fn a_formatting_that_stops_is_done_or_shut(rt: HostRuntime) -> Result<(), Fail> 
             let disk = Fused::new(PlainDisk::new(rt.alloc()));
             let disk = stopped_format(rt.alloc(), disk, passes)?;
             let is_there = passes >= 2 && opens(32, pick);
-            let wanted = either(is_there, anew.as_str(), "");
+            let wanted = either(is_there, anew.as_slice(), b"");
             let other = is_other(rt.alloc(), disk, pick, wanted)?;
             assert!(rt; !other, "passes {passes}, pick {pick}");
         }
