@@ -105,11 +105,8 @@ pub record IsDamagedAt (volume : Volume) (half : List ℕ) (number : ℕ) : Type
 -- why the entries of a half make no export
 abbrev pub IsStopped : Volume → List ℕ → JournalFault → Type 0
 IsStopped volume half NoMemory = Unit {0}
-IsStopped volume half (WrongSize have need) = ⊥
-IsStopped volume half DiskFault = ⊥
-IsStopped volume half Unformatted = ⊥
-IsStopped volume half BadHeader = ⊥
 IsStopped volume half (Damaged number) = IsDamagedAt volume half number
+IsStopped volume half _ = ⊥
 
 -- ---- what a text holds
 
