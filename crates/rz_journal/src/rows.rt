@@ -1,8 +1,6 @@
 //! Entries as the rows that stand in a half.
 
-ghost use Rattle.std.specs.Prelude.{◌≡◌, ◌++◌, ℕ, [], ◌∷◌, None, Some, IsSome, IfOk, OnOk, OnErr, MatchOption};
-ghost use Rattle.std.specs.List.{slice_get};
-ghost use Rattle.rz_export.specs.Parts.{export_parts, IsBefore};
+ghost use Rattle.std.specs.Prelude.{◌≡◌, ◌++◌, [], ◌∷◌, None, IsSome, IfOk, OnOk, OnErr, MatchOption};
 ghost use Rattle.rz_journal_text.specs.Spelling.{entry_bytes, MayStand, Spells};
 ghost use Rattle.rz_journal_disk.specs.Row.{framed};
 ghost use Rattle.rz_export_laws.specs.Whole.{IsWhole};
@@ -57,35 +55,23 @@ pub fn parts_row(alloc: Global, export: &Export) -> Result<Vec<u8>, AllocError>
             close_row(&mut row)?;
             return Ok(row);
         };
-        next = push_part(alloc, export, part, &mut row)?;
+        next = export.part_after(Some(&part))?;
+        push_part(alloc, part, &mut row)?;
     }
     // Memory holds no export of so many parts.
     Err(AllocError)
 }
 
-// Adds the entry of a part, and gives the part behind it.
-fn push_part(
-    alloc: Global,
-    export: &Export,
-    part: Part,
-    row: &mut Vec<u8>,
-) -> Result<Option<Part>, AllocError>
+// Adds the entry of a part, which goes then.
+fn push_part(alloc: Global, part: Part, row: &mut Vec<u8>) -> Result<(), AllocError>
     requires { MayStand (Entry.Built part) }
     ensures row { OnOk result (row.new.items ≡ row.old.items ++ framed (entry_bytes (Entry.Built part))) }
     ensures spelled { OnOk result (Spells (entry_bytes (Entry.Built part)) (Entry.Built part)) }
-    ensures next { (k : ℕ) → IsBefore (Some part) (export_parts export.now) k → IfOk result (λ next. next ≡ slice_get (export_parts export.now) k) }
 {
-    let next = export.part_after(Some(&part));
     let entry = Entry::Built(part);
     let pushed = push_row(alloc, &entry, row);
     drop(entry);
-    match pushed {
-        Ok(()) => next,
-        Err(error) => {
-            drop(next);
-            Err(error)
-        }
-    }
+    pushed
 }
 
 // Adds an entry behind an open gate and its length.

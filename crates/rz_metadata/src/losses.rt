@@ -1,7 +1,5 @@
 //! The losses of nodes that an export enrolled last, read off its parts.
-ghost use Rattle.std.specs.Prelude.{◌≡◌, ◌++◌, ◌∷◌, ℕ, [], map, Some, IfOk, OnOk};
-ghost use Rattle.std.specs.List.{slice_get};
-ghost use Rattle.rz_export.specs.Parts.{export_parts, IsBefore};
+ghost use Rattle.std.specs.Prelude.{◌≡◌, ◌++◌, ◌∷◌, [], map, IfOk, OnOk};
 ghost use Rattle.rz_events.specs.declared.files.NodeSpec.{NodeSpec as ANode};
 ghost use Rattle.rz_metadata.specs.Enrolled.{loss_among, loss_of, losses_in, losses_enrolled};
 
@@ -34,31 +32,20 @@ fn enrolled(alloc: Global, export: &Export) -> Result<Vec<(u16, u64)>, AllocErro
         let Some(part) = next else {
             return Ok(losses);
         };
-        next = note_part(export, part, &mut losses)?;
+        next = export.part_after(Some(&part))?;
+        note_part(part, &mut losses)?;
     }
     // Memory holds no export of so many parts.
     Err(AllocError)
 }
 
-/// Adds what a part says of a loss, and gives the part behind it.
-fn note_part(
-    export: &Export,
-    part: Part,
-    losses: &mut Vec<(u16, u64)>,
-) -> Result<Option<Part>, AllocError>
-    ensures losses { OnOk result (losses.new.items ≡ losses.old.items ++ losses_in (part ∷ [])) }
-    ensures next { (k : ℕ) → IsBefore (Some part) (export_parts export.now) k → IfOk result (λ next. next ≡ slice_get (export_parts export.now) k) }
+/// Adds what a part says of a loss. The part goes then.
+fn note_part(part: Part, losses: &mut Vec<(u16, u64)>) -> Result<(), AllocError>
+    ensures { OnOk result (losses.new.items ≡ losses.old.items ++ losses_in (part ∷ [])) }
 {
-    let next = export.part_after(Some(&part));
     let noted = note(&part, losses);
     drop(part);
-    match noted {
-        Ok(()) => next,
-        Err(error) => {
-            drop(next);
-            Err(error)
-        }
-    }
+    noted
 }
 
 /// Adds the node and the loss, where a part is an enrolment.

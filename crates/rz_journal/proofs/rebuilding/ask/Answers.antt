@@ -6,10 +6,10 @@ use Rattle.rz_journal.proofs.rebuilding.ask.Goals as goal
 
 pub returns-clause-accepted : goal.returns-clause-accepted
 returns-clause-accepted c =
-    let other : c.is_want.result ≡ false = search rules in
-    c.accepts.ensures ∙ (asked c.args.export.now c.answer-reply.new.self c.args.call.now c.answer-reply.result c.answer-reply.ensures (λ (is : c.answer-reply.result ≡ NoMemory). (let wrong : true ≡ false = sym (c.is_want.ensures.1 is) ∙ other in absurd (cc)))).0
+    let other : c.is_want-is_wanting.result ≡ false = search rules in
+    c.accepts-is_accepted.ensures ∙ (asked c.args.export.now c.answer-reply.new.self c.args.call.now c.answer-reply.result c.answer-reply.ensures (λ (is : c.answer-reply.result ≡ NoMemory). (let wrong : true ≡ false = sym (c.is_want-is_wanting.ensures.1 is) ∙ other in absurd (cc)))).0
 
 pub returns-clause-after : goal.returns-clause-after
 returns-clause-after c =
-    let other : c.is_want.result ≡ false = search rules in
-    (asked c.args.export.now c.answer-reply.new.self c.args.call.now c.answer-reply.result c.answer-reply.ensures (λ (is : c.answer-reply.result ≡ NoMemory). (let wrong : true ≡ false = sym (c.is_want.ensures.1 is) ∙ other in absurd (cc)))).1
+    let other : c.is_want-is_wanting.result ≡ false = search rules in
+    (asked c.args.export.now c.answer-reply.new.self c.args.call.now c.answer-reply.result c.answer-reply.ensures (λ (is : c.answer-reply.result ≡ NoMemory). (let wrong : true ≡ false = sym (c.is_want-is_wanting.ensures.1 is) ∙ other in absurd (cc)))).1

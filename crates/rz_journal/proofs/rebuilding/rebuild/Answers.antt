@@ -1,8 +1,7 @@
 -- The entries are added to a new export of the volume.
-use Rattle.std.proofs.Common.{List, ℕ, sym, ◌∙◌, ap, subst}
+use Rattle.std.proofs.Common.{sym, ◌∙◌, ap, subst}
 use Rattle.rz_events.specs.Volume.{Volume}
 use Rattle.rz_export_model.specs.Export.{Export, new_export}
-use Rattle.rz_journal.specs.declared.rebuilding.JournalFault.{JournalFault}
 use Rattle.rz_journal.specs.Opening.{IsRebuilt, IsStopped}
 use Rattle.rz_journal.proofs.rebuilding.rebuild.Goals as goal
 

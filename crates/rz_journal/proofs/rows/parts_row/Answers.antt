@@ -16,8 +16,8 @@ loop-preserved c =
     let parts = export_parts c.args.export.now in
     let at = sym c.loop.invariant.here ∙ c.in-Some.is in
     record {
-      so_far = row_goes parts c.loop.counter c.in-Some.part c.loop.row.items c.push_part.new.row.items at c.loop.invariant.so_far c.in_ok-next-2.ensures.row c.in_ok-next-2.ensures.spelled;
-      here = later_next parts c.loop.counter c.in-Some.part c.push_part.result c.in_ok-next-2.next at c.in_ok-next-2.was c.push_part.ensures.next;
+      so_far = row_goes parts c.loop.counter c.in-Some.part c.loop.row.items c.push_part.new.row.items at c.loop.invariant.so_far c.in_ok-push_part.ensures.row c.in_ok-push_part.ensures.spelled;
+      here = later_next parts c.loop.counter c.in-Some.part c.part_after-in-loop.result c.in_ok-next-2.next at c.in_ok-next-2.was c.part_after-in-loop.ensures;
     }
 
 pub returns-in_default : goal.returns-in_default

@@ -16,8 +16,8 @@ loop-preserved c =
     let parts = export_parts c.args.export.now in
     let at = sym c.loop.invariant.here ∙ c.in-Some.is in
     record {
-      so_far = goes-on parts c.loop.counter c.in-Some.part c.loop.losses.items c.note_part.new.losses.items at c.loop.invariant.so_far c.in_ok-next-2.ensures.losses;
-      here = later-next parts c.loop.counter c.in-Some.part c.note_part.result c.in_ok-next-2.next at c.in_ok-next-2.was c.note_part.ensures.next;
+      so_far = goes-on parts c.loop.counter c.in-Some.part c.loop.losses.items c.note_part.new.losses.items at c.loop.invariant.so_far c.in_ok-note_part.ensures;
+      here = later-next parts c.loop.counter c.in-Some.part c.part_after-in-loop.result c.in_ok-next-2.next at c.in_ok-next-2.was c.part_after-in-loop.ensures;
     }
 
 pub returns-in_default : goal.returns-in_default

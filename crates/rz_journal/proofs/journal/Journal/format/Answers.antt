@@ -12,3 +12,6 @@ returns-in-Ok-format-clause-stands g c told = none_text c.args.volume (g.D.Disk.
 
 pub returns-in-Err-clause-crash : goal.returns-in-Err-clause-crash
 returns-in-Err-clause-crash g c told text left = none_left (g.D.Disk.image c.args.disk text) c.args.volume text (c.in-Err.ensures.crash told text left)
+
+pub returns-in-Err-clause-risen : goal.returns-in-Err-clause-risen
+returns-in-Err-clause-risen g c is = c.in-Err.ensures.risen (c.format_fault.ensures is)
