@@ -3,7 +3,7 @@
 use rz_script::Script;
 
 /// Which play it is.
-#[derive(Clone, Copy, Debug, PartialEq, Eq, Drop)]
+#[derive(Clone, Copy, Drop)]
 pub enum Wish {
     /// The script of the input.
     Replay,
@@ -18,7 +18,7 @@ pub enum Wish {
 }
 
 /// A script that is to be played, for a wish.
-#[derive(Debug, Drop)]
+#[derive(Drop)]
 pub struct Request {
     pub wish: Wish,
     pub script: Script,
