@@ -20,7 +20,7 @@ pub enum Command {
 }
 
 /// A command, the number of disks, and the folder of their files if there is one.
-#[derive(Debug, Drop)]
+#[derive(Drop)]
 pub struct Wanted {
     pub command: Command,
     pub disks: u16,
@@ -28,7 +28,7 @@ pub struct Wanted {
 }
 
 /// Why words are not taken.
-#[derive(Clone, Copy, Debug, PartialEq, Eq, Drop)]
+#[derive(Clone, Copy, Drop)]
 pub enum WordsError {
     NoMemory,
     /// The words are not of the form.

@@ -4,7 +4,7 @@ ghost use Rattle.std.specs.Prelude.{◌≡◌, ◌<◌, [], ◌∷◌, IfSome, M
 ghost use Rattle.rz_command.specs.Items.{AreStated, after_equals, before_equals, is_kind as same_kind, item, items, option_named, values};
 
 /// What kind of item it is.
-#[derive(Clone, Copy, Debug)]
+#[derive(Clone, Copy)]
 pub enum Kind {
     /// The option for the number of disks.
     Disks,
@@ -15,7 +15,7 @@ pub enum Kind {
 }
 
 /// An item, and the text that it states.
-#[derive(Clone, Copy, Debug)]
+#[derive(Clone, Copy)]
 pub struct Item<'a> {
     pub kind: Kind,
     pub text: &'a str,

@@ -10,7 +10,7 @@ use crate::items::{Kind, stated};
 use crate::numbers::read_number_in;
 
 /// A line that has the form.
-#[derive(Clone, Copy, Debug)]
+#[derive(Clone, Copy)]
 pub struct Line<'a> {
     pub command: Command,
     pub disks: u16,

@@ -2,7 +2,7 @@
 
 ghost use Rattle.std.specs.Prelude.{◌≡◌, IfErr, IfOk, false, map, string_bytes, true};
 ghost use Rattle.clap.specs.Simple.{HasMatchesOf};
-ghost use Rattle.clap.specs.Words.{app_of, kind_of, takes};
+ghost use Rattle.clap.specs.Words.{app_of, kind_of, takes, with_subcommand};
 ghost use Rattle.clap.specs.declared.builder.command.Command.TheViews.{out-Command};
 ghost use Rattle.rz_command.specs.Parser.{numbered, plain, rozo, short};
 
@@ -19,8 +19,9 @@ fn plain_command<'a>(alloc: Global, name: &'a str) -> Result<Command<'a>, AllocE
         .long("disks")
         .action(ArgAction::Set)
         .required(true);
+    let command = Command::new(alloc, name).arg(disks)?;
     let dir = Arg::new(alloc, "dir").long("dir").action(ArgAction::Set);
-    Command::new(alloc, name).arg(disks)?.arg(dir)
+    command.arg(dir)
 }
 
 /// A command with the two options and a number.
@@ -28,37 +29,66 @@ fn numbered_command<'a>(alloc: Global, name: &'a str) -> Result<Command<'a>, All
     ensures app { IfOk result (λ c. app_of c ≡ numbered name.entry.now) }
     ensures local { IfOk result (λ c. (out-Command c).has_globals ≡ false) }
 {
+    let command = plain_command(alloc, name)?;
     let number = Arg::new(alloc, "number")
         .action(ArgAction::Set)
         .required(true);
-    plain_command(alloc, name)?.arg(number)
+    command.arg(number)
+}
+
+/// A command with one more below it, which has the two options and this name.
+fn with_plain<'a>(
+    alloc: Global,
+    above: Command<'a>,
+    name: &'a str,
+) -> Result<Command<'a>, AllocError>
+    ensures { IfOk result (λ c. app_of c ≡ with_subcommand (app_of above.entry) (plain name.entry.now).top) }
+{
+    match plain_command(alloc, name) {
+        Ok(command) => above.subcommand(command),
+        Err(error) => {
+            drop(above);
+            Err(error)
+        }
+    }
+}
+
+/// A command with one more below it, which has a number too.
+fn with_numbered<'a>(
+    alloc: Global,
+    above: Command<'a>,
+    name: &'a str,
+) -> Result<Command<'a>, AllocError>
+    ensures { IfOk result (λ c. app_of c ≡ with_subcommand (app_of above.entry) (numbered name.entry.now).top) }
+{
+    match numbered_command(alloc, name) {
+        Ok(command) => above.subcommand(command),
+        Err(error) => {
+            drop(above);
+            Err(error)
+        }
+    }
 }
 
 /// The program's commands without a number.
 fn short_command<'a>(alloc: Global) -> Result<Command<'a>, AllocError>
     ensures { IfOk result (λ c. app_of c ≡ short) }
 {
-    let replay = plain_command(alloc, "replay")?;
-    let run = plain_command(alloc, "run")?;
-    let scrub = plain_command(alloc, "scrub")?;
-    let first = plain_command(alloc, "first")?;
-    let again = plain_command(alloc, "again")?;
-    Command::new(alloc, "rozo")
-        .subcommand_required(true)
-        .subcommand(replay)?
-        .subcommand(run)?
-        .subcommand(scrub)?
-        .subcommand(first)?
-        .subcommand(again)
+    let none = Command::new(alloc, "rozo").subcommand_required(true);
+    let one = with_plain(alloc, none, "replay")?;
+    let two = with_plain(alloc, one, "run")?;
+    let three = with_plain(alloc, two, "scrub")?;
+    let four = with_plain(alloc, three, "first")?;
+    with_plain(alloc, four, "again")
 }
 
 /// The whole command.
 fn rozo_command<'a>(alloc: Global) -> Result<Command<'a>, AllocError>
     ensures { IfOk result (λ c. app_of c ≡ rozo) }
 {
-    let load = numbered_command(alloc, "load")?;
-    let migrate = numbered_command(alloc, "migrate")?;
-    short_command(alloc)?.subcommand(load)?.subcommand(migrate)
+    let short = short_command(alloc)?;
+    let more = with_numbered(alloc, short, "load")?;
+    with_numbered(alloc, more, "migrate")
 }
 
 /// What `clap` reads of the words.

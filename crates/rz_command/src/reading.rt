@@ -29,7 +29,10 @@ pub fn wanted(alloc: Global, words: &[String]) -> Result<Wanted, WordsError>
     let Some(line) = read_line(words) else {
         return Err(WordsError::Usage);
     };
-    if parse(alloc, words).is_err() {
+    let parsed = parse(alloc, words);
+    let is_taken = parsed.is_ok();
+    drop(parsed);
+    if !is_taken {
         return Err(WordsError::NoMemory);
     }
     match own(alloc, line.folder) {

@@ -29,10 +29,5 @@ pub(crate) fn add<J: Naming>(
         Some(event) => book.commit::<Event, Itself>(pass, post, event),
         None => {}
     }
-    let_go(event);
-}
-
-// Without it the end of an event has a case for each of its variants in the proof of whoever has it.
-fn let_go(event: Option<Event>) {
-    let _ = event;
+    drop(event);
 }

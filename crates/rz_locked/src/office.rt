@@ -88,7 +88,8 @@ impl<J: Naming> Office<J> {
     pub fn close(self) -> Post<J>
         ensures { result ≡ record { word = w.Export; log = self } }
     {
-        let Office { export: _, post } = self;
+        let Office { export, post } = self;
+        drop(export);
         post
     }
 

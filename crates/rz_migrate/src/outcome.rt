@@ -7,7 +7,7 @@ use rz_request::{Refusal, Stop};
 use std::alloc::{AllocError, Global};
 
 /// The fence and the number of the records that were carried over.
-#[derive(Clone, Copy, Debug, PartialEq, Eq, Drop)]
+#[derive(Clone, Copy, Drop)]
 pub struct Migrated {
     pub fence: u64,
     pub records: u64,

@@ -13,7 +13,7 @@ pub const LIMIT: usize = 4_194_304;
 const PIECE: usize = 65_536;
 
 /// What came of reading an input.
-#[derive(Debug, Drop)]
+#[derive(Drop)]
 pub enum Taken {
     /// All of it, which is no longer than the limit.
     All(Vec<u8>),

@@ -23,8 +23,6 @@ mod old;
 mod reading;
 mod refusal;
 mod running;
-#[cfg(test)]
-mod tests;
 mod wishes;
 
 pub use asking::request;

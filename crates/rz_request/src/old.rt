@@ -18,7 +18,7 @@ use rz_script::{Form, Script, ScriptError};
 use std::alloc::Global;
 
 /// A node of a volume of this layout, which has blocks of 4096 bytes.
-#[derive(Clone, Copy, Debug, PartialEq, Eq, Drop)]
+#[derive(Clone, Copy, Drop)]
 pub struct OldNode {
     pub layout: Layout,
     pub node: NodeSpec,

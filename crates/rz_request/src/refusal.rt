@@ -8,7 +8,7 @@ use rz_script::{ScriptCause, VolumeFault};
 use std::alloc::{AllocError, Global};
 
 /// Why nothing is played, or why a play was cut off.
-#[derive(Debug, Drop)]
+#[derive(Drop)]
 pub enum Refusal {
     /// The words are those of no command that is built.
     Usage,
@@ -39,7 +39,7 @@ pub enum Refusal {
 }
 
 /// Why there is nothing to play.
-#[derive(Debug, Drop)]
+#[derive(Drop)]
 pub enum Stop {
     NoMemory,
     /// The source failed.

@@ -3,7 +3,7 @@
 use rz_script::Script;
 
 /// Which play it is.
-#[derive(Clone, Copy, Debug, PartialEq, Eq, Drop)]
+#[derive(Clone, Copy, Drop)]
 pub enum Wish {
     /// The script of the input.
     Replay,

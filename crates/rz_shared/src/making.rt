@@ -83,6 +83,7 @@ impl<D: Disk, J: Counting> Cluster<D, J> {
     {
         let _ = book;
         let Ok(parts) = new_parts::<D, J>(alloc, volume) else {
+            drop(desk);
             return Err((disks, DriverFault::NoMemory));
         };
         match format_all(alloc, parts.layout, parts.nodes.as_slice(), disks) {
@@ -96,7 +97,11 @@ impl<D: Disk, J: Counting> Cluster<D, J> {
                     room: Mutex::new(Room::of(parts.unlocked, home, posts)),
                 })
             }
-            Err(back) => Err(back),
+            Err(back) => {
+                drop(parts);
+                drop(desk);
+                Err(back)
+            }
         }
     }
 }

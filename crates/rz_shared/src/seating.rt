@@ -32,6 +32,8 @@ pub(crate) fn seat_all<D: Disk, J: Counting>(
     while let Some(station) = stations.pop() {
         if let Some(post) = posts.pop() {
             let _seated = seats.push(seated(alloc, station, post));
+        } else {
+            drop(station);
         }
     }
     seats.reverse();

@@ -8,7 +8,7 @@ ghost use Rattle.rz_config.specs.Plain.{plain_volume};
 ghost use Rattle.rz_chronicle.specs.Kinds.{kind_of};
 
 use crate::sharing::{is_kept, keep};
-use crate::stage::{FIRST, SECOND, Stage, staged, words};
+use crate::stage::{FIRST, SECOND, Stage, both_words, staged};
 use rz_chronicle::{Book, Opened, Pass};
 use rz_config::Volume;
 use rz_disk::{Disk, PlainDisk};
@@ -81,6 +81,32 @@ fn keep_on_both<D: Disk + Send, J: Counting + Send + Sync, R: Threads + Wait + S
     )
 }
 
+/// Both records are kept.
+fn kept_on_both<D: Disk + Send, J: Counting + Send + Sync, R: Threads + Wait + Abort + Sync>(
+    rt: &R,
+    stage: Stage<D, J>,
+    left: Vec<u64>,
+    right: Vec<u64>,
+) -> Result<(), Fail>
+    requires kind { J.kind ≡ kind_of false plain_volume }
+    requires one { ¬ (stage.one.actor ≡ a.Admin) }
+    requires two { ¬ (stage.two.actor ≡ a.Admin) }
+    requires left { length left.items ≡ 258 }
+    requires right { length right.items ≡ 258 }
+{
+    let Stage {
+        book,
+        cluster,
+        one,
+        two,
+    } = stage;
+    let (a, b) = keep_on_both(rt, &book, &cluster, one, two, left, right);
+    drop(cluster);
+    drop(book);
+    assert!(rt; is_kept(&a) && is_kept(&b));
+    Ok(())
+}
+
 #[test]
 fn keeps_of_two_nodes_meet(rt: HostRuntime) -> Result<(), Fail> {
     let volume = Volume::plain(rt.alloc())?;
@@ -105,15 +131,12 @@ fn met<J: Counting + Send + Sync, R: Threads + Wait + Abort + Sync>(
     requires disks { length disks.items ≡ 4 }
     requires first { (n : ℕ) → J.first n ≡ 0 }
 {
-    let Stage {
-        book,
-        cluster,
-        one,
-        two,
-    } = staged::<MeetDisk<'_, PlainDisk>, J>(alloc, opened, volume, disks)?;
-    let left = words(alloc, 5)?;
-    let right = words(alloc, 6)?;
-    let (a, b) = keep_on_both(rt, &book, &cluster, one, two, left, right);
-    assert!(rt; is_kept(&a) && is_kept(&b));
-    Ok(())
+    let stage = staged::<MeetDisk<'_, PlainDisk>, J>(alloc, opened, volume, disks)?;
+    match both_words(alloc, 5, 6) {
+        Ok((left, right)) => kept_on_both(rt, stage, left, right),
+        Err(why) => {
+            drop(stage);
+            Err(Fail::from(why))
+        }
+    }
 }

@@ -7,7 +7,7 @@ ghost use Rattle.rz_core.specs.NodeRows.{IsNodeOf};
 ghost use Rattle.rz_config.specs.Plain.{plain_volume};
 ghost use Rattle.rz_chronicle.specs.Kinds.{kind_of};
 
-use crate::stage::{FIRST, SECOND, Stage, staged, words};
+use crate::stage::{FIRST, SECOND, Stage, both_words, staged};
 use rz_chronicle::{Book, Naming, Opened, Pass};
 use rz_config::Volume;
 use rz_disk::{Disk, PlainDisk};
@@ -141,17 +141,43 @@ fn counted<J: Counting + Send + Sync, R: Threads + Wait + Abort + Sync>(
     requires disks { length disks.items ≡ 4 }
     requires first { (n : ℕ) → J.first n ≡ 0 }
 {
+    let stage = staged::<PlainDisk, J>(alloc, opened, volume, disks)?;
+    match both_words(alloc, 0, 0) {
+        Ok((left, right)) => fetched(rt, stage, left, right),
+        Err(why) => {
+            drop(stage);
+            Err(Fail::from(why))
+        }
+    }
+}
+
+/// All fetches of both are counted.
+fn fetched<D: Disk + Send, J: Counting + Send + Sync, R: Threads + Wait + Abort + Sync>(
+    rt: &R,
+    stage: Stage<D, J>,
+    left: Vec<u64>,
+    right: Vec<u64>,
+) -> Result<(), Fail>
+    requires kind { J.kind ≡ kind_of false plain_volume }
+    requires one { ¬ (stage.one.actor ≡ a.Admin) }
+    requires two { ¬ (stage.two.actor ≡ a.Admin) }
+    requires left { length left.items ≡ 258 }
+    requires right { length right.items ≡ 258 }
+{
     let Stage {
         book,
         cluster,
         one,
         two,
-    } = staged::<PlainDisk, J>(alloc, opened, volume, disks)?;
-    let left = words(alloc, 0)?;
-    let right = words(alloc, 0)?;
+    } = stage;
     let (mut one, two) = fetch_on_both(rt, &book, &cluster, one, two, left, right);
+    drop(cluster);
     book.meet(&mut one, &two);
-    assert_eq!(rt; book.count(&mut one, 1), 200);
+    drop(two);
+    let count = book.count(&mut one, 1);
+    drop(one);
+    drop(book);
+    assert_eq!(rt; count, 200);
     Ok(())
 }
 
@@ -241,24 +267,50 @@ fn read_across<J: Counting + Send + Sync, R: Threads + Wait + Abort + Sync>(
     requires disks { length disks.items ≡ 4 }
     requires first { (n : ℕ) → J.first n ≡ 0 }
 {
+    let stage = staged::<PlainDisk, J>(alloc, opened, volume, disks)?;
+    match both_words(alloc, 5, 6) {
+        Ok((left, right)) => crossed(rt, stage, left, right),
+        Err(why) => {
+            drop(stage);
+            Err(Fail::from(why))
+        }
+    }
+}
+
+/// Both records are kept and one at least is found, and all four calls are counted, in the end too.
+fn crossed<D: Disk + Send, J: Counting + Send + Sync, R: Threads + Wait + Abort + Sync>(
+    rt: &R,
+    stage: Stage<D, J>,
+    left: Vec<u64>,
+    right: Vec<u64>,
+) -> Result<(), Fail>
+    requires kind { J.kind ≡ kind_of false plain_volume }
+    requires one { ¬ (stage.one.actor ≡ a.Admin) }
+    requires two { ¬ (stage.two.actor ≡ a.Admin) }
+    requires left { length left.items ≡ 258 }
+    requires right { length right.items ≡ 258 }
+{
     let Stage {
         book,
         cluster,
         one,
         two,
-    } = staged::<PlainDisk, J>(alloc, opened, volume, disks)?;
-    let left = words(alloc, 5)?;
-    let right = words(alloc, 6)?;
+    } = stage;
     let (a, b) = write_on_both(rt, &book, &cluster, one, two, left, right);
     assert!(rt; is_kept(&a.kept) && is_kept(&b.kept));
     // In whatever order the four calls stand in the log, a write stands before the other's read.
     assert!(rt; is_found(&a.read) || is_found(&b.read));
     let (mut one, two) = (a.pass, b.pass);
     book.meet(&mut one, &two);
-    assert_eq!(rt; book.count(&mut one, 1), 4);
+    drop(two);
+    let met = book.count(&mut one, 1);
     let (disks, desk) = cluster.close();
-    assert_eq!(rt; disks.len(), 4);
+    let closed = disks.len();
+    drop(disks);
     book.settle(&mut one, desk);
-    assert_eq!(rt; book.count(&mut one, 1), 4);
+    let settled = book.count(&mut one, 1);
+    drop(one);
+    drop(book);
+    assert_eq!(rt; (met, closed, settled), (4, 4, 4));
     Ok(())
 }

@@ -8,8 +8,6 @@
 //! In reading order: `text`.
 #![tactic(auto)]
 
-#[cfg(test)]
-mod tests;
 mod text;
 
 pub use text::show_run;

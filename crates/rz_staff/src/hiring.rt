@@ -86,6 +86,8 @@ fn hire_all<J: Counting, L: Link>(
     for recruit in recruits {
         if let Some(link) = links.pop() {
             let _kept = members.push(hire_one(alloc, recruit, link));
+        } else {
+            drop(recruit);
         }
     }
     (members, links)

@@ -7,7 +7,7 @@ use crate::kinds::{is_acked, is_found, is_get, is_left, is_put, is_rebuilt, is_t
 use rz_events::Event;
 
 /// The counts of a log.
-#[derive(Clone, Copy, Debug)]
+#[derive(Clone, Copy)]
 pub struct Counts {
     pub puts: usize,
     pub acked: usize,

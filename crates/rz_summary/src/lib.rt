@@ -11,7 +11,5 @@
 mod counts;
 mod kinds;
 mod line;
-#[cfg(test)]
-mod tests;
 
 pub use line::summary;

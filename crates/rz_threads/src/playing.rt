@@ -77,9 +77,11 @@ fn gather_up<D: Disk, J: Counting>(
     let Store {
         cluster,
         book,
-        volume: _volume,
-        locks: _locks,
+        volume,
+        locks,
     } = store;
+    drop(volume);
+    drop(locks);
     let mut front = admin;
     gather_all(&book, &mut front, passes);
     let disks = settled(&book, &mut front, cluster);

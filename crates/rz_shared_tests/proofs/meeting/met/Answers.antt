@@ -1,5 +1,4 @@
 use Rattle.std.proofs.Common.{◌≡◌, map, refl, sym, subst}
-use Rattle.rz_shared_tests.proofs.Records.{first-record, second-record}
 use Rattle.rz_events.specs.Volume.{Volume}
 use Rattle.rz_config.specs.Plain.{plain_volume}
 use Rattle.rz_chronicle.specs.Keys.{sids_of}
@@ -9,9 +8,3 @@ use Rattle.rz_shared_tests.proofs.meeting.met.Goals as goal
 pub staged-requires-clause-counts : goal.staged-requires-clause-counts
 staged-requires-clause-counts g c = subst (λ (v : Volume). map g.J.Counting.first (sids_of v) ≡ map (λ d. 0) c.args.disks.items) (sym c.requires.volume)
     (none-counted (λ d. 0) g.J.Counting.first (λ d. refl) c.requires.first (sids_of plain_volume) c.args.disks.items (sym c.requires.disks))
-
-pub keep_on_both-a-requires-clause-left : goal.keep_on_both-a-requires-clause-left
-keep_on_both-a-requires-clause-left g c κs within = first-record c.in_ok-left.left.items c.in_ok-left.ensures
-
-pub keep_on_both-a-requires-clause-right : goal.keep_on_both-a-requires-clause-right
-keep_on_both-a-requires-clause-right g c κs within = second-record c.in_ok-right.right.items c.in_ok-right.ensures

@@ -1,7 +1,7 @@
-//! The line of a small log.
-
-use crate::summary;
+//! The line of the command load, of a small log.
+use crate::comparing::compare;
 use rz_events::{Actor, Answer, Event, Key, ReadEnd, RebuildEnd, WriteEnd};
+use rz_summary::summary;
 use std::test::Fail;
 
 const LINE: &str =
@@ -36,6 +36,5 @@ fn small_log(rt: HostRuntime) -> Result<(), Fail> {
     };
     let log = vec![in rt.alloc(); put, get, rebuild]?;
     let line = summary(rt.alloc(), 7, &log)?;
-    assert_eq!(rt; line.as_slice(), LINE.as_bytes());
-    Ok(())
+    compare(&line.as_slice(), &LINE.as_bytes(), "load")
 }

@@ -1,9 +1,10 @@
 //! The text of a small run, byte for byte.
-use crate::show_run;
+use crate::comparing::compare;
 use rz_events::{
     Actor, Answer, Event, FileInfo, Key, Places, ReadEnd, RebuildEnd, Seen, Text, TreeCall,
     TreeReply, WriteEnd,
 };
+use rz_shown::show_run;
 use std::alloc::{AllocError, Global};
 use std::test::Fail;
 
@@ -47,56 +48,60 @@ fn open(alloc: Global, by: Actor) -> Result<Event, AllocError> {
     Ok(Event::Meta { by, call, reply })
 }
 
-/// Clients 1 and 2 and rebuilder 1. The first client alone opened a file, so the second has no positions.
-#[test]
-fn run(rt: HostRuntime) -> Result<(), Fail> {
-    let alloc = rt.alloc();
-    let mut first = Vec::new(alloc);
+/// What the first client shows. It alone opened a file.
+fn first(alloc: Global) -> Result<Vec<Event>, AllocError> {
     let by = Actor::Client(1);
-    first.push(open(alloc, by)?)?;
-    first.push(Event::Got {
+    let unread = Event::Got {
         by,
         number: 1,
         key: KEY,
         part: false,
         end: ReadEnd::TooFew { seen: SEEN },
-    })?;
-    first.push(Event::Done {
+    };
+    let read = Event::Done {
         by,
         number: 2,
         answer: Answer::Read(Text::from_bytes(alloc, b"ab")?),
-    })?;
-    let mut second = Vec::new(alloc);
-    second.push(Event::Gave {
+    };
+    vec![in alloc; open(alloc, by)?, unread, read]
+}
+
+/// What the second client shows.
+fn second(alloc: Global) -> Result<Vec<Event>, AllocError> {
+    let acked = Event::Gave {
         by: Actor::Client(2),
         number: 1,
         key: KEY,
         part: false,
         end: WriteEnd::Acked { stamp: 9, mask: 7 },
-    })?;
-    let mut third = Vec::new(alloc);
-    third.push(Event::Done {
+    };
+    vec![in alloc; acked]
+}
+
+/// What the first rebuilder shows.
+fn third(alloc: Global) -> Result<Vec<Event>, AllocError> {
+    let rebuilt = Event::Done {
         by: Actor::Rebuilder(1),
         number: 1,
         answer: Answer::Rebuild(RebuildEnd::NotLost),
-    })?;
-    let mut shown = Vec::new(alloc);
-    shown.push(first)?;
-    shown.push(second)?;
-    shown.push(third)?;
+    };
+    vec![in alloc; rebuilt]
+}
+
+const LINES: &[u8] = b"c1 1 toofew snd\nc1 2 read 2 x:6162\nc2 1 acked 9 \nr1 1 notlost\nend 123\n";
+
+/// Clients 1 and 2 and rebuilder 1. The second client opened no file, so it has no positions.
+#[test]
+fn run(rt: HostRuntime) -> Result<(), Fail> {
+    let alloc = rt.alloc();
+    let shown = vec![in alloc; first(alloc)?, second(alloc)?, third(alloc)?]?;
     let text = show_run(alloc, &shown, 123)?;
-    assert_eq!(rt;
-        text.as_slice(),
-        b"c1 1 toofew snd\nc1 2 read 2 x:6162\nc2 1 acked 9 \nr1 1 notlost\nend 123\n".as_slice()
-    );
-    Ok(())
+    compare(&text.as_slice(), &LINES, "run")
 }
 
 /// No actor did anything that is told.
 #[test]
 fn nothing(rt: HostRuntime) -> Result<(), Fail> {
-    let alloc = rt.alloc();
-    let text = show_run(alloc, &[], 0)?;
-    assert_eq!(rt; text.as_slice(), b"end 0\n".as_slice());
-    Ok(())
+    let text = show_run(rt.alloc(), &[], 0)?;
+    compare(&text.as_slice(), &b"end 0\n".as_slice(), "nothing")
 }
