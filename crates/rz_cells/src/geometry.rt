@@ -28,7 +28,7 @@ impl Version {
 }
 
 /// The layout of a node's records, the node, and its pairs of cells, 1 to 1,048,576.
-#[derive(Clone, Copy, Drop)]
+#[derive(Clone, Copy, PartialEq, Eq, Drop)]
 pub struct Geometry {
     pub layout: Layout,
     /// The byte of the block size, which is the layout's own.

@@ -99,7 +99,7 @@ fn an_old_disk_is_carried_over(rt: HostRuntime) -> Result<(), Fail> {
     assert_eq!(rt; cells.fence(), 3);
     let heads = [Some(FIRST), None, Some(SECOND), None, None, None];
     for (cell, head) in heads.iter().enumerate() {
-        if cells.geometry().cells == 3 {
+        if cells.geometry() == THREE {
             assert_eq!(rt; cells.head(cell as u32), *head, "cell {cell}");
         }
     }

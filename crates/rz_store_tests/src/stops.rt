@@ -207,47 +207,31 @@ fn failing_at(alloc: Global, number: u64) -> Result<MemDisk, AllocError> {
 
 const PICKS: [u64; 4] = [0, 1, 300, 301];
 
-/// What is there after a change that stops, a crash and a start.
-fn after<D: Disk>(
-    alloc: Global,
-    disk: D,
-    row: &Stop,
-    passes: u64,
-    pick: u64,
-) -> Result<(bool, [bool; 3]), Fail> {
-    let node = stopped(alloc, disk, row, passes)?;
-    started(alloc, node, pick)
-}
-
-/// Whether the gate of a change picks the other slot after a crash.
-fn is_flipped(row: &Stop, pick: u64) -> bool {
-    left(row.gate, 1 - row.gate % 2, row.gate_at, pick) % 2 != row.gate % 2
-}
-
-/// What is to be there, where the change was taken or not.
-fn wanted(row: &Stop, took: bool) -> (bool, [bool; 3]) {
-    (took, if took { row.after } else { row.before })
-}
-
 /// A formatting makes the calls 0 to 4 of its disk, and each change that is done the next four.
 #[test]
 fn a_change_that_stops_is_done_or_not(rt: HostRuntime) -> Result<(), Fail> {
     for row in rows().iter() {
         let begin = 5 + 4 * u64::from(row.earlier);
         for pick in PICKS {
-            let is_flipped = is_flipped(row, pick);
+            let is_flipped = left(row.gate, 1 - row.gate % 2, row.gate_at, pick) % 2
+                != row.gate % 2;
             for call in 0..4 {
-                let disk = failing_at(rt.alloc(), begin + call)?;
-                let by_fault = after(rt.alloc(), disk, row, 0, pick)?;
-                let disk = Fused::new(PlainDisk::new(rt.alloc()));
-                let by_fuse = after(rt.alloc(), disk, row, call, pick)?;
+                let node = stopped(rt.alloc(), failing_at(rt.alloc(), begin + call)?, row, 0)?;
+                let took = is_flipped && call == 3;
+                let held = if took { row.after } else { row.before };
                 assert_eq!(rt;
-                    (by_fault, by_fuse),
-                    (
-                        wanted(row, is_flipped && call == 3),
-                        wanted(row, is_flipped && call >= 2)
-                    ),
+                    started(rt.alloc(), node, pick)?,
+                    (took, held),
                     "call {call}, pick {pick}"
+                );
+                let disk = Fused::new(PlainDisk::new(rt.alloc()));
+                let node = stopped(rt.alloc(), disk, row, call)?;
+                let took = is_flipped && call >= 2;
+                let held = if took { row.after } else { row.before };
+                assert_eq!(rt;
+                    started(rt.alloc(), node, pick)?,
+                    (took, held),
+                    "passes {call}, pick {pick}"
                 );
             }
         }
@@ -302,17 +286,6 @@ fn found<D: Disk>(alloc: Global, node: Node<D>, pick: u64) -> Result<Found, Fail
     }
 }
 
-/// What is found after a replacement that stopped.
-fn after_replacement<D: Disk>(
-    alloc: Global,
-    disk: D,
-    passes: u64,
-    pick: u64,
-) -> Result<Found, Fail> {
-    let node = lost(alloc, disk, passes)?;
-    found(alloc, node, pick)
-}
-
 /// Before the replacement and after it.
 const WAS: Found = Some((0, [true, false, false]));
 
@@ -329,39 +302,36 @@ fn a_replacement_that_stops_is_done_or_shut(rt: HostRuntime) -> Result<(), Fail>
         };
         for (call, wanted) in [WAS, None, None, None, by_gate].iter().enumerate() {
             let disk = failing_at(rt.alloc(), 9 + call as u64)?;
-            let found = after_replacement(rt.alloc(), disk, 0, pick)?;
-            assert_eq!(rt; found, *wanted, "call {call}, pick {pick}");
+            let node = lost(rt.alloc(), disk, 0)?;
+            assert_eq!(rt;
+                found(rt.alloc(), node, pick)?,
+                *wanted,
+                "call {call}, pick {pick}"
+            );
         }
         for (passes, wanted) in [None, None, by_gate, by_gate].iter().enumerate() {
             let disk = Fused::new(PlainDisk::new(rt.alloc()));
-            let found = after_replacement(rt.alloc(), disk, passes as u64, pick)?;
-            assert_eq!(rt; found, *wanted, "passes {passes}, pick {pick}");
+            let node = lost(rt.alloc(), disk, passes as u64)?;
+            assert_eq!(rt;
+                found(rt.alloc(), node, pick)?,
+                *wanted,
+                "passes {passes}, pick {pick}"
+            );
         }
     }
     Ok(())
 }
 
-/// The answer of a second replacement behind one that stopped, and what the node has then.
-fn replaced_again<D: Disk>(
-    alloc: Global,
-    disk: D,
-    passes: u64,
-) -> Result<(ReplaceAnswer, Found), Fail> {
-    let mut node = lost(alloc, disk, passes)?;
-    let answer = node.replace(alloc, 1, 7);
-    Ok((answer, seen(alloc, &mut node)?))
-}
-
 #[test]
 fn a_second_replacement_is_done(rt: HostRuntime) -> Result<(), Fail> {
     for passes in 0..4 {
-        let disk = Fused::new(PlainDisk::new(rt.alloc()));
-        let (answer, seen) = replaced_again(rt.alloc(), disk, passes)?;
+        let mut node = lost(rt.alloc(), Fused::new(PlainDisk::new(rt.alloc())), passes)?;
         assert_eq!(rt;
-            (answer, seen),
-            (ReplaceAnswer::Replaced, ANEW),
+            node.replace(rt.alloc(), 1, 7),
+            ReplaceAnswer::Replaced,
             "passes {passes}"
         );
+        assert_eq!(rt; seen(rt.alloc(), &mut node)?, ANEW, "passes {passes}");
     }
     Ok(())
 }

@@ -1,8 +1,10 @@
 -- Eight zeros spell no record.
-use Rattle.std.proofs.Common.{◌≡◌, ◌-◌, ◌%◌, Option, Some, None, List, set, sym, subst, arith}
+use Rattle.std.proofs.Common.{rules, ◌≡◌, ◌-◌, ◌%◌, Option, Some, None, Ok, is_ok, IsErr, List, set, refl, sym, ap, subst, arith}
 use Rattle.rz_events.specs.declared.records.Head.{Head}
 use Rattle.rz_record.specs.Slot.{Rec}
 use Rattle.rz_cells.specs.Open.{IsOpen}
+use Rattle.rz_disk.proofs.Passes.{took_failed}
+use Rattle.rz_cells.proofs.Meters.{took_under}
 use Rattle.rz_cells.proofs.Lifts.{slot_long, zeros_spell, stands_either, stands_changed, open_after}
 use Rattle.rz_cells.proofs.cells.Cells.clear.Goals as goal
 
@@ -53,3 +55,18 @@ returns-clause-open g c =
     c.requires.open c.in_ok-switch.ensures.settled c.switch.ensures.size (λ h is. no_head h _ is) (λ h is. no_head h _ is) (λ h is. no_head h _ is)
     (λ told. c.in_ok-switch.ensures.done told s.fence None (zeros_spell _) (λ r is. no_suit r _ is))
     (λ told. c.in_ok-switch.ensures.gates told s.gates.items (omega arith) (c.requires.open.known told)))
+
+pub returns-in_err-switch-clause-took : goal.returns-in_err-switch-clause-took
+returns-in_err-switch-clause-took g c =
+    let failed : IsErr c.from_residual.result = search rules in
+    took_failed 4 4 c.switch.result c.from_residual.result (g.D.Disk.meter c.args.self.now.disk) (g.D.Disk.meter c.switch.new.disk) (omega arith) failed c.switch.ensures.took
+
+pub returns-in_err-switch-clause-risen : goal.returns-in_err-switch-clause-risen
+returns-in_err-switch-clause-risen g c failed = c.in_err-switch.ensures.risen refl
+
+pub returns-in_err-switch-clause-own_risen : goal.returns-in_err-switch-clause-own_risen
+returns-in_err-switch-clause-own_risen g c failed has = c.in_err-switch.ensures.own_risen refl has
+
+pub returns-clause-took : goal.returns-clause-took
+returns-clause-took g c =
+    took_under 4 c.switch.result (Ok tt) (g.D.Disk.meter c.args.self.now.disk) (g.D.Disk.meter c.switch.new.disk) (λ _. ap is_ok c.in_ok-switch.was) c.switch.ensures.took

@@ -1,10 +1,12 @@
 -- The bytes of a record spell it in the slot.
-use Rattle.std.proofs.Common.{◌≡◌, ◌-◌, ◌%◌, Option, Some, List, set, sym, ◌∙◌, subst, arith}
+use Rattle.std.proofs.Common.{rules, ◌≡◌, ◌-◌, ◌%◌, Option, Some, Ok, is_ok, IsErr, List, set, refl, sym, ◌∙◌, ap, subst, arith}
 use Rattle.rz_events.specs.declared.records.Head.{Head}
 use Rattle.rz_record.specs.Record.{IsValid}
 use Rattle.rz_record.specs.Slot.{Rec}
 use Rattle.rz_cells.specs.Held.{Goes}
 use Rattle.rz_cells.specs.Open.{IsOpen}
+use Rattle.rz_disk.proofs.Passes.{took_failed}
+use Rattle.rz_cells.proofs.Meters.{took_under}
 use Rattle.rz_cells.proofs.Lifts.{fits_slot, some_is, spelled, suits_one, stands_either, stands_changed, open_after}
 use Rattle.rz_cells.proofs.cells.Cells.put.Goals as goal
 
@@ -76,3 +78,18 @@ returns-clause-open g c =
     (λ h is. some_is (λ (k : Head). k.layout ≡ s.geometry.layout) c.args.head.now h is c.requires.layout)
     (λ told. c.in_ok-switch.ensures.done told s.fence (Some r) spells (suits_one s.geometry r c.requires.layout))
     (λ told. c.in_ok-switch.ensures.gates told s.gates.items s.gates_fit (c.requires.open.known told)))
+
+pub returns-in_err-switch-clause-took : goal.returns-in_err-switch-clause-took
+returns-in_err-switch-clause-took g c =
+    let failed : IsErr c.from_residual.result = search rules in
+    took_failed 4 4 c.switch.result c.from_residual.result (g.D.Disk.meter c.args.self.now.disk) (g.D.Disk.meter c.switch.new.disk) (omega arith) failed c.switch.ensures.took
+
+pub returns-in_err-switch-clause-risen : goal.returns-in_err-switch-clause-risen
+returns-in_err-switch-clause-risen g c failed = c.in_err-switch.ensures.risen refl
+
+pub returns-in_err-switch-clause-own_risen : goal.returns-in_err-switch-clause-own_risen
+returns-in_err-switch-clause-own_risen g c failed has = c.in_err-switch.ensures.own_risen refl has
+
+pub returns-clause-took : goal.returns-clause-took
+returns-clause-took g c =
+    took_under 4 c.switch.result (Ok tt) (g.D.Disk.meter c.args.self.now.disk) (g.D.Disk.meter c.switch.new.disk) (λ _. ap is_ok c.in_ok-switch.was) c.switch.ensures.took
