@@ -104,14 +104,21 @@ fn answer_of(file: FileMachine, end: FileEnd) -> Answer
             if file.is_read() {
                 Answer::Read(Text::from_vec(file.into_bytes()))
             } else {
+                drop(file);
                 Answer::Wrote { bytes }
             }
         }
-        FileEnd::ShortWrite { bytes, end } => Answer::ShortWrite { bytes, end },
-        FileEnd::ShortRead { bytes, end } => Answer::ShortRead {
-            bytes,
-            end: short_end(end),
-        },
+        FileEnd::ShortWrite { bytes, end } => {
+            drop(file);
+            Answer::ShortWrite { bytes, end }
+        }
+        FileEnd::ShortRead { bytes, end } => {
+            drop(file);
+            Answer::ShortRead {
+                bytes,
+                end: short_end(end),
+            }
+        }
     }
 }
 

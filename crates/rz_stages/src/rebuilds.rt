@@ -112,7 +112,10 @@ fn settled(node: u16, rebuilder: Rebuilder) -> Stage
     ensures { IsRebuildStage node rebuilder rebuilder.state result }
 {
     match rebuilder.end() {
-        Some(end) => Stage::Ending(Answer::Rebuild(end)),
+        Some(end) => {
+            drop(rebuilder);
+            Stage::Ending(Answer::Rebuild(end))
+        }
         None => Stage::Rebuilding { node, rebuilder },
     }
 }
