@@ -170,6 +170,7 @@ fn put_misses_a_node(rt: HostRuntime) -> Result<(), Fail> {
     };
     let mut machine = Machine::start(rt.alloc(), Layout::L0, op)?;
     put(&rt, &mut machine);
+    drop(machine);
     Ok(())
 }
 
@@ -179,7 +180,10 @@ fn unlink_drops(rt: HostRuntime) -> Result<(), Fail> {
     let mut machine = Machine::start(rt.alloc(), Layout::L0, op)?;
     unlink(&rt, &mut machine);
     let answer = finish(&rt, &mut machine);
-    assert!(&rt; matches!(&answer, Answer::Plain));
+    drop(machine);
+    let plain = matches!(&answer, Answer::Plain);
+    drop(answer);
+    assert!(&rt; plain);
     Ok(())
 }
 
@@ -193,6 +197,9 @@ fn update_waits_twice(rt: HostRuntime) -> Result<(), Fail> {
     let mut machine = Machine::start(rt.alloc(), Layout::L0, op)?;
     update(&rt, &mut machine);
     let answer = finish(&rt, &mut machine);
-    assert!(&rt; matches!(&answer, Answer::ShortWrite { bytes: 0, .. }));
+    drop(machine);
+    let short = matches!(&answer, Answer::ShortWrite { bytes: 0, .. });
+    drop(answer);
+    assert!(&rt; short);
     Ok(())
 }
