@@ -229,6 +229,7 @@ fn keep_second(rt: &impl Abort, plan: FilePlan)
     let bins = machine.bins();
     assert_eq!(rt; bins.get(FIRST[0]), Some(&1));
     assert_eq!(rt; bins.get(SECOND[0]), Some(&0));
+    drop(machine);
 }
 
 /// A file of this size.
@@ -260,6 +261,7 @@ fn within_a_block(rt: HostRuntime) -> Result<(), Fail> {
     assert!(rt; text[..4] == [1, b'a', b'b', 0] && text[2048] == 2);
     acknowledge(&rt, &mut machine, 0, 2049);
     check_end(&rt, &machine, FileEnd::Whole { bytes: 2 });
+    drop(machine);
     Ok(())
 }
 
@@ -276,6 +278,7 @@ fn three_blocks(rt: HostRuntime) -> Result<(), Fail> {
     find_hole(&rt, &mut machine, 2);
     acknowledge(&rt, &mut machine, 2, 2);
     check_end(&rt, &machine, FileEnd::Whole { bytes: 4100 });
+    drop(machine);
     Ok(())
 }
 
@@ -308,6 +311,7 @@ fn short_by_a_read(rt: HostRuntime) -> Result<(), Fail> {
         FileAnswer::Noted,
     );
     check_end(&rt, &machine, FileEnd::ShortRead { bytes: 2, end });
+    drop(machine);
     Ok(())
 }
 
@@ -328,6 +332,7 @@ fn short_by_a_write(rt: HostRuntime) -> Result<(), Fail> {
         FileAnswer::Noted,
     );
     check_end(&rt, &machine, FileEnd::ShortWrite { bytes: 0, end });
+    drop(machine);
     Ok(())
 }
 
@@ -351,10 +356,13 @@ fn nothing(rt: HostRuntime) -> Result<(), Fail> {
     let whole = Some(FileEnd::Whole { bytes: 0 });
     let write = FileWrite::start(rt.alloc(), Layout::L0, &file(0), 4096, b"")?;
     assert_eq!(rt; write.end(), whole);
+    drop(write);
     let many = FileWrite::start_par(&rt, rt.alloc(), Layout::L0, &file(0), 4096, b"")?;
     assert_eq!(rt; many.end(), whole);
+    drop(many);
     let read = FileRead::start(rt.alloc(), Layout::L0, &file(4096), 4096, 1)?;
     assert_eq!(rt; read.end(), whole);
     assert_eq!(rt; read.bytes().len(), 0);
+    drop(read);
     Ok(())
 }

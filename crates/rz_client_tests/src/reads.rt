@@ -264,6 +264,7 @@ fn outcomes(rt: HostRuntime) -> Result<(), Fail> {
     reader.again(&info, 9);
     step(&rt, &mut reader, &ROW, ReaderAsk::Look, denied);
     assert_eq!(rt; reader.end(), Some(ReadMark::Denied(unknown)));
+    drop(reader);
     Ok(())
 }
 
@@ -285,6 +286,7 @@ fn inconsistent(rt: HostRuntime) -> Result<(), Fail> {
     step(&rt, &mut reader, &ROW, fetch(0), held(7));
     step(&rt, &mut reader, &WRONG, fetch(1), held(7));
     assert_eq!(rt; reader.end(), Some(ReadMark::Inconsistent));
+    drop(reader);
     Ok(())
 }
 

@@ -254,6 +254,7 @@ fn two_blocks(rt: HostRuntime) -> Result<(), Fail> {
         refilled: 2,
     };
     check_end(&rt, &rebuilder, end);
+    drop(rebuilder);
     Ok(())
 }
 
@@ -269,6 +270,7 @@ fn moved(rt: HostRuntime) -> Result<(), Fail> {
         refilled: 0,
     };
     check_end(&rt, &rebuilder, end);
+    drop(rebuilder);
     Ok(())
 }
 
@@ -316,6 +318,7 @@ fn left_unread(rt: HostRuntime) -> Result<(), Fail> {
     let same = RebuildAnswer::Rechecked(Some(published(9)));
     step(&rt, &mut rebuilder, &FIRST, RECHECK, same);
     leave(&rt, &mut rebuilder, LeftWhy::TooFew);
+    drop(rebuilder);
     let mut rebuilder = begin(&rt)?;
     unanswered(&rt, &mut rebuilder);
     step(
@@ -326,9 +329,11 @@ fn left_unread(rt: HostRuntime) -> Result<(), Fail> {
         RebuildAnswer::Denied(why),
     );
     leave(&rt, &mut rebuilder, LeftWhy::Denied(why));
+    drop(rebuilder);
     let mut rebuilder = begin(&rt)?;
     copy(&rt, &mut rebuilder, &WRONG, NEXT, 3);
     leave(&rt, &mut rebuilder, LeftWhy::Inconsistent);
+    drop(rebuilder);
     Ok(())
 }
 
@@ -348,6 +353,7 @@ fn left_unfilled(rt: HostRuntime) -> Result<(), Fail> {
         copy(&rt, &mut rebuilder, &FIRST, NEXT, 3);
         step(&rt, &mut rebuilder, &FIRST, refill(3), answer);
         leave(&rt, &mut rebuilder, why);
+        drop(rebuilder);
     }
     Ok(())
 }
@@ -372,6 +378,7 @@ fn refused(rt: HostRuntime) -> Result<(), Fail> {
             RebuildAnswer::Refilled(answer),
         );
         check_end(&rt, &rebuilder, end);
+        drop(rebuilder);
     }
     Ok(())
 }
@@ -424,6 +431,7 @@ fn early(rt: HostRuntime) -> Result<(), Fail> {
         }
         step(&rt, &mut rebuilder, &FIRST, ask, answer);
         check_end(&rt, &rebuilder, end);
+        drop(rebuilder);
     }
     Ok(())
 }

@@ -150,6 +150,7 @@ fn spares(rt: HostRuntime) -> Result<(), Fail> {
         );
         writer.again(&info, 9, b"hello");
     }
+    drop(writer);
     Ok(())
 }
 
@@ -190,6 +191,7 @@ fn publishes(rt: HostRuntime) -> Result<(), Fail> {
             step(&rt, &mut writer, ask, answer);
         }
         play(&rt, &mut writer, rows, end);
+        drop(writer);
     }
     let mut writer = Writer::start_bare(rt.alloc(), Layout::L0, &info, 9, 5)?;
     let far = Denial::BlockTooFar;
@@ -200,6 +202,7 @@ fn publishes(rt: HostRuntime) -> Result<(), Fail> {
         &[(begin, WriterAnswer::Denied(far))],
         WriteEnd::Denied(far),
     );
+    drop(writer);
     Ok(())
 }
 
@@ -342,6 +345,7 @@ fn layouts(rt: HostRuntime) -> Result<(), Fail> {
         write(&rt, &mut writer, row, 0);
         writer.again(&info, 1, &text);
         write(&rt, &mut writer, row, layout.safe() - layout.forward());
+        drop(writer);
     }
     Ok(())
 }
