@@ -1,6 +1,6 @@
 -- A write is found by its stamp.
-use Rattle.std.proofs.Common.{◌≡◌, inl, inr, ℕ, zero, suc, ◌-◌, ◌<◌, ◌≤◌, Bool, true, false, cond, List, [], ◌∷◌, ◌++◌, reverse, length, Option, Some, None, refl, sym, ◌∙◌, ap, subst, arith, eq-eqb}
-use Rattle.std.specs.Prelude.{◌==◌, slice_get, if◌then◌else◌}
+use Rattle.std.proofs.Common.{◌≡◌, inl, inr, ℕ, zero, suc, ◌-◌, ◌<◌, ◌≤◌, false, cond, List, [], ◌∷◌, ◌++◌, reverse, length, Option, Some, None, refl, sym, ◌∙◌, ap, subst, arith, eq-eqb}
+use Rattle.std.specs.Prelude.{◌==◌, slice_get}
 use Rattle.std.proofs.lemmas.List.{reverse-append, length-reverse}
 use Rattle.std.proofs.lemmas.Bool.Decides.{nat_tests}
 use Rattle.rz_events.specs.declared.events.Event.{Event}
@@ -121,9 +121,8 @@ text-found n s i text xs x r is begun = begun-text n s text (reverse xs) x r (ha
 
 -- ---- an event more
 
-pub pushed : (xs ys : List Event) (x : Event) (b : Bool) → ys ≡ (if b then xs ++ x ∷ [] else xs) → b ≡ true → reverse ys ≡ x ∷ reverse xs
-pushed xs ys x true is ok = ap reverse is ∙ reverse-append xs (x ∷ [])
-pushed xs ys x false is ok = (let none : true ≡ false = sym ok in absurd (cc))
+pub pushed : (xs ys : List Event) (x : Event) → ys ≡ xs ++ x ∷ [] → reverse ys ≡ x ∷ reverse xs
+pushed xs ys x is = ap reverse is ∙ reverse-append xs (x ∷ [])
 
 pub rises-noted : (n s : ℕ) (x : Event) (xs ys : List Event) → reverse ys ≡ x ∷ reverse xs → stamp_begun x ≡ Some s → n < s → Rises (reverse xs) n → Rises (reverse ys) s
 rises-noted n s x xs ys is begun low r = subst (λ (h : List Event). Rises h s) (sym is) (rises-begun n s x (reverse xs) begun low r)
@@ -153,9 +152,6 @@ from-noted m n s x xs ys is begun least own from =
     subst (AreFrom m) (sym is) (here, are-from-fewer m n (reverse xs) least from)
 
 -- ---- room
-
-pub has-place : (capacity count : ℕ) → 0 < room_for capacity count → count < capacity
-has-place capacity count room = omega (arith, room)
 
 -- a log that has room for an event is not full with it
 pub one-more : (capacity : ℕ) (xs ys : List Event) (x : Event) → reverse ys ≡ x ∷ reverse xs → 0 < room_for capacity (length xs) → IsLogCount (length ys)

@@ -61,16 +61,26 @@ pub fn open<D: Disk>(
     }
     let copy = call.copy(alloc)?;
     let Ok(reply) = export.reply(alloc, ExportAsk::Tree(call)) else {
+        drop(copy);
         return Err(NoMemory);
     };
     if !machine.takes_locked(&reply) {
+        drop(copy);
+        drop(reply);
         return Err(NoMemory);
     }
-    note_names(alloc, by, copy, &reply, log)?;
-    let wanted = wanted(&reply, exclusive, from, count);
-    let granted = take(locks, owner, wanted, held);
-    machine.tell_locked(granted, reply);
-    Ok(())
+    match note_names(alloc, by, copy, &reply, log) {
+        Ok(()) => {
+            let wanted = wanted(&reply, exclusive, from, count);
+            let granted = take(locks, owner, wanted, held);
+            machine.tell_locked(granted, reply);
+            Ok(())
+        }
+        Err(fault) => {
+            drop(reply);
+            Err(fault)
+        }
+    }
 }
 
 /// Whether a call opens a file.

@@ -99,7 +99,7 @@ impl Log {
     {
         match stamp_of(&event) {
             None => {
-                let _noted = self.events.push(event);
+                self.events.push_reserved(event);
                 Ok(())
             }
             Some(stamp) => {
@@ -108,7 +108,7 @@ impl Log {
                     return Err(NoMemory);
                 }
                 let place = self.events.len();
-                let _noted = self.events.push(event);
+                self.events.push_reserved(event);
                 let _placed = self.begins.push((stamp, place));
                 self.least = least_of(self.least, stamp);
                 self.last = stamp;
@@ -130,8 +130,8 @@ impl Log {
             let_go(second);
             return Err(NoMemory);
         }
-        let _first = self.events.push(first);
-        let _second = self.events.push(second);
+        self.events.push_reserved(first);
+        self.events.push_reserved(second);
         Ok(())
     }
 
@@ -180,7 +180,9 @@ fn least_of(one: u64, other: u64) -> u64
 }
 
 /// Lets an event go that is not noted.
-pub fn let_go(_event: Event) {}
+pub fn let_go(event: Event) {
+    drop(event);
+}
 
 /// The stamp of the write that an event begins.
 fn stamp_of(event: &Event) -> Option<u64>

@@ -1,6 +1,7 @@
 //! Calls of the export.
 ghost use Rattle.std.specs.Prelude.{◌≡◌, ◌+◌, ◌<◌, ◌≤◌, Some, IfOk, OnOk, OnErr};
 ghost use Rattle.std.specs.List.{All};
+ghost use Rattle.rz_events.specs.declared.export.Reply.TheVariants as model;
 ghost use Rattle.rz_export_model.specs.ExportEvents.{export_event};
 ghost use Rattle.rz_metadata.specs.Stands.{export_in, is_journaled};
 ghost use Rattle.rz_operation.specs.Meaning.{call_of};
@@ -10,7 +11,9 @@ ghost use Rattle.rz_asks.specs.Parts.{AreWords, IsNoted, IsExportPart};
 use crate::NoMemory;
 use crate::log::Log;
 use rz_disk::Disk;
-use rz_events::{Actor, Asked, Call, Denial, Event, Key, Published, Reply, Text, TreeCall};
+use rz_events::{
+    Actor, Asked, Call, Denial, Event, Key, Published, Reply, Text, TreeCall, TreeReply,
+};
 use rz_metadata::Metadata;
 use rz_operation::{Ask, ExportAsk, Machine};
 use std::alloc::{AllocError, Global};
@@ -51,14 +54,24 @@ pub fn ask_export<D: Disk>(
     look_into(ask);
     let words = words_of(alloc, ask)?;
     let Ok(reply) = export.reply(alloc, ask) else {
+        drop(words);
         return Err(NoMemory);
     };
     if !machine.takes_reply(&reply) {
+        drop(words);
+        drop(reply);
         return Err(NoMemory);
     }
-    note_reply(alloc, by, ask, words, &reply, log)?;
-    machine.tell_reply(reply);
-    Ok(())
+    match note_reply(alloc, by, ask, words, &reply, log) {
+        Ok(()) => {
+            machine.tell_reply(reply);
+            Ok(())
+        }
+        Err(fault) => {
+            drop(reply);
+            Err(fault)
+        }
+    }
 }
 
 /// The text of a write that begins is one of bytes, as each text is.
@@ -140,11 +153,21 @@ pub(crate) fn note_names(
     ensures err { OnErr result (log.new.events ≡ log.old.events) }
     ensures earlier { log.new.earlier ≡ log.old.earlier }
 {
-    match reply {
-        Reply::Tree(answer) => {
-            let reply = answer.copy(alloc)?;
-            log.note(Event::Meta { by, call, reply })
+    match reply_on_names(alloc, reply) {
+        Ok(reply) => log.note(Event::Meta { by, call, reply }),
+        Err(fault) => {
+            drop(call);
+            Err(fault)
         }
+    }
+}
+
+/// A copy of the reply to a call on names.
+fn reply_on_names(alloc: Global, reply: &Reply) -> Result<TreeReply, NoMemory>
+    ensures { IfOk result (λ r. reply.now ≡ model.Tree r) }
+{
+    match reply {
+        Reply::Tree(answer) => Ok(answer.copy(alloc)?),
         _ => Err(NoMemory),
     }
 }

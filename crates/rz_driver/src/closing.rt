@@ -1,5 +1,5 @@
 //! The end of a driver: the log and the disks go back.
-ghost use Rattle.std.specs.Prelude.{◌≡◌, ◌+◌, ◌≤◌, ◌++◌, reverse, true, ℕ, List, IsTrue, Some, option_to_list};
+ghost use Rattle.std.specs.Prelude.{◌≡◌, ◌+◌, ◌≤◌, ◌++◌, ◌^◌, length, reverse, true, ℕ, List, IsTrue, Some, option_to_list};
 ghost use Rattle.std.specs.Vec.{vec_len, vec_capacity};
 ghost use Rattle.rz_disk.specs.Meter.{faults};
 ghost use Rattle.rz_events.specs.declared.events.Event.{Event};
@@ -20,6 +20,7 @@ use rz_disk::{Disk, Fused};
 use rz_events::Event;
 use rz_formatting::{Station, hand_back};
 use rz_metadata::Refusal;
+use rz_seats::Shared;
 
 impl<D: Disk> Driver<D> {
     /// Why the journal did not keep a call, if there is a journal and it did not.
@@ -43,9 +44,34 @@ impl<D: Disk> Driver<D> {
         ensures since { (b : Before) → IsLeftSince self b → IsTrue D.tells → AreDisksImaged D.image self.volume (numbers_in self) result.1.items (self.shared.log.events ++ b.log) }
     {
         rz_image_laws::logged::<D>();
-        let Driver { shared, home, .. } = self;
-        let log = shared.log.close();
-        (log, hand_back_with(shared.stations, home, None))
+        self.close_with(None)
+    }
+
+    /// The log, and the disks of the nodes with this one behind them, if there is one. The rest is let go.
+    pub(crate) fn close_with(self, last: Option<D>) -> (Vec<Event>, Vec<D>)
+        ensures log { result.0.items ≡ reverse self.shared.log.events }
+        ensures short { length self.shared.log.events ≤ 2 ^ 62 + 2 }
+        ensures disks { result.1.items ≡ disks_of self.shared.stations.items ++ option_to_list last }
+    {
+        let Driver {
+            volume,
+            shared,
+            seats,
+            home,
+            ..
+        } = self;
+        let Shared {
+            stations,
+            export,
+            log,
+            bins,
+            ..
+        } = shared;
+        drop(volume);
+        drop(seats);
+        drop(export);
+        drop(bins);
+        (log.close(), hand_back_with(stations, home, last))
     }
 
     /// The log, the oldest event first, and the disks in their order, that of a journal last. What their images
@@ -68,15 +94,31 @@ impl<D: Disk> Driver<D> {
         ensures left { (b : Before) → EndsWhole self b → is_journaled self.shared.export ≡ true → IsTrue D.tells → AreLeft D.image self.volume (self.shared.log.events ++ b.log) result.1.items }
     {
         rz_image_laws::logged::<D>();
-        let Driver { shared, home, .. } = self;
-        let log = shared.log.close();
-        let journal = shared.export.into_disk();
-        (log, hand_back_with(shared.stations, home, journal))
+        let Driver {
+            volume,
+            shared,
+            seats,
+            home,
+            ..
+        } = self;
+        let Shared {
+            stations,
+            export,
+            log,
+            bins,
+            ..
+        } = shared;
+        drop(volume);
+        drop(seats);
+        drop(bins);
+        let log = log.close();
+        let journal = export.into_disk();
+        (log, hand_back_with(stations, home, journal))
     }
 }
 
 /// The disks of the nodes in their order, and behind them this one, if there is one.
-pub(crate) fn hand_back_with<D: Disk>(
+fn hand_back_with<D: Disk>(
     stations: Vec<Station<Fused<D>>>,
     home: Vec<D>,
     last: Option<D>,

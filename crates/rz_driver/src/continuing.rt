@@ -121,28 +121,36 @@ fn open_nodes<D: Disk>(
     };
     let specs = parts.nodes.as_slice();
     let Ok(losses) = export.losses(alloc, specs) else {
+        drop(parts);
         return Err((with_journal(nodes, export, room), OpenRefusal::NoMemory));
     };
     let lost = losses.as_slice();
-    let locks = Locks::new();
-    let log = Log::after_earlier(alloc);
     match open_all(alloc, volume.layout, specs, lost, nodes) {
-        Ok((stations, _emptied)) => Ok(Driver {
-            alloc,
-            volume: parts.volume,
-            shared: Shared {
-                stations,
-                export,
-                locks,
-                lost: 0,
-                log,
-                bins: parts.bins,
-            },
-            seats: parts.seats,
-            turns: 0,
-            home: parts.home,
-        }),
-        Err((back, refusal)) => Err((with_journal(back, export, room), refusal)),
+        Ok((stations, emptied)) => {
+            drop(emptied);
+            drop(room);
+            let locks = Locks::new();
+            let log = Log::after_earlier(alloc);
+            Ok(Driver {
+                alloc,
+                volume: parts.volume,
+                shared: Shared {
+                    stations,
+                    export,
+                    locks,
+                    lost: 0,
+                    log,
+                    bins: parts.bins,
+                },
+                seats: parts.seats,
+                turns: 0,
+                home: parts.home,
+            })
+        }
+        Err((back, refusal)) => {
+            drop(parts);
+            Err((with_journal(back, export, room), refusal))
+        }
     }
 }
 

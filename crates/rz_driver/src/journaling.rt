@@ -9,7 +9,6 @@ ghost use Rattle.rz_stations.specs.Meters.{faults_at};
 ghost use Rattle.rz_driver.specs.Formatted.{AreBackWithJournal, IsBehindJournal, IsJournalRefused};
 ghost use Rattle.rz_driver.specs.Worlds.{anew, world_of, is_exact, IsDriver, Holds};
 
-use crate::closing::hand_back_with;
 use crate::driver::Driver;
 use rz_cells::FormatFault;
 use rz_config::Volume;
@@ -17,6 +16,7 @@ use rz_disk::Disk;
 use rz_formatting::DriverFault;
 use rz_metadata::Metadata;
 use std::alloc::Global;
+use std::mem::replace;
 
 impl<D: Disk> Driver<D> {
     /// Formats each disk of a volume for its node, and the one disk more, the last, for a journal, behind
@@ -58,7 +58,7 @@ impl<D: Disk> Driver<D> {
         };
         match Metadata::format(self.alloc, volume, disk) {
             Ok(export) => {
-                self.shared.export = export;
+                drop(replace(&mut self.shared.export, export));
                 Ok(self)
             }
             Err((disk, fault)) => {
@@ -72,8 +72,9 @@ impl<D: Disk> Driver<D> {
     fn back_with(self, last: D) -> Vec<D>
         ensures { result.items ≡ disks_of self.shared.stations.items ++ last ∷ [] }
     {
-        let Driver { shared, home, .. } = self;
-        hand_back_with(shared.stations, home, Some(last))
+        let (log, disks) = self.close_with(Some(last));
+        drop(log);
+        disks
     }
 }
 

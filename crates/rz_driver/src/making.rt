@@ -8,7 +8,7 @@ ghost use Rattle.rz_stations.specs.Meters.{faults_at};
 ghost use Rattle.rz_driver.specs.Worlds.{anew, world_of, is_exact, IsDriver, Holds};
 
 use crate::driver::Driver;
-use crate::parts::new_parts;
+use crate::parts::{new_export, new_parts};
 use rz_asks::Log;
 use rz_config::Volume;
 use rz_disk::Disk;
@@ -40,25 +40,36 @@ impl<D: Disk> Driver<D> {
         let Ok(parts) = new_parts::<D>(alloc, volume) else {
             return Err((disks, DriverFault::NoMemory));
         };
-        let locks = Locks::new();
-        let log = Log::new(alloc);
+        let Ok(export) = new_export::<D>(alloc, volume) else {
+            drop(parts);
+            return Err((disks, DriverFault::NoMemory));
+        };
         match format_all(alloc, volume.layout, parts.nodes.as_slice(), disks) {
-            Ok((stations, _emptied)) => Ok(Driver {
-                alloc,
-                volume: parts.volume,
-                shared: Shared {
-                    stations,
-                    export: parts.export,
-                    locks,
-                    lost: 0,
-                    log,
-                    bins: parts.bins,
-                },
-                seats: parts.seats,
-                turns: 0,
-                home: parts.home,
-            }),
-            Err(back) => Err(back),
+            Ok((stations, emptied)) => {
+                drop(emptied);
+                let locks = Locks::new();
+                let log = Log::new(alloc);
+                Ok(Driver {
+                    alloc,
+                    volume: parts.volume,
+                    shared: Shared {
+                        stations,
+                        export,
+                        locks,
+                        lost: 0,
+                        log,
+                        bins: parts.bins,
+                    },
+                    seats: parts.seats,
+                    turns: 0,
+                    home: parts.home,
+                })
+            }
+            Err(back) => {
+                drop(parts);
+                drop(export);
+                Err(back)
+            }
         }
     }
 }

@@ -19,27 +19,23 @@ use std::alloc::{AllocError, Global};
 /// 64 clients and 16 rebuilders.
 const SEATS: usize = 80;
 
-/// The volume and its nodes in order, an export of it, the actors, room for the bins of a record, and room
-/// for a disk of each node and one more.
+/// The volume and its nodes in order, the actors, room for the bins of a record, and room for a disk of
+/// each node and one more.
 #[derive(Drop)]
 pub(crate) struct Parts<D: Disk> {
     pub(crate) volume: Volume,
     pub(crate) nodes: Vec<NodeSpec>,
-    pub(crate) export: Metadata<D>,
     pub(crate) seats: Vec<Seat>,
     pub(crate) bins: Vec<u64>,
     pub(crate) home: Vec<D>,
 }
 
-/// The parts of a driver that has played nothing, with its export in memory.
+/// The parts of a driver that has played nothing.
 pub(crate) fn new_parts<D: Disk>(alloc: Global, volume: &Volume) -> Result<Parts<D>, AllocError>
     ensures volume { IfOk result (λ p. p.volume ≡ volume.now) }
     ensures rules { IsVolume volume.now }
     ensures proper { AllByRecursion IsNode (nodes_of volume.now.clusters) }
     ensures nodes { IfOk result (λ p. p.nodes.items ≡ nodes_of volume.now.clusters) }
-    ensures export { IfOk result (λ p. export_in p.export ≡ new_export volume.now 0) }
-    ensures journal { IfOk result (λ p. is_journaled p.export ≡ false) }
-    ensures stands { IfOk result (λ p. (first : ℕ) → Stands D.tells D.meter D.image first p.export []) }
     ensures seats { IfOk result (λ p. AllByRecursion IsEmptySeat p.seats.items) }
     ensures count { IfOk result (λ p. length p.seats.items ≡ 80) }
     ensures bins { IfOk result (λ p. length p.bins.items ≡ max_bins_of volume.now.layout) }
@@ -49,18 +45,29 @@ pub(crate) fn new_parts<D: Disk>(alloc: Global, volume: &Volume) -> Result<Parts
     let nodes = all_nodes(alloc, volume)?;
     let layout = volume.layout;
     let bins = Vec::from_elem(alloc, 0, layout.max_bins())?;
-    let seats = empty_seats(alloc)?;
     let home = Vec::with_capacity(alloc, nodes.len() + 1)?;
-    let export = Metadata::in_memory(alloc, volume.copy(alloc)?)?;
     let volume = volume.copy(alloc)?;
+    let Ok(seats) = empty_seats(alloc) else {
+        drop(volume);
+        return Err(AllocError);
+    };
     Ok(Parts {
         volume,
         nodes,
-        export,
         seats,
         bins,
         home,
     })
+}
+
+/// The export of a driver that has played nothing, in memory.
+pub(crate) fn new_export<D: Disk>(alloc: Global, volume: &Volume) -> Result<Metadata<D>, AllocError>
+    ensures export { IfOk result (λ m. export_in m ≡ new_export volume.now 0) }
+    ensures journal { IfOk result (λ m. is_journaled m ≡ false) }
+    ensures stands { IfOk result (λ m. (first : ℕ) → Stands D.tells D.meter D.image first m []) }
+{
+    let volume = volume.copy(alloc)?;
+    Metadata::in_memory(alloc, volume)
 }
 
 /// The actors of a play, with nothing to do.
@@ -70,7 +77,7 @@ fn empty_seats(alloc: Global) -> Result<Vec<Seat>, AllocError>
 {
     let mut seats = Vec::with_capacity(alloc, SEATS)?;
     for _ in 0..SEATS {
-        seats.push(Seat::new(alloc))?;
+        seats.push_reserved(Seat::new(alloc));
     }
     Ok(seats)
 }

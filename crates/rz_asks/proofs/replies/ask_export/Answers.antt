@@ -2,8 +2,8 @@ use Rattle.rz_operation.specs.Meaning.{call_of}
 use Rattle.rz_asks.proofs.Keeping.{keeps-asked, ends-unasked, ends-refused, ends-unnoted, on-err, at-err}
 use Rattle.rz_asks.proofs.replies.ask_export.Goals as goal
 
-pub returns-clause-kept : goal.returns-clause-kept
-returns-clause-kept g c =
+pub returns-in-Ok-note_reply-clause-kept : goal.returns-in-Ok-note_reply-clause-kept
+returns-in-Ok-note_reply-clause-kept g c =
     keeps-asked g.D.Disk.tells g.D.Disk.meter g.D.Disk.image c.args.export.now c.reply.new.self c.args.machine.now (call_of c.in-Export.ask) c.in-Ok.reply
     c.in-Export.ensures.value c.in-Ok.ensures.reply c.look_into.ensures c.in-Ok.ensures.kept
 
@@ -25,7 +25,6 @@ pub returns-then-not-takes_reply-clause-left : goal.returns-then-not-takes_reply
 returns-then-not-takes_reply-clause-left g c =
     ends-unnoted g.D.Disk.tells g.D.Disk.meter g.D.Disk.image c.args.export.now c.reply.new.self (call_of c.in-Export.ask) c.in-Ok.reply c.in-Ok.ensures.kept
 
-pub returns-in_err-note_reply-clause-left : goal.returns-in_err-note_reply-clause-left
-returns-in_err-note_reply-clause-left g c =
-    on-err c.from_residual-in_err-note_reply.result
-    (ends-unnoted g.D.Disk.tells g.D.Disk.meter g.D.Disk.image c.args.export.now c.reply.new.self (call_of c.in-Export.ask) c.in-Ok.reply c.in-Ok.ensures.kept)
+pub returns-in-Err-clause-left : goal.returns-in-Err-clause-left
+returns-in-Err-clause-left g c =
+    ends-unnoted g.D.Disk.tells g.D.Disk.meter g.D.Disk.image c.args.export.now c.reply.new.self (call_of c.in-Export.ask) c.in-Ok.reply c.in-Ok.ensures.kept

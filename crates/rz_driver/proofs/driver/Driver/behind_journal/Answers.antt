@@ -1,11 +1,15 @@
-use Rattle.std.proofs.Common.{◌≡◌, ◌⊎◌, ℕ, IsTrue, List, [], length, arith, subst}
+use Rattle.std.proofs.Common.{◌≡◌, ◌⊎◌, ◌∙◌, ℕ, IsTrue, List, [], length, refl, sym, ap, arith, subst}
 use Rattle.std.proofs.lemmas.List.{length-map}
+use Rattle.rz_disk.specs.Meter.{faults}
 use Rattle.rz_disk.specs.UnderFuse.{UnderFuse}
 use Rattle.rz_events.specs.Volume.{Volume}
+use Rattle.rz_export_model.specs.Export.{new_export}
 use Rattle.rz_formatting.specs.declared.formatting.Station.{Station}
 use Rattle.rz_formatting.specs.Formatted.{disks_of}
 use Rattle.rz_journal.specs.JournalText.{IsTextOf}
 use Rattle.rz_journal_disk.specs.Stands.{IsShut}
+use Rattle.rz_metadata.specs.declared.metadata.Metadata.{Metadata}
+use Rattle.rz_metadata.specs.Stands.{export_in, is_journaled, Stands}
 use Rattle.rz_driver.proofs.BehindJournal.{fault-is, journal-untouched}
 use Rattle.rz_driver.proofs.driver.Driver.behind_journal.Goals as goal
 
@@ -16,6 +20,20 @@ returns-in_default-clause-back g c = record {
   kept = journal-untouched g.D.Disk.tells g.D.Disk.meter g.D.Disk.image c.args.self.volume c.args.disk;
   cause = tt;
 }
+
+pub returns-in-Ok-format-clause-behind : goal.returns-in-Ok-format-clause-behind
+returns-in-Ok-format-clause-behind g c =
+    let after = c.replace.ensures.after in
+    let made = c.in-Ok-format.ensures in
+    record {
+      volume = refl;
+      seats = refl;
+      turns = refl;
+      shared = refl;
+      export = ap export_in after ∙ made.export ∙ ap (λ (v : Volume). new_export v 0) c.in-Ok.ensures;
+      journal = ap is_journaled after ∙ made.journal;
+      stands = subst (λ (m : Metadata g.row.D.Denot). Stands g.D.Disk.tells g.D.Disk.meter g.D.Disk.image (faults (g.D.Disk.meter c.args.disk)) m []) (sym after) made.stands;
+    }
 
 pub returns-in-Err-clause-back : goal.returns-in-Err-clause-back
 returns-in-Err-clause-back g c =

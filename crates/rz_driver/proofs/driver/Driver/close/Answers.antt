@@ -17,7 +17,7 @@ use Rattle.rz_stations.proofs.FetchLemmas.{disks-since}
 use Rattle.rz_driver.proofs.driver.Driver.close.Goals as goal
 
 pub returns-clause-disks : goal.returns-clause-disks
-returns-clause-disks g c = c.hand_back_with.ensures ∙ append-nil (disks_of c.args.self.shared.stations.items)
+returns-clause-disks g c = c.close_with.ensures.disks ∙ append-nil (disks_of c.args.self.shared.stations.items)
 
 pub returns-clause-counted : goal.returns-clause-counted
 returns-clause-counted g c = λ b left.
@@ -40,7 +40,7 @@ returns-clause-since g c = λ b (d, left, asked) told.
     let h = d.shared.log.events ++ b.log in
     let image = g.D.Disk.image in
     let same : e.shared.log.events ≡ d.shared.log.events = ap (λ (s : Shared (UnderFuse g.row.D.Denot) g.row.D.Denot). s.log.events) asked.shared in
-    let few = has-few d b left (subst (λ (k : List Event). length k ≤ 2 ^ 62 + 2) same c.close-log.ensures.short) in
+    let few = has-few d b left (subst (λ (k : List Event). length k ≤ 2 ^ 62 + 2) same c.close_with.ensures.short) in
     let before = left-imaged d b c.logged.ensures left told few in
     let after = disks-since (fused_text g.D.Disk.text) image d.volume h (numbers_in d) d.shared.stations.items row asked.nodes before in
     let here = subst (λ (v : Volume). AreDisksImaged image v (map (λ (n : NodeSpec). n.sid) (nodes_of v.clusters)) (disks_of row) h) (sym asked.volume) after in
@@ -52,4 +52,4 @@ returns-clause-imaged g c = λ b left told.
     let d = c.args.self in
     let h = d.shared.log.events ++ b.log in
     subst (λ (ds : List g.row.D.Denot). AreDisksImaged g.D.Disk.image d.volume (numbers_in d) ds h) (sym (returns-clause-disks g c))
-    (left-imaged d b c.logged.ensures left told (has-few d b left c.close-log.ensures.short))
+    (left-imaged d b c.logged.ensures left told (has-few d b left c.close_with.ensures.short))

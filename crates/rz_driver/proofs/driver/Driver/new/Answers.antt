@@ -23,6 +23,9 @@ use Rattle.rz_driver.proofs.driver.Driver.new.Goals as goal
 pub returns-in_default-clause-back : goal.returns-in_default-clause-back
 returns-in_default-clause-back g c = untouched g.D.Disk.tells g.D.Disk.meter g.D.Disk.image c.args.volume.now.layout (nodes_of c.args.volume.now.clusters) c.args.disks.items c.requires.count
 
+pub returns-in_default-new_export-clause-back : goal.returns-in_default-new_export-clause-back
+returns-in_default-new_export-clause-back g c = untouched g.D.Disk.tells g.D.Disk.meter g.D.Disk.image c.args.volume.now.layout (nodes_of c.args.volume.now.clusters) c.args.disks.items c.requires.count
+
 pub format_all-requires-clause-nodes : goal.format_all-requires-clause-nodes
 format_all-requires-clause-nodes g c = subst (AllByRecursion IsNode) (sym (c.as_slice.ensures.value ∙ c.in-Ok.ensures.nodes)) c.new_parts.ensures.proper
 
@@ -43,8 +46,8 @@ returns-in-Ok-format_all-clause-ready g c =
 pub returns-in-Ok-format_all-clause-world : goal.returns-in-Ok-format_all-clause-world
 returns-in-Ok-format_all-clause-world g c =
     new-is g.D.Disk.tells g.D.Disk.meter g.D.Disk.text g.D.Disk.image c.args.volume.now c.args.disks.items
-    (record { stations = c.in-Ok-format_all.stations; export = c.in-Ok.parts.export; locks = c.new-locks.result; lost = 0; log = c.new-log.result; bins = c.in-Ok.parts.bins }) c.in-Ok.parts.seats.items (returns-in-Ok-format_all-clause-made g c)
-    c.in-Ok.ensures.seats c.in-Ok.ensures.export refl c.new-log.ensures.events
+    (record { stations = c.in-Ok-format_all.stations; export = c.in-Ok-new_export.export; locks = c.new-locks.result; lost = 0; log = c.new-log.result; bins = c.in-Ok.parts.bins }) c.in-Ok.parts.seats.items (returns-in-Ok-format_all-clause-made g c)
+    c.in-Ok.ensures.seats c.in-Ok-new_export.ensures.export refl c.new-log.ensures.events
 
 pub returns-in-Err-clause-back : goal.returns-in-Err-clause-back
 returns-in-Err-clause-back g c =
@@ -69,10 +72,10 @@ returns-in-Ok-format_all-clause-held g c =
       new-picture g.D.Disk.tells g.D.Disk.meter g.D.Disk.text g.D.Disk.image c.fresh.ensures v c.new_parts.ensures.rules c.args.disks.items _ (returns-in-Ok-format_all-clause-world g c) c.in-Ok.parts.seats.items c.in-Ok.ensures.seats row stations made
           c.in-Ok.parts.volume c.in-Ok.ensures.volume,
       (λ exact. record {
-        volume = ap (λ (s : Export). s.volume) c.in-Ok.ensures.export ∙ sym c.in-Ok.ensures.volume;
+        volume = ap (λ (s : Export). s.volume) c.in-Ok-new_export.ensures.export ∙ sym c.in-Ok.ensures.volume;
         bytes = λ told. subst (λ (h : List Event). AreBytes (facts h)) (sym none) bytes-none;
-        keeps = λ few. subst (λ (h : List Event). KeepsLog g.D.Disk.tells g.D.Disk.meter g.D.Disk.image at c.in-Ok.parts.export h) (sym none)
-            ([], no-calls g.D.Disk.tells, c.in-Ok.ensures.stands at);
+        keeps = λ few. subst (λ (h : List Event). KeepsLog g.D.Disk.tells g.D.Disk.meter g.D.Disk.image at c.in-Ok-new_export.export h) (sym none)
+            ([], no-calls g.D.Disk.tells, c.in-Ok-new_export.ensures.stands at);
       }),
       record { anew = λ no. refl; short = omega arith },
     )

@@ -1,0 +1,34 @@
+use Rattle.rz_driver.proofs.stage.DriverStage.arm.Goals as goal
+
+pub order_break-requires-clause-ready : goal.order_break-requires-clause-ready
+order_break-requires-clause-ready g c = c.requires.ready
+
+pub order_break-requires-clause-line : goal.order_break-requires-clause-line
+order_break-requires-clause-line g c = c.requires.line
+
+pub returns-clause-volume : goal.returns-clause-volume
+returns-clause-volume g c = c.order_break.ensures.volume
+
+pub returns-clause-journal : goal.returns-clause-journal
+returns-clause-journal g c = c.order_break.ensures.journal
+
+pub returns-clause-exact : goal.returns-clause-exact
+returns-clause-exact g c = c.order_break.ensures.exact
+
+pub returns-clause-ready : goal.returns-clause-ready
+returns-clause-ready g c = c.order_break.ensures.ready
+
+pub returns-clause-played : goal.returns-clause-played
+returns-clause-played g c = c.order_break.ensures.armed
+
+pub returns-clause-lost : goal.returns-clause-lost
+returns-clause-lost g c = c.order_break.ensures.lost
+
+pub returns-clause-log : goal.returns-clause-log
+returns-clause-log g c = c.order_break.ensures.log
+
+pub returns-clause-held : goal.returns-clause-held
+returns-clause-held g c = c.order_break.ensures.held
+
+pub returns-clause-left : goal.returns-clause-left
+returns-clause-left g c = c.order_break.ensures.left
