@@ -63,7 +63,7 @@ fn first(alloc: Global) -> Result<Vec<Event>, AllocError> {
         number: 2,
         answer: Answer::Read(Text::from_bytes(alloc, b"ab")?),
     };
-    vec![in alloc; open(alloc, by)?, unread, read]
+    Ok(vec![in alloc; open(alloc, by)?, unread, read]?)
 }
 
 /// What the second client shows.
@@ -75,7 +75,7 @@ fn second(alloc: Global) -> Result<Vec<Event>, AllocError> {
         part: false,
         end: WriteEnd::Acked { stamp: 9, mask: 7 },
     };
-    vec![in alloc; acked]
+    Ok(vec![in alloc; acked]?)
 }
 
 /// What the first rebuilder shows.
@@ -85,7 +85,7 @@ fn third(alloc: Global) -> Result<Vec<Event>, AllocError> {
         number: 1,
         answer: Answer::Rebuild(RebuildEnd::NotLost),
     };
-    vec![in alloc; rebuilt]
+    Ok(vec![in alloc; rebuilt]?)
 }
 
 const LINES: &[u8] = b"c1 1 toofew snd\nc1 2 read 2 x:6162\nc2 1 acked 9 \nr1 1 notlost\nend 123\n";
