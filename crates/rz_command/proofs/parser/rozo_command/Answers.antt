@@ -9,4 +9,4 @@ returns c =
     let load = λ (a : App). with_subcommand a (numbered (codes "load")).top in
     let migrate = λ (a : App). with_subcommand a (numbered (codes "migrate")).top in
     let more_is = c.in_ok-more.ensures ∙ ap load c.in_ok-short.ensures in
-    IfOk-weaker c.with_numbered.result _ _ (λ r h. h ∙ ap migrate more_is) c.with_numbered.ensures
+    IfOk-weaker c.with_numbered-2.result _ _ (λ r h. h ∙ ap migrate more_is) c.with_numbered-2.ensures

@@ -5,7 +5,7 @@ use Rattle.clap.specs.Simple.{app_of_fields}
 use Rattle.rz_command.specs.Parser.{plain, top}
 use Rattle.rz_command.proofs.parser.short_command.Goals as goal
 
-more : Text → App → App
+abbrev more : Text → App → App
 more name a = with_subcommand a (plain name).top
 
 pub returns : goal.returns
@@ -15,4 +15,4 @@ returns c =
     let two = c.in_ok-two.ensures ∙ ap (more (codes "run")) one in
     let three = c.in_ok-three.ensures ∙ ap (more (codes "scrub")) two in
     let four = c.in_ok-four.ensures ∙ ap (more (codes "first")) three in
-    IfOk-weaker c.with_plain.result _ _ (λ r h. h ∙ ap (more (codes "again")) four) c.with_plain.ensures
+    IfOk-weaker c.with_plain-5.result _ _ (λ r h. h ∙ ap (more (codes "again")) four) c.with_plain-5.ensures
