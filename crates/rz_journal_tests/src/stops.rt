@@ -108,14 +108,14 @@ fn either<'a>(is_there: bool, after: &'a [u8], before: &'a [u8]) -> &'a [u8] {
 /// What is to be found after a stop, in a call that makes so many device calls: the parts before it, and those
 /// after it where the gate is open.
 #[derive(Drop)]
-struct Stopped<'a> {
+struct StoppedEntry<'a> {
     calls: u64,
     is_open: bool,
     before: &'a [u8],
     after: &'a [u8],
 }
 
-impl<'a> Stopped<'a> {
+impl<'a> StoppedEntry<'a> {
     /// The parts that are to be found where so many device calls were made.
     fn wanted(&self, made: u64) -> &'a [u8] {
         either(self.is_open && made >= self.calls, self.after, self.before)
@@ -133,7 +133,7 @@ fn is_other<D: Disk>(alloc: Global, disk: D, pick: u64, wanted: &[u8]) -> Result
 fn first_other_of(
     alloc: Global,
     row: &[u8],
-    stop: &Stopped<'_>,
+    stop: &StoppedEntry<'_>,
     pick: u64,
 ) -> Result<Option<u64>, Fail> {
     for call in 0..stop.calls {
@@ -163,7 +163,7 @@ fn first_other(
     let row = filling(alloc, count)?;
     let old = before(alloc, count)?;
     let new = after(alloc, count)?;
-    let stop = Stopped {
+    let stop = StoppedEntry {
         calls,
         is_open: opens(gate_at, pick),
         before: old.as_slice(),
