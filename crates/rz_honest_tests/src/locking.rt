@@ -6,9 +6,9 @@ ghost use Rattle.rz_config.specs.Plain.{plain_volume};
 ghost use Rattle.rz_chronicle.specs.Kinds.{kind_of};
 ghost use Rattle.rz_honest_tests.specs.Written.{HasWritten};
 
-use crate::sharing::{judged, played, readied};
-use crate::stage::{Stage, staged};
-use crate::working::{Account, write_and_read};
+use crate::sharing::{checked, played};
+use crate::stage::{Stage, room, staged};
+use crate::working::{Account, create_both, write_and_read};
 use rz_chronicle::{Book, Opened, Pass};
 use rz_config::Volume;
 use rz_disk::{Disk, PlainDisk};
@@ -144,43 +144,19 @@ fn miss<J: Counting + Send + Sync, R: Threads + Wait + Abort + AllocGlobal + Syn
     let Stage {
         book,
         cluster,
-        one,
+        mut one,
         two,
     } = staged::<MeetDisk<'_, PlainDisk>, J>(alloc, opened, volume, disks)?;
-    let done = seen_in_turn(rt, alloc, &book, &cluster, one, two);
-    drop(cluster);
-    drop(book);
-    done
-}
-
-/// Two clients at work one after the other, and what they saw.
-fn seen_in_turn<
-    D: Disk + Send,
-    J: Counting + Send + Sync,
-    R: Threads + Wait + Abort + AllocGlobal + Sync,
->(
-    rt: &R,
-    alloc: Global,
-    book: &Book<J>,
-    cluster: &Cluster<D, J>,
-    one: Pass<J>,
-    two: Pass<J>,
-) -> Result<(), Fail>
-    requires kind { J.kind ≡ kind_of true plain_volume }
-    requires one { ¬ (one.actor ≡ a.Admin) }
-    requires two { ¬ (two.actor ≡ a.Admin) }
-{
-    let mut one = one;
-    match readied(rt, alloc, book, cluster, &mut one) {
-        Ok((left, right)) => {
-            let all = Mutex::new(0);
-            let (first, second) = on_both_in_turn(rt, book, cluster, &all, one, two, left, right);
-            judged(rt, alloc, book, first, second)
-        }
-        Err(why) => {
-            drop(one);
-            drop(two);
-            Err(why)
-        }
-    }
+    assert!(rt; create_both(rt, alloc, &book, &cluster, &mut one)?);
+    let left = room(alloc)?;
+    let right = room(alloc)?;
+    let all = Mutex::new(0);
+    let (first, second) = on_both_in_turn(rt, &book, &cluster, &all, one, two, left, right);
+    let Some(first) = first else {
+        return Err("the first client was refused")?;
+    };
+    let Some(second) = second else {
+        return Err("the second client was refused")?;
+    };
+    checked(rt, alloc, &book, first, second)
 }

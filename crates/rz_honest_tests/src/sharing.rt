@@ -1,5 +1,5 @@
 //! Two clients share a cluster, over disks in memory.
-ghost use Rattle.std.specs.Prelude.{◌≡◌, ℕ, IfOk, IfSome, length, true};
+ghost use Rattle.std.specs.Prelude.{◌≡◌, ℕ, IfOk, length, true};
 ghost use Rattle.rz_events.specs.declared.keys.Actor.TheVariants as a;
 ghost use Rattle.rz_config.specs.Plain.{plain_volume};
 ghost use Rattle.rz_chronicle.specs.Kinds.{kind_of};
@@ -12,7 +12,6 @@ use rz_chronicle::{Book, Opened, Pass};
 use rz_config::Volume;
 use rz_disk::{Disk, PlainDisk};
 use rz_locked::Counting;
-use rz_shared::Cluster;
 use std::alloc::{AllocError, Global};
 use std::marker::Brand;
 use std::process::Abort;
@@ -55,83 +54,20 @@ pub fn played<
     let Stage {
         book,
         cluster,
-        one,
+        mut one,
         two,
     } = stage;
-    let done = seen(rt, alloc, &book, &cluster, one, two);
-    drop(cluster);
-    drop(book);
-    done
-}
-
-/// The same over a cluster and a book that stay where they are.
-fn seen<D: Disk + Send, J: Counting + Send + Sync, R: Threads + Wait + Abort + AllocGlobal + Sync>(
-    rt: &R,
-    alloc: Global,
-    book: &Book<J>,
-    cluster: &Cluster<D, J>,
-    one: Pass<J>,
-    two: Pass<J>,
-) -> Result<(), Fail>
-    requires kind { J.kind ≡ kind_of true plain_volume }
-    requires one { ¬ (one.actor ≡ a.Admin) }
-    requires two { ¬ (two.actor ≡ a.Admin) }
-{
-    let mut one = one;
-    match readied(rt, alloc, book, cluster, &mut one) {
-        Ok((left, right)) => {
-            let (first, second) = on_both(rt, book, cluster, one, two, left, right);
-            judged(rt, alloc, book, first, second)
-        }
-        Err(why) => {
-            drop(one);
-            drop(two);
-            Err(why)
-        }
-    }
-}
-
-/// Makes the files of both clients, and room for what each reads.
-pub fn readied<D: Disk, J: Counting, R: Wait + Abort>(
-    rt: &R,
-    alloc: Global,
-    book: &Book<J>,
-    cluster: &Cluster<D, J>,
-    pass: &mut Pass<J>,
-) -> Result<(Vec<u64>, Vec<u64>), Fail>
-    requires kind { J.kind ≡ kind_of true plain_volume }
-    requires client { ¬ (pass.old.actor ≡ a.Admin) }
-    ensures same { pass.new.actor ≡ pass.old.actor }
-    ensures left { IfOk result (λ r. length r.0.items ≡ 258) }
-    ensures right { IfOk result (λ r. length r.1.items ≡ 258) }
-{
-    assert!(rt; create_both(rt, alloc, book, cluster, pass)?);
+    assert!(rt; create_both(rt, alloc, &book, &cluster, &mut one)?);
     let left = room(alloc)?;
     let right = room(alloc)?;
-    Ok((left, right))
-}
-
-/// Goes over what both saw, where none of them was refused.
-pub fn judged<J: Counting, R: Abort>(
-    rt: &R,
-    alloc: Global,
-    book: &Book<J>,
-    first: Option<Account<J>>,
-    second: Option<Account<J>>,
-) -> Result<(), Fail>
-    requires kind { J.kind ≡ kind_of true plain_volume }
-    requires first { IfSome first (λ t. HasWritten t.pass.log t.pass.actor t.stamp) }
-    requires second { IfSome second (λ t. HasWritten t.pass.log t.pass.actor t.stamp) }
-{
+    let (first, second) = on_both(rt, &book, &cluster, one, two, left, right);
     let Some(first) = first else {
-        drop(second);
-        return Err(Fail::from("the first client was refused"));
+        return Err("the first client was refused")?;
     };
     let Some(second) = second else {
-        drop(first);
-        return Err(Fail::from("the second client was refused"));
+        return Err("the second client was refused")?;
     };
-    checked(rt, alloc, book, first, second)
+    checked(rt, alloc, &book, first, second)
 }
 
 /// Goes over what both saw. Two files were made and four times opened, two writes began, two records were
@@ -147,13 +83,9 @@ pub fn checked<J: Counting, R: Abort>(
     requires first { HasWritten first.pass.log first.pass.actor first.stamp }
     requires second { HasWritten second.pass.log second.pass.actor second.stamp }
 {
-    let is_history = is_one_history(alloc, &first.notes, &second.notes);
+    assert!(rt; is_one_history(alloc, &first.notes, &second.notes)?);
     let mut pass = met(book, first.pass, &second.pass, first.stamp, second.stamp);
-    drop(second);
-    let events = events(book, &mut pass);
-    drop(pass);
-    assert!(rt; is_history?);
-    assert_eq!(rt; events, (8, 6));
+    assert_eq!(rt; events(book, &mut pass), (8, 6));
     Ok(())
 }
 

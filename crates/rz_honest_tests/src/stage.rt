@@ -30,60 +30,16 @@ pub struct Stage<D: Disk, J: Counting> {
     pub two: Pass<J>,
 }
 
-/// Whether an actor is a client.
-fn is_client(by: Actor) -> bool
-    ensures { IsTrue result → ¬ (by ≡ a.Admin) }
-{
-    matches!(by, Actor::Client(_))
-}
-
 /// A client's pass.
 fn client<J: Counting>(clients: &mut Vec<Pass<J>>) -> Result<Pass<J>, Fail>
     ensures { IfOk result (λ p. ¬ (p.actor ≡ a.Admin)) }
 {
     let Some(pass) = clients.pop() else {
-        return Err(Fail::from("no client"));
+        return Err("no client")?;
     };
-    if is_client(pass.actor()) {
-        Ok(pass)
-    } else {
-        drop(pass);
-        Err(Fail::from("not a client"))
-    }
-}
-
-/// The last two of the clients.
-fn two_of<J: Counting>(clients: Vec<Pass<J>>) -> Result<(Pass<J>, Pass<J>), Fail>
-    ensures one { IfOk result (λ r. ¬ (r.0.actor ≡ a.Admin)) }
-    ensures two { IfOk result (λ r. ¬ (r.1.actor ≡ a.Admin)) }
-{
-    let mut clients = clients;
-    let one = client(&mut clients)?;
-    let two = client(&mut clients)?;
-    Ok((one, two))
-}
-
-/// The cluster and its book with two of the clients.
-fn with_two<D: Disk, J: Counting>(
-    book: Book<J>,
-    cluster: Cluster<D, J>,
-    clients: Vec<Pass<J>>,
-) -> Result<Stage<D, J>, Fail>
-    ensures one { IfOk result (λ s. ¬ (s.one.actor ≡ a.Admin)) }
-    ensures two { IfOk result (λ s. ¬ (s.two.actor ≡ a.Admin)) }
-{
-    match two_of(clients) {
-        Ok((one, two)) => Ok(Stage {
-            book,
-            cluster,
-            one,
-            two,
-        }),
-        Err(fail) => {
-            drop(book);
-            drop(cluster);
-            Err(fail)
-        }
+    match pass.actor() {
+        Actor::Client(_) => Ok(pass),
+        _ => Err("not a client")?,
     }
 }
 
@@ -106,20 +62,20 @@ pub fn staged<D: Disk, J: Counting>(
     read_back();
     let (book, crew) = opened.named::<J>(alloc)?;
     let Crew {
-        admin,
-        clients,
-        rebuilders,
+        admin: _,
+        mut clients,
+        rebuilders: _,
         desk,
     } = crew;
-    drop(admin);
-    drop(rebuilders);
+    let one = client(&mut clients)?;
+    let two = client(&mut clients)?;
     match Cluster::new(alloc, volume, disks, &book, desk) {
-        Ok(cluster) => with_two(book, cluster, clients),
-        Err(refused) => {
-            drop(refused);
-            drop(clients);
-            drop(book);
-            Err(Fail::from("no cluster"))
-        }
+        Ok(cluster) => Ok(Stage {
+            book,
+            cluster,
+            one,
+            two,
+        }),
+        Err(_) => Err("no cluster")?,
     }
 }

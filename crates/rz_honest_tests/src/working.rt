@@ -147,44 +147,30 @@ pub fn write_and_read<D: Disk, J: Counting, R: Wait + AllocGlobal>(
 {
     let mut pass = pass;
     let mut room = room;
-    match at_work(rt, book, cluster, &mut pass, &mut room, first) {
-        Some((stamp, notes)) => Some(Account { pass, stamp, notes }),
-        None => {
-            drop(pass);
-            None
-        }
-    }
-}
-
-/// The same with a pass and room that stay where they are: the stamp of the write, and what was seen.
-fn at_work<D: Disk, J: Counting, R: Wait + AllocGlobal>(
-    rt: &R,
-    book: &Book<J>,
-    cluster: &Cluster<D, J>,
-    pass: &mut Pass<J>,
-    room: &mut [u64],
-    first: bool,
-) -> Option<(u64, [Note; 4])>
-    requires kind { J.kind ≡ kind_of true plain_volume }
-    requires client { ¬ (pass.old.actor ≡ a.Admin) }
-    requires room { length room.old ≡ 258 }
-    ensures same { pass.new.actor ≡ pass.old.actor }
-    ensures written { IfSome result (λ r. HasWritten pass.new.log pass.new.actor r.0) }
-    ensures legal { IfSome result (λ r. IsLegal plain_volume pass.new.log) }
-{
     let alloc = rt.alloc();
     let byte = byte_of(first);
     let place = position_of(first);
     let its_place = position_of(!first);
     let path = path_of(alloc, first).ok()?;
-    let mine = open(rt, book, cluster, pass, path)?;
+    let mine = open(rt, book, cluster, &mut pass, path)?;
     let path = path_of(alloc, !first).ok()?;
-    let other = open(rt, book, cluster, pass, path)?;
-    let began = write(rt, alloc, book, cluster, pass, &mine, place, byte)?;
+    let other = open(rt, book, cluster, &mut pass, path)?;
+    let began = write(rt, alloc, book, cluster, &mut pass, &mine, place, byte)?;
     // The two writes have the stamps 1 and 2.
     let its = if began.stamp == 1 { 2 } else { 1 };
-    let across = read(rt, book, cluster, pass, &other, its_place, its, room);
-    let own = read(rt, book, cluster, pass, &mine, place, began.stamp, room);
+    let across = read(
+        rt, book, cluster, &mut pass, &other, its_place, its, &mut room,
+    );
+    let own = read(
+        rt,
+        book,
+        cluster,
+        &mut pass,
+        &mine,
+        place,
+        began.stamp,
+        &mut room,
+    );
     let notes = [
         Note::Began {
             stamp: began.stamp,
@@ -194,7 +180,11 @@ fn at_work<D: Disk, J: Counting, R: Wait + AllocGlobal>(
         across,
         own,
     ];
-    Some((began.stamp, notes))
+    Some(Account {
+        pass,
+        stamp: began.stamp,
+        notes,
+    })
 }
 
 /// Two clients write and read on threads of their own.

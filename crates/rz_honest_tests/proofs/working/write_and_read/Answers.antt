@@ -1,5 +1,5 @@
 use Rattle.std.proofs.Common.{◌∙◌, sym}
-use Rattle.rz_honest_tests.proofs.working.at_work.Goals as goal
+use Rattle.rz_honest_tests.proofs.working.write_and_read.Goals as goal
 
 pub returns-clause-written : goal.returns-clause-written
 returns-clause-written g c =
