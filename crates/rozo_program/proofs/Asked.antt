@@ -1,6 +1,6 @@
 -- What was asked for fits the disks.
 use Rattle.std.proofs.Common.{ℕ, ◌≡◌, Option, Some, None, Ok, subst, sym}
-use Rattle.rz_command.specs.Line.{Meaning}
+use Rattle.rz_request.specs.Line.{Meaning}
 use Rattle.rz_request.specs.Requests.{Asks, AsksFor, Reading, disks_for, wished}
 use Rattle.rz_request.specs.declared.wishes.Request.{Request}
 use Rattle.rz_request.specs.declared.wishes.Wish.{Wish}

@@ -4,7 +4,7 @@ use Rattle.rz_disk.specs.Meter.{Meter, Rises, faults}
 use Rattle.rz_events.specs.declared.events.Event.{Event}
 use Rattle.rz_script.specs.Scripts.{Script}
 use Rattle.rz_continuation.specs.Earlier.{IsEarlier, IsRestarted}
-use Rattle.rz_opening.specs.declared.refusal.OpenRefusal.TheVariants.{Open}
+use Rattle.rz_formatting.specs.declared.refusal.OpenRefusal.TheVariants.{Open}
 use Rattle.rz_driver.specs.Continued.{AreLeft, IsCauseAgain}
 use Rattle.rz_lines.specs.declared.lines.PlayEnd.TheVariants as ends
 use Rattle.rz_request.specs.Requests.{IsFor, script_in}

@@ -1,6 +1,6 @@
 -- Where memory is wanting before it is known what the words want, nothing is done.
 use Rattle.std.proofs.Common.{ℕ, ◌≡◌, Bool, List, [], Option, Some, None, IsSome, Err, refl}
-use Rattle.rz_command.specs.Line.{Meaning}
+use Rattle.rz_request.specs.Line.{Meaning}
 use Rattle.rz_disk.specs.Meter.{Meter}
 use Rattle.rz_events.specs.declared.events.Event.{Event}
 use Rattle.rz_request.specs.Requests.{AsksFor, IsUnread, Reading, wished}

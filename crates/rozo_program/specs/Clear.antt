@@ -1,11 +1,11 @@
 -- When nothing stands in the way of a replay that goes on after earlier runs, so that it comes to its end.
 use Rattle.std.specs.Prelude.{ℕ, true, ◌≡◌, ◌⊎◌, List, [], ◌∷◌, ◌++◌, Option, Result, length}
 use Rattle.rz_disk.specs.Meter.{Meter, Rises, faults}
-use Rattle.rz_command.specs.Line.{Meaning}
+use Rattle.rz_request.specs.Line.{Meaning}
 use Rattle.rz_events.specs.declared.events.Event.{Event}
 use Rattle.rz_script.specs.Scripts.{Script}
 use Rattle.rz_continuation.specs.Earlier.{IsEarlier, IsRestarted}
-use Rattle.rz_opening.specs.declared.refusal.OpenRefusal.TheVariants.{Open}
+use Rattle.rz_formatting.specs.declared.refusal.OpenRefusal.TheVariants.{Open}
 use Rattle.rz_driver.specs.Continued.{AreLeft, IsCauseAgain}
 use Rattle.rz_lines.specs.declared.lines.PlayEnd.TheVariants.{TooManyTurns, JournalFull}
 use Rattle.rz_request.specs.Requests.{Asks, Reading}

@@ -16,8 +16,8 @@ use Rattle.rz_driver.specs.Formatted.{IsJournalBack}
 use Rattle.rz_core.specs.History.{of_word}
 use Rattle.rz_core.specs.NodeRows.{IsNodeOf}
 use Rattle.rz_core.specs.NodeWord.{phase}
-use Rattle.rz_opening.specs.Opened.{AreKept}
-use Rattle.rz_opening.specs.declared.refusal.OpenRefusal.TheVariants.{Open}
+use Rattle.rz_formatting.specs.Opened.{AreKept}
+use Rattle.rz_formatting.specs.declared.refusal.OpenRefusal.TheVariants.{Open}
 use Rattle.rz_driver.specs.Continued.{AreLeft, IsCauseAgain}
 use Rattle.rz_continuation.specs.Earlier.{IsEarlier, IsRestarted}
 use Rattle.rz_script.specs.declared.line.Line.{Line}

@@ -1,12 +1,12 @@
 -- What a replay over disks comes to.
 use Rattle.std.specs.Prelude.{ℕ, ◌≡◌, Bool, List, [], length, Option, Some, None, Result}
-use Rattle.rz_command.specs.Line.{Meaning}
-use Rattle.rz_command.specs.declared.command.Command.{Command}
-use Rattle.rz_command.specs.declared.command.Command.TheVariants.{Migrate}
+use Rattle.rz_request.specs.Line.{Meaning}
+use Rattle.rz_request.specs.declared.command.Command.{Command}
+use Rattle.rz_request.specs.declared.command.Command.TheVariants.{Migrate}
 use Rattle.rz_disk.specs.Meter.{Meter}
 use Rattle.rz_events.specs.declared.events.Event.{Event}
-use Rattle.rz_opening.specs.declared.refusal.OpenRefusal.{OpenRefusal}
-use Rattle.rz_opening.specs.declared.refusal.OpenRefusal.TheVariants as opens
+use Rattle.rz_formatting.specs.declared.refusal.OpenRefusal.{OpenRefusal}
+use Rattle.rz_formatting.specs.declared.refusal.OpenRefusal.TheVariants as opens
 use Rattle.rz_request.specs.Requests.{Asks, Reading}
 use Rattle.rz_request.specs.declared.refusal.Refusal.TheVariants as refusals
 use Rattle.rz_request.specs.declared.refusal.Stop.{Stop}

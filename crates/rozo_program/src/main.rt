@@ -29,7 +29,7 @@ ghost use Rattle.std.specs.Prelude.{◌≡◌, IfOk, IsTrue, length};
 
 use disks::{FilesFault, files, memory};
 use replay::replay;
-use rz_command::{Command, Wanted, WordsError, wanted};
+use rz_request::{Command, Wanted, WordsError, wanted};
 use rz_disk::Disk;
 use rz_link::PlainLink;
 use rz_perform::refuse;

@@ -1,7 +1,7 @@
 //! What words and an input ask for, done over disks that are lent to it.
 
 ghost use Rattle.std.specs.Prelude.{◌≡◌, ◌≢◌, ◌+◌, ◌-◌, [], IsSome, MatchResult, Ok, length, map, reverse, string_bytes};
-ghost use Rattle.rz_command.specs.Line.{meaning};
+ghost use Rattle.rz_request.specs.Line.{meaning};
 ghost use Rattle.rz_request.specs.Requests.{disks_for, nodes_in};
 ghost use Rattle.rz_request.specs.declared.wishes.Wish.TheVariants.{First, Again};
 ghost use Rattle.rz_play_laws.specs.Runs.{IsScript};
@@ -10,12 +10,12 @@ ghost use Rattle.rozo_program.specs.Disks.{HandsBack, faulted};
 ghost use Rattle.rozo_program.specs.Replays.{FailsAgain, Plays, Replays, old_node_of};
 
 use crate::migrating::carry;
-use rz_command::{Command, WordsError, wanted};
+use rz_request::{Command, WordsError, wanted};
 use rz_disk::Disk;
 use rz_driver::Driver;
 use rz_events::Event;
 use rz_link::Link;
-use rz_opening::OpenRefusal;
+use rz_formatting::OpenRefusal;
 use rz_perform::{begins, perform, refuse, stop};
 use rz_ports::{Sink, Source};
 use rz_request::{Refusal, Request, Wish, request};

@@ -22,7 +22,7 @@ use Rattle.rz_node_model.specs.NodeEvents.{node_event}
 use Rattle.rz_node_model.specs.States.{NodeState}
 use Rattle.rz_cells.specs.declared.geometry.Geometry.{Geometry}
 use Rattle.rz_node.specs.Fetched.{IfHeld}
-use Rattle.rz_calls.specs.Leaves.{Leaves}
+use Rattle.rz_node.specs.Leaves.{Leaves}
 use Rattle.rz_operation_model.specs.Work.{Work, Over}
 use Rattle.rz_operation_model.specs.Ask.{Ask, AskNode, ask_of}
 use Rattle.rz_operation_model.specs.Steps.{Answered, told}

@@ -1,3 +1,13 @@
+pub mod Bits
+pub mod Lists
+pub mod Order
+pub mod Rising
+pub mod FoundRows
+pub mod Looked
+pub mod Written
+pub mod MarkedRows
+pub mod Next
+pub mod Forget
 pub mod Keys
 pub mod Shows
 pub mod Ranges

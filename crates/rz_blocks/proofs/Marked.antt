@@ -5,8 +5,8 @@ use Rattle.std.proofs.lemmas.Bool.Decides.{nat_tests}
 use Rattle.std.specs.BTreeMap.{is_at}
 use Rattle.rz_events.specs.Keys.{key_cmp, exact_keys}
 use Rattle.rz_events.specs.declared.keys.Key.{Key}
-use Rattle.rz_marks.specs.declared.row.Row.{Row}
-use Rattle.rz_marks.specs.Marks.{is_marked, has_room, is_same, is_beside}
+use Rattle.rz_blocks.specs.declared.row.Row.{Row}
+use Rattle.rz_blocks.specs.Marks.{is_marked, has_room, is_same, is_beside}
 use Rattle.rz_blocks.specs.declared.blocks.Entry.{Entry}
 use Rattle.rz_blocks.specs.Marked.{kept_at, is_public, AreMarked}
 use Rattle.rz_blocks.proofs.Sorted.{tied}

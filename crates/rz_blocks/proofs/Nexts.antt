@@ -13,8 +13,8 @@ use Rattle.rz_events.specs.declared.keys.Key.{Key}
 use Rattle.rz_events.specs.declared.files.Published.{Published}
 use Rattle.rz_export_model.specs.Firsts.{first_given}
 use Rattle.rz_export_model.specs.Export.{Block, Blocks, is_after, published_of, next_of_file}
-use Rattle.rz_marks.specs.declared.row.Row.{Row}
-use Rattle.rz_marks.specs.Marks.{is_marked}
+use Rattle.rz_blocks.specs.declared.row.Row.{Row}
+use Rattle.rz_blocks.specs.Marks.{is_marked}
 use Rattle.rz_blocks.specs.declared.blocks.Entry.{Entry}
 use Rattle.rz_blocks.specs.Shown.{shown}
 use Rattle.rz_blocks.specs.Marked.{kept_at, is_public, AreMarked}

@@ -1,2 +1,4 @@
+pub mod Marks
+pub mod Rows
 pub mod Shown
 pub mod Marked

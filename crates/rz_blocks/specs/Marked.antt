@@ -5,8 +5,8 @@ use Rattle.std.specs.Map.{lookup}
 use Rattle.std.specs.BTreeMap.{is_at}
 use Rattle.rz_events.specs.Keys.{key_cmp}
 use Rattle.rz_events.specs.declared.keys.Key.{Key}
-use Rattle.rz_marks.specs.declared.row.Row.{Row}
-use Rattle.rz_marks.specs.Marks.{is_marked, has_room}
+use Rattle.rz_blocks.specs.declared.row.Row.{Row}
+use Rattle.rz_blocks.specs.Marks.{is_marked, has_room}
 use Rattle.rz_blocks.specs.declared.blocks.Entry.{Entry}
 
 -- the entry of a key

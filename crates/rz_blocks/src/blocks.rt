@@ -13,7 +13,7 @@ ghost use Rattle.rz_blocks.specs.Marked.{kept_at};
 ghost use Rattle.rz_blocks.specs.Shown.{added, shown, first_published, entry_above, nth_entry, IsStartAbove, IsStartOf, IsEndOf, IsWithin, IsPast};
 
 use rz_events::{Key, Published};
-use rz_marks::Marks;
+use crate::Marks;
 use std::alloc::{AllocError, Global};
 use std::collections::BTreeMap;
 use std::marker::Model;

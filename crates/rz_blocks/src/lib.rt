@@ -8,5 +8,8 @@
 #![tactic(auto)]
 
 mod blocks;
+mod marks;
+mod row;
 
+pub use marks::Marks;
 pub use blocks::Blocks;

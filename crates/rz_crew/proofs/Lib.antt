@@ -1,2 +1,4 @@
+mod Counts
+mod Totals
 mod Rosters
 mod Gathered

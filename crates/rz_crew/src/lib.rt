@@ -7,10 +7,12 @@
 //! In reading order: `roster`, `gathering`, `laws`.
 #![tactic(auto)]
 
+mod counting;
 mod gathering;
 mod laws;
 mod roster;
 
+pub use counting::count_all;
 pub use gathering::gather_all;
 pub use laws::held_lasts;
 pub use roster::operations_of;

@@ -16,7 +16,7 @@ use Rattle.rz_node_model.specs.Answers.{IsNodeAnswer}
 use Rattle.rz_node_model.specs.Afterwards.{after_answer, after_start}
 use Rattle.rz_node_model.specs.NodeEvents.{node_event, start_event}
 use Rattle.rz_node.specs.Opens.{Opens}
-use Rattle.rz_calls.specs.Calls.{Counts}
+use Rattle.rz_node.specs.Calls.{Counts}
 use Rattle.rz_play.specs.Faults.{fuse_of, unplanned, slips, AreFaultsCounted}
 use Rattle.rz_play.specs.Lines.{noted}
 

@@ -43,9 +43,9 @@ use Rattle.rz_image_laws.specs.Images.{AreImages, IsImaged, geometry_in}
 use Rattle.rz_formatting.specs.declared.formatting.Station.{Station}
 use Rattle.rz_formatting.specs.Formatted.{geometry_of}
 use Rattle.rz_formatting.proofs.Rowwise.{get-behind}
-use Rattle.rz_opening.specs.declared.refusal.OpenRefusal.{OpenRefusal}
-use Rattle.rz_opening.specs.declared.refusal.OpenRefusal.TheVariants as refusal
-use Rattle.rz_opening.specs.Opened.{IsOpened, IsKept, AreKept, AreOpened, IsCause}
+use Rattle.rz_formatting.specs.declared.refusal.OpenRefusal.{OpenRefusal}
+use Rattle.rz_formatting.specs.declared.refusal.OpenRefusal.TheVariants as refusal
+use Rattle.rz_formatting.specs.Opened.{IsOpened, IsKept, AreKept, AreOpened, IsCause}
 use Rattle.rz_continuation.specs.Earlier.{IsEarlier, IsRestarted}
 use Rattle.rz_continuation.specs.Calls.{calls_told, changing_calls}
 use Rattle.rz_continuation.specs.Found.{IsFound, AreFound, StandsByLog}

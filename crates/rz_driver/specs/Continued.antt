@@ -18,9 +18,9 @@ use Rattle.rz_metadata.specs.Enrolled.{loss_of}
 use Rattle.rz_metadata.specs.Reopened.{MakesExport, number_of}
 use Rattle.rz_metadata.specs.Stands.{disk_of, export_in, refusal_of}
 use Rattle.rz_metadata.specs.declared.journaled.Refusal.TheVariants.{Full}
-use Rattle.rz_opening.specs.declared.refusal.OpenRefusal.{OpenRefusal}
-use Rattle.rz_opening.specs.declared.refusal.OpenRefusal.TheVariants as refusal
-use Rattle.rz_opening.specs.Opened.{AreKept, AreOpened, IsCause}
+use Rattle.rz_formatting.specs.declared.refusal.OpenRefusal.{OpenRefusal}
+use Rattle.rz_formatting.specs.declared.refusal.OpenRefusal.TheVariants as refusal
+use Rattle.rz_formatting.specs.Opened.{AreKept, AreOpened, IsCause}
 use Rattle.rz_lines.specs.Behind.{Before}
 use Rattle.rz_play.specs.World.{world_after}
 use Rattle.rz_stations.specs.Images.{AreDisksImaged}

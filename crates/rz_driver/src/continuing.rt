@@ -7,7 +7,7 @@ ghost use Rattle.rz_events.specs.declared.export.Call.{Call as ACall};
 ghost use Rattle.rz_events.specs.declared.events.Event.{Event as AnEvent};
 ghost use Rattle.rz_metadata.specs.Reopened.{AllTextsOf, IsAsItCame, MakesExport};
 ghost use Rattle.rz_metadata.specs.Stands.{disk_of, export_in, is_journaled, Stands};
-ghost use Rattle.rz_opening.specs.Opened.{AreKept};
+ghost use Rattle.rz_formatting.specs.Opened.{AreKept};
 ghost use Rattle.rz_continuation.specs.Earlier.{IsEarlier, IsRestarted};
 ghost use Rattle.rz_stations.specs.Meters.{faults_at};
 ghost use Rattle.rz_driver.specs.Continued.{journal_refusal, AreLeft, IsCauseAgain, IsJournalCause, IsOpenedAgain, IsOpenedOver, IsRefusedOver};
@@ -22,7 +22,7 @@ use rz_disk::Disk;
 use rz_journal::JournalFault;
 use rz_locks::Locks;
 use rz_metadata::{Metadata, fault_number};
-use rz_opening::{OpenRefusal, open_all};
+use rz_formatting::{OpenRefusal, open_all};
 use rz_seats::Shared;
 use std::alloc::Global;
 

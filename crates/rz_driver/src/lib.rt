@@ -32,4 +32,4 @@ mod turns;
 pub use driver::Driver;
 pub use rz_formatting::DriverFault;
 pub(crate) use rz_lines::NoMemory;
-pub use rz_opening::OpenRefusal;
+pub use rz_formatting::OpenRefusal;

@@ -14,7 +14,7 @@ use Rattle.rz_events.specs.Keys.{key_cmp, keys_total, exact_keys}
 use Rattle.rz_events.specs.declared.keys.Key.{Key}
 use Rattle.rz_events.specs.declared.files.FileInfo.{FileInfo}
 use Rattle.rz_events.specs.declared.files.NodeSpec.{NodeSpec}
-use Rattle.rz_marks.specs.Marks.{is_marked, has_room}
+use Rattle.rz_blocks.specs.Marks.{is_marked, has_room}
 use Rattle.rz_export_model.specs.Tree.{Tree, Object, file_of, empty_tree, new_dir}
 use Rattle.rz_export_model.specs.Export.{Export, Block, Blocks, is_drawn}
 use Rattle.rz_tree.specs.declared.parts.Part.{Part}

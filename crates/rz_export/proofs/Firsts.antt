@@ -13,7 +13,7 @@ use Rattle.rz_events.specs.declared.keys.Key.{Key}
 use Rattle.rz_events.specs.declared.files.FileInfo.{FileInfo}
 use Rattle.rz_events.specs.declared.files.Listed.{Listed}
 use Rattle.rz_events.specs.declared.files.Published.{Published}
-use Rattle.rz_marks.specs.Marks.{is_marked}
+use Rattle.rz_blocks.specs.Marks.{is_marked}
 use Rattle.rz_export_model.specs.Firsts.{first_given, given_if}
 use Rattle.rz_export_model.specs.Tree.{Tree, file_of}
 use Rattle.rz_export_model.specs.Export.{Export, Block, is_after, is_on, listed_at, published_of, published_after, next_on}

@@ -10,8 +10,8 @@ use Rattle.std.proofs.lemmas.Option.{same_Some}
 use Rattle.rz_events.specs.Keys.{key_cmp, keys_total, exact_keys}
 use Rattle.rz_events.specs.declared.keys.Key.{Key}
 use Rattle.rz_events.specs.declared.files.Published.{Published}
-use Rattle.rz_marks.specs.declared.row.Row.{Row}
-use Rattle.rz_marks.specs.Marks.{is_marked, has_room}
+use Rattle.rz_blocks.specs.declared.row.Row.{Row}
+use Rattle.rz_blocks.specs.Marks.{is_marked, has_room}
 use Rattle.rz_export_model.specs.Tree.{Tree}
 use Rattle.rz_export_model.specs.Export.{Block, Blocks, published_of, begun, without_file, names_node}
 use Rattle.rz_events.specs.Masks.{has_bit}

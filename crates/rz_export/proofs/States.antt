@@ -15,7 +15,7 @@ use Rattle.rz_events.specs.declared.keys.Key.{Key}
 use Rattle.rz_events.specs.declared.files.FileInfo.{FileInfo}
 use Rattle.rz_events.specs.declared.files.NodeSpec.{NodeSpec}
 use Rattle.rz_events.specs.declared.files.Published.{Published}
-use Rattle.rz_marks.specs.Marks.{is_marked, has_room}
+use Rattle.rz_blocks.specs.Marks.{is_marked, has_room}
 use Rattle.rz_export_model.specs.Tree.{Tree, Object, file_of, empty_tree, new_dir, grown}
 use Rattle.rz_export_model.specs.Export.{Block, Blocks, latest_of, published_of, prepared, begun, with_published, newer_of}
 use Rattle.rz_export.specs.declared.nodes.Enrolment.{Enrolment}

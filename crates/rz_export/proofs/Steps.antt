@@ -4,7 +4,7 @@ use Rattle.std.proofs.lemmas.Bool.Decides.{nat_tests}
 use Rattle.std.proofs.lemmas.List.Elements.{All-more, All-weaker}
 use Rattle.std.proofs.lemmas.List.Folds.{list_any_more}
 use Rattle.rz_events.specs.declared.keys.Key.{Key}
-use Rattle.rz_marks.specs.Marks.{has_room, is_beside}
+use Rattle.rz_blocks.specs.Marks.{has_room, is_beside}
 use Rattle.rz_export.specs.Kept.{is_place, AreRoomy}
 use Rattle.rz_export.proofs.Marked.{Marks}
 

@@ -8,8 +8,8 @@ use Rattle.rz_events.specs.declared.keys.Key.{Key}
 use Rattle.rz_events.specs.declared.files.FileInfo.{FileInfo}
 use Rattle.rz_events.specs.declared.tree.TreeReply.{TreeReply}
 use Rattle.rz_events.specs.declared.tree.TreeReply.TheVariants as told
-use Rattle.rz_marks.specs.declared.row.Row.{Row}
-use Rattle.rz_marks.specs.Marks.{is_marked, has_room}
+use Rattle.rz_blocks.specs.declared.row.Row.{Row}
+use Rattle.rz_blocks.specs.Marks.{is_marked, has_room}
 use Rattle.rz_export_model.specs.Tree.{Tree, file_of}
 use Rattle.rz_export_model.specs.Export.{Export, Block, Blocks, is_on, listed_at, spent}
 use Rattle.rz_export.specs.declared.nodes.KeptNode.{KeptNode}

@@ -5,7 +5,7 @@ ghost use Rattle.std.specs.FinMap as maps;
 ghost use Rattle.mj_angles.specs.Layout.{block_bytes_of};
 ghost use Rattle.rz_events.specs.declared.export.Call.{Call};
 ghost use Rattle.rz_events.specs.declared.keys.Key.{Key};
-ghost use Rattle.rz_marks.specs.Marks.{is_marked, has_room};
+ghost use Rattle.rz_blocks.specs.Marks.{is_marked, has_room};
 ghost use Rattle.rz_export_model.specs.Tree.{Tree, file_of};
 ghost use Rattle.rz_export_model.specs.Export.{no_begin, no_publish, prepared, export_reply, export_after, after_begin, after_publish, published_stamp, is_proper, is_node, is_ready, new_fence, spent};
 ghost use Rattle.rz_export.specs.Kept.{with_fence, AreRoomy};
@@ -15,7 +15,7 @@ use crate::lists::{make_room, remark};
 use crate::nodes::{Enrolment, enroll, recount};
 use rz_blocks::Blocks;
 use rz_events::{Denial, FileInfo, Key, Published, Reply};
-use rz_marks::Marks;
+use rz_blocks::Marks;
 use std::alloc::AllocError;
 
 impl Export {

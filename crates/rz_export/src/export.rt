@@ -14,7 +14,7 @@ use mj_angles::Layout;
 use rz_blocks::Blocks;
 use rz_config::Volume;
 use rz_events::{FileInfo, Key, Published};
-use rz_marks::Marks;
+use rz_blocks::Marks;
 use rz_tree::Tree;
 use std::alloc::{AllocError, Global};
 use std::marker::Model;

@@ -4,13 +4,13 @@ ghost use Rattle.std.specs.Prelude.{ℕ, ◌≡◌, ◌≤◌, ◌==◌, ◌&&�
 ghost use Rattle.std.specs.Ordering.{is_eq};
 ghost use Rattle.rz_events.specs.Keys.{key_cmp};
 ghost use Rattle.rz_events.specs.declared.keys.Key.{Key};
-ghost use Rattle.rz_marks.specs.Marks.{is_marked, has_room};
+ghost use Rattle.rz_blocks.specs.Marks.{is_marked, has_room};
 ghost use Rattle.rz_export.specs.Nodes.{is_named};
 ghost use Rattle.rz_export.specs.Kept.{is_place, AreRoomy};
 
 use crate::nodes::is_named;
 use rz_events::{Key, Published};
-use rz_marks::Marks;
+use rz_blocks::Marks;
 use std::alloc::AllocError;
 
 /// Makes room for the mark of a block in the lists of these nodes. Room that was made before an error

@@ -10,7 +10,7 @@ use crate::lists::clear;
 use crate::nodes::{KeptNode, recount};
 use rz_blocks::Blocks;
 use rz_events::{FileInfo, TreeReply};
-use rz_marks::Marks;
+use rz_blocks::Marks;
 
 /// Takes all blocks of a file away, and counts them out one by one.
 fn release(nodes: &mut [KeptNode], blocks: &mut Blocks, info: &FileInfo)

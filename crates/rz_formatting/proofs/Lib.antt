@@ -1,3 +1,4 @@
+mod OpenLemmas
 pub mod Rowwise
 pub mod NodeLemmas
 pub mod FormatLemmas

@@ -12,7 +12,11 @@ mod back;
 mod fault;
 mod formatting;
 mod nodes;
+mod opening;
+mod refusal;
 
+pub use opening::open_all;
+pub use refusal::OpenRefusal;
 pub use back::hand_back;
 pub use fault::DriverFault;
 pub use formatting::{Station, format_all};

@@ -10,7 +10,7 @@ use Rattle.rz_events.specs.declared.keys.Key.{Key}
 use Rattle.rz_events.specs.declared.records.Head.{Head}
 use Rattle.rz_events.specs.declared.nodes.NodeAsk.TheVariants as ask
 use Rattle.rz_events.specs.declared.events.Event.{Event}
-use Rattle.rz_calls.specs.Calls.{IsRecord}
+use Rattle.rz_node.specs.Calls.{IsRecord}
 use Rattle.rz_core.specs.History.{Begun, facts, wrote, length_in, base_in}
 use Rattle.rz_core.specs.HeldRecords.{block_of, bins_at}
 use Rattle.rz_core.specs.NodeRows.{IsNodeOf}

@@ -4,7 +4,7 @@ ghost use Rattle.mj_angles.specs.declared.layout.Layout.TheVariants as layout;
 ghost use Rattle.mj_angles.specs.Layout.{bins_at_of};
 ghost use Rattle.rz_events.specs.declared.keys.Actor.TheVariants as a;
 ghost use Rattle.rz_export_model.specs.ExportEvents.{export_event};
-ghost use Rattle.rz_calls.specs.Calls.{Takes};
+ghost use Rattle.rz_node.specs.Calls.{Takes};
 ghost use Rattle.rz_core.specs.History.{facts, of_actor, wrote};
 ghost use Rattle.rz_core.specs.HeldRecords.{block_of, bins_at};
 ghost use Rattle.rz_core.specs.Legal.{IsLegal};

@@ -13,7 +13,7 @@ use rz_chronicle::{Book, Opened, Pass};
 use rz_config::Volume;
 use rz_disk::{Disk, PlainDisk};
 use rz_locked::Counting;
-use rz_meeting::{MeetDisk, Meeting};
+use rz_outage::{MeetDisk, Meeting};
 use rz_shared::Cluster;
 use std::alloc::{AllocError, Global};
 use std::marker::Brand;

@@ -38,7 +38,7 @@ use Rattle.rz_cells.specs.Held as cells
 use Rattle.rz_cells.specs.Stands.{StandsFor}
 use Rattle.rz_node.specs.CrashOutcomes.{CrashOutcomes}
 use Rattle.rz_node.specs.Change.{AreHeld, IsOf, IsChangeLaw}
-use Rattle.rz_calls.specs.Leaves.{Opened}
+use Rattle.rz_node.specs.Leaves.{Opened}
 use Rattle.rz_core.specs.History.{Facts}
 use Rattle.rz_image_laws.specs.Records.{records_in, IsRecordOf}
 use Rattle.rz_image_laws.specs.Images.{IsImaged}

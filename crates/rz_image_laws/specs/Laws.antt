@@ -20,7 +20,7 @@ use Rattle.rz_node_model.specs.States.{NodeState, fresh}
 use Rattle.rz_cells.specs.declared.geometry.Geometry.{Geometry}
 use Rattle.rz_cells.specs.Held.{nothing}
 use Rattle.rz_cells.specs.Stands.{StandsFor}
-use Rattle.rz_calls.specs.Leaves.{Leaves}
+use Rattle.rz_node.specs.Leaves.{Leaves}
 use Rattle.rz_core.specs.History.{Facts, facts}
 use Rattle.rz_core.specs.Tied.{IsNode}
 use Rattle.rz_image_laws.specs.Records.{HandsRecord, IsRecordOf, IsWritten}

@@ -14,7 +14,7 @@ use Rattle.rz_node_model.specs.States.{NodeState}
 use Rattle.rz_node_model.specs.Answers.{IsNodeAnswer}
 use Rattle.rz_node.specs.Change.{IsBranch}
 use Rattle.rz_node.specs.Opens.{IfStarted, IfTook}
-use Rattle.rz_calls.specs.Leaves.{Leaves, Starts}
+use Rattle.rz_node.specs.Leaves.{Leaves, Starts}
 use Rattle.rz_core.specs.History.{Facts}
 use Rattle.rz_image_laws.specs.Images.{IsImaged}
 use Rattle.rz_image_laws.specs.Laws.{IsFetchLaw}

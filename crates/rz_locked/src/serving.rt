@@ -15,7 +15,7 @@ ghost use Rattle.rz_cells.specs.Opening.{opening_calls};
 ghost use Rattle.rz_node.specs.Opens.{Opens};
 ghost use Rattle.rz_play.specs.Faults.{fuse_of};
 ghost use Rattle.rz_play.specs.Lines.{noted};
-ghost use Rattle.rz_calls.specs.Calls.{Takes, IsUnread};
+ghost use Rattle.rz_node.specs.Calls.{Takes, IsUnread};
 ghost use Rattle.rz_core.specs.History.{Facts, of_word};
 ghost use Rattle.rz_core.specs.Tied.{IsOpening};
 ghost use Rattle.rz_image_laws.specs.Records.{HandsRecord};
@@ -24,7 +24,7 @@ ghost use Rattle.rz_locked.specs.Counts.{GoesWith, rearmed};
 ghost use Rattle.rz_locked.specs.Picks.{pick_of};
 ghost use Rattle.rz_locked.specs.Seats.{IsRead};
 
-use rz_calls::answer_node;
+use rz_node::answer_node;
 use rz_chronicle::{Naming, Post};
 use rz_disk::Disk;
 use rz_events::{NodeAnswer, NodeAsk, Phase, StartAnswer};

@@ -1,7 +1,7 @@
 //! Marks of two lists over several rows and files: gone through, taken away and forgotten.
 
 use rz_events::Key;
-use rz_marks::Marks;
+use rz_blocks::Marks;
 use std::alloc::AllocError;
 use std::test::Fail;
 

@@ -1,3 +1,4 @@
+mod Leaving
 pub mod AfterChange
 pub mod Changes
 pub mod Clears

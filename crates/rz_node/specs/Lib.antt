@@ -1,3 +1,5 @@
+pub mod Calls
+pub mod Leaves
 pub mod CrashOutcomes
 pub mod Change
 pub mod Fetched

@@ -15,14 +15,18 @@
 #![tactic(auto)]
 
 mod dropping;
+mod events;
 mod fetching;
 mod keeping;
 mod laws;
 mod node;
+mod nodes;
 mod opening;
 mod replacing;
 mod rows;
 
+pub use events::node_event;
+pub use nodes::answer_node;
 pub use laws::change;
 pub use node::Node;
 pub use rz_cells::{FormatFault, Geometry};

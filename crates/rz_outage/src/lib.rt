@@ -9,7 +9,11 @@
 #![tactic(auto)]
 
 mod disk;
+mod meet_disk;
+mod meeting;
 mod power;
 
+pub use meet_disk::MeetDisk;
+pub use meeting::Meeting;
 pub use disk::OutageDisk;
 pub use power::Power;

@@ -2,7 +2,7 @@
 use Rattle.std.proofs.Common.{ℕ, Bool, IsTrue, ◌≡◌, ◌≢◌, ◌⊎◌, inl, inr, List, Option, Some, Result, Ok, Err, refl, sym, ◌∙◌, ap, subst, arith}
 use Rattle.rz_disk.specs.Meter.{Rises as HasRisen}
 use Rattle.rz_ports.specs.Counts.{Rises}
-use Rattle.rz_command.specs.Line.{Meaning}
+use Rattle.rz_request.specs.Line.{Meaning}
 use Rattle.rz_events.specs.declared.events.Event.{Event}
 use Rattle.rz_generate.specs.Workload.{workload}
 use Rattle.rz_script.specs.Scripts.{Script}

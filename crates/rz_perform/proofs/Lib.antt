@@ -1,3 +1,4 @@
+pub mod Counted
 pub mod Seeking
 pub mod Streams
 pub mod Begun

@@ -3,7 +3,7 @@ use Rattle.std.specs.Prelude.{ℕ, Bool, true, false, ◌≡◌, ◌≢◌, ◌�
 use Rattle.std.specs.Io.KnownBytes.{Appends}
 use Rattle.rz_disk.specs.Meter.{Rises as HasRisen}
 use Rattle.rz_ports.specs.Counts.{Rises}
-use Rattle.rz_command.specs.Line.{Meaning}
+use Rattle.rz_request.specs.Line.{Meaning}
 use Rattle.rz_events.specs.declared.events.Event.{Event}
 use Rattle.rz_generate.specs.Workload.{workload}
 use Rattle.rz_script.specs.Grammar.{script}

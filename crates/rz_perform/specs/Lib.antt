@@ -1,3 +1,4 @@
+pub mod Summary
 pub mod Output
 pub mod Scrubs
 pub mod Telling

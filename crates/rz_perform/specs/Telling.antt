@@ -11,7 +11,7 @@ use Rattle.rz_lines.specs.Free.{IsEndedOver}
 use Rattle.rz_lines.specs.declared.lines.PlayEnd.{PlayEnd}
 use Rattle.rz_lines.specs.declared.lines.PlayEnd.TheVariants.{Ended, TooManyTurns, NoMemory, Journal, JournalFull}
 use Rattle.rz_show.specs.Text.{text_of}
-use Rattle.rz_summary.specs.Summary.{summary_of}
+use Rattle.rz_perform.specs.Summary.{summary_of}
 use Rattle.rz_request.specs.Refusals.{line_of, status_of}
 use Rattle.rz_request.specs.declared.refusal.Refusal.{Refusal}
 use Rattle.rz_request.specs.declared.refusal.Refusal.TheVariants as refusals

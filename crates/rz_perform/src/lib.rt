@@ -15,12 +15,16 @@
 //! In reading order: `output`, `telling`, `scrubbing`, `performing`, `laws`.
 #![tactic(auto)]
 
+mod counts;
+mod kinds;
 mod laws;
+mod line;
 mod output;
 mod performing;
 mod scrubbing;
 mod telling;
 
+pub use line::summary;
 pub use laws::{begins, completes, completes_again};
 pub use output::finish;
 pub use performing::perform;

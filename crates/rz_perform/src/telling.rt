@@ -10,7 +10,7 @@ use rz_lines::PlayEnd;
 use rz_ports::Sink;
 use rz_request::{Refusal, Stop, Wish};
 use rz_show::show;
-use rz_summary::summary;
+use crate::summary;
 use std::alloc::{AllocError, Global};
 
 /// What is printed of the log of a whole play, of which a scrub found these lines.

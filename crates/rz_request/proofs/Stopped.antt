@@ -1,6 +1,6 @@
 -- What words ask for that are refused.
 use Rattle.std.proofs.Common.{ℕ, ◌≡◌, Option, Some, None, Err, ap, refl}
-use Rattle.rz_command.specs.Line.{Meaning}
+use Rattle.rz_request.specs.Line.{Meaning}
 use Rattle.rz_request.specs.declared.refusal.Stop.{Stop}
 use Rattle.rz_request.specs.declared.refusal.Stop.TheVariants as stops
 use Rattle.rz_request.specs.declared.refusal.Refusal.TheVariants as refusals

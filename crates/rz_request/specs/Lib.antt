@@ -1,3 +1,6 @@
+pub mod Items
+pub mod Line
+pub mod Parser
 pub mod Causes
 pub mod Refusals
 pub mod Input

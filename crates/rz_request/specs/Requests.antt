@@ -1,9 +1,9 @@
 -- What words and an input ask for.
 use Rattle.std.specs.Prelude.{ℕ, ◌≡◌, ◌≢◌, ◌≤◌, ◌<◌, ◌||◌, ◌+◌, nat_lt, Bool, true, false, List, [], Option, Some, None, IfSome, IsSome, Result, Ok, Err, length}
 use Rattle.rz_ports.specs.Counts.{Rises}
-use Rattle.rz_command.specs.Line.{Meaning}
-use Rattle.rz_command.specs.declared.command.Command.{Command}
-use Rattle.rz_command.specs.declared.command.Command.TheVariants as commands
+use Rattle.rz_request.specs.Line.{Meaning}
+use Rattle.rz_request.specs.declared.command.Command.{Command}
+use Rattle.rz_request.specs.declared.command.Command.TheVariants as commands
 use Rattle.rz_config.specs.Sizes.{all_disk_bytes}
 use Rattle.rz_events.specs.Volume.{nodes_of}
 use Rattle.rz_generate.specs.Workload.{workload}

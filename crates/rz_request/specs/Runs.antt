@@ -1,8 +1,8 @@
 -- What words and an input ask for, where the actors are to have threads of their own.
 use Rattle.std.specs.Prelude.{ℕ, Bool, true, false, Option, Some, None, Result}
-use Rattle.rz_command.specs.Line.{Meaning}
-use Rattle.rz_command.specs.declared.command.Command.{Command}
-use Rattle.rz_command.specs.declared.command.Command.TheVariants as commands
+use Rattle.rz_request.specs.Line.{Meaning}
+use Rattle.rz_request.specs.declared.command.Command.{Command}
+use Rattle.rz_request.specs.declared.command.Command.TheVariants as commands
 use Rattle.rz_script.specs.Scripts.{Script}
 use Rattle.rz_script.specs.declared.form.Form.TheVariants as forms
 use Rattle.rz_request.specs.Requests.{IsUnread, IsUsage, Reading, ReadsScript, nodes_in}

@@ -1,14 +1,14 @@
 //! The request that words and an input make.
 
 ghost use Rattle.std.specs.Prelude.{◌≡◌, map, string_bytes};
-ghost use Rattle.rz_command.specs.Line.{meaning};
+ghost use Rattle.rz_request.specs.Line.{meaning};
 ghost use Rattle.rz_generate.specs.Workload.{workload};
 ghost use Rattle.rz_request.specs.Requests.{Asks, IsFor, IsWished, Judges, Reads, disks_for as needed_for, wish_of as wish_in};
 ghost use Rattle.rz_request.specs.declared.wishes.Wish.TheVariants as wishes;
 
 use crate::reading::{fit, read_script};
 use crate::{Refusal, Request, Stop, Wish};
-use rz_command::{Command, WordsError, wanted};
+use crate::{Command, WordsError, wanted};
 use rz_generate::generate;
 use rz_ports::Source;
 use rz_script::{Form, Script};

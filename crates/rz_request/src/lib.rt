@@ -18,13 +18,21 @@
 
 mod asking;
 mod causes;
+mod command;
 mod input;
+mod items;
+mod line;
+mod numbers;
 mod old;
+mod parser;
 mod reading;
 mod refusal;
 mod running;
+mod wanting;
 mod wishes;
 
+pub use command::{Command, Wanted, WordsError};
+pub use wanting::wanted;
 pub use asking::request;
 pub use old::{OldNode, migration};
 pub use refusal::{Refusal, Stop};

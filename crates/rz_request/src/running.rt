@@ -1,14 +1,14 @@
 //! The script that words and an input ask for, where the actors are to have threads of their own.
 
 ghost use Rattle.std.specs.Prelude.{◌≡◌, map, string_bytes};
-ghost use Rattle.rz_command.specs.Line.{meaning};
+ghost use Rattle.rz_request.specs.Line.{meaning};
 ghost use Rattle.rz_script.specs.declared.form.Form.TheVariants as forms;
 ghost use Rattle.rz_request.specs.Requests.{ReadsScript, nodes_in};
 ghost use Rattle.rz_request.specs.Runs.{AsksRun, is_run as is_of_run};
 
 use crate::reading::{fit, read_script};
 use crate::{Refusal, Stop};
-use rz_command::{Command, WordsError, wanted};
+use crate::{Command, WordsError, wanted};
 use rz_ports::Source;
 use rz_script::{Form, Script};
 use std::alloc::Global;

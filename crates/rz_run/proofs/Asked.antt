@@ -1,6 +1,6 @@
 -- What was asked for fits the disks.
 use Rattle.std.proofs.Common.{ℕ, ◌≡◌, Bool, true, false, Option, Ok}
-use Rattle.rz_command.specs.Line.{Meaning}
+use Rattle.rz_request.specs.Line.{Meaning}
 use Rattle.rz_script.specs.Scripts.{Script}
 use Rattle.rz_request.specs.Requests.{Reading, nodes_in}
 use Rattle.rz_request.specs.Runs.{AsksIf, AsksRun, wants_run}

@@ -18,7 +18,7 @@ use Rattle.rz_chronicle.specs.Rules.{PassView}
 use Rattle.rz_locked.specs.Counts.{AreCountedSince}
 use Rattle.rz_shared.proofs.NewSeats.{untouched}
 use Rattle.rz_shown.specs.Text.{run_text}
-use Rattle.rz_admin.specs.Orders.{AreBegun, AreDone}
+use Rattle.rz_threads.specs.Orders.{AreBegun, AreDone}
 use Rattle.rz_staff.specs.declared.member.Member.{Member}
 use Rattle.rz_staff.specs.Staff.{IsStaffed}
 use Rattle.rz_threads.specs.Left.{IsLeft}

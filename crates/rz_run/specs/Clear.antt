@@ -10,7 +10,7 @@ use Rattle.rz_script.specs.Grammar.{script}
 use Rattle.rz_script.specs.Scripts.{Script}
 use Rattle.rz_script.specs.declared.form.Form.TheVariants as forms
 use Rattle.rz_shown.specs.Text.{run_text}
-use Rattle.rz_command.specs.Line.{Meaning}
+use Rattle.rz_request.specs.Line.{Meaning}
 use Rattle.rz_request.specs.Input.{limit}
 use Rattle.rz_request.specs.Requests.{Reading, is_large, nodes_in}
 use Rattle.rz_request.specs.Runs.{wants_run}

@@ -13,7 +13,7 @@ use Rattle.rz_safety.specs.Writes.{AreWritesEnded}
 use Rattle.rz_play.specs.World.{actors}
 use Rattle.rz_play_locks.specs.Operations.{given}
 use Rattle.rz_chronicle.specs.Kinds.{kind_of}
-use Rattle.rz_admin.specs.Orders.{AreBegun, AreDone}
+use Rattle.rz_threads.specs.Orders.{AreBegun, AreDone}
 use Rattle.rz_worker.specs.Doing.{IsBegun}
 use Rattle.rz_worker.specs.Workers.{IsAllDone, seat_with}
 

@@ -1,6 +1,6 @@
 //! The call of the program.
 ghost use Rattle.std.specs.Prelude.{◌≡◌, IsTrue, length, map, string_bytes};
-ghost use Rattle.rz_command.specs.Line.{meaning};
+ghost use Rattle.rz_request.specs.Line.{meaning};
 ghost use Rattle.rz_request.specs.Requests.{nodes_in};
 ghost use Rattle.rz_run.specs.Runs.{Plays, Runs};
 

@@ -7,7 +7,7 @@ ghost use Rattle.rz_perform.specs.Output.{Ends, Lacks, Sunk};
 ghost use Rattle.rz_run.specs.Runs.{Fails};
 
 use rz_chronicle::{Book, Naming, Pass};
-use rz_count::count_all;
+use rz_crew::count_all;
 use rz_events::Event;
 use rz_formatting::DriverFault;
 use rz_perform::{finish, refuse};

@@ -5,7 +5,7 @@ ghost use Rattle.std.specs.Prelude.{◌≡◌, IfOk, length};
 use crate::stage::words_of;
 use rz_disk::PlainDisk;
 use rz_link::PlainLink;
-use rz_meeting::{MeetDisk, Meeting};
+use rz_outage::{MeetDisk, Meeting};
 use rz_ports::{PlainSink, PlainSource};
 use rz_run::run;
 use std::alloc::{AllocError, Global};

@@ -21,8 +21,8 @@ use Rattle.rz_index.specs.contracts.index.Index as Index
 use Rattle.rz_node.specs.contracts.node.Node as Node
 use Rattle.rz_node.specs.contracts.node.Node.TheInside as NodeIn
 use Rattle.rz_sequence.proofs.sequence.Node.TheLaws.TheKnot as items
-use Rattle.rz_marks.proofs.row.Row.TheSendSync as Marked
-use Rattle.rz_marks.specs.contracts.marks.Marks as Marks
+use Rattle.rz_blocks.proofs.row.Row.TheSendSync as Marked
+use Rattle.rz_blocks.specs.contracts.marks.Marks as Marks
 use Rattle.rz_names.proofs.entries.Entry.TheSendSync as Name
 use Rattle.rz_names.specs.contracts.map.NameMap as NameMap
 use Rattle.rz_tree.proofs.inodes.Inodes.TheSendSync as Inodes

@@ -8,7 +8,7 @@ ghost use Rattle.rz_events.specs.Events.{word_of, by_of};
 ghost use Rattle.rz_export_model.specs.ExportEvents.{export_event};
 ghost use Rattle.rz_node_model.specs.NodeEvents.{node_event};
 ghost use Rattle.rz_node_model.specs.Versions.{Stands};
-ghost use Rattle.rz_calls.specs.Calls.{Takes, IsUnread};
+ghost use Rattle.rz_node.specs.Calls.{Takes, IsUnread};
 ghost use Rattle.rz_core.specs.History.{facts, of_actor};
 ghost use Rattle.rz_core.specs.NodeRows.{IsNodeOf};
 ghost use Rattle.rz_core.specs.Tied.{IsProperCall};

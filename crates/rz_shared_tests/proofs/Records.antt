@@ -2,7 +2,7 @@
 use Rattle.std.proofs.Common.{◌≡◌, ℕ, List, length, refl, arith}
 use Rattle.mj_angles.specs.declared.layout.Layout.TheVariants.{L0}
 use Rattle.rz_record.specs.Record.{IsValid, bins_of}
-use Rattle.rz_calls.specs.Calls.{IsRecord}
+use Rattle.rz_node.specs.Calls.{IsRecord}
 use Rattle.rz_events.specs.declared.records.Head.{Head}
 
 -- the two heads, as the constants of the tests have them

@@ -2,7 +2,7 @@
 ghost use Rattle.std.specs.Prelude.{◌≡◌, ℕ, IfOk, false, length};
 ghost use Rattle.mj_angles.specs.declared.layout.Layout.TheVariants as layout;
 ghost use Rattle.rz_events.specs.declared.keys.Actor.TheVariants as a;
-ghost use Rattle.rz_calls.specs.Calls.{IsRecord};
+ghost use Rattle.rz_node.specs.Calls.{IsRecord};
 ghost use Rattle.rz_core.specs.NodeRows.{IsNodeOf};
 ghost use Rattle.rz_config.specs.Plain.{plain_volume};
 ghost use Rattle.rz_chronicle.specs.Kinds.{kind_of};
@@ -14,7 +14,7 @@ use rz_config::Volume;
 use rz_disk::{Disk, PlainDisk};
 use rz_events::{Head, NodeAnswer};
 use rz_locked::Counting;
-use rz_meeting::{MeetDisk, Meeting};
+use rz_outage::{MeetDisk, Meeting};
 use rz_shared::Cluster;
 use std::alloc::{AllocError, Global};
 use std::marker::Brand;

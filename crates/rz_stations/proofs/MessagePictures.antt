@@ -22,7 +22,7 @@ use Rattle.rz_node_model.specs.NodeEvents.{node_event}
 use Rattle.rz_node_model.specs.States.{NodeState}
 use Rattle.rz_cells.specs.declared.geometry.Geometry.{Geometry}
 use Rattle.rz_node.specs.View.{NodeView}
-use Rattle.rz_calls.specs.Leaves.{Leaves}
+use Rattle.rz_node.specs.Leaves.{Leaves}
 use Rattle.rz_core.specs.History.{Facts, facts}
 use Rattle.rz_operation.specs.Answers.{Goes, IsAnswerTo, IsAnswered}
 use Rattle.rz_operation.specs.Machine.{Machine, HasBinsFor}

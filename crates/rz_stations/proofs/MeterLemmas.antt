@@ -35,8 +35,8 @@ use Rattle.rz_core.specs.History.{of_word}
 use Rattle.rz_node.specs.View.{NodeView}
 use Rattle.rz_node.specs.Opens.{Opens, IfStarted, UnlessStarted}
 use Rattle.rz_node.specs.Spends.{Spends, keep_used, fetch_used, refill_used, drop_used}
-use Rattle.rz_calls.specs.Calls as calls
-use Rattle.rz_calls.specs.Calls.{Counts}
+use Rattle.rz_node.specs.Calls as calls
+use Rattle.rz_node.specs.Calls.{Counts}
 use Rattle.rz_play.specs.Faults.{unplanned}
 use Rattle.rz_play.specs.Lines.{noted}
 use Rattle.rz_disk_laws.specs.Metered.{IsMetered, IsNoStart, IsFaultLaw, IsArmLaw, IsStartLaw, IsOpening}

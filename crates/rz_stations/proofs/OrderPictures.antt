@@ -19,7 +19,7 @@ use Rattle.rz_cells.specs.declared.geometry.Geometry.{Geometry}
 use Rattle.rz_node.specs.Change.{IsBranch}
 use Rattle.rz_node.specs.Opens.{IfStarted, IfTook}
 use Rattle.rz_node.specs.View.{NodeView}
-use Rattle.rz_calls.specs.Leaves.{Leaves}
+use Rattle.rz_node.specs.Leaves.{Leaves}
 use Rattle.rz_core.specs.History.{Facts, facts}
 use Rattle.rz_asks.specs.Logged.{stamp_begun}
 use Rattle.rz_image_laws.specs.Images.{IsImaged, geometry_in}

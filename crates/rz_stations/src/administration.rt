@@ -11,7 +11,7 @@ ghost use Rattle.rz_stations.specs.Administration.{IsOrdered, IsOrder, IsFreeOrd
 
 use crate::station::find;
 use rz_asks::Log;
-use rz_calls::node_event;
+use rz_node::node_event;
 use rz_disk::Disk;
 use rz_events::{Actor, Event, NodeAnswer, NodeAsk, Phase, StartAnswer};
 use rz_formatting::Station;

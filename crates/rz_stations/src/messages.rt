@@ -3,7 +3,7 @@ ghost use Rattle.std.specs.Prelude.{◌≡◌, ◌≢◌, ◌↔◌, ◌<◌, �
 ghost use Rattle.rz_cells.specs.Opening.{opening_calls};
 ghost use Rattle.mj_angles.specs.Layout.{max_bins_of};
 ghost use Rattle.rz_block_laws.specs.Laws as laws;
-ghost use Rattle.rz_calls.specs.Calls.{Counts, IsNoStart, IsRecord};
+ghost use Rattle.rz_node.specs.Calls.{Counts, IsNoStart, IsRecord};
 ghost use Rattle.rz_operation.specs.Answers.{HasRoom, IsAnswered, IsAnswerTo};
 ghost use Rattle.rz_operation_model.specs.Ask.{ask_of};
 ghost use Rattle.rz_operation_model.specs.Turns.{goes_by_link};
@@ -15,7 +15,7 @@ ghost use Rattle.rz_asks.specs.Parts.{is_bad};
 
 use mj_angles::Layout;
 use rz_asks::{Log, is_bad, let_go};
-use rz_calls::{answer_node, node_event};
+use rz_node::{answer_node, node_event};
 use rz_disk::Disk;
 use rz_events::{Actor, Event, FetchAnswer, Head, NodeAnswer, NodeAsk};
 use rz_lines::NoMemory;

@@ -6,7 +6,7 @@ ghost use Rattle.rz_events.specs.declared.nodes.ReplaceAnswer.TheVariants as rep
 ghost use Rattle.rz_events.specs.declared.events.Event.TheVariants as e;
 ghost use Rattle.rz_config.specs.Described.{has_sid};
 ghost use Rattle.rz_script.specs.Lines.{has_node};
-ghost use Rattle.rz_calls.specs.Calls.{IsRecord};
+ghost use Rattle.rz_node.specs.Calls.{IsRecord};
 ghost use Rattle.rz_operation_model.specs.Ask.{ask_of, AskNode};
 ghost use Rattle.rz_operation_model.specs.Turns.{goes_by_link};
 ghost use Rattle.rz_core.specs.History.{of_actor};

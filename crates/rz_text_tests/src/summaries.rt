@@ -1,7 +1,7 @@
 //! The line of the command load, of a small log.
 use crate::comparing::compare;
 use rz_events::{Actor, Answer, Event, Key, ReadEnd, RebuildEnd, WriteEnd};
-use rz_summary::summary;
+use rz_perform::summary;
 use std::test::Fail;
 
 const LINE: &str =

@@ -1,7 +1,7 @@
 //! Lines of the form, and lines near it that are refused, of which `clap` alone takes many.
 
 use crate::comparing::compare;
-use rz_command::{Command, WordsError, wanted};
+use rz_request::{Command, WordsError, wanted};
 use std::alloc::{AllocError, Global};
 use std::test::Fail;
 

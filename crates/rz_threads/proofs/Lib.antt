@@ -1,3 +1,4 @@
+pub mod Done
 pub mod Each
 pub mod Working
 pub mod Sending

@@ -4,7 +4,7 @@ use Rattle.rz_script.specs.declared.line.Line.{Line}
 use Rattle.rz_chronicle.specs.Keys.{IsLater}
 use Rattle.rz_chronicle.specs.Kinds.{IsFit}
 use Rattle.rz_chronicle.specs.Rules.{PassView}
-use Rattle.rz_admin.specs.Orders.{AreBegun, AreDone}
+use Rattle.rz_threads.specs.Orders.{AreBegun, AreDone}
 
 -- The first of its lines are done, each once and in order, and where it came to their end all of them.
 pub record HasOrdered (kind : List ℕ) (lines : List Line) (old new : PassView) (ended : Bool) : Type 0 where

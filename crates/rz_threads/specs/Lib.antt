@@ -1,3 +1,4 @@
+pub mod Orders
 pub mod Beside
 pub mod Left
 pub mod Played

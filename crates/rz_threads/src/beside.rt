@@ -6,7 +6,7 @@ ghost use Rattle.rz_chronicle.specs.Kinds.{volume_in};
 ghost use Rattle.rz_staff.specs.Staff.{CanWork, HasWorked};
 ghost use Rattle.rz_threads.specs.Beside.{HasOrdered};
 
-use rz_admin::administer;
+use crate::administer;
 use rz_chronicle::Pass;
 use rz_disk::Disk;
 use rz_events::Actor;

@@ -13,8 +13,12 @@
 //! In reading order: `beside`, `playing`.
 #![tactic(auto)]
 
+mod administration;
 mod beside;
+mod orders;
 mod playing;
 
+pub use administration::administer;
+pub use rz_lines::NoMemory;
 pub use beside::{Shift, at_work, work_all};
 pub use playing::{Played, play};

@@ -11,7 +11,7 @@ ghost use Rattle.rz_chronicle.specs.Kinds.{IsFit, volume_in};
 ghost use Rattle.rz_chronicle.specs.Rules.{PassView};
 ghost use Rattle.rz_crew.specs.Gathered.{GoesOn, IsHeld};
 ghost use Rattle.rz_crew.specs.Moves.{HoldsAll};
-ghost use Rattle.rz_admin.specs.Orders.{AreBegun, AreDone, Waits};
+ghost use Rattle.rz_threads.specs.Orders.{AreBegun, AreDone, Waits};
 ghost use Rattle.rz_staff.specs.Staff.{CanWork, actor_of};
 ghost use Rattle.rz_threads.specs.Left.{IsLeft};
 ghost use Rattle.rz_threads.specs.Played.{HasBegun, HasFinished, HasLost, shown_for};

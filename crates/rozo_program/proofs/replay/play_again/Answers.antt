@@ -12,7 +12,7 @@ use Rattle.rz_events.specs.Volume.{Volume, nodes_of}
 use Rattle.rz_events.specs.declared.events.Event.{Event}
 use Rattle.rz_formatting.specs.Formatted.{disks_of}
 use Rattle.rz_metadata.specs.Stands.{disk_of, export_in, is_journaled, refusal_of}
-use Rattle.rz_opening.specs.Opened.{AreKept}
+use Rattle.rz_formatting.specs.Opened.{AreKept}
 use Rattle.rz_script.specs.declared.line.Line.{Line}
 use Rattle.rz_stations.specs.Meters.{faults_at}
 use Rattle.rz_stations.specs.Stations.{state_in}

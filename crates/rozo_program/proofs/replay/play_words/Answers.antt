@@ -1,5 +1,5 @@
 use Rattle.std.proofs.Common.{◌∙◌, map, string_bytes, sym}
-use Rattle.rz_command.specs.Line.{meaning}
+use Rattle.rz_request.specs.Line.{meaning}
 use Rattle.rz_request.specs.Requests.{Reading}
 use Rattle.rozo_program.proofs.Asked.{asks-fits}
 use Rattle.rozo_program.proofs.replay.play_words.Goals as goal

@@ -1,5 +1,5 @@
 use Rattle.std.proofs.Common.{◌-◌, map, refl, reverse, string_bytes, ap}
-use Rattle.rz_command.specs.Line.{meaning}
+use Rattle.rz_request.specs.Line.{meaning}
 use Rattle.rz_request.specs.Requests.{Reading}
 use Rattle.rz_perform.specs.Output.{Sunk}
 use Rattle.rozo_program.proofs.Wanting.{wanting}

@@ -6,7 +6,7 @@ use Rattle.rz_events.specs.Volume.{Volume, IsNode, nodes_of}
 use Rattle.rz_events.specs.declared.files.NodeSpec.{NodeSpec}
 use Rattle.rz_metadata.specs.Enrolled.{loss_of}
 use Rattle.rz_metadata.specs.Stands.{export_in}
-use Rattle.rz_opening.specs.Opened.{AreOpened, IsCause}
+use Rattle.rz_formatting.specs.Opened.{AreOpened, IsCause}
 use Rattle.rz_driver.specs.Continued.{losses_of}
 use Rattle.rz_driver.proofs.AgainLemmas.{kept-same, opened-many}
 use Rattle.rz_driver.proofs.continuing.open_nodes.Goals as goal

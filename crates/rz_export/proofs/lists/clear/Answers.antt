@@ -1,5 +1,5 @@
 use Rattle.std.proofs.Common.{◌==◌, ◌∙◌}
-use Rattle.rz_marks.specs.Marks.{is_marked, has_room}
+use Rattle.rz_blocks.specs.Marks.{is_marked, has_room}
 use Rattle.rz_export.proofs.Steps.{clear-more}
 use Rattle.rz_export.proofs.lists.clear.Goals as goal
 

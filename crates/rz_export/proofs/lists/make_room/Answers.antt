@@ -1,6 +1,6 @@
 use Rattle.std.proofs.Common.{◌||◌, ℕ, List, get_or, ap, ◌∙◌, subst}
 use Rattle.std.proofs.lemmas.List.{take_all}
-use Rattle.rz_marks.specs.Marks.{is_beside}
+use Rattle.rz_blocks.specs.Marks.{is_beside}
 use Rattle.rz_export.specs.Kept.{AreRoomy}
 use Rattle.rz_export.proofs.Steps.{room-more}
 use Rattle.rz_export.proofs.lists.make_room.Goals as goal

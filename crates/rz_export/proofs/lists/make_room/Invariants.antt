@@ -1,6 +1,6 @@
 use Rattle.std.proofs.Common.{◌≡◌, ℕ, true, take}
 use Rattle.rz_events.specs.declared.keys.Key.{Key}
-use Rattle.rz_marks.specs.Marks.{is_marked, has_room}
+use Rattle.rz_blocks.specs.Marks.{is_marked, has_room}
 use Rattle.rz_export.specs.Kept.{AreRoomy}
 use Rattle.rz_export.proofs.lists.make_room.Given as goal
 

@@ -1,7 +1,7 @@
 use Rattle.std.proofs.Common.{cond, get_or, ap, ◌∙◌}
 use Rattle.std.specs.Ordering.{is_eq}
 use Rattle.rz_events.specs.Keys.{key_cmp}
-use Rattle.rz_marks.specs.Marks.{is_marked, is_same}
+use Rattle.rz_blocks.specs.Marks.{is_marked, is_same}
 use Rattle.rz_export.specs.Nodes.{is_named}
 use Rattle.rz_export.proofs.Steps.{mark-more}
 use Rattle.rz_export.proofs.lists.mark.Goals as goal

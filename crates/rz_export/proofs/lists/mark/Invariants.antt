@@ -2,7 +2,7 @@ use Rattle.std.proofs.Common.{◌≡◌, ◌&&◌, ℕ, cond, take}
 use Rattle.std.specs.Ordering.{is_eq}
 use Rattle.rz_events.specs.Keys.{key_cmp}
 use Rattle.rz_events.specs.declared.keys.Key.{Key}
-use Rattle.rz_marks.specs.Marks.{is_marked, has_room}
+use Rattle.rz_blocks.specs.Marks.{is_marked, has_room}
 use Rattle.rz_export.specs.Nodes.{is_named}
 use Rattle.rz_export.specs.Kept.{is_place}
 use Rattle.rz_export.proofs.lists.mark.Given as goal

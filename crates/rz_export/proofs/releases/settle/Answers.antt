@@ -1,6 +1,6 @@
 use Rattle.std.proofs.Common.{◌≡◌, ◌&&◌, ◌==◌, ℕ, not, List, ap, sym, ◌∙◌, subst}
 use Rattle.rz_events.specs.declared.keys.Key.{Key}
-use Rattle.rz_marks.specs.Marks.{is_marked, has_room}
+use Rattle.rz_blocks.specs.Marks.{is_marked, has_room}
 use Rattle.rz_export_model.specs.Export.{Blocks}
 use Rattle.rz_export.specs.Kept.{is_place, AreMarked, HaveRoom}
 use Rattle.rz_export.proofs.Marked.{marked-gone, room-gone}

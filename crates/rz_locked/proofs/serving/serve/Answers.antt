@@ -4,7 +4,7 @@ use Rattle.rz_events.specs.declared.nodes.NodeAsk.TheVariants as ask
 use Rattle.rz_events.specs.declared.nodes.NodeAnswer.TheVariants as answer
 use Rattle.rz_cells.specs.Opening.{opening_calls}
 use Rattle.rz_node_model.specs.NodeEvents.{node_event}
-use Rattle.rz_calls.specs.Calls as calls
+use Rattle.rz_node.specs.Calls as calls
 use Rattle.rz_play.specs.Lines.{noted}
 use Rattle.rz_locked.specs.Counts.{GoesWith}
 use Rattle.rz_locked.proofs.Disks.{read}

@@ -1,5 +1,5 @@
 use Rattle.std.proofs.Common.{map, refl, string_bytes}
-use Rattle.rz_command.specs.Line.{meaning}
+use Rattle.rz_request.specs.Line.{meaning}
 use Rattle.rz_request.specs.Requests.{Reading}
 use Rattle.rz_request.proofs.Stopped.{asks_stopped}
 use Rattle.rz_request.proofs.asking.request.Goals as goal

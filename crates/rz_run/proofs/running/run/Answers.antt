@@ -1,5 +1,5 @@
 use Rattle.std.proofs.Common.{◌∙◌, ℕ, Ok, Err, map, string_bytes, refl, sym, subst}
-use Rattle.rz_command.specs.Line.{meaning}
+use Rattle.rz_request.specs.Line.{meaning}
 use Rattle.rz_request.specs.Requests.{Reading}
 use Rattle.rz_request.specs.Runs.{AsksRun}
 use Rattle.rz_run.proofs.Asked.{run-fits}

@@ -5,7 +5,7 @@ use Rattle.std.proofs.lemmas.Slice.Zip.{AllZip-long}
 use Rattle.rz_events.specs.declared.events.Event.{Event}
 use Rattle.rz_chronicle.specs.Rules.{PassView}
 use Rattle.rz_crew.specs.Gathered.{IsHeld}
-use Rattle.rz_admin.proofs.Done.{begun-on, done-on}
+use Rattle.rz_threads.proofs.Done.{begun-on, done-on}
 use Rattle.rz_staff.specs.Staff.{IsRoomFor, WantsNothing}
 use Rattle.rz_threads.specs.Played.{HasLost}
 use Rattle.rz_threads.proofs.Members.{and-both, begun-all, finished-all, lost-all, shown-all}

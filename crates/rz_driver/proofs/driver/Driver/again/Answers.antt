@@ -3,7 +3,7 @@ use Rattle.std.proofs.lemmas.Result.{IfOk-weaker, IfErr-weaker}
 use Rattle.rz_events.specs.Volume.{nodes_of}
 use Rattle.rz_events.specs.declared.events.Event.{Event}
 use Rattle.rz_metadata.specs.Stands.{is_journaled}
-use Rattle.rz_opening.specs.Opened.{AreKept}
+use Rattle.rz_formatting.specs.Opened.{AreKept}
 use Rattle.rz_continuation.specs.Earlier.{IsEarlier, IsRestarted}
 use Rattle.rz_stations.specs.Images.{AreDisksImaged}
 use Rattle.rz_stations.specs.Meters.{faults_at}

@@ -8,7 +8,7 @@ use Rattle.mj_angles.specs.Layout.{block_bytes_of}
 use Rattle.rz_events.specs.Keys.{key_cmp}
 use Rattle.rz_events.specs.declared.files.FileInfo.{FileInfo}
 use Rattle.rz_events.specs.declared.files.Published.{Published}
-use Rattle.rz_marks.specs.Marks.{is_marked}
+use Rattle.rz_blocks.specs.Marks.{is_marked}
 use Rattle.rz_export_model.specs.Tree.{Tree, file_of, grown}
 use Rattle.rz_export_model.specs.Export.{Export, Blocks, Enrolled, published_of, with_published, after_publish}
 use Rattle.rz_export.specs.declared.nodes.KeptNode.{KeptNode}

@@ -5,7 +5,7 @@ use Rattle.std.specs.Ordering.{nat_cmp, is_eq}
 use Rattle.std.proofs.lemmas.List.{with_items_is}
 use Rattle.rz_events.specs.Keys.{key_cmp, keys_total}
 use Rattle.rz_events.specs.declared.keys.Key.{Key}
-use Rattle.rz_marks.specs.Marks.{is_marked}
+use Rattle.rz_blocks.specs.Marks.{is_marked}
 use Rattle.rz_export_model.specs.Tree.{file_of}
 use Rattle.rz_export_model.specs.Export.{Export, Block, Blocks, Enrolled}
 use Rattle.rz_blocks.specs.Shown.{added}

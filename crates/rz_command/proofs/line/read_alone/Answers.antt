@@ -1,5 +1,0 @@
-use Rattle.rz_command.proofs.Many.{alone_many}
-use Rattle.rz_command.proofs.line.read_alone.Goals as goal
-
-pub returns-in-None : goal.returns-in-None
-returns-in-None c = alone_many _ _ c.in-None.ensures

@@ -1,5 +1,0 @@
-use Rattle.rz_command.proofs.Many.{disks_many}
-use Rattle.rz_command.proofs.line.read_disks.Goals as goal
-
-pub returns-in-None : goal.returns-in-None
-returns-in-None c = disks_many _ c.in-None.ensures

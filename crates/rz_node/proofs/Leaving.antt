@@ -1,0 +1,23 @@
+-- What a fetch and a start leave of the disk, from what the node says of it.
+use Rattle.std.proofs.Common.{◌≡◌, ℕ, List}
+use Rattle.rz_disk.specs.Images.{Only, Within}
+use Rattle.rz_events.specs.declared.records.Held.{Held}
+use Rattle.rz_events.specs.declared.nodes.FetchAnswer.{FetchAnswer}
+use Rattle.rz_events.specs.declared.nodes.FetchAnswer.TheVariants as fetch
+use Rattle.rz_events.specs.declared.nodes.StartAnswer.{StartAnswer}
+use Rattle.rz_events.specs.declared.nodes.StartAnswer.TheVariants as start
+use Rattle.rz_node_model.specs.States.{NodeState}
+use Rattle.rz_cells.specs.declared.geometry.Geometry.{Geometry}
+use Rattle.rz_node.specs.Change.{IsBranch}
+use Rattle.rz_node.specs.Fetched.{IfHeld}
+use Rattle.rz_node.specs.Opens.{IfStarted, IfTook}
+use Rattle.rz_node.specs.Leaves.{Starts}
+
+pub held-if : (T : Type 0) (P : Held → Type 0) (a : FetchAnswer) → IfHeld a (λ told. T → P told) → T → IfHeld a P
+held-if T P (fetch.Held told) gives tells = gives tells
+held-if T P _ gives tells = tt
+
+pub starts : (T : Type 0) (text text' : List ℕ) (image image' : List ℕ → Type 0) (g : Geometry) (s : NodeState) (a : StartAnswer) → T → text' ≡ text → Within image image' → IfStarted a (Only text' image')
+    → IfTook a (λ took. T → IsBranch g s.fence text' s.undecided s.held took) → Starts g s text text' image image' a
+starts T text text' image image' g s (start.Started took) tells is within only branch = record { text_is = is; settled = only; branch = branch tells }
+starts T text text' image image' g s _ tells is within only branch = within
