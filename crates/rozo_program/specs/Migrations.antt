@@ -3,8 +3,8 @@ use Rattle.std.specs.Prelude.{ℕ, Bool, ◌⊎◌, List, Result, Ok, Err}
 use Rattle.rz_disk.specs.Meter.{Meter}
 use Rattle.rz_request.specs.Requests.{Reading}
 use Rattle.rz_request.specs.declared.refusal.Stop.{Stop}
-use Rattle.rz_migrate.specs.Migrations.{Migrates, migrated_line}
-use Rattle.rz_migrate.specs.declared.outcome.Migrated.{Migrated}
+use Rattle.rz_request.specs.Carried.{Migrates, migrated_line}
+use Rattle.rz_request.specs.declared.outcome.Migrated.{Migrated}
 use Rattle.rz_perform.specs.Output.{Sunk, Ends, Lacks}
 use Rattle.rz_perform.specs.Telling.{Stops}
 

@@ -3,7 +3,7 @@
 ghost use Rattle.rozo_program.specs.Migrations.{Carries, TellsMigration};
 
 use rz_disk::Disk;
-use rz_migrate::{Migrated, migrate};
+use rz_request::{Migrated, migrate};
 use rz_perform::{finish, stop};
 use rz_ports::{Sink, Source};
 use rz_request::Stop;

@@ -1,3 +1,4 @@
+
 pub mod Found
 pub mod Many
 pub mod Stopped

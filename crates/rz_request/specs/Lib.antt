@@ -1,3 +1,4 @@
+pub mod Carried
 pub mod Items
 pub mod Line
 pub mod Parser

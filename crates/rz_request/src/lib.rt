@@ -17,13 +17,16 @@
 #![tactic(auto)]
 
 mod asking;
+mod carrying;
 mod causes;
 mod command;
 mod input;
 mod items;
 mod line;
+mod migrating;
 mod numbers;
 mod old;
+mod outcome;
 mod parser;
 mod reading;
 mod refusal;
@@ -31,6 +34,8 @@ mod running;
 mod wanting;
 mod wishes;
 
+pub use migrating::migrate;
+pub use outcome::Migrated;
 pub use command::{Command, Wanted, WordsError};
 pub use wanting::wanted;
 pub use asking::request;

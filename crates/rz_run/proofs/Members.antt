@@ -11,7 +11,7 @@ use Rattle.rz_play_locks.specs.Operations.{given}
 use Rattle.rz_chronicle.specs.Deals.{new_pass}
 use Rattle.rz_chronicle.specs.Kinds.{is_honest, volume_in}
 use Rattle.rz_chronicle.specs.Rules.{PassView}
-use Rattle.rz_shown.specs.Shown.{shown_of}
+use Rattle.rz_show.specs.Shown.{shown_of}
 use Rattle.rz_steps.specs.Turned.{AreLost}
 use Rattle.rz_worker.specs.Doing.{IsBegun}
 use Rattle.rz_worker.specs.Workers.{IsAllDone, seat_of, seat_with}

@@ -17,7 +17,7 @@ use Rattle.rz_chronicle.specs.Kinds.{is_honest, kind_of, volume_in}
 use Rattle.rz_chronicle.specs.Rules.{PassView}
 use Rattle.rz_locked.specs.Counts.{AreCountedSince}
 use Rattle.rz_shared.proofs.NewSeats.{untouched}
-use Rattle.rz_shown.specs.Text.{run_text}
+use Rattle.rz_show.specs.RunText.{run_text}
 use Rattle.rz_threads.specs.Orders.{AreBegun, AreDone}
 use Rattle.rz_staff.specs.declared.member.Member.{Member}
 use Rattle.rz_staff.specs.Staff.{IsStaffed}

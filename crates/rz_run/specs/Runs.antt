@@ -8,7 +8,7 @@ use Rattle.rz_formatting.specs.declared.fault.DriverFault.{DriverFault}
 use Rattle.rz_formatting.specs.declared.fault.DriverFault.TheVariants as faults
 use Rattle.rz_script.specs.Scripts.{Script}
 use Rattle.rz_script.specs.declared.line.Line.{Line}
-use Rattle.rz_shown.specs.Text.{run_text}
+use Rattle.rz_show.specs.RunText.{run_text}
 use Rattle.rz_request.specs.Line.{Meaning}
 use Rattle.rz_request.specs.Requests.{Reading}
 use Rattle.rz_request.specs.Runs.{AsksRun}

@@ -2,7 +2,7 @@
 ghost use Rattle.std.specs.Prelude.{◌≡◌, ◌⊎◌, length, true};
 ghost use Rattle.rz_chronicle.specs.Keys.{sids_of};
 ghost use Rattle.rz_crew.specs.Moves.{HoldsAll};
-ghost use Rattle.rz_shown.specs.Text.{AreShownOf, run_text};
+ghost use Rattle.rz_show.specs.RunText.{AreShownOf, run_text};
 ghost use Rattle.rz_perform.specs.Output.{Ends, Lacks, Sunk};
 ghost use Rattle.rz_run.specs.Runs.{Fails};
 
@@ -13,7 +13,7 @@ use rz_formatting::DriverFault;
 use rz_perform::{finish, refuse};
 use rz_ports::Sink;
 use rz_request::Refusal;
-use rz_shown::show_run;
+use rz_show::show_run;
 use std::alloc::Global;
 use std::sync::Wait;
 

@@ -1,3 +1,5 @@
+pub mod Shown
+pub mod RunText
 pub mod Words
 pub mod Outcomes
 pub mod Ends

@@ -12,9 +12,11 @@
 mod ends;
 mod opened;
 mod outcomes;
+mod run_text;
 mod text;
 mod words;
 
+pub use run_text::show_run;
 pub use outcomes::push_mask;
 pub use text::{push_end, show};
 pub use words::push_uuid;

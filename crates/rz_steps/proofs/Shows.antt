@@ -16,7 +16,7 @@ use Rattle.rz_events.specs.declared.events.Event.{Event}
 use Rattle.rz_events.specs.declared.events.Event.TheVariants as e
 use Rattle.rz_events.specs.Events.{word_of}
 use Rattle.rz_play.specs.Lines.{noted}
-use Rattle.rz_shown.specs.Shown.{file_in, is_open, is_shown, shown_in, shown_of}
+use Rattle.rz_show.specs.Shown.{file_in, is_open, is_shown, shown_in, shown_of}
 
 pub shown-noted : (event : Option Event) (own : List Event) → shown_of (noted event own) ≡ shown_of own ++ shown_in event
 shown-noted (Some x) own = refl

@@ -5,7 +5,7 @@ ghost use Rattle.rz_operation_model.specs.Ask.{ask_of, AskExport};
 ghost use Rattle.rz_core.specs.History.{of_actor};
 ghost use Rattle.rz_play.specs.Faults.{missed};
 ghost use Rattle.rz_chronicle.specs.Kinds.{volume_in};
-ghost use Rattle.rz_shown.specs.Shown.{shown_of};
+ghost use Rattle.rz_show.specs.Shown.{shown_of};
 ghost use Rattle.rz_steps.specs.Acted.{Lasts, IsRight, HasActed};
 ghost use Rattle.rz_steps.specs.Turned.{IsCutOff};
 

@@ -16,7 +16,7 @@ ghost use Rattle.rz_play.specs.Faults.{missed};
 ghost use Rattle.rz_chronicle.specs.Keys.{count_at, word_key};
 ghost use Rattle.rz_chronicle.specs.Kinds.{is_honest, volume_in};
 ghost use Rattle.rz_events.specs.declared.events.Word.TheVariants as w;
-ghost use Rattle.rz_shown.specs.Shown.{shown_of};
+ghost use Rattle.rz_show.specs.Shown.{shown_of};
 ghost use Rattle.rz_steps.specs.Acted.{Lasts, IsRight, HasActed, IsServed};
 ghost use Rattle.rz_steps.specs.Adding.{AddsOwn};
 ghost use Rattle.rz_steps.specs.Asking.{IsPlaced};

@@ -4,7 +4,7 @@ ghost use Rattle.std.specs.Vec.{vec_len, vec_capacity};
 ghost use Rattle.rz_events.specs.declared.export.Reply.TheVariants as answer;
 ghost use Rattle.rz_events.specs.declared.tree.TreeReply.TheVariants as reply;
 ghost use Rattle.rz_export_model.specs.ExportEvents.{export_event};
-ghost use Rattle.rz_shown.specs.Shown as model;
+ghost use Rattle.rz_show.specs.Shown as model;
 
 use rz_events::{Actor, Call, Event, FileInfo, Reply, TreeCall, TreeReply};
 

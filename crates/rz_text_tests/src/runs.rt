@@ -4,7 +4,7 @@ use rz_events::{
     Actor, Answer, Event, FileInfo, Key, Places, ReadEnd, RebuildEnd, Seen, Text, TreeCall,
     TreeReply, WriteEnd,
 };
-use rz_shown::show_run;
+use rz_show::show_run;
 use std::alloc::{AllocError, Global};
 use std::test::Fail;
 

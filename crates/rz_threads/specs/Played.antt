@@ -3,7 +3,7 @@ use Rattle.std.specs.Prelude.{ℕ, List}
 use Rattle.rz_events.specs.declared.events.Event.{Event}
 use Rattle.rz_core.specs.History.{of_actor}
 use Rattle.rz_chronicle.specs.Kinds.{is_honest, volume_in}
-use Rattle.rz_shown.specs.Shown.{shown_of}
+use Rattle.rz_show.specs.Shown.{shown_of}
 use Rattle.rz_steps.specs.Turned.{AreLost}
 use Rattle.rz_worker.specs.Doing.{IsBegun}
 use Rattle.rz_worker.specs.Workers.{IsAllDone, seat_of}

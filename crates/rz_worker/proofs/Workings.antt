@@ -12,7 +12,7 @@ use Rattle.rz_core.specs.History.{of_actor}
 use Rattle.rz_play.specs.World.{Seat as APlayer}
 use Rattle.rz_chronicle.specs.Kinds.{is_honest, volume_in}
 use Rattle.rz_chronicle.specs.Rules.{PassView}
-use Rattle.rz_shown.specs.Shown.{shown_of}
+use Rattle.rz_show.specs.Shown.{shown_of}
 use Rattle.rz_steps.specs.Acted.{Lasts, HasActed}
 use Rattle.rz_steps.specs.Turned.{IsCutOff, AreLost}
 use Rattle.rz_worker.specs.declared.seat.Seat.{Seat}

@@ -18,7 +18,7 @@ use Rattle.rz_play.specs.World.{Seat as APlayer, has_work, is_over}
 use Rattle.rz_acting.specs.Acting.{IsActing}
 use Rattle.rz_chronicle.specs.Kinds.{is_honest, volume_in}
 use Rattle.rz_chronicle.specs.Rules.{PassView}
-use Rattle.rz_shown.specs.Shown.{shown_of}
+use Rattle.rz_show.specs.Shown.{shown_of}
 use Rattle.rz_worker.specs.declared.seat.Seat.{Seat}
 use Rattle.rz_worker.specs.Doing.{HasDone}
 

@@ -4,7 +4,7 @@ ghost use Rattle.mj_angles.specs.Layout.{max_bins_of};
 ghost use Rattle.rz_operation_model.specs.Ask.{ask_of};
 ghost use Rattle.rz_core.specs.History.{of_actor};
 ghost use Rattle.rz_chronicle.specs.Kinds.{volume_in};
-ghost use Rattle.rz_shown.specs.Shown.{shown_of};
+ghost use Rattle.rz_show.specs.Shown.{shown_of};
 ghost use Rattle.rz_steps.specs.Acted.{Lasts, IsRight, HasActed};
 ghost use Rattle.rz_steps.specs.Turned.{AreLost, IsCutOff};
 ghost use Rattle.rz_worker.specs.Asking.{IsKind};

@@ -3,7 +3,7 @@ ghost use Rattle.std.specs.Prelude.{◌≡◌, OnOk, OnErr};
 ghost use Rattle.rz_core.specs.History.{of_actor};
 ghost use Rattle.rz_chronicle.specs.Keys.{IsLater};
 ghost use Rattle.rz_chronicle.specs.Kinds.{IsFit, is_honest, volume_in};
-ghost use Rattle.rz_shown.specs.Shown.{shown_of};
+ghost use Rattle.rz_show.specs.Shown.{shown_of};
 ghost use Rattle.rz_steps.specs.Acted.{Lasts};
 ghost use Rattle.rz_steps.specs.Turned.{AreLost};
 ghost use Rattle.rz_worker.specs.Doing.{HasDone, IsBegun};

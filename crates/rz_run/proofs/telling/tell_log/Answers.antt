@@ -1,6 +1,6 @@
 use Rattle.std.proofs.Common.{◌≡◌, ℕ, List, length, ap, ◌∙◌, subst, inl}
 use Rattle.rz_events.specs.declared.events.Event.{Event}
-use Rattle.rz_shown.specs.Text.{run_text}
+use Rattle.rz_show.specs.RunText.{run_text}
 use Rattle.rz_perform.specs.Output.{Sunk, Ends}
 use Rattle.rz_run.proofs.telling.tell_log.Goals as goal
 

@@ -5,7 +5,7 @@ use Rattle.rz_core.specs.History.{of_actor}
 use Rattle.rz_play.specs.Faults.{missed}
 use Rattle.rz_play_laws.proofs.Events.{node-event}
 use Rattle.rz_chronicle.specs.Kinds.{volume_in}
-use Rattle.rz_shown.specs.Shown.{shown_of}
+use Rattle.rz_show.specs.Shown.{shown_of}
 use Rattle.rz_steps.proofs.Added.{adds-own, noted-quiet, node-quiet, for-actor}
 use Rattle.rz_steps.proofs.Shows.{node-shown}
 use Rattle.rz_steps.proofs.adding.call_node.Goals as goal

@@ -4,7 +4,7 @@ use Rattle.rz_export_model.specs.ExportEvents.{export_event}
 use Rattle.rz_operation_model.specs.Ask.{AskExport}
 use Rattle.rz_operation_model.specs.Steps.{Replied}
 use Rattle.rz_chronicle.specs.Kinds.{is_honest, volume_in}
-use Rattle.rz_shown.specs.Shown.{shown_in}
+use Rattle.rz_show.specs.Shown.{shown_in}
 use Rattle.rz_steps.proofs.Acts.{still-lasts, still-cut, on-err, shows-on, cut-by, export-step, exported}
 use Rattle.rz_steps.proofs.exports.ask_export.Goals as goal
 

@@ -6,7 +6,7 @@ use Rattle.rz_operation_model.specs.Steps.{Locked}
 use Rattle.rz_core.specs.History.{facts, of_actor}
 use Rattle.rz_core.specs.Tied.{IsProperCall}
 use Rattle.rz_chronicle.specs.Kinds.{is_honest, volume_in}
-use Rattle.rz_shown.specs.Shown.{shown_in}
+use Rattle.rz_show.specs.Shown.{shown_in}
 use Rattle.rz_steps.proofs.Acts.{still-lasts, still-cut, on-err, shows-on, cut-by, lock-step, opened}
 use Rattle.rz_steps.proofs.locking.open_locked.Goals as goal
 

@@ -7,7 +7,7 @@ use Rattle.rz_operation_model.specs.Ask.{ask_of}
 use Rattle.rz_operation_model.specs.Steps.{Answered}
 use Rattle.rz_core.specs.History.{of_actor}
 use Rattle.rz_chronicle.specs.Kinds.{is_honest, volume_in}
-use Rattle.rz_shown.specs.Shown.{shown_of}
+use Rattle.rz_show.specs.Shown.{shown_of}
 use Rattle.rz_steps.specs.Acted.{Lasts}
 use Rattle.rz_steps.specs.Asking.{IsPlaced}
 use Rattle.rz_chronicle.specs.Rules.{PassView}

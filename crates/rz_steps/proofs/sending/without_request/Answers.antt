@@ -4,7 +4,7 @@ use Rattle.rz_operation_model.specs.Ask.{ask_of}
 use Rattle.rz_core.specs.History.{of_actor}
 use Rattle.rz_chronicle.specs.Kinds.{volume_in}
 use Rattle.rz_play.specs.Faults.{missed}
-use Rattle.rz_shown.specs.Shown.{shown_of}
+use Rattle.rz_show.specs.Shown.{shown_of}
 use Rattle.rz_steps.proofs.Added.{lost-count}
 use Rattle.rz_steps.proofs.Shows.{unshown-of}
 use Rattle.rz_steps.proofs.Acts.{still-lasts, still-cut, missed-request}

@@ -2,13 +2,13 @@
 ghost use Rattle.std.specs.Prelude.{◌≡◌};
 ghost use Rattle.mj_angles.specs.Layout.{bsize_of};
 ghost use Rattle.rz_cells.specs.Shape.{IsGeometry};
-ghost use Rattle.rz_migrate.specs.Migrations.{Carries, records_in};
+ghost use Rattle.rz_request.specs.Carried.{Carries, records_in};
 
 use crate::Migrated;
 use crate::outcome::stopped;
 use rz_cells::{Cells, Geometry};
 use rz_disk::Disk;
-use rz_request::Stop;
+use crate::Stop;
 use std::alloc::Global;
 
 /// How many records these cells hold.

@@ -4,8 +4,8 @@ use Rattle.std.specs.Global.{Vec}
 use Rattle.std.specs.List.{flat_map}
 use Rattle.rz_events.specs.declared.events.Event.{Event}
 use Rattle.rz_show.specs.Text.{end_line, lines}
-use Rattle.rz_shown.proofs.Lines.{all-printed, more-lines}
-use Rattle.rz_shown.proofs.text.show_run.Goals as goal
+use Rattle.rz_show.proofs.RunLines.{all-printed, more-lines}
+use Rattle.rz_show.proofs.run_text.show_run.Goals as goal
 
 pub loop-own-preserved : goal.loop-own-preserved
 loop-own-preserved c =

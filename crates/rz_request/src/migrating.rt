@@ -2,14 +2,14 @@
 ghost use Rattle.std.specs.Prelude.{◌≡◌, Ok, length};
 ghost use Rattle.mj_angles.specs.Layout.{bsize_of};
 ghost use Rattle.rz_events.specs.Volume.{IsNode};
-ghost use Rattle.rz_migrate.specs.Migrations.{Follows, Migrates, geometry_of};
+ghost use Rattle.rz_request.specs.Carried.{Follows, Migrates, geometry_of};
 
 use crate::Migrated;
 use crate::carrying::carry;
 use rz_cells::Geometry;
 use rz_disk::Disk;
 use rz_ports::Source;
-use rz_request::{OldNode, Stop, migration};
+use crate::{OldNode, Stop, migration};
 use std::alloc::Global;
 
 /// How the disk of a node is laid out.

@@ -1,6 +1,6 @@
 use Rattle.std.proofs.Common.{◌≡◌, ◌≤◌, take}
-use Rattle.rz_migrate.specs.Migrations.{records_in}
-use Rattle.rz_migrate.proofs.carrying.count.Given as goal
+use Rattle.rz_request.specs.Carried.{records_in}
+use Rattle.rz_request.proofs.carrying.count.Given as goal
 
 abbrev pub invariant-loop-cell : goal.invariant-loop-cell
 invariant-loop-cell g l = record {

@@ -23,7 +23,7 @@ use Rattle.rz_request.specs.declared.old.OldNode.{OldNode}
 use Rattle.rz_request.specs.declared.refusal.Refusal.TheVariants as refusals
 use Rattle.rz_request.specs.declared.refusal.Stop.{Stop}
 use Rattle.rz_request.specs.declared.refusal.Stop.TheVariants as stops
-use Rattle.rz_migrate.specs.declared.outcome.Migrated.{Migrated}
+use Rattle.rz_request.specs.declared.outcome.Migrated.{Migrated}
 
 unfoldable pub migrated_line : Migrated → List ℕ
 migrated_line m = codes "migrated " ++ (decimal m.fence ++ (codes " " ++ (decimal m.records ++ codes "\n")))

@@ -14,7 +14,7 @@ use Rattle.rz_events.specs.declared.events.Event.TheVariants as e
 use Rattle.rz_events.specs.Events.{by_of, same_actor}
 use Rattle.rz_show.specs.Opened.{places_opened, positions, positions_after}
 use Rattle.rz_show.specs.Text.{line}
-use Rattle.rz_shown.specs.Shown.{is_open, is_shown, if_shown, shown_of}
+use Rattle.rz_show.specs.Shown.{is_open, is_shown, if_shown, shown_of}
 
 -- An event that is not shown changes no positions, and has no line where it is none of the administrator's.
 

@@ -1,9 +1,9 @@
 //! What came of a migration.
 ghost use Rattle.std.specs.Prelude.{◌≡◌, IfOk};
-ghost use Rattle.rz_migrate.specs.Migrations.{Stopped, migrated_line};
+ghost use Rattle.rz_request.specs.Carried.{Stopped, migrated_line};
 
 use rz_cells::{MigrateFault, OpenFault};
-use rz_request::{Refusal, Stop};
+use crate::{Refusal, Stop};
 use std::alloc::{AllocError, Global};
 
 /// The fence and the number of the records that were carried over.

@@ -12,10 +12,10 @@ use Rattle.rz_core.specs.History.{of_actor}
 use Rattle.rz_play.specs.World.{actors}
 use Rattle.rz_show.specs.Opened.{positions}
 use Rattle.rz_show.specs.Text.{line, lines}
-use Rattle.rz_shown.specs.Shown.{is_shown, if_shown, shown_of}
-use Rattle.rz_shown.specs.Text.{in_run_order, AreShownOf}
-use Rattle.rz_shown.proofs.Looks.{unshown-line, shown-looks, looks-onto, looks-past}
-use Rattle.rz_shown.proofs.Apart.{AreApart, actors-apart, own-by}
+use Rattle.rz_show.specs.Shown.{is_shown, if_shown, shown_of}
+use Rattle.rz_show.specs.RunText.{in_run_order, AreShownOf}
+use Rattle.rz_show.proofs.Looks.{unshown-line, shown-looks, looks-onto, looks-past}
+use Rattle.rz_show.proofs.Apart.{AreApart, actors-apart, own-by}
 
 lines-append : (before xs ys : List Event) → lines before (xs ++ ys) ≡ lines before xs ++ lines (reverse xs ++ before) ys
 lines-append before [] ys = refl

@@ -6,7 +6,7 @@ use Rattle.rz_events.specs.declared.events.Event.{Event}
 use Rattle.rz_core.specs.History.{of_actor}
 use Rattle.rz_play.specs.World.{actors}
 use Rattle.rz_show.specs.Text.{lines, end_line}
-use Rattle.rz_shown.specs.Shown.{shown_of}
+use Rattle.rz_show.specs.Shown.{shown_of}
 
 -- the events of each actor of a script, those of the clients and then those of the rebuilders, the oldest of each actor first
 unfoldable pub in_run_order : List Event → List Event

@@ -2,10 +2,10 @@
 
 ghost use Rattle.std.specs.Prelude.{◌≡◌, ◌++◌, [], IfOk, OnOk};
 ghost use Rattle.rz_show.specs.Text.{lines};
-ghost use Rattle.rz_shown.specs.Text.{shown_text, IsRunText};
+ghost use Rattle.rz_show.specs.RunText.{shown_text, IsRunText};
 
 use rz_events::Event;
-use rz_show::{push_end, show};
+use crate::{push_end, show};
 use std::alloc::{AllocError, Global};
 
 /// Adds the lines of an actor's events, the oldest event first.
