@@ -12,8 +12,8 @@ ghost use Rattle.rz_export_model.specs.Export.{prepared, begun, latest_of, with_
 ghost use Rattle.rz_blocks.specs.Marked.{kept_at};
 ghost use Rattle.rz_blocks.specs.Shown.{added, shown, first_published, entry_above, nth_entry, IsStartAbove, IsStartOf, IsEndOf, IsWithin, IsPast};
 
-use rz_events::{Key, Published};
 use crate::Marks;
+use rz_events::{Key, Published};
 use std::alloc::{AllocError, Global};
 use std::collections::BTreeMap;
 use std::marker::Model;

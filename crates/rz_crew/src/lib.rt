@@ -4,7 +4,11 @@
 //! actors into one: in the log that it has then seen, the events of each actor are those that its own pass
 //! had, each once and in order. `held_lasts` says that this stays so.
 //!
-//! In reading order: `roster`, `gathering`, `laws`.
+//! [`count_all`] adds up the counts that the words of a book stand at. Each event of the log is of one of them, so
+//! that this is the number of its events. The pass that asks holds the tallies of all words, so that no event comes
+//! meanwhile: the log that it had seen before has as many.
+//!
+//! In reading order: `roster`, `gathering`, `laws`, `counting`.
 #![tactic(auto)]
 
 mod counting;

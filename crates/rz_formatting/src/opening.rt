@@ -6,10 +6,10 @@ ghost use Rattle.rz_events.specs.Volume.{IsNode};
 ghost use Rattle.rz_formatting.specs.Opened.{AreKept, AreOpened, IsCause, IsKept, IsOpened, IsFaultOf};
 
 use crate::refusal::{OpenRefusal, refusal_at};
+use crate::{Station, hand_back};
 use mj_angles::Layout;
 use rz_disk::{Disk, Fused};
 use rz_events::{NodeSpec, OpenFault};
-use crate::{Station, hand_back};
 use rz_node::{Geometry, Node};
 use std::alloc::Global;
 

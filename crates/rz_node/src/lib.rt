@@ -10,23 +10,27 @@
 //! Bins are read from the disk each time. Memory is taken where a node is made, started or replaced, and by
 //! no other call.
 //!
-//! In reading order: `node`, `fetching`, `keeping`, `dropping`, `rows`, `opening`, `replacing`,
-//! `laws`.
+//! [`answer_node`] gives any call to a node, as one function, and says what the answer, the state and the meter
+//! of the disk are, and what the disk may have after a crash then. [`node_event`] makes of an answer the event
+//! that the log has of it. Both say what the models say, and nothing of who calls or when.
+//!
+//! In reading order: `node`, `fetching`, `keeping`, `dropping`, `rows`, `opening`, `replacing`, `laws`,
+//! `events`, `calls`.
 #![tactic(auto)]
 
+mod calls;
 mod dropping;
 mod events;
 mod fetching;
 mod keeping;
 mod laws;
 mod node;
-mod nodes;
 mod opening;
 mod replacing;
 mod rows;
 
+pub use calls::answer_node;
 pub use events::node_event;
-pub use nodes::answer_node;
 pub use laws::change;
 pub use node::Node;
 pub use rz_cells::{FormatFault, Geometry};

@@ -12,7 +12,11 @@
 //! [`completes`] and [`completes_again`] when it comes to its end. Nothing here says what a real file or
 //! terminal takes, nor that there is memory.
 //!
-//! In reading order: `output`, `telling`, `scrubbing`, `performing`, `laws`.
+//! [`summary`] gives what the log of the workload comes to, in the one line that `specs/Summary` defines: the
+//! seed, how many blocks were put and got and how these ended, how many nodes were rebuilt and how many
+//! positions were left, and the digest of the text of the log.
+//!
+//! In reading order: `kinds`, `counts`, `line`, `output`, `telling`, `scrubbing`, `performing`, `laws`.
 #![tactic(auto)]
 
 mod counts;
@@ -24,8 +28,8 @@ mod performing;
 mod scrubbing;
 mod telling;
 
-pub use line::summary;
 pub use laws::{begins, completes, completes_again};
+pub use line::summary;
 pub use output::finish;
 pub use performing::perform;
 pub use rz_lines::LoggedStage;

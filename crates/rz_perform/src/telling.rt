@@ -5,12 +5,12 @@ ghost use Rattle.rz_perform.specs.Output.{Lacks, Sunk};
 ghost use Rattle.rz_perform.specs.Telling.{Refuses, Says, SaysSoFar, Stops, text_so_far, text_told};
 
 use crate::output::finish;
+use crate::summary;
 use rz_events::Event;
 use rz_lines::PlayEnd;
 use rz_ports::Sink;
 use rz_request::{Refusal, Stop, Wish};
 use rz_show::show;
-use crate::summary;
 use std::alloc::{AllocError, Global};
 
 /// What is printed of the log of a whole play, of which a scrub found these lines.

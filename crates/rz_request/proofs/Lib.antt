@@ -1,4 +1,3 @@
-
 pub mod Found
 pub mod Many
 pub mod Stopped

@@ -7,8 +7,7 @@ ghost use Rattle.rz_request.specs.Requests.{Asks, IsFor, IsWished, Judges, Reads
 ghost use Rattle.rz_request.specs.declared.wishes.Wish.TheVariants as wishes;
 
 use crate::reading::{fit, read_script};
-use crate::{Refusal, Request, Stop, Wish};
-use crate::{Command, WordsError, wanted};
+use crate::{Command, Refusal, Request, Stop, Wish, WordsError, wanted};
 use rz_generate::generate;
 use rz_ports::Source;
 use rz_script::{Form, Script};

@@ -4,11 +4,10 @@ ghost use Rattle.mj_angles.specs.Layout.{bsize_of};
 ghost use Rattle.rz_cells.specs.Shape.{IsGeometry};
 ghost use Rattle.rz_request.specs.Carried.{Carries, records_in};
 
-use crate::Migrated;
 use crate::outcome::stopped;
+use crate::{Migrated, Stop};
 use rz_cells::{Cells, Geometry};
 use rz_disk::Disk;
-use crate::Stop;
 use std::alloc::Global;
 
 /// How many records these cells hold.

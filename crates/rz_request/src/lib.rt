@@ -11,9 +11,20 @@
 //! of that command, and no line of the text speaks of turns.
 //!
 //! [`migration`] asks for another thing: the node of which an old disk is carried over. It reads a volume
-//! alone.
+//! alone. The contract of [`migrate`] says what came of the two disks then: the old one is as it was, each image
+//! of the new one is one from before, or its header is shut, or it stands for the fence and the records of the
+//! old one; and which refusal comes when. At the end it tells the fence and the number of the records. It says
+//! nothing of what a real file holds.
 //!
-//! In reading order: `refusal`, `causes`, `input`, `reading`, `wishes`, `asking`, `running`, `old`.
+//! The contract of [`wanted`] says what the words of the command line mean: the command, the number of disks and
+//! the folder that they state, and that `Usage` comes exactly where they are not of the form of `specs/Line`.
+//! The line is read twice: by this crate, which decides its form, and by `clap`, which takes more than that
+//! form. The contract does not say that `clap` takes every line of the form, so a line of the form that it
+//! refused would count as want of memory; the tests show that it takes each order and spelling.
+//!
+//! In reading order: the words in `command`, `items`, `numbers`, `line`, `parser`, `wanting`; what they ask for
+//! in `refusal`, `causes`, `input`, `reading`, `wishes`, `asking`, `running`; an old disk in `old`, `outcome`,
+//! `carrying`, `migrating`.
 #![tactic(auto)]
 
 mod asking;
@@ -34,12 +45,12 @@ mod running;
 mod wanting;
 mod wishes;
 
-pub use migrating::migrate;
-pub use outcome::Migrated;
-pub use command::{Command, Wanted, WordsError};
-pub use wanting::wanted;
 pub use asking::request;
+pub use command::{Command, Wanted, WordsError};
+pub use migrating::migrate;
 pub use old::{OldNode, migration};
+pub use outcome::Migrated;
 pub use refusal::{Refusal, Stop};
 pub use running::run_script;
+pub use wanting::wanted;
 pub use wishes::{Request, Wish};

@@ -4,12 +4,11 @@ ghost use Rattle.mj_angles.specs.Layout.{bsize_of};
 ghost use Rattle.rz_events.specs.Volume.{IsNode};
 ghost use Rattle.rz_request.specs.Carried.{Follows, Migrates, geometry_of};
 
-use crate::Migrated;
 use crate::carrying::carry;
+use crate::{Migrated, OldNode, Stop, migration};
 use rz_cells::Geometry;
 use rz_disk::Disk;
 use rz_ports::Source;
-use crate::{OldNode, Stop, migration};
 use std::alloc::Global;
 
 /// How the disk of a node is laid out.

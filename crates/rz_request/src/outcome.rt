@@ -2,8 +2,8 @@
 ghost use Rattle.std.specs.Prelude.{◌≡◌, IfOk};
 ghost use Rattle.rz_request.specs.Carried.{Stopped, migrated_line};
 
-use rz_cells::{MigrateFault, OpenFault};
 use crate::{Refusal, Stop};
+use rz_cells::{MigrateFault, OpenFault};
 use std::alloc::{AllocError, Global};
 
 /// The fence and the number of the records that were carried over.

@@ -7,8 +7,7 @@ ghost use Rattle.rz_request.specs.Requests.{ReadsScript, nodes_in};
 ghost use Rattle.rz_request.specs.Runs.{AsksRun, is_run as is_of_run};
 
 use crate::reading::{fit, read_script};
-use crate::{Refusal, Stop};
-use crate::{Command, WordsError, wanted};
+use crate::{Command, Refusal, Stop, WordsError, wanted};
 use rz_ports::Source;
 use rz_script::{Form, Script};
 use std::alloc::Global;

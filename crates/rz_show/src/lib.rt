@@ -6,7 +6,12 @@
 //! are, nor that there is memory. Some words of a line and the last line are public, so that other texts
 //! are printed alike.
 //!
-//! In reading order: `words`, `outcomes`, `ends`, `opened`, `text`.
+//! The log of a run is what many threads did in one of the orders in which it may stand. Its text has no line
+//! of a node, and has the lines of each actor together, so it says nothing of that order. Each actor keeps
+//! those of its own events that the text tells of (`specs/Shown`). The contract of [`show_run`] says that
+//! they are enough: the text of them is the text of all events of the actors (`specs/RunText`).
+//!
+//! In reading order: `words`, `outcomes`, `ends`, `opened`, `text`, `run_text`.
 #![tactic(auto)]
 
 mod ends;
@@ -16,7 +21,7 @@ mod run_text;
 mod text;
 mod words;
 
-pub use run_text::show_run;
 pub use outcomes::push_mask;
+pub use run_text::show_run;
 pub use text::{push_end, show};
 pub use words::push_uuid;

@@ -4,8 +4,8 @@ ghost use Rattle.std.specs.Prelude.{◌≡◌, ◌++◌, [], IfOk, OnOk};
 ghost use Rattle.rz_show.specs.Text.{lines};
 ghost use Rattle.rz_show.specs.RunText.{shown_text, IsRunText};
 
-use rz_events::Event;
 use crate::{push_end, show};
+use rz_events::Event;
 use std::alloc::{AllocError, Global};
 
 /// Adds the lines of an actor's events, the oldest event first.

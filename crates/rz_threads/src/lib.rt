@@ -10,7 +10,12 @@
 //! the administrator are those of its lines, and each disk that comes back stands for the events of its
 //! node.
 //!
-//! In reading order: `beside`, `playing`.
+//! [`administer`] carries out the administrator's lines one after another over a cluster that other threads use
+//! meanwhile: a node stops, starts or loses its disk, or its disk is armed. Each call of a node is answered
+//! rightly for the log just before its event, and between two lines others may add to the log what they will.
+//! Lines of other actors are passed over.
+//!
+//! In reading order: `orders`, `administration`, `beside`, `playing`.
 #![tactic(auto)]
 
 mod administration;
@@ -19,6 +24,6 @@ mod orders;
 mod playing;
 
 pub use administration::administer;
-pub use rz_lines::NoMemory;
 pub use beside::{Shift, at_work, work_all};
 pub use playing::{Played, play};
+pub use rz_lines::NoMemory;

@@ -7,9 +7,9 @@ ghost use Rattle.rz_node_model.specs.Afterwards.{after_answer};
 ghost use Rattle.rz_node.specs.Calls.{Takes, IsNoStart, IsUnread, Counts};
 ghost use Rattle.rz_node.specs.Leaves.{Leaves};
 
+use crate::Node;
 use rz_disk::Disk;
 use rz_events::{NodeAnswer, NodeAsk};
-use crate::Node;
 use std::alloc::Global;
 
 /// Gives a call to a node. The bins are those of a record that is to be kept, or the room for those of

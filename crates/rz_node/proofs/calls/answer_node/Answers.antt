@@ -8,7 +8,7 @@ use Rattle.rz_events.specs.declared.records.Held.{Held}
 use Rattle.rz_node.specs.Fetched.{Gives}
 use Rattle.rz_node.specs.Leaves.{Leaves}
 use Rattle.rz_node.proofs.Leaving.{held-if, starts}
-use Rattle.rz_node.proofs.nodes.answer_node.Goals as goal
+use Rattle.rz_node.proofs.calls.answer_node.Goals as goal
 
 pub returns-in-Fetch-clause-answer : goal.returns-in-Fetch-clause-answer
 returns-in-Fetch-clause-answer g c =
