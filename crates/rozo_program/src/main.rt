@@ -1,40 +1,19 @@
 //! The program `rozo`: it plays a script over a store whose disks lie in memory or in files, in one thread or
 //! in many, and prints what came of each operation; or it carries an old disk of a node over onto a new one.
 //!
-//! The contract of `replay` says which status comes when, that the source was read to its end, that the
-//! log is that of the script's play and what it says is true, which bytes the sink took, that the disks are
-//! back in their order, and that their counts of faults go with the faults in the log. Of an old disk it
-//! says that it is as it was, and what stands on the new one. Of the disk of a journal it says for which
-//! calls it stands. It does not say what a real file or a terminal holds, or that memory is there, whose
-//! want is status 70. The command `run` is `run` of `rz_run`, whose contract says as much of the one log that
-//! all threads write.
-//!
-//! In reading order: `replay`, `laws`, `migrating`, `disks`.
+//! In one thread it is `replay` of `rz_replay`, and in many `run` of `rz_run`: their contracts say which status
+//! comes when, which bytes the sink took, and what the log says. Here the words and the disks are taken from the
+//! system, of which nothing is said.
 #![tactic(auto)]
-
-#[cfg(test)]
-mod damage;
-mod disks;
-mod laws;
-mod migrating;
-#[cfg(test)]
-mod outages;
-mod replay;
-#[cfg(test)]
-mod running;
-#[cfg(test)]
-mod tests;
 
 ghost use Rattle.std.specs.Prelude.{◌≡◌, IfOk, IsTrue, length};
 
-use disks::{FilesFault, files, memory};
-use replay::replay;
-use rz_request::{Command, Wanted, WordsError, wanted};
 use rz_disk::Disk;
 use rz_link::PlainLink;
 use rz_perform::refuse;
 use rz_ports::{StdSink, StdSource};
-use rz_request::Refusal;
+use rz_replay::{FilesFault, files, memory, replay};
+use rz_request::{Command, Refusal, Wanted, WordsError, wanted};
 use rz_run::run;
 use std::alloc::{AllocError, Global};
 use std::io::ErrorKind;

@@ -19,10 +19,10 @@ use crate::parts::new_parts;
 use rz_asks::Log;
 use rz_config::Volume;
 use rz_disk::Disk;
+use rz_formatting::{OpenRefusal, open_all};
 use rz_journal::JournalFault;
 use rz_locks::Locks;
 use rz_metadata::{Metadata, fault_number};
-use rz_formatting::{OpenRefusal, open_all};
 use rz_seats::Shared;
 use std::alloc::Global;
 

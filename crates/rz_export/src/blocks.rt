@@ -13,9 +13,8 @@ ghost use Rattle.rz_export.specs.Kept.{with_fence, AreRoomy};
 use crate::export::Export;
 use crate::lists::{make_room, remark};
 use crate::nodes::{Enrolment, enroll, recount};
-use rz_blocks::Blocks;
+use rz_blocks::{Blocks, Marks};
 use rz_events::{Denial, FileInfo, Key, Published, Reply};
-use rz_blocks::Marks;
 use std::alloc::AllocError;
 
 impl Export {

@@ -11,10 +11,9 @@ ghost use Rattle.rz_export.specs.Nodes.{enrolled_of, new_node};
 
 use crate::nodes::{Enrolment, KeptNode, is_among, kept_nodes, last_enrolment};
 use mj_angles::Layout;
-use rz_blocks::Blocks;
+use rz_blocks::{Blocks, Marks};
 use rz_config::Volume;
 use rz_events::{FileInfo, Key, Published};
-use rz_blocks::Marks;
 use rz_tree::Tree;
 use std::alloc::{AllocError, Global};
 use std::marker::Model;

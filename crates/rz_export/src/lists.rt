@@ -9,8 +9,8 @@ ghost use Rattle.rz_export.specs.Nodes.{is_named};
 ghost use Rattle.rz_export.specs.Kept.{is_place, AreRoomy};
 
 use crate::nodes::is_named;
-use rz_events::{Key, Published};
 use rz_blocks::Marks;
+use rz_events::{Key, Published};
 use std::alloc::AllocError;
 
 /// Makes room for the mark of a block in the lists of these nodes. Room that was made before an error

@@ -8,9 +8,8 @@ ghost use Rattle.rz_export.specs.Kept.{AreCounted, AreMarked, HaveRoom, lies_at,
 
 use crate::lists::clear;
 use crate::nodes::{KeptNode, recount};
-use rz_blocks::Blocks;
+use rz_blocks::{Blocks, Marks};
 use rz_events::{FileInfo, TreeReply};
-use rz_blocks::Marks;
 
 /// Takes all blocks of a file away, and counts them out one by one.
 fn release(nodes: &mut [KeptNode], blocks: &mut Blocks, info: &FileInfo)

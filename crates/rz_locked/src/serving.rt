@@ -24,11 +24,10 @@ ghost use Rattle.rz_locked.specs.Counts.{GoesWith, rearmed};
 ghost use Rattle.rz_locked.specs.Picks.{pick_of};
 ghost use Rattle.rz_locked.specs.Seats.{IsRead};
 
-use rz_node::answer_node;
 use rz_chronicle::{Naming, Post};
 use rz_disk::Disk;
 use rz_events::{NodeAnswer, NodeAsk, Phase, StartAnswer};
-use rz_node::Node;
+use rz_node::{Node, answer_node};
 use std::alloc::Global;
 
 /// Gives a call to a node, which has this number and whose word has this post. Before a start the disk

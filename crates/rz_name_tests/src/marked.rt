@@ -1,7 +1,7 @@
 //! Marks of two lists over several rows and files: gone through, taken away and forgotten.
 
-use rz_events::Key;
 use rz_blocks::Marks;
+use rz_events::Key;
 use std::alloc::AllocError;
 use std::test::Fail;
 

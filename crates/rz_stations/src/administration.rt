@@ -11,11 +11,11 @@ ghost use Rattle.rz_stations.specs.Administration.{IsOrdered, IsOrder, IsFreeOrd
 
 use crate::station::find;
 use rz_asks::Log;
-use rz_node::node_event;
 use rz_disk::Disk;
 use rz_events::{Actor, Event, NodeAnswer, NodeAsk, Phase, StartAnswer};
 use rz_formatting::Station;
 use rz_lines::NoMemory;
+use rz_node::node_event;
 use std::alloc::Global;
 
 /// The node of this number stops.

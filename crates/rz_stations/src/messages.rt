@@ -15,12 +15,11 @@ ghost use Rattle.rz_asks.specs.Parts.{is_bad};
 
 use mj_angles::Layout;
 use rz_asks::{Log, is_bad, let_go};
-use rz_node::{answer_node, node_event};
 use rz_disk::Disk;
 use rz_events::{Actor, Event, FetchAnswer, Head, NodeAnswer, NodeAsk};
 use rz_lines::NoMemory;
 use rz_link::{Link, Sent};
-use rz_node::Node;
+use rz_node::{Node, answer_node, node_event};
 use rz_operation::Machine;
 use std::alloc::Global;
 

@@ -1,6 +1,0 @@
-use Rattle.std.proofs.Common.{◌≡◌, length}
-use Rattle.rozo_program.proofs.disks.memory.Given as goal
-
--- as many disks as rounds so far
-abbrev pub invariant-loop : goal.invariant-loop
-invariant-loop l = length l.disks.items ≡ l.counter

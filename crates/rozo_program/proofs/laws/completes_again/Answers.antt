@@ -1,5 +1,0 @@
-use Rattle.rozo_program.proofs.Completing.{complete}
-use Rattle.rozo_program.proofs.laws.completes_again.Goals as goal
-
-pub returns : goal.returns
-returns g c = complete c.completes_again.ensures g.D.Disk.text g.D.Disk.meter g.D.Disk.image

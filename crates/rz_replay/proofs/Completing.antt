@@ -1,0 +1,81 @@
+-- Where nothing stands in the way of a replay that goes on after earlier runs, nothing keeps its disks shut, or cuts it off.
+use Rattle.std.proofs.Common.{ℕ, true, ◌≡◌, ◌⊎◌, inl, inr, List, [], ◌∷◌, ◌++◌, Result, Ok, Err, length, refl, subst}
+use Rattle.rz_disk.specs.Meter.{Meter, Rises, faults}
+use Rattle.rz_events.specs.declared.events.Event.{Event}
+use Rattle.rz_script.specs.Scripts.{Script}
+use Rattle.rz_continuation.specs.Earlier.{IsEarlier, IsRestarted}
+use Rattle.rz_formatting.specs.declared.refusal.OpenRefusal.TheVariants.{Open}
+use Rattle.rz_driver.specs.Continued.{AreLeft, IsCauseAgain}
+use Rattle.rz_lines.specs.declared.lines.PlayEnd.TheVariants as ends
+use Rattle.rz_request.specs.Requests.{IsFor, script_in}
+use Rattle.rz_request.specs.declared.refusal.Stop.{Stop}
+use Rattle.rz_request.specs.declared.wishes.Request.{Request}
+use Rattle.rz_request.specs.declared.wishes.Wish.{Wish}
+use Rattle.rz_request.specs.declared.wishes.Wish.TheVariants.{Again}
+use Rattle.rz_perform.specs.Clear.{IsCompleteAgain}
+use Rattle.rz_perform.specs.Output.{Sunk}
+use Rattle.rz_perform.specs.Replays.{Course, Unplayed, Unopened, Performed, Ensues}
+use Rattle.rz_perform.proofs.Asked.{HasCome}
+use Rattle.rz_perform.proofs.Completing.{come}
+use Rattle.rz_replay.specs.Clear.{IsComplete}
+use Rattle.rz_replay.specs.Disks.{AreBackAgain, AreBackFrom, HandsBack, IsPlayAfter, faulted}
+
+module _ {D : Type 0} (text : D → List ℕ) (meter : D → Meter) (image : D → List ℕ → Type 0) (old new : List D) (lost : ℕ) (h : List Event) (s : Script) where
+  -- how the disks come back where a play after earlier runs was asked for
+  abbrev Back : Course → Type 0
+  Back course = (course ≡ Unplayed) ⊎ AreBackAgain true text meter image course s.volume s.lines lost old new h
+
+  back-from : (sink : Sunk) (status : ℕ) (course : Course) (result : Result Request Stop) → HasCome s (script_in result) → IsFor Again result → Ensues true course result (faulted meter old new) lost sink status h
+      → HandsBack true text meter image course result lost old new h → Back course
+  back-from sink status course (Err stop) came for e back = inl e.2
+  back-from sink status course (Ok r) came for e back =
+      let P : Script → Type 0 = λ x. AreBackFrom true text meter image course r.wish x.volume x.lines lost old new h in
+      let Q : Wish → Type 0 = λ w. AreBackFrom true text meter image course w s.volume s.lines lost old new h in
+      inr (subst Q for (subst P came back))
+
+  all-opened : ((index cause : ℕ) → ¬ IsCauseAgain true meter text image s.volume old new (Open index cause)) → (course : Course) → Back course → (index cause : ℕ) → course ≡ Unopened index cause → ⊥
+  all-opened opens Unplayed back index cause is = cc
+  all-opened opens (Unopened i k) (inl none) index cause is = cc
+  all-opened opens (Unopened i k) (inr back) index cause is = absurd (opens i k back.1)
+  all-opened opens (Performed end events) back index cause is = cc
+
+  module _ (earlier : List Event) (is_earlier : IsEarlier s.volume earlier) (left : AreLeft image s.volume earlier old) where
+    -- no turn too many was called for
+    enough-turns : ((before g : List Event) → IsRestarted s.volume earlier before → ¬ IsPlayAfter s.volume before s.lines ends.TooManyTurns lost g) → (course : Course) → Back course
+        → (later : List Event) → course ≡ Performed ends.TooManyTurns later → ⊥
+    enough-turns turns Unplayed back later is = cc
+    enough-turns turns (Unopened i k) back later is = cc
+    enough-turns turns (Performed ends.Ended events) back later is = cc
+    enough-turns turns (Performed ends.NoMemory events) back later is = cc
+    enough-turns turns (Performed ends.Journal events) back later is = cc
+    enough-turns turns (Performed ends.JournalFull events) back later is = cc
+    enough-turns turns (Performed ends.TooManyTurns events) (inl none) later is = cc
+    enough-turns turns (Performed ends.TooManyTurns events) (inr used) later is =
+        let on = used.goes_on refl earlier is_earlier left in absurd (turns on.old (h ++ on.old) on.restarted on.played)
+
+    -- the disk of the journal did not fail
+    kept-journal : ((nodes nodes_back : List D) (disk back : D) → old ≡ nodes ++ disk ∷ [] → new ≡ nodes_back ++ back ∷ [] → ¬ Rises (faults (meter disk)) (faults (meter back))) → (course : Course) → Back course
+        → (later : List Event) → course ≡ Performed ends.Journal later → ⊥
+    kept-journal whole Unplayed back later is = cc
+    kept-journal whole (Unopened i k) back later is = cc
+    kept-journal whole (Performed ends.Ended events) back later is = cc
+    kept-journal whole (Performed ends.TooManyTurns events) back later is = cc
+    kept-journal whole (Performed ends.NoMemory events) back later is = cc
+    kept-journal whole (Performed ends.JournalFull events) back later is = cc
+    kept-journal whole (Performed ends.Journal events) (inl none) later is = cc
+    kept-journal whole (Performed ends.Journal events) (inr used) later is =
+        let on = used.goes_on refl earlier is_earlier left in
+        absurd (whole used.nodes used.nodes_back used.journal used.journal_back used.old_are used.new_are on.journal_told.ends.0)
+
+pub complete : IsCompleteAgain → {D : Type 0} (text : D → List ℕ) (meter : D → Meter) (image : D → List ℕ → Type 0) → IsComplete text meter image
+complete law text meter image words source old new lost sink status h course result asks ensues back s earlier clear =
+    let p = clear.playable in
+    let came = come words source (length old) (faulted meter old new) course sink s result Again p asks in
+    let how = back-from text meter image old new lost h s sink status course result came.0 came.1 ensues back in
+    law true words source (length old) (faulted meter old new) lost sink status h course result asks ensues s (record {
+      playable = p;
+      opened = all-opened text meter image old new lost h s clear.opened course how;
+      turns = enough-turns text meter image old new lost h s earlier clear.is_earlier clear.left clear.turns course how;
+      journal = kept-journal text meter image old new lost h s earlier clear.is_earlier clear.left clear.journal course how;
+      room = clear.room;
+    })

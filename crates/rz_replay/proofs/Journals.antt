@@ -1,0 +1,173 @@
+-- The disk of a journal behind those of the nodes, and how a journal ends a play.
+use Rattle.std.proofs.Common.{ℕ, zero, suc, inl, inr, ◌⊎◌, ◌≡◌, ◌≢◌, ◌+◌, ◌<◌, ◌≤◌, Bool, true, false, IsTrue, List, [], ◌∷◌, ◌++◌, Option, Some, None, length, refl, sym, ap, ◌∙◌, subst, arith}
+use Rattle.mj_angles.specs.declared.layout.Layout.{Layout}
+use Rattle.rz_disk.specs.Meter.{Meter, faults, Rises as HasRisen}
+use Rattle.rz_events.specs.Volume.{Volume}
+use Rattle.rz_events.specs.declared.files.NodeSpec.{NodeSpec}
+use Rattle.rz_events.specs.declared.events.Event.{Event}
+use Rattle.rz_script.specs.declared.line.Line.{Line}
+use Rattle.rz_formatting.specs.Formatted.{AreBack}
+use Rattle.rz_stations.specs.Meters.{AreDisksCounted, faults_at}
+use Rattle.rz_metadata.specs.declared.metadata.Metadata.{Metadata}
+use Rattle.rz_metadata.specs.declared.metadata.Metadata.TheVariants.{InMemory, Journaled}
+use Rattle.rz_metadata.specs.declared.journaled.Refusal.{Refusal}
+use Rattle.rz_metadata.specs.declared.journaled.Refusal.TheVariants.{Full, Failed}
+use Rattle.rz_metadata.specs.Stands.{disk_of, is_journaled}
+use Rattle.rz_core.specs.Legal.{IsLegalInRuns}
+use Rattle.rz_driver.specs.Continued.{AreLeft}
+use Rattle.rz_driver.specs.Endings.{EndsAsRefused, StandsForLog, end_by}
+use Rattle.rz_lines.specs.Ends.{EndsBy}
+use Rattle.rz_lines.specs.declared.lines.PlayEnd.{PlayEnd}
+use Rattle.rz_lines.specs.declared.lines.PlayEnd.TheVariants as ends
+use Rattle.rz_request.specs.Requests.{nodes_in}
+use Rattle.rz_request.specs.declared.wishes.Request.{Request}
+use Rattle.rz_request.specs.declared.wishes.Wish.{Wish}
+use Rattle.rz_request.specs.declared.wishes.Wish.TheVariants as wishes
+use Rattle.rz_perform.specs.Replays.{Course, Faulted, HasJournal, MayEnd}
+use Rattle.rz_perform.specs.Scrubs.{BetweenTurns}
+use Rattle.rz_replay.specs.Disks.{AreAllBack, AreBackAgain, AreBackFrom, AreFaultsTold, AreImagesTold, IsJournalLeft, LeavesNext, MayFollow, asked_in, refused_by}
+
+-- Without a journal.
+
+-- no journal ends a play
+pub plain-end : (end why : PlayEnd) (r : Request) (disks : Faulted) (journaled : Bool) → journaled ≡ false → EndsBy journaled why end → MayEnd end r disks
+plain-end ends.Ended why r disks journaled is cut = tt
+plain-end ends.TooManyTurns why r disks journaled is cut = tt
+plain-end ends.NoMemory why r disks journaled is cut = tt
+plain-end ends.Journal why r disks journaled is cut = let journal : IsTrue journaled = cut.1 in cc
+plain-end ends.JournalFull why r disks journaled is cut = let journal : IsTrue journaled = cut.1 in cc
+
+-- the disks are those of the nodes
+pub plain-back : {D : Type 0} (tells : Bool) (text : D → List ℕ) (meter : D → Meter) (image : D → List ℕ → Type 0) (course : Course) (wish : Wish) (v : Volume) (lines : List Line) (lost : ℕ) (old new : List D) (h : List Event)
+    → wish ≢ wishes.First → wish ≢ wishes.Again
+    → AreFaultsTold meter v old new (asked_in course ++ h) × AreImagesTold tells meter image course v old new h → AreBackFrom tells text meter image course wish v lines lost old new h
+plain-back tells text meter image course wishes.Replay v lines lost old new h plain anew back = back
+plain-back tells text meter image course (wishes.Load seed) v lines lost old new h plain anew back = back
+plain-back tells text meter image course wishes.Scrub v lines lost old new h plain anew back = back
+plain-back tells text meter image course wishes.First v lines lost old new h plain anew back = absurd (plain refl)
+plain-back tells text meter image course wishes.Again v lines lost old new h plain anew back = absurd (anew refl)
+
+-- with one, that of the journal is behind them
+module _ {D : Type 0} (tells : Bool) (text : D → List ℕ) (meter : D → Meter) (image : D → List ℕ → Type 0) (course : Course) (wish : Wish) (v : Volume) (lines : List Line) (lost : ℕ) (old new : List D) (h : List Event) where
+  pub first-back : wish ≡ wishes.First → AreAllBack tells meter image course v old new h → AreBackFrom tells text meter image course wish v lines lost old new h
+  first-back is back = subst (λ (w : Wish). AreBackFrom tells text meter image course w v lines lost old new h) (sym is) back
+
+  pub again-back : wish ≡ wishes.Again → AreBackAgain tells text meter image course v lines lost old new h → AreBackFrom tells text meter image course wish v lines lost old new h
+  again-back is back = subst (λ (w : Wish). AreBackFrom tells text meter image course w v lines lost old new h) (sym is) back
+
+-- The last of some disks.
+
+module _ {D : Type 0} where
+  pub split-last : (n : ℕ) (disks : List D) → length disks ≡ n + 1 → (nodes : List D) × (last : D) × (disks ≡ nodes ++ last ∷ []) × (length nodes ≡ n)
+  split-last n [] count = absurd (omega (arith, count))
+  split-last zero (d ∷ []) count = ([], d, refl, refl)
+  split-last zero (d ∷ e ∷ disks) count = absurd (omega (arith, count))
+  split-last (suc n) (d ∷ disks) count =
+      let more = split-last n disks (omega (arith, count)) in (d ∷ more.0, more.1, ap (λ (xs : List D). d ∷ xs) more.2, ap suc more.3)
+
+  pub length-joined : (nodes : List D) (last : D) → length (nodes ++ last ∷ []) ≡ length nodes + 1
+  length-joined [] last = refl
+  length-joined (d ∷ nodes) last = let more = length-joined nodes last in omega (arith, more)
+
+  -- a journal has a disk
+  pub has-disk : (m : Metadata D) → is_journaled m ≡ true → (disk : D) × (disk_of m ≡ Some disk)
+  has-disk (InMemory s) is = cc
+  has-disk (Journaled j) is = (j.journal.disk, refl)
+
+  module _ (meter : D → Meter) where
+    pub at-last : (nodes : List D) (last : D) → faults_at meter (nodes ++ last ∷ []) (length nodes) ≡ faults (meter last)
+    at-last [] last = refl
+    at-last (d ∷ nodes) last = at-last nodes last
+
+    pub at-front : (nodes : List D) (last : D) (k : ℕ) → k < length nodes → faults_at meter (nodes ++ last ∷ []) k ≡ faults_at meter nodes k
+    at-front [] last k lt = absurd (omega (arith, lt))
+    at-front (d ∷ nodes) last zero lt = refl
+    at-front (d ∷ nodes) last (suc k) lt = at-front nodes last k (omega (arith, lt))
+
+    pub counted-length : (first : ℕ → ℕ) (i : ℕ) (numbers : List ℕ) (disks : List D) (h : List Event) → AreDisksCounted meter first i numbers disks h → length disks ≡ length numbers
+    counted-length first i [] [] h all = refl
+    counted-length first i [] (d ∷ disks) h all = absurd all
+    counted-length first i (n ∷ numbers) [] h all = absurd all
+    counted-length first i (n ∷ numbers) (d ∷ disks) h all = ap suc (counted-length first (i + 1) numbers disks h all.2)
+
+    -- no count fell
+    pub all-back-faults : (tells : Bool) (image : D → List ℕ → Type 0) (layout : Layout) (nodes : List NodeSpec) (old new : List D) (o n : D) → length old ≡ length nodes → AreBack tells meter image layout nodes old new
+        → faults (meter o) ≤ faults (meter n) → (i : ℕ) → faults_at meter (old ++ o ∷ []) i ≤ faults_at meter (new ++ n ∷ []) i
+    all-back-faults tells image layout [] [] [] o n count all last zero = last
+    all-back-faults tells image layout [] [] [] o n count all last (suc i) = omega arith
+    all-back-faults tells image layout [] [] (y ∷ new) o n count all last i = absurd all
+    all-back-faults tells image layout [] (x ∷ old) new o n count all last i = absurd (omega (arith, count))
+    all-back-faults tells image layout (s ∷ nodes) [] new o n count all last i = absurd (omega (arith, count))
+    all-back-faults tells image layout (s ∷ nodes) (x ∷ old) [] o n count all last i = absurd all
+    all-back-faults tells image layout (s ∷ nodes) (x ∷ old) (y ∷ new) o n count all last zero = all.0.count
+    all-back-faults tells image layout (s ∷ nodes) (x ∷ old) (y ∷ new) o n count all last (suc i) = all-back-faults tells image layout nodes old new o n (omega (arith, count)) all.1 last i
+
+-- Behind a journal.
+
+-- the end of a play that was cut off tells what the journal refused
+refused : (end : PlayEnd) (refusal : Option Refusal) → end ≡ end_by refusal → refusal ≡ refused_by end
+refused end None is = ap refused_by (sym is)
+refused end (Some Full) is = ap refused_by (sym is)
+refused end (Some Failed) is = ap refused_by (sym is)
+
+module _ (tells : Bool) (image : List ℕ → Type 0) (first now : ℕ) (v : Volume) (h : List Event) where
+  ends-so : (end : PlayEnd) (refusal : Option Refusal) → end ≡ end_by refusal → EndsAsRefused refusal tells image first now v h → EndsAsRefused (refused_by end) tells image first now v h
+  ends-so end refusal is ended = let P : Option Refusal → Type 0 = λ r. EndsAsRefused r tells image first now v h in subst P (refused end refusal is) ended
+
+  failed-so : EndsAsRefused (refused_by ends.Journal) tells image first now v h → HasRisen first now
+  failed-so ended = ended.ends.0
+
+-- a journal ends a play of `first`
+pub first-end : (end : PlayEnd) (refusal : Option Refusal) (journaled : Bool) (r : Request) (disks : Faulted) (tells : Bool) (image : List ℕ → Type 0) (v : Volume) (h : List Event)
+    → r.wish ≡ wishes.First → EndsBy journaled (end_by refusal) end → EndsAsRefused refusal tells image (disks.old (nodes_in r.script)) (disks.new (nodes_in r.script)) v h → MayEnd end r disks
+first-end ends.Ended refusal journaled r disks tells image v h first cut ended = tt
+first-end ends.TooManyTurns refusal journaled r disks tells image v h first cut ended = tt
+first-end ends.NoMemory refusal journaled r disks tells image v h first cut ended = tt
+first-end ends.JournalFull refusal journaled r disks tells image v h first cut ended = subst HasJournal (sym first) tt
+first-end ends.Journal refusal journaled r disks tells image v h first cut ended =
+    (subst HasJournal (sym first) tt, λ is. failed-so tells image (disks.old (nodes_in r.script)) (disks.new (nodes_in r.script)) v h (ends-so tells image (disks.old (nodes_in r.script)) (disks.new (nodes_in r.script)) v h ends.Journal refusal cut.0 ended))
+
+-- and one of `again`
+pub again-end : (end : PlayEnd) (r : Request) (disks : Faulted) → r.wish ≡ wishes.Again → MayEnd end r disks
+again-end ends.Ended r disks again = tt
+again-end ends.TooManyTurns r disks again = tt
+again-end ends.NoMemory r disks again = tt
+again-end ends.JournalFull r disks again = subst HasJournal (sym again) tt
+again-end ends.Journal r disks again = (subst HasJournal (sym again) tt, λ first. let other : wishes.First ≡ wishes.Again = sym first ∙ again in cc)
+
+module _ {D : Type 0} (tells : Bool) (meter : D → Meter) (image : D → List ℕ → Type 0) (v : Volume) (old new : D) (h : List Event) where
+  pub journal-left : (end : PlayEnd) (refusal : Option Refusal) (journaled : Bool) → EndsBy journaled (end_by refusal) end → BetweenTurns end (IsTrue tells → StandsForLog (image new) v h)
+      → EndsAsRefused refusal tells (image new) (faults (meter old)) (faults (meter new)) v h → IsJournalLeft tells meter image end v old new h
+  journal-left ends.Ended refusal journaled cut stands ended = stands
+  journal-left ends.TooManyTurns refusal journaled cut stands ended = stands
+  journal-left ends.NoMemory refusal journaled cut stands ended = ends-so tells (image new) (faults (meter old)) (faults (meter new)) v h ends.NoMemory refusal cut.0 ended
+  journal-left ends.Journal refusal journaled cut stands ended = ends-so tells (image new) (faults (meter old)) (faults (meter new)) v h ends.Journal refusal cut.0 ended
+  journal-left ends.JournalFull refusal journaled cut stands ended = ends-so tells (image new) (faults (meter old)) (faults (meter new)) v h ends.JournalFull refusal cut.0 ended
+
+-- what goes from one to the other between two turns does so where a play ended between two turns
+pub between-on : (end : PlayEnd) (so then : Type 0) → (so → then) → BetweenTurns end so → BetweenTurns end then
+between-on ends.Ended so then on h = on h
+between-on ends.TooManyTurns so then on h = on h
+between-on ends.NoMemory so then on h = tt
+between-on ends.Journal so then on h = tt
+between-on ends.JournalFull so then on h = tt
+
+-- What a run leaves for the next.
+
+-- where a play ended between two turns the stage holds, and where the journal was full it says so
+pub whole-end : (Holds Leaves : Type 0) (end : PlayEnd) (refusal : Option Refusal) (journaled : Bool) → EndsBy journaled (end_by refusal) end → BetweenTurns end Holds → Leaves → LeavesNext end (Holds ⊎ (Leaves × (refusal ≡ Some Full)))
+whole-end Holds Leaves ends.Ended refusal journaled cut holds left = inl holds
+whole-end Holds Leaves ends.TooManyTurns refusal journaled cut holds left = inl holds
+whole-end Holds Leaves ends.JournalFull refusal journaled cut holds left = inr (left, refused ends.JournalFull refusal cut.0)
+whole-end Holds Leaves ends.NoMemory refusal journaled cut holds left = tt
+whole-end Holds Leaves ends.Journal refusal journaled cut holds left = tt
+
+pub next-on : (end : PlayEnd) (so then : Type 0) → (so → then) → LeavesNext end so → LeavesNext end then
+next-on ends.Ended so then on h = on h
+next-on ends.TooManyTurns so then on h = on h
+next-on ends.JournalFull so then on h = on h
+next-on ends.NoMemory so then on h = tt
+next-on ends.Journal so then on h = tt
+
+pub may-follow : {D : Type 0} (image : D → List ℕ → Type 0) (v : Volume) (h : List Event) (disks : List D) → IsLegalInRuns v h → AreLeft image v h disks → MayFollow image v h disks
+may-follow image v h disks legal left = record { earlier = λ few there. record { legal = legal; few = few; there = there }; left = left }

@@ -1,0 +1,276 @@
+use Rattle.std.proofs.Common.{◌≡◌, ◌-◌, ◌++◌, ◌∷◌, ◌<◌, ◌^◌, ℕ, true, false, IsTrue, List, [], Option, Some, length, reverse, refl, sym, ap, ◌∙◌, subst, inl, inr, arith}
+use Rattle.std.specs.Prelude.{option_to_list}
+use Rattle.std.proofs.lemmas.List.{reverse-reverse}
+use Rattle.rz_disk.specs.Meter.{faults}
+use Rattle.rz_disk.specs.UnderFuse.{UnderFuse}
+use Rattle.rz_seats.specs.declared.shared.Shared.{Shared}
+use Rattle.rz_driver.specs.Continued.{AreLeft, IsCauseAgain}
+use Rattle.rz_driver.specs.Endings.{EndsAsRefused, StandsForLog}
+use Rattle.rz_driver.specs.Worlds.{Holds, Leaves, exact_if, is_exact, left_behind, tells-exactly, world_of}
+use Rattle.rz_continuation.specs.Earlier.{IsEarlier, IsRestarted}
+use Rattle.rz_events.specs.Volume.{Volume, nodes_of}
+use Rattle.rz_events.specs.declared.events.Event.{Event}
+use Rattle.rz_formatting.specs.Formatted.{disks_of}
+use Rattle.rz_metadata.specs.Stands.{disk_of, export_in, is_journaled, refusal_of}
+use Rattle.rz_formatting.specs.Opened.{AreKept}
+use Rattle.rz_script.specs.declared.line.Line.{Line}
+use Rattle.rz_stations.specs.Meters.{faults_at}
+use Rattle.rz_stations.specs.Stations.{state_in}
+use Rattle.rz_core.specs.HeldRecords.{block_of}
+use Rattle.rz_core.specs.History.{facts}
+use Rattle.rz_core.specs.Legal.{IsLegalInRuns}
+use Rattle.rz_scrub_laws.specs.Untouched.{text_in}
+use Rattle.rz_play.specs.World.{World, world_after}
+use Rattle.rz_play.specs.Played.{IsBegunFrom}
+use Rattle.rz_play_laws.specs.Fine.{IsFine, MayBegin}
+use Rattle.rz_play_laws.specs.Runs.{IsRunAfter}
+use Rattle.rz_lines.specs.Behind.{Before, behind}
+use Rattle.rz_lines.specs.Ends.{IsEnded}
+use Rattle.rz_lines.specs.declared.lines.PlayEnd.{PlayEnd}
+use Rattle.rz_perform.specs.Output.{Sunk}
+use Rattle.rz_perform.specs.Replays.{Performed}
+use Rattle.rz_perform.specs.Scrubs.{BetweenTurns}
+use Rattle.rz_perform.specs.Telling.{IsPlayOf, TellsOwn}
+use Rattle.rz_perform.proofs.Anew.{told_own}
+use Rattle.rz_request.specs.declared.wishes.Wish.TheVariants.{Again, Scrub}
+use Rattle.rz_replay.specs.Disks.{AreFaultsTold, AreImagesTold, AreLocksKept, AreUsedAgain, IsJournalLeft, IsPlayAfter, LeavesNext, MayFollow, faulted}
+use Rattle.rz_replay.proofs.Continuing.{any_told, not-reopened, own_as}
+use Rattle.rz_replay.proofs.Journals.{again-back, again-end, at-last, between-on, has-disk, journal-left, may-follow, next-on, split-last, whole-end}
+use Rattle.rz_replay.proofs.replay.play_again.Given as given
+use Rattle.rz_replay.proofs.replay.play_again.Goals as goal
+
+pub perform-status-requires-clause-new : goal.perform-status-requires-clause-new
+perform-status-requires-clause-new g c = (state_in c.in-Ok.driver.shared.stations.items, export_in c.in-Ok.driver.shared.export, c.in-Ok.ensures.opened.world)
+
+pub perform-status-requires-clause-rules : goal.perform-status-requires-clause-rules
+perform-status-requires-clause-rules g c = c.keeps_rules.ensures.volume
+
+pub perform-status-requires-clause-stage : goal.perform-status-requires-clause-stage
+perform-status-requires-clause-stage g c = record {
+  described_is = λ d. refl;
+  state_is = λ d h. refl;
+  open_is = λ d ready. ready;
+  counted = λ d b held. held.0;
+  short = λ d b held. held.3.short;
+  log_is = λ d e asked. ap (λ (s : Shared (UnderFuse g.row.D.Denot) g.row.D.Denot). s.log.events) asked.shared;
+  journal_is = λ d e asked. ap (λ (s : Shared (UnderFuse g.row.D.Denot) g.row.D.Denot). is_journaled s.export) asked.shared;
+  exact_is = λ d e asked. ap (λ (s : Shared (UnderFuse g.row.D.Denot) g.row.D.Denot). exact_if g.D.Disk.tells s.log.earlier) asked.shared;
+  whole = λ d b ready held tells few after l is. (
+    block_of d.volume.layout (text_in ((facts (d.shared.log.events ++ b.log)).wrote l.published.stamp)),
+    c.untouched.ensures d.volume b.log (world_of d) d.seats.items d.shared.stations.items refl (held.1 tells few) tells after l is,
+  );
+}
+
+-- only a scrub asks for records after a play
+no-scrub : (g : given.Over) (c : goal.After-drop-disks g) → c.args.request.now.wish ≡ Scrub → ⊥
+no-scrub g c scrubs = let again : c.args.request.now.wish ≡ Again = c.requires.again in cc
+
+-- what the performance left behind a log that the driver went on after
+module _ (g : given.Over) (c : goal.After-drop-disks g) where
+  abbrev counts : ℕ → ℕ
+  counts = faults_at g.D.Disk.meter c.args.disks.now.items
+
+  abbrev volume : Volume
+  volume = c.args.request.now.script.volume
+
+  abbrev log : List Event
+  log = c.perform-status.new.stage.shared.log.events
+
+  abbrev lost : ℕ
+  lost = g.L.Link.lost c.perform-status.new.link - g.L.Link.lost c.args.link.now
+
+  abbrev end : PlayEnd
+  end = c.perform-status.ensures.performed.0
+
+  lent : c.replace-lent.result.items ≡ c.args.disks.now.items
+  lent = rw c.replace-lent.ensures.value refl
+
+  driver_volume : c.in-Ok.driver.volume ≡ volume
+  driver_volume = c.in-Ok.ensures.volume ∙ c.volume-volume.ensures
+
+  volume_is : c.perform-status.new.stage.volume ≡ volume
+  volume_is = c.perform-status.ensures.volume ∙ driver_volume
+
+  abbrev back : List g.row.D.Denot
+  back = disks_of c.perform-status.new.stage.shared.stations.items
+
+  world_is : world_of c.in-Ok.driver ≡ world_after (state_in c.in-Ok.driver.shared.stations.items) (export_in c.in-Ok.driver.shared.export) []
+  world_is = c.in-Ok.ensures.opened.world
+
+  -- over disks that tell their texts the driver holds with each log that the disks were left with
+  went_on : IsTrue g.D.Disk.tells → (h : List Event) → IsEarlier volume h → AreLeft g.D.Disk.image volume h c.args.disks.now.items
+      → (old : List Event) × IsRestarted volume h old × Holds c.in-Ok.driver (left_behind counts old)
+  went_on =
+      let K : Volume → List g.row.D.Denot → Type 0 = λ v xs. IsTrue g.D.Disk.tells → (h : List Event) → IsEarlier v h → AreLeft g.D.Disk.image v h xs
+      → (old : List Event) × IsRestarted v h old × Holds c.in-Ok.driver (left_behind (faults_at g.D.Disk.meter xs) old) in
+      subst (λ (v : Volume). K v c.args.disks.now.items) c.volume-volume.ensures (subst (λ (xs : List g.row.D.Denot). K c.volume-volume.result.now xs) lent c.in-Ok.ensures.held)
+
+  -- over others it holds with any
+  untold : g.D.Disk.tells ≡ false → Holds c.in-Ok.driver (left_behind counts [])
+  untold silent = subst (λ (xs : List g.row.D.Denot). Holds c.in-Ok.driver (left_behind (faults_at g.D.Disk.meter xs) [])) lent (c.in-Ok.ensures.untold silent [] (omega arith))
+
+  module _ (old : List Event) (held : Holds c.in-Ok.driver (left_behind counts old)) where
+    before : Before
+    before = left_behind counts old
+
+    left_by : Leaves c.perform-status.new.stage (left_behind counts old)
+    left_by = elim c.perform-status.ensures.performed.2 [
+      | inl plays ↦ plays.1 (left_behind counts old) held
+      | inr asks ↦ absurd (no-scrub g c asks.1)
+    ]
+
+    holds_by : BetweenTurns end (Holds c.perform-status.new.stage (left_behind counts old))
+    holds_by = elim c.perform-status.ensures.performed.2 [
+      | inl plays ↦ between-on end _ (Holds c.perform-status.new.stage (left_behind counts old)) (λ on. on (left_behind counts old) held) plays.2
+      | inr asks ↦ absurd (no-scrub g c asks.1)
+    ]
+
+    counted : AreFaultsTold g.D.Disk.meter volume c.args.disks.now.items back log
+    counted = subst (λ (v : Volume). AreFaultsTold g.D.Disk.meter v c.args.disks.now.items back log) volume_is (c.close_all-log.ensures.counted (left_behind counts old) left_by)
+
+    module _ (telling : IsTrue g.D.Disk.tells) where
+      is-exact : is_exact c.in-Ok.driver ≡ true
+      is-exact = tells-exactly c.in-Ok.driver telling
+
+      imaged : AreImagesTold g.D.Disk.tells g.D.Disk.meter g.D.Disk.image (Performed end []) volume c.args.disks.now.items back (log ++ old)
+      imaged = subst (λ (v : Volume). AreImagesTold g.D.Disk.tells g.D.Disk.meter g.D.Disk.image (Performed end []) v c.args.disks.now.items back (log ++ old)) volume_is
+          (c.close_all-log.ensures.imaged (left_behind counts old) left_by)
+
+      left_journal : (nodes : List g.row.D.Denot) (journal disk : g.row.D.Denot) → c.args.disks.now.items ≡ nodes ++ journal ∷ [] → length nodes ≡ length (nodes_of volume.clusters)
+          → disk_of c.perform-status.new.stage.shared.export ≡ Some disk → IsJournalLeft g.D.Disk.tells g.D.Disk.meter g.D.Disk.image end volume journal disk (log ++ old)
+      left_journal nodes journal disk are count is =
+          let meter = g.D.Disk.meter in
+          let refusal = refusal_of c.perform-status.new.stage.shared.export in
+          let was : counts (length (nodes_of volume.clusters)) ≡ faults (meter journal) =
+          ap counts (sym count) ∙ ap (λ (xs : List g.row.D.Denot). faults_at meter xs (length nodes)) are ∙ at-last meter nodes journal in
+          let E : Volume → Type 0 = λ v. EndsAsRefused refusal g.D.Disk.tells (g.D.Disk.image disk) (counts (length (nodes_of v.clusters))) (faults (meter disk)) v (log ++ old) in
+          let ended : E volume = subst E volume_is (c.close_all-log.ensures.ends (left_behind counts old) disk left_by (c.perform-status.ensures.exact ∙ is-exact) is) in
+          let S : Volume → Type 0 = λ v. IsTrue g.D.Disk.tells → StandsForLog (g.D.Disk.image disk) v (log ++ old) in
+          let stands : BetweenTurns end (S volume) = between-on end _ (S volume) (λ holding. subst S volume_is (c.close_all-log.ensures.stands (left_behind counts old) disk holding is)) holds_by in
+          journal-left g.D.Disk.tells meter g.D.Disk.image volume journal disk (log ++ old) end refusal _ c.perform-status.ensures.performed.3 stands
+          (subst (λ (k : ℕ). EndsAsRefused refusal g.D.Disk.tells (g.D.Disk.image disk) k (faults (meter disk)) volume (log ++ old)) was ended)
+
+      plays : IsPlayOf g.D.Disk.tells volume (behind old (world_of c.in-Ok.driver)) c.args.request.now.script.lines end lost (log ++ old) log
+      plays = c.perform-status.ensures.performed.4.1 (left_behind counts old) held is-exact
+
+      few : length (c.in-Ok.driver.shared.log.events ++ old) < 2 ^ 64 - 1
+      few =
+          let short = held.3.short in
+          let none : c.in-Ok.driver.shared.log.events ≡ [] = ap (λ (w : World). w.log) world_is in
+          subst (λ (h : List Event). length (h ++ old) < 2 ^ 64 - 1) (sym none) (omega (arith, short))
+
+      fine : IsFine volume old (world_after (state_in c.in-Ok.driver.shared.stations.items) (export_in c.in-Ok.driver.shared.export) old)
+      fine = subst (λ (w : World). IsFine volume old (behind old w)) world_is (subst (λ (v : Volume). IsFine v old (behind old (world_of c.in-Ok.driver))) driver_volume (held.1 telling few).fine)
+
+      played : IsPlayAfter volume old c.args.request.now.script.lines end lost (log ++ old)
+      played =
+          let E : World → Type 0 = λ w. IsEnded volume (behind old w) c.args.request.now.script.lines end lost (log ++ old) in
+          record {
+            nodes = state_in c.in-Ok.driver.shared.stations.items;
+            export = export_in c.in-Ok.driver.shared.export;
+            fine = fine;
+            ended = subst E world_is (plays.0 telling);
+          }
+
+      begun : IsBegunFrom volume (world_after played.nodes played.export old) c.args.request.now.script.lines (log ++ old)
+      begun = c.begins.ensures volume (world_after played.nodes played.export old) c.args.request.now.script.lines end lost (log ++ old) played.ended
+
+      run_after : IsRunAfter volume old (log ++ old)
+      run_after =
+          let short = held.3.short in
+          c.afterwards.ensures volume c.args.request.now.script.lines c.keeps_rules.ensures played.nodes played.export old played.fine (omega (arith, short)) (log ++ old) begun
+
+      -- and what locks promise
+      kept : (earlier : List Event) → IsEarlier volume earlier → IsRestarted volume earlier old → length old < 2 ^ 63 → AreLocksKept volume old c.args.request.now.script.lines (log ++ old)
+      kept earlier is (took, may, restarted_is) below =
+          let restart = c.restarting.ensures volume c.keeps_rules.ensures.volume earlier is took may in
+          let may_begin : MayBegin volume played.nodes played.export old = record {
+            legal = subst (IsLegalInRuns volume) (sym restarted_is) restart.legal;
+            nodes_are = played.fine.nodes_are;
+            export_is = played.fine.export_is;
+            few = below;
+          } in
+          (begun.last, c.after.ensures volume c.args.request.now.script.lines c.keeps_rules.ensures played.nodes played.export old may_begin (log ++ old) begun)
+
+      -- what is left for the next run
+      next_run : LeavesNext end (MayFollow g.D.Disk.image volume (log ++ old) c.close_all-log.result.1.items)
+      next_run =
+          let new = c.close_all-log.result.1.items in
+          let stage = c.perform-status.new.stage in
+          let it = run_after in
+          let legal : IsLegalInRuns volume (log ++ old) = subst (IsLegalInRuns volume) (sym it.log_is) (c.next_run.ensures volume old it.run it.legal) in
+          next-on end _ (MayFollow g.D.Disk.image volume (log ++ old) new)
+          (λ whole.
+          let left = c.close_all-log.ensures.left (left_behind counts old) whole (c.perform-status.ensures.journal ∙ c.in-Ok.ensures.journal) telling in
+          may-follow g.D.Disk.image volume (log ++ old) new legal (subst (λ (v : Volume). AreLeft g.D.Disk.image v (log ++ old) new) volume_is left))
+          (whole-end (Holds stage (left_behind counts old)) (Leaves stage (left_behind counts old)) end (refusal_of stage.shared.export) _ c.perform-status.ensures.performed.3 holds_by left_by)
+
+pub returns-in-Ok : goal.returns-in-Ok
+returns-in-Ok g c =
+    let lines : List Line = c.args.request.now.script.lines in
+    let sink : Sunk = record {
+      before = g.O.Sink.taken c.args.output.now;
+      after = g.O.Sink.taken c.perform-status.new.output;
+      old = g.O.Sink.faults c.args.output.now;
+      new = g.O.Sink.faults c.perform-status.new.output;
+    } in
+    let later : List Event = c.perform-status.ensures.performed.1 in
+    let log_is : reverse c.close_all-log.result.0.items ≡ log g c = ap reverse c.close_all-log.ensures.log ∙ reverse-reverse (log g c) in
+    let old : List g.row.D.Denot = c.args.disks.now.items in
+    let new : List g.row.D.Denot = c.close_all-log.result.1.items in
+    let split = split-last (length (nodes_of (volume g c).clusters)) old c.requires.count in
+    let disk = has-disk c.perform-status.new.stage.shared.export (c.perform-status.ensures.journal ∙ c.in-Ok.ensures.journal) in
+    let new_is : new ≡ back g c ++ disk.0 ∷ [] = c.close_all-log.ensures.disks ∙ ap (λ (d : Option g.row.D.Denot). back g c ++ option_to_list d) disk.1 in
+    let used : AreUsedAgain g.D.Disk.tells g.D.Disk.meter g.D.Disk.image (end g c) (volume g c) lines (lost g c) old new (log g c) = record {
+      nodes = split.0;
+      journal = split.1;
+      old_are = split.2;
+      nodes_back = back g c;
+      journal_back = disk.0;
+      new_are = new_is;
+      untold = λ silent. counted g c [] (untold g c silent);
+      goes_on = λ telling earlier is are.
+          let on = went_on g c telling earlier is are in
+          record {
+            old = on.0;
+            restarted = on.1;
+            played = played g c on.0 on.2 telling;
+            run = run_after g c on.0 on.2 telling;
+            kept = kept g c on.0 on.2 telling earlier is on.1;
+            losses = (plays g c on.0 on.2 telling).2;
+            faults_told = counted g c on.0 on.2;
+            images_told = imaged g c on.0 on.2 telling;
+            journal_told = left_journal g c on.0 on.2 telling split.0 split.1 disk.0 split.2 split.3 disk.1;
+            next = subst (λ (xs : List g.row.D.Denot). LeavesNext (end g c) (MayFollow g.D.Disk.image (volume g c) (log g c ++ on.0) xs)) new_is (next_run g c on.0 on.2 telling);
+          };
+    } in
+    let U : List Event → Type 0 = λ h. AreUsedAgain g.D.Disk.tells g.D.Disk.meter g.D.Disk.image (end g c) (volume g c) lines (lost g c) old new h in
+    let own : TellsOwn (end g c) c.args.request.now.wish later (log g c) sink c.perform-status.result =
+    told_own (Holds c.in-Ok.driver) (is_exact c.in-Ok.driver) g.D.Disk.tells (volume g c) (world_of c.in-Ok.driver) lines c.args.request.now.wish (end g c) later (lost g c) (log g c) sink c.perform-status.result
+    c.perform-status.ensures.performed.4 in
+    let T : List Event → Type 0 = λ h. TellsOwn (end g c) c.args.request.now.wish later h sink c.perform-status.result in (
+      Performed (end g c) later,
+      (
+        (
+          again-end (end g c) c.args.request.now (faulted g.D.Disk.meter old new) c.requires.again,
+          own_as g.D.Disk.tells (volume g c) lines c.args.request.now.wish (end g c) later (lost g c) _ sink c.perform-status.result c.requires.again (subst T (sym log_is) own),
+        ),
+        λ telling. any_told c.args.request.now.wish (volume g c) lines (lost g c) _ c.requires.again,
+      ),
+      again-back g.D.Disk.tells g.D.Disk.text g.D.Disk.meter g.D.Disk.image (Performed (end g c) later) c.args.request.now.wish (volume g c) lines (lost g c) old new _ c.requires.again (subst U (sym log_is) used),
+    )
+
+pub returns-in-Err : goal.returns-in-Err
+returns-in-Err g c =
+    let sink : Sunk = record {
+      before = g.O.Sink.taken c.args.output.now;
+      after = g.O.Sink.taken c.refuse_opening-status.new.output;
+      old = g.O.Sink.faults c.args.output.now;
+      new = g.O.Sink.faults c.refuse_opening-status.new.output;
+    } in
+    let lent_is : c.replace-lent.result.items ≡ c.args.disks.now.items = rw c.replace-lent.ensures.value refl in
+    let kept : AreKept g.D.Disk.meter g.D.Disk.text g.D.Disk.image c.args.disks.now.items c.in-Err.back.items = rw (← lent_is) c.in-Err.ensures.back in
+    let why : IsCauseAgain g.D.Disk.tells g.D.Disk.meter g.D.Disk.text g.D.Disk.image c.args.request.now.script.volume c.args.disks.now.items c.in-Err.back.items c.in-Err.why =
+    rw (← lent_is, ← c.volume-volume.ensures) c.in-Err.ensures.cause in
+    not-reopened g.D.Disk.tells g.D.Disk.text g.D.Disk.meter g.D.Disk.image c.args.request.now c.args.disks.now.items c.in-Err.back.items (g.L.Link.lost c.args.link.now - g.L.Link.lost c.args.link.now) sink
+    c.unplayed.result.status (reverse c.unplayed.result.log.items) c.in-Err.why c.requires.again kept why (rw c.unplayed.ensures.status c.refuse_opening-status.ensures) (ap reverse c.unplayed.ensures.log)

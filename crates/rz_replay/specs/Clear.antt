@@ -1,0 +1,38 @@
+-- When nothing stands in the way of a replay that goes on after earlier runs, so that it comes to its end.
+use Rattle.std.specs.Prelude.{ℕ, true, ◌≡◌, ◌⊎◌, List, [], ◌∷◌, ◌++◌, Option, Result, length}
+use Rattle.rz_disk.specs.Meter.{Meter, Rises, faults}
+use Rattle.rz_request.specs.Line.{Meaning}
+use Rattle.rz_events.specs.declared.events.Event.{Event}
+use Rattle.rz_script.specs.Scripts.{Script}
+use Rattle.rz_continuation.specs.Earlier.{IsEarlier, IsRestarted}
+use Rattle.rz_formatting.specs.declared.refusal.OpenRefusal.TheVariants.{Open}
+use Rattle.rz_driver.specs.Continued.{AreLeft, IsCauseAgain}
+use Rattle.rz_lines.specs.declared.lines.PlayEnd.TheVariants.{TooManyTurns, JournalFull}
+use Rattle.rz_request.specs.Requests.{Asks, Reading}
+use Rattle.rz_request.specs.declared.refusal.Stop.{Stop}
+use Rattle.rz_request.specs.declared.wishes.Request.{Request}
+use Rattle.rz_request.specs.declared.wishes.Wish.TheVariants.{Again}
+use Rattle.rz_perform.specs.Clear.{IsPlayable, IsFinishedAgain}
+use Rattle.rz_perform.specs.Output.{Sunk, Lacks}
+use Rattle.rz_perform.specs.Replays.{Course, Performed, Ensues}
+use Rattle.rz_replay.specs.Disks.{HandsBack, IsPlayAfter, faulted}
+
+-- The words wish for the script to go on over disks as earlier runs with this log left them, of which none is such that it does not
+-- open. No play of the script behind that log, with the nodes stopped and started, calls for a turn too many. The last disk, that of
+-- the journal, counted no fault, and no call found it full.
+pub record IsClear {D : Type 0} (text : D → List ℕ) (meter : D → Meter) (image : D → List ℕ → Type 0) (words : Option Meaning) (source : Reading) (old new : List D) (lost : ℕ) (course : Course) (sink : Sunk) (s : Script) (earlier : List Event) : Type 0 where
+  pub playable : IsPlayable words source (length old) (faulted meter old new) course sink Again s
+  pub is_earlier : IsEarlier s.volume earlier
+  pub left : AreLeft image s.volume earlier old
+  pub opened : (index cause : ℕ) → ¬ IsCauseAgain true meter text image s.volume old new (Open index cause)
+  pub turns : (before h : List Event) → IsRestarted s.volume earlier before → ¬ IsPlayAfter s.volume before s.lines TooManyTurns lost h
+  pub journal : (nodes nodes_back : List D) (disk back : D) → old ≡ nodes ++ disk ∷ [] → new ≡ nodes_back ++ back ∷ [] → ¬ Rises (faults (meter disk)) (faults (meter back))
+  pub room : (later : List Event) → ¬ (course ≡ Performed JournalFull later)
+
+-- Where nothing stands in its way, a replay that goes on after earlier runs, over disks that tell their texts, comes to its end, or
+-- memory is wanting.
+abbrev pub IsComplete : {D : Type 0} → (D → List ℕ) → (D → Meter) → (D → List ℕ → Type 0) → Type 0
+IsComplete {D = D} text meter image =
+    (words : Option Meaning) (source : Reading) (old new : List D) (lost : ℕ) (sink : Sunk) (status : ℕ) (h : List Event) (course : Course) (r : Result Request Stop)
+    → Asks words source (length old) r → Ensues true course r (faulted meter old new) lost sink status h → HandsBack true text meter image course r lost old new h
+    → (s : Script) (earlier : List Event) → IsClear text meter image words source old new lost course sink s earlier → IsFinishedAgain course sink status h ⊎ Lacks sink status
