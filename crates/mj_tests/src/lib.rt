@@ -8,6 +8,8 @@ mod batches;
 #[cfg(test)]
 mod inversions;
 #[cfg(test)]
+mod lanes;
+#[cfg(test)]
 mod layouts;
 #[cfg(test)]
 mod phantoms;
@@ -15,3 +17,5 @@ mod phantoms;
 mod projections;
 #[cfg(test)]
 mod verdicts;
+#[cfg(test)]
+mod words;

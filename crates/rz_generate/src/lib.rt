@@ -9,8 +9,6 @@
 
 mod draws;
 mod lines;
-#[cfg(test)]
-mod tests;
 mod volume;
 mod workload;
 

@@ -10,8 +10,6 @@ ghost use Rattle.std.specs.Prelude.{◌≢◌, ◌<◌, ◌≤◌, ℕ};
 
 mod memory;
 mod plain;
-#[cfg(test)]
-mod tests;
 
 pub use memory::MemLink;
 pub use plain::PlainLink;

@@ -8,8 +8,6 @@
 
 mod conflict;
 mod table;
-#[cfg(test)]
-mod tests;
 
 pub use conflict::{LockAnswer, LockKind, Range};
 pub use table::Locks;

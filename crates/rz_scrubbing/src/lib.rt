@@ -20,10 +20,9 @@ mod laws;
 mod line;
 mod scrubbing;
 mod store;
-#[cfg(test)]
-mod tests;
 
 pub use finding::Finding;
 pub use laws::{whole_blocks, whole_records, whole_scrubs};
+pub use line::push_line;
 pub use scrubbing::scrub;
 pub use store::Store;

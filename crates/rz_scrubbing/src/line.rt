@@ -38,9 +38,9 @@ fn push_finding(out: &mut Vec<u8>, layout: Layout, finding: Finding) -> Result<(
     }
 }
 
-/// Adds the line of what is found of a block.
+/// Adds the line of what is found of a block of this layout.
 #[tactic(auto, unfolding(crate::specs::Lines::line_of))]
-pub(crate) fn push_line(
+pub fn push_line(
     alloc: Global,
     out: &mut Vec<u8>,
     layout: Layout,

@@ -1,11 +1,18 @@
-//! Tests of texts: command lines, requests, scripts, printed logs and runs, the line of the command load,
-//! descriptions of volumes, and where files are placed.
+//! Tests of texts and of what stands at the edges: command lines, requests, scripts, workloads, printed logs and
+//! runs, the lines of the commands load and scrub, descriptions of volumes, where files are placed, streams, links
+//! and locks.
 //!
 //! They stand beside the crates and not in them, since a crate with tests is proved twice.
 #![tactic(auto)]
 
 #[cfg(test)]
 mod comparing;
+#[cfg(test)]
+mod generated;
+#[cfg(test)]
+mod links;
+#[cfg(test)]
+mod locks;
 #[cfg(test)]
 mod placement;
 #[cfg(test)]
@@ -18,6 +25,8 @@ mod requests;
 mod runs;
 #[cfg(test)]
 mod scripts;
+#[cfg(test)]
+mod scrubbed;
 #[cfg(test)]
 mod summaries;
 #[cfg(test)]

@@ -1,7 +1,7 @@
 //! Who gets which lock.
 ghost use Rattle.std.specs.Prelude.{◌≤◌};
 
-use crate::{LockAnswer, LockKind, Locks, Range};
+use rz_locks::{LockAnswer, LockKind, Locks, Range};
 
 const LAST: u64 = u64::MAX;
 

@@ -1,6 +1,6 @@
 //! Each kernel at lengths around those of its vectors, against single words.
 
-use super::*;
+use rz_lanes::{all_zero, first_nonzero, xor_eight, xor_into};
 use std::process::Abort;
 
 const LENGTHS: [usize; 7] = [0, 1, 7, 8, 9, 64, 258];

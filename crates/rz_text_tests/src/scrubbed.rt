@@ -1,10 +1,9 @@
-//! The text of lines.
+//! The lines of a scrub.
 
-use crate::finding::Finding;
-use crate::line::push_line;
 use mj_angles::Layout;
 use rz_events::Key;
 use rz_scrub::Verdict;
+use rz_scrubbing::{Finding, push_line};
 use std::test::Fail;
 
 /// Each finding, and the words that end its line.

@@ -1,5 +1,5 @@
 //! Which sends are lost, and that links go to other threads.
-use crate::{Link, MemLink, PlainLink, Sent};
+use rz_link::{Link, MemLink, PlainLink, Sent};
 use std::io;
 
 /// Sends once, through the bound.

@@ -1,6 +1,8 @@
 //! The draws of two seeds, and the script of the seed 1.
-use super::draws::{generator_of, next_draw};
-use super::generate;
+use rand_core::SeedableRng;
+use rand_core::utils::NextWord;
+use rand_pcg::Lcg64Xsh32;
+use rz_generate::generate;
 use sha2::{Digest, Sha256};
 use std::test::Fail;
 
@@ -51,9 +53,9 @@ fn draws(rt: HostRuntime) {
             ],
         ),
     ] {
-        let mut generator = generator_of(seed);
+        let mut generator = Lcg64Xsh32::seed_from_u64(seed);
         for word in words {
-            assert_eq!(rt; next_draw(&mut generator), word);
+            assert_eq!(rt; generator.next_word(), word);
         }
     }
 }
