@@ -2,7 +2,7 @@
 
 use crate::making::all_stand;
 use rz_disk::{Disk, PlainDisk};
-use rz_journal_disk::{Entries, close_row, push_entry};
+use rz_journal::{Entries, close_row, push_entry};
 use std::alloc::Global;
 use std::test::Fail;
 
