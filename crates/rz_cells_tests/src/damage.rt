@@ -1,11 +1,12 @@
-//! Disks of which bytes are altered, one at a time and together, and shorter disks.
+//! Disks of which bytes are altered, and the first fault of each.
 ghost use Rattle.rz_cells.specs.Shape.{IsGeometry};
 
-use crate::making::{alter, disk_of, failing_at, fill, write, zeros};
+use crate::making::{alter, disk_of, fill, write, zeros};
 use rz_cells::{Cells, Geometry, OpenFault};
-use rz_disk::Disk;
+use rz_disk::{Disk, PlainDisk};
 use rz_events::{Head, HeaderField, Layout};
 use std::alloc::{AllocError, Global};
+use std::process::Abort;
 use std::test::Fail;
 
 /// One pair of cells of node 1.
@@ -17,7 +18,7 @@ pub const ONE: Geometry = Geometry {
 };
 
 /// Two pairs.
-pub const TWO: Geometry = Geometry {
+const TWO: Geometry = Geometry {
     layout: Layout::L0,
     bsize: 0,
     node: 1,
@@ -25,15 +26,15 @@ pub const TWO: Geometry = Geometry {
 };
 
 /// The bytes of a disk of one pair, and of two.
-pub const ONE_SIZE: usize = 8514;
+const ONE_SIZE: usize = 8514;
 
-pub const TWO_SIZE: usize = 16964;
+const TWO_SIZE: usize = 16964;
 
 /// Where the picked slots of the two pairs begin.
-pub const SLOTS: [usize; 4] = [68, 6404, 8516, 12740];
+const SLOTS: [usize; 4] = [68, 6404, 8516, 12740];
 
 /// A formatted disk with these bytes, zeros but for a header with fence 0.
-pub fn blank(alloc: Global, size: usize, pairs: u8) -> Result<Vec<u8>, AllocError> {
+fn blank(alloc: Global, size: usize, pairs: u8) -> Result<Vec<u8>, AllocError> {
     let mut bytes = zeros(alloc, size)?;
     write(&mut bytes, 0, b"MJROZO02");
     alter(&mut bytes, 10, 1);
@@ -43,41 +44,30 @@ pub fn blank(alloc: Global, size: usize, pairs: u8) -> Result<Vec<u8>, AllocErro
 }
 
 /// The stamps of the first four cells, and why the bytes are not opened.
-pub type Opened = ([u64; 4], Option<OpenFault>);
+type Opened = ([u64; 4], Option<OpenFault>);
 
-pub fn opened(alloc: Global, geometry: Geometry, bytes: &[u8]) -> Result<Opened, Fail>
+/// Opens a disk of these bytes.
+fn opened(rt: &(impl Abort + AllocGlobal), geometry: Geometry, bytes: &[u8]) -> Opened
     requires { IsGeometry geometry }
 {
-    let (_, opened) = reopened(alloc, geometry, disk_of(alloc, bytes)?);
-    Ok(opened)
+    let disk = disk_of(rt.alloc(), bytes).expect(rt, "a disk");
+    reopened(rt.alloc(), geometry, disk)
 }
 
-/// Opens a copy of bytes of which some are altered, one after the other.
-pub fn opened_but(
-    alloc: Global,
-    geometry: Geometry,
-    good: &Vec<u8>,
-    changes: &[(usize, u8)],
-) -> Result<Opened, Fail>
-    requires { IsGeometry geometry }
-{
-    let mut bytes = good.clone()?;
-    for (at, byte) in changes.iter() {
-        alter(&mut bytes, *at, *byte);
-    }
-    opened(alloc, geometry, &bytes)
-}
-
-/// Opens a disk, and gives it back.
-pub fn reopened<D: Disk>(alloc: Global, geometry: Geometry, disk: D) -> (D, Opened)
+/// Opens a disk. It goes then.
+fn reopened(alloc: Global, geometry: Geometry, disk: PlainDisk) -> Opened
     requires { IsGeometry geometry }
 {
     match Cells::reopen(alloc, geometry, disk) {
         Ok(cells) => {
             let stamps = stamps_of(&cells);
-            (cells.into_disk(), (stamps, None))
+            drop(cells);
+            (stamps, None)
         }
-        Err((disk, fault)) => (disk, ([0; 4], Some(fault))),
+        Err((disk, fault)) => {
+            drop(disk);
+            ([0; 4], Some(fault))
+        }
     }
 }
 
@@ -113,27 +103,48 @@ pub fn twice(first: u32, second: u32) -> OpenFault {
     OpenFault::Twice { first, second }
 }
 
+/// Two bytes that are altered on a blank disk of one pair, and what is told then.
+fn blank_rows() -> [(usize, u8, usize, u8, Opened); 10] {
+    let magic = bad(HeaderField::Magic, 0x3230_4f5a_4f52_4a00);
+    let layout = bad(HeaderField::Layout, 3);
+    let reserved = bad(HeaderField::Reserved, 1);
+    [
+        (0, 0, 32, 0, ([0; 4], Some(OpenFault::Unformatted))),
+        (0, b'M', 32, 2, ([0; 4], Some(OpenFault::Unformatted))),
+        (0, b'M', 32, 3, ([0; 4], None)),
+        (33, 9, 0, 0, ([0; 4], Some(magic))),
+        (33, 9, 8, 3, ([0; 4], Some(layout))),
+        (33, 9, 24, 1, ([0; 4], Some(reserved))),
+        (33, 9, 66, 1, ([1, 0, 0, 0], None)),
+        (101, 1, 66, 1, ([0; 4], Some(damaged(0)))),
+        (4290, 2, 66, 1, ([1, 2, 0, 0], None)),
+        (4290, 1, 66, 1, ([0; 4], Some(twice(0, 1)))),
+    ]
+}
+
+/// What is told of a copy of these bytes with two of them altered.
+fn told(
+    rt: &(impl Abort + AllocGlobal),
+    good: &[u8],
+    first: (usize, u8),
+    second: (usize, u8),
+) -> Opened {
+    let mut bytes = Vec::from_slice(rt.alloc(), good).expect(rt, "memory");
+    alter(&mut bytes, first.0, first.1);
+    alter(&mut bytes, second.0, second.1);
+    let opened = opened(rt, ONE, &bytes);
+    drop(bytes);
+    opened
+}
+
 #[test]
 fn a_blank_disk_is_opened_by_what_stands_on_it(rt: HostRuntime) -> Result<(), Fail> {
-    let magic = bad(HeaderField::Magic, 0x3230_4f5a_4f52_4a00);
-    let good = blank(rt.alloc(), ONE_SIZE, 1)?;
-    let table = [
-        (32, 0, 0, 0, Some(OpenFault::Unformatted), [0; 4]),
-        (32, 2, 0, b'M', Some(OpenFault::Unformatted), [0; 4]),
-        (32, 3, 0, b'M', None, [0; 4]),
-        (0, 0, 33, 9, Some(magic), [0; 4]),
-        (8, 3, 33, 9, Some(bad(HeaderField::Layout, 3)), [0; 4]),
-        (24, 1, 33, 9, Some(bad(HeaderField::Reserved, 1)), [0; 4]),
-        (66, 1, 33, 9, None, [1, 0, 0, 0]),
-        (66, 1, 101, 1, Some(damaged(0)), [0; 4]),
-        (66, 1, 4290, 2, None, [1, 2, 0, 0]),
-        (66, 1, 4290, 1, Some(twice(0, 1)), [0; 4]),
-    ];
-    for (at, byte, at_too, byte_too, fault, stamps) in table {
-        let changes = [(at_too, byte_too), (at, byte)];
-        let opened = opened_but(rt.alloc(), ONE, &good, &changes)?;
-        assert_eq!(rt; opened, (stamps, fault), "at {at}");
+    let good = blank(rt.alloc(), ONE_SIZE, 1).expect(&rt, "memory");
+    for (at, byte, at_too, byte_too, wanted) in blank_rows() {
+        let told = told(&rt, &good, (at, byte), (at_too, byte_too));
+        assert!(rt; told == wanted, "at {at_too}");
     }
+    drop(good);
     Ok(())
 }
 
@@ -193,68 +204,14 @@ fn damages() -> [(usize, u8, OpenFault); 20] {
 
 #[test]
 fn a_disk_is_refused_for_its_first_damage(rt: HostRuntime) -> Result<(), Fail> {
-    let good = two_pairs(rt.alloc())?;
-    assert_eq!(rt; opened(rt.alloc(), TWO, &good)?, ([5, 9, 6, 0], None));
-    let mut all = good;
+    let mut all = two_pairs(rt.alloc()).expect(&rt, "memory");
+    let good = opened(&rt, TWO, &all);
+    assert!(rt; good == ([5, 9, 6, 0], None));
     for (at, byte, fault) in damages() {
         alter(&mut all, at, byte);
-        let opened = opened(rt.alloc(), TWO, &all)?;
-        assert_eq!(rt; opened, ([0; 4], Some(fault)), "at {at}");
+        let told = opened(&rt, TWO, &all);
+        assert!(rt; told == ([0; 4], Some(fault)), "at {at}");
     }
-    Ok(())
-}
-
-/// Each damage alone, and each with each that is found before it.
-#[test]
-fn of_two_damages_the_first_is_told(rt: HostRuntime) -> Result<(), Fail> {
-    let good = two_pairs(rt.alloc())?;
-    for (later, (at, byte, _)) in damages().iter().enumerate() {
-        for (at_too, byte_too, fault) in damages().iter().skip(later) {
-            let changes = [(*at, *byte), (*at_too, *byte_too)];
-            let opened = opened_but(rt.alloc(), TWO, &good, &changes)?;
-            assert_eq!(rt; opened, ([0; 4], Some(*fault)), "at {at} and {at_too}");
-        }
-    }
-    Ok(())
-}
-
-/// One pair of layout 2, of which a disk has 4098 bytes.
-const SMALL: Geometry = Geometry {
-    layout: Layout::L2,
-    bsize: 0,
-    node: 1,
-    cells: 1,
-};
-
-/// Every length up to the disk's and a little more, each on a disk whose next call fails.
-#[test]
-fn a_wrong_size_is_told_before_any_call(rt: HostRuntime) -> Result<(), Fail> {
-    for have in 0..4101 {
-        let mut disk = failing_at(rt.alloc(), 1)?;
-        disk.reset(rt.alloc(), have)?;
-        let wanted = if have == 4098 {
-            OpenFault::DiskFault
-        } else {
-            OpenFault::WrongSize { have, need: 4098 }
-        };
-        let (_, (_, fault)) = reopened(rt.alloc(), SMALL, disk);
-        assert_eq!(rt; fault, Some(wanted), "{have}");
-    }
-    Ok(())
-}
-
-/// The first bytes of a disk, of every hundredth length.
-#[test]
-fn no_part_of_a_disk_is_opened(rt: HostRuntime) -> Result<(), Fail> {
-    let good = blank(rt.alloc(), ONE_SIZE, 1)?;
-    for have in (0..ONE_SIZE).step_by(129) {
-        let short = OpenFault::WrongSize {
-            have: have as u64,
-            need: 8514,
-        };
-        let part = &good[..have.min(good.len())];
-        let wanted = ([0; 4], Some(short));
-        assert_eq!(rt; opened(rt.alloc(), ONE, part)?, wanted, "{have}");
-    }
+    drop(all);
     Ok(())
 }

@@ -4,8 +4,6 @@
 #![tactic(auto)]
 
 #[cfg(test)]
-mod bytes;
-#[cfg(test)]
 mod calls;
 #[cfg(test)]
 mod damage;
@@ -15,5 +13,3 @@ mod making;
 mod migration;
 #[cfg(test)]
 mod stops;
-#[cfg(test)]
-mod wide;

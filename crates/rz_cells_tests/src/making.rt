@@ -1,9 +1,9 @@
 //! Disks made of bytes.
 ghost use Rattle.std.specs.Prelude.{◌≡◌, ◌<◌, IfOk, vec_len};
 
-use rz_disk::{Disk, DiskError, Failed, MemDisk, PlainDisk};
+use rz_disk::{Disk, DiskError, MemDisk, PlainDisk};
 use std::alloc::{AllocError, Global};
-use std::test::Fail;
+use std::process::Abort;
 
 pub fn zeros(alloc: Global, size: usize) -> Result<Vec<u8>, AllocError>
     ensures { IfOk result (λ v. vec_len v ≡ size) }
@@ -46,15 +46,6 @@ pub fn disk_of(alloc: Global, bytes: &[u8]) -> Result<PlainDisk, DiskError> {
     Ok(disk)
 }
 
-/// Writes a byte and syncs it, where there is room for it.
-pub fn store_byte<D: Disk>(disk: &mut D, at: u64, byte: u8) -> Result<(), Failed> {
-    if at < disk.size() {
-        disk.write_at(at, &[byte])?;
-        disk.sync()?;
-    }
-    Ok(())
-}
-
 /// A disk in memory whose call of this number is the one that fails.
 pub fn failing_at(alloc: Global, number: u64) -> Result<MemDisk, AllocError> {
     let fails = vec![in alloc; number; 1]?;
@@ -71,10 +62,9 @@ pub fn left(old: u8, new: u8, at: u64, pick: u64) -> u8 {
 }
 
 /// What a disk reads.
-pub fn bytes_of<D: Disk>(alloc: Global, disk: &mut D) -> Result<Vec<u8>, Fail> {
-    let mut bytes = zeros(alloc, disk.size() as usize)?;
-    if bytes.len() as u64 == disk.size() {
-        disk.read(0, &mut bytes)?;
-    }
-    Ok(bytes)
+pub fn bytes_of<D: Disk>(rt: &(impl Abort + AllocGlobal), disk: &mut D) -> Vec<u8> {
+    let mut bytes = zeros(rt.alloc(), disk.size() as usize).expect(rt, "memory");
+    assert!(rt; bytes.len() as u64 == disk.size());
+    disk.read(0, &mut bytes).expect(rt, "a disk that reads");
+    bytes
 }

@@ -1,10 +1,19 @@
-//! A disk of version 1 with three cells: the first holds a record in its slot 0, the second one in its
-//! slot 1, and the third holds nothing. Bytes that are not looked at are no zeros.
+//! Two disks of version 1, and migrations of them that stop at each device call.
+//!
+//! One disk has three cells: the first holds a record in its slot 0, the second one in its slot 1, and the
+//! third holds nothing. The other has 64 cells, of which the last holds a record in its slot 1. Bytes that are
+//! not looked at are no zeros.
+ghost use Rattle.std.specs.Prelude.{◌≡◌};
+ghost use Rattle.mj_angles.specs.Layout.{bsize_of};
+ghost use Rattle.rz_cells.specs.Shape.{IsGeometry};
+
+use crate::damage::{bad, damaged, twice};
 use crate::making::{alter, bytes_of, disk_of, fill, write, zeros};
 use rz_cells::{Cells, Geometry, MigrateFault, OpenFault};
 use rz_disk::{Disk, Fused, PlainDisk};
-use rz_events::{Head, HeaderField, Key, Layout};
+use rz_events::{HeaderField, Layout};
 use std::alloc::{AllocError, Global};
+use std::process::Abort;
 use std::test::Fail;
 
 const THREE: Geometry = Geometry {
@@ -24,26 +33,6 @@ const NEW_SIZE: usize = 25414;
 
 const NEW_SLOTS: [usize; 2] = [70, 8518];
 
-const FIRST: Head = Head {
-    stamp: 5,
-    key: Key { fid: 1, block: 2 },
-    layout: Layout::L0,
-    bsize: 0,
-    position: 0,
-    length: 5,
-    base: 0,
-};
-
-const SECOND: Head = Head {
-    stamp: 9,
-    key: Key { fid: 7, block: 0 },
-    layout: Layout::L0,
-    bsize: 0,
-    position: 1,
-    length: 4096,
-    base: 0,
-};
-
 /// The fields of the two heads that are no zeros, up to the base: offset and byte.
 const FIRST_FIELDS: [(usize, u8); 4] = [(0, 5), (8, 1), (24, 2), (36, 5)];
 
@@ -55,17 +44,17 @@ fn write_fields(bytes: &mut Vec<u8>, slot: usize, fields: &[(usize, u8)]) {
     }
 }
 
-/// A header with fence 3 and an open gate.
-fn write_header(bytes: &mut Vec<u8>, magic: &[u8]) {
+/// A header with fence 3 and an open gate, of so many cells or pairs.
+fn write_header(bytes: &mut Vec<u8>, magic: &[u8], cells: u8) {
     write(bytes, 0, magic);
-    for (at, byte) in [(10, 1), (12, 3), (16, 3), (32, 1)] {
+    for (at, byte) in [(10, 1), (12, cells), (16, 3), (32, 1)] {
         alter(bytes, at, byte);
     }
 }
 
 fn old_bytes(alloc: Global) -> Result<Vec<u8>, AllocError> {
     let mut bytes = zeros(alloc, OLD_SIZE)?;
-    write_header(&mut bytes, b"MJROZO01");
+    write_header(&mut bytes, b"MJROZO01", 3);
     fill(&mut bytes, 33, 31);
     write(&mut bytes, 64, &[254, 3, 2]);
     fill(&mut bytes, OLD_SLOTS[0] + 40, 8 * 258);
@@ -81,7 +70,7 @@ fn old_bytes(alloc: Global) -> Result<Vec<u8>, AllocError> {
 /// The same fence and records, each with eight zeros behind its head.
 fn new_bytes(alloc: Global) -> Result<Vec<u8>, AllocError> {
     let mut bytes = zeros(alloc, NEW_SIZE)?;
-    write_header(&mut bytes, b"MJROZO02");
+    write_header(&mut bytes, b"MJROZO02", 3);
     fill(&mut bytes, NEW_SLOTS[0] + 48, 8 * 258);
     write_fields(&mut bytes, NEW_SLOTS[0], &FIRST_FIELDS);
     fill(&mut bytes, NEW_SLOTS[1] + 48, 8 * 257);
@@ -89,61 +78,115 @@ fn new_bytes(alloc: Global) -> Result<Vec<u8>, AllocError> {
     Ok(bytes)
 }
 
+const MANY: Geometry = Geometry {
+    layout: Layout::L0,
+    bsize: 0,
+    node: 1,
+    cells: 64,
+};
+
+/// Where the one record stands: in slot 127 of the old disk and in slot 252 of the new one.
+const LAST_OLD_SLOT: usize = 128 + 127 * 2104;
+
+const LAST_NEW_SLOT: usize = 192 + 252 * 2112;
+
+/// The bytes of a record of stamp 5 that are no zeros, and its last bin, which stands `head` bytes and 257
+/// bins behind its begin.
+fn write_last(bytes: &mut Vec<u8>, slot: usize, head: usize) {
+    let last = head.saturating_add(2063);
+    write_fields(bytes, slot, &[(0, 5), (8, 1), (36, 5), (last, 7)]);
+}
+
+fn many_old_bytes(alloc: Global) -> Result<Vec<u8>, AllocError> {
+    let mut bytes = zeros(alloc, 269_440)?;
+    write_header(&mut bytes, b"MJROZO01", 64);
+    write_last(&mut bytes, LAST_OLD_SLOT, 40);
+    alter(&mut bytes, 127, 1);
+    Ok(bytes)
+}
+
+fn many_new_bytes(alloc: Global) -> Result<Vec<u8>, AllocError> {
+    let mut bytes = zeros(alloc, 540_864)?;
+    write_header(&mut bytes, b"MJROZO02", 64);
+    write_last(&mut bytes, LAST_NEW_SLOT, 48);
+    Ok(bytes)
+}
+
+/// What comes back of a migration that fails. What it made goes where it does not fail.
+fn failed(
+    alloc: Global,
+    geometry: Geometry,
+    old: &mut Fused<PlainDisk>,
+    passes: Option<u64>,
+) -> Option<(Fused<PlainDisk>, MigrateFault)>
+    requires geometry { IsGeometry geometry }
+    requires small { bsize_of geometry.layout ≡ 0 }
+{
+    let mut new = Fused::new(PlainDisk::new(alloc));
+    new.arm(passes);
+    match Cells::migrate(alloc, geometry, old, new) {
+        Ok(cells) => {
+            drop(cells);
+            None
+        }
+        Err(back) => Some(back),
+    }
+}
+
+/// The disk that these bytes are carried over to, and its fence.
+fn carried(rt: &(impl Abort + AllocGlobal), bytes: &[u8]) -> (Fused<PlainDisk>, u64) {
+    let disk = disk_of(rt.alloc(), bytes).expect(rt, "a disk");
+    let mut old = Fused::new(disk);
+    let new = Fused::new(PlainDisk::new(rt.alloc()));
+    let carried = Cells::migrate(rt.alloc(), THREE, &mut old, new);
+    drop(old);
+    match carried {
+        Ok(cells) => {
+            let fence = cells.fence();
+            (cells.into_disk(), fence)
+        }
+        Err(_) => rt.panic("not carried over"),
+    }
+}
+
 #[test]
 fn an_old_disk_is_carried_over(rt: HostRuntime) -> Result<(), Fail> {
-    let bytes = old_bytes(rt.alloc())?;
-    let mut old = disk_of(rt.alloc(), &bytes)?;
-    let Ok(cells) = Cells::migrate(rt.alloc(), THREE, &mut old, PlainDisk::new(rt.alloc())) else {
-        return Err("not carried over")?;
-    };
-    assert_eq!(rt; cells.fence(), 3);
-    let heads = [Some(FIRST), None, Some(SECOND), None, None, None];
-    for (cell, head) in heads.iter().enumerate() {
-        if cells.geometry() == THREE {
-            assert_eq!(rt; cells.head(cell as u32), *head, "cell {cell}");
-        }
-    }
-    let mut new = cells.into_disk();
-    assert_eq!(rt; bytes_of(rt.alloc(), &mut new)?, new_bytes(rt.alloc())?);
-    assert_eq!(rt; bytes_of(rt.alloc(), &mut old)?, bytes);
-    assert!(rt; Cells::reopen(rt.alloc(), THREE, new).is_ok());
+    let bytes = old_bytes(rt.alloc()).expect(&rt, "memory");
+    let wanted = new_bytes(rt.alloc()).expect(&rt, "memory");
+    let (mut new, fence) = carried(&rt, &bytes);
+    let found = bytes_of(&rt, &mut new);
+    let is_right = fence == 3 && found == wanted;
+    drop(new);
+    drop(found);
+    drop(wanted);
+    drop(bytes);
+    assert!(rt; is_right);
     Ok(())
 }
 
 /// Why these bytes are not carried over. The new disk stays without bytes.
-fn refused(alloc: Global, bytes: &[u8]) -> Result<Option<MigrateFault>, Fail> {
-    let mut old = disk_of(alloc, bytes)?;
-    match Cells::migrate(alloc, THREE, &mut old, PlainDisk::new(alloc)) {
-        Ok(_) => Ok(None),
-        Err((new, fault)) => {
-            if new.size() == 0 {
-                Ok(Some(fault))
-            } else {
-                Err("the new disk was called")?
-            }
+fn refused(rt: &(impl Abort + AllocGlobal), bytes: &[u8]) -> Option<OpenFault> {
+    let disk = disk_of(rt.alloc(), bytes).expect(rt, "a disk");
+    let mut old = Fused::new(disk);
+    let back = failed(rt.alloc(), THREE, &mut old, None);
+    drop(old);
+    match back {
+        None => None,
+        Some((new, fault)) => {
+            let size = new.size();
+            drop(new);
+            assert!(rt; size == 0);
+            fault_of_old(fault)
         }
     }
 }
 
-/// Why a copy of bytes is not carried over of which two are altered, one after the other.
-fn refused_but(
-    alloc: Global,
-    good: &Vec<u8>,
-    changes: &[(usize, u8); 2],
-) -> Result<Option<MigrateFault>, Fail> {
-    let mut bytes = good.clone()?;
-    for (at, byte) in changes.iter() {
-        alter(&mut bytes, *at, *byte);
+/// What is wrong with the old disk.
+fn fault_of_old(fault: MigrateFault) -> Option<OpenFault> {
+    match fault {
+        MigrateFault::Old(fault) => Some(fault),
+        _ => None,
     }
-    refused(alloc, &bytes)
-}
-
-fn bad(field: HeaderField, value: u64) -> OpenFault {
-    OpenFault::BadHeader { field, value }
-}
-
-fn damaged(cell: u32) -> OpenFault {
-    OpenFault::Damaged { cell }
 }
 
 /// Bytes that are altered, and the fault of each: it is found before those above it.
@@ -168,87 +211,79 @@ fn faults() -> [(usize, u8, OpenFault); 14] {
 
 #[test]
 fn an_old_disk_is_refused_for_its_first_fault(rt: HostRuntime) -> Result<(), Fail> {
-    let mut all = old_bytes(rt.alloc())?;
+    let mut all = old_bytes(rt.alloc()).expect(&rt, "memory");
     for (at, byte, fault) in faults() {
         alter(&mut all, at, byte);
-        let wanted = Some(MigrateFault::Old(fault));
-        assert!(rt; refused(rt.alloc(), &all)? == wanted, "at {at}");
+        let found = refused(&rt, &all);
+        assert!(rt; found == Some(fault), "at {at}");
     }
-    Ok(())
-}
-
-/// Each fault alone, and each with each that is found before it.
-#[test]
-fn of_two_faults_of_an_old_disk_the_first_is_told(rt: HostRuntime) -> Result<(), Fail> {
-    let good = old_bytes(rt.alloc())?;
-    for (later, (at, byte, _)) in faults().iter().enumerate() {
-        for (at_too, byte_too, fault) in faults().iter().skip(later) {
-            let changes = [(*at, *byte), (*at_too, *byte_too)];
-            let why = refused_but(rt.alloc(), &good, &changes)?;
-            let wanted = Some(MigrateFault::Old(*fault));
-            assert!(rt; why == wanted, "at {at} and {at_too}");
-        }
-    }
+    drop(all);
     Ok(())
 }
 
 #[test]
 fn a_key_in_two_old_cells_is_refused(rt: HostRuntime) -> Result<(), Fail> {
-    let mut bytes = old_bytes(rt.alloc())?;
+    let mut bytes = old_bytes(rt.alloc()).expect(&rt, "memory");
     alter(&mut bytes, OLD_SLOTS[1] + 8, 1);
-    assert!(rt; refused(rt.alloc(), &bytes)?.is_none());
+    let one = refused(&rt, &bytes);
     alter(&mut bytes, OLD_SLOTS[1] + 24, 2);
-    let twice = OpenFault::Twice {
-        first: 0,
-        second: 1,
-    };
-    assert!(rt; refused(rt.alloc(), &bytes)? == Some(MigrateFault::Old(twice)));
+    let both = refused(&rt, &bytes);
+    drop(bytes);
+    assert!(rt; (one, both) == (None, Some(twice(0, 1))));
     Ok(())
 }
 
-#[test]
-fn an_old_disk_of_another_size_is_refused(rt: HostRuntime) -> Result<(), Fail> {
-    let bytes = old_bytes(rt.alloc())?;
-    for have in 0..16 {
-        let short = OpenFault::WrongSize {
-            have: 797 * have,
-            need: 12691,
-        };
-        let part = &bytes[..(797 * have as usize).min(bytes.len())];
-        assert!(rt;
-            refused(rt.alloc(), part)? == Some(MigrateFault::Old(short)),
-            "{have}"
-        );
+/// Whether a disk opens after a crash. It then has these bytes, whatever its gate's other bits are.
+fn opens(
+    rt: &(impl Abort + AllocGlobal),
+    geometry: Geometry,
+    disk: Fused<PlainDisk>,
+    pick: u64,
+    whole: &[u8],
+) -> bool
+    requires { IsGeometry geometry }
+{
+    let mut disk = disk;
+    disk.arm(None);
+    disk.crash(pick);
+    match Cells::reopen(rt.alloc(), geometry, disk) {
+        Ok(cells) => {
+            let mut disk = cells.into_disk();
+            let left = bytes_of(rt, &mut disk);
+            drop(disk);
+            let is_whole = is_alike(&left, whole);
+            drop(left);
+            assert!(rt; is_whole);
+            true
+        }
+        Err((disk, fault)) => {
+            drop(disk);
+            assert!(rt; fault == OpenFault::Unformatted);
+            false
+        }
     }
-    Ok(())
 }
 
-/// One cell of layout 2.
-const SMALL: Geometry = Geometry {
-    layout: Layout::L2,
-    bsize: 0,
-    node: 1,
-    cells: 1,
-};
+/// Whether disks have the same bytes, whatever the other bits of their gates are.
+fn is_alike(left: &[u8], whole: &[u8]) -> bool {
+    left.get(..32) == whole.get(..32) && left.get(33..) == whole.get(33..)
+}
 
-#[test]
-fn an_old_disk_of_any_other_length_is_refused(rt: HostRuntime) -> Result<(), Fail> {
-    for have in 0..2068 {
-        let mut old = PlainDisk::new(rt.alloc());
-        old.reset(rt.alloc(), have)?;
-        let wanted = if have == 2065 {
-            OpenFault::Unformatted
-        } else {
-            OpenFault::WrongSize { have, need: 2065 }
-        };
-        let new = PlainDisk::new(rt.alloc());
-        let fault = match Cells::migrate(rt.alloc(), SMALL, &mut old, new) {
-            Ok(_) => None,
-            Err((_, fault)) => Some(fault),
-        };
-        assert!(rt; fault == Some(MigrateFault::Old(wanted)), "{have}");
-    }
-    Ok(())
+/// Whether the new disk opens after a migration that it stops and a crash, or None where it does not stop.
+fn stop_of_new(
+    rt: &(impl Abort + AllocGlobal),
+    geometry: Geometry,
+    old: &mut Fused<PlainDisk>,
+    whole: &[u8],
+    passes: u64,
+    pick: u64,
+) -> Option<bool>
+    requires geometry { IsGeometry geometry }
+    requires small { bsize_of geometry.layout ≡ 0 }
+{
+    let (new, fault) = failed(rt.alloc(), geometry, old, Some(passes))?;
+    assert!(rt; fault == MigrateFault::New);
+    Some(opens(rt, geometry, new, pick, whole))
 }
 
 /// The calls of the new disk: a write of the header and two of records, a sync, a write of the gate
@@ -257,122 +292,121 @@ fn opens_after(passes: u64, pick: u64) -> bool {
     (passes == 4 || passes == 5) && (pick == 1 || pick == 301)
 }
 
-/// Whether the new disk opens after a migration that failed at a call and a crash. It then carries all.
-fn opened(alloc: Global, new: Fused<PlainDisk>, pick: u64) -> Result<bool, Fail> {
-    let mut new = new;
-    new.arm(None);
-    new.crash(pick);
-    let cells = match Cells::reopen(alloc, THREE, new) {
-        Ok(cells) => cells,
-        Err((_, OpenFault::Unformatted)) => return Ok(false),
-        Err(_) => return Err("refused otherwise")?,
-    };
-    let mut disk = cells.into_disk();
-    let left = bytes_of(alloc, &mut disk)?;
-    let whole = new_bytes(alloc)?;
-    if left.get(..32) == whole.get(..32) && left.get(33..) == whole.get(33..) {
-        Ok(true)
-    } else {
-        Err("opened, and not whole")?
-    }
+/// An old disk of these bytes.
+fn old_disk(rt: &(impl Abort + AllocGlobal), bytes: &[u8]) -> Fused<PlainDisk> {
+    Fused::new(disk_of(rt.alloc(), bytes).expect(rt, "a disk"))
 }
 
-/// What comes back of a migration that fails.
-fn failed(
-    alloc: Global,
-    old: &mut Fused<PlainDisk>,
-    new: Fused<PlainDisk>,
-) -> Option<(Fused<PlainDisk>, MigrateFault)> {
-    match Cells::migrate(alloc, THREE, old, new) {
-        Ok(cells) => {
-            drop(cells);
-            None
-        }
-        Err(back) => Some(back),
-    }
-}
-
-/// Why a migration failed, if it did, and what is to be known of the new disk then.
-type Stop = (Option<MigrateFault>, bool);
-
-/// A migration onto a disk with so many passes, and whether the new disk opens after a crash. The old
-/// disk has to stay as it is.
-fn stop_of_new(alloc: Global, bytes: &[u8], passes: u64, pick: u64) -> Result<Stop, Fail> {
-    let mut old = Fused::new(disk_of(alloc, bytes)?);
-    let mut new = Fused::new(PlainDisk::new(alloc));
-    new.arm(Some(passes));
-    let stop = match failed(alloc, &mut old, new) {
-        None => (None, false),
-        Some((new, fault)) => (Some(fault), opened(alloc, new, pick)?),
-    };
-    if bytes_of(alloc, &mut old)?.as_slice() == bytes {
-        Ok(stop)
-    } else {
-        Err("the old disk was altered")?
-    }
+/// The old disk has to stay as it is.
+fn end(rt: &(impl Abort + AllocGlobal), old: Fused<PlainDisk>, bytes: &[u8]) {
+    let mut old = old;
+    old.arm(None);
+    let left = bytes_of(rt, &mut old);
+    drop(old);
+    let is_same = left.as_slice() == bytes;
+    drop(left);
+    assert!(rt; is_same);
 }
 
 #[test]
 fn a_stop_of_the_new_disk_leaves_it_whole_or_shut(rt: HostRuntime) -> Result<(), Fail> {
-    let bytes = old_bytes(rt.alloc())?;
+    let bytes = old_bytes(rt.alloc()).expect(&rt, "memory");
+    let whole = new_bytes(rt.alloc()).expect(&rt, "memory");
+    let mut old = old_disk(&rt, &bytes);
     for pick in [0, 1, 300, 301] {
         for passes in 0..7 {
-            let fault = if passes == 6 {
+            let is_open = stop_of_new(&rt, THREE, &mut old, &whole, passes, pick);
+            let wanted = if passes == 6 {
                 None
             } else {
-                Some(MigrateFault::New)
+                Some(opens_after(passes, pick))
             };
-            let stop = stop_of_new(rt.alloc(), &bytes, passes, pick)?;
-            let wanted = (fault, opens_after(passes, pick));
-            assert!(rt; stop == wanted, "passes {passes}, pick {pick}");
+            assert!(rt; is_open == wanted, "passes {passes}, pick {pick}");
         }
     }
+    end(&rt, old, &bytes);
+    drop(whole);
+    drop(bytes);
     Ok(())
+}
+
+/// The calls of the new disk: a write of the header and one of the record, a sync, a write of the gate and
+/// a sync.
+#[test]
+fn a_stop_of_a_new_disk_of_64_pairs(rt: HostRuntime) -> Result<(), Fail> {
+    let bytes = many_old_bytes(rt.alloc()).expect(&rt, "memory");
+    let whole = many_new_bytes(rt.alloc()).expect(&rt, "memory");
+    let mut old = old_disk(&rt, &bytes);
+    for pick in [0, 1, 301] {
+        for passes in 0..6 {
+            let is_open = stop_of_new(&rt, MANY, &mut old, &whole, passes, pick);
+            let wanted = if passes == 5 {
+                None
+            } else {
+                Some(passes >= 3 && pick != 0)
+            };
+            assert!(rt; is_open == wanted, "passes {passes}, pick {pick}");
+        }
+    }
+    end(&rt, old, &bytes);
+    drop(whole);
+    drop(bytes);
+    Ok(())
+}
+
+/// Whether a migration that the old disk stops leaves bytes on the new one, or None where it does not stop.
+/// They must not open.
+fn stop_of_old(
+    rt: &(impl Abort + AllocGlobal),
+    geometry: Geometry,
+    old: &mut Fused<PlainDisk>,
+    passes: u64,
+) -> Option<bool>
+    requires geometry { IsGeometry geometry }
+    requires small { bsize_of geometry.layout ≡ 0 }
+{
+    old.arm(Some(passes));
+    let (new, fault) = failed(rt.alloc(), geometry, old, None)?;
+    assert!(rt; fault == MigrateFault::Old(OpenFault::DiskFault));
+    let has_bytes = new.size() > 0;
+    if has_bytes {
+        assert!(rt; !opens(rt, geometry, new, 1, &[]));
+    } else {
+        drop(new);
+    }
+    Some(has_bytes)
 }
 
 /// The calls of the old disk: a sync, a read of the header, one of the gates, one for each cell, and one
-/// for the bins of each record.
+/// for the bins of each record. The new disk is there before the bins are read.
 #[test]
 fn a_stop_of_the_old_disk_leaves_it_as_it_is(rt: HostRuntime) -> Result<(), Fail> {
-    let bytes = old_bytes(rt.alloc())?;
+    let bytes = old_bytes(rt.alloc()).expect(&rt, "memory");
+    let mut old = old_disk(&rt, &bytes);
     for passes in 0..9 {
-        let fault = if passes == 8 {
-            None
-        } else {
-            Some(MigrateFault::Old(OpenFault::DiskFault))
-        };
-        let stop = stop_of_old(rt.alloc(), &bytes, passes)?;
-        let has_bytes = passes == 6 || passes == 7;
-        assert!(rt; stop == (fault, has_bytes), "passes {passes}");
+        let has_bytes = stop_of_old(&rt, THREE, &mut old, passes);
+        let wanted = if passes == 8 { None } else { Some(passes >= 6) };
+        assert!(rt; has_bytes == wanted, "passes {passes}");
     }
+    end(&rt, old, &bytes);
+    drop(bytes);
     Ok(())
 }
 
-/// A migration of a disk with so many passes, and whether the new disk has bytes. The old disk has to
-/// stay as it is.
-fn stop_of_old(alloc: Global, bytes: &[u8], passes: u64) -> Result<Stop, Fail> {
-    let mut old = Fused::new(disk_of(alloc, bytes)?);
-    old.arm(Some(passes));
-    let stop = match failed(alloc, &mut old, Fused::new(PlainDisk::new(alloc))) {
-        None => (None, false),
-        Some((new, fault)) => (Some(fault), has_bytes(alloc, new)?),
-    };
-    old.arm(None);
-    if bytes_of(alloc, &mut old)?.as_slice() == bytes {
-        Ok(stop)
-    } else {
-        Err("the old disk was altered")?
+#[test]
+fn a_stop_of_an_old_disk_of_64_cells(rt: HostRuntime) -> Result<(), Fail> {
+    let bytes = many_old_bytes(rt.alloc()).expect(&rt, "memory");
+    let mut old = old_disk(&rt, &bytes);
+    for passes in 0..69 {
+        let has_bytes = stop_of_old(&rt, MANY, &mut old, passes);
+        let wanted = if passes == 68 {
+            None
+        } else {
+            Some(passes == 67)
+        };
+        assert!(rt; has_bytes == wanted, "passes {passes}");
     }
-}
-
-/// Whether a disk has bytes. They must not open.
-fn has_bytes(alloc: Global, new: Fused<PlainDisk>) -> Result<bool, Fail> {
-    if new.size() == 0 {
-        return Ok(false);
-    }
-    if opened(alloc, new, 1)? {
-        Err("opened")?
-    } else {
-        Ok(true)
-    }
+    end(&rt, old, &bytes);
+    drop(bytes);
+    Ok(())
 }

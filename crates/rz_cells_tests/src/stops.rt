@@ -3,14 +3,17 @@
 //! A disk with a failing call loses what that call was to do. A disk under a fuse loses no write, but each
 //! later sync. In both a change counts once its gate is written, and a crash decides on a gate that is not
 //! synced.
-ghost use Rattle.std.specs.Prelude.{◌≡◌, ◌<◌, IfOk, vec_len};
+ghost use Rattle.std.specs.Prelude.{◌≡◌, ◌<◌, ℕ, None, IfOk, vec_len};
+ghost use Rattle.rz_cells.specs.Held.{in_cell};
+ghost use Rattle.rz_cells.specs.Open.{IsOpen};
 
 use crate::damage::{ONE, stamps_of};
 use crate::making::{failing_at, left};
 use rz_cells::{Cells, FormatFault, OpenFault};
-use rz_disk::{Disk, Fused, PlainDisk};
+use rz_disk::{Disk, Fused, MemDisk, PlainDisk};
 use rz_events::{Head, Key, Layout};
 use std::alloc::{AllocError, Global};
+use std::process::Abort;
 use std::test::Fail;
 
 const RECORD: Head = Head {
@@ -29,53 +32,63 @@ fn words(alloc: Global) -> Result<Vec<u64>, AllocError>
     vec![in alloc; 9; 258]
 }
 
+/// Cells of fence 7 on a disk that is made anew.
+fn formatted<D: Disk>(rt: &(impl Abort + AllocGlobal), disk: D) -> Cells<D>
+    ensures open { IsOpen D.tells (D.text result.disk) (D.image result.disk) result.geometry result.fence result.gates.items result.heads }
+    ensures geometry { result.geometry ≡ ONE }
+    ensures empty { (cell : ℕ) → in_cell result.heads cell ≡ None }
+{
+    match Cells::format(rt.alloc(), ONE, 7, disk) {
+        Ok(cells) => cells,
+        Err(_) => rt.panic("not formatted"),
+    }
+}
+
+/// Cells with the record in the first one of an empty pair, on a disk that is made anew.
+#[tactic(auto, using(crate::proofs::Alone::goes_alone), unfolding(rz_record::specs::Record::bins_of))]
+fn with_record<D: Disk>(rt: &(impl Abort + AllocGlobal), disk: D) -> Cells<D>
+    ensures open { IsOpen D.tells (D.text result.disk) (D.image result.disk) result.geometry result.fence result.gates.items result.heads }
+    ensures geometry { result.geometry ≡ ONE }
+{
+    let bins = words(rt.alloc()).expect(rt, "memory");
+    let mut cells = formatted(rt, disk);
+    let put = cells.put(0, &RECORD, &bins);
+    drop(bins);
+    put.expect(rt, "a put");
+    cells
+}
+
 /// The disk of a put into the first cell of an empty pair, which stops.
 #[tactic(auto, using(crate::proofs::Alone::goes_alone), unfolding(rz_record::specs::Record::bins_of))]
-fn stopped_put<D: Disk>(alloc: Global, disk: D, passes: u64) -> Result<D, Fail> {
-    let bins = words(alloc)?;
-    let Ok(mut cells) = Cells::format(alloc, ONE, 7, disk) else {
-        return Err("not formatted")?;
-    };
+fn stopped_put<D: Disk>(rt: &(impl Abort + AllocGlobal), disk: D, passes: u64) -> D {
+    let bins = words(rt.alloc()).expect(rt, "memory");
+    let mut cells = formatted(rt, disk);
     cells.arm(Some(passes));
-    match cells.put(0, &RECORD, &bins) {
-        Ok(()) => Err("it did not stop")?,
-        Err(_) => Ok(cells.into_disk()),
-    }
+    let has_stopped = cells.put(0, &RECORD, &bins).is_err();
+    drop(bins);
+    assert!(rt; has_stopped);
+    cells.into_disk()
 }
 
 /// The disk of a clear of that cell, which stops.
-#[tactic(auto, using(crate::proofs::Alone::goes_alone), unfolding(rz_record::specs::Record::bins_of))]
-fn stopped_clear<D: Disk>(alloc: Global, disk: D, passes: u64) -> Result<D, Fail> {
-    let bins = words(alloc)?;
-    let Ok(mut cells) = Cells::format(alloc, ONE, 7, disk) else {
-        return Err("not formatted")?;
-    };
-    cells.put(0, &RECORD, &bins)?;
+fn stopped_clear<D: Disk>(rt: &(impl Abort + AllocGlobal), disk: D, passes: u64) -> D {
+    let mut cells = with_record(rt, disk);
     cells.arm(Some(passes));
-    match cells.clear(0) {
-        Ok(()) => Err("it did not stop")?,
-        Err(_) => Ok(cells.into_disk()),
-    }
-}
-
-/// A disk of fence 7 with a record in the first cell.
-#[tactic(auto, using(crate::proofs::Alone::goes_alone), unfolding(rz_record::specs::Record::bins_of))]
-fn with_record<D: Disk>(alloc: Global, disk: D) -> Result<D, Fail> {
-    let bins = words(alloc)?;
-    let Ok(mut cells) = Cells::format(alloc, ONE, 7, disk) else {
-        return Err("not formatted")?;
-    };
-    cells.put(0, &RECORD, &bins)?;
-    Ok(cells.into_disk())
+    let has_stopped = cells.clear(0).is_err();
+    assert!(rt; has_stopped);
+    cells.into_disk()
 }
 
 /// The disk of a formatting with fence 8, which stops.
-fn stopped_format<D: Disk>(alloc: Global, disk: D, passes: u64) -> Result<D, Fail> {
-    let mut disk = with_record(alloc, disk)?;
+fn stopped_format<D: Disk>(rt: &(impl Abort + AllocGlobal), disk: D, passes: u64) -> D {
+    let mut disk = with_record(rt, disk).into_disk();
     disk.arm(Some(passes));
-    match Cells::format(alloc, ONE, 8, disk) {
-        Err((disk, FormatFault::DiskFault)) => Ok(disk),
-        _ => Err("it did not stop")?,
+    match Cells::format(rt.alloc(), ONE, 8, disk) {
+        Err((disk, fault)) => {
+            assert!(rt; matches!(fault, FormatFault::DiskFault));
+            disk
+        }
+        Ok(_) => rt.panic("it did not stop"),
     }
 }
 
@@ -83,14 +96,21 @@ fn stopped_format<D: Disk>(alloc: Global, disk: D, passes: u64) -> Result<D, Fai
 type Found = Option<(u64, [u64; 4])>;
 
 /// What an opening finds after a crash.
-fn found<D: Disk>(alloc: Global, disk: D, pick: u64) -> Result<Found, Fail> {
+fn found<D: Disk>(rt: &(impl Abort + AllocGlobal), disk: D, pick: u64) -> Found {
     let mut disk = disk;
     disk.arm(None);
     disk.crash(pick);
-    match Cells::reopen(alloc, ONE, disk) {
-        Ok(cells) => Ok(Some((cells.fence(), stamps_of(&cells)))),
-        Err((_, OpenFault::Unformatted)) => Ok(None),
-        Err(_) => Err("refused otherwise")?,
+    match Cells::reopen(rt.alloc(), ONE, disk) {
+        Ok(cells) => {
+            let found = (cells.fence(), stamps_of(&cells));
+            drop(cells);
+            Some(found)
+        }
+        Err((disk, fault)) => {
+            drop(disk);
+            assert!(rt; fault == OpenFault::Unformatted);
+            None
+        }
     }
 }
 
@@ -103,14 +123,14 @@ const HELD: Found = Some((7, [5, 0, 0, 0]));
 
 const ANEW: Found = Some((8, [0, 0, 0, 0]));
 
-/// What is found after a put that stops at a call that fails, and at one behind so many passes.
-fn after_put(alloc: Global, call: u64, pick: u64) -> Result<[Found; 2], Fail>
-    requires { call < 4 }
-{
-    let failing = stopped_put(alloc, failing_at(alloc, 5 + call)?, 0)?;
-    let by_fault = found(alloc, failing, pick)?;
-    let fused = stopped_put(alloc, Fused::new(PlainDisk::new(alloc)), call)?;
-    Ok([by_fault, found(alloc, fused, pick)?])
+/// A disk whose call of this number fails.
+fn failing(rt: &(impl Abort + AllocGlobal), number: u64) -> MemDisk {
+    failing_at(rt.alloc(), number).expect(rt, "memory")
+}
+
+/// A disk under a fuse.
+fn fused(alloc: Global) -> Fused<PlainDisk> {
+    Fused::new(PlainDisk::new(alloc))
 }
 
 /// The formatting makes the calls 0 to 4 of the disk, and the put the next four.
@@ -123,23 +143,16 @@ fn a_put_that_stops_is_done_or_not(rt: HostRuntime) -> Result<(), Fail> {
             EMPTY
         };
         for call in 0..4 {
-            let by_fault = if call == 3 { by_gate } else { EMPTY };
-            let by_fuse = if call >= 2 { by_gate } else { EMPTY };
-            let found = after_put(rt.alloc(), call, pick)?;
-            assert_eq!(rt; found, [by_fault, by_fuse], "call {call}, pick {pick}");
+            let by_fault = found(&rt, stopped_put(&rt, failing(&rt, 5 + call), 0), pick);
+            let by_fuse = found(&rt, stopped_put(&rt, fused(rt.alloc()), call), pick);
+            let wanted = (
+                if call == 3 { by_gate } else { EMPTY },
+                if call >= 2 { by_gate } else { EMPTY },
+            );
+            assert!(rt; (by_fault, by_fuse) == wanted, "call {call}, pick {pick}");
         }
     }
     Ok(())
-}
-
-/// What is found after a clear that stops at a call that fails, and at one behind so many passes.
-fn after_clear(alloc: Global, call: u64, pick: u64) -> Result<[Found; 2], Fail>
-    requires { call < 4 }
-{
-    let failing = stopped_clear(alloc, failing_at(alloc, 9 + call)?, 0)?;
-    let by_fault = found(alloc, failing, pick)?;
-    let fused = stopped_clear(alloc, Fused::new(PlainDisk::new(alloc)), call)?;
-    Ok([by_fault, found(alloc, fused, pick)?])
 }
 
 /// The put before it makes the calls 5 to 8.
@@ -152,19 +165,16 @@ fn a_clear_that_stops_is_done_or_not(rt: HostRuntime) -> Result<(), Fail> {
             EMPTY
         };
         for call in 0..4 {
-            let by_fault = if call == 3 { by_gate } else { HELD };
-            let by_fuse = if call >= 2 { by_gate } else { HELD };
-            let found = after_clear(rt.alloc(), call, pick)?;
-            assert_eq!(rt; found, [by_fault, by_fuse], "call {call}, pick {pick}");
+            let by_fault = found(&rt, stopped_clear(&rt, failing(&rt, 9 + call), 0), pick);
+            let by_fuse = found(&rt, stopped_clear(&rt, fused(rt.alloc()), call), pick);
+            let wanted = (
+                if call == 3 { by_gate } else { HELD },
+                if call >= 2 { by_gate } else { HELD },
+            );
+            assert!(rt; (by_fault, by_fuse) == wanted, "call {call}, pick {pick}");
         }
     }
     Ok(())
-}
-
-/// What is found after a formatting of a disk that stops.
-fn after_format<D: Disk>(alloc: Global, disk: D, passes: u64, pick: u64) -> Result<Found, Fail> {
-    let disk = stopped_format(alloc, disk, passes)?;
-    found(alloc, disk, pick)
 }
 
 /// A reset that fails leaves what was there, and one that is done leaves a shut header.
@@ -177,20 +187,18 @@ fn a_formatting_that_stops_is_done_or_shut(rt: HostRuntime) -> Result<(), Fail> 
             None
         };
         for call in 0..5 {
-            let disk = failing_at(rt.alloc(), 9 + call)?;
+            let by_fault = found(&rt, stopped_format(&rt, failing(&rt, 9 + call), 0), pick);
             let wanted = match call {
                 0 => HELD,
                 4 => by_gate,
                 _ => None,
             };
-            let found = after_format(rt.alloc(), disk, 0, pick)?;
-            assert_eq!(rt; found, wanted, "call {call}, pick {pick}");
+            assert!(rt; by_fault == wanted, "call {call}, pick {pick}");
         }
         for passes in 0..4 {
-            let disk = Fused::new(PlainDisk::new(rt.alloc()));
+            let by_fuse = found(&rt, stopped_format(&rt, fused(rt.alloc()), passes), pick);
             let wanted = if passes >= 2 { by_gate } else { None };
-            let found = after_format(rt.alloc(), disk, passes, pick)?;
-            assert_eq!(rt; found, wanted, "passes {passes}, pick {pick}");
+            assert!(rt; by_fuse == wanted, "passes {passes}, pick {pick}");
         }
     }
     Ok(())

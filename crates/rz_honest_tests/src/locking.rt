@@ -1,6 +1,6 @@
 //! Writes of two clients run at the same time. Where one lock is round the whole cluster they do not, and
 //! the disks show it.
-ghost use Rattle.std.specs.Prelude.{◌≡◌, ℕ, IfOk, IfSome, length, true};
+ghost use Rattle.std.specs.Prelude.{◌≡◌, ℕ, length, true};
 ghost use Rattle.rz_events.specs.declared.keys.Actor.TheVariants as a;
 ghost use Rattle.rz_config.specs.Plain.{plain_volume};
 ghost use Rattle.rz_chronicle.specs.Kinds.{kind_of};
@@ -14,7 +14,6 @@ use rz_config::Volume;
 use rz_disk::{Disk, PlainDisk};
 use rz_outage::{MeetDisk, Meeting};
 use rz_shared::{Cluster, Counting};
-use std::alloc::{AllocError, Global};
 use std::marker::Brand;
 use std::process::Abort;
 use std::sync::{Mutex, Wait};
@@ -22,46 +21,48 @@ use std::test::*;
 use std::thread::{Threads, join};
 
 /// Four disks whose writes may meet.
-fn four(alloc: Global, meeting: &Meeting) -> Result<Vec<MeetDisk<'_, PlainDisk>>, AllocError>
-    ensures { IfOk result (λ v. length v.items ≡ 4) }
+fn four<'a>(rt: &(impl Abort + AllocGlobal), meeting: &'a Meeting) -> Vec<MeetDisk<'a, PlainDisk>>
+    ensures { length result.items ≡ 4 }
 {
-    let mut disks = Vec::new(alloc);
-    while disks.len() < 4 {
-        disks.push(MeetDisk::new(PlainDisk::new(alloc), meeting))?;
-    }
-    Ok(disks)
+    let alloc = rt.alloc();
+    let disks = [
+        MeetDisk::new(PlainDisk::new(alloc), meeting),
+        MeetDisk::new(PlainDisk::new(alloc), meeting),
+        MeetDisk::new(PlainDisk::new(alloc), meeting),
+        MeetDisk::new(PlainDisk::new(alloc), meeting),
+    ];
+    Vec::from_array(alloc, disks).expect(rt, "memory")
 }
 
 #[test]
 fn writes_of_two_clients_meet(rt: HostRuntime) -> Result<(), Fail> {
-    let volume = Volume::plain(rt.alloc())?;
-    let opened = Opened::start(rt.alloc(), &volume, true)?;
+    let volume = Volume::plain(rt.alloc()).expect(&rt, "memory");
+    let opened = Opened::start(rt.alloc(), &volume, true).expect(&rt, "memory");
     let meeting = Meeting::new();
-    let disks = four(rt.alloc(), &meeting)?;
-    meet::<Brand, _>(&rt, rt.alloc(), opened, volume, disks)?;
+    let disks = four(&rt, &meeting);
+    meet::<Brand, _>(&rt, opened, volume, disks);
     assert!(rt; meeting.met());
     Ok(())
 }
 
 fn meet<J: Counting + Send + Sync, R: Threads + Wait + Abort + AllocGlobal + Sync>(
     rt: &R,
-    alloc: Global,
     opened: Opened,
     volume: Volume,
     disks: Vec<MeetDisk<'_, PlainDisk>>,
-) -> Result<(), Fail>
+)
     requires named { (opened.seen.book ≡ J.book) × (opened.hand.tallies ≡ J.tallies) × (opened.hand.copy ≡ J.copy) × (opened.hand.kind ≡ J.kind) }
     requires kind { J.kind ≡ kind_of true plain_volume }
     requires volume { volume ≡ plain_volume }
     requires disks { length disks.items ≡ 4 }
     requires first { (n : ℕ) → J.first n ≡ 0 }
 {
-    let stage = staged::<MeetDisk<'_, PlainDisk>, J>(alloc, opened, volume, disks)?;
-    played(rt, alloc, stage)
+    let stage = staged::<MeetDisk<'_, PlainDisk>, J, R>(rt, opened, volume, disks);
+    played(rt, stage);
 }
 
 /// A client at work while it has the lock that is round the whole cluster.
-fn in_turn<D: Disk, J: Counting, R: Wait + AllocGlobal>(
+fn in_turn<D: Disk, J: Counting, R: Wait + Abort + AllocGlobal>(
     rt: &R,
     book: &Book<J>,
     cluster: &Cluster<D, J>,
@@ -69,11 +70,11 @@ fn in_turn<D: Disk, J: Counting, R: Wait + AllocGlobal>(
     pass: Pass<J>,
     room: Vec<u64>,
     first: bool,
-) -> Option<Account<J>>
+) -> Account<J>
     requires kind { J.kind ≡ kind_of true plain_volume }
     requires client { ¬ (pass.actor ≡ a.Admin) }
     requires room { length room.items ≡ 258 }
-    ensures written { IfSome result (λ t. HasWritten t.pass.log t.pass.actor t.stamp) }
+    ensures written { HasWritten result.pass.log result.pass.actor result.stamp }
 {
     let mut turns = all.lock(rt);
     *turns = turns.wrapping_add(1);
@@ -84,7 +85,7 @@ fn in_turn<D: Disk, J: Counting, R: Wait + AllocGlobal>(
 fn on_both_in_turn<
     D: Disk + Send,
     J: Counting + Send + Sync,
-    R: Threads + Wait + AllocGlobal + Sync,
+    R: Threads + Wait + Abort + AllocGlobal + Sync,
 >(
     rt: &R,
     book: &Book<J>,
@@ -94,46 +95,45 @@ fn on_both_in_turn<
     two: Pass<J>,
     left: Vec<u64>,
     right: Vec<u64>,
-) -> (Option<Account<J>>, Option<Account<J>>)
+) -> (Account<J>, Account<J>)
     requires kind { J.kind ≡ kind_of true plain_volume }
     requires one { ¬ (one.actor ≡ a.Admin) }
     requires two { ¬ (two.actor ≡ a.Admin) }
     requires left { length left.items ≡ 258 }
     requires right { length right.items ≡ 258 }
-    ensures one { IfSome result.0 (λ t. HasWritten t.pass.log t.pass.actor t.stamp) }
-    ensures two { IfSome result.1 (λ t. HasWritten t.pass.log t.pass.actor t.stamp) }
+    ensures one { HasWritten result.0.pass.log result.0.pass.actor result.0.stamp }
+    ensures two { HasWritten result.1.pass.log result.1.pass.actor result.1.stamp }
 {
     join(
         rt,
-        move || -> Option<Account<J>>
+        move || -> Account<J>
             requires { (J.kind ≡ kind_of true plain_volume) × (¬ (one.actor ≡ a.Admin)) × (length left.items ≡ 258) }
-            ensures { IfSome result (λ t. HasWritten t.pass.log t.pass.actor t.stamp) }
+            ensures { HasWritten result.pass.log result.pass.actor result.stamp }
         { in_turn(rt, book, cluster, all, one, left, true) },
-        move || -> Option<Account<J>>
+        move || -> Account<J>
             requires { (J.kind ≡ kind_of true plain_volume) × (¬ (two.actor ≡ a.Admin)) × (length right.items ≡ 258) }
-            ensures { IfSome result (λ t. HasWritten t.pass.log t.pass.actor t.stamp) }
+            ensures { HasWritten result.pass.log result.pass.actor result.stamp }
         { in_turn(rt, book, cluster, all, two, right, false) },
     )
 }
 
 #[test]
 fn under_one_lock_no_writes_meet(rt: HostRuntime) -> Result<(), Fail> {
-    let volume = Volume::plain(rt.alloc())?;
-    let opened = Opened::start(rt.alloc(), &volume, true)?;
+    let volume = Volume::plain(rt.alloc()).expect(&rt, "memory");
+    let opened = Opened::start(rt.alloc(), &volume, true).expect(&rt, "memory");
     let meeting = Meeting::new();
-    let disks = four(rt.alloc(), &meeting)?;
-    miss::<Brand, _>(&rt, rt.alloc(), opened, volume, disks)?;
+    let disks = four(&rt, &meeting);
+    miss::<Brand, _>(&rt, opened, volume, disks);
     assert!(rt; !meeting.met());
     Ok(())
 }
 
 fn miss<J: Counting + Send + Sync, R: Threads + Wait + Abort + AllocGlobal + Sync>(
     rt: &R,
-    alloc: Global,
     opened: Opened,
     volume: Volume,
     disks: Vec<MeetDisk<'_, PlainDisk>>,
-) -> Result<(), Fail>
+)
     requires named { (opened.seen.book ≡ J.book) × (opened.hand.tallies ≡ J.tallies) × (opened.hand.copy ≡ J.copy) × (opened.hand.kind ≡ J.kind) }
     requires kind { J.kind ≡ kind_of true plain_volume }
     requires volume { volume ≡ plain_volume }
@@ -145,17 +145,15 @@ fn miss<J: Counting + Send + Sync, R: Threads + Wait + Abort + AllocGlobal + Syn
         cluster,
         mut one,
         two,
-    } = staged::<MeetDisk<'_, PlainDisk>, J>(alloc, opened, volume, disks)?;
-    assert!(rt; create_both(rt, alloc, &book, &cluster, &mut one)?);
-    let left = room(alloc)?;
-    let right = room(alloc)?;
+    } = staged::<MeetDisk<'_, PlainDisk>, J, R>(rt, opened, volume, disks);
+    let are_made = create_both(rt, &book, &cluster, &mut one);
+    assert!(rt; are_made);
+    let left = room(rt);
+    let right = room(rt);
     let all = Mutex::new(0);
     let (first, second) = on_both_in_turn(rt, &book, &cluster, &all, one, two, left, right);
-    let Some(first) = first else {
-        return Err("the first client was refused")?;
-    };
-    let Some(second) = second else {
-        return Err("the second client was refused")?;
-    };
-    checked(rt, alloc, &book, first, second)
+    drop(all);
+    drop(cluster);
+    checked(rt, &book, first, second);
+    drop(book);
 }

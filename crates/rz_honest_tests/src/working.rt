@@ -1,5 +1,5 @@
 //! A client at work on its thread: it writes a block, and reads the other client's and its own.
-ghost use Rattle.std.specs.Prelude.{◌≡◌, ◌<◌, IfOk, IfSome, length, true};
+ghost use Rattle.std.specs.Prelude.{◌≡◌, ◌<◌, length, true};
 ghost use Rattle.rz_events.specs.declared.keys.Actor.TheVariants as a;
 ghost use Rattle.rz_core.specs.History.{facts};
 ghost use Rattle.rz_core.specs.Legal.{IsLegal};
@@ -15,6 +15,7 @@ use rz_disk::Disk;
 use rz_events::{FileInfo, Text};
 use rz_shared::{Cluster, Counting};
 use std::alloc::{AllocError, Global};
+use std::process::Abort;
 use std::sync::Wait;
 use std::thread::{Threads, join};
 
@@ -36,21 +37,21 @@ fn byte_of(first: bool) -> u8 {
 }
 
 /// Makes the files of both clients.
-pub fn create_both<D: Disk, J: Counting, R: Wait>(
+pub fn create_both<D: Disk, J: Counting, R: Wait + Abort + AllocGlobal>(
     rt: &R,
-    alloc: Global,
     book: &Book<J>,
     cluster: &Cluster<D, J>,
     pass: &mut Pass<J>,
-) -> Result<bool, AllocError>
+) -> bool
     requires kind { J.kind ≡ kind_of true plain_volume }
     requires client { ¬ (pass.old.actor ≡ a.Admin) }
     ensures same { pass.new.actor ≡ pass.old.actor }
 {
-    let first = path_of(alloc, true)?;
-    let second = path_of(alloc, false)?;
-    let made = create(rt, book, cluster, pass, first);
-    Ok(create(rt, book, cluster, pass, second) && made)
+    let path = path_of(rt.alloc(), true).expect(rt, "memory");
+    let first = create(rt, book, cluster, pass, path);
+    let path = path_of(rt.alloc(), false).expect(rt, "memory");
+    let second = create(rt, book, cluster, pass, path);
+    first && second
 }
 
 /// What the bins of a text of one byte come to.
@@ -90,34 +91,33 @@ fn read<D: Disk, J: Counting, R: Wait>(
 }
 
 /// Begins a write of one byte and keeps its record.
-fn write<D: Disk, J: Counting, R: Wait>(
+fn write<D: Disk, J: Counting, R: Wait + Abort + AllocGlobal>(
     rt: &R,
-    alloc: Global,
     book: &Book<J>,
     cluster: &Cluster<D, J>,
     pass: &mut Pass<J>,
     info: &FileInfo,
     position: u8,
     byte: u8,
-) -> Option<Began>
+) -> Began
     requires kind { J.kind ≡ kind_of true plain_volume }
     requires client { ¬ (pass.old.actor ≡ a.Admin) }
     requires placing { IsPlacing plain_volume (facts pass.old.log) info.now.fid info.now.places }
     requires place { position < 4 }
     ensures same { pass.new.actor ≡ pass.old.actor }
     ensures grows { GrowsTo (facts pass.old.log) (facts pass.new.log) }
-    ensures written { IfSome result (λ b. HasWritten pass.new.log pass.old.actor b.stamp) }
+    ensures written { HasWritten pass.new.log pass.old.actor result.stamp }
 {
     let text = [byte];
-    let mut bins = bins_of(alloc, &text, position).ok()?;
-    let own = Text::from_bytes(alloc, &text).ok()?;
-    let began = begin(rt, book, cluster, pass, info, own)?;
-    if !keep(
+    let mut bins = bins_of(rt.alloc(), &text, position).expect(rt, "memory");
+    let own = Text::from_bytes(rt.alloc(), &text).expect(rt, "memory");
+    let began = begin(rt, book, cluster, pass, info, own).expect(rt, "a write");
+    let is_kept = keep(
         rt, book, cluster, pass, info, position, began, &text, &mut bins,
-    ) {
-        return None;
-    }
-    Some(began)
+    );
+    drop(bins);
+    assert!(rt; is_kept);
+    began
 }
 
 /// What a client comes back with: its pass, the stamp of its write, and what it saw.
@@ -128,66 +128,90 @@ pub struct Account<J: Naming> {
     pub notes: [Note; 4],
 }
 
+/// Opens the file of a client.
+fn opened<D: Disk, J: Counting, R: Wait + Abort + AllocGlobal>(
+    rt: &R,
+    book: &Book<J>,
+    cluster: &Cluster<D, J>,
+    pass: &mut Pass<J>,
+    first: bool,
+) -> FileInfo
+    requires kind { J.kind ≡ kind_of true plain_volume }
+    requires client { ¬ (pass.old.actor ≡ a.Admin) }
+    ensures same { pass.new.actor ≡ pass.old.actor }
+    ensures grows { GrowsTo (facts pass.old.log) (facts pass.new.log) }
+    ensures placing { IsPlacing plain_volume (facts pass.new.log) result.fid result.places }
+{
+    let path = path_of(rt.alloc(), first).expect(rt, "memory");
+    open(rt, book, cluster, pass, path).expect(rt, "a file")
+}
+
 /// Writes a block, and reads the other client's and its own.
-pub fn write_and_read<D: Disk, J: Counting, R: Wait + AllocGlobal>(
+fn at_work<D: Disk, J: Counting, R: Wait + Abort + AllocGlobal>(
+    rt: &R,
+    book: &Book<J>,
+    cluster: &Cluster<D, J>,
+    pass: &mut Pass<J>,
+    room: &mut [u64],
+    first: bool,
+) -> (u64, [Note; 4])
+    requires kind { J.kind ≡ kind_of true plain_volume }
+    requires client { ¬ (pass.old.actor ≡ a.Admin) }
+    requires room { length room.old ≡ 258 }
+    ensures same { pass.new.actor ≡ pass.old.actor }
+    ensures written { HasWritten pass.new.log pass.new.actor result.0 }
+    ensures legal { IsLegal plain_volume pass.new.log }
+{
+    let place = position_of(first);
+    let its_place = position_of(!first);
+    let mine = opened(rt, book, cluster, pass, first);
+    let other = opened(rt, book, cluster, pass, !first);
+    let began = write(rt, book, cluster, pass, &mine, place, byte_of(first));
+    // The two writes have the stamps 1 and 2.
+    let its = if began.stamp == 1 { 2 } else { 1 };
+    let across = read(rt, book, cluster, pass, &other, its_place, its, room);
+    let own = read(rt, book, cluster, pass, &mine, place, began.stamp, room);
+    let notes = [
+        Note::Began {
+            stamp: began.stamp,
+            text: u64::from(byte_of(first)),
+        },
+        Note::Kept { stamp: began.stamp },
+        across,
+        own,
+    ];
+    (began.stamp, notes)
+}
+
+/// Writes a block, and reads the other client's and its own, with a pass of its own.
+pub fn write_and_read<D: Disk, J: Counting, R: Wait + Abort + AllocGlobal>(
     rt: &R,
     book: &Book<J>,
     cluster: &Cluster<D, J>,
     pass: Pass<J>,
     room: Vec<u64>,
     first: bool,
-) -> Option<Account<J>>
+) -> Account<J>
     requires kind { J.kind ≡ kind_of true plain_volume }
     requires client { ¬ (pass.actor ≡ a.Admin) }
     requires room { length room.items ≡ 258 }
-    ensures same { IfSome result (λ t. t.pass.actor ≡ pass.actor) }
-    ensures written { IfSome result (λ t. HasWritten t.pass.log t.pass.actor t.stamp) }
-    ensures legal { IfSome result (λ t. IsLegal plain_volume t.pass.log) }
+    ensures same { result.pass.actor ≡ pass.actor }
+    ensures written { HasWritten result.pass.log result.pass.actor result.stamp }
+    ensures legal { IsLegal plain_volume result.pass.log }
 {
     let mut pass = pass;
     let mut room = room;
-    let alloc = rt.alloc();
-    let byte = byte_of(first);
-    let place = position_of(first);
-    let its_place = position_of(!first);
-    let path = path_of(alloc, first).ok()?;
-    let mine = open(rt, book, cluster, &mut pass, path)?;
-    let path = path_of(alloc, !first).ok()?;
-    let other = open(rt, book, cluster, &mut pass, path)?;
-    let began = write(rt, alloc, book, cluster, &mut pass, &mine, place, byte)?;
-    // The two writes have the stamps 1 and 2.
-    let its = if began.stamp == 1 { 2 } else { 1 };
-    let across = read(
-        rt, book, cluster, &mut pass, &other, its_place, its, &mut room,
-    );
-    let own = read(
-        rt,
-        book,
-        cluster,
-        &mut pass,
-        &mine,
-        place,
-        began.stamp,
-        &mut room,
-    );
-    let notes = [
-        Note::Began {
-            stamp: began.stamp,
-            text: u64::from(byte),
-        },
-        Note::Kept { stamp: began.stamp },
-        across,
-        own,
-    ];
-    Some(Account {
-        pass,
-        stamp: began.stamp,
-        notes,
-    })
+    let (stamp, notes) = at_work(rt, book, cluster, &mut pass, &mut room, first);
+    drop(room);
+    Account { pass, stamp, notes }
 }
 
 /// Two clients write and read on threads of their own.
-pub fn on_both<D: Disk + Send, J: Counting + Send + Sync, R: Threads + Wait + AllocGlobal + Sync>(
+pub fn on_both<
+    D: Disk + Send,
+    J: Counting + Send + Sync,
+    R: Threads + Wait + Abort + AllocGlobal + Sync,
+>(
     rt: &R,
     book: &Book<J>,
     cluster: &Cluster<D, J>,
@@ -195,24 +219,24 @@ pub fn on_both<D: Disk + Send, J: Counting + Send + Sync, R: Threads + Wait + Al
     two: Pass<J>,
     left: Vec<u64>,
     right: Vec<u64>,
-) -> (Option<Account<J>>, Option<Account<J>>)
+) -> (Account<J>, Account<J>)
     requires kind { J.kind ≡ kind_of true plain_volume }
     requires one { ¬ (one.actor ≡ a.Admin) }
     requires two { ¬ (two.actor ≡ a.Admin) }
     requires left { length left.items ≡ 258 }
     requires right { length right.items ≡ 258 }
-    ensures one { IfSome result.0 (λ t. HasWritten t.pass.log t.pass.actor t.stamp) }
-    ensures two { IfSome result.1 (λ t. HasWritten t.pass.log t.pass.actor t.stamp) }
+    ensures one { HasWritten result.0.pass.log result.0.pass.actor result.0.stamp }
+    ensures two { HasWritten result.1.pass.log result.1.pass.actor result.1.stamp }
 {
     join(
         rt,
-        move || -> Option<Account<J>>
+        move || -> Account<J>
             requires { (J.kind ≡ kind_of true plain_volume) × (¬ (one.actor ≡ a.Admin)) × (length left.items ≡ 258) }
-            ensures { IfSome result (λ t. HasWritten t.pass.log t.pass.actor t.stamp) }
+            ensures { HasWritten result.pass.log result.pass.actor result.stamp }
         { write_and_read(rt, book, cluster, one, left, true) },
-        move || -> Option<Account<J>>
+        move || -> Account<J>
             requires { (J.kind ≡ kind_of true plain_volume) × (¬ (two.actor ≡ a.Admin)) × (length right.items ≡ 258) }
-            ensures { IfSome result (λ t. HasWritten t.pass.log t.pass.actor t.stamp) }
+            ensures { HasWritten result.pass.log result.pass.actor result.stamp }
         { write_and_read(rt, book, cluster, two, right, false) },
     )
 }

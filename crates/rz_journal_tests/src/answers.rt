@@ -3,10 +3,10 @@
 use rz_disk::Disk;
 use rz_events::{Call, Reply, TreeReply};
 use rz_journal::{Journal, JournalReply};
-use std::test::Fail;
+use std::process::Abort;
 
 /// What a journal answers.
-#[derive(Clone, Copy, Debug, PartialEq, Eq, Drop)]
+#[derive(Clone, Copy, PartialEq, Eq, Drop)]
 pub enum Told {
     /// The object of this number was made.
     Made(u128),
@@ -18,14 +18,17 @@ pub enum Told {
 }
 
 /// What a journal answers to a call, which its export is to take.
-pub fn ask<D: Disk>(journal: &mut Journal<D>, call: &Call) -> Result<Told, Fail> {
-    if !journal.export().takes(call) {
-        return Err("not taken")?;
-    }
+pub fn ask<D: Disk>(rt: &impl Abort, journal: &mut Journal<D>, call: &Call) -> Told {
+    assert!(rt; journal.export().takes(call));
     let reply = journal.answer(call);
     let told = told_by(&reply);
     drop(reply);
-    Ok(told)
+    told
+}
+
+/// Whether a journal replied to a call.
+pub fn has_replied(told: Told) -> bool {
+    matches!(told, Told::Made(_) | Told::Replied)
 }
 
 fn told_by(reply: &JournalReply) -> Told {

@@ -2,20 +2,33 @@
 
 use rz_events::{Key, Text, TreeCall};
 use rz_journal_text::{Entry, EntryFault, read, write};
+use std::alloc::Global;
+use std::process::Abort;
 use std::test::Fail;
+
+// The bytes that are written of an entry, which goes then.
+fn written(rt: &(impl Abort + AllocGlobal), entry: Entry) -> Vec<u8> {
+    let mut bytes = Vec::new(rt.alloc());
+    let written = write(rt.alloc(), &entry, &mut bytes);
+    drop(entry);
+    written.expect(rt, "memory");
+    bytes
+}
+
+// Compares the bytes of an entry.
+fn is_written(rt: &(impl Abort + AllocGlobal), entry: Entry, wanted: &[u8]) {
+    let bytes = written(rt, entry);
+    let is_right = bytes.as_slice() == wanted;
+    drop(bytes);
+    assert!(rt; is_right, "{wanted:?}");
+}
 
 #[test]
 fn a_rename(rt: HostRuntime) -> Result<(), Fail> {
-    let entry = Entry::Tree(TreeCall::Rename {
-        path: Text::from_bytes(rt.alloc(), b"/a")?,
-        to: Text::from_bytes(rt.alloc(), b"/bc")?,
-    });
-    let mut bytes = Vec::new(rt.alloc());
-    write(rt.alloc(), &entry, &mut bytes)?;
-    assert_eq!(rt;
-        bytes.as_slice(),
-        b"\x01\x0a\x02\x00/a\x03\x00/bc".as_slice()
-    );
+    let path = Text::from_bytes(rt.alloc(), b"/a").expect(&rt, "memory");
+    let to = Text::from_bytes(rt.alloc(), b"/bc").expect(&rt, "memory");
+    let entry = Entry::Tree(TreeCall::Rename { path, to });
+    is_written(&rt, entry, b"\x01\x0a\x02\x00/a\x03\x00/bc");
     Ok(())
 }
 
@@ -27,11 +40,10 @@ fn a_publish(rt: HostRuntime) -> Result<(), Fail> {
         mask: 0b101,
         bytes: 513,
     };
-    let mut bytes = Vec::new(rt.alloc());
-    write(rt.alloc(), &entry, &mut bytes)?;
-    assert_eq!(rt;
-        bytes.as_slice(),
-        b"\x03\x02\x01\0\0\0\0\0\0\0\0\0\0\0\0\0\0\x03\0\0\0\0\0\0\0\x04\0\0\0\0\0\0\0\x05\0\x01\x02\0\0".as_slice()
+    is_written(
+        &rt,
+        entry,
+        b"\x03\x02\x01\0\0\0\0\0\0\0\0\0\0\0\0\0\0\x03\0\0\0\0\0\0\0\x04\0\0\0\0\0\0\0\x05\0\x01\x02\0\0",
     );
     Ok(())
 }
@@ -65,10 +77,8 @@ const ENTRIES: [&[u8]; 11] = [
 #[test]
 fn each_kind_is_read_and_written_again(rt: HostRuntime) -> Result<(), Fail> {
     for bytes in ENTRIES {
-        let entry = read(rt.alloc(), bytes)?;
-        let mut again = Vec::new(rt.alloc());
-        write(rt.alloc(), &entry, &mut again)?;
-        assert_eq!(rt; again.as_slice(), bytes);
+        let entry = read(rt.alloc(), bytes).expect(&rt, "an entry");
+        is_written(&rt, entry, bytes);
     }
     Ok(())
 }
@@ -94,14 +104,22 @@ const DAMAGED: [&[u8]; 11] = [
     b"\x08\x02\0\0\0\0\0\0\0\0\0\0\0\0\0\0\0\x01\0\0\0\0\0\0\0\x09\0\0\0\0\0\0\0\x02",
 ];
 
+// Whether bytes are refused as those of no entry.
+fn is_bad(alloc: Global, bytes: &[u8]) -> bool {
+    match read(alloc, bytes) {
+        Ok(entry) => {
+            drop(entry);
+            false
+        }
+        Err(fault) => matches!(fault, EntryFault::BadEntry),
+    }
+}
+
 #[test]
 fn damaged_entries_are_refused(rt: HostRuntime) -> Result<(), Fail> {
     for bytes in DAMAGED {
-        let bad = match read(rt.alloc(), bytes) {
-            Err(EntryFault::BadEntry) => true,
-            _ => false,
-        };
-        assert_eq!(rt; bad, true);
+        let is_bad = is_bad(rt.alloc(), bytes);
+        assert!(rt; is_bad, "{bytes:?}");
     }
     Ok(())
 }

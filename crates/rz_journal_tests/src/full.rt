@@ -2,11 +2,11 @@
 
 use crate::answers::Told;
 use crate::links::link;
-use crate::making::{all_stand, disk_with, fault_of, open, store};
+use crate::making::{all_stand, disk_with, is_opened, open, store};
 use crate::sample::{HALF_GATE, SECOND_HALF};
-use rz_disk::Disk;
-use rz_journal::Journal;
+use rz_disk::PlainDisk;
 use std::alloc::{AllocError, Global};
+use std::process::Abort;
 use std::test::Fail;
 
 /// The counters, whose last number drawn is 0 and whose last object is 1: 30 bytes.
@@ -64,59 +64,61 @@ fn full(need: u64) -> Told {
     }
 }
 
-/// Asks calls of which one takes a byte more than the parts leave, one as many and is refused, and one as many
-/// and is accepted: links with a target and a path of so many bytes. Then the parts take 134 bytes more.
-fn ask_links<D: Disk>(alloc: Global, journal: &mut Journal<D>) -> Result<(), Fail> {
-    for (target, size, wanted) in [
+/// Links with a target and a path of so many bytes, and what is told by each. One takes a byte more than the
+/// parts leave, one as many and is refused, and one as many and is accepted. Then the parts take 134 bytes more.
+fn links() -> [(usize, usize, Told); 6] {
+    [
         (31, 32, full(8_388_577)),
         (0, 63, full(8_388_577)),
         (1024, 255, full(8_389_793)),
         (0, 62, Told::Replied),
         (30, 32, Told::Made(2)),
         (1, 2, full(8_388_651)),
-    ] {
-        if link(alloc, journal, target, size)? != wanted {
-            return Err(wanted)?;
-        }
-    }
-    Ok(())
+    ]
 }
 
 /// The disk behind these calls.
-fn asked<D: Disk>(alloc: Global, disk: D) -> Result<D, Fail> {
-    let mut journal = open(alloc, disk)?;
-    let asked = ask_links(alloc, &mut journal);
-    let disk = journal.into_disk();
-    asked?;
-    Ok(disk)
+fn asked(rt: &(impl Abort + AllocGlobal), disk: PlainDisk) -> PlainDisk {
+    let mut journal = open(rt, disk);
+    for (target, size, wanted) in links() {
+        let told = link(rt, &mut journal, target, size);
+        assert!(rt; told == wanted, "{target} and {size}");
+    }
+    journal.into_disk()
 }
 
 /// Where the parts stand in the half in use, the entry is written behind them.
 #[test]
 fn parts_leave_room_for_an_entry(rt: HostRuntime) -> Result<(), Fail> {
-    let row = parts(rt.alloc())?;
-    let disk = disk_with(rt.alloc(), row.as_slice())?;
-    let mut disk = asked(rt.alloc(), disk)?;
-    let stand = all_stand(rt.alloc(), &mut disk, &[(HALF_GATE, b"\0".as_slice())])?;
-    let fault = fault_of(rt.alloc(), disk)?;
-    assert!(rt; stand);
-    assert_eq!(rt; fault, None);
+    let row = parts(rt.alloc()).expect(&rt, "memory");
+    let disk = disk_with(&rt, row.as_slice());
+    drop(row);
+    let mut disk = asked(&rt, disk);
+    let stand = all_stand(&rt, &mut disk, &[(HALF_GATE, b"\0".as_slice())]);
+    let is_opened = is_opened(&rt, disk);
+    assert!(rt; stand && is_opened);
     Ok(())
+}
+
+/// The parts and a call behind them.
+fn parts_and_call(alloc: Global) -> Result<Vec<u8>, AllocError> {
+    let mut row = parts(alloc)?;
+    row.extend_from_slice(SETATTR)?;
+    Ok(row)
 }
 
 /// Where a call stands behind the parts, they are written into the other half first.
 #[test]
 fn parts_and_an_entry_fill_a_half(rt: HostRuntime) -> Result<(), Fail> {
     let last = SECOND_HALF + 8_388_575;
-    let mut row = parts(rt.alloc())?;
-    row.extend_from_slice(SETATTR)?;
-    let mut disk = disk_with(rt.alloc(), row.as_slice())?;
-    store(&mut disk, last, b"\xff")?;
-    let mut disk = asked(rt.alloc(), disk)?;
+    let row = parts_and_call(rt.alloc()).expect(&rt, "memory");
+    let mut disk = disk_with(&rt, row.as_slice());
+    drop(row);
+    store(&rt, &mut disk, last, b"\xff");
+    let mut disk = asked(&rt, disk);
     let rows = [(HALF_GATE, b"\x01".as_slice()), (last, b"\0".as_slice())];
-    let stand = all_stand(rt.alloc(), &mut disk, &rows)?;
-    let fault = fault_of(rt.alloc(), disk)?;
-    assert!(rt; stand);
-    assert_eq!(rt; fault, None);
+    let stand = all_stand(&rt, &mut disk, &rows);
+    let is_opened = is_opened(&rt, disk);
+    assert!(rt; stand && is_opened);
     Ok(())
 }

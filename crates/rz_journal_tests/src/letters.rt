@@ -1,21 +1,27 @@
 //! Entries of a journal, each behind its gate and its length in four bytes. A letter names each.
 
-use crate::making::{opened, prepare};
+use crate::making::{disk_with, opened};
 use crate::sample::FIRST_HALF;
-use rz_disk::{Disk, PlainDisk};
+use rz_disk::PlainDisk;
 use rz_journal::JournalFault;
 use std::alloc::{AllocError, Global};
-use std::test::Fail;
+use std::process::Abort;
 
 /// The disk of a journal with the entries of these letters.
-pub fn disk_of(alloc: Global, letters: &[u8]) -> Result<PlainDisk, Fail> {
+pub fn disk_of(rt: &(impl Abort + AllocGlobal), letters: &[u8]) -> PlainDisk {
+    let row = row_of(rt.alloc(), letters).expect(rt, "memory");
+    let disk = disk_with(rt, row.as_slice());
+    drop(row);
+    disk
+}
+
+/// The entries of these letters.
+fn row_of(alloc: Global, letters: &[u8]) -> Result<Vec<u8>, AllocError> {
     let mut row = Vec::new(alloc);
     for letter in letters {
         row.extend_from_slice(entry(*letter))?;
     }
-    let mut disk = PlainDisk::new(alloc);
-    prepare(alloc, &mut disk, row.as_slice())?;
-    Ok(disk)
+    Ok(row)
 }
 
 /// The number of the entry of a letter and where it begins, or those of the place behind the last.
@@ -33,9 +39,9 @@ pub fn place_of(letters: &[u8], letter: u8) -> (u64, u64) {
 }
 
 /// Opens a disk, and gives it back with the number of the entry that is damaged, or none where it opens.
-pub fn damaged<D: Disk>(alloc: Global, disk: D) -> Result<(D, Option<u64>), AllocError> {
-    let (disk, fault) = opened(alloc, disk)?;
-    Ok((disk, number_in(fault)))
+pub fn damaged(rt: &(impl Abort + AllocGlobal), disk: PlainDisk) -> (PlainDisk, Option<u64>) {
+    let (disk, fault) = opened(rt, disk);
+    (disk, number_in(fault))
 }
 
 /// The number of the damaged entry. A fault of another kind is told as a number that no entry has.

@@ -2,12 +2,12 @@
 //! has.
 //!
 //! They stand beside the crates and not in them, since a crate with tests is proved twice. What stands on a
-//! disk is written out by hand in `sample`, `flips` and `letters`.
+//! disk is written out by hand in `sample` and `letters`.
 //!
-//! `damage` and `header` alter bytes one at a time. In `rules` and `wholes` the entries break one rule.
-//! `written` has the bytes of each kind of call and of part, `entries` reads and writes entries alone, and
-//! `front` has a disk with one. `stops` stops at each device call of a formatting, of an entry and of a change of
-//! halves, and `exports` has what is to be found then. `last` and `full` fill a half up to its last byte.
+//! In `rules` and `wholes` the entries break one rule. `written` has the bytes of each kind of call and of part,
+//! `entries` reads and writes entries alone, and `front` has a disk with one. `stops` stops at each device call of
+//! a formatting, of an entry and of a change of halves, and `exports` has what is to be found then. `last` and
+//! `full` fill a half up to its last byte.
 #![tactic(auto)]
 
 #[cfg(test)]
@@ -15,19 +15,13 @@ mod answers;
 #[cfg(test)]
 mod calls;
 #[cfg(test)]
-mod damage;
-#[cfg(test)]
 mod entries;
 #[cfg(test)]
 mod exports;
 #[cfg(test)]
-mod flips;
-#[cfg(test)]
 mod front;
 #[cfg(test)]
 mod full;
-#[cfg(test)]
-mod header;
 #[cfg(test)]
 mod last;
 #[cfg(test)]
@@ -42,8 +36,6 @@ mod rules;
 mod sample;
 #[cfg(test)]
 mod stops;
-#[cfg(test)]
-mod told;
 #[cfg(test)]
 mod wholes;
 #[cfg(test)]

@@ -5,7 +5,7 @@ use rz_disk::Disk;
 use rz_events::{Call, Text, TreeCall};
 use rz_journal::Journal;
 use std::alloc::{AllocError, Global};
-use std::test::Fail;
+use std::process::Abort;
 
 /// A path of so many bytes, a slash among them.
 fn path(alloc: Global, size: usize) -> Result<Text, AllocError> {
@@ -26,13 +26,13 @@ fn symlink(alloc: Global, target: usize, size: usize) -> Result<Call, AllocError
 
 /// What a journal answers to the making of such a link.
 pub fn link<D: Disk>(
-    alloc: Global,
+    rt: &(impl Abort + AllocGlobal),
     journal: &mut Journal<D>,
     target: usize,
     size: usize,
-) -> Result<Told, Fail> {
-    let call = symlink(alloc, target, size)?;
-    let told = ask(journal, &call);
+) -> Told {
+    let call = symlink(rt.alloc(), target, size).expect(rt, "memory");
+    let told = ask(rt, journal, &call);
     drop(call);
     told
 }

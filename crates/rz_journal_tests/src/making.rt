@@ -2,52 +2,42 @@
 
 use crate::sample::{FIRST_HALF, HEADER, SIZE};
 use rz_config::Volume;
-use rz_disk::{Disk, DiskError, Failed, PlainDisk};
+use rz_disk::{Disk, PlainDisk};
 use rz_journal::{Journal, JournalFault};
 use std::alloc::{AllocError, Global};
-use std::test::Fail;
+use std::process::Abort;
 
-/// Writes bytes and syncs them, where there is room for them.
-pub fn store<D: Disk>(disk: &mut D, at: u64, bytes: &[u8]) -> Result<(), Failed> {
+/// Writes bytes and syncs them.
+pub fn store<D: Disk>(rt: &impl Abort, disk: &mut D, at: u64, bytes: &[u8]) {
     let size = disk.size();
-    if at <= size && bytes.len() as u64 <= size - at {
-        disk.write_at(at, bytes)?;
-        disk.sync()?;
-    }
-    Ok(())
+    assert!(rt; at <= size && bytes.len() as u64 <= size - at);
+    disk.write_at(at, bytes).expect(rt, "a write");
+    disk.sync().expect(rt, "a sync");
 }
 
 /// Whether these bytes stand on a disk.
-fn stands<D: Disk>(alloc: Global, disk: &mut D, at: u64, bytes: &[u8]) -> Result<bool, Fail> {
-    let mut there = Vec::from_elem(alloc, 0u8, bytes.len())?;
+fn stands<D: Disk>(rt: &(impl Abort + AllocGlobal), disk: &mut D, at: u64, bytes: &[u8]) -> bool {
+    let mut there = Vec::from_elem(rt.alloc(), 0u8, bytes.len()).expect(rt, "memory");
     let size = disk.size();
-    if at <= size && there.len() as u64 <= size - at {
-        disk.read(at, &mut there)?;
-        Ok(there.as_slice() == bytes)
-    } else {
-        Ok(false)
-    }
+    assert!(rt; at <= size && there.len() as u64 <= size - at);
+    disk.read(at, &mut there).expect(rt, "a read");
+    let stands = there.as_slice() == bytes;
+    drop(there);
+    stands
 }
 
 /// Whether all of these bytes stand on a disk, each row at its address.
 pub fn all_stand<D: Disk>(
-    alloc: Global,
+    rt: &(impl Abort + AllocGlobal),
     disk: &mut D,
     rows: &[(u64, &[u8])],
-) -> Result<bool, Fail> {
+) -> bool {
     for (at, bytes) in rows {
-        if !stands(alloc, disk, *at, bytes)? {
-            return Ok(false);
+        if !stands(rt, disk, *at, bytes) {
+            return false;
         }
     }
-    Ok(true)
-}
-
-/// A disk of so many zeros.
-pub fn zeros(alloc: Global, size: u64) -> Result<PlainDisk, DiskError> {
-    let mut disk = PlainDisk::new(alloc);
-    disk.reset(alloc, size)?;
-    Ok(disk)
+    true
 }
 
 /// Bytes one behind the other.
@@ -60,18 +50,17 @@ pub fn joined(alloc: Global, pieces: &[&[u8]]) -> Result<Vec<u8>, AllocError> {
 }
 
 /// Makes a disk anew, formatted and with these bytes at the begin of its first half, by five calls.
-pub fn prepare<D: Disk>(alloc: Global, disk: &mut D, bytes: &[u8]) -> Result<(), Fail> {
-    disk.reset(alloc, SIZE)?;
-    store(disk, 0, HEADER)?;
-    store(disk, FIRST_HALF, bytes)?;
-    Ok(())
+pub fn prepare<D: Disk>(rt: &(impl Abort + AllocGlobal), disk: &mut D, bytes: &[u8]) {
+    disk.reset(rt.alloc(), SIZE).expect(rt, "a disk");
+    store(rt, disk, 0, HEADER);
+    store(rt, disk, FIRST_HALF, bytes);
 }
 
 /// A formatted disk whose first half begins with these bytes.
-pub fn disk_with(alloc: Global, bytes: &[u8]) -> Result<PlainDisk, Fail> {
-    let mut disk = PlainDisk::new(alloc);
-    prepare(alloc, &mut disk, bytes)?;
-    Ok(disk)
+pub fn disk_with(rt: &(impl Abort + AllocGlobal), bytes: &[u8]) -> PlainDisk {
+    let mut disk = PlainDisk::new(rt.alloc());
+    prepare(rt, &mut disk, bytes);
+    disk
 }
 
 /// The name of the directory that is made and taken away: a slash and 255 bytes.
@@ -101,24 +90,26 @@ pub fn filling(alloc: Global, count: u64) -> Result<Vec<u8>, AllocError> {
 }
 
 /// Why a disk is not opened, and the disk.
-pub fn opened<D: Disk>(alloc: Global, disk: D) -> Result<(D, Option<JournalFault>), AllocError> {
-    match Journal::reopen(alloc, Volume::plain(alloc)?, disk) {
-        Ok(journal) => Ok((journal.into_disk(), None)),
-        Err((disk, fault)) => Ok((disk, Some(fault))),
+pub fn opened<D: Disk>(rt: &(impl Abort + AllocGlobal), disk: D) -> (D, Option<JournalFault>) {
+    let volume = Volume::plain(rt.alloc()).expect(rt, "memory");
+    match Journal::reopen(rt.alloc(), volume, disk) {
+        Ok(journal) => (journal.into_disk(), None),
+        Err((disk, fault)) => (disk, Some(fault)),
     }
 }
 
-/// Why a disk is not opened. It goes then.
-pub fn fault_of<D: Disk>(alloc: Global, disk: D) -> Result<Option<JournalFault>, AllocError> {
-    let (disk, fault) = opened(alloc, disk)?;
+/// Whether a disk is opened. It goes then.
+pub fn is_opened<D: Disk>(rt: &(impl Abort + AllocGlobal), disk: D) -> bool {
+    let (disk, fault) = opened(rt, disk);
     drop(disk);
-    Ok(fault)
+    fault.is_none()
 }
 
 /// A journal on a disk that is opened.
-pub fn open<D: Disk>(alloc: Global, disk: D) -> Result<Journal<D>, Fail> {
-    match Journal::reopen(alloc, Volume::plain(alloc)?, disk) {
-        Ok(journal) => Ok(journal),
-        Err(_) => Err("not opened")?,
+pub fn open<D: Disk>(rt: &(impl Abort + AllocGlobal), disk: D) -> Journal<D> {
+    let volume = Volume::plain(rt.alloc()).expect(rt, "memory");
+    match Journal::reopen(rt.alloc(), volume, disk) {
+        Ok(journal) => journal,
+        Err(_) => rt.panic("not opened"),
     }
 }

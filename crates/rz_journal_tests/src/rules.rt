@@ -2,37 +2,43 @@
 
 use crate::letters::{CALL_LETTERS, PART_LETTERS, damaged, disk_of, entry, place_of};
 use crate::making::store;
-use rz_disk::Disk;
-use std::alloc::Global;
+use rz_disk::PlainDisk;
+use std::process::Abort;
 use std::test::Fail;
 
 /// An entry, the place of a byte in it, another byte there, and what is told then: the entry that is
 /// damaged, `!` for the place behind the last, or a point where the journal opens.
 type Rule = (u8, usize, u8, u8);
 
-/// The first of the rules of which something else is told, on the disk of a journal of these letters.
-fn first_other<D: Disk>(
-    alloc: Global,
-    disk: D,
-    letters: &[u8],
-    rules: &[Rule],
-) -> Result<Option<usize>, Fail> {
+/// What is told of a disk with another byte at an address. The disk is then as it was.
+fn told(
+    rt: &(impl Abort + AllocGlobal),
+    disk: PlainDisk,
+    at: u64,
+    was: u8,
+    byte: u8,
+) -> (PlainDisk, Option<u64>) {
     let mut disk = disk;
-    for (number, (letter, place, byte, wanted)) in rules.iter().enumerate() {
-        let Some(was) = entry(*letter).get(*place) else {
-            return Ok(Some(number));
-        };
+    store(rt, &mut disk, at, &[byte]);
+    let (back, found) = damaged(rt, disk);
+    let mut disk = back;
+    store(rt, &mut disk, at, &[was]);
+    (disk, found)
+}
+
+/// Compares what is told by the rules, on the disk of a journal of these letters.
+fn keep(rt: &(impl Abort + AllocGlobal), letters: &[u8], rules: &[Rule]) {
+    let mut disk = disk_of(rt, letters);
+    for (letter, place, byte, wanted) in rules {
+        let was = entry(*letter).get(*place).copied().expect(rt, "a place");
         let (_, start) = place_of(letters, *letter);
         let at = start.saturating_add(*place as u64);
-        store(&mut disk, at, &[*byte])?;
-        let (back, found) = damaged(alloc, disk)?;
+        let (back, found) = told(rt, disk, at, was, *byte);
         disk = back;
-        if found != number_of(letters, *wanted) {
-            return Ok(Some(number));
-        }
-        store(&mut disk, at, &[*was])?;
+        let is_told = found == number_of(letters, *wanted);
+        assert!(rt; is_told, "entry {letter}, place {place}");
     }
-    Ok(None)
+    drop(disk);
 }
 
 /// The number of the entry of a letter, or none for a point.
@@ -242,31 +248,19 @@ const OLD_LOSSES: [Rule; 4] = [
 
 #[test]
 fn parts_keep_their_rules(rt: HostRuntime) -> Result<(), Fail> {
-    for rules in [
-        COUNTERS.as_slice(),
-        OBJECTS.as_slice(),
-        NAMES.as_slice(),
-        BLOCKS.as_slice(),
-        ENROLMENTS.as_slice(),
-    ] {
-        let disk = disk_of(rt.alloc(), PART_LETTERS)?;
-        let other = first_other(rt.alloc(), disk, PART_LETTERS, rules)?;
-        assert_eq!(rt; other, None);
-    }
+    keep(&rt, PART_LETTERS, &COUNTERS);
+    keep(&rt, PART_LETTERS, &OBJECTS);
+    keep(&rt, PART_LETTERS, &NAMES);
+    keep(&rt, PART_LETTERS, &BLOCKS);
+    keep(&rt, PART_LETTERS, &ENROLMENTS);
     Ok(())
 }
 
 #[test]
 fn calls_are_accepted(rt: HostRuntime) -> Result<(), Fail> {
-    for (letters, rules) in [
-        (CALL_LETTERS, TREE_CALLS.as_slice()),
-        (CALL_LETTERS, OTHER_CALLS.as_slice()),
-        (BEHIND_A_LOSS, LOSSES.as_slice()),
-        (TWO_LOSSES, OLD_LOSSES.as_slice()),
-    ] {
-        let disk = disk_of(rt.alloc(), letters)?;
-        let other = first_other(rt.alloc(), disk, letters, rules)?;
-        assert_eq!(rt; other, None);
-    }
+    keep(&rt, CALL_LETTERS, &TREE_CALLS);
+    keep(&rt, CALL_LETTERS, &OTHER_CALLS);
+    keep(&rt, BEHIND_A_LOSS, &LOSSES);
+    keep(&rt, TWO_LOSSES, &OLD_LOSSES);
     Ok(())
 }

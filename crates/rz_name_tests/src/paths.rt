@@ -1,57 +1,55 @@
-//! Texts of paths, and what they are read as.
+//! Paths are read and copied, and names added and renamed, with ample memory.
 
-ghost use Rattle.std.specs.Prelude.{◌≡◌, ◌∷◌, [], IfOk, Some};
+ghost use Rattle.std.specs.Prelude.{◌≡◌, ◌∷◌, [], Some};
 ghost use Rattle.rz_export_model.specs.Paths.{path_of};
+ghost use Rattle.rz_names.specs.Names.{root_alone};
 
 use rz_names::{NameMap, Path};
+use std::alloc::AllocError;
+use std::process::Abort;
 use std::test::Fail;
 
-// Texts, and how many names each has as a path.
-const TEXTS: [(&[u8], Option<usize>); 8] = [
-    (b"/", Some(0)),
-    (b"/a/bc/d", Some(3)),
-    (b"/...", Some(1)),
-    (b"a/b", None),
-    (b"/a//b", None),
-    (b"/a/", None),
-    (b"/a/..", None),
-    (b"/a\0", None),
-];
-
 #[test]
-fn reads_paths(rt: HostRuntime) -> Result<(), Fail> {
-    for (text, names) in TEXTS {
-        let read = match Path::read(rt.alloc(), text) {
-            Ok(path) => Some(path.names().len()),
-            Err(_) => None,
-        };
-        assert_eq!(rt; read, names);
-    }
+fn a_long_path_is_copied(rt: HostRuntime) -> Result<(), Fail> {
+    let path = Path::long(rt.alloc(), b"/a/b").expect(&rt, "a path");
+    let copy = path.copy(rt.alloc()).expect(&rt, "memory");
+    drop(path);
+    let count = copy.names().len();
+    drop(copy);
+    assert!(rt; count == 2);
     Ok(())
 }
 
 // The path of one name of one byte.
-fn short_path(rt: &HostRuntime, name: u8) -> Result<Path, Fail>
+fn short_path(rt: &(impl Abort + AllocGlobal), name: u8) -> Path
     requires { path_of (47 ∷ name ∷ []) ≡ Some ((name ∷ []) ∷ []) }
-    ensures { IfOk result (λ p. p ≡ (name ∷ []) ∷ []) }
+    ensures { result ≡ (name ∷ []) ∷ [] }
 {
-    let text = [b'/', name];
-    let path = Path::read(rt.alloc(), &text)?;
-    Ok(path)
+    Path::read(rt.alloc(), &[b'/', name]).expect(rt, "a path")
+}
+
+// Adds the name `a` and makes it `b`.
+fn add_and_rename(map: &mut NameMap, old: &Path, new: &Path) -> Result<(), AllocError>
+    requires map { map.old ≡ root_alone }
+    requires old { old.now ≡ (97 ∷ []) ∷ [] }
+    requires new { new.now ≡ (98 ∷ []) ∷ [] }
+{
+    map.add(old, 1)?;
+    map.rename(old, new)
 }
 
 #[test]
-fn adds_and_renames(rt: HostRuntime) -> Result<(), Fail> {
+fn a_name_is_added_and_renamed(rt: HostRuntime) -> Result<(), Fail> {
     let mut map = NameMap::new(rt.alloc());
-    let old = short_path(&rt, b'a')?;
-    let new = short_path(&rt, b'b')?;
-    map.add(&old, 1)?;
-    assert_eq!(rt; map.find(&old, 1), Some(1));
-    map.rename(&old, &new)?;
-    assert_eq!(rt; map.find(&old, 1), None);
-    assert_eq!(rt; map.find(&new, 1), Some(1));
-    assert!(rt; map.after(None)?.is_some());
-    let long = Path::long(rt.alloc(), b"/a/b")?.copy(rt.alloc())?;
-    assert_eq!(rt; long.names().len(), 2);
+    let old = short_path(&rt, b'a');
+    let new = short_path(&rt, b'b');
+    let renamed = add_and_rename(&mut map, &old, &new);
+    let first = map.after(None).expect(&rt, "memory");
+    let is_there = first.is_some();
+    drop(first);
+    drop(new);
+    drop(old);
+    drop(map);
+    assert!(rt; renamed.is_ok() && is_there);
     Ok(())
 }

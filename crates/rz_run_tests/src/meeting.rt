@@ -1,25 +1,27 @@
 //! Writes of two clients that go to two nodes are under way at one time. One lock round the whole cluster, or
 //! one thread for all actors, would let none of them meet another.
-ghost use Rattle.std.specs.Prelude.{◌≡◌, IfOk, length};
-
-use crate::stage::words_of;
+use crate::stage::{push, source_of, words_of};
 use rz_disk::PlainDisk;
 use rz_link::PlainLink;
 use rz_outage::{MeetDisk, Meeting};
-use rz_ports::{PlainSink, PlainSource};
+use rz_ports::PlainSink;
 use rz_run::run;
-use std::alloc::{AllocError, Global};
+use std::process::Abort;
 use std::test::Fail;
 
 const SCRIPT: &str = "op c1 create /a\nop c1 put /a 0 t:x\nop c2 create /b\nop c2 put /b 0 t:y\n";
 
 /// Four disks whose writes may meet.
-fn four(alloc: Global, meeting: &Meeting) -> Result<Vec<MeetDisk<'_, PlainDisk>>, AllocError> {
-    let mut disks = Vec::new(alloc);
+fn four<'a>(rt: &(impl Abort + AllocGlobal), meeting: &'a Meeting) -> Vec<MeetDisk<'a, PlainDisk>> {
+    let mut disks = Vec::new(rt.alloc());
     for _ in 0..4 {
-        disks.push(MeetDisk::new(PlainDisk::new(alloc), meeting))?;
+        push(
+            rt,
+            &mut disks,
+            MeetDisk::new(PlainDisk::new(rt.alloc()), meeting),
+        );
     }
-    Ok(disks)
+    disks
 }
 
 /// How many lines say that a write was acknowledged by the first three nodes.
@@ -35,24 +37,29 @@ fn acked(text: &str) -> u64 {
 
 #[test]
 fn writes_of_two_clients_meet(rt: HostRuntime) -> Result<(), Fail> {
-    let alloc = rt.alloc();
-    let words = words_of(alloc, "rozo run --disks 4")?;
+    let words = words_of(&rt, "rozo run --disks 4");
     let meeting = Meeting::new();
-    let disks = four(alloc, &meeting)?;
-    let links = vec![in alloc; PlainLink::new(); 80]?;
-    let mut input = PlainSource::new(Vec::from_slice(alloc, SCRIPT.as_bytes())?);
-    let mut output = PlainSink::with_room(alloc, 4096)?;
+    let links = vec![in rt.alloc(); PlainLink::new(); 80].expect(&rt, "memory");
+    let mut input = source_of(&rt, SCRIPT.as_bytes());
+    let mut output = PlainSink::with_room(rt.alloc(), 4096).expect(&rt, "memory");
     let ran = run(
         &rt,
-        alloc,
+        rt.alloc(),
         &words,
         &mut input,
         &mut output,
-        disks,
+        four(&rt, &meeting),
         links,
         true,
     );
-    let text = String::from_utf8_lossy(alloc, output.taken())?;
-    assert_eq!(rt; (ran.status, acked(&text), meeting.met()), (0, 2, true));
+    drop(words);
+    drop(input);
+    let status = ran.status;
+    drop(ran);
+    let text = String::from_utf8_lossy(rt.alloc(), output.taken()).expect(&rt, "memory");
+    let count = acked(&text);
+    drop(text);
+    drop(output);
+    assert_eq!(rt; (status, count, meeting.met()), (0, 2, true));
     Ok(())
 }

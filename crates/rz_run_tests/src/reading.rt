@@ -3,6 +3,7 @@ use crate::printed::end_of;
 use crate::told::Told;
 use crate::workload::{CLIENTS, PLAN, TRIES, place_of};
 use std::alloc::{AllocError, Global};
+use std::process::Abort;
 
 /// The words of a line behind an actor and a number.
 fn words_of<'a>(
@@ -13,7 +14,9 @@ fn words_of<'a>(
     line: &'a str,
 ) -> Result<Option<&'a str>, AllocError> {
     let front = format!(in alloc; "{actor}{which} {number} ")?;
-    Ok(line.strip_prefix(front.as_str()))
+    let words = line.strip_prefix(front.as_str());
+    drop(front);
+    Ok(words)
 }
 
 /// Takes the lines of a client from the front of a text, and gives what is left of it.
@@ -127,20 +130,26 @@ fn take_rebuilds<'a>(
     Ok(Some(rest))
 }
 
-/// What the printed text tells, where it has all lines that are to be there, and no others.
-pub fn read_back(alloc: Global, text: &str) -> Result<Option<Printed>, AllocError> {
-    let mut all = Vec::new(alloc);
-    let mut rebuilds = Vec::new(alloc);
-    let Some(rest) = take_clients(alloc, text, &mut all)? else {
-        return Ok(None);
+/// Takes all lines of a text, and answers whether it has all that are to be there, and no others.
+fn take_all(alloc: Global, text: &str, printed: &mut Printed) -> Result<bool, AllocError> {
+    let Some(rest) = take_clients(alloc, text, &mut printed.all)? else {
+        return Ok(false);
     };
-    let Some(rest) = take_rebuilds(alloc, rest, &mut rebuilds)? else {
-        return Ok(None);
+    let Some(rest) = take_rebuilds(alloc, rest, &mut printed.rebuilds)? else {
+        return Ok(false);
     };
-    if !is_last(rest) {
-        return Ok(None);
-    }
-    Ok(Some(Printed { all, rebuilds }))
+    Ok(is_last(rest))
+}
+
+/// What the printed text tells, which has to have all lines that are to be there, and no others.
+pub fn read_back(rt: &(impl Abort + AllocGlobal), text: &str) -> Printed {
+    let mut printed = Printed {
+        all: Vec::new(rt.alloc()),
+        rebuilds: Vec::new(rt.alloc()),
+    };
+    let is_whole = take_all(rt.alloc(), text, &mut printed).expect(rt, "memory");
+    assert!(rt; is_whole);
+    printed
 }
 
 /// Whether the rebuilder found a lost disk by one of its tries; where it did, it has to have rebuilt the nodes

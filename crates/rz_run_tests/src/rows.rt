@@ -1,14 +1,14 @@
 //! Scripts whose text does not depend on the threads, and all that is refused.
-ghost use Rattle.std.specs.Prelude.{◌≡◌, IfOk, length};
-
 use crate::clock::Clock;
-use crate::stage::{disks, links, told, words_of};
+use crate::stage::{disks, links, push, source_of, told, words_of};
 use rz_disk::PlainDisk;
 use rz_link::PlainLink;
-use rz_ports::{MemSource, PlainSink, PlainSource};
+use rz_ports::{MemSource, PlainSink, Source};
 use rz_run::run;
-use std::alloc::{AllocError, Global};
+use std::process::Abort;
+use std::sync::Wait;
 use std::test::Fail;
+use std::thread::Threads;
 
 const LINE: &str = "rozo run --disks 4";
 
@@ -78,82 +78,75 @@ const ROWS: [(&str, &str, u64, u64, &str); 12] = [
 
 #[test]
 fn rows(rt: HostRuntime) -> Result<(), Fail> {
-    let alloc = rt.alloc();
     let clock = Clock::new(0);
     for (line, script, count, failing, want) in ROWS {
-        let disks = disks(alloc, &clock, count, failing)?;
-        let links = links(alloc, &clock)?;
-        let told = told(&rt, alloc, line, script.as_bytes(), disks, links)?;
+        let disks = disks(&rt, &clock, count, failing);
+        let links = links(&rt, &clock);
+        let told = told(&rt, line, script.as_bytes(), disks, links);
         assert_eq!(rt; told.as_str(), want);
+        drop(told);
     }
     Ok(())
 }
 
 #[test]
 fn a_long_input(rt: HostRuntime) -> Result<(), Fail> {
-    let alloc = rt.alloc();
     let clock = Clock::new(0);
-    let disks = disks(alloc, &clock, 4, 9)?;
-    let links = links(alloc, &clock)?;
-    let script = vec![in alloc; b'#'; 4_194_305]?;
-    let told = told(&rt, alloc, LINE, &script, disks, links)?;
+    let script = vec![in rt.alloc(); b'#'; 4_194_305].expect(&rt, "memory");
+    let disks = disks(&rt, &clock, 4, 9);
+    let links = links(&rt, &clock);
+    let told = told(&rt, LINE, &script, disks, links);
+    drop(script);
     assert_eq!(rt; told.as_str(), "7: refused long\n");
+    drop(told);
     Ok(())
 }
 
 /// Four disks in memory.
-fn four(alloc: Global) -> Result<Vec<PlainDisk>, AllocError> {
-    let mut disks = Vec::new(alloc);
+fn four(rt: &(impl Abort + AllocGlobal)) -> Vec<PlainDisk> {
+    let mut disks = Vec::new(rt.alloc());
     for _ in 0..4 {
-        disks.push(PlainDisk::new(alloc))?;
+        push(rt, &mut disks, PlainDisk::new(rt.alloc()));
     }
-    Ok(disks)
+    disks
 }
 
-/// A link for each client and each rebuilder.
-fn eighty(alloc: Global) -> Result<Vec<PlainLink>, AllocError>
-    ensures { IfOk result (λ links. length links.items ≡ 80) }
-{
-    vec![in alloc; PlainLink::new(); 80]
+/// The status of a run of the ordinary script over four disks in memory.
+fn status<R: Threads + Wait + Abort + AllocGlobal + Sync, I: Source>(
+    rt: &R,
+    input: &mut I,
+    output: &mut PlainSink,
+) -> u8 {
+    let words = words_of(rt, LINE);
+    let links = vec![in rt.alloc(); PlainLink::new(); 80].expect(rt, "memory");
+    let ran = run(rt, rt.alloc(), &words, input, output, four(rt), links, true);
+    drop(words);
+    let status = ran.status;
+    drop(ran);
+    status
 }
 
 #[test]
 fn the_source_fails(rt: HostRuntime) -> Result<(), Fail> {
-    let alloc = rt.alloc();
-    let words = words_of(alloc, LINE)?;
-    let bytes = Vec::from_slice(alloc, ORDINARY.as_bytes())?;
-    let mut input = MemSource::new(bytes, vec![in alloc; 0]?);
-    let mut output = PlainSink::with_room(alloc, 4096)?;
-    let ran = run(
-        &rt,
-        alloc,
-        &words,
-        &mut input,
-        &mut output,
-        four(alloc)?,
-        eighty(alloc)?,
-        true,
-    );
-    assert_eq!(rt; (ran.status, output.taken().len()), (4, 0));
+    let bytes = Vec::from_slice(rt.alloc(), ORDINARY.as_bytes()).expect(&rt, "memory");
+    let fails = vec![in rt.alloc(); 0].expect(&rt, "memory");
+    let mut input = MemSource::new(bytes, fails);
+    let mut output = PlainSink::with_room(rt.alloc(), 4096).expect(&rt, "memory");
+    let status = status(&rt, &mut input, &mut output);
+    drop(input);
+    let count = output.taken().len();
+    drop(output);
+    assert_eq!(rt; (status, count), (4, 0));
     Ok(())
 }
 
 #[test]
 fn the_sink_has_too_little_room(rt: HostRuntime) -> Result<(), Fail> {
-    let alloc = rt.alloc();
-    let words = words_of(alloc, LINE)?;
-    let mut input = PlainSource::new(Vec::from_slice(alloc, ORDINARY.as_bytes())?);
-    let mut output = PlainSink::with_room(alloc, 4)?;
-    let ran = run(
-        &rt,
-        alloc,
-        &words,
-        &mut input,
-        &mut output,
-        four(alloc)?,
-        eighty(alloc)?,
-        true,
-    );
-    assert_eq!(rt; (ran.status, output.taken()), (5, b"c1 1".as_slice()));
+    let mut input = source_of(&rt, ORDINARY.as_bytes());
+    let mut output = PlainSink::with_room(rt.alloc(), 4).expect(&rt, "memory");
+    let status = status(&rt, &mut input, &mut output);
+    drop(input);
+    assert_eq!(rt; (status, output.taken()), (5, b"c1 1".as_slice()));
+    drop(output);
     Ok(())
 }

@@ -1,56 +1,68 @@
 //! One run over disks and links that go by a clock, and what comes back of it.
-ghost use Rattle.std.specs.Prelude.{◌≡◌, IfOk, IsTrue, length};
+ghost use Rattle.std.specs.Prelude.{◌≡◌, ◌∷◌, ◌++◌, [], IsTrue, length};
 
 use crate::clock::{Clock, ClockDisk, ClockLink};
 use rz_disk::{Disk, MemDisk};
 use rz_link::{Link, PlainLink};
 use rz_ports::{PlainSink, PlainSource};
 use rz_run::{Ran, run};
-use std::alloc::{AllocError, Global};
+use std::process::Abort;
 use std::sync::Wait;
-use std::test::Fail;
 use std::thread::Threads;
 
 /// A text has room for so many bytes.
 const ROOM: usize = 65_536;
 
-/// The words between single spaces.
-pub fn words_of(alloc: Global, line: &str) -> Result<Vec<String>, AllocError> {
-    let mut words = Vec::new(alloc);
-    for word in line.split(' ') {
-        words.push(String::from_str(alloc, word)?)?;
+/// Adds an item at the end.
+pub fn push<T: Drop>(rt: &impl Abort, items: &mut Vec<T>, item: T)
+    ensures { items.new.items ≡ items.old.items ++ item ∷ [] }
+{
+    match items.push(item) {
+        Ok(()) => {}
+        Err(_) => rt.panic("memory"),
     }
-    Ok(words)
+}
+
+/// The words between single spaces.
+pub fn words_of(rt: &(impl Abort + AllocGlobal), line: &str) -> Vec<String> {
+    let mut words = Vec::new(rt.alloc());
+    for word in line.split(' ') {
+        let word = String::from_str(rt.alloc(), word).expect(rt, "memory");
+        push(rt, &mut words, word);
+    }
+    words
 }
 
 /// A link for each client and each rebuilder, which loses nothing.
-pub fn links<'a>(
-    alloc: Global,
-    clock: &'a Clock,
-) -> Result<Vec<ClockLink<'a, PlainLink>>, AllocError>
-    ensures { IfOk result (λ links. length links.items ≡ 80) }
+pub fn links<'a>(rt: &(impl Abort + AllocGlobal), clock: &'a Clock) -> Vec<ClockLink<'a, PlainLink>>
+    ensures { length result.items ≡ 80 }
 {
-    let mut links = Vec::new(alloc);
+    let mut links = Vec::new(rt.alloc());
     for number in 0u64..80 {
-        links.push(ClockLink::new(PlainLink::new(), clock, number))?;
+        push(
+            rt,
+            &mut links,
+            ClockLink::new(PlainLink::new(), clock, number),
+        );
     }
-    Ok(links)
+    links
 }
 
 /// So many disks in memory. The first call of the one with the number `failing` fails.
 pub fn disks<'a>(
-    alloc: Global,
+    rt: &(impl Abort + AllocGlobal),
     clock: &'a Clock,
     count: u64,
     failing: u64,
-) -> Result<Vec<ClockDisk<'a, MemDisk>>, AllocError> {
-    let mut disks = Vec::new(alloc);
+) -> Vec<ClockDisk<'a, MemDisk>> {
+    let mut disks = Vec::new(rt.alloc());
     for number in 0..count {
         let fails = if number == failing { 0 } else { u64::MAX };
-        let disk = MemDisk::new(alloc, vec![in alloc; fails]?);
-        disks.push(ClockDisk::new(disk, clock, number, 0))?;
+        let fails = vec![in rt.alloc(); fails].expect(rt, "memory");
+        let disk = MemDisk::new(rt.alloc(), fails);
+        push(rt, &mut disks, ClockDisk::new(disk, clock, number, 0));
     }
-    Ok(disks)
+    disks
 }
 
 /// Whether these are so many disks in their order.
@@ -77,25 +89,33 @@ fn are_links<L: Link>(links: &[ClockLink<'_, L>]) -> bool {
     links.len() == 80
 }
 
-/// The status, and what was written. Disks and links that do not come back in their order are told instead.
-pub fn told<'a, R: Threads + Wait + Sync, D: Disk + Send, L: Link + Send>(
+/// A source of these bytes.
+pub fn source_of(rt: &(impl Abort + AllocGlobal), bytes: &[u8]) -> PlainSource {
+    PlainSource::new(Vec::from_slice(rt.alloc(), bytes).expect(rt, "memory"))
+}
+
+/// The status, and what was written. Disks and links that do not come back in their order stop the test.
+pub fn told<'a, R: Threads + Wait + Abort + AllocGlobal + Sync, D: Disk + Send, L: Link + Send>(
     rt: &R,
-    alloc: Global,
     line: &str,
     script: &[u8],
     disks: Vec<ClockDisk<'a, D>>,
     links: Vec<ClockLink<'a, L>>,
-) -> Result<String, Fail>
+) -> String
     requires links { length links.items ≡ 80 }
     requires tells { IsTrue D.tells }
 {
-    let words = words_of(alloc, line)?;
+    let words = words_of(rt, line);
     let count = disks.len();
-    let mut input = PlainSource::new(Vec::from_slice(alloc, script)?);
-    let mut output = PlainSink::with_room(alloc, ROOM)?;
-    let ran = run(
+    let mut input = source_of(rt, script);
+    let mut output = PlainSink::with_room(rt.alloc(), ROOM).expect(rt, "memory");
+    let Ran {
+        status,
+        disks,
+        links,
+    } = run(
         rt,
-        alloc,
+        rt.alloc(),
         &words,
         &mut input,
         &mut output,
@@ -103,14 +123,15 @@ pub fn told<'a, R: Threads + Wait + Sync, D: Disk + Send, L: Link + Send>(
         links,
         true,
     );
-    let Ran {
-        status,
-        disks,
-        links,
-    } = ran;
-    if !are_disks(&disks, count) || !are_links(&links) {
-        return Err("disks or links are out of order")?;
-    }
-    let text = String::from_utf8_lossy(alloc, output.taken())?;
-    Ok(format!(in alloc; "{status}: {text}")?)
+    drop(input);
+    drop(words);
+    let are_back = are_disks(&disks, count) && are_links(&links);
+    drop(disks);
+    drop(links);
+    assert!(rt; are_back);
+    let text = String::from_utf8_lossy(rt.alloc(), output.taken()).expect(rt, "memory");
+    let told = format!(in rt.alloc(); "{status}: {text}").expect(rt, "memory");
+    drop(text);
+    drop(output);
+    told
 }

@@ -82,11 +82,13 @@ fn line_of(
 ) -> Result<String, AllocError> {
     let path = path_of(alloc, place)?;
     let block = place.block;
-    match deed {
+    let line = match deed {
         Create => format!(in alloc; "op c{client} create {path}\n"),
         Put => format!(in alloc; "op c{client} put {path} {block} x:{client:02}{number:02}\n"),
         Get => format!(in alloc; "op c{client} get {path} {block}\n"),
-    }
+    };
+    drop(path);
+    line
 }
 
 /// Adds the lines of a client.
@@ -96,21 +98,35 @@ fn add_client(alloc: Global, client: u64, script: &mut String) -> Result<(), All
         number = number.saturating_add(1);
         let place = place_of(client, is_shared, file, block);
         let line = line_of(alloc, client, number, deed, place)?;
-        script.push_str(line.as_str())?;
+        let pushed = script.push_str(line.as_str());
+        drop(line);
+        pushed?;
     }
     Ok(())
 }
 
-/// The whole script.
-pub fn script(alloc: Global) -> Result<String, AllocError> {
-    let mut script = String::from_str(alloc, VOLUME)?;
+/// Adds all lines.
+fn add_all(alloc: Global, script: &mut String) -> Result<(), AllocError> {
+    script.push_str(VOLUME)?;
     script.push_str(LOSSES)?;
     for _ in 0..TRIES {
         script.push_str("op r1 rebuild n17\n")?;
     }
     script.push_str(REBUILDS)?;
     for client in 1..=CLIENTS {
-        add_client(alloc, client, &mut script)?;
+        add_client(alloc, client, script)?;
     }
-    Ok(script)
+    Ok(())
+}
+
+/// The whole script.
+pub fn script(alloc: Global) -> Result<String, AllocError> {
+    let mut script = String::new(alloc);
+    match add_all(alloc, &mut script) {
+        Ok(()) => Ok(script),
+        Err(error) => {
+            drop(script);
+            Err(error)
+        }
+    }
 }

@@ -1,5 +1,5 @@
 //! Calls of two nodes run at the same time.
-ghost use Rattle.std.specs.Prelude.{◌≡◌, ℕ, IfOk, false, length};
+ghost use Rattle.std.specs.Prelude.{◌≡◌, ℕ, false, length};
 ghost use Rattle.mj_angles.specs.declared.layout.Layout.TheVariants as layout;
 ghost use Rattle.rz_events.specs.declared.keys.Actor.TheVariants as a;
 ghost use Rattle.rz_node.specs.Calls.{IsRecord};
@@ -8,14 +8,13 @@ ghost use Rattle.rz_config.specs.Plain.{plain_volume};
 ghost use Rattle.rz_chronicle.specs.Kinds.{kind_of};
 
 use crate::sharing::{is_kept, keep};
-use crate::stage::{FIRST, SECOND, Stage, both_words, staged};
+use crate::stage::{FIRST, SECOND, Stage, staged, words};
 use rz_chronicle::{Book, Opened, Pass};
 use rz_config::Volume;
 use rz_disk::{Disk, PlainDisk};
 use rz_events::{Head, NodeAnswer};
 use rz_outage::{MeetDisk, Meeting};
 use rz_shared::{Cluster, Counting};
-use std::alloc::{AllocError, Global};
 use std::marker::Brand;
 use std::process::Abort;
 use std::sync::Wait;
@@ -23,14 +22,17 @@ use std::test::*;
 use std::thread::{Threads, join};
 
 /// Four disks whose writes may meet.
-fn four(alloc: Global, meeting: &Meeting) -> Result<Vec<MeetDisk<'_, PlainDisk>>, AllocError>
-    ensures { IfOk result (λ v. length v.items ≡ 4) }
+fn four<'a>(rt: &(impl Abort + AllocGlobal), meeting: &'a Meeting) -> Vec<MeetDisk<'a, PlainDisk>>
+    ensures { length result.items ≡ 4 }
 {
-    let mut disks = Vec::new(alloc);
-    while disks.len() < 4 {
-        disks.push(MeetDisk::new(PlainDisk::new(alloc), meeting))?;
-    }
-    Ok(disks)
+    let alloc = rt.alloc();
+    let disks = [
+        MeetDisk::new(PlainDisk::new(alloc), meeting),
+        MeetDisk::new(PlainDisk::new(alloc), meeting),
+        MeetDisk::new(PlainDisk::new(alloc), meeting),
+        MeetDisk::new(PlainDisk::new(alloc), meeting),
+    ];
+    Vec::from_array(alloc, disks).expect(rt, "memory")
 }
 
 /// Gives a record to a node.
@@ -86,7 +88,7 @@ fn kept_on_both<D: Disk + Send, J: Counting + Send + Sync, R: Threads + Wait + A
     stage: Stage<D, J>,
     left: Vec<u64>,
     right: Vec<u64>,
-) -> Result<(), Fail>
+)
     requires kind { J.kind ≡ kind_of false plain_volume }
     requires one { ¬ (stage.one.actor ≡ a.Admin) }
     requires two { ¬ (stage.two.actor ≡ a.Admin) }
@@ -103,39 +105,31 @@ fn kept_on_both<D: Disk + Send, J: Counting + Send + Sync, R: Threads + Wait + A
     drop(cluster);
     drop(book);
     assert!(rt; is_kept(&a) && is_kept(&b));
-    Ok(())
 }
 
 #[test]
 fn keeps_of_two_nodes_meet(rt: HostRuntime) -> Result<(), Fail> {
-    let volume = Volume::plain(rt.alloc())?;
-    let opened = Opened::start(rt.alloc(), &volume, false)?;
+    let volume = Volume::plain(rt.alloc()).expect(&rt, "memory");
+    let opened = Opened::start(rt.alloc(), &volume, false).expect(&rt, "memory");
     let meeting = Meeting::new();
-    let disks = four(rt.alloc(), &meeting)?;
-    met::<Brand, _>(&rt, rt.alloc(), opened, volume, disks)?;
+    let disks = four(&rt, &meeting);
+    met::<Brand, _>(&rt, opened, volume, disks);
     assert!(rt; meeting.met());
     Ok(())
 }
 
-fn met<J: Counting + Send + Sync, R: Threads + Wait + Abort + Sync>(
+fn met<J: Counting + Send + Sync, R: Threads + Wait + Abort + AllocGlobal + Sync>(
     rt: &R,
-    alloc: Global,
     opened: Opened,
     volume: Volume,
     disks: Vec<MeetDisk<'_, PlainDisk>>,
-) -> Result<(), Fail>
+)
     requires named { (opened.seen.book ≡ J.book) × (opened.hand.tallies ≡ J.tallies) × (opened.hand.copy ≡ J.copy) × (opened.hand.kind ≡ J.kind) }
     requires kind { J.kind ≡ kind_of false plain_volume }
     requires volume { volume ≡ plain_volume }
     requires disks { length disks.items ≡ 4 }
     requires first { (n : ℕ) → J.first n ≡ 0 }
 {
-    let stage = staged::<MeetDisk<'_, PlainDisk>, J>(alloc, opened, volume, disks)?;
-    match both_words(alloc, 5, 6) {
-        Ok((left, right)) => kept_on_both(rt, stage, left, right),
-        Err(why) => {
-            drop(stage);
-            Err(Fail::from(why))
-        }
-    }
+    let stage = staged::<MeetDisk<'_, PlainDisk>, J, R>(rt, opened, volume, disks);
+    kept_on_both(rt, stage, words(rt, 5), words(rt, 6));
 }

@@ -1,5 +1,5 @@
 //! Two threads call nodes of one cluster, and then meet.
-ghost use Rattle.std.specs.Prelude.{◌≡◌, ℕ, IfOk, false, length};
+ghost use Rattle.std.specs.Prelude.{◌≡◌, ℕ, false, length};
 ghost use Rattle.mj_angles.specs.declared.layout.Layout.TheVariants as layout;
 ghost use Rattle.rz_events.specs.declared.keys.Actor.TheVariants as a;
 ghost use Rattle.rz_node.specs.Calls.{IsRecord};
@@ -7,13 +7,12 @@ ghost use Rattle.rz_core.specs.NodeRows.{IsNodeOf};
 ghost use Rattle.rz_config.specs.Plain.{plain_volume};
 ghost use Rattle.rz_chronicle.specs.Kinds.{kind_of};
 
-use crate::stage::{FIRST, SECOND, Stage, both_words, staged};
+use crate::stage::{FIRST, SECOND, Stage, staged, words};
 use rz_chronicle::{Book, Naming, Opened, Pass};
 use rz_config::Volume;
 use rz_disk::{Disk, PlainDisk};
 use rz_events::{FetchAnswer, Head, KeepAnswer, NodeAnswer, NodeAsk};
 use rz_shared::{Cluster, Counting};
-use std::alloc::{AllocError, Global};
 use std::marker::Brand;
 use std::process::Abort;
 use std::sync::Wait;
@@ -21,14 +20,17 @@ use std::test::*;
 use std::thread::{Threads, join};
 
 /// Four disks in memory.
-fn four(alloc: Global) -> Result<Vec<PlainDisk>, AllocError>
-    ensures { IfOk result (λ v. length v.items ≡ 4) }
+fn four(rt: &(impl Abort + AllocGlobal)) -> Vec<PlainDisk>
+    ensures { length result.items ≡ 4 }
 {
-    let mut disks = Vec::new(alloc);
-    while disks.len() < 4 {
-        disks.push(PlainDisk::new(alloc))?;
-    }
-    Ok(disks)
+    let alloc = rt.alloc();
+    let disks = [
+        PlainDisk::new(alloc),
+        PlainDisk::new(alloc),
+        PlainDisk::new(alloc),
+        PlainDisk::new(alloc),
+    ];
+    Vec::from_array(alloc, disks).expect(rt, "memory")
 }
 
 /// Asks a node for a record.
@@ -121,33 +123,26 @@ fn fetch_on_both<D: Disk + Send, J: Counting + Send + Sync, R: Threads + Wait + 
 
 #[test]
 fn fetches_of_two_threads_are_counted(rt: HostRuntime) -> Result<(), Fail> {
-    let volume = Volume::plain(rt.alloc())?;
-    let opened = Opened::start(rt.alloc(), &volume, false)?;
-    let disks = four(rt.alloc())?;
-    counted::<Brand, _>(&rt, rt.alloc(), opened, volume, disks)
+    let volume = Volume::plain(rt.alloc()).expect(&rt, "memory");
+    let opened = Opened::start(rt.alloc(), &volume, false).expect(&rt, "memory");
+    counted::<Brand, _>(&rt, opened, volume, four(&rt));
+    Ok(())
 }
 
-fn counted<J: Counting + Send + Sync, R: Threads + Wait + Abort + Sync>(
+fn counted<J: Counting + Send + Sync, R: Threads + Wait + Abort + AllocGlobal + Sync>(
     rt: &R,
-    alloc: Global,
     opened: Opened,
     volume: Volume,
     disks: Vec<PlainDisk>,
-) -> Result<(), Fail>
+)
     requires named { (opened.seen.book ≡ J.book) × (opened.hand.tallies ≡ J.tallies) × (opened.hand.copy ≡ J.copy) × (opened.hand.kind ≡ J.kind) }
     requires kind { J.kind ≡ kind_of false plain_volume }
     requires volume { volume ≡ plain_volume }
     requires disks { length disks.items ≡ 4 }
     requires first { (n : ℕ) → J.first n ≡ 0 }
 {
-    let stage = staged::<PlainDisk, J>(alloc, opened, volume, disks)?;
-    match both_words(alloc, 0, 0) {
-        Ok((left, right)) => fetched(rt, stage, left, right),
-        Err(why) => {
-            drop(stage);
-            Err(Fail::from(why))
-        }
-    }
+    let stage = staged::<PlainDisk, J, R>(rt, opened, volume, disks);
+    fetched(rt, stage, words(rt, 0), words(rt, 0));
 }
 
 /// All fetches of both are counted.
@@ -156,7 +151,7 @@ fn fetched<D: Disk + Send, J: Counting + Send + Sync, R: Threads + Wait + Abort 
     stage: Stage<D, J>,
     left: Vec<u64>,
     right: Vec<u64>,
-) -> Result<(), Fail>
+)
     requires kind { J.kind ≡ kind_of false plain_volume }
     requires one { ¬ (stage.one.actor ≡ a.Admin) }
     requires two { ¬ (stage.two.actor ≡ a.Admin) }
@@ -177,7 +172,6 @@ fn fetched<D: Disk + Send, J: Counting + Send + Sync, R: Threads + Wait + Abort 
     drop(one);
     drop(book);
     assert_eq!(rt; count, 200);
-    Ok(())
 }
 
 /// What a thread comes back with: its pass, the answer to its write, and that to its read.
@@ -247,33 +241,26 @@ fn is_found(answer: &NodeAnswer) -> bool {
 
 #[test]
 fn of_two_threads_one_reads_what_the_other_wrote(rt: HostRuntime) -> Result<(), Fail> {
-    let volume = Volume::plain(rt.alloc())?;
-    let opened = Opened::start(rt.alloc(), &volume, false)?;
-    let disks = four(rt.alloc())?;
-    read_across::<Brand, _>(&rt, rt.alloc(), opened, volume, disks)
+    let volume = Volume::plain(rt.alloc()).expect(&rt, "memory");
+    let opened = Opened::start(rt.alloc(), &volume, false).expect(&rt, "memory");
+    read_across::<Brand, _>(&rt, opened, volume, four(&rt));
+    Ok(())
 }
 
-fn read_across<J: Counting + Send + Sync, R: Threads + Wait + Abort + Sync>(
+fn read_across<J: Counting + Send + Sync, R: Threads + Wait + Abort + AllocGlobal + Sync>(
     rt: &R,
-    alloc: Global,
     opened: Opened,
     volume: Volume,
     disks: Vec<PlainDisk>,
-) -> Result<(), Fail>
+)
     requires named { (opened.seen.book ≡ J.book) × (opened.hand.tallies ≡ J.tallies) × (opened.hand.copy ≡ J.copy) × (opened.hand.kind ≡ J.kind) }
     requires kind { J.kind ≡ kind_of false plain_volume }
     requires volume { volume ≡ plain_volume }
     requires disks { length disks.items ≡ 4 }
     requires first { (n : ℕ) → J.first n ≡ 0 }
 {
-    let stage = staged::<PlainDisk, J>(alloc, opened, volume, disks)?;
-    match both_words(alloc, 5, 6) {
-        Ok((left, right)) => crossed(rt, stage, left, right),
-        Err(why) => {
-            drop(stage);
-            Err(Fail::from(why))
-        }
-    }
+    let stage = staged::<PlainDisk, J, R>(rt, opened, volume, disks);
+    crossed(rt, stage, words(rt, 5), words(rt, 6));
 }
 
 /// Both records are kept and one at least is found, and all four calls are counted, in the end too.
@@ -282,7 +269,7 @@ fn crossed<D: Disk + Send, J: Counting + Send + Sync, R: Threads + Wait + Abort 
     stage: Stage<D, J>,
     left: Vec<u64>,
     right: Vec<u64>,
-) -> Result<(), Fail>
+)
     requires kind { J.kind ≡ kind_of false plain_volume }
     requires one { ¬ (stage.one.actor ≡ a.Admin) }
     requires two { ¬ (stage.two.actor ≡ a.Admin) }
@@ -311,5 +298,4 @@ fn crossed<D: Disk + Send, J: Counting + Send + Sync, R: Threads + Wait + Abort 
     drop(one);
     drop(book);
     assert_eq!(rt; (met, closed, settled), (4, 4, 4));
-    Ok(())
 }

@@ -15,5 +15,3 @@ mod records;
 mod rot;
 #[cfg(test)]
 mod stops;
-#[cfg(test)]
-mod versions;

@@ -1,5 +1,6 @@
 //! A block whose records stand on the disks of nodes, some of which read a bit of their record wrong.
 ghost use Rattle.std.specs.Prelude.{◌≡◌, ◌<◌, IfOk, length, vec_len};
+ghost use Rattle.rz_cells.specs.Shape.{IsGeometry};
 ghost use Rattle.mj_angles.specs.Layout.{inverse_of, cols_of, safe_of, bins_at_of, max_bins_of};
 
 use crate::nodes::KEY;
@@ -13,20 +14,40 @@ use std::alloc::{AllocError, Global};
 use std::process::Abort;
 use std::test::Fail;
 
+/// A node on a disk that flips bits of a byte.
+fn rotten(
+    rt: &(impl Abort + AllocGlobal),
+    geometry: Geometry,
+    at: u64,
+    flips: u8,
+) -> Node<RotDisk<PlainDisk>>
+    requires { IsGeometry geometry }
+    ensures { result.geometry ≡ geometry }
+{
+    match Node::format(
+        rt.alloc(),
+        geometry,
+        RotDisk::new(PlainDisk::new(rt.alloc()), at, flips),
+    ) {
+        Ok(node) => node,
+        Err(_) => rt.panic("not formatted"),
+    }
+}
+
 /// What a node gives back of a record's bins, where its disk flips bits of a byte of the first bin. The
 /// first record of a disk of one pair stands in slot 1, so behind 66 bytes and a slot of 48 bytes and the
 /// most bins.
 #[tactic(auto, unfolding(rz_record::specs::Record::bins_of))]
 fn fetched(
-    alloc: Global,
+    rt: &(impl Abort + AllocGlobal),
     layout: Layout,
     position: u8,
     bins: &[u64],
     flips: u8,
-) -> Result<Vec<u64>, Fail>
+) -> Vec<u64>
     requires position { position < safe_of layout }
     requires bins { length bins.now ≡ bins_at_of layout position }
-    ensures { IfOk result (λ v. vec_len v ≡ max_bins_of layout) }
+    ensures { vec_len result ≡ max_bins_of layout }
 {
     let geometry = Geometry {
         layout,
@@ -44,27 +65,24 @@ fn fetched(
         base: 0,
     };
     let at = 66 + (48 + 8 * layout.max_bins() as u64) + 48;
-    let disk = RotDisk::new(PlainDisk::new(alloc), at, flips);
-    let Ok(mut node) = Node::format(alloc, geometry, disk) else {
-        return Err("not formatted")?;
-    };
+    let mut out = vec![in rt.alloc(); 0u64; layout.max_bins()].expect(rt, "memory");
+    let mut node = rotten(rt, geometry, at, flips);
     let kept = node.keep(&head, bins);
-    let mut out = vec![in alloc; 0u64; layout.max_bins()]?;
-    match (kept, node.fetch_into(KEY, 1, &mut out)) {
-        (KeepAnswer::Kept, FetchAnswer::Held(_)) => Ok(out),
-        _ => Err("not fetched")?,
-    }
+    let answer = node.fetch_into(KEY, 1, &mut out);
+    drop(node);
+    assert!(rt; kept == KeepAnswer::Kept && matches!(answer, FetchAnswer::Held(_)));
+    out
 }
 
 /// Adds what a node gives back of the projection of a block at a position.
 fn add_fetched(
-    alloc: Global,
+    rt: &(impl Abort + AllocGlobal),
     scrub: &mut Scrub,
     block: &Block,
     layout: Layout,
     position: u8,
     flips: u8,
-) -> Result<(), Fail>
+)
     requires layout { scrub.old.layout ≡ layout }
     requires rows { block.now.rows ≡ inverse_of layout }
     requires cols { block.now.cols ≡ cols_of layout }
@@ -72,14 +90,14 @@ fn add_fetched(
     ensures { scrub.new.layout ≡ layout }
 {
     let count = layout.bins_at(position);
-    let mut bins = vec![in alloc; 0u64; count]?;
+    let mut bins = vec![in rt.alloc(); 0u64; count].expect(rt, "memory");
     project(block, layout.angle(position), &mut bins);
-    let fetched = fetched(alloc, layout, position, &bins, flips)?;
-    bins.copy_from_slice(&fetched[..count]);
+    let fetched = fetched(rt, layout, position, &bins, flips);
+    drop(bins);
     if !scrub.has(position) {
-        scrub.add(position, &bins);
+        scrub.add(position, &fetched[..count]);
     }
-    Ok(())
+    drop(fetched);
 }
 
 /// The block of a layout in which word `j` is `j + 1`.
@@ -100,49 +118,46 @@ fn counted(alloc: Global, layout: Layout) -> Result<Block, AllocError>
 ///
 /// Their bins have another sum, the same for all of them. So a block fits none but those, or none of them,
 /// and past the reach there is none that fits enough.
-fn verdict_on(
-    rt: &(impl Abort + AllocGlobal),
-    layout: Layout,
-    altered: &[u8],
-) -> Result<Verdict, Fail> {
-    let block = counted(rt.alloc(), layout)?;
-    let mut scrub = Scrub::start(rt.alloc(), layout)?;
+fn verdict_on(rt: &(impl Abort + AllocGlobal), layout: Layout, altered: &[u8]) -> Verdict {
+    let block = counted(rt.alloc(), layout).expect(rt, "memory");
+    let mut scrub = Scrub::start(rt.alloc(), layout).expect(rt, "memory");
     for position in 0..layout.safe() as u8 {
         let flips = if altered.contains(&position) { 0x80 } else { 0 };
-        add_fetched(rt.alloc(), &mut scrub, &block, layout, position, flips)?;
+        add_fetched(rt, &mut scrub, &block, layout, position, flips);
     }
-    if scrub.added() < layout.inverse() {
-        return Err("too few records")?;
-    }
-    let mut out = Block::zero(rt.alloc(), layout.inverse(), layout.cols())?;
+    assert!(rt; scrub.added() >= layout.inverse());
+    let mut out = Block::zero(rt.alloc(), layout.inverse(), layout.cols()).expect(rt, "memory");
     let verdict = scrub.judge(&mut out);
-    if verdict != Verdict::Unsure {
-        assert_eq!(rt; out.words(), block.words());
-    }
-    Ok(verdict)
+    drop(scrub);
+    let is_found = out.words() == block.words();
+    drop(out);
+    drop(block);
+    assert!(rt; is_found || verdict == Verdict::Unsure);
+    verdict
 }
 
-/// The reach is 1, 2 and 4.
+/// The positions of a layout that read wrong, and what is found. The reach is 1, 2 and 4.
+const ROWS: [(Layout, &[u8], Verdict); 9] = [
+    (Layout::L0, &[], Verdict::Clean),
+    (Layout::L0, &[3], Verdict::Altered { mask: 0x8 }),
+    (Layout::L1, &[5], Verdict::Altered { mask: 0x20 }),
+    (Layout::L1, &[1, 6], Verdict::Altered { mask: 0x42 }),
+    (Layout::L2, &[9], Verdict::Altered { mask: 0x200 }),
+    (
+        Layout::L2,
+        &[1, 6, 10, 15],
+        Verdict::Altered { mask: 0x8442 },
+    ),
+    (Layout::L0, &[1, 2], Verdict::Unsure),
+    (Layout::L1, &[0, 3, 6], Verdict::Unsure),
+    (Layout::L2, &[1, 4, 6, 10, 15], Verdict::Unsure),
+];
+
 #[test]
 fn rot_is_named_up_to_the_reach(rt: HostRuntime) -> Result<(), Fail> {
-    let named = |mask| Verdict::Altered { mask };
-    assert_eq!(rt; verdict_on(&rt, Layout::L0, &[])?, Verdict::Clean);
-    assert_eq!(rt; verdict_on(&rt, Layout::L0, &[3])?, named(0x8));
-    assert_eq!(rt; verdict_on(&rt, Layout::L1, &[5])?, named(0x20));
-    assert_eq!(rt; verdict_on(&rt, Layout::L1, &[1, 6])?, named(0x42));
-    assert_eq!(rt; verdict_on(&rt, Layout::L2, &[9])?, named(0x200));
-    assert_eq!(rt;
-        verdict_on(&rt, Layout::L2, &[1, 6, 10, 15])?,
-        named(0x8442)
-    );
-    Ok(())
-}
-
-#[test]
-fn rot_past_the_reach_is_not_named(rt: HostRuntime) -> Result<(), Fail> {
-    assert_eq!(rt; verdict_on(&rt, Layout::L0, &[1, 2])?, Verdict::Unsure);
-    assert_eq!(rt; verdict_on(&rt, Layout::L1, &[0, 3, 6])?, Verdict::Unsure);
-    let many = [1, 4, 6, 10, 15];
-    assert_eq!(rt; verdict_on(&rt, Layout::L2, &many)?, Verdict::Unsure);
+    for (layout, altered, wanted) in &ROWS {
+        let verdict = verdict_on(&rt, *layout, altered);
+        assert!(rt; verdict == *wanted, "{altered:?}");
+    }
     Ok(())
 }

@@ -1,16 +1,16 @@
 //! What each test compares by.
 use std::fmt::Debug;
-use std::test::Fail;
+use std::process::Abort;
 
-/// Fails where what was found at a place is not what is wanted there.
+/// Stops where what was found at a place is not what is wanted there.
 pub fn compare<T: PartialEq + Debug, P: Debug + Drop>(
+    rt: &impl Abort,
     found: &T,
     wanted: &T,
     place: P,
-) -> Result<(), Fail> {
-    if found == wanted {
-        Ok(())
-    } else {
-        Err(Fail::new(format_args!("at {place:?}: {found:?} in place of {wanted:?}")))
-    }
+) {
+    assert!(rt;
+        found == wanted,
+        "at {place:?}: {found:?} in place of {wanted:?}"
+    );
 }

@@ -21,13 +21,17 @@ const CASES: [([u64; 9], u16, [u16; 4]); 6] = [
 
 #[test]
 fn breaks_ties_by_the_least_number(rt: HostRuntime) -> Result<(), Fail> {
-    let volume = Volume::read(rt.alloc(), VOLUME)?;
-    if volume.node_count() != 9 {
-        return Err("other nodes")?;
-    }
+    let volume = Volume::read(rt.alloc(), VOLUME).expect(&rt, "a volume");
+    assert!(rt; volume.node_count() == 9);
     for (free, cid, places) in CASES {
         let (chosen, nodes) = place(&volume, &free);
-        compare(&(chosen, nodes.list()), &(cid, places.as_slice()), free)?;
+        compare(
+            &rt,
+            &(chosen, nodes.list()),
+            &(cid, places.as_slice()),
+            free,
+        );
     }
+    drop(volume);
     Ok(())
 }

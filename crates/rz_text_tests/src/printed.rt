@@ -5,7 +5,7 @@ use rz_events::{
     Seen, Text, TreeCall, TreeFault, TreeReply, Why, WriteEnd,
 };
 use rz_show::show;
-use std::alloc::{AllocError, Global};
+use std::process::Abort;
 use std::test::Fail;
 
 const KEY: Key = Key { fid: 1, block: 0 };
@@ -67,26 +67,8 @@ const ATTR: Attr = Attr {
 const LINES: &[u8] =
     b"r2 1 rebuilt 2 3\nr2 1 left 2 3 4\nr2 1 notlost\nr2 1 otherloss 5\nr2 1 otherfence 6\nr2 1 lostagain\nr2 1 diskfault\nr2 4294967295 hole\nn1 unopened 2\nn65535 started 0\nadmin 1 refused OldLoss\nend 13\n";
 
-const REBUILT: [RebuildEnd; 7] = [
-    RebuildEnd::Rebuilt {
-        fence: 2,
-        refilled: 3,
-    },
-    RebuildEnd::Left {
-        fence: 2,
-        refilled: 3,
-        left: 4,
-    },
-    RebuildEnd::NotLost,
-    RebuildEnd::OtherLoss { loss: 5 },
-    RebuildEnd::OtherFence { fence: 6 },
-    RebuildEnd::LostAgain,
-    RebuildEnd::DiskFault,
-];
-
-/// What is printed of an answer to a client who opened a file at 16 places.
-fn printed(alloc: Global, answer: Answer) -> Result<Vec<u8>, AllocError> {
-    let by = Actor::Client(64);
+/// A client opens a file at 16 places.
+fn opened(rt: &(impl Abort + AllocGlobal), by: Actor) -> Event {
     let mut places = Places::none();
     for node in 0..16 {
         places.push(node);
@@ -97,124 +79,148 @@ fn printed(alloc: Global, answer: Answer) -> Result<Vec<u8>, AllocError> {
         places,
         size: 0,
     };
-    let path = Text::from_bytes(alloc, b"/f")?;
-    let mut log = Vec::new(alloc);
-    log.push(Event::Meta {
+    let path = text(rt, b"/f");
+    Event::Meta {
         by,
         call: TreeCall::OpenFile { path },
         reply: TreeReply::File(info),
-    })?;
-    log.push(Event::Done {
+    }
+}
+
+fn text(rt: &(impl Abort + AllocGlobal), bytes: &[u8]) -> Text {
+    Text::from_bytes(rt.alloc(), bytes).expect(rt, "memory")
+}
+
+/// Compares what is printed of an answer to a client who opened a file.
+fn prints(rt: &(impl Abort + AllocGlobal), answer: Answer, line: &str) {
+    let by = Actor::Client(64);
+    let opened = opened(rt, by);
+    let done = Event::Done {
         by,
         number: 7,
         answer,
-    })?;
-    show(alloc, &log, false)
-}
-
-/// Compares what is printed of such an answer.
-fn prints(alloc: Global, answer: Answer, line: &str) -> Result<(), Fail> {
-    let text = printed(alloc, answer)?;
-    compare(&text.as_slice(), &line.as_bytes(), line)
+    };
+    let log = vec![in rt.alloc(); opened, done].expect(rt, "memory");
+    let text = show(rt.alloc(), &log, false).expect(rt, "memory");
+    drop(log);
+    compare(rt, &text.as_slice(), &line.as_bytes(), line);
+    drop(text);
 }
 
 #[test]
 fn answers(rt: HostRuntime) -> Result<(), Fail> {
-    let alloc = rt.alloc();
     prints(
-        alloc,
+        &rt,
         Answer::Attr(ATTR),
         "c64 7 attr file 644 18446744073709551615 2 5 00000000-0000-0000-0000-0000000000ff\n",
-    )?;
-    let mut names = Vec::new(alloc);
-    names.push(Text::from_bytes(alloc, b"a b")?)?;
+    );
+    let names = vec![in rt.alloc(); text(&rt, b"a b")].expect(&rt, "memory");
     prints(
-        alloc,
+        &rt,
         Answer::Names(Listing::of(names)),
         "c64 7 names 1 a b\n",
-    )?;
+    );
     prints(
-        alloc,
-        Answer::Read(Text::from_bytes(alloc, &BYTES[..32])?),
+        &rt,
+        Answer::Read(text(&rt, &BYTES[..32])),
         "c64 7 read 32 x:000102030405060708090a0b0c0d0e0f101112131415161718191a1b1c1d1e1f\n",
-    )?;
+    );
     prints(
-        alloc,
-        Answer::Read(Text::from_bytes(alloc, &BYTES)?),
+        &rt,
+        Answer::Read(text(&rt, &BYTES)),
         "c64 7 read 33 h:5d8fcfefa9aeeb711fb8ed1e4b7d5c8a9bafa46e8e76e68aa18adce5a10df6ab\n",
-    )?;
+    );
     let refused = Answer::Refused(TreeFault::TooManyLinks);
-    prints(alloc, refused, "c64 7 refused TooManyLinks\n")
+    prints(&rt, refused, "c64 7 refused TooManyLinks\n");
+    Ok(())
 }
 
 #[test]
 fn ends(rt: HostRuntime) -> Result<(), Fail> {
-    let alloc = rt.alloc();
     let end = WriteEnd::Acked {
         stamp: 9,
         mask: 0x8001,
     };
     let acked = Answer::ShortWrite { bytes: 3, end };
-    prints(alloc, acked, "c64 7 short 3 acked 9 1000000000000001\n")?;
+    prints(&rt, acked, "c64 7 short 3 acked 9 1000000000000001\n");
     let end = WriteEnd::TooFew { why: WHY };
     let unwritten = Answer::ShortWrite { bytes: 3, end };
-    prints(alloc, unwritten, "c64 7 short 3 toofew -kpdlfuxme???--k\n")?;
+    prints(&rt, unwritten, "c64 7 short 3 toofew -kpdlfuxme???--k\n");
     let end = ReadEnd::TooFew { seen: SEEN };
     let unread = Answer::ShortRead { bytes: 0, end };
-    prints(alloc, unread, "c64 7 short 0 toofew -sndlxm---------\n")?;
+    prints(&rt, unread, "c64 7 short 0 toofew -sndlxm---------\n");
     let end = ReadEnd::Moved { was: 1, now: 3 };
     let moved = Answer::ShortRead { bytes: 0, end };
-    prints(alloc, moved, "c64 7 short 0 moved 1 3\n")
+    prints(&rt, moved, "c64 7 short 0 moved 1 3\n");
+    Ok(())
 }
 
-/// The events of a client's and a rebuilder's play behind the ends of its rebuilds.
-fn others() -> [Event; 6] {
-    let by = Actor::Rebuilder(2);
+/// A rebuild came to this end.
+fn rebuilt(end: RebuildEnd) -> Event {
+    Event::Done {
+        by: Actor::Rebuilder(2),
+        number: 1,
+        answer: Answer::Rebuild(end),
+    }
+}
+
+/// A rebuild found a hole.
+fn hole(number: u32, part: bool) -> Event {
+    Event::Got {
+        by: Actor::Rebuilder(2),
+        number,
+        key: KEY,
+        part,
+        end: ReadEnd::Hole,
+    }
+}
+
+/// An administrator's loss was an old one.
+fn denied() -> Event {
     let denied = RebuildEnd::Denied(Denial::OldLoss { kept: 9 });
+    Event::Done {
+        by: Actor::Admin,
+        number: 1,
+        answer: Answer::Rebuild(denied),
+    }
+}
+
+/// The events of a client's and a rebuilder's play.
+fn events() -> [Event; 13] {
     [
+        rebuilt(RebuildEnd::Rebuilt {
+            fence: 2,
+            refilled: 3,
+        }),
+        rebuilt(RebuildEnd::Left {
+            fence: 2,
+            refilled: 3,
+            left: 4,
+        }),
+        rebuilt(RebuildEnd::NotLost),
+        rebuilt(RebuildEnd::OtherLoss { loss: 5 }),
+        rebuilt(RebuildEnd::OtherFence { fence: 6 }),
+        rebuilt(RebuildEnd::LostAgain),
+        rebuilt(RebuildEnd::DiskFault),
         Event::Stop { node: 1 },
-        Event::Got {
-            by,
-            number: 1,
-            key: KEY,
-            part: true,
-            end: ReadEnd::Hole,
-        },
-        Event::Got {
-            by,
-            number: 4294967295,
-            key: KEY,
-            part: false,
-            end: ReadEnd::Hole,
-        },
+        hole(1, true),
+        hole(4294967295, false),
         Event::Unopened { node: 1, cause: 2 },
         Event::Start {
             node: 65535,
             took: false,
         },
-        Event::Done {
-            by: Actor::Admin,
-            number: 1,
-            answer: Answer::Rebuild(denied),
-        },
+        denied(),
     ]
 }
 
 /// Some of these events have no line.
 #[test]
 fn log(rt: HostRuntime) -> Result<(), Fail> {
-    let by = Actor::Rebuilder(2);
-    let mut log = Vec::new(rt.alloc());
-    for end in REBUILT {
-        log.push(Event::Done {
-            by,
-            number: 1,
-            answer: Answer::Rebuild(end),
-        })?;
-    }
-    for event in others() {
-        log.push(event)?;
-    }
-    let text = show(rt.alloc(), &log, true)?;
-    compare(&text.as_slice(), &LINES, "log")
+    let events = events();
+    let text = show(rt.alloc(), &events, true).expect(&rt, "memory");
+    drop(events);
+    compare(&rt, &text.as_slice(), &LINES, "log");
+    drop(text);
+    Ok(())
 }

@@ -3,50 +3,67 @@ use crate::comparing::compare;
 use crate::words::words_of;
 use rz_ports::PlainSource;
 use rz_request::{Refusal, Stop, request, run_script};
-use std::alloc::Global;
+use std::process::Abort;
 use std::test::Fail;
 
-/// The status and the line of a refusal.
-fn told(alloc: Global, refusal: &Refusal) -> Result<String, Fail> {
-    let line = refusal.line(alloc)?;
-    let text = String::from_utf8_lossy(alloc, line.as_slice())?;
-    let status = refusal.status();
-    Ok(format!(in alloc; "{status} {text}")?)
-}
-
 /// Compares a refusal with the status and the line that are wanted.
-fn tells(alloc: Global, refusal: &Refusal, want: &str) -> Result<(), Fail> {
-    let told = told(alloc, refusal)?;
-    compare(&told.as_str(), &want, want)
+fn tells(rt: &(impl Abort + AllocGlobal), refusal: &Refusal, want: &str) {
+    let line = refusal.line(rt.alloc()).expect(rt, "memory");
+    let text = String::from_utf8_lossy(rt.alloc(), line.as_slice()).expect(rt, "memory");
+    drop(line);
+    let status = refusal.status();
+    let told = format!(in rt.alloc(); "{status} {text}").expect(rt, "memory");
+    drop(text);
+    compare(rt, &told.as_str(), &want, want);
+    drop(told);
 }
 
 /// Compares why there is nothing to play with the status and the line that are wanted.
-fn stops(alloc: Global, stop: &Stop, want: &str) -> Result<(), Fail> {
+fn stops(rt: &(impl Abort + AllocGlobal), stop: &Stop, want: &str) {
     match stop {
-        Stop::NoMemory => Err(Fail::from("no memory")),
-        Stop::Source => Err(Fail::from("the source failed")),
-        Stop::Refused(refusal) => tells(alloc, refusal, want),
+        Stop::NoMemory => rt.panic("no memory"),
+        Stop::Source => rt.panic("the source failed"),
+        Stop::Refused(refusal) => tells(rt, refusal, want),
     }
+}
+
+/// Compares what is asked with a refusal, or that it is played.
+fn is_played<T: Drop>(rt: &(impl Abort + AllocGlobal), asked: Result<T, Stop>, want: &str) {
+    match asked {
+        Ok(asked) => {
+            drop(asked);
+            compare(rt, &"played", &want, "an input");
+        }
+        Err(stop) => {
+            stops(rt, &stop, want);
+            drop(stop);
+        }
+    }
+}
+
+/// The input of a script.
+fn input_of(rt: &(impl Abort + AllocGlobal), script: &str) -> PlainSource {
+    PlainSource::new(Vec::from_slice(rt.alloc(), script.as_bytes()).expect(rt, "memory"))
 }
 
 /// Compares what a command line and an input come to over four disks: the status and the line of a refusal.
-fn asks(alloc: Global, line: &str, script: &str, want: &str) -> Result<(), Fail> {
-    let words = words_of(alloc, line)?;
-    let mut input = PlainSource::new(Vec::from_slice(alloc, script.as_bytes())?);
-    match request(alloc, &words, &mut input, 4) {
-        Ok(_) => compare(&"played", &want, script),
-        Err(stop) => stops(alloc, &stop, want),
-    }
+fn asks(rt: &(impl Abort + AllocGlobal), line: &str, script: &str, want: &str) {
+    let words = words_of(rt.alloc(), line).expect(rt, "memory");
+    let mut input = input_of(rt, script);
+    let asked = request(rt.alloc(), &words, &mut input, 4);
+    drop(input);
+    drop(words);
+    is_played(rt, asked, want);
 }
 
 /// Compares what they come to as a run over so many disks.
-fn asks_run(alloc: Global, line: &str, script: &str, disks: u64, want: &str) -> Result<(), Fail> {
-    let words = words_of(alloc, line)?;
-    let mut input = PlainSource::new(Vec::from_slice(alloc, script.as_bytes())?);
-    match run_script(alloc, &words, &mut input, disks) {
-        Ok(_) => compare(&"played", &want, script),
-        Err(stop) => stops(alloc, &stop, want),
-    }
+fn asks_run(rt: &(impl Abort + AllocGlobal), line: &str, script: &str, disks: u64, want: &str) {
+    let words = words_of(rt.alloc(), line).expect(rt, "memory");
+    let mut input = input_of(rt, script);
+    let asked = run_script(rt.alloc(), &words, &mut input, disks);
+    drop(input);
+    drop(words);
+    is_played(rt, asked, want);
 }
 
 const SMALL: &str =
@@ -86,7 +103,7 @@ const ROWS: [(&str, &str, &str); 11] = [
 #[test]
 fn rows(rt: HostRuntime) -> Result<(), Fail> {
     for (line, script, want) in ROWS {
-        asks(rt.alloc(), line, script, want)?;
+        asks(&rt, line, script, want);
     }
     Ok(())
 }
@@ -131,7 +148,7 @@ const RUNS: [(&str, &str, u64, &str); 8] = [
 #[test]
 fn runs(rt: HostRuntime) -> Result<(), Fail> {
     for (line, script, disks, want) in RUNS {
-        asks_run(rt.alloc(), line, script, disks, want)?;
+        asks_run(&rt, line, script, disks, want);
     }
     Ok(())
 }
@@ -150,7 +167,7 @@ fn later_refusals(rt: HostRuntime) -> Result<(), Fail> {
             "16 refused open 4 2\n",
         ),
     ] {
-        tells(rt.alloc(), &refusal, want)?;
+        tells(&rt, &refusal, want);
     }
     Ok(())
 }

@@ -5,7 +5,7 @@ use rz_events::{
     TreeReply, WriteEnd,
 };
 use rz_show::show_run;
-use std::alloc::{AllocError, Global};
+use std::process::Abort;
 use std::test::Fail;
 
 const KEY: Key = Key { fid: 1, block: 0 };
@@ -30,8 +30,12 @@ const SEEN: [Seen; 16] = [
     Seen::NotAsked,
 ];
 
+fn text(rt: &(impl Abort + AllocGlobal), bytes: &[u8]) -> Text {
+    Text::from_bytes(rt.alloc(), bytes).expect(rt, "memory")
+}
+
 /// A client opens a file with three positions.
-fn open(alloc: Global, by: Actor) -> Result<Event, AllocError> {
+fn open(rt: &(impl Abort + AllocGlobal), by: Actor) -> Event {
     let mut places = Places::none();
     places.push(5);
     places.push(6);
@@ -42,15 +46,16 @@ fn open(alloc: Global, by: Actor) -> Result<Event, AllocError> {
         places,
         size: 0,
     };
-    let path = Text::from_bytes(alloc, b"/f")?;
+    let path = text(rt, b"/f");
     let call = TreeCall::OpenFile { path };
     let reply = TreeReply::File(info);
-    Ok(Event::Meta { by, call, reply })
+    Event::Meta { by, call, reply }
 }
 
 /// What the first client shows. It alone opened a file.
-fn first(alloc: Global) -> Result<Vec<Event>, AllocError> {
+fn first(rt: &(impl Abort + AllocGlobal)) -> Vec<Event> {
     let by = Actor::Client(1);
+    let open = open(rt, by);
     let unread = Event::Got {
         by,
         number: 1,
@@ -61,13 +66,13 @@ fn first(alloc: Global) -> Result<Vec<Event>, AllocError> {
     let read = Event::Done {
         by,
         number: 2,
-        answer: Answer::Read(Text::from_bytes(alloc, b"ab")?),
+        answer: Answer::Read(text(rt, b"ab")),
     };
-    Ok(vec![in alloc; open(alloc, by)?, unread, read]?)
+    vec![in rt.alloc(); open, unread, read].expect(rt, "memory")
 }
 
 /// What the second client shows.
-fn second(alloc: Global) -> Result<Vec<Event>, AllocError> {
+fn second(rt: &(impl Abort + AllocGlobal)) -> Vec<Event> {
     let acked = Event::Gave {
         by: Actor::Client(2),
         number: 1,
@@ -75,17 +80,17 @@ fn second(alloc: Global) -> Result<Vec<Event>, AllocError> {
         part: false,
         end: WriteEnd::Acked { stamp: 9, mask: 7 },
     };
-    Ok(vec![in alloc; acked]?)
+    vec![in rt.alloc(); acked].expect(rt, "memory")
 }
 
 /// What the first rebuilder shows.
-fn third(alloc: Global) -> Result<Vec<Event>, AllocError> {
+fn third(rt: &(impl Abort + AllocGlobal)) -> Vec<Event> {
     let rebuilt = Event::Done {
         by: Actor::Rebuilder(1),
         number: 1,
         answer: Answer::Rebuild(RebuildEnd::NotLost),
     };
-    Ok(vec![in alloc; rebuilt]?)
+    vec![in rt.alloc(); rebuilt].expect(rt, "memory")
 }
 
 const LINES: &[u8] = b"c1 1 toofew snd\nc1 2 read 2 x:6162\nc2 1 acked 9 \nr1 1 notlost\nend 123\n";
@@ -93,15 +98,19 @@ const LINES: &[u8] = b"c1 1 toofew snd\nc1 2 read 2 x:6162\nc2 1 acked 9 \nr1 1 
 /// Clients 1 and 2 and rebuilder 1. The second client opened no file, so it has no positions.
 #[test]
 fn run(rt: HostRuntime) -> Result<(), Fail> {
-    let alloc = rt.alloc();
-    let shown = vec![in alloc; first(alloc)?, second(alloc)?, third(alloc)?]?;
-    let text = show_run(alloc, &shown, 123)?;
-    compare(&text.as_slice(), &LINES, "run")
+    let shown = vec![in rt.alloc(); first(&rt), second(&rt), third(&rt)].expect(&rt, "memory");
+    let text = show_run(rt.alloc(), &shown, 123).expect(&rt, "memory");
+    drop(shown);
+    compare(&rt, &text.as_slice(), &LINES, "run");
+    drop(text);
+    Ok(())
 }
 
 /// No actor did anything that is told.
 #[test]
 fn nothing(rt: HostRuntime) -> Result<(), Fail> {
-    let text = show_run(rt.alloc(), &[], 0)?;
-    compare(&text.as_slice(), &b"end 0\n".as_slice(), "nothing")
+    let text = show_run(rt.alloc(), &[], 0).expect(&rt, "memory");
+    compare(&rt, &text.as_slice(), &b"end 0\n".as_slice(), "nothing");
+    drop(text);
+    Ok(())
 }

@@ -3,6 +3,7 @@ use crate::comparing::compare;
 use ScriptCause::*;
 use rz_script::{Form, Line, Script, ScriptCause, ScriptError, Volume};
 use std::alloc::Global;
+use std::process::Abort;
 use std::test::Fail;
 
 /// Eight nodes in two clusters with the largest blocks, and every line and operation in a loose
@@ -78,14 +79,23 @@ break n1 1000000 18446744073709551615\n\
 miss c1 request\n\
 miss r1 reply\n";
 
+/// Reads a text and prints it.
+fn printed(rt: &(impl Abort + AllocGlobal), text: &[u8]) -> Vec<u8> {
+    let script = read(rt.alloc(), text, Form::Replay).expect(rt, "a script");
+    let text = script.print(rt.alloc()).expect(rt, "memory");
+    drop(script);
+    text
+}
+
 #[test]
 fn prints_what_reads_back(rt: HostRuntime) -> Result<(), Fail> {
-    let script = Script::read(rt.alloc(), LOOSE.as_bytes(), Form::Replay)?;
-    let once = script.print(rt.alloc())?;
-    let again = read(rt.alloc(), once.as_slice(), Form::Replay)?;
-    let twice = again.print(rt.alloc())?;
-    compare(&once.as_slice(), &PRINTED.as_bytes(), "once")?;
-    compare(&twice.as_slice(), &PRINTED.as_bytes(), "twice")
+    let once = printed(&rt, LOOSE.as_bytes());
+    let twice = printed(&rt, &once);
+    compare(&rt, &once.as_slice(), &PRINTED.as_bytes(), "once");
+    compare(&rt, &twice.as_slice(), &PRINTED.as_bytes(), "twice");
+    drop(once);
+    drop(twice);
+    Ok(())
 }
 
 /// What texts are read under, and where and why the first bad line is refused.
@@ -144,25 +154,30 @@ fn read(alloc: Global, text: &[u8], form: Form) -> Result<Script, ScriptError> {
     Script::read(alloc, text, form)
 }
 
-/// The text is refused at this line for this cause.
-fn refused(alloc: Global, text: &[u8], form: Form, at: u32, why: ScriptCause) -> Result<(), Fail> {
-    match read(alloc, text, form) {
-        Err(ScriptError::Script { line, cause }) => compare(&(line, cause), &(at, why), text),
-        _ => Err(Fail::from("not refused by a line")),
+/// Where and why a text is refused.
+fn refused(rt: &(impl Abort + AllocGlobal), text: &[u8], form: Form) -> (u32, ScriptCause) {
+    match read(rt.alloc(), text, form) {
+        Err(ScriptError::Script { line, cause }) => (line, cause),
+        _ => rt.panic("not refused by a line"),
     }
 }
 
 #[test]
 fn refuses_the_first_bad_line(rt: HostRuntime) -> Result<(), Fail> {
     for (text, form, line, cause) in REFUSED {
-        refused(rt.alloc(), text, form, line, cause)?;
+        compare(&rt, &refused(&rt, text, form), &(line, cause), text);
     }
     Ok(())
 }
 
 #[test]
 fn adds_lines_at_the_end(rt: HostRuntime) -> Result<(), Fail> {
-    let mut script = Script::new(rt.alloc(), Volume::plain(rt.alloc())?);
-    script.push(Line::Rest)?;
-    compare(&script.lines().len(), &1, "lines")
+    let volume = Volume::plain(rt.alloc()).expect(&rt, "memory");
+    let mut script = Script::new(rt.alloc(), volume);
+    let pushed = script.push(Line::Rest);
+    let count = script.lines().len();
+    drop(script);
+    pushed.expect(&rt, "memory");
+    compare(&rt, &count, &1, "lines");
+    Ok(())
 }

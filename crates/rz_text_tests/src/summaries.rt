@@ -34,7 +34,10 @@ fn small_log(rt: HostRuntime) -> Result<(), Fail> {
         number: 1,
         answer: Answer::Rebuild(end),
     };
-    let log = vec![in rt.alloc(); put, get, rebuild]?;
-    let line = summary(rt.alloc(), 7, &log)?;
-    compare(&line.as_slice(), &LINE.as_bytes(), "load")
+    let log = vec![in rt.alloc(); put, get, rebuild].expect(&rt, "memory");
+    let line = summary(rt.alloc(), 7, &log).expect(&rt, "memory");
+    drop(log);
+    compare(&rt, &line.as_slice(), &LINE.as_bytes(), "load");
+    drop(line);
+    Ok(())
 }

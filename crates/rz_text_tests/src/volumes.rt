@@ -1,6 +1,7 @@
 //! Refusals with their paths, and the sizes of disks.
 use crate::comparing::compare;
-use rz_config::{Layout, Volume, VolumeCause, VolumeError};
+use rz_config::{Layout, Volume, VolumeCause, VolumeError, VolumeFault};
+use std::process::Abort;
 use std::test::Fail;
 
 /// Texts, with the first fault of each and where it stands.
@@ -83,16 +84,21 @@ const REFUSED: [(&str, &str, VolumeCause); 20] = [
     ),
 ];
 
+/// Why a text is no volume.
+fn fault_of(rt: &(impl Abort + AllocGlobal), text: &str) -> VolumeFault {
+    match Volume::read(rt.alloc(), text) {
+        Err(VolumeError::Refused(fault)) => fault,
+        _ => rt.panic("not refused"),
+    }
+}
+
 #[test]
 fn refuses_the_first_fault(rt: HostRuntime) -> Result<(), Fail> {
     for (text, path, cause) in REFUSED {
-        match Volume::read(rt.alloc(), text) {
-            Err(VolumeError::Refused(fault)) => {
-                let found = (fault.path.bytes(), fault.cause);
-                compare(&found, &(path.as_bytes(), cause), text)?;
-            }
-            _ => return Err(Fail::from("not refused")),
-        }
+        let fault = fault_of(&rt, text);
+        let found = (fault.path.bytes(), fault.cause);
+        compare(&rt, &found, &(path.as_bytes(), cause), text);
+        drop(fault);
     }
     Ok(())
 }
@@ -103,9 +109,15 @@ const EIGHT: &str =
 
 #[test]
 fn sizes_disks(rt: HostRuntime) -> Result<(), Fail> {
-    let plain = Volume::plain(rt.alloc())?;
-    compare(&plain.disk_bytes(), &2_163_456, "plain")?;
-    let volume = Volume::read(rt.alloc(), EIGHT)?.copy(rt.alloc())?;
+    let plain = Volume::plain(rt.alloc()).expect(&rt, "memory");
+    let bytes = plain.disk_bytes();
+    drop(plain);
+    compare(&rt, &bytes, &2_163_456, "plain");
+    let read = Volume::read(rt.alloc(), EIGHT).expect(&rt, "a volume");
+    let volume = read.copy(rt.alloc()).expect(&rt, "memory");
+    drop(read);
     let found = (volume.layout, volume.node_count(), volume.disk_bytes());
-    compare(&found, &(Layout::L1, 8, 153_158_144), "eight nodes")
+    drop(volume);
+    compare(&rt, &found, &(Layout::L1, 8, 153_158_144), "eight nodes");
+    Ok(())
 }

@@ -1,8 +1,9 @@
 //! Lines of the form, and lines near it that are refused, of which `clap` alone takes many.
 
 use crate::comparing::compare;
-use rz_request::{Command, WordsError, wanted};
+use rz_request::{Command, Wanted, WordsError, wanted};
 use std::alloc::{AllocError, Global};
+use std::process::Abort;
 use std::test::Fail;
 
 /// The words between single spaces.
@@ -15,17 +16,26 @@ pub fn words_of(alloc: Global, line: &str) -> Result<Vec<String>, AllocError> {
 }
 
 /// The number of disks and the folder of a line.
-fn meant(alloc: Global, line: &str) -> Result<String, Fail> {
-    let words = words_of(alloc, line)?;
-    match wanted(alloc, &words) {
+fn meant(rt: &(impl Abort + AllocGlobal), line: &str) -> String {
+    let words = words_of(rt.alloc(), line).expect(rt, "memory");
+    let wanted = wanted(rt.alloc(), &words);
+    drop(words);
+    match wanted {
         Ok(w) => {
-            let folder = w.folder.as_ref().map_or("none", |f| f.as_str());
-            let disks = w.disks;
-            Ok(format!(in alloc; "{disks} {folder}")?)
+            let told = told(rt.alloc(), &w);
+            drop(w);
+            told.expect(rt, "memory")
         }
-        Err(WordsError::Usage) => Ok(String::from_str(alloc, "usage")?),
-        Err(WordsError::NoMemory) => Ok(String::from_str(alloc, "memory")?),
+        Err(WordsError::Usage) => String::from_str(rt.alloc(), "usage").expect(rt, "memory"),
+        Err(WordsError::NoMemory) => rt.panic("no memory"),
     }
+}
+
+/// What is wanted, in words.
+fn told(alloc: Global, wanted: &Wanted) -> Result<String, AllocError> {
+    let folder = wanted.folder.as_ref().map_or("none", |f| f.as_str());
+    let disks = wanted.disks;
+    format!(in alloc; "{disks} {folder}")
 }
 
 /// Each spelling and order of the options and the number, without a folder.
@@ -125,58 +135,60 @@ const REFUSED: &[&str] = &[
 ];
 
 /// Compares what each of these lines means.
-fn mean(alloc: Global, lines: &[&str], wanted: &str) -> Result<(), Fail> {
+fn mean(rt: &(impl Abort + AllocGlobal), lines: &[&str], wanted: &str) {
     for line in lines {
-        let found = meant(alloc, *line)?;
-        compare(&found.as_str(), &wanted, *line)?;
+        let found = meant(rt, *line);
+        compare(rt, &found.as_str(), &wanted, *line);
+        drop(found);
     }
+}
+
+#[test]
+fn lines(rt: HostRuntime) -> Result<(), Fail> {
+    mean(&rt, PLAIN, "4 none");
+    mean(&rt, FOLDERS, "4 x");
+    mean(&rt, REFUSED, "usage");
     Ok(())
 }
 
-#[test]
-fn plain_lines(rt: HostRuntime) -> Result<(), Fail> {
-    mean(rt.alloc(), PLAIN, "4 none")
-}
-
-#[test]
-fn folder_lines(rt: HostRuntime) -> Result<(), Fail> {
-    mean(rt.alloc(), FOLDERS, "4 x")
-}
-
-#[test]
-fn refused_lines(rt: HostRuntime) -> Result<(), Fail> {
-    mean(rt.alloc(), REFUSED, "usage")
-}
-
 /// What a line commands.
-fn commanded(alloc: Global, line: &str) -> Result<Option<Command>, AllocError> {
-    let words = words_of(alloc, line)?;
-    match wanted(alloc, &words) {
-        Ok(w) => Ok(Some(w.command)),
-        Err(_) => Ok(None),
+fn commanded(rt: &(impl Abort + AllocGlobal), line: &str) -> Command {
+    let words = words_of(rt.alloc(), line).expect(rt, "memory");
+    let wanted = wanted(rt.alloc(), &words);
+    drop(words);
+    match wanted {
+        Ok(w) => {
+            let command = w.command;
+            drop(w);
+            command
+        }
+        Err(_) => rt.panic("not of the form"),
     }
 }
 
+/// Lines, and what they command.
+const COMMANDS: [(&str, Command); 7] = [
+    ("rozo replay --disks 4", Command::Replay),
+    ("rozo run --disks 4", Command::Run),
+    ("rozo scrub --disks 256", Command::Scrub),
+    ("rozo first --disks 5", Command::First),
+    ("rozo again --disks 005", Command::Again),
+    (
+        "rozo migrate 065535 --disks 2",
+        Command::Migrate { sid: 65535 },
+    ),
+    (
+        "rozo load 18446744073709551615 --disks 4",
+        Command::Load {
+            seed: 18446744073709551615,
+        },
+    ),
+];
+
 #[test]
 fn commands(rt: HostRuntime) -> Result<(), Fail> {
-    for (line, want) in [
-        ("rozo replay --disks 4", Command::Replay),
-        ("rozo run --disks 4", Command::Run),
-        ("rozo scrub --disks 256", Command::Scrub),
-        ("rozo first --disks 5", Command::First),
-        ("rozo again --disks 005", Command::Again),
-        (
-            "rozo migrate 065535 --disks 2",
-            Command::Migrate { sid: 65535 },
-        ),
-        (
-            "rozo load 18446744073709551615 --disks 4",
-            Command::Load {
-                seed: 18446744073709551615,
-            },
-        ),
-    ] {
-        compare(&commanded(rt.alloc(), line)?, &Some(want), line)?;
+    for (line, want) in COMMANDS {
+        compare(&rt, &commanded(&rt, line), &want, line);
     }
     Ok(())
 }
