@@ -8,7 +8,7 @@ use Rattle.rz_script.specs.declared.fault.ScriptError.{ScriptError}
 use Rattle.rz_script.specs.declared.fault.ScriptError.TheVariants as errors
 use Rattle.rz_script.specs.declared.line.Line.{Line}
 use Rattle.rz_script.specs.Grammar.{words, line, at_line, join, lines_from}
-use Rattle.rz_script.specs.Given.{FailsScript}
+use Rattle.rz_script.specs.Given.{AddsLine, FailsScript, GivesScript}
 
 -- a text without bytes has no line
 pub no_bytes : (form : Form) (v : Volume) (text : List ℕ) → (length text == 0) ≡ true → line form v (words text) ≡ Ok None
@@ -44,6 +44,13 @@ module _ (form : Form) (v : Volume) (front : List Line) (n : ℕ) (texts : List 
   ends (errors.Script m c) cut is so_far = sym so_far ∙ rw (cut, is) (failed front (errors.Script m c) (lines_from form v (n + 1) more))
   ends (errors.Volume f) cut is so_far = sym so_far ∙ rw (cut, is) (failed front (errors.Volume f) (lines_from form v (n + 1) more))
 
-pub is_done : (form : Form) (v : Volume) (front : List Line) (n : ℕ) (total : Result (List Line) ScriptError) → with_front front (lines_from form v n []) ≡ total → total ≡ Ok front
+is_done : (form : Form) (v : Volume) (front : List Line) (n : ℕ) (total : Result (List Line) ScriptError) → with_front front (lines_from form v n []) ≡ total → total ≡ Ok front
 unfolding lines_from
 is_done form v front n total so_far = sym so_far ∙ ap (λ (x : List Line). Ok x) (append-nil front)
+
+-- the last line was added, or had its fault
+pub added : (form : Form) (v : Volume) (front found : List Line) (n : ℕ) (texts : List (List ℕ)) (text : List ℕ) (total : Result (List Line) ScriptError) (r : Result (Unit {0}) ScriptError) → texts ≡ text ∷ []
+    → AddsLine front found n (line form v (words text)) r → with_front front (lines_from form v n texts) ≡ total → GivesScript (λ _. found) r total
+added form v front found n texts text total (Ok u) cut (o, is, e) so_far =
+    rw e (is_done form v (front ++ cons_option o []) (n + 1) total (goes_on form v front n texts text [] total o cut is so_far))
+added form v front found n texts text total (Err e) cut fails so_far = ends form v front n texts text [] total e cut fails so_far

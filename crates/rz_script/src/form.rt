@@ -1,7 +1,7 @@
 //! The forms of reading.
 
 /// For which command a script is read.
-#[derive(Clone, Copy, Debug, PartialEq, Eq, Drop)]
+#[derive(Clone, Copy, Drop)]
 pub enum Form {
     /// One thread plays it, turn by turn: every line may stand.
     Replay,

@@ -1,9 +1,10 @@
 //! The lines of a script, word by word.
 
 ghost use Rattle.std.specs.Prelude.{◌≡◌};
-ghost use Rattle.rz_script.specs.declared.line.Line.TheVariants as line_kinds;
+ghost use Rattle.rz_script.specs.declared.keywords.Keyword.TheVariants as keys;
 ghost use Rattle.rz_script.specs.Given.{Gives};
 ghost use Rattle.rz_script.specs.Grammar.{turn, rounds, rest, on_node, break_node, miss, after_keyword, counted, line, words};
+ghost use Rattle.rz_script.specs.Shared.{turned};
 
 use crate::fault::LineError;
 use crate::judges::{read_actor, read_node, read_number, read_number_in, read_way};
@@ -40,31 +41,18 @@ fn read_rest(words: &mut Words) -> Result<Line, ScriptCause>
     Ok(Line::Rest)
 }
 
+/// A node that stops, starts or loses its disk, by the keyword.
 #[tactic(auto, unfolding(crate::specs::Grammar::on_node))]
-fn read_stop(volume: &Volume, words: &mut Words) -> Result<Line, ScriptCause>
-    ensures { result ≡ on_node volume.now line_kinds.Stop words.old }
+fn read_on_node(volume: &Volume, keyword: Keyword, words: &mut Words) -> Result<Line, ScriptCause>
+    ensures { result ≡ on_node volume.now (turned keyword) words.old }
 {
     let node = read_node(volume, words.next()?)?;
     words.end()?;
-    Ok(Line::Stop { node })
-}
-
-#[tactic(auto, unfolding(crate::specs::Grammar::on_node))]
-fn read_start(volume: &Volume, words: &mut Words) -> Result<Line, ScriptCause>
-    ensures { result ≡ on_node volume.now line_kinds.Start words.old }
-{
-    let node = read_node(volume, words.next()?)?;
-    words.end()?;
-    Ok(Line::Start { node })
-}
-
-#[tactic(auto, unfolding(crate::specs::Grammar::on_node))]
-fn read_lose(volume: &Volume, words: &mut Words) -> Result<Line, ScriptCause>
-    ensures { result ≡ on_node volume.now line_kinds.Lose words.old }
-{
-    let node = read_node(volume, words.next()?)?;
-    words.end()?;
-    Ok(Line::Lose { node })
+    Ok(match keyword {
+        Keyword::Start => Line::Start { node },
+        Keyword::Lose => Line::Lose { node },
+        _ => Line::Stop { node },
+    })
 }
 
 #[tactic(auto, unfolding(crate::specs::Grammar::break_node))]
@@ -88,33 +76,25 @@ fn read_miss(words: &mut Words) -> Result<Line, ScriptCause>
     Ok(Line::Miss { by, reply })
 }
 
-/// The words after the first word of a line.
+/// The words after the first word of a line that has no operation.
 #[tactic(auto, unfolding(crate::specs::Grammar::after_keyword))]
-fn read_after_keyword(
-    alloc: Global,
-    form: Form,
-    volume: &Volume,
-    keyword: Keyword,
-    words: &mut Words,
-) -> Result<Line, LineError>
-    ensures { Gives result (after_keyword form volume.now keyword words.old) }
+fn read_other(volume: &Volume, keyword: Keyword, words: &mut Words) -> Result<Line, ScriptCause>
+    requires { ¬ (keyword ≡ keys.Op) }
+    ensures { (form : Form) → result ≡ after_keyword form volume.now keyword words.old }
 {
     match keyword {
-        Keyword::Volume => Err(LineError::Cause(ScriptCause::LateVolume)),
-        Keyword::Op => read_op(alloc, form, volume, words),
-        Keyword::Turn => Ok(read_turn(words)?),
-        Keyword::Rounds => Ok(read_rounds(words)?),
-        Keyword::Rest => Ok(read_rest(words)?),
-        Keyword::Stop => Ok(read_stop(volume, words)?),
-        Keyword::Start => Ok(read_start(volume, words)?),
-        Keyword::Lose => Ok(read_lose(volume, words)?),
-        Keyword::Break => Ok(read_break(volume, words)?),
-        Keyword::Miss => Ok(read_miss(words)?),
+        Keyword::Volume | Keyword::Op => Err(ScriptCause::LateVolume),
+        Keyword::Turn => read_turn(words),
+        Keyword::Rounds => read_rounds(words),
+        Keyword::Rest => read_rest(words),
+        Keyword::Stop | Keyword::Start | Keyword::Lose => read_on_node(volume, keyword, words),
+        Keyword::Break => read_break(volume, words),
+        Keyword::Miss => read_miss(words),
     }
 }
 
 /// A line that counts.
-#[tactic(auto, unfolding(crate::specs::Grammar::counted))]
+#[tactic(auto, unfolding(crate::specs::Grammar::counted, crate::specs::Grammar::after_keyword))]
 fn read_counted(
     alloc: Global,
     form: Form,
@@ -124,8 +104,10 @@ fn read_counted(
 ) -> Result<Line, LineError>
     ensures { Gives result (counted form volume.now first.now words.old) }
 {
-    let keyword = read_keyword(form, first)?;
-    read_after_keyword(alloc, form, volume, keyword, words)
+    match read_keyword(form, first)? {
+        Keyword::Op => read_op(alloc, form, volume, words),
+        keyword => Ok(read_other(volume, keyword, words)?),
+    }
 }
 
 /// The line of a text, or nothing where it is passed over.

@@ -2,7 +2,8 @@
 
 ghost use Rattle.std.specs.Prelude.{◌≡◌};
 ghost use Rattle.rz_script.specs.Given.{Gives};
-ghost use Rattle.rz_script.specs.Grammar.{on_path, on_pair, setattr, put, get, write, read, update, view, rebuild, operands, op};
+ghost use Rattle.rz_script.specs.Grammar.{on_path, on_pair, setattr, put, get, rebuild, operands, op};
+ghost use Rattle.rz_script.specs.Shared.{bytes_at, range_at, written, wanted};
 
 use crate::fault::LineError;
 use crate::judges::{
@@ -75,67 +76,53 @@ fn read_get(alloc: Global, words: &mut Words) -> Result<Operation, LineError>
     Ok(Operation::Get { path, block })
 }
 
-#[tactic(auto, unfolding(crate::specs::Grammar::write))]
-fn read_write(alloc: Global, words: &mut Words) -> Result<Operation, LineError>
-    ensures { Gives result (write words.old) }
+/// A datum that is written from an offset on. An update locks its range.
+#[tactic(auto, unfolding(crate::specs::Shared::bytes_at))]
+fn read_write(alloc: Global, locks: bool, words: &mut Words) -> Result<Operation, LineError>
+    ensures { Gives result (bytes_at (written locks) words.old) }
 {
     let path = words.next()?;
     let offset = read_number(words.next()?)?;
     let datum = read_datum_from(alloc, offset, words.next()?)?;
     words.end()?;
     let path = Text::from_bytes(alloc, path.as_bytes())?;
-    Ok(Operation::Write {
-        path,
-        offset,
-        datum,
+    Ok(if locks {
+        Operation::Update {
+            path,
+            offset,
+            datum,
+        }
+    } else {
+        Operation::Write {
+            path,
+            offset,
+            datum,
+        }
     })
 }
 
-#[tactic(auto, unfolding(crate::specs::Grammar::read))]
-fn read_read(alloc: Global, words: &mut Words) -> Result<Operation, LineError>
-    ensures { Gives result (read words.old) }
+/// Bytes that are read from an offset on. A view locks its range.
+#[tactic(auto, unfolding(crate::specs::Shared::range_at))]
+fn read_read(alloc: Global, locks: bool, words: &mut Words) -> Result<Operation, LineError>
+    ensures { Gives result (range_at (wanted locks) words.old) }
 {
     let path = words.next()?;
     let offset = read_number(words.next()?)?;
     let length = read_length_from(offset, words.next()?)?;
     words.end()?;
     let path = Text::from_bytes(alloc, path.as_bytes())?;
-    Ok(Operation::Read {
-        path,
-        offset,
-        length,
-    })
-}
-
-#[tactic(auto, unfolding(crate::specs::Grammar::update))]
-fn read_update(alloc: Global, words: &mut Words) -> Result<Operation, LineError>
-    ensures { Gives result (update words.old) }
-{
-    let path = words.next()?;
-    let offset = read_number(words.next()?)?;
-    let datum = read_datum_from(alloc, offset, words.next()?)?;
-    words.end()?;
-    let path = Text::from_bytes(alloc, path.as_bytes())?;
-    Ok(Operation::Update {
-        path,
-        offset,
-        datum,
-    })
-}
-
-#[tactic(auto, unfolding(crate::specs::Grammar::view))]
-fn read_view(alloc: Global, words: &mut Words) -> Result<Operation, LineError>
-    ensures { Gives result (view words.old) }
-{
-    let path = words.next()?;
-    let offset = read_number(words.next()?)?;
-    let length = read_length_from(offset, words.next()?)?;
-    words.end()?;
-    let path = Text::from_bytes(alloc, path.as_bytes())?;
-    Ok(Operation::View {
-        path,
-        offset,
-        length,
+    Ok(if locks {
+        Operation::View {
+            path,
+            offset,
+            length,
+        }
+    } else {
+        Operation::Read {
+            path,
+            offset,
+            length,
+        }
     })
 }
 
@@ -149,7 +136,7 @@ fn read_rebuild(volume: &Volume, words: &mut Words) -> Result<Operation, LineErr
 }
 
 /// The words after the first word of an operation.
-#[tactic(auto, unfolding(crate::specs::Grammar::operands))]
+#[tactic(auto, unfolding(crate::specs::Grammar::operands, crate::specs::Grammar::write, crate::specs::Grammar::read, crate::specs::Grammar::update, crate::specs::Grammar::view, crate::specs::Shared::bytes_at, crate::specs::Shared::range_at))]
 fn read_operands(
     alloc: Global,
     volume: &Volume,
@@ -164,10 +151,10 @@ fn read_operands(
         Verb::Setattr => read_setattr(alloc, words),
         Verb::Put => read_put(alloc, volume, words),
         Verb::Get => read_get(alloc, words),
-        Verb::Write => read_write(alloc, words),
-        Verb::Read => read_read(alloc, words),
-        Verb::Update => read_update(alloc, words),
-        Verb::View => read_view(alloc, words),
+        Verb::Write => read_write(alloc, false, words),
+        Verb::Read => read_read(alloc, false, words),
+        Verb::Update => read_write(alloc, true, words),
+        Verb::View => read_read(alloc, true, words),
         Verb::Rebuild => read_rebuild(volume, words),
     }
 }

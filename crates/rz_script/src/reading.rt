@@ -1,6 +1,6 @@
 //! The reading of a whole script.
 
-ghost use Rattle.std.specs.Prelude.{◌≡◌, ◌≤◌, ◌<◌, ◌+◌, ◌^◌, length};
+ghost use Rattle.std.specs.Prelude.{◌≡◌, ◌≤◌, ◌<◌, ◌+◌, ◌^◌, [], length};
 ghost use Rattle.rz_script.specs.declared.fault.ScriptError.TheVariants as errors;
 ghost use Rattle.rz_config.specs.Plain.{plain_volume};
 ghost use Rattle.rz_script.specs.Given.{AddsLine, GivesScript, script_of};
@@ -39,12 +39,13 @@ fn push_line(
     if text.is_empty() {
         return Ok(());
     }
+    found.reserve(1)?;
     match read_line(alloc, form, volume, text) {
         Ok(None) => Ok(()),
-        Ok(Some(line)) => match found.push(line) {
-            Ok(()) => Ok(()),
-            Err(_) => Err(ScriptError::NoMemory),
-        },
+        Ok(Some(line)) => {
+            found.push_reserved(line);
+            Ok(())
+        }
         Err(LineError::NoMemory) => Err(ScriptError::NoMemory),
         Err(LineError::Cause(cause)) => Err(ScriptError::Script {
             line: number as u32,
@@ -53,27 +54,27 @@ fn push_line(
     }
 }
 
-/// The lines of a text, of which the first has the number `first`.
+/// Finds the lines of a text, of which the first has the number `first`.
 fn read_lines_from(
     alloc: Global,
     form: Form,
     volume: &Volume,
     first: u64,
     text: &str,
-) -> Result<Vec<Line>, ScriptError>
-    requires { first + length text.now ≤ 2 ^ 32 }
-    ensures { GivesScript (λ v. v.items) result (lines_from form volume.now first (lines text.now)) }
+    found: &mut Vec<Line>,
+) -> Result<(), ScriptError>
+    requires few { first + length text.now ≤ 2 ^ 32 }
+    requires empty { found.old.items ≡ [] }
+    ensures { GivesScript (λ _. found.new.items) result (lines_from form volume.now first (lines text.now)) }
 {
-    let mut found = Vec::new(alloc);
     let mut rest = text;
     let mut number = first;
     while let Some((line, after)) = cut(rest, '\n') {
-        push_line(alloc, form, volume, &mut found, number, line)?;
+        push_line(alloc, form, volume, found, number, line)?;
         rest = after;
         number += 1;
     }
-    push_line(alloc, form, volume, &mut found, number, rest)?;
-    Ok(found)
+    push_line(alloc, form, volume, found, number, rest)
 }
 
 /// A volume with the lines of a text.
@@ -87,8 +88,15 @@ fn with_lines(
     requires { number + length rest.now ≤ 2 ^ 32 }
     ensures { GivesScript script_of result (with_lines volume (lines_from form volume number (lines rest.now))) }
 {
-    let lines = read_lines_from(alloc, form, &volume, number, rest)?;
-    Ok((volume, lines))
+    let mut found = Vec::new(alloc);
+    match read_lines_from(alloc, form, &volume, number, rest, &mut found) {
+        Ok(()) => Ok((volume, found)),
+        Err(error) => {
+            drop(found);
+            drop(volume);
+            Err(error)
+        }
+    }
 }
 
 /// The volume of a volume line, with the lines after it.

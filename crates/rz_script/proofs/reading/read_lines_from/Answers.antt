@@ -1,7 +1,7 @@
 use Rattle.std.proofs.Common.{◌+◌, [], arith, rules}
 use Rattle.std.proofs.lemmas.Result.{err_from_is_err_and}
 use Rattle.rz_script.specs.Grammar.{lines, lines_from}
-use Rattle.rz_script.proofs.Loop.{goes_on, ends, is_done}
+use Rattle.rz_script.proofs.Loop.{added, goes_on, ends}
 use Rattle.rz_script.proofs.reading.read_lines_from.Goals as goal
 
 pub loop-line-preserved : goal.loop-line-preserved
@@ -14,12 +14,7 @@ returns-in_err-push_line c =
     let p = err_from_is_err_and c.from_residual.result c.from_residual.ensures.1 in
     rw (p.1, p.2) (ends c.args.form c.args.volume.now c.loop-line.found.items c.loop-line.number (lines c.loop-line.rest.now) c.in-Some.line.now (lines c.in-Some.after.now) (lines_from c.args.form c.args.volume.now c.args.first (lines c.args.text.now)) c.in_err-push_line.field-0.0 c.in-Some.ensures.pieces c.in_err-push_line.ensures c.loop-line.invariant.1)
 
-pub returns-in_err-push_line-2 : goal.returns-in_err-push_line-2
-returns-in_err-push_line-2 c =
-    let p = err_from_is_err_and c.from_residual-in_err-push_line-2.result c.from_residual-in_err-push_line-2.ensures.1 in
-    rw (p.1, p.2) (ends c.args.form c.args.volume.now c.loop-line.found.items c.loop-line.number (lines c.loop-line.rest.now) c.loop-line.rest.now [] (lines_from c.args.form c.args.volume.now c.args.first (lines c.args.text.now)) c.in_err-push_line-2.field-0.0 c.in_default.ensures.pieces c.in_err-push_line-2.ensures c.loop-line.invariant.1)
-
 pub returns : goal.returns
 returns c =
-    let (o, is, e) = c.in_ok-push_line-2.ensures in
-    rw e (is_done c.args.form c.args.volume.now _ (c.loop-line.number + 1) (lines_from c.args.form c.args.volume.now c.args.first (lines c.args.text.now)) (goes_on c.args.form c.args.volume.now c.loop-line.found.items c.loop-line.number (lines c.loop-line.rest.now) c.loop-line.rest.now [] (lines_from c.args.form c.args.volume.now c.args.first (lines c.args.text.now)) o c.in_default.ensures.pieces is c.loop-line.invariant.1))
+    added c.args.form c.args.volume.now c.loop-line.found.items c.push_line-2.new.found.items c.loop-line.number (lines c.loop-line.rest.now) c.loop-line.rest.now (lines_from c.args.form c.args.volume.now c.args.first (lines c.args.text.now)) c.push_line-2.result
+    c.in_default.ensures.pieces c.push_line-2.ensures c.loop-line.invariant.1
