@@ -1,11 +1,9 @@
 //! Disks of which a byte changed after a play. The next play says which disk does not open and why, and
 //! leaves each byte of all disks.
 
-use super::tests::{AGAIN, FIRST, WRITTEN, bytes_of, told};
-use rz_disk::{Disk, Failed, PlainDisk};
-use rz_link::MemLink;
-use rz_replay::memory;
-use std::alloc::Global;
+use super::tests::{AGAIN, FIRST, WRITTEN, bytes_of, disks_of, push, told};
+use rz_disk::{Disk, PlainDisk};
+use std::process::Abort;
 use std::test::Fail;
 
 /// The index of the disk, where the byte stands, what it becomes, and what the next play tells.
@@ -21,44 +19,58 @@ const DAMAGE: [(usize, u64, u8, &str); 6] = [
     (4, 69, 99, "16 with 5 disks: refused open 4 5\n"),
 ];
 
-/// Changes a byte of a disk.
-fn alter<D: Disk>(disk: &mut D, at: u64, byte: u8) -> Result<(), Failed> {
-    if at < disk.size() {
-        disk.write_at(at, &[byte])?;
-        disk.sync()?;
-    }
-    Ok(())
+/// Changes a byte of a disk. Answers whether it was done.
+fn alter<D: Disk>(disk: &mut D, at: u64, byte: u8) -> bool {
+    at < disk.size() && disk.write_at(at, &[byte]).is_ok() && disk.sync().is_ok()
 }
 
 /// The bytes of each disk.
-fn all_bytes(alloc: Global, disks: &mut Vec<PlainDisk>) -> Result<Vec<Vec<u8>>, Fail> {
-    let mut all = Vec::new(alloc);
+fn all_bytes(rt: &(impl Abort + AllocGlobal), disks: &mut Vec<PlainDisk>) -> Vec<Vec<u8>> {
+    let mut all = Vec::new(rt.alloc());
     for disk in disks.iter_mut() {
-        all.push(bytes_of(alloc, disk)?)?;
+        push(rt, &mut all, bytes_of(rt, disk));
     }
-    Ok(all)
+    all
 }
 
-/// Plays, changes a byte, and plays again. Answers what was told, and whether all bytes are as they were.
-fn after_damage(alloc: Global, index: usize, at: u64, byte: u8) -> Result<(String, bool), Fail> {
-    let mut disks = memory(alloc, 5)?;
-    let link = MemLink::new(Vec::new(alloc));
-    let _first = told(alloc, FIRST, WRITTEN, &mut disks, link)?;
-    if let Some(disk) = disks.get_mut(index) {
-        alter(disk, at, byte)?;
-    }
-    let before = all_bytes(alloc, &mut disks)?;
-    let link = MemLink::new(Vec::new(alloc));
-    let next = told(alloc, AGAIN, WRITTEN, &mut disks, link)?;
-    let after = all_bytes(alloc, &mut disks)?;
-    Ok((next, before == after))
+/// Disks of a play, of which a byte was changed then.
+fn damaged(rt: &(impl Abort + AllocGlobal), index: usize, at: u64, byte: u8) -> Vec<PlainDisk> {
+    let mut disks = disks_of(rt, 5);
+    let first = told(rt, FIRST, WRITTEN, &mut disks);
+    drop(first);
+    let done = match disks.get_mut(index) {
+        Some(disk) => alter(disk, at, byte),
+        None => false,
+    };
+    assert!(rt; done);
+    disks
+}
+
+/// Whether a play over damaged disks tells this, and leaves all bytes as they were.
+fn is_refused(
+    rt: &(impl Abort + AllocGlobal),
+    index: usize,
+    at: u64,
+    byte: u8,
+    want: &str,
+) -> bool {
+    let mut disks = damaged(rt, index, at, byte);
+    let before = all_bytes(rt, &mut disks);
+    let next = told(rt, AGAIN, WRITTEN, &mut disks);
+    let after = all_bytes(rt, &mut disks);
+    drop(disks);
+    let is_left = before == after;
+    drop(before);
+    drop(after);
+    let is_told = next.as_str() == want;
+    drop(next);
+    is_left && is_told
 }
 
 #[test]
 fn a_byte_of_a_disk_changes(rt: HostRuntime) -> Result<(), Fail> {
     for (index, at, byte, want) in DAMAGE {
-        let (told, is_left) = after_damage(rt.alloc(), index, at, byte)?;
-        assert_eq!(rt; (told.as_str(), is_left), (want, true), "byte {at}");
+        assert!(rt; is_refused(&rt, index, at, byte, want), "byte {at}");
     }
     Ok(())
 }

@@ -2,14 +2,14 @@
 
 ghost use Rattle.std.specs.Prelude.{IsTrue};
 
-use super::tests::{bytes_of, words_of};
+use super::tests::{bytes_of, disks_of, is_in_file, source_of, words_of};
 use rz_disk::{Disk, PlainDisk};
 use rz_link::PlainLink;
-use rz_ports::{PlainSink, PlainSource};
-use rz_replay::{files, memory, replay};
+use rz_ports::PlainSink;
+use rz_replay::{files, replay};
 use rz_run::{Ran, run};
-use std::alloc::Global;
 use std::fs::{self, Files};
+use std::process::Abort;
 use std::sync::Wait;
 use std::test::Fail;
 use std::thread::Threads;
@@ -19,32 +19,49 @@ const SCRIPT: &str = "op c1 create /f\nop c1 put /f 0 t:hello\nop c1 get /f 0\n"
 const FOLDER: &str = "rozo_program_running";
 
 /// What is printed of a play in one thread, whose script says that all operations are done.
-fn replayed(alloc: Global, disks: &mut Vec<PlainDisk>) -> Result<String, Fail> {
-    let words = words_of(alloc, "rozo replay --disks 4")?;
-    let script = format!(in alloc; "{SCRIPT}rest\n")?;
-    let mut input = PlainSource::new(Vec::from_slice(alloc, script.as_bytes())?);
-    let mut output = PlainSink::with_room(alloc, 4096)?;
+fn replayed(rt: &(impl Abort + AllocGlobal), disks: &mut Vec<PlainDisk>) -> String {
+    let words = words_of(rt, "rozo replay --disks 4");
+    let script = format!(in rt.alloc(); "{SCRIPT}rest\n").expect(rt, "memory");
+    let mut input = source_of(rt, script.as_str());
+    drop(script);
+    let mut output = PlainSink::with_room(rt.alloc(), 4096).expect(rt, "memory");
     let mut link = PlainLink::new();
-    let _played = replay(alloc, &words, &mut input, &mut output, disks, &mut link);
-    Ok(String::from_utf8_lossy(alloc, output.taken())?)
+    let played = replay(
+        rt.alloc(),
+        &words,
+        &mut input,
+        &mut output,
+        disks,
+        &mut link,
+    );
+    drop(words);
+    drop(input);
+    drop(played);
+    let text = String::from_utf8_lossy(rt.alloc(), output.taken()).expect(rt, "memory");
+    drop(output);
+    text
 }
 
-/// What is printed of a play on threads, and the disks.
-fn ran<R: Threads + Wait + Sync, D: Disk + Send>(
+/// Plays on threads, and gives the disks back. Another text than this one stops the test.
+fn ran<R: Threads + Wait + Abort + AllocGlobal + Sync, D: Disk + Send>(
     rt: &R,
-    alloc: Global,
     disks: Vec<D>,
     honest: bool,
-) -> Result<(String, Vec<D>), Fail>
+    want: &str,
+) -> Vec<D>
     requires tells { IsTrue honest → IsTrue D.tells }
 {
-    let words = words_of(alloc, "rozo run --disks 4")?;
-    let links = vec![in alloc; PlainLink::new(); 80]?;
-    let mut input = PlainSource::new(Vec::from_slice(alloc, SCRIPT.as_bytes())?);
-    let mut output = PlainSink::with_room(alloc, 4096)?;
-    let Ran { disks, .. } = run(
+    let words = words_of(rt, "rozo run --disks 4");
+    let links = vec![in rt.alloc(); PlainLink::new(); 80].expect(rt, "memory");
+    let mut input = source_of(rt, SCRIPT);
+    let mut output = PlainSink::with_room(rt.alloc(), 4096).expect(rt, "memory");
+    let Ran {
+        status,
+        disks,
+        links,
+    } = run(
         rt,
-        alloc,
+        rt.alloc(),
         &words,
         &mut input,
         &mut output,
@@ -52,43 +69,59 @@ fn ran<R: Threads + Wait + Sync, D: Disk + Send>(
         links,
         honest,
     );
-    let text = String::from_utf8_lossy(alloc, output.taken())?;
-    Ok((text, disks))
+    drop(words);
+    drop(links);
+    drop(input);
+    assert!(rt; status == 0 && output.taken() == want.as_bytes());
+    drop(output);
+    disks
 }
 
-/// The first disk whose file has other bytes, if there is one.
-fn first_other<R: Files + AllocGlobal>(
+/// Whether a play in files prints this and leaves the bytes of these disks in them.
+fn is_alike_in_files<R: Threads + Wait + Files + Abort + AllocGlobal + Sync>(
     rt: &R,
-    alloc: Global,
-    disks: &mut [PlainDisk],
-) -> Result<Option<usize>, Fail> {
+    disks: &mut Vec<PlainDisk>,
+    want: &str,
+) -> bool {
+    let made = files(rt, rt.alloc(), FOLDER, 0, 4).expect(rt, "files");
+    let filed = ran(rt, made, false, want);
+    drop(filed);
+    let mut are_alike = true;
     for (index, disk) in disks.iter_mut().enumerate() {
-        let path = format!(in alloc; "{FOLDER}/disk.{index}")?;
-        let found = fs::read(rt, path.as_str())?;
-        fs::remove_file(rt, path.as_str())?;
-        if found != bytes_of(alloc, disk)? {
-            return Ok(Some(index));
-        }
+        are_alike = is_in_file(rt, FOLDER, index, disk) && are_alike;
     }
-    Ok(None)
+    are_alike
+}
+
+/// Whether a play in memory prints this and leaves the bytes of these disks.
+fn is_alike_in_memory<R: Threads + Wait + Abort + AllocGlobal + Sync>(
+    rt: &R,
+    disks: &mut Vec<PlainDisk>,
+    want: &str,
+) -> bool {
+    let mut kept = ran(rt, disks_of(rt, 4), true, want);
+    let mut are_alike = kept.len() == disks.len();
+    for (disk, like) in kept.iter_mut().zip(disks.iter_mut()) {
+        let one = bytes_of(rt, disk);
+        let other = bytes_of(rt, like);
+        are_alike = one == other && are_alike;
+        drop(one);
+        drop(other);
+    }
+    drop(kept);
+    are_alike
 }
 
 #[test]
 fn threads_print_and_write_what_one_thread_does(rt: HostRuntime) -> Result<(), Fail> {
-    let alloc = rt.alloc();
     let _ = fs::create_dir(&rt, FOLDER);
-    let mut disks: Vec<PlainDisk> = memory(alloc, 4)?;
-    let once = replayed(alloc, &mut disks)?;
-
-    let (in_files, _) = ran(&rt, alloc, files(&rt, alloc, FOLDER, 0, 4)?, false)?;
-    let other = first_other(&rt, alloc, &mut disks)?;
-    assert_eq!(rt; (in_files.as_str(), other), (once.as_str(), None));
-
-    let (in_memory, mut kept) = ran(&rt, alloc, memory(alloc, 4)?, true)?;
-    assert_eq!(rt; in_memory.as_str(), once.as_str());
-    for (disk, like) in kept.iter_mut().zip(disks.iter_mut()) {
-        assert!(rt; bytes_of(alloc, disk)? == bytes_of(alloc, like)?);
-    }
-    fs::remove_dir(&rt, FOLDER)?;
+    let mut disks = disks_of(&rt, 4);
+    let once = replayed(&rt, &mut disks);
+    let in_files = is_alike_in_files(&rt, &mut disks, once.as_str());
+    let in_memory = is_alike_in_memory(&rt, &mut disks, once.as_str());
+    drop(disks);
+    drop(once);
+    assert!(rt; in_files && in_memory);
+    assert!(rt; fs::remove_dir(&rt, FOLDER).is_ok());
     Ok(())
 }
