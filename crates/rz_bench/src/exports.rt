@@ -126,7 +126,7 @@ fn is_above(reply: &Reply, key: Key) -> bool {
 }
 
 /// The calls that make one more file beside a file, and take it away again.
-fn round(alloc: Global, file: u32) -> Result<Round, AllocError> {
+fn round_beside(alloc: Global, file: u32) -> Result<Round, AllocError> {
     let create = TreeCall::Create {
         path: path_beside(alloc, file)?,
     };
@@ -211,7 +211,8 @@ impl FilledExport {
         let reply = named?;
         let fid = made(&reply);
         drop(reply);
-        self.fids.push(fid)
+        self.fids.push(fid)?;
+        Ok(())
     }
 
     /// Makes the files, and publishes the first block of each, so that they spread over the nodes.
@@ -359,7 +360,7 @@ impl FilledExport {
         let mut rounds = Vec::new(self.alloc);
         for call in 0..calls {
             let file = spread(call, self.files);
-            rounds.push(round(self.alloc, file)?)?;
+            rounds.push(round_beside(self.alloc, file)?)?;
         }
         Ok(rounds)
     }
