@@ -10,8 +10,8 @@ use Rattle.rz_events.specs.declared.export.Reply.{Reply}
 use Rattle.rz_export_model.specs.Export.{export_reply}
 use Rattle.rz_journal.specs.Said.{entry_of, accepts}
 use Rattle.rz_journal.specs.Seen.{calls_after}
-use Rattle.rz_metadata.specs.declared.metadata.Metadata.{Metadata}
-use Rattle.rz_metadata.specs.Stands.{export_in, Stands, StandsAtEnd}
+use Rattle.rz_asks.specs.declared.metadata.Metadata.{Metadata}
+use Rattle.rz_asks.specs.Stands.{export_in, Stands, StandsAtEnd}
 use Rattle.rz_operation.specs.Machine.{Machine}
 use Rattle.rz_operation_model.specs.Ask.{AskExport, AskLock, ask_of}
 use Rattle.rz_asks.specs.Journals.{call_asked, HasBytes, KeepsCall, KeepsAsked, EndsWith, EndsOn}

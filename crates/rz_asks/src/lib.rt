@@ -10,16 +10,31 @@
 //! which the journal's disk stands, just as it was called; and where a call ended in no reply, that the disk
 //! stands for the calls from before, or for these and one more.
 //!
-//! In reading order: `log`, `replies`, `locking`, `words`.
+//! [`Metadata`] is that export: in memory alone, or behind a journal. It replies to what an operation asks, as the
+//! model of the export says. Behind a journal a call that changes the export stands on the disk before it is
+//! replied to. A journal that had no room for a call, or whose disk failed, says why, and no further call is
+//! replied to (`specs/Stands`). A journal that stands on a disk is opened again, with the export that its entries
+//! make, and `losses` says which losses of nodes that export enrolled last.
+//!
+//! In reading order: `memory`, `journaled`, `losses`, `metadata`, `reopening`, `log`, `replies`, `locking`, `words`.
 #![tactic(auto)]
 
+mod journaled;
 mod locking;
 mod log;
+mod losses;
+mod memory;
+mod metadata;
+mod reopening;
 mod replies;
 mod words;
 
+pub use journaled::{Journaled, Refusal};
 pub use locking::open;
 pub use log::{Log, let_go};
+pub use memory::NoReply;
+pub use metadata::Metadata;
+pub use reopening::fault_number;
 pub use replies::{ask_export, note};
 pub(crate) use rz_lines::NoMemory;
 pub use words::{is_bad, say};

@@ -3,19 +3,18 @@ ghost use Rattle.std.specs.Prelude.{◌≡◌, ◌<◌, ◌≤◌, ℕ, None, On
 ghost use Rattle.std.specs.FinMap as map;
 ghost use Rattle.rz_events.specs.declared.keys.Actor.TheVariants as actor;
 ghost use Rattle.rz_events.specs.declared.tree.TreeCall.TheVariants as tree;
-ghost use Rattle.rz_metadata.specs.Stands.{export_in, is_journaled};
+ghost use Rattle.rz_asks.specs.Stands.{export_in, is_journaled};
 ghost use Rattle.rz_operation.specs.Meaning.{path_in};
 ghost use Rattle.rz_play.specs.Turns.{lock_on};
 ghost use Rattle.rz_asks.specs.Journals.{KeepsAsked, EndsOn};
 ghost use Rattle.rz_asks.specs.Locking.{lock_of, Grants, lock_if, IsOpenPart};
 
-use crate::NoMemory;
 use crate::log::Log;
 use crate::replies::note_names;
+use crate::{Metadata, NoMemory};
 use rz_disk::Disk;
 use rz_events::{Actor, Reply, TreeCall, TreeReply};
 use rz_locks::{LockAnswer, LockKind, Locks, Range};
-use rz_metadata::Metadata;
 use rz_operation::{Ask, ExportAsk, Machine};
 use std::alloc::Global;
 

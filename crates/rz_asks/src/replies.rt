@@ -3,18 +3,17 @@ ghost use Rattle.std.specs.Prelude.{◌≡◌, ◌+◌, ◌<◌, ◌≤◌, Some
 ghost use Rattle.std.specs.List.{All};
 ghost use Rattle.rz_events.specs.declared.export.Reply.TheVariants as model;
 ghost use Rattle.rz_export_model.specs.ExportEvents.{export_event};
-ghost use Rattle.rz_metadata.specs.Stands.{export_in, is_journaled};
+ghost use Rattle.rz_asks.specs.Stands.{export_in, is_journaled};
 ghost use Rattle.rz_operation.specs.Meaning.{call_of};
 ghost use Rattle.rz_asks.specs.Journals.{HasBytes, KeepsAsked, EndsOn};
 ghost use Rattle.rz_asks.specs.Parts.{AreWords, IsNoted, IsExportPart};
 
-use crate::NoMemory;
 use crate::log::Log;
+use crate::{Metadata, NoMemory};
 use rz_disk::Disk;
 use rz_events::{
     Actor, Asked, Call, Denial, Event, Key, Published, Reply, Text, TreeCall, TreeReply,
 };
-use rz_metadata::Metadata;
 use rz_operation::{Ask, ExportAsk, Machine};
 use std::alloc::{AllocError, Global};
 

@@ -108,6 +108,14 @@ fn made(reply: &TreeReply) -> u128 {
     }
 }
 
+/// The stamp of a write that was begun.
+fn stamp_of(reply: &Reply) -> Option<u64> {
+    match reply {
+        Reply::Begun { stamp, .. } => Some(*stamp),
+        _ => None,
+    }
+}
+
 /// Whether a reply lists a block above this one, or says that there is none.
 fn is_above(reply: &Reply, key: Key) -> bool {
     match reply {
@@ -117,15 +125,26 @@ fn is_above(reply: &Reply, key: Key) -> bool {
     }
 }
 
+/// The calls that make one more file beside a file, and take it away again.
+fn round(alloc: Global, file: u32) -> Result<Round, AllocError> {
+    let create = TreeCall::Create {
+        path: path_beside(alloc, file)?,
+    };
+    let unlink = TreeCall::Unlink {
+        path: path_beside(alloc, file)?,
+    };
+    Ok(Round { create, unlink })
+}
+
 impl FilledExport {
     /// An export of sixteen nodes that is to have so many files and blocks, and has none.
     pub fn new(alloc: Global, files: u32, blocks: u32) -> Result<FilledExport, AllocError>
         requires some { 1 ≤ files }
         requires no_fewer { files ≤ blocks }
     {
+        let fids = Vec::with_capacity(alloc, files as usize)?;
         let volume = volume(alloc)?;
         let export = Export::new(alloc, volume, 0)?;
-        let fids = Vec::with_capacity(alloc, files as usize)?;
         Ok(FilledExport {
             alloc,
             export,
@@ -147,9 +166,11 @@ impl FilledExport {
     /// Begins a write of a block and publishes it, and answers whether both were taken.
     fn publish(&mut self, number: u32) -> Result<bool, AllocError> {
         let key = self.key_of(number);
-        let stamp = match self.export.begin(key)? {
-            Reply::Begun { stamp, .. } => stamp,
-            _ => return Ok(false),
+        let begun = self.export.begin(key)?;
+        let stamp = stamp_of(&begun);
+        drop(begun);
+        let Some(stamp) = stamp else {
+            return Ok(false);
         };
         let published = Published {
             stamp,
@@ -166,22 +187,31 @@ impl FilledExport {
             return Ok(false);
         }
         let reply = self.export.publish(key, published);
-        Ok(matches!(reply, Reply::Accepted))
+        let is_accepted = matches!(reply, Reply::Accepted);
+        drop(reply);
+        Ok(is_accepted)
     }
 
     /// Makes the directory of a file.
     fn make_directory(&mut self, file: u32) -> Result<(), AllocError> {
         let path = directory(self.alloc, file)?;
-        let _ = self.export.name(&TreeCall::Mkdir { path })?;
+        let call = TreeCall::Mkdir { path };
+        let named = self.export.name(&call);
+        drop(call);
+        drop(named?);
         Ok(())
     }
 
     /// Makes a file.
     fn make_file(&mut self, file: u32) -> Result<(), AllocError> {
         let path = path_of(self.alloc, file)?;
-        let reply = self.export.name(&TreeCall::Create { path })?;
-        self.fids.push(made(&reply))?;
-        Ok(())
+        let call = TreeCall::Create { path };
+        let named = self.export.name(&call);
+        drop(call);
+        let reply = named?;
+        let fid = made(&reply);
+        drop(reply);
+        self.fids.push(fid)
     }
 
     /// Makes the files, and publishes the first block of each, so that they spread over the nodes.
@@ -235,6 +265,7 @@ impl FilledExport {
         for call in 0..calls {
             let reply = self.export.look(self.key_of(spread(call, self.blocks)));
             tally.note(matches!(reply, Reply::Looked(Some(_))));
+            drop(reply);
         }
         tally
     }
@@ -247,6 +278,7 @@ impl FilledExport {
         for call in 0..calls {
             let reply = self.export.recheck(self.key_of(spread(call, self.blocks)));
             tally.note(matches!(reply, Reply::Looked(Some(_))));
+            drop(reply);
         }
         tally
     }
@@ -260,6 +292,7 @@ impl FilledExport {
             let key = self.key_of(spread(call, self.blocks));
             let reply = self.export.next(USED, Some(key));
             tally.note(is_above(&reply, key));
+            drop(reply);
         }
         tally
     }
@@ -273,6 +306,7 @@ impl FilledExport {
             let key = self.key_of(spread(call, self.blocks));
             let reply = self.export.next(UNUSED, Some(key));
             tally.note(matches!(reply, Reply::Listed(None)));
+            drop(reply);
         }
         tally
     }
@@ -313,6 +347,7 @@ impl FilledExport {
         for lookup in lookups {
             let reply = self.export.name(lookup)?;
             tally.note(matches!(reply, TreeReply::Found { .. }));
+            drop(reply);
         }
         Ok(tally)
     }
@@ -324,13 +359,7 @@ impl FilledExport {
         let mut rounds = Vec::new(self.alloc);
         for call in 0..calls {
             let file = spread(call, self.files);
-            let create = TreeCall::Create {
-                path: path_beside(self.alloc, file)?,
-            };
-            let unlink = TreeCall::Unlink {
-                path: path_beside(self.alloc, file)?,
-            };
-            rounds.push(Round { create, unlink })?;
+            rounds.push(round(self.alloc, file)?)?;
         }
         Ok(rounds)
     }
@@ -342,10 +371,12 @@ impl FilledExport {
         let mut tally = Tally::none();
         for round in rounds {
             let made = self.export.name(&round.create)?;
+            let is_made = matches!(made, TreeReply::MadeFile(_));
+            drop(made);
             let gone = self.export.name(&round.unlink)?;
-            tally.note(
-                matches!(made, TreeReply::MadeFile(_)) && matches!(gone, TreeReply::Gone(Some(_))),
-            );
+            let is_gone = matches!(gone, TreeReply::Gone(Some(_)));
+            drop(gone);
+            tally.note(is_made && is_gone);
         }
         Ok(tally)
     }

@@ -1,9 +1,10 @@
 //! What is run, and the lines that tell of it.
 
-use crate::exports::FilledExport;
+use crate::exports::{FilledExport, Round};
 use crate::nodes::FullNode;
 use crate::tally::Tally;
 use crate::words::{ExportSize, NodeSize, Plan};
+use rz_events::TreeCall;
 use std::alloc::Global;
 use std::io;
 use std::rt::Clock;
@@ -63,17 +64,28 @@ fn run_node<R: Print + Clock + Drop>(teller: &Teller<R>, size: NodeSize) -> io::
     println!(teller.rt; "node of {pairs} pairs")?;
     let start = teller.now()?;
     let mut node = FullNode::format(teller.alloc, pairs)?;
+    let ran = run_calls(teller, &mut node, start, size.calls);
+    drop(node);
+    ran
+}
+
+fn run_calls<R: Print + Clock + Drop>(
+    teller: &Teller<R>,
+    node: &mut FullNode,
+    start: Instant,
+    calls: u32,
+) -> io::Result<()> {
     teller.tell("fill", "kept", start, node.fill())?;
     let start = teller.now()?;
-    teller.tell("overfill", "full", start, node.overfill(size.calls))?;
+    teller.tell("overfill", "full", start, node.overfill(calls))?;
     let start = teller.now()?;
-    teller.tell("drop-keep", "kept", start, node.drop_and_keep(size.calls))?;
+    teller.tell("drop-keep", "kept", start, node.drop_and_keep(calls))?;
     let start = teller.now()?;
-    teller.tell("fetch", "held", start, node.fetch(size.calls))?;
+    teller.tell("fetch", "held", start, node.fetch(calls))?;
     let start = teller.now()?;
-    teller.tell("refill", "passed", start, node.refill(size.calls))?;
+    teller.tell("refill", "passed", start, node.refill(calls))?;
     let start = teller.now()?;
-    teller.tell("keep", "kept", start, node.renew(size.calls))
+    teller.tell("keep", "kept", start, node.renew(calls))
 }
 
 fn run_export<R: Print + Clock + Drop>(teller: &Teller<R>, size: ExportSize) -> io::Result<()> {
@@ -82,11 +94,22 @@ fn run_export<R: Print + Clock + Drop>(teller: &Teller<R>, size: ExportSize) -> 
     println!(teller.rt; "export of {files} files, {blocks} blocks")?;
     let start = teller.now()?;
     let mut export = FilledExport::new(teller.alloc, files, blocks)?;
+    let ran = run_filled(teller, &mut export, start, size.calls);
+    drop(export);
+    ran
+}
+
+fn run_filled<R: Print + Clock + Drop>(
+    teller: &Teller<R>,
+    export: &mut FilledExport,
+    start: Instant,
+    calls: u32,
+) -> io::Result<()> {
     teller.tell("create", "accepted", start, export.create()?)?;
     let start = teller.now()?;
     teller.tell("fill", "accepted", start, export.fill()?)?;
-    run_blocks(teller, &mut export, size.calls)?;
-    run_names(teller, &mut export, size.calls)
+    run_blocks(teller, export, calls)?;
+    run_names(teller, export, calls)
 }
 
 fn run_blocks<R: Print + Clock + Drop>(
@@ -114,9 +137,29 @@ fn run_names<R: Print + Clock + Drop>(
     calls: u32,
 ) -> io::Result<()> {
     let lookups = export.lookups(calls)?;
-    let start = teller.now()?;
-    teller.tell("lookup", "found", start, export.look_up(&lookups)?)?;
+    let looked_up = run_lookups(teller, export, &lookups);
+    drop(lookups);
+    looked_up?;
     let rounds = export.rounds(calls)?;
+    let went = run_rounds(teller, export, &rounds);
+    drop(rounds);
+    went
+}
+
+fn run_lookups<R: Print + Clock + Drop>(
+    teller: &Teller<R>,
+    export: &mut FilledExport,
+    lookups: &[TreeCall],
+) -> io::Result<()> {
     let start = teller.now()?;
-    teller.tell("create-unlink", "gone", start, export.come_and_go(&rounds)?)
+    teller.tell("lookup", "found", start, export.look_up(lookups)?)
+}
+
+fn run_rounds<R: Print + Clock + Drop>(
+    teller: &Teller<R>,
+    export: &mut FilledExport,
+    rounds: &[Round],
+) -> io::Result<()> {
+    let start = teller.now()?;
+    teller.tell("create-unlink", "gone", start, export.come_and_go(rounds)?)
 }

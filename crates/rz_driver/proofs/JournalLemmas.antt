@@ -27,8 +27,8 @@ use Rattle.rz_continuation.specs.Calls.{HasLength}
 use Rattle.rz_continuation.specs.Laws.{IsCallTold, IsNoCall}
 use Rattle.rz_asks.specs.Journals.{call_asked, KeepsCall, EndsOn}
 use Rattle.rz_asks.specs.Parts.{IsNoted}
-use Rattle.rz_metadata.specs.declared.metadata.Metadata.{Metadata}
-use Rattle.rz_metadata.specs.Stands.{export_in, Stands}
+use Rattle.rz_asks.specs.declared.metadata.Metadata.{Metadata}
+use Rattle.rz_asks.specs.Stands.{export_in, Stands}
 use Rattle.rz_formatting.specs.declared.formatting.Station.{Station}
 use Rattle.rz_stations.specs.Administration.{IsStarted}
 use Rattle.rz_stations.proofs.EventWords.{node-word}

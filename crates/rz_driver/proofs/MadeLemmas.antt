@@ -16,7 +16,7 @@ use Rattle.rz_events.specs.declared.keys.Actor.{Actor}
 use Rattle.rz_events.specs.declared.keys.Actor.TheVariants.{Client, Rebuilder}
 use Rattle.rz_core.specs.NodeRows.{cells_among, cells_of}
 use Rattle.rz_export_model.specs.Export.{new_export}
-use Rattle.rz_metadata.specs.Stands.{export_in}
+use Rattle.rz_asks.specs.Stands.{export_in}
 use Rattle.rz_node_model.specs.States.{NodeState, fresh}
 use Rattle.rz_play.specs.World.{Seat as APlayer, empty_seat, new_world}
 use Rattle.rz_driver.specs.declared.driver.Driver.{Driver}

@@ -25,7 +25,7 @@ use Rattle.rz_locks.specs.declared.conflict.LockKind.{LockKind}
 use Rattle.rz_locks.specs.declared.conflict.Range.{Range}
 use Rattle.rz_locks.specs.Conflicts.{Conflict}
 use Rattle.rz_locks.specs.Held.{Held, Blocks}
-use Rattle.rz_metadata.specs.Stands.{export_in}
+use Rattle.rz_asks.specs.Stands.{export_in}
 use Rattle.rz_operation.specs.Answers.{Goes}
 use Rattle.rz_operation.specs.Machine.{Machine, text_of}
 use Rattle.rz_operation_model.specs.Ask.{Ask, AskExport, AskNode, AskLock, Say, Rest, Saying, SayGot, SayGave, SayLeft, SayDone, ask_of}

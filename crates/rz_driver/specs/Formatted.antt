@@ -4,12 +4,12 @@ use Rattle.rz_disk.specs.Meter.{Meter, Rises, faults}
 use Rattle.rz_disk.specs.declared.disk.Disk.{Ghosts}
 use Rattle.rz_events.specs.Volume.{Volume, nodes_of}
 use Rattle.rz_export_model.specs.Export.{new_export}
-use Rattle.rz_metadata.specs.Stands.{export_in, is_journaled, Stands}
+use Rattle.rz_asks.specs.Stands.{export_in, is_journaled, Stands}
 use Rattle.rz_formatting.specs.Formatted.{AreBack}
 use Rattle.rz_formatting.specs.declared.fault.DriverFault.{DriverFault}
 use Rattle.rz_formatting.specs.declared.fault.DriverFault.TheVariants as driver
 use Rattle.rz_journal.specs.JournalText.{IsTextOf}
-use Rattle.rz_journal_disk.specs.Stands.{IsShut}
+use Rattle.rz_journal.specs.Stands.{IsShut}
 use Rattle.rz_driver.specs.declared.driver.Driver.{Driver}
 
 -- A disk comes back that was to be formatted for a journal: its count of faults did not fall, and each image is one from before, or

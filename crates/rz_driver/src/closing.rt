@@ -4,7 +4,7 @@ ghost use Rattle.std.specs.Vec.{vec_len, vec_capacity};
 ghost use Rattle.rz_disk.specs.Meter.{faults};
 ghost use Rattle.rz_events.specs.declared.events.Event.{Event};
 ghost use Rattle.rz_lines.specs.Behind.{Before};
-ghost use Rattle.rz_metadata.specs.Stands.{disk_of, is_journaled, refusal_of};
+ghost use Rattle.rz_asks.specs.Stands.{disk_of, is_journaled, refusal_of};
 ghost use Rattle.rz_driver.specs.Fetches.{Metered};
 ghost use Rattle.rz_stations.specs.Meters.{AreDisksCounted};
 ghost use Rattle.rz_driver.specs.OnlyAsked.{IsLeftSince};
@@ -16,10 +16,10 @@ ghost use Rattle.rz_driver.specs.Journals.{journal_place};
 ghost use Rattle.rz_driver.specs.Worlds.{numbers_in, is_exact, Holds, Leaves};
 
 use crate::driver::Driver;
+use rz_asks::Refusal;
 use rz_disk::{Disk, Fused};
 use rz_events::Event;
 use rz_formatting::{Station, hand_back};
-use rz_metadata::Refusal;
 use rz_seats::Shared;
 
 impl<D: Disk> Driver<D> {

@@ -1,7 +1,7 @@
 //! A new driver: each disk is formatted, and nothing is played.
 ghost use Rattle.std.specs.Prelude.{◌≡◌, true, false, IfOk, IfErr, length};
 ghost use Rattle.rz_events.specs.Volume.{nodes_of};
-ghost use Rattle.rz_metadata.specs.Stands.{is_journaled};
+ghost use Rattle.rz_asks.specs.Stands.{is_journaled};
 ghost use Rattle.rz_play.specs.World.{new_world};
 ghost use Rattle.rz_formatting.specs.Formatted.{AreBack, AreFormatted, IsCause};
 ghost use Rattle.rz_stations.specs.Meters.{faults_at};

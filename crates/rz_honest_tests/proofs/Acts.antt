@@ -17,7 +17,7 @@ use Rattle.rz_core.specs.NodeRows.{IsNodeOf}
 use Rattle.rz_image_laws.specs.Laws.{IsWrittenLaw}
 use Rattle.rz_config.specs.Plain.{plain_volume}
 use Rattle.rz_play_laws.specs.Own.{IsPlacing}
-use Rattle.rz_locked.specs.Seats.{MayAsk}
+use Rattle.rz_shared.specs.Seats.{MayAsk}
 
 abbrev pub first-block : ℕ → Key
 first-block fid = record { fid = fid; block = 0 }

@@ -13,7 +13,7 @@ use Rattle.rz_play_laws.specs.Own.{GrowsTo, IsPlacing, IsToldBy}
 use Rattle.rz_play_laws.specs.Fine.{IsTelling}
 use Rattle.rz_chronicle.specs.Keys.{IsLater}
 use Rattle.rz_chronicle.specs.Kinds.{kind_of, is_honest, volume_in, IsFit}
-use Rattle.rz_locked.specs.Adding.{Adds}
+use Rattle.rz_shared.specs.Adding.{Adds}
 use Rattle.rz_events.specs.declared.keys.Actor.{Actor}
 use Rattle.rz_honest_tests.specs.Written.{HasWritten}
 

@@ -13,7 +13,7 @@ ghost use Rattle.rz_core.specs.Tied.{IsProperCall};
 ghost use Rattle.rz_config.specs.Plain.{plain_volume};
 ghost use Rattle.rz_play_laws.specs.Own.{GrowsTo, IsPlacing, IsToldBy};
 ghost use Rattle.rz_chronicle.specs.Kinds.{kind_of};
-ghost use Rattle.rz_locked.specs.Seats.{MayAsk, IsFor};
+ghost use Rattle.rz_shared.specs.Seats.{MayAsk, IsFor};
 
 use mj_forward::project;
 use rz_chronicle::{Book, Pass};
@@ -22,8 +22,7 @@ use rz_events::{
     Call, FetchAnswer, FileInfo, Head, KeepAnswer, Key, Layout, NodeAnswer, NodeAsk, Reply, Text,
     TreeCall, TreeReply,
 };
-use rz_locked::Counting;
-use rz_shared::Cluster;
+use rz_shared::{Cluster, Counting};
 use rz_words::Block;
 use std::alloc::{AllocError, Global};
 use std::sync::Wait;

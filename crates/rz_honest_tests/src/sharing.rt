@@ -11,7 +11,7 @@ use crate::working::{Account, create_both, met, on_both};
 use rz_chronicle::{Book, Opened, Pass};
 use rz_config::Volume;
 use rz_disk::{Disk, PlainDisk};
-use rz_locked::Counting;
+use rz_shared::Counting;
 use std::marker::Brand;
 use std::process::Abort;
 use std::sync::Wait;

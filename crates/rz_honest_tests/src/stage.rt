@@ -10,8 +10,7 @@ use rz_chronicle::{Book, Crew, Opened, Pass, read_back};
 use rz_config::Volume;
 use rz_disk::Disk;
 use rz_events::Actor;
-use rz_locked::Counting;
-use rz_shared::Cluster;
+use rz_shared::{Cluster, Counting};
 use std::process::Abort;
 
 /// As many words as a record of position 0 has bins.

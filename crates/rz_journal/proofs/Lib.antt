@@ -1,3 +1,8 @@
+pub mod Changes
+pub mod Fresh
+pub mod Halves
+pub mod Opened
+pub mod Rows
 pub mod Keepings
 pub mod Listings
 pub mod Makings

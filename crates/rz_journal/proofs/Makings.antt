@@ -15,7 +15,7 @@ use Rattle.rz_export_laws.specs.Whole.{ArePartsAgain}
 use Rattle.rz_journal_text.specs.declared.entry.Entry.{Entry}
 use Rattle.rz_journal_text.specs.declared.entry.Entry.TheVariants as entry
 use Rattle.rz_journal_text.specs.Spelling.{IsShort, HasShortTexts, Spells}
-use Rattle.rz_journal_disk.specs.Row.{Entries}
+use Rattle.rz_journal.specs.Row.{Entries}
 use Rattle.rz_journal.specs.Said.{only_looks, is_long, has_long_text, entry_of, call_said, accepts}
 use Rattle.rz_journal.specs.JournalText.{IsAccepted, AreAccepted, after_all, Makes, AreSpelled}
 use Rattle.rz_journal.specs.Room.{part_entries}

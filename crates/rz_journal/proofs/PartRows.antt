@@ -10,7 +10,7 @@ use Rattle.rz_export.specs.Parts.{IsBefore}
 use Rattle.rz_journal_text.specs.declared.entry.Entry.{Entry}
 use Rattle.rz_journal_text.specs.declared.entry.Entry.TheVariants.{Built}
 use Rattle.rz_journal_text.specs.Spelling.{entry_bytes, Spells}
-use Rattle.rz_journal_disk.specs.Row.{framed, row_bytes}
+use Rattle.rz_journal.specs.Row.{framed, row_bytes}
 use Rattle.rz_journal.specs.JournalText.{AreSpelled}
 use Rattle.rz_journal.specs.Room.{bytes_of, IsRow}
 

@@ -7,15 +7,15 @@ use Rattle.rz_events.specs.declared.export.Call.TheVariants as call
 use Rattle.rz_journal_text.specs.declared.entry.Entry.{Entry as Said}
 use Rattle.rz_journal_text.specs.declared.entry.Entry.TheVariants as entry
 use Rattle.rz_journal_text.proofs.EntryLaws.{one_entry}
-use Rattle.rz_journal_disk.specs.declared.opening.OpenFault.{OpenFault}
-use Rattle.rz_journal_disk.specs.declared.opening.OpenFault.TheVariants as half
-use Rattle.rz_journal_disk.specs.Row.{Entries, taken, EndsAt}
-use Rattle.rz_journal_disk.specs.Stands.{half_bytes, half_at, IsJournal, IsOpen}
-use Rattle.rz_journal_disk.specs.Opening.{IsHalf, Refuses, HoldsSoFar}
-use Rattle.rz_journal_disk.proofs.Changes.{size_is}
-use Rattle.rz_journal_disk.proofs.Opened.{half_size_is}
-use Rattle.rz_journal_disk.proofs.Halves.{ends_moved}
-use Rattle.rz_journal_disk.proofs.Rows.{one_row}
+use Rattle.rz_journal.specs.declared.half_opening.OpenFault.{OpenFault}
+use Rattle.rz_journal.specs.declared.half_opening.OpenFault.TheVariants as half
+use Rattle.rz_journal.specs.Row.{Entries, taken, EndsAt}
+use Rattle.rz_journal.specs.Stands.{half_bytes, half_at, IsJournal, IsOpen}
+use Rattle.rz_journal.specs.HalfOpening.{IsHalf, Refuses, HoldsSoFar}
+use Rattle.rz_journal.proofs.Changes.{size_is}
+use Rattle.rz_journal.proofs.Opened.{half_size_is}
+use Rattle.rz_journal.proofs.Halves.{ends_moved}
+use Rattle.rz_journal.proofs.Rows.{one_row}
 use Rattle.rz_journal.specs.declared.rebuilding.JournalFault.{JournalFault}
 use Rattle.rz_journal.specs.declared.rebuilding.JournalFault.TheVariants.{NoMemory, WrongSize, DiskFault, Unformatted, BadHeader, Damaged}
 use Rattle.rz_journal.specs.JournalText.{AreAccepted, after_all, BeginsWith, AreSpelled, Makes, Keeps, IsTextOf}

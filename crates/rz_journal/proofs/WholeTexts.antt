@@ -11,7 +11,7 @@ use Rattle.rz_export_laws.specs.Whole.{IsWhole, IsWholeAtFirst, StaysWhole, Part
 use Rattle.rz_journal_text.specs.declared.entry.Entry.{Entry}
 use Rattle.rz_journal_text.specs.declared.entry.Entry.TheVariants.{Built}
 use Rattle.rz_journal_text.specs.Spelling.{path_text, Spells}
-use Rattle.rz_journal_disk.specs.Row.{Entries}
+use Rattle.rz_journal.specs.Row.{Entries}
 use Rattle.rz_journal.specs.JournalText.{AreAccepted, after_all, BeginsWith, Makes, AreSpelled}
 
 part_plain : AreTextsPlain → (bytes : List ℕ) (p : Part) → Spells bytes (Built p) → IsPlainPart p

@@ -8,8 +8,8 @@ use Rattle.rz_export.specs.Building.{ArePartsOf, made_of}
 use Rattle.rz_journal_text.specs.declared.entry.Entry.{Entry}
 use Rattle.rz_journal_text.specs.declared.entry.Entry.TheVariants.{Built}
 use Rattle.rz_journal_text.specs.Spelling.{Spells}
-use Rattle.rz_journal_disk.specs.Row.{Entries}
-use Rattle.rz_journal_disk.specs.Stands.{StandsFor}
+use Rattle.rz_journal.specs.Row.{Entries}
+use Rattle.rz_journal.specs.Stands.{StandsFor}
 use Rattle.rz_journal.specs.Said.{entry_of, call_said, accepts}
 
 -- a call that has an entry, that the export may be asked, and that it accepts

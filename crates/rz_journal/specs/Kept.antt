@@ -4,7 +4,7 @@ use Rattle.rz_events.specs.declared.export.Call.{Call}
 use Rattle.rz_export_model.specs.Export.{Export, new_export, export_after}
 use Rattle.rz_export_laws.specs.Whole.{IsWhole}
 use Rattle.rz_journal_text.specs.declared.entry.Entry.{Entry}
-use Rattle.rz_journal_disk.specs.Stands.{IsOpen}
+use Rattle.rz_journal.specs.Stands.{IsOpen}
 use Rattle.rz_journal.specs.Said.{entry_of}
 use Rattle.rz_journal.specs.JournalText.{IsAccepted, AreAccepted, after_all, Keeps, IsTextOf}
 use Rattle.rz_journal.specs.Room.{IsRow}

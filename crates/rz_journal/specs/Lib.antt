@@ -1,3 +1,7 @@
+pub mod HalfOpening
+pub mod Row
+pub mod Stands
+pub mod Walk
 pub mod JournalText
 pub mod Kept
 pub mod Listed

@@ -4,7 +4,7 @@ use Rattle.byteorder.specs.Endian.{little_number}
 use Rattle.rz_disk.specs.Images.{window}
 use Rattle.rz_journal_text.specs.declared.entry.Entry.{Entry as Said}
 use Rattle.rz_journal_text.specs.Spelling.{Spells}
-use Rattle.rz_journal_disk.specs.Row.{Entries, taken, IsEntryAt, Row}
+use Rattle.rz_journal.specs.Row.{Entries, taken, IsEntryAt, Row}
 use Rattle.rz_journal.specs.declared.reading.Step.{Step}
 use Rattle.rz_journal.specs.declared.reading.Step.TheVariants.{End, Entry, Damaged}
 use Rattle.rz_journal.specs.JournalText.{AreSpelled}

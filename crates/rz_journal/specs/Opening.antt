@@ -9,10 +9,10 @@ use Rattle.rz_tree.specs.declared.parts.Part.{Part}
 use Rattle.rz_export.specs.Building.{with_part, made_of, MayFollow, AllFollow, ArePartsOf}
 use Rattle.rz_journal_text.specs.declared.entry.Entry.{Entry as Said}
 use Rattle.rz_journal_text.specs.declared.entry.Entry.TheVariants as entry
-use Rattle.rz_journal_disk.specs.declared.opening.OpenFault.{OpenFault}
-use Rattle.rz_journal_disk.specs.declared.opening.OpenFault.TheVariants as half
-use Rattle.rz_journal_disk.specs.Stands.{disk_bytes, half_bytes, half_at, IsJournal}
-use Rattle.rz_journal_disk.specs.Opening.{Refuses}
+use Rattle.rz_journal.specs.declared.half_opening.OpenFault.{OpenFault}
+use Rattle.rz_journal.specs.declared.half_opening.OpenFault.TheVariants as half
+use Rattle.rz_journal.specs.Stands.{disk_bytes, half_bytes, half_at, IsJournal}
+use Rattle.rz_journal.specs.HalfOpening.{Refuses}
 use Rattle.rz_journal.specs.declared.reading.Step.TheVariants.{Entry}
 use Rattle.rz_journal.specs.declared.rebuilding.Stage.{Stage}
 use Rattle.rz_journal.specs.declared.rebuilding.Stage.TheVariants.{Empty, Counters, Parts, Calls}

@@ -5,7 +5,7 @@ use Rattle.rz_export.specs.Parts.{export_parts}
 use Rattle.rz_journal_text.specs.declared.entry.Entry.{Entry}
 use Rattle.rz_journal_text.specs.declared.entry.Entry.TheVariants.{Built}
 use Rattle.rz_journal_text.specs.Spelling.{entry_bytes}
-use Rattle.rz_journal_disk.specs.Row.{Entries, taken, row_bytes}
+use Rattle.rz_journal.specs.Row.{Entries, taken, row_bytes}
 use Rattle.rz_journal.specs.declared.room.Halt.{Halt}
 use Rattle.rz_journal.specs.declared.room.Halt.TheVariants.{NoMemory, Full, Failed}
 use Rattle.rz_journal.specs.JournalText.{AreSpelled}

@@ -6,7 +6,7 @@ ghost use Rattle.rz_disk.specs.Meter.{Lasts, Rises, faults};
 ghost use Rattle.rz_events.specs.Volume.{IsVolume};
 ghost use Rattle.rz_events.specs.declared.export.Call.{Call};
 ghost use Rattle.rz_export_model.specs.Export.{new_export, is_proper};
-ghost use Rattle.rz_journal_disk.specs.Stands.{IsShut};
+ghost use Rattle.rz_journal.specs.Stands.{IsShut};
 ghost use Rattle.rz_journal.specs.JournalText.{IsTextOf};
 ghost use Rattle.rz_journal.specs.Kept.{IsRowOf, AllKeep, AllKeepEither, IsAfter, AllStandFor, AllStandForEither};
 ghost use Rattle.rz_journal.specs.Seen.{IsOpenAnswer, IsJournalAnswer, IfReply, calls_after};
@@ -14,12 +14,12 @@ ghost use Rattle.rz_journal.specs.Seen.{IsOpenAnswer, IsJournalAnswer, IfReply, 
 use crate::keeping::{keep, look};
 use crate::room::Halt;
 use crate::rows::call_row;
+use crate::{Entries, HALF_BYTES};
 use rz_cells::FormatFault;
 use rz_config::Volume;
 use rz_disk::{Disk, DiskError};
 use rz_events::{Call, Reply};
 use rz_export::Export;
-use rz_journal_disk::{Entries, HALF_BYTES};
 use std::alloc::Global;
 use std::marker::Model;
 

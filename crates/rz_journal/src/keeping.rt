@@ -8,12 +8,12 @@ ghost use Rattle.rz_export.specs.Calls.{IsAnswered};
 ghost use Rattle.rz_journal.specs.Kept.{IsReady, IsRowOf, AllKeepEither};
 ghost use Rattle.rz_journal.specs.Room.{FitsNowhere, IsHalt};
 
+use crate::Entries;
 use crate::room::{Halt, make_room};
 use crate::said::accepts;
 use rz_disk::{Disk, Failed};
 use rz_events::{Call, Reply};
 use rz_export::Export;
-use rz_journal_disk::Entries;
 use std::alloc::Global;
 
 /// Answers a call whose entry has this row, and writes the entry where the call is accepted.

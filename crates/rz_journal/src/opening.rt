@@ -10,9 +10,9 @@ ghost use Rattle.rz_journal.specs.Kept.{IsAfter};
 
 use crate::journal::{Journal, rules};
 use crate::rebuilding::{JournalFault, rebuild};
+use crate::{Half, OpenFault};
 use rz_config::Volume;
 use rz_disk::Disk;
-use rz_journal_disk::{Half, OpenFault};
 use std::alloc::Global;
 
 impl<D: Disk> Journal<D> {

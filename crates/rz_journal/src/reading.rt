@@ -4,7 +4,7 @@ ghost use Rattle.std.specs.Prelude.{◌≡◌, ◌+◌, ◌%◌, ◌<◌, length
 ghost use Rattle.byteorder.specs.Endian.{little_number};
 ghost use Rattle.rz_journal.specs.Listed.{IsStep};
 
-use rz_journal_disk::{Place, place_at};
+use crate::{Place, place_at};
 use rz_journal_text::{Entry, EntryFault, read};
 use std::alloc::{AllocError, Global};
 

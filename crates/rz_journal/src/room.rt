@@ -6,9 +6,9 @@ ghost use Rattle.rz_journal.specs.Kept.{IsReady, AllKeep};
 ghost use Rattle.rz_journal.specs.Room.{FitsNowhere, IsHalt};
 
 use crate::rows::parts_row;
+use crate::{Entries, HALF_BYTES};
 use rz_disk::{Disk, Failed};
 use rz_export::Export;
-use rz_journal_disk::{Entries, HALF_BYTES};
 use std::alloc::Global;
 
 /// Why an entry was not written.

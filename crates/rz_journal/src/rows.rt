@@ -2,16 +2,16 @@
 
 ghost use Rattle.std.specs.Prelude.{◌≡◌, ◌++◌, [], ◌∷◌, None, IsSome, IfOk, OnOk, OnErr, MatchOption};
 ghost use Rattle.rz_journal_text.specs.Spelling.{entry_bytes, MayStand, Spells};
-ghost use Rattle.rz_journal_disk.specs.Row.{framed};
+ghost use Rattle.rz_journal.specs.Row.{framed};
 ghost use Rattle.rz_export_laws.specs.Whole.{IsWhole};
 ghost use Rattle.rz_journal.specs.Kept.{IsRowOf};
 ghost use Rattle.rz_journal.specs.Room.{part_entries, IsRow};
 ghost use Rattle.rz_journal.specs.Said.{entry_of, HasShortText};
 
 use crate::said::entry_of;
+use crate::{close_row, push_entry};
 use rz_events::Call;
 use rz_export::Export;
-use rz_journal_disk::{close_row, push_entry};
 use rz_journal_text::{Entry, write};
 use rz_tree::Part;
 use std::alloc::{AllocError, Global};

@@ -1,11 +1,11 @@
 //! A disk beside its bytes, worked out by hand.
 
 ghost use Rattle.std.specs.Prelude.{◌≡◌};
-ghost use Rattle.rz_journal_disk.specs.Stands.{IsOpen};
+ghost use Rattle.rz_journal.specs.Stands.{IsOpen};
 
 use crate::making::all_stand;
 use rz_disk::{Disk, PlainDisk};
-use rz_journal_disk::{Entries, close_row, push_entry};
+use rz_journal::{Entries, close_row, push_entry};
 use std::alloc::{AllocError, Global};
 use std::process::Abort;
 use std::test::Fail;

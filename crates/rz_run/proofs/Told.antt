@@ -15,12 +15,12 @@ use Rattle.rz_chronicle.specs.Deals.{new_pass}
 use Rattle.rz_chronicle.specs.Keys.{sids_of}
 use Rattle.rz_chronicle.specs.Kinds.{is_honest, kind_of, volume_in}
 use Rattle.rz_chronicle.specs.Rules.{PassView}
-use Rattle.rz_locked.specs.Counts.{AreCountedSince}
+use Rattle.rz_shared.specs.Counts.{AreCountedSince}
 use Rattle.rz_shared.proofs.NewSeats.{untouched}
 use Rattle.rz_show.specs.RunText.{run_text}
 use Rattle.rz_threads.specs.Orders.{AreBegun, AreDone}
-use Rattle.rz_staff.specs.declared.member.Member.{Member}
-use Rattle.rz_staff.specs.Staff.{IsStaffed}
+use Rattle.rz_threads.specs.declared.member.Member.{Member}
+use Rattle.rz_threads.specs.Staff.{IsStaffed}
 use Rattle.rz_threads.specs.Left.{IsLeft}
 use Rattle.rz_threads.specs.Played as member
 use Rattle.rz_perform.specs.Output.{Sunk, Ends, Lacks}

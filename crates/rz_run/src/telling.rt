@@ -1,19 +1,19 @@
 //! What is written of a play.
 ghost use Rattle.std.specs.Prelude.{◌≡◌, ◌⊎◌, length, true};
 ghost use Rattle.rz_chronicle.specs.Keys.{sids_of};
-ghost use Rattle.rz_crew.specs.Moves.{HoldsAll};
+ghost use Rattle.rz_threads.specs.Moves.{HoldsAll};
 ghost use Rattle.rz_show.specs.RunText.{AreShownOf, run_text};
 ghost use Rattle.rz_perform.specs.Output.{Ends, Lacks, Sunk};
 ghost use Rattle.rz_run.specs.Runs.{Fails};
 
 use rz_chronicle::{Book, Naming, Pass};
-use rz_crew::count_all;
 use rz_events::Event;
 use rz_formatting::DriverFault;
 use rz_perform::{finish, refuse};
 use rz_ports::Sink;
 use rz_request::Refusal;
 use rz_show::show_run;
+use rz_threads::count_all;
 use std::alloc::Global;
 use std::sync::Wait;
 

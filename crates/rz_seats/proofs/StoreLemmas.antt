@@ -15,8 +15,8 @@ use Rattle.rz_operation_model.specs.Ask.{Saying, SayGot, SayGave, SayLeft, SayDo
 use Rattle.rz_operation_model.specs.Turns.{said_event}
 use Rattle.rz_asks.specs.Journals.{EndsOn}
 use Rattle.rz_asks.specs.Parts.{IsSayPart}
-use Rattle.rz_metadata.specs.declared.metadata.Metadata.{Metadata}
-use Rattle.rz_metadata.specs.Stands.{export_in, is_journaled}
+use Rattle.rz_asks.specs.declared.metadata.Metadata.{Metadata}
+use Rattle.rz_asks.specs.Stands.{export_in, is_journaled}
 use Rattle.rz_formatting.specs.declared.formatting.Station.{Station}
 use Rattle.rz_stations.proofs.EventWords.{node-word}
 use Rattle.rz_seats.specs.declared.shared.Shared.{Shared}

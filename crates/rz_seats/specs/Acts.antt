@@ -11,7 +11,7 @@ use Rattle.rz_locks.specs.declared.conflict.Range.{Range}
 use Rattle.rz_locks.specs.Held.{Held}
 use Rattle.rz_operation.specs.Machine.{Machine}
 use Rattle.rz_operation_model.specs.Ask.{Ask, AskNode, Rest, ask_of}
-use Rattle.rz_metadata.specs.Stands.{export_in}
+use Rattle.rz_asks.specs.Stands.{export_in}
 use Rattle.rz_play.specs.Turns.{IsLost, IsThrough, lost_after}
 use Rattle.rz_seats.specs.declared.acting.Kind.{Kind}
 use Rattle.rz_seats.specs.declared.acting.Kind.TheVariants as kind

@@ -1,10 +1,9 @@
 //! What all actors share.
 
-use rz_asks::Log;
+use rz_asks::{Log, Metadata};
 use rz_disk::Disk;
 use rz_formatting::Station;
 use rz_locks::Locks;
-use rz_metadata::Metadata;
 
 /// What all actors share: the nodes in the order of the description, the export, which may stand behind a
 /// journal, the locks, how many messages the link lost of itself, the log, and room for the bins of a

@@ -5,14 +5,14 @@ ghost use Rattle.std.specs.Vec.{vec_len, vec_capacity};
 ghost use Rattle.rz_events.specs.declared.events.Word.TheVariants as w;
 ghost use Rattle.rz_events.specs.Volume.{nodes_of};
 ghost use Rattle.rz_chronicle.specs.Keys.{sids_of, word_key};
-ghost use Rattle.rz_locked.specs.Seats.{SeatView};
+ghost use Rattle.rz_shared.specs.Seats.{SeatView};
 ghost use Rattle.rz_shared.specs.Returned.{IsReturned};
 
 use crate::arranging::arrange;
 use crate::cluster::Cluster;
+use crate::{Counting, Seat};
 use rz_chronicle::{Desk, Post};
 use rz_disk::{Disk, Fused};
-use rz_locked::{Counting, Seat};
 use std::sync::Mutex;
 
 /// Takes each seat out of its lock.

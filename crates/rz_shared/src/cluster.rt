@@ -15,14 +15,14 @@ ghost use Rattle.rz_core.specs.Tied.{IsProperCall};
 ghost use Rattle.rz_chronicle.specs.Keys.{count_at, word_key};
 ghost use Rattle.rz_chronicle.specs.Kinds.{IsFit, MayCome, is_honest, volume_in};
 ghost use Rattle.rz_chronicle.specs.Holds.{Commits};
-ghost use Rattle.rz_locked.specs.Seats.{MayAsk, IsFor, Answered, IsRead};
-ghost use Rattle.rz_locked.specs.Offices.{AreBytes, Replied};
+ghost use Rattle.rz_shared.specs.Seats.{MayAsk, IsFor, Answered, IsRead};
+ghost use Rattle.rz_shared.specs.Offices.{AreBytes, Replied};
 
 use crate::room::Room;
+use crate::{Counting, Office, Seat};
 use rz_chronicle::{Book, Pass};
 use rz_disk::{Disk, Fused};
 use rz_events::{Actor, Call, Event, NodeAnswer, NodeAsk, NodeSpec, Reply};
-use rz_locked::{Counting, Office, Seat};
 use std::marker::Model;
 use std::sync::{Mutex, Wait};
 

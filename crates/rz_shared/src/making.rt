@@ -14,6 +14,7 @@ ghost use Rattle.rz_formatting.specs.Formatted.{AreBack, IsCause};
 use crate::cluster::Cluster;
 use crate::room::Room;
 use crate::seating::seat_all;
+use crate::{Counting, Office, Seat};
 use mj_angles::Layout;
 use rz_chronicle::{Book, Desk};
 use rz_config::Volume;
@@ -21,7 +22,6 @@ use rz_disk::{Disk, Fused};
 use rz_events::NodeSpec;
 use rz_export::Export;
 use rz_formatting::{DriverFault, all_nodes, format_all};
-use rz_locked::{Counting, Office, Seat};
 use std::alloc::{AllocError, Global};
 use std::sync::Mutex;
 

@@ -4,9 +4,9 @@ ghost use Rattle.std.specs.Vec.{vec_len, vec_capacity};
 ghost use Rattle.rz_events.specs.Volume.{nodes_of};
 ghost use Rattle.rz_chronicle.specs.Kinds.{volume_in};
 
+use crate::{Counting, Seat};
 use rz_chronicle::Post;
 use rz_disk::{Disk, Fused};
-use rz_locked::{Counting, Seat};
 use std::marker::Model;
 
 /// Empty vectors with room for each node of the volume. They stand behind a lock themselves, so that

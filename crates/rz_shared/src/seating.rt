@@ -5,10 +5,10 @@ ghost use Rattle.std.specs.Vec.{vec_len, vec_capacity};
 ghost use Rattle.rz_chronicle.specs.Kinds.{is_honest, volume_in};
 ghost use Rattle.rz_shared.specs.Seating.{IsReady};
 
+use crate::{Counting, Seat};
 use rz_chronicle::Post;
 use rz_disk::{Disk, Fused};
 use rz_formatting::Station;
-use rz_locked::{Counting, Seat};
 use std::alloc::Global;
 use std::sync::Mutex;
 

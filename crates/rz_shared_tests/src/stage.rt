@@ -10,8 +10,7 @@ use rz_chronicle::{Book, Crew, Opened, Pass, read_back};
 use rz_config::Volume;
 use rz_disk::Disk;
 use rz_events::{Actor, Head, Key, Layout};
-use rz_locked::Counting;
-use rz_shared::Cluster;
+use rz_shared::{Cluster, Counting};
 use std::process::Abort;
 
 /// A record of a block for position 0.

@@ -16,8 +16,8 @@ use rz_chronicle::Pass;
 use rz_disk::Disk;
 use rz_events::{Actor, Call, Event, Text};
 use rz_lines::NoMemory;
-use rz_locked::Counting;
 use rz_operation::{Ask, ExportAsk, Machine};
+use rz_shared::Counting;
 use std::alloc::{AllocError, Global};
 use std::sync::Wait;
 

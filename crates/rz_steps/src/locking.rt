@@ -18,9 +18,9 @@ use rz_chronicle::Pass;
 use rz_disk::Disk;
 use rz_events::{Actor, Call, Event, Reply, TreeCall, TreeReply};
 use rz_lines::NoMemory;
-use rz_locked::Counting;
 use rz_locks::{LockAnswer, LockKind, Locks, Range};
 use rz_operation::{Ask, Machine};
+use rz_shared::Counting;
 use std::alloc::Global;
 use std::sync::{Mutex, Wait};
 

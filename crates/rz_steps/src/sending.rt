@@ -31,8 +31,8 @@ use rz_disk::Disk;
 use rz_events::{Actor, Event, Head, NodeAnswer, NodeAsk, NodeSpec, ReplaceAnswer};
 use rz_lines::NoMemory;
 use rz_link::{Link, Sent};
-use rz_locked::Counting;
 use rz_operation::Machine;
+use rz_shared::Counting;
 use std::sync::Wait;
 
 /// Whether the message of a call goes through the link.

@@ -5,9 +5,8 @@ use mj_angles::Layout;
 use rz_chronicle::Book;
 use rz_config::Volume;
 use rz_disk::Disk;
-use rz_locked::Counting;
 use rz_locks::Locks;
-use rz_shared::Cluster;
+use rz_shared::{Cluster, Counting};
 use std::sync::Mutex;
 
 /// The cluster, the book of its log, what the volume is, and the locks on ranges of bytes.

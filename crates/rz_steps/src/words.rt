@@ -20,8 +20,8 @@ use rz_chronicle::Pass;
 use rz_disk::Disk;
 use rz_events::{Actor, Event, ReadEnd, ReadMark, Text};
 use rz_lines::NoMemory;
-use rz_locked::Counting;
 use rz_operation::{Ask, Machine, Saying};
+use rz_shared::Counting;
 use std::alloc::{AllocError, Global};
 
 /// How a read ended, with the text that it found.

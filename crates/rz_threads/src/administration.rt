@@ -10,9 +10,8 @@ use rz_chronicle::{Book, Pass};
 use rz_disk::Disk;
 use rz_events::{Actor, NodeAsk};
 use rz_lines::NoMemory;
-use rz_locked::Counting;
 use rz_script::Line;
-use rz_shared::Cluster;
+use rz_shared::{Cluster, Counting};
 use std::sync::Wait;
 
 /// Carries out a line, if it is one of the administrator's.

@@ -8,8 +8,7 @@ use rz_chronicle::{Book, Pass};
 use rz_disk::Disk;
 use rz_events::{Actor, NodeAnswer, NodeAsk, StartAnswer};
 use rz_lines::NoMemory;
-use rz_locked::Counting;
-use rz_shared::Cluster;
+use rz_shared::{Cluster, Counting};
 use std::sync::Wait;
 
 /// Whether a node was to start and found no memory.

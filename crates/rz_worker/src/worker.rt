@@ -11,7 +11,7 @@ use crate::seat::Seat;
 use rz_chronicle::Pass;
 use rz_events::{Actor, Event, Operation};
 use rz_link::Link;
-use rz_locked::Counting;
+use rz_shared::Counting;
 use std::alloc::Global;
 use std::collections::VecDeque;
 

@@ -14,7 +14,7 @@ use crate::worker::Worker;
 use rz_disk::Disk;
 use rz_lines::NoMemory;
 use rz_link::Link;
-use rz_locked::Counting;
+use rz_shared::Counting;
 use rz_steps::{Store, release};
 use std::alloc::Global;
 use std::sync::Wait;

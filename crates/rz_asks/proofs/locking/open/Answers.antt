@@ -1,7 +1,7 @@
 use Rattle.std.proofs.Common.{sym, ◌∙◌}
 use Rattle.rz_events.specs.declared.export.Call.TheVariants as call
 use Rattle.rz_operation.specs.Meaning.{path_in}
-use Rattle.rz_metadata.specs.Stands.{export_in}
+use Rattle.rz_asks.specs.Stands.{export_in}
 use Rattle.rz_asks.specs.Locking.{lock_of}
 use Rattle.rz_asks.proofs.Keeping.{keeps-opened, ends-unasked, ends-refused, ends-unnoted, on-err, at-err}
 use Rattle.rz_asks.proofs.OpenLemmas.{none-lock, opened}

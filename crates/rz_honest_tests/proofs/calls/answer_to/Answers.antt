@@ -1,7 +1,7 @@
 use Rattle.std.proofs.Common.{sym, subst}
 use Rattle.rz_events.specs.Volume.{Volume}
 use Rattle.rz_node_model.specs.NodeEvents.{node_event}
-use Rattle.rz_locked.specs.Seats.{MayAsk}
+use Rattle.rz_shared.specs.Seats.{MayAsk}
 use Rattle.rz_honest_tests.proofs.Honest.{volume-is, layout-is, node-is, legal-of, later-adds, grows-later}
 use Rattle.rz_honest_tests.proofs.calls.answer_to.Goals as goal
 

@@ -11,7 +11,7 @@ use Rattle.rz_continuation.specs.Earlier.{IsEarlier, IsRestarted}
 use Rattle.rz_events.specs.Volume.{Volume, nodes_of}
 use Rattle.rz_events.specs.declared.events.Event.{Event}
 use Rattle.rz_formatting.specs.Formatted.{disks_of}
-use Rattle.rz_metadata.specs.Stands.{disk_of, export_in, is_journaled, refusal_of}
+use Rattle.rz_asks.specs.Stands.{disk_of, export_in, is_journaled, refusal_of}
 use Rattle.rz_formatting.specs.Opened.{AreKept}
 use Rattle.rz_script.specs.declared.line.Line.{Line}
 use Rattle.rz_stations.specs.Meters.{faults_at}

@@ -12,7 +12,7 @@ use Rattle.rz_events.specs.Volume.{Volume, nodes_of}
 use Rattle.rz_events.specs.declared.events.Event.{Event}
 use Rattle.rz_events.specs.declared.files.NodeSpec.{NodeSpec}
 use Rattle.rz_formatting.specs.Formatted.{IsCause, disks_of}
-use Rattle.rz_metadata.specs.Stands.{disk_of, is_journaled, refusal_of}
+use Rattle.rz_asks.specs.Stands.{disk_of, is_journaled, refusal_of}
 use Rattle.rz_script.specs.declared.line.Line.{Line}
 use Rattle.rz_stations.specs.Meters.{faults_at}
 use Rattle.rz_core.specs.HeldRecords.{block_of}

@@ -22,7 +22,7 @@ use Rattle.rz_perform.specs.Output.{Sunk}
 use Rattle.rz_replay.specs.Disks.{AreFaultsTold, AreImagesTold}
 use Rattle.rz_perform.specs.Replays.{Unplayed, Performed, IsToldAs}
 use Rattle.rz_lines.specs.declared.lines.PlayEnd.{PlayEnd}
-use Rattle.rz_metadata.specs.Stands.{is_journaled}
+use Rattle.rz_asks.specs.Stands.{is_journaled}
 use Rattle.rz_replay.proofs.Journals.{plain-back, plain-end}
 use Rattle.rz_replay.proofs.Lent.{back-faults, counted-none, not-opened}
 use Rattle.rz_replay.proofs.Untold.{told-none}

@@ -4,7 +4,7 @@ use Rattle.rz_seats.specs.Acts.{IsMessage, Exports, Opens, Sends, Says}
 use Rattle.rz_events.specs.declared.export.Call.TheVariants as call
 use Rattle.rz_events.specs.declared.tree.TreeCall.TheVariants as tree
 use Rattle.rz_export_model.specs.Export.{export_reply}
-use Rattle.rz_metadata.specs.Stands.{export_in}
+use Rattle.rz_asks.specs.Stands.{export_in}
 use Rattle.rz_operation.specs.Machine.{text_of}
 use Rattle.rz_asks.specs.Journals.{call_asked, EndsOn, KeepsAsked}
 use Rattle.rz_seats.specs.Stores.{Asks, AsksNothing}

@@ -1,4 +1,0 @@
-mod Counts
-mod Totals
-mod Rosters
-mod Gathered

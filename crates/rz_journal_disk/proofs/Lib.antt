@@ -1,5 +1,0 @@
-pub mod Changes
-pub mod Fresh
-pub mod Halves
-pub mod Opened
-pub mod Rows

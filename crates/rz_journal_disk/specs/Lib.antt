@@ -1,4 +1,0 @@
-pub mod Opening
-pub mod Row
-pub mod Stands
-pub mod Walk

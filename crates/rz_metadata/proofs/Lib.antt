@@ -1,3 +1,0 @@
-mod KeptAgain
-mod PartLosses
-mod Replies

@@ -1,5 +1,0 @@
-mod Pairs
-mod Rolls
-mod Recruits
-mod Hirings
-mod Taken
