@@ -48,11 +48,14 @@ fn has_words(rt: &impl Abort, batch: &Batch)
 /// Two whole blocks of layout 0 and a rest, whose projections are made one after the other and in threads.
 #[test]
 fn two_blocks(rt: HostRuntime) -> Result<(), Fail> {
-    let mut bytes = vec![in rt.alloc(); 0u8; 9000]?;
+    let mut bytes = vec![in rt.alloc(); 0u8; 9000].expect(&rt, "memory");
     bytes[4096 + 2048] = 1;
-    let one = Batch::forward(rt.alloc(), Layout::L0, &bytes)?;
+    let one = Batch::forward(rt.alloc(), Layout::L0, &bytes).expect(&rt, "memory");
     has_words(&rt, &one);
-    let many = Batch::forward_par(&rt, rt.alloc(), Layout::L0, &bytes)?;
+    drop(one);
+    let many = Batch::forward_par(&rt, rt.alloc(), Layout::L0, &bytes).expect(&rt, "memory");
     has_words(&rt, &many);
+    drop(many);
+    drop(bytes);
     Ok(())
 }

@@ -31,8 +31,8 @@ pub fn has_words(rt: &impl Abort, block: &Block, words: &[u64]) {
 
 #[test]
 fn one_column(rt: HostRuntime) -> Result<(), Fail> {
-    let mut work = Work::new(rt.alloc(), 2, 1)?;
-    let mut block = Block::zero(rt.alloc(), 2, 1)?;
+    let mut work = Work::new(rt.alloc(), 2, 1).expect(&rt, "memory");
+    let mut block = Block::zero(rt.alloc(), 2, 1).expect(&rt, "memory");
     work.add(0, &[5]);
     work.add(1, &[1, 2]);
     solves(&rt, &mut work, &mut block, Err(Inconsistent));
@@ -40,6 +40,8 @@ fn one_column(rt: HostRuntime) -> Result<(), Fail> {
     work.add(1, &[1, 2]);
     solves(&rt, &mut work, &mut block, Ok(()));
     has_words(&rt, &block, &[1, 2]);
+    drop(block);
+    drop(work);
     Ok(())
 }
 
@@ -72,66 +74,66 @@ fn bins_at(alloc: Global, block: &Block, position: u8) -> Result<Vec<u64>, Alloc
 
 /// Adds the projections at eight positions of layout 2, of which this is the first. Its first bin is
 /// altered by `flip`.
-fn add_from(
-    alloc: Global,
-    work: &mut Work,
-    block: &Block,
-    first: u8,
-    flip: u64,
-) -> Result<(), AllocError>
+fn add_from(rt: &(impl Abort + AllocGlobal), work: &mut Work, block: &Block, first: u8, flip: u64)
     requires empty { work.old ≡ empty_search 8 64 }
     requires rows { block.now.rows ≡ 8 }
     requires cols { block.now.cols ≡ 64 }
     requires first { first ≤ 8 }
     ensures rows { work.new.rows ≡ 8 }
     ensures cols { work.new.cols ≡ 64 }
-    ensures pairs { IfOk result (λ done. length work.new.pairs ≡ 8) }
+    ensures pairs { length work.new.pairs ≡ 8 }
 {
     for i in 0..8u8 {
-        let mut all = bins_at(alloc, block, first + i)?;
+        let mut all = bins_at(rt.alloc(), block, first + i).expect(rt, "memory");
         if i == 0 {
             all[0] ^= flip;
         }
         work.add(Layout::L2.angle(first + i), &all);
+        drop(all);
     }
-    Ok(())
 }
 
 /// Checks that the projections at these eight positions give the block back, and that one bit refuses them.
-fn comes_back(rt: &(impl Abort + AllocGlobal), block: &Block, first: u8) -> Result<(), AllocError>
+fn comes_back(rt: &(impl Abort + AllocGlobal), block: &Block, first: u8)
     requires rows { block.now.rows ≡ 8 }
     requires cols { block.now.cols ≡ 64 }
     requires first { first ≤ 8 }
 {
-    let mut work = Work::new(rt.alloc(), 8, 64)?;
-    let mut out = Block::zero(rt.alloc(), 8, 64)?;
-    add_from(rt.alloc(), &mut work, block, first, 0)?;
+    let mut work = Work::new(rt.alloc(), 8, 64).expect(rt, "memory");
+    let mut out = Block::zero(rt.alloc(), 8, 64).expect(rt, "memory");
+    add_from(rt, &mut work, block, first, 0);
     solves(rt, &mut work, &mut out, Ok(()));
     has_words(rt, &out, block.words());
-    add_from(rt.alloc(), &mut work, block, first, 1)?;
+    add_from(rt, &mut work, block, first, 1);
     solves(rt, &mut work, &mut out, Err(Inconsistent));
-    Ok(())
+    drop(out);
+    drop(work);
 }
 
 /// The widest angles of layout 2, on the left and on the right.
 #[test]
 fn extremes(rt: HostRuntime) -> Result<(), Fail> {
-    let block = counted(rt.alloc())?;
-    comes_back(&rt, &block, 0)?;
-    comes_back(&rt, &block, 8)?;
+    let block = counted(rt.alloc()).expect(&rt, "memory");
+    comes_back(&rt, &block, 0);
+    comes_back(&rt, &block, 8);
+    drop(block);
     Ok(())
 }
 
 /// One bit of one bin of block 3 of eight is altered.
 #[test]
 fn one_of_eight(rt: HostRuntime) -> Result<(), Fail> {
-    let mut work = WorkEight::new(rt.alloc(), 2, 256)?;
-    let mut bins = vec![in rt.alloc(); 0u64; 2064]?;
-    let mut out = vec![in rt.alloc(); 9u64; 4096]?;
+    let mut work = WorkEight::new(rt.alloc(), 2, 256).expect(&rt, "memory");
+    let mut bins = vec![in rt.alloc(); 0u64; 2064].expect(&rt, "memory");
+    let mut out = vec![in rt.alloc(); 9u64; 4096].expect(&rt, "memory");
     bins[3] = 1;
     work.add(-2, &bins);
     work.add(-1, &bins[8..]);
     let failed = work.solve(&mut out);
-    assert_eq!(rt; (failed, out[4095]), (8, 0));
+    let last = out[4095];
+    drop(out);
+    drop(bins);
+    drop(work);
+    assert_eq!(rt; (failed, last), (8, 0));
     Ok(())
 }

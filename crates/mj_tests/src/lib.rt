@@ -8,8 +8,6 @@ mod batches;
 #[cfg(test)]
 mod inversions;
 #[cfg(test)]
-mod lanes;
-#[cfg(test)]
 mod layouts;
 #[cfg(test)]
 mod phantoms;

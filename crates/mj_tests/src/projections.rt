@@ -12,34 +12,30 @@ use std::process::Abort;
 use std::test::Fail;
 
 /// Compares the projection of a block.
-fn compare(
-    rt: &(impl Abort + AllocGlobal),
-    block: &Block,
-    p: i32,
-    want: &[u64],
-) -> Result<(), AllocError>
+fn compare(rt: &(impl Abort + AllocGlobal), block: &Block, p: i32, want: &[u64])
     requires { unsigned_abs p ≤ 16 }
 {
-    let mut out = vec![in rt.alloc(); 9u64; bins(p, block.rows(), block.cols())]?;
+    let count = bins(p, block.rows(), block.cols());
+    let mut out = vec![in rt.alloc(); 9u64; count].expect(rt, "memory");
     project(block, p, &mut out);
     assert_eq!(rt; (p, out.as_slice()), (p, want));
-    Ok(())
+    drop(out);
 }
 
-/// Compares the bins of three columns with the rows 1, 2, 4 and 8, 16, 32.
-fn has_bins(rt: &(impl Abort + AllocGlobal), p: i32, want: &[u64]) -> Result<(), AllocError>
-    requires { unsigned_abs p ≤ 16 }
-{
-    let words = vec![in rt.alloc(); 1u64, 2, 4, 8, 16, 32]?;
-    compare(rt, &Block::from_words(2, 3, words), p, want)
+/// Three columns with the rows 1, 2, 4 and 8, 16, 32.
+fn three_columns(alloc: Global) -> Result<Block, AllocError> {
+    let words = vec![in alloc; 1u64, 2, 4, 8, 16, 32]?;
+    Ok(Block::from_words(2, 3, words))
 }
 
 #[test]
 fn signs_and_offsets(rt: HostRuntime) -> Result<(), Fail> {
-    has_bins(&rt, 1, &[1, 10, 20, 32])?;
-    has_bins(&rt, -1, &[8, 17, 34, 4])?;
-    has_bins(&rt, 0, &[9, 18, 36])?;
-    has_bins(&rt, -2, &[8, 16, 33, 2, 4])?;
+    let block = three_columns(rt.alloc()).expect(&rt, "memory");
+    compare(&rt, &block, 1, &[1, 10, 20, 32]);
+    compare(&rt, &block, -1, &[8, 17, 34, 4]);
+    compare(&rt, &block, 0, &[9, 18, 36]);
+    compare(&rt, &block, -2, &[8, 16, 33, 2, 4]);
+    drop(block);
     Ok(())
 }
 
@@ -79,10 +75,13 @@ fn noise(alloc: Global, rows: usize, cols: usize) -> Result<Block, AllocError>
 #[test]
 fn sums_over_all_words(rt: HostRuntime) -> Result<(), Fail> {
     for (rows, cols) in [(1, 1), (3, 2), (16, 3), (2, 20), (4, 37), (8, 64), (8, 72)] {
-        let block = noise(rt.alloc(), rows, cols)?;
+        let block = noise(rt.alloc(), rows, cols).expect(&rt, "memory");
         for p in [0, 1, -1, 2, -3, 7, -8, 16, -16] {
-            compare(&rt, &block, p, &sums(rt.alloc(), &block, p)?)?;
+            let want = sums(rt.alloc(), &block, p).expect(&rt, "memory");
+            compare(&rt, &block, p, &want);
+            drop(want);
         }
+        drop(block);
     }
     Ok(())
 }

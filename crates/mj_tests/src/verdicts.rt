@@ -14,26 +14,26 @@ use std::test::Fail;
 
 /// Adds the projection of a block at a position that has no record yet, with `flip` in its first bin.
 fn add_altered(
-    alloc: Global,
+    rt: &(impl Abort + AllocGlobal),
     scrub: &mut Scrub,
     block: &Block,
     layout: Layout,
     position: u8,
     flip: u64,
-) -> Result<(), AllocError>
+)
     requires layout { scrub.old.layout ≡ layout }
     requires rows { block.now.rows ≡ inverse_of layout }
     requires cols { block.now.cols ≡ cols_of layout }
     requires position { position < safe_of layout }
     ensures { scrub.new.layout ≡ layout }
 {
-    let mut bins = vec![in alloc; 0u64; layout.bins_at(position)]?;
+    let mut bins = vec![in rt.alloc(); 0u64; layout.bins_at(position)].expect(rt, "memory");
     project(block, layout.angle(position), &mut bins);
     bins[0] ^= flip;
     if !scrub.has(position) {
         scrub.add(position, &bins);
     }
-    Ok(())
+    drop(bins);
 }
 
 /// The verdict on the records of a block at the first `count` positions, where those at the positions
@@ -45,7 +45,7 @@ fn verdict_on(
     layout: Layout,
     count: u8,
     altered: &[u8],
-) -> Result<Option<Verdict>, AllocError>
+) -> Option<Verdict>
     requires layout { scrub.old.layout ≡ layout }
     requires rows { block.now.rows ≡ inverse_of layout }
     requires cols { block.now.cols ≡ cols_of layout }
@@ -55,17 +55,18 @@ fn verdict_on(
     scrub.clear();
     for position in 0..count {
         let flip = u64::from(altered.contains(&position));
-        add_altered(rt.alloc(), scrub, block, layout, position, flip)?;
+        add_altered(rt, scrub, block, layout, position, flip);
     }
     if scrub.added() < layout.inverse() {
-        return Ok(None);
+        return None;
     }
-    let mut out = Block::zero(rt.alloc(), layout.inverse(), layout.cols())?;
+    let mut out = Block::zero(rt.alloc(), layout.inverse(), layout.cols()).expect(rt, "memory");
     let verdict = scrub.judge(&mut out);
     if verdict != Verdict::Unsure {
         has_words(rt, &out, block.words());
     }
-    Ok(Some(verdict))
+    drop(out);
+    Some(verdict)
 }
 
 /// Compares that verdict.
@@ -77,27 +78,28 @@ fn judges(
     count: u8,
     altered: &[u8],
     want: Verdict,
-) -> Result<(), AllocError>
+)
     requires layout { scrub.old.layout ≡ layout }
     requires rows { block.now.rows ≡ inverse_of layout }
     requires cols { block.now.cols ≡ cols_of layout }
     requires count { count ≤ safe_of layout }
     ensures { scrub.new.layout ≡ layout }
 {
-    let found = verdict_on(rt, scrub, block, layout, count, altered)?;
+    let found = verdict_on(rt, scrub, block, layout, count, altered);
     assert_eq!(rt; (altered.len(), found), (altered.len(), Some(want)));
-    Ok(())
 }
 
 /// Six records of a block of zeros, of which one is altered, and then two.
 #[test]
 fn one_and_two_of_six(rt: HostRuntime) -> Result<(), Fail> {
     let layout = Layout::L1;
-    let zeros = Block::zero(rt.alloc(), layout.inverse(), layout.cols())?;
-    let mut scrub = Scrub::start(rt.alloc(), layout)?;
+    let zeros = Block::zero(rt.alloc(), layout.inverse(), layout.cols()).expect(&rt, "memory");
+    let mut scrub = Scrub::start(rt.alloc(), layout).expect(&rt, "memory");
     let one = Verdict::Altered { mask: 4 };
-    judges(&rt, &mut scrub, &zeros, layout, 6, &[2], one)?;
-    judges(&rt, &mut scrub, &zeros, layout, 6, &[2, 3], Verdict::Unsure)?;
+    judges(&rt, &mut scrub, &zeros, layout, 6, &[2], one);
+    judges(&rt, &mut scrub, &zeros, layout, 6, &[2, 3], Verdict::Unsure);
+    drop(scrub);
+    drop(zeros);
     Ok(())
 }
 
@@ -119,29 +121,19 @@ fn counted(alloc: Global, layout: Layout) -> Result<Block, AllocError>
 ///
 /// The bins of each altered record have another sum, the same for all of them. So a block fits none but
 /// those, or none of them, and past the reach there is none that fits enough.
-fn alters(
-    rt: &(impl Abort + AllocGlobal),
-    layout: Layout,
-    wants: &[Verdict],
-) -> Result<(), AllocError>
+fn alters(rt: &(impl Abort + AllocGlobal), layout: Layout, wants: &[Verdict])
     requires { length wants.now ≤ 6 }
 {
     let altered = [0u8, 2, 4, 6, 8];
-    let block = counted(rt.alloc(), layout)?;
-    let mut scrub = Scrub::start(rt.alloc(), layout)?;
+    let all = layout.safe() as u8;
+    let block = counted(rt.alloc(), layout).expect(rt, "memory");
+    let mut scrub = Scrub::start(rt.alloc(), layout).expect(rt, "memory");
     for (number, want) in wants.iter().enumerate() {
-        let all = layout.safe() as u8;
-        judges(
-            rt,
-            &mut scrub,
-            &block,
-            layout,
-            all,
-            &altered[..number],
-            *want,
-        )?;
+        let altered = &altered[..number];
+        judges(rt, &mut scrub, &block, layout, all, altered, *want);
     }
-    Ok(())
+    drop(scrub);
+    drop(block);
 }
 
 /// For each layout one altered record after the other, up to the reach and one past it.
@@ -151,13 +143,13 @@ fn up_to_the_reach(rt: HostRuntime) -> Result<(), Fail> {
     let two = Verdict::Altered { mask: 0b101 };
     let three = Verdict::Altered { mask: 0b10101 };
     let four = Verdict::Altered { mask: 0b1010101 };
-    alters(&rt, Layout::L0, &[Verdict::Clean, one, Verdict::Unsure])?;
+    alters(&rt, Layout::L0, &[Verdict::Clean, one, Verdict::Unsure]);
     alters(
         &rt,
         Layout::L1,
         &[Verdict::Clean, one, two, Verdict::Unsure],
-    )?;
+    );
     let wants = [Verdict::Clean, one, two, three, four, Verdict::Unsure];
-    alters(&rt, Layout::L2, &wants)?;
+    alters(&rt, Layout::L2, &wants);
     Ok(())
 }

@@ -95,7 +95,7 @@ fn step(rt: &impl Abort, machine: &mut FileMachine, ask: FileAsk, answer: FileAn
     ensures { machine.new.layout ≡ L0 }
 {
     let asked = machine.next();
-    assert_eq!(rt; asked, ask);
+    assert!(rt; asked == ask, "before {ask:?}");
     let mut bins = [0u64; ROOM];
     if let FileAsk::Read {
         ask: ReaderAsk::Fetch { position, .. },
@@ -106,8 +106,10 @@ fn step(rt: &impl Abort, machine: &mut FileMachine, ask: FileAsk, answer: FileAn
         bins[FIRST[position as usize]] |= 1;
         bins[SECOND[position as usize]] |= 2;
     }
-    assert!(rt; belongs(asked, answer), "no answer to {asked:?}");
-    assert!(rt; are_enough(asked, &bins));
+    assert!(rt;
+        belongs(asked, answer) && are_enough(asked, &bins),
+        "no answer to {asked:?}"
+    );
     machine.tell(answer, &bins);
 }
 
@@ -196,8 +198,9 @@ fn acknowledge(rt: &impl Abort, machine: &mut FileMachine, block: u64, length: u
 }
 
 fn check_end(rt: &impl Abort, machine: &FileMachine, end: FileEnd) {
-    assert_eq!(rt; machine.next(), FileAsk::End);
-    assert_eq!(rt; machine.end(), Some(end));
+    let asked = machine.next();
+    let found = machine.end();
+    assert!(rt; asked == FileAsk::End && found == Some(end), "{end:?}");
 }
 
 /// Whether a node is asked to keep a record.
@@ -227,9 +230,9 @@ fn keep_second(rt: &impl Abort, plan: FilePlan)
     step(rt, &mut machine, FileAsk::Write { block: 2, ask }, begun);
     assert!(rt; is_keep(machine.next()));
     let bins = machine.bins();
-    assert_eq!(rt; bins.get(FIRST[0]), Some(&1));
-    assert_eq!(rt; bins.get(SECOND[0]), Some(&0));
+    let are_its = bins.get(FIRST[0]) == Some(&1) && bins.get(SECOND[0]) == Some(&0);
     drop(machine);
+    assert!(rt; are_its);
 }
 
 /// A file of this size.
@@ -251,8 +254,8 @@ fn file(size: u64) -> FileInfo
 
 #[test]
 fn within_a_block(rt: HostRuntime) -> Result<(), Fail> {
-    let bytes = b"ab".to_vec(rt.alloc())?;
-    let plan = FilePlan::write(rt.alloc(), Layout::L0, 1, bytes)?;
+    let bytes = b"ab".to_vec(rt.alloc()).expect(&rt, "memory");
+    let plan = FilePlan::write(rt.alloc(), Layout::L0, 1, bytes).expect(&rt, "memory");
     assert!(rt; plan.is_write() && plan.offset() == 1 && plan.count() == 2);
     let mut machine = plan.open(&file(9000));
     find_text(&rt, &mut machine, 0);
@@ -267,8 +270,9 @@ fn within_a_block(rt: HostRuntime) -> Result<(), Fail> {
 
 #[test]
 fn three_blocks(rt: HostRuntime) -> Result<(), Fail> {
-    let bytes = vec![in rt.alloc(); 7u8; 4100]?;
-    let mut machine = FilePlan::write(rt.alloc(), Layout::L0, 4094, bytes)?.open(&file(0));
+    let bytes = vec![in rt.alloc(); 7u8; 4100].expect(&rt, "memory");
+    let plan = FilePlan::write(rt.alloc(), Layout::L0, 4094, bytes).expect(&rt, "memory");
+    let mut machine = plan.open(&file(0));
     find_hole(&rt, &mut machine, 0);
     let text = machine.text();
     assert!(rt; text.len() == 4096);
@@ -284,20 +288,21 @@ fn three_blocks(rt: HostRuntime) -> Result<(), Fail> {
 
 #[test]
 fn whole_blocks(rt: HostRuntime) -> Result<(), Fail> {
-    let mut bytes = vec![in rt.alloc(); 0u8; 8193]?;
+    let mut bytes = vec![in rt.alloc(); 0u8; 8193].expect(&rt, "memory");
     bytes[4097] = 1;
-    let other = bytes.clone()?;
-    let one = FilePlan::write(rt.alloc(), Layout::L0, 4095, bytes)?;
+    let other = bytes.clone().expect(&rt, "memory");
+    let one = FilePlan::write(rt.alloc(), Layout::L0, 4095, bytes).expect(&rt, "memory");
     keep_second(&rt, one);
-    let many = FilePlan::write_par(&rt, rt.alloc(), Layout::L0, 4095, other)?;
+    let many = FilePlan::write_par(&rt, rt.alloc(), Layout::L0, 4095, other).expect(&rt, "memory");
     keep_second(&rt, many);
     Ok(())
 }
 
 #[test]
 fn short_by_a_read(rt: HostRuntime) -> Result<(), Fail> {
-    let bytes = b"abcd".to_vec(rt.alloc())?;
-    let mut machine = FilePlan::write(rt.alloc(), Layout::L0, 4094, bytes)?.open(&file(0));
+    let bytes = b"abcd".to_vec(rt.alloc()).expect(&rt, "memory");
+    let plan = FilePlan::write(rt.alloc(), Layout::L0, 4094, bytes).expect(&rt, "memory");
+    let mut machine = plan.open(&file(0));
     find_hole(&rt, &mut machine, 0);
     acknowledge(&rt, &mut machine, 0, 4096);
     let why = Denial::UnknownFile;
@@ -317,8 +322,9 @@ fn short_by_a_read(rt: HostRuntime) -> Result<(), Fail> {
 
 #[test]
 fn short_by_a_write(rt: HostRuntime) -> Result<(), Fail> {
-    let bytes = b"abcd".to_vec(rt.alloc())?;
-    let mut machine = FilePlan::write(rt.alloc(), Layout::L0, 4096, bytes)?.open(&file(0));
+    let bytes = b"abcd".to_vec(rt.alloc()).expect(&rt, "memory");
+    let plan = FilePlan::write(rt.alloc(), Layout::L0, 4096, bytes).expect(&rt, "memory");
+    let mut machine = plan.open(&file(0));
     find_hole(&rt, &mut machine, 1);
     let why = Denial::BlockTooFar;
     let ask = WriterAsk::Begin { length: 4 };
@@ -338,7 +344,7 @@ fn short_by_a_write(rt: HostRuntime) -> Result<(), Fail> {
 
 #[test]
 fn read_past_a_text(rt: HostRuntime) -> Result<(), Fail> {
-    let plan = FilePlan::read(rt.alloc(), Layout::L0, 2047, 2100)?;
+    let plan = FilePlan::read(rt.alloc(), Layout::L0, 2047, 2100).expect(&rt, "memory");
     assert!(rt; !plan.is_write());
     let mut machine = plan.open(&file(4098));
     find_text(&rt, &mut machine, 0);
@@ -347,22 +353,29 @@ fn read_past_a_text(rt: HostRuntime) -> Result<(), Fail> {
     assert!(rt; bytes[..3] == [0, 2, 0] && machine.is_read());
     find_hole(&rt, &mut machine, 1);
     check_end(&rt, &machine, FileEnd::Whole { bytes: 2051 });
-    assert_eq!(rt; machine.into_bytes().len(), 2051);
+    let bytes = machine.into_bytes();
+    let count = bytes.len();
+    drop(bytes);
+    assert_eq!(rt; count, 2051);
     Ok(())
 }
 
 #[test]
 fn nothing(rt: HostRuntime) -> Result<(), Fail> {
     let whole = Some(FileEnd::Whole { bytes: 0 });
-    let write = FileWrite::start(rt.alloc(), Layout::L0, &file(0), 4096, b"")?;
-    assert_eq!(rt; write.end(), whole);
+    let alloc = rt.alloc();
+    let write = FileWrite::start(alloc, Layout::L0, &file(0), 4096, b"").expect(&rt, "memory");
+    let by_one = write.end();
     drop(write);
-    let many = FileWrite::start_par(&rt, rt.alloc(), Layout::L0, &file(0), 4096, b"")?;
-    assert_eq!(rt; many.end(), whole);
+    let many = FileWrite::start_par(&rt, alloc, Layout::L0, &file(0), 4096, b"").expect(
+        &rt, "memory",
+    );
+    let by_many = many.end();
     drop(many);
-    let read = FileRead::start(rt.alloc(), Layout::L0, &file(4096), 4096, 1)?;
-    assert_eq!(rt; read.end(), whole);
-    assert_eq!(rt; read.bytes().len(), 0);
+    let read = FileRead::start(alloc, Layout::L0, &file(4096), 4096, 1).expect(&rt, "memory");
+    let by_read = read.end();
+    let count = read.bytes().len();
     drop(read);
+    assert!(rt; by_one == whole && by_many == whole && by_read == whole && count == 0);
     Ok(())
 }

@@ -12,7 +12,6 @@ use rz_events::{
     Denial, FetchAnswer, FileInfo, Held, Places, Published, ReadMark, ReaderAnswer, ReaderAsk, Seen,
 };
 use rz_reader::Reader;
-use std::alloc::AllocError;
 use std::process::Abort;
 use std::test::Fail;
 
@@ -88,9 +87,9 @@ fn step(rt: &impl Abort, reader: &mut Reader, row: &Row, ask: ReaderAsk, answer:
     requires { reader.old.state.layout ≡ row.now.layout }
     ensures { reader.new.state.layout ≡ reader.old.state.layout }
 {
-    assert_eq!(rt; reader.end(), None, "before {ask:?}");
+    let is_ended = reader.end().is_some();
     let asked = reader.next();
-    assert_eq!(rt; asked, ask);
+    assert!(rt; !is_ended && asked == ask, "before {ask:?}");
     let mut bins = [0u64; ROOM];
     if let ReaderAsk::Fetch { position, .. } = asked {
         let first = row
@@ -108,10 +107,9 @@ fn step(rt: &impl Abort, reader: &mut Reader, row: &Row, ask: ReaderAsk, answer:
         bins[second] |= 2;
     }
     assert!(rt;
-        belongs(row.layout, asked, answer),
+        belongs(row.layout, asked, answer) && are_enough(row.layout, asked, &bins),
         "no answer to {asked:?}"
     );
-    assert!(rt; are_enough(row.layout, asked, &bins));
     reader.tell(answer, &bins);
 }
 
@@ -130,8 +128,9 @@ fn play(
     for (ask, answer) in turns {
         step(rt, reader, &ROW, *ask, *answer);
     }
-    assert_eq!(rt; reader.next(), ReaderAsk::End);
-    assert_eq!(rt; reader.end(), Some(end));
+    let asked = reader.next();
+    let found = reader.end();
+    assert!(rt; asked == ReaderAsk::End && found == Some(end), "{end:?}");
 }
 
 fn looked(stamp: u64, mask: u16) -> ReaderAnswer {
@@ -184,86 +183,157 @@ fn file(layout: Layout) -> FileInfo
     }
 }
 
-#[test]
-fn outcomes(rt: HostRuntime) -> Result<(), Fail> {
-    let info = file(Layout::L0);
-    let mut reader = Reader::start(rt.alloc(), Layout::L0, &info, 9)?;
-    let nothing = ReaderAnswer::Fetched(FetchAnswer::Nothing);
-    let lost = ReaderAnswer::Fetched(FetchAnswer::Lost);
-    let fault = ReaderAnswer::Fetched(FetchAnswer::DiskFault);
-    let down = ReaderAnswer::Fetched(FetchAnswer::Down);
-    let missed = ReaderAnswer::Missed;
-    let unknown = Denial::UnknownFile;
-    let denied = ReaderAnswer::Denied(unknown);
-    let again = ReaderAsk::Recheck;
-    let found = ReadMark::Found {
-        stamp: 7,
-        length: 2049,
-    };
-    let few = too_few([Seen::Nothing, Seen::Lost, Seen::Held, Seen::Nothing]);
-    let late = too_few([Seen::Held, Seen::Missed, Seen::Down, Seen::DiskFault]);
-    let spare = [
+const NOTHING: ReaderAnswer = ReaderAnswer::Fetched(FetchAnswer::Nothing);
+
+const LOST: ReaderAnswer = ReaderAnswer::Fetched(FetchAnswer::Lost);
+
+const FAULT: ReaderAnswer = ReaderAnswer::Fetched(FetchAnswer::DiskFault);
+
+const DOWN: ReaderAnswer = ReaderAnswer::Fetched(FetchAnswer::Down);
+
+const UNKNOWN: Denial = Denial::UnknownFile;
+
+const DENIED: ReaderAnswer = ReaderAnswer::Denied(UNKNOWN);
+
+const FOUND: ReadMark = ReadMark::Found {
+    stamp: 7,
+    length: 2049,
+};
+
+/// A spare position gives the record that another one does not.
+fn by_a_spare(rt: &impl Abort, reader: &mut Reader)
+    requires { reader.old.state.layout ≡ L0 }
+    ensures { reader.new.state.layout ≡ L0 }
+{
+    let turns = [
         (fetch(0), held(7)),
-        (fetch(1), nothing),
+        (fetch(1), NOTHING),
         (fetch(3), held(7)),
     ];
-    let other = [
+    play(rt, reader, 0b1011, &turns, FOUND);
+}
+
+/// Two positions give a record of another stamp.
+fn past_others(rt: &impl Abort, reader: &mut Reader)
+    requires { reader.old.state.layout ≡ L0 }
+    ensures { reader.new.state.layout ≡ L0 }
+{
+    let turns = [
         (fetch(0), held(8)),
         (fetch(1), held(8)),
         (fetch(2), held(7)),
         (fetch(3), held(7)),
     ];
-    let same = [
-        (fetch(0), nothing),
-        (fetch(1), lost),
+    play(rt, reader, 0b0111, &turns, FOUND);
+}
+
+/// Too few positions give the record, and it is still the one that is published.
+fn by_too_few(rt: &impl Abort, reader: &mut Reader)
+    requires { reader.old.state.layout ≡ L0 }
+    ensures { reader.new.state.layout ≡ L0 }
+{
+    let turns = [
+        (fetch(0), NOTHING),
+        (fetch(1), LOST),
         (fetch(2), held(7)),
-        (fetch(3), nothing),
-        (again, looked(7, 0b0111)),
+        (fetch(3), NOTHING),
+        (ReaderAsk::Recheck, looked(7, 0b0111)),
     ];
-    let moved = [
-        (fetch(0), nothing),
+    play(
+        rt,
+        reader,
+        0b0111,
+        &turns,
+        too_few([Seen::Nothing, Seen::Lost, Seen::Held, Seen::Nothing]),
+    );
+}
+
+/// Meanwhile another record was published.
+fn of_a_moved_block(rt: &impl Abort, reader: &mut Reader)
+    requires { reader.old.state.layout ≡ L0 }
+    ensures { reader.new.state.layout ≡ L0 }
+{
+    let turns = [
+        (fetch(0), NOTHING),
         (fetch(1), held(9)),
         (fetch(2), held(9)),
-        (fetch(3), down),
-        (again, looked(9, 0b0111)),
+        (fetch(3), DOWN),
+        (ReaderAsk::Recheck, looked(9, 0b0111)),
     ];
-    let refused = [
-        (fetch(0), missed),
-        (fetch(1), missed),
-        (fetch(2), missed),
-        (fetch(3), missed),
-        (again, denied),
-    ];
-    let lately = [
-        (fetch(0), held(7)),
-        (fetch(1), missed),
-        (fetch(2), down),
-        (fetch(3), fault),
-        (again, looked(7, 0b0111)),
-    ];
-    let table: [(u16, &[(ReaderAsk, ReaderAnswer)], ReadMark); 6] = [
-        (0b1011, &spare, found),
-        (0b0111, &other, found),
-        (0b0111, &same, few),
-        (0b0111, &moved, ReadMark::Moved { was: 7, now: 9 }),
-        (0b0111, &refused, ReadMark::Denied(unknown)),
-        (0b0111, &lately, late),
-    ];
-    for (mask, turns, end) in table {
-        play(&rt, &mut reader, mask, turns, end);
-        reader.again(&info, 9);
-    }
-    step(
-        &rt,
-        &mut reader,
-        &ROW,
-        ReaderAsk::Look,
-        ReaderAnswer::Looked(None),
+    play(
+        rt,
+        reader,
+        0b0111,
+        &turns,
+        ReadMark::Moved { was: 7, now: 9 },
     );
-    assert_eq!(rt; reader.end(), Some(ReadMark::Hole));
+}
+
+/// Meanwhile the file has gone.
+fn of_a_lost_file(rt: &impl Abort, reader: &mut Reader)
+    requires { reader.old.state.layout ≡ L0 }
+    ensures { reader.new.state.layout ≡ L0 }
+{
+    let turns = [
+        (fetch(0), ReaderAnswer::Missed),
+        (fetch(1), ReaderAnswer::Missed),
+        (fetch(2), ReaderAnswer::Missed),
+        (fetch(3), ReaderAnswer::Missed),
+        (ReaderAsk::Recheck, DENIED),
+    ];
+    play(rt, reader, 0b0111, &turns, ReadMark::Denied(UNKNOWN));
+}
+
+/// One position gives the record, and the others fail otherwise.
+fn by_one(rt: &impl Abort, reader: &mut Reader)
+    requires { reader.old.state.layout ≡ L0 }
+    ensures { reader.new.state.layout ≡ L0 }
+{
+    let turns = [
+        (fetch(0), held(7)),
+        (fetch(1), ReaderAnswer::Missed),
+        (fetch(2), DOWN),
+        (fetch(3), FAULT),
+        (ReaderAsk::Recheck, looked(7, 0b0111)),
+    ];
+    play(
+        rt,
+        reader,
+        0b0111,
+        &turns,
+        too_few([Seen::Held, Seen::Missed, Seen::Down, Seen::DiskFault]),
+    );
+}
+
+/// The look ends the read.
+fn at_once(rt: &impl Abort, reader: &mut Reader, answer: ReaderAnswer, end: ReadMark)
+    requires { reader.old.state.layout ≡ L0 }
+    ensures { reader.new.state.layout ≡ L0 }
+{
+    step(rt, reader, &ROW, ReaderAsk::Look, answer);
+    let found = reader.end();
+    assert!(rt; found == Some(end), "{end:?}");
+}
+
+#[test]
+fn outcomes(rt: HostRuntime) -> Result<(), Fail> {
+    let info = file(Layout::L0);
+    let mut reader = Reader::start(rt.alloc(), Layout::L0, &info, 9).expect(&rt, "memory");
+    by_a_spare(&rt, &mut reader);
     reader.again(&info, 9);
-    step(&rt, &mut reader, &ROW, ReaderAsk::Look, denied);
-    assert_eq!(rt; reader.end(), Some(ReadMark::Denied(unknown)));
+    past_others(&rt, &mut reader);
+    reader.again(&info, 9);
+    by_too_few(&rt, &mut reader);
+    reader.again(&info, 9);
+    of_a_moved_block(&rt, &mut reader);
+    reader.again(&info, 9);
+    of_a_lost_file(&rt, &mut reader);
+    reader.again(&info, 9);
+    by_one(&rt, &mut reader);
+    reader.again(&info, 9);
+    at_once(&rt, &mut reader, ReaderAnswer::Looked(None), ReadMark::Hole);
+    reader.again(&info, 9);
+    at_once(&rt, &mut reader, DENIED, ReadMark::Denied(UNKNOWN));
     drop(reader);
     Ok(())
 }
@@ -281,12 +351,13 @@ const WRONG: Row = Row {
 #[test]
 fn inconsistent(rt: HostRuntime) -> Result<(), Fail> {
     let info = file(Layout::L0);
-    let mut reader = Reader::start(rt.alloc(), Layout::L0, &info, 9)?;
+    let mut reader = Reader::start(rt.alloc(), Layout::L0, &info, 9).expect(&rt, "memory");
     step(&rt, &mut reader, &ROW, ReaderAsk::Look, looked(7, 0b0111));
     step(&rt, &mut reader, &ROW, fetch(0), held(7));
     step(&rt, &mut reader, &WRONG, fetch(1), held(7));
-    assert_eq!(rt; reader.end(), Some(ReadMark::Inconsistent));
+    let end = reader.end();
     drop(reader);
+    assert!(rt; end == Some(ReadMark::Inconsistent));
     Ok(())
 }
 
@@ -319,12 +390,7 @@ const TABLE: [Row; 4] = [
 ];
 
 /// A read of the text from the positions of a mask, which begins with so many spare ones.
-fn read(
-    rt: &(impl Abort + AllocGlobal),
-    reader: &mut Reader,
-    row: &Row,
-    spares: usize,
-) -> Result<(), AllocError>
+fn read(rt: &(impl Abort + AllocGlobal), reader: &mut Reader, row: &Row, spares: usize)
     requires layout { reader.old.state.layout ≡ row.now.layout }
     requires short { row.now.row_bytes ≤ 4096 }
     requires few { spares ≤ 8 }
@@ -359,13 +425,13 @@ fn read(
         );
     }
     let end = reader.end();
-    assert_eq!(rt; end, Some(ReadMark::Found { stamp: 7, length }));
+    assert!(rt; end == Some(ReadMark::Found { stamp: 7, length }));
     if let Some(ReadMark::Found { length, .. }) = end {
-        let mut out = vec![in rt.alloc(); 9u8; length as usize]?;
+        let mut out = vec![in rt.alloc(); 9u8; length as usize].expect(rt, "memory");
         reader.text_into(&mut out);
         check_text(rt, &out, row.row_bytes);
+        drop(out);
     }
-    Ok(())
 }
 
 /// Compares a text with 1 at its beginning and 2 at another place.
@@ -388,10 +454,11 @@ fn layouts(rt: HostRuntime) -> Result<(), Fail> {
         let layout = row.layout;
         assert!(rt; row.row_bytes <= 4096);
         let info = file(layout);
-        let mut reader = Reader::start(rt.alloc(), layout, &info, 0)?;
-        read(&rt, &mut reader, row, 0)?;
+        let mut reader = Reader::start(rt.alloc(), layout, &info, 0).expect(&rt, "memory");
+        read(&rt, &mut reader, row, 0);
         reader.again(&info, 1);
-        read(&rt, &mut reader, row, layout.safe() - layout.forward())?;
+        read(&rt, &mut reader, row, layout.safe() - layout.forward());
+        drop(reader);
     }
     Ok(())
 }

@@ -1,6 +1,6 @@
 //! Rebuilds as tables of what is asked and answered.
 
-ghost use Rattle.std.specs.Prelude.{◌≡◌, ◌<◌, IfOk, IsTrue};
+ghost use Rattle.std.specs.Prelude.{◌≡◌, ◌<◌, IsTrue};
 ghost use Rattle.mj_angles.specs.declared.layout.Layout.TheVariants.{L0};
 ghost use Rattle.rz_events.specs.declared.machines.RebuildAnswer.{RebuildAnswer as AnAnswer};
 ghost use Rattle.rz_client_model.specs.Read.{IsTold};
@@ -13,7 +13,6 @@ use rz_events::{
     RebuildAsk, RebuildEnd, RefillAnswer, ReplaceAnswer,
 };
 use rz_rebuild::{Rebuilder, position_of};
-use std::alloc::AllocError;
 use std::process::Abort;
 use std::test::Fail;
 
@@ -102,9 +101,9 @@ fn step(
     ensures layout { rebuilder.new.layout ≡ L0 }
     ensures node { rebuilder.new.node ≡ 12 }
 {
-    assert_eq!(rt; rebuilder.end(), None, "before {ask:?}");
+    let is_ended = rebuilder.end().is_some();
     let asked = rebuilder.next();
-    assert_eq!(rt; asked, ask);
+    assert!(rt; !is_ended && asked == ask, "before {ask:?}");
     let mut bins = [0u64; ROOM];
     if let RebuildAsk::Fetch { position, .. } = asked {
         assert!(rt; position < 4);
@@ -113,8 +112,10 @@ fn step(
         bins[first] |= 1;
         bins[second] |= 2;
     }
-    assert!(rt; belongs(asked, &answer), "no answer to {asked:?}");
-    assert!(rt; are_enough(asked, &bins) && rebuilder.has_room());
+    assert!(rt;
+        belongs(asked, &answer) && are_enough(asked, &bins) && rebuilder.has_room(),
+        "no answer to {asked:?}"
+    );
     rebuilder.tell(answer, &bins);
 }
 
@@ -198,18 +199,18 @@ fn next_after(block: u64) -> RebuildAsk {
 }
 
 /// The rebuild of node 12, whose loss 7 is enrolled under fence 5, up to its first listing.
-fn begin(rt: &(impl Abort + AllocGlobal)) -> Result<Rebuilder, AllocError>
-    ensures layout { IfOk result (λ r. r.layout ≡ L0) }
-    ensures node { IfOk result (λ r. r.node ≡ 12) }
+fn begin(rt: &(impl Abort + AllocGlobal)) -> Rebuilder
+    ensures layout { result.layout ≡ L0 }
+    ensures node { result.node ≡ 12 }
 {
-    let mut rebuilder = Rebuilder::start(rt.alloc(), Layout::L0, 12)?;
+    let mut rebuilder = Rebuilder::start(rt.alloc(), Layout::L0, 12).expect(rt, "memory");
     let probed = RebuildAnswer::Probed(Some(7));
     step(rt, &mut rebuilder, &FIRST, RebuildAsk::Probe, probed);
     let fence = RebuildAnswer::Enrolled { fence: 5 };
     step(rt, &mut rebuilder, &FIRST, ENROLL, fence);
     let replaced = RebuildAnswer::Replaced(ReplaceAnswer::Replaced);
     step(rt, &mut rebuilder, &FIRST, REPLACE, replaced);
-    Ok(rebuilder)
+    rebuilder
 }
 
 /// The block is listed, and both records that give it back come.
@@ -231,13 +232,14 @@ fn copy(
 }
 
 fn check_end(rt: &impl Abort, rebuilder: &Rebuilder, end: RebuildEnd) {
-    assert_eq!(rt; rebuilder.next(), RebuildAsk::End);
-    assert_eq!(rt; rebuilder.end(), Some(end));
+    let asked = rebuilder.next();
+    let found = rebuilder.end();
+    assert!(rt; asked == RebuildAsk::End && found == Some(end), "{end:?}");
 }
 
 #[test]
 fn two_blocks(rt: HostRuntime) -> Result<(), Fail> {
-    let mut rebuilder = begin(&rt)?;
+    let mut rebuilder = begin(&rt);
     copy(&rt, &mut rebuilder, &FIRST, NEXT, 3);
     let asked = rebuilder.next();
     assert!(rt; matches!(asked, RebuildAsk::Refill { .. }));
@@ -260,7 +262,7 @@ fn two_blocks(rt: HostRuntime) -> Result<(), Fail> {
 
 #[test]
 fn moved(rt: HostRuntime) -> Result<(), Fail> {
-    let mut rebuilder = begin(&rt)?;
+    let mut rebuilder = begin(&rt);
     unanswered(&rt, &mut rebuilder);
     let later = RebuildAnswer::Rechecked(Some(published(11)));
     step(&rt, &mut rebuilder, &FIRST, RECHECK, later);
@@ -310,128 +312,103 @@ fn leave(rt: &impl Abort, rebuilder: &mut Rebuilder, why: LeftWhy)
     check_end(rt, rebuilder, end);
 }
 
+/// Block 3 is left unread for this cause, which the recheck shows.
+fn is_left_unread(rt: &(impl Abort + AllocGlobal), answer: RebuildAnswer, why: LeftWhy) {
+    let mut rebuilder = begin(rt);
+    unanswered(rt, &mut rebuilder);
+    step(rt, &mut rebuilder, &FIRST, RECHECK, answer);
+    leave(rt, &mut rebuilder, why);
+    drop(rebuilder);
+}
+
 #[test]
 fn left_unread(rt: HostRuntime) -> Result<(), Fail> {
     let why = Denial::UnknownFile;
-    let mut rebuilder = begin(&rt)?;
-    unanswered(&rt, &mut rebuilder);
     let same = RebuildAnswer::Rechecked(Some(published(9)));
-    step(&rt, &mut rebuilder, &FIRST, RECHECK, same);
-    leave(&rt, &mut rebuilder, LeftWhy::TooFew);
-    drop(rebuilder);
-    let mut rebuilder = begin(&rt)?;
-    unanswered(&rt, &mut rebuilder);
-    step(
-        &rt,
-        &mut rebuilder,
-        &FIRST,
-        RECHECK,
-        RebuildAnswer::Denied(why),
-    );
-    leave(&rt, &mut rebuilder, LeftWhy::Denied(why));
-    drop(rebuilder);
-    let mut rebuilder = begin(&rt)?;
+    is_left_unread(&rt, same, LeftWhy::TooFew);
+    is_left_unread(&rt, RebuildAnswer::Denied(why), LeftWhy::Denied(why));
+    let mut rebuilder = begin(&rt);
     copy(&rt, &mut rebuilder, &WRONG, NEXT, 3);
     leave(&rt, &mut rebuilder, LeftWhy::Inconsistent);
     drop(rebuilder);
     Ok(())
 }
 
+/// Block 3 is left unfilled for this cause.
+fn is_left_unfilled(rt: &(impl Abort + AllocGlobal), answer: RebuildAnswer, why: LeftWhy) {
+    let mut rebuilder = begin(rt);
+    copy(rt, &mut rebuilder, &FIRST, NEXT, 3);
+    step(rt, &mut rebuilder, &FIRST, refill(3), answer);
+    leave(rt, &mut rebuilder, why);
+    drop(rebuilder);
+}
+
 #[test]
 fn left_unfilled(rt: HostRuntime) -> Result<(), Fail> {
-    let table = [
-        (RebuildAnswer::Missed, LeftWhy::Missed),
-        (RebuildAnswer::Refilled(RefillAnswer::Down), LeftWhy::Down),
-        (RebuildAnswer::Refilled(RefillAnswer::Full), LeftWhy::Full),
-        (
-            RebuildAnswer::Refilled(RefillAnswer::DiskFault),
-            LeftWhy::DiskFault,
-        ),
-    ];
-    for (answer, why) in table {
-        let mut rebuilder = begin(&rt)?;
-        copy(&rt, &mut rebuilder, &FIRST, NEXT, 3);
-        step(&rt, &mut rebuilder, &FIRST, refill(3), answer);
-        leave(&rt, &mut rebuilder, why);
-        drop(rebuilder);
-    }
+    is_left_unfilled(&rt, RebuildAnswer::Missed, LeftWhy::Missed);
+    let down = RebuildAnswer::Refilled(RefillAnswer::Down);
+    is_left_unfilled(&rt, down, LeftWhy::Down);
+    let full = RebuildAnswer::Refilled(RefillAnswer::Full);
+    is_left_unfilled(&rt, full, LeftWhy::Full);
+    let fault = RebuildAnswer::Refilled(RefillAnswer::DiskFault);
+    is_left_unfilled(&rt, fault, LeftWhy::DiskFault);
     Ok(())
+}
+
+/// A refill ends the rebuild.
+fn is_refused(rt: &(impl Abort + AllocGlobal), answer: RefillAnswer, end: RebuildEnd) {
+    let mut rebuilder = begin(rt);
+    copy(rt, &mut rebuilder, &FIRST, NEXT, 3);
+    let answer = RebuildAnswer::Refilled(answer);
+    step(rt, &mut rebuilder, &FIRST, refill(3), answer);
+    check_end(rt, &rebuilder, end);
+    drop(rebuilder);
 }
 
 #[test]
 fn refused(rt: HostRuntime) -> Result<(), Fail> {
-    let table = [
-        (RefillAnswer::Lost, RebuildEnd::LostAgain),
-        (
-            RefillAnswer::OtherFence { fence: 6 },
-            RebuildEnd::OtherFence { fence: 6 },
-        ),
-    ];
-    for (answer, end) in table {
-        let mut rebuilder = begin(&rt)?;
-        copy(&rt, &mut rebuilder, &FIRST, NEXT, 3);
-        step(
-            &rt,
-            &mut rebuilder,
-            &FIRST,
-            refill(3),
-            RebuildAnswer::Refilled(answer),
-        );
-        check_end(&rt, &rebuilder, end);
-        drop(rebuilder);
-    }
+    is_refused(&rt, RefillAnswer::Lost, RebuildEnd::LostAgain);
+    is_refused(
+        &rt,
+        RefillAnswer::OtherFence { fence: 6 },
+        RebuildEnd::OtherFence { fence: 6 },
+    );
     Ok(())
+}
+
+/// A rebuild ends at one of its first three asks.
+fn is_early(
+    rt: &(impl Abort + AllocGlobal),
+    ask: RebuildAsk,
+    answer: RebuildAnswer,
+    end: RebuildEnd,
+) {
+    let mut rebuilder = Rebuilder::start(rt.alloc(), Layout::L0, 12).expect(rt, "memory");
+    if ask != RebuildAsk::Probe {
+        let probed = RebuildAnswer::Probed(Some(7));
+        step(rt, &mut rebuilder, &FIRST, RebuildAsk::Probe, probed);
+    }
+    if ask == REPLACE {
+        let fence = RebuildAnswer::Enrolled { fence: 5 };
+        step(rt, &mut rebuilder, &FIRST, ENROLL, fence);
+    }
+    step(rt, &mut rebuilder, &FIRST, ask, answer);
+    check_end(rt, &rebuilder, end);
+    drop(rebuilder);
 }
 
 #[test]
 fn early(rt: HostRuntime) -> Result<(), Fail> {
+    let none = RebuildAnswer::Probed(None);
+    is_early(&rt, RebuildAsk::Probe, none, RebuildEnd::NotLost);
     let old = Denial::OldLoss { kept: 8 };
-    let table = [
-        (
-            RebuildAsk::Probe,
-            RebuildAnswer::Probed(None),
-            RebuildEnd::NotLost,
-        ),
-        (ENROLL, RebuildAnswer::Denied(old), RebuildEnd::Denied(old)),
-        (
-            REPLACE,
-            RebuildAnswer::Replaced(ReplaceAnswer::NotLost),
-            RebuildEnd::NotLost,
-        ),
-        (
-            REPLACE,
-            RebuildAnswer::Replaced(ReplaceAnswer::OtherLoss { loss: 8 }),
-            RebuildEnd::OtherLoss { loss: 8 },
-        ),
-        (
-            REPLACE,
-            RebuildAnswer::Replaced(ReplaceAnswer::DiskFault),
-            RebuildEnd::DiskFault,
-        ),
-    ];
-    for (ask, answer, end) in table {
-        let mut rebuilder = Rebuilder::start(rt.alloc(), Layout::L0, 12)?;
-        if ask != RebuildAsk::Probe {
-            step(
-                &rt,
-                &mut rebuilder,
-                &FIRST,
-                RebuildAsk::Probe,
-                RebuildAnswer::Probed(Some(7)),
-            );
-        }
-        if ask == REPLACE {
-            step(
-                &rt,
-                &mut rebuilder,
-                &FIRST,
-                ENROLL,
-                RebuildAnswer::Enrolled { fence: 5 },
-            );
-        }
-        step(&rt, &mut rebuilder, &FIRST, ask, answer);
-        check_end(&rt, &rebuilder, end);
-        drop(rebuilder);
-    }
+    let denied = RebuildAnswer::Denied(old);
+    is_early(&rt, ENROLL, denied, RebuildEnd::Denied(old));
+    let not_lost = RebuildAnswer::Replaced(ReplaceAnswer::NotLost);
+    is_early(&rt, REPLACE, not_lost, RebuildEnd::NotLost);
+    let other = RebuildAnswer::Replaced(ReplaceAnswer::OtherLoss { loss: 8 });
+    is_early(&rt, REPLACE, other, RebuildEnd::OtherLoss { loss: 8 });
+    let fault = RebuildAnswer::Replaced(ReplaceAnswer::DiskFault);
+    is_early(&rt, REPLACE, fault, RebuildEnd::DiskFault);
     Ok(())
 }

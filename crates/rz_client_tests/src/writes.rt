@@ -44,10 +44,12 @@ fn step(rt: &impl Abort, writer: &mut Writer, ask: WriterAsk, answer: WriterAnsw
     ensures block { writer.new.block ≡ writer.old.block }
     ensures layout { writer.new.state.layout ≡ writer.old.state.layout }
 {
-    assert_eq!(rt; writer.end(), None, "before {ask:?}");
+    let is_ended = writer.end().is_some();
     let asked = writer.next();
-    assert_eq!(rt; asked, ask);
-    assert!(rt; belongs(asked, answer), "no answer to {asked:?}");
+    assert!(rt;
+        !is_ended && asked == ask && belongs(asked, answer),
+        "before {ask:?}"
+    );
     writer.tell(answer);
 }
 
@@ -59,8 +61,9 @@ fn play(rt: &impl Abort, writer: &mut Writer, rows: &[(WriterAsk, WriterAnswer)]
     for (ask, answer) in rows {
         step(rt, writer, *ask, *answer);
     }
-    assert_eq!(rt; writer.next(), WriterAsk::End);
-    assert_eq!(rt; writer.end(), Some(end));
+    let asked = writer.next();
+    let found = writer.end();
+    assert!(rt; asked == WriterAsk::End && found == Some(end), "{end:?}");
 }
 
 /// A file whose position `i` is on node `100 + i`.
@@ -111,97 +114,143 @@ fn too_few(first: [Why; 4]) -> WriteEnd {
     WriteEnd::TooFew { why }
 }
 
+const FIVE: [u8; 5] = *b"hello";
+
+/// A write of which a spare position keeps what another one does not, for this cause.
+fn by_a_spare(rt: &impl Abort, writer: &mut Writer, answer: WriterAnswer)
+    ensures block { writer.new.block ≡ writer.old.block }
+    ensures layout { writer.new.state.layout ≡ writer.old.state.layout }
+{
+    let rows = [
+        BEGIN,
+        kept(0),
+        (keep(1), answer),
+        (keep(2), WriterAnswer::Kept(KeepAnswer::Passed { held: 8 })),
+        kept(3),
+        (publish(0b1101), WriterAnswer::Accepted),
+    ];
+    let acked = WriteEnd::Acked {
+        stamp: 7,
+        mask: 0b1101,
+    };
+    play(rt, writer, &rows, acked);
+}
+
+/// A write that too few keep, for this cause.
+fn by_too_few(rt: &impl Abort, writer: &mut Writer, answer: WriterAnswer, why: Why)
+    ensures block { writer.new.block ≡ writer.old.block }
+    ensures layout { writer.new.state.layout ≡ writer.old.state.layout }
+{
+    let rows = [BEGIN, (keep(0), answer), (keep(1), answer)];
+    let end = too_few([why, why, Why::NotAsked, Why::NotAsked]);
+    play(rt, writer, &rows, end);
+}
+
+/// Why a position does not keep a record.
+const CAUSES: [(WriterAnswer, Why); 6] = [
+    (WriterAnswer::Kept(KeepAnswer::Lost), Why::Lost),
+    (WriterAnswer::Kept(KeepAnswer::Down), Why::Down),
+    (
+        WriterAnswer::Kept(KeepAnswer::Fenced { fence: 9 }),
+        Why::Fenced,
+    ),
+    (WriterAnswer::Kept(KeepAnswer::Full), Why::Full),
+    (WriterAnswer::Kept(KeepAnswer::DiskFault), Why::DiskFault),
+    (WriterAnswer::Missed, Why::Missed),
+];
+
 #[test]
 fn spares(rt: HostRuntime) -> Result<(), Fail> {
     let info = file(Layout::L0);
-    let mut writer = Writer::start(rt.alloc(), Layout::L0, &info, 9, b"hello")?;
-    let causes = [
-        (WriterAnswer::Kept(KeepAnswer::Lost), Why::Lost),
-        (WriterAnswer::Kept(KeepAnswer::Down), Why::Down),
-        (
-            WriterAnswer::Kept(KeepAnswer::Fenced { fence: 9 }),
-            Why::Fenced,
-        ),
-        (WriterAnswer::Kept(KeepAnswer::Full), Why::Full),
-        (WriterAnswer::Kept(KeepAnswer::DiskFault), Why::DiskFault),
-        (WriterAnswer::Missed, Why::Missed),
-    ];
-    for (answer, why) in causes {
-        let one = [
-            BEGIN,
-            kept(0),
-            (keep(1), answer),
-            (keep(2), WriterAnswer::Kept(KeepAnswer::Passed { held: 8 })),
-            kept(3),
-            (publish(0b1101), WriterAnswer::Accepted),
-        ];
-        let acked = WriteEnd::Acked {
-            stamp: 7,
-            mask: 0b1101,
-        };
-        play(&rt, &mut writer, &one, acked);
-        writer.again(&info, 9, b"hello");
-        let end = too_few([why, why, Why::NotAsked, Why::NotAsked]);
-        play(
-            &rt,
-            &mut writer,
-            &[BEGIN, (keep(0), answer), (keep(1), answer)],
-            end,
-        );
-        writer.again(&info, 9, b"hello");
+    let mut writer = Writer::start(rt.alloc(), Layout::L0, &info, 9, &FIVE).expect(&rt, "memory");
+    for (answer, why) in CAUSES {
+        by_a_spare(&rt, &mut writer, answer);
+        writer.again(&info, 9, &FIVE);
+        by_too_few(&rt, &mut writer, answer, why);
+        writer.again(&info, 9, &FIVE);
     }
     drop(writer);
     Ok(())
 }
 
+/// The publish of what the first three positions keep.
+const ALL: WriterAsk = WriterAsk::Publish {
+    stamp: 7,
+    mask: 0b0111,
+};
+
+fn enrolled(position: u8) -> (WriterAsk, WriterAnswer) {
+    (ALL, WriterAnswer::Enrolled { position, fence: 9 })
+}
+
+/// Plays a write whose first three positions keep the record.
+fn publish_by(rt: &(impl Abort + AllocGlobal), rows: &[(WriterAsk, WriterAnswer)], end: WriteEnd) {
+    let info = file(Layout::L0);
+    let mut writer = Writer::start_bare(rt.alloc(), Layout::L0, &info, 9, 5).expect(rt, "memory");
+    step(rt, &mut writer, BEGIN.0, BEGIN.1);
+    for position in 0..3u8 {
+        let (ask, answer) = kept(position);
+        step(rt, &mut writer, ask, answer);
+    }
+    play(rt, &mut writer, rows, end);
+    drop(writer);
+}
+
 #[test]
 fn publishes(rt: HostRuntime) -> Result<(), Fail> {
-    let info = file(Layout::L0);
-    let all = publish(0b0111);
-    let enrolled = |position| WriterAnswer::Enrolled { position, fence: 9 };
     let acked = WriteEnd::Acked {
         stamp: 7,
         mask: 0b1101,
     };
-    let two = too_few([Why::Enrolled, Why::Kept, Why::Enrolled, Why::Kept]);
-    let down = too_few([Why::Kept, Why::Kept, Why::Enrolled, Why::Down]);
-    let unknown = WriterAnswer::Denied(Denial::UnknownFile);
-    let further = [
-        (all, enrolled(1)),
-        kept(3),
-        (publish(0b1101), WriterAnswer::Accepted),
-    ];
-    let twice = [(all, enrolled(0)), kept(3), (publish(0b1110), enrolled(2))];
-    let last = [
-        (all, enrolled(2)),
-        (keep(3), WriterAnswer::Kept(KeepAnswer::Down)),
-    ];
-    let denied = [(all, unknown)];
-    let revoked = [(all, WriterAnswer::Revoked { later: 8 })];
-    let table: [(&[(WriterAsk, WriterAnswer)], WriteEnd); 5] = [
-        (&further, acked),
-        (&twice, two),
-        (&last, down),
-        (&denied, WriteEnd::Denied(Denial::UnknownFile)),
-        (&revoked, WriteEnd::Revoked { later: 8 }),
-    ];
-    for (rows, end) in table {
-        let mut writer = Writer::start_bare(rt.alloc(), Layout::L0, &info, 9, 5)?;
-        for (ask, answer) in [BEGIN, kept(0), kept(1), kept(2)] {
-            step(&rt, &mut writer, ask, answer);
-        }
-        play(&rt, &mut writer, rows, end);
-        drop(writer);
-    }
-    let mut writer = Writer::start_bare(rt.alloc(), Layout::L0, &info, 9, 5)?;
-    let far = Denial::BlockTooFar;
-    let begin = WriterAsk::Begin { length: 5 };
-    play(
+    publish_by(
         &rt,
-        &mut writer,
-        &[(begin, WriterAnswer::Denied(far))],
-        WriteEnd::Denied(far),
+        &[
+            enrolled(1),
+            kept(3),
+            (publish(0b1101), WriterAnswer::Accepted),
+        ],
+        acked,
     );
+    let why = Denial::UnknownFile;
+    publish_by(
+        &rt,
+        &[(ALL, WriterAnswer::Denied(why))],
+        WriteEnd::Denied(why),
+    );
+    publish_by(
+        &rt,
+        &[(ALL, WriterAnswer::Revoked { later: 8 })],
+        WriteEnd::Revoked { later: 8 },
+    );
+    Ok(())
+}
+
+#[test]
+fn publishes_of_too_few(rt: HostRuntime) -> Result<(), Fail> {
+    let second = WriterAnswer::Enrolled {
+        position: 2,
+        fence: 9,
+    };
+    publish_by(
+        &rt,
+        &[enrolled(0), kept(3), (publish(0b1110), second)],
+        too_few([Why::Enrolled, Why::Kept, Why::Enrolled, Why::Kept]),
+    );
+    publish_by(
+        &rt,
+        &[enrolled(2), (keep(3), WriterAnswer::Kept(KeepAnswer::Down))],
+        too_few([Why::Kept, Why::Kept, Why::Enrolled, Why::Down]),
+    );
+    Ok(())
+}
+
+#[test]
+fn a_begin_is_denied(rt: HostRuntime) -> Result<(), Fail> {
+    let info = file(Layout::L0);
+    let mut writer = Writer::start_bare(rt.alloc(), Layout::L0, &info, 9, 5).expect(&rt, "memory");
+    let far = Denial::BlockTooFar;
+    let rows = [(BEGIN.0, WriterAnswer::Denied(far))];
+    play(&rt, &mut writer, &rows, WriteEnd::Denied(far));
     drop(writer);
     Ok(())
 }
@@ -338,14 +387,15 @@ fn layouts(rt: HostRuntime) -> Result<(), Fail> {
     for row in &TABLE {
         let layout = row.layout;
         assert!(rt; row.row_bytes <= 4096);
-        let text = two_words(rt.alloc(), row.row_bytes)?;
+        let text = two_words(rt.alloc(), row.row_bytes).expect(&rt, "memory");
         assert!(rt; text.len() <= layout.block_bytes());
         let info = file(layout);
-        let mut writer = Writer::start(rt.alloc(), layout, &info, 0, &text)?;
+        let mut writer = Writer::start(rt.alloc(), layout, &info, 0, &text).expect(&rt, "memory");
         write(&rt, &mut writer, row, 0);
         writer.again(&info, 1, &text);
         write(&rt, &mut writer, row, layout.safe() - layout.forward());
         drop(writer);
+        drop(text);
     }
     Ok(())
 }

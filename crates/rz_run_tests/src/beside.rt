@@ -81,7 +81,7 @@ struct Judged {
 }
 
 /// What the lines of the actors show.
-fn judged(printed: &Printed) -> Judged {
+fn shown_by(printed: &Printed) -> Judged {
     let in_time = is_in_time(&printed.rebuilds);
     let wrong = if in_time && !are_rebuilt(&printed.rebuilds) {
         Some((0, 0))
@@ -94,7 +94,7 @@ fn judged(printed: &Printed) -> Judged {
 fn judge(rt: &(impl Abort + AllocGlobal), text: &str) -> Judged {
     let text = text.strip_prefix("0: ").expect(rt, "a run");
     let printed = read_back(rt, text);
-    let judged = judged(&printed);
+    let judged = shown_by(&printed);
     drop(printed);
     judged
 }

@@ -136,8 +136,11 @@ fn verdict_on(rt: &(impl Abort + AllocGlobal), layout: Layout, altered: &[u8]) -
     verdict
 }
 
-/// The positions of a layout that read wrong, and what is found. The reach is 1, 2 and 4.
-const ROWS: [(Layout, &[u8], Verdict); 9] = [
+/// A layout, the positions that read wrong, and what is found.
+type Row = (Layout, &'static [u8], Verdict);
+
+/// The reach is 1, 2 and 4.
+const WITHIN: [Row; 6] = [
     (Layout::L0, &[], Verdict::Clean),
     (Layout::L0, &[3], Verdict::Altered { mask: 0x8 }),
     (Layout::L1, &[5], Verdict::Altered { mask: 0x20 }),
@@ -148,16 +151,30 @@ const ROWS: [(Layout, &[u8], Verdict); 9] = [
         &[1, 6, 10, 15],
         Verdict::Altered { mask: 0x8442 },
     ),
+];
+
+const PAST: [Row; 3] = [
     (Layout::L0, &[1, 2], Verdict::Unsure),
     (Layout::L1, &[0, 3, 6], Verdict::Unsure),
     (Layout::L2, &[1, 4, 6, 10, 15], Verdict::Unsure),
 ];
 
-#[test]
-fn rot_is_named_up_to_the_reach(rt: HostRuntime) -> Result<(), Fail> {
-    for (layout, altered, wanted) in &ROWS {
-        let verdict = verdict_on(&rt, *layout, altered);
+/// Compares what is found.
+fn judges(rt: &(impl Abort + AllocGlobal), rows: &[Row]) {
+    for (layout, altered, wanted) in rows {
+        let verdict = verdict_on(rt, *layout, altered);
         assert!(rt; verdict == *wanted, "{altered:?}");
     }
+}
+
+#[test]
+fn rot_is_named_up_to_the_reach(rt: HostRuntime) -> Result<(), Fail> {
+    judges(&rt, &WITHIN);
+    Ok(())
+}
+
+#[test]
+fn rot_past_the_reach_is_not_named(rt: HostRuntime) -> Result<(), Fail> {
+    judges(&rt, &PAST);
     Ok(())
 }

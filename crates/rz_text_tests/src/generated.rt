@@ -4,6 +4,7 @@ use rand_core::utils::NextWord;
 use rand_pcg::Lcg64Xsh32;
 use rz_generate::generate;
 use sha2::{Digest, Sha256};
+use std::process::Abort;
 use std::test::Fail;
 
 /// The volume and the first ten lines.
@@ -60,15 +61,25 @@ fn draws(rt: HostRuntime) {
     }
 }
 
+/// The printed form of the script of the seed 1.
+fn printed(rt: &(impl Abort + AllocGlobal)) -> Vec<u8> {
+    let script = generate(rt.alloc(), 1).expect(rt, "memory");
+    let count = script.lines().len();
+    let text = script.print(rt.alloc()).expect(rt, "memory");
+    drop(script);
+    assert!(rt; count == 7628);
+    text
+}
+
 #[test]
 fn workload(rt: HostRuntime) -> Result<(), Fail> {
-    let script = generate(rt.alloc(), 1)?;
-    assert_eq!(rt; script.lines().len(), 7628);
-    let text = script.print(rt.alloc())?;
-    assert!(rt; text.starts_with(FIRST.as_bytes()));
-    assert!(rt; text.ends_with(LAST.as_bytes()));
+    let text = printed(&rt);
+    let is_framed = text.starts_with(FIRST.as_bytes()) && text.ends_with(LAST.as_bytes());
     let digest = Sha256::digest(text.as_slice());
-    let digest = hex::encode(rt.alloc(), digest.as_slice())?;
-    assert_eq!(rt; digest.as_str(), DIGEST);
+    drop(text);
+    let digest = hex::encode(rt.alloc(), digest.as_slice()).expect(&rt, "memory");
+    let is_its = digest.as_str() == DIGEST;
+    drop(digest);
+    assert!(rt; is_framed && is_its);
     Ok(())
 }

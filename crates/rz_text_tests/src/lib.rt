@@ -1,6 +1,5 @@
 //! Tests of texts and of what stands at the edges: command lines, requests, scripts, workloads, printed logs and
-//! runs, the lines of the commands load and scrub, descriptions of volumes, where files are placed, streams, links
-//! and locks.
+//! runs, the lines of the commands load and scrub, descriptions of volumes, where files are placed, and streams.
 //!
 //! They stand beside the crates and not in them, since a crate with tests is proved twice.
 #![tactic(auto)]
@@ -9,10 +8,6 @@
 mod comparing;
 #[cfg(test)]
 mod generated;
-#[cfg(test)]
-mod links;
-#[cfg(test)]
-mod locks;
 #[cfg(test)]
 mod placement;
 #[cfg(test)]

@@ -5,7 +5,7 @@ use Rattle.mj_inverse.specs.Fits.{Pair}
 use Rattle.mj_tests.proofs.inversions.add_from.Given as goal
 
 abbrev pub invariant-loop-i : goal.invariant-loop-i
-invariant-loop-i l = record {
+invariant-loop-i g l = record {
   rows : l.work.rows ≡ 8;
   cols : l.work.cols ≡ 64;
   count : length l.work.pairs ≡ l.i;
