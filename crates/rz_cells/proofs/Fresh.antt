@@ -22,6 +22,10 @@ blank n = replicate n 0
 pub zero_at : (n i : ℕ) → get_or (blank n) i 0 ≡ 0
 zero_at n i = ⊎_elim (λ (lt : i < n). get_or-replicate n i 0 0 lt) (λ (le : n ≤ i). get_or_past (blank n) i 0 (omega (arith, length-replicate {A = ℕ} n 0))) (cases_lt i n)
 
+-- a write of no more than a header on zeros leaves its gate shut
+pub zeros_torn : (n k : ℕ) (zeros c : List ℕ) → zeros ≡ blank n → k ≡ 32 → Torn 0 k zeros c → IsShut c
+zeros_torn n k zeros c is long torn = ap (λ (b : ℕ). b % 2) (torn.above 32 (omega arith) ∙ ap (λ (t : List ℕ). get_or t 32 0) is ∙ zero_at n 32)
+
 module _ (g : Geometry) (fence : ℕ) (header : List ℕ) (is : IsHeader g fence header) (long : length header ≡ 32) where
   -- the header stands before its gate
   pub header_torn : (c : List ℕ) → Torn 0 (length header) (blank (disk_bytes g)) c → IsShut c

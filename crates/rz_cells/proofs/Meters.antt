@@ -1,6 +1,7 @@
 -- Passes and faults of calls one after another.
 use Rattle.std.proofs.Common.{◌≡◌, ◌⊎◌, inl, inr, ⊎_elim, ℕ, ◌+◌, ◌-◌, ◌≤◌, Option, Some, None, Result, Ok, is_ok, IsErr, true, List, refl, sym, ◌∙◌, ap, arith}
-use Rattle.rz_disk.specs.Meter.{Meter, Took, Lasts, Rises, HasPasses, faults}
+use Rattle.rz_disk.specs.Images.{Within}
+use Rattle.rz_disk.specs.Meter.{Meter, Passes, Took, Lasts, Rises, HasPasses, faults}
 use Rattle.rz_disk.proofs.Passes.{took_then, took_failed}
 use Rattle.rz_cells.specs.Opening.{OnlyRead}
 
@@ -15,6 +16,13 @@ took_after k first result a b c fuse planned same took = record {
 
 pub lasts_then : (a b c : Meter) → Lasts a b → Lasts b c → Lasts a c
 lasts_then a b c one two = record { planned = omega (arith, one.planned, two.planned); own = omega (arith, one.own, two.own) }
+
+pub lasts_same : (a : Meter) → Lasts a a
+lasts_same a = record { planned = omega arith; own = omega arith }
+
+-- one call
+pub lasts_one : {T E : Type 0} (result : Result T E) (a b : Meter) → Passes result a b → Lasts a b
+lasts_one result a b one = record { planned = one.planned; own = one.own }
 
 -- faults that rose later rose from before
 pub risen_after : (a b c : Meter) → Lasts a b → Rises (faults b) (faults c) → Rises (faults a) (faults c)
@@ -71,3 +79,7 @@ passes_left j m k a b fits took has n is = ⊎_elim
 -- own faults that rose later rose from before
 pub own_after : (a b c : Meter) → Lasts a b → Rises b.own c.own → Rises a.own c.own
 own_after a b c lasts rose = omega (arith, lasts.own, rose)
+
+-- a disk that was read
+pub read_one : {T E : Type 0} (result : Result T E) (t u : List ℕ) (i j : List ℕ → Type 0) (a b : Meter) → u ≡ t → Within i j → Passes result a b → OnlyRead t u i j a b
+read_one result t u i j a b same within one = record { same = same; within = within; lasts = lasts_one result a b one }

@@ -1,5 +1,5 @@
 //! An old disk carried over onto a new one.
-ghost use Rattle.std.specs.Prelude.{◌≡◌, ◌≢◌, ◌⊎◌, ◌+◌, ◌*◌, ◌≤◌, ℕ, List, Option, None, length, slice_index, IsTrue, IsErrOf, OnErr, IfOk, IfErr, MatchResult};
+ghost use Rattle.std.specs.Prelude.{◌≡◌, ◌≢◌, ◌⊎◌, ◌+◌, ◌*◌, ◌≤◌, ℕ, List, Option, None, length, slice_index, IsTrue, IsErrOf, OnOk, OnErr, IfOk, IfErr, MatchResult};
 ghost use Rattle.std.specs.HashMap.{IsEmpty, spare};
 ghost use Rattle.mj_angles.specs.Layout.{bsize_of};
 ghost use Rattle.rz_disk.specs.Images.{Within};
@@ -130,34 +130,77 @@ fn carry<D: Disk>(
     let Ok(reserved) = reserve(alloc, geometry) else {
         return Err(MigrateFault::NoMemory);
     };
+    let mut reserved = reserved;
+    let carried = carry_into(alloc, geometry, old, new, &mut reserved);
     let Reserved {
         room,
         cells,
         firsts,
         bins,
     } = reserved;
-    let cells = match open_old(old, geometry, cells, firsts) {
-        Ok(cells) => cells,
+    let fence = cells.fence;
+    drop(cells);
+    drop(firsts);
+    drop(bins);
+    match carried {
+        Ok(()) => Ok((fence, room)),
+        Err(fault) => {
+            drop(room);
+            Err(fault)
+        }
+    }
+}
+
+/// The same in memory that was taken before.
+fn carry_into<D: Disk>(
+    alloc: Global,
+    geometry: &Geometry,
+    old: &mut D,
+    new: &mut D,
+    reserved: &mut Reserved,
+) -> Result<(), MigrateFault>
+    requires geometry { IsGeometry geometry.now }
+    requires gates { length reserved.old.room.gates.items ≡ 2 * geometry.now.cells }
+    requires shut { (c : ℕ) → slice_index reserved.old.room.gates.items c ≡ 0 }
+    requires heads { length reserved.old.room.heads ≡ 2 * geometry.now.cells }
+    requires empty { (c : ℕ) → in_cell reserved.old.room.heads c ≡ None }
+    requires buffer { length reserved.old.room.buffer.items ≡ slot_of geometry.now }
+    requires old_gates { length reserved.old.cells.gates.items ≡ geometry.now.cells }
+    requires old_heads { length reserved.old.cells.heads.items ≡ geometry.now.cells }
+    requires old_empty { (c : ℕ) → in_cell reserved.old.cells.heads.items c ≡ None }
+    requires firsts { IsEmpty reserved.old.firsts }
+    requires spare { geometry.now.cells ≤ spare reserved.old.firsts }
+    requires bins { 48 + 8 * length reserved.old.bins.items ≡ slot_of geometry.now }
+    ensures open { OnOk result (IsOpen D.tells (D.text new.new) (D.image new.new) geometry.now reserved.new.cells.fence reserved.new.room.gates.items reserved.new.room.heads) }
+    ensures gates { OnOk result (length reserved.new.room.gates.items ≡ 2 * geometry.now.cells) }
+    ensures heads { OnOk result (length reserved.new.room.heads ≡ 2 * geometry.now.cells) }
+    ensures buffer { OnOk result (length reserved.new.room.buffer.items ≡ slot_of geometry.now) }
+    ensures pairs { OnOk result (IsTrue D.tells → HoldsBoth geometry.now reserved.new.cells.fence (D.text old.old) (D.text new.new)) }
+    ensures crash { IfErr result (λ e. IsTrue D.tells → (t : List ℕ) → D.image new.new t → D.image new.old t ⊎ IsShut t ⊎ CarriesOver geometry.now (D.text old.old) t) }
+    ensures refused { IfErr result (λ e. (fault : OpenFault) → e ≡ MigrateFault.Old fault → (fault ≡ OpenFault.DiskFault) ⊎ (new.new ≡ new.old)) }
+    ensures old_fault { IfErr result (λ e. (fault : OpenFault) → e ≡ MigrateFault.Old fault → IsTrue D.tells → OldRefuses geometry.now (D.text old.old) fault) }
+    ensures wrong_size { IfErr result (λ e. (fault : OpenFault) → e ≡ MigrateFault.Old fault → NotSize fault ⊎ OldRefuses geometry.now (D.text old.old) fault) }
+    ensures fits { IfErr result (λ e. (fault : OpenFault) → e ≡ MigrateFault.Old fault → NotSize fault → length (D.text old.old) ≡ old_disk_bytes geometry.now) }
+    ensures read { OnlyRead (D.text old.old) (D.text old.new) (D.image old.old) (D.image old.new) (D.meter old.old) (D.meter old.new) }
+    ensures meter { Lasts (D.meter new.old) (D.meter new.new) }
+    ensures old_risen { IsErrOf result (MigrateFault.Old OpenFault.DiskFault) → Rises (faults (D.meter old.old)) (faults (D.meter old.new)) }
+    ensures risen { IsErrOf result MigrateFault.New → Rises (faults (D.meter new.old)) (faults (D.meter new.new)) }
+{
+    match open_old(old, geometry, &mut reserved.cells, &mut reserved.firsts) {
+        Ok(()) => {}
         Err(fault) => return Err(MigrateFault::Old(fault)),
-    };
-    let Room {
-        gates,
-        heads,
-        buffer,
-    } = room;
-    let mut heads = heads;
-    let mut buffer = buffer;
-    let mut bins = bins;
-    copy(alloc, geometry, &cells, old, new, &mut buffer, &mut bins)?;
-    pair_up(&cells.heads, &mut heads);
-    Ok((
-        cells.fence,
-        Room {
-            gates,
-            heads,
-            buffer,
-        },
-    ))
+    }
+    copy(
+        alloc,
+        geometry,
+        &reserved.cells,
+        old,
+        new,
+        &mut reserved.room.buffer,
+        &mut reserved.bins,
+    )?;
+    pair_up(&reserved.cells.heads, &mut reserved.room.heads);
+    Ok(())
 }
 
 /// The memory of a migration.

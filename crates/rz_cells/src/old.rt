@@ -1,5 +1,5 @@
 //! An old disk, with one cell where there is now a pair. It is only read.
-ghost use Rattle.std.specs.Prelude.{◌≡◌, ◌⊎◌, ◌+◌, ◌*◌, ◌%◌, ◌^◌, ◌<◌, ◌≤◌, ℕ, Option, Some, None, length, slice_index, IsTrue, IsErrOf, IfOk, IfErr};
+ghost use Rattle.std.specs.Prelude.{◌≡◌, ◌⊎◌, ◌+◌, ◌*◌, ◌%◌, ◌^◌, ◌<◌, ◌≤◌, ℕ, Option, Some, None, length, slice_index, IsTrue, IsErrOf, OnOk, IfOk, IfErr};
 ghost use Rattle.std.specs.HashMap.{IsEmpty, spare};
 ghost use Rattle.rz_events.specs.declared.records.Head.{Head};
 ghost use Rattle.rz_disk.specs.Meter.{Rises, faults};
@@ -40,12 +40,27 @@ impl OldCells {
         ensures empty { IfOk result (λ o. (c : ℕ) → in_cell o.heads.items c ≡ None) }
     {
         let cells = geometry.cells as usize;
-        Ok(OldCells {
-            fence: 0,
-            gates: Vec::from_elem(alloc, 0, cells)?,
-            heads: Vec::from_elem(alloc, None, cells)?,
-        })
+        let gates = Vec::from_elem(alloc, 0, cells)?;
+        match no_heads(alloc, cells) {
+            Ok(heads) => Ok(OldCells {
+                fence: 0,
+                gates,
+                heads,
+            }),
+            Err(error) => {
+                drop(gates);
+                Err(error)
+            }
+        }
     }
+}
+
+/// So many cells that hold nothing.
+fn no_heads(alloc: Global, cells: usize) -> Result<Vec<Option<Head>>, AllocError>
+    ensures heads { IfOk result (λ v. length v.items ≡ cells) }
+    ensures empty { IfOk result (λ v. (c : ℕ) → in_cell v.items c ≡ None) }
+{
+    Vec::from_elem(alloc, None, cells)
 }
 
 impl Geometry {
@@ -87,22 +102,22 @@ impl Geometry {
 pub fn open_old<D: Disk>(
     disk: &mut D,
     geometry: &Geometry,
-    room: OldCells,
-    firsts: Firsts,
-) -> Result<OldCells, OpenFault>
+    room: &mut OldCells,
+    firsts: &mut Firsts,
+) -> Result<(), OpenFault>
     requires geometry { IsGeometry geometry.now }
-    requires gates { length room.gates.items ≡ geometry.now.cells }
-    requires heads { length room.heads.items ≡ geometry.now.cells }
-    requires empty { (c : ℕ) → in_cell room.heads.items c ≡ None }
-    requires firsts { IsEmpty firsts }
-    requires spare { geometry.now.cells ≤ spare firsts }
-    ensures size { IfOk result (λ o. length (D.text disk.old) ≡ old_disk_bytes geometry.now) }
-    ensures header { IfOk result (λ o. IsTrue D.tells → IsHeaderOf One geometry.now o.fence (D.text disk.old) × IsFormatted (D.text disk.old)) }
-    ensures gates { IfOk result (λ o. length o.gates.items ≡ geometry.now.cells) }
-    ensures known { IfOk result (λ o. IsTrue D.tells → OldKnows geometry.now o.gates.items (D.text disk.old)) }
-    ensures heads { IfOk result (λ o. length o.heads.items ≡ geometry.now.cells) }
-    ensures fits { IfOk result (λ o. OldFitTo geometry.now o.heads.items geometry.now.cells) }
-    ensures reads { IfOk result (λ o. IsTrue D.tells → OldReadTo geometry.now (D.text disk.old) o.heads.items geometry.now.cells) }
+    requires gates { length room.old.gates.items ≡ geometry.now.cells }
+    requires heads { length room.old.heads.items ≡ geometry.now.cells }
+    requires empty { (c : ℕ) → in_cell room.old.heads.items c ≡ None }
+    requires firsts { IsEmpty firsts.old }
+    requires spare { geometry.now.cells ≤ spare firsts.old }
+    ensures size { OnOk result (length (D.text disk.old) ≡ old_disk_bytes geometry.now) }
+    ensures header { OnOk result (IsTrue D.tells → IsHeaderOf One geometry.now room.new.fence (D.text disk.old) × IsFormatted (D.text disk.old)) }
+    ensures gates { OnOk result (length room.new.gates.items ≡ geometry.now.cells) }
+    ensures known { OnOk result (IsTrue D.tells → OldKnows geometry.now room.new.gates.items (D.text disk.old)) }
+    ensures heads { OnOk result (length room.new.heads.items ≡ geometry.now.cells) }
+    ensures fits { OnOk result (OldFitTo geometry.now room.new.heads.items geometry.now.cells) }
+    ensures reads { OnOk result (IsTrue D.tells → OldReadTo geometry.now (D.text disk.old) room.new.heads.items geometry.now.cells) }
     ensures refused { IfErr result (λ e. IsTrue D.tells → OldRefuses geometry.now (D.text disk.old) e) }
     ensures wrong_size { IfErr result (λ e. NotSize e ⊎ OldRefuses geometry.now (D.text disk.old) e) }
     ensures fits_size { IfErr result (λ e. NotSize e → length (D.text disk.old) ≡ old_disk_bytes geometry.now) }
@@ -118,17 +133,12 @@ pub fn open_old<D: Disk>(
         return Err(OpenFault::DiskFault);
     };
     let fence = read_header(disk, geometry, Version::One)?;
-    let OldCells { gates, heads, .. } = room;
-    let mut gates = gates;
-    let Ok(()) = disk.read(HEADER_BYTES, &mut gates) else {
+    let Ok(()) = disk.read(HEADER_BYTES, &mut room.gates) else {
         return Err(OpenFault::DiskFault);
     };
-    let heads = read_old_heads(disk, geometry, &gates, heads, firsts)?;
-    Ok(OldCells {
-        fence,
-        gates,
-        heads,
-    })
+    read_old_heads(disk, geometry, &room.gates, &mut room.heads, firsts)?;
+    room.fence = fence;
+    Ok(())
 }
 
 /// The heads of all cells, where each key stands once.
@@ -136,33 +146,31 @@ fn read_old_heads<D: Disk>(
     disk: &mut D,
     geometry: &Geometry,
     gates: &[u8],
-    heads: Vec<Option<Head>>,
-    firsts: Firsts,
-) -> Result<Vec<Option<Head>>, OpenFault>
+    heads: &mut Vec<Option<Head>>,
+    firsts: &mut Firsts,
+) -> Result<(), OpenFault>
     requires geometry { IsGeometry geometry.now }
     requires size { length (D.text disk.old) ≡ old_disk_bytes geometry.now }
     requires gates { length gates.now ≡ geometry.now.cells }
     requires known { IsTrue D.tells → OldKnows geometry.now gates.now (D.text disk.old) }
-    requires heads { length heads.items ≡ geometry.now.cells }
-    requires empty { (c : ℕ) → in_cell heads.items c ≡ None }
-    requires firsts { IsEmpty firsts }
-    requires spare { geometry.now.cells ≤ spare firsts }
-    ensures reads { IfOk result (λ v. IsTrue D.tells → OldReadTo geometry.now (D.text disk.old) v.items geometry.now.cells) }
-    ensures fits { IfOk result (λ v. OldFitTo geometry.now v.items geometry.now.cells) }
-    ensures heads { IfOk result (λ v. length v.items ≡ geometry.now.cells) }
+    requires heads { length heads.old.items ≡ geometry.now.cells }
+    requires empty { (c : ℕ) → in_cell heads.old.items c ≡ None }
+    requires firsts { IsEmpty firsts.old }
+    requires spare { geometry.now.cells ≤ spare firsts.old }
+    ensures reads { OnOk result (IsTrue D.tells → OldReadTo geometry.now (D.text disk.old) heads.new.items geometry.now.cells) }
+    ensures fits { OnOk result (OldFitTo geometry.now heads.new.items geometry.now.cells) }
+    ensures heads { OnOk result (length heads.new.items ≡ geometry.now.cells) }
     ensures refused { IfErr result (λ e. IsTrue D.tells → OldCellsFault geometry.now (D.text disk.old) e) }
     ensures not_size { IfErr result NotSize }
     ensures read { OnlyRead (D.text disk.old) (D.text disk.new) (D.image disk.old) (D.image disk.new) (D.meter disk.old) (D.meter disk.new) }
     ensures fault { IsErrOf result OpenFault.DiskFault → Rises (faults (D.meter disk.old)) (faults (D.meter disk.new)) }
 {
-    let mut heads = heads;
-    let mut firsts = firsts;
     for cell in 0..geometry.cells {
         let head = read_old_head(disk, geometry, cell, gates[cell as usize])?;
-        note_once(&mut firsts, cell, &head)?;
+        note_once(firsts, cell, &head)?;
         heads[cell as usize] = head;
     }
-    Ok(heads)
+    Ok(())
 }
 
 /// The head in the slot that a gate picks, with a base of 0.

@@ -11,6 +11,7 @@ ghost use Rattle.rz_cells.specs.Open.{Finds, IsOpen};
 ghost use Rattle.rz_cells.specs.Opening.{NotSize, OnlyRead, Refuses, opening_calls};
 
 use crate::geometry::{HEADER_BYTES, Version};
+use crate::heads::Heads;
 use crate::judging::Firsts;
 use crate::reading::{read_header, read_heads};
 use crate::room::Room;
@@ -156,29 +157,45 @@ fn read_disk<D: Disk>(
         return Err(OpenFault::NoMemory);
     };
     let Ok(firsts) = HashMap::with_capacity(alloc, 2 * geometry.cells as usize) else {
+        drop(room);
         return Err(OpenFault::NoMemory);
     };
-    read_all(disk, geometry, room, firsts)
+    let mut room = room;
+    let mut firsts = firsts;
+    let read = read_all(
+        disk,
+        geometry,
+        &mut room.gates,
+        &mut room.heads,
+        &mut firsts,
+    );
+    drop(firsts);
+    match read {
+        Ok(fence) => Ok((fence, room)),
+        Err(fault) => {
+            drop(room);
+            Err(fault)
+        }
+    }
 }
 
 /// The fence, and the gates and heads of all cells.
 fn read_all<D: Disk>(
     disk: &mut D,
     geometry: &Geometry,
-    room: Room,
-    firsts: Firsts,
-) -> Result<(u64, Room), OpenFault>
+    gates: &mut Vec<u8>,
+    heads: &mut Heads,
+    firsts: &mut Firsts,
+) -> Result<u64, OpenFault>
     requires geometry { IsGeometry geometry.now }
-    requires gates { length room.gates.items ≡ 2 * geometry.now.cells }
-    requires heads { length room.heads ≡ 2 * geometry.now.cells }
-    requires empty { (c : ℕ) → in_cell room.heads c ≡ None }
-    requires buffer { length room.buffer.items ≡ slot_of geometry.now }
-    requires firsts { IsEmpty firsts }
-    requires spare { 2 * geometry.now.cells ≤ spare firsts }
-    ensures open { IfOk result (λ r. IsOpen D.tells (D.text disk.new) (D.image disk.new) geometry.now r.0 r.1.gates.items r.1.heads) }
-    ensures gates { IfOk result (λ r. length r.1.gates.items ≡ 2 * geometry.now.cells) }
-    ensures heads { IfOk result (λ r. length r.1.heads ≡ 2 * geometry.now.cells) }
-    ensures buffer { IfOk result (λ r. length r.1.buffer.items ≡ slot_of geometry.now) }
+    requires gates { length gates.old.items ≡ 2 * geometry.now.cells }
+    requires heads { length heads.old ≡ 2 * geometry.now.cells }
+    requires empty { (c : ℕ) → in_cell heads.old c ≡ None }
+    requires firsts { IsEmpty firsts.old }
+    requires spare { 2 * geometry.now.cells ≤ spare firsts.old }
+    ensures open { IfOk result (λ fence. IsOpen D.tells (D.text disk.new) (D.image disk.new) geometry.now fence gates.new.items heads.new) }
+    ensures gates { OnOk result (length gates.new.items ≡ 2 * geometry.now.cells) }
+    ensures heads { OnOk result (length heads.new ≡ 2 * geometry.now.cells) }
     ensures refused { IfErr result (λ e. IsTrue D.tells → Refuses geometry.now (D.text disk.old) e) }
     ensures wrong_size { IfErr result (λ e. NotSize e ⊎ Refuses geometry.now (D.text disk.old) e) }
     ensures fits { IfErr result (λ e. NotSize e → length (D.text disk.old) ≡ disk_bytes geometry.now) }
@@ -197,22 +214,9 @@ fn read_all<D: Disk>(
         return Err(OpenFault::DiskFault);
     };
     let fence = read_header(disk, geometry, Version::Two)?;
-    let Room {
-        gates,
-        heads,
-        buffer,
-    } = room;
-    let mut gates = gates;
-    let Ok(()) = disk.read(HEADER_BYTES, &mut gates) else {
+    let Ok(()) = disk.read(HEADER_BYTES, gates) else {
         return Err(OpenFault::DiskFault);
     };
-    let heads = read_heads(disk, geometry, &gates, heads, firsts)?;
-    Ok((
-        fence,
-        Room {
-            gates,
-            heads,
-            buffer,
-        },
-    ))
+    read_heads(disk, geometry, gates, heads, firsts)?;
+    Ok(fence)
 }

@@ -88,20 +88,20 @@ pub fn read_heads<D: Disk>(
     disk: &mut D,
     geometry: &Geometry,
     gates: &[u8],
-    heads: Heads,
-    firsts: Firsts,
-) -> Result<Heads, OpenFault>
+    heads: &mut Heads,
+    firsts: &mut Firsts,
+) -> Result<(), OpenFault>
     requires geometry { IsGeometry geometry.now }
     requires size { length (D.text disk.old) ≡ disk_bytes geometry.now }
     requires gates { length gates.now ≡ 2 * geometry.now.cells }
     requires known { IsTrue D.tells → Knows geometry.now gates.now (D.text disk.old) }
-    requires heads { length heads ≡ 2 * geometry.now.cells }
-    requires empty { (c : ℕ) → in_cell heads c ≡ None }
-    requires firsts { IsEmpty firsts }
-    requires spare { 2 * geometry.now.cells ≤ spare firsts }
-    ensures reads { IfOk result (λ v. IsTrue D.tells → ReadTo geometry.now (D.text disk.old) v (2 * geometry.now.cells)) }
-    ensures fits { IfOk result (λ v. FitTo geometry.now v (2 * geometry.now.cells)) }
-    ensures heads { IfOk result (λ v. length v ≡ 2 * geometry.now.cells) }
+    requires heads { length heads.old ≡ 2 * geometry.now.cells }
+    requires empty { (c : ℕ) → in_cell heads.old c ≡ None }
+    requires firsts { IsEmpty firsts.old }
+    requires spare { 2 * geometry.now.cells ≤ spare firsts.old }
+    ensures reads { OnOk result (IsTrue D.tells → ReadTo geometry.now (D.text disk.old) heads.new (2 * geometry.now.cells)) }
+    ensures fits { OnOk result (FitTo geometry.now heads.new (2 * geometry.now.cells)) }
+    ensures heads { OnOk result (length heads.new ≡ 2 * geometry.now.cells) }
     ensures refused { IfErr result (λ e. IsTrue D.tells → CellsFault geometry.now (D.text disk.old) e) }
     ensures not_size { IfErr result NotSize }
     ensures read { OnlyRead (D.text disk.old) (D.text disk.new) (D.image disk.old) (D.image disk.new) (D.meter disk.old) (D.meter disk.new) }
@@ -109,14 +109,12 @@ pub fn read_heads<D: Disk>(
     ensures fault { IsErrOf result OpenFault.DiskFault → Rises (faults (D.meter disk.old)) (faults (D.meter disk.new)) }
     ensures own_fault { IsErrOf result OpenFault.DiskFault → HasPasses (2 * geometry.now.cells) (D.meter disk.old) → Rises (D.meter disk.old).own (D.meter disk.new).own }
 {
-    let mut heads = heads;
-    let mut firsts = firsts;
     for cell in 0..2 * geometry.cells {
         let head = read_head(disk, geometry, cell, gates[cell as usize])?;
-        admit(&heads, &mut firsts, cell, &head)?;
+        admit(heads, firsts, cell, &head)?;
         heads.set(cell, &head);
     }
-    Ok(heads)
+    Ok(())
 }
 
 /// The head in the slot that a gate picks.

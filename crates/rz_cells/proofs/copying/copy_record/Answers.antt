@@ -1,5 +1,5 @@
 -- The record that was read is spelled in its slot.
-use Rattle.std.proofs.Common.{◌≡◌, ℕ, ◌+◌, ◌*◌, ◌≤◌, ◌++◌, Some, length, take, drop, sym, ◌∙◌, ap, subst, arith, length-append}
+use Rattle.std.proofs.Common.{inl, inr, refl, ◌≡◌, ℕ, ◌+◌, ◌*◌, ◌≤◌, ◌++◌, Some, length, take, drop, sym, ◌∙◌, ap, subst, arith, length-append}
 use Rattle.std.proofs.lemmas.List.{length-take-le, take_at}
 use Rattle.byteorder.specs.Endian.{IsRead, little_number}
 use Rattle.mj_angles.specs.Layout.{bins_at_of}
@@ -10,6 +10,7 @@ use Rattle.rz_record.specs.Slot.{Rec, Spells}
 use Rattle.rz_cells.specs.Shape.{slot_of}
 use Rattle.rz_cells.proofs.Lifts.{fits_slot, spelled}
 use Rattle.rz_cells.proofs.Copies.{old_bins_here, shut_kept}
+use Rattle.rz_cells.proofs.Meters.{lasts_same, lasts_one, read_one}
 use Rattle.rz_cells.proofs.copying.copy_record.Goals as goal
 
 count_is : (h : Head) (n : ℕ) → n ≡ bins_at_of h.layout h.position → n ≡ bins_of h
@@ -98,3 +99,80 @@ returns-clause-copied g c told known r reads same =
       subst (λ (q : Rec). Spells (slot_of s) (take c.spell-size.result c.deref.result.now) (Some q)) one spells,
       subst (λ (at : ℕ). Written at (take c.spell-size.result c.deref.result.now) (g.D.Disk.text c.args.new.now) (g.D.Disk.text c.write_at.new.self)) c.slot_at.ensures.value (c.in-Ok-write_at.ensures.written told),
     )
+
+pub returns-in_default-clause-copied : goal.returns-in_default-clause-copied
+returns-in_default-clause-copied g c = tt
+
+pub returns-in_default-clause-size : goal.returns-in_default-clause-size
+returns-in_default-clause-size g c = refl
+
+pub returns-in_default-clause-shut : goal.returns-in_default-clause-shut
+returns-in_default-clause-shut g c = c.requires.shut
+
+pub returns-in_default-clause-buffer : goal.returns-in_default-clause-buffer
+returns-in_default-clause-buffer g c = c.read_bins.ensures.buffer
+
+pub returns-in_default-clause-read : goal.returns-in_default-clause-read
+returns-in_default-clause-read g c = read_one c.read_bins.result (g.D.Disk.text c.args.old.now) (g.D.Disk.text c.read_bins.new.disk) (g.D.Disk.image c.args.old.now) (g.D.Disk.image c.read_bins.new.disk) (g.D.Disk.meter c.args.old.now) (g.D.Disk.meter c.read_bins.new.disk) c.read_bins.ensures.text c.read_bins.ensures.within c.read_bins.ensures.meter
+
+pub returns-in_default-clause-meter : goal.returns-in_default-clause-meter
+returns-in_default-clause-meter g c = lasts_same (g.D.Disk.meter c.args.new.now)
+
+pub returns-in_default-clause-faults : goal.returns-in_default-clause-faults
+returns-in_default-clause-faults g c = inl refl
+
+pub returns-in_default-clause-old_risen : goal.returns-in_default-clause-old_risen
+returns-in_default-clause-old_risen g c is = c.in_default.ensures.meter.risen refl
+
+pub returns-in_default-clause-risen : goal.returns-in_default-clause-risen
+returns-in_default-clause-risen g c is = absurd (cc)
+
+pub returns-in_default-write_at-clause-copied : goal.returns-in_default-write_at-clause-copied
+returns-in_default-write_at-clause-copied g c = tt
+
+pub returns-in_default-write_at-clause-size : goal.returns-in_default-write_at-clause-size
+returns-in_default-write_at-clause-size g c = c.write_at.ensures.size
+
+pub returns-in_default-write_at-clause-buffer : goal.returns-in_default-write_at-clause-buffer
+returns-in_default-write_at-clause-buffer g c = c.spell-size.ensures.length ∙ c.read_bins.ensures.buffer
+
+pub returns-in_default-write_at-clause-read : goal.returns-in_default-write_at-clause-read
+returns-in_default-write_at-clause-read g c = read_one c.read_bins.result (g.D.Disk.text c.args.old.now) (g.D.Disk.text c.read_bins.new.disk) (g.D.Disk.image c.args.old.now) (g.D.Disk.image c.read_bins.new.disk) (g.D.Disk.meter c.args.old.now) (g.D.Disk.meter c.read_bins.new.disk) c.read_bins.ensures.text c.read_bins.ensures.within c.read_bins.ensures.meter
+
+pub returns-in_default-write_at-clause-meter : goal.returns-in_default-write_at-clause-meter
+returns-in_default-write_at-clause-meter g c = lasts_one c.write_at.result (g.D.Disk.meter c.args.new.now) (g.D.Disk.meter c.write_at.new.self) c.write_at.ensures.meter
+
+pub returns-in_default-write_at-clause-faults : goal.returns-in_default-write_at-clause-faults
+returns-in_default-write_at-clause-faults g c = inr refl
+
+pub returns-in_default-write_at-clause-old_risen : goal.returns-in_default-write_at-clause-old_risen
+returns-in_default-write_at-clause-old_risen g c is = absurd (cc)
+
+pub returns-in_default-write_at-clause-risen : goal.returns-in_default-write_at-clause-risen
+returns-in_default-write_at-clause-risen g c is = c.in_default-write_at.ensures.meter.risen refl
+
+pub returns-clause-size : goal.returns-clause-size
+returns-clause-size g c = c.write_at.ensures.size
+
+pub returns-clause-buffer : goal.returns-clause-buffer
+returns-clause-buffer g c = c.spell-size.ensures.length ∙ c.read_bins.ensures.buffer
+
+pub returns-clause-shut : goal.returns-clause-shut
+returns-clause-shut g c t left =
+    let d = c.write_at.ensures.crash t left in
+    shut_kept c.slot_at.result _ d.0 t (omega (arith, c.slot_at.ensures.value)) d.2 (c.requires.shut d.0 d.1)
+
+pub returns-clause-read : goal.returns-clause-read
+returns-clause-read g c = read_one c.read_bins.result (g.D.Disk.text c.args.old.now) (g.D.Disk.text c.read_bins.new.disk) (g.D.Disk.image c.args.old.now) (g.D.Disk.image c.read_bins.new.disk) (g.D.Disk.meter c.args.old.now) (g.D.Disk.meter c.read_bins.new.disk) c.read_bins.ensures.text c.read_bins.ensures.within c.read_bins.ensures.meter
+
+pub returns-clause-meter : goal.returns-clause-meter
+returns-clause-meter g c = lasts_one c.write_at.result (g.D.Disk.meter c.args.new.now) (g.D.Disk.meter c.write_at.new.self) c.write_at.ensures.meter
+
+pub returns-clause-faults : goal.returns-clause-faults
+returns-clause-faults g c = tt
+
+pub returns-clause-old_risen : goal.returns-clause-old_risen
+returns-clause-old_risen g c is = absurd (cc)
+
+pub returns-clause-risen : goal.returns-clause-risen
+returns-clause-risen g c is = absurd (cc)

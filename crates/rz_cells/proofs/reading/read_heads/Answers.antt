@@ -15,9 +15,9 @@ loop-cell-init g c = record {
   read = record { same = refl; within = λ image left. left; lasts = record { planned = omega arith; own = omega arith } };
   took = took_nothing (g.D.Disk.meter c.args.disk.now);
   count = c.requires.heads;
-  firsts = firsts_start c.args.firsts c.args.heads c.requires.firsts;
+  firsts = firsts_start c.args.firsts.now c.args.heads.now c.requires.firsts;
   room = omega (arith, c.requires.spare);
-  fits = fit_none c.args.geometry.now c.args.heads c.requires.empty;
+  fits = fit_none c.args.geometry.now c.args.heads.now c.requires.empty;
   reads = λ told d lt. absurd (omega arith);
 }
 
@@ -54,7 +54,7 @@ returns-clause-took g c =
     let a = g.D.Disk.meter c.args.disk.now in
     let b = g.D.Disk.meter c.loop-cell.disk in
     let all : c.loop-cell.cell ≡ 2 * c.args.geometry.now.cells = omega arith in
-    took_under (2 * c.args.geometry.now.cells) went (Ok c.loop-cell.heads) a b (λ _. refl) (subst (λ (k : ℕ). Took k went a b) all c.loop-cell.invariant.took)
+    took_under (2 * c.args.geometry.now.cells) went (Ok tt) a b (λ _. refl) (subst (λ (k : ℕ). Took k went a b) all c.loop-cell.invariant.took)
 
 pub loop-cell-preserved : goal.loop-cell-preserved
 loop-cell-preserved g c =
