@@ -26,7 +26,7 @@ fn unlock_all<D: Disk, J: Counting>(
     let mut locks = locks;
     let mut seats = room;
     while let Some(lock) = locks.pop() {
-        let _seat = seats.push(lock.into_inner());
+        seats.push_reserved(lock.into_inner());
     }
     seats
 }
@@ -49,8 +49,8 @@ fn empty_all<D: Disk, J: Counting>(
     seats.reverse();
     while let Some(seat) = seats.pop() {
         let (disk, post) = seat.close();
-        let _disk = disks.push(disk.into_inner());
-        let _post = posts.push(post);
+        disks.push_reserved(disk.into_inner());
+        posts.push_reserved(post);
     }
     (disks, posts)
 }

@@ -47,10 +47,19 @@ fn new_parts<D: Disk, J: Counting>(alloc: Global, volume: Volume) -> Result<Part
     ensures proper { AllByRecursion IsNode (nodes_of volume.clusters) }
 {
     let layout = volume.layout;
-    let nodes = all_nodes(alloc, &volume)?;
-    let seats = Vec::with_capacity(alloc, nodes.len())?;
-    let unlocked = Vec::with_capacity(alloc, nodes.len())?;
-    let export = Export::new(alloc, volume, 0)?;
+    let Ok(nodes) = all_nodes(alloc, &volume) else {
+        drop(volume);
+        return Err(AllocError);
+    };
+    let Ok(export) = Export::new(alloc, volume, 0) else {
+        drop(nodes);
+        return Err(AllocError);
+    };
+    let Ok((seats, unlocked)) = empty_rows(alloc, nodes.len()) else {
+        drop(nodes);
+        drop(export);
+        return Err(AllocError);
+    };
     Ok(Parts {
         layout,
         nodes,
@@ -58,6 +67,22 @@ fn new_parts<D: Disk, J: Counting>(alloc: Global, volume: Volume) -> Result<Part
         seats,
         unlocked,
     })
+}
+
+/// Empty rows with room for so many locks, and for what they hold.
+fn empty_rows<D: Disk, J: Counting>(
+    alloc: Global,
+    count: usize,
+) -> Result<(Vec<Mutex<Seat<Fused<D>, J>>>, Vec<Seat<Fused<D>, J>>), AllocError>
+    ensures room { IfOk result (λ r. (vec_len r.0 ≡ 0) × (count ≤ vec_capacity r.0)) }
+    ensures unlocked { IfOk result (λ r. (vec_len r.1 ≡ 0) × (count ≤ vec_capacity r.1)) }
+{
+    let seats = Vec::with_capacity(alloc, count)?;
+    let Ok(unlocked) = Vec::with_capacity(alloc, count) else {
+        drop(seats);
+        return Err(AllocError);
+    };
+    Ok((seats, unlocked))
 }
 
 impl<D: Disk, J: Counting> Cluster<D, J> {

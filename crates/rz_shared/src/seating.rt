@@ -31,7 +31,7 @@ pub(crate) fn seat_all<D: Disk, J: Counting>(
     let mut seats = room;
     while let Some(station) = stations.pop() {
         if let Some(post) = posts.pop() {
-            let _seated = seats.push(seated(alloc, station, post));
+            seats.push_reserved(seated(alloc, station, post));
         } else {
             drop(station);
         }

@@ -35,7 +35,7 @@ fn show_file(by: Actor, call: Call, info: FileInfo, shown: &mut Vec<Event>)
         Call::Tree(call) => {
             if is_open(&call, &info) {
                 let reply = TreeReply::File(info);
-                let _kept = shown.push(Event::Meta { by, call, reply });
+                shown.push_reserved(Event::Meta { by, call, reply });
             } else {
                 drop(call);
             }
@@ -77,7 +77,7 @@ pub(crate) fn show(event: Event, shown: &mut Vec<Event>)
     ensures { shown.new.items ≡ shown.old.items ++ model.if_shown event }
 {
     if is_shown(&event) {
-        let _kept = shown.push(event);
+        shown.push_reserved(event);
     } else {
         drop(event);
     }
