@@ -8,7 +8,7 @@ use Rattle.rz_disk.specs.Images.{window, Torn, Written}
 use Rattle.rz_disk.proofs.Images.{apart, apart_byte, same_window, window-byte}
 use Rattle.rz_journal.specs.Row.{Entries, taken, row_bytes, EndsAt}
 use Rattle.rz_journal.specs.Stands.{disk_bytes, half_at, IsJournal, Holds, StandsFor, IsOpen, with_last}
-use Rattle.rz_journal.proofs.Rows.{SameIn, row_kept, row_more, taken_more, window_split, entry_there, row_written, one_row, length-row_bytes}
+use Rattle.rz_journal.proofs.FramedRows.{SameIn, row_kept, row_more, taken_more, window_split, entry_there, row_written, one_row, length-row_bytes}
 
 pub size_is : disk_bytes ≡ 16_777_216
 unfolding disk_bytes

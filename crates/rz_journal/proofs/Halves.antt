@@ -5,7 +5,7 @@ use Rattle.byteorder.specs.Endian.{little_number}
 use Rattle.rz_disk.specs.Images.{window}
 use Rattle.rz_disk.proofs.Images.{window-byte, window-length}
 use Rattle.rz_journal.specs.Row.{Entries, taken, IsEntryAt, Row, EndsAt}
-use Rattle.rz_journal.proofs.Rows.{number_in}
+use Rattle.rz_journal.proofs.FramedRows.{number_in}
 
 -- an entry that stands at its place
 pub entry_at_place : (half : List ℕ) (at count : ℕ) → get_or half at 0 % 2 ≡ 1 → little_number 4 (drop (at + 1) half) ≡ count → at + (5 + count) < length half → IsEntryAt at (window (at + 5) count half) half

@@ -12,7 +12,7 @@ use Rattle.rz_journal_text.specs.declared.entry.Entry.{Entry}
 use Rattle.rz_journal_text.specs.Spelling.{entry_bytes}
 use Rattle.rz_journal.specs.Row.{taken}
 use Rattle.rz_journal.specs.Stands.{StandsFor, IsShut, IsOpen, Either, Becomes, with_last, instead}
-use Rattle.rz_journal.proofs.Rows.{length-row_bytes}
+use Rattle.rz_journal.proofs.FramedRows.{length-row_bytes}
 use Rattle.rz_journal.specs.Said.{entry_of, accepts}
 use Rattle.rz_journal.specs.JournalText.{IsAccepted, AreAccepted, after_all, Makes, Keeps, IsTextOf}
 use Rattle.rz_journal.specs.Room.{bytes_of, part_entries, needed, FitsNowhere, IsRow}

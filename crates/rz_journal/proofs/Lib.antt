@@ -2,7 +2,7 @@ pub mod Changes
 pub mod Fresh
 pub mod Halves
 pub mod Opened
-pub mod Rows
+pub mod FramedRows
 pub mod Keepings
 pub mod Listings
 pub mod Makings

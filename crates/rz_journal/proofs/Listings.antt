@@ -8,7 +8,7 @@ use Rattle.rz_journal_text.specs.declared.fault.EntryFault.TheVariants.{BadEntry
 use Rattle.rz_journal_text.specs.Spelling.{Spells}
 use Rattle.rz_journal_text.specs.Fronts.{IsThis}
 use Rattle.rz_journal.specs.Row.{Entries, taken, IsEntryAt}
-use Rattle.rz_journal.proofs.Rows.{row_more, taken_more}
+use Rattle.rz_journal.proofs.FramedRows.{row_more, taken_more}
 use Rattle.rz_journal.proofs.Halves.{entry_at_place}
 use Rattle.rz_journal.specs.declared.reading.Step.{Step}
 use Rattle.rz_journal.specs.declared.reading.Step.TheVariants.{Entry, Damaged}

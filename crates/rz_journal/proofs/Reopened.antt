@@ -15,7 +15,7 @@ use Rattle.rz_journal.specs.HalfOpening.{IsHalf, Refuses, HoldsSoFar}
 use Rattle.rz_journal.proofs.Changes.{size_is}
 use Rattle.rz_journal.proofs.Opened.{half_size_is}
 use Rattle.rz_journal.proofs.Halves.{ends_moved}
-use Rattle.rz_journal.proofs.Rows.{one_row}
+use Rattle.rz_journal.proofs.FramedRows.{one_row}
 use Rattle.rz_journal.specs.declared.rebuilding.JournalFault.{JournalFault}
 use Rattle.rz_journal.specs.declared.rebuilding.JournalFault.TheVariants.{NoMemory, WrongSize, DiskFault, Unformatted, BadHeader, Damaged}
 use Rattle.rz_journal.specs.JournalText.{AreAccepted, after_all, BeginsWith, AreSpelled, Makes, Keeps, IsTextOf}

@@ -1,7 +1,7 @@
 -- The entries are those whose bytes are counted, and the new one stands behind them.
 use Rattle.std.proofs.Common.{◌∙◌, arith}
 use Rattle.rz_journal.specs.Stands.{with_last}
-use Rattle.rz_journal.proofs.Rows.{taken_more}
+use Rattle.rz_journal.proofs.FramedRows.{taken_more}
 use Rattle.rz_journal.proofs.Changes.{size_is, known_list, either_half, length-one}
 use Rattle.rz_journal.proofs.entries.Entries.append.Goals as goal
 

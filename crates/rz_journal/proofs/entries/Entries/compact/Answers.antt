@@ -1,6 +1,6 @@
 -- The new entries stand in the other half.
 use Rattle.std.proofs.Common.{◌-◌, length, ◌∙◌, ap, arith}
-use Rattle.rz_journal.proofs.Rows.{length-row_bytes}
+use Rattle.rz_journal.proofs.FramedRows.{length-row_bytes}
 use Rattle.rz_journal.proofs.Changes.{known_list, either_half}
 use Rattle.rz_journal.proofs.entries.Entries.compact.Goals as goal
 
