@@ -15,7 +15,7 @@ pub struct Migrated {
 
 impl Migrated {
     /// The line that is written. The one error is want of memory.
-    #[tactic(auto, unfolding(crate::specs::Migrations::migrated_line))]
+    #[tactic(auto, unfolding(crate::specs::Carried::migrated_line))]
     pub fn line(&self, alloc: Global) -> Result<Vec<u8>, AllocError>
         ensures { IfOk result (λ l. l.items ≡ migrated_line self.now) }
     {

@@ -27,8 +27,8 @@ push_reserved-requires g c =
     let count = c.loop-seat.invariant.count in let disks = c.loop-seat.invariant.disks in
     omega (arith, count, popped, disks)
 
-pub push_reserved-requires-in-loop-seat : goal.push_reserved-requires-in-loop-seat
-push_reserved-requires-in-loop-seat g c =
+pub push_reserved-requires-in-Some : goal.push_reserved-requires-in-Some
+push_reserved-requires-in-Some g c =
     let popped = c.in-Some.ensures.cases in
     let count = c.loop-seat.invariant.count in let same = c.loop-seat.invariant.same in let posts = c.loop-seat.invariant.posts in
     omega (arith, count, popped, same, posts)
@@ -40,13 +40,13 @@ loop-seat-preserved g c =
     let seat = c.in-Some.seat in
     let count = inv.count in let same = inv.same in let disks = inv.disks in let posts = inv.posts in
     let disk = c.into_inner.result in let post = c.close-disk.result.1 in
-    let disk_more = c.push_reserved.ensures.len in let post_more = c.push_reserved-in-loop-seat.ensures.len in
-    let disk_room = c.push_reserved.ensures.capacity in let post_room = c.push_reserved-in-loop-seat.ensures.capacity in
+    let disk_more = c.push_reserved.ensures.len in let post_more = c.push_reserved-in-Some.ensures.len in
+    let disk_room = c.push_reserved.ensures.capacity in let post_room = c.push_reserved-in-Some.ensures.capacity in
     let it = returned g.D.Disk.meter g.D.Disk.image g.J.Naming.kind g.J.Counting.first seat.node seat.log _ disk post c.close-disk.ensures.post c.into_inner.ensures c.close-disk.ensures.of_volume c.close-disk.ensures.images c.close-disk.ensures.counted in
     let word = word-next c.loop-seat.posts.items post c.loop-seat.seats.items c.pop.new.self.items seat (words-at c.args.seats.items) c.in-Some.ensures.items (ap (λ (p : PostView). p.word) c.close-disk.ensures.post) inv.words in
     record {
-      returned = rw (c.push_reserved.ensures.items, c.push_reserved-in-loop-seat.ensures.items) (zip-more (IsReturned g.D.Disk.meter g.D.Disk.image g.J.Naming.kind g.J.Counting.first) c.loop-seat.disks.items c.loop-seat.posts.items disk post inv.returned it);
-      words = rw c.push_reserved-in-loop-seat.ensures.items word;
+      returned = rw (c.push_reserved.ensures.items, c.push_reserved-in-Some.ensures.items) (zip-more (IsReturned g.D.Disk.meter g.D.Disk.image g.J.Naming.kind g.J.Counting.first) c.loop-seat.disks.items c.loop-seat.posts.items disk post inv.returned it);
+      words = rw c.push_reserved-in-Some.ensures.items word;
       count = omega (arith, count, popped, disk_more);
       same = omega (arith, same, disk_more, post_more);
       disks = omega (arith, disks, disk_room);
