@@ -1,4 +1,5 @@
 //! Entries beside their bytes, worked out by hand.
+ghost use Rattle.rz_journal_text.specs.Spelling.{MayStand};
 
 use rz_events::{Key, Text, TreeCall};
 use rz_journal_text::{Entry, EntryFault, read, write};
@@ -7,7 +8,9 @@ use std::process::Abort;
 use std::test::Fail;
 
 // The bytes that are written of an entry, which goes then.
-fn written(rt: &(impl Abort + AllocGlobal), entry: Entry) -> Vec<u8> {
+fn written(rt: &(impl Abort + AllocGlobal), entry: Entry) -> Vec<u8>
+    requires { MayStand entry }
+{
     let mut bytes = Vec::new(rt.alloc());
     let written = write(rt.alloc(), &entry, &mut bytes);
     drop(entry);
@@ -16,7 +19,9 @@ fn written(rt: &(impl Abort + AllocGlobal), entry: Entry) -> Vec<u8> {
 }
 
 // Compares the bytes of an entry.
-fn is_written(rt: &(impl Abort + AllocGlobal), entry: Entry, wanted: &[u8]) {
+fn is_written(rt: &(impl Abort + AllocGlobal), entry: Entry, wanted: &[u8])
+    requires { MayStand entry }
+{
     let bytes = written(rt, entry);
     let is_right = bytes.as_slice() == wanted;
     drop(bytes);
