@@ -5,6 +5,6 @@ use Rattle.rz_chronicle.specs.Keys.{sids_of}
 use Rattle.rz_honest_tests.proofs.Honest.{none-counted}
 use Rattle.rz_honest_tests.proofs.locking.meet.Goals as goal
 
-pub staged-requires-clause-counts : goal.staged-requires-clause-counts
-staged-requires-clause-counts g c = subst (λ (v : Volume). map g.J.Counting.first (sids_of v) ≡ map (λ d. 0) c.args.disks.items) (sym c.requires.volume)
+pub staged-stage-requires-clause-counts : goal.staged-stage-requires-clause-counts
+staged-stage-requires-clause-counts g c = subst (λ (v : Volume). map g.J.Counting.first (sids_of v) ≡ map (λ d. 0) c.args.disks.items) (sym c.requires.volume)
     (none-counted (λ d. 0) g.J.Counting.first (λ d. refl) c.requires.first (sids_of plain_volume) c.args.disks.items (sym c.requires.disks))
