@@ -9,14 +9,14 @@
 //! It does not say what a real file or a terminal holds, or that memory is there, whose want is status 70.
 //! [`memory`] and [`files`] make the disks of a play.
 //!
-//! In reading order: `replay`, `laws`, `migrating`, `disks`.
+//! In reading order: `replaying`, `laws`, `migrating`, `disks`.
 #![tactic(auto)]
 
 mod disks;
 mod laws;
 mod migrating;
-mod replay;
+mod replaying;
 
 pub use disks::{FilesFault, files, memory};
 pub use laws::completes_again;
-pub use replay::{Played, replay};
+pub use replaying::{Played, replay};

@@ -36,8 +36,8 @@ use Rattle.rz_request.specs.declared.wishes.Wish.TheVariants.{Again, Scrub}
 use Rattle.rz_replay.specs.Disks.{AreFaultsTold, AreImagesTold, AreLocksKept, AreUsedAgain, IsJournalLeft, IsPlayAfter, LeavesNext, MayFollow, faulted}
 use Rattle.rz_replay.proofs.Continuing.{any_told, not-reopened, own_as}
 use Rattle.rz_replay.proofs.Journals.{again-back, again-end, at-last, between-on, has-disk, journal-left, may-follow, next-on, split-last, whole-end}
-use Rattle.rz_replay.proofs.replay.play_again.Given as given
-use Rattle.rz_replay.proofs.replay.play_again.Goals as goal
+use Rattle.rz_replay.proofs.replaying.play_again.Given as given
+use Rattle.rz_replay.proofs.replaying.play_again.Goals as goal
 
 pub perform-status-requires-clause-new : goal.perform-status-requires-clause-new
 perform-status-requires-clause-new g c = (state_in c.in-Ok.driver.shared.stations.items, export_in c.in-Ok.driver.shared.export, c.in-Ok.ensures.opened.world)

@@ -33,8 +33,8 @@ use Rattle.rz_replay.specs.Disks.{AreAllBack, AreBackFrom, AreFaultsTold, AreIma
 use Rattle.rz_replay.proofs.Journals.{all-back-faults, at-front, at-last, between-on, counted-length, first-back, first-end, has-disk, journal-left, length-joined, may-follow, next-on, split-last, whole-end}
 use Rattle.rz_replay.proofs.Lent.{counted-none, not-opened}
 use Rattle.rz_replay.proofs.Untold.{told-none}
-use Rattle.rz_replay.proofs.replay.play_first.Given as given
-use Rattle.rz_replay.proofs.replay.play_first.Goals as goal
+use Rattle.rz_replay.proofs.replaying.play_first.Given as given
+use Rattle.rz_replay.proofs.replaying.play_first.Goals as goal
 
 pub perform-status-requires-clause-new : goal.perform-status-requires-clause-new
 perform-status-requires-clause-new g c = ((λ n. fresh), new_export c.args.request.now.script.volume 0, c.in-Ok.ensures.world ∙ ap new_world c.volume-volume.ensures)

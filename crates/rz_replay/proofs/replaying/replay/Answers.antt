@@ -3,7 +3,7 @@ use Rattle.rz_request.specs.Line.{meaning}
 use Rattle.rz_request.specs.Requests.{Reading}
 use Rattle.rz_perform.specs.Output.{Sunk}
 use Rattle.rz_replay.proofs.Wanting.{wanting}
-use Rattle.rz_replay.proofs.replay.replay.Goals as goal
+use Rattle.rz_replay.proofs.replaying.replay.Goals as goal
 
 pub returns-in-Err : goal.returns-in-Err
 returns-in-Err g c =

@@ -1,6 +1,6 @@
 use Rattle.std.proofs.Common.{subst}
 use Rattle.rz_events.specs.Volume.{IsVolume}
-use Rattle.rz_replay.proofs.replay.keeps_rules.Goals as goal
+use Rattle.rz_replay.proofs.replaying.keeps_rules.Goals as goal
 
 pub returns : goal.returns
 returns c = record {

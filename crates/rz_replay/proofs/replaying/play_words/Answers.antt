@@ -2,7 +2,7 @@ use Rattle.std.proofs.Common.{◌∙◌, map, string_bytes, sym}
 use Rattle.rz_request.specs.Line.{meaning}
 use Rattle.rz_request.specs.Requests.{Reading}
 use Rattle.rz_replay.proofs.Asked.{asks-fits}
-use Rattle.rz_replay.proofs.replay.play_words.Goals as goal
+use Rattle.rz_replay.proofs.replaying.play_words.Goals as goal
 
 pub play_request-requires : goal.play_request-requires
 play_request-requires g c =

@@ -26,8 +26,8 @@ use Rattle.rz_asks.specs.Stands.{is_journaled}
 use Rattle.rz_replay.proofs.Journals.{plain-back, plain-end}
 use Rattle.rz_replay.proofs.Lent.{back-faults, counted-none, not-opened}
 use Rattle.rz_replay.proofs.Untold.{told-none}
-use Rattle.rz_replay.proofs.replay.play_plain.Given as given
-use Rattle.rz_replay.proofs.replay.play_plain.Goals as goal
+use Rattle.rz_replay.proofs.replaying.play_plain.Given as given
+use Rattle.rz_replay.proofs.replaying.play_plain.Goals as goal
 
 pub perform-status-requires-clause-new : goal.perform-status-requires-clause-new
 perform-status-requires-clause-new g c = ((λ n. fresh), new_export c.args.request.now.script.volume 0, c.in-Ok.ensures.world ∙ ap new_world c.volume-volume.ensures)

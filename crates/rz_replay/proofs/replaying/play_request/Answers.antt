@@ -1,7 +1,7 @@
 use Rattle.std.proofs.Common.{◌≡◌, ◌∙◌, ap}
 use Rattle.rz_request.specs.Requests.{disks_for}
 use Rattle.rz_request.specs.declared.wishes.Wish.{Wish}
-use Rattle.rz_replay.proofs.replay.play_request.Goals as goal
+use Rattle.rz_replay.proofs.replaying.play_request.Goals as goal
 
 pub play_first-requires-clause-count : goal.play_first-requires-clause-count
 play_first-requires-clause-count g c = c.requires ∙ ap (λ (w : Wish). disks_for w c.args.request.now.script) c.in-First.is
