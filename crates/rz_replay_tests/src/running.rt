@@ -77,15 +77,8 @@ fn ran<R: Threads + Wait + Abort + AllocGlobal + Sync, D: Disk + Send>(
     disks
 }
 
-/// Whether a play in files prints this and leaves the bytes of these disks in them.
-fn is_alike_in_files<R: Threads + Wait + Files + Abort + AllocGlobal + Sync>(
-    rt: &R,
-    disks: &mut Vec<PlainDisk>,
-    want: &str,
-) -> bool {
-    let made = files(rt, rt.alloc(), FOLDER, 0, 4).expect(rt, "files");
-    let filed = ran(rt, made, false, want);
-    drop(filed);
+/// Whether the files of the folder have the bytes of these disks. They are removed.
+fn are_in_files<R: Files + Abort + AllocGlobal>(rt: &R, disks: &mut Vec<PlainDisk>) -> bool {
     let mut are_alike = true;
     for (index, disk) in disks.iter_mut().enumerate() {
         are_alike = is_in_file(rt, FOLDER, index, disk) && are_alike;
@@ -117,7 +110,10 @@ fn threads_print_and_write_what_one_thread_does(rt: HostRuntime) -> Result<(), F
     let _ = fs::create_dir(&rt, FOLDER);
     let mut disks = disks_of(&rt, 4);
     let once = replayed(&rt, &mut disks);
-    let in_files = is_alike_in_files(&rt, &mut disks, once.as_str());
+    let made = files(&rt, rt.alloc(), FOLDER, 0, 4).expect(&rt, "files");
+    let filed = ran(&rt, made, false, once.as_str());
+    drop(filed);
+    let in_files = are_in_files(&rt, &mut disks);
     let in_memory = is_alike_in_memory(&rt, &mut disks, once.as_str());
     drop(disks);
     drop(once);
