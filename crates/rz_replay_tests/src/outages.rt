@@ -119,6 +119,16 @@ fn play<'a>(
     (status, text)
 }
 
+/// What stands behind this start of a line. It is empty where no line begins so.
+fn behind<'t>(text: &'t str, start: &str) -> &'t str {
+    for line in text.lines() {
+        if let Some(words) = line.strip_prefix(start) {
+            return words;
+        }
+    }
+    ""
+}
+
 /// What was told of a client's operation of this number. It is empty where nothing was.
 fn words_on<'t>(
     rt: &(impl Abort + AllocGlobal),
@@ -127,14 +137,9 @@ fn words_on<'t>(
     number: u64,
 ) -> &'t str {
     let start = format!(in rt.alloc(); "c{client} {number} ").expect(rt, "memory");
-    let mut found = "";
-    for line in text.lines() {
-        if let Some(words) = line.strip_prefix(start.as_str()) {
-            found = words;
-        }
-    }
+    let words = behind(text, start.as_str());
     drop(start);
-    found
+    words
 }
 
 /// What a client knew when its play ended.
