@@ -96,7 +96,7 @@ pub fn posts<J: Naming>(
     for i in 0..nodes.len() {
         let (post, rest) = deal.post(Word::Node(nodes[i]), i as u16 + 1);
         deal = rest;
-        posts.push(post)?;
+        posts.push_reserved(post);
     }
     Ok((posts, deal))
 }
@@ -115,7 +115,7 @@ pub fn clients<J: Naming>(
     for i in 0..64 {
         let (pass, rest) = deal.pass(Actor::Client(i + 1));
         deal = rest;
-        clients.push(pass)?;
+        clients.push_reserved(pass);
     }
     Ok((clients, deal))
 }
@@ -133,7 +133,7 @@ pub fn rebuilders<J: Naming>(
     for i in 0..16 {
         let (pass, rest) = deal.pass(Actor::Rebuilder(i + 1));
         deal = rest;
-        rebuilders.push(pass)?;
+        rebuilders.push_reserved(pass);
     }
     Ok((rebuilders, deal))
 }

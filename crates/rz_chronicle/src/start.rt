@@ -99,7 +99,7 @@ fn words(
     let mut words = Vec::with_capacity(alloc, WORDS as usize)?;
     for place in 0..WORDS {
         let key = key_at(nodes, place) as usize;
-        words.push(Word::tracked(0, &mut pens[key]))?;
+        words.push_reserved(Word::tracked(0, &mut pens[key]));
     }
     Ok(words)
 }
@@ -178,10 +178,30 @@ impl Opened {
             of: PhantomData,
         };
         let (export, deal) = deal.post(rz_events::Word::Export, 0);
-        let (posts, deal) = posts(alloc, deal, nodes.as_slice())?;
+        let Ok((posts, deal)) = posts(alloc, deal, nodes.as_slice()) else {
+            drop(words);
+            drop(nodes);
+            drop(export);
+            return Err(AllocError);
+        };
         let (admin, deal) = deal.pass(Actor::Admin);
-        let (clients, deal) = clients(alloc, deal)?;
-        let (rebuilders, _) = rebuilders(alloc, deal)?;
+        let Ok((clients, deal)) = clients(alloc, deal) else {
+            drop(words);
+            drop(nodes);
+            drop(export);
+            drop(posts);
+            drop(admin);
+            return Err(AllocError);
+        };
+        let Ok((rebuilders, _)) = rebuilders(alloc, deal) else {
+            drop(words);
+            drop(nodes);
+            drop(export);
+            drop(posts);
+            drop(admin);
+            drop(clients);
+            return Err(AllocError);
+        };
         let desk = Desk {
             export,
             nodes: posts,

@@ -44,9 +44,9 @@ pub fn dismiss<J: Counting, L: Link>(members: Vec<Member<J, L>>, room: Room<J, L
             shown: events,
         } = worker;
         drop(seat);
-        let _link = links.push(link);
-        let _pass = passes.push(pass);
-        let _events = shown.push(events);
+        links.push_reserved(link);
+        passes.push_reserved(pass);
+        shown.push_reserved(events);
     }
     Room {
         links,

@@ -85,7 +85,7 @@ fn hire_all<J: Counting, L: Link>(
     links.reverse();
     for recruit in recruits {
         if let Some(link) = links.pop() {
-            let _kept = members.push(hire_one(alloc, recruit, link));
+            members.push_reserved(hire_one(alloc, recruit, link));
         } else {
             drop(recruit);
         }

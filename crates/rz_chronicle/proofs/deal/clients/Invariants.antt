@@ -1,4 +1,5 @@
-use Rattle.std.proofs.Common.{◌≢◌, ◌+◌, ◌<◌, ℕ}
+use Rattle.std.proofs.Common.{◌≢◌, ◌+◌, ◌<◌, ◌≤◌, ℕ}
+use Rattle.std.specs.Vec.{vec_capacity}
 use Rattle.rz_events.specs.declared.keys.Actor.TheVariants.{Client}
 use Rattle.rz_events.specs.declared.events.Word.TheVariants.{Own}
 use Rattle.rz_chronicle.specs.Keys.{word_key, actor_key}
@@ -11,3 +12,4 @@ abbrev pub invariant-loop-i : goal.invariant-loop-i
 invariant-loop-i g l = ArePasses l.i (λ i. Client (i + 1)) l.clients.items
     × ((c : ℕ) → l.i < c → c < 65 → IsHolding (word_key (Own (Client c))) l.deal × IsHolding (actor_key (Client c)) l.deal)
     × ((k : ℕ) → IsHolding k l.fn.deal → ((c : ℕ) → k ≢ word_key (Own (Client c))) → ((c : ℕ) → k ≢ actor_key (Client c)) → IsHolding k l.deal)
+    × (64 ≤ vec_capacity l.clients)

@@ -24,11 +24,16 @@ post-post-requires-clause-place g c =
       ap (λ (sids : List ℕ). owner sids place) (sym c.requires.nodes.0) ∙ node-owner nodes i place n (omega arith) few at,
     )
 
+pub push_reserved-requires : goal.push_reserved-requires
+push_reserved-requires g c = omega (arith, c.loop-i-test.true, c.loop-i.invariant.3, c.loop-i.invariant.4)
+
 pub loop-i-preserved : goal.loop-i-preserved
 loop-i-preserved g c =
     let nodes = c.args.nodes.now in let i = c.loop-i.i in let n = slice_index_or nodes i 0 in let inv = c.loop-i.invariant in
     let at : slice_get nodes i ≡ Some n = slice_get-get_or nodes i 0 c.loop-i-test.true in (
-      c.in_ok-push.ensures.items ∙ posts-next nodes i n c.loop-i.posts.items c.post-post.result.0 at inv.0 c.post-post.ensures.post,
+      c.push_reserved.ensures.items ∙ posts-next nodes i n c.loop-i.posts.items c.post-post.result.0 at inv.0 c.post-post.ensures.post,
       left-next nodes i n c.loop-i.deal c.post-post.result.1 at inv.1 c.post-post.ensures.rest,
       λ k h apart. c.post-post.ensures.rest k (inv.2 k h apart) (apart n),
+      omega (arith, inv.3, c.push_reserved.ensures.len),
+      omega (arith, inv.4, c.push_reserved.ensures.capacity),
     )

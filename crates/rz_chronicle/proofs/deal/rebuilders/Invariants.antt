@@ -1,4 +1,5 @@
-use Rattle.std.proofs.Common.{◌≢◌, ◌+◌, ◌<◌, ℕ}
+use Rattle.std.proofs.Common.{◌≢◌, ◌+◌, ◌<◌, ◌≤◌, ℕ}
+use Rattle.std.specs.Vec.{vec_capacity}
 use Rattle.rz_events.specs.declared.keys.Actor.TheVariants.{Rebuilder}
 use Rattle.rz_events.specs.declared.events.Word.TheVariants.{Own}
 use Rattle.rz_chronicle.specs.Keys.{word_key, actor_key}
@@ -11,3 +12,4 @@ abbrev pub invariant-loop-i : goal.invariant-loop-i
 invariant-loop-i g l = ArePasses l.i (λ i. Rebuilder (i + 1)) l.rebuilders.items
     × ((c : ℕ) → l.i < c → c < 17 → IsHolding (word_key (Own (Rebuilder c))) l.deal × IsHolding (actor_key (Rebuilder c)) l.deal)
     × ((k : ℕ) → IsHolding k l.fn.deal → ((c : ℕ) → k ≢ word_key (Own (Rebuilder c))) → ((c : ℕ) → k ≢ actor_key (Rebuilder c)) → IsHolding k l.deal)
+    × (16 ≤ vec_capacity l.rebuilders)

@@ -1,4 +1,4 @@
-use Rattle.std.proofs.Common.{◌≡◌, ◌+◌, ◌<◌, ◌∷◌, [], ℕ, length, length-append, set, slice_index_or, sym, ap, ◌∙◌, subst, arith}
+use Rattle.std.proofs.Common.{◌≡◌, ◌+◌, ◌<◌, ◌∷◌, [], ℕ, length, length-append, vec_len, set, slice_index_or, sym, ap, ◌∙◌, subst, arith}
 use Rattle.std.proofs.lemmas.List.{length-set}
 use Rattle.rz_chronicle.specs.Keys.{key_at, rows}
 use Rattle.rz_chronicle.specs.Rules.{AreWords, named}
@@ -7,12 +7,18 @@ use Rattle.rz_chronicle.proofs.Adding.{words_more}
 use Rattle.rz_chronicle.proofs.Pens.{Remain, remain-next, pen-named}
 use Rattle.rz_chronicle.proofs.start.words.Goals as goal
 
+pub push_reserved-requires : goal.push_reserved-requires
+push_reserved-requires c =
+    let long : vec_len c.loop-place.words ≡ length c.loop-place.words.items = c.loop-place.words.ok.0 in
+    let count = c.loop-place.invariant.0 in
+    omega (arith, c.loop-place-test.true, long, count, c.loop-place.invariant.3)
+
 pub loop-place-preserved : goal.loop-place-preserved
 loop-place-preserved c =
     let inv = c.loop-place.invariant in let i = c.loop-place.place in let nodes = c.args.nodes.now in let pens = c.loop-place.pens.items in let ws = c.loop-place.words.items in
     let k : ℕ = key_at nodes i in let pen = c.index_mut.result.now in
     let key : c.key_at-key.result ≡ k = c.key_at-key.ensures.value in
-    let items = c.in_ok-push.ensures.items in
+    let items = c.push_reserved.ensures.items in
     let low : k < rows = subst (λ (j : ℕ). j < rows) key c.key_at-key.ensures.low in
     let few : i < 338 = c.loop-place-test.true in (
       omega (arith, ap length items, length-append ws (c.tracked.result ∷ []), inv.0),
@@ -25,4 +31,5 @@ loop-place-preserved c =
             subst (AreWords b nodes) (sym items) (words_more b nodes ws c.tracked.result (word ∙ ap (λ (j : ℕ). named b (key_at nodes j)) (sym inv.0)) both.0),
             subst (λ (j : ℕ). Remain b nodes (i + 1) (set pens j c.tracked.new.pen)) (sym key) (remain-next b nodes i pens c.tracked.new.pen c.requires.nodes few both.1),
           ),
+      omega (arith, inv.3, c.push_reserved.ensures.capacity),
     )

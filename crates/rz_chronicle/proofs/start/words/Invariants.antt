@@ -1,4 +1,5 @@
-use Rattle.std.proofs.Common.{◌≡◌, length}
+use Rattle.std.proofs.Common.{◌≡◌, ◌≤◌, length}
+use Rattle.std.specs.Vec.{vec_capacity}
 use Rattle.logbook.specs.Pages.{Book}
 use Rattle.rz_chronicle.specs.Keys.{rows}
 use Rattle.rz_chronicle.specs.Rules.{AreWords}
@@ -10,3 +11,4 @@ use Rattle.rz_chronicle.proofs.start.words.Given as goal
 abbrev pub invariant-loop-place : goal.invariant-loop-place
 invariant-loop-place l = (length l.words.items ≡ l.place) × (length l.pens.items ≡ rows)
     × ((b : Book) → AreFresh b l.fn.pens.items → AreWords b l.nodes l.words.items × Remain b l.nodes l.place l.pens.items)
+    × (338 ≤ vec_capacity l.words)

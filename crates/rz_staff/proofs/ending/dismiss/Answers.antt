@@ -1,7 +1,7 @@
 use Rattle.std.proofs.Common.{◌≡◌, length, vec_len, refl, sym, ◌∙◌, arith}
 use Rattle.std.specs.Vec.Iter.{into_iter_items}
 use Rattle.rz_staff.specs.Staff.{link_of, pass_of, shown_by}
-use Rattle.rz_staff.proofs.Taken.{empty, pushed, taken-first, taken-more, taken-fits, taken-all}
+use Rattle.rz_staff.proofs.Taken.{empty, taken-first, taken-more, taken-fits, taken-all}
 use Rattle.rz_staff.proofs.ending.dismiss.Goals as goal
 
 pub loop-member-init : goal.loop-member-init
@@ -22,29 +22,44 @@ loop-member-init g c =
       rows = room.shown.1;
     }
 
+pub push_reserved-requires : goal.push_reserved-requires
+push_reserved-requires g c =
+    let inv = c.loop-member.invariant in
+    let room = inv.room in
+    let length_is : vec_len c.loop-member.links ≡ length c.loop-member.links.items = c.loop-member.links.ok.0 in
+    let fits = taken-fits link_of c.args.members.items (into_iter_items c.loop-member.member-iterator) (into_iter_items c.next.new.self) c.in-Some.member c.loop-member.links.items c.in-Some.ensures.steps.0 inv.links in
+    omega (arith, room, length_is, fits)
+
+pub push_reserved-requires-in-loop-member : goal.push_reserved-requires-in-loop-member
+push_reserved-requires-in-loop-member g c =
+    let inv = c.loop-member.invariant in
+    let room = inv.places in
+    let length_is : vec_len c.loop-member.passes ≡ length c.loop-member.passes.items = c.loop-member.passes.ok.0 in
+    let fits = taken-fits pass_of c.args.members.items (into_iter_items c.loop-member.member-iterator) (into_iter_items c.next.new.self) c.in-Some.member c.loop-member.passes.items c.in-Some.ensures.steps.0 inv.passes in
+    omega (arith, room, length_is, fits)
+
+pub push_reserved-requires-in-loop-member-2 : goal.push_reserved-requires-in-loop-member-2
+push_reserved-requires-in-loop-member-2 g c =
+    let inv = c.loop-member.invariant in
+    let room = inv.rows in
+    let length_is : vec_len c.loop-member.shown ≡ length c.loop-member.shown.items = c.loop-member.shown.ok.0 in
+    let fits = taken-fits shown_by c.args.members.items (into_iter_items c.loop-member.member-iterator) (into_iter_items c.next.new.self) c.in-Some.member c.loop-member.shown.items c.in-Some.ensures.steps.0 inv.shown in
+    omega (arith, room, length_is, fits)
+
 pub loop-member-preserved : goal.loop-member-preserved
 loop-member-preserved g c =
     let inv = c.loop-member.invariant in let m = c.in-Some.member in
     let all = c.args.members.items in let rest = into_iter_items c.loop-member.member-iterator in let after = into_iter_items c.next.new.self in
     let step = c.in-Some.ensures.steps.0 in
     let room = inv.room in let places = inv.places in let rows = inv.rows in
-    let links : vec_len c.loop-member.links ≡ length c.loop-member.links.items = c.loop-member.links.ok.0 in
-    let passes : vec_len c.loop-member.passes ≡ length c.loop-member.passes.items = c.loop-member.passes.ok.0 in
-    let shown : vec_len c.loop-member.shown ≡ length c.loop-member.shown.items = c.loop-member.shown.ok.0 in
-    let link = taken-fits link_of all rest after m c.loop-member.links.items step inv.links in
-    let pass = taken-fits pass_of all rest after m c.loop-member.passes.items step inv.passes in
-    let row = taken-fits shown_by all rest after m c.loop-member.shown.items step inv.shown in
-    let link_is = pushed c.loop-member.links.items c.push-link.new.self.items (link_of m) _ c.push-link.ensures.items (c.push-link.ensures.succeeds (omega (arith, room, links, link))) in
-    let pass_is = pushed c.loop-member.passes.items c.push-pass.new.self.items (pass_of m) _ c.push-pass.ensures.items (c.push-pass.ensures.succeeds (omega (arith, places, passes, pass))) in
-    let row_is = pushed c.loop-member.shown.items c.push-events.new.self.items (shown_by m) _ c.push-events.ensures.items (c.push-events.ensures.succeeds (omega (arith, rows, shown, row))) in
-    let more = c.push-link.ensures.capacity in let wider = c.push-pass.ensures.capacity in let longer = c.push-events.ensures.capacity in
+    let same = c.push_reserved.ensures.capacity in let as_wide = c.push_reserved-in-loop-member.ensures.capacity in let as_long = c.push_reserved-in-loop-member-2.ensures.capacity in
     record {
-      links = taken-more link_of all rest after m c.loop-member.links.items c.push-link.new.self.items (link_of m) step link_is refl inv.links;
-      passes = taken-more pass_of all rest after m c.loop-member.passes.items c.push-pass.new.self.items (pass_of m) step pass_is refl inv.passes;
-      shown = taken-more shown_by all rest after m c.loop-member.shown.items c.push-events.new.self.items (shown_by m) step row_is refl inv.shown;
-      room = omega (arith, room, more);
-      places = omega (arith, places, wider);
-      rows = omega (arith, rows, longer);
+      links = taken-more link_of all rest after m c.loop-member.links.items c.push_reserved.new.self.items (link_of m) step c.push_reserved.ensures.items refl inv.links;
+      passes = taken-more pass_of all rest after m c.loop-member.passes.items c.push_reserved-in-loop-member.new.self.items (pass_of m) step c.push_reserved-in-loop-member.ensures.items refl inv.passes;
+      shown = taken-more shown_by all rest after m c.loop-member.shown.items c.push_reserved-in-loop-member-2.new.self.items (shown_by m) step c.push_reserved-in-loop-member-2.ensures.items refl inv.shown;
+      room = omega (arith, room, same);
+      places = omega (arith, places, as_wide);
+      rows = omega (arith, rows, as_long);
     }
 
 pub returns-clause-links : goal.returns-clause-links

@@ -1,6 +1,6 @@
 use Rattle.std.proofs.Common.{◌≡◌, length, vec_len, ◌∙◌, sym, arith}
 use Rattle.std.specs.Vec.Iter.{into_iter_items}
-use Rattle.rz_staff.proofs.Taken.{empty, pushed}
+use Rattle.rz_staff.proofs.Taken.{empty}
 use Rattle.rz_staff.proofs.Hirings.{so-far-first, so-far-more, so-far-all, next-can, one-left, one-fits, none-left, all-linked}
 use Rattle.rz_staff.proofs.hiring.hire_all.Goals as goal
 
@@ -20,35 +20,23 @@ hire_one-requires g c =
     next-can g.J.Naming.kind c.args.recruits.items (into_iter_items c.loop-recruit.recruit-iterator) (into_iter_items c.next.new.self) c.in-Some.recruit c.loop-recruit.members.items c.loop-recruit.links.items c.args.links.items
     c.in-Some.ensures.steps.0 c.loop-recruit.invariant.first
 
+pub push_reserved-requires : goal.push_reserved-requires
+push_reserved-requires g c =
+    let inv = c.loop-recruit.invariant in
+    let members : vec_len c.loop-recruit.members ≡ length c.loop-recruit.members.items = c.loop-recruit.members.ok.0 in
+    let fits = one-fits g.J.Naming.kind c.args.recruits.items (into_iter_items c.loop-recruit.recruit-iterator) (into_iter_items c.next.new.self) c.in-Some.recruit c.loop-recruit.members.items c.loop-recruit.links.items c.args.links.items c.in-Some.ensures.steps.0 inv.first in
+    let room = inv.room in
+    omega (arith, members, fits, room)
+
 pub loop-recruit-preserved-in-Some-pop : goal.loop-recruit-preserved-in-Some-pop
 loop-recruit-preserved-in-Some-pop g c =
     let inv = c.loop-recruit.invariant in
-    let all = c.args.recruits.items in let rest = into_iter_items c.loop-recruit.recruit-iterator in let after = into_iter_items c.next.new.self in
-    let members : vec_len c.loop-recruit.members ≡ length c.loop-recruit.members.items = c.loop-recruit.members.ok.0 in
-    let fits = one-fits g.J.Naming.kind all rest after c.in-Some.recruit c.loop-recruit.members.items c.loop-recruit.links.items c.args.links.items c.in-Some.ensures.steps.0 inv.first in
     let room = inv.room in
-    let items = pushed c.loop-recruit.members.items c.push-kept.new.self.items c.hire_one.result _ c.push-kept.ensures.items (c.push-kept.ensures.succeeds (omega (arith, members, fits, room))) in
-    let more = c.push-kept.ensures.capacity in
+    let same = c.push_reserved.ensures.capacity in
     record {
-      first = so-far-more g.J.Naming.kind all rest after c.in-Some.recruit c.loop-recruit.members.items c.push-kept.new.self.items c.hire_one.result c.loop-recruit.links.items c.pop.new.self.items c.args.links.items c.in-Some-pop.link
-          c.in-Some.ensures.steps.0 items c.in-Some-pop.ensures.items c.hire_one.ensures.hired c.hire_one.ensures.link inv.first;
-      room = omega (arith, room, more);
-      home = c.in-Some-pop.ensures.capacity ∙ inv.home;
-    }
-
-pub loop-recruit-preserved-in-Some-pop-2 : goal.loop-recruit-preserved-in-Some-pop-2
-loop-recruit-preserved-in-Some-pop-2 g c =
-    let inv = c.loop-recruit.invariant in
-    let all = c.args.recruits.items in let rest = into_iter_items c.loop-recruit.recruit-iterator in let after = into_iter_items c.next.new.self in
-    let members : vec_len c.loop-recruit.members ≡ length c.loop-recruit.members.items = c.loop-recruit.members.ok.0 in
-    let fits = one-fits g.J.Naming.kind all rest after c.in-Some.recruit c.loop-recruit.members.items c.loop-recruit.links.items c.args.links.items c.in-Some.ensures.steps.0 inv.first in
-    let room = inv.room in
-    let items = pushed c.loop-recruit.members.items c.push-kept.new.self.items c.hire_one.result _ c.push-kept.ensures.items (c.push-kept.ensures.succeeds (omega (arith, members, fits, room))) in
-    let more = c.push-kept.ensures.capacity in
-    record {
-      first = so-far-more g.J.Naming.kind all rest after c.in-Some.recruit c.loop-recruit.members.items c.push-kept.new.self.items c.hire_one.result c.loop-recruit.links.items c.pop.new.self.items c.args.links.items c.in-Some-pop.link
-          c.in-Some.ensures.steps.0 items c.in-Some-pop.ensures.items c.hire_one.ensures.hired c.hire_one.ensures.link inv.first;
-      room = omega (arith, room, more);
+      first = so-far-more g.J.Naming.kind c.args.recruits.items (into_iter_items c.loop-recruit.recruit-iterator) (into_iter_items c.next.new.self) c.in-Some.recruit c.loop-recruit.members.items c.push_reserved.new.self.items c.hire_one.result c.loop-recruit.links.items c.pop.new.self.items c.args.links.items c.in-Some-pop.link
+          c.in-Some.ensures.steps.0 c.push_reserved.ensures.items c.in-Some-pop.ensures.items c.hire_one.ensures.hired c.hire_one.ensures.link inv.first;
+      room = omega (arith, room, same);
       home = c.in-Some-pop.ensures.capacity ∙ inv.home;
     }
 

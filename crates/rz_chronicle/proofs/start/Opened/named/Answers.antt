@@ -23,13 +23,13 @@ pub posts-requires-clause-held : goal.posts-requires-clause-held
 posts-requires-clause-held g c = nodes-held c.args.self.hand.held c.post-export.result.1 c.args.self.all c.post-export.ensures.rest
 
 pub pass-admin-requires-clause-held : goal.pass-admin-requires-clause-held
-pass-admin-requires-clause-held g c = admin-held c.args.self.hand.held c.post-export.result.1 c.in_ok-posts.deal c.args.self.all c.post-export.ensures.rest c.in_ok-posts.ensures.rest
+pass-admin-requires-clause-held g c = admin-held c.args.self.hand.held c.post-export.result.1 c.in-Ok.deal c.args.self.all c.post-export.ensures.rest c.in-Ok.ensures.rest
 
 pub clients-requires : goal.clients-requires
 clients-requires g c =
-    clients-held c.args.self.hand.held c.post-export.result.1 c.in_ok-posts.deal c.pass-admin.result.1 c.args.self.all c.post-export.ensures.rest c.in_ok-posts.ensures.rest c.pass-admin.ensures.rest
+    clients-held c.args.self.hand.held c.post-export.result.1 c.in-Ok.deal c.pass-admin.result.1 c.args.self.all c.post-export.ensures.rest c.in-Ok.ensures.rest c.pass-admin.ensures.rest
 
 pub rebuilders-requires : goal.rebuilders-requires
 rebuilders-requires g c =
-    rebuilders-held c.args.self.hand.held c.post-export.result.1 c.in_ok-posts.deal c.pass-admin.result.1 c.in_ok-clients.deal c.args.self.all c.post-export.ensures.rest c.in_ok-posts.ensures.rest c.pass-admin.ensures.rest
-    c.in_ok-clients.ensures.rest
+    rebuilders-held c.args.self.hand.held c.post-export.result.1 c.in-Ok.deal c.pass-admin.result.1 c.in-Ok-clients.deal c.args.self.all c.post-export.ensures.rest c.in-Ok.ensures.rest c.pass-admin.ensures.rest
+    c.in-Ok-clients.ensures.rest
