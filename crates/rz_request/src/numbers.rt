@@ -3,7 +3,7 @@
 ghost use Rattle.std.specs.Prelude.{◌≡◌, ◌≤◌, IfSome};
 ghost use Rattle.rz_request.specs.Line.{number_in};
 
-use rz_spelling::read_number;
+use rz_script::read_number;
 
 /// A number from `low` to `high`.
 pub fn read_number_in(word: &str, low: u64, high: u64) -> Option<u64>

@@ -11,7 +11,7 @@ use Rattle.rz_events.specs.declared.keys.Actor.{Actor}
 use Rattle.rz_events.specs.declared.keys.Actor.TheVariants.{Client, Rebuilder, Admin}
 use Rattle.rz_events.specs.declared.tree.TreeCall.TheVariants as tree
 use Rattle.rz_events.specs.Volume.{Volume}
-use Rattle.rz_spelling.specs.Words.{Word}
+use Rattle.rz_script.specs.Words.{Word}
 use Rattle.rz_script.specs.declared.fault.ScriptCause.{ScriptCause}
 use Rattle.rz_script.specs.declared.fault.ScriptCause.TheVariants.{BadNode, OutOfRange}
 use Rattle.rz_events.specs.declared.operations.Datum.{Datum}

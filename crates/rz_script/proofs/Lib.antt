@@ -11,3 +11,4 @@ pub mod Again
 pub mod Printed_volume
 pub mod Described_volume
 pub mod Script_again
+pub mod Numerals

@@ -26,7 +26,7 @@ use Rattle.rz_events.specs.declared.files.NodeSpec.{NodeSpec}
 use Rattle.rz_events.specs.Volume.{Volume, Cluster, IsNode, IsCluster, IsVolume}
 use Rattle.rz_config.specs.Plain.{plain_volume}
 use Rattle.rz_config.specs.Described.{volume_of_value, volume_of_text}
-use Rattle.rz_spelling.specs.Words.{Word}
+use Rattle.rz_script.specs.Words.{Word}
 use Rattle.rz_script.specs.declared.fault.ScriptError.{ScriptError}
 use Rattle.rz_script.specs.declared.fault.ScriptError.TheVariants as errors
 use Rattle.rz_script.specs.declared.fault.ScriptCause.TheVariants.{NotUtf8}

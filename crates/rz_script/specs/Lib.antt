@@ -5,3 +5,5 @@ pub mod Scripts
 pub mod Shared
 pub mod Weights
 pub mod Spelling
+pub mod Words
+pub mod Numerals

@@ -26,7 +26,7 @@ const LAST_BYTE: u64 = 4_294_967_296;
 pub fn read_number(word: &str) -> Result<u64, ScriptCause>
     ensures { result ≡ number word.now }
 {
-    rz_spelling::read_number(word).ok_or(ScriptCause::BadNumber)
+    crate::spelling::read_number(word).ok_or(ScriptCause::BadNumber)
 }
 
 /// A number from `low` to `high`.

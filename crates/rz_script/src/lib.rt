@@ -4,10 +4,11 @@
 //! `specs/Lines` names. `specs/Grammar` says line by line what a text means, or its first fault;
 //! [`Script::read`] answers exactly that, in each of the three forms. `specs/Spelling` is the one
 //! spelling that [`Script::print`] gives. `specs/Weights` says what a script weighs. The contracts do
-//! not say what a script does to a store.
+//! not say what a script does to a store. Its numbers, actors, nodes and bytes are words that a printed
+//! log writes alike: `spelling` has them.
 //!
-//! In reading order: `fault`, `form`, `line`, `script`, `words`, `judges`, `keywords`, `operations`,
-//! `lines`, `reading`, `printing`.
+//! In reading order: `spelling`, `fault`, `form`, `line`, `script`, `words`, `judges`, `keywords`,
+//! `operations`, `lines`, `reading`, `printing`.
 #![tactic(auto)]
 
 mod fault;
@@ -20,6 +21,7 @@ mod operations;
 mod printing;
 mod reading;
 mod script;
+mod spelling;
 mod weights;
 mod words;
 
@@ -29,3 +31,6 @@ pub use line::Line;
 pub use rz_config::{Volume, VolumeFault};
 pub use rz_events::{Actor, Datum, Operation, Text, TreeCall};
 pub use script::Script;
+pub use spelling::{
+    push_actor, push_digits, push_hex, push_node, push_number, push_word, read_number,
+};

@@ -16,7 +16,7 @@ pub struct Words<'a> {
 
 impl<'a> Model for Words<'a> {
     ghost use Rattle.std.specs.Prelude.{List};
-    ghost use Rattle.rz_spelling.specs.Words.{Word};
+    ghost use Rattle.rz_script.specs.Words.{Word};
     ghost use Rattle.rz_script.specs.Grammar.{words};
 
     ghost Value = { List Word };

@@ -7,9 +7,9 @@ ghost use Rattle.rz_scrubbing.specs.Lines.{finding_words, line_of, verdict_words
 use crate::finding::Finding;
 use mj_angles::Layout;
 use rz_events::Key;
+use rz_script::{push_number, push_word};
 use rz_scrub::Verdict;
 use rz_show::{push_mask, push_uuid};
-use rz_spelling::{push_number, push_word};
 use std::alloc::{AllocError, Global};
 
 /// Adds the words of a verdict.

@@ -8,7 +8,7 @@ ghost use Rattle.rz_show.specs.Ends.{answer_words, attr_words, denial_name, faul
 use crate::outcomes::{push_mask, push_seen, push_why};
 use crate::words::{kind_name, push_bytes, push_octal, push_uuid};
 use rz_events::{Answer, Attr, Denial, Listing, ReadEnd, RebuildEnd, TreeFault, WriteEnd};
-use rz_spelling::{push_number, push_word};
+use rz_script::{push_number, push_word};
 use std::alloc::{AllocError, Global};
 
 /// The name of a denial.

@@ -3,7 +3,7 @@
 ghost use Rattle.std.specs.Prelude.{◌≡◌, ◌≤◌, ◌++◌, [], ◌∷◌, IfOk, OnOk, codes};
 ghost use Rattle.rz_events.specs.Events.{by_of};
 ghost use Rattle.std.specs.Fmt.{decimal};
-ghost use Rattle.rz_spelling.specs.Words.{actor_word};
+ghost use Rattle.rz_script.specs.Words.{actor_word};
 ghost use Rattle.rz_show.specs.Words.{actor_line, node_line};
 ghost use Rattle.rz_show.specs.Ends.{answer_words, read_words, write_words};
 ghost use Rattle.rz_show.specs.Text.{end_line, line, text_of};
@@ -11,7 +11,7 @@ ghost use Rattle.rz_show.specs.Text.{end_line, line, text_of};
 use crate::ends::{push_answer, push_read, push_write};
 use crate::opened::Opened;
 use rz_events::{Actor, Answer, Event, ReadEnd, WriteEnd, actor_of};
-use rz_spelling::{push_actor, push_node, push_number, push_word};
+use rz_script::{push_actor, push_node, push_number, push_word};
 use std::alloc::{AllocError, Global};
 
 /// Adds the first two words of an actor's line: who acted, and the number of the operation.

@@ -7,7 +7,7 @@ ghost use Rattle.sha2.specs.Sha256.{sha256};
 ghost use Rattle.rz_show.specs.Words.{bytes_word, kind_word, uuid_word};
 
 use rz_events::Kind;
-use rz_spelling::{push_hex, push_word};
+use rz_script::{push_hex, push_word};
 use sha2::{Digest, Sha256};
 use std::alloc::{AllocError, Global};
 use uuid::Uuid;

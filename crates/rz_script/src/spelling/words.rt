@@ -2,7 +2,7 @@
 
 ghost use Rattle.std.specs.Prelude.{◌≡◌, ◌∷◌, ◌++◌, OnOk};
 ghost use Rattle.std.specs.Fmt.{decimal};
-ghost use Rattle.rz_spelling.specs.Words.{actor_word, hex_word, node_word};
+ghost use Rattle.rz_script.specs.Words.{actor_word, hex_word, node_word};
 
 use rz_events::Actor;
 use std::alloc::{AllocError, Global};

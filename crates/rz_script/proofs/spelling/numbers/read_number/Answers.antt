@@ -1,8 +1,8 @@
 use Rattle.std.proofs.Common.{◌≡◌, ◌==◌, sym, ◌∙◌, arith, get_or}
 use Rattle.std.proofs.lemmas.Bool.{eqb-true}
 use Rattle.std.proofs.lemmas.Bool.Decides.{nat_tests}
-use Rattle.rz_spelling.proofs.Numerals.{plus, parses}
-use Rattle.rz_spelling.proofs.numbers.read_number.Goals as goal
+use Rattle.rz_script.proofs.Numerals.{plus, parses}
+use Rattle.rz_script.proofs.spelling.numbers.read_number.Goals as goal
 
 pub returns-then-starts_with : goal.returns-then-starts_with
 returns-then-starts_with c =

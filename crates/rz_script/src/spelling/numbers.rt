@@ -1,7 +1,7 @@
 //! The number that a word says.
 
 ghost use Rattle.std.specs.Prelude.{◌≡◌};
-ghost use Rattle.rz_spelling.specs.Numerals.{numeral};
+ghost use Rattle.rz_script.specs.Numerals.{numeral};
 
 /// The number that a word of decimal digits says, where a `u64` holds it.
 pub fn read_number(word: &str) -> Option<u64>

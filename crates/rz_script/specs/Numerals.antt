@@ -2,7 +2,7 @@
 use Rattle.std.specs.Prelude.{ℕ, ◌==◌, ◌&&◌, ◌^◌, nat_lt, not, if◌then◌else◌, Option, Some, None, length}
 use Rattle.std.specs.Str.{all_ascii_digits}
 use Rattle.std.specs.Str.Parse.{digits_value}
-use Rattle.rz_spelling.specs.Words.{Word}
+use Rattle.rz_script.specs.Words.{Word}
 
 -- decimal digits, whose value is a u64
 abbrev pub numeral : Word → Option ℕ

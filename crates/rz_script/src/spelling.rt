@@ -4,9 +4,6 @@
 //! name is that of a word adds the word alone; [`push_word`] and [`push_number`] add a space before it.
 //! The one error is want of memory. The contracts do not say that there is memory. Which number a word of
 //! a script or of the command line says, `specs/Numerals` says.
-//!
-//! In reading order: `words`, `numbers`.
-#![tactic(auto)]
 
 mod numbers;
 mod words;
