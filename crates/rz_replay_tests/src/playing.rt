@@ -1,7 +1,7 @@
 //! A play over disks of a test, and disks that lose their power.
 
 use rz_disk::Disk;
-use rz_link::PlainLink;
+use rz_link::MemLink;
 use rz_outage::{OutageDisk, Power};
 use rz_ports::{PlainSink, PlainSource};
 use rz_replay::replay;
@@ -34,18 +34,18 @@ fn words_of(rt: &(impl Abort + AllocGlobal), line: &str) -> Vec<String> {
     words
 }
 
-/// Plays a script, and gives the status and what was written.
-pub(super) fn play<D: Disk>(
+/// Plays a script, and gives the status and what was written. The link loses what stands in its list.
+pub(super) fn play_over<D: Disk>(
     rt: &(impl Abort + AllocGlobal),
     line: &str,
     script: &str,
     disks: &mut Vec<D>,
+    mut link: MemLink,
 ) -> (u8, String) {
     let words = words_of(rt, line);
     let bytes = Vec::from_slice(rt.alloc(), script.as_bytes()).expect(rt, "memory");
     let mut input = PlainSource::new(bytes);
     let mut output = PlainSink::with_room(rt.alloc(), 4096).expect(rt, "memory");
-    let mut link = PlainLink::new();
     let played = replay(
         rt.alloc(),
         &words,
@@ -56,11 +56,22 @@ pub(super) fn play<D: Disk>(
     );
     drop(words);
     drop(input);
+    drop(link);
     let status = played.status;
     drop(played);
     let text = String::from_utf8_lossy(rt.alloc(), output.taken()).expect(rt, "memory");
     drop(output);
     (status, text)
+}
+
+/// The same over a link that loses nothing.
+pub(super) fn play<D: Disk>(
+    rt: &(impl Abort + AllocGlobal),
+    line: &str,
+    script: &str,
+    disks: &mut Vec<D>,
+) -> (u8, String) {
+    play_over(rt, line, script, disks, MemLink::new(Vec::new(rt.alloc())))
 }
 
 /// The disks of a play, of which this one has the power that goes, or all of them.
