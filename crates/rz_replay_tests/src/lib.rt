@@ -1,16 +1,15 @@
-//! Tests of replays and runs, by what is printed, by what stands on the disks, and where a disk, the source
-//! or the sink fails.
+//! Tests of replays over disks that fail, are read wrong, or lose their power, and over a link that loses a
+//! reply. All else that a replay prints, and what it leaves in files, is seen with the built program
+//! (`.ci/rows`).
 //!
 //! They stand beside the crate and not in it, since a crate with tests is proved twice.
 //!
-//! In reading order: `tests`, `damage`, `outages`, `running`.
+//! In reading order: `playing`, `faults`, `outages`.
 #![tactic(auto)]
 
 #[cfg(test)]
-mod damage;
+mod faults;
 #[cfg(test)]
 mod outages;
 #[cfg(test)]
-mod running;
-#[cfg(test)]
-mod tests;
+mod playing;

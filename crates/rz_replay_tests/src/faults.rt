@@ -1,0 +1,77 @@
+//! What is told where the disk of a journal fails in a play, where a link loses a reply, and where a scrub reads
+//! a byte wrong.
+
+use super::playing::{FIRST, disks_on, play, play_over, push};
+use rz_disk::{PlainDisk, RotDisk};
+use rz_link::{MemLink, Sent};
+use rz_outage::Power;
+use std::process::Abort;
+use std::test::Fail;
+
+const WRITTEN: &str = "op c1 create /f\nop c1 put /f 0 t:hello\nrest\n";
+
+const FAILED: &str = "c1 1 created 00000000-0000-0000-0000-000000000001\nrefused journal\n";
+
+/// The journal's disk fails from its call 10 on, within the second call that changes the export.
+#[test]
+fn the_journal_fails(rt: HostRuntime) -> Result<(), Fail> {
+    let power = Power::until(10);
+    let lasting = Power::until(u64::MAX);
+    let mut disks = disks_on(&rt, 4, &power, &lasting);
+    let (status, text) = play(&rt, FIRST, WRITTEN, &mut disks);
+    drop(disks);
+    let is_told = text.as_str() == FAILED;
+    drop(text);
+    assert!(rt; status == 14 && is_told);
+    Ok(())
+}
+
+/// Four disks, of which the first reads the byte at this address wrong. The last address is on no disk.
+fn rotten(rt: &(impl Abort + AllocGlobal), at: u64) -> Vec<RotDisk<PlainDisk>> {
+    let mut disks = Vec::new(rt.alloc());
+    for at in [at, u64::MAX, u64::MAX, u64::MAX] {
+        push(
+            rt,
+            &mut disks,
+            RotDisk::new(PlainDisk::new(rt.alloc()), at, 1),
+        );
+    }
+    disks
+}
+
+const LOST_REPLY: &str = "c1 1 created 00000000-0000-0000-0000-000000000001
+c1 2 acked 1 0111
+end 11
+";
+
+/// The link loses it, without a line of the script.
+#[test]
+fn the_reply_to_the_first_keep_is_lost(rt: HostRuntime) -> Result<(), Fail> {
+    let mut disks = rotten(&rt, u64::MAX);
+    let list = vec![in rt.alloc(); (0, Sent::ReplyLost)].expect(&rt, "memory");
+    let link = MemLink::new(list);
+    let (status, text) = play_over(&rt, "rozo replay --disks 4", WRITTEN, &mut disks, link);
+    drop(disks);
+    let is_told = text.as_str() == LOST_REPLY;
+    drop(text);
+    assert!(rt; status == 0 && is_told);
+    Ok(())
+}
+
+const UNSURE: &str = "c1 1 created 00000000-0000-0000-0000-000000000001
+c1 2 acked 1 1110
+end 9
+scrub 00000000-0000-0000-0000-000000000001 0 unsure
+";
+
+/// A byte of node 1's record.
+#[test]
+fn a_scrub_reads_a_byte_wrong(rt: HostRuntime) -> Result<(), Fail> {
+    let mut disks = rotten(&rt, 2368);
+    let (status, text) = play(&rt, "rozo scrub --disks 4", WRITTEN, &mut disks);
+    drop(disks);
+    let is_told = text.as_str() == UNSURE;
+    drop(text);
+    assert!(rt; status == 0 && is_told);
+    Ok(())
+}

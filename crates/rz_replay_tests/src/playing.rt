@@ -1,0 +1,91 @@
+//! A play over disks of a test, and disks that lose their power.
+
+use rz_disk::Disk;
+use rz_link::MemLink;
+use rz_outage::{OutageDisk, Power};
+use rz_ports::{PlainSink, PlainSource};
+use rz_replay::replay;
+use std::process::Abort;
+
+/// A play whose journal stands behind the disks of four nodes.
+pub(super) const FIRST: &str = "rozo first --disks 5";
+
+/// The disks of such a play.
+pub(super) const DISKS: u64 = 5;
+
+/// What stands for all of these disks.
+pub(super) const ALL: u64 = DISKS;
+
+/// Adds an item at the end.
+pub(super) fn push<T: Drop>(rt: &impl Abort, items: &mut Vec<T>, item: T) {
+    match items.push(item) {
+        Ok(()) => {}
+        Err(_) => rt.panic("memory"),
+    }
+}
+
+/// The words between single spaces.
+fn words_of(rt: &(impl Abort + AllocGlobal), line: &str) -> Vec<String> {
+    let mut words = Vec::new(rt.alloc());
+    for word in line.split(' ') {
+        let word = String::from_str(rt.alloc(), word).expect(rt, "memory");
+        push(rt, &mut words, word);
+    }
+    words
+}
+
+/// Plays a script, and gives the status and what was written. The link loses what stands in its list.
+pub(super) fn play_over<D: Disk>(
+    rt: &(impl Abort + AllocGlobal),
+    line: &str,
+    script: &str,
+    disks: &mut Vec<D>,
+    mut link: MemLink,
+) -> (u8, String) {
+    let words = words_of(rt, line);
+    let bytes = Vec::from_slice(rt.alloc(), script.as_bytes()).expect(rt, "memory");
+    let mut input = PlainSource::new(bytes);
+    let mut output = PlainSink::with_room(rt.alloc(), 4096).expect(rt, "memory");
+    let played = replay(
+        rt.alloc(),
+        &words,
+        &mut input,
+        &mut output,
+        disks,
+        &mut link,
+    );
+    drop(words);
+    drop(input);
+    drop(link);
+    let status = played.status;
+    drop(played);
+    let text = String::from_utf8_lossy(rt.alloc(), output.taken()).expect(rt, "memory");
+    drop(output);
+    (status, text)
+}
+
+/// The same over a link that loses nothing.
+pub(super) fn play<D: Disk>(
+    rt: &(impl Abort + AllocGlobal),
+    line: &str,
+    script: &str,
+    disks: &mut Vec<D>,
+) -> (u8, String) {
+    play_over(rt, line, script, disks, MemLink::new(Vec::new(rt.alloc())))
+}
+
+/// The disks of a play, of which this one has the power that goes, or all of them.
+pub(super) fn disks_on<'a>(
+    rt: &(impl Abort + AllocGlobal),
+    disk: u64,
+    power: &'a Power,
+    lasting: &'a Power,
+) -> Vec<OutageDisk<'a>> {
+    let mut disks = Vec::new(rt.alloc());
+    for index in 0..DISKS {
+        let goes = disk == index || disk == ALL;
+        let power = if goes { power } else { lasting };
+        push(rt, &mut disks, OutageDisk::new(rt.alloc(), power));
+    }
+    disks
+}
