@@ -27,11 +27,6 @@ fn path(rt: &(impl Abort + AllocGlobal)) -> Text {
     Text::from_bytes(rt.alloc(), b"/f").expect(rt, "memory")
 }
 
-/// The machine of an operation.
-fn start(rt: &(impl Abort + AllocGlobal), op: Operation) -> Machine {
-    Machine::start(rt.alloc(), Layout::L0, op).expect(rt, "memory")
-}
-
 /// What is asked of the export, in a word.
 fn word(ask: &Ask<'_>) -> &'static str {
     match ask {
@@ -172,7 +167,7 @@ fn put_misses_a_node(rt: HostRuntime) -> Result<(), Fail> {
         block: 0,
         datum: Datum::Made { length: 5, seed: 1 },
     };
-    let mut machine = start(&rt, op);
+    let mut machine = Machine::start(rt.alloc(), Layout::L0, op).expect(&rt, "memory");
     put(&rt, &mut machine);
     drop(machine);
     Ok(())
@@ -181,7 +176,7 @@ fn put_misses_a_node(rt: HostRuntime) -> Result<(), Fail> {
 #[test]
 fn unlink_drops(rt: HostRuntime) -> Result<(), Fail> {
     let op = Operation::Tree(TreeCall::Unlink { path: path(&rt) });
-    let mut machine = start(&rt, op);
+    let mut machine = Machine::start(rt.alloc(), Layout::L0, op).expect(&rt, "memory");
     unlink(&rt, &mut machine);
     let answer = finish(&rt, &mut machine);
     drop(machine);
@@ -198,7 +193,7 @@ fn update_waits_twice(rt: HostRuntime) -> Result<(), Fail> {
         offset: 100,
         datum: Datum::Made { length: 5, seed: 1 },
     };
-    let mut machine = start(&rt, op);
+    let mut machine = Machine::start(rt.alloc(), Layout::L0, op).expect(&rt, "memory");
     update(&rt, &mut machine);
     let answer = finish(&rt, &mut machine);
     drop(machine);

@@ -6,7 +6,6 @@ ghost use Rattle.rz_events.specs.declared.machines.FileAnswer.{FileAnswer as AnA
 ghost use Rattle.rz_operation_model.specs.Files.{IsFileAnswer};
 ghost use Rattle.rz_file.specs.Machine.{ComeWith, IsKeep};
 
-use crate::{reads, writes};
 use mj_angles::Layout;
 use rz_events::{
     Denial, FetchAnswer, FileAnswer, FileAsk, FileEnd, FileInfo, Held, KeepAnswer, Places,
@@ -29,8 +28,10 @@ fn belongs(ask: FileAsk, answer: FileAnswer) -> bool
     ensures { IsTrue result → IsFileAnswer L0 ask answer }
 {
     match (ask, answer) {
-        (FileAsk::Read { ask, .. }, FileAnswer::Read(answer)) => reads::belongs(ask, answer),
-        (FileAsk::Write { ask, .. }, FileAnswer::Write(answer)) => writes::belongs(ask, answer),
+        (FileAsk::Read { ask, .. }, FileAnswer::Read(answer)) => crate::reads::belongs(ask, answer),
+        (FileAsk::Write { ask, .. }, FileAnswer::Write(answer)) => crate::writes::belongs(
+            ask, answer,
+        ),
         (FileAsk::Got { .. }, FileAnswer::Noted) => true,
         (FileAsk::Gave { .. }, FileAnswer::Noted) => true,
         _ => false,

@@ -40,7 +40,10 @@ pub fn belongs(ask: ReaderAsk, answer: ReaderAnswer) -> bool
         (ReaderAsk::Fetch { .. }, ReaderAnswer::Fetched(FetchAnswer::Held(held))) => {
             held.base < held.stamp && held.length as usize <= Layout::L0.block_bytes()
         }
-        (ReaderAsk::Fetch { .. }, ReaderAnswer::Fetched(_)) => true,
+        (ReaderAsk::Fetch { .. }, ReaderAnswer::Fetched(FetchAnswer::Nothing)) => true,
+        (ReaderAsk::Fetch { .. }, ReaderAnswer::Fetched(FetchAnswer::Lost)) => true,
+        (ReaderAsk::Fetch { .. }, ReaderAnswer::Fetched(FetchAnswer::Down)) => true,
+        (ReaderAsk::Fetch { .. }, ReaderAnswer::Fetched(FetchAnswer::DiskFault)) => true,
         (ReaderAsk::Fetch { .. }, ReaderAnswer::Missed) => true,
         _ => false,
     }
