@@ -1,8 +1,10 @@
-//! Tests of the machines of clients and rebuilders, as tables of asks and answers.
+//! Tests of the machines of clients and rebuilders, as tables of asks and answers, and of whole operations driven by hand.
 //!
 //! They stand beside the crates and not in them, since a crate with tests is proved twice.
 #![tactic(auto)]
 
+#[cfg(test)]
+mod operations;
 #[cfg(test)]
 mod ranges;
 #[cfg(test)]

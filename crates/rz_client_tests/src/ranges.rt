@@ -3,8 +3,6 @@
 ghost use Rattle.std.specs.Prelude.{◌≡◌, IsTrue, length};
 ghost use Rattle.mj_angles.specs.declared.layout.Layout.TheVariants.{L0};
 ghost use Rattle.rz_events.specs.declared.machines.FileAnswer.{FileAnswer as AnAnswer};
-ghost use Rattle.rz_client_model.specs.Read.{IsReaderAnswer, IsTold};
-ghost use Rattle.rz_client_model.specs.Write.{IsWriterAnswer};
 ghost use Rattle.rz_operation_model.specs.Files.{IsFileAnswer};
 ghost use Rattle.rz_file.specs.Machine.{ComeWith, IsKeep};
 
@@ -25,51 +23,15 @@ const FIRST: [usize; 2] = [2, 1];
 
 const SECOND: [usize; 2] = [0, 0];
 
-/// Whether what is told as published can be.
-fn can_be_told(published: Option<Published>) -> bool
-    ensures { IsTrue result → IsTold L0 published }
-{
-    let Some(published) = published else {
-        return true;
-    };
-    let length = published.length as usize;
-    published.stamp > 0 && published.mask < 16 && length <= Layout::L0.block_bytes()
-}
-
-/// Whether the answer belongs to what the read of a block asked.
-fn belongs_to_read(ask: ReaderAsk, answer: ReaderAnswer) -> bool
-    ensures { IsTrue result → IsReaderAnswer L0 ask answer }
-{
-    match (ask, answer) {
-        (ReaderAsk::Look, ReaderAnswer::Looked(published)) => can_be_told(published),
-        (ReaderAsk::Look, ReaderAnswer::Denied(_)) => true,
-        (ReaderAsk::Fetch { .. }, ReaderAnswer::Fetched(FetchAnswer::Held(held))) => {
-            held.base < held.stamp && held.length as usize <= Layout::L0.block_bytes()
-        }
-        _ => false,
-    }
-}
-
-/// Whether the answer belongs to what the write of a block asked.
-fn belongs_to_write(ask: WriterAsk, answer: WriterAnswer) -> bool
-    ensures { IsTrue result → IsWriterAnswer ask answer }
-{
-    match (ask, answer) {
-        (WriterAsk::Begin { .. }, WriterAnswer::Begun { stamp, base }) => base < stamp,
-        (WriterAsk::Begin { .. }, WriterAnswer::Denied(_)) => true,
-        (WriterAsk::Keep { .. }, WriterAnswer::Kept(_)) => true,
-        (WriterAsk::Publish { .. }, WriterAnswer::Accepted) => true,
-        _ => false,
-    }
-}
-
 /// Whether the answer belongs to what was asked.
 fn belongs(ask: FileAsk, answer: FileAnswer) -> bool
     ensures { IsTrue result → IsFileAnswer L0 ask answer }
 {
     match (ask, answer) {
-        (FileAsk::Read { ask, .. }, FileAnswer::Read(answer)) => belongs_to_read(ask, answer),
-        (FileAsk::Write { ask, .. }, FileAnswer::Write(answer)) => belongs_to_write(ask, answer),
+        (FileAsk::Read { ask, .. }, FileAnswer::Read(answer)) => crate::reads::belongs(ask, answer),
+        (FileAsk::Write { ask, .. }, FileAnswer::Write(answer)) => crate::writes::belongs(
+            ask, answer,
+        ),
         (FileAsk::Got { .. }, FileAnswer::Noted) => true,
         (FileAsk::Gave { .. }, FileAnswer::Noted) => true,
         _ => false,

@@ -3,10 +3,10 @@
 ghost use Rattle.std.specs.Prelude.{◌≡◌, ◌<◌, IsTrue};
 ghost use Rattle.mj_angles.specs.declared.layout.Layout.TheVariants.{L0};
 ghost use Rattle.rz_events.specs.declared.machines.RebuildAnswer.{RebuildAnswer as AnAnswer};
-ghost use Rattle.rz_client_model.specs.Read.{IsTold};
 ghost use Rattle.rz_operation_model.specs.Rebuild.{IsNextAnswer, IsRebuildAnswer};
 ghost use Rattle.rz_rebuild.specs.Machine.{ComeWith};
 
+use crate::reads::can_be_told;
 use mj_angles::Layout;
 use rz_events::{
     Denial, FetchAnswer, FileInfo, Held, Key, LeftWhy, Listed, Places, Published, RebuildAnswer,
@@ -26,18 +26,6 @@ const SECOND: [usize; 4] = [0, 0, 0, 1];
 
 /// As `FIRST`, but no block has the bins of both position 0 and position 1.
 const WRONG: [usize; 4] = [2, 0, 0, 0];
-
-/// Whether what is told as published can be.
-fn can_be_told(published: Option<Published>) -> bool
-    ensures { IsTrue result → IsTold L0 published }
-{
-    let Some(published) = published else {
-        return true;
-    };
-    published.stamp > 0
-        && published.mask < 16
-        && published.length as usize <= Layout::L0.block_bytes()
-}
 
 /// Whether the block can be listed for node 12.
 fn can_be_listed(listed: &Option<Listed>) -> bool

@@ -1,5 +1,5 @@
-//! Tests of texts and of what stands at the edges: command lines, requests, scripts, workloads, printed logs and
-//! runs, the lines of the commands load and scrub, descriptions of volumes, where files are placed, and streams.
+//! Tests of texts and of what stands at the edges, where the built program can't show it: draws, printed scripts, the
+//! words of printed logs and of the lines of a scrub, where files are placed, and streams.
 //!
 //! They stand beside the crates and not in them, since a crate with tests is proved twice.
 #![tactic(auto)]
@@ -15,16 +15,6 @@ mod ports;
 #[cfg(test)]
 mod printed;
 #[cfg(test)]
-mod requests;
-#[cfg(test)]
-mod runs;
-#[cfg(test)]
 mod scripts;
 #[cfg(test)]
 mod scrubbed;
-#[cfg(test)]
-mod summaries;
-#[cfg(test)]
-mod volumes;
-#[cfg(test)]
-mod words;

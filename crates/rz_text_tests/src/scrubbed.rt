@@ -1,4 +1,4 @@
-//! The lines of a scrub.
+//! The lines of a scrub that finds something. Those of a clean block and of one with too few records are in examples.
 
 use mj_angles::Layout;
 use rz_events::Key;
@@ -12,9 +12,7 @@ const KEY: Key = Key {
 };
 
 /// Each finding, and the words that end its line.
-const LINES: [(Layout, Finding, &str); 6] = [
-    (Layout::L0, Finding::Few, "few"),
-    (Layout::L1, Finding::Judged(Verdict::Clean), "clean"),
+const LINES: [(Layout, Finding, &str); 4] = [
     (Layout::L2, Finding::Judged(Verdict::Unsure), "unsure"),
     (
         Layout::L0,

@@ -5,7 +5,6 @@ use rz_events::{
     Operation, Places, Reply, Text, TreeCall, TreeReply,
 };
 use rz_operation::{Ask, ExportAsk, Machine, Saying};
-use std::alloc::AllocError;
 use std::process::Abort;
 use std::test::Fail;
 
@@ -24,8 +23,8 @@ fn file() -> FileInfo {
     }
 }
 
-fn path(rt: &HostRuntime) -> Result<Text, AllocError> {
-    Text::from_bytes(rt.alloc(), b"/f")
+fn path(rt: &(impl Abort + AllocGlobal)) -> Text {
+    Text::from_bytes(rt.alloc(), b"/f").expect(rt, "memory")
 }
 
 /// What is asked of the export, in a word.
@@ -164,11 +163,11 @@ fn update(rt: &impl Abort, machine: &mut Machine) {
 #[test]
 fn put_misses_a_node(rt: HostRuntime) -> Result<(), Fail> {
     let op = Operation::Put {
-        path: path(&rt)?,
+        path: path(&rt),
         block: 0,
         datum: Datum::Made { length: 5, seed: 1 },
     };
-    let mut machine = Machine::start(rt.alloc(), Layout::L0, op)?;
+    let mut machine = Machine::start(rt.alloc(), Layout::L0, op).expect(&rt, "memory");
     put(&rt, &mut machine);
     drop(machine);
     Ok(())
@@ -176,8 +175,8 @@ fn put_misses_a_node(rt: HostRuntime) -> Result<(), Fail> {
 
 #[test]
 fn unlink_drops(rt: HostRuntime) -> Result<(), Fail> {
-    let op = Operation::Tree(TreeCall::Unlink { path: path(&rt)? });
-    let mut machine = Machine::start(rt.alloc(), Layout::L0, op)?;
+    let op = Operation::Tree(TreeCall::Unlink { path: path(&rt) });
+    let mut machine = Machine::start(rt.alloc(), Layout::L0, op).expect(&rt, "memory");
     unlink(&rt, &mut machine);
     let answer = finish(&rt, &mut machine);
     drop(machine);
@@ -190,11 +189,11 @@ fn unlink_drops(rt: HostRuntime) -> Result<(), Fail> {
 #[test]
 fn update_waits_twice(rt: HostRuntime) -> Result<(), Fail> {
     let op = Operation::Update {
-        path: path(&rt)?,
+        path: path(&rt),
         offset: 100,
         datum: Datum::Made { length: 5, seed: 1 },
     };
-    let mut machine = Machine::start(rt.alloc(), Layout::L0, op)?;
+    let mut machine = Machine::start(rt.alloc(), Layout::L0, op).expect(&rt, "memory");
     update(&rt, &mut machine);
     let answer = finish(&rt, &mut machine);
     drop(machine);
