@@ -5,7 +5,7 @@ ghost use Rattle.std.specs.Prelude.{◌≡◌, length};
 use crate::checker::first_wrong;
 use crate::clock::{Clock, ClockDisk, ClockLink};
 use crate::reading::{Printed, are_rebuilt, is_in_time, read_back};
-use crate::stage::{push, told};
+use crate::stage::{play, push};
 use crate::workload::script;
 use rz_disk::PlainDisk;
 use rz_link::{MemLink, Sent};
@@ -56,7 +56,7 @@ fn links<'a>(
     let mut links = Vec::new(rt.alloc());
     for number in 0u64..80 {
         let link = MemLink::new(losses(rt, run, number));
-        push(rt, &mut links, ClockLink::new(link, clock, number));
+        push(rt, &mut links, ClockLink::new(link, clock));
     }
     links
 }
@@ -67,7 +67,7 @@ fn disks<'a>(rt: &(impl Abort + AllocGlobal), clock: &'a Clock) -> Vec<ClockDisk
     for number in 0u64..18 {
         let strokes = if number == 16 { STROKES } else { 0 };
         let disk = PlainDisk::new(rt.alloc());
-        push(rt, &mut disks, ClockDisk::new(disk, clock, number, strokes));
+        push(rt, &mut disks, ClockDisk::new(disk, clock, strokes));
     }
     disks
 }
@@ -92,7 +92,6 @@ fn shown_by(printed: &Printed) -> Judged {
 }
 
 fn judge(rt: &(impl Abort + AllocGlobal), text: &str) -> Judged {
-    let text = text.strip_prefix("0: ").expect(rt, "a run");
     let printed = read_back(rt, text);
     let judged = shown_by(&printed);
     drop(printed);
@@ -101,13 +100,13 @@ fn judge(rt: &(impl Abort + AllocGlobal), text: &str) -> Judged {
 
 #[test]
 fn each_of_many_runs_could_be_that_of_a_store(rt: HostRuntime) -> Result<(), Fail> {
-    let script = script(rt.alloc()).expect(&rt, "memory");
+    let script = script(&rt);
     let mut in_time = 0u64;
     for run in 0..RUNS {
         let clock = Clock::new(MESSAGES);
         let disks = disks(&rt, &clock);
         let links = links(&rt, &clock, run);
-        let text = told(&rt, LINE, script.as_bytes(), disks, links);
+        let text = play(&rt, LINE, &script, disks, links);
         let judged = judge(&rt, &text);
         assert!(rt; judged.wrong.is_none(), "run {run}: {text}");
         drop(text);

@@ -56,18 +56,26 @@ fn known_of_all(all: &[Told], by: Write, place: Place) -> u64 {
 fn makers(all: &[Told], place: Place) -> u64 {
     let mut count = 0u64;
     for told in all {
-        if told.place == place && told.end == End::Created {
+        if told.place == place && matches!(told.end, End::Created) {
             count = count.saturating_add(1);
         }
     }
     count
 }
 
+/// Whether an operation was a write that was acknowledged with a stamp.
+fn has_acked(told: &Told, stamp: u64) -> bool {
+    match told.end {
+        End::Acked { stamp: its } => its == stamp,
+        _ => false,
+    }
+}
+
 /// How many writes were acknowledged with a stamp.
 fn acked(all: &[Told], stamp: u64) -> u64 {
     let mut count = 0u64;
     for told in all {
-        if told.end == (End::Acked { stamp }) {
+        if has_acked(told, stamp) {
             count = count.saturating_add(1);
         }
     }
@@ -77,7 +85,7 @@ fn acked(all: &[Told], stamp: u64) -> u64 {
 /// Whether a write of a block was acknowledged with a stamp.
 fn is_acked(all: &[Told], place: Place, stamp: u64) -> bool {
     for told in all {
-        if told.place == place && told.end == (End::Acked { stamp }) {
+        if told.place == place && has_acked(told, stamp) {
             return true;
         }
     }
@@ -88,7 +96,7 @@ fn is_acked(all: &[Told], place: Place, stamp: u64) -> bool {
 fn is_written(all: &[Told], place: Place, write: Write, stamp: u64) -> bool {
     for told in all {
         if told.client == write.client && told.number == write.number {
-            return told.place == place && told.end == (End::Acked { stamp });
+            return told.place == place && has_acked(told, stamp);
         }
     }
     false
@@ -192,47 +200,39 @@ fn told(client: u64, number: u64, deed: Deed, file: char, end: End) -> Told {
 fn the_checker_refuses_what_no_store_answers(rt: HostRuntime) -> Result<(), Fail> {
     let one = put(1, 1, 1);
     let two = put(2, 1, 2);
-    let seen = Write {
+    // Each finds the later of two writes.
+    let both = first_wrong(&[one, got(1, 2, 2, 2), two, got(2, 2, 2, 2)]);
+    // The first reads before the second writes.
+    let before = first_wrong(&[one, got(1, 2, 1, 1), two, got(2, 2, 2, 2)]);
+    // The second finds what is older than what it wrote.
+    let older = first_wrong(&[one, got(1, 2, 1, 1), two, got(2, 2, 1, 1)]);
+    // A text with the stamp of another one.
+    let other = first_wrong(&[one, got(1, 2, 2, 1), two, got(2, 2, 2, 2)]);
+    // Both have one stamp.
+    let same = first_wrong(&[one, got(1, 2, 1, 1), put(2, 1, 1), got(2, 2, 1, 2)]);
+    // It was read before it was written.
+    let early = first_wrong(&[got(1, 0, 1, 1), one, two, got(2, 2, 2, 2)]);
+    assert_eq!(rt; (both, before), (None, None));
+    assert_eq!(rt; (older, other), (Some((2, 2)), Some((1, 2))));
+    assert_eq!(rt; (same, early), (Some((1, 1)), Some((1, 0))));
+    Ok(())
+}
+
+#[test]
+fn the_checker_knows_what_a_writer_knew(rt: HostRuntime) -> Result<(), Fail> {
+    let one = put(1, 1, 1);
+    let two = put(2, 1, 2);
+    let told_of_two = told(2, 3, Deed::Put, 't', End::Acked { stamp: 3 });
+    let write = Write {
         client: 2,
         number: 3,
     };
-    let told_of_two = told(2, 3, Deed::Put, 't', End::Acked { stamp: 3 });
-    let heard = told(
-        1,
-        2,
-        Deed::Get,
-        't',
-        End::Data {
-            stamp: 3,
-            write: seen,
-        },
-    );
-    for (all, want) in [
-        // Each finds the later of two writes.
-        ([one, got(1, 2, 2, 2), two, got(2, 2, 2, 2)], None),
-        // The first reads before the second writes.
-        ([one, got(1, 2, 1, 1), two, got(2, 2, 2, 2)], None),
-        // The second finds what is older than what it wrote.
-        ([one, got(1, 2, 1, 1), two, got(2, 2, 1, 1)], Some((2, 2))),
-        // A text with the stamp of another one.
-        ([one, got(1, 2, 2, 1), two, got(2, 2, 2, 2)], Some((1, 2))),
-        // Both have one stamp.
-        (
-            [one, got(1, 2, 1, 1), put(2, 1, 1), got(2, 2, 1, 2)],
-            Some((1, 1)),
-        ),
-        // It was read before it was written.
-        ([got(1, 0, 1, 1), one, two, got(2, 2, 2, 2)], Some((1, 0))),
-        // The second wrote after its own first write, and that is what the first has read; so it knows
-        // of that one too.
-        ([heard, got(1, 3, 2, 2), two, told_of_two], None),
-        ([one, heard, got(1, 3, 1, 1), told_of_two], None),
-    ] {
-        assert_eq!(rt; first_wrong(&all), want);
-    }
-    assert_eq!(rt;
-        first_wrong(&[one, heard, got(1, 3, 1, 1), two, told_of_two]),
-        Some((1, 3))
-    );
+    let heard = told(1, 2, Deed::Get, 't', End::Data { stamp: 3, write });
+    // The second wrote after its own first write, and that is what the first has read; so it knows of that
+    // one too.
+    let newer = first_wrong(&[heard, got(1, 3, 2, 2), two, told_of_two]);
+    let alone = first_wrong(&[one, heard, got(1, 3, 1, 1), told_of_two]);
+    let older = first_wrong(&[one, heard, got(1, 3, 1, 1), two, told_of_two]);
+    assert_eq!(rt; (newer, alone, older), (None, None, Some((1, 3))));
     Ok(())
 }

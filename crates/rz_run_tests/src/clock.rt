@@ -64,7 +64,6 @@ impl Clock {
 pub struct ClockDisk<'a, D: Disk> {
     disk: D,
     clock: &'a Clock,
-    number: u64,
     strokes: u64,
     is_made: bool,
 }
@@ -78,18 +77,13 @@ impl<'a, D: Disk> Model for ClockDisk<'a, D> {
 }
 
 impl<'a, D: Disk> ClockDisk<'a, D> {
-    pub fn new(disk: D, clock: &'a Clock, number: u64, strokes: u64) -> ClockDisk<'a, D> {
+    pub fn new(disk: D, clock: &'a Clock, strokes: u64) -> ClockDisk<'a, D> {
         ClockDisk {
             disk,
             clock,
-            number,
             strokes,
             is_made: false,
         }
-    }
-
-    pub fn number(&self) -> u64 {
-        self.number
     }
 }
 
@@ -151,7 +145,6 @@ impl<'a, D: Disk> Disk for ClockDisk<'a, D> {
 pub struct ClockLink<'a, L: Link> {
     link: L,
     clock: &'a Clock,
-    number: u64,
 }
 
 impl<'a, L: Link> Model for ClockLink<'a, L> {
@@ -163,16 +156,8 @@ impl<'a, L: Link> Model for ClockLink<'a, L> {
 }
 
 impl<'a, L: Link> ClockLink<'a, L> {
-    pub fn new(link: L, clock: &'a Clock, number: u64) -> ClockLink<'a, L> {
-        ClockLink {
-            link,
-            clock,
-            number,
-        }
-    }
-
-    pub fn number(&self) -> u64 {
-        self.number
+    pub fn new(link: L, clock: &'a Clock) -> ClockLink<'a, L> {
+        ClockLink { link, clock }
     }
 }
 

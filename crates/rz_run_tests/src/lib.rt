@@ -4,8 +4,7 @@
 //! make the order, a checker in plain code, which knows nothing of the contracts, goes over the printed text:
 //! whether a store could have answered so.
 //!
-//! In reading order: `told`, `checker`, `workload`, `printed`, `reading`, `clock`, `stage`, `rows`, `meeting`,
-//! `beside`.
+//! In reading order: `told`, `checker`, `workload`, `printed`, `stage`, `reading`, `clock`, `meeting`, `beside`.
 #![tactic(auto)]
 
 #[cfg(test)]
@@ -20,8 +19,6 @@ mod meeting;
 mod printed;
 #[cfg(test)]
 mod reading;
-#[cfg(test)]
-mod rows;
 #[cfg(test)]
 mod stage;
 #[cfg(test)]

@@ -1,15 +1,13 @@
 //! Writes of two clients that go to two nodes are under way at one time. One lock round the whole cluster, or
-//! one thread for all actors, would let none of them meet another.
-use crate::stage::{push, source_of, words_of};
+//! one thread for all actors, would let none of them meet another. Those of one client never meet.
+use crate::stage::{play, push};
 use rz_disk::PlainDisk;
 use rz_link::PlainLink;
 use rz_outage::{MeetDisk, Meeting};
-use rz_ports::PlainSink;
-use rz_run::run;
 use std::process::Abort;
+use std::sync::Wait;
 use std::test::Fail;
-
-const SCRIPT: &str = "op c1 create /a\nop c1 put /a 0 t:x\nop c2 create /b\nop c2 put /b 0 t:y\n";
+use std::thread::Threads;
 
 /// Four disks whose writes may meet.
 fn four<'a>(rt: &(impl Abort + AllocGlobal), meeting: &'a Meeting) -> Vec<MeetDisk<'a, PlainDisk>> {
@@ -28,38 +26,35 @@ fn four<'a>(rt: &(impl Abort + AllocGlobal), meeting: &'a Meeting) -> Vec<MeetDi
 fn acked(text: &str) -> u64 {
     let mut count = 0u64;
     for line in text.split('\n') {
-        if line.contains(" 2 acked ") && line.ends_with(" 1110") {
+        if line.contains(" acked ") && line.ends_with(" 1110") {
             count = count.saturating_add(1);
         }
     }
     count
 }
 
-#[test]
-fn writes_of_two_clients_meet(rt: HostRuntime) -> Result<(), Fail> {
-    let words = words_of(&rt, "rozo run --disks 4");
+/// How many writes of a script the first three nodes acknowledged, and whether two writes met.
+fn played<R: Threads + Wait + Abort + AllocGlobal + Sync>(rt: &R, script: &str) -> (u64, bool) {
     let meeting = Meeting::new();
-    let links = vec![in rt.alloc(); PlainLink::new(); 80].expect(&rt, "memory");
-    let mut input = source_of(&rt, SCRIPT.as_bytes());
-    let mut output = PlainSink::with_room(rt.alloc(), 4096).expect(&rt, "memory");
-    let ran = run(
-        &rt,
-        rt.alloc(),
-        &words,
-        &mut input,
-        &mut output,
-        four(&rt, &meeting),
-        links,
-        true,
-    );
-    drop(words);
-    drop(input);
-    let status = ran.status;
-    drop(ran);
-    let text = String::from_utf8_lossy(rt.alloc(), output.taken()).expect(&rt, "memory");
+    let links = vec![in rt.alloc(); PlainLink::new(); 80].expect(rt, "memory");
+    let disks = four(rt, &meeting);
+    let text = play(rt, "rozo run --disks 4", script, disks, links);
     let count = acked(&text);
     drop(text);
-    drop(output);
-    assert_eq!(rt; (status, count, meeting.met()), (0, 2, true));
+    (count, meeting.met())
+}
+
+#[test]
+fn writes_of_two_clients_meet(rt: HostRuntime) -> Result<(), Fail> {
+    let script = "op c1 create /a\nop c1 put /a 0 t:x\nop c2 create /b\nop c2 put /b 0 t:y\n";
+    let told = played(&rt, script);
+    assert_eq!(rt; told, (2, true));
+    Ok(())
+}
+
+#[test]
+fn writes_of_one_client_do_not_meet(rt: HostRuntime) -> Result<(), Fail> {
+    let told = played(&rt, "op c1 create /a\nop c1 put /a 0 t:x\n");
+    assert_eq!(rt; told, (1, false));
     Ok(())
 }

@@ -1,86 +1,63 @@
 //! What is printed of the workload, read back line by line.
 use crate::printed::end_of;
+use crate::stage::push;
 use crate::told::Told;
 use crate::workload::{CLIENTS, PLAN, TRIES, place_of};
-use std::alloc::{AllocError, Global};
 use std::process::Abort;
 
-/// The words of a line behind an actor and a number.
-fn words_of<'a>(
-    alloc: Global,
+/// Takes the line of an operation from the front of a text, and gives its words behind the actor and the
+/// number, and what is left of the text.
+fn take_line<'a>(
+    rt: &(impl Abort + AllocGlobal),
     actor: char,
     which: u64,
     number: u64,
-    line: &'a str,
-) -> Result<Option<&'a str>, AllocError> {
-    let front = format!(in alloc; "{actor}{which} {number} ")?;
-    let words = line.strip_prefix(front.as_str());
+    text: &'a str,
+) -> (&'a str, &'a str) {
+    let front = format!(in rt.alloc(); "{actor}{which} {number} ").expect(rt, "memory");
+    let (line, rest) = text.split_once('\n').expect(rt, "a line");
+    let words = line.strip_prefix(front.as_str()).expect(rt, "its words");
     drop(front);
-    Ok(words)
+    (words, rest)
 }
 
 /// Takes the lines of a client from the front of a text, and gives what is left of it.
 fn take_client<'a>(
-    alloc: Global,
+    rt: &(impl Abort + AllocGlobal),
     client: u64,
     text: &'a str,
     all: &mut Vec<Told>,
-) -> Result<Option<&'a str>, AllocError> {
+) -> &'a str {
     let mut rest = text;
     let mut number = 0u64;
     for (deed, is_shared, file, block) in PLAN {
         number = number.saturating_add(1);
-        let Some((line, after)) = rest.split_once('\n') else {
-            return Ok(None);
-        };
-        let Some(words) = words_of(alloc, 'c', client, number, line)? else {
-            return Ok(None);
-        };
-        let Some(end) = end_of(words) else {
-            return Ok(None);
-        };
-        let place = place_of(client, is_shared, file, block);
-        all.push(Told {
+        let (words, after) = take_line(rt, 'c', client, number, rest);
+        let told = Told {
             client,
             number,
             deed,
-            place,
-            end,
-        })?;
+            place: place_of(client, is_shared, file, block),
+            end: end_of(words).expect(rt, "an end"),
+        };
+        push(rt, all, told);
         rest = after;
     }
-    Ok(Some(rest))
-}
-
-/// Whether a rebuild came to its end, or found that no disk was lost.
-fn is_rebuilt(words: &str) -> Option<bool> {
-    if words == "notlost" {
-        return Some(false);
-    }
-    if words.starts_with("rebuilt ") {
-        return Some(true);
-    }
-    None
+    rest
 }
 
 /// Takes the line of a rebuild from the front of a text, and gives what is left of it.
 fn take_rebuild<'a>(
-    alloc: Global,
+    rt: &(impl Abort + AllocGlobal),
     number: u64,
     text: &'a str,
     all: &mut Vec<bool>,
-) -> Result<Option<&'a str>, AllocError> {
-    let Some((line, rest)) = text.split_once('\n') else {
-        return Ok(None);
-    };
-    let Some(words) = words_of(alloc, 'r', 1, number, line)? else {
-        return Ok(None);
-    };
-    let Some(is_rebuilt) = is_rebuilt(words) else {
-        return Ok(None);
-    };
-    all.push(is_rebuilt)?;
-    Ok(Some(rest))
+) -> &'a str {
+    let (words, rest) = take_line(rt, 'r', 1, number, text);
+    let is_rebuilt = words.starts_with("rebuilt ");
+    assert!(rt; is_rebuilt || words == "notlost");
+    push(rt, all, is_rebuilt);
+    rest
 }
 
 /// Whether this is the last line.
@@ -98,58 +75,19 @@ pub struct Printed {
     pub rebuilds: Vec<bool>,
 }
 
-/// Takes the lines of all clients from the front of a text, and gives what is left of it.
-fn take_clients<'a>(
-    alloc: Global,
-    text: &'a str,
-    all: &mut Vec<Told>,
-) -> Result<Option<&'a str>, AllocError> {
-    let mut rest = text;
-    for client in 1..=CLIENTS {
-        match take_client(alloc, client, rest, all)? {
-            Some(after) => rest = after,
-            None => return Ok(None),
-        }
-    }
-    Ok(Some(rest))
-}
-
-/// Takes the lines of the rebuilder from the front of a text, and gives what is left of it.
-fn take_rebuilds<'a>(
-    alloc: Global,
-    text: &'a str,
-    all: &mut Vec<bool>,
-) -> Result<Option<&'a str>, AllocError> {
-    let mut rest = text;
-    for number in 1..=TRIES + 2 {
-        match take_rebuild(alloc, number, rest, all)? {
-            Some(after) => rest = after,
-            None => return Ok(None),
-        }
-    }
-    Ok(Some(rest))
-}
-
-/// Takes all lines of a text, and answers whether it has all that are to be there, and no others.
-fn take_all(alloc: Global, text: &str, printed: &mut Printed) -> Result<bool, AllocError> {
-    let Some(rest) = take_clients(alloc, text, &mut printed.all)? else {
-        return Ok(false);
-    };
-    let Some(rest) = take_rebuilds(alloc, rest, &mut printed.rebuilds)? else {
-        return Ok(false);
-    };
-    Ok(is_last(rest))
-}
-
 /// What the printed text tells, which has to have all lines that are to be there, and no others.
 pub fn read_back(rt: &(impl Abort + AllocGlobal), text: &str) -> Printed {
-    let mut printed = Printed {
-        all: Vec::new(rt.alloc()),
-        rebuilds: Vec::new(rt.alloc()),
-    };
-    let is_whole = take_all(rt.alloc(), text, &mut printed).expect(rt, "memory");
-    assert!(rt; is_whole);
-    printed
+    let mut all = Vec::new(rt.alloc());
+    let mut rebuilds = Vec::new(rt.alloc());
+    let mut rest = text;
+    for client in 1..=CLIENTS {
+        rest = take_client(rt, client, rest, &mut all);
+    }
+    for number in 1..=TRIES + 2 {
+        rest = take_rebuild(rt, number, rest, &mut rebuilds);
+    }
+    assert!(rt; is_last(rest));
+    Printed { all, rebuilds }
 }
 
 /// Whether the rebuilder found a lost disk by one of its tries; where it did, it has to have rebuilt the nodes

@@ -1,7 +1,7 @@
 //! What each client did, and what was printed of it.
 
 /// What an operation does.
-#[derive(Clone, Copy, PartialEq, Eq, Drop)]
+#[derive(Clone, Copy, Drop)]
 pub enum Deed {
     Create,
     Put,
@@ -17,14 +17,14 @@ pub struct Place {
 }
 
 /// A write, by the client that made it and the number of its operation.
-#[derive(Clone, Copy, PartialEq, Eq, Drop)]
+#[derive(Clone, Copy, Drop)]
 pub struct Write {
     pub client: u64,
     pub number: u64,
 }
 
 /// How an operation ended. `TooFew` has the number of nodes that did what was asked.
-#[derive(Clone, Copy, PartialEq, Eq, Drop)]
+#[derive(Clone, Copy, Drop)]
 pub enum End {
     Created,
     Exists,

@@ -1,7 +1,7 @@
 //! What eight clients and a rebuilder do at one time, as a script.
 use crate::told::Deed::{self, Create, Get, Put};
 use crate::told::Place;
-use std::alloc::{AllocError, Global};
+use std::process::Abort;
 
 /// Sixteen nodes in two clusters of eight, and two more that have so little room that no file lies on them.
 const VOLUME: &str =
@@ -63,70 +63,48 @@ pub fn place_of(client: u64, is_shared: bool, file: char, block: u8) -> Place {
     Place { owner, file, block }
 }
 
-/// The name of the file of a block.
-fn path_of(alloc: Global, place: Place) -> Result<String, AllocError> {
-    let Place { owner, file, .. } = place;
-    if owner == 0 {
-        return format!(in alloc; "/{file}");
-    }
-    format!(in alloc; "/{file}{owner}")
-}
-
 /// The line of an operation. What it writes names the client and the operation.
 fn line_of(
-    alloc: Global,
+    rt: &(impl Abort + AllocGlobal),
     client: u64,
     number: u64,
     deed: Deed,
     place: Place,
-) -> Result<String, AllocError> {
-    let path = path_of(alloc, place)?;
-    let block = place.block;
+) -> String {
+    let Place { owner, file, block } = place;
+    let alloc = rt.alloc();
     let line = match deed {
-        Create => format!(in alloc; "op c{client} create {path}\n"),
-        Put => format!(in alloc; "op c{client} put {path} {block} x:{client:02}{number:02}\n"),
-        Get => format!(in alloc; "op c{client} get {path} {block}\n"),
+        Create => format!(in alloc; "op c{client} create /{file}{owner}\n"),
+        Put => format!(in alloc;
+            "op c{client} put /{file}{owner} {block} x:{client:02}{number:02}\n"
+        ),
+        Get => format!(in alloc; "op c{client} get /{file}{owner} {block}\n"),
     };
-    drop(path);
-    line
+    line.expect(rt, "memory")
 }
 
 /// Adds the lines of a client.
-fn add_client(alloc: Global, client: u64, script: &mut String) -> Result<(), AllocError> {
+fn add_client(rt: &(impl Abort + AllocGlobal), client: u64, script: &mut String) {
     let mut number = 0u64;
     for (deed, is_shared, file, block) in PLAN {
         number = number.saturating_add(1);
         let place = place_of(client, is_shared, file, block);
-        let line = line_of(alloc, client, number, deed, place)?;
-        let pushed = script.push_str(line.as_str());
+        let line = line_of(rt, client, number, deed, place);
+        script.push_str(line.as_str()).expect(rt, "memory");
         drop(line);
-        pushed?;
     }
-    Ok(())
-}
-
-/// Adds all lines.
-fn add_all(alloc: Global, script: &mut String) -> Result<(), AllocError> {
-    script.push_str(VOLUME)?;
-    script.push_str(LOSSES)?;
-    for _ in 0..TRIES {
-        script.push_str("op r1 rebuild n17\n")?;
-    }
-    script.push_str(REBUILDS)?;
-    for client in 1..=CLIENTS {
-        add_client(alloc, client, script)?;
-    }
-    Ok(())
 }
 
 /// The whole script.
-pub fn script(alloc: Global) -> Result<String, AllocError> {
-    let mut script = String::new(alloc);
-    match add_all(alloc, &mut script) {
-        Ok(()) => Ok(script),
-        Err(error) => {
-            drop(script);
-            Err(error)
-        }
+pub fn script(rt: &(impl Abort + AllocGlobal)) -> String {
+    let mut script = String::from_str(rt.alloc(), VOLUME).expect(rt, "memory");
+    script.push_str(LOSSES).expect(rt, "memory");
+    for _ in 0..TRIES {
+        script.push_str("op r1 rebuild n17\n").expect(rt, "memory");
     }
+    script.push_str(REBUILDS).expect(rt, "memory");
+    for client in 1..=CLIENTS {
+        add_client(rt, client, &mut script);
+    }
+    script
 }

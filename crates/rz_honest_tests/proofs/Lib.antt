@@ -1,3 +1,0 @@
-pub mod Honest
-pub mod Acts
-pub mod Closures

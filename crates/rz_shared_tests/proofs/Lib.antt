@@ -1,3 +1,0 @@
-pub mod Dishonest
-pub mod Records
-pub mod Closures
