@@ -6,7 +6,7 @@ ghost use Rattle.rz_chronicle.specs.Kinds.{kind_of};
 use crate::telling::Teller;
 use crate::threads::add_all;
 use crate::words::BookSize;
-use rz_chronicle::{Book, Crew, Naming, Opened, Pass, read_back};
+use rz_chronicle::{Book, Naming, Opened, Pass, read_back};
 use rz_config::Volume;
 use std::alloc::{AllocError, Global};
 use std::io;

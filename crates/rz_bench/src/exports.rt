@@ -1,6 +1,6 @@
 //! An export that has files, and published blocks spread over the files.
 
-ghost use Rattle.std.specs.Prelude.{◌≡◌, ◌-◌, ◌<◌, ◌≤◌, IfOk, OnOk, length, vec_len, vec_capacity};
+ghost use Rattle.std.specs.Prelude.{◌≡◌, ◌-◌, ◌≤◌, IfOk, OnOk, length, vec_len, vec_capacity};
 
 use crate::files::{
     Files, Kind, call_of, create, is_first, made, mkdir, publish, published, stamp_of, volume,
@@ -273,9 +273,10 @@ impl FilledExport {
         requires room { count ≤ vec_capacity calls.old }
         ensures { OnOk result (vec_len calls.new ≡ count) }
     {
-        for call in 0..count {
-            let file = spread(call, self.files.size.files);
-            calls.push_reserved(call_of(self.alloc, kind, file)?);
+        for number in 0..count {
+            let file = spread(number, self.files.size.files);
+            let call = call_of(self.alloc, kind, file)?;
+            calls.push_reserved(call);
         }
         Ok(())
     }

@@ -1,6 +1,6 @@
 //! A journal whose export has files, and published blocks spread over the files.
 
-ghost use Rattle.std.specs.Prelude.{◌≡◌, ◌-◌, ◌≤◌, IfOk};
+ghost use Rattle.std.specs.Prelude.{◌≡◌, ◌-◌, IfOk};
 
 use crate::counting::CountingDisk;
 use crate::files::{Files, create, is_first, made, mkdir, publish, published, stamp_of, volume};

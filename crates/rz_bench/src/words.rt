@@ -1,6 +1,6 @@
 //! The words of the command line, and what they want to be run.
 
-ghost use Rattle.std.specs.Prelude.{◌+◌, ◌≤◌, length, IfSome};
+ghost use Rattle.std.specs.Prelude.{◌≤◌, length, IfSome, OnSome};
 
 /// How large a node is, and how many calls of each kind are made on it.
 #[derive(Clone, Copy, Drop)]
@@ -54,7 +54,7 @@ fn number(word: &str, most: u32) -> Option<u32>
 
 /// The size that the first three words give, where they order a node, and the words after them.
 fn node_size(words: &[String]) -> Option<(NodeSize, &[String])>
-    ensures { IfSome result (λ p. length p.1.now + 3 ≤ length words.now) }
+    ensures { OnSome result (3 ≤ length words.now) }
 {
     let [command, pairs, calls, rest @ ..] = words else {
         return None;
@@ -69,7 +69,7 @@ fn node_size(words: &[String]) -> Option<(NodeSize, &[String])>
 
 /// The size that the first four words give, where the first is `order`, and the words after them.
 fn files_size<'a>(order: &str, words: &'a [String]) -> Option<(FilesSize, &'a [String])>
-    ensures { IfSome result (λ p. length p.1.now + 4 ≤ length words.now) }
+    ensures { OnSome result (4 ≤ length words.now) }
 {
     let [command, files, blocks, calls, rest @ ..] = words else {
         return None;
@@ -94,7 +94,7 @@ fn files_size<'a>(order: &str, words: &'a [String]) -> Option<(FilesSize, &'a [S
 
 /// The size that the first three words give, where they order a book, and the words after them.
 fn book_size(words: &[String]) -> Option<(BookSize, &[String])>
-    ensures { IfSome result (λ p. length p.1.now + 3 ≤ length words.now) }
+    ensures { OnSome result (3 ≤ length words.now) }
 {
     let [command, threads, events, rest @ ..] = words else {
         return None;
