@@ -1,22 +1,22 @@
 #!/usr/bin/env bash
-# Proves and builds rz_bench and rz_journal_bench, runs them on nodes and exports of three sizes and on journals of two,
-# and prints three tables: microseconds a call, and the memory of the whole run. OPS is the number of calls of each kind on
-# a node or an export. It needs GNU time.
+# Proves and builds rz_bench, runs it on nodes and exports of three sizes and on journals of two, and prints three tables:
+# microseconds a call, and the memory of the whole run. OPS is the number of calls of each kind on a node or an export. It
+# needs GNU time.
 set -eu
 here="$(cd "$(dirname "$0")" && pwd)"
-crates="$here/../crates"
+crate="$here/../crates/rz_bench"
+program="$crate/out/rz_bench"
 ops="${OPS:-1000}"
-(cd "$crates/rz_bench" && rt run -- node 1 1 >/dev/null)
-(cd "$crates/rz_journal_bench" && rt run -- 1 1 1 >/dev/null)
+(cd "$crate" && rt run -- node 1 1 >/dev/null)
 out="$(mktemp -d)"
 trap 'rm -rf "$out"' EXIT
 
-# measure FILE PROGRAM WORDS..: runs a program, and writes what it prints and its greatest resident memory.
+# measure FILE WORDS..: runs the program, and writes what it prints and its greatest resident memory.
 measure() {
-    local file="$1" program="$2"
-    shift 2
-    echo "$program $*" >&2
-    /usr/bin/time -o "$file.memory" -f '%M' "$crates/$program/out/$program" "$@" times >"$file"
+    local file="$1"
+    shift
+    echo "rz_bench $*" >&2
+    /usr/bin/time -o "$file.memory" -f '%M' "$program" "$@" times >"$file"
     echo "memory $(($(tail -n 1 "$file.memory") / 1024))" >>"$file"
 }
 
@@ -44,15 +44,15 @@ table() {
 }
 
 for pairs in 1024 32768 1048576; do
-    measure "$out/node.$pairs" rz_bench node "$pairs" "$ops"
+    measure "$out/node.$pairs" node "$pairs" "$ops"
 done
 # With a directory for each 256 files these are 1,024, 16,384 and 65,535 objects.
-measure "$out/export.1020" rz_bench export 1020 16384 "$ops"
-measure "$out/export.16320" rz_bench export 16320 262144 "$ops"
-measure "$out/export.65280" rz_bench export 65280 1000000 "$ops"
+measure "$out/export.1020" export 1020 16384 "$ops"
+measure "$out/export.16320" export 16320 262144 "$ops"
+measure "$out/export.65280" export 65280 1000000 "$ops"
 # Of larger exports the parts do not stand in half a journal's disk. So many writes are made that halves change.
-measure "$out/journal.32000" rz_journal_bench 32000 100000 50000
-measure "$out/journal.58500" rz_journal_bench 58500 58500 50000
+measure "$out/journal.32000" journal 32000 100000 50000
+measure "$out/journal.58500" journal 58500 58500 50000
 
 table "$out"/node.1024 "$out"/node.32768 "$out"/node.1048576
 echo

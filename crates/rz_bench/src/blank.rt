@@ -7,7 +7,7 @@ use std::alloc::Global;
 
 /// No call of it fails, and none takes memory. It tells no text, since it reads as zeros whatever was
 /// written, and a crash leaves it alone.
-#[derive(Debug, Drop)]
+#[derive(Drop)]
 pub struct Blank {
     size: u64,
 }

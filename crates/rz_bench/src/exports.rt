@@ -1,10 +1,13 @@
-//! An export with files in directories of 256 names, and published blocks spread over the files.
+//! An export that has files, and published blocks spread over the files.
 
-ghost use Rattle.std.specs.Prelude.{◌≡◌, ◌-◌, ◌<◌, ◌≤◌, IfOk, length, vec_len};
+ghost use Rattle.std.specs.Prelude.{◌≡◌, ◌-◌, ◌≤◌, IfOk, OnOk, length, vec_len, vec_capacity};
 
+use crate::files::{
+    Files, Kind, call_of, create, is_first, made, mkdir, publish, published, stamp_of, volume,
+};
 use crate::tally::{Tally, spread};
-use rz_config::{Volume, VolumeError};
-use rz_events::{Call, Key, Published, Reply, Text, TreeCall, TreeReply};
+use crate::words::FilesSize;
+use rz_events::{Key, Reply, TreeCall, TreeReply};
 use rz_export::Export;
 use std::alloc::{AllocError, Global};
 
@@ -21,69 +24,18 @@ const VOLUME: &str = r#"{"layout": 0, "bsize": 4096, "clusters": [{"cid": 1, "no
 {"sid": 15, "cells": 1048576}, {"sid": 16, "cells": 1048576},
 {"sid": 17, "cells": 1}]}]}"#;
 
-/// The names in a directory.
-const NAMES: u32 = 256;
-
-/// The bytes of a block.
-const BLOCK: u32 = 4096;
-
-/// The positions that have a write's records: three of the four, in turn.
-const MASKS: [u16; 4] = [7, 11, 13, 14];
-
 /// A node that has its share of the blocks.
 const USED: u16 = 1;
 
 /// The node that has no block.
 const UNUSED: u16 = 17;
 
-/// An export. Block `n` of all blocks stands in file `n % files`.
+/// An export that has these files.
 #[derive(Drop)]
 pub struct FilledExport {
     alloc: Global,
     export: Export,
-    files: u32,
-    blocks: u32,
-    /// The number of each file that was made.
-    fids: Vec<u128>,
-    ghost some: { 1 ≤ files },
-    ghost no_fewer: { files ≤ blocks },
-}
-
-/// A call to make a file, and one to take its name away.
-#[derive(Drop)]
-pub struct Round {
-    create: TreeCall,
-    unlink: TreeCall,
-}
-
-fn volume(alloc: Global) -> Result<Volume, AllocError> {
-    match Volume::read(alloc, VOLUME) {
-        Ok(volume) => Ok(volume),
-        Err(VolumeError::NoMemory) => Err(AllocError),
-        Err(VolumeError::Refused(_)) => Volume::plain(alloc),
-    }
-}
-
-/// The path of the directory of a file.
-fn directory(alloc: Global, file: u32) -> Result<Text, AllocError> {
-    let number = file / NAMES;
-    let path = format!(in alloc; "/d{number:03}")?;
-    Text::from_bytes(alloc, path.as_bytes())
-}
-
-/// The path of a file.
-fn path_of(alloc: Global, file: u32) -> Result<Text, AllocError> {
-    let number = file / NAMES;
-    let name = file % NAMES;
-    let path = format!(in alloc; "/d{number:03}/f{name:03}")?;
-    Text::from_bytes(alloc, path.as_bytes())
-}
-
-/// The path of one more file beside a file.
-fn path_beside(alloc: Global, file: u32) -> Result<Text, AllocError> {
-    let number = file / NAMES;
-    let path = format!(in alloc; "/d{number:03}/more")?;
-    Text::from_bytes(alloc, path.as_bytes())
+    files: Files,
 }
 
 /// The key just below all that are not below this one.
@@ -100,22 +52,6 @@ fn before(key: Key) -> Key {
     }
 }
 
-/// The number of the file that was made, or 0.
-fn made(reply: &TreeReply) -> u128 {
-    match reply {
-        TreeReply::MadeFile(info) => info.fid,
-        _ => 0,
-    }
-}
-
-/// The stamp of a write that was begun.
-fn stamp_of(reply: &Reply) -> Option<u64> {
-    match reply {
-        Reply::Begun { stamp, .. } => Some(*stamp),
-        _ => None,
-    }
-}
-
 /// Whether a reply lists a block above this one, or says that there is none.
 fn is_above(reply: &Reply, key: Key) -> bool {
     match reply {
@@ -125,65 +61,50 @@ fn is_above(reply: &Reply, key: Key) -> bool {
     }
 }
 
-/// The calls that make one more file beside a file, and take it away again.
-fn round_beside(alloc: Global, file: u32) -> Result<Round, AllocError> {
-    let create = TreeCall::Create {
-        path: path_beside(alloc, file)?,
-    };
-    let unlink = TreeCall::Unlink {
-        path: path_beside(alloc, file)?,
-    };
-    Ok(Round { create, unlink })
+/// An export of these nodes that has no file.
+fn new_export(alloc: Global) -> Result<Export, AllocError> {
+    let volume = volume(alloc, VOLUME)?;
+    Export::new(alloc, volume, 0)
 }
 
 impl FilledExport {
     /// An export of sixteen nodes that is to have so many files and blocks, and has none.
-    pub fn new(alloc: Global, files: u32, blocks: u32) -> Result<FilledExport, AllocError>
-        requires some { 1 ≤ files }
-        requires no_fewer { files ≤ blocks }
+    pub fn new(alloc: Global, size: FilesSize) -> Result<FilledExport, AllocError>
+        ensures { IfOk result (λ e. e.files.size ≡ size) }
     {
-        let fids = Vec::with_capacity(alloc, files as usize)?;
-        let volume = volume(alloc)?;
-        let export = Export::new(alloc, volume, 0)?;
-        Ok(FilledExport {
-            alloc,
-            export,
-            files,
-            blocks,
-            fids,
-        })
+        let files = Files::none(alloc, size)?;
+        match new_export(alloc) {
+            Ok(export) => Ok(FilledExport {
+                alloc,
+                export,
+                files,
+            }),
+            Err(error) => {
+                drop(files);
+                Err(error)
+            }
+        }
     }
 
-    /// The key of a block.
-    fn key_of(&self, number: u32) -> Key {
-        let file = (number % self.files) as usize;
-        Key {
-            fid: self.fids.get(file).copied().unwrap_or(0),
-            block: u64::from(number / self.files),
-        }
+    /// Begins a write of a block, and answers its stamp.
+    fn begin(&mut self, key: Key) -> Result<Option<u64>, AllocError> {
+        let reply = self.export.begin(key)?;
+        let stamp = stamp_of(&reply);
+        drop(reply);
+        Ok(stamp)
     }
 
     /// Begins a write of a block and publishes it, and answers whether both were taken.
     fn publish(&mut self, number: u32) -> Result<bool, AllocError> {
-        let key = self.key_of(number);
-        let begun = self.export.begin(key)?;
-        let stamp = stamp_of(&begun);
-        drop(begun);
-        let Some(stamp) = stamp else {
+        let key = self.files.key_of(number);
+        let Some(stamp) = self.begin(key)? else {
             return Ok(false);
         };
-        let published = Published {
-            stamp,
-            mask: MASKS[(number % 4) as usize],
-            length: BLOCK,
-        };
-        let call = Call::Publish {
-            key,
-            stamp: published.stamp,
-            mask: published.mask,
-            length: published.length,
-        };
-        if !self.export.takes(&call) {
+        let published = published(number, stamp);
+        let call = publish(key, published);
+        let is_taken = self.export.takes(&call);
+        drop(call);
+        if !is_taken {
             return Ok(false);
         }
         let reply = self.export.publish(key, published);
@@ -192,37 +113,37 @@ impl FilledExport {
         Ok(is_accepted)
     }
 
+    /// Makes a call on names.
+    fn name(&mut self, call: TreeCall) -> Result<TreeReply, AllocError> {
+        let reply = self.export.name(&call);
+        drop(call);
+        reply
+    }
+
     /// Makes the directory of a file.
     fn make_directory(&mut self, file: u32) -> Result<(), AllocError> {
-        let path = directory(self.alloc, file)?;
-        let call = TreeCall::Mkdir { path };
-        let named = self.export.name(&call);
-        drop(call);
-        drop(named?);
+        let call = mkdir(self.alloc, file)?;
+        drop(self.name(call)?);
         Ok(())
     }
 
     /// Makes a file.
     fn make_file(&mut self, file: u32) -> Result<(), AllocError> {
-        let path = path_of(self.alloc, file)?;
-        let call = TreeCall::Create { path };
-        let named = self.export.name(&call);
-        drop(call);
-        let reply = named?;
+        let call = create(self.alloc, file)?;
+        let reply = self.name(call)?;
         let fid = made(&reply);
         drop(reply);
-        self.fids.push(fid)?;
-        Ok(())
+        self.files.note(fid)
     }
 
     /// Makes the files, and publishes the first block of each, so that they spread over the nodes.
     pub fn create(&mut self) -> Result<Tally, AllocError>
-        ensures { IfOk result (λ t. t.calls ≡ self.old.files) }
+        ensures { IfOk result (λ t. t.calls ≡ self.old.files.size.files) }
     {
-        let files = self.files;
+        let files = self.files.size.files;
         let mut tally = Tally::none();
         for file in 0..files {
-            if file % NAMES == 0 {
+            if is_first(file) {
                 self.make_directory(file)?;
             }
             self.make_file(file)?;
@@ -234,10 +155,10 @@ impl FilledExport {
 
     /// Publishes all other blocks.
     pub fn fill(&mut self) -> Result<Tally, AllocError>
-        ensures { IfOk result (λ t. t.calls ≡ self.old.blocks - self.old.files) }
+        ensures { IfOk result (λ t. t.calls ≡ self.old.files.size.blocks - self.old.files.size.files) }
     {
-        let files = self.files;
-        let blocks = self.blocks;
+        let files = self.files.size.files;
+        let blocks = self.files.size.blocks;
         let mut tally = Tally::none();
         for number in files..blocks {
             let accepted = self.publish(number)?;
@@ -252,7 +173,7 @@ impl FilledExport {
     {
         let mut tally = Tally::none();
         for call in 0..calls {
-            let accepted = self.publish(spread(call, self.blocks))?;
+            let accepted = self.publish(spread(call, self.files.size.blocks))?;
             tally.note(accepted);
         }
         Ok(tally)
@@ -264,7 +185,9 @@ impl FilledExport {
     {
         let mut tally = Tally::none();
         for call in 0..calls {
-            let reply = self.export.look(self.key_of(spread(call, self.blocks)));
+            let reply = self
+                .export
+                .look(self.files.key_of(spread(call, self.files.size.blocks)));
             tally.note(matches!(reply, Reply::Looked(Some(_))));
             drop(reply);
         }
@@ -277,7 +200,9 @@ impl FilledExport {
     {
         let mut tally = Tally::none();
         for call in 0..calls {
-            let reply = self.export.recheck(self.key_of(spread(call, self.blocks)));
+            let reply = self
+                .export
+                .recheck(self.files.key_of(spread(call, self.files.size.blocks)));
             tally.note(matches!(reply, Reply::Looked(Some(_))));
             drop(reply);
         }
@@ -290,7 +215,7 @@ impl FilledExport {
     {
         let mut tally = Tally::none();
         for call in 0..calls {
-            let key = self.key_of(spread(call, self.blocks));
+            let key = self.files.key_of(spread(call, self.files.size.blocks));
             let reply = self.export.next(USED, Some(key));
             tally.note(is_above(&reply, key));
             drop(reply);
@@ -304,7 +229,7 @@ impl FilledExport {
     {
         let mut tally = Tally::none();
         for call in 0..calls {
-            let key = self.key_of(spread(call, self.blocks));
+            let key = self.files.key_of(spread(call, self.files.size.blocks));
             let reply = self.export.next(UNUSED, Some(key));
             tally.note(matches!(reply, Reply::Listed(None)));
             drop(reply);
@@ -318,7 +243,7 @@ impl FilledExport {
     {
         let mut tally = Tally::none();
         for call in 0..calls {
-            let key = self.key_of(spread(call, self.blocks));
+            let key = self.files.key_of(spread(call, self.files.size.blocks));
             let is_it = match self.export.published(Some(before(key))) {
                 Some(listed) => listed.key == key,
                 None => false,
@@ -328,16 +253,32 @@ impl FilledExport {
         tally
     }
 
-    /// Calls that look up the paths of files.
-    pub fn lookups(&self, calls: u32) -> Result<Vec<TreeCall>, AllocError>
-        ensures { IfOk result (λ v. vec_len v ≡ calls) }
+    /// Calls on the names of files, or on those beside them.
+    pub fn calls(&self, kind: Kind, count: u32) -> Result<Vec<TreeCall>, AllocError>
+        ensures { IfOk result (λ v. vec_len v ≡ count) }
     {
-        let mut lookups = Vec::new(self.alloc);
-        for call in 0..calls {
-            let path = path_of(self.alloc, spread(call, self.files))?;
-            lookups.push(TreeCall::Lookup { path })?;
+        let mut calls = Vec::with_capacity(self.alloc, count as usize)?;
+        match self.add_calls(&mut calls, kind, count) {
+            Ok(()) => Ok(calls),
+            Err(error) => {
+                drop(calls);
+                Err(error)
+            }
         }
-        Ok(lookups)
+    }
+
+    /// Adds so many calls to none.
+    fn add_calls(&self, calls: &mut Vec<TreeCall>, kind: Kind, count: u32) -> Result<(), AllocError>
+        requires none { vec_len calls.old ≡ 0 }
+        requires room { count ≤ vec_capacity calls.old }
+        ensures { OnOk result (vec_len calls.new ≡ count) }
+    {
+        for number in 0..count {
+            let file = spread(number, self.files.size.files);
+            let call = call_of(self.alloc, kind, file)?;
+            calls.push_reserved(call);
+        }
+        Ok(())
     }
 
     /// Makes calls that look up paths.
@@ -353,30 +294,35 @@ impl FilledExport {
         Ok(tally)
     }
 
-    /// Calls that make one more file in the directories of files, and take it away again.
-    pub fn rounds(&self, calls: u32) -> Result<Vec<Round>, AllocError>
-        ensures { IfOk result (λ v. vec_len v ≡ calls) }
-    {
-        let mut rounds = Vec::new(self.alloc);
-        for call in 0..calls {
-            let file = spread(call, self.files);
-            rounds.push(round_beside(self.alloc, file)?)?;
-        }
-        Ok(rounds)
+    /// Makes a file, and answers whether it was made.
+    fn come(&mut self, create: &TreeCall) -> Result<bool, AllocError> {
+        let reply = self.export.name(create)?;
+        let is_made = matches!(reply, TreeReply::MadeFile(_));
+        drop(reply);
+        Ok(is_made)
     }
 
-    /// Makes files and takes them away again.
-    pub fn come_and_go(&mut self, rounds: &[Round]) -> Result<Tally, AllocError>
-        ensures { IfOk result (λ t. t.calls ≡ length rounds.now) }
+    /// Takes a file away, and answers whether it is gone.
+    fn go(&mut self, unlink: &TreeCall) -> Result<bool, AllocError> {
+        let reply = self.export.name(unlink)?;
+        let is_gone = matches!(reply, TreeReply::Gone(Some(_)));
+        drop(reply);
+        Ok(is_gone)
+    }
+
+    /// Makes files, and takes each away again before the next one.
+    pub fn come_and_go(
+        &mut self,
+        creates: &[TreeCall],
+        unlinks: &[TreeCall],
+    ) -> Result<Tally, AllocError>
+        requires { length creates.now ≡ length unlinks.now }
+        ensures { IfOk result (λ t. t.calls ≡ length creates.now) }
     {
         let mut tally = Tally::none();
-        for round in rounds {
-            let made = self.export.name(&round.create)?;
-            let is_made = matches!(made, TreeReply::MadeFile(_));
-            drop(made);
-            let gone = self.export.name(&round.unlink)?;
-            let is_gone = matches!(gone, TreeReply::Gone(Some(_)));
-            drop(gone);
+        for round in 0..creates.len() {
+            let is_made = self.come(&creates[round])?;
+            let is_gone = self.go(&unlinks[round])?;
             tally.note(is_made && is_gone);
         }
         Ok(tally)

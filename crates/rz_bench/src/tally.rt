@@ -6,7 +6,7 @@ ghost use Rattle.std.specs.Prelude.{◌≡◌, ◌+◌, ◌-◌, ◌*◌, ◌%�
 const STEP: u64 = 2_654_435_761;
 
 /// How many calls were made, and how many of them answered as expected.
-#[derive(Clone, Copy, Debug, Drop)]
+#[derive(Clone, Copy, Drop)]
 pub struct Tally {
     pub calls: u64,
     pub expected: u64,
@@ -23,6 +23,15 @@ impl Tally {
             calls: 0,
             expected: 0,
         }
+    }
+
+    /// One call.
+    pub fn of(as_expected: bool) -> Tally
+        ensures calls { result.calls ≡ 1 }
+        ensures expected { result.expected ≡ (if as_expected then 1 else 0) }
+    {
+        let expected = if as_expected { 1 } else { 0 };
+        Tally { calls: 1, expected }
     }
 
     /// Counts a call. The counts stay at the last u64.

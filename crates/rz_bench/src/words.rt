@@ -1,9 +1,9 @@
 //! The words of the command line, and what they want to be run.
 
-ghost use Rattle.std.specs.Prelude.{◌≡◌, ◌≤◌, length, IfSome, OnSome};
+ghost use Rattle.std.specs.Prelude.{◌≤◌, length, IfSome, OnSome};
 
 /// How large a node is, and how many calls of each kind are made on it.
-#[derive(Clone, Copy, Debug, Drop)]
+#[derive(Clone, Copy, Drop)]
 pub struct NodeSize {
     pub pairs: u32,
     pub calls: u32,
@@ -11,9 +11,9 @@ pub struct NodeSize {
     ghost few: { pairs ≤ 1048576 },
 }
 
-/// How large an export is, and how many calls of each kind are made on it.
-#[derive(Clone, Copy, Debug, Drop)]
-pub struct ExportSize {
+/// How large an export is, and how many calls of each kind are made on it, or writes on its journal.
+#[derive(Clone, Copy, Drop)]
+pub struct FilesSize {
     pub files: u32,
     /// Of all files together.
     pub blocks: u32,
@@ -22,11 +22,22 @@ pub struct ExportSize {
     ghost no_fewer_blocks: { files ≤ blocks },
 }
 
+/// How many threads there are, and how many events each of them adds to a book.
+#[derive(Clone, Copy, Drop)]
+pub struct BookSize {
+    pub threads: usize,
+    pub events: u64,
+    ghost some: { 1 ≤ threads },
+    ghost few: { threads ≤ 64 },
+}
+
 /// What is to be run, and whether times are told.
-#[derive(Clone, Copy, Debug, Drop)]
+#[derive(Clone, Copy, Drop)]
 pub struct Plan {
     pub node: Option<NodeSize>,
-    pub export: Option<ExportSize>,
+    pub export: Option<FilesSize>,
+    pub journal: Option<FilesSize>,
+    pub book: Option<BookSize>,
     pub times: bool,
 }
 
@@ -41,11 +52,11 @@ fn number(word: &str, most: u32) -> Option<u32>
     }
 }
 
-/// The size that the first three words give, where they order a node.
-fn node_size(words: &[String]) -> Option<NodeSize>
+/// The size that the first three words give, where they order a node, and the words after them.
+fn node_size(words: &[String]) -> Option<(NodeSize, &[String])>
     ensures { OnSome result (3 ≤ length words.now) }
 {
-    let [command, pairs, calls, ..] = words else {
+    let [command, pairs, calls, rest @ ..] = words else {
         return None;
     };
     if command.as_str() != "node" {
@@ -53,17 +64,17 @@ fn node_size(words: &[String]) -> Option<NodeSize>
     }
     let pairs = number(pairs.as_str(), 1_048_576)?;
     let calls = number(calls.as_str(), 1_048_576)?;
-    Some(NodeSize { pairs, calls })
+    Some((NodeSize { pairs, calls }, rest))
 }
 
-/// The size that the first four words give, where they order an export.
-fn export_size(words: &[String]) -> Option<ExportSize>
+/// The size that the first four words give, where the first is `order`, and the words after them.
+fn files_size<'a>(order: &str, words: &'a [String]) -> Option<(FilesSize, &'a [String])>
     ensures { OnSome result (4 ≤ length words.now) }
 {
-    let [command, files, blocks, calls, ..] = words else {
+    let [command, files, blocks, calls, rest @ ..] = words else {
         return None;
     };
-    if command.as_str() != "export" {
+    if command.as_str() != order {
         return None;
     }
     // With 255 directories these are 65,535 objects, and there is room for one more.
@@ -73,30 +84,64 @@ fn export_size(words: &[String]) -> Option<ExportSize>
     if blocks < files {
         return None;
     }
-    Some(ExportSize {
+    let size = FilesSize {
         files,
         blocks,
         calls,
-    })
+    };
+    Some((size, rest))
+}
+
+/// The size that the first three words give, where they order a book, and the words after them.
+fn book_size(words: &[String]) -> Option<(BookSize, &[String])>
+    ensures { OnSome result (3 ≤ length words.now) }
+{
+    let [command, threads, events, rest @ ..] = words else {
+        return None;
+    };
+    if command.as_str() != "book" {
+        return None;
+    }
+    let threads = number(threads.as_str(), 64)? as usize;
+    let events = events.as_str().parse::<u64>().ok()?;
+    Some((BookSize { threads, events }, rest))
+}
+
+/// The size that was found, if any, and the words after it, or all of them.
+fn split<'a, T: Copy + Drop>(
+    found: Option<(T, &'a [String])>,
+    words: &'a [String],
+) -> (Option<T>, &'a [String]) {
+    match found {
+        Some((size, rest)) => (Some(size), rest),
+        None => (None, words),
+    }
+}
+
+/// Whether the words behind all that is ordered want times, where they are understood.
+fn times(words: &[String]) -> Option<bool> {
+    match words {
+        [] => Some(false),
+        [word] if word.as_str() == "times" => Some(true),
+        _ => None,
+    }
 }
 
 /// What the words after the program's name want to be run, where they are understood.
 pub fn plan_of(words: &[String]) -> Option<Plan> {
-    let node = node_size(words);
-    let rest = if node.is_some() { &words[3..] } else { words };
-    let export = export_size(rest);
-    let rest = if export.is_some() { &rest[4..] } else { rest };
-    let times = match rest {
-        [] => false,
-        [word] if word.as_str() == "times" => true,
-        _ => return None,
-    };
-    if node.is_none() && export.is_none() {
+    let (node, rest) = split(node_size(words), words);
+    let (export, rest) = split(files_size("export", rest), rest);
+    let (journal, rest) = split(files_size("journal", rest), rest);
+    let (book, rest) = split(book_size(rest), rest);
+    if rest.len() == words.len() {
         return None;
     }
+    let times = times(rest)?;
     Some(Plan {
         node,
         export,
+        journal,
+        book,
         times,
     })
 }

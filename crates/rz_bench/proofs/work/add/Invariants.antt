@@ -1,5 +1,5 @@
 use Rattle.std.proofs.Common.{◌≡◌}
-use Rattle.rz_book_bench.proofs.work.add.Given as goal
+use Rattle.rz_bench.proofs.work.add.Given as goal
 
 -- it is still the same actor's pass
 abbrev pub invariant-loop : goal.invariant-loop
