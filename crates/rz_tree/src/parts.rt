@@ -15,7 +15,7 @@ use rz_names::Path;
 use std::alloc::AllocError;
 
 /// A part of what an export knows. All its parts together are the export.
-#[derive(Debug, Drop)]
+#[derive(Drop)]
 pub enum Part {
     /// The last number drawn, and the number of the object that was made last.
     Counters {
