@@ -1,6 +1,7 @@
 //! The parts of a description: objects, numbers and lists at a path.
 
 ghost use Rattle.std.specs.Prelude.{◌≡◌, ◌≤◌, ◌++◌, option_map, IfOk, codes, string_bytes};
+ghost use Rattle.serde_json.specs.Find.{get};
 ghost use Rattle.serde_json.specs.View.{view, items_view, members_view};
 ghost use Rattle.rz_config.specs.Answers.{Gives, Fails};
 ghost use Rattle.rz_config.specs.Described.{is_key, fails, object_at, number_at, number_within, list_at, unknown_key, at_key, at_index};
@@ -10,7 +11,7 @@ use serde_json::{Map, Value};
 use std::alloc::{AllocError, Global};
 
 /// The kinds of objects in a description.
-#[derive(Clone, Copy, Debug, PartialEq, Eq)]
+#[derive(Clone, Copy)]
 pub enum Kind {
     Volume,
     Cluster,
@@ -133,6 +134,33 @@ pub fn index_path(alloc: Global, path: &str, i: usize) -> Result<String, AllocEr
     format!(in alloc; "{path}[{i}]")
 }
 
+/// The fault at a member of the object at `path`, unless memory runs out.
+pub fn fault_at(alloc: Global, path: &str, key: &str, cause: VolumeCause) -> VolumeError
+    ensures { Fails result (fails {A = Unit {0}} (at_key path.now key.now) cause) }
+{
+    match key_path(alloc, path, key) {
+        Ok(path) => fault(alloc, path.as_str(), cause),
+        Err(_) => VolumeError::NoMemory,
+    }
+}
+
+/// The number from `low` to `high` that is a member of the object at `path`.
+pub fn read_member(
+    alloc: Global,
+    path: &str,
+    key: &str,
+    low: u64,
+    high: u64,
+    object: &Value,
+) -> Result<u64, VolumeError>
+    ensures value { Gives (λ n. n) result (number_within (at_key path.now key.now) low high (get key.now (view object.now))) }
+    ensures low { IfOk result (λ n. low ≤ n) }
+    ensures high { IfOk result (λ n. n ≤ high) }
+{
+    let path = key_path(alloc, path, key)?;
+    read_number_within(alloc, path.as_str(), low, high, object.get(key))
+}
+
 /// An object with none but the keys of its kind.
 #[tactic(auto, unfolding(crate::specs::Described::object_at))]
 pub fn read_object(alloc: Global, path: &str, kind: Kind, value: &Value) -> Result<(), VolumeError>
@@ -145,10 +173,7 @@ pub fn read_object(alloc: Global, path: &str, kind: Kind, value: &Value) -> Resu
         return Err(fault(alloc, path, VolumeCause::NotObject));
     };
     match unknown_key(kind, members) {
-        Some(key) => {
-            let path = key_path(alloc, path, key.as_str())?;
-            Err(fault(alloc, path.as_str(), VolumeCause::UnknownKey))
-        }
+        Some(key) => Err(fault_at(alloc, path, key.as_str(), VolumeCause::UnknownKey)),
         None => Ok(()),
     }
 }

@@ -9,7 +9,8 @@ ghost use Rattle.rz_config.specs.Answers.{Gives};
 ghost use Rattle.rz_config.specs.Described.{layout_of, layouts, has_sid, has_cid, described_node, nodes_from, described_cid, described_nodes, described_cluster, clusters_from, described_layout, described_clusters, described_volume, volume_of_text};
 
 use crate::parts::{
-    Kind, fault, index_path, key_path, read_list, read_number, read_number_within, read_object,
+    Kind, fault, fault_at, index_path, key_path, read_list, read_member, read_number,
+    read_number_within, read_object,
 };
 use crate::volume::node_count;
 use crate::{ClusterSpec, Layout, NodeSpec, Volume, VolumeCause, VolumeError};
@@ -74,36 +75,33 @@ fn read_node(
     ensures { Gives (λ n. n) result (described_node path.now (nodes_of clusters.now ++ nodes.now) (view value.now)) }
 {
     read_object(alloc, path, Kind::Node, value)?;
-    let place = key_path(alloc, path, "sid")?;
-    let sid = read_number_within(alloc, place.as_str(), 1, 65535, value.get("sid"))? as u16;
+    let sid = read_member(alloc, path, "sid", 1, 65535, value)? as u16;
     if has_sid(clusters, nodes, sid) {
-        return Err(fault(alloc, place.as_str(), VolumeCause::Twice));
+        return Err(fault_at(alloc, path, "sid", VolumeCause::Twice));
     }
-    let place = key_path(alloc, path, "cells")?;
-    let cells = read_number_within(alloc, place.as_str(), 1, 1_048_576, value.get("cells"))? as u32;
+    let cells = read_member(alloc, path, "cells", 1, 1_048_576, value)? as u32;
     Ok(NodeSpec { sid, cells })
 }
 
-/// The nodes of a cluster, after these clusters.
+/// Finds the nodes of a cluster, after these clusters.
 #[tactic(auto, unfolding(crate::specs::Described::nodes_from))]
 fn read_nodes(
     alloc: Global,
     path: &str,
     clusters: &[ClusterSpec],
     items: &[Value],
-) -> Result<Vec<NodeSpec>, VolumeError>
-    ensures { Gives (λ v. v.items) result (nodes_from path.now clusters.now 0 [] (items_view items.now)) }
+    nodes: &mut Vec<NodeSpec>,
+) -> Result<(), VolumeError>
+    requires { nodes.old.items ≡ [] }
+    ensures { Gives (λ _. nodes.new.items) result (nodes_from path.now clusters.now 0 [] (items_view items.now)) }
 {
-    let mut nodes = Vec::new(alloc);
     for i in 0..items.len() {
+        nodes.reserve(1)?;
         let place = index_path(alloc, path, i)?;
         let node = read_node(alloc, place.as_str(), clusters, nodes.as_slice(), &items[i])?;
-        match nodes.push(node) {
-            Ok(()) => {}
-            Err(_) => return Err(VolumeError::NoMemory),
-        }
+        nodes.push_reserved(node);
     }
-    Ok(nodes)
+    Ok(())
 }
 
 /// Whether one of these clusters has this number.
@@ -123,10 +121,9 @@ fn read_cid(
 ) -> Result<u16, VolumeError>
     ensures { Gives (λ n. n) result (described_cid path.now before.now (view value.now)) }
 {
-    let place = key_path(alloc, path, "cid")?;
-    let cid = read_number_within(alloc, place.as_str(), 1, 65535, value.get("cid"))? as u16;
+    let cid = read_member(alloc, path, "cid", 1, 65535, value)? as u16;
     if has_cid(before, cid) {
-        return Err(fault(alloc, place.as_str(), VolumeCause::Twice));
+        return Err(fault_at(alloc, path, "cid", VolumeCause::Twice));
     }
     Ok(cid)
 }
@@ -146,7 +143,14 @@ fn read_list_of_nodes(
     let path = place.as_str();
     let list = value.get("nodes");
     let items = read_list(alloc, path, safe, VolumeCause::TooFewNodes, 64, list)?;
-    read_nodes(alloc, path, before, items)
+    let mut nodes = Vec::new(alloc);
+    match read_nodes(alloc, path, before, items, &mut nodes) {
+        Ok(()) => Ok(nodes),
+        Err(error) => {
+            drop(nodes);
+            Err(error)
+        }
+    }
 }
 
 /// A cluster of at least `safe` nodes, after these clusters.
@@ -177,12 +181,10 @@ fn read_clusters(
 {
     let mut clusters = Vec::new(alloc);
     for i in 0..items.len() {
+        clusters.reserve(1)?;
         let place = index_path(alloc, "clusters", i)?;
         let cluster = read_cluster(alloc, place.as_str(), safe, clusters.as_slice(), &items[i])?;
-        match clusters.push(cluster) {
-            Ok(()) => {}
-            Err(_) => return Err(VolumeError::NoMemory),
-        }
+        clusters.push_reserved(cluster);
     }
     Ok(clusters)
 }
@@ -213,6 +215,7 @@ fn read_list_of_clusters(
     let items = read_list(alloc, "clusters", 1, VolumeCause::OutOfRange, 16, list)?;
     let clusters = read_clusters(alloc, safe, items)?;
     if 256 < node_count(clusters.as_slice()) {
+        drop(clusters);
         return Err(fault(alloc, "clusters", VolumeCause::TooMany));
     }
     Ok(clusters)
