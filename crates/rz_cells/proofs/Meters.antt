@@ -3,6 +3,7 @@ use Rattle.std.proofs.Common.{◌≡◌, ◌⊎◌, inl, inr, ⊎_elim, ℕ, ◌
 use Rattle.rz_disk.specs.Images.{Within}
 use Rattle.rz_disk.specs.Meter.{Meter, Passes, Took, Lasts, Rises, HasPasses, faults}
 use Rattle.rz_disk.proofs.Passes.{took_then, took_failed}
+use Rattle.rz_cells.specs.Counted.{Counted}
 use Rattle.rz_cells.specs.Opening.{OnlyRead}
 
 -- a call before that takes no pass and plans no fault
@@ -83,3 +84,32 @@ own_after a b c lasts rose = omega (arith, lasts.own, rose)
 -- a disk that was read
 pub read_one : {T E : Type 0} (result : Result T E) (t u : List ℕ) (i j : List ℕ → Type 0) (a b : Meter) → u ≡ t → Within i j → Passes result a b → OnlyRead t u i j a b
 read_one result t u i j a b same within one = record { same = same; within = within; lasts = lasts_one result a b one }
+
+-- the first call failed
+pub counted_failed : {S T E F : Type 0} (j k : ℕ) (first : Result S E) (result : Result T F) (a b : Meter) → j ≤ k → IsErr result → Took j first a b → Lasts a b
+    → Rises (faults a) (faults b) → (HasPasses j a → Rises a.own b.own) → Counted k result a b
+counted_failed j k first result a b fits failed took lasts rose own = record {
+  took = took_failed j k first result a b fits failed took;
+  lasts = lasts;
+  risen = λ _. rose;
+  own_risen = λ _ has. own (λ n is. let enough = has n is in omega (arith, fits));
+}
+
+-- a second store, after one that went well
+pub counted_second : {S T E F : Type 0} (first : Result S E) (result : Result T F) (a b c : Meter) → is_ok first ≡ true → Took 2 first a b → Lasts a b → Took 2 result b c → Lasts b c
+    → (IsErr result → Rises (faults b) (faults c)) → (IsErr result → HasPasses 2 b → Rises b.own c.own) → Counted 4 result a c
+counted_second first result a b c ok one lasts two also rose own = record {
+  took = took_then 2 2 first result a b c ok one two;
+  lasts = lasts_then a b c lasts also;
+  risen = λ failed. risen_after a b c lasts (rose failed);
+  own_risen = λ failed has. own_after a b c lasts (own failed (passes_left 2 2 4 a b (omega arith) (took_under 2 first went a b (λ _. ok) one) has));
+}
+
+-- a call that went well, under another result
+pub counted_ok : {S T E F : Type 0} (k : ℕ) (first : Result S E) (x : T) (a b : Meter) → is_ok first ≡ true → Counted k first a b → Counted {T = T} {E = F} k (Ok x) a b
+counted_ok k first x a b ok counted = record {
+  took = took_under k first (Ok x) a b (λ _. ok) counted.took;
+  lasts = counted.lasts;
+  risen = λ failed. absurd (cc);
+  own_risen = λ failed has. absurd (cc);
+}

@@ -1,9 +1,11 @@
 -- Cells that are open.
 use Rattle.std.specs.Prelude.{◌≡◌, ℕ, ◌*◌, ◌%◌, ◌<◌, Bool, IsTrue, Option, Some, List, length, slice_index}
 use Rattle.rz_disk.specs.Images.{Only}
+use Rattle.rz_disk.specs.declared.disk.Disk.{Ghosts}
 use Rattle.rz_events.specs.declared.records.Head.{Head}
 use Rattle.rz_record.specs.Record.{IsValid}
 use Rattle.rz_record.specs.Slot.{Rec}
+use Rattle.rz_cells.specs.declared.cells.Cells.{Cells}
 use Rattle.rz_cells.specs.declared.geometry.Geometry.{Geometry}
 use Rattle.rz_cells.specs.Held.{Apart, heads_of, in_cell}
 use Rattle.rz_cells.specs.Shape.{disk_bytes, gate_at}
@@ -31,3 +33,7 @@ pub record IsOpen (tells : Bool) (text : List ℕ) (image : List ℕ → Type 0)
   pub layout : (c : ℕ) (h : Head) → in_cell heads c ≡ Some h → h.layout ≡ g.layout
   pub known : IsTrue tells → Knows g gates text
   pub holds : IsTrue tells → HoldsHeads g fence text heads
+
+-- What is known of the cells is what their disk holds.
+abbrev pub AreOpen : {D : Type 0} {G : Ghosts D} → Cells D G → Type 0
+AreOpen {G = G} c = IsOpen G.tells (G.text c.disk) (G.image c.disk) c.geometry c.fence c.gates.items c.heads

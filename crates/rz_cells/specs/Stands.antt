@@ -91,3 +91,13 @@ abbrev pub StandsEither : Geometry → ℕ → List ℕ → (List ℕ → Type 0
 StandsEither g fence text image old new =
     (held : Records) (c : List ℕ) → StandsFor g fence text held → image c
     → StandsFor g fence c held ⊎ StandsFor g fence c (changed held old new)
+
+-- The new text holds any cells that the old one holds with one cell changed, and stands for its records with that change.
+pub record Changes (g : Geometry) (fence : ℕ) (text after : List ℕ) (heads : List (Option Head)) (cell : ℕ) (new : Option Rec) : Type 0 where
+  pub cells : HoldsChanged g fence text after cell new
+  pub records : StandsChanged g fence text after (in_cell heads cell) new
+
+-- Each image holds the cells from before, or with that change, and stands for the records so.
+pub record MayChange (g : Geometry) (fence : ℕ) (text : List ℕ) (image : List ℕ → Type 0) (heads : List (Option Head)) (cell : ℕ) (new : Option Rec) : Type 0 where
+  pub cells : HoldsEither g fence text image cell new
+  pub records : StandsEither g fence text image (in_cell heads cell) new

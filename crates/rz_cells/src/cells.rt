@@ -41,14 +41,15 @@ pub struct Cells<D: Disk> {
 }
 
 impl<D: Disk> Cells<D> {
-    ghost use Rattle.std.specs.Prelude.{◌<◌, ℕ, List, Option, Some, None, drop, slice_set, IsErr, IfOk, if◌then◌else◌, IsSome, is_ok};
+    ghost use Rattle.std.specs.Prelude.{◌<◌, ℕ, List, Option, Some, None, drop, slice_set, IfOk, if◌then◌else◌, IsSome, is_ok};
     ghost use Rattle.rz_events.specs.declared.records.Head.{Head};
     ghost use Rattle.rz_disk.specs.Images.{Only};
-    ghost use Rattle.rz_disk.specs.Meter.{Took, Lasts, Rises, HasPasses, faults, armed};
+    ghost use Rattle.rz_disk.specs.Meter.{armed};
     ghost use Rattle.rz_record.specs.Slot.{Rec};
     ghost use Rattle.rz_cells.specs.Held.{Goes, in_cell};
-    ghost use Rattle.rz_cells.specs.Stands.{HoldsCells, HoldsChanged, HoldsEither, StandsChanged, StandsEither};
-    ghost use Rattle.rz_cells.specs.Open.{IsOpen};
+    ghost use Rattle.rz_cells.specs.Stands.{Changes, HoldsCells, MayChange};
+    ghost use Rattle.rz_cells.specs.Counted.{Counted};
+    ghost use Rattle.rz_cells.specs.Open.{AreOpen};
 
     /// Keeps a record in a cell, in the place of what the cell holds.
     pub fn put(&mut self, cell: u32, head: &Head, bins: &[u64]) -> Result<(), DiskFault>
@@ -57,28 +58,21 @@ impl<D: Disk> Cells<D> {
         requires layout { head.now.layout ≡ self.old.geometry.layout }
         requires bins { length bins.now ≡ bins_of head.now }
         requires goes { Goes self.old.heads cell head.now }
-        requires open { IsOpen D.tells (D.text self.old.disk) (D.image self.old.disk) self.old.geometry self.old.fence self.old.gates.items self.old.heads }
+        requires open { AreOpen self.old }
 
         // On every exit each image stands for the records from before, or with the new one.
-        ensures crash { IsTrue D.tells → StandsEither self.old.geometry self.old.fence (D.text self.old.disk) (D.image self.new.disk)
-            (in_cell self.old.heads cell) (Some record { head = head.now; bins = bins.now }) }
-        ensures crash_cells { IsTrue D.tells → HoldsEither self.old.geometry self.old.fence (D.text self.old.disk) (D.image self.new.disk)
-            cell (Some record { head = head.now; bins = bins.now }) }
+        ensures crash { IsTrue D.tells → MayChange self.old.geometry self.old.fence (D.text self.old.disk) (D.image self.new.disk)
+            self.old.heads cell (Some record { head = head.now; bins = bins.now }) }
 
         // And then the text, which is the one image, stands for them with the new one.
-        ensures done { OnOk result (IsTrue D.tells → StandsChanged self.old.geometry self.old.fence (D.text self.old.disk) (D.text self.new.disk)
-            (in_cell self.old.heads cell) (Some record { head = head.now; bins = bins.now })) }
-        ensures done_cells { OnOk result (IsTrue D.tells → HoldsChanged self.old.geometry self.old.fence (D.text self.old.disk) (D.text self.new.disk)
-            cell (Some record { head = head.now; bins = bins.now })) }
-        ensures open { OnOk result (IsOpen D.tells (D.text self.new.disk) (D.image self.new.disk) self.new.geometry self.new.fence self.new.gates.items self.new.heads) }
+        ensures done { OnOk result (IsTrue D.tells → Changes self.old.geometry self.old.fence (D.text self.old.disk) (D.text self.new.disk)
+            self.old.heads cell (Some record { head = head.now; bins = bins.now })) }
+        ensures open { OnOk result (AreOpen self.new) }
         ensures heads { self.new.heads ≡ (if is_ok result then slice_set self.old.heads cell (Some head.now) else self.old.heads) }
         ensures geometry { self.new.geometry ≡ self.old.geometry }
         ensures fence { self.new.fence ≡ self.old.fence }
 
-        ensures took { Took 4 result (D.meter self.old.disk) (D.meter self.new.disk) }
-        ensures meter { Lasts (D.meter self.old.disk) (D.meter self.new.disk) }
-        ensures risen { IsErr result → Rises (faults (D.meter self.old.disk)) (faults (D.meter self.new.disk)) }
-        ensures own_risen { IsErr result → HasPasses 4 (D.meter self.old.disk) → Rises (D.meter self.old.disk).own (D.meter self.new.disk).own }
+        ensures meter { Counted 4 result (D.meter self.old.disk) (D.meter self.new.disk) }
     {
         let index = cell as usize;
         let gate = self.gates[index];
@@ -98,24 +92,19 @@ impl<D: Disk> Cells<D> {
     /// Empties a cell.
     pub fn clear(&mut self, cell: u32) -> Result<(), DiskFault>
         requires cell { cell < 2 * self.old.geometry.cells }
-        requires open { IsOpen D.tells (D.text self.old.disk) (D.image self.old.disk) self.old.geometry self.old.fence self.old.gates.items self.old.heads }
+        requires open { AreOpen self.old }
 
         // On every exit each image stands for the records from before, or without this one.
-        ensures crash { IsTrue D.tells → StandsEither self.old.geometry self.old.fence (D.text self.old.disk) (D.image self.new.disk) (in_cell self.old.heads cell) None }
-        ensures crash_cells { IsTrue D.tells → HoldsEither self.old.geometry self.old.fence (D.text self.old.disk) (D.image self.new.disk) cell None }
+        ensures crash { IsTrue D.tells → MayChange self.old.geometry self.old.fence (D.text self.old.disk) (D.image self.new.disk) self.old.heads cell None }
 
         // And then the text, which is the one image, stands for them without this one.
-        ensures done { OnOk result (IsTrue D.tells → StandsChanged self.old.geometry self.old.fence (D.text self.old.disk) (D.text self.new.disk) (in_cell self.old.heads cell) None) }
-        ensures done_cells { OnOk result (IsTrue D.tells → HoldsChanged self.old.geometry self.old.fence (D.text self.old.disk) (D.text self.new.disk) cell None) }
-        ensures open { OnOk result (IsOpen D.tells (D.text self.new.disk) (D.image self.new.disk) self.new.geometry self.new.fence self.new.gates.items self.new.heads) }
+        ensures done { OnOk result (IsTrue D.tells → Changes self.old.geometry self.old.fence (D.text self.old.disk) (D.text self.new.disk) self.old.heads cell None) }
+        ensures open { OnOk result (AreOpen self.new) }
         ensures heads { self.new.heads ≡ (if is_ok result then slice_set self.old.heads cell None else self.old.heads) }
         ensures geometry { self.new.geometry ≡ self.old.geometry }
         ensures fence { self.new.fence ≡ self.old.fence }
 
-        ensures took { Took 4 result (D.meter self.old.disk) (D.meter self.new.disk) }
-        ensures meter { Lasts (D.meter self.old.disk) (D.meter self.new.disk) }
-        ensures risen { IsErr result → Rises (faults (D.meter self.old.disk)) (faults (D.meter self.new.disk)) }
-        ensures own_risen { IsErr result → HasPasses 4 (D.meter self.old.disk) → Rises (D.meter self.old.disk).own (D.meter self.new.disk).own }
+        ensures meter { Counted 4 result (D.meter self.old.disk) (D.meter self.new.disk) }
     {
         let index = cell as usize;
         let gate = self.gates[index];
@@ -130,7 +119,7 @@ impl<D: Disk> Cells<D> {
         requires cell { cell < 2 * self.old.geometry.cells }
         requires held { (h : Head) → in_cell self.old.heads cell ≡ Some h → bins_of h ≤ length out.old }
         requires some { IsSome (in_cell self.old.heads cell) }
-        requires open { IsOpen D.tells (D.text self.old.disk) (D.image self.old.disk) self.old.geometry self.old.fence self.old.gates.items self.old.heads }
+        requires open { AreOpen self.old }
         ensures count { IfOk result (λ n. (h : Head) → in_cell self.old.heads cell ≡ Some h → n ≡ bins_of h) }
         ensures bins { IfOk result (λ n. IsTrue D.tells → (cells : List (Option Rec)) (r : Rec) → HoldsCells self.old.geometry self.old.fence (D.text self.old.disk) cells
             → in_cell cells cell ≡ Some r → take n out.new ≡ r.bins) }
@@ -140,7 +129,7 @@ impl<D: Disk> Cells<D> {
         // The cells and the disk stay as they were.
         ensures text { D.text self.new.disk ≡ D.text self.old.disk }
         ensures within { Within (D.image self.old.disk) (D.image self.new.disk) }
-        ensures open { IsOpen D.tells (D.text self.new.disk) (D.image self.new.disk) self.new.geometry self.new.fence self.new.gates.items self.new.heads }
+        ensures open { AreOpen self.new }
         ensures heads { self.new.heads ≡ self.old.heads }
         ensures geometry { self.new.geometry ≡ self.old.geometry }
         ensures fence { self.new.fence ≡ self.old.fence }
@@ -182,8 +171,7 @@ impl<D: Disk> Cells<D> {
         ensures text { D.text self.new.disk ≡ D.text self.old.disk }
         ensures within { Within (D.image self.old.disk) (D.image self.new.disk) }
         ensures kept { Within (D.image self.new.disk) (D.image self.old.disk) }
-        ensures open { IsOpen D.tells (D.text self.old.disk) (D.image self.old.disk) self.old.geometry self.old.fence self.old.gates.items self.old.heads
-            → IsOpen D.tells (D.text self.new.disk) (D.image self.new.disk) self.new.geometry self.new.fence self.new.gates.items self.new.heads }
+        ensures open { AreOpen self.old → AreOpen self.new }
         ensures meter { D.meter self.new.disk ≡ (if D.has_fuse then armed passes (D.meter self.old.disk) else D.meter self.old.disk) }
         ensures geometry { self.new.geometry ≡ self.old.geometry }
         ensures fence { self.new.fence ≡ self.old.fence }

@@ -1,11 +1,12 @@
 //! Formatting.
-ghost use Rattle.std.specs.Prelude.{◌≡◌, ◌⊎◌, ◌*◌, ◌%◌, ◌≤◌, ℕ, List, Option, None, length, replicate, slice_index, IsTrue, IsErr, IsErrOf, OnOk, OnErr, IfOk, IfErr, MatchResult};
+ghost use Rattle.std.specs.Prelude.{◌≡◌, ◌⊎◌, ◌*◌, ◌%◌, ◌≤◌, ℕ, List, Option, None, length, replicate, slice_index, IsTrue, IsErrOf, OnOk, OnErr, IfOk, IfErr, MatchResult};
 ghost use Rattle.rz_disk.specs.Images.{Only};
 ghost use Rattle.rz_disk.specs.Meter.{Took, Lasts, Rises, HasPasses, faults};
+ghost use Rattle.rz_cells.specs.Counted.{Counted};
 ghost use Rattle.rz_cells.specs.Held.{in_cell, nothing};
 ghost use Rattle.rz_cells.specs.Shape.{IsGeometry, disk_bytes};
 ghost use Rattle.rz_cells.specs.Stands.{IsFresh, IsShut, ShutOrFresh, StandsFor, IsHeader};
-ghost use Rattle.rz_cells.specs.Open.{IsOpen};
+ghost use Rattle.rz_cells.specs.Open.{AreOpen};
 
 use crate::geometry::Version;
 use crate::room::{Room, empty};
@@ -32,7 +33,7 @@ impl<D: Disk> Cells<D> {
         disk: D,
     ) -> Result<Cells<D>, (D, FormatFault)>
         requires { IsGeometry geometry }
-        ensures open { IfOk result (λ c. IsOpen D.tells (D.text c.disk) (D.image c.disk) c.geometry c.fence c.gates.items c.heads) }
+        ensures open { IfOk result AreOpen }
         ensures geometry { IfOk result (λ c. c.geometry ≡ geometry) }
         ensures fence { IfOk result (λ c. c.fence ≡ fence) }
         ensures heads { IfOk result (λ c. (cell : ℕ) → in_cell c.heads cell ≡ None) }
@@ -76,7 +77,7 @@ impl<D: Disk> Cells<D> {
     ///
     /// It takes no memory but that of the disk's reset.
     pub fn format_again(&mut self, alloc: Global, fence: u64) -> Result<(), FormatFault>
-        ensures open { OnOk result (IsOpen D.tells (D.text self.new.disk) (D.image self.new.disk) self.new.geometry self.new.fence self.new.gates.items self.new.heads) }
+        ensures open { OnOk result (AreOpen self.new) }
         ensures geometry { self.new.geometry ≡ self.old.geometry }
         ensures fence { OnOk result (self.new.fence ≡ fence) }
         ensures heads { OnOk result ((cell : ℕ) → in_cell self.new.heads cell ≡ None) }
@@ -144,10 +145,7 @@ fn write_header<D: Disk>(disk: &mut D, geometry: &Geometry, fence: u64) -> Resul
     ensures done { OnOk result (IsTrue D.tells → IsFresh geometry.now fence (D.text disk.new)) }
     ensures size { length (D.text disk.new) ≡ length (D.text disk.old) }
     ensures only { OnOk result (Only (D.text disk.new) (D.image disk.new)) }
-    ensures took { Took 4 result (D.meter disk.old) (D.meter disk.new) }
-    ensures meter { Lasts (D.meter disk.old) (D.meter disk.new) }
-    ensures risen { IsErr result → Rises (faults (D.meter disk.old)) (faults (D.meter disk.new)) }
-    ensures own_risen { IsErr result → HasPasses 4 (D.meter disk.old) → Rises (D.meter disk.old).own (D.meter disk.new).own }
+    ensures meter { Counted 4 result (D.meter disk.old) (D.meter disk.new) }
 {
     let mut header = [0u8; 32];
     spell_header(geometry, fence, &mut header);

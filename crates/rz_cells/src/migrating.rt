@@ -8,7 +8,7 @@ ghost use Rattle.rz_record.specs.Slot.{Rec};
 ghost use Rattle.rz_cells.specs.Held.{in_cell, Apart, Records, heads_of};
 ghost use Rattle.rz_cells.specs.Shape.{IsGeometry, slot_of};
 ghost use Rattle.rz_cells.specs.Stands.{IsShut, StandsFor};
-ghost use Rattle.rz_cells.specs.Open.{IsOpen};
+ghost use Rattle.rz_cells.specs.Open.{AreOpen, IsOpen};
 ghost use Rattle.rz_cells.specs.Copied.{HoldsBoth};
 ghost use Rattle.rz_cells.specs.Opening.{NotSize, OnlyRead};
 ghost use Rattle.rz_cells.specs.Old.{CarriesOver, HoldsOld, OldStandsFor, old_disk_bytes, paired};
@@ -49,7 +49,7 @@ impl<D: Disk> Cells<D> {
     ) -> Result<Cells<D>, (D, MigrateFault)>
         requires geometry { IsGeometry geometry }
         requires small { bsize_of geometry.layout ≡ 0 }
-        ensures open { IfOk result (λ c. IsOpen D.tells (D.text c.disk) (D.image c.disk) c.geometry c.fence c.gates.items c.heads) }
+        ensures open { IfOk result AreOpen }
         ensures geometry { IfOk result (λ c. c.geometry ≡ geometry) }
 
         // The old text stands for a fence and some records, and the new one for these.

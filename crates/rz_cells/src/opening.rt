@@ -7,7 +7,7 @@ ghost use Rattle.rz_disk.specs.Meter.{Took, Lasts, Rises, HasPasses, faults};
 ghost use Rattle.rz_cells.specs.Held.{Records, in_cell};
 ghost use Rattle.rz_cells.specs.Shape.{IsGeometry, disk_bytes, slot_of};
 ghost use Rattle.rz_cells.specs.Stands.{StandsFor};
-ghost use Rattle.rz_cells.specs.Open.{Finds, IsOpen};
+ghost use Rattle.rz_cells.specs.Open.{AreOpen, Finds, IsOpen};
 ghost use Rattle.rz_cells.specs.Opening.{NotSize, OnlyRead, Refuses, opening_calls};
 
 use crate::geometry::{HEADER_BYTES, Version};
@@ -27,7 +27,7 @@ impl<D: Disk> Cells<D> {
     /// All memory is taken before the disk is looked at.
     pub fn reopen(alloc: Global, geometry: Geometry, disk: D) -> Result<Cells<D>, (D, OpenFault)>
         requires { IsGeometry geometry }
-        ensures open { IfOk result (λ c. IsOpen D.tells (D.text c.disk) (D.image c.disk) c.geometry c.fence c.gates.items c.heads) }
+        ensures open { IfOk result AreOpen }
         ensures geometry { IfOk result (λ c. c.geometry ≡ geometry) }
 
         // The text stands for some records, with the fence that is found.
@@ -83,7 +83,7 @@ impl<D: Disk> Cells<D> {
     ///
     /// All memory is taken before the disk is looked at.
     pub fn open_again(&mut self, alloc: Global) -> Result<(), OpenFault>
-        ensures open { OnOk result (IsOpen D.tells (D.text self.new.disk) (D.image self.new.disk) self.new.geometry self.new.fence self.new.gates.items self.new.heads) }
+        ensures open { OnOk result (AreOpen self.new) }
         ensures geometry { self.new.geometry ≡ self.old.geometry }
 
         // The text stands for some records, with the fence that is found.

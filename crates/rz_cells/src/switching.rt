@@ -1,8 +1,8 @@
 //! The change of one cell.
-ghost use Rattle.std.specs.Prelude.{◌≡◌, ◌+◌, ◌-◌, ◌*◌, ◌%◌, ◌<◌, ◌≤◌, ℕ, List, Option, length, slice_index, slice_set, IsTrue, IsErr, OnOk};
+ghost use Rattle.std.specs.Prelude.{◌≡◌, ◌+◌, ◌-◌, ◌*◌, ◌%◌, ◌<◌, ◌≤◌, ℕ, List, Option, length, slice_index, slice_set, IsTrue, OnOk};
 ghost use Rattle.rz_disk.specs.Images.{Only};
-ghost use Rattle.rz_disk.specs.Meter.{Took, Lasts, Rises, HasPasses, faults};
 ghost use Rattle.rz_record.specs.Slot.{Rec, Spells};
+ghost use Rattle.rz_cells.specs.Counted.{Counted};
 ghost use Rattle.rz_cells.specs.Shape.{IsGeometry, disk_bytes, slot_of, gate_at};
 ghost use Rattle.rz_cells.specs.Stands.{HoldsChanged, HoldsEither, Suits};
 ghost use Rattle.rz_cells.specs.Open.{Knows};
@@ -38,10 +38,7 @@ pub fn switch<D: Disk>(
     ensures size { length (D.text disk.new) ≡ length (D.text disk.old) }
     ensures settled { OnOk result (Only (D.text disk.new) (D.image disk.new)) }
 
-    ensures took { Took 4 result (D.meter disk.old) (D.meter disk.new) }
-    ensures meter { Lasts (D.meter disk.old) (D.meter disk.new) }
-    ensures risen { IsErr result → Rises (faults (D.meter disk.old)) (faults (D.meter disk.new)) }
-    ensures own_risen { IsErr result → HasPasses 4 (D.meter disk.old) → Rises (D.meter disk.old).own (D.meter disk.new).own }
+    ensures meter { Counted 4 result (D.meter disk.old) (D.meter disk.new) }
 {
     let other = 1 - gate % 2;
     let at = geometry.slot_at(cell, other);

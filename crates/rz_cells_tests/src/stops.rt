@@ -5,7 +5,7 @@
 //! synced.
 ghost use Rattle.std.specs.Prelude.{◌≡◌, ◌<◌, ℕ, None, IfOk, vec_len};
 ghost use Rattle.rz_cells.specs.Held.{in_cell};
-ghost use Rattle.rz_cells.specs.Open.{IsOpen};
+ghost use Rattle.rz_cells.specs.Open.{AreOpen};
 
 use crate::damage::{ONE, stamps_of};
 use crate::making::{failing_at, left};
@@ -34,7 +34,7 @@ fn words(alloc: Global) -> Result<Vec<u64>, AllocError>
 
 /// Cells of fence 7 on a disk that is made anew.
 fn formatted<D: Disk>(rt: &(impl Abort + AllocGlobal), disk: D) -> Cells<D>
-    ensures open { IsOpen D.tells (D.text result.disk) (D.image result.disk) result.geometry result.fence result.gates.items result.heads }
+    ensures open { AreOpen result }
     ensures geometry { result.geometry ≡ ONE }
     ensures empty { (cell : ℕ) → in_cell result.heads cell ≡ None }
 {
@@ -47,7 +47,7 @@ fn formatted<D: Disk>(rt: &(impl Abort + AllocGlobal), disk: D) -> Cells<D>
 /// Cells with the record in the first one of an empty pair, on a disk that is made anew.
 #[tactic(auto, using(crate::proofs::Alone::goes_alone), unfolding(rz_record::specs::Record::bins_of))]
 fn with_record<D: Disk>(rt: &(impl Abort + AllocGlobal), disk: D) -> Cells<D>
-    ensures open { IsOpen D.tells (D.text result.disk) (D.image result.disk) result.geometry result.fence result.gates.items result.heads }
+    ensures open { AreOpen result }
     ensures geometry { result.geometry ≡ ONE }
 {
     let bins = words(rt.alloc()).expect(rt, "memory");

@@ -2,7 +2,7 @@
 ghost use Rattle.std.specs.Prelude.{◌≡◌, ◌≢◌, ◌<◌, [], Some, None, IsTrue, OnOk, OnErr, MatchOption, is_ok};
 ghost use Rattle.std.specs.List.{Contains};
 ghost use Rattle.std.specs.FinMap as maps;
-ghost use Rattle.rz_cells.specs.Open.{IsOpen};
+ghost use Rattle.rz_cells.specs.Open.{AreOpen};
 ghost use Rattle.rz_index.specs.Indexed.{taken_in, freed_by};
 ghost use Rattle.rz_versions.specs.Sides.{in_order, put_at};
 ghost use Rattle.rz_versions.specs.Sides as sides;
@@ -76,13 +76,13 @@ fn clear_in<D: Disk>(
     entry: Entry,
     side: u8,
 ) -> Result<(), DiskFault>
-    requires open { IsOpen D.tells (D.text cells.old.disk) (D.image cells.old.disk) cells.old.geometry cells.old.fence cells.old.gates.items cells.old.heads }
+    requires open { AreOpen cells.old }
     requires tied { IsTied cells.old.geometry.cells cells.old.heads index.old }
     requires there { maps.get index.old.entries entry.key ≡ Some entry }
     requires side { side < 2 }
     ensures stands { IsTrue D.tells → CrashOutcomes cells.old.geometry cells.old.fence (D.text cells.old.disk) (D.text cells.new.disk) (D.image cells.new.disk) (Some (is_ok result)) entry.key
         (records_in cells.old.heads entry.cell) (in_order stamp_of (put_at (sides_in cells.old.heads entry.cell) side None)) None }
-    ensures open { OnOk result (IsOpen D.tells (D.text cells.new.disk) (D.image cells.new.disk) cells.new.geometry cells.new.fence cells.new.gates.items cells.new.heads) }
+    ensures open { OnOk result (AreOpen cells.new) }
     ensures tied { IsTied cells.new.geometry.cells cells.new.heads index.new }
     ensures held { OnOk result (held_by index.new.entries cells.new.heads
         ≡ with_held (held_by index.old.entries cells.old.heads) entry.key (in_order stamp_of (put_at (sides_in cells.old.heads entry.cell) side None))) }

@@ -1,7 +1,7 @@
 //! Keeping a record, a writer's or a rebuilder's.
 ghost use Rattle.std.specs.Prelude.{◌≡◌, ◌≢◌, ◌<◌, Some, None, IsTrue, OnOk, OnErr, is_ok, length};
 ghost use Rattle.rz_record.specs.Record.{IsValid, bins_of};
-ghost use Rattle.rz_cells.specs.Open.{IsOpen};
+ghost use Rattle.rz_cells.specs.Open.{AreOpen};
 ghost use Rattle.rz_versions.specs.Sides.{in_order, put_at, Differ};
 ghost use Rattle.rz_versions.specs.Sides as sides;
 ghost use Rattle.rz_node_model.specs.Answers.{IsNodeAnswer};
@@ -160,7 +160,7 @@ fn put_in<D: Disk>(
     head: &Head,
     bins: &[u64],
 ) -> Result<(), DiskFault>
-    requires open { IsOpen D.tells (D.text cells.old.disk) (D.image cells.old.disk) cells.old.geometry cells.old.fence cells.old.gates.items cells.old.heads }
+    requires open { AreOpen cells.old }
     requires tied { IsTied cells.old.geometry.cells cells.old.heads index.old }
     requires place { place_in index.old head.now.key ≡ Some entry }
     requires side { side < 2 }
@@ -170,7 +170,7 @@ fn put_in<D: Disk>(
     requires bins { length bins.now ≡ bins_of head.now }
     ensures stands { IsTrue D.tells → CrashOutcomes cells.old.geometry cells.old.fence (D.text cells.old.disk) (D.text cells.new.disk) (D.image cells.new.disk) (Some (is_ok result)) head.now.key
         (records_in cells.old.heads entry.cell) (in_order stamp_of (put_at (sides_in cells.old.heads entry.cell) side (Some (record_of head.now)))) (Some record { head = head.now; bins = bins.now }) }
-    ensures open { OnOk result (IsOpen D.tells (D.text cells.new.disk) (D.image cells.new.disk) cells.new.geometry cells.new.fence cells.new.gates.items cells.new.heads) }
+    ensures open { OnOk result (AreOpen cells.new) }
     ensures tied { IsTied cells.new.geometry.cells cells.new.heads index.new }
     ensures held { OnOk result (held_by index.new.entries cells.new.heads
         ≡ with_held (held_by index.old.entries cells.old.heads) head.now.key (in_order stamp_of (put_at (sides_in cells.old.heads entry.cell) side (Some (record_of head.now))))) }

@@ -51,8 +51,8 @@ returns-in-Ok-clause-stands g c told =
     record {
       gone = in_cell s.heads (2 * e.cell + c.args.side);
       way = gives-way s.geometry.cells s.heads c.args.index.now e.key e p c.requires.open.apart c.args.side None c.requires.side;
-      either = subst (λ (n : ℕ). StandsEither s.geometry s.fence (g.D.Disk.text s.disk) (g.D.Disk.image c.clear.new.self.disk) (gone n) None) c.from.ensures (c.clear.ensures.crash told);
-      done = λ _. subst (λ (n : ℕ). StandsChanged s.geometry s.fence (g.D.Disk.text s.disk) (g.D.Disk.text c.clear.new.self.disk) (gone n) None) c.from.ensures (c.in-Ok.ensures.done told);
+      either = subst (λ (n : ℕ). StandsEither s.geometry s.fence (g.D.Disk.text s.disk) (g.D.Disk.image c.clear.new.self.disk) (gone n) None) c.from.ensures (c.clear.ensures.crash told).records;
+      done = λ _. subst (λ (n : ℕ). StandsChanged s.geometry s.fence (g.D.Disk.text s.disk) (g.D.Disk.text c.clear.new.self.disk) (gone n) None) c.from.ensures (c.in-Ok.ensures.done told).records;
       settled = λ _. c.in-Ok.ensures.open.settled;
     }
 
@@ -65,7 +65,7 @@ returns-in-Err-clause-stands g c told =
     record {
       gone = in_cell s.heads (2 * e.cell + c.args.side);
       way = gives-way s.geometry.cells s.heads c.args.index.now e.key e p c.requires.open.apart c.args.side None c.requires.side;
-      either = subst (λ (n : ℕ). StandsEither s.geometry s.fence (g.D.Disk.text s.disk) (g.D.Disk.image c.clear.new.self.disk) (gone n) None) c.from.ensures (c.clear.ensures.crash told);
+      either = subst (λ (n : ℕ). StandsEither s.geometry s.fence (g.D.Disk.text s.disk) (g.D.Disk.image c.clear.new.self.disk) (gone n) None) c.from.ensures (c.clear.ensures.crash told).records;
       done = λ never. absurd (cc);
       settled = λ never. absurd (cc);
     }
@@ -105,19 +105,19 @@ returns-in-Err-clause-waits g c told =
     c.clear.ensures.geometry c.clear.ensures.fence refl c.in-Err.ensures.heads
     (either-held s.geometry s.fence (g.D.Disk.text s.disk) (g.D.Disk.image c.clear.new.self.disk) s.heads (2 * e.cell + c.from.result) None i (with_held (held_by i.entries s.heads) e.key rs)
     c.requires.tied c.requires.open.apart (apart-cleared s.heads (2 * e.cell + c.from.result) (omega (arith, p.within, c.requires.side, c.from.ensures, s.heads_fit)) c.requires.open.apart)
-    (c.requires.open.holds told) (c.clear.ensures.crash_cells told)
+    (c.requires.open.holds told) (c.clear.ensures.crash told).cells
     (shown-cleared s.geometry.cells s.heads i c.requires.tied e.key e c.requires.there p c.args.side (2 * e.cell + c.from.result) c.requires.side (omega (arith, c.from.ensures)) s.heads_fit))
 
 pub returns-in-Ok-clause-spends : goal.returns-in-Ok-clause-spends
 returns-in-Ok-clause-spends g c = record {
-  took = took-as 4 _ _ (g.D.Disk.meter c.args.cells.now.disk) (g.D.Disk.meter c.clear.new.self.disk) refl c.in-Ok.ensures.took;
-  lasts = c.clear.ensures.meter;
+  took = took-as 4 _ _ (g.D.Disk.meter c.args.cells.now.disk) (g.D.Disk.meter c.clear.new.self.disk) refl c.in-Ok.ensures.meter.took;
+  lasts = c.clear.ensures.meter.lasts;
 }
 
 pub returns-in-Err-clause-spends : goal.returns-in-Err-clause-spends
 returns-in-Err-clause-spends g c = record {
-  took = took-as 4 _ _ (g.D.Disk.meter c.args.cells.now.disk) (g.D.Disk.meter c.clear.new.self.disk) refl c.in-Err.ensures.took;
-  lasts = c.clear.ensures.meter;
-  risen = c.in-Err.ensures.risen refl;
-  own_risen = c.in-Err.ensures.own_risen refl;
+  took = took-as 4 _ _ (g.D.Disk.meter c.args.cells.now.disk) (g.D.Disk.meter c.clear.new.self.disk) refl c.in-Err.ensures.meter.took;
+  lasts = c.clear.ensures.meter.lasts;
+  risen = c.in-Err.ensures.meter.risen refl;
+  own_risen = c.in-Err.ensures.meter.own_risen refl;
 }

@@ -61,8 +61,8 @@ returns-in-Ok-clause-stands g c told =
     record {
       gone = in_cell s.heads (2 * c.args.entry.cell + c.args.side);
       way = gives-way s.geometry.cells s.heads c.args.index.now c.args.head.now.key c.args.entry p c.requires.open.apart c.args.side (Some r) c.requires.side;
-      either = subst (λ (n : ℕ). StandsEither s.geometry s.fence (g.D.Disk.text s.disk) (g.D.Disk.image c.put.new.self.disk) (gone n) (Some r)) c.from.ensures (c.put.ensures.crash told);
-      done = λ _. subst (λ (n : ℕ). StandsChanged s.geometry s.fence (g.D.Disk.text s.disk) (g.D.Disk.text c.put.new.self.disk) (gone n) (Some r)) c.from.ensures (c.in-Ok.ensures.done told);
+      either = subst (λ (n : ℕ). StandsEither s.geometry s.fence (g.D.Disk.text s.disk) (g.D.Disk.image c.put.new.self.disk) (gone n) (Some r)) c.from.ensures (c.put.ensures.crash told).records;
+      done = λ _. subst (λ (n : ℕ). StandsChanged s.geometry s.fence (g.D.Disk.text s.disk) (g.D.Disk.text c.put.new.self.disk) (gone n) (Some r)) c.from.ensures (c.in-Ok.ensures.done told).records;
       settled = λ _. c.in-Ok.ensures.open.settled;
     }
 
@@ -75,7 +75,7 @@ returns-in-Err-clause-stands g c told =
     record {
       gone = in_cell s.heads (2 * c.args.entry.cell + c.args.side);
       way = gives-way s.geometry.cells s.heads c.args.index.now c.args.head.now.key c.args.entry p c.requires.open.apart c.args.side (Some r) c.requires.side;
-      either = subst (λ (n : ℕ). StandsEither s.geometry s.fence (g.D.Disk.text s.disk) (g.D.Disk.image c.put.new.self.disk) (gone n) (Some r)) c.from.ensures (c.put.ensures.crash told);
+      either = subst (λ (n : ℕ). StandsEither s.geometry s.fence (g.D.Disk.text s.disk) (g.D.Disk.image c.put.new.self.disk) (gone n) (Some r)) c.from.ensures (c.put.ensures.crash told).records;
       done = λ never. absurd (cc);
       settled = λ never. absurd (cc);
     }
@@ -124,19 +124,19 @@ returns-in-Err-clause-waits g c told =
     c.requires.tied c.requires.open.apart
     (apart-put s.heads (2 * c.args.entry.cell + c.from.result) (omega (arith, p.within, c.requires.side, c.from.ensures, s.heads_fit)) c.requires.open.apart h
     (goes-put s.geometry.cells s.heads i c.requires.tied h c.args.entry p c.args.side (2 * c.args.entry.cell + c.from.result) c.requires.side (omega (arith, c.from.ensures)) s.heads_fit c.requires.differ))
-    (c.requires.open.holds told) (c.put.ensures.crash_cells told)
+    (c.requires.open.holds told) (c.put.ensures.crash told).cells
     (shown-put s.geometry.cells s.heads i c.requires.tied h c.args.entry p c.args.side (2 * c.args.entry.cell + c.from.result) c.requires.side (omega (arith, c.from.ensures)) s.heads_fit))
 
 pub returns-in-Ok-clause-spends : goal.returns-in-Ok-clause-spends
 returns-in-Ok-clause-spends g c = record {
-  took = took-as 4 _ _ (g.D.Disk.meter c.args.cells.now.disk) (g.D.Disk.meter c.put.new.self.disk) refl c.in-Ok.ensures.took;
-  lasts = c.put.ensures.meter;
+  took = took-as 4 _ _ (g.D.Disk.meter c.args.cells.now.disk) (g.D.Disk.meter c.put.new.self.disk) refl c.in-Ok.ensures.meter.took;
+  lasts = c.put.ensures.meter.lasts;
 }
 
 pub returns-in-Err-clause-spends : goal.returns-in-Err-clause-spends
 returns-in-Err-clause-spends g c = record {
-  took = took-as 4 _ _ (g.D.Disk.meter c.args.cells.now.disk) (g.D.Disk.meter c.put.new.self.disk) refl c.in-Err.ensures.took;
-  lasts = c.put.ensures.meter;
-  risen = c.in-Err.ensures.risen refl;
-  own_risen = c.in-Err.ensures.own_risen refl;
+  took = took-as 4 _ _ (g.D.Disk.meter c.args.cells.now.disk) (g.D.Disk.meter c.put.new.self.disk) refl c.in-Err.ensures.meter.took;
+  lasts = c.put.ensures.meter.lasts;
+  risen = c.in-Err.ensures.meter.risen refl;
+  own_risen = c.in-Err.ensures.meter.own_risen refl;
 }

@@ -3,8 +3,7 @@ use Rattle.std.proofs.Common.{rules, ◌≡◌, ◌-◌, ◌%◌, Option, Some, 
 use Rattle.rz_events.specs.declared.records.Head.{Head}
 use Rattle.rz_record.specs.Slot.{Rec}
 use Rattle.rz_cells.specs.Open.{IsOpen}
-use Rattle.rz_disk.proofs.Passes.{took_failed}
-use Rattle.rz_cells.proofs.Meters.{took_under}
+use Rattle.rz_cells.proofs.Meters.{counted_failed, counted_ok}
 use Rattle.rz_cells.proofs.Lifts.{slot_long, zeros_spell, stands_either, stands_changed, open_after}
 use Rattle.rz_cells.proofs.cells.Cells.clear.Goals as goal
 
@@ -17,36 +16,6 @@ no_head h P is = absurd (cc)
 pub switch-requires-clause-long : goal.switch-requires-clause-long
 switch-requires-clause-long g c = let long = slot_long c.args.self.now.geometry in omega (arith, long)
 
-pub returns-in_err-switch-clause-crash_cells : goal.returns-in_err-switch-clause-crash_cells
-returns-in_err-switch-clause-crash_cells g c told =
-    c.switch.ensures.crash told c.args.self.now.fence None (zeros_spell _) (λ r is. no_suit r _ is)
-
-pub returns-in_err-switch-clause-crash : goal.returns-in_err-switch-clause-crash
-returns-in_err-switch-clause-crash g c told =
-    let s = c.args.self.now in
-    stands_either s.geometry s.fence (g.D.Disk.text s.disk) s.heads (c.requires.open.holds told) c.args.cell None c.requires.cell (λ h is. no_head h _ is) (g.D.Disk.image c.switch.new.disk)
-    (c.switch.ensures.crash told s.fence None (zeros_spell _) (λ r is. no_suit r _ is))
-
-pub returns-clause-crash_cells : goal.returns-clause-crash_cells
-returns-clause-crash_cells g c told =
-    c.switch.ensures.crash told c.args.self.now.fence None (zeros_spell _) (λ r is. no_suit r _ is)
-
-pub returns-clause-crash : goal.returns-clause-crash
-returns-clause-crash g c told =
-    let s = c.args.self.now in
-    stands_either s.geometry s.fence (g.D.Disk.text s.disk) s.heads (c.requires.open.holds told) c.args.cell None c.requires.cell (λ h is. no_head h _ is) (g.D.Disk.image c.switch.new.disk)
-    (c.switch.ensures.crash told s.fence None (zeros_spell _) (λ r is. no_suit r _ is))
-
-pub returns-clause-done_cells : goal.returns-clause-done_cells
-returns-clause-done_cells g c told =
-    c.in_ok-switch.ensures.done told c.args.self.now.fence None (zeros_spell _) (λ r is. no_suit r _ is)
-
-pub returns-clause-done : goal.returns-clause-done
-returns-clause-done g c told =
-    let s = c.args.self.now in
-    stands_changed s.geometry s.fence (g.D.Disk.text s.disk) s.heads (c.requires.open.holds told) c.args.cell None c.requires.cell (λ h is. no_head h _ is) (g.D.Disk.text c.switch.new.disk)
-    (c.in_ok-switch.ensures.done told s.fence None (zeros_spell _) (λ r is. no_suit r _ is))
-
 pub returns-clause-open : goal.returns-clause-open
 returns-clause-open g c =
     let s = c.args.self.now in
@@ -56,17 +25,39 @@ returns-clause-open g c =
     (λ told. c.in_ok-switch.ensures.done told s.fence None (zeros_spell _) (λ r is. no_suit r _ is))
     (λ told. c.in_ok-switch.ensures.gates told s.gates.items (omega arith) (c.requires.open.known told)))
 
-pub returns-in_err-switch-clause-took : goal.returns-in_err-switch-clause-took
-returns-in_err-switch-clause-took g c =
+pub returns-in_err-switch-clause-crash : goal.returns-in_err-switch-clause-crash
+returns-in_err-switch-clause-crash g c told =
+    let s = c.args.self.now in
+    let held = c.switch.ensures.crash told s.fence None (zeros_spell _) (λ r is. no_suit r _ is) in
+    record {
+      cells = held;
+      records = stands_either s.geometry s.fence (g.D.Disk.text s.disk) s.heads (c.requires.open.holds told) c.args.cell None c.requires.cell (λ h is. no_head h _ is) (g.D.Disk.image c.switch.new.disk) held;
+    }
+
+pub returns-clause-crash : goal.returns-clause-crash
+returns-clause-crash g c told =
+    let s = c.args.self.now in
+    let held = c.switch.ensures.crash told s.fence None (zeros_spell _) (λ r is. no_suit r _ is) in
+    record {
+      cells = held;
+      records = stands_either s.geometry s.fence (g.D.Disk.text s.disk) s.heads (c.requires.open.holds told) c.args.cell None c.requires.cell (λ h is. no_head h _ is) (g.D.Disk.image c.switch.new.disk) held;
+    }
+
+pub returns-clause-done : goal.returns-clause-done
+returns-clause-done g c told =
+    let s = c.args.self.now in
+    let held = c.in_ok-switch.ensures.done told s.fence None (zeros_spell _) (λ r is. no_suit r _ is) in
+    record {
+      cells = held;
+      records = stands_changed s.geometry s.fence (g.D.Disk.text s.disk) s.heads (c.requires.open.holds told) c.args.cell None c.requires.cell (λ h is. no_head h _ is) (g.D.Disk.text c.switch.new.disk) held;
+    }
+
+pub returns-in_err-switch-clause-meter : goal.returns-in_err-switch-clause-meter
+returns-in_err-switch-clause-meter g c =
     let failed : IsErr c.from_residual.result = search rules in
-    took_failed 4 4 c.switch.result c.from_residual.result (g.D.Disk.meter c.args.self.now.disk) (g.D.Disk.meter c.switch.new.disk) (omega arith) failed c.switch.ensures.took
+    counted_failed 4 4 c.switch.result c.from_residual.result (g.D.Disk.meter c.args.self.now.disk) (g.D.Disk.meter c.switch.new.disk) (omega arith) failed c.switch.ensures.meter.took c.switch.ensures.meter.lasts
+    (c.in_err-switch.ensures.meter.risen refl) (c.in_err-switch.ensures.meter.own_risen refl)
 
-pub returns-in_err-switch-clause-risen : goal.returns-in_err-switch-clause-risen
-returns-in_err-switch-clause-risen g c failed = c.in_err-switch.ensures.risen refl
-
-pub returns-in_err-switch-clause-own_risen : goal.returns-in_err-switch-clause-own_risen
-returns-in_err-switch-clause-own_risen g c failed has = c.in_err-switch.ensures.own_risen refl has
-
-pub returns-clause-took : goal.returns-clause-took
-returns-clause-took g c =
-    took_under 4 c.switch.result (Ok tt) (g.D.Disk.meter c.args.self.now.disk) (g.D.Disk.meter c.switch.new.disk) (λ _. ap is_ok c.in_ok-switch.was) c.switch.ensures.took
+pub returns-clause-meter : goal.returns-clause-meter
+returns-clause-meter g c =
+    counted_ok 4 c.switch.result tt (g.D.Disk.meter c.args.self.now.disk) (g.D.Disk.meter c.switch.new.disk) (ap is_ok c.in_ok-switch.was) c.switch.ensures.meter
