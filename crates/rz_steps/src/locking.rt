@@ -65,7 +65,7 @@ fn opens(call: &TreeCall) -> bool
 
 /// Takes a client's lock on bytes of the file that was opened, if it was, and answers whether it was
 /// granted. A client that asks again holds none.
-pub fn take<R: Wait>(rt: &R, locks: &Mutex<Locks>, by: Actor, reply: &Reply, wish: Wish) -> bool {
+fn take<R: Wait>(rt: &R, locks: &Mutex<Locks>, by: Actor, reply: &Reply, wish: Wish) -> bool {
     let Reply::Tree(TreeReply::File(info)) = reply else {
         return false;
     };
