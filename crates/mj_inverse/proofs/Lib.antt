@@ -3,6 +3,7 @@ pub mod Running
 pub mod Steps
 pub mod Places
 pub mod Taken
+pub mod Written
 pub mod Lanes
 pub mod Levels
 pub mod Blocks

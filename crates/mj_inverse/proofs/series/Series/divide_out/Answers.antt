@@ -1,4 +1,4 @@
-use Rattle.std.proofs.Common.{arith, ◌≤◌, ◌+◌, ◌-◌, ◌*◌, ℕ, get_or, refl, ◌∙◌}
+use Rattle.std.proofs.Common.{arith, ◌≡◌, ◌≤◌, ◌+◌, ◌-◌, ◌*◌, ℕ, min, max, get_or, refl, ◌∙◌}
 use Rattle.std.proofs.Math.Nat.{mul-le-mul_left}
 use Rattle.mj_inverse.proofs.Taken.{place_le}
 use Rattle.mj_inverse.proofs.Lanes.{place_span, IsSpan, IsFlatRun, IsCut, cut_zero, lane_exact, lane_start, lane_spent}
@@ -34,26 +34,32 @@ take_rest-requires-2-clause-within c =
     let len = c.take_rest.ensures.len ∙ c.run_within.ensures.len ∙ first.room in
     omega arith
 
-pub returns-clause-next : goal.returns-clause-next
-returns-clause-next c =
-    let u : ℕ = c.args.unit in
-    let a : ℕ = c.min-down.result in
-    let s : ℕ = c.max.result - a in
-    let xs : ℕ → ℕ = λ i. get_or c.args.self.now.words.items i 0 in
-    let ys : ℕ → ℕ = λ i. get_or c.args.by.now.words.items i 0 in
-    let zs : ℕ → ℕ = λ i. get_or c.run_within.new.words.items i 0 in
-    let vs : ℕ → ℕ = λ i. get_or c.take_rest.new.words.items i 0 in
-    let ws : ℕ → ℕ = λ i. get_or c.take_rest-2.new.words.items i 0 in
-    let o : ℕ = c.args.self.now.origin in
+-- the words before, those that are added, and those after each step
+abbrev xs : goal.After-self-3-1 → ℕ → ℕ
+xs c i = get_or c.args.self.now.words.items i 0
+
+abbrev ys : goal.After-self-3-1 → ℕ → ℕ
+ys c i = get_or c.args.by.now.words.items i 0
+
+abbrev zs : goal.After-self-3-1 → ℕ → ℕ
+zs c i = get_or c.run_within.new.words.items i 0
+
+abbrev vs : goal.After-self-3-1 → ℕ → ℕ
+vs c i = get_or c.take_rest.new.words.items i 0
+
+abbrev ws : goal.After-self-3-1 → ℕ → ℕ
+ws c i = get_or c.take_rest-2.new.words.items i 0
+
+-- what the angles differ in
+abbrev step : goal.After-self-3-1 → ℕ
+step c = c.max.result - c.min-down.result
+
+span : (c : goal.After-self-3-1) →
+    IsSpan c.args.unit (xs c) (ys c) c.args.self.now.origin c.args.by.now.origin c.min-from.result c.max-to.result c.min-down.result (step c)
+span c =
     let p : ℕ = c.args.by.now.origin in
-    let f : ℕ = c.min-from.result in
-    let t : ℕ = c.max-to.result in
-    let g : ℕ = c.max-first.result in
-    let m : ℕ = c.max-end.result in
-    let n : ℕ = c.padded_end-last.result in
-    let past = c.padded_end-last.ensures.low in
     let meet = c.requires.meet in
-    let span : IsSpan u xs ys o p f t a s = record {
+    record {
       low = omega arith;
       order = omega arith;
       stride = omega arith;
@@ -61,24 +67,50 @@ returns-clause-next c =
       x_above = λ k j h l. meet.first.above k j (omega arith) l;
       y_below = λ e j h l. meet.second.below (p + e) j (omega arith) l;
       y_above = λ e j h l. meet.second.above (p + e) j (omega arith) l;
-    } in
-    let run : IsFlatRun u xs ys zs f t (p + (f - o)) s = record {
-      first = c.run_within.ensures.first;
-      next = c.run_within.ensures.next;
-      below = c.run_within.ensures.below;
-      above = c.run_within.ensures.above;
-    } in
-    let first : IsCut u zs vs f g = record {
-      zero = c.take_rest.ensures.zero;
-      below = c.take_rest.ensures.below;
-      above = c.take_rest.ensures.above;
-    } in
-    let last : IsCut u vs ws m n = record {
-      zero = c.take_rest-2.ensures.zero;
-      below = c.take_rest-2.ensures.below;
-      above = c.take_rest-2.ensures.above;
-    } in
-    let flat = cut_zero u xs ys zs vs ws o p f t a s g m n span run first last (omega arith) in
+    }
+
+run : (c : goal.After-self-3-1) →
+    IsFlatRun c.args.unit (xs c) (ys c) (zs c) c.min-from.result c.max-to.result (c.args.by.now.origin + (c.min-from.result - c.args.self.now.origin)) (step c)
+run c = record {
+  first = c.run_within.ensures.first;
+  next = c.run_within.ensures.next;
+  below = c.run_within.ensures.below;
+  above = c.run_within.ensures.above;
+}
+
+first : (c : goal.After-self-3-1) → IsCut c.args.unit (zs c) (vs c) c.min-from.result c.max-first.result
+first c = record {
+  zero = c.take_rest.ensures.zero;
+  below = c.take_rest.ensures.below;
+  above = c.take_rest.ensures.above;
+}
+
+last : (c : goal.After-self-3-1) → IsCut c.args.unit (vs c) (ws c) c.max-end.result c.padded_end-last.result
+last c = record {
+  zero = c.take_rest-2.ensures.zero;
+  below = c.take_rest-2.ensures.below;
+  above = c.take_rest-2.ensures.above;
+}
+
+over : (c : goal.After-self-3-1) → max c.max-to.result c.max-end.result ≤ c.padded_end-last.result
+over c = let past = c.padded_end-last.ensures.low in omega arith
+
+-- where the quotient begins and ends
+record Ends (c : goal.After-self-3-1) : Type 0 where
+  pub down : c.min-down.result + step c ≡ max c.args.self.now.angle c.args.by.now.angle
+  pub less : c.min-down.result ≡ min c.args.self.now.angle c.args.by.now.angle
+  pub begin : c.max-first.result ≡ max c.min-from.result (c.args.self.now.origin + c.min-down.result)
+  pub end : c.max-end.result ≡ max (c.max-to.result - step c) (c.args.self.now.origin + c.min-down.result)
+
+ends : (c : goal.After-self-3-1) → Ends c
+ends c = record { down = omega arith; less = omega arith; begin = omega arith; end = omega arith }
+
+pub returns-clause-next : goal.returns-clause-next
+returns-clause-next c =
+    let meet = c.requires.meet in
+    let flat =
+    cut_zero c.args.unit (xs c) (ys c) (zs c) (vs c) (ws c) c.args.self.now.origin c.args.by.now.origin c.min-from.result c.max-to.result c.min-down.result (step c) c.max-first.result c.max-end.result c.padded_end-last.result
+    (span c) (run c) (first c) (last c) (over c) in
     record {
       is = record {
         some = meet.first.some;
@@ -99,103 +131,20 @@ returns-clause-next c =
 
 pub returns-clause-exact : goal.returns-clause-exact
 returns-clause-exact c = λ j h unmarked.
-    let u : ℕ = c.args.unit in
-    let a : ℕ = c.min-down.result in
-    let s : ℕ = c.max.result - a in
-    let xs : ℕ → ℕ = λ i. get_or c.args.self.now.words.items i 0 in
-    let ys : ℕ → ℕ = λ i. get_or c.args.by.now.words.items i 0 in
-    let zs : ℕ → ℕ = λ i. get_or c.run_within.new.words.items i 0 in
-    let vs : ℕ → ℕ = λ i. get_or c.take_rest.new.words.items i 0 in
-    let ws : ℕ → ℕ = λ i. get_or c.take_rest-2.new.words.items i 0 in
-    let o : ℕ = c.args.self.now.origin in
-    let p : ℕ = c.args.by.now.origin in
-    let f : ℕ = c.min-from.result in
-    let t : ℕ = c.max-to.result in
-    let g : ℕ = c.max-first.result in
-    let m : ℕ = c.max-end.result in
-    let n : ℕ = c.padded_end-last.result in
-    let past = c.padded_end-last.ensures.low in
-    let meet = c.requires.meet in
-    let span : IsSpan u xs ys o p f t a s = record {
-      low = omega arith;
-      order = omega arith;
-      stride = omega arith;
-      x_below = λ k j h l. meet.first.below k j (omega arith) l;
-      x_above = λ k j h l. meet.first.above k j (omega arith) l;
-      y_below = λ e j h l. meet.second.below (p + e) j (omega arith) l;
-      y_above = λ e j h l. meet.second.above (p + e) j (omega arith) l;
-    } in
-    let run : IsFlatRun u xs ys zs f t (p + (f - o)) s = record {
-      first = c.run_within.ensures.first;
-      next = c.run_within.ensures.next;
-      below = c.run_within.ensures.below;
-      above = c.run_within.ensures.above;
-    } in
-    let first : IsCut u zs vs f g = record {
-      zero = c.take_rest.ensures.zero;
-      below = c.take_rest.ensures.below;
-      above = c.take_rest.ensures.above;
-    } in
-    let last : IsCut u vs ws m n = record {
-      zero = c.take_rest-2.ensures.zero;
-      below = c.take_rest-2.ensures.below;
-      above = c.take_rest-2.ensures.above;
-    } in
-    let x : ℕ = c.args.self.now.angle in
-    let y : ℕ = c.args.by.now.angle in
+    let e = ends c in
     let behind = c.take_rest-2.ensures.marked j h unmarked in
     let before = c.take_rest.ensures.marked j h behind.0 in (
       before.0,
-      lane_exact u j xs ys zs vs ws o p f t a s g m n x y h span run first last (omega arith) (omega arith) (omega arith) (omega arith) (omega arith) before.1 behind.1,
+      lane_exact c.args.unit j (xs c) (ys c) (zs c) (vs c) (ws c) c.args.self.now.origin c.args.by.now.origin c.min-from.result c.max-to.result c.min-down.result (step c) c.max-first.result c.max-end.result c.padded_end-last.result c.args.self.now.angle c.args.by.now.angle
+          h (span c) (run c) (first c) (last c) e.down e.less e.begin e.end (over c) before.1 behind.1,
     )
 
 pub returns-clause-divides : goal.returns-clause-divides
 returns-clause-divides c = λ j d h unmarked finite is.
-    let u : ℕ = c.args.unit in
-    let a : ℕ = c.min-down.result in
-    let s : ℕ = c.max.result - a in
-    let xs : ℕ → ℕ = λ i. get_or c.args.self.now.words.items i 0 in
-    let ys : ℕ → ℕ = λ i. get_or c.args.by.now.words.items i 0 in
-    let zs : ℕ → ℕ = λ i. get_or c.run_within.new.words.items i 0 in
-    let vs : ℕ → ℕ = λ i. get_or c.take_rest.new.words.items i 0 in
-    let ws : ℕ → ℕ = λ i. get_or c.take_rest-2.new.words.items i 0 in
-    let o : ℕ = c.args.self.now.origin in
-    let p : ℕ = c.args.by.now.origin in
-    let f : ℕ = c.min-from.result in
-    let t : ℕ = c.max-to.result in
-    let g : ℕ = c.max-first.result in
-    let m : ℕ = c.max-end.result in
-    let n : ℕ = c.padded_end-last.result in
-    let past = c.padded_end-last.ensures.low in
-    let meet = c.requires.meet in
-    let span : IsSpan u xs ys o p f t a s = record {
-      low = omega arith;
-      order = omega arith;
-      stride = omega arith;
-      x_below = λ k j h l. meet.first.below k j (omega arith) l;
-      x_above = λ k j h l. meet.first.above k j (omega arith) l;
-      y_below = λ e j h l. meet.second.below (p + e) j (omega arith) l;
-      y_above = λ e j h l. meet.second.above (p + e) j (omega arith) l;
-    } in
-    let run : IsFlatRun u xs ys zs f t (p + (f - o)) s = record {
-      first = c.run_within.ensures.first;
-      next = c.run_within.ensures.next;
-      below = c.run_within.ensures.below;
-      above = c.run_within.ensures.above;
-    } in
-    let first : IsCut u zs vs f g = record {
-      zero = c.take_rest.ensures.zero;
-      below = c.take_rest.ensures.below;
-      above = c.take_rest.ensures.above;
-    } in
-    let last : IsCut u vs ws m n = record {
-      zero = c.take_rest-2.ensures.zero;
-      below = c.take_rest-2.ensures.below;
-      above = c.take_rest-2.ensures.above;
-    } in
-    let x : ℕ = c.args.self.now.angle in
-    let y : ℕ = c.args.by.now.angle in
+    let e = ends c in
     let before = c.take_rest.ensures.unmarked j h unmarked
-    (lane_start u j xs ys zs vs ws o p f t a s g m n x y h span run first last (omega arith) (omega arith) (omega arith) (omega arith) (omega arith) d is) in
+    (lane_start c.args.unit j (xs c) (ys c) (zs c) (vs c) (ws c) c.args.self.now.origin c.args.by.now.origin c.min-from.result c.max-to.result c.min-down.result (step c) c.max-first.result c.max-end.result c.padded_end-last.result c.args.self.now.angle c.args.by.now.angle
+    h (span c) (run c) (first c) (last c) e.down e.less e.begin e.end (over c) d is) in
     c.take_rest-2.ensures.unmarked j h before
-    (lane_spent u j xs ys zs vs ws o p f t a s g m n x y h span run first last (omega arith) (omega arith) (omega arith) (omega arith) (omega arith) d finite is)
+    (lane_spent c.args.unit j (xs c) (ys c) (zs c) (vs c) (ws c) c.args.self.now.origin c.args.by.now.origin c.min-from.result c.max-to.result c.min-down.result (step c) c.max-first.result c.max-end.result c.padded_end-last.result c.args.self.now.angle c.args.by.now.angle
+    h (span c) (run c) (first c) (last c) e.down e.less e.begin e.end (over c) d finite is)
