@@ -41,7 +41,7 @@ use Rattle.rz_script.specs.declared.keywords.PairVerb.TheVariants as pair_verbs
 use Rattle.rz_script.specs.declared.keywords.Verb.{Verb}
 use Rattle.rz_script.specs.declared.keywords.Verb.TheVariants as verbs
 use Rattle.rz_script.specs.Lines.{is_plain, IsWord, IsActor, IsDatum, IsCall, IsNodeOf, IsOfClient, IsOfRebuilder, IsOperation, IsLine, AreLines, has_node, datum_length, most_bytes, last_byte, allows}
-use Rattle.rz_script.specs.Grammar.{Judge, Reader, and_then, ◌>>=◌, words, lines, number, number_in, actor, node, datum, datum_from, length_from, way, verb, verb_named, operands, on_path, on_pair, setattr, put, get, write, read, update, view, rebuild, by_actor, op, turn, rounds, rest, on_node, break_node, miss, keyword, keyword_named, after_keyword, counted, line, lines_from}
+use Rattle.rz_script.specs.Grammar.{Judge, Reader, and_then, ◌>>=◌, words, lines, number, number_in, actor, node, datum, datum_from, length_from, way, verb, verb_named, path_verb_named, pair_verb_named, other_verb_named, operands, on_path, on_pair, setattr, put, get, bytes_at, range_at, rebuild, by_actor, op, turn, rounds, rest, on_node, break_node, miss, keyword, keyword_named, after_keyword, counted, line, lines_from}
 use Rattle.rz_script.specs.Spelling.{datum_word, call_word, call_operands, verb_word, operands_of, way_word, line_words, line_text, lines_text}
 
 -- ---- words
@@ -178,7 +178,7 @@ verb_of (Update path offset d) = verbs.Update
 verb_of (View path offset len) = verbs.View
 
 call_again : (form : Form) (n : ℕ) (call : TreeCall) → IsCall call → verb form (Client n) (call_word call) ≡ Ok (call_verb call)
-unfolding verb verb_named
+unfolding verb verb_named path_verb_named pair_verb_named other_verb_named
 call_again form n (tree.Lookup path) h = refl
 call_again form n (tree.Getattr path) h = refl
 call_again form n (tree.Rmdir path) h = refl
@@ -194,7 +194,7 @@ call_again form n (tree.Link path to) h = refl
 call_again form n (tree.Symlink target path) h = refl
 
 client_verb_again : (form : Form) (n : ℕ) (v : Volume) (o : Operation) → IsOfClient v o → allows form (Op (Client n) o) ≡ true → verb form (Client n) (verb_word o) ≡ Ok (verb_of o)
-unfolding verb verb_named
+unfolding verb verb_named path_verb_named pair_verb_named other_verb_named
 client_verb_again form n v (Tree call) h a = call_again form n call h
 client_verb_again form n v (Put path block d) h a = refl
 client_verb_again form n v (Get path block) h a = refl
@@ -209,7 +209,7 @@ client_verb_again forms.Run n v (View path offset len) h a = absurd cc
 client_verb_again forms.Migrate n v (View path offset len) h a = absurd cc
 
 rebuilder_verb_again : (form : Form) (n : ℕ) (v : Volume) (o : Operation) → IsOfRebuilder v o → verb form (Rebuilder n) (verb_word o) ≡ Ok (verb_of o)
-unfolding verb verb_named
+unfolding verb verb_named path_verb_named pair_verb_named other_verb_named
 rebuilder_verb_again form n v (Tree call) h = absurd h
 rebuilder_verb_again form n v (Put path block d) h = absurd h
 rebuilder_verb_again form n v (Get path block) h = absurd h
@@ -241,7 +241,7 @@ call_operands_again v (tree.Link path to) h = refl
 call_operands_again v (tree.Symlink target path) h = refl
 
 client_operands_again : (v : Volume) (o : Operation) → block_bytes_of v.layout < 2 ^ 32 → IsOfClient v o → operands v (verb_of o) (operands_of o) ≡ Ok o
-unfolding operands put get write read update view
+unfolding operands put get bytes_at range_at
 client_operands_again v (Tree call) small h = call_operands_again v call h
 client_operands_again v (Put path block d) small h = rw (number_again block h.1, datum_again (block_bytes_of v.layout) d small h.2) refl
 client_operands_again v (Get path block) small h = rw (number_again block h.1) refl

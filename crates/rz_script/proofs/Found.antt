@@ -31,8 +31,8 @@ use Rattle.rz_script.specs.declared.keywords.Verb.TheVariants as verbs
 use Rattle.rz_script.specs.declared.keywords.Keyword.{Keyword}
 use Rattle.rz_script.specs.declared.keywords.Keyword.TheVariants as keys
 use Rattle.rz_script.proofs.Bytes.{utf8_bytes, are_bytes}
-use Rattle.rz_script.specs.Lines.{IsActor, IsWord, IsDatum, IsCall, IsNodeOf, IsOfClient, IsOfRebuilder, IsOperation, IsLine, has_node, datum_length, most_bytes, last_byte}
-use Rattle.rz_script.specs.Grammar.{Judge, Reader, and_then, ◌>>=◌, done, any, number, number_in, numbered, actor, of_volume, node, at_most, made, hex, datum, datum_from, length_from, way, verb, judged, judged_if, unless_run, verb_named, path_call, pair_call, on_path, on_pair, setattr, put, get, write, read, update, view, rebuild, operands, by_actor, op, turn, rounds, rest, on_node, break_node, miss, keyword, after_keyword, counted, line, some}
+use Rattle.rz_script.specs.Lines.{IsActor, IsWord, IsDatum, IsCall, IsNodeOf, IsWrite, IsRead, IsOfClient, IsOfRebuilder, IsOperation, IsLine, has_node, datum_length, most_bytes, last_byte}
+use Rattle.rz_script.specs.Grammar.{Judge, Reader, and_then, ◌>>=◌, done, any, number, number_in, numbered, actor, of_volume, node, at_most, made, hex, datum, datum_from, length_from, way, verb, judged, judged_if, unless_run, verb_named, path_call, pair_call, on_path, on_pair, setattr, put, get, bytes_at, range_at, rebuild, operands, by_actor, op, turn, rounds, rest, on_node, break_node, miss, keyword, after_keyword, counted, line, some}
 
 both : (a b : Bool) → (a && b) ≡ true → (a ≡ true) × (b ≡ true)
 both true b h = (refl, h)
@@ -266,37 +266,21 @@ module _ (v : Volume) where
       (λ path us y p g f. takes number (λ block. done (Get path block)) (λ n. n < 2 ^ 64) (IsOfClient v) number_ok
       (λ block us2 y2 n g2 f2. done_ok (IsOfClient v) (Get path block) y2 us2 (p, n) f2) us y g f) ws o good e
 
-  write_ok : (ws : List Word) (o : Operation) → AllByRecursion IsWord ws → write ws ≡ Ok o → IsOfClient v o
-  unfolding write
-  write_ok ws o good e =
-      takes any (λ path. number >>= λ offset. datum_from offset >>= λ bytes. done (Write path offset bytes)) IsWord (IsOfClient v) any_ok
-      (λ path us y p g f. takes number (λ offset. datum_from offset >>= λ bytes. done (Write path offset bytes)) (λ n. n < 2 ^ 64) (IsOfClient v) number_ok
-      (λ offset us2 y2 n g2 f2. takes (datum_from offset) (λ bytes. done (Write path offset bytes)) (Writes offset) (IsOfClient v) (datum_from_ok offset)
-      (λ bytes us3 y3 d g3 f3. done_ok (IsOfClient v) (Write path offset bytes) y3 us3 (p, d.0, d.1) f3) us2 y2 g2 f2) us y g f) ws o good e
+  bytes_at_ok : (make : List ℕ → ℕ → Datum → Operation) → ((path : List ℕ) (offset : ℕ) (d : Datum) → IsWrite path offset d → IsOfClient v (make path offset d)) → (ws : List Word) (o : Operation) → AllByRecursion IsWord ws → bytes_at make ws ≡ Ok o → IsOfClient v o
+  unfolding bytes_at
+  bytes_at_ok make made_ok ws o good e =
+      takes any (λ path. number >>= λ offset. datum_from offset >>= λ bytes. done (make path offset bytes)) IsWord (IsOfClient v) any_ok
+      (λ path us y p g f. takes number (λ offset. datum_from offset >>= λ bytes. done (make path offset bytes)) (λ n. n < 2 ^ 64) (IsOfClient v) number_ok
+      (λ offset us2 y2 n g2 f2. takes (datum_from offset) (λ bytes. done (make path offset bytes)) (Writes offset) (IsOfClient v) (datum_from_ok offset)
+      (λ bytes us3 y3 d g3 f3. done_ok (IsOfClient v) (make path offset bytes) y3 us3 (made_ok path offset bytes (p, d.0, d.1)) f3) us2 y2 g2 f2) us y g f) ws o good e
 
-  update_ok : (ws : List Word) (o : Operation) → AllByRecursion IsWord ws → update ws ≡ Ok o → IsOfClient v o
-  unfolding update
-  update_ok ws o good e =
-      takes any (λ path. number >>= λ offset. datum_from offset >>= λ bytes. done (Update path offset bytes)) IsWord (IsOfClient v) any_ok
-      (λ path us y p g f. takes number (λ offset. datum_from offset >>= λ bytes. done (Update path offset bytes)) (λ n. n < 2 ^ 64) (IsOfClient v) number_ok
-      (λ offset us2 y2 n g2 f2. takes (datum_from offset) (λ bytes. done (Update path offset bytes)) (Writes offset) (IsOfClient v) (datum_from_ok offset)
-      (λ bytes us3 y3 d g3 f3. done_ok (IsOfClient v) (Update path offset bytes) y3 us3 (p, d.0, d.1) f3) us2 y2 g2 f2) us y g f) ws o good e
-
-  read_ok : (ws : List Word) (o : Operation) → AllByRecursion IsWord ws → read ws ≡ Ok o → IsOfClient v o
-  unfolding read
-  read_ok ws o good e =
-      takes any (λ path. number >>= λ offset. length_from offset >>= λ len. done (Read path offset len)) IsWord (IsOfClient v) any_ok
-      (λ path us y p g f. takes number (λ offset. length_from offset >>= λ len. done (Read path offset len)) (λ n. n < 2 ^ 64) (IsOfClient v) number_ok
-      (λ offset us2 y2 n g2 f2. takes (length_from offset) (λ len. done (Read path offset len)) (Reads offset) (IsOfClient v) (length_from_ok offset)
-      (λ len us3 y3 d g3 f3. done_ok (IsOfClient v) (Read path offset len) y3 us3 (p, d.0, d.1) f3) us2 y2 g2 f2) us y g f) ws o good e
-
-  view_ok : (ws : List Word) (o : Operation) → AllByRecursion IsWord ws → view ws ≡ Ok o → IsOfClient v o
-  unfolding view
-  view_ok ws o good e =
-      takes any (λ path. number >>= λ offset. length_from offset >>= λ len. done (View path offset len)) IsWord (IsOfClient v) any_ok
-      (λ path us y p g f. takes number (λ offset. length_from offset >>= λ len. done (View path offset len)) (λ n. n < 2 ^ 64) (IsOfClient v) number_ok
-      (λ offset us2 y2 n g2 f2. takes (length_from offset) (λ len. done (View path offset len)) (Reads offset) (IsOfClient v) (length_from_ok offset)
-      (λ len us3 y3 d g3 f3. done_ok (IsOfClient v) (View path offset len) y3 us3 (p, d.0, d.1) f3) us2 y2 g2 f2) us y g f) ws o good e
+  range_at_ok : (make : List ℕ → ℕ → ℕ → Operation) → ((path : List ℕ) (offset len : ℕ) → IsRead path offset len → IsOfClient v (make path offset len)) → (ws : List Word) (o : Operation) → AllByRecursion IsWord ws → range_at make ws ≡ Ok o → IsOfClient v o
+  unfolding range_at
+  range_at_ok make made_ok ws o good e =
+      takes any (λ path. number >>= λ offset. length_from offset >>= λ len. done (make path offset len)) IsWord (IsOfClient v) any_ok
+      (λ path us y p g f. takes number (λ offset. length_from offset >>= λ len. done (make path offset len)) (λ n. n < 2 ^ 64) (IsOfClient v) number_ok
+      (λ offset us2 y2 n g2 f2. takes (length_from offset) (λ len. done (make path offset len)) (Reads offset) (IsOfClient v) (length_from_ok offset)
+      (λ len us3 y3 d g3 f3. done_ok (IsOfClient v) (make path offset len) y3 us3 (made_ok path offset len (p, d.0, d.1)) f3) us2 y2 g2 f2) us y g f) ws o good e
 
   rebuild_ok : (ws : List Word) (o : Operation) → AllByRecursion IsWord ws → rebuild v ws ≡ Ok o → IsOfRebuilder v o
   unfolding rebuild
@@ -319,11 +303,11 @@ module _ (v : Volume) where
   operands_ok (Client n) verbs.Setattr d ws o good e = setattr_ok ws o good e
   operands_ok (Client n) verbs.Put d ws o good e = put_ok ws o good e
   operands_ok (Client n) verbs.Get d ws o good e = get_ok ws o good e
-  operands_ok (Client n) verbs.Write d ws o good e = write_ok ws o good e
-  operands_ok (Client n) verbs.Read d ws o good e = read_ok ws o good e
+  operands_ok (Client n) verbs.Write d ws o good e = bytes_at_ok Write (λ path offset d h. h) ws o good e
+  operands_ok (Client n) verbs.Read d ws o good e = range_at_ok Read (λ path offset len h. h) ws o good e
   operands_ok (Client n) verbs.Rebuild d ws o good e = absurd d
-  operands_ok (Client n) verbs.Update d ws o good e = update_ok ws o good e
-  operands_ok (Client n) verbs.View d ws o good e = view_ok ws o good e
+  operands_ok (Client n) verbs.Update d ws o good e = bytes_at_ok Update (λ path offset d h. h) ws o good e
+  operands_ok (Client n) verbs.View d ws o good e = range_at_ok View (λ path offset len h. h) ws o good e
   operands_ok (Rebuilder n) (verbs.OnPath verb) d ws o good e = absurd d
   operands_ok (Rebuilder n) (verbs.OnPair verb) d ws o good e = absurd d
   operands_ok (Rebuilder n) verbs.Setattr d ws o good e = absurd d

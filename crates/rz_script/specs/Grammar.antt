@@ -156,21 +156,31 @@ way w =
 
 -- ---- operations
 
--- the operation that a word names
-unfoldable pub verb_named : Word → Option Verb
-verb_named w =
-    if bytes_eq w (codes "mkdir") then Some (verbs.OnPath path_verbs.Mkdir)
-    else if bytes_eq w (codes "rmdir") then Some (verbs.OnPath path_verbs.Rmdir)
-    else if bytes_eq w (codes "create") then Some (verbs.OnPath path_verbs.Create)
-    else if bytes_eq w (codes "unlink") then Some (verbs.OnPath path_verbs.Unlink)
-    else if bytes_eq w (codes "rename") then Some (verbs.OnPair pair_verbs.Rename)
-    else if bytes_eq w (codes "link") then Some (verbs.OnPair pair_verbs.Link)
-    else if bytes_eq w (codes "symlink") then Some (verbs.OnPair pair_verbs.Symlink)
-    else if bytes_eq w (codes "readlink") then Some (verbs.OnPath path_verbs.Readlink)
-    else if bytes_eq w (codes "readdir") then Some (verbs.OnPath path_verbs.Readdir)
-    else if bytes_eq w (codes "lookup") then Some (verbs.OnPath path_verbs.Lookup)
-    else if bytes_eq w (codes "getattr") then Some (verbs.OnPath path_verbs.Getattr)
-    else if bytes_eq w (codes "setattr") then Some verbs.Setattr
+-- the call on one path that a word names
+unfoldable pub path_verb_named : Word → Option PathVerb
+path_verb_named w =
+    if bytes_eq w (codes "mkdir") then Some path_verbs.Mkdir
+    else if bytes_eq w (codes "rmdir") then Some path_verbs.Rmdir
+    else if bytes_eq w (codes "create") then Some path_verbs.Create
+    else if bytes_eq w (codes "unlink") then Some path_verbs.Unlink
+    else if bytes_eq w (codes "readlink") then Some path_verbs.Readlink
+    else if bytes_eq w (codes "readdir") then Some path_verbs.Readdir
+    else if bytes_eq w (codes "lookup") then Some path_verbs.Lookup
+    else if bytes_eq w (codes "getattr") then Some path_verbs.Getattr
+    else None
+
+-- the call on two words that a word names
+unfoldable pub pair_verb_named : Word → Option PairVerb
+pair_verb_named w =
+    if bytes_eq w (codes "rename") then Some pair_verbs.Rename
+    else if bytes_eq w (codes "link") then Some pair_verbs.Link
+    else if bytes_eq w (codes "symlink") then Some pair_verbs.Symlink
+    else None
+
+-- any other operation that a word names
+unfoldable pub other_verb_named : Word → Option Verb
+other_verb_named w =
+    if bytes_eq w (codes "setattr") then Some verbs.Setattr
     else if bytes_eq w (codes "put") then Some verbs.Put
     else if bytes_eq w (codes "get") then Some verbs.Get
     else if bytes_eq w (codes "write") then Some verbs.Write
@@ -179,6 +189,15 @@ verb_named w =
     else if bytes_eq w (codes "view") then Some verbs.View
     else if bytes_eq w (codes "rebuild") then Some verbs.Rebuild
     else None
+
+abbrev pub first_verb : Option PathVerb → Option PairVerb → Option Verb → Option Verb
+first_verb (Some v) pair other = Some (verbs.OnPath v)
+first_verb None (Some v) other = Some (verbs.OnPair v)
+first_verb None None other = other
+
+-- the operation that a word names
+unfoldable pub verb_named : Word → Option Verb
+verb_named w = first_verb (path_verb_named w) (pair_verb_named w) (other_verb_named w)
 
 -- an operation that locks a range is not for many threads
 abbrev pub unless_run : {A : Type 0} → Form → A → Result A ScriptCause
@@ -257,37 +276,21 @@ get = do
   block ← number
   done (Get path block)
 
--- write PATH OFFSET DATUM
-unfoldable pub write : Reader Operation
-write = do
+-- PATH OFFSET DATUM of a write or an update
+unfoldable pub bytes_at : (List ℕ → ℕ → Datum → Operation) → Reader Operation
+bytes_at make = do
   path ← any
   offset ← number
   bytes ← datum_from offset
-  done (Write path offset bytes)
+  done (make path offset bytes)
 
--- read PATH OFFSET LENGTH
-unfoldable pub read : Reader Operation
-read = do
+-- PATH OFFSET LENGTH of a read or a view
+unfoldable pub range_at : (List ℕ → ℕ → ℕ → Operation) → Reader Operation
+range_at make = do
   path ← any
   offset ← number
   len ← length_from offset
-  done (Read path offset len)
-
--- update PATH OFFSET DATUM
-unfoldable pub update : Reader Operation
-update = do
-  path ← any
-  offset ← number
-  bytes ← datum_from offset
-  done (Update path offset bytes)
-
--- view PATH OFFSET LENGTH
-unfoldable pub view : Reader Operation
-view = do
-  path ← any
-  offset ← number
-  len ← length_from offset
-  done (View path offset len)
+  done (make path offset len)
 
 -- rebuild NODE
 unfoldable pub rebuild : Volume → Reader Operation
@@ -302,10 +305,10 @@ operands v (verbs.OnPair verb) = on_pair verb
 operands v verbs.Setattr = setattr
 operands v verbs.Put = put v
 operands v verbs.Get = get
-operands v verbs.Write = write
-operands v verbs.Read = read
-operands v verbs.Update = update
-operands v verbs.View = view
+operands v verbs.Write = bytes_at Write
+operands v verbs.Read = range_at Read
+operands v verbs.Update = bytes_at Update
+operands v verbs.View = range_at View
 operands v verbs.Rebuild = rebuild v
 
 -- ---- lines

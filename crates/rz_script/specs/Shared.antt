@@ -7,23 +7,6 @@ use Rattle.rz_script.specs.declared.line.Line.{Line}
 use Rattle.rz_script.specs.declared.line.Line.TheVariants.{Stop, Start, Lose}
 use Rattle.rz_script.specs.declared.keywords.Keyword.{Keyword}
 use Rattle.rz_script.specs.declared.keywords.Keyword.TheVariants as keys
-use Rattle.rz_script.specs.Grammar.{Reader, any, number, datum_from, length_from, done, ◌>>=◌}
-
--- PATH OFFSET DATUM
-unfoldable pub bytes_at : (List ℕ → ℕ → Datum → Operation) → Reader Operation
-bytes_at make = do
-  path ← any
-  offset ← number
-  bytes ← datum_from offset
-  done (make path offset bytes)
-
--- PATH OFFSET LENGTH
-unfoldable pub range_at : (List ℕ → ℕ → ℕ → Operation) → Reader Operation
-range_at make = do
-  path ← any
-  offset ← number
-  len ← length_from offset
-  done (make path offset len)
 
 -- an update and a view lock their range
 abbrev pub written : Bool → List ℕ → ℕ → Datum → Operation

@@ -1,7 +1,7 @@
 //! The first words of lines and of operations.
 
 ghost use Rattle.std.specs.Prelude.{◌≡◌};
-ghost use Rattle.rz_script.specs.Grammar.{verb_named, judged, verb, path_call, pair_call, keyword_named, standing, keyword};
+ghost use Rattle.rz_script.specs.Grammar.{path_verb_named, pair_verb_named, other_verb_named, verb_named, judged, verb, path_call, pair_call, keyword_named, standing, keyword};
 
 use crate::{Form, ScriptCause};
 use rz_events::{Actor, Text, TreeCall};
@@ -57,23 +57,43 @@ pub enum Keyword {
     Miss,
 }
 
-/// The operation that a word names.
-#[tactic(auto, unfolding(crate::specs::Grammar::verb_named))]
-fn verb_named(word: &str) -> Option<Verb>
-    ensures { result ≡ verb_named word.now }
+/// The call on one path that a word names.
+#[tactic(auto, unfolding(crate::specs::Grammar::path_verb_named))]
+fn path_verb_named(word: &str) -> Option<PathVerb>
+    ensures { result ≡ path_verb_named word.now }
 {
     Some(match word {
-        "mkdir" => Verb::OnPath(PathVerb::Mkdir),
-        "rmdir" => Verb::OnPath(PathVerb::Rmdir),
-        "create" => Verb::OnPath(PathVerb::Create),
-        "unlink" => Verb::OnPath(PathVerb::Unlink),
-        "rename" => Verb::OnPair(PairVerb::Rename),
-        "link" => Verb::OnPair(PairVerb::Link),
-        "symlink" => Verb::OnPair(PairVerb::Symlink),
-        "readlink" => Verb::OnPath(PathVerb::Readlink),
-        "readdir" => Verb::OnPath(PathVerb::Readdir),
-        "lookup" => Verb::OnPath(PathVerb::Lookup),
-        "getattr" => Verb::OnPath(PathVerb::Getattr),
+        "mkdir" => PathVerb::Mkdir,
+        "rmdir" => PathVerb::Rmdir,
+        "create" => PathVerb::Create,
+        "unlink" => PathVerb::Unlink,
+        "readlink" => PathVerb::Readlink,
+        "readdir" => PathVerb::Readdir,
+        "lookup" => PathVerb::Lookup,
+        "getattr" => PathVerb::Getattr,
+        _ => return None,
+    })
+}
+
+/// The call on two words that a word names.
+#[tactic(auto, unfolding(crate::specs::Grammar::pair_verb_named))]
+fn pair_verb_named(word: &str) -> Option<PairVerb>
+    ensures { result ≡ pair_verb_named word.now }
+{
+    Some(match word {
+        "rename" => PairVerb::Rename,
+        "link" => PairVerb::Link,
+        "symlink" => PairVerb::Symlink,
+        _ => return None,
+    })
+}
+
+/// Any other operation that a word names.
+#[tactic(auto, unfolding(crate::specs::Grammar::other_verb_named))]
+fn other_verb_named(word: &str) -> Option<Verb>
+    ensures { result ≡ other_verb_named word.now }
+{
+    Some(match word {
         "setattr" => Verb::Setattr,
         "put" => Verb::Put,
         "get" => Verb::Get,
@@ -84,6 +104,20 @@ fn verb_named(word: &str) -> Option<Verb>
         "rebuild" => Verb::Rebuild,
         _ => return None,
     })
+}
+
+/// The operation that a word names.
+#[tactic(auto, unfolding(crate::specs::Grammar::verb_named))]
+fn verb_named(word: &str) -> Option<Verb>
+    ensures { result ≡ verb_named word.now }
+{
+    if let Some(verb) = path_verb_named(word) {
+        return Some(Verb::OnPath(verb));
+    }
+    if let Some(verb) = pair_verb_named(word) {
+        return Some(Verb::OnPair(verb));
+    }
+    other_verb_named(word)
 }
 
 /// The verb, where an actor may do it under a form of reading.

@@ -83,7 +83,8 @@ fn read_other(volume: &Volume, keyword: Keyword, words: &mut Words) -> Result<Li
     ensures { (form : Form) → result ≡ after_keyword form volume.now keyword words.old }
 {
     match keyword {
-        Keyword::Volume | Keyword::Op => Err(ScriptCause::LateVolume),
+        Keyword::Volume => Err(ScriptCause::LateVolume),
+        Keyword::Op => unreachable!(),
         Keyword::Turn => read_turn(words),
         Keyword::Rounds => read_rounds(words),
         Keyword::Rest => read_rest(words),

@@ -2,8 +2,8 @@
 
 ghost use Rattle.std.specs.Prelude.{◌≡◌};
 ghost use Rattle.rz_script.specs.Given.{Gives};
-ghost use Rattle.rz_script.specs.Grammar.{on_path, on_pair, setattr, put, get, rebuild, operands, op};
-ghost use Rattle.rz_script.specs.Shared.{bytes_at, range_at, written, wanted};
+ghost use Rattle.rz_script.specs.Grammar.{on_path, on_pair, setattr, put, get, bytes_at, range_at, rebuild, operands, op};
+ghost use Rattle.rz_script.specs.Shared.{written, wanted};
 
 use crate::fault::LineError;
 use crate::judges::{
@@ -12,7 +12,7 @@ use crate::judges::{
 };
 use crate::keywords::{PairVerb, PathVerb, Verb, pair_call, path_call, read_verb};
 use crate::words::Words;
-use crate::{Form, Line, Operation, Volume};
+use crate::{Form, Line, Operation, ScriptCause, Volume};
 use rz_events::{Text, TreeCall};
 use std::alloc::Global;
 
@@ -77,7 +77,7 @@ fn read_get(alloc: Global, words: &mut Words) -> Result<Operation, LineError>
 }
 
 /// A datum that is written from an offset on. An update locks its range.
-#[tactic(auto, unfolding(crate::specs::Shared::bytes_at))]
+#[tactic(auto, unfolding(crate::specs::Grammar::bytes_at))]
 fn read_write(alloc: Global, locks: bool, words: &mut Words) -> Result<Operation, LineError>
     ensures { Gives result (bytes_at (written locks) words.old) }
 {
@@ -102,7 +102,7 @@ fn read_write(alloc: Global, locks: bool, words: &mut Words) -> Result<Operation
 }
 
 /// Bytes that are read from an offset on. A view locks its range.
-#[tactic(auto, unfolding(crate::specs::Shared::range_at))]
+#[tactic(auto, unfolding(crate::specs::Grammar::range_at))]
 fn read_read(alloc: Global, locks: bool, words: &mut Words) -> Result<Operation, LineError>
     ensures { Gives result (range_at (wanted locks) words.old) }
 {
@@ -127,8 +127,8 @@ fn read_read(alloc: Global, locks: bool, words: &mut Words) -> Result<Operation,
 }
 
 #[tactic(auto, unfolding(crate::specs::Grammar::rebuild))]
-fn read_rebuild(volume: &Volume, words: &mut Words) -> Result<Operation, LineError>
-    ensures { Gives result (rebuild volume.now words.old) }
+fn read_rebuild(volume: &Volume, words: &mut Words) -> Result<Operation, ScriptCause>
+    ensures { result ≡ rebuild volume.now words.old }
 {
     let node = read_node(volume, words.next()?)?;
     words.end()?;
@@ -136,7 +136,7 @@ fn read_rebuild(volume: &Volume, words: &mut Words) -> Result<Operation, LineErr
 }
 
 /// The words after the first word of an operation.
-#[tactic(auto, unfolding(crate::specs::Grammar::operands, crate::specs::Grammar::write, crate::specs::Grammar::read, crate::specs::Grammar::update, crate::specs::Grammar::view, crate::specs::Shared::bytes_at, crate::specs::Shared::range_at))]
+#[tactic(auto, unfolding(crate::specs::Grammar::operands))]
 fn read_operands(
     alloc: Global,
     volume: &Volume,
@@ -155,7 +155,7 @@ fn read_operands(
         Verb::Read => read_read(alloc, false, words),
         Verb::Update => read_write(alloc, true, words),
         Verb::View => read_read(alloc, true, words),
-        Verb::Rebuild => read_rebuild(volume, words),
+        Verb::Rebuild => Ok(read_rebuild(volume, words)?),
     }
 }
 
