@@ -130,7 +130,7 @@ fn hand_back_with<D: Disk>(
     home.clear();
     match last {
         Some(disk) => {
-            let _last = home.push(disk);
+            home.push_reserved(disk);
             hand_back(stations, home)
         }
         None => hand_back(stations, home),

@@ -119,6 +119,6 @@ pub(crate) fn with_last<D: Disk>(disks: Vec<D>, last: D, room: Vec<D>) -> Vec<D>
     let mut disks = disks;
     let mut all = room;
     let _moved = all.append(&mut disks);
-    let _last = all.push(last);
+    all.push_reserved(last);
     all
 }

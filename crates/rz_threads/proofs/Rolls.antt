@@ -1,5 +1,5 @@
 -- The passes of all clients and rebuilders.
-use Rattle.std.proofs.Common.{◌≡◌, ℕ, zero, suc, ◌+◌, List, [], ◌∷◌, ◌++◌, map, length, refl, sym, ap, ◌∙◌, arith, append-nil, append_assoc}
+use Rattle.std.proofs.Common.{◌≡◌, ℕ, zero, suc, ◌+◌, List, [], ◌∷◌, ◌++◌, map, length, refl, sym, ap, ◌∙◌, arith}
 use Rattle.std.proofs.lemmas.List.{length-map, map-append}
 use Rattle.std.specs.List.{AllByRecursion, range_with_len}
 use Rattle.rz_events.specs.declared.keys.Actor.{Actor}
@@ -29,14 +29,6 @@ all-dealt clients rebuilders first then =
     let two = dealt Rebuilder 1 16 rebuilders then in
     ap (λ (ps : List PassView). ps ++ rebuilders) one ∙ ap (λ (ps : List PassView). map new_pass (map Client (range_with_len 1 64)) ++ ps) two
     ∙ sym (map-append new_pass (map Client (range_with_len 1 64)) (map Rebuilder (range_with_len 1 16)))
-
--- those that are taken over, and those that are left
-pub next-rolled : {A : Type 0} (taken taken' rest rest' whole : List A) (p : A) → rest ≡ p ∷ rest' → taken' ≡ taken ++ p ∷ [] → taken ++ rest ≡ whole → taken' ++ rest' ≡ whole
-next-rolled {A = A} taken taken' rest rest' whole p is more was =
-    ap (λ (ps : List A). ps ++ rest') more ∙ append_assoc taken (p ∷ []) rest' ∙ sym (ap (λ (ps : List A). taken ++ ps) is) ∙ was
-
-pub all-rolled : {A : Type 0} (taken rest whole : List A) → rest ≡ [] → taken ++ rest ≡ whole → taken ≡ whole
-all-rolled {A = A} taken rest whole none was = sym (append-nil taken) ∙ sym (ap (λ (ps : List A). taken ++ ps) none) ∙ was
 
 -- Each of these passes is new, and there are 80.
 

@@ -17,8 +17,7 @@ pub fn roll<J: Naming>(
     ensures { IfOk result (λ ps. ps.items ≡ map new_pass actors) }
 {
     let mut passes = clients;
-    for pass in rebuilders {
-        passes.push(pass)?;
-    }
+    let mut rest = rebuilders;
+    passes.append(&mut rest)?;
     Ok(passes)
 }

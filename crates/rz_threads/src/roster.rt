@@ -13,12 +13,7 @@ use std::collections::VecDeque;
 fn is_same(a: Actor, b: Actor) -> bool
     ensures { result ≡ same_actor a b }
 {
-    match (a, b) {
-        (Actor::Client(a), Actor::Client(b)) => a == b,
-        (Actor::Rebuilder(a), Actor::Rebuilder(b)) => a == b,
-        (Actor::Admin, Actor::Admin) => true,
-        _ => false,
-    }
+    a == b
 }
 
 /// The operation of an actor in a line, if the line has one.
@@ -42,7 +37,8 @@ fn add(
     ensures { OnOk result (operations.new.items ≡ operations.old.items ++ given by (line.now ∷ [])) }
 {
     if let Some(op) = operation_in(by, line) {
-        operations.push_back(op.copy(alloc)?)?;
+        operations.reserve(1)?;
+        operations.push_back_reserved(op.copy(alloc)?);
     }
     Ok(())
 }
