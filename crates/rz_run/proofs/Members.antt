@@ -15,8 +15,8 @@ use Rattle.rz_show.specs.Shown.{shown_of}
 use Rattle.rz_steps.specs.Turned.{AreLost}
 use Rattle.rz_worker.specs.Doing.{IsBegun}
 use Rattle.rz_worker.specs.Workers.{IsAllDone, seat_of, seat_with}
-use Rattle.rz_threads.specs.declared.member.Member.{Member}
-use Rattle.rz_threads.specs.Staff.{actor_of, link_of, CanWork, IsStaffed}
+use Rattle.rz_staff.specs.declared.member.Member.{Member}
+use Rattle.rz_staff.specs.Staff.{actor_of, link_of, CanWork, IsStaffed}
 use Rattle.rz_threads.specs.Played as member
 use Rattle.rz_run.specs.Done.{HasBegun, HasFinished}
 use Rattle.rz_run.specs.Handed.{HasLost}

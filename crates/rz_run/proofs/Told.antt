@@ -19,8 +19,8 @@ use Rattle.rz_shared.specs.Counts.{AreCountedSince}
 use Rattle.rz_shared.proofs.NewSeats.{untouched}
 use Rattle.rz_show.specs.RunText.{run_text}
 use Rattle.rz_threads.specs.Orders.{AreBegun, AreDone}
-use Rattle.rz_threads.specs.declared.member.Member.{Member}
-use Rattle.rz_threads.specs.Staff.{IsStaffed}
+use Rattle.rz_staff.specs.declared.member.Member.{Member}
+use Rattle.rz_staff.specs.Staff.{IsStaffed}
 use Rattle.rz_threads.specs.Left.{IsLeft}
 use Rattle.rz_threads.specs.Played as member
 use Rattle.rz_perform.specs.Output.{Sunk, Ends, Lacks}

@@ -1,7 +1,7 @@
 //! What is written of a play.
 ghost use Rattle.std.specs.Prelude.{◌≡◌, ◌⊎◌, length, true};
 ghost use Rattle.rz_chronicle.specs.Keys.{sids_of};
-ghost use Rattle.rz_threads.specs.Moves.{HoldsAll};
+ghost use Rattle.rz_staff.specs.Moves.{HoldsAll};
 ghost use Rattle.rz_show.specs.RunText.{AreShownOf, run_text};
 ghost use Rattle.rz_perform.specs.Output.{Ends, Lacks, Sunk};
 ghost use Rattle.rz_run.specs.Runs.{Fails};
@@ -13,7 +13,7 @@ use rz_perform::{finish, refuse};
 use rz_ports::Sink;
 use rz_request::Refusal;
 use rz_show::show_run;
-use rz_threads::count_all;
+use rz_staff::count_all;
 use std::alloc::Global;
 use std::sync::Wait;
 

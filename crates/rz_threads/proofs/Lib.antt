@@ -1,12 +1,3 @@
-mod Counts
-mod Totals
-mod Rosters
-mod Gathered
-mod Pairs
-mod Rolls
-mod Recruits
-mod Hirings
-mod Taken
 pub mod Done
 pub mod Each
 pub mod Working

@@ -7,8 +7,8 @@ use Rattle.rz_show.specs.Shown.{shown_of}
 use Rattle.rz_steps.specs.Turned.{AreLost}
 use Rattle.rz_worker.specs.Doing.{IsBegun}
 use Rattle.rz_worker.specs.Workers.{IsAllDone, seat_of}
-use Rattle.rz_threads.specs.declared.member.Member.{Member}
-use Rattle.rz_threads.specs.Staff.{actor_of}
+use Rattle.rz_staff.specs.declared.member.Member.{Member}
+use Rattle.rz_staff.specs.Staff.{actor_of}
 
 -- The member stands here as it came to work.
 

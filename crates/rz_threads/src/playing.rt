@@ -9,21 +9,21 @@ ghost use Rattle.rz_play.specs.World.{actors};
 ghost use Rattle.rz_chronicle.specs.Keys.{IsLater, sids_of, word_key};
 ghost use Rattle.rz_chronicle.specs.Kinds.{IsFit, volume_in};
 ghost use Rattle.rz_chronicle.specs.Rules.{PassView};
-ghost use Rattle.rz_threads.specs.Gathered.{GoesOn, IsHeld};
-ghost use Rattle.rz_threads.specs.Moves.{HoldsAll};
+ghost use Rattle.rz_staff.specs.Gathered.{GoesOn, IsHeld};
+ghost use Rattle.rz_staff.specs.Moves.{HoldsAll};
+ghost use Rattle.rz_staff.specs.Staff.{CanWork, actor_of};
 ghost use Rattle.rz_threads.specs.Orders.{AreBegun, AreDone, Waits};
-ghost use Rattle.rz_threads.specs.Staff.{CanWork, actor_of};
 ghost use Rattle.rz_threads.specs.Left.{IsLeft};
 ghost use Rattle.rz_threads.specs.Played.{HasBegun, HasFinished, HasLost, shown_for};
 
 use crate::beside::{Shift, at_work};
-use crate::{Room, Staff, dismiss, gather_all, have_finished};
 use rz_chronicle::{Book, Pass};
 use rz_disk::Disk;
 use rz_events::{Actor, Event};
 use rz_link::Link;
 use rz_script::Line;
 use rz_shared::{Cluster, Counting};
+use rz_staff::{Room, Staff, dismiss, gather_all, have_finished};
 use rz_worker::Store;
 use std::alloc::Global;
 use std::sync::Wait;
@@ -70,7 +70,7 @@ fn gather_up<D: Disk, J: Counting>(
     ensures fit { IsFit J.kind result.front.log }
 {
     rz_chronicle::actors_kept();
-    crate::held_lasts();
+    rz_staff::held_lasts();
     let _own = admin.actor();
     let Store {
         cluster,

@@ -14,7 +14,7 @@ use Rattle.rz_chronicle.specs.Deals.{new_pass, new_post}
 use Rattle.rz_chronicle.specs.Keys.{sids_of}
 use Rattle.rz_chronicle.specs.Kinds.{is_honest, volume_in}
 use Rattle.rz_chronicle.specs.Rules.{PassView}
-use Rattle.rz_threads.specs.Moves.{HoldsAll}
+use Rattle.rz_staff.specs.Moves.{HoldsAll}
 use Rattle.rz_threads.specs.Orders.{AreBegun, AreDone}
 use Rattle.rz_perform.specs.Output.{Sunk}
 use Rattle.rz_run.specs.Done.{IsAllFinished}

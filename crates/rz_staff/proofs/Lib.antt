@@ -1,0 +1,9 @@
+mod Counts
+mod Totals
+mod Rosters
+mod Gathered
+mod Pairs
+mod Rolls
+mod Recruits
+mod Hirings
+mod Taken
