@@ -15,7 +15,7 @@ use Rattle.rz_chronicle.specs.Deals.{new_pass}
 use Rattle.rz_chronicle.specs.Keys.{sids_of}
 use Rattle.rz_chronicle.specs.Kinds.{is_honest, kind_of, volume_in}
 use Rattle.rz_chronicle.specs.Rules.{PassView}
-use Rattle.rz_shared.specs.Counts.{AreCountedSince}
+use Rattle.rz_locked.specs.Counts.{AreCountedSince}
 use Rattle.rz_shared.proofs.NewSeats.{untouched}
 use Rattle.rz_show.specs.RunText.{run_text}
 use Rattle.rz_threads.specs.Orders.{AreBegun, AreDone}

@@ -1,14 +1,3 @@
-mod Logs
-mod Lasting
-mod OfficeLaws
-mod Events
-mod Disks
-mod Seats
-mod Replies
-mod Offices
-mod Metering
-mod Picks
-mod Texts
 pub mod Pairs
 pub mod Readiness
 pub mod Returning

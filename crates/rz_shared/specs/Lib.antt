@@ -1,9 +1,3 @@
-pub mod Adding
-pub mod Seats
-pub mod Offices
-pub mod Laws
-pub mod Counts
-pub mod Picks
 pub mod Seating
 pub mod Returned
 pub mod Arranged

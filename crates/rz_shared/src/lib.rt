@@ -10,31 +10,16 @@
 //! one that was asked waits for ever. At the end each disk comes back beside the tally of its own node, in
 //! the order of the description.
 //!
-//! What stands behind a lock is a [`Seat`], which has a node and the tally of the node's word, or the [`Office`],
-//! which has the export and the tally of its word. Each call adds the event of its answer to the book before the
-//! lock is let go. Over any book the faults of a node's word are those that its disk counted since the node took
-//! its seat.
-//!
-//! In reading order: what is locked in `counting`, `serving`, `adding`, `waiting`, `seat`, `office`, and what lasts
-//! of it while others act in `laws`; the cluster in `room`, `seating`, `cluster`, `making`, `arranging`, `closing`.
+//! In reading order: `room`, `seating`, `cluster`, `making`, `arranging`, `closing`.
 #![tactic(auto)]
 
-mod adding;
 mod arranging;
 mod closing;
 mod cluster;
-mod counting;
-mod laws;
 mod making;
-mod office;
 mod room;
-mod seat;
 mod seating;
-mod serving;
-mod waiting;
 
 pub use cluster::Cluster;
-pub use counting::Counting;
-pub use office::Office;
 pub use rz_formatting::DriverFault;
-pub use seat::Seat;
+pub use rz_locked::{Counting, Office, Seat};

@@ -22,8 +22,8 @@ use Rattle.rz_play_laws.proofs.Frames.{of_actor-mine}
 use Rattle.rz_chronicle.specs.Keys.{IsOneOf, events_at, actor_key}
 use Rattle.rz_chronicle.specs.Kinds.{IsFit, is_honest, volume_in}
 use Rattle.rz_chronicle.specs.Holds.{Commits}
-use Rattle.rz_shared.specs.Adding.{Adds}
-use Rattle.rz_shared.specs.Seats.{IsFor}
+use Rattle.rz_locked.specs.Adding.{Adds}
+use Rattle.rz_locked.specs.Seats.{IsFor}
 use Rattle.rz_steps.specs.Adding.{AddsOwn}
 
 abbrev pub AreKept : Type 0

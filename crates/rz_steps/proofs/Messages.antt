@@ -23,7 +23,7 @@ use Rattle.rz_core.specs.Own.{IsOpen}
 use Rattle.rz_acting.specs.Acting.{IsActing}
 use Rattle.rz_acting.specs.Laws.{IsAskingLaw}
 use Rattle.rz_block_laws.specs.Laws.{IsHandingLaw}
-use Rattle.rz_shared.specs.Seats.{MayAsk, IsRead}
+use Rattle.rz_locked.specs.Seats.{MayAsk, IsRead}
 use Rattle.rz_play.specs.Lines.{noted}
 use Rattle.rz_play_laws.specs.Own.{IsOfActor}
 use Rattle.rz_play_laws.proofs.Events.{node-event}

@@ -14,7 +14,7 @@ ghost use Rattle.rz_play_laws.specs.Own.{IsOfActor};
 ghost use Rattle.rz_acting.specs.Acting.{AreBytes};
 ghost use Rattle.rz_chronicle.specs.Keys.{count_at, word_key};
 ghost use Rattle.rz_chronicle.specs.Kinds.{IsFit, MayCome, is_honest, volume_in};
-ghost use Rattle.rz_shared.specs.Seats.{MayAsk, IsRead};
+ghost use Rattle.rz_locked.specs.Seats.{MayAsk, IsRead};
 ghost use Rattle.rz_show.specs.Shown.{shown_of};
 ghost use Rattle.rz_steps.specs.Adding.{AddsOwn};
 

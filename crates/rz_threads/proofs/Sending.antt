@@ -13,7 +13,7 @@ use Rattle.rz_config.proofs.volume.Volume.TheSendSync as Volume
 use Rattle.rz_locks.proofs.table.Locks.TheSendSync as Locks
 use Rattle.rz_chronicle.specs.declared.passes.Naming as Naming
 use Rattle.rz_chronicle.proofs.book.Book.TheSendSync as Book
-use Rattle.rz_shared.specs.declared.counting.Counting as Counting
+use Rattle.rz_locked.specs.declared.counting.Counting as Counting
 use Rattle.rz_shared.proofs.Sending.{cluster_sync}
 use Rattle.rz_steps.specs.contracts.store.Store as Store
 

@@ -1,0 +1,11 @@
+mod Logs
+mod Lasting
+mod OfficeLaws
+mod Events
+mod Disks
+mod Seats
+mod Replies
+mod Offices
+mod Metering
+mod Picks
+mod Texts
