@@ -1,17 +1,14 @@
 //! The cells.
-ghost use Rattle.std.specs.Prelude.{◌≡◌, ◌+◌, ◌*◌, ◌≤◌, length, take, IsTrue, OnOk, OnErr};
-ghost use Rattle.byteorder.specs.Endian.{IsRead, little_number};
-ghost use Rattle.rz_disk.specs.Images.{Within, window};
+ghost use Rattle.std.specs.Prelude.{◌≡◌, ◌*◌, ◌≤◌, length, take, IsTrue, OnOk, OnErr};
+ghost use Rattle.rz_disk.specs.Images.{Within};
 ghost use Rattle.rz_disk.specs.Meter.{Passes};
-ghost use Rattle.rz_record.specs.Record.{IsRecord, IsValid, bins_of, record_bytes};
-ghost use Rattle.rz_cells.specs.Shape.{IsGeometry, slot_of};
+ghost use Rattle.rz_record.specs.Record.{IsValid, bins_of};
+ghost use Rattle.rz_slots.specs.Shape.{IsGeometry, slot_of};
 
 use crate::Geometry;
-use crate::heads::Heads;
-use crate::switching::switch;
-use byteorder::{ByteOrder, LittleEndian};
 use rz_disk::{Disk, Failed};
-use rz_record::{HEAD_BYTES, Head, encode_into};
+use rz_record::{HEAD_BYTES, Head};
+use rz_slots::{Heads, read_bins, spell, switch};
 
 /// A device call failed.
 #[derive(Clone, Copy, Debug, Drop)]
@@ -46,9 +43,9 @@ impl<D: Disk> Cells<D> {
     ghost use Rattle.rz_disk.specs.Images.{Only};
     ghost use Rattle.rz_disk.specs.Meter.{armed};
     ghost use Rattle.rz_record.specs.Slot.{Rec};
-    ghost use Rattle.rz_cells.specs.Held.{Goes, in_cell};
-    ghost use Rattle.rz_cells.specs.Stands.{Changes, HoldsCells, MayChange};
-    ghost use Rattle.rz_cells.specs.Counted.{Counted};
+    ghost use Rattle.rz_slots.specs.Held.{Goes, in_cell};
+    ghost use Rattle.rz_slots.specs.Stands.{Changes, HoldsCells, MayChange};
+    ghost use Rattle.rz_slots.specs.Counted.{Counted};
     ghost use Rattle.rz_cells.specs.Open.{AreOpen};
 
     /// Keeps a record in a cell, in the place of what the cell holds.
@@ -202,50 +199,4 @@ impl<D: Disk> Cells<D> {
     {
         self.disk
     }
-}
-
-/// Writes a record into the front of a buffer, and answers its size.
-pub fn spell(head: &Head, bins: &[u64], buffer: &mut Vec<u8>) -> usize
-    requires valid { IsValid head.now }
-    requires bins { length bins.now ≡ bins_of head.now }
-    requires room { record_bytes head.now ≤ length buffer.old.items }
-    ensures size { result ≡ record_bytes head.now }
-    ensures record { IsRecord (take result buffer.new.items) head.now bins.now }
-    ensures length { length buffer.new.items ≡ length buffer.old.items }
-{
-    spell_into(head, bins, buffer)
-}
-
-fn spell_into(head: &Head, bins: &[u64], out: &mut [u8]) -> usize
-    requires valid { IsValid head.now }
-    requires bins { length bins.now ≡ bins_of head.now }
-    requires room { record_bytes head.now ≤ length out.old }
-    ensures size { result ≡ record_bytes head.now }
-    ensures record { IsRecord (take result out.new) head.now bins.now }
-{
-    let size = HEAD_BYTES + 8 * bins.len();
-    encode_into(head, bins, &mut out[..size]);
-    size
-}
-
-/// Reads so many bins from an address on.
-pub fn read_bins<D: Disk>(
-    disk: &mut D,
-    at: u64,
-    buffer: &mut Vec<u8>,
-    out: &mut [u64],
-) -> Result<(), Failed>
-    requires range { at + 8 * length out.old ≤ length (D.text disk.old) }
-    requires room { 8 * length out.old ≤ length buffer.old.items }
-    ensures gives { OnOk result (IsTrue D.tells → IsRead little_number 8 (window at (8 * length out.old) (D.text disk.old)) out.new) }
-    ensures err { OnErr result (out.new ≡ out.old) }
-    ensures buffer { length buffer.new.items ≡ length buffer.old.items }
-    ensures text { D.text disk.new ≡ D.text disk.old }
-    ensures within { Within (D.image disk.old) (D.image disk.new) }
-    ensures meter { Passes result (D.meter disk.old) (D.meter disk.new) }
-{
-    let bytes = &mut buffer[..8 * out.len()];
-    disk.read(at, bytes)?;
-    LittleEndian::read_u64_into(bytes, out);
-    Ok(())
 }

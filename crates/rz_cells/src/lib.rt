@@ -18,25 +18,16 @@
 //! 48 bytes of each cell, and looks up each record's key once. Open cells can crash their disk, read it
 //! anew and make it anew, and keep what they know where that fails.
 //!
-//! In reading order: `geometry`, `heads`, `room`, `switching`, `cells`, `formatting`, `judging`, `reading`,
-//! `opening`, `old`, `copying`, `migrating`.
+//! `rz_slots` below has the layout of a disk, what its bytes stand for, and what is done to slots.
+//!
+//! In reading order: `cells`, `formatting`, `opening`, `migrating`.
 #![tactic(auto)]
 
 mod cells;
-mod copying;
 mod formatting;
-mod geometry;
-mod heads;
-mod judging;
 mod migrating;
-mod old;
 mod opening;
-mod reading;
-mod room;
-mod switching;
 
 pub use cells::{Cells, DiskFault};
-pub use formatting::FormatFault;
-pub use geometry::Geometry;
-pub use migrating::MigrateFault;
 pub use rz_events::{HeaderField, OpenFault};
+pub use rz_slots::{FormatFault, Geometry, MigrateFault};

@@ -21,8 +21,8 @@ use Rattle.rz_node_model.specs.Records.{held_of, stamp_of, record_of}
 use Rattle.rz_node_model.specs.States.{NodeState}
 use Rattle.rz_node_model.specs.Versions.{has_stamp}
 use Rattle.rz_node_model.proofs.VersionLaws.{has_stamp-map}
-use Rattle.rz_cells.specs.Held.{Records}
-use Rattle.rz_cells.specs.Stands.{StandsFor}
+use Rattle.rz_slots.specs.Held.{Records}
+use Rattle.rz_slots.specs.Stands.{StandsFor}
 use Rattle.rz_node.specs.Change.{AreHeld}
 use Rattle.rz_node.specs.HeldOnDisk.{Shows}
 use Rattle.rz_core.specs.History.{Facts, Begun, facts, length_in, base_in}

@@ -5,8 +5,8 @@ use Rattle.rz_events.specs.declared.events.Word.TheVariants.{Node}
 use Rattle.rz_events.specs.declared.events.Event.{Event}
 use Rattle.rz_node_model.specs.States.{NodeState, opened, fresh}
 use Rattle.rz_export_model.specs.Export.{Export as ExportState, new_export}
-use Rattle.rz_cells.specs.Held.{Records}
-use Rattle.rz_cells.specs.Stands.{StandsFor}
+use Rattle.rz_slots.specs.Held.{Records}
+use Rattle.rz_slots.specs.Stands.{StandsFor}
 use Rattle.rz_node.specs.HeldOnDisk.{Shows}
 use Rattle.rz_core.specs.History.{facts, of_word}
 use Rattle.rz_core.specs.NodeWord.{last_fence}

@@ -19,9 +19,9 @@ use Rattle.rz_events.specs.declared.keys.Actor.TheVariants.{Client, Rebuilder}
 use Rattle.rz_events.specs.declared.export.Call.{Call}
 use Rattle.rz_events.specs.declared.events.Word.TheVariants.{Node}
 use Rattle.rz_events.specs.declared.events.Event.{Event}
-use Rattle.rz_cells.specs.declared.geometry.Geometry.{Geometry}
-use Rattle.rz_cells.specs.Held.{Records}
-use Rattle.rz_cells.specs.Stands.{StandsFor}
+use Rattle.rz_slots.specs.declared.geometry.Geometry.{Geometry}
+use Rattle.rz_slots.specs.Held.{Records}
+use Rattle.rz_slots.specs.Stands.{StandsFor}
 use Rattle.rz_node.specs.View.{NodeView}
 use Rattle.rz_node.specs.HeldOnDisk.{Shows}
 use Rattle.rz_play.specs.Faults.{unplanned}

@@ -20,8 +20,8 @@ use Rattle.rz_play.specs.World.{World, new_world}
 use Rattle.rz_formatting.specs.declared.fault.DriverFault.{DriverFault}
 use Rattle.rz_formatting.specs.declared.fault.DriverFault.TheVariants as driver
 use Rattle.rz_formatting.specs.declared.formatting.Station.{Station}
-use Rattle.rz_cells.specs.declared.formatting.FormatFault.{FormatFault}
-use Rattle.rz_cells.specs.declared.formatting.FormatFault.TheVariants as format
+use Rattle.rz_slots.specs.declared.formatting.FormatFault.{FormatFault}
+use Rattle.rz_slots.specs.declared.formatting.FormatFault.TheVariants as format
 use Rattle.rz_formatting.specs.Formatted.{AreBack, AreFormatted, IsBack, IsCause, IsFormatted, disks_of, fault_at}
 use Rattle.rz_formatting.proofs.FormatLemmas.{new-back}
 use Rattle.rz_formatting.proofs.Rowwise.{get-behind, zip-length, zip-map}

@@ -14,9 +14,9 @@ use Rattle.rz_events.specs.declared.keys.Key.{Key}
 use Rattle.rz_events.specs.declared.records.Held.{Held}
 use Rattle.rz_node_model.specs.Records.{IsWhole, held_of, listed}
 use Rattle.rz_node_model.specs.States.{NodeState, fresh}
-use Rattle.rz_cells.specs.declared.geometry.Geometry.{Geometry}
-use Rattle.rz_cells.specs.Held.{nothing}
-use Rattle.rz_cells.specs.Stands.{StandsFor}
+use Rattle.rz_slots.specs.declared.geometry.Geometry.{Geometry}
+use Rattle.rz_slots.specs.Held.{nothing}
+use Rattle.rz_slots.specs.Stands.{StandsFor}
 use Rattle.rz_core.specs.History.{Facts, facts}
 use Rattle.rz_core.specs.NodeRows.{cells_of}
 use Rattle.rz_operation.specs.Machine.{Machine}

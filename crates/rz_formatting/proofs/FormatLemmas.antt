@@ -2,8 +2,8 @@
 use Rattle.std.proofs.Common.{◌≡◌, ℕ, zero, suc, ◌+◌, ◌-◌, ◌<◌, ◌≤◌, Bool, true, false, if◌then◌else◌, List, [], ◌∷◌, ◌++◌, map, reverse, length, drop, get_or, Some, inl, inr, sym, ◌∙◌, ap, subst, arith, add-one, drop-cons, length-drop}
 use Rattle.std.specs.Prelude.{slice_get}
 use Rattle.std.specs.List.{AllZip, zip}
-use Rattle.rz_cells.specs.Held.{nothing}
-use Rattle.rz_cells.specs.Stands.{StandsFor}
+use Rattle.rz_slots.specs.Held.{nothing}
+use Rattle.rz_slots.specs.Stands.{StandsFor}
 use Rattle.std.proofs.lemmas.List.{append-nil, drop_all, length-map, length-reverse, reverse-append}
 use Rattle.mj_angles.specs.declared.layout.Layout.{Layout}
 use Rattle.rz_disk.specs.Meter.{Meter}

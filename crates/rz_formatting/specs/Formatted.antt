@@ -7,11 +7,11 @@ use Rattle.rz_disk.specs.Images.{Only}
 use Rattle.rz_disk.specs.Meter.{Meter, Rises, faults}
 use Rattle.rz_disk.specs.UnderFuse.{UnderFuse}
 use Rattle.rz_events.specs.declared.files.NodeSpec.{NodeSpec}
-use Rattle.rz_cells.specs.declared.formatting.FormatFault.{FormatFault}
-use Rattle.rz_cells.specs.declared.formatting.FormatFault.TheVariants as format
-use Rattle.rz_cells.specs.declared.geometry.Geometry.{Geometry}
-use Rattle.rz_cells.specs.Held.{nothing}
-use Rattle.rz_cells.specs.Stands.{IsShut, StandsFor}
+use Rattle.rz_slots.specs.declared.formatting.FormatFault.{FormatFault}
+use Rattle.rz_slots.specs.declared.formatting.FormatFault.TheVariants as format
+use Rattle.rz_slots.specs.declared.geometry.Geometry.{Geometry}
+use Rattle.rz_slots.specs.Held.{nothing}
+use Rattle.rz_slots.specs.Stands.{IsShut, StandsFor}
 use Rattle.rz_node_model.specs.States.{fresh}
 use Rattle.rz_formatting.specs.declared.fault.DriverFault.{DriverFault}
 use Rattle.rz_formatting.specs.declared.fault.DriverFault.TheVariants as driver

@@ -9,10 +9,10 @@ use Rattle.rz_events.specs.Nodes.{number_of}
 use Rattle.rz_events.specs.declared.files.NodeSpec.{NodeSpec}
 use Rattle.rz_events.specs.declared.nodes.OpenFault.{OpenFault}
 use Rattle.rz_events.specs.declared.nodes.OpenFault.TheVariants as fault
-use Rattle.rz_cells.specs.Held.{Records}
-use Rattle.rz_cells.specs.Opening.{NotSize, Refuses}
-use Rattle.rz_cells.specs.Shape.{disk_bytes}
-use Rattle.rz_cells.specs.Stands.{StandsFor}
+use Rattle.rz_slots.specs.Held.{Records}
+use Rattle.rz_slots.specs.Opening.{NotSize, Refuses}
+use Rattle.rz_slots.specs.Shape.{disk_bytes}
+use Rattle.rz_slots.specs.Stands.{StandsFor}
 use Rattle.rz_node_model.specs.States.{opened}
 use Rattle.rz_node.specs.HeldOnDisk.{Shows}
 use Rattle.rz_formatting.specs.declared.formatting.Station.{Station}

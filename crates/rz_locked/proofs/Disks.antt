@@ -9,7 +9,7 @@ use Rattle.rz_events.specs.declared.nodes.NodeAsk.TheVariants as ask
 use Rattle.rz_events.specs.declared.nodes.NodeAnswer.{NodeAnswer}
 use Rattle.rz_events.specs.declared.nodes.NodeAnswer.TheVariants as answer
 use Rattle.rz_disk.specs.Images.{Only, Within}
-use Rattle.rz_cells.specs.declared.geometry.Geometry.{Geometry}
+use Rattle.rz_slots.specs.declared.geometry.Geometry.{Geometry}
 use Rattle.rz_node_model.specs.States.{NodeState}
 use Rattle.rz_node_model.specs.Answers.{IsNodeAnswer}
 use Rattle.rz_node.specs.Change.{IsBranch}

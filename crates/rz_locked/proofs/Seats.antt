@@ -7,7 +7,7 @@ use Rattle.rz_events.specs.declared.nodes.NodeAnswer.{NodeAnswer}
 use Rattle.rz_events.specs.declared.events.Word.TheVariants.{Node}
 use Rattle.rz_events.specs.declared.events.Event.{Event}
 use Rattle.rz_events.specs.Events.{by_of, word_of}
-use Rattle.rz_cells.specs.declared.geometry.Geometry.{Geometry}
+use Rattle.rz_slots.specs.declared.geometry.Geometry.{Geometry}
 use Rattle.rz_node_model.specs.States.{NodeState}
 use Rattle.rz_node_model.specs.Answers.{IsNodeAnswer}
 use Rattle.rz_node_model.specs.Afterwards.{after_answer}

@@ -11,7 +11,7 @@ ghost use Rattle.rz_events.specs.declared.nodes.NodeAnswer.TheVariants as answer
 ghost use Rattle.rz_node_model.specs.Answers.{IsNodeAnswer};
 ghost use Rattle.rz_node_model.specs.Afterwards.{after_answer, after_start};
 ghost use Rattle.rz_node_model.specs.NodeEvents.{node_event, start_event};
-ghost use Rattle.rz_cells.specs.Opening.{opening_calls};
+ghost use Rattle.rz_slots.specs.Opening.{opening_calls};
 ghost use Rattle.rz_node.specs.Opens.{Opens};
 ghost use Rattle.rz_play.specs.Faults.{fuse_of};
 ghost use Rattle.rz_play.specs.Lines.{noted};

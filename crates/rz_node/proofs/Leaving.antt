@@ -7,7 +7,7 @@ use Rattle.rz_events.specs.declared.nodes.FetchAnswer.TheVariants as fetch
 use Rattle.rz_events.specs.declared.nodes.StartAnswer.{StartAnswer}
 use Rattle.rz_events.specs.declared.nodes.StartAnswer.TheVariants as start
 use Rattle.rz_node_model.specs.States.{NodeState}
-use Rattle.rz_cells.specs.declared.geometry.Geometry.{Geometry}
+use Rattle.rz_slots.specs.declared.geometry.Geometry.{Geometry}
 use Rattle.rz_node.specs.Change.{IsBranch}
 use Rattle.rz_node.specs.Fetched.{IfHeld}
 use Rattle.rz_node.specs.Opens.{IfStarted, IfTook}

@@ -22,13 +22,13 @@ use Rattle.rz_node_model.specs.Answers.{is_full, keep_unless, keep_room, keep_an
 use Rattle.rz_node_model.specs.Records.{held_of, stamp_of, base_of, carried, key_at, least_block}
 use Rattle.rz_node_model.specs.Versions.{passes_keep, passes_refill, lesser_of}
 use Rattle.rz_index.specs.declared.index.Entry.{Entry}
-use Rattle.rz_cells.specs.Held.{Records}
-use Rattle.rz_cells.specs.Stands.{StandsFor}
+use Rattle.rz_slots.specs.Held.{Records}
+use Rattle.rz_slots.specs.Stands.{StandsFor}
 use Rattle.rz_node.specs.CrashOutcomes.{CrashOutcomes}
 use Rattle.rz_node.specs.Change.{IsBranch}
 use Rattle.rz_node.specs.Kept.{held_by}
 use Rattle.rz_node.specs.View.{NodeView, held_in, state_of}
-use Rattle.rz_cells.specs.Opening.{opening_calls}
+use Rattle.rz_slots.specs.Opening.{opening_calls}
 use Rattle.rz_node.specs.Opens.{Stopped}
 use Rattle.rz_node.specs.Spends.{Passed, Failed}
 use Rattle.rz_node.proofs.Keeps.{keep-answers, refill-answers}

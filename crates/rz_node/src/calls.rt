@@ -1,7 +1,7 @@
 //! Any call of a node.
 ghost use Rattle.std.specs.Prelude.{◌≡◌, IsTrue, drop};
 ghost use Rattle.mj_angles.specs.Layout.{max_bins_of};
-ghost use Rattle.rz_cells.specs.Opening.{opening_calls};
+ghost use Rattle.rz_slots.specs.Opening.{opening_calls};
 ghost use Rattle.rz_node_model.specs.Answers.{IsNodeAnswer};
 ghost use Rattle.rz_node_model.specs.Afterwards.{after_answer};
 ghost use Rattle.rz_node.specs.Calls.{Takes, IsNoStart, IsUnread, Counts};

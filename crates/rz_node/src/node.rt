@@ -2,9 +2,9 @@
 ghost use Rattle.std.specs.Prelude.{◌≡◌, ◌⊎◌, ◌*◌, ℕ, Some, None, List, IsTrue, IfOk, IfErr, MatchResult, if◌then◌else◌};
 ghost use Rattle.rz_disk.specs.Images.{Only, Within};
 ghost use Rattle.rz_disk.specs.Meter.{Took, Lasts, Rises, HasPasses, faults, armed};
-ghost use Rattle.rz_cells.specs.Held.{nothing};
-ghost use Rattle.rz_cells.specs.Shape.{IsGeometry};
-ghost use Rattle.rz_cells.specs.Stands.{IsShut, StandsFor};
+ghost use Rattle.rz_slots.specs.Held.{nothing};
+ghost use Rattle.rz_slots.specs.Shape.{IsGeometry};
+ghost use Rattle.rz_slots.specs.Stands.{IsShut, StandsFor};
 ghost use Rattle.rz_node_model.specs.Answers.{IsNodeAnswer};
 ghost use Rattle.rz_node_model.specs.Afterwards.{after_answer};
 ghost use Rattle.rz_node_model.specs.States.{fresh};

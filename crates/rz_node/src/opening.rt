@@ -2,10 +2,10 @@
 ghost use Rattle.std.specs.Prelude.{◌≡◌, ◌⊎◌, ℕ, List, length, Option, IsTrue, IfOk, IfErr, MatchResult};
 ghost use Rattle.rz_disk.specs.Images.{Only, Within};
 ghost use Rattle.rz_disk.specs.Meter.{Took, Lasts, Rises, HasPasses, faults};
-ghost use Rattle.rz_cells.specs.Held.{Records};
-ghost use Rattle.rz_cells.specs.Opening.{NotSize, Refuses, opening_calls};
-ghost use Rattle.rz_cells.specs.Shape.{IsGeometry, disk_bytes};
-ghost use Rattle.rz_cells.specs.Stands.{StandsFor};
+ghost use Rattle.rz_slots.specs.Held.{Records};
+ghost use Rattle.rz_slots.specs.Opening.{NotSize, Refuses, opening_calls};
+ghost use Rattle.rz_slots.specs.Shape.{IsGeometry, disk_bytes};
+ghost use Rattle.rz_slots.specs.Stands.{StandsFor};
 ghost use Rattle.rz_node_model.specs.Afterwards.{after_answer};
 ghost use Rattle.rz_node_model.specs.Answers.{IsNodeAnswer};
 ghost use Rattle.rz_node_model.specs.Records.{held_of, stamp_of};

@@ -20,7 +20,7 @@ use Rattle.rz_events.specs.declared.nodes.FetchAnswer.TheVariants as fetch
 use Rattle.rz_events.specs.declared.nodes.NodeAsk.TheVariants as ask
 use Rattle.rz_events.specs.declared.nodes.NodeAnswer.TheVariants as answer
 use Rattle.rz_events.specs.declared.events.Event.{Event}
-use Rattle.rz_cells.specs.declared.geometry.Geometry.{Geometry}
+use Rattle.rz_slots.specs.declared.geometry.Geometry.{Geometry}
 use Rattle.rz_core.specs.NodeRows.{cells_of}
 use Rattle.rz_node.specs.Fetched.{Gives, IfHeld}
 use Rattle.rz_node_model.specs.Answers.{IsFetchAnswer, fetch_answer, fetch_found}

@@ -15,7 +15,7 @@ use Rattle.rz_node_model.specs.Answers.{IsNodeAnswer}
 use Rattle.rz_node_model.specs.Afterwards.{after_answer}
 use Rattle.rz_node_model.specs.NodeEvents.{node_event}
 use Rattle.rz_node_model.specs.States.{NodeState}
-use Rattle.rz_cells.specs.declared.geometry.Geometry.{Geometry}
+use Rattle.rz_slots.specs.declared.geometry.Geometry.{Geometry}
 use Rattle.rz_node.specs.Change.{IsBranch}
 use Rattle.rz_node.specs.Opens.{IfStarted, IfTook}
 use Rattle.rz_node.specs.View.{NodeView}

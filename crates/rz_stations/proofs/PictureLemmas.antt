@@ -11,7 +11,7 @@ use Rattle.rz_events.specs.Volume.{Volume}
 use Rattle.rz_events.specs.declared.events.Word.TheVariants.{Node}
 use Rattle.rz_events.specs.declared.events.Event.{Event}
 use Rattle.rz_node_model.specs.States.{NodeState}
-use Rattle.rz_cells.specs.declared.geometry.Geometry.{Geometry}
+use Rattle.rz_slots.specs.declared.geometry.Geometry.{Geometry}
 use Rattle.rz_node.specs.View.{NodeView}
 use Rattle.rz_core.specs.History.{Facts, facts, of_word}
 use Rattle.rz_core.specs.Tied.{IsNode}

@@ -1,6 +1,6 @@
 //! Messages to nodes.
 ghost use Rattle.std.specs.Prelude.{◌≡◌, ◌≢◌, ◌↔◌, ◌<◌, ◌≤◌, ℕ, List, true, None, IsTrue, OnOk, OnErr, IfOk, length, not};
-ghost use Rattle.rz_cells.specs.Opening.{opening_calls};
+ghost use Rattle.rz_slots.specs.Opening.{opening_calls};
 ghost use Rattle.mj_angles.specs.Layout.{max_bins_of};
 ghost use Rattle.rz_block_laws.specs.Laws as laws;
 ghost use Rattle.rz_node.specs.Calls.{Counts, IsNoStart, IsRecord};

@@ -6,8 +6,8 @@ use Rattle.rz_disk.specs.UnderFuse.{UnderFuse}
 use Rattle.rz_disk.specs.Meter.{Meter, Rises, faults}
 use Rattle.rz_events.specs.Volume.{IsNode}
 use Rattle.std.proofs.lemmas.List.{reverse-reverse}
-use Rattle.rz_cells.specs.declared.formatting.FormatFault.{FormatFault}
-use Rattle.rz_cells.specs.declared.formatting.FormatFault.TheVariants as format
+use Rattle.rz_slots.specs.declared.formatting.FormatFault.{FormatFault}
+use Rattle.rz_slots.specs.declared.formatting.FormatFault.TheVariants as format
 use Rattle.rz_formatting.specs.Formatted.{IsBack, IsCause, IsFormatted, fault_at}
 use Rattle.rz_formatting.proofs.Rowwise.{all-get, zip-length, zip-more}
 use Rattle.rz_formatting.proofs.FormatLemmas.{pushed, next-taken, disk-at, all-back, failed-at, all-new}

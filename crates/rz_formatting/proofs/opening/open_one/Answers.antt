@@ -1,5 +1,5 @@
 use Rattle.std.proofs.Common.{ap}
-use Rattle.rz_cells.specs.Opening.{opening_calls}
+use Rattle.rz_slots.specs.Opening.{opening_calls}
 use Rattle.rz_formatting.proofs.OpenLemmas.{opened-one, fault-one}
 use Rattle.rz_formatting.proofs.opening.open_one.Goals as goal
 

@@ -1,7 +1,7 @@
 use Rattle.std.proofs.Common.{IsTrue, [], sym, subst}
 use Rattle.rz_events.specs.declared.nodes.NodeAsk.TheVariants as ask
 use Rattle.rz_events.specs.declared.nodes.NodeAnswer.TheVariants as answer
-use Rattle.rz_cells.specs.declared.geometry.Geometry.{Geometry}
+use Rattle.rz_slots.specs.declared.geometry.Geometry.{Geometry}
 use Rattle.rz_node_model.specs.States.{NodeState}
 use Rattle.rz_image_laws.specs.Images.{IsImaged}
 use Rattle.rz_locked.proofs.Disks.{starts}

@@ -2,7 +2,7 @@ use Rattle.std.proofs.Common.{rules, ◌≡◌, ℕ, sym, ◌∙◌, subst, true
 use Rattle.rz_events.specs.declared.nodes.NodeAsk.{NodeAsk}
 use Rattle.rz_events.specs.declared.nodes.NodeAsk.TheVariants as ask
 use Rattle.rz_events.specs.declared.nodes.NodeAnswer.TheVariants as answer
-use Rattle.rz_cells.specs.Opening.{opening_calls}
+use Rattle.rz_slots.specs.Opening.{opening_calls}
 use Rattle.rz_node_model.specs.NodeEvents.{node_event}
 use Rattle.rz_node.specs.Calls as calls
 use Rattle.rz_play.specs.Lines.{noted}

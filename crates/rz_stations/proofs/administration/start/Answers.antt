@@ -5,7 +5,7 @@ use Rattle.rz_events.specs.declared.nodes.StartAnswer.{StartAnswer}
 use Rattle.rz_events.specs.declared.nodes.StartAnswer.TheVariants as start
 use Rattle.rz_events.specs.declared.nodes.OpenFault.TheVariants as fault
 use Rattle.rz_disk.specs.Meter.{Meter, armed}
-use Rattle.rz_cells.specs.Opening.{opening_calls}
+use Rattle.rz_slots.specs.Opening.{opening_calls}
 use Rattle.rz_events.specs.declared.nodes.Phase.TheVariants.{Down}
 use Rattle.rz_node.specs.Opens.{Opens, IfStarted, UnlessStarted, IfUnopened}
 use Rattle.rz_play.specs.Lines.{IsTold, noted}
@@ -18,7 +18,7 @@ use Rattle.rz_node_model.specs.States.{NodeState, opened}
 use Rattle.rz_node_model.specs.Answers.{IsNodeAnswer, IsStartAnswer}
 use Rattle.rz_node_model.specs.Afterwards.{after_answer}
 use Rattle.rz_node_model.specs.NodeEvents.{node_event, start_event}
-use Rattle.rz_cells.specs.declared.geometry.Geometry.{Geometry}
+use Rattle.rz_slots.specs.declared.geometry.Geometry.{Geometry}
 use Rattle.rz_node.specs.View.{NodeView}
 use Rattle.rz_formatting.specs.declared.formatting.Station.{Station}
 use Rattle.rz_stations.specs.Stations.{IsCalled}

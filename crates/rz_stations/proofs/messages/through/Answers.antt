@@ -1,7 +1,7 @@
 use Rattle.std.proofs.Common.{◌≡◌, ◌≢◌, ◌∷◌, ◌∙◌, Bool, true, false, None, refl, sym}
 use Rattle.std.specs.Prelude.{not}
 use Rattle.std.proofs.lemmas.Result.{on_ok_weaker, on_err_weaker}
-use Rattle.rz_cells.specs.Opening.{opening_calls}
+use Rattle.rz_slots.specs.Opening.{opening_calls}
 use Rattle.rz_node_model.specs.NodeEvents.{node_event}
 use Rattle.rz_asks.specs.Logged.{stamp_begun}
 use Rattle.rz_stations.proofs.Fits.{told-true}

@@ -1,7 +1,7 @@
 use Rattle.std.proofs.Common.{◌≡◌, ◌≢◌, None, true, ◌∷◌, refl, sym, ◌∙◌}
 use Rattle.std.proofs.lemmas.Result.{on_ok_weaker, on_err_weaker}
 use Rattle.rz_events.specs.declared.events.Event.TheVariants as e
-use Rattle.rz_cells.specs.Opening.{opening_calls}
+use Rattle.rz_slots.specs.Opening.{opening_calls}
 use Rattle.rz_node_model.specs.NodeEvents.{node_event}
 use Rattle.rz_stations.proofs.MeterLemmas.{call-goes, call-lasts, missed-goes}
 use Rattle.rz_operation_model.specs.Ask.{ask_of}

@@ -1,8 +1,8 @@
 -- Both disks hold the same cells.
 use Rattle.std.proofs.Common.{sym, subst}
-use Rattle.rz_cells.specs.Old.{CarriesOver}
-use Rattle.rz_cells.proofs.Carried.{carried, found, over}
-use Rattle.rz_cells.proofs.OldOpened.{only_old_faults}
+use Rattle.rz_slots.specs.Old.{CarriesOver}
+use Rattle.rz_slots.proofs.Carried.{carried, found, over}
+use Rattle.rz_slots.proofs.OldOpened.{only_old_faults}
 use Rattle.rz_cells.proofs.cells.Cells.migrate.Goals as goal
 
 pub returns-in-Ok-clause-carried : goal.returns-in-Ok-clause-carried

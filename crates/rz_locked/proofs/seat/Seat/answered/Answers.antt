@@ -6,7 +6,7 @@ use Rattle.rz_events.specs.declared.events.Word.{Word}
 use Rattle.rz_events.specs.declared.events.Word.TheVariants as w
 use Rattle.rz_events.specs.declared.events.Event.{Event}
 use Rattle.rz_events.specs.Events.{by_of, word_of}
-use Rattle.rz_cells.specs.declared.geometry.Geometry.{Geometry}
+use Rattle.rz_slots.specs.declared.geometry.Geometry.{Geometry}
 use Rattle.rz_node_model.specs.Answers.{IsNodeAnswer}
 use Rattle.rz_node_model.specs.NodeEvents.{node_event}
 use Rattle.rz_core.specs.History.{facts, of_word}

@@ -1,8 +1,8 @@
 use Rattle.std.proofs.Common.{◌≡◌, ℕ, List, [], sym, ap, subst}
 use Rattle.rz_events.specs.declared.events.Word.TheVariants as w
 use Rattle.rz_events.specs.declared.events.Event.{Event}
-use Rattle.rz_cells.specs.Held.{nothing}
-use Rattle.rz_cells.specs.Stands.{StandsFor}
+use Rattle.rz_slots.specs.Held.{nothing}
+use Rattle.rz_slots.specs.Stands.{StandsFor}
 use Rattle.rz_node_model.specs.States.{NodeState}
 use Rattle.rz_core.specs.History.{facts, of_word}
 use Rattle.rz_core.specs.Tied.{IsNode}

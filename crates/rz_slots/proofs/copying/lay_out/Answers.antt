@@ -1,0 +1,45 @@
+use Rattle.std.proofs.Common.{ℕ, ◌≡◌, inr, refl, length, replicate, ◌∙◌, ap, arith}
+use Rattle.rz_slots.proofs.Copied.{blank_written}
+use Rattle.rz_slots.proofs.Fresh.{zeros_torn}
+use Rattle.rz_slots.proofs.copying.lay_out.Goals as goal
+
+pub returns-clause-blank : goal.returns-clause-blank
+returns-clause-blank g c told =
+    let header = c.spell_header.new.out in
+    blank_written c.args.geometry.now c.args.fence header (g.D.Disk.text c.reset.new.self) (g.D.Disk.text c.write_at.new.self) c.spell_header.ensures (omega arith) (c.in-Ok.ensures.text ∙ ap (λ (n : ℕ). replicate n 0) c.disk_bytes.ensures.value) (c.in-Ok-write_at.ensures.written told)
+
+pub returns-in_default-clause-crash : goal.returns-in_default-clause-crash
+returns-in_default-clause-crash g c t left =
+    let d = c.write_at.ensures.crash t left in
+    let long : length c.spell_header.new.out ≡ 32 = omega arith in
+    inr (zeros_torn c.disk_bytes.result (length c.spell_header.new.out) d.0 t (c.in-Ok.ensures.only d.0 d.1 ∙ c.in-Ok.ensures.text) long d.2)
+
+pub returns-in_default-clause-shut : goal.returns-in_default-clause-shut
+returns-in_default-clause-shut g c = tt
+
+pub returns-in_default-clause-size : goal.returns-in_default-clause-size
+returns-in_default-clause-size g c = tt
+
+pub returns-in_default-clause-blank : goal.returns-in_default-clause-blank
+returns-in_default-clause-blank g c = tt
+
+pub returns-in_default-clause-faults : goal.returns-in_default-clause-faults
+returns-in_default-clause-faults g c = inr refl
+
+pub returns-clause-crash : goal.returns-clause-crash
+returns-clause-crash g c t left =
+    let d = c.write_at.ensures.crash t left in
+    let long : length c.spell_header.new.out ≡ 32 = omega arith in
+    inr (zeros_torn c.disk_bytes.result (length c.spell_header.new.out) d.0 t (c.in-Ok.ensures.only d.0 d.1 ∙ c.in-Ok.ensures.text) long d.2)
+
+pub returns-clause-shut : goal.returns-clause-shut
+returns-clause-shut g c t left =
+    let d = c.write_at.ensures.crash t left in
+    let long : length c.spell_header.new.out ≡ 32 = omega arith in
+    zeros_torn c.disk_bytes.result (length c.spell_header.new.out) d.0 t (c.in-Ok.ensures.only d.0 d.1 ∙ c.in-Ok.ensures.text) long d.2
+
+pub returns-clause-faults : goal.returns-clause-faults
+returns-clause-faults g c = tt
+
+pub returns-clause-risen : goal.returns-clause-risen
+returns-clause-risen g c is = absurd (cc)

@@ -1,0 +1,10 @@
+pub mod Counted
+pub mod Held
+pub mod Packed
+pub mod Shape
+pub mod Stands
+pub mod Open
+pub mod Opening
+pub mod Old
+pub mod OldOpening
+pub mod Copied
