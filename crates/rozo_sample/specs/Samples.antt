@@ -4,7 +4,7 @@ use Rattle.std.specs.Global.{Vec}
 use Rattle.rz_events.specs.declared.events.Event.{Event}
 use Rattle.rz_script.specs.Scripts.{Script}
 use Rattle.rz_script.specs.Grammar.{script}
-use Rattle.rz_script.specs.declared.form.Form.TheVariants.{Replay}
+use Rattle.rz_operands.specs.declared.form.Form.TheVariants.{Replay}
 use Rattle.rz_play.specs.Stops.{TurnsSpent}
 use Rattle.rz_play.specs.Played.{IsPlayed, IsStopped}
 use Rattle.rz_lines.specs.declared.lines.PlayEnd.{PlayEnd}

@@ -11,6 +11,7 @@ use Rattle.rz_events.specs.declared.operations.Operation.{Operation}
 use Rattle.rz_events.specs.declared.operations.Operation.TheVariants.{Tree, Put, Get, Write, Read, Rebuild, Update, View}
 use Rattle.rz_operation_model.specs.Ranges.{bytes_of}
 use Rattle.rz_operation.specs.Answers.{IsOperation}
+use Rattle.rz_operands.specs.Limits.{datum_length}
 use Rattle.rz_script.specs.Lines as line
 use Rattle.rz_driver.specs.Worlds.{place_of}
 use Rattle.rz_driver.proofs.WorldLemmas.{client-place, rebuilder-place}
@@ -25,7 +26,7 @@ length-made : (f : ℕ → ℕ) (a n : ℕ) → length (map f (range_with_len a 
 length-made f a zero = refl
 length-made f a (suc n) = ap suc (length-made f (a + 1) n)
 
-datum-length : (d : Datum) → length (bytes_of d) ≡ line.datum_length d
+datum-length : (d : Datum) → length (bytes_of d) ≡ datum_length d
 datum-length (Bytes bytes) = refl
 datum-length (Made len seed) = length-made (λ i. (seed + 31 * i) % 256) 0 len
 
@@ -33,7 +34,7 @@ datum-short : (limit : ℕ) (d : Datum) → line.IsDatum limit d → length (byt
 datum-short limit (Bytes bytes) short = short.1
 datum-short limit (Made len seed) short = let same = datum-length (Made len seed) in omega (arith, same, short.0)
 
-within : (offset : ℕ) (d : Datum) → offset + line.datum_length d ≤ 4294967296 → offset + length (bytes_of d) ≤ 4294967296
+within : (offset : ℕ) (d : Datum) → offset + datum_length d ≤ 4294967296 → offset + length (bytes_of d) ≤ 4294967296
 within offset d le = subst (λ (n : ℕ). offset + n ≤ 4294967296) (sym (datum-length d)) le
 
 of-client : (v : Volume) (op : Operation) → line.IsOfClient v op → IsOperation v.layout op

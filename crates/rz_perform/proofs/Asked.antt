@@ -3,7 +3,7 @@ use Rattle.std.proofs.Common.{ℕ, true, false, ◌≡◌, ◌≤◌, ◌<◌, I
 use Rattle.rz_ports.specs.Counts.{Rises}
 use Rattle.rz_script.specs.Grammar.{script}
 use Rattle.rz_script.specs.Scripts.{Script}
-use Rattle.rz_script.specs.declared.form.Form.{Form}
+use Rattle.rz_operands.specs.declared.form.Form.{Form}
 use Rattle.rz_script.specs.declared.fault.ScriptError.{ScriptError}
 use Rattle.rz_request.specs.Input.{limit}
 use Rattle.rz_request.specs.Requests.{Reading, JudgesScript, ReadsScript, IsRead, is_large}

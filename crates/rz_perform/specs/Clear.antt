@@ -8,7 +8,7 @@ use Rattle.rz_events.specs.declared.events.Event.{Event}
 use Rattle.rz_generate.specs.Workload.{workload}
 use Rattle.rz_script.specs.Grammar.{script}
 use Rattle.rz_script.specs.Scripts.{Script}
-use Rattle.rz_script.specs.declared.form.Form.TheVariants as forms
+use Rattle.rz_operands.specs.declared.form.Form.TheVariants as forms
 use Rattle.rz_play.specs.World.{World, new_world}
 use Rattle.rz_play.specs.Stops.{TurnsSpent}
 use Rattle.rz_play.specs.Free.{StopsLinesOver}

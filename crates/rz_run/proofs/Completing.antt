@@ -7,7 +7,7 @@ use Rattle.rz_formatting.specs.Formatted.{IsCause}
 use Rattle.rz_formatting.specs.declared.fault.DriverFault.{DriverFault}
 use Rattle.rz_formatting.specs.declared.fault.DriverFault.TheVariants as faults
 use Rattle.rz_script.specs.Scripts.{Script}
-use Rattle.rz_script.specs.declared.form.Form.TheVariants as forms
+use Rattle.rz_operands.specs.declared.form.Form.TheVariants as forms
 use Rattle.rz_request.specs.Requests.{nodes_in}
 use Rattle.rz_request.specs.Runs.{AsksIf}
 use Rattle.rz_request.specs.declared.refusal.Stop.{Stop}

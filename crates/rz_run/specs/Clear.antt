@@ -8,7 +8,7 @@ use Rattle.rz_formatting.specs.Formatted.{IsCause}
 use Rattle.rz_formatting.specs.declared.fault.DriverFault.TheVariants as faults
 use Rattle.rz_script.specs.Grammar.{script}
 use Rattle.rz_script.specs.Scripts.{Script}
-use Rattle.rz_script.specs.declared.form.Form.TheVariants as forms
+use Rattle.rz_operands.specs.declared.form.Form.TheVariants as forms
 use Rattle.rz_show.specs.RunText.{run_text}
 use Rattle.rz_request.specs.Line.{Meaning}
 use Rattle.rz_request.specs.Input.{limit}

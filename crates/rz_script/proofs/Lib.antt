@@ -1,5 +1,3 @@
-pub mod Pieces
-pub mod Numbers
 pub mod Loop
 pub mod Heads
 pub mod Sums
@@ -11,4 +9,3 @@ pub mod Again
 pub mod Printed_volume
 pub mod Described_volume
 pub mod Script_again
-pub mod Numerals

@@ -1,26 +1,14 @@
--- What a function that takes memory gives, beside what the grammar says.
+-- What a function that takes memory gives, beside what the grammar of a script says.
 use Rattle.std.specs.Prelude.{◌≡◌, ℕ, List, [], ◌++◌, Option, Result, Ok, Err}
 use Rattle.std.specs.List.{cons_option}
 use Rattle.std.specs.Global.{Vec}
 use Rattle.rz_events.specs.Volume.{Volume}
+use Rattle.rz_operands.specs.declared.fault.ScriptCause.{ScriptCause}
 use Rattle.rz_script.specs.Scripts.{Script}
 use Rattle.rz_script.specs.declared.line.Line.{Line}
-use Rattle.rz_script.specs.declared.fault.ScriptCause.{ScriptCause}
-use Rattle.rz_script.specs.declared.fault.LineError.{LineError}
-use Rattle.rz_script.specs.declared.fault.LineError.TheVariants as line_errors
 use Rattle.rz_script.specs.declared.fault.ScriptError.{ScriptError}
 use Rattle.rz_script.specs.declared.fault.ScriptError.TheVariants as errors
 use Rattle.rz_script.specs.Grammar.{at_line}
-
--- want of memory says nothing, and a refusal is the first cause
-abbrev pub Fails : {A : Type 0} → LineError → Result A ScriptCause → Type 0
-Fails line_errors.NoMemory read = Unit {0}
-Fails (line_errors.Cause cause) read = read ≡ Err cause
-
--- the value is what the grammar gives
-abbrev pub Gives : {A : Type 0} → Result A LineError → Result A ScriptCause → Type 0
-Gives (Ok x) read = read ≡ Ok x
-Gives (Err e) read = Fails e read
 
 -- want of memory says nothing, and a refusal is the first fault
 abbrev pub FailsScript : {A : Type 0} → ScriptError → Result A ScriptError → Type 0

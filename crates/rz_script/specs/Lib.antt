@@ -5,5 +5,3 @@ pub mod Scripts
 pub mod Shared
 pub mod Weights
 pub mod Spelling
-pub mod Words
-pub mod Numerals

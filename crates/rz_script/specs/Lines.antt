@@ -1,6 +1,6 @@
 -- The limits of lines: what the grammar gives under a volume.
 use Rattle.std.specs.Prelude.{◌≡◌, ℕ, ◌<◌, ◌≤◌, ◌+◌, ◌^◌, Bool, true, false, not, ◌==◌, ◌&&◌, List, length}
-use Rattle.std.specs.List.{list_all, list_any, AllByRecursion}
+use Rattle.std.specs.List.{list_all, AllByRecursion}
 use Rattle.std.specs.Str.{IsUtf8}
 use Rattle.hex.specs.Hex.{IsBytes}
 use Rattle.mj_angles.specs.Layout.{block_bytes_of}
@@ -9,15 +9,15 @@ use Rattle.rz_events.specs.declared.keys.Actor.TheVariants.{Client, Rebuilder, A
 use Rattle.rz_events.specs.declared.tree.TreeCall.{TreeCall}
 use Rattle.rz_events.specs.declared.tree.TreeCall.TheVariants as tree
 use Rattle.rz_events.specs.Volume.{Volume}
-use Rattle.rz_config.specs.Described.{has_sid}
 use Rattle.rz_events.specs.declared.operations.Datum.{Datum}
 use Rattle.rz_events.specs.declared.operations.Datum.TheVariants.{Bytes, Made}
 use Rattle.rz_events.specs.declared.operations.Operation.{Operation}
 use Rattle.rz_events.specs.declared.operations.Operation.TheVariants.{Tree, Put, Get, Write, Read, Rebuild, Update, View}
+use Rattle.rz_operands.specs.Limits.{has_node, datum_length, most_bytes, last_byte}
+use Rattle.rz_operands.specs.declared.form.Form.{Form}
+use Rattle.rz_operands.specs.declared.form.Form.TheVariants.{Replay, Run, Migrate}
 use Rattle.rz_script.specs.declared.line.Line.{Line}
 use Rattle.rz_script.specs.declared.line.Line.TheVariants.{Op, Turn, Rounds, Rest, Stop, Start, Lose, Break, Miss}
-use Rattle.rz_script.specs.declared.form.Form.{Form}
-use Rattle.rz_script.specs.declared.form.Form.TheVariants.{Replay, Run, Migrate}
 
 -- a byte of a word: neither a space nor a line feed
 abbrev pub is_plain : ℕ → Bool
@@ -35,24 +35,8 @@ IsActor (Client n) = (1 ≤ n) × (n ≤ 64)
 IsActor (Rebuilder n) = (1 ≤ n) × (n ≤ 16)
 IsActor Admin = ⊥
 
--- a node of the volume has this number
-abbrev pub has_node : Volume → ℕ → Bool
-has_node v sid = list_any (λ c. has_sid sid c.nodes) v.clusters
-
 abbrev pub IsNodeOf : Volume → ℕ → Type 0
 IsNodeOf v sid = (1 ≤ sid) × (sid ≤ 65535) × (has_node v sid ≡ true)
-
--- the bytes of a range, and where it may end
-abbrev pub most_bytes : ℕ
-most_bytes = 134217728
-
-abbrev pub last_byte : ℕ
-last_byte = 4294967296
-
--- how many bytes a datum has
-abbrev pub datum_length : Datum → ℕ
-datum_length (Bytes bytes) = length bytes
-datum_length (Made len seed) = len
 
 -- a datum of at most so many bytes
 abbrev pub IsDatum : ℕ → Datum → Type 0

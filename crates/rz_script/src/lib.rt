@@ -4,33 +4,27 @@
 //! `specs/Lines` names. `specs/Grammar` says line by line what a text means, or its first fault;
 //! [`Script::read`] answers exactly that, in each of the three forms. `specs/Spelling` is the one
 //! spelling that [`Script::print`] gives. `specs/Weights` says what a script weighs. The contracts do
-//! not say what a script does to a store. Its numbers, actors, nodes and bytes are words that a printed
-//! log writes alike: `spelling` has them.
+//! not say what a script does to a store. Its words, and the operations that they make, are those of
+//! `rz_operands`; the words that a printed log writes alike are passed on from there.
 //!
-//! In reading order: `spelling`, `fault`, `form`, `line`, `script`, `words`, `judges`, `keywords`,
-//! `operations`, `lines`, `reading`, `printing`.
+//! In reading order: `fault`, `line`, `script`, `weights`, `keywords`, `lines`, `reading`, `printing`.
 #![tactic(auto)]
 
 mod fault;
-mod form;
-mod judges;
 mod keywords;
 mod line;
 mod lines;
-mod operations;
 mod printing;
 mod reading;
 mod script;
-mod spelling;
 mod weights;
-mod words;
 
-pub use fault::{ScriptCause, ScriptError};
-pub use form::Form;
+pub use fault::ScriptError;
 pub use line::Line;
 pub use rz_config::{Volume, VolumeFault};
 pub use rz_events::{Actor, Datum, Operation, Text, TreeCall};
-pub use script::Script;
-pub use spelling::{
-    push_actor, push_digits, push_hex, push_node, push_number, push_word, read_number,
+pub use rz_operands::{
+    Form, ScriptCause, push_actor, push_digits, push_hex, push_node, push_number, push_word,
+    read_number,
 };
+pub use script::Script;

@@ -2,17 +2,39 @@
 
 ghost use Rattle.std.specs.Prelude.{◌≡◌};
 ghost use Rattle.rz_script.specs.declared.keywords.Keyword.TheVariants as keys;
-ghost use Rattle.rz_script.specs.Given.{Gives};
-ghost use Rattle.rz_script.specs.Grammar.{turn, rounds, rest, on_node, break_node, miss, after_keyword, counted, line, words};
+ghost use Rattle.rz_operands.specs.Given.{Gives};
+ghost use Rattle.rz_operands.specs.Grammar.{words};
+ghost use Rattle.rz_script.specs.Grammar.{way, op, turn, rounds, rest, on_node, break_node, miss, after_keyword, counted, line};
 ghost use Rattle.rz_script.specs.Shared.{turned};
 
-use crate::fault::LineError;
-use crate::judges::{read_actor, read_node, read_number, read_number_in, read_way};
 use crate::keywords::{Keyword, read_keyword};
-use crate::operations::read_op;
-use crate::words::Words;
 use crate::{Form, Line, ScriptCause, Volume};
+use rz_operands::judges::{read_actor, read_node, read_number, read_number_in};
+use rz_operands::{LineError, Words, read_operands, read_verb};
 use std::alloc::Global;
+
+/// Whether the reply of a message is lost, or the request itself.
+#[tactic(auto, unfolding(crate::specs::Grammar::way))]
+fn read_way(word: &str) -> Result<bool, ScriptCause>
+    ensures { result ≡ way word.now }
+{
+    match word {
+        "request" => Ok(false),
+        "reply" => Ok(true),
+        _ => Err(ScriptCause::UnknownLine),
+    }
+}
+
+/// An operation of an actor.
+#[tactic(auto, unfolding(crate::specs::Grammar::op))]
+fn read_op(alloc: Global, form: Form, volume: &Volume, words: &mut Words) -> Result<Line, LineError>
+    ensures { Gives result (op form volume.now words.old) }
+{
+    let by = read_actor(words.next()?)?;
+    let verb = read_verb(form, by, words.next()?)?;
+    let op = read_operands(alloc, volume, verb, words)?;
+    Ok(Line::Op { by, op })
+}
 
 #[tactic(auto, unfolding(crate::specs::Grammar::turn))]
 fn read_turn(words: &mut Words) -> Result<Line, ScriptCause>

@@ -3,9 +3,9 @@
 ghost use Rattle.std.specs.Prelude.{◌≡◌, ◌≤◌, ◌<◌, ◌+◌, ◌*◌, ◌^◌, sum_by};
 ghost use Rattle.rz_script.specs.Weights.{block_weight, range_weight, operation_weight, line_weight};
 
-use crate::judges::datum_length;
 use crate::{Line, Operation};
 use mj_angles::Layout;
+use rz_operands::judges::datum_length;
 
 /// A block, in pieces of 4096 bytes.
 fn block_weight(layout: Layout) -> u64

@@ -4,7 +4,7 @@ use Rattle.std.specs.Fmt.{decimal}
 use Rattle.mj_angles.specs.declared.layout.Layout.{Layout}
 use Rattle.mj_angles.specs.Layout.{safe_of}
 use Rattle.rz_events.specs.declared.keys.Key.{Key}
-use Rattle.rz_script.specs.Words.{Word}
+use Rattle.rz_operands.specs.Words.{Word}
 use Rattle.rz_show.specs.Words.{spaced, uuid_word}
 use Rattle.rz_show.specs.Outcomes.{mask_word}
 use Rattle.rz_scrub.specs.declared.verdict.Verdict.{Verdict}

@@ -5,7 +5,7 @@ ghost use Rattle.rz_events.specs.declared.nodes.NodeAnswer.TheVariants as answer
 ghost use Rattle.rz_events.specs.declared.nodes.ReplaceAnswer.TheVariants as replace;
 ghost use Rattle.rz_events.specs.declared.events.Event.TheVariants as e;
 ghost use Rattle.rz_config.specs.Described.{has_sid};
-ghost use Rattle.rz_script.specs.Lines.{has_node};
+ghost use Rattle.rz_operands.specs.Limits.{has_node};
 ghost use Rattle.rz_node.specs.Calls.{IsRecord};
 ghost use Rattle.rz_operation_model.specs.Ask.{ask_of, AskNode};
 ghost use Rattle.rz_operation_model.specs.Turns.{goes_by_link};

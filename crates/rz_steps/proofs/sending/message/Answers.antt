@@ -1,6 +1,6 @@
 use Rattle.std.proofs.Common.{◌≡◌, ◌∙◌, true, sym, subst, arith}
 use Rattle.rz_events.specs.Volume.{Volume}
-use Rattle.rz_script.specs.Lines.{has_node}
+use Rattle.rz_operands.specs.Limits.{has_node}
 use Rattle.rz_play_laws.proofs.Scripts.{node-of}
 use Rattle.rz_chronicle.specs.Kinds.{volume_in}
 use Rattle.rz_steps.proofs.Messages.{not-through-replylost, not-through-requestlost}

@@ -1,0 +1,6 @@
+pub mod Grammar
+pub mod Given
+pub mod Limits
+pub mod Shared
+pub mod Words
+pub mod Numerals
