@@ -10,7 +10,7 @@ pub mod Puts
 pub mod Read
 pub mod Ready
 pub mod Listed
-pub mod Shows
+pub mod HeldOnDisk
 pub mod Spent
 pub mod Starts
 pub mod Tied
