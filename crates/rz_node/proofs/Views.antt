@@ -106,9 +106,6 @@ module _ (phase : Phase) (losses : ℕ) (undecided : Option Pending) (fence : �
   pub drop-none : (fid : ℕ) → least_block (held_by entries heads) fid ≡ None → drop_answer (state_of phase losses undecided fence entries heads) fid ≡ drop.Nothing
   drop-none fid none = drop-up fid ∙ ap (drop_least (held_by entries heads) fid) none
 
-  pub drop-empty : (fid block : ℕ) → least_block (held_by entries heads) fid ≡ Some block → lesser_of (held_of (held_by entries heads) (key_at fid block)) ≡ None → drop_answer (state_of phase losses undecided fence entries heads) fid ≡ drop.Nothing
-  drop-empty fid block least none = drop-up fid ∙ ap (drop_least (held_by entries heads) fid) least ∙ ap (drop_lesser (held_by entries heads) fid block) none
-
   pub drop-some : (fid block : ℕ) (r : Held) → least_block (held_by entries heads) fid ≡ Some block → lesser_of (held_of (held_by entries heads) (key_at fid block)) ≡ Some r
       → drop_answer (state_of phase losses undecided fence entries heads) fid ≡ drop.Dropped block r.stamp (is_some (least_block (carried (pending.Drop (key_at fid block) r.stamp) (held_by entries heads)) fid))
   drop-some fid block r least some = drop-up fid ∙ ap (drop_least (held_by entries heads) fid) least ∙ ap (drop_lesser (held_by entries heads) fid block) some

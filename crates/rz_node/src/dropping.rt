@@ -44,10 +44,10 @@ impl<D: Disk> Node<D> {
             return DropAnswer::Nothing;
         };
         let Some(version) = entry.versions.lesser() else {
-            return DropAnswer::Nothing;
+            unreachable!()
         };
         let Some(side) = entry.versions.side_of(version.stamp) else {
-            return DropAnswer::Nothing;
+            unreachable!()
         };
         let block = entry.key.block;
         let stamp = version.stamp;

@@ -72,8 +72,8 @@ fn record_at<D: Disk>(index: &Index, cells: &Cells<D>, key: Key, stamp: u64) -> 
         return None;
     };
     let cell = 2 * entry.cell + u32::from(side);
-    match cells.head(cell) {
-        Some(head) => Some((cell, head)),
-        None => None,
-    }
+    let Some(head) = cells.head(cell) else {
+        unreachable!()
+    };
+    Some((cell, head))
 }
