@@ -94,7 +94,8 @@ fn clear_in<D: Disk>(
     ensures fence { cells.new.fence ≡ cells.old.fence }
     ensures spends { Spends 4 (Some (is_ok result)) (D.meter cells.old.disk) (D.meter cells.new.disk) }
 {
-    let cell = 2 * entry.cell + u32::from(side);
+    let pair = entry.cell;
+    let cell = 2 * pair + u32::from(side);
     match cells.clear(cell) {
         Ok(()) => {
             let versions = entry.versions.without(side);
@@ -102,7 +103,7 @@ fn clear_in<D: Disk>(
                 index,
                 Entry {
                     key: entry.key,
-                    cell: entry.cell,
+                    cell: pair,
                     versions,
                 },
             );

@@ -71,7 +71,8 @@ fn record_at<D: Disk>(index: &Index, cells: &Cells<D>, key: Key, stamp: u64) -> 
     let Some(side) = entry.versions.side_of(stamp) else {
         return None;
     };
-    let cell = 2 * entry.cell + u32::from(side);
+    let pair = entry.cell;
+    let cell = 2 * pair + u32::from(side);
     let Some(head) = cells.head(cell) else {
         unreachable!()
     };

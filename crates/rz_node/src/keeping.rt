@@ -141,9 +141,9 @@ fn place_of(index: &Index, key: Key) -> Option<Entry>
     match index.find(key) {
         Some(entry) => Some(entry),
         None => match index.free_cell() {
-            Some(cell) => Some(Entry {
+            Some(pair) => Some(Entry {
                 key,
-                cell,
+                cell: pair,
                 versions: Versions::none(),
             }),
             None => None,
@@ -182,13 +182,14 @@ fn put_in<D: Disk>(
     ensures fence { cells.new.fence ≡ cells.old.fence }
     ensures spends { Spends 4 (Some (is_ok result)) (D.meter cells.old.disk) (D.meter cells.new.disk) }
 {
-    let cell = 2 * entry.cell + u32::from(side);
+    let pair = entry.cell;
+    let cell = 2 * pair + u32::from(side);
     match cells.put(cell, head, bins) {
         Ok(()) => {
             let versions = entry.versions.with(side, version(head));
             index.set(Entry {
                 key: head.key,
-                cell: entry.cell,
+                cell: pair,
                 versions,
             });
             Ok(())
