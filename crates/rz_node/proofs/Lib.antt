@@ -13,6 +13,7 @@ pub mod Listed
 pub mod HeldOnDisk
 pub mod Spent
 pub mod Starts
+pub mod Stores
 pub mod Tied
 pub mod Turns
 pub mod Views

@@ -4,8 +4,6 @@ use Rattle.std.specs.Prelude.{ℕ, ◌≡◌, ◌⊎◌, Bool, true, false, List
 use Rattle.rz_disk.specs.Images.{Only, Within}
 use Rattle.rz_events.specs.declared.keys.Key.{Key}
 use Rattle.rz_events.specs.declared.records.Held.{Held}
-use Rattle.rz_events.specs.declared.nodes.FetchAnswer.{FetchAnswer}
-use Rattle.rz_events.specs.declared.nodes.FetchAnswer.TheVariants as fetch
 use Rattle.rz_events.specs.declared.nodes.DropAnswer.{DropAnswer}
 use Rattle.rz_events.specs.declared.nodes.DropAnswer.TheVariants as drop
 use Rattle.rz_events.specs.declared.nodes.StartAnswer.{StartAnswer}
