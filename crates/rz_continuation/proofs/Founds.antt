@@ -24,7 +24,7 @@ use Rattle.rz_node_model.proofs.VersionLaws.{has_stamp-map}
 use Rattle.rz_slots.specs.Held.{Records}
 use Rattle.rz_slots.specs.Stands.{StandsFor}
 use Rattle.rz_node.specs.Change.{AreHeld}
-use Rattle.rz_node.specs.HeldOnDisk.{Shows}
+use Rattle.rz_node.specs.HeldOnDisk.{IsHeldOnDisk}
 use Rattle.rz_core.specs.History.{Facts, Begun, facts, length_in, base_in}
 use Rattle.rz_core.specs.NodeWord.{last_fence, undecided, held, settled, itself}
 use Rattle.rz_core.specs.NodeRows.{DidRow}
@@ -67,7 +67,7 @@ module _ (v : Volume) (f : Facts) (n : ℕ) (stamps : Key → List ℕ) (fence :
   these key stamp = on_disk (records_of v f n stamps key stamp)
 
   abbrev Shown : Type 0
-  Shown = (records : Records) → StandsFor (geometry_in v n) s.fence text records → Shows s.held records
+  Shown = (records : Records) → StandsFor (geometry_in v n) s.fence text records → IsHeldOnDisk s.held records
 
   module _ (at : StandsFor (geometry_in v n) fence text these) (stands : (records : Records) × StandsFor (geometry_in v n) s.fence text records) (shows : Shown) where
     -- the header has one fence
@@ -77,7 +77,7 @@ module _ (v : Volume) (f : Facts) (n : ℕ) (stamps : Key → List ℕ) (fence :
     pub stands-here : StandsFor (geometry_in v n) s.fence text these
     stands-here = subst (λ z. StandsFor (geometry_in v n) z text these) (sym fence-is) at
 
-    pub shown : Shows s.held these
+    pub shown : IsHeldOnDisk s.held these
     shown = shows these stands-here
 
     pub are-held : AreHeld s.held these

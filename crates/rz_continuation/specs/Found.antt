@@ -7,7 +7,7 @@ use Rattle.rz_node_model.specs.States.{NodeState, opened, fresh}
 use Rattle.rz_export_model.specs.Export.{Export as ExportState, new_export}
 use Rattle.rz_slots.specs.Held.{Records}
 use Rattle.rz_slots.specs.Stands.{StandsFor}
-use Rattle.rz_node.specs.HeldOnDisk.{Shows}
+use Rattle.rz_node.specs.HeldOnDisk.{IsHeldOnDisk}
 use Rattle.rz_core.specs.History.{facts, of_word}
 use Rattle.rz_core.specs.NodeWord.{last_fence}
 use Rattle.rz_core.specs.NodeRows.{IsNodeOf}
@@ -30,7 +30,7 @@ pub record IsFound (v : Volume) (h : List Event) (n : ℕ) (text : List ℕ) (s 
   pub logged : StandsByLog v h n text
   pub state : s ≡ opened s.losses s.fence s.held
   pub stands : (records : Records) × StandsFor (geometry_in v n) s.fence text records
-  pub shows : (records : Records) → StandsFor (geometry_in v n) s.fence text records → Shows s.held records
+  pub shows : (records : Records) → StandsFor (geometry_in v n) s.fence text records → IsHeldOnDisk s.held records
 
 -- A store that was opened: the export has answered the calls that changed the log's export, and each node was opened as one
 -- that lost as many disks as the export knows.

@@ -23,7 +23,7 @@ use Rattle.rz_slots.specs.declared.geometry.Geometry.{Geometry}
 use Rattle.rz_slots.specs.Held.{Records}
 use Rattle.rz_slots.specs.Stands.{StandsFor}
 use Rattle.rz_node.specs.View.{NodeView}
-use Rattle.rz_node.specs.HeldOnDisk.{Shows}
+use Rattle.rz_node.specs.HeldOnDisk.{IsHeldOnDisk}
 use Rattle.rz_play.specs.Faults.{unplanned}
 use Rattle.rz_node_model.specs.States.{NodeState, fresh, opened}
 use Rattle.rz_node_model.specs.Versions.{Stands as IsAmong}
@@ -158,7 +158,7 @@ module _ {D : Type 0} (tells : Bool) (meter : D → Meter) (text : D → List �
           logged = subst (λ (t : List ℕ). StandsByLog v h n.sid t) (sym o.same) logged;
           state = subst (λ (l : ℕ). s.node.state ≡ opened l fence s.node.state.held) (sym losses) o.state;
           stands = subst (λ (g : Geometry). (records : Records) × StandsFor g fence here records) as_in (o.stands told);
-          shows = subst (λ (g : Geometry). (records : Records) → StandsFor g fence here records → Shows s.node.state.held records) as_in (o.shows told);
+          shows = subst (λ (g : Geometry). (records : Records) → StandsFor g fence here records → IsHeldOnDisk s.node.state.held records) as_in (o.shows told);
         } in
         subst (λ (m : ℕ). IsFound v h m here s.node.state) (sym o.number) one
 

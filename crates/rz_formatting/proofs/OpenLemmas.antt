@@ -20,7 +20,7 @@ use Rattle.rz_slots.specs.Shape.{disk_bytes}
 use Rattle.rz_slots.specs.Stands.{StandsFor}
 use Rattle.rz_node_model.specs.States.{opened}
 use Rattle.rz_node.specs.View.{NodeView}
-use Rattle.rz_node.specs.HeldOnDisk.{Shows}
+use Rattle.rz_node.specs.HeldOnDisk.{IsHeldOnDisk}
 use Rattle.rz_formatting.specs.Opened.{AreKept, IsCause, IsFaultOf, IsFirstUnopened, IsKept, IsOpened, refusal_at}
 
 -- two lists in one
@@ -103,7 +103,7 @@ module _ {D : Type 0} (tells : Bool) (meter : D → Meter) (text : D → List �
   pub opened-one : (image : D → List ℕ → Type 0) (losses k : ℕ) (n : NodeView (UnderFuse D))
       → n.state ≡ opened losses n.state.fence n.state.held → n.geometry ≡ g
       → (IsTrue tells → (records : Records) × StandsFor g n.state.fence (text n.disk.disk) records)
-      → (IsTrue tells → (records : Records) → StandsFor g n.state.fence (text n.disk.disk) records → Shows n.state.held records)
+      → (IsTrue tells → (records : Records) → StandsFor g n.state.fence (text n.disk.disk) records → IsHeldOnDisk n.state.held records)
       → Only (text n.disk.disk) (image n.disk.disk) → text n.disk.disk ≡ text f.disk → Within (image f.disk) (image n.disk.disk)
       → (f.fuse ≡ None → n.disk.fuse ≡ None) → (f.planned < n.disk.planned → (m : ℕ) × (f.fuse ≡ Some m) × (m < k)) → faults (meter f.disk) ≤ faults (meter n.disk.disk)
       → IsOpened tells meter text image layout ((node, losses), disk) (record { sid = node.sid; node = n; pick = 0 })
@@ -118,7 +118,7 @@ module _ {D : Type 0} (tells : Bool) (meter : D → Meter) (text : D → List �
     same = told ∙ ap text below;
     images = subst (λ (d : D). Within (image d) (image n.disk.disk)) below within;
     stands = subst (λ (x : Geometry). IsTrue tells → (records : Records) × StandsFor x n.state.fence (text n.disk.disk) records) same stands;
-    shows = subst (λ (x : Geometry). IsTrue tells → (records : Records) → StandsFor x n.state.fence (text n.disk.disk) records → Shows n.state.held records) same shows;
+    shows = subst (λ (x : Geometry). IsTrue tells → (records : Records) → StandsFor x n.state.fence (text n.disk.disk) records → IsHeldOnDisk n.state.held records) same shows;
     settled = settled;
   }
 

@@ -14,7 +14,7 @@ use Rattle.rz_slots.specs.Opening.{NotSize, Refuses}
 use Rattle.rz_slots.specs.Shape.{disk_bytes}
 use Rattle.rz_slots.specs.Stands.{StandsFor}
 use Rattle.rz_node_model.specs.States.{opened}
-use Rattle.rz_node.specs.HeldOnDisk.{Shows}
+use Rattle.rz_node.specs.HeldOnDisk.{IsHeldOnDisk}
 use Rattle.rz_formatting.specs.declared.formatting.Station.{Station}
 use Rattle.rz_formatting.specs.Formatted.{disks_of, geometry_of}
 use Rattle.rz_formatting.specs.declared.refusal.OpenRefusal.{OpenRefusal}
@@ -33,7 +33,7 @@ pub record IsOpened {D : Type 0} (tells : Bool) (meter : D → Meter) (text : D 
   pub same : text s.node.disk.disk ≡ text handed.1
   pub images : Within (image handed.1) (image s.node.disk.disk)
   pub stands : IsTrue tells → (records : Records) × StandsFor (geometry_of layout handed.0.0) s.node.state.fence (text s.node.disk.disk) records
-  pub shows : IsTrue tells → (records : Records) → StandsFor (geometry_of layout handed.0.0) s.node.state.fence (text s.node.disk.disk) records → Shows s.node.state.held records
+  pub shows : IsTrue tells → (records : Records) → StandsFor (geometry_of layout handed.0.0) s.node.state.fence (text s.node.disk.disk) records → IsHeldOnDisk s.node.state.held records
   pub settled : Only (text s.node.disk.disk) (image s.node.disk.disk)
 
 -- A disk comes back as it came: its text is the same, each image is one from before, and its count of faults did not fall.

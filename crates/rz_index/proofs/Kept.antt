@@ -7,7 +7,7 @@ use Rattle.rz_index.specs.Standing.{Part, Tree, Holds, IsThere, entries_below}
 use Rattle.rz_index.specs.Spares.{IsIndex}
 use Rattle.rz_index.proofs.Row.{made}
 use Rattle.rz_index.proofs.Standing.{shown}
-use Rattle.rz_index.proofs.Turns.{none}
+use Rattle.rz_index.proofs.Rotations.{none}
 
 -- ---- the first of many entries
 

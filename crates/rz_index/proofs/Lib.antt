@@ -4,5 +4,5 @@ pub mod Cells
 pub mod Files
 pub mod Sorting
 pub mod Standing
-pub mod Turns
+pub mod Rotations
 pub mod Kept

@@ -131,7 +131,7 @@ lone row place e parts taken h = (h.1.0, h.1.2, h.1.3)
 
 -- ---- a tree is put together
 
--- two trees are hung below a node by itself
+-- two trees are linked below a node by itself
 pub joined : (row after : List Node) (left m right : ℕ) (l r : List Entry) (e : Entry) (parts : List Part) (taken : ℕ → ℕ) (node : Node) → Elsewhere row after m → IsNode after m node → node.packed ≡ e → node.left ≡ left → node.right ≡ right
     → HoldsBeside row (Tree left l ∷ Lone m e ∷ Tree right r ∷ parts) taken → HoldsBeside after (Tree m (l ++ e ∷ r) ∷ parts) taken
 joined row after left m right l r e parts taken node same is packed to_left to_right h =
@@ -160,9 +160,9 @@ joined row after left m right l r e parts taken node same is packed to_left to_r
     )
 
 -- the entry of a node by itself is written
-pub refilled : (row after : List Node) (m : ℕ) (old new : Entry) (parts : List Part) (taken : ℕ → ℕ) (node : Node) → Elsewhere row after m → IsNode after m node → node.packed ≡ new
+pub entry-set : (row after : List Node) (m : ℕ) (old new : Entry) (parts : List Part) (taken : ℕ → ℕ) (node : Node) → Elsewhere row after m → IsNode after m node → node.packed ≡ new
     → HoldsBeside row (Lone m old ∷ parts) taken → HoldsBeside after (Lone m new ∷ parts) taken
-refilled row after m old new parts taken node same is packed h =
+entry-set row after m old new parts taken node same is packed h =
     let its : h.0 ≡ Fork Bare m old Bare = h.1.1 in
     let one : one_if (m == m) ≡ 1 = ap one_if (eq-eqb m m refl) in
     let there : times m h.0 ≡ 1 = ap (times m) its ∙ omega (arith, one) in (

@@ -82,9 +82,9 @@ pub record IsOpened (row : List Node) (link : ℕ) (entries : List Entry) (parts
   pub all : entries ≡ front ++ middle ∷ back
   pub holds : Holds row (Tree left front ∷ Lone link middle ∷ Tree right back ∷ parts)
 
--- Two trees were hung below a node by itself, and are now one tree.
-abbrev pub Hangs : List Node → List Node → (left middle right link : ℕ) → Type 0
-Hangs row after left middle right link =
+-- Two trees were linked below a node by itself, and are now one tree.
+abbrev pub Links : List Node → List Node → (left middle right link : ℕ) → Type 0
+Links row after left middle right link =
     (l r : List Entry) (e : Entry) (parts : List Part) → Holds row (Tree left l ∷ Lone middle e ∷ Tree right r ∷ parts) → Holds after (Tree link (l ++ e ∷ r) ∷ parts)
 
 -- The first entry's node is by itself, beside the tree of the other entries.
@@ -95,7 +95,7 @@ pub record IsSplit (row : List Node) (entries : List Entry) (parts : List Part) 
   pub holds : Holds row (Lone node first ∷ Tree rest others ∷ parts)
 
 -- a tree of other entries
-pub record IsTurned (row : List Node) (link : ℕ) (entries : List (Key × Entry)) (parts : List Part) : Type 0 where
+pub record IsTreeOf (row : List Node) (link : ℕ) (entries : List (Key × Entry)) (parts : List Part) : Type 0 where
   pub its : List Entry
   pub are : pairs_of its ≡ entries
   pub holds : Holds row (Tree link its ∷ parts)

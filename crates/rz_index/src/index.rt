@@ -179,7 +179,7 @@ fn removed(
     let Some(entry) = nodes::entry_at(row, node) else {
         return (root, spare, None);
     };
-    (root, nodes::hung(row, 0, node, spare), Some(entry.cell))
+    (root, nodes::linked(row, 0, node, spare), Some(entry.cell))
 }
 
 // The tree of entries with one more, on a spare node, and the tree of the other spare nodes.
@@ -191,7 +191,7 @@ fn added(row: &mut [Node], root: u32, spare: u32, entry: &Entry, room: usize) ->
     let Some((node, spare)) = nodes::split_first(row, spare, room) else {
         return (root, spare);
     };
-    nodes::refill(row, node, entry);
+    nodes::set_entry(row, node, entry);
     (nodes::insert(row, root, node, entry.key, room), spare)
 }
 
@@ -204,7 +204,7 @@ fn added_last(row: &mut [Node], root: u32, spare: u32, entry: &Entry, room: usiz
     let Some((node, spare)) = nodes::split_first(row, spare, room) else {
         return (root, spare);
     };
-    nodes::refill(row, node, entry);
+    nodes::set_entry(row, node, entry);
     (nodes::with_last(row, root, node, room), spare)
 }
 

@@ -9,7 +9,7 @@ ghost use Rattle.rz_events.specs.Keys.{key_cmp};
 ghost use Rattle.rz_index.specs.declared.index.Entry.{Entry};
 ghost use Rattle.rz_index.specs.Indexed.{pairs_of, IsSorted};
 ghost use Rattle.rz_index.specs.Files.{first_among};
-ghost use Rattle.rz_index.specs.Standing.{Holds, Hangs, Part, Tree, Lone, IsOpened, IsSplit, IsTurned, IsThere, freed_part};
+ghost use Rattle.rz_index.specs.Standing.{Holds, Links, Part, Tree, Lone, IsOpened, IsSplit, IsTreeOf, IsThere, freed_part};
 
 use crate::index::Entry;
 use crate::packed::Packed;
@@ -108,9 +108,9 @@ pub fn first_of(row: &[Node], link: u32, fid: u128, room: usize) -> Option<Entry
 
 // ---- writing
 
-// Hangs two trees below a node, which is then of this height.
-fn hang(row: &mut [Node], left: u32, middle: u32, right: u32, height: u8) -> u32
-    ensures { Hangs row.old row.new left middle right result }
+// Links two trees below a node, which is then of this height.
+fn link(row: &mut [Node], left: u32, middle: u32, right: u32, height: u8) -> u32
+    ensures { Links row.old row.new left middle right result }
 {
     if (middle as usize) < row.len() {
         let node = &mut row[middle as usize];
@@ -122,7 +122,7 @@ fn hang(row: &mut [Node], left: u32, middle: u32, right: u32, height: u8) -> u32
 }
 
 /// Writes the entry of a node.
-pub fn refill(row: &mut [Node], place: u32, entry: &Entry)
+pub fn set_entry(row: &mut [Node], place: u32, entry: &Entry)
     ensures { (e : Entry) (parts : List Part) → Holds row.old (Lone place e ∷ parts) → Holds row.new (Lone place entry.now ∷ parts) }
 {
     if (place as usize) < row.len() {
@@ -131,36 +131,36 @@ pub fn refill(row: &mut [Node], place: u32, entry: &Entry)
     }
 }
 
-/// Hangs two trees below a node.
-pub fn hung(row: &mut [Node], left: u32, middle: u32, right: u32) -> u32
-    ensures { Hangs row.old row.new left middle right result }
+/// Links two trees below a node.
+pub fn linked(row: &mut [Node], left: u32, middle: u32, right: u32) -> u32
+    ensures { Links row.old row.new left middle right result }
 {
     let higher = height(row, left).max(height(row, right));
-    hang(row, left, middle, right, higher.saturating_add(1))
+    link(row, left, middle, right, higher.saturating_add(1))
 }
 
 // The same where a side may have changed its height by one.
 fn settled(row: &mut [Node], left: u32, middle: u32, right: u32, changed: bool) -> u32
-    ensures { Hangs row.old row.new left middle right result }
+    ensures { Links row.old row.new left middle right result }
 {
     if changed {
         balanced(row, left, middle, right)
     } else {
         let height = height(row, middle);
-        hang(row, left, middle, right, height)
+        link(row, left, middle, right, height)
     }
 }
 
 // The same where one side may be two levels higher than the other.
 fn balanced(row: &mut [Node], left: u32, middle: u32, right: u32) -> u32
-    ensures { Hangs row.old row.new left middle right result }
+    ensures { Links row.old row.new left middle right result }
 {
     if is_higher(row, left, right) {
-        turned_right(row, left, middle, right)
+        rotated_right(row, left, middle, right)
     } else if is_higher(row, right, left) {
-        turned_left(row, left, middle, right)
+        rotated_left(row, left, middle, right)
     } else {
-        hung(row, left, middle, right)
+        linked(row, left, middle, right)
     }
 }
 
@@ -170,39 +170,39 @@ fn is_higher(row: &[Node], side: u32, other: u32) -> bool {
 }
 
 // The same where the left side is two levels higher.
-fn turned_right(row: &mut [Node], left: u32, middle: u32, right: u32) -> u32
-    ensures { Hangs row.old row.new left middle right result }
+fn rotated_right(row: &mut [Node], left: u32, middle: u32, right: u32) -> u32
+    ensures { Links row.old row.new left middle right result }
 {
     let Some((outer, inner)) = sides(row, left) else {
-        return hung(row, left, middle, right);
+        return linked(row, left, middle, right);
     };
     if height(row, outer) < height(row, inner) {
         if let Some((front, back)) = sides(row, inner) {
-            let low = hung(row, outer, left, front);
-            let high = hung(row, back, middle, right);
-            return hung(row, low, inner, high);
+            let low = linked(row, outer, left, front);
+            let high = linked(row, back, middle, right);
+            return linked(row, low, inner, high);
         }
     }
-    let high = hung(row, inner, middle, right);
-    hung(row, outer, left, high)
+    let high = linked(row, inner, middle, right);
+    linked(row, outer, left, high)
 }
 
 // The same where the right side is two levels higher.
-fn turned_left(row: &mut [Node], left: u32, middle: u32, right: u32) -> u32
-    ensures { Hangs row.old row.new left middle right result }
+fn rotated_left(row: &mut [Node], left: u32, middle: u32, right: u32) -> u32
+    ensures { Links row.old row.new left middle right result }
 {
     let Some((inner, outer)) = sides(row, right) else {
-        return hung(row, left, middle, right);
+        return linked(row, left, middle, right);
     };
     if height(row, outer) < height(row, inner) {
         if let Some((front, back)) = sides(row, inner) {
-            let low = hung(row, left, middle, front);
-            let high = hung(row, back, right, outer);
-            return hung(row, low, inner, high);
+            let low = linked(row, left, middle, front);
+            let high = linked(row, back, right, outer);
+            return linked(row, low, inner, high);
         }
     }
-    let low = hung(row, left, middle, inner);
-    hung(row, low, right, outer)
+    let low = linked(row, left, middle, inner);
+    linked(row, low, right, outer)
 }
 
 /// The node of the first entry of a tree of at most so many, and the tree of the others.
@@ -232,7 +232,7 @@ pub fn with_last(row: &mut [Node], link: u32, node: u32, room: usize) -> u32
     ensures { (entries : List Entry) (e : Entry) (parts : List Part) → Holds row.old (Tree link entries ∷ Lone node e ∷ parts) → length entries ≤ room → Holds row.new (Tree result (entries ++ e ∷ []) ∷ parts) }
 {
     let Some((left, right)) = sides_within(row, link, room) else {
-        return hung(row, 0, node, 0);
+        return linked(row, 0, node, 0);
     };
     let right = with_last(row, right, node, room - 1);
     balanced(row, left, link, right)
@@ -241,10 +241,10 @@ pub fn with_last(row: &mut [Node], link: u32, node: u32, room: usize) -> u32
 /// The entries of a tree of at most so many, with that of a node, whose key is none of theirs.
 pub fn insert(row: &mut [Node], link: u32, node: u32, key: Key, room: usize) -> u32
     ensures { (entries : List Entry) (e : Entry) (parts : List Part) → Holds row.old (Tree link entries ∷ Lone node e ∷ parts) → e.key ≡ key → IsSorted entries → length entries ≤ room
-        → find key_cmp e.key (pairs_of entries) ≡ None → IsTurned row.new result (put key_cmp e.key e (pairs_of entries)) parts }
+        → find key_cmp e.key (pairs_of entries) ≡ None → IsTreeOf row.new result (put key_cmp e.key e (pairs_of entries)) parts }
 {
     let Some((left, right)) = sides_within(row, link, room) else {
-        return hung(row, 0, node, 0);
+        return linked(row, 0, node, 0);
     };
     match compare(row, link, key) {
         Ordering::Less => {
@@ -266,7 +266,7 @@ pub fn insert(row: &mut [Node], link: u32, node: u32, key: Key, room: usize) -> 
 /// The entries of a tree of at most so many, with this one in the place of that of its key.
 pub fn replace(row: &mut [Node], link: u32, entry: &Entry, room: usize) -> u32
     ensures { (entries : List Entry) (parts : List Part) → Holds row.old (Tree link entries ∷ parts) → IsSorted entries → length entries ≤ room
-        → find key_cmp entry.now.key (pairs_of entries) ≢ None → IsTurned row.new result (put key_cmp entry.now.key entry.now (pairs_of entries)) parts }
+        → find key_cmp entry.now.key (pairs_of entries) ≢ None → IsTreeOf row.new result (put key_cmp entry.now.key entry.now (pairs_of entries)) parts }
 {
     let Some((left, right)) = sides_within(row, link, room) else {
         return link;
@@ -277,7 +277,7 @@ pub fn replace(row: &mut [Node], link: u32, entry: &Entry, room: usize) -> u32
             settled(row, left, link, right, false)
         }
         Ordering::Equal => {
-            refill(row, link, entry);
+            set_entry(row, link, entry);
             settled(row, left, link, right, false)
         }
         Ordering::Greater => {
@@ -291,7 +291,7 @@ pub fn replace(row: &mut [Node], link: u32, entry: &Entry, room: usize) -> u32
 pub fn take(row: &mut [Node], link: u32, key: Key, room: usize) -> (u32, u32)
     ensures node { (entries : List Entry) (parts : List Part) → Holds row.old (Tree link entries ∷ parts) → IsSorted entries → length entries ≤ room → IsThere (find key_cmp key (pairs_of entries)) result.1 }
     ensures entries { (entries : List Entry) (parts : List Part) → Holds row.old (Tree link entries ∷ parts) → IsSorted entries → length entries ≤ room
-        → IsTurned row.new result.0 (where_key key_cmp (λ k. not (eq_by_cmp key_cmp key k)) (pairs_of entries)) (freed_part (find key_cmp key (pairs_of entries)) result.1 parts) }
+        → IsTreeOf row.new result.0 (where_key key_cmp (λ k. not (eq_by_cmp key_cmp key k)) (pairs_of entries)) (freed_part (find key_cmp key (pairs_of entries)) result.1 parts) }
 {
     let Some((left, right)) = sides_within(row, link, room) else {
         return (link, 0);

@@ -20,7 +20,7 @@ use Rattle.rz_slots.specs.Held.{Records, head_in, names, changed}
 use Rattle.rz_slots.specs.Stands.{StandsFor}
 use Rattle.rz_node.specs.CrashOutcomes.{GivesWay, is_new}
 use Rattle.rz_node.specs.Change.{AreHeld, records_after, IsOf, IsChangeLaw, IsBranch}
-use Rattle.rz_node.specs.HeldOnDisk.{Shows}
+use Rattle.rz_node.specs.HeldOnDisk.{IsHeldOnDisk}
 use Rattle.rz_node.specs.DownDisk.{has_change, has_taken, CanTell}
 use Rattle.rz_node.proofs.Changes.{key-cases, not-key, get-other, gone-other}
 use Rattle.rz_node.proofs.Maps.{names-it}
@@ -109,7 +109,7 @@ some-head None = refl
 some-head (Some r) = refl
 
 -- records that show the one and are the other: their stamps are the same
-same-stamps : (kept kept' : held.Records) (records : Records) → Shows kept' records → AreHeld kept records → (key : Key) (t : ℕ) → has_stamp stamp_of t (held_of kept' key) ≡ has_stamp stamp_of t (held_of kept key)
+same-stamps : (kept kept' : held.Records) (records : Records) → IsHeldOnDisk kept' records → AreHeld kept records → (key : Key) (t : ℕ) → has_stamp stamp_of t (held_of kept' key) ≡ has_stamp stamp_of t (held_of kept key)
 same-stamps kept kept' records shows held key t = sym (has-found t (held_of kept' key)) ∙ ap is_some (shows.same key t) ∙ some-head (records key t) ∙ held key t
 
 same-change : (change : Pending) (kept kept' : held.Records) → ((key : Key) (t : ℕ) → has_stamp stamp_of t (held_of kept' key) ≡ has_stamp stamp_of t (held_of kept key)) → has_change change kept' ≡ has_change change kept
@@ -120,7 +120,7 @@ same-change (pending.Drop key s) kept kept' same = ap not (same key s)
 not-both : {A : Type 0} (b : Bool) → b ≡ true → b ≡ false → A
 not-both b t f = let never : true ≡ false = sym t ∙ f in absurd (cc)
 
-by-answer : (g : Geometry) (fence : ℕ) (text : List ℕ) (change : Pending) (kept kept' : held.Records) (took : Bool) (records changed : Records) → CanTell (Some change) kept → took ≡ has_change change kept' → ((r : Records) → StandsFor g fence text r → Shows kept' r)
+by-answer : (g : Geometry) (fence : ℕ) (text : List ℕ) (change : Pending) (kept kept' : held.Records) (took : Bool) (records changed : Records) → CanTell (Some change) kept → took ≡ has_change change kept' → ((r : Records) → StandsFor g fence text r → IsHeldOnDisk kept' r)
     → AreHeld kept records → AreHeld (carried change kept) changed → StandsFor g fence text records ⊎ StandsFor g fence text changed → StandsFor g fence text (if took then changed else records)
 by-answer g fence text change kept kept' true records changed tell took shows held with_it (inr has) = has
 by-answer g fence text change kept kept' false records changed tell took shows held with_it (inl was) = was
@@ -129,6 +129,6 @@ by-answer g fence text change kept kept' true records changed tell took shows he
 by-answer g fence text change kept kept' false records changed tell took shows held with_it (inr has) =
     not-both false (took ∙ same-change change (carried change kept) kept' (same-stamps (carried change kept) kept' changed (shows changed has) with_it) ∙ tell.1) refl
 
-pub branch : (g : Geometry) (fence : ℕ) (text : List ℕ) (undecided : Option Pending) (kept kept' : held.Records) (took : Bool) → CanTell undecided kept → took ≡ has_taken undecided kept' → ((r : Records) → StandsFor g fence text r → Shows kept' r) → IsBranch g fence text undecided kept took
+pub branch : (g : Geometry) (fence : ℕ) (text : List ℕ) (undecided : Option Pending) (kept kept' : held.Records) (took : Bool) → CanTell undecided kept → took ≡ has_taken undecided kept' → ((r : Records) → StandsFor g fence text r → IsHeldOnDisk kept' r) → IsBranch g fence text undecided kept took
 branch g fence text undecided kept kept' took tell took_is shows change records changed some held with_it either =
     by-answer g fence text change kept kept' took records changed (subst (λ (o : Option Pending). CanTell o kept) some tell) (took_is ∙ ap (λ (o : Option Pending). has_taken o kept') some) shows held with_it either

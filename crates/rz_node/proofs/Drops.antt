@@ -132,6 +132,11 @@ lesser-none s is = go (lesser_of (in_order stamp_of s)) (is ∙ ap lesser_of (or
     go None is = refl
     go (Some r) is = absurd (cc)
 
+lesser-empty : (rs : List Held) → lesser_of rs ≡ None → rs ≡ []
+lesser-empty [] none = refl
+lesser-empty (a ∷ []) none = absurd (cc)
+lesser-empty (a ∷ b ∷ rs) none = absurd (cc)
+
 -- what is told of the side of the lesser version
 pub record IsSide (s : Sides Held) (r : Held) (side : ℕ) : Type 0 where
   pub two : side < 2
@@ -312,9 +317,11 @@ module _ (pairs : ℕ) (heads : List (Option Head)) (index : Indexed) (tied : Is
   shows : (t : Option Version) → t ≡ lesser_of (in_order sides.version_stamp e.versions) → t ≡ lesser_of (in_order sides.version_stamp (versions_of (sides_in heads e.cell)))
   shows t lesser = lesser ∙ ap (λ (x : Sides Version). lesser_of (in_order sides.version_stamp x)) place.versions
 
-  pub nothing-lesser : None ≡ lesser_of (in_order sides.version_stamp e.versions) → (least_block (held_by index.entries heads) fid ≡ Some e.key.block) × (lesser_of (held_of (held_by index.entries heads) (key_at fid e.key.block)) ≡ None)
-  nothing-lesser none = (first.2, ap lesser_of held-before ∙ lesser-none (sides_in heads e.cell) (shows None none))
+  -- an entry has a version
+  pub some-lesser : None ≡ lesser_of (in_order sides.version_stamp e.versions) → ⊥
+  some-lesser none = (tied.shown e.key e first.0).some (lesser-empty (records_in heads e.cell) (lesser-none (sides_in heads e.cell) (shows None none)))
 
+  -- and each version a side
   pub side-stands : (v : Version) → Some v ≡ lesser_of (in_order sides.version_stamp e.versions) → None ≡ side_with sides.version_stamp e.versions v.stamp → ⊥
   side-stands v lesser none =
       let r = lesser-record (sides_in heads e.cell) v (shows (Some v) lesser) in

@@ -58,6 +58,17 @@ a-side true y a b i is = inl (cc, refl)
 a-side false true a b i is = inr (cc, refl)
 a-side false false a b i is = absurd (cc)
 
+-- the test holds on the side that is chosen
+chosen-has : (x y : Bool) (i : ℕ) → chosen x y ≡ Some i → ((i ≡ 0) × (x ≡ true)) ⊎ ((i ≡ 1) × (y ≡ true))
+chosen-has true y i is = inl (cc, refl)
+chosen-has false true i is = inr (cc, refl)
+chosen-has false false i is = absurd (cc)
+
+-- an empty cell has no stamp
+no-stamp : (o : Option Head) (t : ℕ) → has stamp_of (option_map record_of o) t ≡ true → None ≡ o → ⊥
+no-stamp None t has_it none = absurd (cc)
+no-stamp (Some h) t has_it none = absurd (cc)
+
 module _ (pairs : ℕ) (heads : List (Option Head)) (index : Indexed) (tied : IsTied pairs heads index) (key : Key) (e : Entry) (there : maps.get index.entries key ≡ Some e) (t : ℕ) where
   abbrev s : Sides Held
   s = sides_in heads e.cell
@@ -86,7 +97,18 @@ module _ (pairs : ℕ) (heads : List (Option Head)) (index : Indexed) (tied : Is
       (found-is ∙ one.1 ∙ ap (λ (c : ℕ). option_map record_of (in_cell heads c)) (sym here), omega (arith, one.0)))
       (a-side (has stamp_of s.zero t) (has stamp_of s.one t) s.zero s.one i (sides-are (Some i) is))
 
-  -- and that cell is the key's
+  -- which is not empty
+  pub side-full : (i cell : ℕ) → Some i ≡ side_with sides.version_stamp e.versions t → cell ≡ 2 * e.cell + i → None ≡ in_cell heads cell → ⊥
+  side-full i cell is at none = ⊎_elim
+      (λ (zero : (i ≡ 0) × (has stamp_of s.zero t ≡ true)).
+      let here : cell ≡ 2 * e.cell = omega (arith, at, zero.0) in
+      no-stamp (in_cell heads (2 * e.cell)) t zero.1 (none ∙ ap (in_cell heads) here))
+      (λ (one : (i ≡ 1) × (has stamp_of s.one t ≡ true)).
+      let here : cell ≡ 2 * e.cell + 1 = omega (arith, at, one.0) in
+      no-stamp (in_cell heads (2 * e.cell + 1)) t one.1 (none ∙ ap (in_cell heads) here))
+      (chosen-has (has stamp_of s.zero t) (has stamp_of s.one t) i (sides-are (Some i) is))
+
+  -- and is the key's
   pub there-side : (i cell : ℕ) (h : Head) → i < 2 → cell ≡ 2 * e.cell + i → in_cell heads cell ≡ Some h → IsThere pairs heads key cell h
   there-side i cell h lt at is =
       let shown = tied.shown key e there in

@@ -10,9 +10,10 @@ pub mod Puts
 pub mod Read
 pub mod Ready
 pub mod Listed
-pub mod Shows
+pub mod HeldOnDisk
 pub mod Spent
 pub mod Starts
+pub mod Stores
 pub mod Tied
 pub mod Turns
 pub mod Views

@@ -6,7 +6,7 @@ use Rattle.rz_events.specs.declared.keys.Key.{Key}
 use Rattle.rz_events.specs.declared.records.Head.{Head}
 use Rattle.rz_record.specs.Slot.{Rec}
 use Rattle.rz_slots.specs.Held.{Apart, Records, Made, in_cell, heads_of, head_in, names}
-use Rattle.rz_node.proofs.Shows.{head-in}
+use Rattle.rz_node.proofs.HeldOnDisk.{head-in}
 
 -- the record of the first cell with this key and stamp
 abbrev first_named : List (Option Rec) → Records

@@ -1,5 +1,5 @@
 -- From the fields of a node that is up to what contracts see of it.
-use Rattle.std.proofs.Common.{◌≡◌, ℕ, ◌<◌, Bool, false, cond, List, Option, Some, None, refl, sym, ◌∙◌, ap, subst, arith}
+use Rattle.std.proofs.Common.{◌≡◌, ℕ, ◌<◌, Bool, false, List, Option, Some, None, refl, sym, ◌∙◌, ap, subst, arith}
 use Rattle.std.specs.Prelude.{◌==◌, nat_le, is_some}
 use Rattle.std.specs.FinMap as maps
 use Rattle.std.proofs.lemmas.Bool.Decides.{nat_tests}
@@ -10,17 +10,15 @@ use Rattle.rz_events.specs.declared.records.Held.{Held}
 use Rattle.rz_events.specs.declared.nodes.OpenFault.{OpenFault}
 use Rattle.rz_events.specs.declared.nodes.Phase.{Phase}
 use Rattle.rz_events.specs.declared.nodes.Phase.TheVariants.{Up}
-use Rattle.rz_events.specs.declared.nodes.KeepAnswer.TheVariants as keep
-use Rattle.rz_events.specs.declared.nodes.RefillAnswer.TheVariants as refill
 use Rattle.rz_events.specs.declared.nodes.DropAnswer.TheVariants as drop
 use Rattle.rz_disk.specs.Meter.{Meter}
 use Rattle.rz_record.specs.Slot.{Rec}
 use Rattle.rz_node_model.specs.declared.pending.Pending.{Pending}
 use Rattle.rz_node_model.specs.declared.pending.Pending.TheVariants as pending
 use Rattle.rz_node_model.specs.Afterwards.{with_change}
-use Rattle.rz_node_model.specs.Answers.{is_full, keep_unless, keep_room, keep_answer, refill_unless, refill_room, refill_answer, drop_answer, drop_least, drop_lesser}
-use Rattle.rz_node_model.specs.Records.{held_of, stamp_of, base_of, carried, key_at, least_block}
-use Rattle.rz_node_model.specs.Versions.{passes_keep, passes_refill, lesser_of}
+use Rattle.rz_node_model.specs.Answers.{drop_answer, drop_least, drop_lesser}
+use Rattle.rz_node_model.specs.Records.{held_of, carried, key_at, least_block}
+use Rattle.rz_node_model.specs.Versions.{lesser_of}
 use Rattle.rz_index.specs.declared.index.Entry.{Entry}
 use Rattle.rz_slots.specs.Held.{Records}
 use Rattle.rz_slots.specs.Stands.{StandsFor}
@@ -31,7 +29,6 @@ use Rattle.rz_node.specs.View.{NodeView, held_in, state_of}
 use Rattle.rz_slots.specs.Opening.{opening_calls}
 use Rattle.rz_node.specs.Opens.{Stopped}
 use Rattle.rz_node.specs.Spends.{Passed, Failed}
-use Rattle.rz_node.proofs.Keeps.{keep-answers, refill-answers}
 
 -- ---- equal views
 
@@ -80,18 +77,6 @@ pub not-equal : (m n : ℕ) → (m ≡ n → ⊥) → (m == n) ≡ false
 not-equal m n ne = grind (arith, nat_tests)
 
 module _ (phase : Phase) (losses : ℕ) (undecided : Option Pending) (fence : ℕ) (entries : maps.FinMap key_cmp Entry) (heads : List (Option Head)) (up : phase ≡ Up) where
-  pub keep-up : (pairs : ℕ) (key : Key) (stamp : ℕ) (fenced : Bool) (passed : Option ℕ) (room : Bool) → nat_le stamp fence ≡ fenced → passes_keep stamp_of stamp (held_of (held_by entries heads) key) ≡ passed → is_full pairs (held_by entries heads) key ≡ room
-      → keep_answer pairs (state_of phase losses undecided fence entries heads) key stamp ≡ cond fenced (keep.Fenced fence) (keep_unless passed (keep_room room))
-  keep-up pairs key stamp fenced passed room f p r =
-      subst (λ (x : Phase). keep_answer pairs (state_of x losses undecided fence entries heads) key stamp ≡ cond fenced (keep.Fenced fence) (keep_unless passed (keep_room room))) (sym up)
-      (keep-answers pairs (state_of Up losses undecided fence entries heads) key stamp fenced passed room refl f p r)
-
-  pub refill-up : (pairs own : ℕ) (key : Key) (stamp : ℕ) (same : Bool) (passed : Option ℕ) (room : Bool) → (own == fence) ≡ same → passes_refill stamp_of base_of stamp (held_of (held_by entries heads) key) ≡ passed → is_full pairs (held_by entries heads) key ≡ room
-      → refill_answer pairs (state_of phase losses undecided fence entries heads) own key stamp ≡ cond same (refill_unless passed (refill_room room)) (refill.OtherFence fence)
-  refill-up pairs own key stamp same passed room f p r =
-      subst (λ (x : Phase). refill_answer pairs (state_of x losses undecided fence entries heads) own key stamp ≡ cond same (refill_unless passed (refill_room room)) (refill.OtherFence fence)) (sym up)
-      (refill-answers pairs (state_of Up losses undecided fence entries heads) own key stamp same passed room refl f p r)
-
   -- a change that was carried out
   pub changed-up : (fence' : ℕ) (entries' : maps.FinMap key_cmp Entry) (heads' : List (Option Head)) (change : Pending) → fence' ≡ fence → held_by entries' heads' ≡ carried change (held_by entries heads)
       → state_of phase losses undecided fence' entries' heads' ≡ with_change (state_of phase losses undecided fence entries heads) change
@@ -105,9 +90,6 @@ module _ (phase : Phase) (losses : ℕ) (undecided : Option Pending) (fence : �
 
   pub drop-none : (fid : ℕ) → least_block (held_by entries heads) fid ≡ None → drop_answer (state_of phase losses undecided fence entries heads) fid ≡ drop.Nothing
   drop-none fid none = drop-up fid ∙ ap (drop_least (held_by entries heads) fid) none
-
-  pub drop-empty : (fid block : ℕ) → least_block (held_by entries heads) fid ≡ Some block → lesser_of (held_of (held_by entries heads) (key_at fid block)) ≡ None → drop_answer (state_of phase losses undecided fence entries heads) fid ≡ drop.Nothing
-  drop-empty fid block least none = drop-up fid ∙ ap (drop_least (held_by entries heads) fid) least ∙ ap (drop_lesser (held_by entries heads) fid block) none
 
   pub drop-some : (fid block : ℕ) (r : Held) → least_block (held_by entries heads) fid ≡ Some block → lesser_of (held_of (held_by entries heads) (key_at fid block)) ≡ Some r
       → drop_answer (state_of phase losses undecided fence entries heads) fid ≡ drop.Dropped block r.stamp (is_some (least_block (carried (pending.Drop (key_at fid block) r.stamp) (held_by entries heads)) fid))

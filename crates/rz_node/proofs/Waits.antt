@@ -272,20 +272,20 @@ either-moved g g' fence fence' image index index' heads heads' key rs same_g sam
 -- ---- a change that failed
 
 module _ (tells : Bool) (image : List ℕ → Type 0) (g : Geometry) (fence : ℕ) (held held' : Records) (same : held' ≡ held) (key : Key) (rs : List Held) (waits : IsTrue tells → HoldsEitherHeld g fence image held' (with_held held' key rs)) where
-  -- a record that was to be kept, as the node has it
-  pub down-keep : (r r' : Held) (s : Sides Held) → r' ≡ r → held_of held key ≡ in_order stamp_of s → passes_keep stamp_of r.stamp (held_of held key) ≡ None → rs ≡ kept stamp_of r.base r (held_of held key)
-      → IsDown tells image g fence (Some (pending.Keep key r')) held'
-  down-keep r r' s one is none leaves = subst (λ (x : Held). IsDown tells image g fence (Some (pending.Keep key x)) held') (sym one) (record {
+  -- a record that was to be kept
+  pub down-keep : (r : Held) (s : Sides Held) → held_of held key ≡ in_order stamp_of s → passes_keep stamp_of r.stamp (held_of held key) ≡ None → rs ≡ kept stamp_of r.base r (held_of held key)
+      → IsDown tells image g fence (Some (pending.Keep key r)) held'
+  down-keep r s is none leaves = record {
     each = λ told. subst (λ (xs : List Held). HoldsEitherHeld g fence image held' (with_held held' key xs)) (leaves ∙ ap (λ (h : Records). kept stamp_of r.base r (held_of h key)) (sym same)) (waits told);
     told = subst (CanTell (Some (pending.Keep key r))) (sym same) (tell-keep held key r s is none);
-  })
+  }
 
-  pub down-refill : (r r' : Held) → r' ≡ r → passes_refill stamp_of base_of r.stamp (held_of held key) ≡ None → rs ≡ refilled stamp_of r (held_of held key)
-      → IsDown tells image g fence (Some (pending.Refill key r')) held'
-  down-refill r r' one none leaves = subst (λ (x : Held). IsDown tells image g fence (Some (pending.Refill key x)) held') (sym one) (record {
+  pub down-refill : (r : Held) → passes_refill stamp_of base_of r.stamp (held_of held key) ≡ None → rs ≡ refilled stamp_of r (held_of held key)
+      → IsDown tells image g fence (Some (pending.Refill key r)) held'
+  down-refill r none leaves = record {
     each = λ told. subst (λ (xs : List Held). HoldsEitherHeld g fence image held' (with_held held' key xs)) (leaves ∙ ap (λ (h : Records). refilled stamp_of r (held_of h key)) (sym same)) (waits told);
     told = subst (CanTell (Some (pending.Refill key r))) (sym same) (tell-refill held key r none);
-  })
+  }
 
   -- the record of a stamp that was to go
   pub down-drop : (t : ℕ) → has_stamp stamp_of t (held_of held key) ≡ true → has_stamp stamp_of t rs ≡ false → rs ≡ without stamp_of t (held_of held key)

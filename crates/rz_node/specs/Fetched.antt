@@ -12,8 +12,8 @@ use Rattle.rz_slots.specs.Stands.{StandsFor}
 
 -- Where the text stands for records, what is told of the record of this key and stamp is true, and its bins stand in
 -- front of what was there.
-abbrev pub Gives : Geometry → ℕ → List ℕ → Key → Held → List ℕ → List ℕ → Type 0
-Gives g fence text key told old new =
+abbrev pub IsFetchedFromDisk : Geometry → ℕ → List ℕ → Key → Held → List ℕ → List ℕ → Type 0
+IsFetchedFromDisk g fence text key told old new =
     (records : Records) → StandsFor g fence text records
     → (r : Rec) × (records key told.stamp ≡ Some r) × (record_of r.head ≡ told) × (new ≡ r.bins ++ drop (length r.bins) old)
 

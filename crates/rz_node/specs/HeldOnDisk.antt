@@ -16,7 +16,7 @@ Falls (a ∷ b ∷ more) = (b.stamp < a.stamp) × Falls (b ∷ more)
 
 -- Under each key and stamp the records have what is held, no key is held with no record, and the records of a key fall by
 -- stamp.
-pub record Shows (kept : held.Records) (records : Records) : Type 0 where
+pub record IsHeldOnDisk (kept : held.Records) (records : Records) : Type 0 where
   pub same : (key : Key) (stamp : ℕ) → found stamp (held_of kept key) ≡ option_map (λ (r : Rec). record_of r.head) (records key stamp)
   pub whole : IsWhole kept
   pub falls : (key : Key) → Falls (held_of kept key)

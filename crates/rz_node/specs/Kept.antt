@@ -75,7 +75,7 @@ pub record IsThere (pairs : ℕ) (heads : List (Option Head)) (key : Key) (cell 
 abbrev pub place_at : Option Entry → Key → List ℕ → Option Entry
 place_at (Some e) key free = Some e
 place_at None key [] = None
-place_at None key (p ∷ ps) = Some record { key = key; cell = p; versions = record { zero = None; one = None } }
+place_at None key (pair ∷ more) = Some record { key = key; cell = pair; versions = record { zero = None; one = None } }
 
 abbrev pub place_in : Indexed → Key → Option Entry
 place_in index key = place_at (maps.get index.entries key) key index.free

@@ -4,8 +4,6 @@ use Rattle.std.specs.Prelude.{ℕ, ◌≡◌, ◌⊎◌, Bool, true, false, List
 use Rattle.rz_disk.specs.Images.{Only, Within}
 use Rattle.rz_events.specs.declared.keys.Key.{Key}
 use Rattle.rz_events.specs.declared.records.Held.{Held}
-use Rattle.rz_events.specs.declared.nodes.FetchAnswer.{FetchAnswer}
-use Rattle.rz_events.specs.declared.nodes.FetchAnswer.TheVariants as fetch
 use Rattle.rz_events.specs.declared.nodes.DropAnswer.{DropAnswer}
 use Rattle.rz_events.specs.declared.nodes.DropAnswer.TheVariants as drop
 use Rattle.rz_events.specs.declared.nodes.StartAnswer.{StartAnswer}
@@ -25,7 +23,7 @@ use Rattle.rz_slots.specs.Held.{nothing}
 use Rattle.rz_slots.specs.Stands.{IsShut, StandsFor}
 use Rattle.rz_node.specs.CrashOutcomes.{CrashOutcomes}
 use Rattle.rz_node.specs.Change.{IsBranch}
-use Rattle.rz_node.specs.Fetched.{Gives, IfHeld}
+use Rattle.rz_node.specs.Fetched.{IsFetchedFromDisk, IfHeld}
 use Rattle.rz_node.specs.Spends.{keep_used, refill_used}
 
 -- A change of a key's records, which were `before` and are then `after`: `Some` where it used the disk, and whether all
@@ -70,7 +68,7 @@ Leaves g s (ask.Refill fence head) (answer.Refill a) bins bins' text text' image
     Changes g s.fence text text' image image' (refill_used a) head.key (held_of s.held head.key)
     (refilled stamp_of (record_of head) (held_of s.held head.key)) (Some record { head = head; bins = bins })
 Leaves g s (ask.Fetch key position stamp) (answer.Fetch a) bins bins' text text' image image' =
-    Within image image' × IfHeld a (λ told. Gives g s.fence text key told bins bins')
+    Within image image' × IfHeld a (λ told. IsFetchedFromDisk g s.fence text key told bins bins')
 Leaves g s (ask.Drop fid) (answer.Drop a) bins bins' text text' image image' = Drops g s text text' image image' fid a
 Leaves g s ask.Start (answer.Start a) bins bins' text text' image image' = Starts g s text text' image image' a
 Leaves g s (ask.Replace loss fence) (answer.Replace a) bins bins' text text' image image' = Renews g fence text' image image' a

@@ -10,3 +10,4 @@ pub mod View
 pub mod HeldOnDisk
 pub mod Spends
 pub mod DownDisk
+pub mod Stores

@@ -44,10 +44,10 @@ impl<D: Disk> Node<D> {
             return DropAnswer::Nothing;
         };
         let Some(version) = entry.versions.lesser() else {
-            return DropAnswer::Nothing;
+            unreachable!()
         };
         let Some(side) = entry.versions.side_of(version.stamp) else {
-            return DropAnswer::Nothing;
+            unreachable!()
         };
         let block = entry.key.block;
         let stamp = version.stamp;
@@ -94,7 +94,8 @@ fn clear_in<D: Disk>(
     ensures fence { cells.new.fence ≡ cells.old.fence }
     ensures spends { Spends 4 (Some (is_ok result)) (D.meter cells.old.disk) (D.meter cells.new.disk) }
 {
-    let cell = 2 * entry.cell + u32::from(side);
+    let pair = entry.cell;
+    let cell = 2 * pair + u32::from(side);
     match cells.clear(cell) {
         Ok(()) => {
             let versions = entry.versions.without(side);
@@ -102,7 +103,7 @@ fn clear_in<D: Disk>(
                 index,
                 Entry {
                     key: entry.key,
-                    cell: entry.cell,
+                    cell: pair,
                     versions,
                 },
             );

@@ -6,7 +6,7 @@ ghost use Rattle.rz_disk.specs.Images.{Within};
 ghost use Rattle.rz_node_model.specs.Answers.{IsNodeAnswer};
 ghost use Rattle.rz_node_model.specs.Afterwards.{after_answer};
 ghost use Rattle.rz_node_model.specs.Records.{record_of, held_of, found};
-ghost use Rattle.rz_node.specs.Fetched.{Gives, IfHeld};
+ghost use Rattle.rz_node.specs.Fetched.{IsFetchedFromDisk, IfHeld};
 ghost use Rattle.rz_node.specs.Kept.{IsTied, IsThere, held_by};
 ghost use Rattle.rz_node.specs.Spends.{Spends, fetch_used};
 
@@ -22,7 +22,7 @@ impl<D: Disk> Node<D> {
         requires room { max_bins_of self.old.geometry.layout ≤ length out.old }
         ensures answer { (position : ℕ) → IsNodeAnswer self.old.geometry.cells self.old.state (NodeAsk.Fetch key position stamp) (NodeAnswer.Fetch result) }
         ensures after { (position : ℕ) → self.new.state ≡ after_answer (NodeAsk.Fetch key position stamp) (NodeAnswer.Fetch result) self.old.state }
-        ensures bins { IfHeld result (λ told. IsTrue D.tells → Gives self.old.geometry self.old.state.fence (D.text self.old.disk) key told out.old out.new) }
+        ensures bins { IfHeld result (λ told. IsTrue D.tells → IsFetchedFromDisk self.old.geometry self.old.state.fence (D.text self.old.disk) key told out.old out.new) }
         ensures unread { fetch_used result ≢ Some true → out.new ≡ out.old }
 
         // Behind the most bins that a record has nothing is written, also where the disk does not tell what it holds.
@@ -71,9 +71,10 @@ fn record_at<D: Disk>(index: &Index, cells: &Cells<D>, key: Key, stamp: u64) -> 
     let Some(side) = entry.versions.side_of(stamp) else {
         return None;
     };
-    let cell = 2 * entry.cell + u32::from(side);
-    match cells.head(cell) {
-        Some(head) => Some((cell, head)),
-        None => None,
-    }
+    let pair = entry.cell;
+    let cell = 2 * pair + u32::from(side);
+    let Some(head) = cells.head(cell) else {
+        unreachable!()
+    };
+    Some((cell, head))
 }

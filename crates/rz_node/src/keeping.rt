@@ -11,14 +11,15 @@ ghost use Rattle.rz_node_model.specs.Versions.{kept, refilled};
 ghost use Rattle.rz_node.specs.CrashOutcomes.{CrashOutcomes};
 ghost use Rattle.rz_node.specs.Kept.{IsTied, held_by, place_in, sides_in, records_in, version_of};
 ghost use Rattle.rz_node.specs.Spends.{Spends, keep_used, refill_used};
+ghost use Rattle.rz_node.specs.Stores.{stored_answer, stored_in, stored_used, after_stored, change_by, IsStored};
 ghost use Rattle.rz_node.specs.DownDisk.{HoldsEitherHeld};
 
 use crate::Node;
+use crate::storing::{Rule, Stored};
 use rz_cells::{Cells, DiskFault};
 use rz_disk::Disk;
 use rz_events::{Head, Held, KeepAnswer, Key, NodeAnswer, NodeAsk, Phase, RefillAnswer};
 use rz_index::{Entry, Index};
-use rz_node_model::Pending;
 use rz_versions::{Room, Version, Versions};
 
 impl<D: Disk> Node<D> {
@@ -37,34 +38,16 @@ impl<D: Disk> Node<D> {
         ensures geometry { self.new.geometry ≡ self.old.geometry }
         ensures spends { Spends 4 (keep_used result) (D.meter self.old.disk) (D.meter self.new.disk) }
     {
-        match self.phase {
+        match self.phase() {
             Phase::Lost => return KeepAnswer::Lost,
             Phase::Down => return KeepAnswer::Down,
             Phase::Up => {}
         }
-        let fence = self.cells.fence();
+        let fence = self.fence();
         if head.stamp <= fence {
             return KeepAnswer::Fenced { fence };
         }
-        let Some(entry) = place_of(&self.index, head.key) else {
-            return KeepAnswer::Full;
-        };
-        match entry.versions.for_keep(version(head)) {
-            Room::Passed { held } => KeepAnswer::Passed { held },
-            Room::Put { side } => {
-                match put_in(&mut self.cells, &mut self.index, entry, side, head, bins) {
-                    Ok(()) => KeepAnswer::Kept,
-                    Err(DiskFault) => {
-                        self.phase = Phase::Down;
-                        self.undecided = Some(Pending::Keep {
-                            key: head.key,
-                            record: told(head),
-                        });
-                        KeepAnswer::DiskFault
-                    }
-                }
-            }
-        }
+        self.store(Rule::Keep, head, bins).keep_answer()
     }
 
     /// Keeps a rebuilder's record, under the fence of the node's replacement.
@@ -82,30 +65,46 @@ impl<D: Disk> Node<D> {
         ensures geometry { self.new.geometry ≡ self.old.geometry }
         ensures spends { Spends 4 (refill_used result) (D.meter self.old.disk) (D.meter self.new.disk) }
     {
-        match self.phase {
+        match self.phase() {
             Phase::Lost => return RefillAnswer::Lost,
             Phase::Down => return RefillAnswer::Down,
             Phase::Up => {}
         }
-        let own = self.cells.fence();
+        let own = self.fence();
         if fence != own {
             return RefillAnswer::OtherFence { fence: own };
         }
+        self.store(Rule::Refill, head, bins).refill_answer()
+    }
+
+    /// Stores a record by a rule. Where the disk fails, the node is down and the change undecided.
+    fn store(&mut self, rule: Rule, head: &Head, bins: &[u64]) -> Stored
+        requires up { self.old.state.phase ≡ Phase.Up }
+        requires valid { IsValid head.now }
+        requires layout { head.now.layout ≡ self.old.geometry.layout }
+        requires bins { length bins.now ≡ bins_of head.now }
+        ensures stored { IsStored (stored_answer self.old.geometry.cells self.old.state.held rule head.now.key (record_of head.now)) result }
+        ensures after { self.new.state ≡ after_stored result self.old.state (change_by rule head.now.key (record_of head.now)) }
+
+        // The disk is not used where nothing was to be stored.
+        ensures same { stored_used result ≡ None → self.new ≡ self.old }
+        ensures stands { stored_used result ≢ None → IsTrue D.tells → CrashOutcomes self.old.geometry self.old.state.fence (D.text self.old.disk) (D.text self.new.disk) (D.image self.new.disk) (stored_used result) head.now.key
+            (held_of self.old.state.held head.now.key) (stored_in rule (record_of head.now) (held_of self.old.state.held head.now.key)) (Some record { head = head.now; bins = bins.now }) }
+        ensures geometry { self.new.geometry ≡ self.old.geometry }
+        ensures spends { Spends 4 (stored_used result) (D.meter self.old.disk) (D.meter self.new.disk) }
+    {
         let Some(entry) = place_of(&self.index, head.key) else {
-            return RefillAnswer::Full;
+            return Stored::Full;
         };
-        match entry.versions.for_refill(version(head)) {
-            Room::Passed { held } => RefillAnswer::Passed { held },
+        match rule.room(&entry.versions, version(head)) {
+            Room::Passed { held } => Stored::Passed { held },
             Room::Put { side } => {
                 match put_in(&mut self.cells, &mut self.index, entry, side, head, bins) {
-                    Ok(()) => RefillAnswer::Kept,
+                    Ok(()) => Stored::Kept,
                     Err(DiskFault) => {
                         self.phase = Phase::Down;
-                        self.undecided = Some(Pending::Refill {
-                            key: head.key,
-                            record: told(head),
-                        });
-                        RefillAnswer::DiskFault
+                        self.undecided = Some(rule.change(head.key, told(head)));
+                        Stored::DiskFault
                     }
                 }
             }
@@ -141,9 +140,9 @@ fn place_of(index: &Index, key: Key) -> Option<Entry>
     match index.find(key) {
         Some(entry) => Some(entry),
         None => match index.free_cell() {
-            Some(cell) => Some(Entry {
+            Some(pair) => Some(Entry {
                 key,
-                cell,
+                cell: pair,
                 versions: Versions::none(),
             }),
             None => None,
@@ -182,13 +181,14 @@ fn put_in<D: Disk>(
     ensures fence { cells.new.fence ≡ cells.old.fence }
     ensures spends { Spends 4 (Some (is_ok result)) (D.meter cells.old.disk) (D.meter cells.new.disk) }
 {
-    let cell = 2 * entry.cell + u32::from(side);
+    let pair = entry.cell;
+    let cell = 2 * pair + u32::from(side);
     match cells.put(cell, head, bins) {
         Ok(()) => {
             let versions = entry.versions.with(side, version(head));
             index.set(Entry {
                 key: head.key,
-                cell: entry.cell,
+                cell: pair,
                 versions,
             });
             Ok(())

@@ -14,7 +14,7 @@
 //! of the disk are, and what the disk may have after a crash then. [`node_event`] makes of an answer the event
 //! that the log has of it. Both say what the models say, and nothing of who calls or when.
 //!
-//! In reading order: `node`, `fetching`, `keeping`, `dropping`, `rows`, `opening`, `replacing`, `laws`,
+//! In reading order: `node`, `fetching`, `storing`, `keeping`, `dropping`, `rows`, `opening`, `replacing`, `laws`,
 //! `events`, `calls`.
 #![tactic(auto)]
 
@@ -28,6 +28,7 @@ mod node;
 mod opening;
 mod replacing;
 mod rows;
+mod storing;
 
 pub use calls::answer_node;
 pub use events::node_event;

@@ -90,6 +90,13 @@ impl<D: Disk> Node<D> {
         self.phase
     }
 
+    /// The stamp up to which it keeps no record.
+    pub(crate) fn fence(&self) -> u64
+        ensures { result ≡ self.now.state.fence }
+    {
+        self.cells.fence()
+    }
+
     /// How many disks it lost, where it is lost.
     pub fn probe(&self) -> Option<u64>
         ensures { IsNodeAnswer self.now.geometry.cells self.now.state NodeAsk.Probe (NodeAnswer.Probe result) }

@@ -15,7 +15,7 @@ ghost use Rattle.rz_events.specs.declared.records.Head.{Head};
 ghost use Rattle.rz_node.specs.Change.{IsBranch};
 ghost use Rattle.rz_node.specs.Kept.{IsTied, held_by};
 ghost use Rattle.rz_node.specs.Opens.{IfStarted, IfTook, UnlessStarted, IfUnopened, TookIs, Opens};
-ghost use Rattle.rz_node.specs.HeldOnDisk.{Shows};
+ghost use Rattle.rz_node.specs.HeldOnDisk.{IsHeldOnDisk};
 ghost use Rattle.rz_node.specs.DownDisk.{has_taken};
 
 use crate::Node;
@@ -43,7 +43,7 @@ impl<D: Disk> Node<D> {
 
         // The text stands for some records, and what is held is what it stands for.
         ensures stands { IfOk result (λ n. IsTrue D.tells → (records : Records) × StandsFor geometry n.state.fence (D.text n.disk) records) }
-        ensures shows { IfOk result (λ n. IsTrue D.tells → (records : Records) → StandsFor geometry n.state.fence (D.text n.disk) records → Shows n.state.held records) }
+        ensures shows { IfOk result (λ n. IsTrue D.tells → (records : Records) → StandsFor geometry n.state.fence (D.text n.disk) records → IsHeldOnDisk n.state.held records) }
         ensures settled { IfOk result (λ n. Only (D.text n.disk) (D.image n.disk)) }
 
         // Each fault is the first that the text has.
@@ -112,7 +112,7 @@ impl<D: Disk> Node<D> {
 
         // What is held is what the text stands for.
         ensures stands { IfStarted result (IsTrue D.tells → (records : Records) × StandsFor self.new.geometry self.new.state.fence (D.text self.new.disk) records) }
-        ensures shows { IfStarted result (IsTrue D.tells → (records : Records) → StandsFor self.new.geometry self.new.state.fence (D.text self.new.disk) records → Shows self.new.state.held records) }
+        ensures shows { IfStarted result (IsTrue D.tells → (records : Records) → StandsFor self.new.geometry self.new.state.fence (D.text self.new.disk) records → IsHeldOnDisk self.new.state.held records) }
         ensures settled { IfStarted result (Only (D.text self.new.disk) (D.image self.new.disk)) }
 
         // The disk stays as it is.

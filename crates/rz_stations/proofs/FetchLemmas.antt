@@ -22,7 +22,7 @@ use Rattle.rz_events.specs.declared.nodes.NodeAnswer.TheVariants as answer
 use Rattle.rz_events.specs.declared.events.Event.{Event}
 use Rattle.rz_slots.specs.declared.geometry.Geometry.{Geometry}
 use Rattle.rz_core.specs.NodeRows.{cells_of}
-use Rattle.rz_node.specs.Fetched.{Gives, IfHeld}
+use Rattle.rz_node.specs.Fetched.{IsFetchedFromDisk, IfHeld}
 use Rattle.rz_node_model.specs.Answers.{IsFetchAnswer, fetch_answer, fetch_found}
 use Rattle.rz_node_model.specs.Afterwards.{after_fetch}
 use Rattle.rz_node_model.specs.NodeEvents.{fetch_event}
@@ -179,9 +179,9 @@ module _ {D : Type 0} where
   back-at : (tells : Bool) (text : D → List ℕ) (image : D → List ℕ → Type 0) (s t : Station D) → IsOnlyAsked text image s t → (key : Key) (told : Held) (a b : List ℕ) → GivesAt tells text t key told a b
       → GivesAt tells text s key told a b
   back-at tells text image s t asked key told a b gives tells_it =
-      subst (λ (x : List ℕ). Gives s.node.geometry s.node.state.fence x key told a b) asked.text_is
-      (subst (λ (k : ℕ). Gives s.node.geometry k (text t.node.disk) key told a b) asked.fence
-      (subst (λ (g : Geometry). Gives g t.node.state.fence (text t.node.disk) key told a b) asked.called.geometry (gives tells_it)))
+      subst (λ (x : List ℕ). IsFetchedFromDisk s.node.geometry s.node.state.fence x key told a b) asked.text_is
+      (subst (λ (k : ℕ). IsFetchedFromDisk s.node.geometry k (text t.node.disk) key told a b) asked.fence
+      (subst (λ (g : Geometry). IsFetchedFromDisk g t.node.state.fence (text t.node.disk) key told a b) asked.called.geometry (gives tells_it)))
 
   pub gives-before : (tells : Bool) (text : D → List ℕ) (image : D → List ℕ → Type 0) (xs ys : List (Station D)) → AreOnlyAsked text image xs ys
       → (n : ℕ) (key : Key) (told : Held) (a b : List ℕ) → GivesIn tells text ys n key told a b → GivesIn tells text xs n key told a b

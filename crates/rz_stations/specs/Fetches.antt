@@ -5,7 +5,7 @@ use Rattle.mj_angles.specs.Layout.{max_bins_of}
 use Rattle.rz_events.specs.declared.keys.Key.{Key}
 use Rattle.rz_events.specs.declared.records.Held.{Held}
 use Rattle.rz_events.specs.declared.nodes.FetchAnswer.{FetchAnswer}
-use Rattle.rz_node.specs.Fetched.{Gives}
+use Rattle.rz_node.specs.Fetched.{IsFetchedFromDisk}
 use Rattle.rz_node_model.specs.Answers.{IsFetchAnswer, fetch_answer}
 use Rattle.rz_node_model.specs.Afterwards.{after_fetch}
 use Rattle.rz_formatting.specs.declared.formatting.Station.{Station}
@@ -25,7 +25,7 @@ pub record IsFetch {D : Type 0} (key : Key) (stamp : ℕ) (given : FetchAnswer) 
 
 -- what a disk that tells its text stands for is what is read of a record: what is told of it, what lay in the room, what lies there
 abbrev pub GivesAt : {D : Type 0} → Bool → (D → List ℕ) → Station D → Key → Held → List ℕ → List ℕ → Type 0
-GivesAt tells text s key told before room = IsTrue tells → Gives s.node.geometry s.node.state.fence (text s.node.disk) key told before room
+GivesAt tells text s key told before room = IsTrue tells → IsFetchedFromDisk s.node.geometry s.node.state.fence (text s.node.disk) key told before room
 
 -- a node has this number, and so it is of the first
 abbrev pub GivesIn : {D : Type 0} → Bool → (D → List ℕ) → List (Station D) → ℕ → Key → Held → List ℕ → List ℕ → Type 0

@@ -7,7 +7,7 @@ use Rattle.rz_index.specs.Indexed.{pairs_of}
 use Rattle.rz_index.specs.Standing.{Part, Tree, Lone, Holds, freed_part}
 use Rattle.rz_index.specs.Spares.{number_of}
 use Rattle.rz_index.proofs.Standing.{swapped, emptied}
-use Rattle.rz_index.proofs.Turns.{none, pulled}
+use Rattle.rz_index.proofs.Rotations.{none, pulled}
 use Rattle.rz_index.proofs.Kept.{none-there, some-there}
 use Rattle.rz_index.proofs.index.removed.Goals as goal
 
@@ -59,12 +59,12 @@ returns c = λ entries blanks h sorted fits.
     let one : number_of o ≡ 1 = ap number_of e.1 in
     let a = pulled c.take-root.new.row (root r.its ∷ Lone node e.0 ∷ []) (Tree c.args.spare blanks) [] none holds in
     let b = pulled c.take-root.new.row (Tree c.args.spare blanks ∷ root r.its ∷ []) (Lone node e.0) [] none a in
-    let d = c.hung.ensures [] blanks e.0 (root r.its ∷ []) (emptied c.take-root.new.row (Lone node e.0 ∷ Tree c.args.spare blanks ∷ root r.its ∷ []) none b) in
+    let d = c.linked.ensures [] blanks e.0 (root r.its ∷ []) (emptied c.take-root.new.row (Lone node e.0 ∷ Tree c.args.spare blanks ∷ root r.its ∷ []) none b) in
     record {
       its = r.its;
       left = e.0 ∷ blanks;
       are = r.are;
       freed = ap (option_map (λ (e : Entry). e.cell)) (same ∙ sym e.1);
       count = omega (arith, one);
-      holds = swapped c.hung.new.row (Tree c.hung.result (e.0 ∷ blanks)) (root r.its) [] none d;
+      holds = swapped c.linked.new.row (Tree c.linked.result (e.0 ∷ blanks)) (root r.its) [] none d;
     }

@@ -7,7 +7,7 @@ use Rattle.rz_index.specs.Indexed.{pairs_of, IsSorted}
 use Rattle.rz_index.specs.Standing.{Tree, Lone}
 use Rattle.rz_index.proofs.Parts.{parts-long, front-sorted, rest-sorted, find-left, find-middle, find-right}
 use Rattle.rz_index.proofs.Standing.{swapped}
-use Rattle.rz_index.proofs.Turns.{none, back-first}
+use Rattle.rz_index.proofs.Rotations.{none, back-first}
 use Rattle.rz_index.proofs.nodes.+find.Goals as goal
 
 pub returns-in_err-left : goal.returns-in_err-left

@@ -6,7 +6,7 @@ use Rattle.rz_index.specs.Standing.{Tree, Lone}
 use Rattle.rz_index.proofs.Parts.{parts-long, front-sorted, rest-sorted}
 use Rattle.rz_index.proofs.Files.{first_in, file-behind, file-front, file-middle, file-nowhere}
 use Rattle.rz_index.proofs.Standing.{swapped}
-use Rattle.rz_index.proofs.Turns.{none, back-first}
+use Rattle.rz_index.proofs.Rotations.{none, back-first}
 use Rattle.rz_index.proofs.nodes.+first_of.Goals as goal
 use Rattle.rz_index.proofs.nodes.+first_of.Goals.{else-is_none-via-then-is_none+else-middle-fid-2, else-is_none-via-else-is_none}
 

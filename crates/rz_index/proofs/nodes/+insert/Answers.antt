@@ -5,18 +5,18 @@ use Rattle.rz_events.specs.Keys.{key_cmp}
 use Rattle.rz_events.specs.declared.keys.Key.{Key}
 use Rattle.rz_index.specs.declared.index.Entry.{Entry}
 use Rattle.rz_index.specs.Indexed.{pairs_of, IsSorted}
-use Rattle.rz_index.specs.Standing.{Tree, Lone, IsTurned}
+use Rattle.rz_index.specs.Standing.{Tree, Lone, IsTreeOf}
 use Rattle.rz_index.proofs.Parts.{parts-long, front-sorted, rest-sorted, find-left, find-middle, find-right, put-left, put-right}
 use Rattle.rz_index.proofs.Standing.{swapped, dropped}
-use Rattle.rz_index.proofs.Turns.{none, pulled, alone, back-again, fourth-second}
+use Rattle.rz_index.proofs.Rotations.{none, pulled, alone, back-again, fourth-second}
 use Rattle.rz_index.proofs.nodes.+insert.Goals as goal
 
 pub returns-in_default : goal.returns-in_default
 returns-in_default t c = λ entries e parts h keyed sorted fits missing.
     let row = c.args.row.now in
     let gone = c.in_default.ensures.sides entries (Lone c.args.node e ∷ parts) h fits in
-    let b = c.hung.ensures [] [] e parts (alone row c.args.node e parts (dropped row (Tree c.args.link entries) (Lone c.args.node e ∷ parts) none h)) in
-    subst (λ (es : List Entry). IsTurned c.hung.new.row c.hung.result (put key_cmp e.key e (pairs_of es)) parts) (sym gone) record { its = e ∷ []; are = refl; holds = b }
+    let b = c.linked.ensures [] [] e parts (alone row c.args.node e parts (dropped row (Tree c.args.link entries) (Lone c.args.node e ∷ parts) none h)) in
+    subst (λ (es : List Entry). IsTreeOf c.linked.new.row c.linked.result (put key_cmp e.key e (pairs_of es)) parts) (sym gone) record { its = e ∷ []; are = refl; holds = b }
 
 pub returns-in-Less : goal.returns-in-Less
 returns-in-Less t c = λ entries e parts h keyed sorted fits missing.

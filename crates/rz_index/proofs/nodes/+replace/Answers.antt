@@ -7,7 +7,7 @@ use Rattle.rz_index.specs.Indexed.{pairs_of, IsSorted}
 use Rattle.rz_index.specs.Standing.{Tree, Lone}
 use Rattle.rz_index.proofs.Parts.{parts-long, front-sorted, rest-sorted, find-left, find-right, put-left, put-middle, put-right}
 use Rattle.rz_index.proofs.Standing.{swapped}
-use Rattle.rz_index.proofs.Turns.{none, back-first, back-again}
+use Rattle.rz_index.proofs.Rotations.{none, back-first, back-again}
 use Rattle.rz_index.proofs.nodes.+replace.Goals as goal
 
 pub returns-in_default : goal.returns-in_default
@@ -66,8 +66,8 @@ returns-in-Equal t c = λ entries parts h sorted fits there.
     let middle = Lone c.args.link o.middle in
     let right = Tree c.in-Some.right o.back in
     let way : key_cmp k o.middle.key ≡ Equal = sym (c.compare.ensures o.middle (left ∷ right ∷ parts) (swapped row left middle (right ∷ parts) none o.holds)) ∙ c.in-Equal.is in
-    let a = c.refill.ensures o.middle (left ∷ right ∷ parts) (swapped row left middle (right ∷ parts) none o.holds) in
-    let b = swapped c.refill.new.row (Lone c.args.link x) left (right ∷ parts) none a in
+    let a = c.set_entry.ensures o.middle (left ∷ right ∷ parts) (swapped row left middle (right ∷ parts) none o.holds) in
+    let b = swapped c.set_entry.new.row (Lone c.args.link x) left (right ∷ parts) none a in
     record {
       its = o.front ++ x ∷ o.back;
       are = put-middle x o.front o.middle o.back s way ∙ sym (ap (λ (es : List Entry). put key_cmp k x (pairs_of es)) o.all);

@@ -4,8 +4,8 @@ use Rattle.rz_index.specs.declared.index.Entry.{Entry}
 use Rattle.rz_index.specs.Standing.{Tree, Lone, Holds, IsSplit}
 use Rattle.rz_index.proofs.Parts.{parts-long}
 use Rattle.rz_index.proofs.Standing.{swapped, dropped}
-use Rattle.rz_index.proofs.Turns.{none}
-use Rattle.rz_index.proofs.Turns.{first-fourth}
+use Rattle.rz_index.proofs.Rotations.{none}
+use Rattle.rz_index.proofs.Rotations.{first-fourth}
 use Rattle.rz_index.proofs.nodes.+split_first.Goals as goal
 
 pub returns-in_err-left : goal.returns-in_err-left

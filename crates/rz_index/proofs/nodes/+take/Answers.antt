@@ -4,10 +4,10 @@ use Rattle.std.specs.FinMap.Entries.{find}
 use Rattle.rz_events.specs.Keys.{key_cmp}
 use Rattle.rz_index.specs.declared.index.Entry.{Entry}
 use Rattle.rz_index.specs.Indexed.{pairs_of, IsSorted}
-use Rattle.rz_index.specs.Standing.{Tree, Lone, Holds, IsTurned, IsThere, freed_part}
+use Rattle.rz_index.specs.Standing.{Tree, Lone, Holds, IsTreeOf, IsThere, freed_part}
 use Rattle.rz_index.proofs.Parts.{parts-long, front-sorted, rest-sorted, find-left, find-middle, find-right, take-left, take-middle, take-right, without}
 use Rattle.rz_index.proofs.Standing.{swapped, lone}
-use Rattle.rz_index.proofs.Turns.{none, back-first, back-again, freed-behind}
+use Rattle.rz_index.proofs.Rotations.{none, back-first, back-again, freed-behind}
 use Rattle.rz_index.proofs.nodes.+take.Goals as goal
 
 pub returns-in_default-clause-node : goal.returns-in_default-clause-node
@@ -19,7 +19,7 @@ pub returns-in_default-clause-entries : goal.returns-in_default-clause-entries
 returns-in_default-clause-entries t c = λ entries parts h sorted fits.
     let gone = c.in_default.ensures.sides entries parts h fits in
     let row = c.args.row.now in
-    subst (λ (es : List Entry). IsTurned row c.args.link (without c.args.key es) (freed_part (find key_cmp c.args.key (pairs_of es)) 0 parts)) (sym gone)
+    subst (λ (es : List Entry). IsTreeOf row c.args.link (without c.args.key es) (freed_part (find key_cmp c.args.key (pairs_of es)) 0 parts)) (sym gone)
     record { its = []; are = refl; holds = subst (λ (es : List Entry). Holds row (Tree c.args.link es ∷ parts)) gone h }
 
 pub returns-in-Less-clause-node : goal.returns-in-Less-clause-node

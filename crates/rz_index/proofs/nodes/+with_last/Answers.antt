@@ -3,16 +3,16 @@ use Rattle.rz_index.specs.declared.index.Entry.{Entry}
 use Rattle.rz_index.specs.Standing.{Tree, Lone, Holds}
 use Rattle.rz_index.proofs.Parts.{parts-long}
 use Rattle.rz_index.proofs.Standing.{dropped}
-use Rattle.rz_index.proofs.Turns.{none, pulled, alone}
-use Rattle.rz_index.proofs.Turns.{back-again}
+use Rattle.rz_index.proofs.Rotations.{none, pulled, alone}
+use Rattle.rz_index.proofs.Rotations.{back-again}
 use Rattle.rz_index.proofs.nodes.+with_last.Goals as goal
 
 pub returns-in_default : goal.returns-in_default
 returns-in_default t c = λ entries e parts h fits.
     let row = c.args.row.now in
     let gone = c.in_default.ensures.sides entries (Lone c.args.node e ∷ parts) h fits in
-    let b = c.hung.ensures [] [] e parts (alone row c.args.node e parts (dropped row (Tree c.args.link entries) (Lone c.args.node e ∷ parts) none h)) in
-    subst (λ (xs : List Entry). Holds c.hung.new.row (Tree c.hung.result (xs ++ e ∷ []) ∷ parts)) (sym gone) b
+    let b = c.linked.ensures [] [] e parts (alone row c.args.node e parts (dropped row (Tree c.args.link entries) (Lone c.args.node e ∷ parts) none h)) in
+    subst (λ (xs : List Entry). Holds c.linked.new.row (Tree c.linked.result (xs ++ e ∷ []) ∷ parts)) (sym gone) b
 
 pub returns : goal.returns
 returns t c = λ entries e parts h fits.

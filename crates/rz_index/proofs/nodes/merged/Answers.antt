@@ -2,8 +2,8 @@ use Rattle.std.proofs.Common.{List, ◌∷◌, ◌++◌, sym, ap, subst, ◌∙�
 use Rattle.rz_index.specs.declared.index.Entry.{Entry}
 use Rattle.rz_index.specs.Standing.{Tree, Lone, Holds}
 use Rattle.rz_index.proofs.Standing.{swapped}
-use Rattle.rz_index.proofs.Turns.{none, nil-behind}
-use Rattle.rz_index.proofs.Turns.{back-first}
+use Rattle.rz_index.proofs.Rotations.{none, nil-behind}
+use Rattle.rz_index.proofs.Rotations.{back-first}
 use Rattle.rz_index.proofs.nodes.merged.Goals as goal
 
 pub returns-in-None : goal.returns-in-None

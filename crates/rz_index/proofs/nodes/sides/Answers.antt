@@ -1,7 +1,7 @@
 use Rattle.std.proofs.Common.{arith}
 use Rattle.rz_index.specs.declared.nodes.Node.{Node}
 use Rattle.rz_index.specs.Standing.{IsNode}
-use Rattle.rz_index.proofs.Turns.{none}
+use Rattle.rz_index.proofs.Rotations.{none}
 use Rattle.rz_index.proofs.Standing.{bare, parted, read, some-link}
 use Rattle.rz_index.proofs.nodes.sides.Goals as goal
 use Rattle.rz_index.proofs.nodes.sides.Goals.{then-link-eq0-via-then-link-eq0, then-link-eq0-via-else-link-eq0+then-link-row}

@@ -5,7 +5,7 @@ use Rattle.rz_events.specs.declared.nodes.NodeAnswer.TheVariants as given
 use Rattle.rz_node_model.specs.Answers.{IsNodeAnswer}
 use Rattle.rz_node_model.specs.Afterwards.{after_answer}
 use Rattle.rz_events.specs.declared.records.Held.{Held}
-use Rattle.rz_node.specs.Fetched.{Gives}
+use Rattle.rz_node.specs.Fetched.{IsFetchedFromDisk}
 use Rattle.rz_node.specs.Leaves.{Leaves}
 use Rattle.rz_node.proofs.Leaving.{held-if, starts}
 use Rattle.rz_node.proofs.calls.answer_node.Goals as goal
@@ -31,7 +31,7 @@ returns-in-Fetch-clause-leaves g c tells =
     let disk = c.fetch_into.new.self.disk in
     subst (λ (q : NodeAsk). Leaves n.geometry n.state q (given.Fetch c.fetch_into.result) c.args.bins.now c.fetch_into.new.out (g.D.Disk.text n.disk) (g.D.Disk.text disk) (g.D.Disk.image n.disk) (g.D.Disk.image disk)) (sym c.in-Fetch.is) (
       c.fetch_into.ensures.within,
-      held-if (IsTrue g.D.Disk.tells) (λ (told : Held). Gives n.geometry n.state.fence (g.D.Disk.text n.disk) c.in-Fetch.key told c.args.bins.now c.fetch_into.new.out) c.fetch_into.result c.fetch_into.ensures.bins tells,
+      held-if (IsTrue g.D.Disk.tells) (λ (told : Held). IsFetchedFromDisk n.geometry n.state.fence (g.D.Disk.text n.disk) c.in-Fetch.key told c.args.bins.now c.fetch_into.new.out) c.fetch_into.result c.fetch_into.ensures.bins tells,
     )
 
 pub returns-in-Start-clause-leaves : goal.returns-in-Start-clause-leaves

@@ -3,7 +3,7 @@ use Rattle.std.proofs.Common.{◌+◌, ◌*◌, sym, ◌∙◌, ap, arith}
 use Rattle.std.specs.Option.{option_map}
 use Rattle.rz_node_model.specs.Records.{record_of, found}
 use Rattle.rz_node.proofs.Tied.{held-not}
-use Rattle.rz_node.proofs.Found.{found-none, found-side, there-side}
+use Rattle.rz_node.proofs.Found.{found-none, found-side, side-full, there-side}
 use Rattle.rz_node.proofs.fetching.record_at.Goals as goal
 
 pub returns-in_default-clause-found : goal.returns-in_default-clause-found
@@ -30,17 +30,16 @@ head-requires g c =
     let side = found-side c.args.cells.now.geometry.cells c.args.cells.now.heads c.args.index.now c.requires c.args.key c.in-Some.entry (sym c.in-Some.ensures) c.args.stamp c.in-Some-side_of.side (2 * c.in-Some.entry.cell + c.from.result) c.in-Some-side_of.ensures (omega (arith, c.from.ensures)) in
     omega (arith, shown.within, side.1, c.from.ensures)
 
-pub returns-in-Some-head-clause-found : goal.returns-in-Some-head-clause-found
-returns-in-Some-head-clause-found g c =
+pub returns-clause-found : goal.returns-clause-found
+returns-clause-found g c =
     let side = found-side c.args.cells.now.geometry.cells c.args.cells.now.heads c.args.index.now c.requires c.args.key c.in-Some.entry (sym c.in-Some.ensures) c.args.stamp c.in-Some-side_of.side (2 * c.in-Some.entry.cell + c.from.result) c.in-Some-side_of.ensures (omega (arith, c.from.ensures)) in
     ap (option_map record_of) c.in-Some-head.ensures ∙ sym side.0
 
-pub returns-in-Some-head-clause-there : goal.returns-in-Some-head-clause-there
-returns-in-Some-head-clause-there g c =
+pub returns-clause-there : goal.returns-clause-there
+returns-clause-there g c =
     let side = found-side c.args.cells.now.geometry.cells c.args.cells.now.heads c.args.index.now c.requires c.args.key c.in-Some.entry (sym c.in-Some.ensures) c.args.stamp c.in-Some-side_of.side (2 * c.in-Some.entry.cell + c.from.result) c.in-Some-side_of.ensures (omega (arith, c.from.ensures)) in
     there-side c.args.cells.now.geometry.cells c.args.cells.now.heads c.args.index.now c.requires c.args.key c.in-Some.entry (sym c.in-Some.ensures) c.args.stamp c.in-Some-side_of.side (2 * c.in-Some.entry.cell + c.from.result) c.in-Some-head.head side.1 (omega (arith, c.from.ensures)) (sym c.in-Some-head.ensures)
 
-pub returns-in-None-clause-found : goal.returns-in-None-clause-found
-returns-in-None-clause-found g c =
-    let side = found-side c.args.cells.now.geometry.cells c.args.cells.now.heads c.args.index.now c.requires c.args.key c.in-Some.entry (sym c.in-Some.ensures) c.args.stamp c.in-Some-side_of.side (2 * c.in-Some.entry.cell + c.from.result) c.in-Some-side_of.ensures (omega (arith, c.from.ensures)) in
-    ap (option_map record_of) c.in-None.ensures ∙ sym side.0
+pub unreachable-requires : goal.unreachable-requires
+unreachable-requires g c =
+    side-full c.args.cells.now.geometry.cells c.args.cells.now.heads c.args.index.now c.requires c.args.key c.in-Some.entry (sym c.in-Some.ensures) c.args.stamp c.in-Some-side_of.side (2 * c.in-Some.entry.cell + c.from.result) c.in-Some-side_of.ensures (omega (arith, c.from.ensures)) c.in_default-head.ensures

@@ -7,7 +7,7 @@ use Rattle.rz_index.specs.Indexed.{Indexed, indexed}
 use Rattle.rz_index.specs.Standing.{Tree}
 use Rattle.rz_index.proofs.Row.{made-nothing}
 use Rattle.rz_index.proofs.Standing.{emptied, shown}
-use Rattle.rz_index.proofs.Turns.{none}
+use Rattle.rz_index.proofs.Rotations.{none}
 use Rattle.rz_index.proofs.Cells.{one-cell-more}
 use Rattle.rz_index.proofs.index.Index.with_room.Goals as goal
 

@@ -11,9 +11,9 @@ use Rattle.rz_node_model.specs.Versions.{has_stamp, without}
 use Rattle.rz_versions.specs.Sides.{in_order, put_at}
 use Rattle.rz_node.specs.CrashOutcomes.{CrashOutcomes}
 use Rattle.rz_node.specs.Kept.{held_by, sides_in, records_in}
-use Rattle.rz_node.proofs.Drops.{first-none, first-some, nothing-lesser, side-stands, dropping, held-dropped}
+use Rattle.rz_node.proofs.Drops.{first-none, first-some, some-lesser, side-stands, dropping, held-dropped}
 use Rattle.rz_node.proofs.Ready.{ready-up}
-use Rattle.rz_node.proofs.Views.{state-same, around-along, held-up, drop-none, drop-empty, drop-some, changed-up}
+use Rattle.rz_node.proofs.Views.{state-same, around-along, held-up, drop-none, drop-some, changed-up}
 use Rattle.rz_node.specs.DownDisk.{HoldsEitherHeld}
 use Rattle.rz_node.proofs.Waits.{down-drop}
 use Rattle.rz_node.proofs.node.Node.drop_next.Goals as goal
@@ -23,16 +23,15 @@ returns-in_default-clause-answer g c =
     let s = c.self.inside in
     sym (drop-none s.phase s.losses s.undecided s.cells.fence s.index.entries s.cells.heads c.in-Up.is c.args.fid (first-none s.cells.geometry.cells s.cells.heads s.index c.self.invariant.tied c.args.fid c.in_default.ensures)) ∙ (λ i. drop_answer (state-same _ _ c.self.view_is i) c.args.fid)
 
-pub returns-in_default-lesser-clause-answer : goal.returns-in_default-lesser-clause-answer
-returns-in_default-lesser-clause-answer g c =
+pub unreachable-requires : goal.unreachable-requires
+unreachable-requires g c =
     let s = c.self.inside in
-    let none = nothing-lesser s.cells.geometry.cells s.cells.heads s.index c.self.invariant.tied c.args.fid c.in-Some.entry c.in-Some.ensures c.in_default-lesser.ensures in
-    sym (drop-empty s.phase s.losses s.undecided s.cells.fence s.index.entries s.cells.heads c.in-Up.is c.args.fid c.in-Some.entry.key.block none.0 none.1) ∙ (λ i. drop_answer (state-same _ _ c.self.view_is i) c.args.fid)
+    some-lesser s.cells.geometry.cells s.cells.heads s.index c.self.invariant.tied c.args.fid c.in-Some.entry c.in-Some.ensures c.in_default-lesser.ensures
 
-pub returns-in_default-side_of-clause-answer : goal.returns-in_default-side_of-clause-answer
-returns-in_default-side_of-clause-answer g c =
+pub unreachable-requires-in_default-side_of : goal.unreachable-requires-in_default-side_of
+unreachable-requires-in_default-side_of g c =
     let s = c.self.inside in
-    absurd (side-stands s.cells.geometry.cells s.cells.heads s.index c.self.invariant.tied c.args.fid c.in-Some.entry c.in-Some.ensures c.in-Some-lesser.version c.in-Some-lesser.ensures c.in_default-side_of.ensures)
+    side-stands s.cells.geometry.cells s.cells.heads s.index c.self.invariant.tied c.args.fid c.in-Some.entry c.in-Some.ensures c.in-Some-lesser.version c.in-Some-lesser.ensures c.in_default-side_of.ensures
 
 pub clear_in-requires-clause-there : goal.clear_in-requires-clause-there
 clear_in-requires-clause-there g c =

@@ -1,99 +1,44 @@
--- What is put is what the rule puts.
-use Rattle.std.proofs.Common.{◌≡◌, true, false, List, Some, None, refl, sym, ◌∙◌, ap, subst, arith, eq-eqb}
-use Rattle.rz_events.specs.declared.records.Held.{Held}
+-- What is stored by the rule of a refill is kept.
+use Rattle.std.proofs.Common.{◌≡◌, Bool, Option, Some, sym, ◌∙◌, ap, subst, arith}
+use Rattle.rz_events.specs.declared.nodes.RefillAnswer.{RefillAnswer}
+use Rattle.rz_node_model.specs.Afterwards.{after_refill}
+use Rattle.rz_node_model.specs.Answers.{refill_answer, IsRefillAnswer}
+use Rattle.rz_node_model.specs.Records.{record_of, held_of, stamp_of}
+use Rattle.rz_node_model.specs.Versions.{refilled}
 use Rattle.rz_record.specs.Slot.{Rec}
-use Rattle.rz_node_model.specs.declared.pending.Pending.TheVariants as pending
-use Rattle.rz_node_model.specs.Afterwards.{with_change}
-use Rattle.rz_node_model.specs.Answers.{refill_answer}
-use Rattle.rz_node_model.specs.Records.{record_of, stamp_of, base_of, with_held}
-use Rattle.rz_node_model.specs.Versions.{refilled, passes_refill}
-use Rattle.rz_versions.specs.declared.versions.Version.{Version}
-use Rattle.rz_versions.specs.declared.versions.Room.TheVariants.{Put, Passed}
-use Rattle.rz_versions.specs.Sides.{in_order, put_at, side_for, never, room}
-use Rattle.rz_versions.specs.Sides as sides
-use Rattle.rz_node.specs.Kept.{held_by, sides_in, records_in}
-use Rattle.rz_node.proofs.Places.{placed}
-use Rattle.rz_node.proofs.Keeps.{refill-put, refill-passed, not-full, full, nothing-held}
-use Rattle.rz_node.proofs.Views.{state-same, geometry-same, around-along, held-up, refill-up, changed-up}
-use Rattle.rz_node.proofs.Waits.{down-refill}
+use Rattle.rz_node.specs.Spends.{Spends, refill_used}
+use Rattle.rz_node.specs.Stores.{stored_used}
+use Rattle.rz_node.specs.CrashOutcomes.{CrashOutcomes}
+use Rattle.rz_node.proofs.Stores.{answer-refill, after-refill, used-refill}
 use Rattle.rz_node.proofs.node.Node.refill.Goals as goal
 
-pub returns-in_default-clause-answer : goal.returns-in_default-clause-answer
-returns-in_default-clause-answer g c =
-    let s = c.self.inside in
-    sym (refill-up s.phase s.losses s.undecided s.cells.fence s.index.entries s.cells.heads c.in-Up.is s.cells.geometry.cells c.args.fence c.args.head.now.key c.args.head.now.stamp true None true
-    (eq-eqb c.args.fence s.cells.fence (omega (arith, c.if-fence-own.false, c.fence-own.ensures)))
-    (ap (λ (rs : List Held). passes_refill stamp_of base_of c.args.head.now.stamp rs) (nothing-held s.cells.geometry.cells s.cells.heads s.index c.self.invariant.tied c.args.head.now.key (sym c.in_default.ensures))) (full s.cells.geometry.cells s.cells.heads s.index c.self.invariant.tied c.args.head.now.key (sym c.in_default.ensures)))
-    ∙ (λ i. refill_answer (geometry-same _ _ c.self.view_is i).cells (state-same _ _ c.self.view_is i) c.args.fence c.args.head.now.key c.args.head.now.stamp)
+pub returns-clause-answer : goal.returns-clause-answer
+returns-clause-answer g c =
+    let n = c.args.self.now in
+    let h = c.args.head.now in
+    subst (IsRefillAnswer (refill_answer n.geometry.cells n.state c.args.fence h.key h.stamp)) (sym c.refill_answer.ensures)
+    (answer-refill n.geometry.cells n.state c.args.fence h c.store.result (sym c.phase.ensures ∙ c.in-Up.is) (omega (arith, c.if-fence-own.false, c.fence-own.ensures)) c.store.ensures.stored)
 
-pub returns-in-Passed-clause-answer : goal.returns-in-Passed-clause-answer
-returns-in-Passed-clause-answer g c =
-    let s = c.self.inside in
-    let p = placed s.cells.geometry.cells s.cells.heads s.index c.self.invariant.tied c.args.head.now.key c.in-Some.entry (sym c.in-Some.ensures) in
-    let passed = refill-passed s.cells.geometry.cells s.cells.heads s.index c.args.head.now c.in-Some.entry p c.in-Passed.held (subst (λ (v : Version). Passed c.in-Passed.held ≡ room (passes_refill sides.version_stamp sides.version_base v.stamp (in_order sides.version_stamp c.in-Some.entry.versions)) (side_for sides.version_stamp never c.in-Some.entry.versions)) c.version.ensures c.in-Passed.ensures.room) in
-    sym (refill-up s.phase s.losses s.undecided s.cells.fence s.index.entries s.cells.heads c.in-Up.is s.cells.geometry.cells c.args.fence c.args.head.now.key c.args.head.now.stamp true (Some c.in-Passed.held) false
-    (eq-eqb c.args.fence s.cells.fence (omega (arith, c.if-fence-own.false, c.fence-own.ensures)))
-    passed (not-full s.cells.geometry.cells s.cells.heads s.index c.self.invariant.tied c.args.head.now.key c.in-Some.entry (sym c.in-Some.ensures)))
-    ∙ (λ i. refill_answer (geometry-same _ _ c.self.view_is i).cells (state-same _ _ c.self.view_is i) c.args.fence c.args.head.now.key c.args.head.now.stamp)
+pub returns-clause-after : goal.returns-clause-after
+returns-clause-after g c =
+    let n = c.args.self.now in
+    let h = c.args.head.now in
+    c.store.ensures.after ∙ after-refill c.store.result n.state h.key (record_of h) ∙ ap (λ (a : RefillAnswer). after_refill a n.state h.key (record_of h)) (sym c.refill_answer.ensures)
 
-pub returns-in-Ok-clause-answer : goal.returns-in-Ok-clause-answer
-returns-in-Ok-clause-answer g c =
-    let s = c.self.inside in
-    let p = placed s.cells.geometry.cells s.cells.heads s.index c.self.invariant.tied c.args.head.now.key c.in-Some.entry (sym c.in-Some.ensures) in
-    let put = refill-put s.cells.geometry.cells s.cells.heads s.index c.args.head.now c.in-Some.entry p c.in-Put.side (subst (λ (v : Version). Put c.in-Put.side ≡ room (passes_refill sides.version_stamp sides.version_base v.stamp (in_order sides.version_stamp c.in-Some.entry.versions)) (side_for sides.version_stamp never c.in-Some.entry.versions)) c.version.ensures c.in-Put.ensures.room) in
-    sym (refill-up s.phase s.losses s.undecided s.cells.fence s.index.entries s.cells.heads c.in-Up.is s.cells.geometry.cells c.args.fence c.args.head.now.key c.args.head.now.stamp true None false
-    (eq-eqb c.args.fence s.cells.fence (omega (arith, c.if-fence-own.false, c.fence-own.ensures)))
-    put.0 (not-full s.cells.geometry.cells s.cells.heads s.index c.self.invariant.tied c.args.head.now.key c.in-Some.entry (sym c.in-Some.ensures)))
-    ∙ (λ i. refill_answer (geometry-same _ _ c.self.view_is i).cells (state-same _ _ c.self.view_is i) c.args.fence c.args.head.now.key c.args.head.now.stamp)
+pub returns-clause-same : goal.returns-clause-same
+returns-clause-same g c unused = c.store.ensures.same (used-refill c.store.result ∙ ap refill_used (sym c.refill_answer.ensures) ∙ unused)
 
-pub returns-in-Err-clause-answer : goal.returns-in-Err-clause-answer
-returns-in-Err-clause-answer g c =
-    let s = c.self.inside in
-    let p = placed s.cells.geometry.cells s.cells.heads s.index c.self.invariant.tied c.args.head.now.key c.in-Some.entry (sym c.in-Some.ensures) in
-    let put = refill-put s.cells.geometry.cells s.cells.heads s.index c.args.head.now c.in-Some.entry p c.in-Put.side (subst (λ (v : Version). Put c.in-Put.side ≡ room (passes_refill sides.version_stamp sides.version_base v.stamp (in_order sides.version_stamp c.in-Some.entry.versions)) (side_for sides.version_stamp never c.in-Some.entry.versions)) c.version.ensures c.in-Put.ensures.room) in
-    sym (λ i. refill_answer (geometry-same _ _ c.self.view_is i).cells (state-same _ _ c.self.view_is i) c.args.fence c.args.head.now.key c.args.head.now.stamp)
-    ∙ refill-up s.phase s.losses s.undecided s.cells.fence s.index.entries s.cells.heads c.in-Up.is s.cells.geometry.cells c.args.fence c.args.head.now.key c.args.head.now.stamp true None false
-    (eq-eqb c.args.fence s.cells.fence (omega (arith, c.if-fence-own.false, c.fence-own.ensures)))
-    put.0 (not-full s.cells.geometry.cells s.cells.heads s.index c.self.invariant.tied c.args.head.now.key c.in-Some.entry (sym c.in-Some.ensures))
+pub returns-clause-stands : goal.returns-clause-stands
+returns-clause-stands g c used told =
+    let n = c.args.self.now in
+    let h = c.args.head.now in
+    let held = held_of n.state.held h.key in
+    let r : Rec = record { head = h; bins = c.args.bins.now } in
+    let same : stored_used c.store.result ≡ refill_used c.refill_answer.result = used-refill c.store.result ∙ ap refill_used (sym c.refill_answer.ensures) in
+    subst (λ (u : Option Bool). CrashOutcomes n.geometry n.state.fence (g.D.Disk.text n.disk) (g.D.Disk.text c.store.new.self.disk) (g.D.Disk.image c.store.new.self.disk) u h.key held (refilled stamp_of (record_of h) held) (Some r)) same
+    (c.store.ensures.stands (λ none. used (sym same ∙ none)) told)
 
-pub returns-in-Ok-clause-after : goal.returns-in-Ok-clause-after
-returns-in-Ok-clause-after g c =
-    let s = c.self.inside in
-    let p = placed s.cells.geometry.cells s.cells.heads s.index c.self.invariant.tied c.args.head.now.key c.in-Some.entry (sym c.in-Some.ensures) in
-    let put = refill-put s.cells.geometry.cells s.cells.heads s.index c.args.head.now c.in-Some.entry p c.in-Put.side (subst (λ (v : Version). Put c.in-Put.side ≡ room (passes_refill sides.version_stamp sides.version_base v.stamp (in_order sides.version_stamp c.in-Some.entry.versions)) (side_for sides.version_stamp never c.in-Some.entry.versions)) c.version.ensures c.in-Put.ensures.room) in
-    changed-up s.phase s.losses s.undecided s.cells.fence s.index.entries s.cells.heads c.in-Up.is c.put_in.new.cells.fence c.put_in.new.index.entries c.put_in.new.cells.heads (pending.Refill c.args.head.now.key (record_of c.args.head.now))
-    c.put_in.ensures.fence (c.in-Ok.ensures.held ∙ ap (with_held (held_by s.index.entries s.cells.heads) c.args.head.now.key) put.1)
-    ∙ (λ i. with_change (state-same _ _ c.self.view_is i) (pending.Refill c.args.head.now.key (record_of c.args.head.now)))
-
-pub returns-in-Ok-clause-stands : goal.returns-in-Ok-clause-stands
-returns-in-Ok-clause-stands g c ne told =
-    let s = c.self.inside in
-    let p = placed s.cells.geometry.cells s.cells.heads s.index c.self.invariant.tied c.args.head.now.key c.in-Some.entry (sym c.in-Some.ensures) in
-    let put = refill-put s.cells.geometry.cells s.cells.heads s.index c.args.head.now c.in-Some.entry p c.in-Put.side (subst (λ (v : Version). Put c.in-Put.side ≡ room (passes_refill sides.version_stamp sides.version_base v.stamp (in_order sides.version_stamp c.in-Some.entry.versions)) (side_for sides.version_stamp never c.in-Some.entry.versions)) c.version.ensures c.in-Put.ensures.room) in
-    let r : Rec = record { head = c.args.head.now; bins = c.args.bins.now } in
-    around-along g.D.Disk.text _ _ (g.D.Disk.text c.put_in.new.cells.disk) (g.D.Disk.image c.put_in.new.cells.disk) (Some true) c.args.head.now.key (refilled stamp_of (record_of c.args.head.now))
-    (records_in s.cells.heads c.in-Some.entry.cell) (in_order stamp_of (put_at (sides_in s.cells.heads c.in-Some.entry.cell) c.in-Put.side (Some (record_of c.args.head.now)))) (Some r)
-    c.self.view_is (held-up s.phase s.index.entries s.cells.heads c.args.head.now.key c.in-Up.is ∙ p.held) (put.1 ∙ ap (refilled stamp_of (record_of c.args.head.now)) p.held) (c.in-Ok.ensures.stands told)
-
-pub returns-in-Err-clause-stands : goal.returns-in-Err-clause-stands
-returns-in-Err-clause-stands g c ne told =
-    let s = c.self.inside in
-    let p = placed s.cells.geometry.cells s.cells.heads s.index c.self.invariant.tied c.args.head.now.key c.in-Some.entry (sym c.in-Some.ensures) in
-    let put = refill-put s.cells.geometry.cells s.cells.heads s.index c.args.head.now c.in-Some.entry p c.in-Put.side (subst (λ (v : Version). Put c.in-Put.side ≡ room (passes_refill sides.version_stamp sides.version_base v.stamp (in_order sides.version_stamp c.in-Some.entry.versions)) (side_for sides.version_stamp never c.in-Some.entry.versions)) c.version.ensures c.in-Put.ensures.room) in
-    let r : Rec = record { head = c.args.head.now; bins = c.args.bins.now } in
-    around-along g.D.Disk.text _ _ (g.D.Disk.text c.put_in.new.cells.disk) (g.D.Disk.image c.put_in.new.cells.disk) (Some false) c.args.head.now.key (refilled stamp_of (record_of c.args.head.now))
-    (records_in s.cells.heads c.in-Some.entry.cell) (in_order stamp_of (put_at (sides_in s.cells.heads c.in-Some.entry.cell) c.in-Put.side (Some (record_of c.args.head.now)))) (Some r)
-    c.self.view_is (held-up s.phase s.index.entries s.cells.heads c.args.head.now.key c.in-Up.is ∙ p.held) (put.1 ∙ ap (refilled stamp_of (record_of c.args.head.now)) p.held) (c.in-Err.ensures.stands told)
-
-pub invariant_of-self-in-Err : goal.invariant_of-self-in-Err
-invariant_of-self-in-Err g c =
-    let s = c.self.inside in
-    let p = placed s.cells.geometry.cells s.cells.heads s.index c.self.invariant.tied c.args.head.now.key c.in-Some.entry (sym c.in-Some.ensures) in
-    let put = refill-put s.cells.geometry.cells s.cells.heads s.index c.args.head.now c.in-Some.entry p c.in-Put.side (subst (λ (v : Version). Put c.in-Put.side ≡ room (passes_refill sides.version_stamp sides.version_base v.stamp (in_order sides.version_stamp c.in-Some.entry.versions)) (side_for sides.version_stamp never c.in-Some.entry.versions)) c.version.ensures c.in-Put.ensures.room) in
-    record {
-      tied = c.put_in.ensures.tied;
-      decided = λ down. absurd (down refl);
-      ready = down-refill g.D.Disk.tells (g.D.Disk.image c.put_in.new.cells.disk) c.put_in.new.cells.geometry c.put_in.new.cells.fence (held_by s.index.entries s.cells.heads) (held_by c.put_in.new.index.entries c.put_in.new.cells.heads)
-          (λ i. held_by (c.in-Err.ensures.index i).entries (c.in-Err.ensures.heads i)) c.args.head.now.key (in_order stamp_of (put_at (sides_in s.cells.heads c.in-Some.entry.cell) c.in-Put.side (Some (record_of c.args.head.now)))) c.in-Err.ensures.waits
-          (record_of c.args.head.now) c.told.result c.told.ensures put.0 put.1;
-    }
+pub returns-clause-spends : goal.returns-clause-spends
+returns-clause-spends g c =
+    let n = c.args.self.now in
+    subst (λ (used : Option Bool). Spends 4 used (g.D.Disk.meter n.disk) (g.D.Disk.meter c.store.new.self.disk)) (used-refill c.store.result ∙ ap refill_used (sym c.refill_answer.ensures)) c.store.ensures.spends

@@ -3,7 +3,7 @@ use Rattle.std.proofs.Common.{ℕ, List, refl, sym, subst}
 use Rattle.rz_slots.specs.declared.geometry.Geometry.{Geometry}
 use Rattle.rz_slots.specs.Open.{Finds}
 use Rattle.rz_node.specs.Kept.{IsTied}
-use Rattle.rz_node.proofs.Shows.{shows-found}
+use Rattle.rz_node.proofs.HeldOnDisk.{held-found}
 use Rattle.rz_node.proofs.node.Node.reopen.Goals as goal
 
 pub invariant_of-result : goal.invariant_of-result
@@ -12,6 +12,6 @@ invariant_of-result g c = record { tied = c.index_of-index.ensures; decided = λ
 pub returns-in-Ok-reopen-clause-shows : goal.returns-in-Ok-reopen-clause-shows
 returns-in-Ok-reopen-clause-shows g c told records stands =
     let n = c.in-Ok-reopen.cells in
-    shows-found c.args.geometry n.fence n.fence (g.D.Disk.text n.disk) n.heads c.index_of-index.result records
+    held-found c.args.geometry n.fence n.fence (g.D.Disk.text n.disk) n.heads c.index_of-index.result records
     (subst (λ (y : Geometry). IsTied y.cells n.heads c.index_of-index.result) c.in-Ok-reopen.ensures.geometry c.index_of-index.ensures)
     (subst (λ (t : List ℕ). Finds c.args.geometry t n.fence n.heads) (sym c.in-Ok-reopen.ensures.text) (c.in-Ok-reopen.ensures.found told)) stands

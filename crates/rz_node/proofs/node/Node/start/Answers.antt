@@ -16,7 +16,7 @@ use Rattle.rz_node.specs.Kept.{held_by, IsTied}
 use Rattle.rz_node.specs.View.{held_in, state_of}
 use Rattle.rz_node.specs.DownDisk.{has_taken}
 use Rattle.rz_node.proofs.AfterChange.{branch}
-use Rattle.rz_node.proofs.Shows.{shows-found}
+use Rattle.rz_node.proofs.HeldOnDisk.{held-found}
 use Rattle.rz_node.proofs.Spent.{took-as}
 use Rattle.rz_node.proofs.Starts.{ready-down, down-ready, started, down-stands, some-taken}
 use Rattle.rz_node.proofs.Views.{state-same, branch-along, opened-along, stopped-along}
@@ -37,7 +37,7 @@ pub returns-in-Ok-open_again-clause-shows : goal.returns-in-Ok-open_again-clause
 returns-in-Ok-open_again-clause-shows g c told records stands =
     let s = c.self.inside in
     let n = c.open_again.new.self in
-    shows-found n.geometry n.fence n.fence (g.D.Disk.text n.disk) n.heads c.index_of.result records c.index_of.ensures
+    held-found n.geometry n.fence n.fence (g.D.Disk.text n.disk) n.heads c.index_of.result records c.index_of.ensures
     (subst (λ (t : List ℕ). Finds n.geometry t n.fence n.heads) (sym c.open_again.ensures.text) (subst (λ (y : Geometry). Finds y (g.D.Disk.text s.cells.disk) n.fence n.heads) (sym c.open_again.ensures.geometry) (c.in-Ok-open_again.ensures.found told))) stands
 
 pub returns-in-Ok-open_again-clause-branch : goal.returns-in-Ok-open_again-clause-branch
@@ -50,7 +50,7 @@ returns-in-Ok-open_again-clause-branch g c told =
     let at : IsBranch s.cells.geometry s.cells.fence (g.D.Disk.text n.disk) s.undecided (held_by s.index.entries s.cells.heads) c.has_taken-took.result =
     branch s.cells.geometry s.cells.fence (g.D.Disk.text n.disk) s.undecided (held_by s.index.entries s.cells.heads) (held_by c.index_of.result.entries n.heads) c.has_taken-took.result down.told
     (c.has_taken-took.ensures n.geometry.cells n.heads c.index_of.ensures)
-    (λ records stands. shows-found s.cells.geometry n.fence s.cells.fence (g.D.Disk.text n.disk) n.heads c.index_of.result records tied
+    (λ records stands. held-found s.cells.geometry n.fence s.cells.fence (g.D.Disk.text n.disk) n.heads c.index_of.result records tied
     (subst (λ (t : List ℕ). Finds s.cells.geometry t n.fence n.heads) (sym c.open_again.ensures.text) (c.in-Ok-open_again.ensures.found told)) stands) in
     branch-along _ _ (g.D.Disk.text n.disk) c.has_taken-took.result c.self.view_is
     (subst (λ (p : Phase). IsBranch s.cells.geometry s.cells.fence (g.D.Disk.text n.disk) s.undecided (held_in p s.index.entries s.cells.heads) c.has_taken-took.result) (sym c.in-Down.is) at)

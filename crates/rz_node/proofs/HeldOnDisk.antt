@@ -1,4 +1,4 @@
--- What an index shows is what the text stands for.
+-- What an index shows is held on the disk whose text stands for it.
 use Rattle.std.proofs.Common.{◌≡◌, ◌≢◌, ⊎_elim, ℕ, ◌+◌, ◌*◌, ◌/◌, ◌<◌, ◌≤◌, Bool, true, false, cond, List, [], ◌∷◌, length, Option, Some, None, refl, sym, ◌∙◌, ap, subst, arith, eq-eqb}
 use Rattle.std.specs.Prelude.{◌==◌, nat_lt}
 use Rattle.std.specs.Option.{option_map}
@@ -19,7 +19,7 @@ use Rattle.rz_slots.specs.Held.{Records, Made, in_cell, heads_of, head_in}
 use Rattle.rz_slots.specs.Stands.{StandsFor}
 use Rattle.rz_slots.specs.Open.{Finds}
 use Rattle.rz_node.specs.Kept.{sides_in, records_in, held_by, IsShown, IsTied}
-use Rattle.rz_node.specs.HeldOnDisk.{Falls, Shows}
+use Rattle.rz_node.specs.HeldOnDisk.{Falls, IsHeldOnDisk}
 use Rattle.rz_node.proofs.Tied.{get-held, held-shown, held-not}
 use Rattle.rz_node.proofs.Places.{two-cells, held-key}
 use Rattle.rz_node.proofs.Keeps.{sides-differ}
@@ -133,8 +133,8 @@ module _ (pairs : ℕ) (cells : List (Option Rec)) (index : Indexed) (tied : IsT
       by_zero o is true has_it = has-it a (2 * e.cell) (omega arith) p has_it
       by_zero o is false away = by_one away (has stamp_of (option_map record_of b) stamp) refl
 
-  shows-same : (key : Key) (stamp : ℕ) → found stamp (held_of (held_by index.entries heads) key) ≡ option_map (λ (r : Rec). record_of r.head) (records key stamp)
-  shows-same key stamp = go (maps.get index.entries key) refl
+  held-same : (key : Key) (stamp : ℕ) → found stamp (held_of (held_by index.entries heads) key) ≡ option_map (λ (r : Rec). record_of r.head) (records key stamp)
+  held-same key stamp = go (maps.get index.entries key) refl
     where
       go : (o : Option Entry) → maps.get index.entries key ≡ o → found stamp (held_of (held_by index.entries heads) key) ≡ option_map (λ (r : Rec). record_of r.head) (records key stamp)
       go None none = ap (found stamp) (held-not index.entries heads key none) ∙ sym (record-none key stamp (λ cell h is named stamped.
@@ -144,8 +144,8 @@ module _ (pairs : ℕ) (cells : List (Option Rec)) (index : Indexed) (tied : IsT
           ap (found stamp) (held-shown index.entries heads key e there) ∙ found-ordered stamp (sides_in heads e.cell).zero (sides_in heads e.cell).one
           ∙ found-two key stamp e there (in_cell heads (2 * e.cell)) (in_cell heads (2 * e.cell + 1)) refl refl
 
-  shows-whole : IsWhole (held_by index.entries heads)
-  shows-whole key is = go (maps.get index.entries key) refl (sym (get-held index.entries heads key) ∙ is)
+  held-whole : IsWhole (held_by index.entries heads)
+  held-whole key is = go (maps.get index.entries key) refl (sym (get-held index.entries heads key) ∙ is)
     where
       the-list : (xs ys : List Held) → Some xs ≡ Some ys → xs ≡ ys
       the-list xs ys is = cc
@@ -154,8 +154,8 @@ module _ (pairs : ℕ) (cells : List (Option Rec)) (index : Indexed) (tied : IsT
       go None none is = let never : None ≡ Some [] = sym (ap (option_map (λ (e : Entry). records_in heads e.cell)) none) ∙ is in absurd (cc)
       go (Some e) there is = (tied.shown key e there).some (the-list (records_in heads e.cell) [] (sym (ap (option_map (λ (e : Entry). records_in heads e.cell)) there) ∙ is))
 
-  shows-falls : (key : Key) → Falls (held_of (held_by index.entries heads) key)
-  shows-falls key = go (maps.get index.entries key) refl
+  held-falls : (key : Key) → Falls (held_of (held_by index.entries heads) key)
+  held-falls key = go (maps.get index.entries key) refl
     where
       go : (o : Option Entry) → maps.get index.entries key ≡ o → Falls (held_of (held_by index.entries heads) key)
       go None none = subst Falls (sym (held-not index.entries heads key none)) tt
@@ -163,12 +163,12 @@ module _ (pairs : ℕ) (cells : List (Option Rec)) (index : Indexed) (tied : IsT
           subst Falls (sym (held-shown index.entries heads key e there))
           (falls-ordered (sides_in heads e.cell).zero (sides_in heads e.cell).one (sides-differ pairs heads index key e (held-key pairs heads index tied key e there) made.apart))
 
-  shows-made : Shows (held_by index.entries heads) records
-  shows-made = record { same = shows-same; whole = shows-whole; falls = shows-falls }
+  held-made : IsHeldOnDisk (held_by index.entries heads) records
+  held-made = record { same = held-same; whole = held-whole; falls = held-falls }
 
 -- where the heads are those of the text, what the index shows is what the text stands for
-pub shows-found : (g : Geometry) (fence its : ℕ) (text : List ℕ) (heads : List (Option Head)) (index : Indexed) (records : Records) → IsTied g.cells heads index → Finds g text fence heads → StandsFor g its text records → Shows (held_by index.entries heads) records
-shows-found g fence its text heads index records tied finds (cells, holds, made) =
+pub held-found : (g : Geometry) (fence its : ℕ) (text : List ℕ) (heads : List (Option Head)) (index : Indexed) (records : Records) → IsTied g.cells heads index → Finds g text fence heads → StandsFor g its text records → IsHeldOnDisk (held_by index.entries heads) records
+held-found g fence its text heads index records tied finds (cells, holds, made) =
     let same : heads ≡ heads_of cells = (finds its cells holds).1 in
-    subst (λ (hs : List (Option Head)). Shows (held_by index.entries hs) records) (sym same)
-    (shows-made g.cells cells index (subst (λ (hs : List (Option Head)). IsTied g.cells hs index) same tied) records made)
+    subst (λ (hs : List (Option Head)). IsHeldOnDisk (held_by index.entries hs) records) (sym same)
+    (held-made g.cells cells index (subst (λ (hs : List (Option Head)). IsTied g.cells hs index) same tied) records made)

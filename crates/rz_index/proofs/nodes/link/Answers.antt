@@ -1,8 +1,8 @@
 use Rattle.std.proofs.Common.{◌≡◌, set, sym, ap, ◌∙◌, refl}
 use Rattle.rz_index.specs.declared.nodes.Node.{Node}
-use Rattle.rz_index.proofs.Turns.{none}
+use Rattle.rz_index.proofs.Rotations.{none}
 use Rattle.rz_index.proofs.Standing.{joined, elsewhere, written, read, same-node}
-use Rattle.rz_index.proofs.nodes.hang.Goals as goal
+use Rattle.rz_index.proofs.nodes.link.Goals as goal
 
 pub returns-then-middle-row : goal.returns-then-middle-row
 returns-then-middle-row c = λ l r e parts h.

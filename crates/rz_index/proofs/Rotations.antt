@@ -1,8 +1,8 @@
--- Trees that are hung below nodes one after the other.
+-- Trees that are linked below nodes one after the other.
 use Rattle.std.proofs.Common.{◌≡◌, ℕ, ◌+◌, List, [], ◌∷◌, ◌++◌, Option, Some, None, sym, ap, subst, ◌∙◌, refl, append_assoc}
 use Rattle.rz_index.specs.declared.index.Entry.{Entry}
 use Rattle.rz_index.specs.declared.nodes.Node.{Node}
-use Rattle.rz_index.specs.Standing.{Part, Tree, Lone, times, HoldsBeside, Holds, Hangs, IsOpened, freed_part}
+use Rattle.rz_index.specs.Standing.{Part, Tree, Lone, times, HoldsBeside, Holds, Links, IsOpened, freed_part}
 use Rattle.rz_index.proofs.Standing.{swapped, emptied}
 
 -- a part comes before these
@@ -17,8 +17,8 @@ none p = 0
 abbrev pub Opens : List Node → (link left right : ℕ) → Type 0
 Opens row link left right = (entries : List Entry) (parts : List Part) → Holds row (Tree link entries ∷ parts) → IsOpened row link entries parts left right
 
-pub turned-right : (row one two : List Node) (left middle right outer inner high link : ℕ) → Opens row left outer inner → Hangs row one inner middle right high → Hangs one two outer left high link → Hangs row two left middle right link
-turned-right row one two left middle right outer inner high link opens first second = λ l r e parts h.
+pub rotated-right : (row one two : List Node) (left middle right outer inner high link : ℕ) → Opens row left outer inner → Links row one inner middle right high → Links one two outer left high link → Links row two left middle right link
+rotated-right row one two left middle right outer inner high link opens first second = λ l r e parts h.
     let o = opens l (Lone middle e ∷ Tree right r ∷ parts) h in
     let a = pulled row (Tree outer o.front ∷ Lone left o.middle ∷ Tree inner o.back ∷ Lone middle e ∷ []) (Tree right r) parts none o.holds in
     let b = pulled row (Tree right r ∷ Tree outer o.front ∷ Lone left o.middle ∷ Tree inner o.back ∷ []) (Lone middle e) parts none a in
@@ -29,8 +29,8 @@ turned-right row one two left middle right outer inner high link opens first sec
     let i = second o.front (o.back ++ e ∷ r) o.middle parts g in
     subst (λ (xs : List Entry). Holds two (Tree link xs ∷ parts)) (sym (ap (λ (xs : List Entry). xs ++ e ∷ r) o.all ∙ append_assoc o.front (o.middle ∷ o.back) (e ∷ r))) i
 
-pub turned-left : (row one two : List Node) (left middle right inner outer low link : ℕ) → Opens row right inner outer → Hangs row one left middle inner low → Hangs one two low right outer link → Hangs row two left middle right link
-turned-left row one two left middle right inner outer low link opens first second = λ l r e parts h.
+pub rotated-left : (row one two : List Node) (left middle right inner outer low link : ℕ) → Opens row right inner outer → Links row one left middle inner low → Links one two low right outer link → Links row two left middle right link
+rotated-left row one two left middle right inner outer low link opens first second = λ l r e parts h.
     let a = pulled row (Tree left l ∷ Lone middle e ∷ []) (Tree right r) parts none h in
     let o = opens r (Tree left l ∷ Lone middle e ∷ parts) a in
     let b = pulled row (Tree inner o.front ∷ Lone right o.middle ∷ Tree outer o.back ∷ Tree left l ∷ []) (Lone middle e) parts none o.holds in
@@ -40,9 +40,9 @@ turned-left row one two left middle right inner outer low link opens first secon
     subst (λ (xs : List Entry). Holds two (Tree link xs ∷ parts)) (append_assoc l (e ∷ o.front) (o.middle ∷ o.back) ∙ ap (λ (xs : List Entry). l ++ e ∷ xs) (sym o.all)) f
 
 -- the same where the inner side comes apart too
-pub turned-right-twice : (row one two three : List Node) (left middle right outer inner front back low high link : ℕ) → Opens row left outer inner → Opens row inner front back
-    → Hangs row one outer left front low → Hangs one two back middle right high → Hangs two three low inner high link → Hangs row three left middle right link
-turned-right-twice row one two three left middle right outer inner front back low high link opens again first second third = λ l r e parts h.
+pub rotated-right-twice : (row one two three : List Node) (left middle right outer inner front back low high link : ℕ) → Opens row left outer inner → Opens row inner front back
+    → Links row one outer left front low → Links one two back middle right high → Links two three low inner high link → Links row three left middle right link
+rotated-right-twice row one two three left middle right outer inner front back low high link opens again first second third = λ l r e parts h.
     let o = opens l (Lone middle e ∷ Tree right r ∷ parts) h in
     let a = pulled row (Tree outer o.front ∷ Lone left o.middle ∷ []) (Tree inner o.back) (Lone middle e ∷ Tree right r ∷ parts) none o.holds in
     let n = again o.back (Tree outer o.front ∷ Lone left o.middle ∷ Lone middle e ∷ Tree right r ∷ parts) a in
@@ -62,9 +62,9 @@ turned-right-twice row one two three left middle right outer inner front back lo
     (append_assoc o.front (o.middle ∷ n.front) (n.middle ∷ (n.back ++ e ∷ r)) ∙ ap (λ (xs : List Entry). o.front ++ o.middle ∷ xs) (sym (append_assoc n.front (n.middle ∷ n.back) (e ∷ r)) ∙ ap (λ (xs : List Entry). xs ++ e ∷ r) (sym n.all))
     ∙ sym (append_assoc o.front (o.middle ∷ o.back) (e ∷ r)) ∙ ap (λ (xs : List Entry). xs ++ e ∷ r) (sym o.all)) p
 
-pub turned-left-twice : (row one two three : List Node) (left middle right inner outer front back low high link : ℕ) → Opens row right inner outer → Opens row inner front back
-    → Hangs row one left middle front low → Hangs one two back right outer high → Hangs two three low inner high link → Hangs row three left middle right link
-turned-left-twice row one two three left middle right inner outer front back low high link opens again first second third = λ l r e parts h.
+pub rotated-left-twice : (row one two three : List Node) (left middle right inner outer front back low high link : ℕ) → Opens row right inner outer → Opens row inner front back
+    → Links row one left middle front low → Links one two back right outer high → Links two three low inner high link → Links row three left middle right link
+rotated-left-twice row one two three left middle right inner outer front back low high link opens again first second third = λ l r e parts h.
     let a = pulled row (Tree left l ∷ Lone middle e ∷ []) (Tree right r) parts none h in
     let o = opens r (Tree left l ∷ Lone middle e ∷ parts) a in
     let n = again o.front (Lone right o.middle ∷ Tree outer o.back ∷ Tree left l ∷ Lone middle e ∷ parts) o.holds in
