@@ -111,18 +111,23 @@ impl Tree {
         }
     }
 
+    // The empty directory at a path with its number, or why there is none.
+    pub(crate) fn empty_directory_at(&self, path: &Path) -> Result<(u128, &Inode), TreeFault>
+        ensures found { IfOk result (λ p. Some (found_of p.0 p.1.now) ≡ found_at self.now path.now) }
+        ensures fault { result_err result ≡ first_of (walk self.now path.now ∷ absent self.now path.now ∷ not_dir self.now path.now ∷ not_empty self.now path.now ∷ []) }
+    {
+        let found = self.directory_at(path)?;
+        match self.not_empty(path) {
+            None => Ok(found),
+            Some(fault) => Err(fault),
+        }
+    }
+
     // Why there is no object at a path.
     pub(crate) fn missing(&self, path: &Path) -> Option<TreeFault>
         ensures { result ≡ first_of (walk self.now path.now ∷ absent self.now path.now ∷ []) }
     {
         self.object_at(path).err()
-    }
-
-    // Why there is no directory at a path.
-    pub(crate) fn no_list(&self, path: &Path) -> Option<TreeFault>
-        ensures { result ≡ first_of (walk self.now path.now ∷ absent self.now path.now ∷ not_dir self.now path.now ∷ []) }
-    {
-        self.directory_at(path).err()
     }
 
     // Why no object can be made at a path.
@@ -183,16 +188,6 @@ impl Tree {
             Some(links) => too_many(links),
             None => None,
         }
-    }
-
-    // Why there is no empty directory at a path.
-    pub(crate) fn no_removal(&self, path: &Path) -> Option<TreeFault>
-        ensures { result ≡ first_of (walk self.now path.now ∷ absent self.now path.now ∷ not_dir self.now path.now ∷ not_empty self.now path.now ∷ []) }
-    {
-        if let Some(fault) = self.no_list(path) {
-            return Some(fault);
-        }
-        self.not_empty(path)
     }
 
     // Whether there are names right under a path.

@@ -74,7 +74,7 @@ impl Tree {
         let Some(path) = read(self.alloc, text)? else {
             return Ok(TreeReply::Refused(TreeFault::BadName));
         };
-        if let Some(fault) = self.no_list(&path) {
+        if let Err(fault) = self.directory_at(&path) {
             return Ok(TreeReply::Refused(fault));
         }
         Ok(TreeReply::Names(self.listing(&path)?))
