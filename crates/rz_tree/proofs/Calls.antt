@@ -10,11 +10,11 @@ use Rattle.std.specs.FinMap.{FinMap}
 use Rattle.rz_events.specs.declared.tree.TreeFault.TheVariants as fault
 use Rattle.rz_export_model.specs.Firsts.{first_of, given_if}
 use Rattle.rz_export_model.specs.Paths.{Name, Path, path_cmp, paths_total, exact_paths, above, is_root, begins_with, is_below}
-use Rattle.rz_export_model.specs.Tree.{Tree, Object, Found, found_at, is_at, is_dir, names_under, links_of, paths_to, moved}
+use Rattle.rz_export_model.specs.Tree.{Tree, Object, Found, found_at, is_at, is_dir, is_file, info_of, names_under, links_of, paths_to, moved}
 use Rattle.rz_export_model.specs.Refusals.{walk, absent, present, dir, not_dir, not_empty, too_many_links, into_itself, not_replaceable, is_same_object}
-use Rattle.rz_export_model.specs.TreeCalls.{without_name, renamed}
+use Rattle.rz_export_model.specs.TreeCalls.{without_name, renamed, last_name_of}
 use Rattle.rz_tree.specs.declared.inodes.Inode.{Inode}
-use Rattle.rz_tree.specs.Inodes.{Table, object_of, objects_of}
+use Rattle.rz_tree.specs.Inodes.{Table, object_of, found_of, objects_of}
 use Rattle.rz_tree.specs.Trees.{tree_of, IsTree, IsKept}
 use Rattle.rz_tree.proofs.Keys.{not_none, false-true, held, true-or-false, apart}
 use Rattle.rz_tree.proofs.Tables.{get-objects}
@@ -113,6 +113,21 @@ without-none t q none = ap (λ o. option_map_or (λ (f : Found). (let s : Tree =
 pub name_found : (t : Tree) (p : Path) (f : Option ℕ) → maps.get t.names p ≡ f → is_none (option_and_then (λ n. option_map (λ y. (let x : Found = record { fid = n; object = y } in x)) (maps.get t.objects n)) f) ≡ false → is_some f ≡ true
 name_found t p None at h = absurd (false-true (sym h))
 name_found t p (Some fid) at h = refl
+
+-- an object that is found at a path has the number there
+pub number-found : (t : Tree) (path : Path) (f : Found) → Some f ≡ found_at t path → maps.get t.names path ≡ Some f.fid
+number-found t path f is = go (maps.get t.names path) is
+  where
+    go : (n : Option ℕ) → Some f ≡ option_and_then (λ fid. option_map (λ o. (let x : Found = record { fid = fid; object = o } in x)) (maps.get t.objects fid)) n → n ≡ Some f.fid
+    go None h = absurd (not_none f h)
+    go (Some fid) h = ap (λ (x : Found). Some x.fid) (from-map (λ (o : Object). (let x : Found = record { fid = fid; object = o } in x)) (maps.get t.objects fid) f (sym h)).2
+
+-- whether the path at which an object is found is its last one
+pub last-found : (t : Tree) (path : Path) (fid : ℕ) (i : Inode) → Some (found_of fid i) ≡ found_at t path → i.links ≡ links_of t (found_of fid i)
+    → given_if (is_file i.kind && (i.links == 1)) (info_of (found_of fid i)) ≡ last_name_of t path
+last-found t path fid i is links =
+    ap (λ n. given_if (is_file i.kind && (n == 1)) (info_of (found_of fid i))) links
+    ∙ ap (option_and_then (λ f. given_if (is_file f.object.kind && (links_of t f == 1)) (info_of f))) is
 
 module _ (t : Tree) (rules : IsTree t) (p q : Path) (free : first_of (walk t p ∷ absent t p ∷ into_itself t p q ∷ walk t q ∷ not_replaceable t p q ∷ []) ≡ None)
     (two : is_same_object t p q ≡ false) (from : is_root p ≡ false) where

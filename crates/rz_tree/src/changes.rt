@@ -1,14 +1,16 @@
 //! Calls that change attributes, or add or take away a name.
 
-ghost use Rattle.std.specs.Prelude.{◌≡◌, ◌∷◌, false, [], None, IfOk, OnOk, OnErr, IsSome, IsTrue};
-ghost use Rattle.rz_export_model.specs.Firsts.{first_of};
+ghost use Rattle.std.specs.Prelude.{◌≡◌, ◌==◌, ◌&&◌, ◌∷◌, false, [], Some, None, IfOk, OnOk, OnErr, IsTrue};
+ghost use Rattle.rz_export_model.specs.Firsts.{first_of, given_if};
 ghost use Rattle.rz_export_model.specs.Paths.{is_root};
 ghost use Rattle.rz_export_model.specs.Refusals.{walk, absent, present, dir, too_many_links};
-ghost use Rattle.rz_export_model.specs.Tree.{names_under, found_at, is_at, is_dir};
+ghost use Rattle.rz_export_model.specs.Tree.{names_under, fid_at, is_at, is_dir, is_file, info_of, with_object};
 ghost use Rattle.rz_export_model.specs.TreeCalls.{reply_to, tree_after, without_name, last_name_of};
 ghost use Rattle.rz_events.specs.declared.tree.TreeCall.{TreeCall};
-ghost use Rattle.rz_tree.specs.Calls.{proper_path_of, with_name_of, with_attributes_at};
+ghost use Rattle.rz_tree.specs.Calls.{proper_path_of, with_name_of};
+ghost use Rattle.rz_tree.specs.Inodes.{found_of};
 
+use crate::inodes::Inode;
 use crate::looks::read;
 use crate::tree::Tree;
 use rz_events::{FileInfo, Kind, Text, TreeFault, TreeReply};
@@ -30,11 +32,13 @@ impl Tree {
         let Some(path) = read(self.alloc, text)? else {
             return Ok(TreeReply::Refused(TreeFault::BadName));
         };
-        if let Some(fault) = self.missing(&path) {
-            return Ok(TreeReply::Refused(fault));
+        match self.object_at(&path) {
+            Err(fault) => Ok(TreeReply::Refused(fault)),
+            Ok((fid, _)) => {
+                self.change_attributes(fid, mode, mtime);
+                Ok(TreeReply::Plain)
+            }
         }
-        self.change_attributes(&path, mode, mtime);
-        Ok(TreeReply::Plain)
     }
 
     /// Gives the object at a path one more path.
@@ -65,12 +69,14 @@ impl Tree {
         let Some(path) = read_below(self.alloc, text)? else {
             return Ok(TreeReply::Refused(TreeFault::BadName));
         };
-        if let Some(fault) = self.no_leaf(&path) {
-            return Ok(TreeReply::Refused(fault));
+        match self.leaf_at(&path) {
+            Err(fault) => Ok(TreeReply::Refused(fault)),
+            Ok((fid, inode)) => {
+                let gone = last_file(fid, inode);
+                self.take_name(&path, fid);
+                Ok(TreeReply::Gone(gone))
+            }
         }
-        let gone = self.last_name(&path);
-        self.take_name(&path);
-        Ok(TreeReply::Gone(gone))
     }
 
     /// Takes an empty directory away.
@@ -82,20 +88,20 @@ impl Tree {
         let Some(path) = read_below(self.alloc, text)? else {
             return Ok(TreeReply::Refused(TreeFault::BadName));
         };
-        if let Some(fault) = self.no_removal(&path) {
-            return Ok(TreeReply::Refused(fault));
+        match self.empty_directory_at(&path) {
+            Err(fault) => Ok(TreeReply::Refused(fault)),
+            Ok((fid, _)) => {
+                self.take_name(&path, fid);
+                Ok(TreeReply::Plain)
+            }
         }
-        self.take_name(&path);
-        Ok(TreeReply::Plain)
     }
 
-    // Sets the mode and the time of the object at a path.
-    fn change_attributes(&mut self, path: &Path, mode: u16, mtime: u64)
-        ensures { self.new ≡ with_attributes_at self.old path.now mode mtime }
+    // Sets the mode and the time of an object.
+    fn change_attributes(&mut self, fid: u128, mode: u16, mtime: u64)
+        ensures { self.new ≡ with_object self.old fid (λ o. record o { mode = mode; mtime = mtime }) }
     {
-        if let Some(fid) = self.names.find(path, path.names().len()) {
-            self.inodes.set_attributes(fid, mode, mtime);
-        }
+        self.inodes.set_attributes(fid, mode, mtime);
     }
 
     // Adds a path to the object at another one, where nothing forbids it.
@@ -116,17 +122,15 @@ impl Tree {
         Ok(())
     }
 
-    // Takes away a path that is no full directory's, and with its last path the object.
-    fn take_name(&mut self, path: &Path)
-        requires there { IsSome (found_at self.old path.now) }
+    // Takes away an object's path that is no full directory's, and with its last path the object.
+    fn take_name(&mut self, path: &Path, fid: u128)
+        requires there { fid_at self.old path.now ≡ Some fid }
         requires below { is_root path.now ≡ false }
         requires last { IsTrue (is_at self.old path.now is_dir) → names_under self.old.names path.now ≡ [] }
         ensures { self.new ≡ without_name self.old path.now }
     {
-        if let Some(fid) = self.names.find(path, path.names().len()) {
-            self.names.remove(path);
-            self.inodes.release(fid);
-        }
+        self.names.remove(path);
+        self.inodes.release(fid);
     }
 
     // The file at a path, where no other path leads to it.
@@ -134,10 +138,17 @@ impl Tree {
         ensures { result ≡ last_name_of self.now path.now }
     {
         let (fid, inode) = self.found(path)?;
-        match inode.kind {
-            Kind::File if inode.links == 1 => Some(inode.info(fid)),
-            _ => None,
-        }
+        last_file(fid, inode)
+    }
+}
+
+// An object, where it is a file and one path alone leads to it.
+fn last_file(fid: u128, inode: &Inode) -> Option<FileInfo>
+    ensures { result ≡ given_if (is_file inode.now.kind && (inode.now.links == 1)) (info_of (found_of fid inode.now)) }
+{
+    match inode.kind {
+        Kind::File if inode.links == 1 => Some(inode.info(fid)),
+        _ => None,
     }
 }
 

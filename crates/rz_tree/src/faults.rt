@@ -1,10 +1,14 @@
 //! Why calls are refused, in the order in which the reasons count.
 
-ghost use Rattle.std.specs.Prelude.{◌≡◌, ◌-◌, ◌^◌, ◌≤◌, ◌||◌, ◌∷◌, [], nat_lt, nat_le, length, take};
+ghost use Rattle.std.specs.Prelude.{◌≡◌, ◌-◌, ◌^◌, ◌≤◌, ◌||◌, ◌∷◌, [], Some, IfOk, nat_lt, nat_le, length, take};
+ghost use Rattle.std.specs.Result.{result_err};
 ghost use Rattle.std.specs.FinMap as maps;
 ghost use Rattle.rz_export_model.specs.Firsts.{first_of, given_if};
+ghost use Rattle.rz_export_model.specs.Tree.{found_at, links_of};
 ghost use Rattle.rz_export_model.specs.Refusals.{walk, absent, present, no_directory, not_dir, dir, link, not_link, not_empty, too_many_links, can_not_make};
+ghost use Rattle.rz_tree.specs.Inodes.{found_of};
 
+use crate::inodes::Inode;
 use crate::tree::Tree;
 use rz_events::{Kind, TreeFault};
 use rz_names::Path;
@@ -42,57 +46,88 @@ impl Tree {
         }
     }
 
+    // The object at a path with its number, or why there is none.
+    pub(crate) fn object_at(&self, path: &Path) -> Result<(u128, &Inode), TreeFault>
+        ensures found { IfOk result (λ p. Some (found_of p.0 p.1.now) ≡ found_at self.now path.now) }
+        ensures links { IfOk result (λ p. p.1.now.links ≡ links_of self.now (found_of p.0 p.1.now)) }
+        ensures fault { result_err result ≡ first_of (walk self.now path.now ∷ absent self.now path.now ∷ []) }
+    {
+        if let Some(fault) = self.walk(path) {
+            return Err(fault);
+        }
+        match self.found(path) {
+            None => Err(TreeFault::NoEntry),
+            Some(found) => Ok(found),
+        }
+    }
+
+    // The file at a path with its number, or why there is none.
+    pub(crate) fn file_at(&self, path: &Path) -> Result<(u128, &Inode), TreeFault>
+        ensures found { IfOk result (λ p. Some (found_of p.0 p.1.now) ≡ found_at self.now path.now) }
+        ensures fault { result_err result ≡ first_of (walk self.now path.now ∷ absent self.now path.now ∷ dir self.now path.now ∷ link self.now path.now ∷ []) }
+    {
+        let (fid, inode) = self.object_at(path)?;
+        match inode.kind {
+            Kind::File => Ok((fid, inode)),
+            Kind::Dir => Err(TreeFault::IsDir),
+            Kind::Link => Err(TreeFault::IsLink),
+        }
+    }
+
+    // The symbolic link at a path with its number, or why there is none.
+    pub(crate) fn link_at(&self, path: &Path) -> Result<(u128, &Inode), TreeFault>
+        ensures found { IfOk result (λ p. Some (found_of p.0 p.1.now) ≡ found_at self.now path.now) }
+        ensures fault { result_err result ≡ first_of (walk self.now path.now ∷ absent self.now path.now ∷ not_link self.now path.now ∷ []) }
+    {
+        let (fid, inode) = self.object_at(path)?;
+        match inode.kind {
+            Kind::Link => Ok((fid, inode)),
+            Kind::File | Kind::Dir => Err(TreeFault::NotLink),
+        }
+    }
+
+    // The file or symbolic link at a path with its number, or why there is none.
+    pub(crate) fn leaf_at(&self, path: &Path) -> Result<(u128, &Inode), TreeFault>
+        ensures found { IfOk result (λ p. Some (found_of p.0 p.1.now) ≡ found_at self.now path.now) }
+        ensures links { IfOk result (λ p. p.1.now.links ≡ links_of self.now (found_of p.0 p.1.now)) }
+        ensures fault { result_err result ≡ first_of (walk self.now path.now ∷ absent self.now path.now ∷ dir self.now path.now ∷ []) }
+    {
+        let (fid, inode) = self.object_at(path)?;
+        match inode.kind {
+            Kind::Dir => Err(TreeFault::IsDir),
+            Kind::File | Kind::Link => Ok((fid, inode)),
+        }
+    }
+
+    // The directory at a path with its number, or why there is none.
+    pub(crate) fn directory_at(&self, path: &Path) -> Result<(u128, &Inode), TreeFault>
+        ensures found { IfOk result (λ p. Some (found_of p.0 p.1.now) ≡ found_at self.now path.now) }
+        ensures fault { result_err result ≡ first_of (walk self.now path.now ∷ absent self.now path.now ∷ not_dir self.now path.now ∷ []) }
+    {
+        let (fid, inode) = self.object_at(path)?;
+        match inode.kind {
+            Kind::Dir => Ok((fid, inode)),
+            Kind::File | Kind::Link => Err(TreeFault::NotDir),
+        }
+    }
+
+    // The empty directory at a path with its number, or why there is none.
+    pub(crate) fn empty_directory_at(&self, path: &Path) -> Result<(u128, &Inode), TreeFault>
+        ensures found { IfOk result (λ p. Some (found_of p.0 p.1.now) ≡ found_at self.now path.now) }
+        ensures fault { result_err result ≡ first_of (walk self.now path.now ∷ absent self.now path.now ∷ not_dir self.now path.now ∷ not_empty self.now path.now ∷ []) }
+    {
+        let found = self.directory_at(path)?;
+        match self.not_empty(path) {
+            None => Ok(found),
+            Some(fault) => Err(fault),
+        }
+    }
+
     // Why there is no object at a path.
     pub(crate) fn missing(&self, path: &Path) -> Option<TreeFault>
         ensures { result ≡ first_of (walk self.now path.now ∷ absent self.now path.now ∷ []) }
     {
-        if let Some(fault) = self.walk(path) {
-            return Some(fault);
-        }
-        match self.found(path) {
-            None => Some(TreeFault::NoEntry),
-            Some(_) => None,
-        }
-    }
-
-    // Why there is no directory at a path.
-    pub(crate) fn no_list(&self, path: &Path) -> Option<TreeFault>
-        ensures { result ≡ first_of (walk self.now path.now ∷ absent self.now path.now ∷ not_dir self.now path.now ∷ []) }
-    {
-        if let Some(fault) = self.missing(path) {
-            return Some(fault);
-        }
-        match self.kind_at(path) {
-            Some(Kind::Dir) => None,
-            _ => Some(TreeFault::NotDir),
-        }
-    }
-
-    // Why there is no symbolic link at a path.
-    pub(crate) fn no_target(&self, path: &Path) -> Option<TreeFault>
-        ensures { result ≡ first_of (walk self.now path.now ∷ absent self.now path.now ∷ not_link self.now path.now ∷ []) }
-    {
-        if let Some(fault) = self.missing(path) {
-            return Some(fault);
-        }
-        match self.kind_at(path) {
-            Some(Kind::Link) => None,
-            _ => Some(TreeFault::NotLink),
-        }
-    }
-
-    // Why there is no file at a path.
-    pub(crate) fn no_file(&self, path: &Path) -> Option<TreeFault>
-        ensures { result ≡ first_of (walk self.now path.now ∷ absent self.now path.now ∷ dir self.now path.now ∷ link self.now path.now ∷ []) }
-    {
-        if let Some(fault) = self.missing(path) {
-            return Some(fault);
-        }
-        match self.kind_at(path) {
-            Some(Kind::Dir) => Some(TreeFault::IsDir),
-            Some(Kind::Link) => Some(TreeFault::IsLink),
-            _ => None,
-        }
+        self.object_at(path).err()
     }
 
     // Why no object can be made at a path.
@@ -125,13 +160,7 @@ impl Tree {
     pub(crate) fn no_leaf(&self, path: &Path) -> Option<TreeFault>
         ensures { result ≡ first_of (walk self.now path.now ∷ absent self.now path.now ∷ dir self.now path.now ∷ []) }
     {
-        if let Some(fault) = self.missing(path) {
-            return Some(fault);
-        }
-        match self.kind_at(path) {
-            Some(Kind::Dir) => Some(TreeFault::IsDir),
-            _ => None,
-        }
+        self.leaf_at(path).err()
     }
 
     // Why the object at a path can't get another one.
@@ -159,16 +188,6 @@ impl Tree {
             Some(links) => too_many(links),
             None => None,
         }
-    }
-
-    // Why there is no empty directory at a path.
-    pub(crate) fn no_removal(&self, path: &Path) -> Option<TreeFault>
-        ensures { result ≡ first_of (walk self.now path.now ∷ absent self.now path.now ∷ not_dir self.now path.now ∷ not_empty self.now path.now ∷ []) }
-    {
-        if let Some(fault) = self.no_list(path) {
-            return Some(fault);
-        }
-        self.not_empty(path)
     }
 
     // Whether there are names right under a path.

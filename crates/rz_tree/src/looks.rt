@@ -19,12 +19,9 @@ impl Tree {
         let Some(path) = read(self.alloc, text)? else {
             return Ok(TreeReply::Refused(TreeFault::BadName));
         };
-        if let Some(fault) = self.missing(&path) {
-            return Ok(TreeReply::Refused(fault));
-        }
-        match self.found(&path) {
-            None => Ok(TreeReply::Refused(TreeFault::NoEntry)),
-            Some((fid, inode)) => Ok(TreeReply::Found {
+        match self.object_at(&path) {
+            Err(fault) => Ok(TreeReply::Refused(fault)),
+            Ok((fid, inode)) => Ok(TreeReply::Found {
                 fid,
                 kind: inode.kind,
             }),
@@ -38,12 +35,9 @@ impl Tree {
         let Some(path) = read(self.alloc, text)? else {
             return Ok(TreeReply::Refused(TreeFault::BadName));
         };
-        if let Some(fault) = self.missing(&path) {
-            return Ok(TreeReply::Refused(fault));
-        }
-        match self.found(&path) {
-            None => Ok(TreeReply::Refused(TreeFault::NoEntry)),
-            Some((fid, inode)) => Ok(TreeReply::Attr(inode.attributes(fid))),
+        match self.object_at(&path) {
+            Err(fault) => Ok(TreeReply::Refused(fault)),
+            Ok((fid, inode)) => Ok(TreeReply::Attr(inode.attributes(fid))),
         }
     }
 
@@ -54,12 +48,9 @@ impl Tree {
         let Some(path) = read(self.alloc, text)? else {
             return Ok(TreeReply::Refused(TreeFault::BadName));
         };
-        if let Some(fault) = self.no_file(&path) {
-            return Ok(TreeReply::Refused(fault));
-        }
-        match self.found(&path) {
-            None => Ok(TreeReply::Refused(TreeFault::NoEntry)),
-            Some((fid, inode)) => Ok(TreeReply::File(inode.info(fid))),
+        match self.file_at(&path) {
+            Err(fault) => Ok(TreeReply::Refused(fault)),
+            Ok((fid, inode)) => Ok(TreeReply::File(inode.info(fid))),
         }
     }
 
@@ -70,12 +61,9 @@ impl Tree {
         let Some(path) = read(self.alloc, text)? else {
             return Ok(TreeReply::Refused(TreeFault::BadName));
         };
-        if let Some(fault) = self.no_target(&path) {
-            return Ok(TreeReply::Refused(fault));
-        }
-        match self.found(&path) {
-            None => Ok(TreeReply::Refused(TreeFault::NoEntry)),
-            Some((_, inode)) => Ok(TreeReply::Target(inode.target.copy(self.alloc)?)),
+        match self.link_at(&path) {
+            Err(fault) => Ok(TreeReply::Refused(fault)),
+            Ok((_, inode)) => Ok(TreeReply::Target(inode.target.copy(self.alloc)?)),
         }
     }
 
@@ -86,7 +74,7 @@ impl Tree {
         let Some(path) = read(self.alloc, text)? else {
             return Ok(TreeReply::Refused(TreeFault::BadName));
         };
-        if let Some(fault) = self.no_list(&path) {
+        if let Err(fault) = self.directory_at(&path) {
             return Ok(TreeReply::Refused(fault));
         }
         Ok(TreeReply::Names(self.listing(&path)?))

@@ -8,6 +8,7 @@ use Rattle.rz_export_model.specs.Tree.{Tree}
 use Rattle.rz_export_model.specs.Refusals.{walk, absent, not_dir, not_empty}
 use Rattle.rz_export_model.specs.TreeCalls.{without_name}
 use Rattle.rz_tree.specs.Calls.{proper_path_of}
+use Rattle.rz_tree.proofs.Calls.{number-found}
 use Rattle.rz_tree.proofs.Replies.{proper-some, proper-below, unreadable-refusal, path-refusal, reply-refused, tree-refused, reply-done, tree-done}
 use Rattle.rz_tree.proofs.tree.Tree.remove_directory.Goals as goal
 
@@ -25,17 +26,20 @@ returns-in_default-clause-ok c =
     let t = c.args.self.now in
     tree-refused t (call.Rmdir c.args.text.now) fault.BadName (unreadable-refusal c.args.text.now (others t) (sym c.in_ok-path.ensures ∙ c.in_default.is))
 
-pub returns-in-Some-no_removal-clause-reply : goal.returns-in-Some-no_removal-clause-reply
-returns-in-Some-no_removal-clause-reply c =
+pub returns-in-Err-clause-reply : goal.returns-in-Err-clause-reply
+returns-in-Err-clause-reply c =
     let t = c.args.self.now in
-    let f = c.in-Some-no_removal.fault in
-    reply-refused t (call.Rmdir c.args.text.now) f (path-refusal c.args.text.now (others t) c.in-Some.path (Some f) (sym c.in_ok-path.ensures ∙ c.in-Some.is) (sym c.no_removal.ensures ∙ c.in-Some-no_removal.is))
+    let f = c.in-Err.fault in
+    reply-refused t (call.Rmdir c.args.text.now) f (path-refusal c.args.text.now (others t) c.in-Some.path (Some f) (sym c.in_ok-path.ensures ∙ c.in-Some.is) (sym c.in-Err.ensures.fault))
 
-pub returns-in-Some-no_removal-clause-ok : goal.returns-in-Some-no_removal-clause-ok
-returns-in-Some-no_removal-clause-ok c =
+pub returns-in-Err-clause-ok : goal.returns-in-Err-clause-ok
+returns-in-Err-clause-ok c =
     let t = c.args.self.now in
-    let f = c.in-Some-no_removal.fault in
-    tree-refused t (call.Rmdir c.args.text.now) f (path-refusal c.args.text.now (others t) c.in-Some.path (Some f) (sym c.in_ok-path.ensures ∙ c.in-Some.is) (sym c.no_removal.ensures ∙ c.in-Some-no_removal.is))
+    let f = c.in-Err.fault in
+    tree-refused t (call.Rmdir c.args.text.now) f (path-refusal c.args.text.now (others t) c.in-Some.path (Some f) (sym c.in_ok-path.ensures ∙ c.in-Some.is) (sym c.in-Err.ensures.fault))
+
+pub take_name-requires-clause-there : goal.take_name-requires-clause-there
+take_name-requires-clause-there c = number-found c.args.self.now c.in-Some.path _ c.in-Ok.ensures.found
 
 pub take_name-requires-clause-below : goal.take_name-requires-clause-below
 take_name-requires-clause-below c = proper-below c.args.text.now c.in-Some.path (sym c.in_ok-path.ensures ∙ c.in-Some.is)
@@ -44,11 +48,11 @@ pub returns-clause-reply : goal.returns-clause-reply
 returns-clause-reply c =
     let t = c.args.self.now in
     let at : proper_path_of c.args.text.now ≡ Some c.in-Some.path = sym c.in_ok-path.ensures ∙ c.in-Some.is in
-    reply-done t (call.Rmdir c.args.text.now) (path-refusal c.args.text.now (others t) c.in-Some.path None at (sym c.no_removal.ensures ∙ c.in_default-no_removal.is))
+    reply-done t (call.Rmdir c.args.text.now) (path-refusal c.args.text.now (others t) c.in-Some.path None at (sym c.in-Ok.ensures.fault))
 
 pub returns-clause-ok : goal.returns-clause-ok
 returns-clause-ok c =
     let t = c.args.self.now in
     let at : proper_path_of c.args.text.now ≡ Some c.in-Some.path = sym c.in_ok-path.ensures ∙ c.in-Some.is in
     c.take_name.ensures ∙ ap (without_name t) (sym (proper-some c.args.text.now c.in-Some.path at).1)
-    ∙ tree-done t (call.Rmdir c.args.text.now) (path-refusal c.args.text.now (others t) c.in-Some.path None at (sym c.no_removal.ensures ∙ c.in_default-no_removal.is))
+    ∙ tree-done t (call.Rmdir c.args.text.now) (path-refusal c.args.text.now (others t) c.in-Some.path None at (sym c.in-Ok.ensures.fault))
