@@ -23,7 +23,7 @@ use Rattle.rz_node_model.specs.Versions.{IsAbove, Stands, IsPast, IsLesser, grea
 use Rattle.rz_core.specs.History.{Facts, Begun, Has, IsPlace, IsWriter}
 use Rattle.rz_core.specs.NodeWord.{phase, losses, last_fence, undecided, held, base_begun}
 use Rattle.rz_core.specs.ExportRows.{IsLess}
-use Rattle.rz_core.specs.Own.{since, before, is_next, gave, HasDistinct, IsListing}
+use Rattle.rz_core.specs.Own.{since, before, is_next, fetched_at, HasDistinct, IsListing}
 
 -- the pairs of cells of a node, of which each holds the records of one key
 abbrev pub cells_among : List NodeSpec → ℕ → ℕ
@@ -89,7 +89,7 @@ pub record KeepRow (v : Volume) (f : Facts) (w : List Event) (by : Actor) (node 
 pub record IsRebuilding (v : Volume) (f : Facts) (o : List Event) (by : Actor) (node fence : ℕ) (key : Key) (stamp position : ℕ) : Type 0 where
   pub replaced : (loss : ℕ) × Has (before is_next o) (e.Replace by node loss fence)
   pub next : (m : ℕ) × (l : Listed) × IsListing o by m key l × (l.published.stamp ≡ stamp)
-  pub enough : HasDistinct (inverse_of v.layout) (gave key stamp (since is_next o))
+  pub enough : HasDistinct (inverse_of v.layout) (fetched_at key stamp (since is_next o))
   pub place : IsPlace f key.fid position node
 
 -- what a rebuilder's record stands on, whatever is held: its fence is the node's own

@@ -64,12 +64,12 @@ is_end (e.Gave by number key part end) = not part
 is_end (e.Done by number answer) = true
 is_end _ = false
 
--- The positions that gave the record of a key with stamp s, by these events.
-abbrev pub gave : Key → ℕ → List Event → List ℕ
-gave key s [] = []
-gave key s (e.Fetch by node at position asked (Some r) ∷ o) =
-    cond (same_key key at && (asked == s)) (position ∷ gave key s o) (gave key s o)
-gave key s (_ ∷ o) = gave key s o
+-- The positions at which these events fetched the record of a key with stamp s.
+abbrev pub fetched_at : Key → ℕ → List Event → List ℕ
+fetched_at key s [] = []
+fetched_at key s (e.Fetch by node at position asked (Some r) ∷ o) =
+    cond (same_key key at && (asked == s)) (position ∷ fetched_at key s o) (fetched_at key s o)
+fetched_at key s (_ ∷ o) = fetched_at key s o
 
 -- each number is below the one before it, so they are distinct
 abbrev pub IsFalling : List ℕ → Type 0

@@ -23,7 +23,7 @@ use Rattle.rz_events.specs.declared.export.Asked.TheVariants as asked
 use Rattle.rz_events.specs.declared.events.Event.{Event}
 use Rattle.rz_events.specs.declared.events.Event.TheVariants as e
 use Rattle.rz_core.specs.History.{Facts, Begun}
-use Rattle.rz_core.specs.Own.{last, since, newest, is_begin, is_publish, is_look, is_next, is_recheck, is_export, gave, HasDistinct, IsListing}
+use Rattle.rz_core.specs.Own.{last, since, newest, is_begin, is_publish, is_look, is_next, is_recheck, is_export, fetched_at, HasDistinct, IsListing}
 use Rattle.rz_core.specs.Outcomes.{IsShort, IsEnough, whys, is_failure}
 
 -- Reads.
@@ -32,7 +32,7 @@ use Rattle.rz_core.specs.Outcomes.{IsShort, IsEnough, whys, is_failure}
 -- record since.
 pub record FoundRow (v : Volume) (f : Facts) (o : List Event) (by : Actor) (key : Key) (s : ℕ) (text : List ℕ) : Type 0 where
   pub looked : (p : Published) × (last is_look o ≡ Some (e.Look by key (Some p))) × (p.stamp ≡ s)
-  pub enough : HasDistinct (inverse_of v.layout) (gave key s (since is_look o))
+  pub enough : HasDistinct (inverse_of v.layout) (fetched_at key s (since is_look o))
   pub wrote : (b : Begun) × (f.wrote s ≡ Some b) × (b.text ≡ text)
 
 -- too few records came, and the export still told the stamp that the look was told

@@ -91,10 +91,7 @@ pub record MayBeEnrolled (s : Export) (node fence : ℕ) : Type 0 where
 -- the first part: the counters
 abbrev pub IsCounters : Part → Type 0
 IsCounters (part.Counters last made) = Unit {0}
-IsCounters (part.Object fid kind mode mtime size cid places target) = ⊥
-IsCounters (part.Name path fid) = ⊥
-IsCounters (part.Block key latest published) = ⊥
-IsCounters (part.Enrolled node loss fence) = ⊥
+IsCounters _ = ⊥
 
 -- any later part
 abbrev pub MayBeNext : Export → Part → Type 0

@@ -20,7 +20,7 @@ use Rattle.rz_events.specs.declared.events.Event.{Event}
 use Rattle.rz_events.specs.declared.files.Published.{Published}
 use Rattle.rz_node_model.specs.Versions.{Stands}
 use Rattle.rz_core.specs.History.{Facts, Begun}
-use Rattle.rz_core.specs.Own.{is_recheck, since, gave, IsFalling, HasDistinct}
+use Rattle.rz_core.specs.Own.{is_recheck, since, fetched_at, IsFalling, HasDistinct}
 use Rattle.rz_play_laws.proofs.Words.{skip-since}
 use Rattle.rz_core.specs.Outcomes.{IsShort, seens, seen_at, is_held, is_asked}
 use Rattle.rz_core.proofs.Extends.{Extends}
@@ -202,8 +202,8 @@ module _ (v : Volume) (f g : Facts) (ext : Extends f g) (xs o : List Event) (sta
 
   module _ (here : (n : ℕ) → slice_get places next ≡ Some n → seen_at key t.stamp n (xs ++ since start o) ≡ w)
       (there : (q n : ℕ) → q ≢ next → slice_get places q ≡ Some n → seen_at key t.stamp n (xs ++ since start o) ≡ seen_at key t.stamp n (since start o))
-      (gives : (p : ℕ) → Stands p (gave key t.stamp (since start o)) → Stands p (gave key t.stamp (xs ++ since start o)))
-      (gives_it : is_held w ≡ true → Stands next (gave key t.stamp (xs ++ since start o))) (told : is_asked w ≡ true) where
+      (gives : (p : ℕ) → Stands p (fetched_at key t.stamp (since start o)) → Stands p (fetched_at key t.stamp (xs ++ since start o)))
+      (gives_it : is_held w ≡ true → Stands next (fetched_at key t.stamp (xs ++ since start o))) (told : is_asked w ≡ true) where
     table : set t.seen next w ≡ seens key t.stamp (since start (xs ++ o)) 0 places
     table =
         ap (λ ws. set ws next w) h.seen_is
@@ -216,17 +216,17 @@ module _ (v : Volume) (f g : Facts) (ext : Extends f g) (xs o : List Event) (sta
     read_here : get_or (set t.seen next w) next seen.NotAsked ≡ w
     read_here = get_or-set_same t.seen next w seen.NotAsked long
 
-    gave_now : (p : ℕ) → is_held (get_or (set t.seen next w) p seen.NotAsked) ≡ true → Stands p (gave key t.stamp (since start (xs ++ o)))
-    gave_now p held = subst (λ z. Stands p (gave key t.stamp z)) (sym later) (go (p == next) refl)
+    fetched_now : (p : ℕ) → is_held (get_or (set t.seen next w) p seen.NotAsked) ≡ true → Stands p (fetched_at key t.stamp (since start (xs ++ o)))
+    fetched_now p held = subst (λ z. Stands p (fetched_at key t.stamp z)) (sym later) (go (p == next) refl)
       where
-        go : (b : Bool) → (p == next) ≡ b → Stands p (gave key t.stamp (xs ++ since start o))
+        go : (b : Bool) → (p == next) ≡ b → Stands p (fetched_at key t.stamp (xs ++ since start o))
         go true at =
             let same : p ≡ next = eqb-true p next at in
             let mine : is_held (get_or (set t.seen next w) next seen.NotAsked) ≡ true = subst (λ z. is_held (get_or (set t.seen next w) z seen.NotAsked) ≡ true) same held in
-            subst (λ z. Stands z (gave key t.stamp (xs ++ since start o))) (sym same) (gives_it (sym (ap is_held read_here) ∙ mine))
+            subst (λ z. Stands z (fetched_at key t.stamp (xs ++ since start o))) (sym same) (gives_it (sym (ap is_held read_here) ∙ mine))
         go false at =
             let apart : p ≢ next = λ k. (let y : (p == next) ≡ true = eq-eqb p next k in cc) in
-            gives p (h.gave_at p (sym (ap is_held (get_or-set_other t.seen next p w seen.NotAsked apart)) ∙ held))
+            gives p (h.fetched p (sym (ap is_held (get_or-set_other t.seen next p w seen.NotAsked apart)) ∙ held))
 
     abbrev left_now : ℕ
     left_now = bit_xor t.left (2 ^ next)
@@ -271,7 +271,7 @@ module _ (v : Volume) (f g : Facts) (ext : Extends f g) (xs o : List Event) (sta
       known = (h.known.0, ext.wrote t.stamp h.known.0 h.known.1);
       seen_is = table;
       given_is = given_is;
-      gave_at = gave_now;
+      fetched = fetched_now;
       few = few;
       low = low_now;
       asked = asked_now;
@@ -283,8 +283,8 @@ module _ (v : Volume) (f g : Facts) (ext : Extends f g) (xs o : List Event) (sta
     held = ap (count_by is_held) (sym table)
 
     -- enough records came
-    pub enough : (n : ℕ) → n ≡ count_by is_held (set t.seen next w) → HasDistinct n (gave key t.stamp (since start (xs ++ o)))
-    enough n is = distinct (gave key t.stamp (since start (xs ++ o))) (set t.seen next w) n gave_now (sym is)
+    pub enough : (n : ℕ) → n ≡ count_by is_held (set t.seen next w) → HasDistinct n (fetched_at key t.stamp (since start (xs ++ o)))
+    enough n is = distinct (fetched_at key t.stamp (since start (xs ++ o))) (set t.seen next w) n fetched_now (sym is)
 
 some-inverse : (y : Layout) → 0 < inverse_of y
 some-inverse y = grind arith
@@ -299,7 +299,7 @@ fresh-fetches v g o start key places p many none known = record {
   known = known;
   seen_is = sym (ap (λ z. seens key p.stamp z 0 places) none ∙ seens-none key p.stamp 0 places 16 few refl);
   given_is = refl;
-  gave_at = λ q held. (let z = none-seen 16 q in (let both : is_held seen.NotAsked ≡ true = sym (ap is_held z) ∙ held in cc));
+  fetched = λ q held. (let z = none-seen 16 q in (let both : is_held seen.NotAsked ≡ true = sym (ap is_held z) ∙ held in cc));
   few = some-inverse v.layout;
   low = safe-positive (safe_of v.layout);
   asked = λ q less unset. (let z = bit_at_ones (safe_of v.layout) q less in absurd (omega (arith, z, unset)));

@@ -30,7 +30,7 @@ use Rattle.rz_export_model.specs.ExportEvents.{look_event, recheck_event}
 use Rattle.rz_core.specs.History.{Facts, Begun}
 use Rattle.rz_events.specs.Masks.{stamp_told}
 use Rattle.rz_core.specs.ExportRows.{HasLooked}
-use Rattle.rz_core.specs.Own.{since, gave, is_look, is_end, IsOpen, HasDistinct}
+use Rattle.rz_core.specs.Own.{since, fetched_at, is_look, is_end, IsOpen, HasDistinct}
 use Rattle.rz_core.specs.Outcomes.{seens, seen_at, is_held, is_asked, IsShort}
 use Rattle.rz_core.proofs.Extends.{Extends, last-has}
 use Rattle.rz_core.proofs.NodeSteps.{the_some}
@@ -86,14 +86,14 @@ stands-cond : (b : Bool) (p : ℕ) (ps : List ℕ) (q : ℕ) → Stands q ps →
 stands-cond true p ps q s = inr s
 stands-cond false p ps q s = s
 
-fetch-gives : (by : Actor) (n : ℕ) (key : Key) (p s : ℕ) (a : FetchAnswer) (o : List Event) (q : ℕ) → Stands q (gave key s o) → Stands q (gave key s (fetch_event by n key p s a ∷ o))
-fetch-gives by n key p s (fetch.Held r) o q st = stands-cond (same_key key key && (s == s)) p (gave key s o) q st
+fetch-gives : (by : Actor) (n : ℕ) (key : Key) (p s : ℕ) (a : FetchAnswer) (o : List Event) (q : ℕ) → Stands q (fetched_at key s o) → Stands q (fetched_at key s (fetch_event by n key p s a ∷ o))
+fetch-gives by n key p s (fetch.Held r) o q st = stands-cond (same_key key key && (s == s)) p (fetched_at key s o) q st
 fetch-gives by n key p s fetch.Nothing o q st = st
 fetch-gives by n key p s fetch.Lost o q st = st
 fetch-gives by n key p s fetch.Down o q st = st
 fetch-gives by n key p s fetch.DiskFault o q st = st
 
-fetch-gives-it : (by : Actor) (n : ℕ) (key : Key) (p s : ℕ) (a : FetchAnswer) (o : List Event) → is_held (seen_of a) ≡ true → Stands p (gave key s (fetch_event by n key p s a ∷ o))
+fetch-gives-it : (by : Actor) (n : ℕ) (key : Key) (p s : ℕ) (a : FetchAnswer) (o : List Event) → is_held (seen_of a) ≡ true → Stands p (fetched_at key s (fetch_event by n key p s a ∷ o))
 fetch-gives-it by n key p s (fetch.Held r) o is = rw (same_key-refl key, same s) (inl refl)
 fetch-gives-it by n key p s fetch.Nothing o is = cc
 fetch-gives-it by n key p s fetch.Lost o is = cc
@@ -162,7 +162,7 @@ module _ (v : Volume) (f g : Facts) (ext : Extends f g) (o : List Event) (by : A
       let c = counted v f g ext (fetches a ∷ []) o start key places placing t h later some (seen_of a) hr th gv gi (fetch-asked a) true refl in
       fetched v f g ext (fetches a ∷ []) o start key places placing t h later some (seen_of a) hr th gv gi (fetch-asked a) (t.given + 1) (cond (t.given == 0) r.length t.length) (sym c) few
 
-  pub record-enough : (r : Held) → inverse_of v.layout ≤ t.given + 1 → HasDistinct (inverse_of v.layout) (gave key t.stamp (since start (fetches (fetch.Held r) ∷ o)))
+  pub record-enough : (r : Held) → inverse_of v.layout ≤ t.given + 1 → HasDistinct (inverse_of v.layout) (fetched_at key t.stamp (since start (fetches (fetch.Held r) ∷ o)))
   record-enough r many =
       let a = fetch.Held r in
       let later = skip-since start (fetches a) o (quiet node_at key at t.stamp a) in
@@ -196,7 +196,7 @@ module _ (v : Volume) (f g : Facts) (ext : Extends f g) (o : List Event) (by : A
       ap (λ b. cond b seen.Missed (seen_at key t.stamp n (fetches a ∷ since start o))) (other n node_at (apart_node q n apart is))
       ∙ fetch-there by node_at n key at t.stamp a (since start o) (apart_node q n apart is) in
       let gv = fetch-gives by node_at key at t.stamp a (since start o) in
-      let gi = λ (is : is_held seen.Missed ≡ true). (let z : Stands at (gave key t.stamp (missed true ∷ fetches a ∷ since start o)) = cc in z) in
+      let gi = λ (is : is_held seen.Missed ≡ true). (let z : Stands at (fetched_at key t.stamp (missed true ∷ fetches a ∷ since start o)) = cc in z) in
       let c = counted v f g ext (missed true ∷ fetches a ∷ []) o start key places placing t h later some seen.Missed hr th gv gi refl false refl in
       let few = h.few in
       fetched v f g ext (missed true ∷ fetches a ∷ []) o start key places placing t h later some seen.Missed hr th gv gi refl t.given t.length (omega (arith, c)) few
@@ -208,8 +208,8 @@ module _ (v : Volume) (f g : Facts) (ext : Extends f g) (o : List Event) (by : A
       (ap (λ b. cond b seen.Missed (seen_at key t.stamp node_at (since start o))) (same node_at)) in
       let th = λ (q n : ℕ) (apart : q ≢ at) (is : slice_get places q ≡ Some n).
       ap (λ b. cond b seen.Missed (seen_at key t.stamp n (since start o))) (other n node_at (apart_node q n apart is)) in
-      let gv = λ (q : ℕ) (st : Stands q (gave key t.stamp (since start o))). st in
-      let gi = λ (is : is_held seen.Missed ≡ true). (let z : Stands at (gave key t.stamp (missed false ∷ since start o)) = cc in z) in
+      let gv = λ (q : ℕ) (st : Stands q (fetched_at key t.stamp (since start o))). st in
+      let gi = λ (is : is_held seen.Missed ≡ true). (let z : Stands at (fetched_at key t.stamp (missed false ∷ since start o)) = cc in z) in
       let c = counted v f g ext (missed false ∷ []) o start key places placing t h later some seen.Missed hr th gv gi refl false refl in
       let few = h.few in
       fetched v f g ext (missed false ∷ []) o start key places placing t h later some seen.Missed hr th gv gi refl t.given t.length (omega (arith, c)) few

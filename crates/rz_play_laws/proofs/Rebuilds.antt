@@ -30,7 +30,7 @@ use Rattle.rz_node_model.specs.NodeEvents.{node_event, fetch_event, refill_event
 use Rattle.rz_export_model.specs.ExportEvents.{enroll_event, next_event, recheck_event}
 use Rattle.rz_core.specs.History.{Facts, Begun, Has, length_in, base_in}
 use Rattle.rz_events.specs.Masks.{stamp_told}
-use Rattle.rz_core.specs.Own.{last, since, before, gave, is_next, is_recheck, IsOpen, HasDistinct}
+use Rattle.rz_core.specs.Own.{last, since, before, fetched_at, is_next, is_recheck, IsOpen, HasDistinct}
 use Rattle.rz_core.specs.Outcomes.{seens, seen_at, is_held, IsShort}
 use Rattle.rz_core.specs.ExportRows.{HasLooked}
 use Rattle.rz_core.specs.NodeRows.{IsNodeOf}
@@ -215,7 +215,7 @@ module _ (v : Volume) (f g : Facts) (ext : Extends f g) (o run : List Event) (by
           listing = record { after = c.listing.after; key_is = refl };
           replaced = c.replaced;
           listed = listed-more v f g ext n l c.listed;
-          enough = subst (λ z. HasDistinct (inverse_of v.layout) (gave l.key z (since is_next (gets (fetch.Held r) ∷ o)))) c.stamp_is
+          enough = subst (λ z. HasDistinct (inverse_of v.layout) (fetched_at l.key z (since is_next (gets (fetch.Held r) ∷ o)))) c.stamp_is
               (record-enough v f g ext o by is_next (quiet-next by) (λ m lost. refl) l.key l.info.places c.listed.placing ft c.fetching some r (ltb-false (ft.given + 1) (inverse_of v.layout) more));
           many = subst (λ z. inverse_of v.layout ≤ count_by is_held (seens l.key z (since is_next (gets (fetch.Held r) ∷ o)) 0 l.info.places)) c.stamp_is
               (record-many v f g ext o by is_next (quiet-next by) (λ m lost. refl) l.key l.info.places c.listed.placing ft c.fetching some r (ltb-false (ft.given + 1) (inverse_of v.layout) more));

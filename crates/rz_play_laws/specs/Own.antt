@@ -30,7 +30,7 @@ use Rattle.rz_core.specs.ExportRows.{HasKept}
 use Rattle.rz_core.specs.NodeRows.{HasGone, IsRecord, IsNodeOf}
 use Rattle.rz_core.specs.Legal.{Row}
 use Rattle.rz_core.specs.Tied.{IsProperCall, IsProperAsk}
-use Rattle.rz_core.specs.Own.{last, since, before, is_begin, is_look, is_next, gave, HasDistinct, IsListing, IsOpen, IsBetween}
+use Rattle.rz_core.specs.Own.{last, since, before, is_begin, is_look, is_next, fetched_at, HasDistinct, IsListing, IsOpen, IsBetween}
 use Rattle.rz_core.specs.Outcomes.{seens, whys, is_held, is_asked, is_failure}
 use Rattle.rz_core.specs.OwnRows.{GotRow, GaveRow, LeftRow}
 use Rattle.rz_client_model.specs.declared.reading.ReaderState.{ReaderState}
@@ -141,7 +141,7 @@ pub record IsFetching (v : Volume) (f : Facts) (o : List Event) (start : Event �
   pub known : (b : Begun) × (f.wrote t.stamp ≡ Some b)
   pub seen_is : t.seen ≡ seens key t.stamp (since start o) 0 places
   pub given_is : t.given ≡ count_by is_held t.seen
-  pub gave_at : (p : ℕ) → is_held (slice_index_or t.seen p seen.NotAsked) ≡ true → Stands p (gave key t.stamp (since start o))
+  pub fetched : (p : ℕ) → is_held (slice_index_or t.seen p seen.NotAsked) ≡ true → Stands p (fetched_at key t.stamp (since start o))
   pub few : t.given < inverse_of v.layout
   pub low : t.left < 2 ^ safe_of v.layout
   pub asked : (p : ℕ) → p < safe_of v.layout → bit_at t.left p ≡ 0 → is_asked (slice_index_or t.seen p seen.NotAsked) ≡ true
@@ -192,7 +192,7 @@ pub record IsFilling (v : Volume) (f : Facts) (o : List Event) (by : Actor) (n :
   pub listing : IsListing o by n l.key l
   pub replaced : HasReplaced (before is_next o) by n t.fence
   pub listed : IsListedAt v f n l
-  pub enough : HasDistinct (inverse_of v.layout) (gave l.key l.published.stamp (since is_next o))
+  pub enough : HasDistinct (inverse_of v.layout) (fetched_at l.key l.published.stamp (since is_next o))
   pub many : inverse_of v.layout ≤ count_by is_held (seens l.key l.published.stamp (since is_next o) 0 l.info.places)
   pub first : IsOfFirst f l.published.stamp length base
 

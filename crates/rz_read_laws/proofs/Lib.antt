@@ -1,2 +1,5 @@
 pub mod Positions
-pub mod Course
+pub mod ReadCourse
+pub mod Tables
+pub mod WriteCourse
+pub mod WriteEnds

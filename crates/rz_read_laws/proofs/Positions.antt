@@ -15,7 +15,7 @@ use Rattle.std.proofs.lemmas.List.FromFn.{length-range_with_len}
 use Rattle.std.proofs.Math.ListN.{length-append}
 use Rattle.mj_angles.specs.declared.layout.Layout.{Layout}
 use Rattle.mj_angles.specs.Layout.{safe_of}
-use Rattle.rz_read_laws.specs.Told.{order}
+use Rattle.rz_read_laws.specs.Reads.{order}
 use Rattle.rz_events.specs.Masks.{has_bit}
 
 -- Filters of a range.

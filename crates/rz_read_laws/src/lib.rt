@@ -1,6 +1,9 @@
-//! What follows from the model of a read, for every list of answers that belong to what was asked.
+//! What follows from the models of a block's read and write, for every list of answers that belong to what
+//! was asked.
 //!
-//! `laws` says what a read asks next and how it ends, in the terms of its answers alone.
+//! `reads` says what a read asks next and how it ends, by its answers alone, and `writes` says the same of a
+//! write.
 #![tactic(auto)]
 
-pub mod laws;
+pub mod reads;
+pub mod writes;

@@ -62,9 +62,7 @@ abbrev pub IsReached : Volume → List Event → List Event → Key → Publishe
 IsReached v start h key p (read.Found s text) = s ≡ p.stamp
 IsReached v start h key p (read.TooFew seen) = IsFew v p.mask seen
 IsReached v start h key p (read.Moved was now) = IsMoved start h key p was now
-IsReached v start h key p read.Hole = ⊥
-IsReached v start h key p read.Inconsistent = ⊥
-IsReached v start h key p (read.Denied why) = ⊥
+IsReached v start h key p _ = ⊥
 
 -- a read that ended after h
 pub record IsSoundRead (v : Volume) (h : List Event) (by : Actor) (key : Key) (end : ReadEnd) : Type 0 where

@@ -108,15 +108,10 @@ IsFresh s = Unit {0}
 
 -- no block is in hand, and no file is about to be opened
 abbrev pub IsQuiet : Stage → Type 0
-IsQuiet (stage.Calling c) = ⊥
 IsQuiet (stage.Dropping fid places done) = done < length places
-IsQuiet (stage.Opening c p) = ⊥
-IsQuiet (stage.Locking c p) = ⊥
-IsQuiet (stage.Writing writer text) = ⊥
-IsQuiet (stage.Reading reader) = ⊥
-IsQuiet (stage.Ranging file) = ⊥
-IsQuiet (stage.Rebuilding n rebuilder) = ⊥
-IsQuiet s = Unit {0}
+IsQuiet (stage.Ending answer) = Unit {0}
+IsQuiet stage.Over = Unit {0}
+IsQuiet _ = ⊥
 
 -- what becomes of a range
 abbrev pub IsRangeStage : FileMachine → FileState → Stage → Type 0

@@ -1,4 +1,1 @@
 pub mod Masks
-pub mod Tables
-pub mod Course
-pub mod Ends

@@ -19,9 +19,9 @@ use Rattle.rz_client_model.specs.declared.writing.WriteStage.{WriteStage}
 use Rattle.rz_client_model.specs.declared.writing.WriteStage.TheVariants.{Beginning, Sending, Ended}
 use Rattle.rz_client_model.specs.declared.writing.Sent.{Sent}
 use Rattle.rz_client_model.specs.Write.{why_of, is_kept, mask_of, none_sent, ask_at, writer_start, writer_ask, writer_told, after_answer, after_enrolled, unless_too_few, IsWriterAnswer, IsKeepAnswer, IsPublishAnswer}
-use Rattle.rz_writer.specs.Told.{after, AreAnswers, stamp_in, base_in, outcomes, table, kept_in, failed_in, IsNewest, IsAskAfter, IsEndAfter, AsksInOrder}
+use Rattle.rz_read_laws.specs.Writes.{after, AreAnswers, stamp_in, base_in, outcomes, table, kept_in, failed_in, IsNewest, IsAskAfter, IsEndAfter, AsksInOrder}
 use Rattle.rz_client_model.proofs.Masks.{safe-few, forward-less, one-if, bit_at-mask_of, mask_of-append}
-use Rattle.rz_writer.proofs.Tables.{set-append-replicate, one-true, within, count-push, count-set}
+use Rattle.rz_read_laws.proofs.Tables.{set-append-replicate, one-true, within, count-push, count-set}
 
 -- the stage after these answers
 abbrev pub stage_after : Layout → List WriterAnswer → WriteStage

@@ -24,7 +24,7 @@ use Rattle.rz_client_model.specs.declared.reading.ReadStage.TheVariants.{Looking
 use Rattle.rz_client_model.specs.declared.reading.Fetches.{Fetches}
 use Rattle.rz_client_model.specs.Read.{reader_start, reader_ask, reader_told, reader_end, ask_at, end_at, none_fetched, next_position, with_seen, with_record, unless_enough, after_answer, IsReaderAnswer, IsLookAnswer, IsFetchAnswer}
 use Rattle.rz_events.specs.Masks.{stamp_told}
-use Rattle.rz_read_laws.specs.Told.{after, AreAnswers, looked, mask_of, stamp_in, asked_in, lengths, given_in, length_in, order, next_in, table, end_of_fetches, end_of_recheck, end_after, unless_ended, next_ask, ask_after, AsksInOrder, EndsExactly}
+use Rattle.rz_read_laws.specs.Reads.{after, AreAnswers, looked, mask_of, stamp_in, asked_in, lengths, given_in, length_in, order, next_in, table, end_of_fetches, end_of_recheck, end_after, unless_ended, next_ask, ask_after, AsksInOrder, EndsExactly}
 use Rattle.rz_read_laws.proofs.Positions.{pending, pending-all, pending-none, pending-next, length-order, safe-most, in-below, left-some, left-first}
 
 -- the stage after these answers

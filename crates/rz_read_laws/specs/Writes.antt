@@ -1,4 +1,4 @@
--- What follows of a write from the answers that it was told. The answers stand newest first.
+-- What a write asks and how it ends, by the answers that it was told. The answers stand newest first.
 use Rattle.std.specs.Prelude.{ℕ, ◌≡◌, ◌-◌, ◌<◌, ◌↔◌, List, [], ◌∷◌, ◌++◌, length, replicate, count_by, slice_index, slice_index_or, slice_set, Some, IsTrue}
 use Rattle.std.specs.Int.{bit_at}
 use Rattle.mj_angles.specs.declared.layout.Layout.{Layout}

@@ -1,6 +1,6 @@
 //! What a read asks, and how it ends.
 
-ghost use Rattle.rz_read_laws.specs.Told.{AsksInOrder, EndsExactly};
+ghost use Rattle.rz_read_laws.specs.Reads.{AsksInOrder, EndsExactly};
 
 /// A read looks first. It asks each position once, those of the published mask first in ascending order,
 /// then the others in ascending order, for the published stamp. It looks again exactly where all positions

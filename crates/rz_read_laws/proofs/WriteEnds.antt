@@ -11,8 +11,8 @@ use Rattle.rz_client_model.specs.declared.writing.WriterState.{WriterState}
 use Rattle.rz_client_model.specs.declared.writing.WriteStage.{WriteStage}
 use Rattle.rz_client_model.specs.declared.writing.WriteStage.TheVariants.{Beginning, Sending, Ended}
 use Rattle.rz_client_model.specs.Write.{writer_end, end_at}
-use Rattle.rz_writer.specs.Told.{failed_in, IsNewest, IsEndAfter, EndsExactly}
-use Rattle.rz_writer.proofs.Course.{stage_after, after-is, IsCourse, IsGoing, IsOverSo, is_going, going-newest, newest-same, course}
+use Rattle.rz_read_laws.specs.Writes.{failed_in, IsNewest, IsEndAfter, EndsExactly}
+use Rattle.rz_read_laws.proofs.WriteCourse.{stage_after, after-is, IsCourse, IsGoing, IsOverSo, is_going, going-newest, newest-same, course}
 
 -- while a write goes on no end was told
 going-not : (answers : List WriterAnswer) (a : WriterAnswer) → is_going a ≡ false → IsGoing answers → IsNewest a answers → ⊥

@@ -1,6 +1,6 @@
-//! What follows from the model of a write, for every list of answers.
+//! What a write asks, and how it ends.
 
-ghost use Rattle.rz_writer.specs.Told.{AsksInOrder, EndsExactly};
+ghost use Rattle.rz_read_laws.specs.Writes.{AsksInOrder, EndsExactly};
 
 /// A write asks each position once, in ascending order, and each keep has the stamp and the base that
 /// were told. A publish names exactly the positions whose nodes have the record, as many as are written.

@@ -1,0 +1,5 @@
+use Rattle.rz_read_laws.proofs.ReadCourse.{asks-in-order}
+use Rattle.rz_read_laws.proofs.reads.asks.Goals as goal
+
+pub returns : goal.returns
+returns c = asks-in-order
