@@ -28,13 +28,16 @@ impl<R: Read + Drop> StdSource<R> {
         StdSource { reader, faults: 0 }
     }
 
-    /// One read, whose error is counted.
-    fn attempt(&mut self, out: &mut [u8]) -> io::Result<usize>
+    /// One call of the reader, with its own answer: the bytes that it moved to the front of `out`,
+    /// by their number, or its error. An interruption is answered like any other error, after
+    /// which nothing was moved. Each error counts as one fault, and nothing else does. 0 is given
+    /// only at the end, or where `out` is empty.
+    pub fn attempt(&mut self, out: &mut [u8]) -> io::Result<usize>
         ensures within { IfOk result (λ n. n ≤ length out.old) }
-        ensures moved { IfOk result (λ n. Consumes (R.remaining self.old.reader) (R.remaining self.new.reader) (take n out.new)) }
-        ensures ended { IfOk result (λ n. n ≡ 0 → 0 < length out.old → IsAtEnd (R.remaining self.new.reader)) }
-        ensures failed { OnErr result (Keeps (R.remaining self.old.reader) (R.remaining self.new.reader)) }
-        ensures counted { self.new.faults ≡ (if is_err result then one_more self.old.faults else self.old.faults) }
+        ensures moved { IfOk result (λ n. Consumes (⟦<StdSource<R> as Source>⟧.left self.old) (⟦<StdSource<R> as Source>⟧.left self.new) (take n out.new)) }
+        ensures ended { IfOk result (λ n. n ≡ 0 → 0 < length out.old → IsAtEnd (⟦<StdSource<R> as Source>⟧.left self.new)) }
+        ensures failed { OnErr result (Keeps (⟦<StdSource<R> as Source>⟧.left self.old) (⟦<StdSource<R> as Source>⟧.left self.new)) }
+        ensures counted { ⟦<StdSource<R> as Source>⟧.faults self.new ≡ (if is_err result then one_more (⟦<StdSource<R> as Source>⟧.faults self.old) else ⟦<StdSource<R> as Source>⟧.faults self.old) }
     {
         let answer = self.reader.read(out);
         if answer.is_err() {
@@ -80,13 +83,16 @@ impl<W: Write + Drop> StdSink<W> {
         StdSink { writer, faults: 0 }
     }
 
-    /// One write, whose fault is counted.
-    fn attempt(&mut self, bytes: &[u8]) -> io::Result<usize>
+    /// One call of the writer, with its own answer: how many bytes it took from the front of
+    /// `bytes`, or its error. An interruption is answered like any other error, after which
+    /// nothing was taken. Each error counts as one fault, and so does 0 for a piece that is not
+    /// empty. Nothing else does.
+    pub fn attempt(&mut self, bytes: &[u8]) -> io::Result<usize>
         ensures within { IfOk result (λ n. n ≤ length bytes.now) }
-        ensures appended { IfOk result (λ n. Appends (W.contents self.old.writer) (W.contents self.new.writer) (take n bytes.now)) }
-        ensures failed { OnErr result (Keeps (W.contents self.old.writer) (W.contents self.new.writer)) }
-        ensures counted { IfOk result (λ n. self.new.faults ≡ (if took_none n bytes.now then one_more self.old.faults else self.old.faults)) }
-        ensures counted_error { OnErr result (self.new.faults ≡ one_more self.old.faults) }
+        ensures appended { IfOk result (λ n. Appends (⟦<StdSink<W> as Sink>⟧.taken self.old) (⟦<StdSink<W> as Sink>⟧.taken self.new) (take n bytes.now)) }
+        ensures failed { OnErr result (Keeps (⟦<StdSink<W> as Sink>⟧.taken self.old) (⟦<StdSink<W> as Sink>⟧.taken self.new)) }
+        ensures counted { IfOk result (λ n. ⟦<StdSink<W> as Sink>⟧.faults self.new ≡ (if took_none n bytes.now then one_more (⟦<StdSink<W> as Sink>⟧.faults self.old) else ⟦<StdSink<W> as Sink>⟧.faults self.old)) }
+        ensures counted_error { OnErr result (⟦<StdSink<W> as Sink>⟧.faults self.new ≡ one_more (⟦<StdSink<W> as Sink>⟧.faults self.old)) }
     {
         let answer = self.writer.write(bytes);
         match answer {

@@ -1,9 +1,9 @@
 -- Numbers and bytes at their places, read and written.
-use Rattle.std.proofs.Common.{◌≡◌, ◌⊎◌, ⊎_elim, ℕ, zero, suc, ◌+◌, ◌-◌, ◌*◌, ◌/◌, ◌^◌, ◌<◌, ◌≤◌, List, [], ◌∷◌, ◌++◌, length, take, drop, get_or, sym, ◌∙◌, ap, subst, arith, lit≤}
+use Rattle.std.proofs.Common.{◌≡◌, ◌⊎◌, ⊎_elim, ℕ, zero, suc, ◌+◌, ◌-◌, ◌*◌, ◌/◌, ◌^◌, ◌<◌, ◌≤◌, List, [], ◌∷◌, ◌++◌, length, take, drop, get_or, sym, ◌∙◌, ap, subst, arith, lit≤, length-take, length-drop}
 use Rattle.std.proofs.lemmas.Bool.{cases_lt}
-use Rattle.std.proofs.lemmas.List.{append_assoc, drop_at, drop-drop, drop-take, ext_get_or, get_or-drop, get_or-take, length-take-le, take-take}
+use Rattle.std.proofs.lemmas.List.{append_assoc, drop_at, drop-append-le, drop-drop, drop-take, ext_get_or, get_or-drop, get_or-take, length-take-le, take-append-drop, take-take}
 use Rattle.std.specs.List.{flat_map}
-use borrow.Rule.Slice.PartMut.{put_mid, post_of}
+use borrow.Rule.Slice.PartMut.{put_mid, mid_of, post_of}
 use Rattle.byteorder.specs.Endian.{IsRead, little_from, little_number, little_bytes}
 use Rattle.byteorder.specs.Numbers.{length-bytes_low_first, little_from-take, little_number-reads_back}
 use Rattle.mj_angles.specs.declared.layout.Layout.{Layout}
@@ -19,6 +19,20 @@ unfolding number_at
 number_at-put at n k xs ys rest v fits is small =
     ap (little_number n) (drop_at (take at xs) (ys ++ post_of at k xs) at (length-take-le at xs fits) ∙ ap (λ (l : List ℕ). l ++ post_of at k xs) is ∙ append_assoc (little_bytes n v) rest (post_of at k xs))
     ∙ little_number-reads_back n v (rest ++ post_of at k xs) small
+
+-- what stands behind a number that was written stays
+pub drop-put : (at n : ℕ) (xs ys : List ℕ) (v : ℕ) → at + n ≤ length xs → ys ≡ little_bytes n v ++ drop n (mid_of at (length xs - at) xs) → drop (at + n) (put_mid at (length xs - at) xs ys) ≡ drop (at + n) xs
+drop-put at n xs ys v fits is =
+    let k : ℕ = length xs - at in
+    let mid : List ℕ = mid_of at k xs in
+    let post : List ℕ = post_of at k xs in
+    let room : n ≤ length mid = simp (length-take, length-drop) (omega arith) in
+    sym (drop-drop n at (put_mid at k xs ys))
+    ∙ ap (drop n) (drop_at (take at xs) (ys ++ post) at (length-take-le at xs (omega arith)) ∙ ap (λ (l : List ℕ). l ++ post) is ∙ append_assoc (little_bytes n v) (drop n mid) post)
+    ∙ drop_at (little_bytes n v) (drop n mid ++ post) n (length-bytes_low_first 0 n v)
+    ∙ sym (drop-append-le n mid post room)
+    ∙ ap (drop n) (take-append-drop k (drop at xs))
+    ∙ drop-drop n at xs
 
 -- a number reads its own bytes alone
 pub number_at-take : (at n m : ℕ) (xs : List ℕ) → at + n ≤ m → number_at at n (take m xs) ≡ number_at at n xs

@@ -1,5 +1,5 @@
 //! Numbers at their places in bytes.
-ghost use Rattle.std.specs.Prelude.{◌≡◌, ◌+◌, ◌≤◌, length, take};
+ghost use Rattle.std.specs.Prelude.{◌≡◌, ◌+◌, ◌≤◌, length, take, drop};
 ghost use Rattle.rz_record.specs.Fields.{number_at};
 
 use byteorder::{ByteOrder, LittleEndian};
@@ -40,38 +40,42 @@ pub fn u128_at(bytes: &[u8], at: usize) -> u128
     LittleEndian::read_u128(&bytes[at..])
 }
 
-/// Writes 2 bytes. What stands before them stays.
+/// Writes 2 bytes. What stands before and behind them stays.
 pub fn put_u16(bytes: &mut [u8], at: usize, value: u16)
     requires { at + 2 ≤ length bytes.old }
     ensures there { number_at at 2 bytes.new ≡ value }
     ensures front { take at bytes.new ≡ take at bytes.old }
+    ensures behind { drop (at + 2) bytes.new ≡ drop (at + 2) bytes.old }
 {
     LittleEndian::write_u16(&mut bytes[at..], value);
 }
 
-/// Writes 4 bytes. What stands before them stays.
+/// Writes 4 bytes. What stands before and behind them stays.
 pub fn put_u32(bytes: &mut [u8], at: usize, value: u32)
     requires { at + 4 ≤ length bytes.old }
     ensures there { number_at at 4 bytes.new ≡ value }
     ensures front { take at bytes.new ≡ take at bytes.old }
+    ensures behind { drop (at + 4) bytes.new ≡ drop (at + 4) bytes.old }
 {
     LittleEndian::write_u32(&mut bytes[at..], value);
 }
 
-/// Writes 8 bytes. What stands before them stays.
+/// Writes 8 bytes. What stands before and behind them stays.
 pub fn put_u64(bytes: &mut [u8], at: usize, value: u64)
     requires { at + 8 ≤ length bytes.old }
     ensures there { number_at at 8 bytes.new ≡ value }
     ensures front { take at bytes.new ≡ take at bytes.old }
+    ensures behind { drop (at + 8) bytes.new ≡ drop (at + 8) bytes.old }
 {
     LittleEndian::write_u64(&mut bytes[at..], value);
 }
 
-/// Writes 16 bytes. What stands before them stays.
+/// Writes 16 bytes. What stands before and behind them stays.
 pub fn put_u128(bytes: &mut [u8], at: usize, value: u128)
     requires { at + 16 ≤ length bytes.old }
     ensures there { number_at at 16 bytes.new ≡ value }
     ensures front { take at bytes.new ≡ take at bytes.old }
+    ensures behind { drop (at + 16) bytes.new ≡ drop (at + 16) bytes.old }
 {
     LittleEndian::write_u128(&mut bytes[at..], value);
 }

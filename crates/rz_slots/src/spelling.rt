@@ -1,5 +1,5 @@
 //! Records spelled, and bins read.
-ghost use Rattle.std.specs.Prelude.{◌≡◌, ◌+◌, ◌*◌, ◌≤◌, length, take, IsTrue, OnOk, OnErr};
+ghost use Rattle.std.specs.Prelude.{◌≡◌, ◌+◌, ◌*◌, ◌≤◌, length, take, drop, IsTrue, OnOk, OnErr};
 ghost use Rattle.byteorder.specs.Endian.{IsRead, little_number};
 ghost use Rattle.rz_disk.specs.Images.{Within, window};
 ghost use Rattle.rz_disk.specs.Meter.{Passes};
@@ -9,13 +9,14 @@ use byteorder::{ByteOrder, LittleEndian};
 use rz_disk::{Disk, Failed};
 use rz_record::{HEAD_BYTES, Head, encode_into};
 
-/// Writes a record into the front of a buffer, and answers its size.
+/// Writes a record into the front of a buffer, and answers its size. What stands behind it stays.
 pub fn spell(head: &Head, bins: &[u64], buffer: &mut Vec<u8>) -> usize
     requires valid { IsValid head.now }
     requires bins { length bins.now ≡ bins_of head.now }
     requires room { record_bytes head.now ≤ length buffer.old.items }
     ensures size { result ≡ record_bytes head.now }
     ensures record { IsRecord (take result buffer.new.items) head.now bins.now }
+    ensures behind { drop result buffer.new.items ≡ drop result buffer.old.items }
     ensures length { length buffer.new.items ≡ length buffer.old.items }
 {
     spell_into(head, bins, buffer)
@@ -27,6 +28,7 @@ fn spell_into(head: &Head, bins: &[u64], out: &mut [u8]) -> usize
     requires room { record_bytes head.now ≤ length out.old }
     ensures size { result ≡ record_bytes head.now }
     ensures record { IsRecord (take result out.new) head.now bins.now }
+    ensures behind { drop result out.new ≡ drop result out.old }
 {
     let size = HEAD_BYTES + 8 * bins.len();
     encode_into(head, bins, &mut out[..size]);
