@@ -1,6 +1,6 @@
 //! Formatting.
 ghost use Rattle.std.specs.Prelude.{◌≡◌, ◌⊎◌, ℕ, List, None, IsTrue, IsErrOf, OnOk, OnErr, IfOk, IfErr, MatchResult};
-ghost use Rattle.rz_disk.specs.Meter.{Took, Lasts, Rises, HasPasses, faults};
+ghost use Rattle.rz_slots.specs.Counted.{CountedWhere};
 ghost use Rattle.rz_slots.specs.Held.{in_cell, nothing};
 ghost use Rattle.rz_slots.specs.Shape.{IsGeometry};
 ghost use Rattle.rz_slots.specs.Stands.{IsShut, StandsFor};
@@ -31,10 +31,8 @@ impl<D: Disk> Cells<D> {
         // Otherwise each image is one from before, or its header is shut, or it stands for nothing with the new fence.
         ensures crash { IfErr result (λ e. IsTrue D.tells → (c : List ℕ) → D.image e.0 c → D.image disk c ⊎ IsShut c ⊎ StandsFor geometry fence c nothing) }
 
-        ensures took { MatchResult result (λ c. Took 4 result (D.meter disk) (D.meter c.disk)) (λ e. Took 4 result (D.meter disk) (D.meter e.0)) }
-        ensures meter { MatchResult result (λ c. Lasts (D.meter disk) (D.meter c.disk)) (λ e. Lasts (D.meter disk) (D.meter e.0)) }
-        ensures risen { IfErr result (λ e. e.1 ≡ FormatFault.DiskFault → Rises (faults (D.meter disk)) (faults (D.meter e.0))) }
-        ensures own_risen { IfErr result (λ e. e.1 ≡ FormatFault.DiskFault → HasPasses 4 (D.meter disk) → Rises (D.meter disk).own (D.meter e.0).own) }
+        ensures meter { MatchResult result (λ c. CountedWhere 4 result ⊥ (D.meter disk) (D.meter c.disk))
+            (λ e. CountedWhere 4 result (e.1 ≡ FormatFault.DiskFault) (D.meter disk) (D.meter e.0)) }
 
         // Want of memory takes no pass.
         ensures unspent { IfErr result (λ e. e.1 ≡ FormatFault.NoMemory → (D.meter e.0).fuse ≡ (D.meter disk).fuse) }
@@ -80,10 +78,7 @@ impl<D: Disk> Cells<D> {
         ensures kept_gates { OnErr result (self.new.gates.items ≡ self.old.gates.items) }
         ensures kept_heads { OnErr result (self.new.heads ≡ self.old.heads) }
 
-        ensures took { Took 4 result (D.meter self.old.disk) (D.meter self.new.disk) }
-        ensures meter { Lasts (D.meter self.old.disk) (D.meter self.new.disk) }
-        ensures risen { IsErrOf result FormatFault.DiskFault → Rises (faults (D.meter self.old.disk)) (faults (D.meter self.new.disk)) }
-        ensures own_risen { IsErrOf result FormatFault.DiskFault → HasPasses 4 (D.meter self.old.disk) → Rises (D.meter self.old.disk).own (D.meter self.new.disk).own }
+        ensures meter { CountedWhere 4 result (IsErrOf result FormatFault.DiskFault) (D.meter self.old.disk) (D.meter self.new.disk) }
 
         // Want of memory takes no pass.
         ensures unspent { IsErrOf result FormatFault.NoMemory → (D.meter self.new.disk).fuse ≡ (D.meter self.old.disk).fuse }

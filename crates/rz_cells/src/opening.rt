@@ -1,7 +1,7 @@
 //! Opening.
 ghost use Rattle.std.specs.Prelude.{◌≡◌, ◌⊎◌, ℕ, length, IsTrue, IsErrOf, OnOk, OnErr, IfOk, IfErr, MatchResult};
 ghost use Rattle.rz_disk.specs.Images.{Within};
-ghost use Rattle.rz_disk.specs.Meter.{Took, Lasts, Rises, HasPasses, faults};
+ghost use Rattle.rz_slots.specs.Counted.{CountedWhere};
 ghost use Rattle.rz_slots.specs.Held.{Records};
 ghost use Rattle.rz_slots.specs.Shape.{IsGeometry, disk_bytes};
 ghost use Rattle.rz_slots.specs.Stands.{StandsFor};
@@ -43,12 +43,10 @@ impl<D: Disk> Cells<D> {
         // The disk stays as it is.
         ensures text { MatchResult result (λ c. D.text c.disk ≡ D.text disk) (λ e. D.text e.0 ≡ D.text disk) }
         ensures crash { MatchResult result (λ c. Within (D.image disk) (D.image c.disk)) (λ e. Within (D.image disk) (D.image e.0)) }
-        ensures meter { MatchResult result (λ c. Lasts (D.meter disk) (D.meter c.disk)) (λ e. Lasts (D.meter disk) (D.meter e.0)) }
-        ensures risen { IfErr result (λ e. e.1 ≡ OpenFault.DiskFault → Rises (faults (D.meter disk)) (faults (D.meter e.0))) }
-        ensures own_risen { IfErr result (λ e. e.1 ≡ OpenFault.DiskFault → HasPasses (opening_calls geometry) (D.meter disk) → Rises (D.meter disk).own (D.meter e.0).own) }
 
         // It takes so many passes where it opens, and none for want of memory or a wrong size.
-        ensures took { MatchResult result (λ c. Took (opening_calls geometry) result (D.meter disk) (D.meter c.disk)) (λ e. Took (opening_calls geometry) result (D.meter disk) (D.meter e.0)) }
+        ensures meter { MatchResult result (λ c. CountedWhere (opening_calls geometry) result ⊥ (D.meter disk) (D.meter c.disk))
+            (λ e. CountedWhere (opening_calls geometry) result (e.1 ≡ OpenFault.DiskFault) (D.meter disk) (D.meter e.0)) }
         ensures no_memory { IfErr result (λ e. e.1 ≡ OpenFault.NoMemory → e.0 ≡ disk) }
         ensures wrong_size { IfErr result (λ e. (have need : ℕ) → e.1 ≡ OpenFault.WrongSize have need → e.0 ≡ disk) }
     {
@@ -104,12 +102,9 @@ impl<D: Disk> Cells<D> {
         // The disk stays as it is.
         ensures text { D.text self.new.disk ≡ D.text self.old.disk }
         ensures crash { Within (D.image self.old.disk) (D.image self.new.disk) }
-        ensures meter { Lasts (D.meter self.old.disk) (D.meter self.new.disk) }
-        ensures risen { IsErrOf result OpenFault.DiskFault → Rises (faults (D.meter self.old.disk)) (faults (D.meter self.new.disk)) }
-        ensures own_risen { IsErrOf result OpenFault.DiskFault → HasPasses (opening_calls self.old.geometry) (D.meter self.old.disk) → Rises (D.meter self.old.disk).own (D.meter self.new.disk).own }
 
         // It takes so many passes where it opens, and none for want of memory or a wrong size.
-        ensures took { Took (opening_calls self.old.geometry) result (D.meter self.old.disk) (D.meter self.new.disk) }
+        ensures meter { CountedWhere (opening_calls self.old.geometry) result (IsErrOf result OpenFault.DiskFault) (D.meter self.old.disk) (D.meter self.new.disk) }
         ensures no_memory { IsErrOf result OpenFault.NoMemory → self.new ≡ self.old }
         ensures wrong_size { IfErr result (λ e. (have need : ℕ) → e ≡ OpenFault.WrongSize have need → self.new ≡ self.old) }
     {

@@ -53,10 +53,7 @@ abbrev pub OldCellsFault : Geometry → List ℕ → OpenFault → Type 0
 OldCellsFault g text (Damaged cell) = OldDamaged g text cell
 OldCellsFault g text (Twice first second) = OldTwice g text first second
 OldCellsFault g text DiskFault = Unit {0}
-OldCellsFault g text NoMemory = ⊥
-OldCellsFault g text (WrongSize have need) = ⊥
-OldCellsFault g text Unformatted = ⊥
-OldCellsFault g text (BadHeader field value) = ⊥
+OldCellsFault g text _ = ⊥
 
 -- The first thing that is wrong with the text of an old disk.
 abbrev pub OldRefuses : Geometry → List ℕ → OpenFault → Type 0

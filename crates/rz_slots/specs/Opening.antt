@@ -192,9 +192,5 @@ Refuses g text (WrongSize have need) = (have ≡ length text) × (need ≡ disk_
 Refuses g text DiskFault = length text ≡ disk_bytes g
 Refuses g text Unformatted = (length text ≡ disk_bytes g) × (¬ IsFormatted text)
 Refuses g text (BadHeader field value) = (length text ≡ disk_bytes g) × IsFormatted text × FirstDiffers Two g text field value
-Refuses g text (Damaged cell) =
-    (length text ≡ disk_bytes g) × IsFormatted text × Agrees Two g text
-    × (CellRefused g text cell (Damaged cell)
-    ⊎ ((cell < 2 * g.cells) × ((heads : List (Option Head)) × FineTo g text heads cell × Unreadable g (picked g text cell))))
-Refuses g text (Twice first second) =
-    (length text ≡ disk_bytes g) × IsFormatted text × Agrees Two g text × CellRefused g text second (Twice first second)
+Refuses g text (Damaged cell) = (length text ≡ disk_bytes g) × IsFormatted text × Agrees Two g text × CellsFault g text (Damaged cell)
+Refuses g text (Twice first second) = (length text ≡ disk_bytes g) × IsFormatted text × Agrees Two g text × CellsFault g text (Twice first second)

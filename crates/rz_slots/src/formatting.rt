@@ -1,8 +1,7 @@
 //! A disk made anew.
 ghost use Rattle.std.specs.Prelude.{◌≡◌, ◌⊎◌, ℕ, List, length, replicate, IsTrue, IsErrOf, OnOk};
 ghost use Rattle.rz_disk.specs.Images.{Only};
-ghost use Rattle.rz_disk.specs.Meter.{Took, Lasts, Rises, HasPasses, faults};
-ghost use Rattle.rz_slots.specs.Counted.{Counted};
+ghost use Rattle.rz_slots.specs.Counted.{Counted, CountedWhere};
 ghost use Rattle.rz_slots.specs.Shape.{IsGeometry, disk_bytes};
 ghost use Rattle.rz_slots.specs.Stands.{IsFresh, ShutOrFresh, IsHeader};
 
@@ -31,10 +30,7 @@ pub fn blank<D: Disk>(
     ensures done { OnOk result (IsTrue D.tells → IsFresh geometry.now fence (D.text disk.new)) }
     ensures size { OnOk result (length (D.text disk.new) ≡ disk_bytes geometry.now) }
     ensures only { OnOk result (Only (D.text disk.new) (D.image disk.new)) }
-    ensures took { Took 4 result (D.meter disk.old) (D.meter disk.new) }
-    ensures meter { Lasts (D.meter disk.old) (D.meter disk.new) }
-    ensures risen { IsErrOf result FormatFault.DiskFault → Rises (faults (D.meter disk.old)) (faults (D.meter disk.new)) }
-    ensures own_risen { IsErrOf result FormatFault.DiskFault → HasPasses 4 (D.meter disk.old) → Rises (D.meter disk.old).own (D.meter disk.new).own }
+    ensures meter { CountedWhere 4 result (IsErrOf result FormatFault.DiskFault) (D.meter disk.old) (D.meter disk.new) }
     ensures unspent { IsErrOf result FormatFault.NoMemory → (D.meter disk.new).fuse ≡ (D.meter disk.old).fuse }
     ensures unplanned { IsErrOf result FormatFault.NoMemory → (D.meter disk.new).planned ≡ (D.meter disk.old).planned }
 {

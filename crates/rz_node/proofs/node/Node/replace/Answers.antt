@@ -31,15 +31,15 @@ pub returns-in-Ok-format_again-clause-spends : goal.returns-in-Ok-format_again-c
 returns-in-Ok-format_again-clause-spends g c =
     let old = g.D.Disk.meter c.self.inside.cells.disk in
     let new = g.D.Disk.meter c.format_again.new.self.disk in
-    passed-along g.D.Disk.meter _ _ 4 new c.self.view_is (record { took = took-as 4 _ _ old new refl c.in-Ok-format_again.ensures.took; lasts = c.format_again.ensures.meter })
+    passed-along g.D.Disk.meter _ _ 4 new c.self.view_is (record { took = took-as 4 _ _ old new refl c.in-Ok-format_again.ensures.meter.took; lasts = c.format_again.ensures.meter.lasts })
 
 pub returns-clause-spends : goal.returns-clause-spends
 returns-clause-spends g c =
     let old = g.D.Disk.meter c.self.inside.cells.disk in
     let new = g.D.Disk.meter c.format_again.new.self.disk in
     failed-along g.D.Disk.meter _ _ 4 new c.self.view_is (record {
-      took = took-as 4 _ _ old new refl c.in-Err-DiskFault.ensures.took;
-      lasts = c.format_again.ensures.meter;
-      risen = c.in-Err-DiskFault.ensures.risen (λ i. Err (c.in-Err-DiskFault.field-0-is i));
-      own_risen = c.in-Err-DiskFault.ensures.own_risen (λ i. Err (c.in-Err-DiskFault.field-0-is i));
+      took = took-as 4 _ _ old new refl c.in-Err-DiskFault.ensures.meter.took;
+      lasts = c.format_again.ensures.meter.lasts;
+      risen = c.in-Err-DiskFault.ensures.meter.risen (λ i. Err (c.in-Err-DiskFault.field-0-is i));
+      own_risen = c.in-Err-DiskFault.ensures.meter.own_risen (λ i. Err (c.in-Err-DiskFault.field-0-is i));
     })

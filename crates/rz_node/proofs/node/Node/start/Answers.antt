@@ -80,7 +80,7 @@ returns-in-Ok-open_again-clause-opens g c =
     let s = c.self.inside in
     let old = g.D.Disk.meter s.cells.disk in
     let new = g.D.Disk.meter c.open_again.new.self.disk in
-    opened-along g.D.Disk.meter _ _ new c.self.view_is (record { took = took-as (opening_calls s.cells.geometry) _ _ old new refl c.in-Ok-open_again.ensures.took; lasts = c.open_again.ensures.meter })
+    opened-along g.D.Disk.meter _ _ new c.self.view_is (record { took = took-as (opening_calls s.cells.geometry) _ _ old new refl c.in-Ok-open_again.ensures.meter.took; lasts = c.open_again.ensures.meter.lasts })
 
 pub invariant_of-self-in-Err : goal.invariant_of-self-in-Err
 invariant_of-self-in-Err g c =
@@ -120,8 +120,8 @@ returns-clause-opens g c =
     let new = g.D.Disk.meter c.open_again.new.self.disk in
     stopped-along g.D.Disk.meter _ _ c.in-Err.cause new c.self.view_is
     (record {
-      took = took-as (opening_calls s.cells.geometry) _ _ old new refl c.in-Err.ensures.took;
-      lasts = c.open_again.ensures.meter;
-      risen = λ is. c.in-Err.ensures.risen (λ i. Err (is i));
-      own_risen = λ is. c.in-Err.ensures.own_risen (λ i. Err (is i));
+      took = took-as (opening_calls s.cells.geometry) _ _ old new refl c.in-Err.ensures.meter.took;
+      lasts = c.open_again.ensures.meter.lasts;
+      risen = λ is. c.in-Err.ensures.meter.risen (λ i. Err (is i));
+      own_risen = λ is. c.in-Err.ensures.meter.own_risen (λ i. Err (is i));
     })
