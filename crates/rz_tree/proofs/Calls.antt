@@ -15,7 +15,7 @@ use Rattle.rz_export_model.specs.Refusals.{walk, absent, present, dir, not_dir, 
 use Rattle.rz_export_model.specs.TreeCalls.{without_name, renamed, last_name_of}
 use Rattle.rz_tree.specs.declared.inodes.Inode.{Inode}
 use Rattle.rz_tree.specs.Inodes.{Table, object_of, found_of, objects_of}
-use Rattle.rz_tree.specs.Trees.{tree_of, IsTree, IsKept}
+use Rattle.rz_tree.specs.Trees.{IsTree, IsKept}
 use Rattle.rz_tree.proofs.Keys.{not_none, false-true, held, true-or-false, apart}
 use Rattle.rz_tree.proofs.Tables.{get-objects}
 use Rattle.rz_tree.proofs.Fronts.{append-nothing, split-above, walked-front}
@@ -42,35 +42,72 @@ full-yes len n last same lt =
 pub full-no : (len n : ℕ) (last : Bool) → len ≡ n → len ≤ 65536 → last ≡ (nat_lt 65536 n || last)
 full-no len n last same le = sym (ap (λ b. b || last) (ap (nat_lt 65536) (sym same) ∙ lt-false 65536 len le))
 
--- whether the object at a path is a directory
-pub at-dir : (t : Tree) (path : Path) (fid : ℕ) (o : Object) → maps.get t.names path ≡ Some fid → maps.get t.objects fid ≡ Some o → is_at t path is_dir ≡ is_dir o.kind
-at-dir t path fid o at is =
-    ap (λ f. option_map_or is_dir (option_map (λ (x : Found). x.object.kind) (option_and_then (λ n. option_map (λ y. record { fid = n; object = y }) (maps.get t.objects n)) f)) false) at
-    ∙ ap (λ y. option_map_or is_dir (option_map (λ (x : Found). x.object.kind) (option_map (λ z. record { fid = fid; object = z }) y)) false) is
-
 module _ (names : FinMap path_cmp ℕ) (table : Table) (made : ℕ) (kept : IsKept names table made) where
   -- a path leads to a kept object
   pub led : (path : Path) (fid : ℕ) → maps.get names path ≡ Some fid → (i : Inode) × (maps.get table fid ≡ Some i)
   led path fid at = held (maps.get table fid) (sym (map-some object_of (maps.get table fid)) ∙ ap is_some (sym (get-objects table fid)) ∙ kept.tree.leads path fid at)
 
-  pub seen : (fid : ℕ) (i : Inode) → maps.get table fid ≡ Some i → maps.get (objects_of table) fid ≡ Some (object_of i)
-  seen fid i is = get-objects table fid ∙ ap (option_map object_of) is
+  -- what is kept of an object that is no directory
+  pub leaf-kept : (fid : ℕ) → option_map (λ (o : Object). is_dir o.kind) (maps.get (objects_of table) fid) ≡ Some false
+      → (i : Inode) × (maps.get table fid ≡ Some i) × (is_dir i.kind ≡ false)
+  leaf-kept fid h =
+      let o = from-map (λ (x : Object). is_dir x.kind) (maps.get (objects_of table) fid) false h in
+      let i = from-map object_of (maps.get table fid) o.0 (sym (get-objects table fid) ∙ o.1) in
+      (i.0, i.1, ap (λ (x : Object). is_dir x.kind) i.2 ∙ o.2)
 
-  -- no count of an object to which a path leads is wanting
-  pub no-links : (path : Path) (fid : ℕ) → maps.get names path ≡ Some fid → option_map (λ (i : Inode). i.links) (maps.get table fid) ≡ None → ⊥
-  no-links path fid at none = let there = led path fid at in not_none there.0.links (sym (ap (option_map (λ (i : Inode). i.links)) there.1) ∙ none)
+-- ---- an object that is found at a path
 
-  pub many-links : (path : Path) (fid links : ℕ) → maps.get names path ≡ Some fid → option_map (λ (i : Inode). i.links) (maps.get table fid) ≡ Some links
-      → given_if (nat_le 65535 links) fault.TooManyLinks ≡ too_many_links (tree_of names table made) path
-  many-links path fid links at is =
-      let old = from-map (λ (i : Inode). i.links) (maps.get table fid) links is in
-      ap (λ n. given_if (nat_le 65535 n) fault.TooManyLinks) (sym old.2 ∙ kept.counted fid old.0 old.1)
-      ∙ sym (ap (λ f. option_map_or (λ x. given_if (nat_le 65535 (paths_to names x)) fault.TooManyLinks) f None) at)
+-- an object that is found at a path has the number there
+pub number-found : (t : Tree) (path : Path) (f : Found) → Some f ≡ found_at t path → maps.get t.names path ≡ Some f.fid
+number-found t path f is = go (maps.get t.names path) is
+  where
+    go : (n : Option ℕ) → Some f ≡ option_and_then (λ fid. option_map (λ o. (let x : Found = record { fid = fid; object = o } in x)) (maps.get t.objects fid)) n → n ≡ Some f.fid
+    go None h = absurd (not_none f h)
+    go (Some fid) h = ap (λ (x : Found). Some x.fid) (from-map (λ (o : Object). (let x : Found = record { fid = fid; object = o } in x)) (maps.get t.objects fid) f (sym h)).2
+
+-- whether the path at which an object is found is its last one
+pub last-found : (t : Tree) (path : Path) (fid : ℕ) (i : Inode) → Some (found_of fid i) ≡ found_at t path → i.links ≡ links_of t (found_of fid i)
+    → given_if (is_file i.kind && (i.links == 1)) (info_of (found_of fid i)) ≡ last_name_of t path
+last-found t path fid i is links =
+    ap (λ n. given_if (is_file i.kind && (n == 1)) (info_of (found_of fid i))) links
+    ∙ ap (option_and_then (λ f. given_if (is_file f.object.kind && (links_of t f == 1)) (info_of f))) is
+
+pub object-found : (t : Tree) (path : Path) (f : Found) → Some f ≡ found_at t path → maps.get t.objects f.fid ≡ Some f.object
+object-found t path f is = go (maps.get t.names path) is
+  where
+    go : (n : Option ℕ) → Some f ≡ option_and_then (λ fid. option_map (λ o. (let x : Found = record { fid = fid; object = o } in x)) (maps.get t.objects fid)) n → maps.get t.objects f.fid ≡ Some f.object
+    go None h = absurd (not_none f h)
+    go (Some fid) h =
+        let own = from-map (λ (o : Object). (let x : Found = record { fid = fid; object = o } in x)) (maps.get t.objects fid) f (sym h) in
+        ap (λ (x : Found). maps.get t.objects x.fid) (sym own.2) ∙ own.1 ∙ ap (λ (x : Found). Some x.object) own.2
+
+not-many : (n : ℕ) → nat_le 65535 n ≡ false → n < 65535
+not-many n h = grind (arith, nat_tests)
+
+-- a found object that is no directory
+module _ (t : Tree) (path : Path) (fid : ℕ) (i : Inode) (is : Some (found_of fid i) ≡ found_at t path) (none : dir t path ≡ None) where
+  pub leaf-kind : is_dir i.kind ≡ false
+  leaf-kind = ap (λ f. option_map_or is_dir (option_map (λ (x : Found). x.object.kind) f) false) is ∙ given-false (is_at t path is_dir) fault.IsDir none
+
+  pub leaf-object : option_map (λ (o : Object). is_dir o.kind) (maps.get t.objects fid) ≡ Some false
+  leaf-object = ap (option_map (λ (o : Object). is_dir o.kind)) (object-found t path (found_of fid i) is) ∙ ap Some leaf-kind
+
+  module _ (links : i.links ≡ links_of t (found_of fid i)) where
+    pub leaf-count : i.links ≡ paths_to t.names fid
+    leaf-count = links ∙ ap (λ b. cond b 1 (paths_to t.names fid)) leaf-kind
+
+    pub leaf-many : given_if (nat_le 65535 i.links) fault.TooManyLinks ≡ too_many_links t path
+    leaf-many =
+        ap (λ n. given_if (nat_le 65535 n) fault.TooManyLinks) leaf-count
+        ∙ sym (ap (λ f. option_map_or (λ x. given_if (nat_le 65535 (paths_to t.names x)) fault.TooManyLinks) f None) (number-found t path (found_of fid i) is))
+
+    pub leaf-few : too_many_links t path ≡ None → i.links < 65535
+    leaf-few few = not-many i.links (given-false (nat_le 65535 i.links) fault.TooManyLinks (leaf-many ∙ few))
 
 -- ---- a new path of an object
 
 module _ (t : Tree) (p q : Path) (free : first_of (walk t p ∷ absent t p ∷ dir t p ∷ walk t q ∷ present t q ∷ too_many_links t p ∷ []) ≡ None) where
-  pub link_1 : first_of (absent t p ∷ dir t p ∷ walk t q ∷ present t q ∷ too_many_links t p ∷ []) ≡ None
+  link_1 : first_of (absent t p ∷ dir t p ∷ walk t q ∷ present t q ∷ too_many_links t p ∷ []) ≡ None
   link_1 = (or_none (walk t p) (first_of (absent t p ∷ dir t p ∷ walk t q ∷ present t q ∷ too_many_links t p ∷ [])) free).1
 
   link_2 : first_of (dir t p ∷ walk t q ∷ present t q ∷ too_many_links t p ∷ []) ≡ None
@@ -79,17 +116,37 @@ module _ (t : Tree) (p q : Path) (free : first_of (walk t p ∷ absent t p ∷ d
   link_3 : (dir t p ≡ None) × (first_of (walk t q ∷ present t q ∷ too_many_links t p ∷ []) ≡ None)
   link_3 = or_none (dir t p) (first_of (walk t q ∷ present t q ∷ too_many_links t p ∷ [])) link_2
 
-  pub link_4 : (walk t q ≡ None) × (first_of (present t q ∷ too_many_links t p ∷ []) ≡ None)
+  link_4 : (walk t q ≡ None) × (first_of (present t q ∷ too_many_links t p ∷ []) ≡ None)
   link_4 = or_none (walk t q) (first_of (present t q ∷ too_many_links t p ∷ [])) link_3.1
 
-  pub link-leaf : is_at t p is_dir ≡ false
-  link-leaf = given-false (is_at t p is_dir) fault.IsDir link_3.0
+  link_5 : (present t q ≡ None) × (first_of (too_many_links t p ∷ []) ≡ None)
+  link_5 = or_none (present t q) (first_of (too_many_links t p ∷ [])) link_4.1
+
+  pub link-leaf : dir t p ≡ None
+  link-leaf = link_3.0
 
   pub link-walk : walk t q ≡ None
   link-walk = link_4.0
 
   pub link-absent : found_at t q ≡ None
-  link-absent = none-from-is (found_at t q) (given-false (is_some (found_at t q)) fault.Exists (or_none (present t q) (first_of (too_many_links t p ∷ [])) link_4.1).0)
+  link-absent = none-from-is (found_at t q) (given-false (is_some (found_at t q)) fault.Exists link_5.0)
+
+  pub link-few : too_many_links t p ≡ None
+  link-few = (or_none (too_many_links t p) None link_5.1).0
+
+-- the last fault of a link, where there is no other
+pub link-last : {A : Type 0} (a b c d e f : Option A) → first_of (a ∷ b ∷ c ∷ []) ≡ None → d ≡ None → e ≡ None → first_of (a ∷ b ∷ c ∷ d ∷ e ∷ f ∷ []) ≡ f
+link-last (Some x) b c d e f h i j = absurd (not_none x h)
+link-last None (Some x) c d e f h i j = absurd (not_none x h)
+link-last None None (Some x) d e f h i j = absurd (not_none x h)
+link-last None None None (Some x) e f h i j = absurd (not_none x i)
+link-last None None None None (Some x) f h i j = absurd (not_none x j)
+link-last None None None None None None h i j = refl
+link-last None None None None None (Some x) h i j = refl
+
+-- an object that may be no directory is none
+pub no-dir : {A : Type 0} (a b c : Option A) → first_of (a ∷ b ∷ c ∷ []) ≡ None → c ≡ None
+no-dir a b c h = (or_none c None (or_none b (first_of (c ∷ [])) (or_none a (first_of (b ∷ c ∷ [])) h).1).1).0
 
 -- ---- a rename
 
@@ -113,21 +170,6 @@ without-none t q none = ap (λ o. option_map_or (λ (f : Found). (let s : Tree =
 pub name_found : (t : Tree) (p : Path) (f : Option ℕ) → maps.get t.names p ≡ f → is_none (option_and_then (λ n. option_map (λ y. (let x : Found = record { fid = n; object = y } in x)) (maps.get t.objects n)) f) ≡ false → is_some f ≡ true
 name_found t p None at h = absurd (false-true (sym h))
 name_found t p (Some fid) at h = refl
-
--- an object that is found at a path has the number there
-pub number-found : (t : Tree) (path : Path) (f : Found) → Some f ≡ found_at t path → maps.get t.names path ≡ Some f.fid
-number-found t path f is = go (maps.get t.names path) is
-  where
-    go : (n : Option ℕ) → Some f ≡ option_and_then (λ fid. option_map (λ o. (let x : Found = record { fid = fid; object = o } in x)) (maps.get t.objects fid)) n → n ≡ Some f.fid
-    go None h = absurd (not_none f h)
-    go (Some fid) h = ap (λ (x : Found). Some x.fid) (from-map (λ (o : Object). (let x : Found = record { fid = fid; object = o } in x)) (maps.get t.objects fid) f (sym h)).2
-
--- whether the path at which an object is found is its last one
-pub last-found : (t : Tree) (path : Path) (fid : ℕ) (i : Inode) → Some (found_of fid i) ≡ found_at t path → i.links ≡ links_of t (found_of fid i)
-    → given_if (is_file i.kind && (i.links == 1)) (info_of (found_of fid i)) ≡ last_name_of t path
-last-found t path fid i is links =
-    ap (λ n. given_if (is_file i.kind && (n == 1)) (info_of (found_of fid i))) links
-    ∙ ap (option_and_then (λ f. given_if (is_file f.object.kind && (links_of t f == 1)) (info_of f))) is
 
 module _ (t : Tree) (rules : IsTree t) (p q : Path) (free : first_of (walk t p ∷ absent t p ∷ into_itself t p q ∷ walk t q ∷ not_replaceable t p q ∷ []) ≡ None)
     (two : is_same_object t p q ≡ false) (from : is_root p ≡ false) where

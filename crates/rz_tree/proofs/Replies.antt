@@ -10,10 +10,10 @@ use Rattle.rz_events.specs.declared.tree.TreeFault.{TreeFault}
 use Rattle.rz_events.specs.declared.tree.TreeFault.TheVariants as fault
 use Rattle.rz_export_model.specs.Firsts.{first_of, given_if}
 use Rattle.rz_export_model.specs.Paths.{Path, path_of, is_root}
-use Rattle.rz_export_model.specs.Tree.{Tree, moved}
+use Rattle.rz_export_model.specs.Tree.{Tree, fid_at, moved}
 use Rattle.rz_export_model.specs.Refusals.{path_in, unreadable, unreadable_or_root, walk, absent, dir, present, too_many_links, into_itself, not_replaceable, is_same_object, refusal}
-use Rattle.rz_export_model.specs.TreeCalls.{answer_to, changed_by, reply_to, tree_after, last_name_of, replaced, renamed, without_name}
-use Rattle.rz_tree.specs.Calls.{proper_path_of, with_name_of}
+use Rattle.rz_export_model.specs.TreeCalls.{answer_to, changed_by, reply_to, tree_after, last_name_of, replaced, renamed, with_name, without_name}
+use Rattle.rz_tree.specs.Calls.{proper_path_of}
 use Rattle.rz_tree.proofs.Keys.{same_some, not_none}
 
 pub proper-some : (text : List ℕ) (p : Path) → proper_path_of text ≡ Some p → (unreadable_or_root text ≡ None) × (path_in text ≡ p)
@@ -93,11 +93,13 @@ module _ (t : Tree) (text to : List ℕ) (p q : Path) (at : proper_path_of text 
   pub link-refusal : (r : Option TreeFault) → link_fault t p q ≡ r → refusal t (call.Link text to) ≡ r
   link-refusal r h = both-refusal text to (link_fault t) p q r at at_to h
 
-  pub link-changed : with_name_of t p q ≡ changed_by t 0 [] (call.Link text to)
-  link-changed =
+  pub link-changed : (fid : ℕ) → fid_at t p ≡ Some fid → with_name t q fid ≡ changed_by t 0 [] (call.Link text to)
+  link-changed fid number =
       let a = proper-some text p at in
       let b = proper-some to q at_to in
-      ap (λ x. with_name_of t x q) (sym a.1) ∙ ap (with_name_of t (path_in text)) (sym b.1)
+      sym (ap (λ f. option_map_or (λ x. with_name t q x) f t) number)
+      ∙ ap (λ x. option_map_or (λ y. with_name t q y) (fid_at t x) t) (sym a.1)
+      ∙ ap (λ z. option_map_or (λ y. with_name t z y) (fid_at t (path_in text)) t) (sym b.1)
 
   pub rename-refusal : (r : Option TreeFault) → rename_fault t p q ≡ r → refusal t (call.Rename text to) ≡ r
   rename-refusal r h = both-refusal text to (rename_fault t) p q r at at_to h

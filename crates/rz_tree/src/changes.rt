@@ -1,13 +1,15 @@
 //! Calls that change attributes, or add or take away a name.
 
-ghost use Rattle.std.specs.Prelude.{◌≡◌, ◌==◌, ◌&&◌, ◌∷◌, false, [], Some, None, IfOk, OnOk, OnErr, IsTrue};
-ghost use Rattle.rz_export_model.specs.Firsts.{first_of, given_if};
+ghost use Rattle.std.specs.Prelude.{◌≡◌, ◌==◌, ◌&&◌, ◌<◌, false, [], Some, None, IfOk, OnOk, OnErr, IsTrue};
+ghost use Rattle.std.specs.FinMap as maps;
+ghost use Rattle.std.specs.Option.{option_map};
+ghost use Rattle.rz_export_model.specs.Firsts.{given_if};
 ghost use Rattle.rz_export_model.specs.Paths.{is_root};
-ghost use Rattle.rz_export_model.specs.Refusals.{walk, absent, present, dir, too_many_links};
-ghost use Rattle.rz_export_model.specs.Tree.{names_under, fid_at, is_at, is_dir, is_file, info_of, with_object};
-ghost use Rattle.rz_export_model.specs.TreeCalls.{reply_to, tree_after, without_name, last_name_of};
+ghost use Rattle.rz_export_model.specs.Refusals.{walk};
+ghost use Rattle.rz_export_model.specs.Tree.{names_under, paths_to, found_at, fid_at, is_at, is_dir, is_file, info_of, with_object};
+ghost use Rattle.rz_export_model.specs.TreeCalls.{reply_to, tree_after, with_name, without_name, last_name_of};
 ghost use Rattle.rz_events.specs.declared.tree.TreeCall.{TreeCall};
-ghost use Rattle.rz_tree.specs.Calls.{proper_path_of, with_name_of};
+ghost use Rattle.rz_tree.specs.Calls.{proper_path_of};
 ghost use Rattle.rz_tree.specs.Inodes.{found_of};
 
 use crate::inodes::Inode;
@@ -53,11 +55,14 @@ impl Tree {
         let Some(to) = read_below(self.alloc, to)? else {
             return Ok(TreeReply::Refused(TreeFault::BadName));
         };
-        if let Some(fault) = self.no_link(&path, &to) {
-            return Ok(TreeReply::Refused(fault));
+        match self.linkable_at(&path, &to) {
+            Err(fault) => Ok(TreeReply::Refused(fault)),
+            Ok((fid, inode)) => {
+                let links = inode.links;
+                self.add_name(&to, fid, links)?;
+                Ok(TreeReply::Plain)
+            }
         }
-        self.add_name(&path, &to)?;
-        Ok(TreeReply::Plain)
     }
 
     /// Takes a path to a file or a symbolic link away.
@@ -104,19 +109,17 @@ impl Tree {
         self.inodes.set_attributes(fid, mode, mtime);
     }
 
-    // Adds a path to the object at another one, where nothing forbids it.
-    fn add_name(&mut self, path: &Path, to: &Path) -> Result<(), AllocError>
-        requires free { first_of (walk self.old path.now ∷ absent self.old path.now ∷ dir self.old path.now ∷ walk self.old to.now ∷ present self.old to.now ∷ too_many_links self.old path.now ∷ []) ≡ None }
+    // Adds a path, where nothing stands, to an object that is no directory and has these links.
+    fn add_name(&mut self, to: &Path, fid: u128, links: u32) -> Result<(), AllocError>
+        requires leaf { option_map (λ o. is_dir o.kind) (maps.get self.old.objects fid) ≡ Some false }
+        requires count { links ≡ paths_to self.old.names fid }
+        requires few { links < 65535 }
+        requires walked { walk self.old to.now ≡ None }
+        requires absent { found_at self.old to.now ≡ None }
         requires below { is_root to.now ≡ false }
-        ensures ok { OnOk result (self.new ≡ with_name_of self.old path.now to.now) }
+        ensures ok { OnOk result (self.new ≡ with_name self.old to.now fid) }
         ensures err { OnErr result (self.new ≡ self.old) }
     {
-        let Some(fid) = self.names.find(path, path.names().len()) else {
-            return Ok(());
-        };
-        let Some(links) = self.inodes.links(fid) else {
-            return Ok(());
-        };
         self.names.add(to, fid)?;
         self.inodes.set_links(fid, links + 1);
         Ok(())

@@ -123,6 +123,25 @@ impl Tree {
         }
     }
 
+    // The object at a path with its number, or why `to` can't be one more path of it.
+    pub(crate) fn linkable_at(&self, path: &Path, to: &Path) -> Result<(u128, &Inode), TreeFault>
+        ensures found { IfOk result (λ p. Some (found_of p.0 p.1.now) ≡ found_at self.now path.now) }
+        ensures links { IfOk result (λ p. p.1.now.links ≡ links_of self.now (found_of p.0 p.1.now)) }
+        ensures fault { result_err result ≡ first_of (walk self.now path.now ∷ absent self.now path.now ∷ dir self.now path.now ∷ walk self.now to.now ∷ present self.now to.now ∷ too_many_links self.now path.now ∷ []) }
+    {
+        let found = self.leaf_at(path)?;
+        if let Some(fault) = self.walk(to) {
+            return Err(fault);
+        }
+        if self.found(to).is_some() {
+            return Err(TreeFault::Exists);
+        }
+        match too_many(found.1.links) {
+            None => Ok(found),
+            Some(fault) => Err(fault),
+        }
+    }
+
     // Why there is no object at a path.
     pub(crate) fn missing(&self, path: &Path) -> Option<TreeFault>
         ensures { result ≡ first_of (walk self.now path.now ∷ absent self.now path.now ∷ []) }
@@ -154,40 +173,6 @@ impl Tree {
         ensures { result ≡ (nat_lt 65536 (maps.len self.now.objects) || nat_le (2 ^ 128 - 1) self.now.made) }
     {
         self.inodes.len() > MOST_OBJECTS || is_last(self.made)
-    }
-
-    // Why there is no file and no symbolic link at a path.
-    pub(crate) fn no_leaf(&self, path: &Path) -> Option<TreeFault>
-        ensures { result ≡ first_of (walk self.now path.now ∷ absent self.now path.now ∷ dir self.now path.now ∷ []) }
-    {
-        self.leaf_at(path).err()
-    }
-
-    // Why the object at a path can't get another one.
-    pub(crate) fn no_link(&self, path: &Path, to: &Path) -> Option<TreeFault>
-        ensures { result ≡ first_of (walk self.now path.now ∷ absent self.now path.now ∷ dir self.now path.now ∷ walk self.now to.now ∷ present self.now to.now ∷ too_many_links self.now path.now ∷ []) }
-    {
-        if let Some(fault) = self.no_leaf(path) {
-            return Some(fault);
-        }
-        if let Some(fault) = self.walk(to) {
-            return Some(fault);
-        }
-        if self.found(to).is_some() {
-            return Some(TreeFault::Exists);
-        }
-        self.too_many_links(path)
-    }
-
-    // Whether the object at a path has as many paths as an object may have.
-    fn too_many_links(&self, path: &Path) -> Option<TreeFault>
-        ensures { result ≡ too_many_links self.now path.now }
-    {
-        let fid = self.names.find(path, path.names().len())?;
-        match self.inodes.links(fid) {
-            Some(links) => too_many(links),
-            None => None,
-        }
     }
 
     // Whether there are names right under a path.
