@@ -19,7 +19,7 @@ use Rattle.rz_export_model.specs.TreeCalls.{changed_by, with_name, renamed, with
 use Rattle.rz_tree.specs.Added.{FitsKind, IsDirectory, IsSymlink}
 use Rattle.rz_export_laws.specs.WholeTree.{IsWholeTree, is_plain, CallKeepsTree}
 use Rattle.rz_tree.proofs.Keys.{none-or-some, held}
-use Rattle.rz_tree.proofs.Calls.{above-other, at-dir, without-none, link-leaf, link-walk, link-absent, rename-walk, rename-away, rename-last}
+use Rattle.rz_tree.proofs.Calls.{above-other, without-none, link-leaf, link-walk, link-absent, rename-walk, rename-away, rename-last}
 use Rattle.rz_tree.proofs.Adds.{or_none, given-false, absent-name, above-dir}
 use Rattle.rz_tree.proofs.Names.{empty-under, leaf-under}
 use Rattle.rz_export_laws.proofs.Changed.{changed-whole}
@@ -28,7 +28,7 @@ use Rattle.rz_export_laws.proofs.Taken.{taken-whole, taken-dir, taken-gone}
 use Rattle.rz_export_laws.proofs.Linked.{linked-whole}
 use Rattle.rz_export_laws.proofs.Moved.{moved-whole}
 use Rattle.rz_export_laws.proofs.Spelled.{plain-in}
-use Rattle.rz_export_laws.proofs.Refused.{stands, link-there, link-room}
+use Rattle.rz_export_laws.proofs.Refused.{at-dir, stands, link-there, link-room}
 
 -- ---- attributes and sizes
 
@@ -169,7 +169,7 @@ module _ (t : Tree) (w : IsWholeTree t) (cid : ℕ) (places : List ℕ) where
       let other : is_root q ≡ false = given-false (is_root q) fault.BadName both.0 in
       let s = stands t w.rules p (link-there t p q both.1) in
       subst (λ f. IsWholeTree (option_map_or (λ fid. with_name t q fid) f t)) (sym s.2)
-      (linked-whole t w q s.0 s.1 s.3 (sym (at-dir t p s.0 s.1 s.2 s.3) ∙ link-leaf t p q both.1) (link-room t p q both.1 s.0 s.2)
+      (linked-whole t w q s.0 s.1 s.3 (sym (at-dir t p s.0 s.1 s.2 s.3) ∙ given-false (is_at t p is_dir) fault.IsDir (link-leaf t p q both.1)) (link-room t p q both.1 s.0 s.2)
       (absent-name t w.rules q (link-absent t p q both.1)) other (above-dir t w.rules q other (link-walk t p q both.1)) (plain-in to))
   answered (call.Rename path to) free =
       let p = path_in path in
