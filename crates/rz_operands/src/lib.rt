@@ -4,7 +4,8 @@
 //! `specs/Words` spells the words that a script and a printed log write alike; `specs/Numerals` says which
 //! number a word of decimal digits is. `specs/Grammar` says what a word means, and what the words after the
 //! first word of an operation mean, or their first cause ([`ScriptCause`]). A function that takes memory
-//! answers the same, or that there is none ([`LineError`]). Which lines the words make, `rz_script` says.
+//! answers the same, or that there is none ([`LineError`]). Which words of the line a function leaves, also
+//! where it fails, `specs/Left` says. Which lines the words make, `rz_script` says.
 //!
 //! In reading order: `spelling`, `fault`, `form`, `words`, `judges`, `verbs`, `operations`.
 #![tactic(auto)]

@@ -3,6 +3,7 @@
 ghost use Rattle.std.specs.Prelude.{◌≡◌};
 ghost use Rattle.rz_operands.specs.Given.{Gives};
 ghost use Rattle.rz_operands.specs.Grammar.{on_path, on_pair, setattr, put, get, bytes_at, range_at, rebuild, operands};
+ghost use Rattle.rz_operands.specs.Left.{left};
 ghost use Rattle.rz_operands.specs.Shared.{written, wanted};
 
 use crate::fault::{LineError, ScriptCause};
@@ -18,7 +19,8 @@ use std::alloc::Global;
 /// A call on one path.
 #[tactic(auto, unfolding(crate::specs::Grammar::on_path))]
 fn read_on_path(alloc: Global, verb: PathVerb, words: &mut Words) -> Result<Operation, LineError>
-    ensures { Gives result (on_path verb words.old) }
+    ensures operation { Gives result (on_path verb words.old) }
+    ensures left { words.new ≡ left (on_path verb) words.old }
 {
     let path = words.next()?;
     words.end()?;
@@ -29,7 +31,8 @@ fn read_on_path(alloc: Global, verb: PathVerb, words: &mut Words) -> Result<Oper
 /// A call on two words.
 #[tactic(auto, unfolding(crate::specs::Grammar::on_pair))]
 fn read_on_pair(alloc: Global, verb: PairVerb, words: &mut Words) -> Result<Operation, LineError>
-    ensures { Gives result (on_pair verb words.old) }
+    ensures operation { Gives result (on_pair verb words.old) }
+    ensures left { words.new ≡ left (on_pair verb) words.old }
 {
     let first = words.next()?;
     let second = words.next()?;
@@ -39,9 +42,10 @@ fn read_on_pair(alloc: Global, verb: PairVerb, words: &mut Words) -> Result<Oper
     Ok(Operation::Tree(pair_call(verb, first, second)))
 }
 
-#[tactic(auto, unfolding(crate::specs::Grammar::setattr))]
+#[tactic(auto, using(crate::proofs::Left::setattr_mode, crate::proofs::Left::setattr_mtime), unfolding(crate::specs::Grammar::setattr))]
 fn read_setattr(alloc: Global, words: &mut Words) -> Result<Operation, LineError>
-    ensures { Gives result (setattr words.old) }
+    ensures operation { Gives result (setattr words.old) }
+    ensures left { words.new ≡ left setattr words.old }
 {
     let path = words.next()?;
     let mode = read_number_in(words.next()?, 0, 4095)? as u16;
@@ -53,7 +57,8 @@ fn read_setattr(alloc: Global, words: &mut Words) -> Result<Operation, LineError
 
 #[tactic(auto, unfolding(crate::specs::Grammar::put))]
 fn read_put(alloc: Global, volume: &Volume, words: &mut Words) -> Result<Operation, LineError>
-    ensures { Gives result (put volume.now words.old) }
+    ensures operation { Gives result (put volume.now words.old) }
+    ensures left { words.new ≡ left (put volume.now) words.old }
 {
     let path = words.next()?;
     let block = read_number(words.next()?)?;
@@ -64,9 +69,10 @@ fn read_put(alloc: Global, volume: &Volume, words: &mut Words) -> Result<Operati
     Ok(Operation::Put { path, block, datum })
 }
 
-#[tactic(auto, unfolding(crate::specs::Grammar::get))]
+#[tactic(auto, using(crate::proofs::Left::get_block), unfolding(crate::specs::Grammar::get))]
 fn read_get(alloc: Global, words: &mut Words) -> Result<Operation, LineError>
-    ensures { Gives result (get words.old) }
+    ensures operation { Gives result (get words.old) }
+    ensures left { words.new ≡ left get words.old }
 {
     let path = words.next()?;
     let block = read_number(words.next()?)?;
@@ -78,7 +84,8 @@ fn read_get(alloc: Global, words: &mut Words) -> Result<Operation, LineError>
 /// A datum that is written from an offset on. An update locks its range.
 #[tactic(auto, unfolding(crate::specs::Grammar::bytes_at))]
 fn read_write(alloc: Global, locks: bool, words: &mut Words) -> Result<Operation, LineError>
-    ensures { Gives result (bytes_at (written locks) words.old) }
+    ensures operation { Gives result (bytes_at (written locks) words.old) }
+    ensures left { words.new ≡ left (bytes_at (written locks)) words.old }
 {
     let path = words.next()?;
     let offset = read_number(words.next()?)?;
@@ -103,7 +110,8 @@ fn read_write(alloc: Global, locks: bool, words: &mut Words) -> Result<Operation
 /// Bytes that are read from an offset on. A view locks its range.
 #[tactic(auto, unfolding(crate::specs::Grammar::range_at))]
 fn read_read(alloc: Global, locks: bool, words: &mut Words) -> Result<Operation, LineError>
-    ensures { Gives result (range_at (wanted locks) words.old) }
+    ensures operation { Gives result (range_at (wanted locks) words.old) }
+    ensures left { words.new ≡ left (range_at (wanted locks)) words.old }
 {
     let path = words.next()?;
     let offset = read_number(words.next()?)?;
@@ -125,16 +133,18 @@ fn read_read(alloc: Global, locks: bool, words: &mut Words) -> Result<Operation,
     })
 }
 
-#[tactic(auto, unfolding(crate::specs::Grammar::rebuild))]
+#[tactic(auto, using(crate::proofs::Left::rebuild_node), unfolding(crate::specs::Grammar::rebuild))]
 fn read_rebuild(volume: &Volume, words: &mut Words) -> Result<Operation, ScriptCause>
-    ensures { result ≡ rebuild volume.now words.old }
+    ensures operation { result ≡ rebuild volume.now words.old }
+    ensures left { words.new ≡ left (rebuild volume.now) words.old }
 {
     let node = read_node(volume, words.next()?)?;
     words.end()?;
     Ok(Operation::Rebuild { node })
 }
 
-/// The words after the first word of an operation.
+/// The words after the first word of an operation. It takes words up to the first that is refused, and
+/// leaves the others.
 #[tactic(auto, unfolding(crate::specs::Grammar::operands))]
 pub fn read_operands(
     alloc: Global,
@@ -142,7 +152,8 @@ pub fn read_operands(
     verb: Verb,
     words: &mut Words,
 ) -> Result<Operation, LineError>
-    ensures { Gives result (operands volume.now verb words.old) }
+    ensures operation { Gives result (operands volume.now verb words.old) }
+    ensures left { words.new ≡ left (operands volume.now verb) words.old }
 {
     match verb {
         Verb::OnPath(verb) => read_on_path(alloc, verb, words),

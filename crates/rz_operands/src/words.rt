@@ -1,6 +1,6 @@
 //! The words of a line.
 
-ghost use Rattle.std.specs.Prelude.{◌≡◌, ◌<◌, ◌+◌, ◌==◌, List, [], ◌∷◌, ◌++◌, length, IfSome, MatchOption, MatchResult};
+ghost use Rattle.std.specs.Prelude.{◌≡◌, ◌<◌, ◌+◌, ◌==◌, List, [], ◌∷◌, ◌++◌, length, drop, IfSome, MatchOption, MatchResult};
 ghost use Rattle.std.specs.List.{slice_split, after_first};
 ghost use Rattle.rz_operands.specs.declared.fault.ScriptCause.TheVariants.{MissingWord};
 ghost use Rattle.rz_operands.specs.Grammar.{words, after_word, done};
@@ -32,9 +32,10 @@ impl<'a> Words<'a> {
         Words { rest: line }
     }
 
-    /// The next word.
+    /// Takes the next word. Where none is left, a word is missing.
     pub fn next(&mut self) -> Result<&'a str, ScriptCause>
-        ensures { MatchResult result (λ w. self.old ≡ w.now ∷ self.new) (λ e. (self.old ≡ []) × (e ≡ MissingWord)) }
+        ensures word { MatchResult result (λ w. self.old ≡ w.now ∷ self.new) (λ e. (self.old ≡ []) × (e ≡ MissingWord)) }
+        ensures left { self.new ≡ drop 1 self.old }
     {
         match split_word(self.rest) {
             Some((word, rest)) => {
