@@ -87,8 +87,9 @@ fn find_groups(
     requires count { length positions.now ≡ inverse_of layout }
     requires bins { length bins.now ≡ length answers.old * sum_by (λ i. 8 * bins_at_of layout i) positions.now }
     requires room { length out.old ≡ length answers.old * (8 * words_of layout) }
-    ensures { (i j : ℕ) → i < length answers.old → j < 8 →
+    ensures solved { (i j : ℕ) → i < length answers.old → j < 8 →
         IsSolved layout (group_search layout positions.now bins.now i) (group_at layout out.new i) (slice_index answers.new i) j }
+    ensures empty { work.new ≡ empty_search (inverse_of layout) (cols_of layout) }
 {
     let each = eight_bins(layout, positions);
     let words = 8 * (layout.inverse() * layout.cols());

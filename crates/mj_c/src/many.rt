@@ -111,6 +111,7 @@ fn find_each(
     requires room { length out.old ≡ blocks * words_of layout }
     ensures found { result ≡ true → (i : ℕ) → i < blocks → IsAnswered layout positions.now bins.now out.new i }
     ensures none { result ≡ false → (i : ℕ) × (i < blocks) × ((g : Grid) → ¬ IsFound (search_at layout positions.now bins.now i) g) }
+    ensures empty { work.new ≡ empty_search (inverse_of layout) (cols_of layout) }
 {
     let each = total_bins(layout, positions);
     let words = layout.inverse() * layout.cols();
