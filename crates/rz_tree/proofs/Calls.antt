@@ -1,8 +1,7 @@
 -- What the conditions of the steps of calls say of kept names and objects.
-use Rattle.std.proofs.Common.{◌≡◌, ℕ, ◌<◌, ◌≤◌, Bool, true, false, cond, ◌&&◌, ◌||◌, [], ◌∷◌, ◌++◌, length, take, drop, Option, Some, None, is_some, sym, ap, ◌∙◌, refl, arith, eq-eqb, inl, inr, length-append}
+use Rattle.std.proofs.Common.{◌≡◌, ℕ, ◌<◌, ◌≤◌, Bool, true, false, cond, ◌&&◌, ◌||◌, [], ◌∷◌, ◌++◌, length, drop, Option, Some, None, is_some, sym, ap, ◌∙◌, refl, arith, eq-eqb, eqb-true, inl, inr, length-append}
 use Rattle.std.specs.Prelude.{nat_lt, nat_le, ◌==◌, is_none}
 use Rattle.std.proofs.lemmas.Bool.Decides.{nat_tests}
-use Rattle.std.proofs.lemmas.List.{take_all}
 use Rattle.std.specs.Option.{option_map, option_map_or, option_and_then}
 use Rattle.std.specs.Ordering.{eq_by_cmp}
 use Rattle.std.specs.FinMap as maps
@@ -20,13 +19,9 @@ use Rattle.rz_tree.proofs.Keys.{not_none, false-true, held, true-or-false, apart
 use Rattle.rz_tree.proofs.Tables.{get-objects}
 use Rattle.rz_tree.proofs.Fronts.{append-nothing, split-above, walked-front}
 use Rattle.rz_names.proofs.PathOrder.{begins-front}
-use Rattle.rz_tree.proofs.Rules.{from-map, map-some}
+use Rattle.rz_tree.proofs.Rules.{from-map, map-some, found-there}
 use Rattle.rz_tree.proofs.Names.{empty-under, leaf-under, absent-under}
 use Rattle.rz_tree.proofs.Adds.{or_none, given-false, none-from-is, absent-name}
-
--- a search for all names of a path
-pub whole-path : (names path : Path) → names ≡ path → take (length names) path ≡ path
-whole-path names path same = ap (λ x. take (length x) path) same ∙ take_all (length path) path (omega arith)
 
 lt-true : (a b : ℕ) → a < b → nat_lt a b ≡ true
 lt-true a b h = grind (arith, nat_tests)
@@ -57,14 +52,6 @@ module _ (names : FinMap path_cmp ℕ) (table : Table) (made : ℕ) (kept : IsKe
 
 -- ---- an object that is found at a path
 
--- an object that is found at a path has the number there
-pub number-found : (t : Tree) (path : Path) (f : Found) → Some f ≡ found_at t path → maps.get t.names path ≡ Some f.fid
-number-found t path f is = go (maps.get t.names path) is
-  where
-    go : (n : Option ℕ) → Some f ≡ option_and_then (λ fid. option_map (λ o. (let x : Found = record { fid = fid; object = o } in x)) (maps.get t.objects fid)) n → n ≡ Some f.fid
-    go None h = absurd (not_none f h)
-    go (Some fid) h = ap (λ (x : Found). Some x.fid) (from-map (λ (o : Object). (let x : Found = record { fid = fid; object = o } in x)) (maps.get t.objects fid) f (sym h)).2
-
 -- whether the path at which an object is found is its last one
 pub last-found : (t : Tree) (path : Path) (fid : ℕ) (i : Inode) → Some (found_of fid i) ≡ found_at t path → i.links ≡ links_of t (found_of fid i)
     → given_if (is_file i.kind && (i.links == 1)) (info_of (found_of fid i)) ≡ last_name_of t path
@@ -72,14 +59,8 @@ last-found t path fid i is links =
     ap (λ n. given_if (is_file i.kind && (n == 1)) (info_of (found_of fid i))) links
     ∙ ap (option_and_then (λ f. given_if (is_file f.object.kind && (links_of t f == 1)) (info_of f))) is
 
-pub object-found : (t : Tree) (path : Path) (f : Found) → Some f ≡ found_at t path → maps.get t.objects f.fid ≡ Some f.object
-object-found t path f is = go (maps.get t.names path) is
-  where
-    go : (n : Option ℕ) → Some f ≡ option_and_then (λ fid. option_map (λ o. (let x : Found = record { fid = fid; object = o } in x)) (maps.get t.objects fid)) n → maps.get t.objects f.fid ≡ Some f.object
-    go None h = absurd (not_none f h)
-    go (Some fid) h =
-        let own = from-map (λ (o : Object). (let x : Found = record { fid = fid; object = o } in x)) (maps.get t.objects fid) f (sym h) in
-        ap (λ (x : Found). maps.get t.objects x.fid) (sym own.2) ∙ own.1 ∙ ap (λ (x : Found). Some x.object) own.2
+pub no-last : (t : Tree) (path : Path) → found_at t path ≡ None → None ≡ last_name_of t path
+no-last t path none = sym (ap (option_and_then (λ f. given_if (is_file f.object.kind && (links_of t f == 1)) (info_of f))) none)
 
 not-many : (n : ℕ) → nat_le 65535 n ≡ false → n < 65535
 not-many n h = grind (arith, nat_tests)
@@ -90,7 +71,7 @@ module _ (t : Tree) (path : Path) (fid : ℕ) (i : Inode) (is : Some (found_of f
   leaf-kind = ap (λ f. option_map_or is_dir (option_map (λ (x : Found). x.object.kind) f) false) is ∙ given-false (is_at t path is_dir) fault.IsDir none
 
   pub leaf-object : option_map (λ (o : Object). is_dir o.kind) (maps.get t.objects fid) ≡ Some false
-  leaf-object = ap (option_map (λ (o : Object). is_dir o.kind)) (object-found t path (found_of fid i) is) ∙ ap Some leaf-kind
+  leaf-object = ap (option_map (λ (o : Object). is_dir o.kind)) (found-there t path (found_of fid i) is).1 ∙ ap Some leaf-kind
 
   module _ (links : i.links ≡ links_of t (found_of fid i)) where
     pub leaf-count : i.links ≡ paths_to t.names fid
@@ -99,7 +80,7 @@ module _ (t : Tree) (path : Path) (fid : ℕ) (i : Inode) (is : Some (found_of f
     pub leaf-many : given_if (nat_le 65535 i.links) fault.TooManyLinks ≡ too_many_links t path
     leaf-many =
         ap (λ n. given_if (nat_le 65535 n) fault.TooManyLinks) leaf-count
-        ∙ sym (ap (λ f. option_map_or (λ x. given_if (nat_le 65535 (paths_to t.names x)) fault.TooManyLinks) f None) (number-found t path (found_of fid i) is))
+        ∙ sym (ap (λ f. option_map_or (λ x. given_if (nat_le 65535 (paths_to t.names x)) fault.TooManyLinks) f None) (found-there t path (found_of fid i) is).0)
 
     pub leaf-few : too_many_links t path ≡ None → i.links < 65535
     leaf-few few = not-many i.links (given-false (nat_le 65535 i.links) fault.TooManyLinks (leaf-many ∙ few))
@@ -150,6 +131,24 @@ no-dir a b c h = (or_none c None (or_none b (first_of (c ∷ [])) (or_none a (fi
 
 -- ---- a rename
 
+-- whether two paths name one object, by the numbers to which they lead
+module _ (t : Tree) (p q : Path) (f : ℕ) (at : maps.get t.names p ≡ Some f) where
+  by-target : (o : Option ℕ) → maps.get t.names q ≡ o → is_same_object t p q ≡ option_map_or (λ g. f == g) o false
+  by-target o at_q =
+      ap (λ n. option_map_or (λ x. option_map_or (λ y. x == y) (maps.get t.names q) false) n false) at ∙ ap (λ n. option_map_or (λ y. f == y) n false) at_q
+
+  pub same-object : (g : ℕ) → maps.get t.names q ≡ Some g → f ≡ g → is_same_object t p q ≡ true
+  same-object g at_q same = by-target (Some g) at_q ∙ eq-eqb f g same
+
+  pub other-object : (g : ℕ) → maps.get t.names q ≡ Some g → (f ≡ g → ⊥) → is_same_object t p q ≡ false
+  other-object g at_q other = by-target (Some g) at_q ∙ elim (true-or-false (f == g)) [
+    | inl same ↦ absurd (other (eqb-true f g same))
+    | inr is ↦ is
+  ]
+
+  pub no-object : maps.get t.names q ≡ None → is_same_object t p q ≡ false
+  no-object none = by-target None none
+
 -- what stands above a path is another path
 pub above-other : (q : Path) → is_root q ≡ false → eq_by_cmp path_cmp (above q) q ≡ false
 above-other q other =
@@ -195,8 +194,7 @@ module _ (t : Tree) (rules : IsTree t) (p q : Path) (free : first_of (walk t p �
   there = name_found t p (maps.get t.names p) refl (given-false (is_none (found_at t p)) fault.NoEntry rename_2.0)
 
   itself : (fid : ℕ) → maps.get t.names p ≡ Some fid → is_same_object t p p ≡ true
-  itself fid at =
-      ap (λ f. option_map_or (λ x. option_map_or (λ y. x == y) f false) f false) at ∙ eq-eqb fid fid refl
+  itself fid at = same-object t p p fid at fid at refl
 
   and_true : (a b : Bool) → a ≡ true → b ≡ true → (a && b) ≡ true
   and_true true b ha hb = hb

@@ -6,7 +6,7 @@ use Rattle.std.specs.Cmp.{nat_cmp_total}
 use Rattle.std.specs.FinMap as maps
 use Rattle.std.specs.FinMap.{FinMap, get-empty, nat_cmp-IsAntisymmetric}
 use Rattle.rz_export_model.specs.Paths.{Name, Path, path_cmp, paths_total, exact_paths}
-use Rattle.rz_export_model.specs.Tree.{Tree, Object, Found, is_at, is_dir, paths_to, new_dir, empty_tree}
+use Rattle.rz_export_model.specs.Tree.{Tree, Object, Found, found_at, is_at, is_dir, paths_to, new_dir, empty_tree}
 use Rattle.rz_names.specs.Names.{root_alone}
 use Rattle.rz_tree.specs.declared.inodes.Inode.{Inode}
 use Rattle.rz_tree.specs.Inodes.{Table, object_of, objects_of, changed_at}
@@ -14,31 +14,6 @@ use Rattle.rz_tree.specs.Trees.{tree_of, IsKept}
 use Rattle.rz_tree.proofs.Keys.{same_some, not_none, false-true, one-or-two, ties-itself, get-inserted, get-beside}
 use Rattle.rz_tree.proofs.Tables.{get-objects, objects-insert, objects-empty}
 use Rattle.rz_tree.proofs.Counts.{count-insert, no-path, one_if-same}
-
--- a directory that stands at a path
-pub record DirAt (t : Tree) (path : Path) : Type 0 where
-  pub fid : ℕ
-  pub object : Object
-  pub at : maps.get t.names path ≡ Some fid
-  pub is : maps.get t.objects fid ≡ Some object
-  pub dir : is_dir object.kind ≡ true
-
-dir_found : (t : Tree) (path : Path) (f : Option ℕ) → maps.get t.names path ≡ f
-    → option_map_or is_dir (option_map (λ (x : Found). x.object.kind) (option_and_then (λ fid. option_map (λ o. record { fid = fid; object = o }) (maps.get t.objects fid)) f)) false ≡ true → DirAt t path
-dir_found t path None at h = absurd (false-true h)
-dir_found t path (Some fid) at h = go (maps.get t.objects fid) refl h
-  where
-    go : (o : Option Object) → maps.get t.objects fid ≡ o → option_map_or is_dir (option_map (λ (x : Found). x.object.kind) (option_map (λ o. record { fid = fid; object = o }) o)) false ≡ true → DirAt t path
-    go None is h = absurd (false-true h)
-    go (Some o) is h = record { fid = fid; object = o; at = at; is = is; dir = h }
-
-pub dir-found : (t : Tree) (path : Path) → is_at t path is_dir ≡ true → DirAt t path
-dir-found t path h = dir_found t path (maps.get t.names path) refl h
-
-pub dir-is : (t : Tree) (path : Path) → DirAt t path → is_at t path is_dir ≡ true
-dir-is t path d =
-    ap (λ f. option_map_or is_dir (option_map (λ (x : Found). x.object.kind) (option_and_then (λ fid. option_map (λ o. record { fid = fid; object = o }) (maps.get t.objects fid)) f)) false) d.at
-    ∙ ap (λ o. option_map_or is_dir (option_map (λ (x : Found). x.object.kind) (option_map (λ o. record { fid = d.fid; object = o }) o)) false) d.is ∙ d.dir
 
 -- what a map of an option holds comes from what the option holds
 pub from-map : {A B : Type 0} (g : A → B) (o : Option A) (y : B) → option_map g o ≡ Some y → (x : A) × (o ≡ Some x) × (g x ≡ y)
@@ -48,6 +23,37 @@ from-map g (Some x) y h = (x, refl, same_some (g x) y h)
 pub map-some : {A B : Type 0} (g : A → B) (o : Option A) → is_some (option_map g o) ≡ is_some o
 map-some g None = refl
 map-some g (Some x) = refl
+
+-- an object that is found at a path: it stands under the number to which the path leads
+pub found-there : (t : Tree) (path : Path) (f : Found) → Some f ≡ found_at t path → (maps.get t.names path ≡ Some f.fid) × (maps.get t.objects f.fid ≡ Some f.object)
+found-there t path f is = go (maps.get t.names path) is
+  where
+    go : (n : Option ℕ) → Some f ≡ option_and_then (λ fid. option_map (λ o. (let x : Found = record { fid = fid; object = o } in x)) (maps.get t.objects fid)) n
+        → (n ≡ Some f.fid) × (maps.get t.objects f.fid ≡ Some f.object)
+    go None h = absurd (not_none f h)
+    go (Some fid) h =
+        let own = from-map (λ (o : Object). (let x : Found = record { fid = fid; object = o } in x)) (maps.get t.objects fid) f (sym h) in
+        (ap (λ (x : Found). Some x.fid) own.2, ap (λ (x : Found). maps.get t.objects x.fid) (sym own.2) ∙ own.1 ∙ ap (λ (x : Found). Some x.object) own.2)
+
+-- a directory that stands at a path
+pub record DirAt (t : Tree) (path : Path) : Type 0 where
+  pub fid : ℕ
+  pub object : Object
+  pub at : maps.get t.names path ≡ Some fid
+  pub is : maps.get t.objects fid ≡ Some object
+  pub dir : is_dir object.kind ≡ true
+
+pub dir-found : (t : Tree) (path : Path) → is_at t path is_dir ≡ true → DirAt t path
+dir-found t path h = go (found_at t path) refl h
+  where
+    go : (o : Option Found) → found_at t path ≡ o → option_map_or is_dir (option_map (λ (x : Found). x.object.kind) o) false ≡ true → DirAt t path
+    go None is h = absurd (false-true h)
+    go (Some f) is h = let there = found-there t path f (sym is) in record { fid = f.fid; object = f.object; at = there.0; is = there.1; dir = h }
+
+pub dir-is : (t : Tree) (path : Path) → DirAt t path → is_at t path is_dir ≡ true
+dir-is t path d =
+    ap (λ f. option_map_or is_dir (option_map (λ (x : Found). x.object.kind) (option_and_then (λ fid. option_map (λ o. record { fid = fid; object = o }) (maps.get t.objects fid)) f)) false) d.at
+    ∙ ap (λ o. option_map_or is_dir (option_map (λ (x : Found). x.object.kind) (option_map (λ o. record { fid = d.fid; object = o }) o)) false) d.is ∙ d.dir
 
 -- ---- objects that change and keep their kinds and links
 

@@ -7,7 +7,7 @@ ghost use Rattle.rz_export_model.specs.Firsts.{given_if};
 ghost use Rattle.rz_export_model.specs.Paths.{is_root};
 ghost use Rattle.rz_export_model.specs.Refusals.{walk};
 ghost use Rattle.rz_export_model.specs.Tree.{names_under, paths_to, found_at, fid_at, is_at, is_dir, is_file, info_of, with_object};
-ghost use Rattle.rz_export_model.specs.TreeCalls.{reply_to, tree_after, with_name, without_name, last_name_of};
+ghost use Rattle.rz_export_model.specs.TreeCalls.{reply_to, tree_after, with_name, without_name};
 ghost use Rattle.rz_events.specs.declared.tree.TreeCall.{TreeCall};
 ghost use Rattle.rz_tree.specs.Calls.{proper_path_of};
 ghost use Rattle.rz_tree.specs.Inodes.{found_of};
@@ -135,18 +135,10 @@ impl Tree {
         self.names.remove(path);
         self.inodes.release(fid);
     }
-
-    // The file at a path, where no other path leads to it.
-    pub(crate) fn last_name(&self, path: &Path) -> Option<FileInfo>
-        ensures { result ≡ last_name_of self.now path.now }
-    {
-        let (fid, inode) = self.found(path)?;
-        last_file(fid, inode)
-    }
 }
 
-// An object, where it is a file and one path alone leads to it.
-fn last_file(fid: u128, inode: &Inode) -> Option<FileInfo>
+/// An object, where it is a file and one path alone leads to it.
+pub fn last_file(fid: u128, inode: &Inode) -> Option<FileInfo>
     ensures { result ≡ given_if (is_file inode.now.kind && (inode.now.links == 1)) (info_of (found_of fid inode.now)) }
 {
     match inode.kind {

@@ -142,13 +142,6 @@ impl Tree {
         }
     }
 
-    // Why there is no object at a path.
-    pub(crate) fn missing(&self, path: &Path) -> Option<TreeFault>
-        ensures { result ≡ first_of (walk self.now path.now ∷ absent self.now path.now ∷ []) }
-    {
-        self.object_at(path).err()
-    }
-
     // Why no object can be made at a path.
     pub(crate) fn no_place(&self, path: &Path) -> Option<TreeFault>
         ensures { result ≡ first_of (can_not_make self.now path.now) }

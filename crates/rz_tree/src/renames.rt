@@ -1,13 +1,18 @@
 //! A rename.
 
-ghost use Rattle.std.specs.Prelude.{◌≡◌, ◌∷◌, false, [], None, IfOk, OnOk, OnErr};
-ghost use Rattle.rz_export_model.specs.Firsts.{first_of};
-ghost use Rattle.rz_export_model.specs.Paths.{is_root};
+ghost use Rattle.std.specs.Prelude.{◌≡◌, ◌&&◌, ◌∷◌, false, [], Some, None, IfOk, IfSome, OnOk, OnErr};
+ghost use Rattle.std.specs.Option.{option_map};
+ghost use Rattle.std.specs.Result.{result_err};
+ghost use Rattle.rz_export_model.specs.Firsts.{first_of, given_if};
+ghost use Rattle.rz_export_model.specs.Paths.{Path, is_root, is_below};
+ghost use Rattle.rz_export_model.specs.Tree.{found_at, fid_at, links_of, is_dir};
 ghost use Rattle.rz_export_model.specs.Refusals.{walk, absent, into_itself, not_replaceable, is_same_object};
 ghost use Rattle.rz_export_model.specs.TreeCalls.{reply_to, tree_after, renamed};
 ghost use Rattle.rz_events.specs.declared.tree.TreeCall.{TreeCall};
+ghost use Rattle.rz_tree.specs.Inodes.{found_of};
 
-use crate::changes::read_below;
+use crate::changes::{last_file, read_below};
+use crate::inodes::Inode;
 use crate::tree::Tree;
 use rz_events::{Kind, Text, TreeFault, TreeReply};
 use rz_names::Path;
@@ -26,27 +31,37 @@ impl Tree {
         let Some(to) = read_below(self.alloc, to)? else {
             return Ok(TreeReply::Refused(TreeFault::BadName));
         };
-        if let Some(fault) = self.no_rename(&path, &to) {
-            return Ok(TreeReply::Refused(fault));
+        match self.movable_at(&path, &to) {
+            Err(fault) => Ok(TreeReply::Refused(fault)),
+            Ok((_, None)) => {
+                self.move_names(&path, &to, None)?;
+                Ok(TreeReply::Gone(None))
+            }
+            Ok((fid, Some((other, _)))) if fid == other => Ok(TreeReply::Gone(None)),
+            Ok((_, Some((other, inode)))) => {
+                let gone = last_file(other, inode);
+                self.move_names(&path, &to, Some(other))?;
+                Ok(TreeReply::Gone(gone))
+            }
         }
-        if self.is_same(&path, &to) {
-            return Ok(TreeReply::Gone(None));
-        }
-        let gone = self.last_name(&to);
-        self.move_names(&path, &to)?;
-        Ok(TreeReply::Gone(gone))
     }
 
-    // Moves a path, and all paths below it, where nothing forbids it and `to` is another object's path.
-    fn move_names(&mut self, path: &Path, to: &Path) -> Result<(), AllocError>
+    // Moves a path, and all paths below it, where nothing forbids it and `to` is no path of its object.
+    // What stands at `to` has the number `replaced`.
+    fn move_names(
+        &mut self,
+        path: &Path,
+        to: &Path,
+        replaced: Option<u128>,
+    ) -> Result<(), AllocError>
         requires free { first_of (walk self.old path.now ∷ absent self.old path.now ∷ into_itself self.old path.now to.now ∷ walk self.old to.now ∷ not_replaceable self.old path.now to.now ∷ []) ≡ None }
         requires two { is_same_object self.old path.now to.now ≡ false }
+        requires there { replaced ≡ fid_at self.old to.now }
         requires from { is_root path.now ≡ false }
         requires below { is_root to.now ≡ false }
         ensures ok { OnOk result (self.new ≡ renamed self.old path.now to.now) }
         ensures err { OnErr result (self.new ≡ self.old) }
     {
-        let replaced = self.names.find(to, to.names().len());
         self.names.rename(path, to)?;
         if let Some(fid) = replaced {
             self.inodes.release(fid);
@@ -54,59 +69,62 @@ impl Tree {
         Ok(())
     }
 
-    // Why a path can't be moved.
-    fn no_rename(&self, path: &Path, to: &Path) -> Option<TreeFault>
-        ensures { result ≡ first_of (walk self.now path.now ∷ absent self.now path.now ∷ into_itself self.now path.now to.now ∷ walk self.now to.now ∷ not_replaceable self.now path.now to.now ∷ []) }
+    // The number of the object at a path, with what stands at `to`, or why the path can't be moved there.
+    fn movable_at(
+        &self,
+        path: &Path,
+        to: &Path,
+    ) -> Result<(u128, Option<(u128, &Inode)>), TreeFault>
+        ensures number { IfOk result (λ m. fid_at self.now path.now ≡ Some m.0) }
+        ensures found { IfOk result (λ m. option_map (λ p. found_of p.0 p.1.now) m.1 ≡ found_at self.now to.now) }
+        ensures links { IfOk result (λ m. IfSome m.1 (λ p. p.1.now.links ≡ links_of self.now (found_of p.0 p.1.now))) }
+        ensures fault { result_err result ≡ first_of (walk self.now path.now ∷ absent self.now path.now ∷ into_itself self.now path.now to.now ∷ walk self.now to.now ∷ not_replaceable self.now path.now to.now ∷ []) }
     {
-        if let Some(fault) = self.missing(path) {
-            return Some(fault);
-        }
-        if let Some(fault) = self.into_itself(path, to) {
-            return Some(fault);
+        let (fid, inode) = self.object_at(path)?;
+        if let Some(fault) = into_itself(inode.kind, path, to) {
+            return Err(fault);
         }
         if let Some(fault) = self.walk(to) {
-            return Some(fault);
+            return Err(fault);
         }
-        self.not_replaceable(path, to)
+        let found = self.found(to);
+        match self.not_replaceable(fid, inode, to, found) {
+            None => Ok((fid, found)),
+            Some(fault) => Err(fault),
+        }
     }
 
-    // Whether a directory is to be moved below itself.
-    fn into_itself(&self, path: &Path, to: &Path) -> Option<TreeFault>
-        ensures { result ≡ into_itself self.now path.now to.now }
+    // Why what was found at `to` can't be replaced by an object.
+    fn not_replaceable(
+        &self,
+        fid: u128,
+        inode: &Inode,
+        to: &Path,
+        found: Option<(u128, &Inode)>,
+    ) -> Option<TreeFault>
+        requires { option_map (λ p. found_of p.0 p.1.now) found ≡ found_at self.now to.now }
+        ensures { (path : Path) → Some (found_of fid inode.now) ≡ found_at self.now path → result ≡ not_replaceable self.now path to.now }
     {
-        let is_directory = matches!(self.kind_at(path), Some(Kind::Dir));
-        if is_directory && to.starts_with(path) && path.names().len() < to.names().len() {
-            return Some(TreeFault::IntoItself);
-        }
-        None
-    }
-
-    // Why what stands at `to` can't be replaced by what stands at `path`.
-    fn not_replaceable(&self, path: &Path, to: &Path) -> Option<TreeFault>
-        ensures { result ≡ not_replaceable self.now path.now to.now }
-    {
-        let target = self.kind_at(to)?;
-        if self.is_same(path, to) {
+        let (other, target) = found?;
+        if fid == other {
             return None;
         }
-        match (self.kind_at(path), target) {
-            (Some(Kind::Dir), Kind::Dir) => self.not_empty(to),
-            (Some(Kind::Dir), _) => Some(TreeFault::NotDir),
+        match (inode.kind, target.kind) {
+            (Kind::Dir, Kind::Dir) => self.not_empty(to),
+            (Kind::Dir, _) => Some(TreeFault::NotDir),
             (_, Kind::Dir) => Some(TreeFault::IsDir),
             _ => None,
         }
     }
+}
 
-    // Whether two paths lead to one object.
-    fn is_same(&self, path: &Path, to: &Path) -> bool
-        ensures { result ≡ is_same_object self.now path.now to.now }
-    {
-        let Some(fid) = self.names.find(path, path.names().len()) else {
-            return false;
-        };
-        let Some(other) = self.names.find(to, to.names().len()) else {
-            return false;
-        };
-        fid == other
+// Whether an object of this kind would be moved below itself.
+fn into_itself(kind: Kind, path: &Path, to: &Path) -> Option<TreeFault>
+    ensures { result ≡ given_if (is_dir kind && is_below path.now to.now) TreeFault.IntoItself }
+{
+    let is_directory = matches!(kind, Kind::Dir);
+    if is_directory && to.starts_with(path) && path.names().len() < to.names().len() {
+        return Some(TreeFault::IntoItself);
     }
+    None
 }

@@ -2,7 +2,7 @@
 
 ghost use Rattle.std.specs.Prelude.{◌≡◌, ◌≤◌, length, take, IfOk, IsSome, IfSome};
 ghost use Rattle.std.specs.Option.{option_map};
-ghost use Rattle.rz_export_model.specs.Tree.{empty_tree, file_of, file_after, grown, found_at, kind_at, links_of, new_dir};
+ghost use Rattle.rz_export_model.specs.Tree.{empty_tree, file_of, file_after, grown, found_at, links_of, new_dir};
 ghost use Rattle.rz_tree.specs.Inodes.{object_of, found_of};
 
 use crate::inodes::{Inode, Inodes};
@@ -105,14 +105,6 @@ impl Tree {
         ensures links { IfSome result (λ p. p.1.now.links ≡ links_of self.now (found_of p.0 p.1.now)) }
     {
         self.found_front(path, path.names().len())
-    }
-
-    // The kind of the object at a path.
-    pub(crate) fn kind_at(&self, path: &Path) -> Option<Kind>
-        ensures { result ≡ kind_at self.now path.now }
-    {
-        let (_, inode) = self.found(path)?;
-        Some(inode.kind)
     }
 }
 

@@ -3,8 +3,9 @@ use Rattle.rz_events.specs.declared.tree.TreeCall.{TreeCall}
 use Rattle.rz_events.specs.declared.tree.TreeCall.TheVariants as call
 use Rattle.rz_events.specs.declared.tree.TreeFault.TheVariants as fault
 use Rattle.rz_tree.specs.Calls.{proper_path_of}
-use Rattle.rz_tree.proofs.Calls.{number-found, leaf-object, leaf-count, leaf-few, link-leaf, link-walk, link-absent, link-few}
+use Rattle.rz_tree.proofs.Calls.{leaf-object, leaf-count, leaf-few, link-leaf, link-walk, link-absent, link-few}
 use Rattle.rz_tree.proofs.Replies.{reply-refused, tree-refused, reply-done, tree-done, proper-below, link_fault, first-unreadable, second-unreadable, link-refusal, link-changed}
+use Rattle.rz_tree.proofs.Rules.{found-there}
 use Rattle.rz_tree.proofs.tree.Tree.link.Goals as goal
 
 pub returns-in_default-clause-reply : goal.returns-in_default-clause-reply
@@ -55,7 +56,7 @@ returns-clause-ok c =
     let asked : TreeCall = call.Link c.args.text.now c.args.to.now in
     let at : proper_path_of c.args.text.now ≡ Some c.in-Some.path = sym c.in_ok-path.ensures ∙ c.in-Some.is in
     let at_to : proper_path_of c.args.to.now ≡ Some c.in-Some-2.to = sym c.in_ok-to.ensures ∙ c.in-Some-2.is in
-    c.in_ok-add_name-in-Ok.ensures.ok ∙ link-changed c.args.self.now c.args.text.now c.args.to.now c.in-Some.path c.in-Some-2.to at at_to c.in-Ok.fid (number-found c.args.self.now c.in-Some.path _ c.in-Ok.ensures.found) ∙ tree-done c.args.self.now asked (link-refusal c.args.self.now c.args.text.now c.args.to.now c.in-Some.path c.in-Some-2.to at at_to None (sym c.in-Ok.ensures.fault))
+    c.in_ok-add_name-in-Ok.ensures.ok ∙ link-changed c.args.self.now c.args.text.now c.args.to.now c.in-Some.path c.in-Some-2.to at at_to c.in-Ok.fid (found-there c.args.self.now c.in-Some.path _ c.in-Ok.ensures.found).0 ∙ tree-done c.args.self.now asked (link-refusal c.args.self.now c.args.text.now c.args.to.now c.in-Some.path c.in-Some-2.to at at_to None (sym c.in-Ok.ensures.fault))
 
 pub add_name-requires-clause-leaf : goal.add_name-requires-clause-leaf
 add_name-requires-clause-leaf c = leaf-object c.args.self.now c.in-Some.path c.in-Ok.fid c.in-Ok.inode.now c.in-Ok.ensures.found (link-leaf c.args.self.now c.in-Some.path c.in-Some-2.to (sym c.in-Ok.ensures.fault))

@@ -1,12 +1,12 @@
 use Rattle.std.proofs.Common.{◌≡◌, ◌∷◌, [], false, Some, None, sym, ap, ◌∙◌, subst}
 use Rattle.std.specs.FinMap as maps
 use Rattle.rz_export_model.specs.Firsts.{first_of}
-use Rattle.rz_export_model.specs.Tree.{Tree, moved}
+use Rattle.rz_export_model.specs.Tree.{Tree, fid_at, moved}
 use Rattle.rz_export_model.specs.Refusals.{walk, absent, into_itself, not_replaceable, is_same_object}
 use Rattle.rz_export_model.specs.TreeCalls.{renamed}
 use Rattle.rz_tree.specs.Trees.{tree_of, IsKept}
 use Rattle.rz_tree.proofs.Adds.{above-there}
-use Rattle.rz_tree.proofs.Calls.{whole-path, led, rename-walk, rename-away, rename-last}
+use Rattle.rz_tree.proofs.Calls.{led, rename-walk, rename-away, rename-last}
 use Rattle.rz_tree.proofs.Replacing.{replaced-kept, replaced-tree, new-kept, new-tree}
 use Rattle.rz_tree.proofs.tree.Tree.move_names.Goals as goal
 
@@ -49,7 +49,7 @@ invariant_of-self-in-Some c =
     ap (λ s. first_of (walk s p ∷ absent s p ∷ into_itself s p q ∷ walk s q ∷ not_replaceable s p q ∷ [])) c.self.view_is ∙ c.requires.free in
     let two : is_same_object t p q ≡ false = ap (λ s. is_same_object s p q) c.self.view_is ∙ c.requires.two in
     let at : maps.get c.self.inside.names q ≡ Some c.in-Some.fid =
-    ap (maps.get c.self.inside.names) (sym (whole-path c.names.result.now q c.names.ensures)) ∙ sym c.find-replaced.ensures ∙ c.in-Some.is in
+    ap (λ s. fid_at s q) c.self.view_is ∙ sym c.requires.there ∙ c.in-Some.is in
     let object = led c.self.inside.names c.self.inside.inodes c.self.inside.made c.self.invariant q c.in-Some.fid at in
     subst (λ n. IsKept n c.release.new.self c.self.inside.made) (sym c.in_ok-rename.ensures.ok)
     (subst (λ m. IsKept (moved p q (maps.remove c.self.inside.names q)) m c.self.inside.made) (sym c.release.ensures)
@@ -64,7 +64,7 @@ invariant_of-self-in_default c =
     ap (λ s. first_of (walk s p ∷ absent s p ∷ into_itself s p q ∷ walk s q ∷ not_replaceable s p q ∷ [])) c.self.view_is ∙ c.requires.free in
     let two : is_same_object t p q ≡ false = ap (λ s. is_same_object s p q) c.self.view_is ∙ c.requires.two in
     let none : maps.get c.self.inside.names q ≡ None =
-    ap (maps.get c.self.inside.names) (sym (whole-path c.names.result.now q c.names.ensures)) ∙ sym c.find-replaced.ensures ∙ c.in_default.is in
+    ap (λ s. fid_at s q) c.self.view_is ∙ sym c.requires.there ∙ c.in_default.is in
     subst (λ n. IsKept n c.self.inside.inodes c.self.inside.made) (sym c.in_ok-rename.ensures.ok)
     (new-kept c.self.inside.names c.self.inside.inodes c.self.inside.made c.self.invariant p q free two c.requires.from c.requires.below none)
 
@@ -77,7 +77,7 @@ returns-in-Some-clause-ok c =
     ap (λ s. first_of (walk s p ∷ absent s p ∷ into_itself s p q ∷ walk s q ∷ not_replaceable s p q ∷ [])) c.self.view_is ∙ c.requires.free in
     let two : is_same_object t p q ≡ false = ap (λ s. is_same_object s p q) c.self.view_is ∙ c.requires.two in
     let at : maps.get c.self.inside.names q ≡ Some c.in-Some.fid =
-    ap (maps.get c.self.inside.names) (sym (whole-path c.names.result.now q c.names.ensures)) ∙ sym c.find-replaced.ensures ∙ c.in-Some.is in
+    ap (λ s. fid_at s q) c.self.view_is ∙ sym c.requires.there ∙ c.in-Some.is in
     let object = led c.self.inside.names c.self.inside.inodes c.self.inside.made c.self.invariant q c.in-Some.fid at in
     ap (λ n. tree_of n c.release.new.self c.self.inside.made) c.in_ok-rename.ensures.ok
     ∙ ap (λ m. tree_of (moved p q (maps.remove c.self.inside.names q)) m c.self.inside.made) c.release.ensures
@@ -93,6 +93,6 @@ returns-in_default-clause-ok c =
     ap (λ s. first_of (walk s p ∷ absent s p ∷ into_itself s p q ∷ walk s q ∷ not_replaceable s p q ∷ [])) c.self.view_is ∙ c.requires.free in
     let two : is_same_object t p q ≡ false = ap (λ s. is_same_object s p q) c.self.view_is ∙ c.requires.two in
     let none : maps.get c.self.inside.names q ≡ None =
-    ap (maps.get c.self.inside.names) (sym (whole-path c.names.result.now q c.names.ensures)) ∙ sym c.find-replaced.ensures ∙ c.in_default.is in
+    ap (λ s. fid_at s q) c.self.view_is ∙ sym c.requires.there ∙ c.in_default.is in
     ap (λ n. tree_of n c.self.inside.inodes c.self.inside.made) c.in_ok-rename.ensures.ok
     ∙ new-tree c.self.inside.names c.self.inside.inodes c.self.inside.made c.self.invariant p q free two c.requires.from c.requires.below none ∙ ap (λ s. renamed s p q) c.self.view_is

@@ -8,7 +8,7 @@ use Rattle.rz_export_model.specs.Firsts.{first_of}
 use Rattle.rz_export_model.specs.Paths.{Path}
 use Rattle.rz_export_model.specs.Tree.{Tree, Object, fid_at, with_object}
 use Rattle.rz_export_model.specs.Refusals.{walk, absent}
-use Rattle.rz_tree.proofs.Calls.{number-found}
+use Rattle.rz_tree.proofs.Rules.{found-there}
 use Rattle.rz_tree.proofs.Replies.{spells-none, spells-some, reply-refused, tree-refused, reply-done, tree-done}
 use Rattle.rz_tree.proofs.tree.Tree.set_attributes.Goals as goal
 
@@ -43,7 +43,7 @@ returns-clause-ok c =
     let t : Tree = c.args.self.now in
     let path : Path = c.in-Some.path in
     let change : Object → Object = λ o. record o { mode = c.args.mode; mtime = c.args.mtime } in
-    let number : fid_at t path ≡ Some c.in-Ok.fid = number-found t path _ c.in-Ok.ensures.found in
+    let number : fid_at t path ≡ Some c.in-Ok.fid = (found-there t path _ c.in-Ok.ensures.found).0 in
     c.change_attributes.ensures
     ∙ sym (ap (λ n. option_map_or (λ x. with_object t x change) n t) number)
     ∙ ap (λ o. option_map_or (λ x. with_object t x change) (fid_at t (unwrap_or o [])) t) (sym (sym c.in_ok-path.ensures ∙ c.in-Some.is))

@@ -9,8 +9,9 @@ use Rattle.rz_export_model.specs.Tree.{Tree}
 use Rattle.rz_export_model.specs.Refusals.{walk, absent, dir}
 use Rattle.rz_export_model.specs.TreeCalls.{without_name, last_name_of}
 use Rattle.rz_tree.specs.Calls.{proper_path_of}
-use Rattle.rz_tree.proofs.Calls.{number-found, last-found}
+use Rattle.rz_tree.proofs.Calls.{last-found}
 use Rattle.rz_tree.proofs.Replies.{proper-some, proper-below, unreadable-refusal, path-refusal, reply-refused, tree-refused, reply-done, tree-done}
+use Rattle.rz_tree.proofs.Rules.{found-there}
 use Rattle.rz_tree.proofs.tree.Tree.unlink.Goals as goal
 
 -- the first fault of a path that the text spells
@@ -40,7 +41,7 @@ returns-in-Err-clause-ok c =
     tree-refused t (call.Unlink c.args.text.now) f (path-refusal c.args.text.now (others t) c.in-Some.path (Some f) (sym c.in_ok-path.ensures ∙ c.in-Some.is) (sym c.in-Err.ensures.fault))
 
 pub take_name-requires-clause-there : goal.take_name-requires-clause-there
-take_name-requires-clause-there c = number-found c.args.self.now c.in-Some.path _ c.in-Ok.ensures.found
+take_name-requires-clause-there c = (found-there c.args.self.now c.in-Some.path _ c.in-Ok.ensures.found).0
 
 pub take_name-requires-clause-below : goal.take_name-requires-clause-below
 take_name-requires-clause-below c = proper-below c.args.text.now c.in-Some.path (sym c.in_ok-path.ensures ∙ c.in-Some.is)
