@@ -1,5 +1,5 @@
 -- The tests of the next part are its rules.
-use Rattle.std.proofs.Common.{◌≡◌, ℕ, suc, zero, ◌-◌, ◌<◌, ◌≤◌, Bool, true, false, not, cond, ◌&&◌, ◌↔◌, List, [], ◌∷◌, length, take, Option, Some, None, is_none, Ordering, sym, ap, ◌∙◌, refl, arith, eqb-true, eq-eqb}
+use Rattle.std.proofs.Common.{◌≡◌, ℕ, suc, zero, ◌-◌, ◌<◌, ◌≤◌, Bool, true, false, not, cond, ◌&&◌, ◌↔◌, List, [], ◌∷◌, length, take, Option, Some, None, is_some, is_none, Ordering, sym, ap, ◌∙◌, refl, arith, eqb-true, eq-eqb}
 use Rattle.std.specs.Prelude.{◌==◌, nat_lt, nat_le}
 use Rattle.std.proofs.lemmas.Bool.{leb-true}
 use Rattle.std.proofs.lemmas.Bool.Decides.{nat_tests}
@@ -89,6 +89,13 @@ directory-test t path = go (found_at t path)
 pub not-root : (path : Path) → (length path ≡ 0 → ⊥) → is_root path ≡ false
 not-root [] h = absurd (h refl)
 not-root (m ∷ path) h = refl
+
+-- what is not there is none
+pub none-told : {A : Type 0} (o : Option A) (b : Bool) → is_some o ≡ not b → b ≡ is_none o
+none-told None true h = refl
+none-told None false h = absurd (false-true h)
+none-told (Some x) true h = absurd (false-true (sym h))
+none-told (Some x) false h = refl
 
 -- whether a path stands under a directory, by the names before its last
 pub under-test : (t : Tree) (path names : Path) (x : Option TreeFault) → names ≡ path → (length names ≡ 0 → ⊥) → x ≡ no_directory t (take (length names - 1) path) → is_none x ≡ stands_under t path

@@ -8,6 +8,7 @@ ghost use Rattle.rz_tree.specs.Added.{most_names, AreNamed, IsRootPart, MayBeNex
 ghost use Rattle.rz_tree.specs.Allowed.{fits_kind, is_next_number, stands_under, may_be_named, is_next_name};
 
 use crate::faults::{MOST_LINKS, MOST_OBJECTS};
+use crate::inodes::is_directory;
 use crate::parts::Part;
 use crate::tree::{ROOT, Tree};
 use rz_events::{Kind, Places, Text};
@@ -122,10 +123,7 @@ impl Tree {
         if count == 0 {
             return false;
         }
-        match self.no_directory(path, count - 1) {
-            None => true,
-            Some(_) => false,
-        }
+        self.no_directory(path, count - 1).is_none()
     }
 
     // Whether the object of a number is there, and may have one more name.
@@ -174,16 +172,6 @@ fn is_root_object(
     ensures { result ≡ ((fid == 0) && is_dir kind && fits_kind kind size cid places.now target.now) }
 {
     fid == ROOT && is_directory(kind) && fits_kind(kind, size, cid, places, target)
-}
-
-// Whether a kind is that of directories.
-fn is_directory(kind: Kind) -> bool
-    ensures { result ≡ is_dir kind }
-{
-    match kind {
-        Kind::Dir => true,
-        Kind::File | Kind::Link => false,
-    }
 }
 
 // The most names that an object of a kind has.

@@ -1,12 +1,12 @@
 //! Objects by their numbers, each with the count of the paths that lead to it.
 
-ghost use Rattle.std.specs.Prelude.{◌≡◌, None, OnOk, OnErr};
+ghost use Rattle.std.specs.Prelude.{◌≡◌, [], length, None, OnOk, OnErr};
 ghost use Rattle.std.specs.Option.{option_copied, option_map};
 ghost use Rattle.std.specs.List.{slice_get};
 ghost use Rattle.std.specs.FinMap as maps;
-ghost use Rattle.rz_export_model.specs.Tree.{info_of};
+ghost use Rattle.rz_export_model.specs.Tree.{info_of, is_dir};
 ghost use Rattle.rz_names.specs.Names.{is_behind};
-ghost use Rattle.rz_tree.specs.Inodes.{found_of, attr_kept, with_attributes, with_size_of, greater_of, with_links, changed_at, released, file_past, are_linked, first_past, IsStartPast};
+ghost use Rattle.rz_tree.specs.Inodes.{object_of, found_of, attr_kept, with_attributes, with_size_of, greater_of, with_links, changed_at, released, file_past, are_linked, first_past, IsStartPast};
 
 use rz_events::{Attr, FileInfo, Kind, Places, Text};
 use std::alloc::{AllocError, Global};
@@ -28,6 +28,24 @@ pub struct Inode {
 }
 
 impl Inode {
+    /// An object as long as its target, which lies on no node and to which one path leads.
+    pub fn new(kind: Kind, mode: u16, target: Text) -> Inode
+        ensures object { object_of result ≡ record { kind = kind; mode = mode; mtime = 0; target = target; size = length target; cid = 0; places = [] } }
+        ensures links { result.links ≡ 1 }
+    {
+        let size = target.bytes().len() as u64;
+        Inode {
+            kind,
+            mode,
+            mtime: 0,
+            target,
+            size,
+            cid: 0,
+            places: Places::none(),
+            links: 1,
+        }
+    }
+
     /// What a client learns of the file of this number.
     pub fn info(&self, fid: u128) -> FileInfo
         ensures { result ≡ info_of (found_of fid self.now) }
@@ -253,4 +271,14 @@ fn greater(had: u64, size: u64) -> u64
     ensures { result ≡ greater_of had size }
 {
     if had < size { size } else { had }
+}
+
+/// Whether a kind is that of directories.
+pub fn is_directory(kind: Kind) -> bool
+    ensures { result ≡ is_dir kind }
+{
+    match kind {
+        Kind::Dir => true,
+        Kind::File | Kind::Link => false,
+    }
 }

@@ -121,10 +121,7 @@ fn bad_target(target: &Text) -> Option<TreeFault>
     ensures { result ≡ bad_target target.now }
 {
     let length = target.bytes().len();
-    if length == 0 {
-        return Some(TreeFault::BadName);
-    }
-    if length > MOST_BYTES {
+    if length == 0 || length > MOST_BYTES {
         return Some(TreeFault::BadName);
     }
     None
@@ -135,15 +132,11 @@ fn new_file(alloc: Global, cid: u16, places: Places) -> Inode
     ensures object { object_of result ≡ new_file cid places }
     ensures links { result.links ≡ 1 }
 {
+    let target = Text::from_vec(Vec::new(alloc));
     Inode {
-        kind: Kind::File,
-        mode: FILE_MODE,
-        mtime: 0,
-        target: Text::from_vec(Vec::new(alloc)),
-        size: 0,
         cid,
         places,
-        links: 1,
+        ..Inode::new(Kind::File, FILE_MODE, target)
     }
 }
 
@@ -152,15 +145,5 @@ fn new_link(target: Text) -> Inode
     ensures object { object_of result ≡ new_link target }
     ensures links { result.links ≡ 1 }
 {
-    let size = target.bytes().len() as u64;
-    Inode {
-        kind: Kind::Link,
-        mode: LINK_MODE,
-        mtime: 0,
-        target,
-        size,
-        cid: 0,
-        places: Places::none(),
-        links: 1,
-    }
+    Inode::new(Kind::Link, LINK_MODE, target)
 }

@@ -12,7 +12,7 @@ use crate::inodes::Inode;
 use crate::tree::Tree;
 use rz_events::{Key, Kind, Places, Published, Text};
 use rz_names::Path;
-use std::alloc::AllocError;
+use std::alloc::{AllocError, Global};
 
 /// A part of what an export knows. All its parts together are the export.
 #[derive(Drop)]
@@ -89,10 +89,7 @@ impl Tree {
     {
         match self.inodes.after(fid) {
             None => self.name_part(0),
-            Some((fid, inode)) => {
-                let target = inode.target.copy(self.alloc)?;
-                Ok(Some(object_part(fid, inode, target)))
-            }
+            Some((fid, inode)) => Ok(Some(object_part(self.alloc, fid, inode)?)),
         }
     }
 
@@ -100,10 +97,7 @@ impl Tree {
     pub fn part_after_name(&self, path: &Path) -> Result<Option<Part>, AllocError>
         ensures { IfOk result (λ part. part ≡ after_name self.now path.now) }
     {
-        match self.names.after(Some(path))? {
-            None => Ok(None),
-            Some((path, fid)) => Ok(Some(Part::Name { path, fid })),
-        }
+        Ok(name_part(self.names.after(Some(path))?))
     }
 
     // The object at a place in the order of the numbers.
@@ -112,10 +106,7 @@ impl Tree {
     {
         match self.inodes.nth(i) {
             None => Ok(None),
-            Some((fid, inode)) => {
-                let target = inode.target.copy(self.alloc)?;
-                Ok(Some(object_part(fid, inode, target)))
-            }
+            Some((fid, inode)) => Ok(Some(object_part(self.alloc, fid, inode)?)),
         }
     }
 
@@ -123,19 +114,15 @@ impl Tree {
     fn name_part(&self, i: usize) -> Result<Option<Part>, AllocError>
         ensures { IfOk result (λ part. part ≡ option_map name_part (slice_get (below_root self.now.names) i)) }
     {
-        match self.names.nth(i)? {
-            None => Ok(None),
-            Some((path, fid)) => Ok(Some(Part::Name { path, fid })),
-        }
+        Ok(name_part(self.names.nth(i)?))
     }
 }
 
 // The part of an object, with a copy of its target.
-fn object_part(fid: u128, inode: &Inode, target: Text) -> Part
-    requires { target ≡ inode.now.target }
-    ensures { result ≡ object_part (fid, object_of inode.now) }
+fn object_part(alloc: Global, fid: u128, inode: &Inode) -> Result<Part, AllocError>
+    ensures { IfOk result (λ part. part ≡ object_part (fid, object_of inode.now)) }
 {
-    Part::Object {
+    Ok(Part::Object {
         fid,
         kind: inode.kind,
         mode: inode.mode,
@@ -143,6 +130,14 @@ fn object_part(fid: u128, inode: &Inode, target: Text) -> Part
         size: inode.size,
         cid: inode.cid,
         places: inode.places,
-        target,
-    }
+        target: inode.target.copy(alloc)?,
+    })
+}
+
+// The part of a name, where there is one.
+fn name_part(name: Option<(Path, u128)>) -> Option<Part>
+    ensures { result ≡ option_map name_part name }
+{
+    let (path, fid) = name?;
+    Some(Part::Name { path, fid })
 }

@@ -12,7 +12,7 @@ ghost use Rattle.rz_events.specs.declared.tree.TreeCall.{TreeCall};
 ghost use Rattle.rz_tree.specs.Inodes.{found_of};
 
 use crate::changes::{last_file, read_below};
-use crate::inodes::Inode;
+use crate::inodes::{Inode, is_directory};
 use crate::tree::Tree;
 use rz_events::{Kind, Text, TreeFault, TreeReply};
 use rz_names::Path;
@@ -47,7 +47,7 @@ impl Tree {
     }
 
     // Moves a path, and all paths below it, where nothing forbids it and `to` is no path of its object.
-    // What stands at `to` has the number `replaced`.
+    // The number of what stands at `to`, if anything does, is `replaced`.
     fn move_names(
         &mut self,
         path: &Path,
@@ -122,8 +122,7 @@ impl Tree {
 fn into_itself(kind: Kind, path: &Path, to: &Path) -> Option<TreeFault>
     ensures { result ≡ given_if (is_dir kind && is_below path.now to.now) TreeFault.IntoItself }
 {
-    let is_directory = matches!(kind, Kind::Dir);
-    if is_directory && to.starts_with(path) && path.names().len() < to.names().len() {
+    if is_directory(kind) && to.starts_with(path) && path.names().len() < to.names().len() {
         return Some(TreeFault::IntoItself);
     }
     None

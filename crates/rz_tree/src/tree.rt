@@ -6,7 +6,7 @@ ghost use Rattle.rz_export_model.specs.Tree.{empty_tree, file_of, file_after, gr
 ghost use Rattle.rz_tree.specs.Inodes.{object_of, found_of};
 
 use crate::inodes::{Inode, Inodes};
-use rz_events::{FileInfo, Kind, Places, Text};
+use rz_events::{FileInfo, Kind, Text};
 use rz_names::{NameMap, Path};
 use std::alloc::{AllocError, Global};
 use std::marker::Model;
@@ -113,14 +113,6 @@ pub fn new_directory(alloc: Global) -> Inode
     ensures object { object_of result ≡ new_dir }
     ensures links { result.links ≡ 1 }
 {
-    Inode {
-        kind: Kind::Dir,
-        mode: DIRECTORY_MODE,
-        mtime: 0,
-        target: Text::from_vec(Vec::new(alloc)),
-        size: 0,
-        cid: 0,
-        places: Places::none(),
-        links: 1,
-    }
+    let target = Text::from_vec(Vec::new(alloc));
+    Inode::new(Kind::Dir, DIRECTORY_MODE, target)
 }

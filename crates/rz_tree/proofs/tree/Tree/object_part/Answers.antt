@@ -13,9 +13,9 @@ returns-in-None c =
     ∙ ap (option_map object_part) (sym (object-at c.self.inside.inodes c.args.i))
     ∙ ap (λ t. option_map object_part (slice_get (maps.entries t.objects) c.args.i)) c.self.view_is
 
-pub returns-in_ok-target-in-Some : goal.returns-in_ok-target-in-Some
-returns-in_ok-target-in-Some c =
-    ap Some c.object_part.ensures
+pub returns-in_ok-object_part-in-Some : goal.returns-in_ok-object_part-in-Some
+returns-in_ok-object_part-in-Some c =
+    ap Some c.in_ok-object_part-in-Some.ensures
     ∙ ap (λ o. option_map object_part (option_map (λ (e : ℕ × Inode). (e.0, object_of e.1)) o)) c.in-Some.ensures
     ∙ ap (option_map object_part) (sym (object-at c.self.inside.inodes c.args.i))
     ∙ ap (λ t. option_map object_part (slice_get (maps.entries t.objects) c.args.i)) c.self.view_is

@@ -17,11 +17,11 @@ returns-in-None c =
     ∙ ap (λ (x : Tree). first_past c.args.fid (maps.entries x.objects)) c.self.view_is in
     subst (λ (o : Option (ℕ × Object)). IfOk c.name_part.result (λ part. part ≡ option_or (option_map object_part o) (option_map name_part (slice_get (below_root t.names) 0)))) none c.name_part.ensures
 
-pub returns-in_ok-target-in-Some : goal.returns-in_ok-target-in-Some
-returns-in_ok-target-in-Some c =
+pub returns-in_ok-object_part-in-Some : goal.returns-in_ok-object_part-in-Some
+returns-in_ok-object_part-in-Some c =
     let t : Tree = c.args.self.now in
     let first : Option (ℕ × Object) → _ = λ o. option_or (option_map object_part o) (option_map name_part (slice_get (below_root t.names) 0)) in
-    ap Some c.object_part.ensures
+    ap Some c.in_ok-object_part-in-Some.ensures
     ∙ ap (λ o. first (option_map (λ (e : ℕ × Inode). (e.0, object_of e.1)) o)) c.in-Some.ensures
     ∙ ap first (sym (object-past c.args.fid c.self.inside.inodes))
     ∙ ap (λ (x : Tree). first (first_past c.args.fid (maps.entries x.objects))) c.self.view_is

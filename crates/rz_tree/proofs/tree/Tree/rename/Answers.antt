@@ -1,10 +1,9 @@
 use Rattle.std.proofs.Common.{◌≡◌, false, Some, None, option_map, sym, ap, ◌∙◌, subst}
 use Rattle.std.specs.Prelude.{IfSome}
-use Rattle.rz_events.specs.declared.tree.TreeCall.{TreeCall}
 use Rattle.rz_events.specs.declared.tree.TreeCall.TheVariants as call
 use Rattle.rz_events.specs.declared.tree.TreeFault.TheVariants as fault
 use Rattle.rz_export_model.specs.Paths.{Path}
-use Rattle.rz_export_model.specs.Tree.{Tree, found_at, fid_at, links_of}
+use Rattle.rz_export_model.specs.Tree.{Tree, found_at, links_of}
 use Rattle.rz_export_model.specs.Refusals.{is_same_object}
 use Rattle.rz_tree.specs.Calls.{proper_path_of}
 use Rattle.rz_tree.specs.Inodes.{found_of}
@@ -12,7 +11,7 @@ use Rattle.rz_tree.specs.Trees.{IsTree}
 use Rattle.rz_tree.proofs.Adds.{absent-name}
 use Rattle.rz_tree.proofs.Calls.{last-found, no-last, same-object, other-object, no-object}
 use Rattle.rz_tree.proofs.Rules.{found-there}
-use Rattle.rz_tree.proofs.Replies.{reply-refused, tree-refused, reply-done, tree-done, proper-below, rename_fault, first-unreadable, second-unreadable, rename-refusal, rename-changed, rename-kept, gone-same, gone-other}
+use Rattle.rz_tree.proofs.Replies.{reply-refused, tree-refused, reply-done, tree-done, rename_fault, first-unreadable, second-unreadable, rename-refusal, rename-changed, rename-kept, gone-same, gone-other}
 use Rattle.rz_tree.proofs.tree.Tree.rename.Goals as goal
 
 pub returns-in_default-clause-reply : goal.returns-in_default-clause-reply
