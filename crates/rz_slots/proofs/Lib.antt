@@ -14,4 +14,5 @@ pub mod OldOpened
 mod Pairs
 pub mod Carried
 mod Copies
+pub mod Counts
 mod Packed

@@ -26,6 +26,10 @@ abbrev pub CopiesTo : Geometry → ℕ → List ℕ → List (Option Head) → L
 CopiesTo g fence old heads text k =
     (its : ℕ) (cells : List (Option Rec)) → HoldsOld g its old cells → heads_of cells ≡ heads → CopiedTo g fence text (paired cells) (2 * k)
 
+-- the device calls of a copy of so many records that the new disk takes: the header, each record, a sync, and the stored gate
+abbrev pub copy_calls : ℕ → ℕ
+copy_calls records = 4 + records
+
 -- a header with its gate shut, and zeros
 pub record IsBlank (g : Geometry) (fence : ℕ) (text : List ℕ) : Type 0 where
   pub size : length text ≡ disk_bytes g

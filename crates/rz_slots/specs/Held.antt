@@ -1,5 +1,5 @@
 -- What cells hold, as a map. Nothing here knows of bytes or disks.
-use Rattle.std.specs.Prelude.{◌≡◌, ◌≢◌, ℕ, ◌/◌, ◌==◌, ◌&&◌, Bool, false, if◌then◌else◌, Option, Some, None, List, map, slice_index_or}
+use Rattle.std.specs.Prelude.{◌≡◌, ◌≢◌, ℕ, ◌/◌, ◌==◌, ◌&&◌, Bool, false, if◌then◌else◌, Option, Some, None, List, map, slice_index_or, count_by, is_some}
 use Rattle.std.specs.Option.{option_map}
 use Rattle.rz_events.specs.declared.keys.Key.{Key}
 use Rattle.rz_events.specs.declared.records.Head.{Head}
@@ -8,6 +8,10 @@ use Rattle.rz_record.specs.Slot.{Rec}
 -- what stands in a cell
 abbrev pub in_cell : {A : Type 0} → List (Option A) → ℕ → Option A
 in_cell cells c = slice_index_or cells c None
+
+-- how many cells hold something
+abbrev pub count_held : {A : Type 0} → List (Option A) → ℕ
+count_held cells = count_by is_some cells
 
 -- the heads of what cells hold
 abbrev pub heads_of : List (Option Rec) → List (Option Head)

@@ -1,10 +1,10 @@
 -- A disk of version 1: one cell where there is now a pair, and records without a base.
-use Rattle.std.specs.Prelude.{◌≡◌, ℕ, ◌+◌, ◌-◌, ◌*◌, ◌%◌, ◌<◌, ◌++◌, Option, None, List, [], ◌∷◌, length, take, drop, replicate, slice_index}
+use Rattle.std.specs.Prelude.{◌≡◌, ◌⊎◌, ℕ, ◌+◌, ◌-◌, ◌*◌, ◌%◌, ◌<◌, ◌≤◌, ◌++◌, Bool, IsTrue, Option, None, List, [], ◌∷◌, length, take, drop, replicate, slice_index}
 use Rattle.rz_disk.specs.Images.{window}
 use Rattle.rz_record.specs.Slot.{Rec, Reads}
 use Rattle.rz_slots.specs.declared.geometry.Geometry.{Geometry}
 use Rattle.rz_slots.specs.declared.geometry.Version.TheVariants.{One}
-use Rattle.rz_slots.specs.Held.{Records, Made, in_cell}
+use Rattle.rz_slots.specs.Held.{Records, Made, count_held, in_cell}
 use Rattle.rz_slots.specs.Shape.{slot_of, gate_at}
 use Rattle.rz_slots.specs.Stands.{IsFormatted, IsHeaderOf, StandsFor, Suits}
 
@@ -40,6 +40,11 @@ pub record HoldsOld (g : Geometry) (fence : ℕ) (text : List ℕ) (cells : List
   pub count : length cells ≡ g.cells
   pub each : (c : ℕ) → c < g.cells → Reads (old_slot g text c) (in_cell cells c)
   pub suits : (c : ℕ) → Suits g (in_cell cells c)
+
+-- An old disk holds at most n records: it has no more cells, or it tells that it holds no more.
+abbrev pub HoldsAtMost : Bool → Geometry → List ℕ → ℕ → Type 0
+HoldsAtMost tells g text n =
+    (g.cells ≤ n) ⊎ (IsTrue tells × ((fence : ℕ) × (cells : List (Option Rec)) × HoldsOld g fence text cells × (count_held cells ≤ n)))
 
 -- each in the first cell of a pair, with nothing beside it
 unfoldable pub paired : {A : Type 0} → List (Option A) → List (Option A)

@@ -1,5 +1,5 @@
 -- What an opening of an old disk finds wrong.
-use Rattle.std.specs.Prelude.{◌≡◌, ◌≢◌, ℕ, ◌<◌, ◌≤◌, ◌%◌, Option, Some, None, List, length, slice_index}
+use Rattle.std.specs.Prelude.{◌≡◌, ◌≢◌, ℕ, ◌+◌, ◌<◌, ◌≤◌, ◌%◌, Option, Some, None, List, length, slice_index}
 use Rattle.rz_events.specs.declared.records.Head.{Head}
 use Rattle.rz_events.specs.declared.nodes.OpenFault.{OpenFault}
 use Rattle.rz_events.specs.declared.nodes.OpenFault.TheVariants.{NoMemory, WrongSize, DiskFault, Unformatted, BadHeader, Damaged, Twice}
@@ -54,6 +54,10 @@ OldCellsFault g text (Damaged cell) = OldDamaged g text cell
 OldCellsFault g text (Twice first second) = OldTwice g text first second
 OldCellsFault g text DiskFault = Unit {0}
 OldCellsFault g text _ = ⊥
+
+-- the device calls of an opening: a sync, a read of the header, one of the gates, and one for each cell
+abbrev pub old_opening_calls : Geometry → ℕ
+old_opening_calls g = 3 + g.cells
 
 -- The first thing that is wrong with the text of an old disk.
 abbrev pub OldRefuses : Geometry → List ℕ → OpenFault → Type 0

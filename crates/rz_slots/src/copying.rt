@@ -2,16 +2,16 @@
 ghost use Rattle.std.specs.Prelude.{◌≡◌, ◌⊎◌, ◌∷◌, ◌+◌, ◌*◌, ◌%◌, ◌<◌, ◌≤◌, ℕ, List, [], Option, Some, None, length, slice_index, IsTrue, IsErr, IsErrOf, OnOk, IfErr};
 ghost use Rattle.rz_events.specs.declared.records.Head.{Head};
 ghost use Rattle.rz_disk.specs.Images.{Only, Torn, Written};
-ghost use Rattle.rz_disk.specs.Meter.{Lasts, Rises, faults};
+ghost use Rattle.rz_disk.specs.Meter.{Took, Lasts, Rises, HasPasses, faults};
 ghost use Rattle.rz_record.specs.Record.{IsValid};
 ghost use Rattle.rz_record.specs.Slot.{Rec, Reads, Spells};
-ghost use Rattle.rz_slots.specs.Held.{in_cell};
+ghost use Rattle.rz_slots.specs.Held.{count_held, in_cell};
 ghost use Rattle.rz_slots.specs.Shape.{IsGeometry, disk_bytes, gate_at, slot_at, slot_of};
 ghost use Rattle.rz_slots.specs.Stands.{IsShut};
 ghost use Rattle.rz_slots.specs.Opening.{OnlyRead};
 ghost use Rattle.rz_slots.specs.Old.{old_disk_bytes, old_slot, paired};
 ghost use Rattle.rz_slots.specs.OldOpening.{OldKnows};
-ghost use Rattle.rz_slots.specs.Copied.{AllShut, CopiesTo, HoldsCopy, IsBlank, PutsRecord};
+ghost use Rattle.rz_slots.specs.Copied.{AllShut, CopiesTo, HoldsCopy, IsBlank, PutsRecord, copy_calls};
 
 use crate::formatting::spell_header;
 use crate::heads::Heads;
@@ -50,7 +50,14 @@ pub fn copy<D: Disk>(
     ensures meter { Lasts (D.meter new.old) (D.meter new.new) }
     ensures faults { IfErr result (λ e. (e ≡ MigrateFault.NoMemory) ⊎ (e ≡ MigrateFault.Old OpenFault.DiskFault) ⊎ (e ≡ MigrateFault.New)) }
     ensures old_risen { IsErrOf result (MigrateFault.Old OpenFault.DiskFault) → Rises (faults (D.meter old.old)) (faults (D.meter old.new)) }
+    ensures old_took { Took (count_held cells.now.heads.items) result (D.meter old.old) (D.meter old.new) }
+    ensures old_own_risen { IsErrOf result (MigrateFault.Old OpenFault.DiskFault) → HasPasses (count_held cells.now.heads.items) (D.meter old.old) → Rises (D.meter old.old).own (D.meter old.new).own }
     ensures risen { IsErrOf result MigrateFault.New → Rises (faults (D.meter new.old)) (faults (D.meter new.new)) }
+    ensures took { Took (copy_calls (count_held cells.now.heads.items)) result (D.meter new.old) (D.meter new.new) }
+    ensures own_risen { IsErrOf result MigrateFault.New → HasPasses (copy_calls (count_held cells.now.heads.items)) (D.meter new.old) → Rises (D.meter new.old).own (D.meter new.new).own }
+    ensures unspent { IsErrOf result MigrateFault.NoMemory → (D.meter new.new).fuse ≡ (D.meter new.old).fuse }
+    ensures unplanned { IsErrOf result MigrateFault.NoMemory → (D.meter new.new).planned ≡ (D.meter new.old).planned }
+    ensures old_untouched { IsErrOf result MigrateFault.NoMemory → old.new ≡ old.old }
 {
     lay_out(new, alloc, geometry, cells.fence)?;
     copy_records(geometry, cells, old, new, buffer, bins)?;
@@ -75,6 +82,10 @@ fn lay_out<D: Disk>(
     ensures faults { IfErr result (λ e. (e ≡ MigrateFault.NoMemory) ⊎ (e ≡ MigrateFault.New)) }
     ensures meter { Lasts (D.meter disk.old) (D.meter disk.new) }
     ensures risen { IsErrOf result MigrateFault.New → Rises (faults (D.meter disk.old)) (faults (D.meter disk.new)) }
+    ensures took { Took 1 result (D.meter disk.old) (D.meter disk.new) }
+    ensures own_risen { IsErrOf result MigrateFault.New → HasPasses 1 (D.meter disk.old) → Rises (D.meter disk.old).own (D.meter disk.new).own }
+    ensures unspent { IsErrOf result MigrateFault.NoMemory → (D.meter disk.new).fuse ≡ (D.meter disk.old).fuse }
+    ensures unplanned { IsErrOf result MigrateFault.NoMemory → (D.meter disk.new).planned ≡ (D.meter disk.old).planned }
 {
     match disk.reset(alloc, geometry.disk_bytes()) {
         Ok(()) => {}
@@ -118,7 +129,11 @@ fn copy_records<D: Disk>(
     ensures meter { Lasts (D.meter new.old) (D.meter new.new) }
     ensures faults { IfErr result (λ e. (e ≡ MigrateFault.Old OpenFault.DiskFault) ⊎ (e ≡ MigrateFault.New)) }
     ensures old_risen { IsErrOf result (MigrateFault.Old OpenFault.DiskFault) → Rises (faults (D.meter old.old)) (faults (D.meter old.new)) }
+    ensures old_took { Took (count_held cells.now.heads.items) result (D.meter old.old) (D.meter old.new) }
+    ensures old_own_risen { IsErrOf result (MigrateFault.Old OpenFault.DiskFault) → HasPasses (count_held cells.now.heads.items) (D.meter old.old) → Rises (D.meter old.old).own (D.meter old.new).own }
     ensures risen { IsErrOf result MigrateFault.New → Rises (faults (D.meter new.old)) (faults (D.meter new.new)) }
+    ensures took { Took (count_held cells.now.heads.items) result (D.meter new.old) (D.meter new.new) }
+    ensures own_risen { IsErrOf result MigrateFault.New → HasPasses (count_held cells.now.heads.items) (D.meter new.old) → Rises (D.meter new.old).own (D.meter new.new).own }
 {
     for cell in 0..geometry.cells {
         if let Some(head) = cells.heads[cell as usize] {
@@ -159,7 +174,11 @@ fn copy_record<D: Disk>(
     ensures meter { Lasts (D.meter new.old) (D.meter new.new) }
     ensures faults { IfErr result (λ e. (e ≡ MigrateFault.Old OpenFault.DiskFault) ⊎ (e ≡ MigrateFault.New)) }
     ensures old_risen { IsErrOf result (MigrateFault.Old OpenFault.DiskFault) → Rises (faults (D.meter old.old)) (faults (D.meter old.new)) }
+    ensures old_took { Took 1 result (D.meter old.old) (D.meter old.new) }
+    ensures old_own_risen { IsErrOf result (MigrateFault.Old OpenFault.DiskFault) → HasPasses 1 (D.meter old.old) → Rises (D.meter old.old).own (D.meter old.new).own }
     ensures risen { IsErrOf result MigrateFault.New → Rises (faults (D.meter new.old)) (faults (D.meter new.new)) }
+    ensures took { Took 1 result (D.meter new.old) (D.meter new.new) }
+    ensures own_risen { IsErrOf result MigrateFault.New → HasPasses 1 (D.meter new.old) → Rises (D.meter new.old).own (D.meter new.new).own }
 {
     let count = head.layout.bins_at(head.position);
     let at = geometry.old_slot_at(cell, gate % 2) + OLD_HEAD_BYTES as u64;
@@ -183,6 +202,8 @@ fn open_gate<D: Disk>(disk: &mut D) -> Result<(), Failed>
     ensures written { OnOk result (IsTrue D.tells → Written 32 (1 ∷ []) (D.text disk.old) (D.text disk.new)) }
     ensures meter { Lasts (D.meter disk.old) (D.meter disk.new) }
     ensures risen { IsErr result → Rises (faults (D.meter disk.old)) (faults (D.meter disk.new)) }
+    ensures took { Took 3 result (D.meter disk.old) (D.meter disk.new) }
+    ensures own_risen { IsErr result → HasPasses 3 (D.meter disk.old) → Rises (D.meter disk.old).own (D.meter disk.new).own }
 {
     disk.sync()?;
     store(disk, 32, &[1])?;

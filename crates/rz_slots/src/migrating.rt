@@ -1,15 +1,16 @@
 //! The records of an old disk brought onto a new one, with what is known of both in memory.
-ghost use Rattle.std.specs.Prelude.{◌≡◌, ◌⊎◌, ◌+◌, ◌*◌, ◌≤◌, ℕ, List, None, length, slice_index, IsTrue, IsErrOf, OnOk, IfOk, IfErr};
+ghost use Rattle.std.specs.Prelude.{◌≡◌, ◌⊎◌, ◌+◌, ◌*◌, ◌≤◌, ℕ, List, None, length, slice_index, IsTrue, IsErr, IsErrOf, OnOk, IfOk, IfErr, MatchResult};
 ghost use Rattle.std.specs.HashMap.{IsEmpty, spare};
 ghost use Rattle.rz_disk.specs.Meter.{Lasts, Rises, faults};
-ghost use Rattle.rz_slots.specs.Held.{in_cell};
+ghost use Rattle.rz_slots.specs.Counted.{CountedWhere, TookAll};
+ghost use Rattle.rz_slots.specs.Held.{count_held, in_cell};
 ghost use Rattle.rz_slots.specs.Shape.{IsGeometry, slot_of};
 ghost use Rattle.rz_slots.specs.Stands.{IsShut};
 ghost use Rattle.rz_slots.specs.Open.{IsOpen};
-ghost use Rattle.rz_slots.specs.Copied.{HoldsBoth};
+ghost use Rattle.rz_slots.specs.Copied.{HoldsBoth, copy_calls};
 ghost use Rattle.rz_slots.specs.Opening.{NotSize, OnlyRead};
-ghost use Rattle.rz_slots.specs.Old.{CarriesOver, old_disk_bytes};
-ghost use Rattle.rz_slots.specs.OldOpening.{OldRefuses};
+ghost use Rattle.rz_slots.specs.Old.{CarriesOver, HoldsAtMost, old_disk_bytes};
+ghost use Rattle.rz_slots.specs.OldOpening.{OldRefuses, old_opening_calls};
 
 use crate::Geometry;
 use crate::copying::{copy, pair_up};
@@ -53,6 +54,15 @@ pub fn carry<D: Disk>(
     ensures meter { Lasts (D.meter new.old) (D.meter new.new) }
     ensures old_risen { IsErrOf result (MigrateFault.Old OpenFault.DiskFault) → Rises (faults (D.meter old.old)) (faults (D.meter old.new)) }
     ensures risen { IsErrOf result MigrateFault.New → Rises (faults (D.meter new.old)) (faults (D.meter new.new)) }
+    ensures old_calls { MatchResult result (λ r. CountedWhere (old_opening_calls geometry.now + count_held r.1.heads) result ⊥ (D.meter old.old) (D.meter old.new))
+        (λ e. (n : ℕ) → HoldsAtMost D.tells geometry.now (D.text old.old) n → CountedWhere (old_opening_calls geometry.now + n) result (e ≡ MigrateFault.Old OpenFault.DiskFault) (D.meter old.old) (D.meter old.new)) }
+    ensures calls { MatchResult result (λ r. CountedWhere (copy_calls (count_held r.1.heads)) result ⊥ (D.meter new.old) (D.meter new.new))
+        (λ e. (n : ℕ) → HoldsAtMost D.tells geometry.now (D.text old.old) n → CountedWhere (copy_calls n) result (e ≡ MigrateFault.New) (D.meter new.old) (D.meter new.new)) }
+    ensures unspent { IsErrOf result MigrateFault.NoMemory → (D.meter new.new).fuse ≡ (D.meter new.old).fuse }
+    ensures unplanned { IsErrOf result MigrateFault.NoMemory → (D.meter new.new).planned ≡ (D.meter new.old).planned }
+    ensures no_memory { IsErrOf result MigrateFault.NoMemory → ((old.new ≡ old.old) × (new.new ≡ new.old)) ⊎ TookAll (old_opening_calls geometry.now) (D.meter old.old) (D.meter old.new) }
+    ensures old_unplanned { IsErrOf result MigrateFault.NoMemory → (D.meter old.new).planned ≡ (D.meter old.old).planned }
+    ensures old_untouched { IfErr result (λ e. (have need : ℕ) → e ≡ MigrateFault.Old (OpenFault.WrongSize have need) → old.new ≡ old.old) }
 {
     let Ok(reserved) = reserve(alloc, geometry) else {
         return Err(MigrateFault::NoMemory);
@@ -112,6 +122,14 @@ fn carry_into<D: Disk>(
     ensures meter { Lasts (D.meter new.old) (D.meter new.new) }
     ensures old_risen { IsErrOf result (MigrateFault.Old OpenFault.DiskFault) → Rises (faults (D.meter old.old)) (faults (D.meter old.new)) }
     ensures risen { IsErrOf result MigrateFault.New → Rises (faults (D.meter new.old)) (faults (D.meter new.new)) }
+    ensures old_calls { OnOk result (CountedWhere (old_opening_calls geometry.now + count_held reserved.new.room.heads) result ⊥ (D.meter old.old) (D.meter old.new)) }
+    ensures calls { OnOk result (CountedWhere (copy_calls (count_held reserved.new.room.heads)) result ⊥ (D.meter new.old) (D.meter new.new)) }
+    ensures old_most { IsErr result → (n : ℕ) → HoldsAtMost D.tells geometry.now (D.text old.old) n → CountedWhere (old_opening_calls geometry.now + n) result (IsErrOf result (MigrateFault.Old OpenFault.DiskFault)) (D.meter old.old) (D.meter old.new) }
+    ensures most { IsErr result → (n : ℕ) → HoldsAtMost D.tells geometry.now (D.text old.old) n → CountedWhere (copy_calls n) result (IsErrOf result MigrateFault.New) (D.meter new.old) (D.meter new.new) }
+    ensures unspent { IsErrOf result MigrateFault.NoMemory → (D.meter new.new).fuse ≡ (D.meter new.old).fuse }
+    ensures unplanned { IsErrOf result MigrateFault.NoMemory → (D.meter new.new).planned ≡ (D.meter new.old).planned }
+    ensures old_opened { IsErrOf result MigrateFault.NoMemory → TookAll (old_opening_calls geometry.now) (D.meter old.old) (D.meter old.new) }
+    ensures old_untouched { IfErr result (λ e. (have need : ℕ) → e ≡ MigrateFault.Old (OpenFault.WrongSize have need) → old.new ≡ old.old) }
 {
     match open_old(old, geometry, &mut reserved.cells, &mut reserved.firsts) {
         Ok(()) => {}

@@ -2,7 +2,7 @@
 ghost use Rattle.std.specs.Prelude.{◌≡◌, ◌⊎◌, ◌+◌, ◌*◌, ◌%◌, ◌^◌, ◌<◌, ◌≤◌, ℕ, Option, Some, None, length, slice_index, IsTrue, IsErrOf, OnOk, IfOk, IfErr};
 ghost use Rattle.std.specs.HashMap.{IsEmpty, spare};
 ghost use Rattle.rz_events.specs.declared.records.Head.{Head};
-ghost use Rattle.rz_disk.specs.Meter.{Rises, faults};
+ghost use Rattle.rz_disk.specs.Meter.{Took, Rises, HasPasses, faults};
 ghost use Rattle.rz_record.specs.Record.{IsValid};
 ghost use Rattle.rz_slots.specs.declared.geometry.Version.TheVariants.{One};
 ghost use Rattle.rz_slots.specs.Held.{in_cell};
@@ -10,7 +10,7 @@ ghost use Rattle.rz_slots.specs.Shape.{IsGeometry, gate_at};
 ghost use Rattle.rz_slots.specs.Stands.{IsHeaderOf, IsFormatted};
 ghost use Rattle.rz_slots.specs.Opening.{NotSize, OnlyRead, ReadsHead, Unreadable};
 ghost use Rattle.rz_slots.specs.Old.{old_disk_bytes, old_slot};
-ghost use Rattle.rz_slots.specs.OldOpening.{OldCellsFault, OldFitTo, OldKnows, OldReadTo, OldRefuses};
+ghost use Rattle.rz_slots.specs.OldOpening.{OldCellsFault, OldFitTo, OldKnows, OldReadTo, OldRefuses, old_opening_calls};
 
 use crate::Geometry;
 use crate::geometry::{HEADER_BYTES, Version};
@@ -122,7 +122,10 @@ pub fn open_old<D: Disk>(
     ensures wrong_size { IfErr result (λ e. NotSize e ⊎ OldRefuses geometry.now (D.text disk.old) e) }
     ensures fits_size { IfErr result (λ e. NotSize e → length (D.text disk.old) ≡ old_disk_bytes geometry.now) }
     ensures read { OnlyRead (D.text disk.old) (D.text disk.new) (D.image disk.old) (D.image disk.new) (D.meter disk.old) (D.meter disk.new) }
+    ensures untouched { IfErr result (λ e. NotSize e ⊎ (disk.new ≡ disk.old)) }
+    ensures took { Took (old_opening_calls geometry.now) result (D.meter disk.old) (D.meter disk.new) }
     ensures fault { IsErrOf result OpenFault.DiskFault → Rises (faults (D.meter disk.old)) (faults (D.meter disk.new)) }
+    ensures own_fault { IsErrOf result OpenFault.DiskFault → HasPasses (old_opening_calls geometry.now) (D.meter disk.old) → Rises (D.meter disk.old).own (D.meter disk.new).own }
 {
     let have = disk.size();
     let need = geometry.old_disk_bytes();
@@ -163,7 +166,9 @@ fn read_old_heads<D: Disk>(
     ensures refused { IfErr result (λ e. IsTrue D.tells → OldCellsFault geometry.now (D.text disk.old) e) }
     ensures not_size { IfErr result NotSize }
     ensures read { OnlyRead (D.text disk.old) (D.text disk.new) (D.image disk.old) (D.image disk.new) (D.meter disk.old) (D.meter disk.new) }
+    ensures took { Took geometry.now.cells result (D.meter disk.old) (D.meter disk.new) }
     ensures fault { IsErrOf result OpenFault.DiskFault → Rises (faults (D.meter disk.old)) (faults (D.meter disk.new)) }
+    ensures own_fault { IsErrOf result OpenFault.DiskFault → HasPasses geometry.now.cells (D.meter disk.old) → Rises (D.meter disk.old).own (D.meter disk.new).own }
 {
     for cell in 0..geometry.cells {
         let head = read_old_head(disk, geometry, cell, gates[cell as usize])?;
@@ -188,7 +193,9 @@ fn read_old_head<D: Disk>(
     ensures valid { IfOk result (λ o. (h : Head) → o ≡ Some h → IsValid h × (h.layout ≡ geometry.now.layout)) }
     ensures refused { IfErr result (λ e. (e ≡ OpenFault.DiskFault) ⊎ ((e ≡ OpenFault.Damaged cell) × (IsTrue D.tells → Unreadable geometry.now (old_slot geometry.now (D.text disk.old) cell)))) }
     ensures read { OnlyRead (D.text disk.old) (D.text disk.new) (D.image disk.old) (D.image disk.new) (D.meter disk.old) (D.meter disk.new) }
+    ensures took { Took 1 result (D.meter disk.old) (D.meter disk.new) }
     ensures fault { IsErrOf result OpenFault.DiskFault → Rises (faults (D.meter disk.old)) (faults (D.meter disk.new)) }
+    ensures own_fault { IsErrOf result OpenFault.DiskFault → HasPasses 1 (D.meter disk.old) → Rises (D.meter disk.old).own (D.meter disk.new).own }
 {
     let mut bytes = [0u8; HEAD_BYTES];
     let at = geometry.old_slot_at(cell, gate % 2);

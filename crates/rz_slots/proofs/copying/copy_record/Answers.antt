@@ -1,16 +1,18 @@
 -- The record that was read is spelled in its slot.
-use Rattle.std.proofs.Common.{inl, inr, refl, ◌≡◌, ℕ, ◌+◌, ◌*◌, ◌≤◌, ◌++◌, Some, length, take, drop, sym, ◌∙◌, ap, subst, arith, length-append}
+use Rattle.std.proofs.Common.{inl, inr, refl, ◌≡◌, ℕ, ◌+◌, ◌*◌, ◌≤◌, ◌++◌, Some, is_ok, length, take, drop, sym, ◌∙◌, ap, subst, arith, length-append}
 use Rattle.std.proofs.lemmas.List.{length-take-le, take_at}
 use Rattle.byteorder.specs.Endian.{IsRead, little_number}
 use Rattle.mj_angles.specs.Layout.{bins_at_of}
 use Rattle.rz_disk.specs.Images.{window, Written}
+use Rattle.rz_disk.proofs.Passes.{took_failed, took_one}
 use Rattle.rz_events.specs.declared.records.Head.{Head}
 use Rattle.rz_record.specs.Record.{bins_of}
 use Rattle.rz_record.specs.Slot.{Rec, Spells}
 use Rattle.rz_slots.specs.Shape.{slot_of}
 use Rattle.rz_slots.proofs.Lifts.{fits_slot, spelled}
 use Rattle.rz_slots.proofs.Copies.{old_bins_here, shut_kept}
-use Rattle.rz_slots.proofs.Meters.{lasts_same, lasts_one, read_one}
+use Rattle.rz_slots.proofs.Counts.{took_none}
+use Rattle.rz_slots.proofs.Meters.{lasts_same, lasts_one, read_one, took_under}
 use Rattle.rz_slots.proofs.copying.copy_record.Goals as goal
 
 count_is : (h : Head) (n : ℕ) → n ≡ bins_at_of h.layout h.position → n ≡ bins_of h
@@ -176,3 +178,39 @@ returns-clause-old_risen g c is = absurd (cc)
 
 pub returns-clause-risen : goal.returns-clause-risen
 returns-clause-risen g c is = absurd (cc)
+
+pub returns-in_default-clause-old_took : goal.returns-in_default-clause-old_took
+returns-in_default-clause-old_took g c = took_failed 1 1 c.read_bins.result _ (g.D.Disk.meter c.args.old.now) (g.D.Disk.meter c.read_bins.new.disk) (omega arith) refl (took_one c.read_bins.result (g.D.Disk.meter c.args.old.now) (g.D.Disk.meter c.read_bins.new.disk) c.read_bins.ensures.meter)
+
+pub returns-in_default-clause-old_own_risen : goal.returns-in_default-clause-old_own_risen
+returns-in_default-clause-old_own_risen g c is has = c.in_default.ensures.meter.own_risen refl has
+
+pub returns-in_default-clause-took : goal.returns-in_default-clause-took
+returns-in_default-clause-took g c = took_none 1 _ (g.D.Disk.meter c.args.new.now) refl
+
+pub returns-in_default-clause-own_risen : goal.returns-in_default-clause-own_risen
+returns-in_default-clause-own_risen g c is has = absurd (cc)
+
+pub returns-in_default-write_at-clause-old_took : goal.returns-in_default-write_at-clause-old_took
+returns-in_default-write_at-clause-old_took g c = took_failed 1 1 c.read_bins.result _ (g.D.Disk.meter c.args.old.now) (g.D.Disk.meter c.read_bins.new.disk) (omega arith) refl (took_one c.read_bins.result (g.D.Disk.meter c.args.old.now) (g.D.Disk.meter c.read_bins.new.disk) c.read_bins.ensures.meter)
+
+pub returns-in_default-write_at-clause-old_own_risen : goal.returns-in_default-write_at-clause-old_own_risen
+returns-in_default-write_at-clause-old_own_risen g c is has = absurd (cc)
+
+pub returns-in_default-write_at-clause-took : goal.returns-in_default-write_at-clause-took
+returns-in_default-write_at-clause-took g c = took_failed 1 1 c.write_at.result _ (g.D.Disk.meter c.args.new.now) (g.D.Disk.meter c.write_at.new.self) (omega arith) refl (took_one c.write_at.result (g.D.Disk.meter c.args.new.now) (g.D.Disk.meter c.write_at.new.self) c.write_at.ensures.meter)
+
+pub returns-in_default-write_at-clause-own_risen : goal.returns-in_default-write_at-clause-own_risen
+returns-in_default-write_at-clause-own_risen g c is has = c.in_default-write_at.ensures.meter.own_risen refl has
+
+pub returns-clause-old_took : goal.returns-clause-old_took
+returns-clause-old_took g c = took_under 1 c.read_bins.result _ (g.D.Disk.meter c.args.old.now) (g.D.Disk.meter c.read_bins.new.disk) (λ _. ap is_ok c.in-Ok.is) (took_one c.read_bins.result (g.D.Disk.meter c.args.old.now) (g.D.Disk.meter c.read_bins.new.disk) c.read_bins.ensures.meter)
+
+pub returns-clause-old_own_risen : goal.returns-clause-old_own_risen
+returns-clause-old_own_risen g c is has = absurd (cc)
+
+pub returns-clause-took : goal.returns-clause-took
+returns-clause-took g c = took_under 1 c.write_at.result _ (g.D.Disk.meter c.args.new.now) (g.D.Disk.meter c.write_at.new.self) (λ _. ap is_ok c.in-Ok-write_at.is) (took_one c.write_at.result (g.D.Disk.meter c.args.new.now) (g.D.Disk.meter c.write_at.new.self) c.write_at.ensures.meter)
+
+pub returns-clause-own_risen : goal.returns-clause-own_risen
+returns-clause-own_risen g c is has = absurd (cc)

@@ -1,6 +1,8 @@
-use Rattle.std.proofs.Common.{ℕ, ◌≡◌, inr, refl, length, replicate, ◌∙◌, ap, arith}
+use Rattle.std.proofs.Common.{ℕ, ◌≡◌, inr, refl, is_ok, length, replicate, ◌∙◌, ap, arith}
+use Rattle.rz_disk.proofs.Passes.{took_one}
 use Rattle.rz_slots.proofs.Copied.{blank_written}
 use Rattle.rz_slots.proofs.Fresh.{zeros_torn}
+use Rattle.rz_slots.proofs.Meters.{took_after}
 use Rattle.rz_slots.proofs.copying.lay_out.Goals as goal
 
 pub returns-clause-blank : goal.returns-clause-blank
@@ -43,3 +45,12 @@ returns-clause-faults g c = tt
 
 pub returns-clause-risen : goal.returns-clause-risen
 returns-clause-risen g c is = absurd (cc)
+
+pub returns-in_default-clause-took : goal.returns-in_default-clause-took
+returns-in_default-clause-took g c = took_after 1 c.write_at.result _ (g.D.Disk.meter c.args.disk.now) (g.D.Disk.meter c.reset.new.self) (g.D.Disk.meter c.write_at.new.self) c.reset.ensures.fuse c.reset.ensures.planned (λ ok. absurd (cc)) (took_one c.write_at.result (g.D.Disk.meter c.reset.new.self) (g.D.Disk.meter c.write_at.new.self) c.write_at.ensures.meter)
+
+pub returns-clause-took : goal.returns-clause-took
+returns-clause-took g c = took_after 1 c.write_at.result _ (g.D.Disk.meter c.args.disk.now) (g.D.Disk.meter c.reset.new.self) (g.D.Disk.meter c.write_at.new.self) c.reset.ensures.fuse c.reset.ensures.planned (λ _. ap is_ok c.in-Ok-write_at.is) (took_one c.write_at.result (g.D.Disk.meter c.reset.new.self) (g.D.Disk.meter c.write_at.new.self) c.write_at.ensures.meter)
+
+pub returns-clause-own_risen : goal.returns-clause-own_risen
+returns-clause-own_risen g c is has = absurd (cc)
