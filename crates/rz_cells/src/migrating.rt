@@ -1,14 +1,16 @@
 //! An old disk carried over onto a new one.
-ghost use Rattle.std.specs.Prelude.{◌≡◌, ◌≢◌, ◌⊎◌, ℕ, List, length, IsTrue, IfOk, IfErr, MatchResult};
+ghost use Rattle.std.specs.Prelude.{◌≡◌, ◌≢◌, ◌⊎◌, ◌+◌, ℕ, List, length, IsTrue, IfOk, IfErr, MatchResult};
 ghost use Rattle.mj_angles.specs.Layout.{bsize_of};
 ghost use Rattle.rz_disk.specs.Images.{Within};
 ghost use Rattle.rz_disk.specs.Meter.{Lasts, Rises, faults};
-ghost use Rattle.rz_slots.specs.Held.{Records};
+ghost use Rattle.rz_slots.specs.Counted.{CountedWhere, TookAll};
+ghost use Rattle.rz_slots.specs.Held.{Records, count_held};
 ghost use Rattle.rz_slots.specs.Shape.{IsGeometry};
 ghost use Rattle.rz_slots.specs.Stands.{IsShut, StandsFor};
 ghost use Rattle.rz_slots.specs.Opening.{NotSize};
-ghost use Rattle.rz_slots.specs.Old.{CarriesOver, OldStandsFor, old_disk_bytes};
-ghost use Rattle.rz_slots.specs.OldOpening.{OldRefuses};
+ghost use Rattle.rz_slots.specs.Old.{CarriesOver, HoldsAtMost, OldStandsFor, old_disk_bytes};
+ghost use Rattle.rz_slots.specs.OldOpening.{OldRefuses, old_opening_calls};
+ghost use Rattle.rz_slots.specs.Copied.{copy_calls};
 ghost use Rattle.rz_cells.specs.Open.{AreOpen};
 
 use crate::{Cells, Geometry, MigrateFault};
@@ -64,6 +66,22 @@ impl<D: Disk> Cells<D> {
         ensures meter { MatchResult result (λ c. Lasts (D.meter new) (D.meter c.disk)) (λ e. Lasts (D.meter new) (D.meter e.0)) }
         ensures old_risen { IfErr result (λ e. e.1 ≡ MigrateFault.Old OpenFault.DiskFault → Rises (faults (D.meter old.old)) (faults (D.meter old.new))) }
         ensures risen { IfErr result (λ e. e.1 ≡ MigrateFault.New → Rises (faults (D.meter new)) (faults (D.meter e.0))) }
+
+        // The old disk takes so many passes as its opening and one for each record, and the new one as many as the copy of
+        // these. Where it fails they are no more than for the records that the old disk may hold.
+        ensures old_calls { MatchResult result (λ c. CountedWhere (old_opening_calls geometry + count_held c.heads) result ⊥ (D.meter old.old) (D.meter old.new))
+            (λ e. (n : ℕ) → HoldsAtMost D.tells geometry (D.text old.old) n → CountedWhere (old_opening_calls geometry + n) result (e.1 ≡ MigrateFault.Old OpenFault.DiskFault) (D.meter old.old) (D.meter old.new)) }
+        ensures calls { MatchResult result (λ c. CountedWhere (copy_calls (count_held c.heads)) result ⊥ (D.meter new) (D.meter c.disk))
+            (λ e. (n : ℕ) → HoldsAtMost D.tells geometry (D.text old.old) n → CountedWhere (copy_calls n) result (e.1 ≡ MigrateFault.New) (D.meter new) (D.meter e.0)) }
+
+        // Want of memory takes no pass of the new disk. It comes before a disk is called, or when the old one is open.
+        ensures unspent { IfErr result (λ e. e.1 ≡ MigrateFault.NoMemory → (D.meter e.0).fuse ≡ (D.meter new).fuse) }
+        ensures unplanned { IfErr result (λ e. e.1 ≡ MigrateFault.NoMemory → (D.meter e.0).planned ≡ (D.meter new).planned) }
+        ensures no_memory { IfErr result (λ e. e.1 ≡ MigrateFault.NoMemory → ((old.new ≡ old.old) × (e.0 ≡ new)) ⊎ TookAll (old_opening_calls geometry) (D.meter old.old) (D.meter old.new)) }
+        ensures old_unplanned { IfErr result (λ e. e.1 ≡ MigrateFault.NoMemory → (D.meter old.new).planned ≡ (D.meter old.old).planned) }
+
+        // And a wrong size is told before a disk is called.
+        ensures wrong_size { IfErr result (λ e. (have need : ℕ) → e.1 ≡ MigrateFault.Old (OpenFault.WrongSize have need) → old.new ≡ old.old) }
     {
         let mut disk = new;
         match carry(alloc, &geometry, old, &mut disk) {

@@ -1,7 +1,11 @@
 -- Both disks hold the same cells.
-use Rattle.std.proofs.Common.{sym, subst}
+use Rattle.std.proofs.Common.{◌+◌, refl, sym, subst}
 use Rattle.rz_slots.specs.Old.{CarriesOver}
+use Rattle.rz_slots.specs.Held.{count_held}
+use Rattle.rz_slots.specs.OldOpening.{old_opening_calls}
+use Rattle.rz_slots.specs.Copied.{copy_calls}
 use Rattle.rz_slots.proofs.Carried.{carried, found, over}
+use Rattle.rz_slots.proofs.Counts.{counted_under}
 use Rattle.rz_slots.proofs.OldOpened.{only_old_faults}
 use Rattle.rz_cells.proofs.cells.Cells.migrate.Goals as goal
 
@@ -21,3 +25,15 @@ returns-in-Ok-clause-crash g c told t left =
 pub returns-in-Err-clause-exact : goal.returns-in-Err-clause-exact
 returns-in-Err-clause-exact g c fault is told fence held stands =
     only_old_faults c.args.geometry fence (g.D.Disk.text c.args.old.now) held stands fault (c.in-Err.ensures.old_fault fault is told)
+
+pub returns-in-Ok-clause-old_calls : goal.returns-in-Ok-clause-old_calls
+returns-in-Ok-clause-old_calls g c = counted_under (old_opening_calls c.args.geometry + count_held c.in-Ok.room.heads) _ _ _ _ (g.D.Disk.meter c.args.old.now) (g.D.Disk.meter c.carry.new.old) (λ ok. refl) (λ never. absurd never) c.in-Ok.ensures.old_calls
+
+pub returns-in-Ok-clause-calls : goal.returns-in-Ok-clause-calls
+returns-in-Ok-clause-calls g c = counted_under (copy_calls (count_held c.in-Ok.room.heads)) _ _ _ _ (g.D.Disk.meter c.args.new) (g.D.Disk.meter c.carry.new.new) (λ ok. refl) (λ never. absurd never) c.in-Ok.ensures.calls
+
+pub returns-in-Err-clause-old_calls : goal.returns-in-Err-clause-old_calls
+returns-in-Err-clause-old_calls g c n most = counted_under (old_opening_calls c.args.geometry + n) _ _ _ _ (g.D.Disk.meter c.args.old.now) (g.D.Disk.meter c.carry.new.old) (λ ok. ok) (λ is. is) (c.in-Err.ensures.old_calls n most)
+
+pub returns-in-Err-clause-calls : goal.returns-in-Err-clause-calls
+returns-in-Err-clause-calls g c n most = counted_under (copy_calls n) _ _ _ _ (g.D.Disk.meter c.args.new) (g.D.Disk.meter c.carry.new.new) (λ ok. ok) (λ is. is) (c.in-Err.ensures.calls n most)
