@@ -2,7 +2,7 @@
 ghost use Rattle.std.specs.Prelude.{◌≡◌, ◌≢◌, ◌⊎◌, ◌+◌, ℕ, List, length, IsTrue, IfOk, IfErr, MatchResult};
 ghost use Rattle.mj_angles.specs.Layout.{bsize_of};
 ghost use Rattle.rz_disk.specs.Images.{Within};
-ghost use Rattle.rz_disk.specs.Meter.{Lasts, Rises, faults};
+ghost use Rattle.rz_disk.specs.Meter.{Took, Lasts, Rises, faults};
 ghost use Rattle.rz_slots.specs.Counted.{CountedWhere, TookAll};
 ghost use Rattle.rz_slots.specs.Held.{Records, count_held};
 ghost use Rattle.rz_slots.specs.Shape.{IsGeometry};
@@ -73,6 +73,9 @@ impl<D: Disk> Cells<D> {
             (λ e. (n : ℕ) → HoldsAtMost D.tells geometry (D.text old.old) n → CountedWhere (old_opening_calls geometry + n) result (e.1 ≡ MigrateFault.Old OpenFault.DiskFault) (D.meter old.old) (D.meter old.new)) }
         ensures calls { MatchResult result (λ c. CountedWhere (copy_calls (count_held c.heads)) result ⊥ (D.meter new) (D.meter c.disk))
             (λ e. (n : ℕ) → HoldsAtMost D.tells geometry (D.text old.old) n → CountedWhere (copy_calls n) result (e.1 ≡ MigrateFault.New) (D.meter new) (D.meter e.0)) }
+
+        // An old disk that is refused takes none but those of its opening.
+        ensures old_refused { IfErr result (λ e. (fault : OpenFault) → e.1 ≡ MigrateFault.Old fault → fault ≢ OpenFault.DiskFault → Took (old_opening_calls geometry) result (D.meter old.old) (D.meter old.new)) }
 
         // Want of memory takes no pass of the new disk. It comes before a disk is called, or when the old one is open.
         ensures unspent { IfErr result (λ e. e.1 ≡ MigrateFault.NoMemory → (D.meter e.0).fuse ≡ (D.meter new).fuse) }

@@ -1,7 +1,7 @@
 //! The records of an old disk brought onto a new one, with what is known of both in memory.
-ghost use Rattle.std.specs.Prelude.{◌≡◌, ◌⊎◌, ◌+◌, ◌*◌, ◌≤◌, ℕ, List, None, length, slice_index, IsTrue, IsErr, IsErrOf, OnOk, IfOk, IfErr, MatchResult};
+ghost use Rattle.std.specs.Prelude.{◌≡◌, ◌≢◌, ◌⊎◌, ◌+◌, ◌*◌, ◌≤◌, ℕ, List, None, length, slice_index, IsTrue, IsErr, IsErrOf, OnOk, IfOk, IfErr, MatchResult};
 ghost use Rattle.std.specs.HashMap.{IsEmpty, spare};
-ghost use Rattle.rz_disk.specs.Meter.{Lasts, Rises, faults};
+ghost use Rattle.rz_disk.specs.Meter.{Took, Lasts, Rises, faults};
 ghost use Rattle.rz_slots.specs.Counted.{CountedWhere, TookAll};
 ghost use Rattle.rz_slots.specs.Held.{count_held, in_cell};
 ghost use Rattle.rz_slots.specs.Shape.{IsGeometry, slot_of};
@@ -62,6 +62,7 @@ pub fn carry<D: Disk>(
     ensures unplanned { IsErrOf result MigrateFault.NoMemory → (D.meter new.new).planned ≡ (D.meter new.old).planned }
     ensures no_memory { IsErrOf result MigrateFault.NoMemory → ((old.new ≡ old.old) × (new.new ≡ new.old)) ⊎ TookAll (old_opening_calls geometry.now) (D.meter old.old) (D.meter old.new) }
     ensures old_unplanned { IsErrOf result MigrateFault.NoMemory → (D.meter old.new).planned ≡ (D.meter old.old).planned }
+    ensures old_refused { IfErr result (λ e. (fault : OpenFault) → e ≡ MigrateFault.Old fault → fault ≢ OpenFault.DiskFault → Took (old_opening_calls geometry.now) result (D.meter old.old) (D.meter old.new)) }
     ensures old_untouched { IfErr result (λ e. (have need : ℕ) → e ≡ MigrateFault.Old (OpenFault.WrongSize have need) → old.new ≡ old.old) }
 {
     let Ok(reserved) = reserve(alloc, geometry) else {
@@ -129,6 +130,7 @@ fn carry_into<D: Disk>(
     ensures unspent { IsErrOf result MigrateFault.NoMemory → (D.meter new.new).fuse ≡ (D.meter new.old).fuse }
     ensures unplanned { IsErrOf result MigrateFault.NoMemory → (D.meter new.new).planned ≡ (D.meter new.old).planned }
     ensures old_opened { IsErrOf result MigrateFault.NoMemory → TookAll (old_opening_calls geometry.now) (D.meter old.old) (D.meter old.new) }
+    ensures old_refused { IfErr result (λ e. (fault : OpenFault) → e ≡ MigrateFault.Old fault → fault ≢ OpenFault.DiskFault → Took (old_opening_calls geometry.now) result (D.meter old.old) (D.meter old.new)) }
     ensures old_untouched { IfErr result (λ e. (have need : ℕ) → e ≡ MigrateFault.Old (OpenFault.WrongSize have need) → old.new ≡ old.old) }
 {
     match open_old(old, geometry, &mut reserved.cells, &mut reserved.firsts) {

@@ -4,6 +4,7 @@ use Rattle.rz_slots.specs.declared.migrating.MigrateFault.TheVariants.{NoMemory}
 use Rattle.rz_slots.specs.OldOpening.{old_opening_calls}
 use Rattle.rz_slots.specs.Copied.{copy_calls}
 use Rattle.rz_slots.proofs.Counts.{counted_under, none_planned}
+use Rattle.rz_slots.proofs.Meters.{took_under}
 use Rattle.rz_slots.proofs.migrating.carry.Goals as goal
 
 pub returns-in-Err-clause-old_calls : goal.returns-in-Err-clause-old_calls
@@ -18,3 +19,7 @@ pub returns-in-Err-clause-old_unplanned : goal.returns-in-Err-clause-old_unplann
 returns-in-Err-clause-old_unplanned g c is =
     let same : c.in-Err.fault ≡ NoMemory = cc (is) in
     none_planned (old_opening_calls c.args.geometry.now) (g.D.Disk.meter c.args.old.now) (g.D.Disk.meter c.carry_into-carried.new.old) (c.in-Err.ensures.old_opened (ap Err same)) c.carry_into-carried.ensures.read.lasts
+
+pub returns-in-Err-clause-old_refused : goal.returns-in-Err-clause-old_refused
+returns-in-Err-clause-old_refused g c fault is not_call =
+    took_under (old_opening_calls c.args.geometry.now) _ _ (g.D.Disk.meter c.args.old.now) (g.D.Disk.meter c.carry_into-carried.new.old) (λ ok. ok) (c.in-Err.ensures.old_refused fault is not_call)

@@ -1,10 +1,11 @@
 -- What was copied makes open cells.
-use Rattle.std.proofs.Common.{◌≡◌, ◌⊎◌, ℕ, ◌+◌, ◌*◌, ◌≤◌, Result, Ok, Err, is_ok, IsErrOf, List, Option, length, sym, ◌∙◌, ap, subst, arith}
+use Rattle.std.proofs.Common.{◌≡◌, ◌⊎◌, ℕ, ◌+◌, ◌*◌, ◌≤◌, Result, Ok, Err, is_ok, IsErrOf, List, Option, length, refl, sym, ◌∙◌, ap, subst, arith}
 use Rattle.std.proofs.lemmas.Result.{err_from_is_err_and}
 use Rattle.rz_events.specs.declared.records.Head.{Head}
 use Rattle.rz_events.specs.declared.nodes.OpenFault.TheVariants.{DiskFault}
 use Rattle.rz_slots.specs.declared.migrating.MigrateFault.{MigrateFault}
 use Rattle.rz_slots.specs.declared.migrating.MigrateFault.TheVariants.{Old, New}
+use Rattle.rz_disk.proofs.Passes.{took_failed}
 use Rattle.rz_slots.specs.Stands.{IsShut}
 use Rattle.rz_slots.specs.Open.{IsOpen}
 use Rattle.rz_slots.specs.Old.{paired}
@@ -128,3 +129,7 @@ returns-in_err-copy-clause-old_opened g c is =
     let gave : c.from_residual.result ≡ Err c.in_err-copy.field-0.0 = p.1 ∙ ap Err p.2 in
     subst (λ (d : g.row.D.Denot). TookAll (old_opening_calls c.args.geometry.now) (g.D.Disk.meter c.args.old.now) (g.D.Disk.meter d)) (sym (c.copy.ensures.old_untouched (c.in_err-copy.was ∙ sym gave ∙ is)))
     (took_under (old_opening_calls c.args.geometry.now) c.open_old.result _ (g.D.Disk.meter c.args.old.now) (g.D.Disk.meter c.open_old.new.disk) (λ _. ap is_ok c.in-Ok.is) c.open_old.ensures.took)
+
+pub returns-in-Err-clause-old_refused : goal.returns-in-Err-clause-old_refused
+returns-in-Err-clause-old_refused g c fault is not_call =
+    took_failed (old_opening_calls c.args.geometry.now) (old_opening_calls c.args.geometry.now) c.open_old.result _ (g.D.Disk.meter c.args.old.now) (g.D.Disk.meter c.open_old.new.disk) (omega arith) refl c.open_old.ensures.took

@@ -6,6 +6,7 @@ use Rattle.rz_slots.specs.OldOpening.{old_opening_calls}
 use Rattle.rz_slots.specs.Copied.{copy_calls}
 use Rattle.rz_slots.proofs.Carried.{carried, found, over}
 use Rattle.rz_slots.proofs.Counts.{counted_under}
+use Rattle.rz_slots.proofs.Meters.{took_under}
 use Rattle.rz_slots.proofs.OldOpened.{only_old_faults}
 use Rattle.rz_cells.proofs.cells.Cells.migrate.Goals as goal
 
@@ -37,3 +38,6 @@ returns-in-Err-clause-old_calls g c n most = counted_under (old_opening_calls c.
 
 pub returns-in-Err-clause-calls : goal.returns-in-Err-clause-calls
 returns-in-Err-clause-calls g c n most = counted_under (copy_calls n) _ _ _ _ (g.D.Disk.meter c.args.new) (g.D.Disk.meter c.carry.new.new) (λ ok. ok) (λ is. is) (c.in-Err.ensures.calls n most)
+
+pub returns-in-Err-clause-old_refused : goal.returns-in-Err-clause-old_refused
+returns-in-Err-clause-old_refused g c fault is not_call = took_under (old_opening_calls c.args.geometry) _ _ (g.D.Disk.meter c.args.old.now) (g.D.Disk.meter c.carry.new.old) (λ ok. ok) (c.in-Err.ensures.old_refused fault is not_call)
