@@ -15,8 +15,9 @@
 //! disk whole, and the new one is opened exactly where it is whole.
 //!
 //! A change makes four device calls, and a read of bins one. An opening reads the header, the gates and
-//! 48 bytes of each cell, and looks up each record's key once. Open cells can crash their disk, read it
-//! anew and make it anew, and keep what they know where that fails.
+//! 48 bytes of each cell, and looks up each record's key once. A migration makes three device calls of the
+//! old disk and one for each of its cells and records, and four of the new one and one for each record.
+//! Open cells can crash their disk, read it anew and make it anew, and keep what they know where that fails.
 //!
 //! `rz_slots` below has the layout of a disk, what its bytes stand for, and what is done to slots.
 //!
