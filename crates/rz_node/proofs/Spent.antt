@@ -1,11 +1,16 @@
 -- From the counts of the cells' calls to those of a node's.
 use Rattle.std.proofs.Common.{◌≡◌, ◌≢◌, ℕ, ◌-◌, ◌≤◌, true, false, Some, Result, Ok, Err, is_ok, refl, sym, ◌∙◌, ap, arith}
 use Rattle.rz_disk.specs.Meter.{Meter, Took, Passes, spent}
+use Rattle.rz_slots.specs.Counted.{CountedWhere}
 use Rattle.rz_node.specs.Spends.{Failed, Passed}
 
 -- what was counted depends on the success alone
 pub took-as : {T E T' E' : Type 0} (k : ℕ) (r : Result T E) (q : Result T' E') (old new : Meter) → is_ok q ≡ is_ok r → Took k r old new → Took k q old new
 took-as k r q old new same took = record { planned_only = took.planned_only; unarmed = took.unarmed; enough = λ n armed ok. took.enough n armed (sym same ∙ ok); left = took.left }
+
+-- and so what a failure of the disk raised
+pub counted-as : {T E T' E' : Type 0} (k : ℕ) (r : Result T E) (q : Result T' E') (F G : Type 0) (old new : Meter) → is_ok q ≡ is_ok r → (G → F) → CountedWhere k r F old new → CountedWhere k q G old new
+counted-as k r q F G old new same fails c = record { took = took-as k r q old new same c.took; lasts = c.lasts; risen = λ failed. c.risen (fails failed); own_risen = λ failed. c.own_risen (fails failed) }
 
 not-blown : (n : ℕ) → n ≢ 0 → 1 ≤ n
 not-blown n never = omega arith

@@ -7,7 +7,6 @@ use Rattle.rz_events.specs.Keys.{key_cmp}
 use Rattle.rz_events.specs.declared.keys.Key.{Key}
 use Rattle.rz_events.specs.declared.records.Head.{Head}
 use Rattle.rz_events.specs.declared.records.Held.{Held}
-use Rattle.rz_events.specs.declared.nodes.OpenFault.{OpenFault}
 use Rattle.rz_events.specs.declared.nodes.Phase.{Phase}
 use Rattle.rz_events.specs.declared.nodes.Phase.TheVariants.{Up}
 use Rattle.rz_events.specs.declared.nodes.DropAnswer.TheVariants as drop
@@ -27,8 +26,8 @@ use Rattle.rz_node.specs.Change.{IsBranch}
 use Rattle.rz_node.specs.Kept.{held_by}
 use Rattle.rz_node.specs.View.{NodeView, held_in, state_of}
 use Rattle.rz_slots.specs.Opening.{opening_calls}
-use Rattle.rz_node.specs.Opens.{Stopped}
-use Rattle.rz_node.specs.Spends.{Passed, Failed}
+use Rattle.rz_slots.specs.Counted.{CountedWhere}
+use Rattle.rz_node.specs.Spends.{outcome, Passed, Failed}
 
 -- ---- equal views
 
@@ -48,8 +47,8 @@ failed-along {D} meter v w k new same p = subst (λ (x : NodeView D). Failed k (
 pub opened-along : {D : Type 0} (meter : D → Meter) (v w : NodeView D) (new : Meter) → v ≡ w → Passed (opening_calls v.geometry) (meter v.disk) new → Passed (opening_calls w.geometry) (meter w.disk) new
 opened-along {D} meter v w new same p = subst (λ (x : NodeView D). Passed (opening_calls x.geometry) (meter x.disk) new) same p
 
-pub stopped-along : {D : Type 0} (meter : D → Meter) (v w : NodeView D) (cause : OpenFault) (new : Meter) → v ≡ w → Stopped (opening_calls v.geometry) cause (meter v.disk) new → Stopped (opening_calls w.geometry) cause (meter w.disk) new
-stopped-along {D} meter v w cause new same p = subst (λ (x : NodeView D). Stopped (opening_calls x.geometry) cause (meter x.disk) new) same p
+pub counted-along : {D : Type 0} (meter : D → Meter) (v w : NodeView D) (F : Type 0) (new : Meter) → v ≡ w → CountedWhere (opening_calls v.geometry) (outcome false) F (meter v.disk) new → CountedWhere (opening_calls w.geometry) (outcome false) F (meter w.disk) new
+counted-along {D} meter v w F new same p = subst (λ (x : NodeView D). CountedWhere (opening_calls x.geometry) (outcome false) F (meter x.disk) new) same p
 
 pub branch-along : {D : Type 0} (v w : NodeView D) (text : List ℕ) (took : Bool) → v ≡ w → IsBranch v.geometry v.state.fence text v.state.undecided v.state.held took → IsBranch w.geometry w.state.fence text w.state.undecided w.state.held took
 branch-along {D} v w text took same p = subst (λ (x : NodeView D). IsBranch x.geometry x.state.fence text x.state.undecided x.state.held took) same p

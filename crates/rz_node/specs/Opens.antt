@@ -1,12 +1,13 @@
 -- A start and a replacement, by their answers: what is so, and what they leave of the disk's meter.
 use Rattle.std.specs.Prelude.{ℕ, ◌≡◌, Bool, false}
-use Rattle.rz_disk.specs.Meter.{Meter, Took, Lasts, Rises, HasPasses, faults}
+use Rattle.rz_disk.specs.Meter.{Meter, Lasts}
 use Rattle.rz_events.specs.declared.nodes.OpenFault.{OpenFault}
 use Rattle.rz_events.specs.declared.nodes.OpenFault.TheVariants as fault
 use Rattle.rz_events.specs.declared.nodes.StartAnswer.{StartAnswer}
 use Rattle.rz_events.specs.declared.nodes.StartAnswer.TheVariants as start
 use Rattle.rz_events.specs.declared.nodes.ReplaceAnswer.{ReplaceAnswer}
 use Rattle.rz_events.specs.declared.nodes.ReplaceAnswer.TheVariants as replace
+use Rattle.rz_slots.specs.Counted.{CountedWhere}
 use Rattle.rz_node.specs.Spends.{outcome, Passed, Failed}
 
 abbrev pub IfStarted : StartAnswer → Type 0 → Type 0
@@ -32,19 +33,19 @@ abbrev pub IfUnopened : StartAnswer → (OpenFault → Type 0) → Type 0
 IfUnopened (start.Unopened cause) P = P cause
 IfUnopened _ P = Unit {0}
 
--- A disk did not open. Where a device call failed, the faults rose, and with enough passes those that no fuse planned.
-pub record Stopped (k : ℕ) (cause : OpenFault) (old new : Meter) : Type 0 where
-  pub took : Took k (outcome false) old new
-  pub lasts : Lasts old new
-  pub risen : cause ≡ fault.DiskFault → Rises (faults old) (faults new)
-  pub own_risen : cause ≡ fault.DiskFault → HasPasses k old → Rises old.own new.own
+-- the disk was not looked at: the node was not down, memory was wanting or the size was wrong
+abbrev pub IsUnlooked : StartAnswer → Type 0
+IsUnlooked start.NotDown = Unit {0}
+IsUnlooked start.NoMemory = Unit {0}
+IsUnlooked (start.Unopened (fault.WrongSize have need)) = Unit {0}
+IsUnlooked _ = ⊥
 
--- of an opening that makes k device calls
+-- Of an opening that makes k device calls. Where it was refused by one that failed, the faults rose.
 abbrev pub Opens : ℕ → StartAnswer → Meter → Meter → Type 0
 Opens k start.NotDown old new = new ≡ old
 Opens k start.NoMemory old new = new ≡ old
 Opens k (start.Started took) old new = Passed k old new
-Opens k (start.Unopened cause) old new = Stopped k cause old new
+Opens k (start.Unopened cause) old new = CountedWhere k (outcome false) (cause ≡ fault.DiskFault) old new
 
 -- A disk was not made anew for want of memory: no pass was taken and no fault planned.
 pub record Unreset (old new : Meter) : Type 0 where

@@ -1,15 +1,23 @@
 //! Any call of a node.
-ghost use Rattle.std.specs.Prelude.{◌≡◌, IsTrue, drop};
+ghost use Rattle.std.specs.Prelude.{◌≡◌, ℕ, IsTrue, drop, length};
 ghost use Rattle.mj_angles.specs.Layout.{max_bins_of};
-ghost use Rattle.rz_slots.specs.Opening.{opening_calls};
+ghost use Rattle.rz_disk.specs.Images.{Only, Within};
+ghost use Rattle.rz_slots.specs.Held.{Records};
+ghost use Rattle.rz_slots.specs.Opening.{NotSize, Refuses, opening_calls};
+ghost use Rattle.rz_slots.specs.Shape.{disk_bytes};
+ghost use Rattle.rz_slots.specs.Stands.{StandsFor};
 ghost use Rattle.rz_node_model.specs.Answers.{IsNodeAnswer};
 ghost use Rattle.rz_node_model.specs.Afterwards.{after_answer};
-ghost use Rattle.rz_node.specs.Calls.{Takes, IsNoStart, IsUnread, Counts};
+ghost use Rattle.rz_node_model.specs.States.{opened};
+ghost use Rattle.rz_node.specs.Calls.{Takes, IsNoStart, IsReading, IsSettled, IsUnread, IsUnused, IfStart, Counts};
+ghost use Rattle.rz_node.specs.DownDisk.{has_taken};
+ghost use Rattle.rz_node.specs.HeldOnDisk.{IsHeldOnDisk};
 ghost use Rattle.rz_node.specs.Leaves.{Leaves};
+ghost use Rattle.rz_node.specs.Opens.{IfStarted, IfUnopened, TookIs, UnlessStarted};
 
 use crate::Node;
 use rz_disk::Disk;
-use rz_events::{NodeAnswer, NodeAsk};
+use rz_events::{NodeAnswer, NodeAsk, OpenFault};
 use std::alloc::Global;
 
 /// Gives a call to a node. The bins are those of a record that is to be kept, or the room for those of
@@ -28,9 +36,31 @@ pub fn answer_node<D: Disk>(
     ensures after_call { IsNoStart ask.now → node.new.state ≡ after_answer ask.now result node.old.state }
     ensures geometry { node.new.geometry ≡ node.old.geometry }
 
+    // How a start leaves the state of a node on any disk.
+    ensures started { IfStart result (λ a. IfStarted a (node.new.state ≡ opened node.old.state.losses node.new.state.fence node.new.state.held)) }
+    ensures took { IfStart result (λ a. TookIs a (has_taken node.old.state.undecided node.new.state.held)) }
+    ensures unstarted { IfStart result (λ a. UnlessStarted a (node.new.state ≡ node.old.state)) }
+
+    // A disk that tells is refused by a failed device call alone, and any disk of a wrong size as such.
+    ensures exact { IfStart result (λ a. IfUnopened a (λ cause. IsTrue D.tells → cause ≡ OpenFault.DiskFault)) }
+    ensures size { IfStart result (λ a. IfUnopened a (λ cause. (have need : ℕ) → cause ≡ OpenFault.WrongSize have need → Refuses node.old.geometry (D.text node.old.disk) (OpenFault.WrongSize have need))) }
+    ensures fits { IfStart result (λ a. IfUnopened a (λ cause. NotSize cause → length (D.text node.old.disk) ≡ disk_bytes node.old.geometry)) }
+
+    // What is held after a start is what the text stands for.
+    ensures stands { IfStart result (λ a. IfStarted a (IsTrue D.tells → (records : Records) × StandsFor node.new.geometry node.new.state.fence (D.text node.new.disk) records)) }
+    ensures shows { IfStart result (λ a. IfStarted a (IsTrue D.tells → (records : Records) → StandsFor node.new.geometry node.new.state.fence (D.text node.new.disk) records → IsHeldOnDisk node.new.state.held records)) }
+
     // The caller's bins are written where a record was read, and not behind the most bins that one has.
     ensures unread { IsUnread result → bins.new ≡ bins.old }
     ensures rest { drop (max_bins_of node.old.geometry.layout) bins.new ≡ drop (max_bins_of node.old.geometry.layout) bins.old }
+
+    // A call that does not need the disk, or that ends before it, leaves the disk as it is.
+    ensures unused { IsUnused result → node.new.disk ≡ node.old.disk }
+
+    // A fetch and a start change no text, and a start or a replacement that went well leaves one image.
+    ensures text { IsReading result → D.text node.new.disk ≡ D.text node.old.disk }
+    ensures within { IsReading result → Within (D.image node.old.disk) (D.image node.new.disk) }
+    ensures settled { IsSettled result → Only (D.text node.new.disk) (D.image node.new.disk) }
 
     ensures counts { Counts (opening_calls node.old.geometry) result (D.meter node.old.disk) (D.meter node.new.disk) }
     ensures leaves { IsTrue D.tells → Leaves node.old.geometry node.old.state ask.now result bins.old bins.new (D.text node.old.disk) (D.text node.new.disk) (D.image node.old.disk) (D.image node.new.disk) }

@@ -10,9 +10,9 @@
 //! Bins are read from the disk each time. Memory is taken where a node is made, started or replaced, and by
 //! no other call.
 //!
-//! [`answer_node`] gives any call to a node, as one function, and says what the answer, the state and the meter
-//! of the disk are, and what the disk may have after a crash then. [`node_event`] makes of an answer the event
-//! that the log has of it. Both say what the models say, and nothing of who calls or when.
+//! [`answer_node`] gives any call to a node, as one function, and says no less than the calls themselves: what the
+//! answer, the state and the meter of the disk are, and what the disk may have after a crash then. [`node_event`]
+//! makes of an answer the event that the log has of it. Both say what the models say, and nothing of who calls or when.
 //!
 //! In reading order: `node`, `fetching`, `storing`, `keeping`, `dropping`, `rows`, `opening`, `replacing`, `laws`,
 //! `events`, `calls`.

@@ -1,7 +1,8 @@
 //! A node and the calls that use no disk.
 ghost use Rattle.std.specs.Prelude.{◌≡◌, ◌⊎◌, ◌*◌, ℕ, Some, None, List, IsTrue, IfOk, IfErr, MatchResult, if◌then◌else◌};
 ghost use Rattle.rz_disk.specs.Images.{Only, Within};
-ghost use Rattle.rz_disk.specs.Meter.{Took, Lasts, Rises, HasPasses, faults, armed};
+ghost use Rattle.rz_disk.specs.Meter.{armed};
+ghost use Rattle.rz_slots.specs.Counted.{CountedWhere};
 ghost use Rattle.rz_slots.specs.Held.{nothing};
 ghost use Rattle.rz_slots.specs.Shape.{IsGeometry};
 ghost use Rattle.rz_slots.specs.Stands.{IsShut, StandsFor};
@@ -59,10 +60,8 @@ impl<D: Disk> Node<D> {
         // Otherwise each image is one from before, or its header is shut, or it stands for nothing.
         ensures crash { IfErr result (λ e. IsTrue D.tells → (c : List ℕ) → D.image e.0 c → D.image disk c ⊎ IsShut c ⊎ StandsFor geometry 0 c nothing) }
 
-        ensures took { MatchResult result (λ n. Took 4 result (D.meter disk) (D.meter n.disk)) (λ e. Took 4 result (D.meter disk) (D.meter e.0)) }
-        ensures meter { MatchResult result (λ n. Lasts (D.meter disk) (D.meter n.disk)) (λ e. Lasts (D.meter disk) (D.meter e.0)) }
-        ensures risen { IfErr result (λ e. e.1 ≡ FormatFault.DiskFault → Rises (faults (D.meter disk)) (faults (D.meter e.0))) }
-        ensures own_risen { IfErr result (λ e. e.1 ≡ FormatFault.DiskFault → HasPasses 4 (D.meter disk) → Rises (D.meter disk).own (D.meter e.0).own) }
+        ensures meter { MatchResult result (λ n. CountedWhere 4 result ⊥ (D.meter disk) (D.meter n.disk))
+            (λ e. CountedWhere 4 result (e.1 ≡ FormatFault.DiskFault) (D.meter disk) (D.meter e.0)) }
 
         // Want of memory takes no pass.
         ensures unspent { IfErr result (λ e. e.1 ≡ FormatFault.NoMemory → (D.meter e.0).fuse ≡ (D.meter disk).fuse) }

@@ -1,7 +1,7 @@
 //! Opening a disk: for a new node, or again for one that is down.
 ghost use Rattle.std.specs.Prelude.{◌≡◌, ◌⊎◌, ℕ, List, length, Option, IsTrue, IfOk, IfErr, MatchResult};
 ghost use Rattle.rz_disk.specs.Images.{Only, Within};
-ghost use Rattle.rz_disk.specs.Meter.{Took, Lasts, Rises, HasPasses, faults};
+ghost use Rattle.rz_slots.specs.Counted.{CountedWhere};
 ghost use Rattle.rz_slots.specs.Held.{Records};
 ghost use Rattle.rz_slots.specs.Opening.{NotSize, Refuses, opening_calls};
 ghost use Rattle.rz_slots.specs.Shape.{IsGeometry, disk_bytes};
@@ -59,12 +59,10 @@ impl<D: Disk> Node<D> {
         // The disk stays as it is.
         ensures text { MatchResult result (λ n. D.text n.disk ≡ D.text disk) (λ e. D.text e.0 ≡ D.text disk) }
         ensures crash { MatchResult result (λ n. Within (D.image disk) (D.image n.disk)) (λ e. Within (D.image disk) (D.image e.0)) }
-        ensures meter { MatchResult result (λ n. Lasts (D.meter disk) (D.meter n.disk)) (λ e. Lasts (D.meter disk) (D.meter e.0)) }
-        ensures risen { IfErr result (λ e. e.1 ≡ OpenFault.DiskFault → Rises (faults (D.meter disk)) (faults (D.meter e.0))) }
-        ensures own_risen { IfErr result (λ e. e.1 ≡ OpenFault.DiskFault → HasPasses (opening_calls geometry) (D.meter disk) → Rises (D.meter disk).own (D.meter e.0).own) }
 
         // It takes so many passes where it opens, and none for want of memory or a wrong size.
-        ensures took { MatchResult result (λ n. Took (opening_calls geometry) result (D.meter disk) (D.meter n.disk)) (λ e. Took (opening_calls geometry) result (D.meter disk) (D.meter e.0)) }
+        ensures meter { MatchResult result (λ n. CountedWhere (opening_calls geometry) result ⊥ (D.meter disk) (D.meter n.disk))
+            (λ e. CountedWhere (opening_calls geometry) result (e.1 ≡ OpenFault.DiskFault) (D.meter disk) (D.meter e.0)) }
         ensures no_memory { IfErr result (λ e. e.1 ≡ OpenFault.NoMemory → e.0 ≡ disk) }
         ensures wrong_size { IfErr result (λ e. (have need : ℕ) → e.1 ≡ OpenFault.WrongSize have need → e.0 ≡ disk) }
     {

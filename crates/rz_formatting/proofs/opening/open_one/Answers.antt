@@ -10,7 +10,7 @@ returns-in-Ok-clause-made g c =
     (record { layout = c.args.layout; bsize = c.bsize.result; node = c.args.node.sid; cells = c.args.node.cells }) c.new.result
     (ap (λ b. record { layout = c.args.layout; bsize = b; node = c.args.node.sid; cells = c.args.node.cells }) c.bsize.ensures.value) c.new.ensures g.D.Disk.image c.args.losses
     (opening_calls (record { layout = c.args.layout; bsize = c.bsize.result; node = c.args.node.sid; cells = c.args.node.cells }))
-    c.in-Ok.opened e.state e.geometry e.stands e.shows e.settled e.text e.crash e.took.unarmed e.took.planned_only e.meter.own
+    c.in-Ok.opened e.state e.geometry e.stands e.shows e.settled e.text e.crash e.meter.took.unarmed e.meter.took.planned_only e.meter.lasts.own
 
 pub returns-in-Err-clause-fault : goal.returns-in-Err-clause-fault
 returns-in-Err-clause-fault g c =
@@ -19,4 +19,4 @@ returns-in-Err-clause-fault g c =
     (record { layout = c.args.layout; bsize = c.bsize.result; node = c.args.node.sid; cells = c.args.node.cells }) c.new.result
     (ap (λ b. record { layout = c.args.layout; bsize = b; node = c.args.node.sid; cells = c.args.node.cells }) c.bsize.ensures.value) c.new.ensures
     (opening_calls (record { layout = c.args.layout; bsize = c.bsize.result; node = c.args.node.sid; cells = c.args.node.cells }))
-    c.in-Err.fused c.into_inner.result c.in-Err.fault c.into_inner.ensures e.refused e.size e.fits e.exact e.took.planned_only e.risen
+    c.in-Err.fused c.into_inner.result c.in-Err.fault c.into_inner.ensures e.refused e.size e.fits e.exact e.meter.took.planned_only e.meter.risen

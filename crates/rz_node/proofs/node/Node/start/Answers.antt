@@ -17,9 +17,9 @@ use Rattle.rz_node.specs.View.{held_in, state_of}
 use Rattle.rz_node.specs.DownDisk.{has_taken}
 use Rattle.rz_node.proofs.AfterChange.{branch}
 use Rattle.rz_node.proofs.HeldOnDisk.{held-found}
-use Rattle.rz_node.proofs.Spent.{took-as}
+use Rattle.rz_node.proofs.Spent.{took-as, counted-as}
 use Rattle.rz_node.proofs.Starts.{ready-down, down-ready, started, down-stands, some-taken}
-use Rattle.rz_node.proofs.Views.{state-same, branch-along, opened-along, stopped-along}
+use Rattle.rz_node.proofs.Views.{state-same, branch-along, opened-along, counted-along}
 use Rattle.rz_node.proofs.Waits.{tied-moved, down-moved}
 use Rattle.rz_node.proofs.node.Node.start.Goals as goal
 
@@ -118,10 +118,5 @@ returns-clause-opens g c =
     let s = c.self.inside in
     let old = g.D.Disk.meter s.cells.disk in
     let new = g.D.Disk.meter c.open_again.new.self.disk in
-    stopped-along g.D.Disk.meter _ _ c.in-Err.cause new c.self.view_is
-    (record {
-      took = took-as (opening_calls s.cells.geometry) _ _ old new refl c.in-Err.ensures.meter.took;
-      lasts = c.open_again.ensures.meter.lasts;
-      risen = λ is. c.in-Err.ensures.meter.risen (λ i. Err (is i));
-      own_risen = λ is. c.in-Err.ensures.meter.own_risen (λ i. Err (is i));
-    })
+    counted-along g.D.Disk.meter _ _ (c.in-Err.cause ≡ fault.DiskFault) new c.self.view_is
+    (counted-as (opening_calls s.cells.geometry) _ _ _ (c.in-Err.cause ≡ fault.DiskFault) old new refl (λ is i. Err (is i)) c.in-Err.ensures.meter)
