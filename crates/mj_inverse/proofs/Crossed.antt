@@ -7,7 +7,8 @@ use Rattle.std.proofs.lemmas.Bool.{cases_lt}
 use Rattle.mj_angles.specs.Xor.{xor_below}
 use Rattle.mj_angles.specs.Projection.{bins, bin, offset, row_start}
 use Rattle.mj_angles.proofs.Sums.{xor_below-same, row_at, row_misses}
-use Rattle.mj_inverse.specs.Padded.{IsPadded, inner, step_of, line_sum, width_of, reach_of}
+use Rattle.mj_sums.specs.Line.{line_sum}
+use Rattle.mj_inverse.specs.Padded.{IsPadded, inner, step_of, width_of, reach_of}
 
 -- where a line meets row j
 pub same_place : (p : ℤ) (w reach rows b j : ℕ) → unsigned_abs p ≤ w → unsigned_abs p * (rows - 1) ≤ reach → j < rows →

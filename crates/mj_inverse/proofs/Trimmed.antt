@@ -5,19 +5,10 @@ use Rattle.std.proofs.Math.Nat.{div-add-mod, mod-lt}
 use Rattle.std.proofs.lemmas.Bool.{cases_lt}
 use Rattle.std.proofs.lemmas.List.{places}
 use Rattle.mj_inverse.specs.declared.series.Series.{Series}
-use Rattle.mj_inverse.specs.Rows.{Both, IsDividedOut, times}
+use Rattle.mj_sums.specs.Polynomials.{times}
+use Rattle.mj_inverse.specs.Rows.{Both, IsDividedOut}
 use Rattle.mj_inverse.specs.Series.{seq, angle, IsNext, IsSeries, IsTrimmed}
-use Rattle.mj_inverse.proofs.Taken.{place_below, place_le}
-
--- a word among those that are all zero
-pub zero_between : (xs ys : List ℕ) (a b i : ℕ) → ys ≡ xs → ((k : ℕ) → k < length (slice_range ys a b) → get_or (slice_range ys a b) k 0 ≡ 0) → b ≤ length xs → a ≤ i → i < b → get_or xs i 0 ≡ 0
-zero_between xs ys a b i same all room low high =
-    let P : List ℕ → Type 0 = λ zs. (k : ℕ) → k < length (slice_range zs a b) → get_or (slice_range zs a b) k 0 ≡ 0 in
-    let now = subst P same all in
-    let long : length (slice_range xs a b) ≡ b - a = search (rules, places) in
-    let at : get_or (slice_range xs a b) (i - a) 0 ≡ get_or xs (a + (i - a)) 0 = search (rules, places) in
-    let e : a + (i - a) ≡ i = omega arith in
-    ap (λ k. get_or xs k 0) (sym e) ∙ sym at ∙ now (i - a) (omega arith)
+use Rattle.mj_sums.proofs.Taken.{place_below, place_le}
 
 -- the words of places that are all zero
 pub zero_within : (unit from to : ℕ) (xs ys : List ℕ) → ys ≡ xs → 0 < unit → unit * to ≤ length xs →

@@ -1,6 +1,5 @@
 -- Eight blocks side by side, in rows with room for zeros on both sides of the columns.
 use Rattle.std.specs.Prelude.{◌≡◌, ℕ, zero, suc, ◌+◌, ◌-◌, ◌*◌, ◌<◌, ◌≤◌, ℤ, pos, negsuc, List, [], ◌∷◌, slice_index, bit_xor}
-use Rattle.mj_angles.specs.Xor.{xor_below}
 use Rattle.mj_angles.specs.Projection.{bin, bins}
 use Rattle.mj_angles.proofs.Peel.{ZeroBefore}
 use Rattle.mj_inverse.specs.Rows.{Every}
@@ -27,10 +26,6 @@ inner g w reach i l k = slice_index g (8 * (l * w + (reach + k)) + i)
 abbrev pub step_of : ℕ → ℤ → ℕ
 step_of w (pos n) = w - n
 step_of w (negsuc n) = w + (n + 1)
-
--- the exclusive or of the words of block i in n places, of which the first is `at`
-abbrev pub line_sum : List ℕ → ℕ → ℕ → ℕ → ℕ → ℕ
-line_sum g i n at step = xor_below n (λ j. slice_index g (8 * (at + j * step) + i))
 
 -- the angle of series l
 abbrev pub direction_at : List Series → ℕ → ℤ

@@ -7,8 +7,9 @@ ghost use Rattle.mj_angles.specs.Projection.{bins as bin_count};
 ghost use Rattle.mj_inverse.specs.Fits.{IsFound, empty_search, with_pair};
 ghost use Rattle.mj_inverse.specs.Store.{lane_search, lane_grid};
 
-use crate::series::{Series, zeros};
+use crate::series::Series;
 use crate::store::{blanks, put_at, solve_eight, wipe_all};
+use mj_sums::zeros;
 use std::alloc::{AllocError, Global};
 use std::marker::Model;
 use std::simd::prelude::*;

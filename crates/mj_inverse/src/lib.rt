@@ -17,9 +17,7 @@
 mod eight;
 mod ends;
 mod invert;
-mod lines;
 mod order;
-mod run;
 mod series;
 mod store;
 mod sweep;

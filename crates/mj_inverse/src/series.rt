@@ -1,7 +1,8 @@
 //! A projection, or what is left of one.
 
-ghost use Rattle.std.specs.Prelude.{IfOk, ◌≡◌, ◌≢◌, ◌≤◌, ◌<◌, ◌+◌, ◌-◌, ◌*◌, ℕ, length, vec_len, vec_capacity, slice_index, slice_range, unsigned_abs, min, max, bit_xor, true};
-ghost use Rattle.mj_inverse.specs.Rows.{plus, raised, times, cut, IsFinite};
+ghost use Rattle.std.specs.Prelude.{IfOk, ◌≡◌, ◌≢◌, ◌≤◌, ◌<◌, ◌+◌, ◌-◌, ◌*◌, ℕ, length, vec_capacity, slice_index, slice_range, unsigned_abs, min, max, true};
+ghost use Rattle.mj_sums.specs.Polynomials.{plus, raised, times, IsFinite};
+ghost use Rattle.mj_inverse.specs.Rows.{cut};
 ghost use Rattle.rz_words.specs.Grid.{IsShape};
 ghost use Rattle.mj_angles.specs.Projection.{bins as bin_count};
 ghost use Rattle.mj_angles.proofs.Order.{lifted};
@@ -9,7 +10,7 @@ ghost use Rattle.mj_inverse.specs.Store.{IsSpare, IsGiven};
 ghost use Rattle.mj_inverse.specs.Series.{seq, IsSeries, IsNext, IsUnmarked, IsBlank, IsSpread, IsTrimmed, KeepsRoom, Meet};
 
 use crate::ends::{are_zero, end_of_used, first_used, padded_end};
-use crate::run::{add_within, add_zeros, give_words, put_words, run_within, take_rest};
+use mj_sums::{add_within, add_zeros, give_words, put_words, run_within, take_rest};
 use std::alloc::{AllocError, Global};
 
 /// The words of a sequence: place `origin` of the list holds its word number 0.
@@ -36,16 +37,6 @@ fn lifted_angle(p: i32) -> usize
     ensures small { result ≤ 32 }
 {
     (p + 16) as usize
-}
-
-/// So many words that are zero.
-pub fn zeros(alloc: Global, n: usize) -> Result<Vec<u64>, AllocError>
-    ensures len { IfOk result (λ v. vec_len v ≡ n) }
-    ensures zero { IfOk result (λ v. (i : ℕ) → slice_index v.items i ≡ 0) }
-{
-    let mut words = Vec::new(alloc);
-    words.resize(n, 0)?;
-    Ok(words)
 }
 
 impl Series {

@@ -15,10 +15,9 @@ ghost use Rattle.mj_inverse.specs.Series.{seq, angle as angle_of, IsSeries, IsBl
 ghost use Rattle.mj_inverse.specs.Store.{IsGiven};
 ghost use Rattle.mj_inverse.specs.Padded.{IsPadded, inner, step_of, reach_of, width_of, direction_at, HasBins, IsFalling, IsOnly, IsSwept};
 
-use crate::lines::{add_difference, read_place};
-use crate::order::sort_falling;
 use crate::series::Series;
 use mj_angles::{bins, offset, row_start};
+use mj_sums::{add_difference, read_place};
 use std::simd::prelude::*;
 
 /// The bin of column 0 of row `n`.

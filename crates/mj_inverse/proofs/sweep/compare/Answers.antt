@@ -1,8 +1,9 @@
 use Rattle.std.proofs.Common.{rules, arith, ◌≡◌, ◌<◌, ◌+◌, ◌*◌, ℕ, ℤ, length, get_or, sym, ap, ◌∙◌, vec_len, below_more}
 use Rattle.mj_angles.specs.Projection.{bins, bin}
-use Rattle.mj_inverse.specs.Padded.{inner, reach_of, width_of, line_sum}
+use Rattle.mj_sums.specs.Line.{line_sum}
+use Rattle.mj_inverse.specs.Padded.{inner, reach_of, width_of}
 use Rattle.mj_inverse.proofs.Crossed.{line-is, line_fits, reaches}
-use Rattle.mj_inverse.proofs.Lined.{none_left, left_none}
+use Rattle.mj_inverse.proofs.Left.{none_left, left_none}
 use Rattle.mj_inverse.proofs.sweep.compare.Goals as goal
 
 pub add_difference-sum-requires-clause-line : goal.add_difference-sum-requires-clause-line

@@ -2,7 +2,8 @@ use Rattle.std.proofs.Common.{rules, arith, ◌≡◌, ◌<◌, ◌+◌, ◌*◌
 use Rattle.std.specs.Prelude.{bit_xor}
 use Rattle.mj_angles.specs.Projection.{bins, bin, row_start}
 use Rattle.mj_angles.proofs.Sums.{row_within}
-use Rattle.mj_inverse.specs.Padded.{inner, reach_of, width_of, line_sum}
+use Rattle.mj_sums.specs.Line.{line_sum}
+use Rattle.mj_inverse.specs.Padded.{inner, reach_of, width_of}
 use Rattle.mj_inverse.proofs.Crossed.{line-is, line_fits, own_fits, reaches, other_words, still_padded}
 use Rattle.mj_inverse.proofs.sweep.read_word.Goals as goal
 

@@ -1,0 +1,11 @@
+pub mod Algebra
+pub mod Running
+pub mod Taken
+pub mod AllZero
+pub mod Written
+pub mod Places
+pub mod Lanes
+pub mod Delayed
+pub mod Columns
+pub mod Fours
+pub mod Lined
