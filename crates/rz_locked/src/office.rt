@@ -124,6 +124,7 @@ impl<J: Naming> Office<J> {
         ensures later { IsLater pass.old.log pass.new.log }
         ensures stays { Stays pass.old.keys pass.old.log pass.new.log }
         ensures room { IsTrue result → count_at (word_key w.Export) self.new + 1 < 2 ^ 64 }
+        ensures enters { count_at (word_key w.Export) self.new + 1 < 2 ^ 64 → IsTrue result }
     {
         crate::laws::office_kept();
         let _fit = self.post.room();

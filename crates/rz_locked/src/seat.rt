@@ -192,6 +192,7 @@ impl<D: Disk, J: Counting> Seat<D, J> {
         ensures stays { Stays pass.old.keys pass.old.log pass.new.log }
         ensures node { IsTrue result → self.new.node ≡ node }
         ensures room { IsTrue result → count_at (word_key (w.Node self.new.node)) self.new.log + 1 < 2 ^ 64 }
+        ensures enters { self.new.node ≡ node → count_at (word_key (w.Node self.new.node)) self.new.log + 1 < 2 ^ 64 → IsTrue result }
     {
         crate::laws::seat_kept::<D>();
         rz_chronicle::words_kept();

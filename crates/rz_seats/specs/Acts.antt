@@ -5,12 +5,13 @@ use Rattle.std.specs.FinMap as map
 use Rattle.mj_angles.specs.declared.layout.Layout.{Layout}
 use Rattle.rz_events.specs.declared.keys.Actor.{Actor}
 use Rattle.rz_events.specs.declared.keys.Actor.TheVariants.{Client}
+use Rattle.rz_events.specs.declared.export.Call.{Call}
 use Rattle.rz_events.specs.declared.nodes.NodeAsk.{NodeAsk}
 use Rattle.rz_locks.specs.declared.conflict.LockKind.{LockKind}
 use Rattle.rz_locks.specs.declared.conflict.Range.{Range}
 use Rattle.rz_locks.specs.Held.{Held}
 use Rattle.rz_operation.specs.Machine.{Machine}
-use Rattle.rz_operation_model.specs.Ask.{Ask, AskNode, Rest, ask_of}
+use Rattle.rz_operation_model.specs.Ask.{Ask, AskExport, AskNode, AskLock, Say, Rest, Saying, ask_of}
 use Rattle.rz_asks.specs.Stands.{export_in}
 use Rattle.rz_play.specs.Turns.{IsLost, IsThrough, lost_after}
 use Rattle.rz_seats.specs.declared.acting.Kind.{Kind}
@@ -27,11 +28,13 @@ use Rattle.rz_stations.specs.Stations.{IsAt, IsCalled}
 abbrev pub HasLayouts : {D : Type 0} → Layout → List (Station D) → Type 0
 HasLayouts {D = D} layout stations = AllByRecursion (λ (s : Station D). s.node.geometry.layout ≡ layout) stations
 
--- what is asked is of this kind, where that matters
+-- what is asked is of this kind
 abbrev pub IsKind : Ask → Kind → Type 0
 IsKind ask kind.Rest = ask ≡ Rest
+IsKind ask kind.Export = (c : Call) × (ask ≡ AskExport c)
+IsKind ask kind.Lock = (path : List ℕ) × (exclusive : Bool) × (from : ℕ) × (count : ℕ) × (ask ≡ AskLock path exclusive from count)
 IsKind ask (kind.Node n question) = ask ≡ AskNode n question
-IsKind ask k = Unit {0}
+IsKind ask kind.Say = (said : Saying) × (ask ≡ Say said)
 
 -- A message to the node at a place.
 

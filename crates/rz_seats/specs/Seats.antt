@@ -1,11 +1,12 @@
 -- Actors, as a play has them.
-use Rattle.std.specs.Prelude.{◌≡◌, [], Option, Some, None}
+use Rattle.std.specs.Prelude.{◌≡◌, true, [], ◌∷◌, Option, Some, None}
 use Rattle.std.specs.List.{AllByRecursion}
 use Rattle.mj_angles.specs.declared.layout.Layout.{Layout}
+use Rattle.rz_events.specs.declared.operations.Operation.{Operation}
 use Rattle.rz_operation.specs.Machine.{Machine}
 use Rattle.rz_operation.specs.Answers.{IsOperation}
 use Rattle.rz_operation_model.specs.Work.{Work, Over}
-use Rattle.rz_play.specs.World.{Seat as APlayer}
+use Rattle.rz_play.specs.World.{Seat as APlayer, is_over}
 use Rattle.rz_seats.specs.declared.seat.Seat.{Seat}
 use Rattle.rz_asks.specs.Locking.{lock_of}
 
@@ -32,3 +33,10 @@ pub record IsEmptySeat (s : Seat) : Type 0 where
   pub machine : s.machine ≡ None
   pub lock : s.lock ≡ None
   pub miss : s.miss ≡ None
+
+-- The next operation was to begin and did not, and it is gone.
+pub record LosesNext (a b : Seat) : Type 0 where
+  pub over : is_over (work_in a.machine) ≡ true
+  pub next : Operation
+  pub todo : a.todo.items ≡ next ∷ b.todo.items
+  pub number : b.number ≡ a.number

@@ -1,5 +1,5 @@
 //! What an actor does in its turn.
-ghost use Rattle.std.specs.Prelude.{◌≡◌, ◌+◌, ◌≤◌, ℕ, length, IfSome, IsTrue, OnOk, OnErr, List, Some};
+ghost use Rattle.std.specs.Prelude.{◌≡◌, ◌+◌, ◌<◌, ◌≤◌, ◌^◌, ℕ, length, SomeIff, IsTrue, OnOk, OnErr, List, Some};
 ghost use Rattle.std.specs.FinMap as map;
 ghost use Rattle.std.specs.Vec.{vec_len};
 ghost use Rattle.mj_angles.specs.Layout.{max_bins_of};
@@ -13,7 +13,7 @@ ghost use Rattle.rz_stations.specs.Meters.{AreMetered, AreCounted, CarriesCounts
 ghost use Rattle.rz_asks.specs.Journals.{EndsOn};
 ghost use Rattle.rz_seats.specs.Stores.{IsExportTurn, IsSameStore};
 ghost use Rattle.rz_seats.specs.Hands.{KeepsPicture, SparesPicture};
-ghost use Rattle.rz_seats.specs.Acts.{IsKind, IsMessage, IsReleased, IsAct, HasLayouts};
+ghost use Rattle.rz_seats.specs.Acts.{IsKind, IsMessage, IsReleased, IsSameActor, IsAct, HasLayouts};
 
 use crate::seat::Seat;
 use crate::shared::Shared;
@@ -65,6 +65,8 @@ pub fn act<D: Disk, J: Disk, L: Link>(
     requires tied { (n : ℕ) → by ≡ actor.Client n → map.get shared.old.locks n ≡ lock_of seat.old.lock }
     requires room { 2 ≤ shared.old.log.room }
     ensures ok { OnOk result (IsAct layout by seat.old seat.new shared.old shared.new) }
+    ensures actor { IsSameActor seat.old seat.new }
+    ensures miss { OnErr result (seat.new.miss ≡ seat.old.miss) }
     ensures err { OnErr result (shared.new.log.events ≡ shared.old.log.events) }
     ensures earlier { shared.new.log.earlier ≡ shared.old.log.earlier }
     ensures lost { OnErr result (shared.new.lost ≡ shared.old.lost) }
@@ -145,6 +147,8 @@ fn message<D: Disk, J: Disk, L: Link>(
     requires bins { max_bins_of layout ≤ length shared.old.bins.items }
     requires room { 2 ≤ shared.old.log.room }
     ensures ok { OnOk result (IsMessage by number ask machine.old machine.new miss.old miss.new shared.old shared.new) }
+    ensures miss { OnErr result (miss.new ≡ miss.old) }
+    ensures locks { shared.new.locks ≡ shared.old.locks }
     ensures err { OnErr result (shared.new.log.events ≡ shared.old.log.events) }
     ensures earlier { shared.new.log.earlier ≡ shared.old.log.earlier }
     ensures lost { OnErr result (shared.new.lost ≡ shared.old.lost) }
@@ -187,7 +191,7 @@ fn message<D: Disk, J: Disk, L: Link>(
 
 /// How many messages the link has then lost of itself.
 fn lost_after(miss: Option<bool>, lost: u64) -> Option<u64>
-    ensures { IfSome result (λ n. n ≡ model.lost_after miss lost) }
+    ensures { SomeIff result (model.lost_after miss lost < 2 ^ 64) (model.lost_after miss lost) }
 {
     match miss {
         None => lost.checked_add(1),

@@ -1,10 +1,10 @@
 //! An actor of a play.
-ghost use Rattle.std.specs.Prelude.{◌≡◌, ◌++◌, ◌∷◌, [], not, OnOk};
+ghost use Rattle.std.specs.Prelude.{◌≡◌, ◌++◌, ◌∷◌, [], not, OnOk, OnErr};
 ghost use Rattle.rz_core.specs.History.{Facts};
 ghost use Rattle.rz_events.specs.Volume.{Volume};
 ghost use Rattle.rz_play.specs.World.{at_work, has_work, is_over};
 ghost use Rattle.rz_seats.specs.Hands.{HasTrueHand};
-ghost use Rattle.rz_seats.specs.Seats.{seat_of, IsSeat, IsEmptySeat};
+ghost use Rattle.rz_seats.specs.Seats.{seat_of, IsSeat, IsEmptySeat, LosesNext};
 
 use mj_angles::Layout;
 use rz_events::Operation;
@@ -44,6 +44,7 @@ impl Seat {
     /// Puts an operation at the end of what it has to do.
     pub fn add(&mut self, op: Operation) -> Result<(), AllocError>
         ensures todo { OnOk result (self.new.todo.items ≡ self.old.todo.items ++ op ∷ []) }
+        ensures err { OnErr result (self.new.todo.items ≡ self.old.todo.items) }
         ensures number { self.new.number ≡ self.old.number }
         ensures machine { self.new.machine ≡ self.old.machine }
         ensures lock { self.new.lock ≡ self.old.lock }
@@ -63,12 +64,18 @@ impl Seat {
         }
     }
 
-    /// Takes up the next operation, where none is in hand.
+    /// Takes up the next operation, where none is in hand. Where memory is wanting for it, it is gone.
     pub fn take_up(&mut self, alloc: Global, layout: Layout) -> Result<(), NoMemory>
         requires { IsSeat layout self.old }
         ensures ok { OnOk result (seat_of self.new ≡ at_work (seat_of self.old)) }
+        ensures err { OnErr result (LosesNext self.old self.new) }
         ensures seat { OnOk result (IsSeat layout self.new) }
         ensures lock { self.new.lock ≡ self.old.lock }
+        ensures miss { self.new.miss ≡ self.old.miss }
+
+        // The machine is another one only where an operation begins.
+        ensures stays { self.new.number ≡ self.old.number → self.new.machine ≡ self.old.machine }
+
         ensures hand { OnOk result ((v : Volume) (f : Facts) → HasTrueHand v f self.old.machine → HasTrueHand v f self.new.machine) }
     {
         rz_block_laws::beginning();

@@ -89,4 +89,5 @@ module _ {J L : Type 0} (kind : List ℕ) where
     pass = hired.pass ∙ made.pass;
     ready = hired.ready;
     seat = hired.seat ∙ ap (λ (ops : List Operation). seat_with ops) made.todo;
+    wants = hired.wants;
   }

@@ -67,12 +67,14 @@ pub record IsHired {J L : Type 0} (kind : List ℕ) (r : Recruit J) (m : Member 
   pub pass : m.worker.pass ≡ r.pass
   pub ready : CanWork kind m
   pub seat : seat_of m.worker.seat ≡ seat_with r.todo.items
+  pub wants : WantsNothing m
 
 -- A member with this pass, that can work and has yet to do all that the lines give its actor.
 pub record IsStaffed {J L : Type 0} (kind : List ℕ) (lines : List Line) (p : PassView) (m : Member J L) : Type 0 where
   pub pass : m.worker.pass ≡ p
   pub ready : CanWork kind m
   pub seat : seat_of m.worker.seat ≡ seat_with (given p.actor lines)
+  pub wants : WantsNothing m
 
 -- Members at work.
 

@@ -59,7 +59,7 @@ returns-in_ok-without_reply-in-ReplyLost-clause-ok g c =
       is = there.1;
       called = record { sid = refl; pick = refl; geometry = c.without_reply.ensures.geometry };
       stations = refl;
-      fate = ReplyLost c.in_ok-without_reply-in-ReplyLost.ensures.ok c.in-ReplyLost.ensures.fares refl c.in-Some-lost_after.ensures;
+      fate = ReplyLost c.in_ok-without_reply-in-ReplyLost.ensures.ok c.in-ReplyLost.ensures.fares refl c.in-Some-lost_after.ensures.1;
       export = refl;
       locks = refl;
     }
@@ -76,7 +76,7 @@ returns-in_ok-without_request-in-RequestLost-clause-ok g c =
       is = there.1;
       called = record { sid = refl; pick = refl; geometry = refl };
       stations = refl;
-      fate = RequestLost refl c.in_ok-without_request-in-RequestLost.ensures.ok c.in-RequestLost.ensures.fares refl c.in-Some-lost_after.ensures;
+      fate = RequestLost refl c.in_ok-without_request-in-RequestLost.ensures.ok c.in-RequestLost.ensures.fares refl c.in-Some-lost_after.ensures.1;
       export = refl;
       locks = refl;
     }
