@@ -1,5 +1,5 @@
 //! Whether a head may stand behind others.
-ghost use Rattle.std.specs.Prelude.{◌≡◌, ◌≢◌, ◌⊎◌, ◌↔◌, ◌/◌, ◌+◌, ◌<◌, ◌≤◌, ℕ, false, IsTrue, OnOk, IfErr, length, Some, None, slice_set};
+ghost use Rattle.std.specs.Prelude.{◌≡◌, ◌≢◌, ◌⊎◌, ◌↔◌, ◌/◌, ◌+◌, ◌<◌, ◌≤◌, ℕ, false, IsTrue, OnOk, OnErr, IfErr, length, Some, None, slice_set};
 ghost use Rattle.std.specs.HashMap.{get, spare};
 ghost use Rattle.rz_events.specs.declared.records.Head.{Head};
 ghost use Rattle.rz_slots.specs.Opening.{GoesNext, KnowsFirsts, NoOtherKey, Notes, OtherKey, Wrong, same_key};
@@ -26,6 +26,7 @@ pub fn admit(
     ensures wrong { IfErr result (λ e. (h : Head) × (head.now ≡ Some h) × Wrong heads.now cell h e) }
     ensures firsts { OnOk result (KnowsFirsts firsts.new (slice_set heads.now cell head.now) (cell + 1)) }
     ensures spare { spare firsts.old ≤ spare firsts.new + 1 }
+    ensures unchanged { OnErr result (firsts.new ≡ firsts.old) }
 {
     match head {
         Some(head) => {

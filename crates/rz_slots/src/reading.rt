@@ -8,7 +8,7 @@ ghost use Rattle.rz_slots.specs.Held.{in_cell};
 ghost use Rattle.rz_slots.specs.Shape.{IsGeometry, disk_bytes, picked, gate_at};
 ghost use Rattle.rz_slots.specs.Stands.{IsHeaderOf, IsFormatted};
 ghost use Rattle.rz_slots.specs.Open.{Knows};
-ghost use Rattle.rz_slots.specs.Opening.{Agrees, CellFault, CellsFault, FieldFault, FitTo, HeaderFault, NotSize, OnlyRead, ReadTo, ReadsHead};
+ghost use Rattle.rz_slots.specs.Opening.{Agrees, CellFault, CellsFault, FieldFault, FitTo, HeaderFault, KnowsFirsts, NotSize, OnlyRead, ReadTo, ReadsHead};
 
 use crate::Geometry;
 use crate::geometry::Version;
@@ -102,6 +102,7 @@ pub fn read_heads<D: Disk>(
     ensures reads { OnOk result (IsTrue D.tells → ReadTo geometry.now (D.text disk.old) heads.new (2 * geometry.now.cells)) }
     ensures fits { OnOk result (FitTo geometry.now heads.new (2 * geometry.now.cells)) }
     ensures heads { OnOk result (length heads.new ≡ 2 * geometry.now.cells) }
+    ensures firsts { OnOk result (KnowsFirsts firsts.new heads.new (2 * geometry.now.cells)) }
     ensures refused { IfErr result (λ e. IsTrue D.tells → CellsFault geometry.now (D.text disk.old) e) }
     ensures not_size { IfErr result NotSize }
     ensures read { OnlyRead (D.text disk.old) (D.text disk.new) (D.image disk.old) (D.image disk.new) (D.meter disk.old) (D.meter disk.new) }
