@@ -10,7 +10,7 @@ use Rattle.rz_words.specs.Grid.{Grid, grid_of}
 use Rattle.mj_angles.specs.declared.layout.Layout.{Layout}
 use Rattle.mj_angles.specs.Layout.{inverse_of, cols_of, bins_at_of}
 use Rattle.mj_inverse.specs.Fits.{IsFound}
-use Rattle.mj_c.specs.Layouts.{words_of, search_of, search_at, block_at, IsAnswered, eight_search, group_search, group_at, IsSolved}
+use Rattle.mj_c.specs.Layouts.{words_of, search_of, search_at, IsAnswered, eight_search, group_search, group_at, IsSolved}
 
 part_before : (xs ys : List ℕ) (s n a e : ℕ) → e ≤ s → s + n ≤ length xs → length ys ≡ n → slice_range (put_mid s n xs ys) a e ≡ slice_range xs a e
 part_before xs ys s n a e before fits long =

@@ -1,8 +1,8 @@
 //! Inversions of groups of eight blocks side by side.
 
-ghost use Rattle.std.specs.Prelude.{◌≡◌, ◌≢◌, ◌⊎◌, ◌<◌, ◌≤◌, ◌+◌, ◌*◌, ℕ, List, true, nat_lt, length, slice_index, IfSome};
+ghost use Rattle.std.specs.Prelude.{◌≡◌, ◌≢◌, ◌⊎◌, ◌<◌, ◌≤◌, ◌+◌, ◌*◌, ℕ, List, true, map, nat_lt, length, slice_index, IfSome};
 ghost use Rattle.std.specs.List.{list_all, sum_by};
-ghost use Rattle.mj_angles.specs.Layout.{inverse_of, cols_of, safe_of, bins_at_of};
+ghost use Rattle.mj_angles.specs.Layout.{inverse_of, cols_of, safe_of, angle_of, bins_at_of};
 ghost use Rattle.mj_inverse.specs.Fits.{empty_search};
 ghost use Rattle.mj_c.specs.Layouts.{layout_at, words_of, eight_search, group_search, group_at, IsSolved};
 ghost use Rattle.mj_c.specs.Answers.{eight_refusal, is_ascending_from};
@@ -93,10 +93,13 @@ fn find_groups(
 {
     let each = eight_bins(layout, positions);
     let words = 8 * (layout.inverse() * layout.cols());
+    let mut room = [0i32; 8];
+    let angles = &mut room[..positions.len()];
+    write_angles(layout, positions, angles);
     for i in 0..answers.len() {
         let given = &bins[i * each..i * each + each];
-        let room = &mut out[i * words..i * words + words];
-        answers[i] = find_eight(work, layout, positions, given, room);
+        let block = &mut out[i * words..i * words + words];
+        answers[i] = find_eight(work, layout, positions, angles, given, block);
     }
 }
 
@@ -105,6 +108,7 @@ fn find_eight(
     work: &mut WorkEight,
     layout: Layout,
     positions: &[u32],
+    angles: &[i32],
     bins: &[u64],
     out: &mut [u64],
 ) -> u8
@@ -112,29 +116,26 @@ fn find_eight(
     requires positions { list_all (λ i. nat_lt i (safe_of layout)) positions.now ≡ true }
     requires ascending { is_ascending_from 0 positions.now ≡ true }
     requires count { length positions.now ≡ inverse_of layout }
+    requires angles { angles.now ≡ map (angle_of layout) positions.now }
     requires bins { length bins.now ≡ sum_by (λ i. 8 * bins_at_of layout i) positions.now }
     requires room { length out.old ≡ 8 * words_of layout }
     ensures solved { (j : ℕ) → j < 8 → IsSolved layout (eight_search layout positions.now bins.now) out.new result j }
     ensures empty { work.new ≡ empty_search (inverse_of layout) (cols_of layout) }
 {
-    add_eight(work, layout, positions, bins);
-    work.solve(out)
+    work.solve_from(angles, bins, out)
 }
 
-/// Adds the projections of eight blocks at these positions, whose bins stand one projection after the other.
-fn add_eight(work: &mut WorkEight, layout: Layout, positions: &[u32], bins: &[u64])
-    requires empty { work.old ≡ empty_search (inverse_of layout) (cols_of layout) }
+/// Writes the angles of the projections at these positions.
+fn write_angles(layout: Layout, positions: &[u32], out: &mut [i32])
     requires positions { list_all (λ i. nat_lt i (safe_of layout)) positions.now ≡ true }
-    requires ascending { is_ascending_from 0 positions.now ≡ true }
-    requires count { length positions.now ≡ inverse_of layout }
-    requires bins { length bins.now ≡ sum_by (λ i. 8 * bins_at_of layout i) positions.now }
-    ensures { work.new ≡ eight_search layout positions.now bins.now }
+    requires room { length out.old ≡ length positions.now }
+    ensures { out.new ≡ map (angle_of layout) positions.now }
 {
-    let mut rest = bins;
-    for position in positions {
-        let position = *position as u8;
-        let (first, others) = rest.split_at(8 * layout.bins_at(position));
-        work.add(layout.angle(position), first);
-        rest = others;
+    match (positions.split_first(), out.split_first_mut()) {
+        (Some((position, positions)), Some((first, rest))) => {
+            *first = layout.angle(*position as u8);
+            write_angles(layout, positions, rest);
+        }
+        _ => {}
     }
 }

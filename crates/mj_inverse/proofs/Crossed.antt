@@ -163,3 +163,47 @@ copied_more rows cols grid old new l few inside below before i l' k small h m = 
         let from : 8 * (l * v + reach_of rows) + (8 * k + i) ≡ 8 * (l * v + (reach_of rows + k)) + i = omega arith in
         let here : P l = ap (λ x. get_or new x 0) (sym to) ∙ inside (8 * k + i) (omega arith) ∙ ap (λ x. get_or grid x 0) from in
         subst P e here
+
+-- a row is written, and nothing else
+module _ (rows cols : ℕ) (old new : List ℕ) (n : ℕ) (in_row : n < rows)
+    (below : (m : ℕ) → m < 8 * (n * width_of cols (reach_of rows) + reach_of rows) → get_or new m 0 ≡ get_or old m 0)
+    (above : (m : ℕ) → 8 * (n * width_of cols (reach_of rows) + reach_of rows) + 8 * cols ≤ m → get_or new m 0 ≡ get_or old m 0) where
+  -- the place lies before the row
+  row_before : (l c i : ℕ) → i < 8 → c < width_of cols (reach_of rows) → l < n → get_or new (8 * (l * width_of cols (reach_of rows) + c) + i) 0 ≡ get_or old (8 * (l * width_of cols (reach_of rows) + c) + i) 0
+  row_before l c i small near less =
+      let v : ℕ = width_of cols (reach_of rows) in
+      let row : l * v + v ≤ n * v = row_fits l v n v less (omega arith) in
+      below (8 * (l * v + c) + i) (omega arith)
+
+  row_after : (l c i : ℕ) → i < 8 → n < l → get_or new (8 * (l * width_of cols (reach_of rows) + c) + i) 0 ≡ get_or old (8 * (l * width_of cols (reach_of rows) + c) + i) 0
+  row_after l c i small more =
+      let v : ℕ = width_of cols (reach_of rows) in
+      let row : n * v + v ≤ l * v = row_fits n v l v more (omega arith) in
+      above (8 * (l * v + c) + i) (omega arith)
+
+  pub row_padded : IsPadded rows cols (reach_of rows) old → IsPadded rows cols (reach_of rows) new
+  row_padded padded = record {
+    left = λ l c i h small low. left l c i small low (cases_lt l n) (cases_lt n l) ∙ padded.left l c i h small low;
+    right = λ l c i h small from near. right l c i small from near (cases_lt l n) (cases_lt n l) ∙ padded.right l c i h small from near;
+  }
+    where
+      left : (l c i : ℕ) → i < 8 → c < reach_of rows → (l < n) ⊎ (n ≤ l) → (n < l) ⊎ (l ≤ n) →
+          get_or new (8 * (l * width_of cols (reach_of rows) + c) + i) 0 ≡ get_or old (8 * (l * width_of cols (reach_of rows) + c) + i) 0
+      left l c i small low (inl less) _ = row_before l c i small (omega arith) less
+      left l c i small low (inr _) (inl more) = row_after l c i small more
+      left l c i small low (inr a) (inr b) =
+          let e : n ≡ l = omega arith in
+          let P : ℕ → Type 0 = λ y. get_or new (8 * (y * width_of cols (reach_of rows) + c) + i) 0 ≡ get_or old (8 * (y * width_of cols (reach_of rows) + c) + i) 0 in
+          subst P e (below (8 * (n * width_of cols (reach_of rows) + c) + i) (omega arith))
+
+      right : (l c i : ℕ) → i < 8 → reach_of rows + cols ≤ c → c < width_of cols (reach_of rows) → (l < n) ⊎ (n ≤ l) → (n < l) ⊎ (l ≤ n) →
+          get_or new (8 * (l * width_of cols (reach_of rows) + c) + i) 0 ≡ get_or old (8 * (l * width_of cols (reach_of rows) + c) + i) 0
+      right l c i small from near (inl less) _ = row_before l c i small near less
+      right l c i small from near (inr _) (inl more) = row_after l c i small more
+      right l c i small from near (inr a) (inr b) =
+          let e : n ≡ l = omega arith in
+          let P : ℕ → Type 0 = λ y. get_or new (8 * (y * width_of cols (reach_of rows) + c) + i) 0 ≡ get_or old (8 * (y * width_of cols (reach_of rows) + c) + i) 0 in
+          subst P e (above (8 * (n * width_of cols (reach_of rows) + c) + i) (omega arith))
+
+  pub row_kept : (i l k : ℕ) → i < 8 → l < n → k < cols → inner new (width_of cols (reach_of rows)) (reach_of rows) i l k ≡ inner old (width_of cols (reach_of rows)) (reach_of rows) i l k
+  row_kept i l k small less near = row_before l (reach_of rows + k) i small (omega arith) less

@@ -14,3 +14,4 @@ pub mod Swept
 pub mod Left
 pub mod Tied
 pub mod Trimmed
+pub mod Found

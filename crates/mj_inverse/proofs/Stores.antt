@@ -24,7 +24,7 @@ use Rattle.mj_sums.proofs.Taken.{place_below, place_le}
 use Rattle.mj_inverse.proofs.Blocks.{first_place, value-block_rows, bin_none, cut_in}
 use Rattle.mj_inverse.proofs.Put.{offset_le}
 
-bins_le : (p : ℤ) (rows cols : ℕ) → unsigned_abs p ≤ 16 → bins p rows cols ≤ cols + 16 * (rows - 1)
+pub bins_le : (p : ℤ) (rows cols : ℕ) → unsigned_abs p ≤ 16 → bins p rows cols ≤ cols + 16 * (rows - 1)
 bins_le p rows cols h = let k = mul-le-mul_right (rows - 1) h in omega arith
 
 -- no projection reaches further
@@ -347,11 +347,11 @@ length-pairs_in unit zero all h = refl
 length-pairs_in unit (suc n) [] h = absurd (omega arith)
 length-pairs_in unit (suc n) (s ∷ rest) h = ap suc (length-pairs_in unit n rest (let k : suc n ≤ suc (length rest) = h in omega arith))
 
-every_more : {A : Type 0} (P : A → Type 0) (xs : List A) (y : A) → Every P xs → P y → Every P (xs ++ y ∷ [])
+pub every_more : {A : Type 0} (P : A → Type 0) (xs : List A) (y : A) → Every P xs → P y → Every P (xs ++ y ∷ [])
 every_more P [] y every p = (p, tt)
 every_more P (x ∷ xs) y (px, every) p = (px, every_more P xs y every p)
 
-distinct_more : (ps : List Pair) (q : Pair) → Distinct ps → Every (λ (x : Pair). x.0 ≢ q.0) ps → Distinct (ps ++ q ∷ [])
+pub distinct_more : (ps : List Pair) (q : Pair) → Distinct ps → Every (λ (x : Pair). x.0 ≢ q.0) ps → Distinct (ps ++ q ∷ [])
 distinct_more [] q distinct other = (tt, tt)
 distinct_more (p ∷ ps) q (d, distinct) (o, other) =
     (every_more (λ (x : Pair). x.0 ≢ p.0) ps q d (λ e. o (sym e)), distinct_more ps q distinct other)
@@ -368,7 +368,7 @@ add_store unit rows cols n xs ys p bs store room filled pairs long other = recor
       subst P (sym pairs) (distinct_more (pairs_in unit n xs) (p, bs) store.differ (every_from_all (λ (pair : Pair). pair.0 ≢ p) (pairs_in unit n xs) other)));
 }
 
-lifted-one : (a b : ℤ) → unsigned_abs a ≤ 16 → unsigned_abs b ≤ 16 → lifted 16 a ≡ lifted 16 b → a ≡ b
+pub lifted-one : (a b : ℤ) → unsigned_abs a ≤ 16 → unsigned_abs b ≤ 16 → lifted 16 a ≡ lifted 16 b → a ≡ b
 lifted-one (pos a) (pos b) f g h = omega (arith, ints)
 lifted-one (pos a) (negsuc b) f g h = omega (arith, ints)
 lifted-one (negsuc a) (pos b) f g h = omega (arith, ints)

@@ -6,31 +6,19 @@ use mathlib.Core.Path.{fun_ext}
 use Rattle.mj_angles.specs.Projection.{bin, row_start}
 use Rattle.mj_angles.proofs.Sums.{xor_below-same}
 use Rattle.mj_sums.specs.Polynomials.{raised}
-use Rattle.mj_inverse.specs.Rows.{Every, HaveValues, block_rows, cut}
-use Rattle.mj_inverse.specs.Series.{seq, angle}
-use Rattle.mj_inverse.specs.Store.{IsGiven}
+use Rattle.mj_inverse.specs.Rows.{Every, block_rows, cut}
 use Rattle.mj_inverse.specs.Padded.{HasBins}
-use Rattle.mj_inverse.specs.declared.series.Series.{Series}
+use Rattle.mj_inverse.specs.declared.placed.Placed.{Placed}
 use Rattle.mj_inverse.proofs.Blocks.{cut_in, cut_out}
-use Rattle.mj_inverse.proofs.Stores.{value_from_words, words_from_value}
 
 pub bin-same : (f g : ℕ → ℕ → ℕ) (rows cols : ℕ) (p : ℤ) (b : ℕ) → ((l k : ℕ) → l < rows → k < cols → f l k ≡ g l k) → bin f rows cols p b ≡ bin g rows cols p b
 bin-same f g rows cols p b same =
     xor_below-same rows _ _ (λ l h. xor_below-same cols _ _ (λ k m. ap (λ x. if row_start p rows l + k == b then x else 0) (same l k h m)))
 
-pub bins_same : (rows cols i : ℕ) (f g : ℕ → ℕ → ℕ) (all : List Series) → ((l k : ℕ) → l < rows → k < cols → f l k ≡ g l k) → Every (HasBins rows cols i f) all → Every (HasBins rows cols i g) all
-bins_same rows cols i f g [] same every = tt
-bins_same rows cols i f g (s ∷ rest) same (has, every) = (λ b h. has b h ∙ bin-same f g rows cols s.direction b same, bins_same rows cols i f g rest same every)
-
-pub values_from_bins : (rows cols j : ℕ) (w : ℕ → ℕ) (all : List Series) → j < 8 → Every (IsGiven 8 rows cols) all → Every (HasBins rows cols j (λ l k. w (l * cols + k))) all →
-    HaveValues angle (seq 8 j) (block_rows cols 0 rows w) all
-values_from_bins rows cols j w [] h given every = tt
-values_from_bins rows cols j w (s ∷ rest) h (g, given) (has, every) = (value_from_words 8 rows cols j s h g w has, values_from_bins rows cols j w rest h given every)
-
-pub bins_from_values : (rows cols j : ℕ) (w : ℕ → ℕ) (all : List Series) → j < 8 → Every (IsGiven 8 rows cols) all → HaveValues angle (seq 8 j) (block_rows cols 0 rows w) all →
-    Every (HasBins rows cols j (λ l k. w (l * cols + k))) all
-bins_from_values rows cols j w [] h given values = tt
-bins_from_values rows cols j w (s ∷ rest) h (g, given) (v, values) = (words_from_value 8 rows cols j s h g w v, bins_from_values rows cols j w rest h given values)
+pub bins_same : (rows cols i : ℕ) (f g : ℕ → ℕ → ℕ) (ws : List ℕ) (all : List Placed) → ((l k : ℕ) → l < rows → k < cols → f l k ≡ g l k) →
+    Every (HasBins rows cols i f ws) all → Every (HasBins rows cols i g ws) all
+bins_same rows cols i f g ws [] same every = tt
+bins_same rows cols i f g ws (s ∷ rest) same (has, every) = (λ b h. has b h ∙ bin-same f g rows cols s.direction b same, bins_same rows cols i f g ws rest same every)
 
 -- rows of the same words are the same
 pub rows_from_words : (cols low n : ℕ) (v w : ℕ → ℕ) → ((l k : ℕ) → l < n → k < cols → v (l * cols + k) ≡ w (l * cols + k)) → block_rows cols low n v ≡ block_rows cols low n w

@@ -1,14 +1,14 @@
 //! The projections by which eight blocks are looked for, side by side.
 
-ghost use Rattle.std.specs.Prelude.{◌≡◌, ◌≢◌, ◌≤◌, ◌<◌, ◌+◌, ◌*◌, ◌/◌, ◌%◌, ◌^◌, ◌↔◌, ℕ, not, eqb, map, slice_index, length, unsigned_abs, All, IfOk, vec_len};
+ghost use Rattle.std.specs.Prelude.{◌≡◌, ◌≢◌, ◌≤◌, ◌<◌, ◌+◌, ◌*◌, ◌/◌, ◌%◌, ◌^◌, ◌↔◌, [], ℕ, not, eqb, map, slice_index, length, unsigned_abs, All, IfOk, vec_len};
 ghost use Rattle.std.specs.Simd.Lanes.{mask_l};
 ghost use Rattle.rz_words.specs.Grid.{IsShape, Grid};
 ghost use Rattle.mj_angles.specs.Projection.{bins as bin_count};
-ghost use Rattle.mj_inverse.specs.Fits.{IsFound, empty_search, with_pair};
+ghost use Rattle.mj_inverse.specs.Fits.{AnglesDiffer, IsFound, empty_search, search_from, total_bins, with_pair};
 ghost use Rattle.mj_inverse.specs.Store.{lane_search, lane_grid};
 
-use crate::series::Series;
-use crate::store::{blanks, put_at, solve_eight, wipe_all};
+use crate::placed::{Placed, add_placed, add_words};
+use crate::sweep::{find, find_from};
 use mj_sums::zeros;
 use std::alloc::{AllocError, Global};
 use std::marker::Model;
@@ -22,25 +22,26 @@ use std::simd::prelude::*;
 pub struct WorkEight {
     rows: usize,
     cols: usize,
-    count: usize,
-    all: Vec<Series>,
+    used: usize,
+    all: Vec<Placed>,
+    words: Vec<u64>,
     marks: Vec<u64>,
     turns: Vec<usize>,
     grid: Vec<u64>,
 }
 
 impl Model for WorkEight {
-    ghost use Rattle.std.specs.Prelude.{◌≡◌, ◌*◌, vec_len};
+    ghost use Rattle.std.specs.Prelude.{◌≡◌, ◌≤◌, ◌+◌, ◌*◌, vec_len, vec_capacity};
     ghost use Rattle.mj_inverse.specs.Fits.{Search};
-    ghost use Rattle.mj_inverse.specs.Padded.{IsPadded, reach_of, width_of};
-    ghost use Rattle.mj_inverse.specs.Store.{IsStore, search_in};
+    ghost use Rattle.mj_inverse.specs.Padded.{IsKept, IsPadded, reach_of, search_over, width_of};
 
     ghost Value = { Search };
 
-    ghost view = { λ w. search_in 8 w.rows w.cols w.count w.all.items };
+    ghost view = { λ w. search_over w.rows w.cols w.words.items w.all.items };
 
-    ghost invariant = { λ w. IsStore 8 w.rows w.cols w.count w.all.items × (vec_len w.marks ≡ 8) × (vec_len w.turns ≡ w.rows)
-        × (vec_len w.grid ≡ 8 * (w.rows * width_of w.cols (reach_of w.rows))) × IsPadded w.rows w.cols (reach_of w.rows) w.grid.items };
+    ghost invariant = { λ w. IsKept w.rows w.cols w.used w.words.items w.all.items × (vec_len w.marks ≡ 8) × (vec_len w.turns ≡ w.rows)
+        × (vec_len w.grid ≡ 8 * (w.rows * width_of w.cols (reach_of w.rows))) × IsPadded w.rows w.cols (reach_of w.rows) w.grid.items
+        × (w.rows ≤ vec_capacity w.all) × (8 * (w.rows * (w.cols + 16 * w.rows)) ≤ vec_capacity w.words) };
 }
 
 impl WorkEight {
@@ -49,15 +50,17 @@ impl WorkEight {
         requires { IsShape rows cols }
         ensures { IfOk result (λ w. w ≡ empty_search rows cols) }
     {
-        let all = blanks(alloc, rows, cols, 8)?;
+        let all = Vec::with_capacity(alloc, rows)?;
+        let words = Vec::with_capacity(alloc, 8 * (rows * (cols + 16 * rows)))?;
         let marks = vec![in alloc; 0u64; 8]?;
         let turns = vec![in alloc; 0usize; rows]?;
         let grid = zeros(alloc, 8 * (rows * (cols + 32 * rows)))?;
         Ok(WorkEight {
             rows,
             cols,
-            count: 0,
+            used: 0,
             all,
+            words,
             marks,
             turns,
             grid,
@@ -68,11 +71,9 @@ impl WorkEight {
     pub fn clear(&mut self)
         ensures { self.new ≡ empty_search self.old.rows self.old.cols }
     {
-        let rows = self.rows;
-        let cols = self.cols;
-        let count = self.count;
-        wipe_all(&mut self.all, count, 8, rows, cols);
-        self.count = 0;
+        self.all.clear();
+        self.words.clear();
+        self.used = 0;
     }
 
     /// Adds the projections at the angle `p`, at which none were added yet. The order of the angles is free.
@@ -83,11 +84,10 @@ impl WorkEight {
         requires size { length bins.now ≡ 8 * bin_count p self.old.rows self.old.cols }
         ensures { self.new ≡ with_pair self.old p bins.now }
     {
-        let rows = self.rows;
-        let cols = self.cols;
-        let count = self.count;
-        put_at(&mut self.all, count, p, rows, cols, 8, bins);
-        self.count = count + 1;
+        let used = self.used;
+        add_placed(&mut self.all, p, used);
+        add_words(&mut self.words, bins);
+        self.used = used + mj_angles::bins(p, self.rows, self.cols);
     }
 
     /// Writes the blocks that have the projections, which are as many as rows, and forgets them all.
@@ -102,16 +102,53 @@ impl WorkEight {
     {
         let rows = self.rows;
         let cols = self.cols;
-        solve_eight(
+        find(
             &mut self.all,
+            &self.words,
+            &mut self.turns,
             rows,
             cols,
-            &mut self.turns,
             &mut self.grid,
             out,
             &mut self.marks,
         );
-        self.count = 0;
+        self.all.clear();
+        self.words.clear();
+        self.used = 0;
+        mask(&self.marks)
+    }
+
+    /// The same of the projections at these angles, whose bins stand one projection after the other. None were
+    /// added before, and none are there after.
+    pub fn solve_from(&mut self, angles: &[i32], bins: &[u64], out: &mut [u64]) -> u8
+        requires empty { self.old.pairs ≡ [] }
+        requires full { length angles.now ≡ self.old.rows }
+        requires small { All (λ p. unsigned_abs p ≤ 16) angles.now }
+        requires differ { AnglesDiffer angles.now }
+        requires size { length bins.now ≡ 8 * total_bins self.old.rows self.old.cols angles.now }
+        requires room { length out.old ≡ 8 * (self.old.rows * self.old.cols) }
+        ensures exact { (j : ℕ) → j < 8 → (result / 2 ^ j % 2 ≡ 0 ↔ ((g : Grid) × IsFound (lane_search 8 j (search_from self.old.rows self.old.cols angles.now bins.now)) g)) }
+        ensures found { (j : ℕ) → j < 8 → result / 2 ^ j % 2 ≡ 0 →
+            IsFound (lane_search 8 j (search_from self.old.rows self.old.cols angles.now bins.now)) (lane_grid 8 j self.old.rows self.old.cols out.new) }
+        ensures only { (j : ℕ) (g : Grid) → j < 8 → IsFound (lane_search 8 j (search_from self.old.rows self.old.cols angles.now bins.now)) g →
+            g ≡ lane_grid 8 j self.old.rows self.old.cols out.new }
+        ensures same { self.new ≡ empty_search self.old.rows self.old.cols }
+    {
+        let rows = self.rows;
+        let cols = self.cols;
+        find_from(
+            &mut self.all,
+            angles,
+            bins,
+            &mut self.turns,
+            rows,
+            cols,
+            &mut self.grid,
+            out,
+            &mut self.marks,
+        );
+        self.words.clear();
+        self.used = 0;
         mask(&self.marks)
     }
 }

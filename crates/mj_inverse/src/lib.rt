@@ -18,6 +18,7 @@ mod eight;
 mod ends;
 mod invert;
 mod order;
+mod placed;
 mod series;
 mod store;
 mod sweep;

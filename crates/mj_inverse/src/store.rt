@@ -5,14 +5,12 @@ ghost use Rattle.rz_words.specs.Grid.{Grid, IsShape};
 ghost use Rattle.mj_angles.specs.Projection.{bins as bin_count};
 ghost use Rattle.mj_inverse.specs.Fits.{IsFound};
 ghost use Rattle.mj_inverse.specs.Rows.{Both, Differ, Every, HaveValues, block_rows};
-ghost use Rattle.mj_inverse.specs.Padded.{IsPadded, reach_of, width_of};
 ghost use Rattle.mj_inverse.specs.Series.{seq, angle as angle_of, angles, HaveRoom, IsSpread, IsUnmarked, MaySpread};
 ghost use Rattle.mj_inverse.specs.Store.{IsFilled, pairs_in, search_in, lane_search, lane_grid};
 
 use crate::invert::solve;
-use crate::order::{sort, sort_falling};
+use crate::order::sort;
 use crate::series::Series;
-use crate::sweep::sweep;
 use std::alloc::{AllocError, Global};
 
 /// As many blank series as rows. The last one that took memory stands first, so that memory is given back
@@ -160,35 +158,4 @@ pub fn solve_all(
     let high = reach(all, least, 32 * rows + cols);
     spread_all(all, unit, high);
     solve(all, 0, cols, unit, out, bad, high, high)
-}
-
-/// Writes the words of eight blocks into `out`, and marks the blocks that no words fit. They are read off
-/// word by word. `grid` and `turns` are room for that.
-pub fn solve_eight(
-    all: &mut [Series],
-    rows: usize,
-    cols: usize,
-    turns: &mut [usize],
-    grid: &mut [u64],
-    out: &mut [u64],
-    bad: &mut [u64],
-)
-    requires filled { IsFilled 8 rows cols rows all.old }
-    requires full { length all.old ≡ rows }
-    requires differ { Differ angle_of all.old }
-    requires shape { IsShape rows cols }
-    requires turns { length turns.old ≡ rows }
-    requires room { length grid.old ≡ 8 * (rows * width_of cols (reach_of rows)) }
-    requires padded { IsPadded rows cols (reach_of rows) grid.old }
-    requires blocks { length bad.old ≡ 8 }
-    requires out { length out.old ≡ 8 * (rows * cols) }
-    ensures filled { IsFilled 8 rows cols 0 all.new }
-    ensures len { length all.new ≡ length all.old }
-    ensures padded { IsPadded rows cols (reach_of rows) grid.new }
-    ensures found { (j : ℕ) → j < 8 → IsUnmarked bad.new j → IsFound (lane_search 8 j (search_in 8 rows cols rows all.old)) (lane_grid 8 j rows cols out.new) }
-    ensures complete { (j : ℕ) (g : Grid) → j < 8 → IsFound (lane_search 8 j (search_in 8 rows cols rows all.old)) g →
-        IsUnmarked bad.new j × (g ≡ lane_grid 8 j rows cols out.new) }
-{
-    sort_falling(all);
-    sweep(all, turns, rows, cols, grid, out, bad);
 }

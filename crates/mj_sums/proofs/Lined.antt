@@ -1,8 +1,8 @@
 -- Sums of lines, eight lanes at a time.
 use Rattle.std.proofs.Common.{◌≡◌, ℕ, ◌+◌, ◌*◌, ◌<◌, ◌≤◌, sym, ap, ◌∙◌, arith, List, length, get_or}
 use Rattle.std.specs.Prelude.{bit_xor, bit_or}
-use Rattle.std.specs.Simd.Lanes.{zip2, chunk, put_chunk}
-use Rattle.std.proofs.lemmas.Simd.{get_or-put_chunk_at, get_or-chunk, get_or-zip2, length-chunk, length-zip2}
+use Rattle.std.specs.Simd.Lanes.{zip2, chunk}
+use Rattle.std.proofs.lemmas.Simd.{get_or-chunk, get_or-zip2, length-chunk, length-zip2}
 use Rattle.mj_angles.proofs.Sums.{xor_below-more}
 use Rattle.mj_sums.specs.Line.{line_sum}
 
@@ -23,17 +23,6 @@ line_more g sum at step j i long room small before =
     ∙ ap (λ w. bit_xor w (get_or (chunk (8 * (at + j * step)) 8 g) i 0)) before
     ∙ ap (bit_xor (line_sum g i j at step)) (get_or-chunk (8 * (at + j * step)) 8 g i 0 small)
     ∙ sym (xor_below-more j (λ j. get_or g (8 * (at + j * step) + i) 0))
-
--- the words that are written
-pub written : (g given sum : List ℕ) (bin own i x : ℕ) → 8 * bin + 8 ≤ length given → 8 * own + 8 ≤ length g → length sum ≡ 8 → i < 8 → get_or sum i 0 ≡ x →
-    get_or (put_chunk (8 * own) g (zip2 bit_xor (chunk (8 * own) 8 g) (zip2 bit_xor (chunk (8 * bin) 8 given) sum))) (8 * own + i) 0
-    ≡ bit_xor (get_or g (8 * own + i) 0) (bit_xor (get_or given (8 * bin + i) 0) x)
-written g given sum bin own i x room_given room_own long small is =
-    let told = zip_long given sum (8 * bin) room_given long in
-    let word = zip_long g (zip2 bit_xor (chunk (8 * bin) 8 given) sum) (8 * own) room_own told in
-    get_or-put_chunk_at (8 * own) g (zip2 bit_xor (chunk (8 * own) 8 g) (zip2 bit_xor (chunk (8 * bin) 8 given) sum)) i 0 (omega arith) (omega arith)
-    ∙ zip_at g (zip2 bit_xor (chunk (8 * bin) 8 given) sum) (8 * own) i room_own told small
-    ∙ ap (bit_xor (get_or g (8 * own + i) 0)) (zip_at given sum (8 * bin) i room_given long small ∙ ap (bit_xor (get_or given (8 * bin + i) 0)) is)
 
 pub added : (rest given sum : List ℕ) (bin i x : ℕ) → 8 * bin + 8 ≤ length given → length rest ≡ 8 → length sum ≡ 8 → i < 8 → get_or sum i 0 ≡ x →
     get_or (zip2 bit_or rest (zip2 bit_xor (chunk (8 * bin) 8 given) sum)) i 0 ≡ bit_or (get_or rest i 0) (bit_xor (get_or given (8 * bin + i) 0) x)

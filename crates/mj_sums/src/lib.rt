@@ -6,8 +6,8 @@
 //! the remainder: `take_rest` takes it away, and marks the blocks that had one.
 //!
 //! A place of a row may hold a word of each of several blocks, which then stand side by side. In eight such
-//! blocks `read_place` reads words off their bins and the other words on their lines, and `add_difference`
-//! compares lines with their bins.
+//! blocks `write_sum` writes the sum of a line into a place, and `add_difference` compares lines with their
+//! bins.
 //!
 //! In reading order: `run`, `rest`, `room`, `lines`.
 #![tactic(auto)]
@@ -17,7 +17,7 @@ mod rest;
 mod room;
 mod run;
 
-pub use lines::{add_difference, read_place};
+pub use lines::{add_difference, write_sum};
 pub use rest::take_rest;
 pub use room::{add_zeros, give_words, put_words, zeros};
 pub use run::{add_within, run_within};

@@ -5,30 +5,18 @@ ghost use Rattle.mj_sums.specs.Line.{line_sum};
 
 use std::simd::prelude::*;
 
-/// Adds to the words in place `own` what is not yet told of them by the bins `bin`: those and the sum of
-/// their lines.
+/// Writes the sum of the words in `n` places into place `own`: of those, the first is `at`, and each of the
+/// others `step` places further.
 #[inline(always)]
-pub fn read_place(
-    grid: &mut [u64],
-    given: &[u64],
-    bin: usize,
-    own: usize,
-    at: usize,
-    step: usize,
-    n: usize,
-)
+pub fn write_sum(grid: &mut [u64], own: usize, at: usize, step: usize, n: usize)
     requires line { (j : ℕ) → j < n → 8 * (at + j * step) + 8 ≤ length grid.old }
-    requires given { 8 * bin + 8 ≤ length given.now }
     requires own { 8 * own + 8 ≤ length grid.old }
-    ensures here { (i : ℕ) → i < 8 → slice_index grid.new (8 * own + i) ≡
-        bit_xor (slice_index grid.old (8 * own + i)) (bit_xor (slice_index given.now (8 * bin + i)) (line_sum grid.old i n at step)) }
+    ensures here { (i : ℕ) → i < 8 → slice_index grid.new (8 * own + i) ≡ line_sum grid.old i n at step }
     ensures below { (k : ℕ) → k < 8 * own → slice_index grid.new k ≡ slice_index grid.old k }
     ensures above { (k : ℕ) → 8 * own + 8 ≤ k → slice_index grid.new k ≡ slice_index grid.old k }
 {
     let sum = sum_of_line(grid, at, step, n);
-    let told = u64x8::from_slice(&given[8 * bin..]) ^ sum;
-    let word = u64x8::from_slice(&grid[8 * own..]) ^ told;
-    word.copy_to_slice(&mut grid[8 * own..]);
+    sum.copy_to_slice(&mut grid[8 * own..]);
 }
 
 /// Adds to `rest` what the bins `bin` and the sum of their lines differ in, as a bit or.

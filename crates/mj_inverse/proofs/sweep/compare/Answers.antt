@@ -1,63 +1,35 @@
-use Rattle.std.proofs.Common.{rules, arith, ◌≡◌, ◌<◌, ◌+◌, ◌*◌, ℕ, ℤ, length, get_or, sym, ap, ◌∙◌, vec_len, below_more}
-use Rattle.mj_angles.specs.Projection.{bins, bin}
-use Rattle.mj_sums.specs.Line.{line_sum}
+use Rattle.std.proofs.Common.{arith, ◌≡◌, ◌<◌, ◌≤◌, ◌+◌, ◌*◌, ◌-◌, ℕ, get_or, ◌⊎◌, inl, inr, sym, subst}
+use Rattle.std.proofs.lemmas.Bool.{cases_lt}
+use Rattle.mj_angles.specs.Projection.{bin}
 use Rattle.mj_inverse.specs.Padded.{inner, reach_of, width_of}
-use Rattle.mj_inverse.proofs.Crossed.{line-is, line_fits, reaches}
-use Rattle.mj_inverse.proofs.Left.{none_left, left_none}
 use Rattle.mj_inverse.proofs.sweep.compare.Goals as goal
 
-pub add_difference-sum-requires-clause-line : goal.add_difference-sum-requires-clause-line
-add_difference-sum-requires-clause-line c = λ j h.
-    let p : ℤ = c.args.s.now.direction in
-    let within : c.loop-b.b < bins p c.args.rows c.args.cols = (let all = c.bins_in-b-end.ensures in let test = c.loop-b-test.true in omega arith) in
-    rw (c.line_start-begin.ensures.value, c.line_step-step.ensures, c.requires.room)
-    (line_fits c.args.rows c.args.cols p c.loop-b.b j c.requires.given.small within h)
-
-pub add_difference-sum-requires-clause-given : goal.add_difference-sum-requires-clause-given
-add_difference-sum-requires-clause-given c =
-    let all = c.bins_in-b-end.ensures in
-    let test = c.loop-b-test.true in
-    let last = c.requires.given.last in
-    let room = c.requires.given.is.room in
-    let inside = c.requires.given.is.within in
-    let long : length c.deref.result.now ≡ vec_len c.args.s.now.words = search rules in
-    omega arith
-
-pub loop-b-init : goal.loop-b-init
-loop-b-init c = λ i small. (λ z. (z, λ b h. absurd (omega arith)), λ h. h.0)
-
-pub loop-b-preserved : goal.loop-b-preserved
-loop-b-preserved c = λ i small.
-    let rows : ℕ = c.args.rows in
-    let cols : ℕ = c.args.cols in
-    let s = c.args.s.now in
-    let p : ℤ = s.direction in
-    let b : ℕ = c.loop-b.b in
-    let v : ℕ = width_of cols (reach_of rows) in
-    let some = c.requires.shape.some_row in
-    let near = c.requires.given.small in
-    let within : b < bins p rows cols = (let all = c.bins_in-b-end.ensures in let test = c.loop-b-test.true in omega arith) in
-    let before = c.loop-b.invariant i small in
-    let sum : line_sum c.args.grid.now i rows (c.line_start-begin.result + b) c.line_step-step.result ≡ bin (inner c.args.grid.now v (reach_of rows) i) rows cols p b =
-    rw (c.line_start-begin.ensures.value, c.line_step-step.ensures)
-    (line-is c.args.grid.now i rows cols (reach_of rows) c.requires.padded small p b (omega arith) (reaches rows cols p near) within) in
-    let word : get_or c.deref.result.now (8 * (s.from + b) + i) 0 ≡ get_or s.words.items (8 * (s.from + b) + i) 0 = ap (λ xs. get_or xs (8 * (s.from + b) + i) 0) c.deref.ensures.value in
-    let new = c.add_difference-sum.ensures i small in (
-      λ z.
-          (let n = none_left (get_or c.loop-b.sum i 0) (get_or c.deref.result.now (8 * (s.from + b) + i) 0) (line_sum c.args.grid.now i rows (c.line_start-begin.result + b) c.line_step-step.result) (sym new ∙ z) in
-          let k = before.0 n.0 in
-          (k.0, below_more _ _ k.1 (sym word ∙ n.1 ∙ sum))),
-      λ h.
-          new
-          ∙ left_none (get_or c.loop-b.sum i 0) (get_or c.deref.result.now (8 * (s.from + b) + i) 0) (line_sum c.args.grid.now i rows (c.line_start-begin.result + b) c.line_step-step.result)
-          (before.1 (h.0, λ m l. h.1 m (omega arith))) (word ∙ h.1 b (omega arith) ∙ sym sum),
-    )
+-- three runs of bins together are all bins
+parted : (P : ℕ → Type 0) (start cols end : ℕ) → ((b : ℕ) → 0 ≤ b → b < start → P b) → ((k : ℕ) → k < cols → P (start + k)) → ((b : ℕ) → start + cols ≤ b → b < end → P b) → (b : ℕ) → b < end → P b
+parted P start cols end before inside behind b h = by (cases_lt b start) (cases_lt b (start + cols))
+  where
+    by : (b < start) ⊎ (start ≤ b) → (b < start + cols) ⊎ (start + cols ≤ b) → P b
+    by (inl l) _ = before b (omega arith) l
+    by (inr m) (inl l) =
+        let e : start + (b - start) ≡ b = omega arith in
+        subst P e (inside (b - start) (omega arith))
+    by (inr m) (inr n) = behind b n h
 
 pub returns : goal.returns
 returns c = λ i small.
-    let all = c.bins_in-b-end.ensures in
-    let end : c.loop-b.b ≡ c.bins_in-b-end.result = omega arith in
-    let is = c.loop-b.invariant i small in (
-      λ z. (let k = is.0 z in (k.0, λ b h. k.1 b (omega arith))),
-      λ h. is.1 (h.0, λ b l. h.1 b (omega arith)),
+    let rows : ℕ = c.args.rows in
+    let cols : ℕ = c.args.cols in
+    let s = c.args.s.now in
+    let f : ℕ → ℕ → ℕ = inner c.args.grid.now (width_of cols (reach_of rows)) (reach_of rows) i in
+    let start = c.first_bin-start.ensures.value in
+    let end = c.bins_in-end.ensures in
+    let one = c.compare_run-before.ensures i small in
+    let two = c.compare_run.ensures i small in
+    let P : ℕ → Type 0 = λ b. get_or c.args.words.now (8 * (s.from + b) + i) 0 ≡ bin f rows cols s.direction b in
+    let told : (k : ℕ) → k < cols → P (c.first_bin-start.result + k) = λ k h. (let Q : ℕ → Type 0 = λ y. P (y + k) in subst Q (sym start) (c.requires.told i k small h)) in (
+      λ z.
+          (let k = two.0 z in
+          let m = one.0 k.0 in
+          (m.0, λ b h. parted P c.first_bin-start.result cols c.bins_in-end.result m.1 told k.1 b (omega arith))),
+      λ h. two.1 (one.1 (h.0, λ b from to. h.1 b (let within = c.first_bin-start.ensures.within cols in omega arith)), λ b from to. h.1 b (omega arith)),
     )
