@@ -9,9 +9,9 @@ use Rattle.mj_angles.specs.Xor.{xor_below}
 use Rattle.mj_angles.specs.Projection.{bins, bin, offset, row_start}
 use Rattle.mj_angles.proofs.Sums.{xor_below-same, xor_below-zero, row_at, row_misses, row_within}
 use Rattle.mj_angles.proofs.Order.{lifted}
-use Rattle.mj_sums.specs.Polynomials.{raised, IsFinite}
+use Rattle.mj_inverse_sums.specs.Polynomials.{raised, IsFinite}
 use Rattle.mj_inverse.specs.Rows.{value, Every, cut, block_rows}
-use Rattle.mj_sums.proofs.Algebra.{split, plus_at, raised_below, raised_at, raised-raised, finite-raised}
+use Rattle.mj_inverse_sums.proofs.Algebra.{split, plus_at, raised_below, raised_at, raised-raised, finite-raised}
 
 pub cut_in : (cols : ℕ) (w : ℕ → ℕ) (k : ℕ) → k < cols → cut cols w k ≡ w k
 unfolding cut

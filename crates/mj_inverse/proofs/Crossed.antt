@@ -7,7 +7,7 @@ use Rattle.std.proofs.lemmas.Bool.{cases_lt}
 use Rattle.mj_angles.specs.Xor.{xor_below}
 use Rattle.mj_angles.specs.Projection.{bins, bin, offset, row_start}
 use Rattle.mj_angles.proofs.Sums.{xor_below-same, row_at, row_misses}
-use Rattle.mj_sums.specs.Line.{line_sum}
+use Rattle.mj_inverse_sums.specs.Line.{line_sum}
 use Rattle.mj_inverse.specs.Padded.{IsPadded, inner, step_of, width_of, reach_of}
 
 -- where a line meets row j

@@ -1,7 +1,7 @@
 -- One angle is divided out of the projections of some rows.
 use Rattle.std.proofs.Common.{◌≡◌, ℕ, suc, refl, sym, ap, ◌∙◌, List, [], ◌∷◌, length}
-use Rattle.mj_sums.specs.Polynomials.{plus, raised, times, IsFinite}
-use Rattle.mj_sums.proofs.Algebra.{plus-nothing, plus-comm, plus-assoc, plus-swap, plus_twice, raised-nothing, raised-plus, raised-swap, times-nothing, finite-plus, finite-raised}
+use Rattle.mj_inverse_sums.specs.Polynomials.{plus, raised, times, IsFinite}
+use Rattle.mj_inverse_sums.proofs.Algebra.{plus-nothing, plus-comm, plus-assoc, plus-swap, plus_twice, raised-nothing, raised-plus, raised-swap, times-nothing, finite-plus, finite-raised}
 use Rattle.mj_inverse.specs.Rows.{value, joined, Every}
 
 -- the projection of joined rows at another angle

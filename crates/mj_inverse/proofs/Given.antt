@@ -2,10 +2,10 @@
 use Rattle.std.proofs.Common.{◌≡◌, ℕ, ◌+◌, ◌-◌, ◌*◌, ◌<◌, ◌≤◌, min, max, refl, sym, ap, ◌∙◌, arith, ◌⊎◌, inl, inr}
 use Rattle.std.proofs.lemmas.Bool.{cases_lt}
 use mathlib.Core.Path.{fun_ext}
-use Rattle.mj_sums.specs.Polynomials.{raised}
+use Rattle.mj_inverse_sums.specs.Polynomials.{raised}
 use Rattle.mj_inverse.specs.Rows.{cut}
-use Rattle.mj_sums.proofs.Algebra.{split, raised_below, raised_at}
-use Rattle.mj_sums.proofs.Taken.{place_below}
+use Rattle.mj_inverse_sums.proofs.Algebra.{split, raised_below, raised_at}
+use Rattle.mj_inverse_sums.proofs.Taken.{place_below}
 use Rattle.mj_inverse.proofs.Blocks.{cut_in, cut_out}
 use Rattle.mj_inverse.proofs.Rowed.{cut-same}
 

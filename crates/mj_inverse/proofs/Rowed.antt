@@ -3,9 +3,9 @@ use Rattle.std.proofs.Common.{◌≡◌, ℕ, zero, suc, ◌+◌, ◌*◌, ◌<�
 use Rattle.std.proofs.lemmas.Bool.{cases_lt}
 use Rattle.std.proofs.lemmas.List.{places}
 use mathlib.Core.Path.{fun_ext}
-use Rattle.mj_sums.specs.Polynomials.{raised}
+use Rattle.mj_inverse_sums.specs.Polynomials.{raised}
 use Rattle.mj_inverse.specs.Rows.{cut, block_rows, AreRows}
-use Rattle.mj_sums.proofs.Taken.{place_below}
+use Rattle.mj_inverse_sums.proofs.Taken.{place_below}
 use Rattle.mj_inverse.proofs.Blocks.{cut_in, cut_out, length-block_rows}
 
 pub cut-same : (cols : ℕ) (v w : ℕ → ℕ) → ((k : ℕ) → k < cols → v k ≡ w k) → cut cols v ≡ cut cols w

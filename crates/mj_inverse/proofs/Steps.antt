@@ -1,8 +1,8 @@
 -- One step of the inversion: the angle of p is divided out of each of xs, which become ys.
 use Rattle.std.proofs.Common.{◌≡◌, ◌≢◌, ℕ, suc, sym, ap, ◌∙◌, arith, List, [], ◌∷◌, length}
-use Rattle.mj_sums.specs.Polynomials.{plus, times, IsFinite}
+use Rattle.mj_inverse_sums.specs.Polynomials.{plus, times, IsFinite}
 use Rattle.mj_inverse.specs.Rows.{value, joined, Every, Both, HaveValues, IsDividedOut, Divides}
-use Rattle.mj_sums.proofs.Algebra.{plus-nothing, plus_twice, plus-comm, times-self, times-unique}
+use Rattle.mj_inverse_sums.proofs.Algebra.{plus-nothing, plus_twice, plus-comm, times-self, times-unique}
 use Rattle.mj_inverse.proofs.Divided.{value-joined, quotient, joined-quotient, length-quotient, finite-quotient, finite-value}
 
 module _ {A : Type 0} (q : A → ℕ) (s : A → ℕ → ℕ) where

@@ -14,13 +14,13 @@ use Rattle.mj_angles.proofs.Projections.{get_or-projection, projection-from_bins
 use Rattle.mj_angles.proofs.Order.{lifted}
 use Rattle.mj_inverse.specs.Fits.{Pair, Search, IsFound}
 use Rattle.mj_inverse.specs.declared.series.Series.{Series}
-use Rattle.mj_sums.specs.Polynomials.{raised}
+use Rattle.mj_inverse_sums.specs.Polynomials.{raised}
 use Rattle.mj_inverse.specs.Rows.{value, cut, block_rows, Every, Both, HaveValues, Differ}
 use Rattle.mj_inverse.specs.Series.{seq, angle, angles, AreAt, HaveRoom, IsBlank, IsSpread, KeepsRoom, MaySpread}
 use Rattle.std.proofs.lemmas.Int.{ints}
 use Rattle.mj_inverse.specs.Store.{room_of, IsStore, IsSpare, Distinct, IsGiven, IsFilled, pair_of, pairs_in, search_in, lane_of, lane_pair, lane_search, lane_grid}
-use Rattle.mj_sums.proofs.Algebra.{split, raised_below, raised_at}
-use Rattle.mj_sums.proofs.Taken.{place_below, place_le}
+use Rattle.mj_inverse_sums.proofs.Algebra.{split, raised_below, raised_at}
+use Rattle.mj_inverse_sums.proofs.Taken.{place_below, place_le}
 use Rattle.mj_inverse.proofs.Blocks.{first_place, value-block_rows, bin_none, cut_in}
 use Rattle.mj_inverse.proofs.Put.{offset_le}
 

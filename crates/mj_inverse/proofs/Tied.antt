@@ -5,7 +5,7 @@ use Rattle.std.proofs.lemmas.Bool.{cases_lt}
 use mathlib.Core.Path.{fun_ext}
 use Rattle.mj_angles.specs.Projection.{bin, row_start}
 use Rattle.mj_angles.proofs.Sums.{xor_below-same}
-use Rattle.mj_sums.specs.Polynomials.{raised}
+use Rattle.mj_inverse_sums.specs.Polynomials.{raised}
 use Rattle.mj_inverse.specs.Rows.{Every, block_rows, cut}
 use Rattle.mj_inverse.specs.Padded.{HasBins}
 use Rattle.mj_inverse.specs.declared.placed.Placed.{Placed}

@@ -5,10 +5,10 @@ use Rattle.std.proofs.Math.Nat.{div-add-mod, mod-lt}
 use Rattle.std.proofs.lemmas.Bool.{cases_lt}
 use Rattle.std.proofs.lemmas.List.{places}
 use Rattle.mj_inverse.specs.declared.series.Series.{Series}
-use Rattle.mj_sums.specs.Polynomials.{times}
+use Rattle.mj_inverse_sums.specs.Polynomials.{times}
 use Rattle.mj_inverse.specs.Rows.{Both, IsDividedOut}
 use Rattle.mj_inverse.specs.Series.{seq, angle, IsNext, IsSeries, IsTrimmed}
-use Rattle.mj_sums.proofs.Taken.{place_below, place_le}
+use Rattle.mj_inverse_sums.proofs.Taken.{place_below, place_le}
 
 -- the words of places that are all zero
 pub zero_within : (unit from to : ℕ) (xs ys : List ℕ) → ys ≡ xs → 0 < unit → unit * to ≤ length xs →

@@ -9,7 +9,7 @@ ghost use Rattle.mj_inverse.specs.Store.{lane_search, lane_grid};
 
 use crate::placed::{Placed, add_placed, add_words};
 use crate::sweep::{find, find_from};
-use mj_sums::zeros;
+use mj_inverse_sums::zeros;
 use std::alloc::{AllocError, Global};
 use std::marker::Model;
 use std::simd::prelude::*;

@@ -1,7 +1,7 @@
 //! The inversion: one angle after the other is divided out, and the rows are put together on the way back.
 
 ghost use Rattle.std.specs.Prelude.{◌≡◌, ◌≢◌, ◌≤◌, ◌<◌, ◌+◌, ◌-◌, ◌*◌, ◌^◌, ℕ, List, ◌∷◌, length, map, slice_index, true, false};
-ghost use Rattle.mj_sums.specs.Polynomials.{IsFinite};
+ghost use Rattle.mj_inverse_sums.specs.Polynomials.{IsFinite};
 ghost use Rattle.mj_inverse.specs.Rows.{joined, Every, Both, HaveValues, Differ, IsDividedOut, Divides, block_rows, AreRows};
 ghost use Rattle.mj_inverse.specs.Series.{seq, angle as angle_of, angles, AreAt, IsWide, IsNext, IsUnmarked, IsBlank, KeepsRoom, Meet};
 

@@ -1,7 +1,7 @@
 //! A projection, or what is left of one.
 
 ghost use Rattle.std.specs.Prelude.{IfOk, ◌≡◌, ◌≢◌, ◌≤◌, ◌<◌, ◌+◌, ◌-◌, ◌*◌, ℕ, length, vec_capacity, slice_index, slice_range, unsigned_abs, min, max, true};
-ghost use Rattle.mj_sums.specs.Polynomials.{plus, raised, times, IsFinite};
+ghost use Rattle.mj_inverse_sums.specs.Polynomials.{plus, raised, times, IsFinite};
 ghost use Rattle.mj_inverse.specs.Rows.{cut};
 ghost use Rattle.rz_words.specs.Grid.{IsShape};
 ghost use Rattle.mj_angles.specs.Projection.{bins as bin_count};
@@ -10,7 +10,7 @@ ghost use Rattle.mj_inverse.specs.Store.{IsSpare, IsGiven};
 ghost use Rattle.mj_inverse.specs.Series.{seq, IsSeries, IsNext, IsUnmarked, IsBlank, IsSpread, IsTrimmed, KeepsRoom, Meet};
 
 use crate::ends::{are_zero, end_of_used, first_used, padded_end};
-use mj_sums::{add_within, add_zeros, give_words, put_words, run_within, take_rest};
+use mj_inverse_sums::{add_within, add_zeros, give_words, put_words, run_within, take_rest};
 use std::alloc::{AllocError, Global};
 
 /// The words of a sequence: place `origin` of the list holds its word number 0.

@@ -19,7 +19,7 @@ ghost use Rattle.mj_inverse.specs.Padded.{IsPadded, IsPlaced, raised_angle, sear
 use crate::order::sort_falling;
 use crate::placed::{Placed, place_from};
 use mj_angles::{bins, offset, row_start};
-use mj_sums::{add_difference, write_sum};
+use mj_inverse_sums::{add_difference, write_sum};
 use std::simd::prelude::*;
 
 /// The bin of column 0 of row `n`.

@@ -10,9 +10,9 @@ ghost use Rattle.std.specs.Prelude.{◌≡◌, IfOk, IsTrue, length};
 
 use rz_disk::Disk;
 use rz_link::PlainLink;
-use rz_perform::refuse;
 use rz_ports::{StdSink, StdSource};
 use rz_replay::{FilesFault, files, memory, replay};
+use rz_report::refuse;
 use rz_request::{Command, Refusal, Wanted, WordsError, wanted};
 use rz_run::run;
 use std::alloc::{AllocError, Global};

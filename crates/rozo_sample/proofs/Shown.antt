@@ -4,9 +4,9 @@ use Rattle.std.specs.Global.{Vec}
 use Rattle.rz_events.specs.declared.events.Event.{Event}
 use Rattle.rz_script.specs.Scripts.{Script}
 use Rattle.rz_play.specs.World.{new_world}
-use Rattle.rz_lines.specs.Ends.{IsEnded}
-use Rattle.rz_lines.specs.declared.lines.PlayEnd.{PlayEnd}
-use Rattle.rz_lines.specs.declared.lines.PlayEnd.TheVariants as end
+use Rattle.rz_player.specs.Ends.{IsEnded}
+use Rattle.rz_player.specs.declared.lines.PlayEnd.{PlayEnd}
+use Rattle.rz_player.specs.declared.lines.PlayEnd.TheVariants as end
 use Rattle.rz_show.specs.Text.{text_of}
 use Rattle.rozo_sample.specs.Samples.{Shows, Tells}
 use Rattle.rozo_sample.specs.declared.sample.Refused.{Refused}

@@ -4,11 +4,11 @@ use Rattle.std.specs.Global.{Vec}
 use Rattle.rz_events.specs.declared.events.Event.{Event}
 use Rattle.rz_script.specs.Scripts.{Script}
 use Rattle.rz_script.specs.Grammar.{script}
-use Rattle.rz_operands.specs.declared.form.Form.TheVariants.{Replay}
+use Rattle.rz_script_words.specs.declared.form.Form.TheVariants.{Replay}
 use Rattle.rz_play.specs.Stops.{TurnsSpent}
 use Rattle.rz_play.specs.Played.{IsPlayed, IsStopped}
-use Rattle.rz_lines.specs.declared.lines.PlayEnd.{PlayEnd}
-use Rattle.rz_lines.specs.declared.lines.PlayEnd.TheVariants as end
+use Rattle.rz_player.specs.declared.lines.PlayEnd.{PlayEnd}
+use Rattle.rz_player.specs.declared.lines.PlayEnd.TheVariants as end
 use Rattle.rz_show.specs.Text.{text_of}
 use Rattle.rozo_sample.specs.declared.sample.Refused.{Refused}
 use Rattle.rozo_sample.specs.declared.sample.Refused.TheVariants as refused

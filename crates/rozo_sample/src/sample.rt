@@ -2,15 +2,15 @@
 
 ghost use Rattle.std.specs.Prelude.{◌≡◌, [], IfOk, length};
 ghost use Rattle.rz_play.specs.World.{new_world};
-ghost use Rattle.rz_lines.specs.Behind.{Before};
+ghost use Rattle.rz_player.specs.Behind.{Before};
 ghost use Rattle.rz_driver.specs.Worlds.{Holds, IsDriver, world_of};
 ghost use Rattle.rozo_sample.specs.Samples.{IsSample, Shows, Tells};
 
 use rz_disk::PlainDisk;
 use rz_driver::Driver;
 use rz_events::Event;
-use rz_lines::{PlayEnd, play};
 use rz_link::PlainLink;
+use rz_player::{PlayEnd, play};
 use rz_script::{Form, Script, ScriptError};
 use rz_show::show;
 use std::alloc::{AllocError, Global};

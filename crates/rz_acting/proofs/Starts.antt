@@ -11,7 +11,7 @@ use Rattle.rz_events.specs.declared.operations.Operation.{Operation}
 use Rattle.rz_events.specs.declared.operations.Operation.TheVariants.{Tree, Put, Get, Write, Read, Rebuild, Update, View}
 use Rattle.rz_operation_model.specs.Ranges.{bytes_of}
 use Rattle.rz_operation.specs.Answers.{IsOperation}
-use Rattle.rz_operands.specs.Limits.{datum_length}
+use Rattle.rz_script_words.specs.Limits.{datum_length}
 use Rattle.rz_script.specs.Lines as line
 
 length-made : (f : ℕ → ℕ) (a n : ℕ) → length (map f (range_with_len a n)) ≡ n

@@ -15,8 +15,8 @@ use Rattle.rz_operation.specs.Machine.{Machine, text_of}
 use Rattle.rz_operation_model.specs.Ask.{Ask, AskExport, Say, Saying, SayGot, SayLeft, SayDone, ask_of}
 use Rattle.rz_operation_model.specs.Steps.{Told, Replied, Noted, told}
 use Rattle.rz_operation_model.specs.Turns.{said_event}
-use Rattle.rz_stages.specs.declared.ask.ExportAsk.{ExportAsk}
-use Rattle.rz_stages.specs.declared.ask.ExportAsk.TheVariants as export
+use Rattle.rz_operation_states.specs.declared.ask.ExportAsk.{ExportAsk}
+use Rattle.rz_operation_states.specs.declared.ask.ExportAsk.TheVariants as export
 use Rattle.rz_play.specs.Turns.{text_said}
 use Rattle.rz_asks.specs.declared.replies.Words.{Words}
 use Rattle.rz_asks.specs.declared.replies.Words.TheVariants as words

@@ -36,5 +36,5 @@ pub use memory::NoReply;
 pub use metadata::Metadata;
 pub use reopening::fault_number;
 pub use replies::{ask_export, note};
-pub(crate) use rz_lines::NoMemory;
+pub(crate) use rz_player::NoMemory;
 pub use words::{is_bad, say};

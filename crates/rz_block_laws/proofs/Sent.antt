@@ -20,7 +20,7 @@ use Rattle.rz_node_model.specs.Answers.{fetch_in, fetch_found, IsNodeAnswer}
 use Rattle.rz_node_model.specs.Afterwards.{after_answer}
 use Rattle.rz_node_model.specs.NodeEvents.{node_event}
 use Rattle.rz_node_model.specs.States.{NodeState}
-use Rattle.rz_slots.specs.declared.geometry.Geometry.{Geometry}
+use Rattle.rz_cells_slots.specs.declared.geometry.Geometry.{Geometry}
 use Rattle.rz_node.specs.Fetched.{IfHeld}
 use Rattle.rz_node.specs.Leaves.{Leaves}
 use Rattle.rz_operation_model.specs.Work.{Work, Over}

@@ -14,7 +14,7 @@ use Rattle.rz_events.specs.declared.events.Event.{Event}
 use Rattle.rz_node_model.specs.Answers.{IsNodeAnswer}
 use Rattle.rz_node_model.specs.States.{NodeState}
 use Rattle.rz_node_model.specs.Afterwards.{after_answer}
-use Rattle.rz_slots.specs.declared.geometry.Geometry.{Geometry}
+use Rattle.rz_cells_slots.specs.declared.geometry.Geometry.{Geometry}
 use Rattle.rz_node.specs.Leaves.{Leaves}
 use Rattle.rz_operation_model.specs.Ask.{Ask, AskNode, ask_of}
 use Rattle.rz_operation.specs.Answers.{IsAnswer, IsAnswerTo}

@@ -19,7 +19,7 @@ use Rattle.rz_node_model.specs.Answers.{IsNodeAnswer}
 use Rattle.rz_node_model.specs.Afterwards.{after_answer}
 use Rattle.rz_node_model.specs.NodeEvents.{node_event}
 use Rattle.rz_node_model.specs.States.{NodeState}
-use Rattle.rz_slots.specs.declared.geometry.Geometry.{Geometry}
+use Rattle.rz_cells_slots.specs.declared.geometry.Geometry.{Geometry}
 use Rattle.rz_node.specs.Leaves.{Leaves}
 use Rattle.rz_node.specs.Fetched.{IfHeld}
 use Rattle.rz_operation_model.specs.Ask.{AskNode, Say, SayGot, SayLeft, ask_of}

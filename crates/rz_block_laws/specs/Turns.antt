@@ -7,7 +7,7 @@ use Rattle.rz_events.specs.declared.nodes.NodeAnswer.{NodeAnswer}
 use Rattle.rz_events.specs.declared.events.Event.{Event}
 use Rattle.rz_node_model.specs.Afterwards.{after_answer}
 use Rattle.rz_node_model.specs.States.{NodeState}
-use Rattle.rz_slots.specs.declared.geometry.Geometry.{Geometry}
+use Rattle.rz_cells_slots.specs.declared.geometry.Geometry.{Geometry}
 use Rattle.rz_operation_model.specs.Ask.{ask_of}
 use Rattle.rz_operation_model.specs.Steps.{Told}
 use Rattle.rz_operation_model.specs.Turns.{IsStep}

@@ -3,12 +3,12 @@ ghost use Rattle.std.specs.Prelude.{◌≡◌, ◌*◌, ◌≤◌, length, take,
 ghost use Rattle.rz_disk.specs.Images.{Within};
 ghost use Rattle.rz_disk.specs.Meter.{Passes};
 ghost use Rattle.rz_record.specs.Record.{IsValid, bins_of};
-ghost use Rattle.rz_slots.specs.Shape.{IsGeometry, slot_of};
+ghost use Rattle.rz_cells_slots.specs.Shape.{IsGeometry, slot_of};
 
 use crate::Geometry;
+use rz_cells_slots::{Heads, read_bins, spell, switch};
 use rz_disk::{Disk, Failed};
 use rz_record::{HEAD_BYTES, Head};
-use rz_slots::{Heads, read_bins, spell, switch};
 
 /// A device call failed.
 #[derive(Clone, Copy, Debug, Drop)]
@@ -43,9 +43,9 @@ impl<D: Disk> Cells<D> {
     ghost use Rattle.rz_disk.specs.Images.{Only};
     ghost use Rattle.rz_disk.specs.Meter.{armed};
     ghost use Rattle.rz_record.specs.Slot.{Rec};
-    ghost use Rattle.rz_slots.specs.Held.{Goes, in_cell};
-    ghost use Rattle.rz_slots.specs.Stands.{Changes, HoldsCells, MayChange};
-    ghost use Rattle.rz_slots.specs.Counted.{Counted};
+    ghost use Rattle.rz_cells_slots.specs.Held.{Goes, in_cell};
+    ghost use Rattle.rz_cells_slots.specs.Stands.{Changes, HoldsCells, MayChange};
+    ghost use Rattle.rz_cells_slots.specs.Counted.{Counted};
     ghost use Rattle.rz_cells.specs.Open.{AreOpen};
 
     /// Keeps a record in a cell, in the place of what the cell holds.

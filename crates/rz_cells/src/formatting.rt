@@ -1,14 +1,14 @@
 //! Formatting.
 ghost use Rattle.std.specs.Prelude.{◌≡◌, ◌⊎◌, ℕ, List, None, IsTrue, IsErrOf, OnOk, OnErr, IfOk, IfErr, MatchResult};
-ghost use Rattle.rz_slots.specs.Counted.{CountedWhere};
-ghost use Rattle.rz_slots.specs.Held.{in_cell, nothing};
-ghost use Rattle.rz_slots.specs.Shape.{IsGeometry};
-ghost use Rattle.rz_slots.specs.Stands.{IsShut, StandsFor};
+ghost use Rattle.rz_cells_slots.specs.Counted.{CountedWhere};
+ghost use Rattle.rz_cells_slots.specs.Held.{in_cell, nothing};
+ghost use Rattle.rz_cells_slots.specs.Shape.{IsGeometry};
+ghost use Rattle.rz_cells_slots.specs.Stands.{IsShut, StandsFor};
 ghost use Rattle.rz_cells.specs.Open.{AreOpen};
 
 use crate::{Cells, FormatFault, Geometry};
+use rz_cells_slots::{Room, blank, empty};
 use rz_disk::Disk;
-use rz_slots::{Room, blank, empty};
 use std::alloc::Global;
 
 impl<D: Disk> Cells<D> {

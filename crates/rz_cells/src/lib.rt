@@ -19,7 +19,7 @@
 //! old disk and one for each of its cells and records, and four of the new one and one for each record.
 //! Open cells can crash their disk, read it anew and make it anew, and keep what they know where that fails.
 //!
-//! `rz_slots` below has the layout of a disk, what its bytes stand for, and what is done to slots.
+//! `rz_cells_slots` below has the layout of a disk, what its bytes stand for, and what is done to slots.
 //!
 //! In reading order: `cells`, `formatting`, `opening`, `migrating`.
 #![tactic(auto)]
@@ -30,5 +30,5 @@ mod migrating;
 mod opening;
 
 pub use cells::{Cells, DiskFault};
+pub use rz_cells_slots::{FormatFault, Geometry, MigrateFault};
 pub use rz_events::{HeaderField, OpenFault};
-pub use rz_slots::{FormatFault, Geometry, MigrateFault};

@@ -3,20 +3,20 @@ ghost use Rattle.std.specs.Prelude.{◌≡◌, ◌≢◌, ◌⊎◌, ◌+◌, �
 ghost use Rattle.mj_angles.specs.Layout.{bsize_of};
 ghost use Rattle.rz_disk.specs.Images.{Within};
 ghost use Rattle.rz_disk.specs.Meter.{Took, Lasts, Rises, faults};
-ghost use Rattle.rz_slots.specs.Counted.{CountedWhere, TookAll};
-ghost use Rattle.rz_slots.specs.Held.{Records, count_held};
-ghost use Rattle.rz_slots.specs.Shape.{IsGeometry};
-ghost use Rattle.rz_slots.specs.Stands.{IsShut, StandsFor};
-ghost use Rattle.rz_slots.specs.Opening.{NotSize};
-ghost use Rattle.rz_slots.specs.Old.{CarriesOver, HoldsAtMost, OldStandsFor, old_disk_bytes};
-ghost use Rattle.rz_slots.specs.OldOpening.{OldRefuses, old_opening_calls};
-ghost use Rattle.rz_slots.specs.Copied.{copy_calls};
+ghost use Rattle.rz_cells_slots.specs.Counted.{CountedWhere, TookAll};
+ghost use Rattle.rz_cells_slots.specs.Held.{Records, count_held};
+ghost use Rattle.rz_cells_slots.specs.Shape.{IsGeometry};
+ghost use Rattle.rz_cells_slots.specs.Stands.{IsShut, StandsFor};
+ghost use Rattle.rz_cells_slots.specs.Opening.{NotSize};
+ghost use Rattle.rz_cells_slots.specs.Old.{CarriesOver, HoldsAtMost, OldStandsFor, old_disk_bytes};
+ghost use Rattle.rz_cells_slots.specs.OldOpening.{OldRefuses, old_opening_calls};
+ghost use Rattle.rz_cells_slots.specs.Copied.{copy_calls};
 ghost use Rattle.rz_cells.specs.Open.{AreOpen};
 
 use crate::{Cells, Geometry, MigrateFault};
+use rz_cells_slots::{Room, carry};
 use rz_disk::Disk;
 use rz_events::OpenFault;
-use rz_slots::{Room, carry};
 use std::alloc::Global;
 
 impl<D: Disk> Cells<D> {

@@ -1,18 +1,18 @@
 //! Opening.
 ghost use Rattle.std.specs.Prelude.{◌≡◌, ◌⊎◌, ℕ, length, IsTrue, IsErrOf, OnOk, OnErr, IfOk, IfErr, MatchResult};
 ghost use Rattle.rz_disk.specs.Images.{Within};
-ghost use Rattle.rz_slots.specs.Counted.{CountedWhere};
-ghost use Rattle.rz_slots.specs.Held.{Records};
-ghost use Rattle.rz_slots.specs.Shape.{IsGeometry, disk_bytes};
-ghost use Rattle.rz_slots.specs.Stands.{StandsFor};
-ghost use Rattle.rz_slots.specs.Open.{Finds};
-ghost use Rattle.rz_slots.specs.Opening.{NotSize, Refuses, opening_calls};
+ghost use Rattle.rz_cells_slots.specs.Counted.{CountedWhere};
+ghost use Rattle.rz_cells_slots.specs.Held.{Records};
+ghost use Rattle.rz_cells_slots.specs.Shape.{IsGeometry, disk_bytes};
+ghost use Rattle.rz_cells_slots.specs.Stands.{StandsFor};
+ghost use Rattle.rz_cells_slots.specs.Open.{Finds};
+ghost use Rattle.rz_cells_slots.specs.Opening.{NotSize, Refuses, opening_calls};
 ghost use Rattle.rz_cells.specs.Open.{AreOpen};
 
 use crate::{Cells, Geometry};
+use rz_cells_slots::{Room, read_disk};
 use rz_disk::Disk;
 use rz_events::OpenFault;
-use rz_slots::{Room, read_disk};
 use std::alloc::Global;
 
 impl<D: Disk> Cells<D> {

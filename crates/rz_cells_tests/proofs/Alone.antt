@@ -1,7 +1,7 @@
 -- A first record may go into any cell.
 use Rattle.std.proofs.Common.{◌≡◌, ℕ, Option, Some, None, List, sym, ◌∙◌}
 use Rattle.rz_events.specs.declared.records.Head.{Head}
-use Rattle.rz_slots.specs.Held.{Goes, in_cell}
+use Rattle.rz_cells_slots.specs.Held.{Goes, in_cell}
 
 pub goes_alone : (heads : List (Option Head)) (cell : ℕ) (h : Head) → ((d : ℕ) → in_cell heads d ≡ None) → Goes heads cell h
 goes_alone heads cell h empty = record {

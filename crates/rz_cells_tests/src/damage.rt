@@ -1,5 +1,5 @@
 //! Disks of which bytes are altered, and the first fault of each.
-ghost use Rattle.rz_slots.specs.Shape.{IsGeometry};
+ghost use Rattle.rz_cells_slots.specs.Shape.{IsGeometry};
 
 use crate::making::{alter, disk_of, fill, write, zeros};
 use rz_cells::{Cells, Geometry, OpenFault};

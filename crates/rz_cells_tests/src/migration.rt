@@ -5,7 +5,7 @@
 //! not looked at are no zeros.
 ghost use Rattle.std.specs.Prelude.{◌≡◌};
 ghost use Rattle.mj_angles.specs.Layout.{bsize_of};
-ghost use Rattle.rz_slots.specs.Shape.{IsGeometry};
+ghost use Rattle.rz_cells_slots.specs.Shape.{IsGeometry};
 
 use crate::damage::{bad, damaged, twice};
 use crate::making::{alter, bytes_of, disk_of, fill, write, zeros};

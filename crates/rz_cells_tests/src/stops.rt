@@ -4,7 +4,7 @@
 //! later sync. In both a change counts once its gate is written, and a crash decides on a gate that is not
 //! synced.
 ghost use Rattle.std.specs.Prelude.{◌≡◌, ◌<◌, ℕ, None, IfOk, vec_len};
-ghost use Rattle.rz_slots.specs.Held.{in_cell};
+ghost use Rattle.rz_cells_slots.specs.Held.{in_cell};
 ghost use Rattle.rz_cells.specs.Open.{AreOpen};
 
 use crate::damage::{ONE, stamps_of};

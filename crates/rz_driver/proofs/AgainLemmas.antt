@@ -19,9 +19,9 @@ use Rattle.rz_events.specs.declared.keys.Actor.TheVariants.{Client, Rebuilder}
 use Rattle.rz_events.specs.declared.export.Call.{Call}
 use Rattle.rz_events.specs.declared.events.Word.TheVariants.{Node}
 use Rattle.rz_events.specs.declared.events.Event.{Event}
-use Rattle.rz_slots.specs.declared.geometry.Geometry.{Geometry}
-use Rattle.rz_slots.specs.Held.{Records}
-use Rattle.rz_slots.specs.Stands.{StandsFor}
+use Rattle.rz_cells_slots.specs.declared.geometry.Geometry.{Geometry}
+use Rattle.rz_cells_slots.specs.Held.{Records}
+use Rattle.rz_cells_slots.specs.Stands.{StandsFor}
 use Rattle.rz_node.specs.View.{NodeView}
 use Rattle.rz_node.specs.HeldOnDisk.{IsHeldOnDisk}
 use Rattle.rz_play.specs.Faults.{unplanned}
@@ -40,30 +40,30 @@ use Rattle.rz_asks.specs.Enrolled.{loss_of}
 use Rattle.rz_asks.specs.Reopened.{AllTextsOf, IsAsItCame, MakesExport}
 use Rattle.rz_asks.specs.Stands.{disk_of, export_in, is_journaled, Stands}
 use Rattle.rz_image_laws.specs.Images.{AreImages, IsImaged, geometry_in}
-use Rattle.rz_formatting.specs.declared.formatting.Station.{Station}
-use Rattle.rz_formatting.specs.Formatted.{geometry_of}
-use Rattle.rz_formatting.proofs.Rowwise.{get-behind}
-use Rattle.rz_formatting.specs.declared.refusal.OpenRefusal.{OpenRefusal}
-use Rattle.rz_formatting.specs.declared.refusal.OpenRefusal.TheVariants as refusal
-use Rattle.rz_formatting.specs.Opened.{IsOpened, IsKept, AreKept, AreOpened, IsCause}
-use Rattle.rz_continuation.specs.Earlier.{IsEarlier, IsRestarted}
-use Rattle.rz_continuation.specs.Calls.{calls_told, changing_calls}
-use Rattle.rz_continuation.specs.Found.{IsFound, AreFound, StandsByLog}
-use Rattle.rz_continuation.specs.Laws.{IsFoundLaw, MayGoOn, GoesOn}
+use Rattle.rz_nodes.specs.declared.formatting.Station.{Station}
+use Rattle.rz_nodes.specs.Formatted.{geometry_of}
+use Rattle.rz_nodes.proofs.Rowwise.{get-behind}
+use Rattle.rz_nodes.specs.declared.refusal.OpenRefusal.{OpenRefusal}
+use Rattle.rz_nodes.specs.declared.refusal.OpenRefusal.TheVariants as refusal
+use Rattle.rz_nodes.specs.Opened.{IsOpened, IsKept, AreKept, AreOpened, IsCause}
+use Rattle.rz_restart_laws.specs.Earlier.{IsEarlier, IsRestarted}
+use Rattle.rz_restart_laws.specs.Calls.{calls_told, changing_calls}
+use Rattle.rz_restart_laws.specs.Found.{IsFound, AreFound, StandsByLog}
+use Rattle.rz_restart_laws.specs.Laws.{IsFoundLaw, MayGoOn, GoesOn}
 use Rattle.rz_locks.specs.Held.{Held}
 use Rattle.rz_play.specs.World.{World, Seat as APlayer, empty_seat, world_after}
 use Rattle.rz_play_laws.specs.Fine.{IsFine}
-use Rattle.rz_lines.specs.Behind.{Before, behind}
-use Rattle.rz_stations.specs.Images.{AreDisksImaged, AreImaged, HasImages, fused_image}
-use Rattle.rz_stations.specs.Meters.{AreMetered, GoesWith, OfEach, faults_at, faults_in}
-use Rattle.rz_stations.specs.Stations.{state_in, numbers_of, IsStation}
+use Rattle.rz_player.specs.Behind.{Before, behind}
+use Rattle.rz_driver_nodes.specs.Images.{AreDisksImaged, AreImaged, HasImages, fused_image}
+use Rattle.rz_driver_nodes.specs.Meters.{AreMetered, GoesWith, OfEach, faults_at, faults_in}
+use Rattle.rz_driver_nodes.specs.Stations.{state_in, numbers_of, IsStation}
 use Rattle.rz_driver.specs.declared.driver.Driver.{Driver}
-use Rattle.rz_seats.specs.declared.seat.Seat.{Seat}
+use Rattle.rz_driver_actors.specs.declared.seat.Seat.{Seat}
 use Rattle.rz_driver.specs.Continued.{journal_refusal, losses_of, AreLeft, IsCauseAgain, IsJournalCause, IsNodeCause, IsOpenedAgain, IsOpenedOver, IsRefusedOver, IsUnopened}
 use Rattle.rz_driver.specs.Endings.{StandsForLog}
 use Rattle.rz_driver.specs.Journals.{KeepsLog, journal_place, HasJournal}
 use Rattle.rz_driver.specs.Pictures.{AreBytes, IsPicture, KnowsLengths}
-use Rattle.rz_seats.specs.Seats.{IsEmptySeat}
+use Rattle.rz_driver_actors.specs.Seats.{IsEmptySeat}
 use Rattle.rz_driver.specs.Worlds.{exact_if, is_exact, left_behind, seat_in, world_of, numbers_in, IsDriver, GoesAfter, Holds}
 use Rattle.rz_driver.proofs.KeptCalls.{told-calls}
 use Rattle.rz_driver.proofs.MadeLemmas.{own-cells, empty-in, empty-seats}

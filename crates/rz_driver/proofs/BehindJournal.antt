@@ -17,20 +17,20 @@ use Rattle.rz_export_model.specs.Export.{Export, new_export}
 use Rattle.rz_node.specs.View.{NodeView}
 use Rattle.rz_asks.specs.Stands.{export_in, Stands}
 use Rattle.rz_play.specs.World.{World, new_world}
-use Rattle.rz_formatting.specs.declared.fault.DriverFault.{DriverFault}
-use Rattle.rz_formatting.specs.declared.fault.DriverFault.TheVariants as driver
-use Rattle.rz_formatting.specs.declared.formatting.Station.{Station}
-use Rattle.rz_slots.specs.declared.formatting.FormatFault.{FormatFault}
-use Rattle.rz_slots.specs.declared.formatting.FormatFault.TheVariants as format
-use Rattle.rz_formatting.specs.Formatted.{AreBack, AreFormatted, IsBack, IsCause, IsFormatted, disks_of, fault_at}
-use Rattle.rz_formatting.proofs.FormatLemmas.{new-back}
-use Rattle.rz_formatting.proofs.Rowwise.{get-behind, zip-length, zip-map}
-use Rattle.rz_stations.specs.Meters.{AreMetered, GoesWith, OfEach, faults_at, faults_in}
-use Rattle.rz_stations.specs.Images.{fused_image}
-use Rattle.rz_stations.specs.Stations.{numbers_of, IsStation}
+use Rattle.rz_nodes.specs.declared.fault.DriverFault.{DriverFault}
+use Rattle.rz_nodes.specs.declared.fault.DriverFault.TheVariants as driver
+use Rattle.rz_nodes.specs.declared.formatting.Station.{Station}
+use Rattle.rz_cells_slots.specs.declared.formatting.FormatFault.{FormatFault}
+use Rattle.rz_cells_slots.specs.declared.formatting.FormatFault.TheVariants as format
+use Rattle.rz_nodes.specs.Formatted.{AreBack, AreFormatted, IsBack, IsCause, IsFormatted, disks_of, fault_at}
+use Rattle.rz_nodes.proofs.FormatLemmas.{new-back}
+use Rattle.rz_nodes.proofs.Rowwise.{get-behind, zip-length, zip-map}
+use Rattle.rz_driver_nodes.specs.Meters.{AreMetered, GoesWith, OfEach, faults_at, faults_in}
+use Rattle.rz_driver_nodes.specs.Images.{fused_image}
+use Rattle.rz_driver_nodes.specs.Stations.{numbers_of, IsStation}
 use Rattle.rz_driver.specs.declared.driver.Driver.{Driver}
-use Rattle.rz_seats.specs.declared.seat.Seat.{Seat}
-use Rattle.rz_seats.specs.declared.shared.Shared.{Shared}
+use Rattle.rz_driver_actors.specs.declared.seat.Seat.{Seat}
+use Rattle.rz_driver_actors.specs.declared.shared.Shared.{Shared}
 use Rattle.rz_driver.specs.Formatted.{IsBehindJournal, IsJournalBack, AreBackWithJournal, IsFault, IsJournalRefused}
 use Rattle.rz_driver.specs.Journals.{KeepsLog, journal_place, HasJournal}
 use Rattle.rz_driver.specs.Pictures.{AreBytes, IsPicture}

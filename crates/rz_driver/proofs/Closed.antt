@@ -6,12 +6,12 @@ use Rattle.rz_disk.specs.Meter.{faults}
 use Rattle.rz_disk.specs.declared.disk.Disk.{Ghosts}
 use Rattle.rz_events.specs.declared.events.Event.{Event}
 use Rattle.rz_image_laws.specs.Laws.{IsLogLaw}
-use Rattle.rz_formatting.specs.Formatted.{disks_of}
+use Rattle.rz_nodes.specs.Formatted.{disks_of}
 use Rattle.rz_asks.specs.declared.journaled.Refusal.{Refusal}
 use Rattle.rz_asks.specs.Stands.{disk_of, is_journaled, refusal_of}
-use Rattle.rz_stations.specs.Images.{AreDisksImaged}
-use Rattle.rz_stations.proofs.PictureLemmas.{disks-imaged}
-use Rattle.rz_lines.specs.Behind.{Before}
+use Rattle.rz_driver_nodes.specs.Images.{AreDisksImaged}
+use Rattle.rz_driver_nodes.proofs.PictureLemmas.{disks-imaged}
+use Rattle.rz_player.specs.Behind.{Before}
 use Rattle.rz_driver.specs.declared.driver.Driver.{Driver}
 use Rattle.rz_driver.specs.Continued.{AreLeft, EndsWhole}
 use Rattle.rz_driver.specs.Endings.{EndsAsRefused, StandsForLog}

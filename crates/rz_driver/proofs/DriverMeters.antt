@@ -3,11 +3,11 @@ use Rattle.std.proofs.Common.{ℕ, ◌≡◌, List, inl, inr, sym, subst}
 use Rattle.rz_events.specs.declared.events.Event.{Event}
 use Rattle.rz_disk.specs.declared.disk.Disk.{Ghosts}
 use Rattle.rz_disk.specs.UnderFuse.{fused_meter}
-use Rattle.rz_lines.specs.Behind.{Before}
+use Rattle.rz_player.specs.Behind.{Before}
 use Rattle.rz_driver.specs.declared.driver.Driver.{Driver}
 use Rattle.rz_driver.specs.Worlds.{numbers_in, IsDriver, Holds, Leaves}
-use Rattle.rz_stations.specs.Meters.{AreMetered, AreCounted}
-use Rattle.rz_stations.proofs.MeterLemmas.{metered-counts}
+use Rattle.rz_driver_nodes.specs.Meters.{AreMetered, AreCounted}
+use Rattle.rz_driver_nodes.proofs.MeterLemmas.{metered-counts}
 
 -- the faults are counted where a play ended
 pub leaves-counted : {D : Type 0} {G : Ghosts D} (d : Driver D G) (b : Before) → Leaves d b → AreCounted (fused_meter G.meter) (numbers_in d) d.shared.stations.items d.shared.log.events b.counts

@@ -28,25 +28,25 @@ use Rattle.rz_play_laws.specs.Own.{IsOwn, IsOwnProper, IsUnderWay}
 use Rattle.rz_play_laws.specs.Fine.{IsFine, IsFineIfShort, IsSeated, IsTelling}
 use Rattle.rz_play_laws.proofs.Frames.{same_actor-true}
 use Rattle.rz_play_laws.proofs.Turning.{in-runs}
-use Rattle.rz_continuation.specs.Calls.{HasLength}
+use Rattle.rz_restart_laws.specs.Calls.{HasLength}
 use Rattle.rz_asks.specs.Journals.{call_asked}
 use Rattle.rz_asks.specs.Logged.{Logged}
 use Rattle.rz_asks.specs.Parts.{IsUnbegun}
-use Rattle.rz_lines.specs.Behind.{Before, behind}
+use Rattle.rz_player.specs.Behind.{Before, behind}
 use Rattle.rz_block_laws.specs.Turns.{IsLastingLaw, HasInHand}
 use Rattle.rz_driver.specs.declared.driver.Driver.{Driver}
-use Rattle.rz_seats.specs.declared.seat.Seat.{Seat}
-use Rattle.rz_formatting.specs.declared.formatting.Station.{Station}
-use Rattle.rz_stations.specs.Meters.{AreMetered, AreCounted, CarriesCounts}
-use Rattle.rz_stations.specs.Images.{AreImaged, IsRight, KeepsRow, SparesRow, fused_image}
-use Rattle.rz_seats.specs.Hands.{HasTrueHand, IsTrueSeat, KeepsPicture, SparesPicture}
+use Rattle.rz_driver_actors.specs.declared.seat.Seat.{Seat}
+use Rattle.rz_nodes.specs.declared.formatting.Station.{Station}
+use Rattle.rz_driver_nodes.specs.Meters.{AreMetered, AreCounted, CarriesCounts}
+use Rattle.rz_driver_nodes.specs.Images.{AreImaged, IsRight, KeepsRow, SparesRow, fused_image}
+use Rattle.rz_driver_actors.specs.Hands.{HasTrueHand, IsTrueSeat, KeepsPicture, SparesPicture}
 use Rattle.rz_driver.specs.Pictures.{IsPicture, KnowsLengths}
-use Rattle.rz_seats.specs.Seats.{HasLayout, seat_of, work_in}
-use Rattle.rz_stations.specs.Stations.{state_in, numbers_of}
+use Rattle.rz_driver_actors.specs.Seats.{HasLayout, seat_of, work_in}
+use Rattle.rz_driver_nodes.specs.Stations.{state_in, numbers_of}
 use Rattle.rz_driver.specs.Worlds.{place_of, world, world_of, numbers_in, exact_if, HasPicture, HasRightDisks, Holds, Leaves}
-use Rattle.rz_stations.proofs.MeterLemmas.{metered-counts, named-vector}
-use Rattle.rz_stations.proofs.PictureLemmas.{all-then, GrowsBy, grows-behind, grown-short, are-right}
-use Rattle.rz_stations.proofs.Rows.{all-set, all-at}
+use Rattle.rz_driver_nodes.proofs.MeterLemmas.{metered-counts, named-vector}
+use Rattle.rz_driver_nodes.proofs.PictureLemmas.{all-then, GrowsBy, grows-behind, grown-short, are-right}
+use Rattle.rz_driver_nodes.proofs.Rows.{all-set, all-at}
 use Rattle.rz_driver.proofs.KeptCalls.{asked-length}
 use Rattle.rz_driver.proofs.WorldLemmas.{seat-here}
 use Rattle.rz_driver.proofs.TurnLemmas.{AreTexts}

@@ -9,18 +9,18 @@ use Rattle.rz_events.specs.declared.nodes.FetchAnswer.{FetchAnswer}
 use Rattle.rz_events.specs.declared.events.Event.{Event}
 use Rattle.rz_asks.specs.Stands.{export_in}
 use Rattle.rz_node_model.specs.NodeEvents.{fetch_event}
-use Rattle.rz_scrubbing.specs.Stores.{GoesOn, IsFetched}
+use Rattle.rz_scrub_report.specs.Stores.{GoesOn, IsFetched}
 use Rattle.rz_driver.specs.declared.driver.Driver.{Driver}
-use Rattle.rz_seats.specs.declared.seat.Seat.{Seat}
-use Rattle.rz_seats.specs.declared.shared.Shared.{Shared}
-use Rattle.rz_stations.specs.Fetches.{IsFetch}
+use Rattle.rz_driver_actors.specs.declared.seat.Seat.{Seat}
+use Rattle.rz_driver_actors.specs.declared.shared.Shared.{Shared}
+use Rattle.rz_driver_nodes.specs.Fetches.{IsFetch}
 use Rattle.rz_driver.specs.Fetches.{GivesOf, Metered, state_of}
-use Rattle.rz_stations.specs.Asked.{fused_text}
+use Rattle.rz_driver_nodes.specs.Asked.{fused_text}
 use Rattle.rz_driver.specs.OnlyAsked.{WasOnlyAsked}
-use Rattle.rz_stations.specs.Images.{fused_image}
+use Rattle.rz_driver_nodes.specs.Images.{fused_image}
 use Rattle.rz_driver.specs.Worlds.{IsDriver}
 use Rattle.rz_driver.proofs.NodeOrders.{ready-with}
-use Rattle.rz_stations.proofs.FetchLemmas.{gives-before, numbers-asked, stations-asked}
+use Rattle.rz_driver_nodes.proofs.FetchLemmas.{gives-before, numbers-asked, stations-asked}
 
 module _ {D : Type 0} {G : Ghosts D} (d e : Driver D G) (asked : WasOnlyAsked d e) where
   -- it can be asked again

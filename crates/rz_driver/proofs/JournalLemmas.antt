@@ -20,27 +20,27 @@ use Rattle.rz_export_model.specs.ExportEvents.{export_event}
 use Rattle.rz_journal.specs.Seen.{calls_after}
 use Rattle.rz_operation.specs.Machine.{Machine}
 use Rattle.rz_operation_model.specs.Ask.{ask_of}
-use Rattle.rz_lines.specs.Behind.{Before, behind}
+use Rattle.rz_player.specs.Behind.{Before, behind}
 use Rattle.rz_play.specs.Lines.{noted}
 use Rattle.rz_play_laws.proofs.Turning.{in-runs}
-use Rattle.rz_continuation.specs.Calls.{HasLength}
-use Rattle.rz_continuation.specs.Laws.{IsCallTold, IsNoCall}
+use Rattle.rz_restart_laws.specs.Calls.{HasLength}
+use Rattle.rz_restart_laws.specs.Laws.{IsCallTold, IsNoCall}
 use Rattle.rz_asks.specs.Journals.{call_asked, KeepsCall, EndsOn}
 use Rattle.rz_asks.specs.Parts.{IsNoted}
 use Rattle.rz_asks.specs.declared.metadata.Metadata.{Metadata}
 use Rattle.rz_asks.specs.Stands.{export_in, Stands}
-use Rattle.rz_formatting.specs.declared.formatting.Station.{Station}
-use Rattle.rz_stations.specs.Administration.{IsStarted}
-use Rattle.rz_stations.proofs.EventWords.{node-word}
-use Rattle.rz_stations.proofs.PictureLemmas.{GrowsBy, grows-behind, grown-short}
+use Rattle.rz_nodes.specs.declared.formatting.Station.{Station}
+use Rattle.rz_driver_nodes.specs.Administration.{IsStarted}
+use Rattle.rz_driver_nodes.proofs.EventWords.{node-word}
+use Rattle.rz_driver_nodes.proofs.PictureLemmas.{GrowsBy, grows-behind, grown-short}
 use Rattle.rz_driver.specs.declared.driver.Driver.{Driver}
 use Rattle.rz_driver.specs.Endings.{AreCallsOf}
-use Rattle.rz_seats.specs.Stores.{IsSameStore, IsExportTurn, Asks, AsksNothing}
+use Rattle.rz_driver_actors.specs.Stores.{IsSameStore, IsExportTurn, Asks, AsksNothing}
 use Rattle.rz_driver.specs.Journals.{KeepsLog, EndsLog, journal_place, HasJournal, LeavesJournal}
 use Rattle.rz_driver.specs.Pictures.{AreBytes}
 use Rattle.rz_driver.specs.Worlds.{exact_if, is_exact, world_of, GoesAfter, HasPicture, Leaves}
-use Rattle.rz_seats.proofs.ExportEvents.{node-stays, noted-stays}
-use Rattle.rz_seats.proofs.StoreLemmas.{same-store, ends-with-it}
+use Rattle.rz_driver_actors.proofs.ExportEvents.{node-stays, noted-stays}
+use Rattle.rz_driver_actors.proofs.StoreLemmas.{same-store, ends-with-it}
 use Rattle.rz_driver.proofs.ExportWords.{same-behind, bytes-same, bytes-more, event-bytes}
 use Rattle.rz_driver.proofs.KeptCalls.{calls-more, calls-same}
 

@@ -18,11 +18,11 @@ use Rattle.rz_journal.specs.Seen.{calls_after}
 use Rattle.rz_operation_model.specs.Ask.{Ask, AskExport, AskNode, AskLock, Say, Rest, ask_of}
 use Rattle.rz_operation_model.specs.Work.{Work, Over}
 use Rattle.rz_play_laws.specs.Own.{IsOwn, IsUnderWay, IsProper, IsOwnProper}
-use Rattle.rz_continuation.specs.Calls.{changing_calls, AreTold, HasLength}
-use Rattle.rz_continuation.specs.Laws.{IsCallTold, IsNoCall}
+use Rattle.rz_restart_laws.specs.Calls.{changing_calls, AreTold, HasLength}
+use Rattle.rz_restart_laws.specs.Laws.{IsCallTold, IsNoCall}
 use Rattle.rz_asks.specs.Journals.{call_asked}
 use Rattle.rz_driver.specs.Endings.{AreCallsOf}
-use Rattle.rz_seats.proofs.ExportEvents.{word-grows}
+use Rattle.rz_driver_actors.proofs.ExportEvents.{word-grows}
 
 -- ---- the calls of a log
 

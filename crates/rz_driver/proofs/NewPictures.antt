@@ -14,9 +14,9 @@ use Rattle.rz_events.specs.declared.keys.Key.{Key}
 use Rattle.rz_events.specs.declared.records.Held.{Held}
 use Rattle.rz_node_model.specs.Records.{IsWhole, held_of, listed}
 use Rattle.rz_node_model.specs.States.{NodeState, fresh}
-use Rattle.rz_slots.specs.declared.geometry.Geometry.{Geometry}
-use Rattle.rz_slots.specs.Held.{nothing}
-use Rattle.rz_slots.specs.Stands.{StandsFor}
+use Rattle.rz_cells_slots.specs.declared.geometry.Geometry.{Geometry}
+use Rattle.rz_cells_slots.specs.Held.{nothing}
+use Rattle.rz_cells_slots.specs.Stands.{StandsFor}
 use Rattle.rz_core.specs.History.{Facts, facts}
 use Rattle.rz_core.specs.NodeRows.{cells_of}
 use Rattle.rz_operation.specs.Machine.{Machine}
@@ -24,16 +24,16 @@ use Rattle.rz_play.specs.World.{World, new_world}
 use Rattle.rz_play_laws.specs.Fine.{IsFine}
 use Rattle.rz_image_laws.specs.Images.{IsImaged, geometry_in}
 use Rattle.rz_image_laws.specs.Laws.{IsFreshLaw}
-use Rattle.rz_seats.specs.declared.seat.Seat.{Seat}
-use Rattle.rz_formatting.specs.declared.formatting.Station.{Station}
-use Rattle.rz_formatting.specs.Formatted.{AreFormatted, IsFormatted, geometry_of}
-use Rattle.rz_stations.specs.Images.{AreImaged, HasImages, fused_image}
-use Rattle.rz_lines.specs.Behind.{behind}
-use Rattle.rz_seats.specs.Hands.{HasTrueHand}
+use Rattle.rz_driver_actors.specs.declared.seat.Seat.{Seat}
+use Rattle.rz_nodes.specs.declared.formatting.Station.{Station}
+use Rattle.rz_nodes.specs.Formatted.{AreFormatted, IsFormatted, geometry_of}
+use Rattle.rz_driver_nodes.specs.Images.{AreImaged, HasImages, fused_image}
+use Rattle.rz_player.specs.Behind.{behind}
+use Rattle.rz_driver_actors.specs.Hands.{HasTrueHand}
 use Rattle.rz_driver.specs.Pictures.{IsPicture, KnowsLengths}
 use Rattle.rz_driver.specs.Worlds.{exact_if}
-use Rattle.rz_seats.specs.Seats.{IsEmptySeat}
-use Rattle.rz_stations.specs.Stations.{IsStation}
+use Rattle.rz_driver_actors.specs.Seats.{IsEmptySeat}
+use Rattle.rz_driver_nodes.specs.Stations.{IsStation}
 
 -- nothing was played
 none-held : (key : Key) → held_of maps.empty key ≡ []

@@ -26,17 +26,17 @@ use Rattle.rz_node_model.specs.NodeEvents.{node_event}
 use Rattle.rz_script.specs.declared.line.Line.TheVariants as line
 use Rattle.rz_play.specs.World.{World}
 use Rattle.rz_play.specs.Turns.{answered}
-use Rattle.rz_lines.specs.Behind.{behind}
+use Rattle.rz_player.specs.Behind.{behind}
 use Rattle.rz_play.specs.Lines.{IsAdminCall, noted}
 use Rattle.rz_play.specs.Free.{IsFreeStart, PlaysLineOver}
 use Rattle.rz_driver.specs.declared.driver.Driver.{Driver}
-use Rattle.rz_seats.specs.declared.shared.Shared.{Shared}
-use Rattle.rz_formatting.specs.declared.formatting.Station.{Station}
-use Rattle.rz_stations.specs.Administration.{IsOrdered, IsStarted, IsCalledAt, IsArming}
-use Rattle.rz_seats.specs.Seats.{IsSeat}
-use Rattle.rz_stations.specs.Stations.{state_in, numbers_of, IsStation}
+use Rattle.rz_driver_actors.specs.declared.shared.Shared.{Shared}
+use Rattle.rz_nodes.specs.declared.formatting.Station.{Station}
+use Rattle.rz_driver_nodes.specs.Administration.{IsOrdered, IsStarted, IsCalledAt, IsArming}
+use Rattle.rz_driver_actors.specs.Seats.{IsSeat}
+use Rattle.rz_driver_nodes.specs.Stations.{state_in, numbers_of, IsStation}
 use Rattle.rz_driver.specs.Worlds.{seat_in, world, world_of, AreLocks, HaveNoLocks, IsDriver}
-use Rattle.rz_stations.proofs.Rows.{state-same, all-set, all-at, state-at, state-set}
+use Rattle.rz_driver_nodes.proofs.Rows.{state-same, all-set, all-at, state-at, state-set}
 use Rattle.rz_driver.proofs.ReadyLemmas.{numbers-kept}
 
 -- ---- a row of nodes in which one was called

@@ -16,13 +16,13 @@ use Rattle.rz_events.specs.Events.{same_actor}
 use Rattle.rz_operation.specs.Answers.{IsOperation}
 use Rattle.rz_play.specs.World.{Seat as APlayer, with_seat}
 use Rattle.rz_driver.specs.declared.driver.Driver.{Driver}
-use Rattle.rz_seats.specs.declared.seat.Seat.{Seat}
-use Rattle.rz_seats.specs.declared.shared.Shared.{Shared}
-use Rattle.rz_seats.specs.Seats.{seat_of, IsSeat}
-use Rattle.rz_stations.specs.Stations.{numbers_of, IsStation}
+use Rattle.rz_driver_actors.specs.declared.seat.Seat.{Seat}
+use Rattle.rz_driver_actors.specs.declared.shared.Shared.{Shared}
+use Rattle.rz_driver_actors.specs.Seats.{seat_of, IsSeat}
+use Rattle.rz_driver_nodes.specs.Stations.{numbers_of, IsStation}
 use Rattle.rz_driver.specs.Worlds.{place_of, seat_in, world, AreLocks, HaveNoLocks, IsDriver}
 use Rattle.rz_driver.proofs.WorldLemmas.{seat-here, seat-set}
-use Rattle.rz_stations.proofs.Rows.{all-set}
+use Rattle.rz_driver_nodes.proofs.Rows.{all-set}
 use Rattle.rz_driver.proofs.ReadyLemmas.{locks-stay}
 
 -- the world with one actor changed

@@ -17,16 +17,16 @@ use Rattle.rz_locks.specs.Held.{Held}
 use Rattle.rz_operation.specs.Machine.{Machine}
 use Rattle.rz_operation.specs.Answers.{IsOperation}
 use Rattle.rz_play.specs.World.{Seat as APlayer}
-use Rattle.rz_seats.specs.declared.seat.Seat.{Seat}
-use Rattle.rz_seats.specs.declared.shared.Shared.{Shared}
-use Rattle.rz_formatting.specs.declared.formatting.Station.{Station}
-use Rattle.rz_seats.specs.Acts.{IsAct, Rests, Exports, Opens, Sends, Says, IsSameActor, IsFate, Through, ReplyLost, RequestLost, IsReleased, locks_after}
+use Rattle.rz_driver_actors.specs.declared.seat.Seat.{Seat}
+use Rattle.rz_driver_actors.specs.declared.shared.Shared.{Shared}
+use Rattle.rz_nodes.specs.declared.formatting.Station.{Station}
+use Rattle.rz_driver_actors.specs.Acts.{IsAct, Rests, Exports, Opens, Sends, Says, IsSameActor, IsFate, Through, ReplyLost, RequestLost, IsReleased, locks_after}
 use Rattle.rz_asks.specs.Locking.{lock_of, lock_if, Grants}
-use Rattle.rz_seats.specs.Seats.{seat_of, HasLayout, IsSeat}
-use Rattle.rz_stations.specs.Stations.{numbers_of, IsStation}
+use Rattle.rz_driver_actors.specs.Seats.{seat_of, HasLayout, IsSeat}
+use Rattle.rz_driver_nodes.specs.Stations.{numbers_of, IsStation}
 use Rattle.rz_driver.specs.Worlds.{place_of, seat_in, AreLocks, HaveNoLocks}
 use Rattle.rz_driver.proofs.WorldLemmas.{seat-here, seat-set, actor-is}
-use Rattle.rz_stations.proofs.Rows.{all-set, all-at}
+use Rattle.rz_driver_nodes.proofs.Rows.{all-set, all-at}
 
 -- ---- nodes
 

@@ -16,18 +16,18 @@ use Rattle.rz_events.specs.declared.events.Event.{Event}
 use Rattle.rz_play.specs.World.{World, Seat as APlayer, at_work}
 use Rattle.rz_play.specs.Turns.{IsTurn}
 use Rattle.rz_driver.specs.declared.driver.Driver.{Driver}
-use Rattle.rz_seats.specs.declared.seat.Seat.{Seat}
-use Rattle.rz_seats.specs.declared.shared.Shared.{Shared}
-use Rattle.rz_formatting.specs.declared.formatting.Station.{Station}
-use Rattle.rz_seats.specs.Acts.{IsAct, HasLayouts}
+use Rattle.rz_driver_actors.specs.declared.seat.Seat.{Seat}
+use Rattle.rz_driver_actors.specs.declared.shared.Shared.{Shared}
+use Rattle.rz_nodes.specs.declared.formatting.Station.{Station}
+use Rattle.rz_driver_actors.specs.Acts.{IsAct, HasLayouts}
 use Rattle.rz_asks.specs.Locking.{lock_of}
 use Rattle.rz_asks.specs.Logged.{Logged}
-use Rattle.rz_seats.specs.Seats.{seat_of, IsSeat}
-use Rattle.rz_stations.specs.Stations.{IsStation}
+use Rattle.rz_driver_actors.specs.Seats.{seat_of, IsSeat}
+use Rattle.rz_driver_nodes.specs.Stations.{IsStation}
 use Rattle.rz_driver.specs.Worlds.{place_of, seat_in, world, world_of, AreLocks, HaveNoLocks, IsDriver}
-use Rattle.rz_stations.proofs.Rows.{all-set, all-at}
+use Rattle.rz_driver_nodes.proofs.Rows.{all-set, all-at}
 use Rattle.rz_driver.proofs.ReadyLemmas.{stations-after, numbers-after, seat-after, locks-after}
-use Rattle.rz_lines.specs.Behind.{behind}
+use Rattle.rz_player.specs.Behind.{behind}
 use Rattle.rz_driver.proofs.TurnLemmas.{AreTexts, turn-is}
 use Rattle.rz_driver.proofs.WorldLemmas.{client-place, rebuilder-place, seat-here}
 

@@ -33,19 +33,19 @@ use Rattle.rz_operation_model.specs.Work.{Work, Over, Calling, Dropping, Opening
 use Rattle.rz_operation_model.specs.Steps.{Told, Replied, Locked, Answered, Missed, Noted, told, begun}
 use Rattle.rz_play.specs.World.{World, Seat as APlayer, at_work, take_up, Bars, IsFree}
 use Rattle.rz_play.specs.Turns.{IsTurn, IsAskTurn, Through as ComesThrough, ReplyLost as LosesReply, RequestLost as LosesRequest, IsGranted, IsGiven, lock_after, lock_on, locked, advanced, no_miss, counted, text_said}
-use Rattle.rz_seats.specs.declared.seat.Seat.{Seat}
-use Rattle.rz_seats.specs.declared.shared.Shared.{Shared}
-use Rattle.rz_formatting.specs.declared.formatting.Station.{Station}
-use Rattle.rz_seats.specs.Acts.{IsAct, Rests, Exports, Opens, Sends, Says, IsSameActor, IsMessage, IsFate, Through, ReplyLost, RequestLost, IsReleased, lock_left}
+use Rattle.rz_driver_actors.specs.declared.seat.Seat.{Seat}
+use Rattle.rz_driver_actors.specs.declared.shared.Shared.{Shared}
+use Rattle.rz_nodes.specs.declared.formatting.Station.{Station}
+use Rattle.rz_driver_actors.specs.Acts.{IsAct, Rests, Exports, Opens, Sends, Says, IsSameActor, IsMessage, IsFate, Through, ReplyLost, RequestLost, IsReleased, lock_left}
 use Rattle.rz_asks.specs.Locking.{lock_of, lock_if, open_reply, Grants, IsOpenPart}
-use Rattle.rz_stations.specs.Nodes.{IsServed, IsAsked}
+use Rattle.rz_driver_nodes.specs.Nodes.{IsServed, IsAsked}
 use Rattle.rz_operation_model.specs.Turns.{said_event}
 use Rattle.rz_asks.specs.Parts.{IsTold, IsExportPart, IsSayPart, IsUnbegun, is_done}
-use Rattle.rz_lines.specs.Behind.{behind}
-use Rattle.rz_seats.specs.Seats.{work_in, seat_of, HasLayout}
-use Rattle.rz_stations.specs.Stations.{state_in, IsStation}
+use Rattle.rz_player.specs.Behind.{behind}
+use Rattle.rz_driver_actors.specs.Seats.{work_in, seat_of, HasLayout}
+use Rattle.rz_driver_nodes.specs.Stations.{state_in, IsStation}
 use Rattle.rz_driver.specs.Worlds.{place_of, seat_at, seat_in, world, AreLocks, HaveNoLocks}
-use Rattle.rz_stations.proofs.Rows.{state-at, state-set}
+use Rattle.rz_driver_nodes.proofs.Rows.{state-at, state-set}
 use Rattle.rz_driver.proofs.WorldLemmas.{set-same, seat-here, seat-set, seat-same, actor-is, all-actors, at-client, client-place}
 
 -- ---- the actor

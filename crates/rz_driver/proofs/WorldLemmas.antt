@@ -8,8 +8,8 @@ use Rattle.rz_events.specs.declared.keys.Actor.{Actor}
 use Rattle.rz_events.specs.declared.keys.Actor.TheVariants.{Client, Rebuilder, Admin}
 use Rattle.rz_events.specs.Events.{same_actor}
 use Rattle.rz_play.specs.World.{actors}
-use Rattle.rz_seats.specs.declared.seat.Seat.{Seat}
-use Rattle.rz_seats.specs.Seats.{seat_of}
+use Rattle.rz_driver_actors.specs.declared.seat.Seat.{Seat}
+use Rattle.rz_driver_actors.specs.Seats.{seat_of}
 use Rattle.rz_driver.specs.Worlds.{place_if, place_of, seat_there, seat_at, seat_in}
 
 never : {A : Type 0} (b : Bool) → b ≡ true → b ≡ false → A

@@ -4,11 +4,11 @@ use Rattle.std.proofs.Common.{◌∙◌, ap, refl}
 use Rattle.rz_disk.specs.UnderFuse.{UnderFuse}
 use Rattle.rz_disk.specs.declared.disk.Disk.{Ghosts}
 use Rattle.rz_driver.specs.declared.driver.Driver.{Driver}
-use Rattle.rz_seats.specs.declared.shared.Shared.{Shared}
-use Rattle.rz_stations.specs.Asked.{fused_text}
+use Rattle.rz_driver_actors.specs.declared.shared.Shared.{Shared}
+use Rattle.rz_driver_nodes.specs.Asked.{fused_text}
 use Rattle.rz_driver.specs.OnlyAsked.{WasOnlyAsked}
-use Rattle.rz_stations.specs.Images.{fused_image}
-use Rattle.rz_stations.proofs.AskedLaws.{all-themselves, all-then}
+use Rattle.rz_driver_nodes.specs.Images.{fused_image}
+use Rattle.rz_driver_nodes.proofs.AskedLaws.{all-themselves, all-then}
 
 pub asked-itself : {D : Type 0} {G : Ghosts D} (d : Driver D G) → WasOnlyAsked d d
 asked-itself {G = G} d = record { volume = refl; seats = refl; turns = refl; shared = refl; nodes = all-themselves (fused_text G.text) (fused_image G.image) d.shared.stations.items }

@@ -18,17 +18,17 @@ use Rattle.rz_asks.specs.Enrolled.{loss_of}
 use Rattle.rz_asks.specs.Reopened.{MakesExport, number_of}
 use Rattle.rz_asks.specs.Stands.{disk_of, export_in, refusal_of}
 use Rattle.rz_asks.specs.declared.journaled.Refusal.TheVariants.{Full}
-use Rattle.rz_formatting.specs.declared.refusal.OpenRefusal.{OpenRefusal}
-use Rattle.rz_formatting.specs.declared.refusal.OpenRefusal.TheVariants as refusal
-use Rattle.rz_formatting.specs.Opened.{AreKept, AreOpened, IsCause}
-use Rattle.rz_lines.specs.Behind.{Before}
+use Rattle.rz_nodes.specs.declared.refusal.OpenRefusal.{OpenRefusal}
+use Rattle.rz_nodes.specs.declared.refusal.OpenRefusal.TheVariants as refusal
+use Rattle.rz_nodes.specs.Opened.{AreKept, AreOpened, IsCause}
+use Rattle.rz_player.specs.Behind.{Before}
 use Rattle.rz_play.specs.World.{world_after}
-use Rattle.rz_stations.specs.Images.{AreDisksImaged}
-use Rattle.rz_stations.specs.Stations.{state_in}
+use Rattle.rz_driver_nodes.specs.Images.{AreDisksImaged}
+use Rattle.rz_driver_nodes.specs.Stations.{state_in}
 use Rattle.rz_driver.specs.declared.driver.Driver.{Driver}
 use Rattle.rz_driver.specs.Endings.{StandsForLog}
 use Rattle.rz_driver.specs.Pictures.{AreBytes}
-use Rattle.rz_seats.specs.Seats.{IsEmptySeat}
+use Rattle.rz_driver_actors.specs.Seats.{IsEmptySeat}
 use Rattle.rz_driver.specs.Worlds.{world_of, Holds, Leaves}
 
 -- What earlier runs left, and what a run leaves for the next.

@@ -11,9 +11,9 @@ use Rattle.rz_journal.specs.JournalText.{IsTextOf, after_all}
 use Rattle.rz_asks.specs.declared.journaled.Refusal.{Refusal}
 use Rattle.rz_asks.specs.declared.journaled.Refusal.TheVariants.{Full, Failed}
 use Rattle.rz_asks.specs.Stands.{OverfillsHalf}
-use Rattle.rz_lines.specs.declared.lines.PlayEnd.{PlayEnd}
-use Rattle.rz_lines.specs.declared.lines.PlayEnd.TheVariants as end
-use Rattle.rz_continuation.specs.Calls.{changing_calls, AreTold}
+use Rattle.rz_player.specs.declared.lines.PlayEnd.{PlayEnd}
+use Rattle.rz_player.specs.declared.lines.PlayEnd.TheVariants as end
+use Rattle.rz_restart_laws.specs.Calls.{changing_calls, AreTold}
 
 -- how a play ends where a turn was not taken
 abbrev pub end_by : Option Refusal → PlayEnd

@@ -6,13 +6,13 @@ use Rattle.rz_events.specs.declared.keys.Key.{Key}
 use Rattle.rz_events.specs.declared.records.Held.{Held}
 use Rattle.rz_events.specs.declared.events.Event.{Event}
 use Rattle.rz_asks.specs.Stands.{export_in}
-use Rattle.rz_scrubbing.specs.Stores.{State}
+use Rattle.rz_scrub_report.specs.Stores.{State}
 use Rattle.rz_driver.specs.declared.driver.Driver.{Driver}
-use Rattle.rz_stations.specs.Meters.{AreMetered}
-use Rattle.rz_stations.specs.Asked.{fused_text}
-use Rattle.rz_stations.specs.Stations.{state_in}
+use Rattle.rz_driver_nodes.specs.Meters.{AreMetered}
+use Rattle.rz_driver_nodes.specs.Asked.{fused_text}
+use Rattle.rz_driver_nodes.specs.Stations.{state_in}
 use Rattle.rz_driver.specs.Worlds.{numbers_in}
-use Rattle.rz_stations.specs.Fetches.{GivesIn}
+use Rattle.rz_driver_nodes.specs.Fetches.{GivesIn}
 
 abbrev pub state_of : {D : Type 0} {G : Ghosts D} → Driver D G → List Event → State
 state_of d h = record { export = export_in d.shared.export; nodes = state_in d.shared.stations.items; events = h }

@@ -5,9 +5,9 @@ use Rattle.rz_disk.specs.declared.disk.Disk.{Ghosts}
 use Rattle.rz_events.specs.Volume.{Volume, nodes_of}
 use Rattle.rz_export_model.specs.Export.{new_export}
 use Rattle.rz_asks.specs.Stands.{export_in, is_journaled, Stands}
-use Rattle.rz_formatting.specs.Formatted.{AreBack}
-use Rattle.rz_formatting.specs.declared.fault.DriverFault.{DriverFault}
-use Rattle.rz_formatting.specs.declared.fault.DriverFault.TheVariants as driver
+use Rattle.rz_nodes.specs.Formatted.{AreBack}
+use Rattle.rz_nodes.specs.declared.fault.DriverFault.{DriverFault}
+use Rattle.rz_nodes.specs.declared.fault.DriverFault.TheVariants as driver
 use Rattle.rz_journal.specs.JournalText.{IsTextOf}
 use Rattle.rz_journal.specs.Stands.{IsShut}
 use Rattle.rz_driver.specs.declared.driver.Driver.{Driver}

@@ -6,7 +6,7 @@ use Rattle.rz_events.specs.Volume.{nodes_of}
 use Rattle.rz_events.specs.declared.export.Call.{Call}
 use Rattle.rz_events.specs.declared.events.Event.{Event}
 use Rattle.rz_core.specs.History.{facts}
-use Rattle.rz_lines.specs.Behind.{Before}
+use Rattle.rz_player.specs.Behind.{Before}
 use Rattle.rz_asks.specs.declared.metadata.Metadata.{Metadata}
 use Rattle.rz_asks.specs.Stands.{export_in, Stands}
 use Rattle.rz_asks.specs.Journals.{EndsWith}

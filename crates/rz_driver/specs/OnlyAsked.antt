@@ -1,11 +1,11 @@
 -- A driver whose nodes were asked for records, and nothing else.
 use Rattle.std.specs.Prelude.{◌≡◌}
 use Rattle.rz_disk.specs.declared.disk.Disk.{Ghosts}
-use Rattle.rz_lines.specs.Behind.{Before}
+use Rattle.rz_player.specs.Behind.{Before}
 use Rattle.rz_driver.specs.declared.driver.Driver.{Driver}
-use Rattle.rz_stations.specs.Images.{fused_image}
+use Rattle.rz_driver_nodes.specs.Images.{fused_image}
 use Rattle.rz_driver.specs.Worlds.{Leaves}
-use Rattle.rz_stations.specs.Asked.{AreOnlyAsked, fused_text}
+use Rattle.rz_driver_nodes.specs.Asked.{AreOnlyAsked, fused_text}
 
 -- Of the driver: its nodes were asked, and the rest is as it was, with the export and the log.
 pub record WasOnlyAsked {D : Type 0} {G : Ghosts D} (d e : Driver D G) : Type 0 where

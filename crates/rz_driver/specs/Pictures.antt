@@ -10,13 +10,13 @@ use Rattle.rz_client_model.specs.declared.reading.ReadStage.{ReadStage}
 use Rattle.rz_client_model.specs.declared.reading.ReadStage.TheVariants.{Fetching, Ended}
 use Rattle.rz_core.specs.History.{Facts, Begun, facts}
 use Rattle.rz_operation_model.specs.Work.{Work, Reading}
-use Rattle.rz_lines.specs.Behind.{behind}
+use Rattle.rz_player.specs.Behind.{behind}
 use Rattle.rz_play.specs.World.{World}
 use Rattle.rz_play_laws.specs.Fine.{IsFine}
-use Rattle.rz_seats.specs.declared.seat.Seat.{Seat}
-use Rattle.rz_seats.specs.Hands.{HasTrueHand}
-use Rattle.rz_formatting.specs.declared.formatting.Station.{Station}
-use Rattle.rz_stations.specs.Images.{AreImaged}
+use Rattle.rz_driver_actors.specs.declared.seat.Seat.{Seat}
+use Rattle.rz_driver_actors.specs.Hands.{HasTrueHand}
+use Rattle.rz_nodes.specs.declared.formatting.Station.{Station}
+use Rattle.rz_driver_nodes.specs.Images.{AreImaged}
 
 -- Texts.
 

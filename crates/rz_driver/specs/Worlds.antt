@@ -11,19 +11,19 @@ use Rattle.rz_events.specs.declared.events.Event.{Event}
 use Rattle.rz_events.specs.declared.keys.Actor.{Actor}
 use Rattle.rz_events.specs.declared.keys.Actor.TheVariants.{Client, Rebuilder, Admin}
 use Rattle.rz_locks.specs.Held.{Held}
-use Rattle.rz_lines.specs.Behind.{Before}
+use Rattle.rz_player.specs.Behind.{Before}
 use Rattle.rz_asks.specs.Stands.{export_in}
 use Rattle.rz_play.specs.World.{World, Seat as APlayer, empty_seat}
-use Rattle.rz_seats.specs.declared.seat.Seat.{Seat}
-use Rattle.rz_seats.specs.declared.shared.Shared.{Shared}
+use Rattle.rz_driver_actors.specs.declared.seat.Seat.{Seat}
+use Rattle.rz_driver_actors.specs.declared.shared.Shared.{Shared}
 use Rattle.rz_driver.specs.declared.driver.Driver.{Driver}
-use Rattle.rz_seats.specs.Seats.{seat_of, IsSeat}
+use Rattle.rz_driver_actors.specs.Seats.{seat_of, IsSeat}
 use Rattle.rz_disk.specs.UnderFuse.{fused_meter}
-use Rattle.rz_stations.specs.Meters.{AreMetered, AreCounted}
-use Rattle.rz_stations.specs.Images.{IsRight, fused_image}
+use Rattle.rz_driver_nodes.specs.Meters.{AreMetered, AreCounted}
+use Rattle.rz_driver_nodes.specs.Images.{IsRight, fused_image}
 use Rattle.rz_driver.specs.Journals.{HasJournal, LeavesJournal}
 use Rattle.rz_driver.specs.Pictures.{IsPicture}
-use Rattle.rz_stations.specs.Stations.{state_in, numbers_of, IsStation}
+use Rattle.rz_driver_nodes.specs.Stations.{state_in, numbers_of, IsStation}
 
 -- Actors stand in a row, the clients 1 to 64 and then the rebuilders 1 to 16.
 

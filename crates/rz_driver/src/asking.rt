@@ -7,19 +7,19 @@ ghost use Rattle.rz_export_model.specs.Export.{published_after};
 ghost use Rattle.rz_asks.specs.Stands.{export_in};
 ghost use Rattle.rz_node.specs.Spends.{fetch_used};
 ghost use Rattle.rz_node_model.specs.NodeEvents.{fetch_event};
-ghost use Rattle.rz_scrubbing.specs.Stores.{IsRead};
+ghost use Rattle.rz_scrub_report.specs.Stores.{IsRead};
 ghost use Rattle.rz_driver.specs.Worlds.{IsDriver};
-ghost use Rattle.rz_stations.specs.Fetches.{IsFetch};
-ghost use Rattle.rz_stations.specs.Meters.{CarriesCounts};
+ghost use Rattle.rz_driver_nodes.specs.Fetches.{IsFetch};
+ghost use Rattle.rz_driver_nodes.specs.Meters.{CarriesCounts};
 ghost use Rattle.rz_driver.specs.Fetches.{GivesOf, Metered};
 ghost use Rattle.rz_driver.specs.OnlyAsked.{WasOnlyAsked};
 
 use crate::driver::Driver;
 use mj_angles::Layout;
 use rz_disk::Disk;
+use rz_driver_nodes::fetch_node;
 use rz_events::{FetchAnswer, Key, Listed};
-use rz_scrubbing::Store;
-use rz_stations::fetch_node;
+use rz_scrub_report::Store;
 
 impl<D: Disk> Driver<D> {
     /// The least published block of a live file above `after`.

@@ -3,13 +3,13 @@ ghost use Rattle.std.specs.Prelude.{◌≡◌, ◌+◌, ◌≤◌, ◌++◌, ◌
 ghost use Rattle.std.specs.Vec.{vec_len, vec_capacity};
 ghost use Rattle.rz_disk.specs.Meter.{faults};
 ghost use Rattle.rz_events.specs.declared.events.Event.{Event};
-ghost use Rattle.rz_lines.specs.Behind.{Before};
+ghost use Rattle.rz_player.specs.Behind.{Before};
 ghost use Rattle.rz_asks.specs.Stands.{disk_of, is_journaled, refusal_of};
 ghost use Rattle.rz_driver.specs.Fetches.{Metered};
-ghost use Rattle.rz_stations.specs.Meters.{AreDisksCounted};
+ghost use Rattle.rz_driver_nodes.specs.Meters.{AreDisksCounted};
 ghost use Rattle.rz_driver.specs.OnlyAsked.{IsLeftSince};
-ghost use Rattle.rz_stations.specs.Images.{AreDisksImaged};
-ghost use Rattle.rz_formatting.specs.Formatted.{disks_of};
+ghost use Rattle.rz_driver_nodes.specs.Images.{AreDisksImaged};
+ghost use Rattle.rz_nodes.specs.Formatted.{disks_of};
 ghost use Rattle.rz_driver.specs.Continued.{AreLeft, EndsWhole};
 ghost use Rattle.rz_driver.specs.Endings.{EndsAsRefused, StandsForLog};
 ghost use Rattle.rz_driver.specs.Journals.{journal_place};
@@ -18,9 +18,9 @@ ghost use Rattle.rz_driver.specs.Worlds.{numbers_in, is_exact, Holds, Leaves};
 use crate::driver::Driver;
 use rz_asks::Refusal;
 use rz_disk::{Disk, Fused};
+use rz_driver_actors::Shared;
 use rz_events::Event;
-use rz_formatting::{Station, hand_back};
-use rz_seats::Shared;
+use rz_nodes::{Station, hand_back};
 
 impl<D: Disk> Driver<D> {
     /// Why the journal did not keep a call, if there is a journal and it did not.

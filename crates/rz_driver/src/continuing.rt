@@ -7,9 +7,9 @@ ghost use Rattle.rz_events.specs.declared.export.Call.{Call as ACall};
 ghost use Rattle.rz_events.specs.declared.events.Event.{Event as AnEvent};
 ghost use Rattle.rz_asks.specs.Reopened.{AllTextsOf, IsAsItCame, MakesExport};
 ghost use Rattle.rz_asks.specs.Stands.{disk_of, export_in, is_journaled, Stands};
-ghost use Rattle.rz_formatting.specs.Opened.{AreKept};
-ghost use Rattle.rz_continuation.specs.Earlier.{IsEarlier, IsRestarted};
-ghost use Rattle.rz_stations.specs.Meters.{faults_at};
+ghost use Rattle.rz_nodes.specs.Opened.{AreKept};
+ghost use Rattle.rz_restart_laws.specs.Earlier.{IsEarlier, IsRestarted};
+ghost use Rattle.rz_driver_nodes.specs.Meters.{faults_at};
 ghost use Rattle.rz_driver.specs.Continued.{journal_refusal, AreLeft, IsCauseAgain, IsJournalCause, IsOpenedAgain, IsOpenedOver, IsRefusedOver};
 ghost use Rattle.rz_driver.specs.Worlds.{left_behind, IsDriver, Holds};
 
@@ -19,10 +19,10 @@ use crate::parts::new_parts;
 use rz_asks::{Log, Metadata, fault_number};
 use rz_config::Volume;
 use rz_disk::Disk;
-use rz_formatting::{OpenRefusal, open_all};
+use rz_driver_actors::Shared;
 use rz_journal::JournalFault;
 use rz_locks::Locks;
-use rz_seats::Shared;
+use rz_nodes::{OpenRefusal, open_all};
 use std::alloc::Global;
 
 impl<D: Disk> Driver<D> {
@@ -50,8 +50,8 @@ impl<D: Disk> Driver<D> {
         ensures back { IfErr result (λ r. AreKept D.meter D.text D.image disks.items r.0.items) }
         ensures cause { IfErr result (λ r. IsCauseAgain D.tells D.meter D.text D.image volume.now disks.items r.0.items r.1) }
     {
-        rz_continuation::found::<D>();
-        rz_continuation::goes_on();
+        rz_restart_laws::found::<D>();
+        rz_restart_laws::goes_on();
         match split_last(alloc, disks) {
             Ok((nodes, journal, room)) => match open_journal(alloc, volume, nodes.len(), journal) {
                 Ok(export) => open_nodes(alloc, volume, export, nodes, room),

@@ -4,7 +4,7 @@ ghost use Rattle.std.specs.Vec.{vec_len, vec_capacity};
 
 use rz_config::Volume;
 use rz_disk::{Disk, Fused};
-use rz_seats::{Seat, Shared};
+use rz_driver_actors::{Seat, Shared};
 use std::alloc::Global;
 
 /// It plays a script over the nodes of a volume, their disks and the export. Each of these disks is in a

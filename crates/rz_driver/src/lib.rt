@@ -30,5 +30,5 @@ mod stage;
 mod turns;
 
 pub use driver::Driver;
-pub use rz_formatting::{DriverFault, OpenRefusal};
-pub(crate) use rz_lines::NoMemory;
+pub use rz_nodes::{DriverFault, OpenRefusal};
+pub(crate) use rz_player::NoMemory;

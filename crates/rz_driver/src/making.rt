@@ -3,8 +3,8 @@ ghost use Rattle.std.specs.Prelude.{◌≡◌, true, false, IfOk, IfErr, length}
 ghost use Rattle.rz_events.specs.Volume.{nodes_of};
 ghost use Rattle.rz_asks.specs.Stands.{is_journaled};
 ghost use Rattle.rz_play.specs.World.{new_world};
-ghost use Rattle.rz_formatting.specs.Formatted.{AreBack, AreFormatted, IsCause};
-ghost use Rattle.rz_stations.specs.Meters.{faults_at};
+ghost use Rattle.rz_nodes.specs.Formatted.{AreBack, AreFormatted, IsCause};
+ghost use Rattle.rz_driver_nodes.specs.Meters.{faults_at};
 ghost use Rattle.rz_driver.specs.Worlds.{anew, world_of, is_exact, IsDriver, Holds};
 
 use crate::driver::Driver;
@@ -12,9 +12,9 @@ use crate::parts::{new_export, new_parts};
 use rz_asks::Log;
 use rz_config::Volume;
 use rz_disk::Disk;
-use rz_formatting::{DriverFault, format_all};
+use rz_driver_actors::Shared;
 use rz_locks::Locks;
-use rz_seats::Shared;
+use rz_nodes::{DriverFault, format_all};
 use std::alloc::Global;
 
 impl<D: Disk> Driver<D> {

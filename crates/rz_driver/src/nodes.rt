@@ -6,7 +6,7 @@ ghost use Rattle.rz_script.specs.Lines.{IsLine};
 ghost use Rattle.rz_script.specs.declared.line.Line.TheVariants as line;
 ghost use Rattle.rz_play.specs.Lines.{IsAdminCall};
 ghost use Rattle.rz_script.specs.declared.line.Line.TheVariants as line;
-ghost use Rattle.rz_lines.specs.Ends.{Carries};
+ghost use Rattle.rz_player.specs.Ends.{Carries};
 ghost use Rattle.rz_play.specs.Free.{PlaysLineOver};
 ghost use Rattle.rz_asks.specs.Stands.{is_journaled};
 ghost use Rattle.rz_driver.specs.Worlds.{world_of, is_exact, IsDriver, Holds, Leaves};
@@ -14,7 +14,7 @@ ghost use Rattle.rz_driver.specs.Worlds.{world_of, is_exact, IsDriver, Holds, Le
 use crate::NoMemory;
 use crate::driver::Driver;
 use rz_disk::Disk;
-use rz_stations::{arm_node, lose_node, start_node, stop_node};
+use rz_driver_nodes::{arm_node, lose_node, start_node, stop_node};
 
 impl<D: Disk> Driver<D> {
     /// The node stops.
@@ -33,7 +33,7 @@ impl<D: Disk> Driver<D> {
     {
         rz_play_laws::lined();
         rz_block_laws::lasting();
-        rz_continuation::untold();
+        rz_restart_laws::untold();
         let shared = &mut self.shared;
         stop_node(shared.stations.as_mut_slice(), &mut shared.log, sid)
     }
@@ -55,7 +55,7 @@ impl<D: Disk> Driver<D> {
     {
         rz_play_laws::lined();
         rz_block_laws::lasting();
-        rz_continuation::untold();
+        rz_restart_laws::untold();
         let shared = &mut self.shared;
         start_node(
             self.alloc,
@@ -81,7 +81,7 @@ impl<D: Disk> Driver<D> {
     {
         rz_play_laws::lined();
         rz_block_laws::lasting();
-        rz_continuation::untold();
+        rz_restart_laws::untold();
         let shared = &mut self.shared;
         lose_node(shared.stations.as_mut_slice(), &mut shared.log, sid)
     }
@@ -102,7 +102,7 @@ impl<D: Disk> Driver<D> {
     {
         rz_play_laws::lined();
         rz_block_laws::lasting();
-        rz_continuation::untold();
+        rz_restart_laws::untold();
         let shared = &mut self.shared;
         arm_node(
             shared.stations.as_mut_slice(),

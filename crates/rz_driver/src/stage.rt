@@ -5,8 +5,8 @@ use crate::driver::Driver;
 use rz_asks::Refusal;
 use rz_disk::Disk;
 use rz_events::{Actor, Event, Operation};
-use rz_lines::{LoggedStage, NoMemory, PlayEnd, Stage};
 use rz_link::Link;
+use rz_player::{LoggedStage, NoMemory, PlayEnd, Stage};
 
 impl<D: Disk> Stage for Driver<D> {
     ghost use Rattle.rz_driver.specs.Worlds.{world_of, is_exact, tells-exactly, IsDriver, Holds, Leaves};

@@ -3,17 +3,17 @@ ghost use Rattle.std.specs.Prelude.{◌≡◌, ◌+◌, ◌<◌, ◌≤◌, true
 ghost use Rattle.rz_play.specs.Stops.{most_turns};
 ghost use Rattle.rz_play.specs.Turns.{IsTurn};
 ghost use Rattle.rz_play.specs.World.{has_work};
-ghost use Rattle.rz_lines.specs.Behind.{Before, behind};
-ghost use Rattle.rz_lines.specs.Ends.{Carries};
+ghost use Rattle.rz_player.specs.Behind.{Before, behind};
+ghost use Rattle.rz_player.specs.Ends.{Carries};
 ghost use Rattle.rz_asks.specs.Stands.{is_journaled};
 ghost use Rattle.rz_driver.specs.Worlds.{place_of, world_of, is_exact, IsDriver, Holds, Leaves};
 
 use crate::NoMemory;
 use crate::driver::Driver;
 use rz_disk::Disk;
+use rz_driver_actors::act;
 use rz_events::Actor;
 use rz_link::Link;
-use rz_seats::act;
 
 /// Where an actor stands in the row.
 pub(crate) fn place(by: Actor) -> Option<usize>
@@ -48,8 +48,8 @@ impl<D: Disk> Driver<D> {
         rz_play_laws::turned();
         rz_play_laws::facts_told();
         rz_block_laws::lasting();
-        rz_continuation::told();
-        rz_continuation::untold();
+        rz_restart_laws::told();
+        rz_restart_laws::untold();
         let Some(place) = place(by) else {
             return Err(NoMemory);
         };

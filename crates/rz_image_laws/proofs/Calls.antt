@@ -32,10 +32,10 @@ use Rattle.rz_node_model.specs.Versions.{kept, refilled, without, has_stamp}
 use Rattle.rz_node_model.specs.States.{NodeState, opened}
 use Rattle.rz_node_model.specs.Afterwards.{with_change, after_fault, taken, after_start}
 use Rattle.rz_node_model.specs.Answers.{keep_in, refill_in, fetch_in, drop_in, stop_in, replace_in}
-use Rattle.rz_slots.specs.declared.geometry.Geometry.{Geometry}
-use Rattle.rz_slots.specs.Held.{nothing}
-use Rattle.rz_slots.specs.Held as cells
-use Rattle.rz_slots.specs.Stands.{StandsFor}
+use Rattle.rz_cells_slots.specs.declared.geometry.Geometry.{Geometry}
+use Rattle.rz_cells_slots.specs.Held.{nothing}
+use Rattle.rz_cells_slots.specs.Held as cells
+use Rattle.rz_cells_slots.specs.Stands.{StandsFor}
 use Rattle.rz_node.specs.CrashOutcomes.{CrashOutcomes}
 use Rattle.rz_node.specs.Change.{AreHeld, IsOf, IsChangeLaw}
 use Rattle.rz_node.specs.Leaves.{Opened}

@@ -12,7 +12,7 @@ use Rattle.rz_record.specs.Slot.{Rec}
 use Rattle.rz_node_model.specs.Records.{held_of, with_held, stamp_of}
 use Rattle.rz_node_model.specs.Records as held
 use Rattle.rz_node_model.specs.Versions.{has_stamp}
-use Rattle.rz_slots.specs.Held.{changed, head_in, names}
+use Rattle.rz_cells_slots.specs.Held.{changed, head_in, names}
 use Rattle.rz_node.specs.CrashOutcomes.{GivesWay, is_new}
 use Rattle.rz_node.specs.Change.{AreHeld, records_after, IsOf, IsChangeLaw}
 use Rattle.rz_core.specs.History.{Facts}

@@ -20,10 +20,10 @@ use Rattle.rz_node_model.specs.Afterwards.{taken}
 use Rattle.rz_node_model.specs.Records.{Records, held_of, with_held, carried, stamp_of}
 use Rattle.rz_node_model.specs.States.{NodeState}
 use Rattle.rz_node_model.specs.Versions.{kept, refilled, without, has_stamp}
-use Rattle.rz_slots.specs.declared.geometry.Geometry.{Geometry}
-use Rattle.rz_slots.specs.Held as cells
-use Rattle.rz_slots.specs.Shape.{picked}
-use Rattle.rz_slots.specs.Stands.{HoldsCells, StandsFor}
+use Rattle.rz_cells_slots.specs.declared.geometry.Geometry.{Geometry}
+use Rattle.rz_cells_slots.specs.Held as cells
+use Rattle.rz_cells_slots.specs.Shape.{picked}
+use Rattle.rz_cells_slots.specs.Stands.{HoldsCells, StandsFor}
 use Rattle.rz_node.specs.Change.{AreHeld}
 use Rattle.rz_operation_model.specs.Rebuild.{position_in}
 use Rattle.rz_core.specs.History.{Facts, Begun, facts}

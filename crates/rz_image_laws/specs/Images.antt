@@ -6,8 +6,8 @@ use Rattle.rz_events.specs.declared.nodes.Phase.TheVariants.{Down, Lost}
 use Rattle.rz_events.specs.declared.events.Event.{Event}
 use Rattle.rz_node_model.specs.Afterwards.{taken}
 use Rattle.rz_node_model.specs.States.{NodeState}
-use Rattle.rz_slots.specs.declared.geometry.Geometry.{Geometry}
-use Rattle.rz_slots.specs.Stands.{StandsFor}
+use Rattle.rz_cells_slots.specs.declared.geometry.Geometry.{Geometry}
+use Rattle.rz_cells_slots.specs.Stands.{StandsFor}
 use Rattle.rz_node.specs.Change.{AreHeld}
 use Rattle.rz_core.specs.History.{Facts}
 use Rattle.rz_core.specs.NodeRows.{cells_of}

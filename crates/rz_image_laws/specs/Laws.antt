@@ -17,9 +17,9 @@ use Rattle.rz_node_model.specs.Answers.{IsNodeAnswer}
 use Rattle.rz_node_model.specs.Afterwards.{after_answer}
 use Rattle.rz_node_model.specs.Records.{record_of}
 use Rattle.rz_node_model.specs.States.{NodeState, fresh}
-use Rattle.rz_slots.specs.declared.geometry.Geometry.{Geometry}
-use Rattle.rz_slots.specs.Held.{nothing}
-use Rattle.rz_slots.specs.Stands.{StandsFor}
+use Rattle.rz_cells_slots.specs.declared.geometry.Geometry.{Geometry}
+use Rattle.rz_cells_slots.specs.Held.{nothing}
+use Rattle.rz_cells_slots.specs.Stands.{StandsFor}
 use Rattle.rz_node.specs.Leaves.{Leaves}
 use Rattle.rz_core.specs.History.{Facts, facts}
 use Rattle.rz_core.specs.Tied.{IsNode}

@@ -10,7 +10,7 @@ use Rattle.rz_events.specs.declared.nodes.NodeAsk.TheVariants as ask
 use Rattle.rz_record.specs.Slot.{Rec}
 use Rattle.rz_node_model.specs.Records.{held_of, stamp_of}
 use Rattle.rz_node_model.specs.Records as held
-use Rattle.rz_slots.specs.Held.{Records}
+use Rattle.rz_cells_slots.specs.Held.{Records}
 use Rattle.rz_core.specs.History.{Facts, Begun}
 use Rattle.rz_core.specs.HeldRecords.{block_of, bins_at, head_at, record_on, records_of}
 use Rattle.rz_log_laws.specs.Places.{IsApart}

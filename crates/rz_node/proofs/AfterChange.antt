@@ -15,9 +15,9 @@ use Rattle.rz_node_model.specs.Records.{listed, record_of, held_of, stamp_of, wi
 use Rattle.rz_node_model.specs.Records as held
 use Rattle.rz_node_model.specs.Versions.{has_stamp}
 use Rattle.rz_versions.specs.Sides.{has}
-use Rattle.rz_slots.specs.declared.geometry.Geometry.{Geometry}
-use Rattle.rz_slots.specs.Held.{Records, head_in, names, changed}
-use Rattle.rz_slots.specs.Stands.{StandsFor}
+use Rattle.rz_cells_slots.specs.declared.geometry.Geometry.{Geometry}
+use Rattle.rz_cells_slots.specs.Held.{Records, head_in, names, changed}
+use Rattle.rz_cells_slots.specs.Stands.{StandsFor}
 use Rattle.rz_node.specs.CrashOutcomes.{GivesWay, is_new}
 use Rattle.rz_node.specs.Change.{AreHeld, records_after, IsOf, IsChangeLaw, IsBranch}
 use Rattle.rz_node.specs.HeldOnDisk.{IsHeldOnDisk}

@@ -18,7 +18,7 @@ use Rattle.rz_events.specs.declared.records.Held.{Held}
 use Rattle.rz_node_model.specs.Records.{record_of, stamp_of}
 use Rattle.rz_versions.specs.Sides.{Sides, ordered, in_order, put_at}
 use Rattle.rz_index.specs.declared.index.Entry.{Entry}
-use Rattle.rz_slots.specs.Held.{in_cell}
+use Rattle.rz_cells_slots.specs.Held.{in_cell}
 use Rattle.rz_node.specs.Kept.{sides_in, version_of, versions_of, IsShown, IsFree}
 
 -- ---- keys

@@ -17,7 +17,7 @@ use Rattle.rz_versions.specs.Sides.{Sides, ordered, in_order, put_at}
 use Rattle.rz_versions.specs.Sides as sides
 use Rattle.rz_index.specs.declared.index.Entry.{Entry}
 use Rattle.rz_index.specs.Indexed.{Indexed, taken_in, freed_by}
-use Rattle.rz_slots.specs.Held.{in_cell}
+use Rattle.rz_cells_slots.specs.Held.{in_cell}
 use Rattle.rz_node.specs.Kept.{sides_in, records_in, held_by, version_of, versions_of, IsShown, IsFree, IsIndexed, Distinct, IsTied}
 use Rattle.rz_node.proofs.Tied.{get-held}
 use Rattle.rz_node.proofs.Turns.{order-map}

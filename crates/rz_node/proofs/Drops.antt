@@ -20,7 +20,7 @@ use Rattle.rz_versions.specs.Sides.{Sides, ordered, in_order, put_at, has, side_
 use Rattle.rz_versions.specs.Sides as sides
 use Rattle.rz_index.specs.declared.index.Entry.{Entry}
 use Rattle.rz_index.specs.Indexed.{Indexed, first_of_file}
-use Rattle.rz_slots.specs.Held.{Apart}
+use Rattle.rz_cells_slots.specs.Held.{Apart}
 use Rattle.rz_node.specs.Kept.{held_by, sides_in, records_in, version_of, versions_of, IsTied}
 use Rattle.rz_node.proofs.Tied.{keys-held}
 use Rattle.rz_node.proofs.Changes.{key-cases}

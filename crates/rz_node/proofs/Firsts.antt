@@ -12,7 +12,7 @@ use Rattle.rz_versions.specs.Sides.{Sides, ordered, has, side_with}
 use Rattle.rz_versions.specs.Sides as sides
 use Rattle.rz_index.specs.declared.index.Entry.{Entry}
 use Rattle.rz_index.specs.Indexed.{Indexed}
-use Rattle.rz_slots.specs.Held.{Apart, in_cell}
+use Rattle.rz_cells_slots.specs.Held.{Apart, in_cell}
 use Rattle.rz_node.specs.Kept.{sides_in, records_in, held_by, version_of, versions_of, IsShown, IsFree, IsTied}
 use Rattle.rz_node.proofs.Tied.{held-shown, held-not}
 use Rattle.rz_node.proofs.Places.{two-cells}

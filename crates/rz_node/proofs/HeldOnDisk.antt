@@ -14,10 +14,10 @@ use Rattle.rz_node_model.specs.Records.{IsWhole, record_of, held_of, stamp_of, f
 use Rattle.rz_versions.specs.Sides.{ordered, has, Differ}
 use Rattle.rz_index.specs.declared.index.Entry.{Entry}
 use Rattle.rz_index.specs.Indexed.{Indexed}
-use Rattle.rz_slots.specs.declared.geometry.Geometry.{Geometry}
-use Rattle.rz_slots.specs.Held.{Records, Made, in_cell, heads_of, head_in}
-use Rattle.rz_slots.specs.Stands.{StandsFor}
-use Rattle.rz_slots.specs.Open.{Finds}
+use Rattle.rz_cells_slots.specs.declared.geometry.Geometry.{Geometry}
+use Rattle.rz_cells_slots.specs.Held.{Records, Made, in_cell, heads_of, head_in}
+use Rattle.rz_cells_slots.specs.Stands.{StandsFor}
+use Rattle.rz_cells_slots.specs.Open.{Finds}
 use Rattle.rz_node.specs.Kept.{sides_in, records_in, held_by, IsShown, IsTied}
 use Rattle.rz_node.specs.HeldOnDisk.{Falls, IsHeldOnDisk}
 use Rattle.rz_node.proofs.Tied.{get-held, held-shown, held-not}

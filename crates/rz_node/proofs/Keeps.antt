@@ -22,7 +22,7 @@ use Rattle.rz_versions.specs.Sides.{Sides, in_order, put_at, side_for, never, ro
 use Rattle.rz_versions.specs.Sides as sides
 use Rattle.rz_index.specs.declared.index.Entry.{Entry}
 use Rattle.rz_index.specs.Indexed.{Indexed}
-use Rattle.rz_slots.specs.Held.{Apart, in_cell, names}
+use Rattle.rz_cells_slots.specs.Held.{Apart, in_cell, names}
 use Rattle.rz_node.specs.CrashOutcomes.{GivesWay}
 use Rattle.rz_node.specs.Kept.{sides_in, records_in, held_by, IsTied, place_in, place_at}
 use Rattle.rz_node.proofs.Tied.{get-held, len-held, held-not}

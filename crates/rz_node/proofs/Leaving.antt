@@ -11,7 +11,7 @@ use Rattle.rz_events.specs.declared.nodes.ReplaceAnswer.{ReplaceAnswer}
 use Rattle.rz_events.specs.declared.nodes.ReplaceAnswer.TheVariants as replace
 use Rattle.rz_events.specs.declared.nodes.NodeAnswer.TheVariants as answer
 use Rattle.rz_node_model.specs.States.{NodeState}
-use Rattle.rz_slots.specs.declared.geometry.Geometry.{Geometry}
+use Rattle.rz_cells_slots.specs.declared.geometry.Geometry.{Geometry}
 use Rattle.rz_node.specs.Change.{IsBranch}
 use Rattle.rz_node.specs.Fetched.{IfHeld}
 use Rattle.rz_node.specs.Calls.{IsSettled}

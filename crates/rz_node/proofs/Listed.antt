@@ -16,7 +16,7 @@ use Rattle.rz_events.specs.declared.keys.Key.{Key}
 use Rattle.rz_events.specs.declared.records.Head.{Head}
 use Rattle.rz_index.specs.declared.index.Entry.{Entry}
 use Rattle.rz_index.specs.Indexed.{Indexed}
-use Rattle.rz_slots.specs.Held.{Apart, in_cell}
+use Rattle.rz_cells_slots.specs.Held.{Apart, in_cell}
 use Rattle.rz_node.specs.Kept.{records_in, held_by, IsShown, IsFree, Distinct, IsTied}
 use Rattle.rz_node.specs.Rows.{IsRows}
 use Rattle.rz_node.proofs.Tied.{get-held}

@@ -5,7 +5,7 @@ use Rattle.std.proofs.lemmas.Bool.{and_parts, eqb-true}
 use Rattle.rz_events.specs.declared.keys.Key.{Key}
 use Rattle.rz_events.specs.declared.records.Head.{Head}
 use Rattle.rz_record.specs.Slot.{Rec}
-use Rattle.rz_slots.specs.Held.{Apart, Records, Made, in_cell, heads_of, head_in, names}
+use Rattle.rz_cells_slots.specs.Held.{Apart, Records, Made, in_cell, heads_of, head_in, names}
 use Rattle.rz_node.proofs.HeldOnDisk.{head-in}
 
 -- the record of the first cell with this key and stamp

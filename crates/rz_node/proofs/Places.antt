@@ -13,7 +13,7 @@ use Rattle.rz_node_model.specs.Records.{record_of, held_of, stamp_of}
 use Rattle.rz_versions.specs.Sides.{ordered}
 use Rattle.rz_index.specs.declared.index.Entry.{Entry}
 use Rattle.rz_index.specs.Indexed.{Indexed, taken_in}
-use Rattle.rz_slots.specs.Held.{in_cell}
+use Rattle.rz_cells_slots.specs.Held.{in_cell}
 use Rattle.rz_node.specs.Kept.{sides_in, records_in, held_by, versions_of, IsFree, Distinct, IsTied, place_at, place_in}
 use Rattle.rz_node.proofs.Tied.{held-shown, held-not}
 

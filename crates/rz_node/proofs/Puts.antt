@@ -15,7 +15,7 @@ use Rattle.rz_versions.specs.Sides.{Sides, in_order, put_at, Differ}
 use Rattle.rz_versions.specs.Sides as sides
 use Rattle.rz_index.specs.declared.index.Entry.{Entry}
 use Rattle.rz_index.specs.Indexed.{Indexed, taken_in}
-use Rattle.rz_slots.specs.Held.{Goes, in_cell}
+use Rattle.rz_cells_slots.specs.Held.{Goes, in_cell}
 use Rattle.rz_node.specs.Kept.{sides_in, records_in, held_by, version_of, versions_of, IsShown, IsIndexed, IsTied}
 use Rattle.rz_node.proofs.Tied.{get-held}
 use Rattle.rz_node.proofs.Places.{Placed, two-cells}

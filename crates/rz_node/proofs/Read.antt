@@ -5,11 +5,11 @@ use Rattle.std.proofs.lemmas.List.{get_or-map}
 use Rattle.rz_events.specs.declared.records.Head.{Head}
 use Rattle.rz_record.specs.Slot.{Rec, Reads}
 use Rattle.rz_node_model.specs.Records.{record_of}
-use Rattle.rz_slots.specs.declared.geometry.Geometry.{Geometry}
-use Rattle.rz_slots.specs.Held.{in_cell, heads_of}
-use Rattle.rz_slots.specs.Shape.{picked}
-use Rattle.rz_slots.specs.Stands.{HoldsCells}
-use Rattle.rz_slots.specs.Open.{HoldsHeads}
+use Rattle.rz_cells_slots.specs.declared.geometry.Geometry.{Geometry}
+use Rattle.rz_cells_slots.specs.Held.{in_cell, heads_of}
+use Rattle.rz_cells_slots.specs.Shape.{picked}
+use Rattle.rz_cells_slots.specs.Stands.{HoldsCells}
+use Rattle.rz_cells_slots.specs.Open.{HoldsHeads}
 
 -- a head in the heads of cells is that of a record there
 record-of : (cells : List (Option Rec)) (cell : ℕ) (h : Head) → cell < length cells → in_cell (heads_of cells) cell ≡ Some h → (r : Rec) × (in_cell cells cell ≡ Some r) × (r.head ≡ h)

@@ -13,7 +13,7 @@ use Rattle.rz_events.specs.declared.records.Held.{Held}
 use Rattle.rz_events.specs.declared.nodes.FetchAnswer.TheVariants as fetch
 use Rattle.rz_record.specs.Record.{bins_of}
 use Rattle.rz_record.specs.Slot.{Rec}
-use Rattle.rz_slots.specs.Held.{Records}
+use Rattle.rz_cells_slots.specs.Held.{Records}
 use Rattle.rz_index.specs.declared.index.Entry.{Entry}
 use Rattle.rz_node_model.specs.declared.pending.Pending.{Pending}
 use Rattle.rz_node_model.specs.Answers.{fetch_answer, fetch_found}

@@ -1,7 +1,7 @@
 -- From the counts of the cells' calls to those of a node's.
 use Rattle.std.proofs.Common.{◌≡◌, ◌≢◌, ℕ, ◌-◌, ◌≤◌, true, false, Some, Result, Ok, Err, is_ok, refl, sym, ◌∙◌, ap, arith}
 use Rattle.rz_disk.specs.Meter.{Meter, Took, Passes, spent}
-use Rattle.rz_slots.specs.Counted.{CountedWhere}
+use Rattle.rz_cells_slots.specs.Counted.{CountedWhere}
 use Rattle.rz_node.specs.Spends.{Failed, Passed}
 
 -- what was counted depends on the success alone

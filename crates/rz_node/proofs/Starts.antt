@@ -13,11 +13,11 @@ use Rattle.rz_node_model.specs.Records.{Records}
 use Rattle.rz_node_model.specs.States.{NodeState}
 use Rattle.rz_index.specs.declared.index.Entry.{Entry}
 use Rattle.rz_index.specs.Indexed.{Indexed}
-use Rattle.rz_slots.specs.declared.geometry.Geometry.{Geometry}
-use Rattle.rz_slots.specs.Held.{Apart}
-use Rattle.rz_slots.specs.Held as cells
-use Rattle.rz_slots.specs.Open.{Finds}
-use Rattle.rz_slots.specs.Stands.{StandsFor}
+use Rattle.rz_cells_slots.specs.declared.geometry.Geometry.{Geometry}
+use Rattle.rz_cells_slots.specs.Held.{Apart}
+use Rattle.rz_cells_slots.specs.Held as cells
+use Rattle.rz_cells_slots.specs.Open.{Finds}
+use Rattle.rz_cells_slots.specs.Stands.{StandsFor}
 use Rattle.rz_node.specs.Kept.{held_by, IsTied}
 use Rattle.rz_node.specs.View.{IsReady, state_of}
 use Rattle.rz_node.specs.DownDisk.{HoldsHeld, has_change, has_taken, CanTell, IsDown}

@@ -22,7 +22,7 @@ use Rattle.rz_versions.specs.Sides.{Sides, in_order, put_at, side_for, room}
 use Rattle.rz_versions.specs.Sides as sides
 use Rattle.rz_index.specs.declared.index.Entry.{Entry}
 use Rattle.rz_index.specs.Indexed.{Indexed}
-use Rattle.rz_slots.specs.declared.geometry.Geometry.{Geometry}
+use Rattle.rz_cells_slots.specs.declared.geometry.Geometry.{Geometry}
 use Rattle.rz_node.specs.declared.storing.Rule.{Rule}
 use Rattle.rz_node.specs.declared.storing.Rule.TheVariants as rule
 use Rattle.rz_node.specs.declared.storing.Stored.{Stored}

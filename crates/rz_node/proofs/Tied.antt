@@ -15,7 +15,7 @@ use Rattle.rz_events.specs.declared.records.Held.{Held}
 use Rattle.rz_node_model.specs.Records.{held_of, listed}
 use Rattle.rz_index.specs.declared.index.Entry.{Entry}
 use Rattle.rz_index.specs.Indexed.{Indexed}
-use Rattle.rz_slots.specs.Held.{in_cell}
+use Rattle.rz_cells_slots.specs.Held.{in_cell}
 use Rattle.rz_node.specs.Kept.{records_in, held_by, IsFree, Distinct, IsTied}
 
 abbrev pub Entries : Type 0

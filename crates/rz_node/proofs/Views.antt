@@ -19,14 +19,14 @@ use Rattle.rz_node_model.specs.Answers.{drop_answer, drop_least, drop_lesser}
 use Rattle.rz_node_model.specs.Records.{held_of, carried, key_at, least_block}
 use Rattle.rz_node_model.specs.Versions.{lesser_of}
 use Rattle.rz_index.specs.declared.index.Entry.{Entry}
-use Rattle.rz_slots.specs.Held.{Records}
-use Rattle.rz_slots.specs.Stands.{StandsFor}
+use Rattle.rz_cells_slots.specs.Held.{Records}
+use Rattle.rz_cells_slots.specs.Stands.{StandsFor}
 use Rattle.rz_node.specs.CrashOutcomes.{CrashOutcomes}
 use Rattle.rz_node.specs.Change.{IsBranch}
 use Rattle.rz_node.specs.Kept.{held_by}
 use Rattle.rz_node.specs.View.{NodeView, held_in, state_of}
-use Rattle.rz_slots.specs.Opening.{opening_calls}
-use Rattle.rz_slots.specs.Counted.{CountedWhere}
+use Rattle.rz_cells_slots.specs.Opening.{opening_calls}
+use Rattle.rz_cells_slots.specs.Counted.{CountedWhere}
 use Rattle.rz_node.specs.Spends.{outcome, Passed, Failed}
 
 -- ---- equal views

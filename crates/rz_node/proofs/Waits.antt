@@ -21,10 +21,10 @@ use Rattle.rz_versions.specs.Sides.{Sides, ordered, in_order, put_at}
 use Rattle.rz_versions.specs.Sides as sides
 use Rattle.rz_index.specs.declared.index.Entry.{Entry}
 use Rattle.rz_index.specs.Indexed.{Indexed, taken_in, freed_by}
-use Rattle.rz_slots.specs.declared.geometry.Geometry.{Geometry}
-use Rattle.rz_slots.specs.Held.{Apart, Goes, Together, in_cell, head_in}
-use Rattle.rz_slots.specs.Stands.{HoldsCells, HoldsEither}
-use Rattle.rz_slots.specs.Open.{IsOpen, HoldsHeads}
+use Rattle.rz_cells_slots.specs.declared.geometry.Geometry.{Geometry}
+use Rattle.rz_cells_slots.specs.Held.{Apart, Goes, Together, in_cell, head_in}
+use Rattle.rz_cells_slots.specs.Stands.{HoldsCells, HoldsEither}
+use Rattle.rz_cells_slots.specs.Open.{IsOpen, HoldsHeads}
 use Rattle.rz_node.specs.Kept.{held_by, sides_in, records_in, version_of, IsTied}
 use Rattle.rz_node.specs.View.{IsReady}
 use Rattle.rz_node.specs.DownDisk.{Shown, HoldsEitherHeld, CanTell, IsDown}

@@ -9,7 +9,7 @@ use Rattle.rz_events.specs.declared.records.Held.{Held}
 use Rattle.rz_node_model.specs.Records.{record_of, stamp_of}
 use Rattle.rz_node_model.specs.Versions.{has_stamp}
 use Rattle.rz_versions.specs.Sides.{Sides, ordered, in_order, put_at, has, Differ}
-use Rattle.rz_slots.specs.Held.{names}
+use Rattle.rz_cells_slots.specs.Held.{names}
 
 swap-or : (x y : Bool) → y || (x || false) ≡ x || y
 swap-or true true = refl

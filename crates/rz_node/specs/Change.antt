@@ -8,9 +8,9 @@ use Rattle.rz_node_model.specs.declared.pending.Pending.{Pending}
 use Rattle.rz_node_model.specs.Records.{held_of, stamp_of, with_held, carried}
 use Rattle.rz_node_model.specs.Records as held
 use Rattle.rz_node_model.specs.Versions.{has_stamp}
-use Rattle.rz_slots.specs.declared.geometry.Geometry.{Geometry}
-use Rattle.rz_slots.specs.Held.{Records, changed, head_in, names}
-use Rattle.rz_slots.specs.Stands.{StandsFor}
+use Rattle.rz_cells_slots.specs.declared.geometry.Geometry.{Geometry}
+use Rattle.rz_cells_slots.specs.Held.{Records, changed, head_in, names}
+use Rattle.rz_cells_slots.specs.Stands.{StandsFor}
 use Rattle.rz_node.specs.CrashOutcomes.{GivesWay}
 
 -- there is a record for each stamp that is held of a key, and no other

@@ -9,9 +9,9 @@ use Rattle.rz_record.specs.Slot.{Rec}
 use Rattle.rz_node_model.specs.Records.{record_of, stamp_of}
 use Rattle.rz_node_model.specs.Versions.{has_stamp}
 use Rattle.rz_versions.specs.Sides.{has}
-use Rattle.rz_slots.specs.declared.geometry.Geometry.{Geometry}
-use Rattle.rz_slots.specs.Held.{names}
-use Rattle.rz_slots.specs.Stands.{StandsEither, StandsChanged}
+use Rattle.rz_cells_slots.specs.declared.geometry.Geometry.{Geometry}
+use Rattle.rz_cells_slots.specs.Held.{names}
+use Rattle.rz_cells_slots.specs.Stands.{StandsEither, StandsChanged}
 
 -- whether a new record has this stamp
 abbrev pub is_new : Option Rec → ℕ → Bool

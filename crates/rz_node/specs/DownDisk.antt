@@ -7,9 +7,9 @@ use Rattle.rz_node_model.specs.Afterwards.{taken}
 use Rattle.rz_node_model.specs.Records.{Records, held_of, stamp_of, carried}
 use Rattle.rz_node_model.specs.Versions.{has_stamp}
 use Rattle.rz_index.specs.Indexed.{Indexed}
-use Rattle.rz_slots.specs.declared.geometry.Geometry.{Geometry}
-use Rattle.rz_slots.specs.Held.{Apart}
-use Rattle.rz_slots.specs.Open.{HoldsHeads}
+use Rattle.rz_cells_slots.specs.declared.geometry.Geometry.{Geometry}
+use Rattle.rz_cells_slots.specs.Held.{Apart}
+use Rattle.rz_cells_slots.specs.Open.{HoldsHeads}
 use Rattle.rz_node.specs.Kept.{held_by, IsTied}
 
 -- an index of these heads shows these records

@@ -6,7 +6,7 @@ use Rattle.rz_events.specs.declared.records.Held.{Held}
 use Rattle.rz_record.specs.Slot.{Rec}
 use Rattle.rz_node_model.specs.Records.{IsWhole, record_of, held_of, found}
 use Rattle.rz_node_model.specs.Records as held
-use Rattle.rz_slots.specs.Held.{Records}
+use Rattle.rz_cells_slots.specs.Held.{Records}
 
 -- each record has a smaller stamp than the one before it
 abbrev pub Falls : List Held → Type 0

@@ -12,7 +12,7 @@ use Rattle.rz_versions.specs.declared.versions.Version.{Version}
 use Rattle.rz_versions.specs.Sides.{Sides, in_order}
 use Rattle.rz_index.specs.declared.index.Entry.{Entry}
 use Rattle.rz_index.specs.Indexed.{Indexed}
-use Rattle.rz_slots.specs.Held.{in_cell}
+use Rattle.rz_cells_slots.specs.Held.{in_cell}
 
 -- what the two cells of a pair hold
 abbrev pub sides_in : List (Option Head) → ℕ → Sides Held

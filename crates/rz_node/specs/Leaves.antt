@@ -18,9 +18,9 @@ use Rattle.rz_record.specs.Slot.{Rec}
 use Rattle.rz_node_model.specs.Records.{record_of, held_of, stamp_of, key_at}
 use Rattle.rz_node_model.specs.States.{NodeState}
 use Rattle.rz_node_model.specs.Versions.{kept, refilled, without}
-use Rattle.rz_slots.specs.declared.geometry.Geometry.{Geometry}
-use Rattle.rz_slots.specs.Held.{nothing}
-use Rattle.rz_slots.specs.Stands.{IsShut, StandsFor}
+use Rattle.rz_cells_slots.specs.declared.geometry.Geometry.{Geometry}
+use Rattle.rz_cells_slots.specs.Held.{nothing}
+use Rattle.rz_cells_slots.specs.Stands.{IsShut, StandsFor}
 use Rattle.rz_node.specs.CrashOutcomes.{CrashOutcomes}
 use Rattle.rz_node.specs.Change.{IsBranch}
 use Rattle.rz_node.specs.Fetched.{IsFetchedFromDisk, IfHeld}

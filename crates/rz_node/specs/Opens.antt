@@ -7,7 +7,7 @@ use Rattle.rz_events.specs.declared.nodes.StartAnswer.{StartAnswer}
 use Rattle.rz_events.specs.declared.nodes.StartAnswer.TheVariants as start
 use Rattle.rz_events.specs.declared.nodes.ReplaceAnswer.{ReplaceAnswer}
 use Rattle.rz_events.specs.declared.nodes.ReplaceAnswer.TheVariants as replace
-use Rattle.rz_slots.specs.Counted.{CountedWhere}
+use Rattle.rz_cells_slots.specs.Counted.{CountedWhere}
 use Rattle.rz_node.specs.Spends.{outcome, Passed, Failed}
 
 abbrev pub IfStarted : StartAnswer → Type 0 → Type 0

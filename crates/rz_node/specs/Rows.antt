@@ -5,7 +5,7 @@ use Rattle.std.specs.Ordering.{eq_by_cmp}
 use Rattle.rz_events.specs.Keys.{key_cmp}
 use Rattle.rz_events.specs.declared.records.Head.{Head}
 use Rattle.rz_index.specs.declared.index.Entry.{Entry}
-use Rattle.rz_slots.specs.Held.{in_cell}
+use Rattle.rz_cells_slots.specs.Held.{in_cell}
 use Rattle.rz_node.specs.Kept.{IsShown, IsFree, Distinct}
 
 -- there is room for all pairs in both rows

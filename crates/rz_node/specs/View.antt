@@ -11,9 +11,9 @@ use Rattle.rz_node_model.specs.Records.{Records}
 use Rattle.rz_node_model.specs.States.{NodeState, node_code}
 use Rattle.rz_index.specs.declared.index.Entry.{Entry}
 use Rattle.rz_index.specs.Indexed.{Indexed}
-use Rattle.rz_slots.specs.declared.geometry.Geometry.{Geometry}
-use Rattle.rz_slots.specs.contracts.geometry.Geometry as geometries
-use Rattle.rz_slots.specs.Open.{IsOpen}
+use Rattle.rz_cells_slots.specs.declared.geometry.Geometry.{Geometry}
+use Rattle.rz_cells_slots.specs.contracts.geometry.Geometry as geometries
+use Rattle.rz_cells_slots.specs.Open.{IsOpen}
 use Rattle.rz_node.specs.Kept.{held_by, IsTied}
 use Rattle.rz_node.specs.DownDisk.{IsDown}
 

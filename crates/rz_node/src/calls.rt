@@ -2,10 +2,10 @@
 ghost use Rattle.std.specs.Prelude.{◌≡◌, ℕ, IsTrue, drop, length};
 ghost use Rattle.mj_angles.specs.Layout.{max_bins_of};
 ghost use Rattle.rz_disk.specs.Images.{Only, Within};
-ghost use Rattle.rz_slots.specs.Held.{Records};
-ghost use Rattle.rz_slots.specs.Opening.{NotSize, Refuses, opening_calls};
-ghost use Rattle.rz_slots.specs.Shape.{disk_bytes};
-ghost use Rattle.rz_slots.specs.Stands.{StandsFor};
+ghost use Rattle.rz_cells_slots.specs.Held.{Records};
+ghost use Rattle.rz_cells_slots.specs.Opening.{NotSize, Refuses, opening_calls};
+ghost use Rattle.rz_cells_slots.specs.Shape.{disk_bytes};
+ghost use Rattle.rz_cells_slots.specs.Stands.{StandsFor};
 ghost use Rattle.rz_node_model.specs.Answers.{IsNodeAnswer};
 ghost use Rattle.rz_node_model.specs.Afterwards.{after_answer};
 ghost use Rattle.rz_node_model.specs.States.{opened};

@@ -2,10 +2,10 @@
 ghost use Rattle.std.specs.Prelude.{◌≡◌, ◌⊎◌, ◌*◌, ℕ, Some, None, List, IsTrue, IfOk, IfErr, MatchResult, if◌then◌else◌};
 ghost use Rattle.rz_disk.specs.Images.{Only, Within};
 ghost use Rattle.rz_disk.specs.Meter.{armed};
-ghost use Rattle.rz_slots.specs.Counted.{CountedWhere};
-ghost use Rattle.rz_slots.specs.Held.{nothing};
-ghost use Rattle.rz_slots.specs.Shape.{IsGeometry};
-ghost use Rattle.rz_slots.specs.Stands.{IsShut, StandsFor};
+ghost use Rattle.rz_cells_slots.specs.Counted.{CountedWhere};
+ghost use Rattle.rz_cells_slots.specs.Held.{nothing};
+ghost use Rattle.rz_cells_slots.specs.Shape.{IsGeometry};
+ghost use Rattle.rz_cells_slots.specs.Stands.{IsShut, StandsFor};
 ghost use Rattle.rz_node_model.specs.Answers.{IsNodeAnswer};
 ghost use Rattle.rz_node_model.specs.Afterwards.{after_answer};
 ghost use Rattle.rz_node_model.specs.States.{fresh};

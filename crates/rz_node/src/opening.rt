@@ -1,11 +1,11 @@
 //! Opening a disk: for a new node, or again for one that is down.
 ghost use Rattle.std.specs.Prelude.{◌≡◌, ◌⊎◌, ℕ, List, length, Option, IsTrue, IfOk, IfErr, MatchResult};
 ghost use Rattle.rz_disk.specs.Images.{Only, Within};
-ghost use Rattle.rz_slots.specs.Counted.{CountedWhere};
-ghost use Rattle.rz_slots.specs.Held.{Records};
-ghost use Rattle.rz_slots.specs.Opening.{NotSize, Refuses, opening_calls};
-ghost use Rattle.rz_slots.specs.Shape.{IsGeometry, disk_bytes};
-ghost use Rattle.rz_slots.specs.Stands.{StandsFor};
+ghost use Rattle.rz_cells_slots.specs.Counted.{CountedWhere};
+ghost use Rattle.rz_cells_slots.specs.Held.{Records};
+ghost use Rattle.rz_cells_slots.specs.Opening.{NotSize, Refuses, opening_calls};
+ghost use Rattle.rz_cells_slots.specs.Shape.{IsGeometry, disk_bytes};
+ghost use Rattle.rz_cells_slots.specs.Stands.{StandsFor};
 ghost use Rattle.rz_node_model.specs.Afterwards.{after_answer};
 ghost use Rattle.rz_node_model.specs.Answers.{IsNodeAnswer};
 ghost use Rattle.rz_node_model.specs.Records.{held_of, stamp_of};

@@ -1,8 +1,8 @@
 //! Replacing a lost disk.
 ghost use Rattle.std.specs.Prelude.{◌≡◌, ◌≢◌, ◌⊎◌, ℕ, List, IsTrue};
 ghost use Rattle.rz_disk.specs.Images.{Only};
-ghost use Rattle.rz_slots.specs.Held.{nothing};
-ghost use Rattle.rz_slots.specs.Stands.{IsShut, StandsFor};
+ghost use Rattle.rz_cells_slots.specs.Held.{nothing};
+ghost use Rattle.rz_cells_slots.specs.Stands.{IsShut, StandsFor};
 ghost use Rattle.rz_node_model.specs.Afterwards.{after_answer};
 ghost use Rattle.rz_node_model.specs.Answers.{IsNodeAnswer};
 ghost use Rattle.rz_node.specs.Opens.{Replaces, IsRefused};

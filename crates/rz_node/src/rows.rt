@@ -2,7 +2,7 @@
 ghost use Rattle.std.specs.Prelude.{◌≡◌, ◌+◌, ◌<◌, [], IfOk, MatchOption};
 ghost use Rattle.std.specs.Vec.{vec_capacity};
 ghost use Rattle.std.specs.VecDeque.{deque_capacity};
-ghost use Rattle.rz_slots.specs.Held.{Apart};
+ghost use Rattle.rz_cells_slots.specs.Held.{Apart};
 ghost use Rattle.rz_node.specs.Kept.{IsShown, IsFree, IsTied};
 ghost use Rattle.rz_node.specs.Rows.{IsRows, HasRoom};
 

@@ -5,9 +5,9 @@ use Rattle.rz_events.specs.declared.nodes.NodeAnswer.TheVariants as node
 use Rattle.rz_client_model.specs.declared.reading.ReaderState.{ReaderState}
 use Rattle.rz_reader.specs.Machine.{Machine as Reader}
 use Rattle.rz_operation_model.specs.Work.{Reading, Alone}
-use Rattle.rz_stages.specs.declared.stage.Stage.TheVariants as stage
-use Rattle.rz_stages.specs.Answers.{IsFetchedInto, IsAnswered}
-use Rattle.rz_stages.specs.Inside.{machine_of}
+use Rattle.rz_operation_states.specs.declared.stage.Stage.TheVariants as stage
+use Rattle.rz_operation_states.specs.Answers.{IsFetchedInto, IsAnswered}
+use Rattle.rz_operation_states.specs.Inside.{machine_of}
 
 pub fetched : (r new : Reader) (a : FetchAnswer) (bins : List ℕ) → IsFetchedInto r a bins new →
     IsAnswered (machine_of r.state.layout (stage.Reading r)) (node.Fetch a) bins (machine_of r.state.layout (stage.Reading new))

@@ -1,6 +1,6 @@
-pub use Rattle.rz_stages.specs.Meaning
-pub use Rattle.rz_stages.specs.Machine
-pub use Rattle.rz_stages.specs.Records
-pub use Rattle.rz_stages.specs.Answers
-pub use Rattle.rz_stages.specs.Told
-pub use Rattle.rz_stages.specs.Inside
+pub use Rattle.rz_operation_states.specs.Meaning
+pub use Rattle.rz_operation_states.specs.Machine
+pub use Rattle.rz_operation_states.specs.Records
+pub use Rattle.rz_operation_states.specs.Answers
+pub use Rattle.rz_operation_states.specs.Told
+pub use Rattle.rz_operation_states.specs.Inside

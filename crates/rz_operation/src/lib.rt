@@ -4,7 +4,7 @@
 //! machine of `rz_operation_model`, for every list of answers that belong to what was asked. They say
 //! nothing of which answers a node or the export gives, nor of which event an answer has in the log.
 //! Memory is taken by `start` and `start_par` alone, which differ in how many threads make the bins of a
-//! long write. What each stage asks and how it goes on is `rz_stages`.
+//! long write. What each stage asks and how it goes on is `rz_operation_states`.
 //!
 //! In reading order: `machine`, `begins`, `replies`, `takes`.
 #![tactic(auto)]
@@ -15,4 +15,4 @@ mod replies;
 mod takes;
 
 pub use machine::Machine;
-pub use rz_stages::{Ask, ExportAsk, Saying};
+pub use rz_operation_states::{Ask, ExportAsk, Saying};

@@ -3,22 +3,22 @@
 ghost use Rattle.std.specs.Prelude.{◌≡◌, ◌↔◌, IfOk, IsTrue, length, []};
 ghost use Rattle.rz_operation_model.specs.Ask.{ask_of, Say, SayDone};
 ghost use Rattle.rz_operation_model.specs.Steps.{begun, Replied, Locked, Missed, Noted};
-ghost use Rattle.rz_stages.specs.Meaning.{meaning_of};
-ghost use Rattle.rz_stages.specs.Machine.{is_over, HasBins, AreBins, HasText, text_of};
-ghost use Rattle.rz_stages.specs.Records.{HasHead, IsCount};
-ghost use Rattle.rz_stages.specs.Answers.{IsOperation, IsReply, IsLockReply, IsAnswer, ComeWith, MayMiss, IsPartSaid, IsDone, HasRoom, Goes, IsAnswered};
+ghost use Rattle.rz_operation_states.specs.Meaning.{meaning_of};
+ghost use Rattle.rz_operation_states.specs.Machine.{is_over, HasBins, AreBins, HasText, text_of};
+ghost use Rattle.rz_operation_states.specs.Records.{HasHead, IsCount};
+ghost use Rattle.rz_operation_states.specs.Answers.{IsOperation, IsReply, IsLockReply, IsAnswer, ComeWith, MayMiss, IsPartSaid, IsDone, HasRoom, Goes, IsAnswered};
 
 use crate::begins::{begun, begun_par};
 use crate::replies::{after_answer, after_lock, after_miss, after_reply, after_said, answer_in};
 use crate::takes::{is_answer, is_lock_reply, is_reply};
 use mj_angles::Layout;
 use rz_events::{Answer, NodeAnswer, Operation, Reply};
-use rz_stages::blocks::{read_ask, write_ask};
-use rz_stages::drops::drop_ask;
-use rz_stages::locks::lock_ask;
-use rz_stages::ranges::range_ask;
-use rz_stages::rebuilds::rebuilder_ask;
-use rz_stages::{Ask, ExportAsk, Saying, Stage};
+use rz_operation_states::blocks::{read_ask, write_ask};
+use rz_operation_states::drops::drop_ask;
+use rz_operation_states::locks::lock_ask;
+use rz_operation_states::ranges::range_ask;
+use rz_operation_states::rebuilds::rebuilder_ask;
+use rz_operation_states::{Ask, ExportAsk, Saying, Stage};
 use std::alloc::{AllocError, Global};
 use std::marker::Model;
 use std::mem::replace;
@@ -35,11 +35,11 @@ pub struct Machine {
 }
 
 impl Model for Machine {
-    ghost use Rattle.rz_stages.specs.Machine.{Machine as TheMachine};
+    ghost use Rattle.rz_operation_states.specs.Machine.{Machine as TheMachine};
 
     ghost Value = { TheMachine };
 
-    ghost use Rattle.rz_stages.specs.Inside.{machine_of, IsStage};
+    ghost use Rattle.rz_operation_states.specs.Inside.{machine_of, IsStage};
 
     ghost view = { λ m. machine_of m.layout m.stage };
 

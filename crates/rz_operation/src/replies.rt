@@ -3,20 +3,22 @@
 ghost use Rattle.std.specs.Prelude.{◌≡◌};
 ghost use Rattle.rz_operation_model.specs.Ask.{ask_of};
 ghost use Rattle.rz_operation_model.specs.Steps.{Replied, Locked, Missed, Noted};
-ghost use Rattle.rz_stages.specs.Answers.{IsReply, IsLockReply, IsAnswer, ComeWith, MayMiss, IsPartSaid, HasRoom, Goes, IsAnswered, IsDrop, IsKeep, IsTreeReply};
-ghost use Rattle.rz_stages.specs.Machine.{text_of};
-ghost use Rattle.rz_stages.specs.Inside.{IsStage, IsDoneStage, IsAnswerIn, machine_of, work_of};
+ghost use Rattle.rz_operation_states.specs.Answers.{IsReply, IsLockReply, IsAnswer, ComeWith, MayMiss, IsPartSaid, HasRoom, Goes, IsAnswered, IsDrop, IsKeep, IsTreeReply};
+ghost use Rattle.rz_operation_states.specs.Machine.{text_of};
+ghost use Rattle.rz_operation_states.specs.Inside.{IsStage, IsDoneStage, IsAnswerIn, machine_of, work_of};
 
 use crate::begins::{after_call, after_locked, after_open};
 use mj_angles::Layout;
 use rz_events::{
     Answer, DropAnswer, KeepAnswer, NodeAnswer, ReaderAnswer, Reply, TreeReply, WriterAnswer,
 };
-use rz_stages::Stage;
-use rz_stages::blocks::{fetch_answer, tell_fetch, tell_keep, tell_reader, tell_writer};
-use rz_stages::drops::{after_drop, dropped};
-use rz_stages::ranges::{range_answered, range_missed, range_replied, range_said};
-use rz_stages::rebuilds::{rebuild_answered, rebuild_missed, rebuild_replied, rebuild_said};
+use rz_operation_states::Stage;
+use rz_operation_states::blocks::{fetch_answer, tell_fetch, tell_keep, tell_reader, tell_writer};
+use rz_operation_states::drops::{after_drop, dropped};
+use rz_operation_states::ranges::{range_answered, range_missed, range_replied, range_said};
+use rz_operation_states::rebuilds::{
+    rebuild_answered, rebuild_missed, rebuild_replied, rebuild_said,
+};
 
 /// How the operation goes on after a reply of the export.
 pub fn after_reply(layout: Layout, stage: Stage, reply: Reply) -> Stage

@@ -4,13 +4,13 @@ ghost use Rattle.std.specs.Prelude.{◌≡◌, ◌<◌, IsTrue};
 ghost use Rattle.std.specs.Int.{bit_at};
 ghost use Rattle.rz_client_model.specs.Read.{IsTold, IsFetched};
 ghost use Rattle.rz_operation_model.specs.Rebuild.{IsNextAnswer};
-ghost use Rattle.rz_stages.specs.Meaning.{call_of, meaning_of};
-ghost use Rattle.rz_stages.specs.Answers.{IsReply, IsReplyTo, IsLockReply, IsTreeReply, IsBeginReply, IsPublishReply, IsLookReply, IsEnrollReply, IsNextReply, IsAnswer, IsAnswerTo};
+ghost use Rattle.rz_operation_states.specs.Meaning.{call_of, meaning_of};
+ghost use Rattle.rz_operation_states.specs.Answers.{IsReply, IsReplyTo, IsLockReply, IsTreeReply, IsBeginReply, IsPublishReply, IsLookReply, IsEnrollReply, IsNextReply, IsAnswer, IsAnswerTo};
 
 use mj_angles::Layout;
 use rz_events::{FetchAnswer, Listed, NodeAnswer, NodeAsk, Published, Reply, TreeReply};
+use rz_operation_states::{Ask, ExportAsk};
 use rz_rebuild::position_of;
-use rz_stages::{Ask, ExportAsk};
 
 /// Whether this is a reply to what was asked of the export.
 pub fn is_reply(layout: Layout, ask: &Ask<'_>, reply: &Reply) -> bool

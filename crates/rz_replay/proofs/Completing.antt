@@ -3,20 +3,20 @@ use Rattle.std.proofs.Common.{ℕ, true, ◌≡◌, ◌⊎◌, inl, inr, List, [
 use Rattle.rz_disk.specs.Meter.{Meter, Rises, faults}
 use Rattle.rz_events.specs.declared.events.Event.{Event}
 use Rattle.rz_script.specs.Scripts.{Script}
-use Rattle.rz_continuation.specs.Earlier.{IsEarlier, IsRestarted}
-use Rattle.rz_formatting.specs.declared.refusal.OpenRefusal.TheVariants.{Open}
+use Rattle.rz_restart_laws.specs.Earlier.{IsEarlier, IsRestarted}
+use Rattle.rz_nodes.specs.declared.refusal.OpenRefusal.TheVariants.{Open}
 use Rattle.rz_driver.specs.Continued.{AreLeft, IsCauseAgain}
-use Rattle.rz_lines.specs.declared.lines.PlayEnd.TheVariants as ends
+use Rattle.rz_player.specs.declared.lines.PlayEnd.TheVariants as ends
 use Rattle.rz_request.specs.Requests.{IsFor, script_in}
 use Rattle.rz_request.specs.declared.refusal.Stop.{Stop}
 use Rattle.rz_request.specs.declared.wishes.Request.{Request}
 use Rattle.rz_request.specs.declared.wishes.Wish.{Wish}
 use Rattle.rz_request.specs.declared.wishes.Wish.TheVariants.{Again}
-use Rattle.rz_perform.specs.Clear.{IsCompleteAgain}
-use Rattle.rz_perform.specs.Output.{Sunk}
-use Rattle.rz_perform.specs.Replays.{Course, Unplayed, Unopened, Performed, Ensues}
-use Rattle.rz_perform.proofs.Asked.{HasCome}
-use Rattle.rz_perform.proofs.Completing.{come}
+use Rattle.rz_report.specs.Clear.{IsCompleteAgain}
+use Rattle.rz_report.specs.Output.{Sunk}
+use Rattle.rz_report.specs.Replays.{Course, Unplayed, Unopened, Performed, Ensues}
+use Rattle.rz_report.proofs.Asked.{HasCome}
+use Rattle.rz_report.proofs.Completing.{come}
 use Rattle.rz_replay.specs.Clear.{IsComplete}
 use Rattle.rz_replay.specs.Disks.{AreBackAgain, AreBackFrom, HandsBack, IsPlayAfter, faulted}
 

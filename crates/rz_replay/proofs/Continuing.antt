@@ -4,13 +4,13 @@ use Rattle.rz_disk.specs.Meter.{Meter}
 use Rattle.rz_driver.specs.Continued.{IsCauseAgain}
 use Rattle.rz_events.specs.Volume.{Volume}
 use Rattle.rz_events.specs.declared.events.Event.{Event}
-use Rattle.rz_lines.specs.declared.lines.PlayEnd.{PlayEnd}
-use Rattle.rz_formatting.specs.Opened.{AreKept}
-use Rattle.rz_formatting.specs.declared.refusal.OpenRefusal.{OpenRefusal}
-use Rattle.rz_formatting.specs.declared.refusal.OpenRefusal.TheVariants as opens
-use Rattle.rz_perform.specs.Output.{Sunk}
-use Rattle.rz_perform.specs.Replays.{Course, Unplayed, Unopened, Follows, IsToldAs}
-use Rattle.rz_perform.specs.Telling.{PerformsAs, TellsOwn}
+use Rattle.rz_player.specs.declared.lines.PlayEnd.{PlayEnd}
+use Rattle.rz_nodes.specs.Opened.{AreKept}
+use Rattle.rz_nodes.specs.declared.refusal.OpenRefusal.{OpenRefusal}
+use Rattle.rz_nodes.specs.declared.refusal.OpenRefusal.TheVariants as opens
+use Rattle.rz_report.specs.Output.{Sunk}
+use Rattle.rz_report.specs.Replays.{Course, Unplayed, Unopened, Follows, IsToldAs}
+use Rattle.rz_report.specs.Telling.{PerformsAs, TellsOwn}
 use Rattle.rz_request.specs.declared.wishes.Request.{Request}
 use Rattle.rz_request.specs.declared.wishes.Wish.{Wish}
 use Rattle.rz_request.specs.declared.wishes.Wish.TheVariants.{Again}

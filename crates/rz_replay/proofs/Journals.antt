@@ -6,8 +6,8 @@ use Rattle.rz_events.specs.Volume.{Volume}
 use Rattle.rz_events.specs.declared.files.NodeSpec.{NodeSpec}
 use Rattle.rz_events.specs.declared.events.Event.{Event}
 use Rattle.rz_script.specs.declared.line.Line.{Line}
-use Rattle.rz_formatting.specs.Formatted.{AreBack}
-use Rattle.rz_stations.specs.Meters.{AreDisksCounted, faults_at}
+use Rattle.rz_nodes.specs.Formatted.{AreBack}
+use Rattle.rz_driver_nodes.specs.Meters.{AreDisksCounted, faults_at}
 use Rattle.rz_asks.specs.declared.metadata.Metadata.{Metadata}
 use Rattle.rz_asks.specs.declared.metadata.Metadata.TheVariants.{InMemory, Journaled}
 use Rattle.rz_asks.specs.declared.journaled.Refusal.{Refusal}
@@ -16,15 +16,15 @@ use Rattle.rz_asks.specs.Stands.{disk_of, is_journaled}
 use Rattle.rz_core.specs.Legal.{IsLegalInRuns}
 use Rattle.rz_driver.specs.Continued.{AreLeft}
 use Rattle.rz_driver.specs.Endings.{EndsAsRefused, StandsForLog, end_by}
-use Rattle.rz_lines.specs.Ends.{EndsBy}
-use Rattle.rz_lines.specs.declared.lines.PlayEnd.{PlayEnd}
-use Rattle.rz_lines.specs.declared.lines.PlayEnd.TheVariants as ends
+use Rattle.rz_player.specs.Ends.{EndsBy}
+use Rattle.rz_player.specs.declared.lines.PlayEnd.{PlayEnd}
+use Rattle.rz_player.specs.declared.lines.PlayEnd.TheVariants as ends
 use Rattle.rz_request.specs.Requests.{nodes_in}
 use Rattle.rz_request.specs.declared.wishes.Request.{Request}
 use Rattle.rz_request.specs.declared.wishes.Wish.{Wish}
 use Rattle.rz_request.specs.declared.wishes.Wish.TheVariants as wishes
-use Rattle.rz_perform.specs.Replays.{Course, Faulted, HasJournal, MayEnd}
-use Rattle.rz_perform.specs.Scrubs.{BetweenTurns}
+use Rattle.rz_report.specs.Replays.{Course, Faulted, HasJournal, MayEnd}
+use Rattle.rz_report.specs.Scrubs.{BetweenTurns}
 use Rattle.rz_replay.specs.Disks.{AreAllBack, AreBackAgain, AreBackFrom, AreFaultsTold, AreImagesTold, IsJournalLeft, LeavesNext, MayFollow, asked_in, refused_by}
 
 -- Without a journal.

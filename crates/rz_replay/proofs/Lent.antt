@@ -5,13 +5,13 @@ use Rattle.rz_disk.specs.Meter.{Meter, faults}
 use Rattle.rz_events.specs.declared.files.NodeSpec.{NodeSpec}
 use Rattle.rz_events.specs.declared.events.Event.{Event}
 use Rattle.rz_ports.specs.Counts.{Rises}
-use Rattle.rz_stations.specs.Meters.{AreDisksCounted, faults_at, faults_in}
-use Rattle.rz_formatting.specs.Formatted.{AreBack, IsCause}
-use Rattle.rz_formatting.specs.declared.fault.DriverFault.{DriverFault}
-use Rattle.rz_formatting.specs.declared.fault.DriverFault.TheVariants.{NoMemory, Disk}
+use Rattle.rz_driver_nodes.specs.Meters.{AreDisksCounted, faults_at, faults_in}
+use Rattle.rz_nodes.specs.Formatted.{AreBack, IsCause}
+use Rattle.rz_nodes.specs.declared.fault.DriverFault.{DriverFault}
+use Rattle.rz_nodes.specs.declared.fault.DriverFault.TheVariants.{NoMemory, Disk}
 use Rattle.rz_request.specs.declared.wishes.Request.{Request}
-use Rattle.rz_perform.specs.Output.{Sunk}
-use Rattle.rz_perform.specs.Replays.{Unplayed, Opens}
+use Rattle.rz_report.specs.Output.{Sunk}
+use Rattle.rz_report.specs.Replays.{Unplayed, Opens}
 use Rattle.rz_replay.specs.Disks.{faulted}
 use Rattle.rz_run.specs.Runs.{Fails}
 

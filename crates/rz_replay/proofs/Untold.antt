@@ -3,7 +3,7 @@ use Rattle.std.proofs.Common.{ℕ, ◌≡◌, List, [], sym, subst, arith}
 use Rattle.rz_events.specs.Volume.{Volume}
 use Rattle.rz_events.specs.declared.events.Event.{Event}
 use Rattle.rz_script.specs.declared.line.Line.{Line}
-use Rattle.rz_perform.specs.Told.{IsTold}
+use Rattle.rz_report.specs.Told.{IsTold}
 
 pub told-none : (v : Volume) (lines : List Line) (lost : ℕ) (h : List Event) → h ≡ [] → IsTold v lines lost h
 told-none v lines lost h none =

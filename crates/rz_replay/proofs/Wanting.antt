@@ -7,8 +7,8 @@ use Rattle.rz_request.specs.Requests.{AsksFor, IsUnread, Reading, wished}
 use Rattle.rz_request.specs.declared.refusal.Stop.TheVariants.{NoMemory}
 use Rattle.rz_request.specs.declared.wishes.Wish.{Wish}
 use Rattle.rz_request.specs.declared.wishes.Wish.TheVariants.{Replay, Load, Scrub, First, Again}
-use Rattle.rz_perform.specs.Output.{Sunk, Lacks}
-use Rattle.rz_perform.specs.Replays.{Unplayed}
+use Rattle.rz_report.specs.Output.{Sunk, Lacks}
+use Rattle.rz_report.specs.Replays.{Unplayed}
 use Rattle.rz_replay.specs.Replays.{Does, Replays, old_node_of}
 
 asked : (w : Option Wish) (m : Option Meaning) (source : Reading) (disks : ℕ) → IsSome m → IsUnread source → AsksFor w m source disks (Err NoMemory)

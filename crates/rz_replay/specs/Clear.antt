@@ -4,17 +4,17 @@ use Rattle.rz_disk.specs.Meter.{Meter, Rises, faults}
 use Rattle.rz_request.specs.Line.{Meaning}
 use Rattle.rz_events.specs.declared.events.Event.{Event}
 use Rattle.rz_script.specs.Scripts.{Script}
-use Rattle.rz_continuation.specs.Earlier.{IsEarlier, IsRestarted}
-use Rattle.rz_formatting.specs.declared.refusal.OpenRefusal.TheVariants.{Open}
+use Rattle.rz_restart_laws.specs.Earlier.{IsEarlier, IsRestarted}
+use Rattle.rz_nodes.specs.declared.refusal.OpenRefusal.TheVariants.{Open}
 use Rattle.rz_driver.specs.Continued.{AreLeft, IsCauseAgain}
-use Rattle.rz_lines.specs.declared.lines.PlayEnd.TheVariants.{TooManyTurns, JournalFull}
+use Rattle.rz_player.specs.declared.lines.PlayEnd.TheVariants.{TooManyTurns, JournalFull}
 use Rattle.rz_request.specs.Requests.{Asks, Reading}
 use Rattle.rz_request.specs.declared.refusal.Stop.{Stop}
 use Rattle.rz_request.specs.declared.wishes.Request.{Request}
 use Rattle.rz_request.specs.declared.wishes.Wish.TheVariants.{Again}
-use Rattle.rz_perform.specs.Clear.{IsPlayable, IsFinishedAgain}
-use Rattle.rz_perform.specs.Output.{Sunk, Lacks}
-use Rattle.rz_perform.specs.Replays.{Course, Performed, Ensues}
+use Rattle.rz_report.specs.Clear.{IsPlayable, IsFinishedAgain}
+use Rattle.rz_report.specs.Output.{Sunk, Lacks}
+use Rattle.rz_report.specs.Replays.{Course, Performed, Ensues}
 use Rattle.rz_replay.specs.Disks.{HandsBack, IsPlayAfter, faulted}
 
 -- The words wish for the script to go on over disks as earlier runs with this log left them, of which none is such that it does not

@@ -1,14 +1,14 @@
 -- Disks as they were lent, and as they are handed back.
 use Rattle.std.specs.Prelude.{ℕ, Bool, false, IsTrue, ◌≡◌, ◌≢◌, ◌<◌, ◌≤◌, ◌+◌, ◌^◌, map, length, List, [], ◌∷◌, ◌++◌, Option, Some, None, Result, Ok, Err}
 use Rattle.rz_disk.specs.Meter.{Meter, faults}
-use Rattle.rz_stations.specs.Meters.{AreDisksCounted, faults_at}
-use Rattle.rz_stations.specs.Images.{AreDisksImaged}
+use Rattle.rz_driver_nodes.specs.Meters.{AreDisksCounted, faults_at}
+use Rattle.rz_driver_nodes.specs.Images.{AreDisksImaged}
 use Rattle.rz_events.specs.Volume.{Volume, nodes_of}
 use Rattle.rz_events.specs.declared.files.NodeSpec.{NodeSpec}
 use Rattle.rz_events.specs.declared.nodes.Phase.TheVariants.{Lost}
 use Rattle.rz_events.specs.declared.events.Word.TheVariants.{Node}
 use Rattle.rz_events.specs.declared.events.Event.{Event}
-use Rattle.rz_formatting.specs.Formatted.{AreBack}
+use Rattle.rz_nodes.specs.Formatted.{AreBack}
 use Rattle.rz_asks.specs.declared.journaled.Refusal.{Refusal}
 use Rattle.rz_asks.specs.declared.journaled.Refusal.TheVariants.{Full, Failed}
 use Rattle.rz_driver.specs.Endings.{EndsAsRefused, StandsForLog}
@@ -16,10 +16,10 @@ use Rattle.rz_driver.specs.Formatted.{IsJournalBack}
 use Rattle.rz_core.specs.History.{of_word}
 use Rattle.rz_core.specs.NodeRows.{IsNodeOf}
 use Rattle.rz_core.specs.NodeWord.{phase}
-use Rattle.rz_formatting.specs.Opened.{AreKept}
-use Rattle.rz_formatting.specs.declared.refusal.OpenRefusal.TheVariants.{Open}
+use Rattle.rz_nodes.specs.Opened.{AreKept}
+use Rattle.rz_nodes.specs.declared.refusal.OpenRefusal.TheVariants.{Open}
 use Rattle.rz_driver.specs.Continued.{AreLeft, IsCauseAgain}
-use Rattle.rz_continuation.specs.Earlier.{IsEarlier, IsRestarted}
+use Rattle.rz_restart_laws.specs.Earlier.{IsEarlier, IsRestarted}
 use Rattle.rz_script.specs.declared.line.Line.{Line}
 use Rattle.rz_node_model.specs.States.{NodeState}
 use Rattle.rz_export_model.specs.Export.{Export}
@@ -29,14 +29,14 @@ use Rattle.rz_play_laws.specs.Fine.{IsFine}
 use Rattle.rz_play_laws.specs.Runs.{IsRunAfter}
 use Rattle.rz_play_locks.specs.Kept.{IsKeptAfter}
 use Rattle.rz_play_locks.specs.Operations.{given}
-use Rattle.rz_lines.specs.Ends.{IsEnded}
-use Rattle.rz_lines.specs.declared.lines.PlayEnd.TheVariants.{Ended, TooManyTurns, NoMemory, Journal, JournalFull}
-use Rattle.rz_lines.specs.declared.lines.PlayEnd.{PlayEnd}
+use Rattle.rz_player.specs.Ends.{IsEnded}
+use Rattle.rz_player.specs.declared.lines.PlayEnd.TheVariants.{Ended, TooManyTurns, NoMemory, Journal, JournalFull}
+use Rattle.rz_player.specs.declared.lines.PlayEnd.{PlayEnd}
 use Rattle.rz_request.specs.declared.refusal.Stop.{Stop}
 use Rattle.rz_request.specs.declared.wishes.Request.{Request}
 use Rattle.rz_request.specs.declared.wishes.Wish.{Wish}
 use Rattle.rz_request.specs.declared.wishes.Wish.TheVariants.{First, Again}
-use Rattle.rz_perform.specs.Replays.{Faulted, Course, Unplayed, Unopened, Performed}
+use Rattle.rz_report.specs.Replays.{Faulted, Course, Unplayed, Unopened, Performed}
 
 -- the numbers of a volume's nodes, in order
 abbrev pub numbers_of_volume : Volume → List ℕ

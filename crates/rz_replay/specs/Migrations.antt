@@ -5,8 +5,8 @@ use Rattle.rz_request.specs.Requests.{Reading}
 use Rattle.rz_request.specs.declared.refusal.Stop.{Stop}
 use Rattle.rz_request.specs.Carried.{Migrates, migrated_line}
 use Rattle.rz_request.specs.declared.outcome.Migrated.{Migrated}
-use Rattle.rz_perform.specs.Output.{Sunk, Ends, Lacks}
-use Rattle.rz_perform.specs.Telling.{Stops}
+use Rattle.rz_report.specs.Output.{Sunk, Ends, Lacks}
+use Rattle.rz_report.specs.Telling.{Stops}
 
 -- The line of what was carried over was to be written, with status 0; or there is nothing to tell but why. Memory may be wanting.
 abbrev pub TellsMigration : Result Migrated Stop → Sunk → ℕ → Type 0

@@ -5,15 +5,15 @@ use Rattle.rz_request.specs.declared.command.Command.{Command}
 use Rattle.rz_request.specs.declared.command.Command.TheVariants.{Migrate}
 use Rattle.rz_disk.specs.Meter.{Meter}
 use Rattle.rz_events.specs.declared.events.Event.{Event}
-use Rattle.rz_formatting.specs.declared.refusal.OpenRefusal.{OpenRefusal}
-use Rattle.rz_formatting.specs.declared.refusal.OpenRefusal.TheVariants as opens
+use Rattle.rz_nodes.specs.declared.refusal.OpenRefusal.{OpenRefusal}
+use Rattle.rz_nodes.specs.declared.refusal.OpenRefusal.TheVariants as opens
 use Rattle.rz_request.specs.Requests.{Asks, Reading}
 use Rattle.rz_request.specs.declared.refusal.Refusal.TheVariants as refusals
 use Rattle.rz_request.specs.declared.refusal.Stop.{Stop}
 use Rattle.rz_request.specs.declared.wishes.Request.{Request}
-use Rattle.rz_perform.specs.Output.{Sunk, Lacks}
-use Rattle.rz_perform.specs.Replays.{Course, Ensues}
-use Rattle.rz_perform.specs.Telling.{Refuses}
+use Rattle.rz_report.specs.Output.{Sunk, Lacks}
+use Rattle.rz_report.specs.Replays.{Course, Ensues}
+use Rattle.rz_report.specs.Telling.{Refuses}
 use Rattle.rz_replay.specs.Disks.{HandsBack, faulted}
 use Rattle.rz_replay.specs.Migrations.{Carries}
 

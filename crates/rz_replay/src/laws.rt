@@ -10,5 +10,5 @@ use rz_disk::Disk;
 pub fn completes_again<D: Disk>()
     ensures { IsComplete D.text D.meter D.image }
 {
-    rz_perform::completes_again();
+    rz_report::completes_again();
 }

@@ -3,8 +3,8 @@
 ghost use Rattle.rz_replay.specs.Migrations.{Carries, TellsMigration};
 
 use rz_disk::Disk;
-use rz_perform::{finish, stop};
 use rz_ports::{Sink, Source};
+use rz_report::{finish, stop};
 use rz_request::{Migrated, Stop, migrate};
 use std::alloc::Global;
 

@@ -5,7 +5,7 @@ ghost use Rattle.rz_request.specs.Line.{meaning};
 ghost use Rattle.rz_request.specs.Requests.{disks_for, nodes_in};
 ghost use Rattle.rz_request.specs.declared.wishes.Wish.TheVariants.{First, Again};
 ghost use Rattle.rz_play_laws.specs.Runs.{IsScript};
-ghost use Rattle.rz_perform.specs.Replays.{Course, Follows};
+ghost use Rattle.rz_report.specs.Replays.{Course, Follows};
 ghost use Rattle.rz_replay.specs.Disks.{HandsBack, faulted};
 ghost use Rattle.rz_replay.specs.Replays.{FailsAgain, Plays, Replays, old_node_of};
 
@@ -13,10 +13,10 @@ use crate::migrating::carry;
 use rz_disk::Disk;
 use rz_driver::Driver;
 use rz_events::Event;
-use rz_formatting::OpenRefusal;
 use rz_link::Link;
-use rz_perform::{begins, perform, refuse, stop};
+use rz_nodes::OpenRefusal;
 use rz_ports::{Sink, Source};
+use rz_report::{begins, perform, refuse, stop};
 use rz_request::{Command, Refusal, Request, Wish, WordsError, request, wanted};
 use rz_run::refuse_disks;
 use rz_script::Script;
@@ -174,8 +174,8 @@ fn play_again<D: Disk, L: Link, O: Sink>(
 {
     rz_scrub_laws::untouched::<D>();
     begins();
-    rz_continuation::restarting();
-    rz_continuation::afterwards();
+    rz_restart_laws::restarting();
+    rz_restart_laws::afterwards();
     rz_play_locks::after();
     rz_core::next_run();
     keeps_rules(&request.script);

@@ -4,7 +4,7 @@
 use super::playing::{FIRST, disks_on, play, play_over, push};
 use rz_disk::{PlainDisk, RotDisk};
 use rz_link::{MemLink, Sent};
-use rz_outage::Power;
+use rz_test_disks::Power;
 use std::process::Abort;
 use std::test::Fail;
 

@@ -2,7 +2,7 @@
 
 use super::playing::{ALL, DISKS, FIRST, disks_on, play};
 use rz_disk::Disk;
-use rz_outage::Power;
+use rz_test_disks::Power;
 use std::process::Abort;
 use std::test::Fail;
 

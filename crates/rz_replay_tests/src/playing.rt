@@ -2,9 +2,9 @@
 
 use rz_disk::Disk;
 use rz_link::MemLink;
-use rz_outage::{OutageDisk, Power};
 use rz_ports::{PlainSink, PlainSource};
 use rz_replay::replay;
+use rz_test_disks::{OutageDisk, Power};
 use std::process::Abort;
 
 /// A play whose journal stands behind the disks of four nodes.

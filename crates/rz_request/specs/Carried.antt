@@ -8,15 +8,15 @@ use Rattle.rz_events.specs.declared.records.Head.{Head}
 use Rattle.rz_events.specs.declared.nodes.OpenFault.{OpenFault}
 use Rattle.rz_events.specs.declared.nodes.OpenFault.TheVariants.{DiskFault}
 use Rattle.rz_events.specs.Nodes.{number_of}
-use Rattle.rz_slots.specs.declared.geometry.Geometry.{Geometry}
-use Rattle.rz_slots.specs.declared.migrating.MigrateFault.{MigrateFault}
-use Rattle.rz_slots.specs.declared.migrating.MigrateFault.TheVariants as carrying
-use Rattle.rz_slots.specs.Held.{Records}
-use Rattle.rz_slots.specs.Stands.{IsShut, StandsFor}
-use Rattle.rz_slots.specs.Open.{HoldsHeads}
-use Rattle.rz_slots.specs.Opening.{NotSize}
-use Rattle.rz_slots.specs.Old.{CarriesOver, OldStandsFor}
-use Rattle.rz_slots.specs.OldOpening.{OldRefuses}
+use Rattle.rz_cells_slots.specs.declared.geometry.Geometry.{Geometry}
+use Rattle.rz_cells_slots.specs.declared.migrating.MigrateFault.{MigrateFault}
+use Rattle.rz_cells_slots.specs.declared.migrating.MigrateFault.TheVariants as carrying
+use Rattle.rz_cells_slots.specs.Held.{Records}
+use Rattle.rz_cells_slots.specs.Stands.{IsShut, StandsFor}
+use Rattle.rz_cells_slots.specs.Open.{HoldsHeads}
+use Rattle.rz_cells_slots.specs.Opening.{NotSize}
+use Rattle.rz_cells_slots.specs.Old.{CarriesOver, OldStandsFor}
+use Rattle.rz_cells_slots.specs.OldOpening.{OldRefuses}
 use Rattle.rz_request.specs.Migrations.{ReadsNode}
 use Rattle.rz_request.specs.Requests.{Reading}
 use Rattle.rz_request.specs.declared.old.OldNode.{OldNode}

@@ -2,8 +2,8 @@
 use Rattle.std.specs.Prelude.{ℕ, List, codes}
 use Rattle.rz_config.specs.declared.fault.VolumeCause.{VolumeCause}
 use Rattle.rz_config.specs.declared.fault.VolumeCause.TheVariants as volume
-use Rattle.rz_operands.specs.declared.fault.ScriptCause.{ScriptCause}
-use Rattle.rz_operands.specs.declared.fault.ScriptCause.TheVariants as script
+use Rattle.rz_script_words.specs.declared.fault.ScriptCause.{ScriptCause}
+use Rattle.rz_script_words.specs.declared.fault.ScriptCause.TheVariants as script
 
 abbrev pub script_cause : ScriptCause → List ℕ
 script_cause script.NotUtf8 = codes "NotUtf8"

@@ -2,7 +2,7 @@
 use Rattle.std.specs.Prelude.{ℕ, List, ◌++◌, codes}
 use Rattle.std.specs.Fmt.{decimal}
 use Rattle.rz_config.specs.declared.fault.VolumeFault.{VolumeFault}
-use Rattle.rz_operands.specs.declared.fault.ScriptCause.{ScriptCause}
+use Rattle.rz_script_words.specs.declared.fault.ScriptCause.{ScriptCause}
 use Rattle.rz_request.specs.declared.refusal.Refusal.{Refusal}
 use Rattle.rz_request.specs.declared.refusal.Refusal.TheVariants as refusals
 use Rattle.rz_request.specs.Causes.{script_cause, volume_cause}

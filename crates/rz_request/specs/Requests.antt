@@ -10,8 +10,8 @@ use Rattle.rz_generate.specs.Workload.{workload}
 use Rattle.rz_script.specs.Grammar.{script}
 use Rattle.rz_script.specs.Scripts.{Script}
 use Rattle.rz_script.specs.Weights.{script_weight}
-use Rattle.rz_operands.specs.declared.form.Form.{Form}
-use Rattle.rz_operands.specs.declared.form.Form.TheVariants as forms
+use Rattle.rz_script_words.specs.declared.form.Form.{Form}
+use Rattle.rz_script_words.specs.declared.form.Form.TheVariants as forms
 use Rattle.rz_script.specs.declared.fault.ScriptError.{ScriptError}
 use Rattle.rz_script.specs.declared.fault.ScriptError.TheVariants as errors
 use Rattle.rz_request.specs.Input.{limit}

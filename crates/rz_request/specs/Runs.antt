@@ -4,7 +4,7 @@ use Rattle.rz_request.specs.Line.{Meaning}
 use Rattle.rz_request.specs.declared.command.Command.{Command}
 use Rattle.rz_request.specs.declared.command.Command.TheVariants as commands
 use Rattle.rz_script.specs.Scripts.{Script}
-use Rattle.rz_operands.specs.declared.form.Form.TheVariants as forms
+use Rattle.rz_script_words.specs.declared.form.Form.TheVariants as forms
 use Rattle.rz_request.specs.Requests.{IsUnread, IsUsage, Reading, ReadsScript, nodes_in}
 use Rattle.rz_request.specs.declared.refusal.Stop.{Stop}
 

@@ -1,7 +1,7 @@
 //! One disk carried over onto another.
 ghost use Rattle.std.specs.Prelude.{◌≡◌};
 ghost use Rattle.mj_angles.specs.Layout.{bsize_of};
-ghost use Rattle.rz_slots.specs.Shape.{IsGeometry};
+ghost use Rattle.rz_cells_slots.specs.Shape.{IsGeometry};
 ghost use Rattle.rz_request.specs.Carried.{Carries, records_in};
 
 use crate::outcome::stopped;

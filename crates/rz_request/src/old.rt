@@ -4,7 +4,7 @@ ghost use Rattle.std.specs.Prelude.{◌≡◌, ◌≢◌, ◌≤◌, ◌==◌, O
 ghost use Rattle.std.specs.List.{find};
 ghost use Rattle.rz_events.specs.Volume.{IsNode};
 ghost use Rattle.rz_script.specs.Grammar.{script};
-ghost use Rattle.rz_operands.specs.declared.form.Form.TheVariants as forms;
+ghost use Rattle.rz_script_words.specs.declared.form.Form.TheVariants as forms;
 ghost use Rattle.rz_request.specs.Input.{limit};
 ghost use Rattle.rz_request.specs.Migrations.{JudgesNode, ReadsNode, node_with};
 

@@ -2,7 +2,7 @@
 
 ghost use Rattle.std.specs.Prelude.{◌≡◌, map, string_bytes};
 ghost use Rattle.rz_request.specs.Line.{meaning};
-ghost use Rattle.rz_operands.specs.declared.form.Form.TheVariants as forms;
+ghost use Rattle.rz_script_words.specs.declared.form.Form.TheVariants as forms;
 ghost use Rattle.rz_request.specs.Requests.{ReadsScript, nodes_in};
 ghost use Rattle.rz_request.specs.Runs.{AsksRun, is_run as is_of_run};
 

@@ -3,17 +3,17 @@ use Rattle.std.proofs.Common.{ℕ, Bool, true, ◌≡◌, ◌⊎◌, inl, inr, L
 use Rattle.rz_disk.specs.Meter.{Meter}
 use Rattle.rz_ports.specs.Counts.{Rises}
 use Rattle.rz_events.specs.declared.events.Event.{Event}
-use Rattle.rz_formatting.specs.Formatted.{IsCause}
-use Rattle.rz_formatting.specs.declared.fault.DriverFault.{DriverFault}
-use Rattle.rz_formatting.specs.declared.fault.DriverFault.TheVariants as faults
+use Rattle.rz_nodes.specs.Formatted.{IsCause}
+use Rattle.rz_nodes.specs.declared.fault.DriverFault.{DriverFault}
+use Rattle.rz_nodes.specs.declared.fault.DriverFault.TheVariants as faults
 use Rattle.rz_script.specs.Scripts.{Script}
-use Rattle.rz_operands.specs.declared.form.Form.TheVariants as forms
+use Rattle.rz_script_words.specs.declared.form.Form.TheVariants as forms
 use Rattle.rz_request.specs.Requests.{nodes_in}
 use Rattle.rz_request.specs.Runs.{AsksIf}
 use Rattle.rz_request.specs.declared.refusal.Stop.{Stop}
 use Rattle.rz_request.specs.declared.refusal.Stop.TheVariants as stops
-use Rattle.rz_perform.specs.Output.{Sunk, Lacks}
-use Rattle.rz_perform.proofs.Asked.{HasCome, has-come}
+use Rattle.rz_report.specs.Output.{Sunk, Lacks}
+use Rattle.rz_report.proofs.Asked.{HasCome, has-come}
 use Rattle.rz_run.specs.Clear.{IsComplete, IsFinished}
 use Rattle.rz_run.specs.Handed.{Handed}
 use Rattle.rz_run.specs.Runs.{Fails, Follows, IsPlayed, IsToldOf, IsUnplayed, Plays}

@@ -12,11 +12,11 @@ use Rattle.rz_chronicle.specs.Deals.{new_pass}
 use Rattle.rz_chronicle.specs.Kinds.{is_honest, volume_in}
 use Rattle.rz_chronicle.specs.Rules.{PassView}
 use Rattle.rz_show.specs.Shown.{shown_of}
-use Rattle.rz_steps.specs.Turned.{AreLost}
-use Rattle.rz_worker.specs.Doing.{IsBegun}
-use Rattle.rz_worker.specs.Workers.{IsAllDone, seat_of, seat_with}
-use Rattle.rz_staff.specs.declared.member.Member.{Member}
-use Rattle.rz_staff.specs.Staff.{actor_of, link_of, CanWork, IsStaffed}
+use Rattle.rz_threads_steps.specs.Turned.{AreLost}
+use Rattle.rz_threads_worker.specs.Doing.{IsBegun}
+use Rattle.rz_threads_worker.specs.Workers.{IsAllDone, seat_of, seat_with}
+use Rattle.rz_threads_workers.specs.declared.member.Member.{Member}
+use Rattle.rz_threads_workers.specs.Staff.{actor_of, link_of, CanWork, IsStaffed}
 use Rattle.rz_threads.specs.Played as member
 use Rattle.rz_run.specs.Done.{HasBegun, HasFinished}
 use Rattle.rz_run.specs.Handed.{HasLost}

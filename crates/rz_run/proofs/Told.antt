@@ -7,7 +7,7 @@ use Rattle.rz_events.specs.Volume.{Volume, nodes_of}
 use Rattle.rz_events.specs.declared.keys.Actor.TheVariants.{Admin}
 use Rattle.rz_events.specs.declared.events.Word.TheVariants.{Node}
 use Rattle.rz_events.specs.declared.events.Event.{Event}
-use Rattle.rz_formatting.specs.declared.fault.DriverFault.TheVariants.{NoMemory}
+use Rattle.rz_nodes.specs.declared.fault.DriverFault.TheVariants.{NoMemory}
 use Rattle.rz_script.specs.declared.line.Line.{Line}
 use Rattle.rz_core.specs.History.{of_word}
 use Rattle.rz_play.specs.World.{actors}
@@ -15,15 +15,15 @@ use Rattle.rz_chronicle.specs.Deals.{new_pass}
 use Rattle.rz_chronicle.specs.Keys.{sids_of}
 use Rattle.rz_chronicle.specs.Kinds.{is_honest, kind_of, volume_in}
 use Rattle.rz_chronicle.specs.Rules.{PassView}
-use Rattle.rz_locked.specs.Counts.{AreCountedSince}
+use Rattle.rz_shared_locked.specs.Counts.{AreCountedSince}
 use Rattle.rz_shared.proofs.NewSeats.{untouched}
 use Rattle.rz_show.specs.RunText.{run_text}
 use Rattle.rz_threads.specs.Orders.{AreBegun, AreDone}
-use Rattle.rz_staff.specs.declared.member.Member.{Member}
-use Rattle.rz_staff.specs.Staff.{IsStaffed}
+use Rattle.rz_threads_workers.specs.declared.member.Member.{Member}
+use Rattle.rz_threads_workers.specs.Staff.{IsStaffed}
 use Rattle.rz_threads.specs.Left.{IsLeft}
 use Rattle.rz_threads.specs.Played as member
-use Rattle.rz_perform.specs.Output.{Sunk, Ends, Lacks}
+use Rattle.rz_report.specs.Output.{Sunk, Ends, Lacks}
 use Rattle.rz_run.specs.Done.{HasBegun, HasFinished, IsAllBegun, IsAllFinished}
 use Rattle.rz_run.specs.Handed.{AreDisksTold, IsDiskTold}
 use Rattle.rz_run.specs.Runs.{IsToldOf, IsUnplayed}

@@ -4,17 +4,17 @@ use Rattle.std.specs.Io.KnownBytes.{Appends}
 use Rattle.rz_disk.specs.Meter.{Meter}
 use Rattle.rz_ports.specs.Counts.{Rises}
 use Rattle.rz_events.specs.declared.events.Event.{Event}
-use Rattle.rz_formatting.specs.Formatted.{IsCause}
-use Rattle.rz_formatting.specs.declared.fault.DriverFault.TheVariants as faults
+use Rattle.rz_nodes.specs.Formatted.{IsCause}
+use Rattle.rz_nodes.specs.declared.fault.DriverFault.TheVariants as faults
 use Rattle.rz_script.specs.Grammar.{script}
 use Rattle.rz_script.specs.Scripts.{Script}
-use Rattle.rz_operands.specs.declared.form.Form.TheVariants as forms
+use Rattle.rz_script_words.specs.declared.form.Form.TheVariants as forms
 use Rattle.rz_show.specs.RunText.{run_text}
 use Rattle.rz_request.specs.Line.{Meaning}
 use Rattle.rz_request.specs.Input.{limit}
 use Rattle.rz_request.specs.Requests.{Reading, is_large, nodes_in}
 use Rattle.rz_request.specs.Runs.{wants_run}
-use Rattle.rz_perform.specs.Output.{Sunk, Lacks}
+use Rattle.rz_report.specs.Output.{Sunk, Lacks}
 use Rattle.rz_run.specs.Done.{IsAllFinished}
 use Rattle.rz_run.specs.Handed.{Handed}
 use Rattle.rz_run.specs.Runs.{IsPlayed, IsUnplayed, Runs}

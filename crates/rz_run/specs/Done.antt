@@ -14,8 +14,8 @@ use Rattle.rz_play.specs.World.{actors}
 use Rattle.rz_play_locks.specs.Operations.{given}
 use Rattle.rz_chronicle.specs.Kinds.{kind_of}
 use Rattle.rz_threads.specs.Orders.{AreBegun, AreDone}
-use Rattle.rz_worker.specs.Doing.{IsBegun}
-use Rattle.rz_worker.specs.Workers.{IsAllDone, seat_with}
+use Rattle.rz_threads_worker.specs.Doing.{IsBegun}
+use Rattle.rz_threads_worker.specs.Workers.{IsAllDone, seat_with}
 
 -- an actor's own events are those of all operations that the lines give it, each once and in their order
 abbrev pub HasFinished : Bool → Volume → List Line → List Event → Actor → Type 0

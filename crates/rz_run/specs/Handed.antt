@@ -11,7 +11,7 @@ use Rattle.rz_image_laws.specs.Images.{AreImages, geometry_in}
 use Rattle.rz_play.specs.Faults.{missed}
 use Rattle.rz_play.specs.World.{actors}
 use Rattle.rz_chronicle.specs.Keys.{sids_of}
-use Rattle.rz_locked.specs.Counts.{AreCountedSince}
+use Rattle.rz_shared_locked.specs.Counts.{AreCountedSince}
 
 -- a row as it was handed in, and as it came back
 pub record Handed (A : Type 0) : Type 0 where

@@ -3,9 +3,9 @@ use Rattle.std.specs.Prelude.{ℕ, Bool, ◌≡◌, ◌⊎◌, IsTrue, List, Opt
 use Rattle.rz_disk.specs.Meter.{Meter}
 use Rattle.rz_events.specs.Volume.{Volume, nodes_of}
 use Rattle.rz_events.specs.declared.events.Event.{Event}
-use Rattle.rz_formatting.specs.Formatted.{AreBack, IsCause}
-use Rattle.rz_formatting.specs.declared.fault.DriverFault.{DriverFault}
-use Rattle.rz_formatting.specs.declared.fault.DriverFault.TheVariants as faults
+use Rattle.rz_nodes.specs.Formatted.{AreBack, IsCause}
+use Rattle.rz_nodes.specs.declared.fault.DriverFault.{DriverFault}
+use Rattle.rz_nodes.specs.declared.fault.DriverFault.TheVariants as faults
 use Rattle.rz_script.specs.Scripts.{Script}
 use Rattle.rz_script.specs.declared.line.Line.{Line}
 use Rattle.rz_show.specs.RunText.{run_text}
@@ -14,8 +14,8 @@ use Rattle.rz_request.specs.Requests.{Reading}
 use Rattle.rz_request.specs.Runs.{AsksRun}
 use Rattle.rz_request.specs.declared.refusal.Refusal.TheVariants as refusals
 use Rattle.rz_request.specs.declared.refusal.Stop.{Stop}
-use Rattle.rz_perform.specs.Output.{Sunk, Ends, Lacks}
-use Rattle.rz_perform.specs.Telling.{Refuses, Stops}
+use Rattle.rz_report.specs.Output.{Sunk, Ends, Lacks}
+use Rattle.rz_report.specs.Telling.{Refuses, Stops}
 use Rattle.rz_run.specs.Done.{IsAllBegun, IsAllFinished, IsTrueLog}
 use Rattle.rz_run.specs.Handed.{AreDisksTold, AreLinksTold, Handed}
 

@@ -7,14 +7,14 @@ ghost use Rattle.rz_play.specs.World.{actors};
 ghost use Rattle.rz_chronicle.specs.Deals.{new_pass, new_post};
 ghost use Rattle.rz_chronicle.specs.Keys.{sids_of};
 ghost use Rattle.rz_chronicle.specs.Kinds.{volume_in};
-ghost use Rattle.rz_staff.specs.Staff.{link_of, IsStaffed};
+ghost use Rattle.rz_threads_workers.specs.Staff.{link_of, IsStaffed};
 
 use rz_chronicle::{Book, Crew, Desk, Opened, Pass};
 use rz_config::Volume;
 use rz_link::Link;
 use rz_script::Script;
 use rz_shared::Counting;
-use rz_staff::{Room, Staff, dismiss, hire, roll};
+use rz_threads_workers::{Room, Staff, dismiss, hire, roll};
 use std::alloc::{AllocError, Global};
 
 /// The book under its name, the pass of the administrator, the posts of the cluster's words, and the passes

@@ -8,7 +8,7 @@ ghost use Rattle.rz_play.specs.World.{actors};
 ghost use Rattle.rz_chronicle.specs.Deals.{new_pass, new_post};
 ghost use Rattle.rz_chronicle.specs.Keys.{sids_of};
 ghost use Rattle.rz_chronicle.specs.Kinds.{is_honest, kind_of, volume_in};
-ghost use Rattle.rz_staff.specs.Staff.{link_of, IsStaffed};
+ghost use Rattle.rz_threads_workers.specs.Staff.{link_of, IsStaffed};
 ghost use Rattle.rz_request.specs.Requests.{nodes_in};
 ghost use Rattle.rz_run.specs.Runs.{Plays};
 
@@ -24,7 +24,7 @@ use rz_ports::Sink;
 use rz_script::Script;
 use rz_shared::{Cluster, Counting};
 use rz_threads::{Played, play};
-use rz_worker::Store;
+use rz_threads_worker::Store;
 use std::alloc::Global;
 use std::sync::{Mutex, Wait};
 use std::thread::Threads;

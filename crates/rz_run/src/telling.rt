@@ -1,19 +1,19 @@
 //! What is written of a play.
 ghost use Rattle.std.specs.Prelude.{◌≡◌, ◌⊎◌, length, true};
 ghost use Rattle.rz_chronicle.specs.Keys.{sids_of};
-ghost use Rattle.rz_staff.specs.Moves.{HoldsAll};
+ghost use Rattle.rz_threads_workers.specs.Moves.{HoldsAll};
 ghost use Rattle.rz_show.specs.RunText.{AreShownOf, run_text};
-ghost use Rattle.rz_perform.specs.Output.{Ends, Lacks, Sunk};
+ghost use Rattle.rz_report.specs.Output.{Ends, Lacks, Sunk};
 ghost use Rattle.rz_run.specs.Runs.{Fails};
 
 use rz_chronicle::{Book, Naming, Pass};
 use rz_events::Event;
-use rz_formatting::DriverFault;
-use rz_perform::{finish, refuse};
+use rz_nodes::DriverFault;
 use rz_ports::Sink;
+use rz_report::{finish, refuse};
 use rz_request::Refusal;
 use rz_show::show_run;
-use rz_staff::count_all;
+use rz_threads_workers::count_all;
 use std::alloc::Global;
 use std::sync::Wait;
 

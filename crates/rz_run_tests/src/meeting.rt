@@ -3,7 +3,7 @@
 use crate::stage::{play, push};
 use rz_disk::PlainDisk;
 use rz_link::PlainLink;
-use rz_outage::{MeetDisk, Meeting};
+use rz_test_disks::{MeetDisk, Meeting};
 use std::process::Abort;
 use std::sync::Wait;
 use std::test::Fail;

@@ -25,24 +25,24 @@ use Rattle.rz_events.specs.declared.keys.Actor.TheVariants.{Client, Rebuilder, A
 use Rattle.rz_events.specs.declared.tree.TreeCall.{TreeCall}
 use Rattle.rz_events.specs.declared.tree.TreeCall.TheVariants as tree
 use Rattle.rz_events.specs.Volume.{Volume}
-use Rattle.rz_operands.specs.Words.{Word, actor_word, node_word, hex_word}
-use Rattle.rz_operands.specs.declared.fault.ScriptCause.{ScriptCause}
-use Rattle.rz_operands.specs.declared.fault.ScriptCause.TheVariants.{BadNode, OutOfRange}
+use Rattle.rz_script_words.specs.Words.{Word, actor_word, node_word, hex_word}
+use Rattle.rz_script_words.specs.declared.fault.ScriptCause.{ScriptCause}
+use Rattle.rz_script_words.specs.declared.fault.ScriptCause.TheVariants.{BadNode, OutOfRange}
 use Rattle.rz_events.specs.declared.operations.Datum.{Datum}
 use Rattle.rz_events.specs.declared.operations.Datum.TheVariants.{Bytes, Made}
 use Rattle.rz_events.specs.declared.operations.Operation.{Operation}
 use Rattle.rz_events.specs.declared.operations.Operation.TheVariants.{Tree, Put, Get, Write, Read, Rebuild, Update, View}
 use Rattle.rz_script.specs.declared.line.Line.{Line}
 use Rattle.rz_script.specs.declared.line.Line.TheVariants.{Op, Turn, Rounds, Rest, Stop, Start, Lose, Break, Miss}
-use Rattle.rz_operands.specs.declared.form.Form.{Form}
-use Rattle.rz_operands.specs.declared.form.Form.TheVariants as forms
-use Rattle.rz_operands.specs.declared.verbs.PathVerb.TheVariants as path_verbs
-use Rattle.rz_operands.specs.declared.verbs.PairVerb.TheVariants as pair_verbs
-use Rattle.rz_operands.specs.declared.verbs.Verb.{Verb}
-use Rattle.rz_operands.specs.declared.verbs.Verb.TheVariants as verbs
-use Rattle.rz_operands.specs.Limits.{has_node, datum_length, most_bytes, last_byte}
+use Rattle.rz_script_words.specs.declared.form.Form.{Form}
+use Rattle.rz_script_words.specs.declared.form.Form.TheVariants as forms
+use Rattle.rz_script_words.specs.declared.verbs.PathVerb.TheVariants as path_verbs
+use Rattle.rz_script_words.specs.declared.verbs.PairVerb.TheVariants as pair_verbs
+use Rattle.rz_script_words.specs.declared.verbs.Verb.{Verb}
+use Rattle.rz_script_words.specs.declared.verbs.Verb.TheVariants as verbs
+use Rattle.rz_script_words.specs.Limits.{has_node, datum_length, most_bytes, last_byte}
 use Rattle.rz_script.specs.Lines.{is_plain, IsWord, IsActor, IsDatum, IsCall, IsNodeOf, IsOfClient, IsOfRebuilder, IsOperation, IsLine, AreLines, allows}
-use Rattle.rz_operands.specs.Grammar.{Judge, Reader, and_then, ◌>>=◌, words, number, number_in, actor, node, datum, datum_from, length_from, verb, verb_named, path_verb_named, pair_verb_named, other_verb_named, operands, on_path, on_pair, setattr, put, get, bytes_at, range_at, rebuild}
+use Rattle.rz_script_words.specs.Grammar.{Judge, Reader, and_then, ◌>>=◌, words, number, number_in, actor, node, datum, datum_from, length_from, verb, verb_named, path_verb_named, pair_verb_named, other_verb_named, operands, on_path, on_pair, setattr, put, get, bytes_at, range_at, rebuild}
 use Rattle.rz_script.specs.Grammar.{lines, way, by_actor, op, turn, rounds, rest, on_node, break_node, miss, keyword, keyword_named, after_keyword, counted, line, lines_from}
 use Rattle.rz_script.specs.Spelling.{datum_word, call_word, call_operands, verb_word, operands_of, way_word, line_words, line_text, lines_text}
 

@@ -7,8 +7,8 @@ use Rattle.std.proofs.lemmas.List.{length-drop}
 use Rattle.std.proofs.lemmas.List.Sums.{passes_at_first, fails_before_first}
 use Rattle.std.proofs.lemmas.List.Splits.{slice_split_none, slice_split_first}
 use Rattle.std.proofs.lemmas.Str.{IsUtf8-take, IsUtf8-drop, IsCharBoundary-before_ascii, IsCharBoundary-after_ascii}
-use Rattle.rz_operands.specs.Words.{Word}
-use Rattle.rz_operands.specs.Grammar.{words}
+use Rattle.rz_script_words.specs.Words.{Word}
+use Rattle.rz_script_words.specs.Grammar.{words}
 use Rattle.rz_script.specs.Lines.{is_plain, IsWord}
 
 onto : (P : ℕ → Type 0) (x : ℕ) (ws : List (List ℕ)) → P x → AllByRecursion (AllByRecursion P) ws → AllByRecursion (AllByRecursion P) (onto_first x ws)

@@ -11,29 +11,29 @@ use Rattle.rz_events.specs.declared.keys.Actor.{Actor}
 use Rattle.rz_events.specs.declared.keys.Actor.TheVariants.{Client, Rebuilder, Admin}
 use Rattle.rz_events.specs.declared.tree.TreeCall.TheVariants as tree
 use Rattle.rz_events.specs.Volume.{Volume}
-use Rattle.rz_operands.specs.Words.{Word}
-use Rattle.rz_operands.specs.declared.fault.ScriptCause.{ScriptCause}
-use Rattle.rz_operands.specs.declared.fault.ScriptCause.TheVariants.{BadNode, OutOfRange}
+use Rattle.rz_script_words.specs.Words.{Word}
+use Rattle.rz_script_words.specs.declared.fault.ScriptCause.{ScriptCause}
+use Rattle.rz_script_words.specs.declared.fault.ScriptCause.TheVariants.{BadNode, OutOfRange}
 use Rattle.rz_events.specs.declared.operations.Datum.{Datum}
 use Rattle.rz_events.specs.declared.operations.Datum.TheVariants.{Bytes, Made}
 use Rattle.rz_events.specs.declared.operations.Operation.{Operation}
 use Rattle.rz_events.specs.declared.operations.Operation.TheVariants.{Tree, Put, Get, Write, Read, Rebuild, Update, View}
 use Rattle.rz_script.specs.declared.line.Line.{Line}
 use Rattle.rz_script.specs.declared.line.Line.TheVariants.{Op, Turn, Rounds, Rest, Stop, Start, Lose, Break, Miss}
-use Rattle.rz_operands.specs.declared.form.Form.{Form}
-use Rattle.rz_operands.specs.declared.form.Form.TheVariants as forms
-use Rattle.rz_operands.specs.declared.verbs.PathVerb.{PathVerb}
-use Rattle.rz_operands.specs.declared.verbs.PathVerb.TheVariants as path_verbs
-use Rattle.rz_operands.specs.declared.verbs.PairVerb.{PairVerb}
-use Rattle.rz_operands.specs.declared.verbs.PairVerb.TheVariants as pair_verbs
-use Rattle.rz_operands.specs.declared.verbs.Verb.{Verb}
-use Rattle.rz_operands.specs.declared.verbs.Verb.TheVariants as verbs
+use Rattle.rz_script_words.specs.declared.form.Form.{Form}
+use Rattle.rz_script_words.specs.declared.form.Form.TheVariants as forms
+use Rattle.rz_script_words.specs.declared.verbs.PathVerb.{PathVerb}
+use Rattle.rz_script_words.specs.declared.verbs.PathVerb.TheVariants as path_verbs
+use Rattle.rz_script_words.specs.declared.verbs.PairVerb.{PairVerb}
+use Rattle.rz_script_words.specs.declared.verbs.PairVerb.TheVariants as pair_verbs
+use Rattle.rz_script_words.specs.declared.verbs.Verb.{Verb}
+use Rattle.rz_script_words.specs.declared.verbs.Verb.TheVariants as verbs
 use Rattle.rz_script.specs.declared.keywords.Keyword.{Keyword}
 use Rattle.rz_script.specs.declared.keywords.Keyword.TheVariants as keys
 use Rattle.rz_script.proofs.Bytes.{utf8_bytes, are_bytes}
-use Rattle.rz_operands.specs.Limits.{has_node, datum_length, most_bytes, last_byte}
+use Rattle.rz_script_words.specs.Limits.{has_node, datum_length, most_bytes, last_byte}
 use Rattle.rz_script.specs.Lines.{IsActor, IsWord, IsDatum, IsCall, IsNodeOf, IsWrite, IsRead, IsOfClient, IsOfRebuilder, IsOperation, IsLine}
-use Rattle.rz_operands.specs.Grammar.{Judge, Reader, and_then, ◌>>=◌, done, any, number, number_in, numbered, actor, of_volume, node, at_most, made, hex, datum, datum_from, length_from, verb, judged, judged_if, unless_run, verb_named, path_call, pair_call, on_path, on_pair, setattr, put, get, bytes_at, range_at, rebuild, operands}
+use Rattle.rz_script_words.specs.Grammar.{Judge, Reader, and_then, ◌>>=◌, done, any, number, number_in, numbered, actor, of_volume, node, at_most, made, hex, datum, datum_from, length_from, verb, judged, judged_if, unless_run, verb_named, path_call, pair_call, on_path, on_pair, setattr, put, get, bytes_at, range_at, rebuild, operands}
 use Rattle.rz_script.specs.Grammar.{way, by_actor, op, turn, rounds, rest, on_node, break_node, miss, keyword, after_keyword, counted, line, some}
 
 both : (a b : Bool) → (a && b) ≡ true → (a ≡ true) × (b ≡ true)

@@ -3,11 +3,11 @@ use Rattle.std.proofs.Common.{◌≡◌, ℕ, suc, ◌+◌, ◌==◌, true, List
 use Rattle.std.specs.List.{cons_option}
 use Rattle.std.proofs.lemmas.List.{append-nil}
 use Rattle.rz_events.specs.Volume.{Volume}
-use Rattle.rz_operands.specs.declared.form.Form.{Form}
+use Rattle.rz_script_words.specs.declared.form.Form.{Form}
 use Rattle.rz_script.specs.declared.fault.ScriptError.{ScriptError}
 use Rattle.rz_script.specs.declared.fault.ScriptError.TheVariants as errors
 use Rattle.rz_script.specs.declared.line.Line.{Line}
-use Rattle.rz_operands.specs.Grammar.{words}
+use Rattle.rz_script_words.specs.Grammar.{words}
 use Rattle.rz_script.specs.Grammar.{line, at_line, join, lines_from}
 use Rattle.rz_script.specs.Given.{AddsLine, FailsScript, GivesScript}
 

@@ -26,15 +26,15 @@ use Rattle.rz_events.specs.declared.files.NodeSpec.{NodeSpec}
 use Rattle.rz_events.specs.Volume.{Volume, Cluster, IsNode, IsCluster, IsVolume}
 use Rattle.rz_config.specs.Plain.{plain_volume}
 use Rattle.rz_config.specs.Described.{volume_of_value, volume_of_text}
-use Rattle.rz_operands.specs.Words.{Word}
+use Rattle.rz_script_words.specs.Words.{Word}
 use Rattle.rz_script.specs.declared.fault.ScriptError.{ScriptError}
 use Rattle.rz_script.specs.declared.fault.ScriptError.TheVariants as errors
-use Rattle.rz_operands.specs.declared.fault.ScriptCause.TheVariants.{NotUtf8}
+use Rattle.rz_script_words.specs.declared.fault.ScriptCause.TheVariants.{NotUtf8}
 use Rattle.rz_script.specs.declared.line.Line.{Line}
-use Rattle.rz_operands.specs.declared.form.Form.{Form}
+use Rattle.rz_script_words.specs.declared.form.Form.{Form}
 use Rattle.rz_script.specs.Scripts.{Script}
 use Rattle.rz_script.specs.Lines.{is_plain, IsWord, AreLines, allows}
-use Rattle.rz_operands.specs.Grammar.{words, after_word}
+use Rattle.rz_script_words.specs.Grammar.{words, after_word}
 use Rattle.rz_script.specs.Grammar.{lines, lines_from, with_lines, with_volume, described, given, head, by_head, headed, script}
 use Rattle.rz_script.specs.Spelling.{node_text, cluster_text, description_text, volume_text, lines_text, script_text, AreShortNodes, AreShortClusters}
 use Rattle.rz_script.proofs.Again.{words_joined, number_word, joined_text, first_line, lines_again, printed_text}

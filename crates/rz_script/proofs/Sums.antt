@@ -14,7 +14,7 @@ use Rattle.rz_events.specs.declared.operations.Operation.{Operation}
 use Rattle.rz_events.specs.declared.operations.Operation.TheVariants.{Tree, Put, Get, Write, Read, Rebuild, Update, View}
 use Rattle.rz_script.specs.declared.line.Line.{Line}
 use Rattle.rz_script.specs.declared.line.Line.TheVariants.{Op, Turn, Rounds, Rest, Stop, Start, Lose, Break, Miss}
-use Rattle.rz_operands.specs.Limits.{datum_length}
+use Rattle.rz_script_words.specs.Limits.{datum_length}
 use Rattle.rz_script.specs.Lines.{IsLine, AreLines, IsOfClient, IsOfRebuilder, IsDatum}
 use Rattle.rz_script.specs.Weights.{block_weight, range_weight, operation_weight, line_weight}
 

@@ -6,15 +6,15 @@ use Rattle.rz_events.specs.Volume.{Volume}
 use Rattle.rz_config.specs.declared.fault.VolumeFault.{VolumeFault}
 use Rattle.rz_config.specs.Described.{volume_of_text}
 use Rattle.rz_config.specs.Plain.{plain_volume}
-use Rattle.rz_operands.specs.declared.fault.ScriptCause.{ScriptCause}
+use Rattle.rz_script_words.specs.declared.fault.ScriptCause.{ScriptCause}
 use Rattle.rz_script.specs.declared.fault.ScriptError.{ScriptError}
 use Rattle.rz_script.specs.declared.line.Line.{Line}
-use Rattle.rz_operands.specs.declared.form.Form.{Form}
+use Rattle.rz_script_words.specs.declared.form.Form.{Form}
 use Rattle.rz_script.specs.declared.reading.Head.{Head}
 use Rattle.rz_script.specs.declared.reading.Head.TheVariants as heads
 use Rattle.rz_script.specs.Scripts.{Script, no_lines}
 use Rattle.rz_script.specs.Lines.{AreLines}
-use Rattle.rz_operands.specs.Grammar.{words, after_word}
+use Rattle.rz_script_words.specs.Grammar.{words, after_word}
 use Rattle.rz_script.specs.Grammar.{lines, line, join, at_line, lines_from, with_lines, with_volume, described, given, head, by_head, headed}
 use Rattle.rz_script.proofs.Cut_words.{words_are, lines_are}
 use Rattle.rz_script.proofs.Bytes.{total, split_total}

@@ -3,7 +3,7 @@ use Rattle.std.specs.Prelude.{◌≡◌, ℕ, List, [], ◌++◌, Option, Result
 use Rattle.std.specs.List.{cons_option}
 use Rattle.std.specs.Global.{Vec}
 use Rattle.rz_events.specs.Volume.{Volume}
-use Rattle.rz_operands.specs.declared.fault.ScriptCause.{ScriptCause}
+use Rattle.rz_script_words.specs.declared.fault.ScriptCause.{ScriptCause}
 use Rattle.rz_script.specs.Scripts.{Script}
 use Rattle.rz_script.specs.declared.line.Line.{Line}
 use Rattle.rz_script.specs.declared.fault.ScriptError.{ScriptError}

@@ -8,12 +8,12 @@ use Rattle.rz_config.specs.declared.fault.VolumeFault.{VolumeFault}
 use Rattle.rz_config.specs.Described.{volume_of_text}
 use Rattle.rz_config.specs.Plain.{plain_volume}
 use Rattle.rz_events.specs.declared.operations.Operation.{Operation}
-use Rattle.rz_operands.specs.Words.{Word}
-use Rattle.rz_operands.specs.Grammar.{words, after_word, Judge, Reader, and_then, ◌>>=◌, done, number, number_in, actor, node, verb, operands}
-use Rattle.rz_operands.specs.declared.form.Form.{Form}
-use Rattle.rz_operands.specs.declared.form.Form.TheVariants as forms
-use Rattle.rz_operands.specs.declared.fault.ScriptCause.{ScriptCause}
-use Rattle.rz_operands.specs.declared.fault.ScriptCause.TheVariants.{NotUtf8, UnknownLine, MissingWord, LateVolume, NotForRun}
+use Rattle.rz_script_words.specs.Words.{Word}
+use Rattle.rz_script_words.specs.Grammar.{words, after_word, Judge, Reader, and_then, ◌>>=◌, done, number, number_in, actor, node, verb, operands}
+use Rattle.rz_script_words.specs.declared.form.Form.{Form}
+use Rattle.rz_script_words.specs.declared.form.Form.TheVariants as forms
+use Rattle.rz_script_words.specs.declared.fault.ScriptCause.{ScriptCause}
+use Rattle.rz_script_words.specs.declared.fault.ScriptCause.TheVariants.{NotUtf8, UnknownLine, MissingWord, LateVolume, NotForRun}
 use Rattle.rz_script.specs.declared.line.Line.{Line}
 use Rattle.rz_script.specs.declared.line.Line.TheVariants.{Op, Turn, Rounds, Rest, Stop, Start, Lose, Break, Miss}
 use Rattle.rz_script.specs.declared.keywords.Keyword.{Keyword}

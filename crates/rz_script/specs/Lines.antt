@@ -13,9 +13,9 @@ use Rattle.rz_events.specs.declared.operations.Datum.{Datum}
 use Rattle.rz_events.specs.declared.operations.Datum.TheVariants.{Bytes, Made}
 use Rattle.rz_events.specs.declared.operations.Operation.{Operation}
 use Rattle.rz_events.specs.declared.operations.Operation.TheVariants.{Tree, Put, Get, Write, Read, Rebuild, Update, View}
-use Rattle.rz_operands.specs.Limits.{has_node, datum_length, most_bytes, last_byte}
-use Rattle.rz_operands.specs.declared.form.Form.{Form}
-use Rattle.rz_operands.specs.declared.form.Form.TheVariants.{Replay, Run, Migrate}
+use Rattle.rz_script_words.specs.Limits.{has_node, datum_length, most_bytes, last_byte}
+use Rattle.rz_script_words.specs.declared.form.Form.{Form}
+use Rattle.rz_script_words.specs.declared.form.Form.TheVariants.{Replay, Run, Migrate}
 use Rattle.rz_script.specs.declared.line.Line.{Line}
 use Rattle.rz_script.specs.declared.line.Line.TheVariants.{Op, Turn, Rounds, Rest, Stop, Start, Lose, Break, Miss}
 

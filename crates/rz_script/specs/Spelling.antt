@@ -12,7 +12,7 @@ use Rattle.rz_events.specs.declared.operations.Datum.{Datum}
 use Rattle.rz_events.specs.declared.operations.Datum.TheVariants.{Bytes, Made}
 use Rattle.rz_events.specs.declared.operations.Operation.{Operation}
 use Rattle.rz_events.specs.declared.operations.Operation.TheVariants.{Tree, Put, Get, Write, Read, Rebuild, Update, View}
-use Rattle.rz_operands.specs.Words.{Word, actor_word, node_word, hex_word}
+use Rattle.rz_script_words.specs.Words.{Word, actor_word, node_word, hex_word}
 use Rattle.rz_script.specs.declared.line.Line.{Line}
 use Rattle.rz_script.specs.declared.line.Line.TheVariants.{Op, Turn, Rounds, Rest, Stop, Start, Lose, Break, Miss}
 use Rattle.rz_script.specs.Scripts.{Script}

@@ -4,7 +4,7 @@ use Rattle.mj_angles.specs.declared.layout.Layout.{Layout}
 use Rattle.mj_angles.specs.Layout.{block_bytes_of}
 use Rattle.rz_events.specs.declared.operations.Operation.{Operation}
 use Rattle.rz_events.specs.declared.operations.Operation.TheVariants.{Put, Get, Write, Read, Update, View}
-use Rattle.rz_operands.specs.Limits.{datum_length}
+use Rattle.rz_script_words.specs.Limits.{datum_length}
 use Rattle.rz_script.specs.declared.line.Line.{Line}
 use Rattle.rz_script.specs.declared.line.Line.TheVariants.{Op}
 use Rattle.rz_script.specs.Scripts.{Script}

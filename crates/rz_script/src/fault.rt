@@ -1,7 +1,7 @@
 //! Why a text is no script.
 
 use rz_config::VolumeFault;
-use rz_operands::ScriptCause;
+use rz_script_words::ScriptCause;
 use std::alloc::AllocError;
 
 /// Why a script was not read.

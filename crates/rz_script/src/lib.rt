@@ -5,7 +5,7 @@
 //! [`Script::read`] answers exactly that, in each of the three forms. `specs/Spelling` is the one
 //! spelling that [`Script::print`] gives. `specs/Weights` says what a script weighs. The contracts do
 //! not say what a script does to a store. Its words, and the operations that they make, are those of
-//! `rz_operands`; the words that a printed log writes alike are passed on from there.
+//! `rz_script_words`; the words that a printed log writes alike are passed on from there.
 //!
 //! In reading order: `fault`, `line`, `script`, `weights`, `keywords`, `lines`, `reading`, `printing`.
 #![tactic(auto)]
@@ -23,7 +23,7 @@ pub use fault::ScriptError;
 pub use line::Line;
 pub use rz_config::{Volume, VolumeFault};
 pub use rz_events::{Actor, Datum, Operation, Text, TreeCall};
-pub use rz_operands::{
+pub use rz_script_words::{
     Form, ScriptCause, push_actor, push_digits, push_hex, push_node, push_number, push_word,
     read_number,
 };

@@ -2,15 +2,15 @@
 
 ghost use Rattle.std.specs.Prelude.{◌≡◌};
 ghost use Rattle.rz_script.specs.declared.keywords.Keyword.TheVariants as keys;
-ghost use Rattle.rz_operands.specs.Given.{Gives};
-ghost use Rattle.rz_operands.specs.Grammar.{words};
+ghost use Rattle.rz_script_words.specs.Given.{Gives};
+ghost use Rattle.rz_script_words.specs.Grammar.{words};
 ghost use Rattle.rz_script.specs.Grammar.{way, op, turn, rounds, rest, on_node, break_node, miss, after_keyword, counted, line};
 ghost use Rattle.rz_script.specs.Shared.{turned};
 
 use crate::keywords::{Keyword, read_keyword};
 use crate::{Form, Line, ScriptCause, Volume};
-use rz_operands::judges::{read_actor, read_node, read_number, read_number_in};
-use rz_operands::{LineError, Words, read_operands, read_verb};
+use rz_script_words::judges::{read_actor, read_node, read_number, read_number_in};
+use rz_script_words::{LineError, Words, read_operands, read_verb};
 use std::alloc::Global;
 
 /// Whether the reply of a message is lost, or the request itself.

@@ -3,7 +3,7 @@
 ghost use Rattle.std.specs.Prelude.{◌≡◌, ◌≤◌, ◌++◌, ◌∷◌, true, codes, Ok, OnOk, IfOk};
 ghost use Rattle.std.specs.List.{flat_map, join_by, join_with_byte, list_all};
 ghost use Rattle.std.specs.Fmt.{decimal};
-ghost use Rattle.rz_operands.specs.Words.{node_word};
+ghost use Rattle.rz_script_words.specs.Words.{node_word};
 ghost use Rattle.rz_script.specs.Spelling.{datum_word, call_word, call_operands, verb_word, operands_of, way_word, line_words, line_text, lines_text, node_text, cluster_text, description_text, volume_text, script_text, AreShortNodes, AreShortClusters};
 ghost use Rattle.rz_events.specs.Volume.{IsVolume};
 ghost use Rattle.rz_script.specs.Grammar.{script};
@@ -13,7 +13,7 @@ use crate::{Datum, Form, Line, Operation, Script};
 use mj_angles::Layout;
 use rz_config::{ClusterSpec, Volume};
 use rz_events::{NodeSpec, Text, TreeCall};
-use rz_operands::{push_actor, push_digits, push_hex, push_node, push_number};
+use rz_script_words::{push_actor, push_digits, push_hex, push_node, push_number};
 use std::alloc::{AllocError, Global};
 
 /// A space and a datum.

@@ -4,13 +4,13 @@ ghost use Rattle.std.specs.Prelude.{◌≡◌, ◌≤◌, ◌<◌, ◌+◌, ◌^
 ghost use Rattle.rz_script.specs.declared.fault.ScriptError.TheVariants as errors;
 ghost use Rattle.rz_config.specs.Plain.{plain_volume};
 ghost use Rattle.rz_script.specs.Given.{AddsLine, GivesScript, script_of};
-ghost use Rattle.rz_operands.specs.Grammar.{words, after_word};
+ghost use Rattle.rz_script_words.specs.Grammar.{words, after_word};
 ghost use Rattle.rz_script.specs.Grammar.{lines, line, lines_from, with_lines, given, head, headed, script};
 
 use crate::lines::read_line;
 use crate::{Form, Line, Script, ScriptCause, ScriptError, Volume};
 use rz_config::VolumeError;
-use rz_operands::{LineError, Words, cut, rest_of};
+use rz_script_words::{LineError, Words, cut, rest_of};
 use std::alloc::Global;
 
 /// What a line is to the head of a script.

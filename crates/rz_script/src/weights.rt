@@ -5,7 +5,7 @@ ghost use Rattle.rz_script.specs.Weights.{block_weight, range_weight, operation_
 
 use crate::{Line, Operation};
 use mj_angles::Layout;
-use rz_operands::judges::datum_length;
+use rz_script_words::judges::datum_length;
 
 /// A block, in pieces of 4096 bytes.
 fn block_weight(layout: Layout) -> u64

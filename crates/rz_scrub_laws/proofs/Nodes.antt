@@ -30,16 +30,16 @@ use Rattle.rz_log_laws.specs.Places.{AreLaid, IsApart}
 use Rattle.rz_image_laws.specs.Images.{IsImaged}
 use Rattle.rz_image_laws.specs.Laws.{IsFetchLaw, IsReadBack}
 use Rattle.rz_play.specs.World.{World}
-use Rattle.rz_scrubbing.specs.Asks.{AreGiven}
-use Rattle.rz_scrubbing.specs.Scrubs.{EachListed}
-use Rattle.rz_seats.specs.declared.seat.Seat.{Seat}
-use Rattle.rz_formatting.specs.declared.formatting.Station.{Station}
-use Rattle.rz_stations.specs.Fetches.{GivesIn}
-use Rattle.rz_stations.specs.Asked.{fused_text}
-use Rattle.rz_stations.specs.Images.{AreImaged, HasImages, fused_image}
+use Rattle.rz_scrub_report.specs.Asks.{AreGiven}
+use Rattle.rz_scrub_report.specs.Scrubs.{EachListed}
+use Rattle.rz_driver_actors.specs.declared.seat.Seat.{Seat}
+use Rattle.rz_nodes.specs.declared.formatting.Station.{Station}
+use Rattle.rz_driver_nodes.specs.Fetches.{GivesIn}
+use Rattle.rz_driver_nodes.specs.Asked.{fused_text}
+use Rattle.rz_driver_nodes.specs.Images.{AreImaged, HasImages, fused_image}
 use Rattle.rz_driver.specs.Pictures.{IsPicture}
-use Rattle.rz_stations.specs.Stations.{state_in}
-use Rattle.rz_stations.proofs.Rows.{all-at, state-at}
+use Rattle.rz_driver_nodes.specs.Stations.{state_in}
+use Rattle.rz_driver_nodes.proofs.Rows.{all-at, state-at}
 use Rattle.rz_scrub_laws.specs.Untouched.{text_in}
 use Rattle.rz_scrub_laws.proofs.Blocks.{front, is-block, length-bins, of-record, position-is}
 use Rattle.rz_scrub_laws.proofs.Listed.{listed-file}

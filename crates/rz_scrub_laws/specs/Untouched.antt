@@ -6,15 +6,15 @@ use Rattle.rz_events.specs.declared.events.Event.{Event}
 use Rattle.rz_core.specs.HeldRecords.{block_of}
 use Rattle.rz_core.specs.History.{Begun, facts}
 use Rattle.rz_play.specs.World.{World}
-use Rattle.rz_scrubbing.specs.Asks.{AreGiven}
-use Rattle.rz_scrubbing.specs.Scrubs.{EachListed}
-use Rattle.rz_seats.specs.declared.seat.Seat.{Seat}
-use Rattle.rz_formatting.specs.declared.formatting.Station.{Station}
-use Rattle.rz_stations.specs.Fetches.{GivesIn}
-use Rattle.rz_stations.specs.Asked.{fused_text}
-use Rattle.rz_stations.specs.Images.{fused_image}
+use Rattle.rz_scrub_report.specs.Asks.{AreGiven}
+use Rattle.rz_scrub_report.specs.Scrubs.{EachListed}
+use Rattle.rz_driver_actors.specs.declared.seat.Seat.{Seat}
+use Rattle.rz_nodes.specs.declared.formatting.Station.{Station}
+use Rattle.rz_driver_nodes.specs.Fetches.{GivesIn}
+use Rattle.rz_driver_nodes.specs.Asked.{fused_text}
+use Rattle.rz_driver_nodes.specs.Images.{fused_image}
 use Rattle.rz_driver.specs.Pictures.{IsPicture}
-use Rattle.rz_stations.specs.Stations.{state_in}
+use Rattle.rz_driver_nodes.specs.Stations.{state_in}
 
 -- the text of a write, or none
 abbrev pub text_in : Option Begun → List ℕ

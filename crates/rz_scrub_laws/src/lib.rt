@@ -2,7 +2,7 @@
 //!
 //! [`untouched`] says that what the nodes of a published block tell of its record, and give of it, are the
 //! projections of one block: of the text with which the write of the published stamp began. With
-//! `rz_scrubbing`'s law of whole scrubs no line of a scrub then says that a record is altered, or that it is
+//! `rz_scrub_report`'s law of whole scrubs no line of a scrub then says that a record is altered, or that it is
 //! not known which.
 #![tactic(auto)]
 

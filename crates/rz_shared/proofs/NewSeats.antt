@@ -10,10 +10,10 @@ use Rattle.rz_events.specs.declared.events.Word.TheVariants.{Node}
 use Rattle.rz_chronicle.specs.Rules.{PostView}
 use Rattle.rz_chronicle.specs.Deals.{new_post}
 use Rattle.rz_chronicle.specs.Keys.{sids_of}
-use Rattle.rz_formatting.specs.declared.formatting.Station.{Station}
-use Rattle.rz_formatting.specs.Formatted.{AreFormatted, AreBack, IsBack}
-use Rattle.rz_formatting.proofs.FormatLemmas.{same-back}
-use Rattle.rz_formatting.proofs.Rowwise.{zip-same}
+use Rattle.rz_nodes.specs.declared.formatting.Station.{Station}
+use Rattle.rz_nodes.specs.Formatted.{AreFormatted, AreBack, IsBack}
+use Rattle.rz_nodes.proofs.FormatLemmas.{same-back}
+use Rattle.rz_nodes.proofs.Rowwise.{zip-same}
 use Rattle.rz_shared.specs.Seating.{IsReady}
 use Rattle.rz_shared.proofs.Readiness.{ready-all}
 

@@ -8,16 +8,16 @@ use Rattle.rz_disk.specs.UnderFuse.{UnderFuse}
 use Rattle.rz_events.specs.Volume.{Volume, IsVolume, nodes_of}
 use Rattle.rz_events.specs.declared.files.NodeSpec.{NodeSpec}
 use Rattle.rz_events.specs.declared.events.Word.TheVariants.{Node}
-use Rattle.rz_slots.specs.declared.geometry.Geometry.{Geometry}
-use Rattle.rz_slots.specs.Held.{nothing}
-use Rattle.rz_slots.specs.Stands.{StandsFor}
+use Rattle.rz_cells_slots.specs.declared.geometry.Geometry.{Geometry}
+use Rattle.rz_cells_slots.specs.Held.{nothing}
+use Rattle.rz_cells_slots.specs.Stands.{StandsFor}
 use Rattle.rz_core.specs.NodeRows.{cells_among, cells_of, IsNodeOf}
 use Rattle.rz_image_laws.specs.Images.{geometry_in}
 use Rattle.rz_chronicle.specs.Rules.{PostView}
 use Rattle.rz_chronicle.specs.Deals.{new_post}
 use Rattle.rz_chronicle.specs.Keys.{sids_of}
-use Rattle.rz_formatting.specs.declared.formatting.Station.{Station}
-use Rattle.rz_formatting.specs.Formatted.{geometry_of, IsFormatted, AreFormatted}
+use Rattle.rz_nodes.specs.declared.formatting.Station.{Station}
+use Rattle.rz_nodes.specs.Formatted.{geometry_of, IsFormatted, AreFormatted}
 use Rattle.rz_shared.specs.Arranged.{sids}
 use Rattle.rz_shared.specs.Seating.{IsReady}
 

@@ -8,8 +8,8 @@ use Rattle.rz_core.specs.History.{of_word}
 use Rattle.rz_core.specs.NodeRows.{IsNodeOf}
 use Rattle.rz_chronicle.specs.Kinds.{is_honest, volume_in}
 use Rattle.rz_chronicle.specs.Rules.{PostView}
-use Rattle.rz_locked.specs.Counts.{AreCountedSince}
-use Rattle.rz_locked.specs.Seats.{AreImagesFrom}
+use Rattle.rz_shared_locked.specs.Counts.{AreCountedSince}
+use Rattle.rz_shared_locked.specs.Seats.{AreImagesFrom}
 use Rattle.rz_shared.specs.Returned.{IsReturned}
 
 -- a disk out of its fuse, and the post of its node's word

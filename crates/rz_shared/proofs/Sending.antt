@@ -34,11 +34,11 @@ use Rattle.rz_export.proofs.nodes.KeptNode.TheSendSync as KeptNode
 use Rattle.rz_export.specs.contracts.export.Export as Export
 use Rattle.rz_chronicle.specs.declared.passes.Naming as Naming
 use Rattle.rz_chronicle.proofs.passes.Post.TheSendSync as Post
-use Rattle.rz_locked.specs.declared.counting.Counting as Counting
-use Rattle.rz_locked.specs.contracts.seat.Seat as Seat
-use Rattle.rz_locked.specs.contracts.seat.Seat.TheInside as SeatIn
-use Rattle.rz_locked.specs.contracts.office.Office as Office
-use Rattle.rz_locked.specs.contracts.office.Office.TheInside as OfficeIn
+use Rattle.rz_shared_locked.specs.declared.counting.Counting as Counting
+use Rattle.rz_shared_locked.specs.contracts.seat.Seat as Seat
+use Rattle.rz_shared_locked.specs.contracts.seat.Seat.TheInside as SeatIn
+use Rattle.rz_shared_locked.specs.contracts.office.Office as Office
+use Rattle.rz_shared_locked.specs.contracts.office.Office.TheInside as OfficeIn
 use Rattle.rz_shared.specs.contracts.room.Room as Room
 use Rattle.rz_shared.specs.contracts.room.Room.TheInside as RoomIn
 use Rattle.rz_shared.specs.contracts.cluster.Cluster as Cluster

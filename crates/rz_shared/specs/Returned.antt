@@ -6,8 +6,8 @@ use Rattle.rz_core.specs.History.{of_word}
 use Rattle.rz_core.specs.NodeRows.{IsNodeOf}
 use Rattle.rz_chronicle.specs.Kinds.{is_honest, volume_in}
 use Rattle.rz_chronicle.specs.Rules.{PostView}
-use Rattle.rz_locked.specs.Counts.{AreCountedSince}
-use Rattle.rz_locked.specs.Seats.{AreImagesFrom}
+use Rattle.rz_shared_locked.specs.Counts.{AreCountedSince}
+use Rattle.rz_shared_locked.specs.Seats.{AreImagesFrom}
 
 -- A disk, and the tally of the word of its node, a node of the volume. The faults of the word are those that the disk counted
 -- since it had counted `first` of that node. Over an honest book each image of the disk is one that this word gives, in the log of

@@ -3,15 +3,15 @@ use Rattle.std.specs.Prelude.{ℕ, ◌≡◌, ◌≤◌, Bool, IsTrue, List, Non
 use Rattle.rz_disk.specs.Images.{Only}
 use Rattle.rz_disk.specs.Meter.{Meter, faults}
 use Rattle.rz_disk.specs.UnderFuse.{UnderFuse}
-use Rattle.rz_slots.specs.Held.{nothing}
-use Rattle.rz_slots.specs.Stands.{StandsFor}
+use Rattle.rz_cells_slots.specs.Held.{nothing}
+use Rattle.rz_cells_slots.specs.Stands.{StandsFor}
 use Rattle.rz_node_model.specs.States.{fresh}
 use Rattle.rz_events.specs.Volume.{Volume}
 use Rattle.rz_events.specs.declared.events.Word.TheVariants.{Node}
 use Rattle.rz_core.specs.NodeRows.{IsNodeOf}
 use Rattle.rz_chronicle.specs.Rules.{PostView}
 use Rattle.rz_chronicle.specs.Deals.{new_post}
-use Rattle.rz_formatting.specs.declared.formatting.Station.{Station}
+use Rattle.rz_nodes.specs.declared.formatting.Station.{Station}
 use Rattle.rz_image_laws.specs.Images.{geometry_in}
 
 -- A node of the volume on a disk that was formatted for it and is not armed, whose one image is its text, and whose count of faults

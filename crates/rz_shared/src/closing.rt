@@ -5,7 +5,7 @@ ghost use Rattle.std.specs.Vec.{vec_len, vec_capacity};
 ghost use Rattle.rz_events.specs.declared.events.Word.TheVariants as w;
 ghost use Rattle.rz_events.specs.Volume.{nodes_of};
 ghost use Rattle.rz_chronicle.specs.Keys.{sids_of, word_key};
-ghost use Rattle.rz_locked.specs.Seats.{SeatView};
+ghost use Rattle.rz_shared_locked.specs.Seats.{SeatView};
 ghost use Rattle.rz_shared.specs.Returned.{IsReturned};
 
 use crate::arranging::arrange;

@@ -15,8 +15,8 @@ ghost use Rattle.rz_core.specs.Tied.{IsProperCall};
 ghost use Rattle.rz_chronicle.specs.Keys.{count_at, word_key};
 ghost use Rattle.rz_chronicle.specs.Kinds.{IsFit, MayCome, is_honest, volume_in};
 ghost use Rattle.rz_chronicle.specs.Holds.{Commits};
-ghost use Rattle.rz_locked.specs.Seats.{MayAsk, IsFor, Answered, IsRead};
-ghost use Rattle.rz_locked.specs.Offices.{AreBytes, Replied};
+ghost use Rattle.rz_shared_locked.specs.Seats.{MayAsk, IsFor, Answered, IsRead};
+ghost use Rattle.rz_shared_locked.specs.Offices.{AreBytes, Replied};
 
 use crate::room::Room;
 use crate::{Counting, Office, Seat};

@@ -21,5 +21,5 @@ mod room;
 mod seating;
 
 pub use cluster::Cluster;
-pub use rz_formatting::DriverFault;
-pub use rz_locked::{Counting, Office, Seat};
+pub use rz_nodes::DriverFault;
+pub use rz_shared_locked::{Counting, Office, Seat};

@@ -9,7 +9,7 @@ ghost use Rattle.rz_export_model.specs.Export.{new_export};
 ghost use Rattle.rz_chronicle.specs.Deals.{new_post};
 ghost use Rattle.rz_chronicle.specs.Keys.{sids_of};
 ghost use Rattle.rz_chronicle.specs.Kinds.{is_honest, volume_in};
-ghost use Rattle.rz_formatting.specs.Formatted.{AreBack, IsCause};
+ghost use Rattle.rz_nodes.specs.Formatted.{AreBack, IsCause};
 
 use crate::cluster::Cluster;
 use crate::room::Room;
@@ -21,7 +21,7 @@ use rz_config::Volume;
 use rz_disk::{Disk, Fused};
 use rz_events::NodeSpec;
 use rz_export::Export;
-use rz_formatting::{DriverFault, all_nodes, format_all};
+use rz_nodes::{DriverFault, all_nodes, format_all};
 use std::alloc::{AllocError, Global};
 use std::sync::Mutex;
 

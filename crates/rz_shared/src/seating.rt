@@ -8,7 +8,7 @@ ghost use Rattle.rz_shared.specs.Seating.{IsReady};
 use crate::{Counting, Seat};
 use rz_chronicle::Post;
 use rz_disk::{Disk, Fused};
-use rz_formatting::Station;
+use rz_nodes::Station;
 use std::alloc::Global;
 use std::sync::Mutex;
 

@@ -15,7 +15,7 @@ use Rattle.rz_events.specs.declared.ends.RebuildEnd.TheVariants as rebuild
 use Rattle.rz_events.specs.declared.files.Attr.{Attr}
 use Rattle.rz_events.specs.declared.events.Answer.{Answer}
 use Rattle.rz_events.specs.declared.events.Answer.TheVariants as answer
-use Rattle.rz_operands.specs.Words.{Word}
+use Rattle.rz_script_words.specs.Words.{Word}
 use Rattle.rz_show.specs.Words.{uuid_word, kind_word, bytes_word}
 use Rattle.rz_show.specs.Outcomes.{why_word, seen_word, mask_word}
 

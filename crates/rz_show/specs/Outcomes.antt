@@ -6,7 +6,7 @@ use Rattle.rz_events.specs.declared.ends.Why.{Why}
 use Rattle.rz_events.specs.declared.ends.Why.TheVariants as why
 use Rattle.rz_events.specs.declared.ends.Seen.{Seen}
 use Rattle.rz_events.specs.declared.ends.Seen.TheVariants as seen
-use Rattle.rz_operands.specs.Words.{Word}
+use Rattle.rz_script_words.specs.Words.{Word}
 
 -- a write's outcome: - k p d l f u x m e, and ? for what no position of a write comes to
 unfoldable pub why_letter : Why → ℕ

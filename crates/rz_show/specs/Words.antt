@@ -9,7 +9,7 @@ use Rattle.uuid.specs.Text.{hyphenated_text, lower}
 use Rattle.rz_events.specs.declared.keys.Actor.{Actor}
 use Rattle.rz_events.specs.declared.files.Kind.{Kind}
 use Rattle.rz_events.specs.declared.files.Kind.TheVariants.{File, Dir, Link}
-use Rattle.rz_operands.specs.Words.{Word, actor_word, node_word, hex_word}
+use Rattle.rz_script_words.specs.Words.{Word, actor_word, node_word, hex_word}
 
 -- words, each after a space
 abbrev pub spaced : List Word → List ℕ

@@ -3,7 +3,7 @@
 ghost use Rattle.std.specs.Prelude.{◌≡◌, ◌≤◌, ◌++◌, [], ◌∷◌, IfOk, OnOk, codes};
 ghost use Rattle.rz_events.specs.Events.{by_of};
 ghost use Rattle.std.specs.Fmt.{decimal};
-ghost use Rattle.rz_operands.specs.Words.{actor_word};
+ghost use Rattle.rz_script_words.specs.Words.{actor_word};
 ghost use Rattle.rz_show.specs.Words.{actor_line, node_line};
 ghost use Rattle.rz_show.specs.Ends.{answer_words, read_words, write_words};
 ghost use Rattle.rz_show.specs.Text.{end_line, line, text_of};

@@ -1,6 +1,6 @@
 //! A block whose records stand on the disks of nodes, some of which read a bit of their record wrong.
 ghost use Rattle.std.specs.Prelude.{◌≡◌, ◌<◌, IfOk, length, vec_len};
-ghost use Rattle.rz_slots.specs.Shape.{IsGeometry};
+ghost use Rattle.rz_cells_slots.specs.Shape.{IsGeometry};
 ghost use Rattle.mj_angles.specs.Layout.{inverse_of, cols_of, safe_of, bins_at_of, max_bins_of};
 
 use crate::nodes::KEY;

@@ -3,7 +3,7 @@
 use mj_angles::Layout;
 use rz_events::Key;
 use rz_scrub::Verdict;
-use rz_scrubbing::{Finding, push_line};
+use rz_scrub_report::{Finding, push_line};
 use std::test::Fail;
 
 const KEY: Key = Key {

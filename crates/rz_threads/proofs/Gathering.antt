@@ -4,7 +4,7 @@ use Rattle.std.specs.List.{AllByRecursion}
 use Rattle.rz_events.specs.declared.events.Event.{Event}
 use Rattle.rz_chronicle.specs.Keys.{IsOneOf}
 use Rattle.rz_chronicle.specs.Rules.{PassView}
-use Rattle.rz_staff.specs.Gathered.{GoesOn, IsHeld, IsHeldLaw}
+use Rattle.rz_threads_workers.specs.Gathered.{GoesOn, IsHeld, IsHeldLaw}
 
 pub one-of-left : (k : ℕ) (xs ys : List ℕ) → IsOneOf k xs → IsOneOf k (xs ++ ys)
 one-of-left k [] ys h = absurd h

@@ -10,7 +10,7 @@ use Rattle.rz_core.specs.History.{of_word}
 use Rattle.rz_chronicle.specs.Keys.{events_at, word_key}
 use Rattle.rz_chronicle.specs.Holds.{IsSettled}
 use Rattle.rz_chronicle.specs.Rules.{PostView}
-use Rattle.rz_locked.specs.Counts.{AreCountedSince}
+use Rattle.rz_shared_locked.specs.Counts.{AreCountedSince}
 use Rattle.rz_shared.specs.Returned.{IsReturned}
 use Rattle.rz_threads.specs.Left.{IsLeft}
 

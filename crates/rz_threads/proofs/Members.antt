@@ -10,13 +10,13 @@ use Rattle.rz_play.specs.World.{Seat}
 use Rattle.rz_play.specs.Faults.{missed}
 use Rattle.rz_chronicle.specs.Kinds.{is_honest, volume_in}
 use Rattle.rz_chronicle.specs.Rules.{PassView}
-use Rattle.rz_staff.specs.Gathered.{IsHeld}
+use Rattle.rz_threads_workers.specs.Gathered.{IsHeld}
 use Rattle.rz_show.specs.Shown.{shown_of}
-use Rattle.rz_steps.specs.Turned.{AreLost}
-use Rattle.rz_worker.specs.Doing.{HasDone, IsBegun}
-use Rattle.rz_worker.specs.Workers.{IsAllDone, seat_of}
-use Rattle.rz_staff.specs.declared.member.Member.{Member}
-use Rattle.rz_staff.specs.Staff.{actor_of, link_of, pass_of, shown_by, HasWorked, WantsNothing}
+use Rattle.rz_threads_steps.specs.Turned.{AreLost}
+use Rattle.rz_threads_worker.specs.Doing.{HasDone, IsBegun}
+use Rattle.rz_threads_worker.specs.Workers.{IsAllDone, seat_of}
+use Rattle.rz_threads_workers.specs.declared.member.Member.{Member}
+use Rattle.rz_threads_workers.specs.Staff.{actor_of, link_of, pass_of, shown_by, HasWorked, WantsNothing}
 use Rattle.rz_threads.specs.Played.{HasBegun, HasFinished, HasLost, shown_for}
 
 -- A log with the same events of an actor.

@@ -13,9 +13,9 @@ use Rattle.rz_config.proofs.volume.Volume.TheSendSync as Volume
 use Rattle.rz_locks.proofs.table.Locks.TheSendSync as Locks
 use Rattle.rz_chronicle.specs.declared.passes.Naming as Naming
 use Rattle.rz_chronicle.proofs.book.Book.TheSendSync as Book
-use Rattle.rz_locked.specs.declared.counting.Counting as Counting
+use Rattle.rz_shared_locked.specs.declared.counting.Counting as Counting
 use Rattle.rz_shared.proofs.Sending.{cluster_sync}
-use Rattle.rz_steps.specs.contracts.store.Store as Store
+use Rattle.rz_threads_steps.specs.contracts.store.Store as Store
 
 -- threads may share a store
 pub store_sync : (D K : RattleType) (g : Disk.Ghosts D.Denot) (c : Counting.Ghosts K.Denot) (n : Naming.Ghosts K.Denot) → IsSend D → IsSync (Store.the_row D K g c n)

@@ -11,10 +11,10 @@ use Rattle.rz_play.specs.World.{actors}
 use Rattle.rz_play_locks.proofs.Barring.{of-actors}
 use Rattle.rz_chronicle.specs.Keys.{IsOneOf, owner, word_key}
 use Rattle.rz_chronicle.specs.Rules.{PassView, PostView}
-use Rattle.rz_staff.specs.Gathered.{GoesOn, IsHeld}
-use Rattle.rz_staff.specs.Moves.{HoldsAll}
-use Rattle.rz_staff.specs.declared.member.Member.{Member}
-use Rattle.rz_staff.specs.Staff.{HasWorked, actor_of, pass_of}
+use Rattle.rz_threads_workers.specs.Gathered.{GoesOn, IsHeld}
+use Rattle.rz_threads_workers.specs.Moves.{HoldsAll}
+use Rattle.rz_threads_workers.specs.declared.member.Member.{Member}
+use Rattle.rz_threads_workers.specs.Staff.{HasWorked, actor_of, pass_of}
 use Rattle.rz_threads.proofs.Gathering.{one-of-left, one-of-right}
 
 -- The keys of a desk's posts are those of their words.

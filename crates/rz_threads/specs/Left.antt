@@ -6,7 +6,7 @@ use Rattle.rz_events.specs.declared.events.Event.{Event}
 use Rattle.rz_core.specs.History.{facts, of_word}
 use Rattle.rz_image_laws.specs.Images.{AreImages, geometry_in}
 use Rattle.rz_chronicle.specs.Kinds.{is_honest, volume_in}
-use Rattle.rz_locked.specs.Counts.{AreCountedSince}
+use Rattle.rz_shared_locked.specs.Counts.{AreCountedSince}
 
 -- The faults of the node's word are those that its disk counted since it had counted `first` of that node. Over an honest book each
 -- image of the disk is one that the word gives, by all of the log.

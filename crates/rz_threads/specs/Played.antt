@@ -4,11 +4,11 @@ use Rattle.rz_events.specs.declared.events.Event.{Event}
 use Rattle.rz_core.specs.History.{of_actor}
 use Rattle.rz_chronicle.specs.Kinds.{is_honest, volume_in}
 use Rattle.rz_show.specs.Shown.{shown_of}
-use Rattle.rz_steps.specs.Turned.{AreLost}
-use Rattle.rz_worker.specs.Doing.{IsBegun}
-use Rattle.rz_worker.specs.Workers.{IsAllDone, seat_of}
-use Rattle.rz_staff.specs.declared.member.Member.{Member}
-use Rattle.rz_staff.specs.Staff.{actor_of}
+use Rattle.rz_threads_steps.specs.Turned.{AreLost}
+use Rattle.rz_threads_worker.specs.Doing.{IsBegun}
+use Rattle.rz_threads_worker.specs.Workers.{IsAllDone, seat_of}
+use Rattle.rz_threads_workers.specs.declared.member.Member.{Member}
+use Rattle.rz_threads_workers.specs.Staff.{actor_of}
 
 -- The member stands here as it came to work.
 

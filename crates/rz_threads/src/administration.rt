@@ -9,7 +9,7 @@ use crate::orders::{arm, order};
 use rz_chronicle::{Book, Pass};
 use rz_disk::Disk;
 use rz_events::{Actor, NodeAsk};
-use rz_lines::NoMemory;
+use rz_player::NoMemory;
 use rz_script::Line;
 use rz_shared::{Cluster, Counting};
 use std::sync::Wait;

@@ -26,4 +26,4 @@ mod playing;
 pub use administration::administer;
 pub use beside::{Shift, at_work, work_all};
 pub use playing::{Played, play};
-pub use rz_lines::NoMemory;
+pub use rz_player::NoMemory;

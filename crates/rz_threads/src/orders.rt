@@ -7,7 +7,7 @@ ghost use Rattle.rz_threads.specs.Orders.{Waits, IsCalled, IsArmed, IsOrder, is_
 use rz_chronicle::{Book, Pass};
 use rz_disk::Disk;
 use rz_events::{Actor, NodeAnswer, NodeAsk, StartAnswer};
-use rz_lines::NoMemory;
+use rz_player::NoMemory;
 use rz_shared::{Cluster, Counting};
 use std::sync::Wait;
 

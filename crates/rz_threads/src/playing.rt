@@ -9,9 +9,9 @@ ghost use Rattle.rz_play.specs.World.{actors};
 ghost use Rattle.rz_chronicle.specs.Keys.{IsLater, sids_of, word_key};
 ghost use Rattle.rz_chronicle.specs.Kinds.{IsFit, volume_in};
 ghost use Rattle.rz_chronicle.specs.Rules.{PassView};
-ghost use Rattle.rz_staff.specs.Gathered.{GoesOn, IsHeld};
-ghost use Rattle.rz_staff.specs.Moves.{HoldsAll};
-ghost use Rattle.rz_staff.specs.Staff.{CanWork, actor_of};
+ghost use Rattle.rz_threads_workers.specs.Gathered.{GoesOn, IsHeld};
+ghost use Rattle.rz_threads_workers.specs.Moves.{HoldsAll};
+ghost use Rattle.rz_threads_workers.specs.Staff.{CanWork, actor_of};
 ghost use Rattle.rz_threads.specs.Orders.{AreBegun, AreDone, Waits};
 ghost use Rattle.rz_threads.specs.Left.{IsLeft};
 ghost use Rattle.rz_threads.specs.Played.{HasBegun, HasFinished, HasLost, shown_for};
@@ -23,8 +23,8 @@ use rz_events::{Actor, Event};
 use rz_link::Link;
 use rz_script::Line;
 use rz_shared::{Cluster, Counting};
-use rz_staff::{Room, Staff, dismiss, gather_all, have_finished};
-use rz_worker::Store;
+use rz_threads_worker::Store;
+use rz_threads_workers::{Room, Staff, dismiss, gather_all, have_finished};
 use std::alloc::Global;
 use std::sync::Wait;
 use std::thread::Threads;
@@ -70,7 +70,7 @@ fn gather_up<D: Disk, J: Counting>(
     ensures fit { IsFit J.kind result.front.log }
 {
     rz_chronicle::actors_kept();
-    rz_staff::held_lasts();
+    rz_threads_workers::held_lasts();
     let _own = admin.actor();
     let Store {
         cluster,

@@ -1,6 +1,6 @@
 use Rattle.std.proofs.Common.{rules, arith, ◌≤◌, ◌+◌, ◌*◌, ℕ, length}
-use Rattle.mj_sums.proofs.Taken.{place_below, place_le}
-use Rattle.mj_sums.proofs.AllZero.{zero_between}
+use Rattle.mj_inverse_sums.proofs.Taken.{place_below, place_le}
+use Rattle.mj_inverse_sums.proofs.AllZero.{zero_between}
 use Rattle.mj_inverse.proofs.Trimmed.{zero_within}
 use Rattle.mj_inverse.proofs.ends.are_zero.Goals as goal
 

@@ -1,5 +1,5 @@
 use Rattle.std.proofs.Common.{rules, arith, ◌≤◌, ◌+◌, ◌*◌, ℕ, length}
-use Rattle.mj_sums.proofs.AllZero.{zero_between}
+use Rattle.mj_inverse_sums.proofs.AllZero.{zero_between}
 use Rattle.mj_inverse.proofs.ends.is_zero_place.Goals as goal
 
 pub returns : goal.returns

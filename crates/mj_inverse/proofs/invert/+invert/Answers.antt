@@ -1,6 +1,6 @@
 use Rattle.std.proofs.Common.{rules, arith, ◌≡◌, ◌<◌, ◌+◌, ◌-◌, ℕ, suc, List, ◌∷◌, length, map, sym, ap, ◌∙◌, subst}
 use Rattle.mj_inverse.specs.declared.series.Series.{Series}
-use Rattle.mj_sums.specs.Polynomials.{IsFinite}
+use Rattle.mj_inverse_sums.specs.Polynomials.{IsFinite}
 use Rattle.mj_inverse.specs.Rows.{joined, Every, Both, HaveValues, Differ, IsDividedOut}
 use Rattle.mj_inverse.specs.Series.{seq, angle, angles, AreAt, IsUnmarked, KeepsRoom}
 use Rattle.mj_inverse.proofs.Divided.{quotient}

@@ -1,7 +1,7 @@
 use Rattle.std.proofs.Common.{arith, ◌≡◌, ◌<◌, ◌+◌, ◌*◌, ℕ, ℤ, get_or, sym, ◌∙◌, ◌≤◌, ◌⊎◌, inl, inr, subst}
 use Rattle.std.proofs.lemmas.Bool.{cases_lt}
 use Rattle.mj_angles.specs.Projection.{bins, bin}
-use Rattle.mj_sums.specs.Line.{line_sum}
+use Rattle.mj_inverse_sums.specs.Line.{line_sum}
 use Rattle.mj_inverse.specs.Padded.{inner, reach_of, width_of}
 use Rattle.mj_inverse.proofs.Crossed.{line-is, line_fits, reaches}
 use Rattle.mj_inverse.proofs.Left.{none_left, left_none}

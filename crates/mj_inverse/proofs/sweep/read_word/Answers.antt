@@ -2,7 +2,7 @@ use Rattle.std.proofs.Common.{arith, ◌≡◌, ◌<◌, ◌+◌, ◌-◌, ◌*�
 use Rattle.mj_angles.specs.Projection.{bins, bin, offset, row_start}
 use Rattle.std.proofs.Math.Nat.{add_assoc}
 use Rattle.mj_angles.proofs.Sums.{row_within}
-use Rattle.mj_sums.specs.Line.{line_sum}
+use Rattle.mj_inverse_sums.specs.Line.{line_sum}
 use Rattle.mj_inverse.specs.Padded.{inner, reach_of, width_of}
 use Rattle.mj_inverse.proofs.Crossed.{line-is, line_fits, own_fits, reaches, other_words, still_padded}
 use Rattle.mj_inverse.proofs.sweep.read_word.Goals as goal

@@ -3,8 +3,8 @@ use Rattle.rz_events.specs.Volume.{Volume}
 use Rattle.rz_script.specs.declared.line.Line.{Line}
 use Rattle.rz_play.specs.World.{World, new_world}
 use Rattle.rz_driver.specs.Worlds.{world_of}
-use Rattle.rz_lines.specs.Ends.{IsEnded}
-use Rattle.rz_lines.proofs.Anew.{ended}
+use Rattle.rz_player.specs.Ends.{IsEnded}
+use Rattle.rz_player.proofs.Anew.{ended}
 use Rattle.rozo_sample.proofs.Shown.{shows}
 use Rattle.rozo_sample.proofs.sample.play_on.Goals as goal
 

@@ -1,6 +1,6 @@
 use Rattle.std.proofs.Common.{List, ◌∷◌, ◌++◌, [], reverse, Option, sym, ◌∙◌, ap, arith}
 use Rattle.std.specs.Prelude.{option_to_list}
-use Rattle.rz_formatting.specs.Formatted.{disks_of}
+use Rattle.rz_nodes.specs.Formatted.{disks_of}
 use Rattle.rz_driver.proofs.closing.hand_back_with.Goals as goal
 
 pub push_reserved-requires : goal.push_reserved-requires

@@ -3,7 +3,7 @@ use Rattle.rz_events.specs.Volume.{Volume}
 use Rattle.rz_journal.specs.Opening.{IsRefused}
 use Rattle.rz_asks.specs.Reopened.{AllTextsOf, MakesExport}
 use Rattle.rz_asks.specs.Stands.{export_in}
-use Rattle.rz_formatting.specs.declared.refusal.OpenRefusal.{OpenRefusal}
+use Rattle.rz_nodes.specs.declared.refusal.OpenRefusal.{OpenRefusal}
 use Rattle.rz_driver.specs.Continued.{IsJournalCause}
 use Rattle.rz_driver.proofs.AgainLemmas.{as-it-came, cause-of}
 use Rattle.rz_driver.proofs.continuing.open_journal.Goals as goal

@@ -3,9 +3,9 @@ use Rattle.std.proofs.Common.{◌+◌, ◌*◌, ℕ, List, Option, None, refl, s
 use Rattle.rz_events.specs.declared.records.Head.{Head}
 use Rattle.rz_node_model.specs.Records.{stamp_of, with_held}
 use Rattle.rz_versions.specs.Sides.{in_order, put_at}
-use Rattle.rz_slots.specs.declared.geometry.Geometry.{Geometry}
-use Rattle.rz_slots.specs.Held.{in_cell}
-use Rattle.rz_slots.specs.Stands.{StandsEither, StandsChanged}
+use Rattle.rz_cells_slots.specs.declared.geometry.Geometry.{Geometry}
+use Rattle.rz_cells_slots.specs.Held.{in_cell}
+use Rattle.rz_cells_slots.specs.Stands.{StandsEither, StandsChanged}
 use Rattle.rz_node.specs.Kept.{held_by, sides_in, IsTied}
 use Rattle.rz_node.proofs.Places.{held-key}
 use Rattle.rz_node.proofs.Clears.{cleared, records-after}

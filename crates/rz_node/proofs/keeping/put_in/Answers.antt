@@ -7,9 +7,9 @@ use Rattle.rz_node_model.specs.Records.{record_of, stamp_of, with_held}
 use Rattle.rz_versions.specs.declared.versions.Version.{Version}
 use Rattle.rz_versions.specs.Sides.{Sides, in_order, put_at, Differ}
 use Rattle.rz_versions.specs.Sides as sides
-use Rattle.rz_slots.specs.declared.geometry.Geometry.{Geometry}
-use Rattle.rz_slots.specs.Held.{in_cell}
-use Rattle.rz_slots.specs.Stands.{StandsEither, StandsChanged}
+use Rattle.rz_cells_slots.specs.declared.geometry.Geometry.{Geometry}
+use Rattle.rz_cells_slots.specs.Held.{in_cell}
+use Rattle.rz_cells_slots.specs.Stands.{StandsEither, StandsChanged}
 use Rattle.rz_node.specs.Kept.{held_by, sides_in, IsTied}
 use Rattle.rz_node.proofs.Places.{placed}
 use Rattle.rz_node.proofs.Puts.{tied-put, held-put, records-after, goes-put}

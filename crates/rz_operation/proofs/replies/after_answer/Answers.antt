@@ -2,10 +2,10 @@ use Rattle.std.proofs.Common.{subst, sym}
 use Rattle.mj_angles.specs.declared.layout.Layout.{Layout}
 use Rattle.rz_events.specs.declared.nodes.NodeAnswer.{NodeAnswer}
 use Rattle.rz_events.specs.declared.nodes.NodeAnswer.TheVariants as node
-use Rattle.rz_stages.specs.declared.stage.Stage.{Stage}
-use Rattle.rz_stages.specs.declared.stage.Stage.TheVariants as stage
-use Rattle.rz_stages.specs.Answers.{IsAnswered}
-use Rattle.rz_stages.specs.Inside.{IsStage, machine_of}
+use Rattle.rz_operation_states.specs.declared.stage.Stage.{Stage}
+use Rattle.rz_operation_states.specs.declared.stage.Stage.TheVariants as stage
+use Rattle.rz_operation_states.specs.Answers.{IsAnswered}
+use Rattle.rz_operation_states.specs.Inside.{IsStage, machine_of}
 use Rattle.rz_operation.proofs.ReadTurns.{fetched}
 use Rattle.rz_operation.proofs.replies.after_answer.Goals as goal
 

@@ -1,9 +1,9 @@
 use Rattle.std.proofs.Common.{subst, sym}
 use Rattle.rz_operation_model.specs.Steps.{Noted}
-use Rattle.rz_stages.specs.declared.stage.Stage.{Stage}
-use Rattle.rz_stages.specs.Machine.{Machine, text_of}
-use Rattle.rz_stages.specs.Answers.{Goes}
-use Rattle.rz_stages.specs.Inside.{machine_of}
+use Rattle.rz_operation_states.specs.declared.stage.Stage.{Stage}
+use Rattle.rz_operation_states.specs.Machine.{Machine, text_of}
+use Rattle.rz_operation_states.specs.Answers.{Goes}
+use Rattle.rz_operation_states.specs.Inside.{machine_of}
 use Rattle.rz_operation.proofs.replies.after_said.Goals as goal
 
 pub returns-in-Ranging-clause-goes : goal.returns-in-Ranging-clause-goes

@@ -3,19 +3,19 @@ use Rattle.std.specs.Prelude.{option_to_list}
 use Rattle.std.proofs.lemmas.List.{reverse-reverse}
 use Rattle.rz_disk.specs.Meter.{faults}
 use Rattle.rz_disk.specs.UnderFuse.{UnderFuse}
-use Rattle.rz_seats.specs.declared.shared.Shared.{Shared}
+use Rattle.rz_driver_actors.specs.declared.shared.Shared.{Shared}
 use Rattle.rz_driver.specs.Continued.{AreLeft, IsCauseAgain}
 use Rattle.rz_driver.specs.Endings.{EndsAsRefused, StandsForLog}
 use Rattle.rz_driver.specs.Worlds.{Holds, Leaves, exact_if, is_exact, left_behind, tells-exactly, world_of}
-use Rattle.rz_continuation.specs.Earlier.{IsEarlier, IsRestarted}
+use Rattle.rz_restart_laws.specs.Earlier.{IsEarlier, IsRestarted}
 use Rattle.rz_events.specs.Volume.{Volume, nodes_of}
 use Rattle.rz_events.specs.declared.events.Event.{Event}
-use Rattle.rz_formatting.specs.Formatted.{disks_of}
+use Rattle.rz_nodes.specs.Formatted.{disks_of}
 use Rattle.rz_asks.specs.Stands.{disk_of, export_in, is_journaled, refusal_of}
-use Rattle.rz_formatting.specs.Opened.{AreKept}
+use Rattle.rz_nodes.specs.Opened.{AreKept}
 use Rattle.rz_script.specs.declared.line.Line.{Line}
-use Rattle.rz_stations.specs.Meters.{faults_at}
-use Rattle.rz_stations.specs.Stations.{state_in}
+use Rattle.rz_driver_nodes.specs.Meters.{faults_at}
+use Rattle.rz_driver_nodes.specs.Stations.{state_in}
 use Rattle.rz_core.specs.HeldRecords.{block_of}
 use Rattle.rz_core.specs.History.{facts}
 use Rattle.rz_core.specs.Legal.{IsLegalInRuns}
@@ -24,14 +24,14 @@ use Rattle.rz_play.specs.World.{World, world_after}
 use Rattle.rz_play.specs.Played.{IsBegunFrom}
 use Rattle.rz_play_laws.specs.Fine.{IsFine, MayBegin}
 use Rattle.rz_play_laws.specs.Runs.{IsRunAfter}
-use Rattle.rz_lines.specs.Behind.{Before, behind}
-use Rattle.rz_lines.specs.Ends.{IsEnded}
-use Rattle.rz_lines.specs.declared.lines.PlayEnd.{PlayEnd}
-use Rattle.rz_perform.specs.Output.{Sunk}
-use Rattle.rz_perform.specs.Replays.{Performed}
-use Rattle.rz_perform.specs.Scrubs.{BetweenTurns}
-use Rattle.rz_perform.specs.Telling.{IsPlayOf, TellsOwn}
-use Rattle.rz_perform.proofs.Anew.{told_own}
+use Rattle.rz_player.specs.Behind.{Before, behind}
+use Rattle.rz_player.specs.Ends.{IsEnded}
+use Rattle.rz_player.specs.declared.lines.PlayEnd.{PlayEnd}
+use Rattle.rz_report.specs.Output.{Sunk}
+use Rattle.rz_report.specs.Replays.{Performed}
+use Rattle.rz_report.specs.Scrubs.{BetweenTurns}
+use Rattle.rz_report.specs.Telling.{IsPlayOf, TellsOwn}
+use Rattle.rz_report.proofs.Anew.{told_own}
 use Rattle.rz_request.specs.declared.wishes.Wish.TheVariants.{Again, Scrub}
 use Rattle.rz_replay.specs.Disks.{AreFaultsTold, AreImagesTold, AreLocksKept, AreUsedAgain, IsJournalLeft, IsPlayAfter, LeavesNext, MayFollow, faulted}
 use Rattle.rz_replay.proofs.Continuing.{any_told, not-reopened, own_as}

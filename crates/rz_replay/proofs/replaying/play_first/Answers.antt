@@ -3,7 +3,7 @@ use Rattle.std.specs.Prelude.{option_to_list}
 use Rattle.std.proofs.lemmas.List.{append-nil, reverse-reverse, length-map}
 use Rattle.rz_disk.specs.Meter.{faults}
 use Rattle.rz_disk.specs.UnderFuse.{UnderFuse}
-use Rattle.rz_seats.specs.declared.shared.Shared.{Shared}
+use Rattle.rz_driver_actors.specs.declared.shared.Shared.{Shared}
 use Rattle.rz_driver.specs.Continued.{AreLeft}
 use Rattle.rz_driver.specs.Endings.{EndsAsRefused, StandsForLog}
 use Rattle.rz_driver.specs.Formatted.{AreBackWithJournal}
@@ -11,23 +11,23 @@ use Rattle.rz_driver.specs.Worlds.{Holds, Leaves, anew, exact_if, is_exact, worl
 use Rattle.rz_events.specs.Volume.{Volume, nodes_of}
 use Rattle.rz_events.specs.declared.events.Event.{Event}
 use Rattle.rz_events.specs.declared.files.NodeSpec.{NodeSpec}
-use Rattle.rz_formatting.specs.Formatted.{IsCause, disks_of}
+use Rattle.rz_nodes.specs.Formatted.{IsCause, disks_of}
 use Rattle.rz_asks.specs.Stands.{disk_of, is_journaled, refusal_of}
 use Rattle.rz_script.specs.declared.line.Line.{Line}
-use Rattle.rz_stations.specs.Meters.{faults_at}
+use Rattle.rz_driver_nodes.specs.Meters.{faults_at}
 use Rattle.rz_core.specs.HeldRecords.{block_of}
 use Rattle.rz_core.specs.History.{facts}
 use Rattle.rz_scrub_laws.specs.Untouched.{text_in}
 use Rattle.rz_node_model.specs.States.{fresh}
 use Rattle.rz_export_model.specs.Export.{new_export}
 use Rattle.rz_play.specs.World.{new_world}
-use Rattle.rz_lines.specs.Behind.{Before}
-use Rattle.rz_perform.proofs.Anew.{performs, performs_as, told_as}
-use Rattle.rz_lines.specs.declared.lines.PlayEnd.{PlayEnd}
-use Rattle.rz_perform.specs.Telling.{PerformsAs}
-use Rattle.rz_perform.specs.Output.{Sunk}
-use Rattle.rz_perform.specs.Replays.{Unplayed, Performed, IsToldAs, MayEnd}
-use Rattle.rz_perform.specs.Scrubs.{BetweenTurns}
+use Rattle.rz_player.specs.Behind.{Before}
+use Rattle.rz_report.proofs.Anew.{performs, performs_as, told_as}
+use Rattle.rz_player.specs.declared.lines.PlayEnd.{PlayEnd}
+use Rattle.rz_report.specs.Telling.{PerformsAs}
+use Rattle.rz_report.specs.Output.{Sunk}
+use Rattle.rz_report.specs.Replays.{Unplayed, Performed, IsToldAs, MayEnd}
+use Rattle.rz_report.specs.Scrubs.{BetweenTurns}
 use Rattle.rz_request.specs.declared.wishes.Wish.TheVariants.{First, Again, Scrub}
 use Rattle.rz_replay.specs.Disks.{AreAllBack, AreBackFrom, AreFaultsTold, AreImagesTold, IsJournalLeft, IsNextTold, MayFollow, faulted}
 use Rattle.rz_replay.proofs.Journals.{all-back-faults, at-front, at-last, between-on, counted-length, first-back, first-end, has-disk, journal-left, length-joined, may-follow, next-on, split-last, whole-end}

@@ -1,13 +1,13 @@
 use Rattle.std.proofs.Common.{◌≡◌, ◌-◌, ◌++◌, ℕ, List, [], reverse, refl, sym, ap, ◌∙◌, subst, inl, inr, ◌+◌, arith}
 use Rattle.rz_disk.specs.UnderFuse.{UnderFuse}
-use Rattle.rz_seats.specs.declared.shared.Shared.{Shared}
+use Rattle.rz_driver_actors.specs.declared.shared.Shared.{Shared}
 use Rattle.std.proofs.lemmas.List.{append-nil, reverse-reverse}
 use Rattle.rz_events.specs.Volume.{Volume, nodes_of}
 use Rattle.rz_events.specs.declared.events.Event.{Event}
 use Rattle.rz_script.specs.declared.line.Line.{Line}
 use Rattle.rz_events.specs.declared.files.NodeSpec.{NodeSpec}
-use Rattle.rz_stations.specs.Meters.{faults_at}
-use Rattle.rz_formatting.specs.Formatted.{AreBack, IsCause}
+use Rattle.rz_driver_nodes.specs.Meters.{faults_at}
+use Rattle.rz_nodes.specs.Formatted.{AreBack, IsCause}
 use Rattle.rz_driver.specs.Worlds.{Holds, anew, exact_if, is_exact, world_of}
 use Rattle.rz_core.specs.HeldRecords.{block_of}
 use Rattle.rz_core.specs.History.{facts}
@@ -15,13 +15,13 @@ use Rattle.rz_scrub_laws.specs.Untouched.{text_in}
 use Rattle.rz_node_model.specs.States.{fresh}
 use Rattle.rz_export_model.specs.Export.{new_export}
 use Rattle.rz_play.specs.World.{new_world}
-use Rattle.rz_lines.specs.Behind.{Before}
-use Rattle.rz_perform.proofs.Anew.{performs, performs_as, told_as}
-use Rattle.rz_perform.specs.Telling.{PerformsAs}
-use Rattle.rz_perform.specs.Output.{Sunk}
+use Rattle.rz_player.specs.Behind.{Before}
+use Rattle.rz_report.proofs.Anew.{performs, performs_as, told_as}
+use Rattle.rz_report.specs.Telling.{PerformsAs}
+use Rattle.rz_report.specs.Output.{Sunk}
 use Rattle.rz_replay.specs.Disks.{AreFaultsTold, AreImagesTold}
-use Rattle.rz_perform.specs.Replays.{Unplayed, Performed, IsToldAs}
-use Rattle.rz_lines.specs.declared.lines.PlayEnd.{PlayEnd}
+use Rattle.rz_report.specs.Replays.{Unplayed, Performed, IsToldAs}
+use Rattle.rz_player.specs.declared.lines.PlayEnd.{PlayEnd}
 use Rattle.rz_asks.specs.Stands.{is_journaled}
 use Rattle.rz_replay.proofs.Journals.{plain-back, plain-end}
 use Rattle.rz_replay.proofs.Lent.{back-faults, counted-none, not-opened}

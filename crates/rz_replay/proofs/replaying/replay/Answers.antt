@@ -1,7 +1,7 @@
 use Rattle.std.proofs.Common.{◌-◌, map, refl, reverse, string_bytes, ap}
 use Rattle.rz_request.specs.Line.{meaning}
 use Rattle.rz_request.specs.Requests.{Reading}
-use Rattle.rz_perform.specs.Output.{Sunk}
+use Rattle.rz_report.specs.Output.{Sunk}
 use Rattle.rz_replay.proofs.Wanting.{wanting}
 use Rattle.rz_replay.proofs.replaying.replay.Goals as goal
 

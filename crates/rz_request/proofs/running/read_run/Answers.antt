@@ -1,6 +1,6 @@
 use Rattle.std.proofs.Common.{length, ap, ◌∙◌}
 use Rattle.rz_events.specs.Volume.{Volume, nodes_of}
-use Rattle.rz_operands.specs.declared.form.Form.TheVariants as forms
+use Rattle.rz_script_words.specs.declared.form.Form.TheVariants as forms
 use Rattle.rz_request.specs.Requests.{Reading, nodes_in}
 use Rattle.rz_request.proofs.Judged.{reads_script}
 use Rattle.rz_request.proofs.running.read_run.Goals as goal

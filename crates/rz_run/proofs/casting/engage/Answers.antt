@@ -5,7 +5,7 @@ use Rattle.rz_script.specs.declared.line.Line.{Line}
 use Rattle.rz_script.specs.Lines.{AreLines}
 use Rattle.rz_chronicle.specs.Kinds.{volume_in}
 use Rattle.rz_chronicle.specs.Rules.{PassView}
-use Rattle.rz_staff.specs.Staff.{IsStaffed}
+use Rattle.rz_threads_workers.specs.Staff.{IsStaffed}
 use Rattle.rz_run.proofs.casting.engage.Goals as goal
 
 pub hire-requires-clause-layout : goal.hire-requires-clause-layout

@@ -1,7 +1,7 @@
 use Rattle.std.proofs.Common.{◌≡◌, ℕ, List, map, refl, sym, ap, subst, inl}
 use Rattle.std.specs.Global.{Vec}
 use Rattle.rz_chronicle.specs.Kinds.{is_honest}
-use Rattle.rz_perform.specs.Output.{Sunk}
+use Rattle.rz_report.specs.Output.{Sunk}
 use Rattle.rz_run.specs.Runs.{Plays}
 use Rattle.rz_run.proofs.Told.{lacking, volume-is}
 use Rattle.rz_run.proofs.playing.play_book.Goals as goal

@@ -5,7 +5,7 @@ use Rattle.rz_disk.specs.Meter.{faults}
 use Rattle.rz_events.specs.Volume.{Volume, nodes_of}
 use Rattle.rz_events.specs.declared.events.Event.{Event}
 use Rattle.rz_events.specs.declared.events.Word.TheVariants.{Node}
-use Rattle.rz_formatting.specs.Formatted.{AreBack}
+use Rattle.rz_nodes.specs.Formatted.{AreBack}
 use Rattle.rz_script.specs.declared.line.Line.{Line}
 use Rattle.rz_script.specs.Lines.{AreLines}
 use Rattle.rz_core.specs.Legal.{IsLegal}
@@ -14,9 +14,9 @@ use Rattle.rz_chronicle.specs.Deals.{new_pass, new_post}
 use Rattle.rz_chronicle.specs.Keys.{sids_of}
 use Rattle.rz_chronicle.specs.Kinds.{is_honest, volume_in}
 use Rattle.rz_chronicle.specs.Rules.{PassView}
-use Rattle.rz_staff.specs.Moves.{HoldsAll}
+use Rattle.rz_threads_workers.specs.Moves.{HoldsAll}
 use Rattle.rz_threads.specs.Orders.{AreBegun, AreDone}
-use Rattle.rz_perform.specs.Output.{Sunk}
+use Rattle.rz_report.specs.Output.{Sunk}
 use Rattle.rz_run.specs.Done.{IsAllFinished}
 use Rattle.rz_run.proofs.Members.{actors-are, lost-all, ready-all, shown-all}
 use Rattle.rz_run.proofs.Told.{all-begun, all-finished, disks-at, told-of, volume-is}

@@ -7,7 +7,7 @@ use Rattle.rz_events.specs.Volume.{Volume, nodes_of}
 use Rattle.rz_events.specs.declared.files.NodeSpec.{NodeSpec}
 use Rattle.rz_chronicle.specs.Keys.{sids_of}
 use Rattle.rz_chronicle.specs.Kinds.{is_honest, kind_of}
-use Rattle.rz_perform.specs.Output.{Sunk}
+use Rattle.rz_report.specs.Output.{Sunk}
 use Rattle.rz_run.specs.Runs.{Plays}
 use Rattle.rz_run.proofs.Firsts.{beside-all}
 use Rattle.rz_run.proofs.Told.{honest-is, kind-is, lacking}

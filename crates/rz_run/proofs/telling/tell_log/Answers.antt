@@ -1,7 +1,7 @@
 use Rattle.std.proofs.Common.{◌≡◌, ℕ, List, length, ap, ◌∙◌, subst, inl}
 use Rattle.rz_events.specs.declared.events.Event.{Event}
 use Rattle.rz_show.specs.RunText.{run_text}
-use Rattle.rz_perform.specs.Output.{Sunk, Ends}
+use Rattle.rz_report.specs.Output.{Sunk, Ends}
 use Rattle.rz_run.proofs.telling.tell_log.Goals as goal
 
 pub returns-in-Ok : goal.returns-in-Ok

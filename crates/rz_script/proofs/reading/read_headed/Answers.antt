@@ -1,5 +1,5 @@
 use Rattle.std.proofs.Common.{◌+◌, [], sym, ◌∙◌, arith, rules}
-use Rattle.rz_operands.specs.Grammar.{after_word}
+use Rattle.rz_script_words.specs.Grammar.{after_word}
 use Rattle.rz_script.specs.Grammar.{lines, headed}
 use Rattle.rz_script.proofs.Heads.{has_bytes, passes, gives, others, last_given, no_lines_left}
 use Rattle.rz_script.proofs.reading.read_headed.Goals as goal

@@ -1,5 +1,5 @@
 use Rattle.std.proofs.Common.{◌≡◌, length, ap, arith, vec_len}
-use Rattle.rz_formatting.proofs.Rowwise.{zip-more}
+use Rattle.rz_nodes.proofs.Rowwise.{zip-more}
 use Rattle.rz_shared.specs.Returned.{IsReturned}
 use Rattle.rz_chronicle.specs.Rules.{PostView}
 use Rattle.rz_shared.proofs.Ordered.{words-at, first-words, word-next, last-words, none-zip}

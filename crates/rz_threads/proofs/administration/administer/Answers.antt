@@ -2,7 +2,7 @@ use Rattle.std.proofs.Common.{◌∙◌, List, refl, sym, take, take_all, subst}
 use Rattle.std.proofs.lemmas.Result.{err_from_is_err_and}
 use Rattle.rz_script.specs.declared.line.Line.{Line}
 use Rattle.rz_script.specs.Lines.{IsLine}
-use Rattle.rz_formatting.proofs.Rowwise.{all-get}
+use Rattle.rz_nodes.proofs.Rowwise.{all-get}
 use Rattle.rz_chronicle.specs.Kinds.{volume_in}
 use Rattle.rz_threads.specs.Orders.{AreDone}
 use Rattle.rz_threads.proofs.Done.{waits-none, done-at, done-on, done-later, begun-at}

@@ -3,8 +3,8 @@ use denote.Param.{param}
 use denote.Param.Send.{arg_send, arg_sync, param_send, param_sync, shr_sync}
 use Rattle.std.proofs.Common.{subst, sym, slice_index_or, List}
 use Rattle.std.proofs.Crossing.{sync}
-use Rattle.rz_staff.specs.Staff.{CanWork, HasWorked}
-use Rattle.rz_staff.specs.declared.member.Member.{Member}
+use Rattle.rz_threads_workers.specs.Staff.{CanWork, HasWorked}
+use Rattle.rz_threads_workers.specs.declared.member.Member.{Member}
 use Rattle.rz_threads.proofs.Each.{all-zip, at-place}
 use Rattle.rz_threads.proofs.Sending.{three-shared, store_sync}
 use Rattle.rz_threads.proofs.beside.work_all.Goals as goal

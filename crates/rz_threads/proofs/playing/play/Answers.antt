@@ -4,9 +4,9 @@ use Rattle.std.specs.Global.{Vec}
 use Rattle.std.proofs.lemmas.Slice.Zip.{AllZip-long}
 use Rattle.rz_events.specs.declared.events.Event.{Event}
 use Rattle.rz_chronicle.specs.Rules.{PassView}
-use Rattle.rz_staff.specs.Gathered.{IsHeld}
+use Rattle.rz_threads_workers.specs.Gathered.{IsHeld}
 use Rattle.rz_threads.proofs.Done.{begun-on, done-on}
-use Rattle.rz_staff.specs.Staff.{IsRoomFor, WantsNothing}
+use Rattle.rz_threads_workers.specs.Staff.{IsRoomFor, WantsNothing}
 use Rattle.rz_threads.specs.Played.{HasLost}
 use Rattle.rz_threads.proofs.Members.{and-both, begun-all, finished-all, lost-all, shown-all}
 use Rattle.rz_threads.proofs.Tallies.{same-actors}

@@ -1,7 +1,7 @@
 use Rattle.std.proofs.Common.{arith, ◌≤◌, ◌+◌, ◌-◌, ◌*◌, ℕ, get_or, ◌∙◌}
-use Rattle.mj_sums.proofs.Places.{added_raised, added_zero}
-use Rattle.mj_sums.proofs.Taken.{place_below, place_le}
-use Rattle.mj_sums.proofs.Lanes.{lane, place_span, lane_added, IsFlatAdded}
+use Rattle.mj_inverse_sums.proofs.Places.{added_raised, added_zero}
+use Rattle.mj_inverse_sums.proofs.Taken.{place_below, place_le}
+use Rattle.mj_inverse_sums.proofs.Lanes.{lane, place_span, lane_added, IsFlatAdded}
 use Rattle.mj_inverse.proofs.series.Series.add_raised.Goals as goal
 
 pub add_within-requires-clause-order : goal.add_within-requires-clause-order

@@ -1,7 +1,7 @@
 use Rattle.std.proofs.Common.{arith, ◌≡◌, ◌≤◌, ◌+◌, ◌-◌, ◌*◌, ℕ, min, max, get_or, refl, ◌∙◌}
 use Rattle.std.proofs.Math.Nat.{mul-le-mul_left}
-use Rattle.mj_sums.proofs.Taken.{place_le}
-use Rattle.mj_sums.proofs.Lanes.{place_span, IsSpan, IsFlatRun, IsCut, cut_zero, lane_exact, lane_start, lane_spent}
+use Rattle.mj_inverse_sums.proofs.Taken.{place_le}
+use Rattle.mj_inverse_sums.proofs.Lanes.{place_span, IsSpan, IsFlatRun, IsCut, cut_zero, lane_exact, lane_start, lane_spent}
 use Rattle.mj_inverse.proofs.series.Series.divide_out.Goals as goal
 
 pub run_within-requires-clause-by : goal.run_within-requires-clause-by

@@ -3,7 +3,7 @@ use Rattle.std.specs.Prelude.{unsigned_abs}
 use Rattle.std.proofs.lemmas.Int.{to_z-of_z}
 use Rattle.mj_angles.specs.Projection.{bins, offset}
 use Rattle.mj_inverse.specs.Store.{room_of}
-use Rattle.mj_sums.proofs.Taken.{place_below, place_le}
+use Rattle.mj_inverse_sums.proofs.Taken.{place_below, place_le}
 use Rattle.mj_inverse.proofs.Put.{offset_le, past, slice_is}
 use Rattle.mj_inverse.proofs.series.Series.put.Goals as goal
 

@@ -1,6 +1,6 @@
 use Rattle.std.proofs.Common.{arith, refl, ◌∙◌, ◌+◌, ◌*◌, ℕ}
 use mathlib.Core.Path.{fun_ext}
-use Rattle.mj_sums.proofs.Taken.{place_le}
+use Rattle.mj_inverse_sums.proofs.Taken.{place_le}
 use Rattle.mj_inverse.proofs.series.Series.spread.Goals as goal
 
 pub add_zeros-requires-clause-more : goal.add_zeros-requires-clause-more

@@ -1,5 +1,5 @@
 use Rattle.std.proofs.Common.{arith, refl}
-use Rattle.mj_sums.proofs.Taken.{place_le}
+use Rattle.mj_inverse_sums.proofs.Taken.{place_le}
 use Rattle.mj_inverse.proofs.Trimmed.{trimmed_series}
 use Rattle.mj_inverse.proofs.series.Series.trim.Goals as goal
 

@@ -1,4 +1,4 @@
-use Rattle.rz_slots.proofs.Lifts.{open_same}
+use Rattle.rz_cells_slots.proofs.Lifts.{open_same}
 use Rattle.rz_cells.proofs.cells.Cells.arm.Goals as goal
 
 pub returns-clause-open : goal.returns-clause-open

@@ -6,10 +6,10 @@ use Rattle.mj_angles.specs.Layout.{bins_at_of}
 use Rattle.rz_disk.specs.Images.{window}
 use Rattle.rz_events.specs.declared.records.Head.{Head}
 use Rattle.rz_record.specs.Record.{bins_of}
-use Rattle.rz_slots.specs.Held.{in_cell}
-use Rattle.rz_slots.proofs.Bins.{bins_here}
-use Rattle.rz_slots.proofs.Made.{has_head}
-use Rattle.rz_slots.proofs.Lifts.{fits_slot, heads_are, open_same}
+use Rattle.rz_cells_slots.specs.Held.{in_cell}
+use Rattle.rz_cells_slots.proofs.Bins.{bins_here}
+use Rattle.rz_cells_slots.proofs.Made.{has_head}
+use Rattle.rz_cells_slots.proofs.Lifts.{fits_slot, heads_are, open_same}
 use Rattle.rz_cells.proofs.cells.Cells.bins_into.Goals as goal
 
 on_err : {T E : Type 0} {P : Type 0} (result : Result T E) → P → OnErr result P

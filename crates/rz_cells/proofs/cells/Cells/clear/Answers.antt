@@ -2,9 +2,9 @@
 use Rattle.std.proofs.Common.{rules, ◌≡◌, ◌-◌, ◌%◌, Option, Some, None, Ok, is_ok, IsErr, List, set, refl, sym, ap, subst, arith}
 use Rattle.rz_events.specs.declared.records.Head.{Head}
 use Rattle.rz_record.specs.Slot.{Rec}
-use Rattle.rz_slots.specs.Open.{IsOpen}
-use Rattle.rz_slots.proofs.Meters.{counted_failed, counted_ok}
-use Rattle.rz_slots.proofs.Lifts.{slot_long, zeros_spell, stands_either, stands_changed, open_after}
+use Rattle.rz_cells_slots.specs.Open.{IsOpen}
+use Rattle.rz_cells_slots.proofs.Meters.{counted_failed, counted_ok}
+use Rattle.rz_cells_slots.proofs.Lifts.{slot_long, zeros_spell, stands_either, stands_changed, open_after}
 use Rattle.rz_cells.proofs.cells.Cells.clear.Goals as goal
 
 no_suit : (r : Rec) (P : Type 0) → None ≡ Some r → P

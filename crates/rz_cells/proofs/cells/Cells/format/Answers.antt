@@ -1,5 +1,5 @@
 -- A disk that was formatted holds nothing.
-use Rattle.rz_slots.proofs.Fresh.{stands_for_nothing, shut_or_nothing, open_fresh}
+use Rattle.rz_cells_slots.proofs.Fresh.{stands_for_nothing, shut_or_nothing, open_fresh}
 use Rattle.rz_cells.proofs.cells.Cells.format.Goals as goal
 
 pub returns-in-Err-clause-crash : goal.returns-in-Err-clause-crash

@@ -1,8 +1,8 @@
 -- A disk that was formatted holds nothing.
 use Rattle.std.proofs.Common.{rules, ◌⊎◌, ℕ, IsTrue, List}
-use Rattle.rz_slots.specs.Held.{nothing}
-use Rattle.rz_slots.specs.Stands.{IsShut, StandsFor}
-use Rattle.rz_slots.proofs.Fresh.{stands_for_nothing, shut_or_nothing, open_fresh}
+use Rattle.rz_cells_slots.specs.Held.{nothing}
+use Rattle.rz_cells_slots.specs.Stands.{IsShut, StandsFor}
+use Rattle.rz_cells_slots.proofs.Fresh.{stands_for_nothing, shut_or_nothing, open_fresh}
 use Rattle.rz_cells.proofs.cells.Cells.format_again.Goals as goal
 
 pub returns-in_err-blank-clause-crash : goal.returns-in_err-blank-clause-crash

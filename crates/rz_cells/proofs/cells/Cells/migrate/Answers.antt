@@ -1,13 +1,13 @@
 -- Both disks hold the same cells.
 use Rattle.std.proofs.Common.{◌+◌, refl, sym, subst}
-use Rattle.rz_slots.specs.Old.{CarriesOver}
-use Rattle.rz_slots.specs.Held.{count_held}
-use Rattle.rz_slots.specs.OldOpening.{old_opening_calls}
-use Rattle.rz_slots.specs.Copied.{copy_calls}
-use Rattle.rz_slots.proofs.Carried.{carried, found, over}
-use Rattle.rz_slots.proofs.Counts.{counted_under}
-use Rattle.rz_slots.proofs.Meters.{took_under}
-use Rattle.rz_slots.proofs.OldOpened.{only_old_faults}
+use Rattle.rz_cells_slots.specs.Old.{CarriesOver}
+use Rattle.rz_cells_slots.specs.Held.{count_held}
+use Rattle.rz_cells_slots.specs.OldOpening.{old_opening_calls}
+use Rattle.rz_cells_slots.specs.Copied.{copy_calls}
+use Rattle.rz_cells_slots.proofs.Carried.{carried, found, over}
+use Rattle.rz_cells_slots.proofs.Counts.{counted_under}
+use Rattle.rz_cells_slots.proofs.Meters.{took_under}
+use Rattle.rz_cells_slots.proofs.OldOpened.{only_old_faults}
 use Rattle.rz_cells.proofs.cells.Cells.migrate.Goals as goal
 
 pub returns-in-Ok-clause-carried : goal.returns-in-Ok-clause-carried

@@ -2,9 +2,9 @@
 use Rattle.std.proofs.Common.{rules, ◌≡◌, ℕ, ◌*◌, List, Err, length, subst}
 use Rattle.std.proofs.Math.Nat.{ℕ_set}
 use Rattle.rz_cells.specs.declared.cells.Cells.{Cells}
-use Rattle.rz_slots.specs.Shape.{IsGeometry, slot_of}
-use Rattle.rz_slots.specs.Open.{Finds}
-use Rattle.rz_slots.proofs.Refused.{finds_of, only_faults, on_fault, stands_of, geometry_prop}
+use Rattle.rz_cells_slots.specs.Shape.{IsGeometry, slot_of}
+use Rattle.rz_cells_slots.specs.Open.{Finds}
+use Rattle.rz_cells_slots.proofs.Refused.{finds_of, only_faults, on_fault, stands_of, geometry_prop}
 use Rattle.rz_cells.proofs.cells.Cells.open_again.Given.{Over}
 use Rattle.rz_cells.proofs.cells.Cells.open_again.Goals as goal
 

@@ -3,10 +3,10 @@ use Rattle.std.proofs.Common.{rules, ◌≡◌, ◌-◌, ◌%◌, Option, Some, 
 use Rattle.rz_events.specs.declared.records.Head.{Head}
 use Rattle.rz_record.specs.Record.{IsValid}
 use Rattle.rz_record.specs.Slot.{Rec}
-use Rattle.rz_slots.specs.Held.{Goes}
-use Rattle.rz_slots.specs.Open.{IsOpen}
-use Rattle.rz_slots.proofs.Meters.{counted_failed, counted_ok}
-use Rattle.rz_slots.proofs.Lifts.{fits_slot, some_is, spelled, suits_one, stands_either, stands_changed, open_after}
+use Rattle.rz_cells_slots.specs.Held.{Goes}
+use Rattle.rz_cells_slots.specs.Open.{IsOpen}
+use Rattle.rz_cells_slots.proofs.Meters.{counted_failed, counted_ok}
+use Rattle.rz_cells_slots.proofs.Lifts.{fits_slot, some_is, spelled, suits_one, stands_either, stands_changed, open_after}
 use Rattle.rz_cells.proofs.cells.Cells.put.Goals as goal
 
 pub spell-size-requires-clause-room : goal.spell-size-requires-clause-room

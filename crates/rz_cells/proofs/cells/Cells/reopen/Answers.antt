@@ -1,7 +1,7 @@
 -- What was read makes open cells.
 use Rattle.std.proofs.Common.{ℕ, List, subst}
-use Rattle.rz_slots.specs.Open.{Finds}
-use Rattle.rz_slots.proofs.Refused.{finds_of, only_faults, stands_of}
+use Rattle.rz_cells_slots.specs.Open.{Finds}
+use Rattle.rz_cells_slots.proofs.Refused.{finds_of, only_faults, stands_of}
 use Rattle.rz_cells.proofs.cells.Cells.reopen.Goals as goal
 
 pub returns-in-Ok-clause-stands : goal.returns-in-Ok-clause-stands

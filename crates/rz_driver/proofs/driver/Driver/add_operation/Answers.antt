@@ -6,18 +6,18 @@ use Rattle.rz_events.specs.declared.operations.Operation.{Operation}
 use Rattle.rz_operation.specs.Answers.{IsOperation}
 use Rattle.rz_play.specs.World.{World}
 use Rattle.rz_play.specs.Lines.{with_operation}
-use Rattle.rz_lines.specs.Behind.{behind}
+use Rattle.rz_player.specs.Behind.{behind}
 use Rattle.rz_script.specs.declared.line.Line.TheVariants as line
-use Rattle.rz_seats.specs.declared.seat.Seat.{Seat}
+use Rattle.rz_driver_actors.specs.declared.seat.Seat.{Seat}
 use Rattle.rz_asks.specs.Locking.{lock_of}
-use Rattle.rz_seats.specs.Seats.{IsSeat, HasLayout, work_in, seat_of}
+use Rattle.rz_driver_actors.specs.Seats.{IsSeat, HasLayout, work_in, seat_of}
 use Rattle.rz_driver.specs.Worlds.{place_of, world, world_of}
-use Rattle.rz_stations.proofs.Rows.{all-at}
+use Rattle.rz_driver_nodes.proofs.Rows.{all-at}
 use Rattle.rz_driver.proofs.OrderLemmas.{ordered, still-ready, all-more}
 use Rattle.rz_driver.proofs.ActorOrders.{place-low, operation-fits}
 use Rattle.rz_driver.proofs.DriverPictures.{actor-picture, works-with, still-counted, still-right}
 use Rattle.rz_driver.proofs.JournalLemmas.{goes-after, journal-stays, journal-still}
-use Rattle.rz_stations.proofs.PictureLemmas.{on-err}
+use Rattle.rz_driver_nodes.proofs.PictureLemmas.{on-err}
 use Rattle.rz_driver.proofs.driver.Driver.add_operation.Goals as goal
 
 added : (s b : Seat) (op : Operation) → b.todo.items ≡ s.todo.items ++ op ∷ [] → b.number ≡ s.number → b.machine ≡ s.machine → b.lock ≡ s.lock → b.miss ≡ s.miss → seat_of b ≡ with_operation (seat_of s) op

@@ -3,10 +3,10 @@ use Rattle.std.proofs.lemmas.Result.{IfOk-weaker, IfErr-weaker}
 use Rattle.rz_events.specs.Volume.{nodes_of}
 use Rattle.rz_events.specs.declared.events.Event.{Event}
 use Rattle.rz_asks.specs.Stands.{is_journaled}
-use Rattle.rz_formatting.specs.Opened.{AreKept}
-use Rattle.rz_continuation.specs.Earlier.{IsEarlier, IsRestarted}
-use Rattle.rz_stations.specs.Images.{AreDisksImaged}
-use Rattle.rz_stations.specs.Meters.{faults_at}
+use Rattle.rz_nodes.specs.Opened.{AreKept}
+use Rattle.rz_restart_laws.specs.Earlier.{IsEarlier, IsRestarted}
+use Rattle.rz_driver_nodes.specs.Images.{AreDisksImaged}
+use Rattle.rz_driver_nodes.specs.Meters.{faults_at}
 use Rattle.rz_driver.specs.Continued.{AreLeft, IsCauseAgain, IsOpenedAgain, IsOpenedOver, IsRefusedOver}
 use Rattle.rz_driver.specs.Endings.{StandsForLog}
 use Rattle.rz_driver.specs.Worlds.{left_behind, IsDriver, Holds}

@@ -4,8 +4,8 @@ use Rattle.rz_disk.specs.Meter.{faults}
 use Rattle.rz_disk.specs.UnderFuse.{UnderFuse}
 use Rattle.rz_events.specs.Volume.{Volume}
 use Rattle.rz_export_model.specs.Export.{new_export}
-use Rattle.rz_formatting.specs.declared.formatting.Station.{Station}
-use Rattle.rz_formatting.specs.Formatted.{disks_of}
+use Rattle.rz_nodes.specs.declared.formatting.Station.{Station}
+use Rattle.rz_nodes.specs.Formatted.{disks_of}
 use Rattle.rz_journal.specs.JournalText.{IsTextOf}
 use Rattle.rz_journal.specs.Stands.{IsShut}
 use Rattle.rz_asks.specs.declared.metadata.Metadata.{Metadata}

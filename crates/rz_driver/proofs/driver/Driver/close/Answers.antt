@@ -4,16 +4,16 @@ use Rattle.rz_disk.specs.UnderFuse.{UnderFuse, fused_meter}
 use Rattle.rz_events.specs.Volume.{Volume, nodes_of}
 use Rattle.rz_events.specs.declared.files.NodeSpec.{NodeSpec}
 use Rattle.rz_events.specs.declared.events.Event.{Event}
-use Rattle.rz_seats.specs.declared.shared.Shared.{Shared}
-use Rattle.rz_stations.specs.Asked.{fused_text}
-use Rattle.rz_stations.specs.Meters.{AreDisksCounted}
-use Rattle.rz_stations.specs.Images.{AreDisksImaged}
-use Rattle.rz_formatting.specs.Formatted.{disks_of}
+use Rattle.rz_driver_actors.specs.declared.shared.Shared.{Shared}
+use Rattle.rz_driver_nodes.specs.Asked.{fused_text}
+use Rattle.rz_driver_nodes.specs.Meters.{AreDisksCounted}
+use Rattle.rz_driver_nodes.specs.Images.{AreDisksImaged}
+use Rattle.rz_nodes.specs.Formatted.{disks_of}
 use Rattle.rz_driver.specs.Worlds.{numbers_in}
-use Rattle.rz_stations.proofs.MeterLemmas.{counted-disks, metered-counts}
+use Rattle.rz_driver_nodes.proofs.MeterLemmas.{counted-disks, metered-counts}
 use Rattle.rz_driver.proofs.DriverMeters.{leaves-counted}
 use Rattle.rz_driver.proofs.Closed.{has-few, left-imaged}
-use Rattle.rz_stations.proofs.FetchLemmas.{disks-since}
+use Rattle.rz_driver_nodes.proofs.FetchLemmas.{disks-since}
 use Rattle.rz_driver.proofs.driver.Driver.close.Goals as goal
 
 pub returns-clause-disks : goal.returns-clause-disks

@@ -1,8 +1,8 @@
 use Rattle.std.proofs.Common.{◌++◌, ◌∙◌, Option, ap}
 use Rattle.std.specs.Prelude.{option_to_list}
-use Rattle.rz_formatting.specs.Formatted.{disks_of}
+use Rattle.rz_nodes.specs.Formatted.{disks_of}
 use Rattle.rz_driver.specs.Worlds.{numbers_in}
-use Rattle.rz_stations.proofs.MeterLemmas.{counted-disks}
+use Rattle.rz_driver_nodes.proofs.MeterLemmas.{counted-disks}
 use Rattle.rz_driver.proofs.Closed.{has-few, held-journal, left-imaged, left-journal, whole-disks}
 use Rattle.rz_driver.proofs.DriverMeters.{leaves-counted}
 use Rattle.rz_driver.proofs.driver.Driver.close_all.Goals as goal

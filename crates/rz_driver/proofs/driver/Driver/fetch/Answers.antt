@@ -2,17 +2,17 @@ use Rattle.std.proofs.Common.{◌≡◌, ◌≤◌, List, [], ◌∷◌, length,
 use Rattle.std.specs.Vec.{with_items}
 use Rattle.mj_angles.specs.Layout.{max_bins_of}
 use Rattle.rz_disk.specs.UnderFuse.{UnderFuse, fused_meter}
-use Rattle.rz_scrubbing.specs.Stores.{IsRead}
+use Rattle.rz_scrub_report.specs.Stores.{IsRead}
 use Rattle.rz_node_model.specs.NodeEvents.{fetch_event}
 use Rattle.rz_events.specs.declared.keys.Actor.TheVariants.{Admin}
-use Rattle.rz_formatting.specs.declared.formatting.Station.{Station}
-use Rattle.rz_stations.specs.Fetches.{HaveRoom, IsFetch, GivesIn}
-use Rattle.rz_stations.specs.Asked.{AreOnlyAsked, fused_text}
-use Rattle.rz_stations.specs.Images.{fused_image}
+use Rattle.rz_nodes.specs.declared.formatting.Station.{Station}
+use Rattle.rz_driver_nodes.specs.Fetches.{HaveRoom, IsFetch, GivesIn}
+use Rattle.rz_driver_nodes.specs.Asked.{AreOnlyAsked, fused_text}
+use Rattle.rz_driver_nodes.specs.Images.{fused_image}
 use Rattle.rz_driver.specs.Worlds.{numbers_in}
-use Rattle.rz_stations.proofs.FetchLemmas.{have-room, numbers-asked}
+use Rattle.rz_driver_nodes.proofs.FetchLemmas.{have-room, numbers-asked}
 use Rattle.rz_driver.proofs.FetchLemmas.{asked-ready}
-use Rattle.rz_stations.proofs.MeterLemmas.{metered-in, named-vector}
+use Rattle.rz_driver_nodes.proofs.MeterLemmas.{metered-in, named-vector}
 use Rattle.rz_driver.proofs.driver.Driver.fetch.Given as given
 use Rattle.rz_driver.proofs.driver.Driver.fetch.Goals as goal
 

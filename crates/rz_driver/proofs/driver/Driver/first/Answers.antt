@@ -1,9 +1,9 @@
 use Rattle.std.proofs.Common.{arith, ◌++◌, ◌∷◌, [], List, length, sym, ◌∙◌, subst}
 use Rattle.std.proofs.lemmas.Result.{IfOk-weaker, IfErr-weaker}
 use Rattle.rz_events.specs.Volume.{Volume, nodes_of}
-use Rattle.rz_formatting.specs.Formatted.{AreFormatted, IsCause, disks_of}
-use Rattle.rz_formatting.proofs.FormatLemmas.{untouched}
-use Rattle.rz_stations.specs.Meters.{faults_at}
+use Rattle.rz_nodes.specs.Formatted.{AreFormatted, IsCause, disks_of}
+use Rattle.rz_nodes.proofs.FormatLemmas.{untouched}
+use Rattle.rz_driver_nodes.specs.Meters.{faults_at}
 use Rattle.rz_driver.specs.declared.driver.Driver.{Driver}
 use Rattle.rz_driver.specs.Formatted.{AreBackWithJournal, IsBehindJournal, IsJournalRefused}
 use Rattle.rz_driver.specs.Worlds.{anew, Holds}

@@ -11,12 +11,12 @@ use Rattle.rz_driver.specs.Journals.{KeepsLog}
 use Rattle.rz_driver.specs.Pictures.{AreBytes}
 use Rattle.rz_driver.proofs.ExportWords.{bytes-none}
 use Rattle.rz_driver.proofs.KeptCalls.{no-calls}
-use Rattle.rz_formatting.specs.Formatted.{AreFormatted, AreBack}
-use Rattle.rz_formatting.proofs.FormatLemmas.{untouched}
-use Rattle.rz_stations.proofs.MeterLemmas.{new-holds}
+use Rattle.rz_nodes.specs.Formatted.{AreFormatted, AreBack}
+use Rattle.rz_nodes.proofs.FormatLemmas.{untouched}
+use Rattle.rz_driver_nodes.proofs.MeterLemmas.{new-holds}
 use Rattle.rz_driver.proofs.MadeLemmas.{as-many, new-ready, new-is}
-use Rattle.rz_stations.specs.Meters.{faults_at}
-use Rattle.rz_stations.specs.Stations.{IsStation}
+use Rattle.rz_driver_nodes.specs.Meters.{faults_at}
+use Rattle.rz_driver_nodes.specs.Stations.{IsStation}
 use Rattle.rz_driver.proofs.NewPictures.{new-exact, new-picture}
 use Rattle.rz_driver.proofs.driver.Driver.new.Goals as goal
 

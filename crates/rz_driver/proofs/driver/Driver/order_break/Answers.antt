@@ -2,17 +2,17 @@ use Rattle.std.proofs.Common.{◌≡◌, IsTrue, refl, ap, ℕ, List, [], ◌∷
 use Rattle.std.specs.Vec.{with_items}
 use Rattle.std.proofs.lemmas.Result.{on_ok_weaker}
 use Rattle.rz_events.specs.declared.events.Event.TheVariants as e
-use Rattle.rz_stations.specs.Administration.{IsArming}
+use Rattle.rz_driver_nodes.specs.Administration.{IsArming}
 use Rattle.rz_disk.specs.UnderFuse.{fused_meter}
-use Rattle.rz_lines.specs.Behind.{behind}
+use Rattle.rz_player.specs.Behind.{behind}
 use Rattle.rz_play.specs.World.{World}
 use Rattle.rz_script.specs.declared.line.Line.TheVariants as line
-use Rattle.rz_stations.specs.Meters.{AreMetered, AreCounted, CarriesCounts}
-use Rattle.rz_stations.specs.Images.{KeepsRow, SparesRow, fused_image}
+use Rattle.rz_driver_nodes.specs.Meters.{AreMetered, AreCounted, CarriesCounts}
+use Rattle.rz_driver_nodes.specs.Images.{KeepsRow, SparesRow, fused_image}
 use Rattle.rz_driver.specs.Worlds.{world, world_of, exact_if}
 use Rattle.rz_driver.proofs.DriverPictures.{order-holds, order-leaves}
 use Rattle.rz_driver.proofs.JournalLemmas.{goes-after, journal-ordered, journal-still, arming-stays}
-use Rattle.rz_stations.proofs.PictureLemmas.{three-ok, three-err}
+use Rattle.rz_driver_nodes.proofs.PictureLemmas.{three-ok, three-err}
 use Rattle.rz_driver.proofs.NodeOrders.{arming-in, armed-ready, armed-world}
 use Rattle.rz_driver.proofs.driver.Driver.order_break.Goals as goal
 

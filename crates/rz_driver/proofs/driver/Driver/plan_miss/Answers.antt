@@ -3,11 +3,11 @@ use Rattle.std.specs.Prelude.{slice_get}
 use Rattle.std.proofs.lemmas.Option.{slice_get_read}
 use Rattle.rz_play.specs.World.{World}
 use Rattle.rz_play.specs.Lines.{with_miss}
-use Rattle.rz_lines.specs.Behind.{behind}
+use Rattle.rz_player.specs.Behind.{behind}
 use Rattle.rz_script.specs.declared.line.Line.TheVariants as line
-use Rattle.rz_seats.specs.Seats.{IsSeat}
+use Rattle.rz_driver_actors.specs.Seats.{IsSeat}
 use Rattle.rz_driver.specs.Worlds.{place_of, world, world_of}
-use Rattle.rz_stations.proofs.Rows.{all-at}
+use Rattle.rz_driver_nodes.proofs.Rows.{all-at}
 use Rattle.rz_driver.proofs.OrderLemmas.{ordered, still-ready}
 use Rattle.rz_driver.proofs.ActorOrders.{place-low}
 use Rattle.rz_driver.proofs.DriverPictures.{actor-picture, works-with}

@@ -5,8 +5,8 @@ use Rattle.rz_driver.specs.Worlds.{exact_if, is_exact, tells-exactly, IsDriver, 
 use Rattle.rz_driver.proofs.DriverPictures.{turn-lengths, turn-picture, turn-texts, turn-spares, right-disks, still-right, still-counted}
 use Rattle.rz_driver.proofs.DriverMeters.{log-kept}
 use Rattle.rz_driver.proofs.JournalLemmas.{goes-after, journal-goes-on, journal-ends, journal-still}
-use Rattle.rz_stations.proofs.PictureLemmas.{on-err}
-use Rattle.rz_seats.proofs.ActPictures.{act-grows}
+use Rattle.rz_driver_nodes.proofs.PictureLemmas.{on-err}
+use Rattle.rz_driver_actors.proofs.ActPictures.{act-grows}
 use Rattle.rz_driver.proofs.TakeLemmas.{seat-there, have-layouts, tied-at, drives, turned}
 use Rattle.rz_driver.proofs.driver.Driver.take_turn.Goals as goal
 

@@ -11,7 +11,7 @@ use Rattle.rz_record.specs.Record.{bins_of}
 use Rattle.rz_node_model.specs.Records.{record_of}
 use Rattle.rz_node_model.specs.Answers.{fetch_answer}
 use Rattle.rz_events.specs.declared.nodes.FetchAnswer.TheVariants as fetch
-use Rattle.rz_slots.specs.declared.geometry.Geometry.{Geometry}
+use Rattle.rz_cells_slots.specs.declared.geometry.Geometry.{Geometry}
 use Rattle.rz_node_model.specs.States.{NodeState}
 use Rattle.rz_node.proofs.Views.{state-same, geometry-same, passed-along, failed-along, stands-along}
 use Rattle.rz_node.proofs.Ready.{ready-up, bins-fit, fetch-holds, gives-bins, count-is}

@@ -3,7 +3,7 @@ use Rattle.std.proofs.Common.{◌≡◌, None, refl, sym, ◌∙◌, ap, subst}
 use Rattle.std.specs.FinMap as maps
 use Rattle.rz_events.specs.declared.nodes.Phase.TheVariants as phase
 use Rattle.rz_index.specs.Indexed.{Indexed}
-use Rattle.rz_slots.specs.declared.geometry.Geometry.{Geometry}
+use Rattle.rz_cells_slots.specs.declared.geometry.Geometry.{Geometry}
 use Rattle.rz_node.specs.Kept.{held_by, IsTied}
 use Rattle.rz_node.proofs.Tied.{tied-fresh, held-empty}
 use Rattle.rz_node.proofs.node.Node.format.Goals as goal

@@ -1,7 +1,7 @@
 -- What is held is what the text stands for.
 use Rattle.std.proofs.Common.{ℕ, List, refl, sym, subst}
-use Rattle.rz_slots.specs.declared.geometry.Geometry.{Geometry}
-use Rattle.rz_slots.specs.Open.{Finds}
+use Rattle.rz_cells_slots.specs.declared.geometry.Geometry.{Geometry}
+use Rattle.rz_cells_slots.specs.Open.{Finds}
 use Rattle.rz_node.specs.Kept.{IsTied}
 use Rattle.rz_node.proofs.HeldOnDisk.{held-found}
 use Rattle.rz_node.proofs.node.Node.reopen.Goals as goal

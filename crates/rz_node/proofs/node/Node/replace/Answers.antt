@@ -3,7 +3,7 @@ use Rattle.std.proofs.Common.{◌≡◌, Err, None, refl, sym, ◌∙◌, ap, su
 use Rattle.std.specs.FinMap as maps
 use Rattle.rz_events.specs.declared.nodes.Phase.TheVariants as phase
 use Rattle.rz_index.specs.Indexed.{Indexed}
-use Rattle.rz_slots.specs.declared.geometry.Geometry.{Geometry}
+use Rattle.rz_cells_slots.specs.declared.geometry.Geometry.{Geometry}
 use Rattle.rz_node_model.specs.States.{NodeState}
 use Rattle.rz_node.specs.Kept.{held_by, IsTied}
 use Rattle.rz_node.proofs.Spent.{took-as}

@@ -6,11 +6,11 @@ use Rattle.rz_events.specs.declared.nodes.StartAnswer.TheVariants as start
 use Rattle.std.specs.Prelude.{IsSome}
 use Rattle.rz_node_model.specs.Afterwards.{after_start}
 use Rattle.rz_node_model.specs.States.{NodeState}
-use Rattle.rz_slots.specs.Held.{Records}
-use Rattle.rz_slots.specs.Opening.{opening_calls}
-use Rattle.rz_slots.specs.declared.geometry.Geometry.{Geometry}
-use Rattle.rz_slots.specs.Open.{Finds}
-use Rattle.rz_slots.specs.Stands.{StandsFor}
+use Rattle.rz_cells_slots.specs.Held.{Records}
+use Rattle.rz_cells_slots.specs.Opening.{opening_calls}
+use Rattle.rz_cells_slots.specs.declared.geometry.Geometry.{Geometry}
+use Rattle.rz_cells_slots.specs.Open.{Finds}
+use Rattle.rz_cells_slots.specs.Stands.{StandsFor}
 use Rattle.rz_node.specs.Change.{IsBranch}
 use Rattle.rz_node.specs.Kept.{held_by, IsTied}
 use Rattle.rz_node.specs.View.{held_in, state_of}

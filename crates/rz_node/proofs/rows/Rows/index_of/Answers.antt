@@ -1,7 +1,7 @@
 -- All pairs are read.
 use Rattle.std.proofs.Common.{◌≡◌, ℕ, List, [], sym, ap, subst, arith}
 use Rattle.rz_index.specs.declared.index.Entry.{Entry}
-use Rattle.rz_slots.specs.declared.geometry.Geometry.{Geometry}
+use Rattle.rz_cells_slots.specs.declared.geometry.Geometry.{Geometry}
 use Rattle.rz_node.specs.Rows.{IsRows}
 use Rattle.rz_node.proofs.Listed.{rows-none, tied-rows}
 use Rattle.rz_node.proofs.rows.Rows.index_of.Goals as goal

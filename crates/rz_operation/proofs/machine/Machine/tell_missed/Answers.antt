@@ -1,9 +1,9 @@
 use Rattle.std.proofs.Common.{subst, sym}
 use Rattle.rz_operation_model.specs.Steps.{Missed}
-use Rattle.rz_stages.specs.declared.stage.Stage.{Stage}
-use Rattle.rz_stages.specs.Machine.{Machine}
-use Rattle.rz_stages.specs.Answers.{Goes}
-use Rattle.rz_stages.specs.Inside.{machine_of}
+use Rattle.rz_operation_states.specs.declared.stage.Stage.{Stage}
+use Rattle.rz_operation_states.specs.Machine.{Machine}
+use Rattle.rz_operation_states.specs.Answers.{Goes}
+use Rattle.rz_operation_states.specs.Inside.{machine_of}
 use Rattle.rz_operation.proofs.machine.Machine.tell_missed.Goals as goal
 
 pub returns : goal.returns

@@ -1,6 +1,0 @@
-use Rattle.std.proofs.Common.{◌≡◌, ◌<◌, ℕ, get_or}
-use Rattle.mj_sums.specs.Line.{line_sum}
-use Rattle.mj_sums.proofs.lines.sum_of_line.Given as goal
-
-abbrev pub invariant-loop-j : goal.invariant-loop-j
-invariant-loop-j l = (i : ℕ) → i < 8 → get_or l.sum i 0 ≡ line_sum l.grid i l.j l.at l.step

@@ -1,5 +1,0 @@
-use Rattle.rz_continuation.proofs.GoesOn as laws
-use Rattle.rz_continuation.proofs.afterwards.Goals as goal
-
-pub returns : goal.returns
-returns c = λ v. laws.afterwards v (c.facts_told.ensures v) (c.next_run.ensures v) (c.sound.ensures v) (c.answering.ensures v) (c.written.ensures v) (c.rebuilt.ensures v)

@@ -1,5 +1,0 @@
-use Rattle.rz_continuation.proofs.Founds as laws
-use Rattle.rz_continuation.proofs.found.Goals as goal
-
-pub returns : goal.returns
-returns g c = laws.found-imaged g.D.Disk.image

@@ -1,6 +1,0 @@
-use Rattle.rz_continuation.proofs.GoesOn as laws
-use Rattle.rz_continuation.proofs.goes_on.Goals as goal
-
-pub returns : goal.returns
-returns c = λ v rules.
-    laws.may-go-on v rules (c.restarting.ensures v rules) (c.exported.ensures v) (c.beginning.ensures v) (c.losses_enrolled.ensures v) (c.losses_known.ensures v)

@@ -1,0 +1,232 @@
+use Rattle.std.proofs.Common.{◌≡◌, ℕ, IsTrue, Some, refl, sym, subst}
+use Rattle.std.specs.Prelude.{slice_set}
+use Rattle.std.proofs.Math.Nat.{le_refl}
+use Rattle.std.proofs.lemmas.Result.{on_ok_weaker, on_err_weaker}
+use Rattle.rz_nodes.specs.declared.formatting.Station.{Station}
+use Rattle.rz_driver_actors.specs.Acts.{Through, ReplyLost, RequestLost}
+use Rattle.rz_driver_nodes.specs.Nodes.{IsThroughPart}
+use Rattle.rz_driver_nodes.specs.Meters.{GoesOn}
+use Rattle.rz_driver_nodes.specs.Images.{KeepsNode, SparesNode}
+use Rattle.rz_driver_actors.specs.Hands.{SparesPicture}
+use Rattle.rz_driver_nodes.proofs.MeterLemmas.{order-err, sid-at, metered-counts, metered-step, order-left, unheard-goes}
+use Rattle.rz_driver_actors.proofs.MessageLemmas.{read-at, within-len, layout-at}
+use Rattle.rz_driver_actors.proofs.ActPictures.{node-keeps, node-spares, still-spares, unheard-keeps, lost-by-link, through-grows, lost-grows}
+use Rattle.rz_driver_nodes.proofs.PictureLemmas.{both-ok, on-err}
+use Rattle.rz_driver_actors.proofs.acting.message.Goals as goal
+
+pub index_mut-requires : goal.index_mut-requires
+index_mut-requires g c = within-len c.args.shared.now.stations.items c.as_slice.result.now c.args.number c.in-Some.place _ c.as_slice.ensures.value c.in-Some.ensures c.args.shared.now.stations.ok.0
+
+pub through-requires-clause-layout : goal.through-requires-clause-layout
+through-requires-clause-layout g c =
+    let xs = c.args.shared.now.stations.items in
+    let there = read-at xs c.as_slice.result.now c.args.number c.in-Some.place c.index_mut.result.now c.as_slice.ensures.value c.in-Some.ensures c.index_mut.ensures.value in
+    layout-at c.args.layout xs c.in-Some.place c.index_mut.result.now c.requires.stations there.1
+
+pub without_reply-requires-clause-layout : goal.without_reply-requires-clause-layout
+without_reply-requires-clause-layout g c =
+    let xs = c.args.shared.now.stations.items in
+    let there = read-at xs c.as_slice.result.now c.args.number c.in-Some.place c.index_mut.result.now c.as_slice.ensures.value c.in-Some.ensures c.index_mut.ensures.value in
+    layout-at c.args.layout xs c.in-Some.place c.index_mut.result.now c.requires.stations there.1
+
+pub returns-in-Through-clause-ok : goal.returns-in-Through-clause-ok
+returns-in-Through-clause-ok g c =
+    let s = c.index_mut.result.now in
+    let there = read-at c.args.shared.now.stations.items c.as_slice.result.now c.args.number c.in-Some.place s c.as_slice.ensures.value c.in-Some.ensures c.index_mut.ensures.value in
+    on_ok_weaker c.through.result
+    (λ (part : IsThroughPart c.args.by c.args.number s.node.geometry.cells c.args.ask s.node.state c.through.new.node.state c.args.machine.now c.through.new.machine c.args.shared.now.log.events c.through.new.log.events). record {
+      place = c.in-Some.place;
+      station = s;
+      after = record { sid = s.sid; node = c.through.new.node; pick = s.pick };
+      at = there.0;
+      is = there.1;
+      called = record { sid = refl; pick = refl; geometry = c.through.ensures.geometry };
+      stations = refl;
+      fate = Through part c.in-Through.ensures.fares refl refl;
+      export = refl;
+      locks = refl;
+    }) c.through.ensures.ok
+
+pub returns-in_ok-without_reply-in-ReplyLost-clause-ok : goal.returns-in_ok-without_reply-in-ReplyLost-clause-ok
+returns-in_ok-without_reply-in-ReplyLost-clause-ok g c =
+    let s = c.index_mut.result.now in
+    let there = read-at c.args.shared.now.stations.items c.as_slice.result.now c.args.number c.in-Some.place s c.as_slice.ensures.value c.in-Some.ensures c.index_mut.ensures.value in
+    record {
+      place = c.in-Some.place;
+      station = s;
+      after = record { sid = s.sid; node = c.without_reply.new.node; pick = s.pick };
+      at = there.0;
+      is = there.1;
+      called = record { sid = refl; pick = refl; geometry = c.without_reply.ensures.geometry };
+      stations = refl;
+      fate = ReplyLost c.in_ok-without_reply-in-ReplyLost.ensures.ok c.in-ReplyLost.ensures.fares refl c.in-Some-lost_after.ensures.1;
+      export = refl;
+      locks = refl;
+    }
+
+pub returns-in_ok-without_request-in-RequestLost-clause-ok : goal.returns-in_ok-without_request-in-RequestLost-clause-ok
+returns-in_ok-without_request-in-RequestLost-clause-ok g c =
+    let s = c.index_mut.result.now in
+    let there = read-at c.args.shared.now.stations.items c.as_slice.result.now c.args.number c.in-Some.place s c.as_slice.ensures.value c.in-Some.ensures c.index_mut.ensures.value in
+    record {
+      place = c.in-Some.place;
+      station = s;
+      after = record { sid = s.sid; node = s.node; pick = s.pick };
+      at = there.0;
+      is = there.1;
+      called = record { sid = refl; pick = refl; geometry = refl };
+      stations = refl;
+      fate = RequestLost refl c.in_ok-without_request-in-RequestLost.ensures.ok c.in-RequestLost.ensures.fares refl c.in-Some-lost_after.ensures.1;
+      export = refl;
+      locks = refl;
+    }
+
+-- The words beside the meters.
+
+pub returns-in-Through-clause-held : goal.returns-in-Through-clause-held
+returns-in-Through-clause-held g c =
+    let meter = g.D.Disk.meter in
+    let row = c.args.shared.now.stations.items in
+    let h = c.args.shared.now.log.events in
+    let s = c.index_mut.result.now in
+    let there = read-at row c.as_slice.result.now c.args.number c.in-Some.place s c.as_slice.ensures.value c.in-Some.ensures c.index_mut.ensures.value in
+    let named = sid-at row c.args.number c.in-Some.place s there.0 there.1 in
+    on_ok_weaker c.through.result (λ (goes : GoesOn meter c.args.number s.node c.through.new.node h c.through.new.log.events). λ numbers first met.
+    metered-step meter first numbers row c.in-Some.place s (record { sid = s.sid; node = c.through.new.node; pick = s.pick }) h c.through.new.log.events there.1 refl
+    (subst (λ (n : ℕ). GoesOn meter n s.node c.through.new.node h c.through.new.log.events) (sym named) goes) met) c.through.ensures.metered
+
+pub returns-in-Through-clause-left : goal.returns-in-Through-clause-left
+returns-in-Through-clause-left g c =
+    let meter = g.D.Disk.meter in
+    let row = c.args.shared.now.stations.items in
+    let h = c.args.shared.now.log.events in
+    let s = c.index_mut.result.now in
+    let there = read-at row c.as_slice.result.now c.args.number c.in-Some.place s c.as_slice.ensures.value c.in-Some.ensures c.index_mut.ensures.value in
+    on_err_weaker c.through.result (λ (same : c.through.new.log.events ≡ h). λ numbers first met.
+    order-left meter first numbers row c.in-Some.place s (record { sid = s.sid; node = c.through.new.node; pick = s.pick }) h c.through.new.log.events there.1 refl
+    c.through.ensures.counted same met) c.through.ensures.err
+
+pub returns-in_ok-without_reply-in-ReplyLost-clause-held : goal.returns-in_ok-without_reply-in-ReplyLost-clause-held
+returns-in_ok-without_reply-in-ReplyLost-clause-held g c = λ numbers first met.
+    let meter = g.D.Disk.meter in
+    let row = c.args.shared.now.stations.items in
+    let h = c.args.shared.now.log.events in
+    let s = c.index_mut.result.now in
+    let there = read-at row c.as_slice.result.now c.args.number c.in-Some.place s c.as_slice.ensures.value c.in-Some.ensures c.index_mut.ensures.value in
+    let named = sid-at row c.args.number c.in-Some.place s there.0 there.1 in
+    metered-step meter first numbers row c.in-Some.place s (record { sid = s.sid; node = c.without_reply.new.node; pick = s.pick }) h c.without_reply.new.log.events there.1 refl
+    (subst (λ (n : ℕ). GoesOn meter n s.node c.without_reply.new.node h c.without_reply.new.log.events) (sym named) c.in_ok-without_reply-in-ReplyLost.ensures.metered) met
+
+pub returns-in_ok-without_request-in-RequestLost-clause-held : goal.returns-in_ok-without_request-in-RequestLost-clause-held
+returns-in_ok-without_request-in-RequestLost-clause-held g c = λ numbers first met.
+    let meter = g.D.Disk.meter in
+    let row = c.args.shared.now.stations.items in
+    let h = c.args.shared.now.log.events in
+    let s = c.index_mut.result.now in
+    let there = read-at row c.as_slice.result.now c.args.number c.in-Some.place s c.as_slice.ensures.value c.in-Some.ensures c.index_mut.ensures.value in
+    metered-step meter first numbers row c.in-Some.place s (record { sid = s.sid; node = s.node; pick = s.pick }) h c.without_request.new.log.events there.1 refl
+    (unheard-goes meter s.sid s.node c.args.by c.args.number h c.without_request.new.log.events c.in_ok-without_request-in-RequestLost.ensures.ok.noted) met
+
+pub returns-in_default-clause-left : goal.returns-in_default-clause-left
+returns-in_default-clause-left g c = λ numbers first met. metered-counts g.D.Disk.meter first numbers c.args.shared.now.stations.items c.args.shared.now.log.events met
+
+pub returns-in_default-lost_after-clause-left : goal.returns-in_default-lost_after-clause-left
+returns-in_default-lost_after-clause-left g c = λ numbers first met. metered-counts g.D.Disk.meter first numbers c.args.shared.now.stations.items c.args.shared.now.log.events met
+
+pub returns-in_err-without_reply-in-ReplyLost-clause-left : goal.returns-in_err-without_reply-in-ReplyLost-clause-left
+returns-in_err-without_reply-in-ReplyLost-clause-left g c =
+    let row = c.args.shared.now.stations.items in
+    let h = c.args.shared.now.log.events in
+    let s = c.index_mut.result.now in
+    let there = read-at row c.as_slice.result.now c.args.number c.in-Some.place s c.as_slice.ensures.value c.in-Some.ensures c.index_mut.ensures.value in
+    order-err c.from_residual.result g.D.Disk.meter row c.in-Some.place s (record { sid = s.sid; node = c.without_reply.new.node; pick = s.pick }) h c.without_reply.new.log.events there.1 refl
+    c.without_reply.ensures.counted c.in_err-without_reply-in-ReplyLost.ensures.err
+
+pub returns-in_err-without_request-in-RequestLost-clause-left : goal.returns-in_err-without_request-in-RequestLost-clause-left
+returns-in_err-without_request-in-RequestLost-clause-left g c =
+    let row = c.args.shared.now.stations.items in
+    let h = c.args.shared.now.log.events in
+    let s = c.index_mut.result.now in
+    let there = read-at row c.as_slice.result.now c.args.number c.in-Some.place s c.as_slice.ensures.value c.in-Some.ensures c.index_mut.ensures.value in
+    order-err c.from_residual-in_err-without_request-in-RequestLost.result g.D.Disk.meter row c.in-Some.place s (record { sid = s.sid; node = s.node; pick = s.pick }) h c.without_request.new.log.events there.1 refl
+    (le_refl (g.D.Disk.meter s.node.disk).own) c.in_err-without_request-in-RequestLost.ensures.err
+
+-- Beside the log.
+
+pub returns-in-Through-clause-pictured : goal.returns-in-Through-clause-pictured
+returns-in-Through-clause-pictured g c =
+    let image = g.D.Disk.image in
+    let row = c.args.shared.now.stations.items in
+    let h = c.args.shared.now.log.events in
+    let h' = c.through.new.log.events in
+    let m = c.args.machine.now in
+    let new = c.through.new.machine in
+    let s = c.index_mut.result.now in
+    let there = read-at row c.as_slice.result.now c.args.number c.in-Some.place s c.as_slice.ensures.value c.in-Some.ensures c.index_mut.ensures.value in
+    let named = sid-at row c.args.number c.in-Some.place s there.0 there.1 in
+    both-ok c.through.result
+    (λ (part : IsThroughPart c.args.by c.args.number s.node.geometry.cells c.args.ask s.node.state c.through.new.node.state m new h h') (keeps : IsTrue g.D.Disk.tells → KeepsNode image c.args.by c.args.number m new s.node c.through.new.node h h'). λ told.
+    node-keeps image c.args.by row m h c.args.number c.in-Some.place s (record { sid = s.sid; node = c.through.new.node; pick = s.pick }) named there.1 refl c.longer.ensures new h' (through-grows part) (keeps told))
+    c.through.ensures.ok c.through.ensures.pictured
+
+pub returns-in-Through-clause-spared : goal.returns-in-Through-clause-spared
+returns-in-Through-clause-spared g c =
+    let image = g.D.Disk.image in
+    let row = c.args.shared.now.stations.items in
+    let h = c.args.shared.now.log.events in
+    let m = c.args.machine.now in
+    let s = c.index_mut.result.now in
+    let there = read-at row c.as_slice.result.now c.args.number c.in-Some.place s c.as_slice.ensures.value c.in-Some.ensures c.index_mut.ensures.value in
+    let named = sid-at row c.args.number c.in-Some.place s there.0 there.1 in
+    on_err_weaker c.through.result (λ (spares : IsTrue g.D.Disk.tells → SparesNode image c.args.by c.args.number m s.node c.through.new.node h). λ told.
+    node-spares image c.args.by row m h c.args.number c.in-Some.place s (record { sid = s.sid; node = c.through.new.node; pick = s.pick }) named there.1 refl (spares told)) c.through.ensures.spared
+
+pub returns-in_ok-without_reply-in-ReplyLost-clause-pictured : goal.returns-in_ok-without_reply-in-ReplyLost-clause-pictured
+returns-in_ok-without_reply-in-ReplyLost-clause-pictured g c = λ told.
+    let image = g.D.Disk.image in
+    let row = c.args.shared.now.stations.items in
+    let h = c.args.shared.now.log.events in
+    let s = c.index_mut.result.now in
+    let there = read-at row c.as_slice.result.now c.args.number c.in-Some.place s c.as_slice.ensures.value c.in-Some.ensures c.index_mut.ensures.value in
+    let named = sid-at row c.args.number c.in-Some.place s there.0 there.1 in
+    node-keeps image c.args.by row c.args.machine.now h c.args.number c.in-Some.place s (record { sid = s.sid; node = c.without_reply.new.node; pick = s.pick }) named there.1 refl c.longer.ensures
+    c.without_reply.new.machine c.without_reply.new.log.events (lost-grows c.in_ok-without_reply-in-ReplyLost.ensures.ok) (c.in_ok-without_reply-in-ReplyLost.ensures.pictured told)
+
+pub returns-in_err-without_reply-in-ReplyLost-clause-spared : goal.returns-in_err-without_reply-in-ReplyLost-clause-spared
+returns-in_err-without_reply-in-ReplyLost-clause-spared g c =
+    let image = g.D.Disk.image in
+    let row = c.args.shared.now.stations.items in
+    let h = c.args.shared.now.log.events in
+    let m = c.args.machine.now in
+    let s = c.index_mut.result.now in
+    let after : Station g.row.D.Denot = record { sid = s.sid; node = c.without_reply.new.node; pick = s.pick } in
+    let there = read-at row c.as_slice.result.now c.args.number c.in-Some.place s c.as_slice.ensures.value c.in-Some.ensures c.index_mut.ensures.value in
+    let named = sid-at row c.args.number c.in-Some.place s there.0 there.1 in
+    let P : Type 0 = IsTrue g.D.Disk.tells → SparesPicture image c.args.by (Some m) row h (slice_set row c.in-Some.place after) in
+    on-err {P = P} c.from_residual.result (λ told. node-spares image c.args.by row m h c.args.number c.in-Some.place s after named there.1 refl (c.in_err-without_reply-in-ReplyLost.ensures.spared told))
+
+pub returns-in_ok-without_request-in-RequestLost-clause-pictured : goal.returns-in_ok-without_request-in-RequestLost-clause-pictured
+returns-in_ok-without_request-in-RequestLost-clause-pictured g c = λ told.
+    let row = c.args.shared.now.stations.items in
+    let s = c.index_mut.result.now in
+    let there = read-at row c.as_slice.result.now c.args.number c.in-Some.place s c.as_slice.ensures.value c.in-Some.ensures c.index_mut.ensures.value in
+    unheard-keeps g.D.Disk.image c.args.by row c.longer.ensures c.told.ensures c.args.machine.now c.without_request.new.machine c.args.shared.now.log.events c.without_request.new.log.events c.args.number c.args.ask c.in-Some.place s there.1 c.requires.asked
+    (lost-by-link c.args.miss.now c.args.ask _ c.in-RequestLost.ensures.fares) c.in_ok-without_request-in-RequestLost.ensures.ok
+
+pub returns-in_err-without_request-in-RequestLost-clause-spared : goal.returns-in_err-without_request-in-RequestLost-clause-spared
+returns-in_err-without_request-in-RequestLost-clause-spared g c =
+    let image = g.D.Disk.image in
+    let row = c.args.shared.now.stations.items in
+    let h = c.args.shared.now.log.events in
+    let m = c.args.machine.now in
+    let s = c.index_mut.result.now in
+    let there = read-at row c.as_slice.result.now c.args.number c.in-Some.place s c.as_slice.ensures.value c.in-Some.ensures c.index_mut.ensures.value in
+    let named = sid-at row c.args.number c.in-Some.place s there.0 there.1 in
+    let P : Type 0 = IsTrue g.D.Disk.tells → SparesPicture image c.args.by (Some m) row h (slice_set row c.in-Some.place s) in
+    on-err {P = P} c.from_residual-in_err-without_request-in-RequestLost.result (λ told. node-spares image c.args.by row m h c.args.number c.in-Some.place s s named there.1 refl (λ v old actor has. (has, refl)))
+
+pub returns-in_default-clause-spared : goal.returns-in_default-clause-spared
+returns-in_default-clause-spared g c = λ told. still-spares g.D.Disk.image c.args.by c.args.shared.now.stations.items (Some c.args.machine.now) c.args.shared.now.log.events
+
+pub returns-in_default-lost_after-clause-spared : goal.returns-in_default-lost_after-clause-spared
+returns-in_default-lost_after-clause-spared g c = λ told. still-spares g.D.Disk.image c.args.by c.args.shared.now.stations.items (Some c.args.machine.now) c.args.shared.now.log.events

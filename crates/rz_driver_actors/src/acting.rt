@@ -1,0 +1,200 @@
+//! What an actor does in its turn.
+ghost use Rattle.std.specs.Prelude.{◌≡◌, ◌+◌, ◌<◌, ◌≤◌, ◌^◌, ℕ, length, SomeIff, IsTrue, OnOk, OnErr, List, Some};
+ghost use Rattle.std.specs.FinMap as map;
+ghost use Rattle.std.specs.Vec.{vec_len};
+ghost use Rattle.mj_angles.specs.Layout.{max_bins_of};
+ghost use Rattle.rz_events.specs.declared.keys.Actor.TheVariants as actor;
+ghost use Rattle.rz_operation_model.specs.Ask.{ask_of};
+ghost use Rattle.rz_play.specs.Turns as model;
+ghost use Rattle.rz_asks.specs.Locking.{lock_of};
+ghost use Rattle.rz_driver_nodes.specs.Nodes.{IsAsked};
+ghost use Rattle.rz_driver_actors.specs.Seats.{HasLayout};
+ghost use Rattle.rz_driver_nodes.specs.Meters.{AreMetered, AreCounted, CarriesCounts};
+ghost use Rattle.rz_asks.specs.Journals.{EndsOn};
+ghost use Rattle.rz_driver_actors.specs.Stores.{IsExportTurn, IsSameStore};
+ghost use Rattle.rz_driver_actors.specs.Hands.{KeepsPicture, SparesPicture};
+ghost use Rattle.rz_driver_actors.specs.Acts.{IsKind, IsMessage, IsReleased, IsSameActor, IsAct, HasLayouts};
+
+use crate::seat::Seat;
+use crate::shared::Shared;
+use mj_angles::Layout;
+use rz_asks::{ask_export, open, say};
+use rz_disk::Disk;
+use rz_driver_nodes::{fate, find, through, without_reply, without_request};
+use rz_events::{Actor, NodeAsk};
+use rz_link::{Link, Sent};
+use rz_locks::{LockKind, Locks, Range};
+use rz_operation::{Ask, Machine};
+use rz_player::NoMemory;
+use std::alloc::Global;
+
+/// What kind of thing a machine asks.
+#[derive(Clone, Copy, Drop)]
+pub(crate) enum Kind {
+    Rest,
+    Export,
+    Lock,
+    Node { node: u16, ask: NodeAsk },
+    Say,
+}
+
+fn kind_of(machine: &Machine) -> Kind
+    ensures { IsKind (ask_of machine.now.layout machine.now.work) result }
+{
+    match machine.next() {
+        Ask::Rest => Kind::Rest,
+        Ask::Export(_) => Kind::Export,
+        Ask::Lock { .. } => Kind::Lock,
+        Ask::Node { node, ask } => Kind::Node { node, ask },
+        Ask::Say(_) => Kind::Say,
+    }
+}
+
+/// The actor does what its operation asks next.
+pub fn act<D: Disk, J: Disk, L: Link>(
+    alloc: Global,
+    layout: Layout,
+    by: Actor,
+    seat: &mut Seat,
+    shared: &mut Shared<D, J>,
+    link: &mut L,
+) -> Result<(), NoMemory>
+    requires machine { HasLayout layout seat.old.machine }
+    requires stations { HasLayouts layout shared.old.stations.items }
+    requires bins { max_bins_of layout ≤ length shared.old.bins.items }
+    requires tied { (n : ℕ) → by ≡ actor.Client n → map.get shared.old.locks n ≡ lock_of seat.old.lock }
+    requires room { 2 ≤ shared.old.log.room }
+    ensures ok { OnOk result (IsAct layout by seat.old seat.new shared.old shared.new) }
+    ensures actor { IsSameActor seat.old seat.new }
+    ensures miss { OnErr result (seat.new.miss ≡ seat.old.miss) }
+    ensures err { OnErr result (shared.new.log.events ≡ shared.old.log.events) }
+    ensures earlier { shared.new.log.earlier ≡ shared.old.log.earlier }
+    ensures lost { OnErr result (shared.new.lost ≡ shared.old.lost) }
+    ensures link { shared.new.lost + L.lost link.old ≤ shared.old.lost + L.lost link.new }
+    ensures bins { length shared.new.bins.items ≡ length shared.old.bins.items }
+    ensures count { vec_len shared.new.stations ≡ vec_len shared.old.stations }
+    ensures held { OnOk result ((numbers : List ℕ) → CarriesCounts (AreMetered D.meter numbers shared.old.stations.items shared.old.log.events) (AreMetered D.meter numbers shared.new.stations.items shared.new.log.events)) }
+    ensures left { OnErr result ((numbers : List ℕ) → CarriesCounts (AreMetered D.meter numbers shared.old.stations.items shared.old.log.events) (AreCounted D.meter numbers shared.new.stations.items shared.new.log.events)) }
+    ensures store { IsSameStore shared.old.export shared.new.export }
+    ensures kept { OnOk result (IsExportTurn J.tells J.meter J.image by seat.old.machine shared.old.export shared.new.export shared.old.log.events shared.new.log.events) }
+    ensures ended { OnErr result (EndsOn J.tells J.meter J.image shared.old.export shared.new.export) }
+    ensures pictured { OnOk result (IsTrue D.tells → KeepsPicture D.image by seat.old.machine seat.new.machine shared.old.stations.items shared.old.log.events shared.new.stations.items shared.new.log.events) }
+    ensures spared { OnErr result (IsTrue D.tells → SparesPicture D.image by seat.old.machine shared.old.stations.items shared.old.log.events shared.new.stations.items) }
+{
+    rz_block_laws::told();
+    rz_image_laws::longer::<D>();
+    let Some(machine) = &mut seat.machine else {
+        return Ok(());
+    };
+    match kind_of(machine) {
+        Kind::Rest => Ok(()),
+        Kind::Export => ask_export(alloc, by, machine, &mut shared.export, &mut shared.log),
+        Kind::Lock => open(
+            alloc,
+            by,
+            machine,
+            &mut seat.lock,
+            &mut shared.locks,
+            &mut shared.export,
+            &mut shared.log,
+        ),
+        Kind::Node { node, ask } => message(
+            alloc,
+            layout,
+            by,
+            node,
+            ask,
+            machine,
+            &mut seat.miss,
+            shared,
+            link,
+        ),
+        Kind::Say => {
+            let done = say(alloc, by, seat.number, machine, &mut shared.log)?;
+            release_if(done, by, &mut seat.lock, &mut shared.locks);
+            Ok(())
+        }
+    }
+}
+
+/// Releases the lock of an actor whose operation is done.
+fn release_if(done: bool, by: Actor, lock: &mut Option<(Range, LockKind)>, locks: &mut Locks)
+    ensures { IsReleased done by lock.old lock.new locks.old locks.new }
+{
+    if done {
+        *lock = None;
+        if let Actor::Client(owner) = by {
+            locks.release(owner);
+        }
+    }
+}
+
+/// A message goes to a node.
+fn message<D: Disk, J: Disk, L: Link>(
+    alloc: Global,
+    layout: Layout,
+    by: Actor,
+    number: u16,
+    ask: NodeAsk,
+    machine: &mut Machine,
+    miss: &mut Option<bool>,
+    shared: &mut Shared<D, J>,
+    link: &mut L,
+) -> Result<(), NoMemory>
+    requires machine { machine.old.layout ≡ layout }
+    requires asked { IsAsked machine.old number ask }
+    requires stations { HasLayouts layout shared.old.stations.items }
+    requires bins { max_bins_of layout ≤ length shared.old.bins.items }
+    requires room { 2 ≤ shared.old.log.room }
+    ensures ok { OnOk result (IsMessage by number ask machine.old machine.new miss.old miss.new shared.old shared.new) }
+    ensures miss { OnErr result (miss.new ≡ miss.old) }
+    ensures locks { shared.new.locks ≡ shared.old.locks }
+    ensures err { OnErr result (shared.new.log.events ≡ shared.old.log.events) }
+    ensures earlier { shared.new.log.earlier ≡ shared.old.log.earlier }
+    ensures lost { OnErr result (shared.new.lost ≡ shared.old.lost) }
+    ensures export { shared.new.export ≡ shared.old.export }
+    ensures link { shared.new.lost + L.lost link.old ≤ shared.old.lost + L.lost link.new }
+    ensures bins { length shared.new.bins.items ≡ length shared.old.bins.items }
+    ensures count { vec_len shared.new.stations ≡ vec_len shared.old.stations }
+    ensures held { OnOk result ((numbers : List ℕ) → CarriesCounts (AreMetered D.meter numbers shared.old.stations.items shared.old.log.events) (AreMetered D.meter numbers shared.new.stations.items shared.new.log.events)) }
+    ensures left { OnErr result ((numbers : List ℕ) → CarriesCounts (AreMetered D.meter numbers shared.old.stations.items shared.old.log.events) (AreCounted D.meter numbers shared.new.stations.items shared.new.log.events)) }
+    ensures pictured { OnOk result (IsTrue D.tells → KeepsPicture D.image by (Some machine.old) (Some machine.new) shared.old.stations.items shared.old.log.events shared.new.stations.items shared.new.log.events) }
+    ensures spared { OnErr result (IsTrue D.tells → SparesPicture D.image by (Some machine.old) shared.old.stations.items shared.old.log.events shared.new.stations.items) }
+{
+    rz_block_laws::told();
+    rz_image_laws::longer::<D>();
+    let Some(place) = find(shared.stations.as_slice(), number) else {
+        return Err(NoMemory);
+    };
+    let Some(lost) = lost_after(*miss, shared.lost) else {
+        return Err(NoMemory);
+    };
+    let node = &mut shared.stations[place].node;
+    let bins = &mut shared.bins;
+    let log = &mut shared.log;
+    match fate(*miss, &ask, number, link) {
+        Sent::Through => through(alloc, layout, by, number, machine, ask, node, bins, log),
+        Sent::ReplyLost => {
+            without_reply(alloc, layout, by, number, machine, ask, node, bins, log)?;
+            *miss = None;
+            shared.lost = lost;
+            Ok(())
+        }
+        Sent::RequestLost => {
+            without_request(by, number, machine, ask, log)?;
+            *miss = None;
+            shared.lost = lost;
+            Ok(())
+        }
+    }
+}
+
+/// How many messages the link has then lost of itself.
+fn lost_after(miss: Option<bool>, lost: u64) -> Option<u64>
+    ensures { SomeIff result (model.lost_after miss lost < 2 ^ 64) (model.lost_after miss lost) }
+{
+    match miss {
+        None => lost.checked_add(1),
+        Some(_) => Some(lost),
+    }
+}

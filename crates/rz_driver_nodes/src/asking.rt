@@ -1,0 +1,55 @@
+//! A node is asked for a record.
+ghost use Rattle.std.specs.Prelude.{◌≡◌, ◌≢◌, ◌≤◌, ◌∷◌, ℕ, List, Some, true, drop, length};
+ghost use Rattle.mj_angles.specs.Layout.{max_bins_of};
+ghost use Rattle.rz_events.specs.declared.keys.Actor.TheVariants.{Admin};
+ghost use Rattle.rz_events.specs.declared.events.Event.{Event};
+ghost use Rattle.rz_node.specs.Spends.{fetch_used};
+ghost use Rattle.rz_node_model.specs.Afterwards.{after_fetch};
+ghost use Rattle.rz_node_model.specs.Answers.{IsFetchAnswer, fetch_answer};
+ghost use Rattle.rz_node_model.specs.NodeEvents.{fetch_event};
+ghost use Rattle.rz_scrub_report.specs.Stores.{IsRead};
+ghost use Rattle.rz_driver_nodes.specs.Meters.{AreMetered, CarriesCounts, Goes};
+ghost use Rattle.rz_driver_nodes.specs.Fetches.{GivesAt, GivesIn, HaveRoom, IsFetch};
+ghost use Rattle.rz_driver_nodes.specs.Asked.{IsOnlyAsked, AreOnlyAsked};
+
+use crate::station::find;
+use rz_disk::Disk;
+use rz_events::{FetchAnswer, Key};
+use rz_nodes::Station;
+
+/// Asks the node of this number for its record of a key with this stamp. The bins come to the front of
+/// `room`. Where no node has the number, the answer is that of a node that holds nothing.
+pub fn fetch_node<D: Disk>(
+    stations: &mut [Station<D>],
+    sid: u16,
+    key: Key,
+    stamp: u64,
+    room: &mut [u64],
+) -> FetchAnswer
+    requires { HaveRoom (length room.old) stations.old }
+    ensures fetched { IsFetch key stamp result sid stations.old stations.new }
+    ensures asked { AreOnlyAsked D.text D.image stations.old stations.new }
+    ensures read { IsRead (GivesIn D.tells D.text stations.old sid key) result room.old room.new }
+    ensures unread { fetch_used result ≢ Some true → room.new ≡ room.old }
+    ensures behind { (count : ℕ) → HaveRoom count stations.old → drop count room.new ≡ drop count room.old }
+    ensures metered { (position : ℕ) (numbers : List ℕ) (h : List Event) → CarriesCounts (AreMetered D.meter numbers stations.old h) (AreMetered D.meter numbers stations.new (fetch_event Admin sid key position stamp result ∷ h)) }
+{
+    match find(stations, sid) {
+        Some(place) => fetch(&mut stations[place], key, stamp, room),
+        None => FetchAnswer::Nothing,
+    }
+}
+
+fn fetch<D: Disk>(station: &mut Station<D>, key: Key, stamp: u64, room: &mut [u64]) -> FetchAnswer
+    requires { max_bins_of station.old.node.geometry.layout ≤ length room.old }
+    ensures given { IsFetchAnswer (fetch_answer station.old.node.state key stamp) result }
+    ensures after { station.new.node.state ≡ after_fetch result station.old.node.state }
+    ensures asked { IsOnlyAsked D.text D.image station.old station.new }
+    ensures read { IsRead (GivesAt D.tells D.text station.old key) result room.old room.new }
+    ensures unread { fetch_used result ≢ Some true → room.new ≡ room.old }
+    ensures behind { drop (max_bins_of station.old.node.geometry.layout) room.new ≡ drop (max_bins_of station.old.node.geometry.layout) room.old }
+    ensures metered { (position : ℕ) → Goes D.meter station.old station.new (Some (fetch_event Admin station.old.sid key position stamp result)) }
+{
+    rz_disk_laws::faults();
+    station.node.fetch_into(key, stamp, room)
+}

@@ -1,0 +1,266 @@
+//! Messages to nodes.
+ghost use Rattle.std.specs.Prelude.{◌≡◌, ◌≢◌, ◌↔◌, ◌<◌, ◌≤◌, ℕ, List, true, None, IsTrue, OnOk, OnErr, IfOk, length, not};
+ghost use Rattle.rz_cells_slots.specs.Opening.{opening_calls};
+ghost use Rattle.mj_angles.specs.Layout.{max_bins_of};
+ghost use Rattle.rz_block_laws.specs.Laws as laws;
+ghost use Rattle.rz_node.specs.Calls.{Counts, IsNoStart, IsRecord};
+ghost use Rattle.rz_operation.specs.Answers.{HasRoom, IsAnswered, IsAnswerTo};
+ghost use Rattle.rz_operation_model.specs.Ask.{ask_of};
+ghost use Rattle.rz_operation_model.specs.Turns.{goes_by_link};
+ghost use Rattle.rz_play_laws.specs.Own.{IsOfActor};
+ghost use Rattle.rz_driver_nodes.specs.Nodes.{Fares, IsServed, IsAsked, IsFetchOf, IsPlaced, IsThroughPart, IsReplyLostPart, IsRequestLostPart};
+ghost use Rattle.rz_driver_nodes.specs.Meters.{GoesOn};
+ghost use Rattle.rz_driver_nodes.specs.Images.{KeepsNode, SparesNode};
+ghost use Rattle.rz_asks.specs.Parts.{is_bad};
+
+use mj_angles::Layout;
+use rz_asks::{Log, is_bad, let_go};
+use rz_disk::Disk;
+use rz_events::{Actor, Event, FetchAnswer, Head, NodeAnswer, NodeAsk};
+use rz_link::{Link, Sent};
+use rz_node::{Node, answer_node, node_event};
+use rz_operation::Machine;
+use rz_player::NoMemory;
+use std::alloc::Global;
+
+/// Whether the message of a call goes through the link.
+fn by_link(ask: &NodeAsk) -> bool
+    ensures { result ≡ goes_by_link ask.now }
+{
+    match ask {
+        NodeAsk::Keep(_) | NodeAsk::Fetch { .. } | NodeAsk::Refill { .. } | NodeAsk::Drop { .. } =>
+            true,
+        NodeAsk::Probe | NodeAsk::Stop | NodeAsk::Start | NodeAsk::Lose | NodeAsk::Replace { .. } =>
+            false,
+    }
+}
+
+/// How a message fares: as a line of the script says, or as the link does.
+pub fn fate<L: Link>(miss: Option<bool>, ask: &NodeAsk, node: u16, link: &mut L) -> Sent
+    ensures fares { Fares miss ask.now result }
+    ensures lasting { L.lost link.old ≤ L.lost link.new }
+    ensures risen { miss ≡ None → result ≢ Sent.Through → L.lost link.old < L.lost link.new }
+{
+    if !by_link(ask) {
+        return Sent::Through;
+    }
+    match miss {
+        Some(true) => Sent::ReplyLost,
+        Some(false) => Sent::RequestLost,
+        None => link.send(node),
+    }
+}
+
+/// Whether a head and so many bins are those of a record of this layout.
+#[tactic(auto, unfolding(rz_record::specs::Record::bins_of))]
+fn is_record(layout: Layout, head: &Head, bins: &[u64]) -> bool
+    ensures { IsTrue result → IsRecord layout head.now bins.now }
+{
+    if head.layout != layout || head.bsize != layout.bsize() || head.stamp == 0 {
+        return false;
+    }
+    if usize::from(head.position) >= layout.safe() || head.base >= head.stamp {
+        return false;
+    }
+    head.length as usize <= layout.block_bytes() && bins.len() == layout.bins_at(head.position)
+}
+
+/// Gives a call to a node, with the bins of what it is to keep, or with room for those that it reads.
+fn serve<D: Disk>(
+    alloc: Global,
+    layout: Layout,
+    machine: &Machine,
+    ask: &NodeAsk,
+    node: &mut Node<D>,
+    bins: &mut [u64],
+) -> Result<NodeAnswer, NoMemory>
+    requires layout { node.old.geometry.layout ≡ layout }
+    requires asked { (n : ℕ) × IsAsked machine.now n ask.now }
+    requires room { max_bins_of layout ≤ length bins.old }
+    ensures served { IfOk result (λ a. IsServed node.old.geometry.cells ask.now a node.old.state node.new.state) }
+    ensures geometry { node.new.geometry ≡ node.old.geometry }
+    ensures no_start { OnOk result (IsNoStart ask.now) }
+    ensures actor { OnOk result (IsOfActor ask.now) }
+    ensures message { IfOk result (λ a. IsTrue D.tells → (n : ℕ) → IsAsked machine.now n ask.now → (handed : List ℕ) × laws.IsMessage D.text D.image machine.now n node.old.geometry.cells node.old.geometry node.old.state ask.now a handed bins.new node.old.disk node.new.disk) }
+    ensures room { length bins.new ≡ length bins.old }
+    ensures counts { IfOk result (λ a. Counts (opening_calls node.old.geometry) a (D.meter node.old.disk) (D.meter node.new.disk)) }
+    ensures same { OnErr result (node.new ≡ node.old) }
+{
+    match ask {
+        NodeAsk::Keep(head) | NodeAsk::Refill { head, .. } => {
+            let given = machine.bins();
+            if !is_record(layout, head, given) || bins.len() < given.len() {
+                return Err(NoMemory);
+            }
+            let own = &mut bins[..given.len()];
+            own.copy_from_slice(given);
+            Ok(answer_node(node, alloc, ask, own))
+        }
+        NodeAsk::Fetch { .. } | NodeAsk::Drop { .. } | NodeAsk::Probe | NodeAsk::Replace { .. } =>
+            Ok(answer_node(node, alloc, ask, bins)),
+        NodeAsk::Stop | NodeAsk::Start | NodeAsk::Lose => Err(NoMemory),
+    }
+}
+
+/// Whether what is fetched lies at a position of the layout.
+fn is_placed(layout: Layout, ask: &NodeAsk) -> bool
+    ensures { IsTrue result → IsPlaced layout ask.now }
+{
+    match ask {
+        NodeAsk::Fetch { position, .. } => usize::from(*position) < layout.safe(),
+        _ => true,
+    }
+}
+
+/// Whether a record that a node gave is one of the layout, as far as the answer tells.
+fn is_fetch_of(layout: Layout, answer: &NodeAnswer) -> bool
+    ensures { IsTrue result ↔ IsFetchOf layout answer.now }
+{
+    match answer {
+        NodeAnswer::Fetch(FetchAnswer::Held(held)) => {
+            held.base < held.stamp && held.length as usize <= layout.block_bytes()
+        }
+        _ => true,
+    }
+}
+
+/// Tells a machine an answer, and whether it goes on: it does not where the records that came fit no block.
+fn tell(
+    layout: Layout,
+    machine: &mut Machine,
+    ask: &NodeAsk,
+    answer: NodeAnswer,
+    bins: &[u64],
+) -> bool
+    requires machine { machine.old.layout ≡ layout }
+    requires asked { (n : ℕ) × IsAsked machine.old n ask.now }
+    requires placed { IsPlaced layout ask.now }
+    requires answers { IsAnswerTo layout ask.now answer }
+    requires room { HasRoom machine.old.work }
+    requires bins { max_bins_of layout ≤ length bins.now }
+    ensures goes { result ≡ not (is_bad (ask_of machine.new.layout machine.new.work)) }
+    ensures answered { IsAnswered machine.old answer bins.now machine.new }
+{
+    let _most = layout.max_bins();
+    machine.tell_answer(answer, bins);
+    !is_bad(machine)
+}
+
+/// The message comes through.
+pub fn through<D: Disk>(
+    alloc: Global,
+    layout: Layout,
+    by: Actor,
+    number: u16,
+    machine: &mut Machine,
+    ask: NodeAsk,
+    node: &mut Node<D>,
+    bins: &mut [u64],
+    log: &mut Log,
+) -> Result<(), NoMemory>
+    requires layout { node.old.geometry.layout ≡ layout }
+    requires machine { machine.old.layout ≡ layout }
+    requires asked { IsAsked machine.old number ask }
+    requires bins { max_bins_of layout ≤ length bins.old }
+    requires room { 0 < log.old.room }
+    ensures ok { OnOk result (IsThroughPart by number node.old.geometry.cells ask node.old.state node.new.state machine.old machine.new log.old.events log.new.events) }
+    ensures err { OnErr result (log.new.events ≡ log.old.events) }
+    ensures earlier { log.new.earlier ≡ log.old.earlier }
+    ensures geometry { node.new.geometry ≡ node.old.geometry }
+    ensures metered { OnOk result (GoesOn D.meter number node.old node.new log.old.events log.new.events) }
+    ensures counted { (D.meter node.old.disk).own ≤ (D.meter node.new.disk).own }
+    ensures pictured { OnOk result (IsTrue D.tells → KeepsNode D.image by number machine.old machine.new node.old node.new log.old.events log.new.events) }
+    ensures spared { OnErr result (IsTrue D.tells → SparesNode D.image by number machine.old node.old node.new log.old.events) }
+{
+    rz_disk_laws::faults();
+    rz_block_laws::heard::<D>();
+    rz_block_laws::fitting();
+    if !machine.has_room() || !is_placed(layout, &ask) {
+        return Err(NoMemory);
+    }
+    let answer = serve(alloc, layout, machine, &ask, node, bins)?;
+    if !is_fetch_of(layout, &answer) {
+        return Err(NoMemory);
+    }
+    let Some(event) = node_event(by, number, &ask, &answer) else {
+        return Err(NoMemory);
+    };
+    if !tell(layout, machine, &ask, answer, bins) {
+        let_go(event);
+        return Err(NoMemory);
+    }
+    log.note(event)
+}
+
+/// The node is given the call, and its answer is lost.
+pub fn without_reply<D: Disk>(
+    alloc: Global,
+    layout: Layout,
+    by: Actor,
+    number: u16,
+    machine: &mut Machine,
+    ask: NodeAsk,
+    node: &mut Node<D>,
+    bins: &mut [u64],
+    log: &mut Log,
+) -> Result<(), NoMemory>
+    requires layout { node.old.geometry.layout ≡ layout }
+    requires asked { IsAsked machine.old number ask }
+    requires lossy { goes_by_link ask ≡ true }
+    requires bins { max_bins_of layout ≤ length bins.old }
+    requires room { 2 ≤ log.old.room }
+    ensures ok { OnOk result (IsReplyLostPart by number node.old.geometry.cells ask node.old.state node.new.state machine.old machine.new log.old.events log.new.events) }
+    ensures err { OnErr result (log.new.events ≡ log.old.events) }
+    ensures earlier { log.new.earlier ≡ log.old.earlier }
+    ensures geometry { node.new.geometry ≡ node.old.geometry }
+    ensures metered { OnOk result (GoesOn D.meter number node.old node.new log.old.events log.new.events) }
+    ensures counted { (D.meter node.old.disk).own ≤ (D.meter node.new.disk).own }
+    ensures pictured { OnOk result (IsTrue D.tells → KeepsNode D.image by number machine.old machine.new node.old node.new log.old.events log.new.events) }
+    ensures spared { OnErr result (IsTrue D.tells → SparesNode D.image by number machine.old node.old node.new log.old.events) }
+{
+    rz_disk_laws::faults();
+    rz_block_laws::heard::<D>();
+    rz_block_laws::told();
+    if !machine.has_room() {
+        return Err(NoMemory);
+    }
+    let answer = serve(alloc, layout, machine, &ask, node, bins)?;
+    let Some(event) = node_event(by, number, &ask, &answer) else {
+        return Err(NoMemory);
+    };
+    machine.tell_missed();
+    log.note_two(
+        event,
+        Event::Missed {
+            by,
+            node: number,
+            reply: true,
+        },
+    )
+}
+
+/// The message is lost.
+pub fn without_request(
+    by: Actor,
+    number: u16,
+    machine: &mut Machine,
+    ask: NodeAsk,
+    log: &mut Log,
+) -> Result<(), NoMemory>
+    requires asked { IsAsked machine.old number ask }
+    requires lossy { goes_by_link ask ≡ true }
+    requires room { 0 < log.old.room }
+    ensures ok { OnOk result (IsRequestLostPart by number machine.old machine.new log.old.events log.new.events) }
+    ensures err { OnErr result (log.new.events ≡ log.old.events) }
+    ensures earlier { log.new.earlier ≡ log.old.earlier }
+{
+    if !machine.has_room() {
+        return Err(NoMemory);
+    }
+    machine.tell_missed();
+    log.note(Event::Missed {
+        by,
+        node: number,
+        reply: false,
+    })
+}

@@ -1,5 +1,0 @@
-use Rattle.rz_locked.proofs.Lasting as laws
-use Rattle.rz_locked.proofs.laws.asker_kept.Goals as goal
-
-pub returns : goal.returns
-returns c = λ v. laws.asker-kept v (c.one_run.ensures v) (c.ask_kept.ensures v) c.permanent.ensures c.actors_kept.ensures

@@ -1,5 +1,0 @@
-use Rattle.rz_locked.proofs.OfficeLaws as laws
-use Rattle.rz_locked.proofs.laws.caller_kept.Goals as goal
-
-pub returns : goal.returns
-returns c = λ v. laws.caller-kept v (c.one_run.ensures v) (c.call_kept.ensures v) c.actors_kept.ensures

@@ -1,5 +1,0 @@
-use Rattle.rz_locked.proofs.Lasting as laws
-use Rattle.rz_locked.proofs.laws.read_kept.Goals as goal
-
-pub returns : goal.returns
-returns c = λ v. laws.read-kept v c.permanent.ensures

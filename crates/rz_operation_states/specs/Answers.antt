@@ -1,0 +1,250 @@
+-- Which answers belong to what was asked, and what they make of a machine.
+use Rattle.std.specs.Prelude.{ℕ, Bool, true, ◌≡◌, ◌<◌, ◌≤◌, ◌+◌, List, [], length, Option, None}
+use Rattle.std.specs.Int.{bit_at}
+use Rattle.mj_angles.specs.declared.layout.Layout.{Layout}
+use Rattle.mj_angles.specs.Layout.{safe_of, block_bytes_of}
+use Rattle.mj_inverse.specs.Fits.{Pair}
+use Rattle.rz_words.specs.Grid.{Grid}
+use Rattle.rz_events.specs.declared.tree.TreeReply.{TreeReply}
+use Rattle.rz_events.specs.declared.tree.TreeReply.TheVariants as tree
+use Rattle.rz_events.specs.declared.export.Call.{Call}
+use Rattle.rz_events.specs.declared.export.Call.TheVariants as call
+use Rattle.rz_events.specs.declared.export.Reply.{Reply}
+use Rattle.rz_events.specs.declared.export.Reply.TheVariants as reply
+use Rattle.rz_events.specs.declared.nodes.NodeAsk.{NodeAsk}
+use Rattle.rz_events.specs.declared.nodes.NodeAsk.TheVariants as ask
+use Rattle.rz_events.specs.declared.nodes.NodeAnswer.{NodeAnswer}
+use Rattle.rz_events.specs.declared.nodes.NodeAnswer.TheVariants as answer
+use Rattle.rz_events.specs.declared.nodes.FetchAnswer.{FetchAnswer}
+use Rattle.rz_events.specs.declared.machines.ReaderAnswer.TheVariants as reads
+use Rattle.rz_events.specs.declared.machines.ReaderAsk.{ReaderAsk}
+use Rattle.rz_events.specs.declared.machines.ReaderAsk.TheVariants as fetches
+use Rattle.rz_events.specs.declared.machines.WriterAsk.{WriterAsk}
+use Rattle.rz_events.specs.declared.machines.WriterAsk.TheVariants as keeps
+use Rattle.rz_client_model.specs.Read.{IsTold, IsFetched}
+use Rattle.rz_reader.specs.Fetched.{record_in}
+use Rattle.rz_reader.specs.Machine.{pairs_at, pairs_if, AreFitting, IsBlockOf, Machine as ReaderMachine}
+use Rattle.rz_events.specs.declared.operations.Operation.{Operation}
+use Rattle.rz_events.specs.declared.operations.Operation.TheVariants as operation
+use Rattle.rz_operation_model.specs.Ranges.{bytes_of}
+use Rattle.rz_operation_model.specs.Ask.{Ask, AskExport, AskNode, AskLock, Say, Saying, SayDone}
+use Rattle.rz_operation_model.specs.Steps.{Told, Answered, told, reader_after}
+use Rattle.rz_operation_model.specs.Rebuild.{IsNextAnswer}
+use Rattle.rz_rebuild.specs.Machine.{HasBinsAt, HasRoomAt, pairs_at_state, pairs_fetched_at, IsBlockAt}
+use Rattle.rz_operation_model.specs.Work.{Work, RangePlan, WriteBytes, ReadBytes, Reading, Rebuilding}
+use Rattle.rz_operation_states.specs.Machine.{Machine}
+
+-- Operations that a machine takes: a block's datum fits the block, and a range ends where the longest file does.
+
+abbrev pub IsOperation : Layout → Operation → Type 0
+IsOperation layout (operation.Tree c) = Unit {0}
+IsOperation layout (operation.Put path block datum) = length (bytes_of datum) ≤ block_bytes_of layout
+IsOperation layout (operation.Get path block) = Unit {0}
+IsOperation layout (operation.Rebuild n) = Unit {0}
+IsOperation layout (operation.Write path offset datum) = offset + length (bytes_of datum) ≤ 4294967296
+IsOperation layout (operation.Read path offset count) = offset + count ≤ 4294967296
+IsOperation layout (operation.Update path offset datum) = offset + length (bytes_of datum) ≤ 4294967296
+IsOperation layout (operation.View path offset count) = offset + count ≤ 4294967296
+
+-- the range of an operation ends where the longest file does
+abbrev pub IsWithinFile : RangePlan → Type 0
+IsWithinFile (WriteBytes offset bytes) = offset + length bytes ≤ 4294967296
+IsWithinFile (ReadBytes offset count) = offset + count ≤ 4294967296
+
+-- Answers of the export.
+
+-- a file has a node for each position
+abbrev pub HasPlaces : Layout → TreeReply → Type 0
+HasPlaces layout (tree.File info) = length info.places ≡ safe_of layout
+HasPlaces layout answer = Unit {0}
+
+abbrev pub IsTreeReply : Layout → Reply → Type 0
+IsTreeReply layout (reply.Tree answer) = HasPlaces layout answer
+IsTreeReply layout r = ⊥
+
+abbrev pub IsBeginReply : Reply → Type 0
+IsBeginReply (reply.Begun stamp base) = base < stamp
+IsBeginReply (reply.Denied why) = Unit {0}
+IsBeginReply r = ⊥
+
+abbrev pub IsPublishReply : ℕ → Reply → Type 0
+IsPublishReply mask reply.Accepted = Unit {0}
+IsPublishReply mask (reply.Enrolled position fence) = (position < 16) × (bit_at mask position ≡ 1)
+IsPublishReply mask (reply.Denied why) = Unit {0}
+IsPublishReply mask (reply.Revoked later) = Unit {0}
+IsPublishReply mask r = ⊥
+
+abbrev pub IsLookReply : Layout → Reply → Type 0
+IsLookReply layout (reply.Looked p) = IsTold layout p
+IsLookReply layout (reply.Denied why) = Unit {0}
+IsLookReply layout r = ⊥
+
+abbrev pub IsEnrollReply : Reply → Type 0
+IsEnrollReply (reply.Fence fence) = Unit {0}
+IsEnrollReply (reply.Denied why) = Unit {0}
+IsEnrollReply r = ⊥
+
+abbrev pub IsNextReply : Layout → ℕ → Reply → Type 0
+IsNextReply layout n (reply.Listed l) = IsNextAnswer layout n l
+IsNextReply layout n r = ⊥
+
+abbrev pub IsReplyTo : Layout → Call → Reply → Type 0
+IsReplyTo layout (call.Tree c) r = IsTreeReply layout r
+IsReplyTo layout (call.Begin key text) r = IsBeginReply r
+IsReplyTo layout (call.Publish key stamp mask length) r = IsPublishReply mask r
+IsReplyTo layout (call.Look key) r = IsLookReply layout r
+IsReplyTo layout (call.Recheck key) r = IsLookReply layout r
+IsReplyTo layout (call.Enroll n loss) r = IsEnrollReply r
+IsReplyTo layout (call.Next n after) r = IsNextReply layout n r
+
+abbrev pub IsReply : Layout → Ask → Reply → Type 0
+IsReply layout (AskExport c) r = IsReplyTo layout c r
+IsReply layout ask r = ⊥
+
+abbrev pub IsLockReply : Layout → Ask → Reply → Type 0
+IsLockReply layout (AskLock path exclusive from count) r = IsTreeReply layout r
+IsLockReply layout ask r = ⊥
+
+-- Answers of nodes. A record comes with the bins of the position that was asked.
+
+abbrev pub IsFetch : Layout → ℕ → NodeAnswer → Type 0
+IsFetch layout position (answer.Fetch a) = IsFetched layout a
+IsFetch layout position a = ⊥
+
+abbrev pub HasFetched : Layout → ℕ → NodeAnswer → List ℕ → Type 0
+HasFetched layout position (answer.Fetch a) bins = HasBinsAt layout position a bins
+HasFetched layout position a bins = Unit {0}
+
+abbrev pub IsFetchGiven : NodeAnswer → Type 0
+IsFetchGiven (answer.Fetch a) = Unit {0}
+IsFetchGiven a = ⊥
+
+abbrev pub IsKeep : NodeAnswer → Type 0
+IsKeep (answer.Keep a) = Unit {0}
+IsKeep a = ⊥
+
+abbrev pub IsDrop : NodeAnswer → Type 0
+IsDrop (answer.Drop a) = Unit {0}
+IsDrop a = ⊥
+
+abbrev pub IsProbe : NodeAnswer → Type 0
+IsProbe (answer.Probe a) = Unit {0}
+IsProbe a = ⊥
+
+abbrev pub IsReplace : NodeAnswer → Type 0
+IsReplace (answer.Replace a) = Unit {0}
+IsReplace a = ⊥
+
+abbrev pub IsRefill : NodeAnswer → Type 0
+IsRefill (answer.Refill a) = Unit {0}
+IsRefill a = ⊥
+
+abbrev pub IsAnswerTo : Layout → NodeAsk → NodeAnswer → Type 0
+IsAnswerTo layout (ask.Keep head) a = IsKeep a
+IsAnswerTo layout (ask.Fetch key position stamp) a = IsFetch layout position a
+IsAnswerTo layout (ask.Drop fid) a = IsDrop a
+IsAnswerTo layout ask.Probe a = IsProbe a
+IsAnswerTo layout (ask.Replace loss fence) a = IsReplace a
+IsAnswerTo layout (ask.Refill fence head) a = IsRefill a
+IsAnswerTo layout question a = ⊥
+
+abbrev pub HasBinsTo : Layout → NodeAsk → NodeAnswer → List ℕ → Type 0
+HasBinsTo layout (ask.Fetch key position stamp) a bins = HasFetched layout position a bins
+HasBinsTo layout question a bins = Unit {0}
+
+abbrev pub IsAnswer : Layout → Ask → NodeAnswer → Type 0
+IsAnswer layout (AskNode n question) a = IsAnswerTo layout question a
+IsAnswer layout ask a = ⊥
+
+abbrev pub ComeWith : Layout → Ask → NodeAnswer → List ℕ → Type 0
+ComeWith layout (AskNode n question) a bins = HasBinsTo layout question a bins
+ComeWith layout ask a bins = Unit {0}
+
+-- a message that the link may lose was asked
+abbrev pub IsLossy : NodeAsk → Type 0
+IsLossy (ask.Keep head) = Unit {0}
+IsLossy (ask.Fetch key position stamp) = Unit {0}
+IsLossy (ask.Refill fence head) = Unit {0}
+IsLossy (ask.Drop fid) = Unit {0}
+IsLossy question = ⊥
+
+abbrev pub MayMiss : Ask → Type 0
+MayMiss (AskNode n question) = IsLossy question
+MayMiss ask = ⊥
+
+-- the end of a block is said, or that it was left
+abbrev pub IsPart : Saying → Type 0
+IsPart (SayDone answer) = ⊥
+IsPart said = Unit {0}
+
+abbrev pub IsPartSaid : Ask → Type 0
+IsPartSaid (Say said) = IsPart said
+IsPartSaid ask = ⊥
+
+abbrev pub IsEnd : Saying → Type 0
+IsEnd (SayDone answer) = Unit {0}
+IsEnd said = ⊥
+
+abbrev pub IsDone : Ask → Type 0
+IsDone (Say said) = IsEnd said
+IsDone ask = ⊥
+
+-- The records of a block that is read.
+
+-- pairs are there while records are fetched
+abbrev pub pairs_in : Work → List Pair → List Pair
+pairs_in (Reading course s) pairs = pairs_at s.stage pairs
+pairs_in (Rebuilding n s) pairs = pairs_at_state s pairs
+pairs_in work pairs = []
+
+-- a record of the published stamp adds one
+abbrev pub pairs_fetched : Layout → Work → List Pair → FetchAnswer → List ℕ → List Pair
+pairs_fetched layout (Reading course s) pairs a bins = pairs_if layout pairs (record_in s.stage (reads.Fetched a)) bins
+pairs_fetched layout (Rebuilding n s) pairs a bins = pairs_fetched_at layout s pairs a bins
+pairs_fetched layout work pairs a bins = pairs
+
+-- the block is there once it is found, and is the one that fits
+abbrev pub IsBlockIn : Layout → List Pair → Work → Option Grid → Type 0
+IsBlockIn layout pairs (Reading course s) block = IsBlockOf layout pairs s.stage block
+IsBlockIn layout pairs (Rebuilding n s) block = IsBlockAt layout pairs s block
+IsBlockIn layout pairs work block = block ≡ None
+
+-- What an answer makes of a machine.
+
+-- the work goes on by what was told; these were the pairs before the work went on
+pub record Goes (m : Machine) (had : List Pair) (t : Told) (new : Machine) : Type 0 where
+  pub layout : new.layout ≡ m.layout
+  pub work : new.work ≡ told m.layout m.work t
+  pub pairs : new.pairs ≡ pairs_in new.work had
+  pub block : IsBlockIn m.layout had new.work new.block
+
+-- where the records are enough, they fit exactly where some block has them
+abbrev pub IsAnswered : Machine → NodeAnswer → List ℕ → Machine → Type 0
+IsAnswered m (answer.Fetch a) bins new = (fits : Bool) × AreFitting m.layout (pairs_fetched m.layout m.work m.pairs a bins) fits
+    × Goes m (pairs_fetched m.layout m.work m.pairs a bins) (Answered fits (answer.Fetch a)) new
+IsAnswered m a bins new = Goes m m.pairs (Answered true a) new
+
+-- What the parts of a machine are told.
+
+abbrev pub IsKeepAsk : WriterAsk → Type 0
+IsKeepAsk (keeps.Keep position n stamp base) = Unit {0}
+IsKeepAsk a = ⊥
+
+abbrev pub IsFetchAsk : Layout → FetchAnswer → List ℕ → ReaderAsk → Type 0
+IsFetchAsk layout a bins (fetches.Fetch position n stamp) = IsFetched layout a × HasFetched layout position (answer.Fetch a) bins
+IsFetchAsk layout a bins question = ⊥
+
+-- the pairs of a read after an answer
+abbrev pub pairs_told : ReaderMachine → FetchAnswer → List ℕ → List Pair
+pairs_told r a bins = pairs_if r.state.layout r.pairs (record_in r.state.stage (reads.Fetched a)) bins
+
+abbrev pub IsFetchedInto : ReaderMachine → FetchAnswer → List ℕ → ReaderMachine → Type 0
+IsFetchedInto r a bins new = (fits : Bool) × AreFitting r.state.layout (pairs_told r a bins) fits
+    × (new.state ≡ reader_after r.state (Answered fits (answer.Fetch a)))
+    × (new.pairs ≡ pairs_at new.state.stage (pairs_told r a bins))
+    × IsBlockOf r.state.layout (pairs_told r a bins) new.state.stage new.block
+
+-- what counts the blocks of a rebuild has room for one more
+abbrev pub HasRoom : Work → Type 0
+HasRoom (Rebuilding n s) = HasRoomAt s
+HasRoom work = Unit {0}

@@ -1,0 +1,133 @@
+-- Where an operation keeps what contracts see.
+use Rattle.std.specs.Prelude.{ℕ, ◌≡◌, ◌≤◌, ◌<◌, ◌+◌, List, [], drop, length, slice_index, Option, Some, None, IsSome}
+use Rattle.mj_angles.specs.declared.layout.Layout.{Layout}
+use Rattle.mj_angles.specs.Layout.{block_bytes_of}
+use Rattle.mj_inverse.specs.Fits.{Pair}
+use Rattle.rz_words.specs.Grid.{Grid}
+use Rattle.rz_events.specs.declared.tree.TreeCall.TheVariants as tree
+use Rattle.rz_events.specs.declared.events.Answer.{Answer}
+use Rattle.rz_events.specs.declared.events.Answer.TheVariants as answers
+use Rattle.rz_writer.specs.Machine.{block_of, Machine as WriterMachine}
+use Rattle.rz_operation_model.specs.Work.{Work, Plan as PlanOf, OnBlock, OnRange, PutBlock, GetBlock, Alone, Calling, Dropping, Opening, Locking, Writing, Reading, Ending, Over}
+use Rattle.rz_operation_model.specs.Rebuild.{Rebuild, Going, Ended}
+use Rattle.rz_operation_model.specs.Steps.{in_range, in_rebuild, range_answer}
+use Rattle.rz_operation_model.specs.Files.{FileState, Ended as FileEnded}
+use Rattle.rz_file.specs.Machine.{Machine as FileMachine}
+use Rattle.rz_rebuild.specs.Machine.{Machine as Rebuilder}
+use Rattle.rz_operation_states.specs.Answers.{IsWithinFile}
+use Rattle.rz_operation_states.specs.declared.stage.Stage.{Stage}
+use Rattle.rz_operation_states.specs.declared.stage.Stage.TheVariants as stage
+use Rattle.rz_operation_states.specs.declared.stage.Plan.{Plan}
+use Rattle.rz_operation_states.specs.declared.stage.Plan.TheVariants as plan
+use Rattle.rz_operation_states.specs.Meaning.{path_in}
+use Rattle.rz_operation_states.specs.Machine.{Machine}
+
+-- What contracts see.
+
+abbrev pub plan_of : Plan → PlanOf
+plan_of (plan.Put block writer text) = OnBlock (PutBlock block text)
+plan_of (plan.Get block reader) = OnBlock (GetBlock block)
+plan_of (plan.Range p) = OnRange p.plan
+
+abbrev pub work_of : Stage → Work
+work_of (stage.Calling c) = Calling c
+work_of (stage.Dropping fid places done) = Dropping fid (slice_index places done) (drop (done + 1) places)
+work_of (stage.Opening c p) = Opening (path_in c) (plan_of p)
+work_of (stage.Locking c p) = Locking (path_in c) p.plan
+work_of (stage.Writing writer text) = Writing Alone text writer.state
+work_of (stage.Reading reader) = Reading Alone reader.state
+work_of (stage.Ranging file) = in_range file.state
+work_of (stage.Rebuilding n rebuilder) = in_rebuild n rebuilder.state
+work_of (stage.Ending answer) = Ending answer
+work_of stage.Over = Over
+
+abbrev pub pairs_of : Stage → List Pair
+pairs_of (stage.Reading reader) = reader.pairs
+pairs_of (stage.Ranging file) = file.pairs
+pairs_of (stage.Rebuilding n rebuilder) = rebuilder.pairs
+pairs_of s = []
+
+abbrev pub block_in : Stage → Option Grid
+block_in (stage.Reading reader) = reader.block
+block_in (stage.Ranging file) = file.block
+block_in (stage.Rebuilding n rebuilder) = rebuilder.block
+block_in s = None
+
+abbrev pub machine_of : Layout → Stage → Machine
+machine_of layout s = record { layout = layout; work = work_of s; pairs = pairs_of s; block = block_in s }
+
+-- What holds between two answers.
+
+-- a machine that waits has the memory of a block
+abbrev pub IsPlan : Layout → Plan → Type 0
+IsPlan layout (plan.Put block writer text) = (writer.state.layout ≡ layout) × IsSome writer.block × (length text ≤ block_bytes_of layout)
+IsPlan layout (plan.Get block reader) = reader.state.layout ≡ layout
+IsPlan layout (plan.Range p) = p.layout ≡ layout
+
+-- the writer writes the text
+pub record IsWritten (y : Layout) (text : List ℕ) (writer : WriterMachine) : Type 0 where
+  pub layout : writer.state.layout ≡ y
+  pub block : writer.block ≡ Some (block_of y text)
+  pub length : writer.state.length ≡ length text
+
+-- a range is under way
+abbrev pub IsOpen : FileState → Type 0
+IsOpen (FileEnded r end) = ⊥
+IsOpen state = Unit {0}
+
+pub record IsRanging (y : Layout) (file : FileMachine) : Type 0 where
+  pub layout : file.layout ≡ y
+  pub going : IsOpen file.state
+
+-- a rebuild is under way
+abbrev pub IsGoing : Rebuild → Type 0
+IsGoing (Going s) = Unit {0}
+IsGoing (Ended end) = ⊥
+
+pub record IsRebuilding (y : Layout) (n : ℕ) (rebuilder : Rebuilder) : Type 0 where
+  pub layout : rebuilder.layout ≡ y
+  pub node : rebuilder.node ≡ n
+  pub going : IsGoing rebuilder.state
+
+abbrev pub IsStage : Layout → Stage → Type 0
+IsStage layout (stage.Dropping fid places done) = done < length places
+IsStage layout (stage.Opening c p) = (c ≡ tree.OpenFile (path_in c)) × IsPlan layout p
+IsStage layout (stage.Locking c p) = (c ≡ tree.OpenFile (path_in c)) × (p.layout ≡ layout) × IsWithinFile p.plan
+IsStage layout (stage.Writing writer text) = IsWritten layout text writer
+IsStage layout (stage.Reading reader) = reader.state.layout ≡ layout
+IsStage layout (stage.Ranging file) = IsRanging layout file
+IsStage layout (stage.Rebuilding n rebuilder) = IsRebuilding layout n rebuilder
+IsStage layout s = Unit {0}
+
+-- nothing was fetched yet
+abbrev pub IsFresh : Stage → Type 0
+IsFresh (stage.Reading reader) = (reader.pairs ≡ []) × (reader.block ≡ None)
+IsFresh (stage.Ranging file) = (file.pairs ≡ []) × (file.block ≡ None)
+IsFresh (stage.Rebuilding n rebuilder) = ⊥
+IsFresh s = Unit {0}
+
+-- no block is in hand, and no file is about to be opened
+abbrev pub IsQuiet : Stage → Type 0
+IsQuiet (stage.Dropping fid places done) = done < length places
+IsQuiet (stage.Ending answer) = Unit {0}
+IsQuiet stage.Over = Unit {0}
+IsQuiet _ = ⊥
+
+-- what becomes of a range
+abbrev pub IsRangeStage : FileMachine → FileState → Stage → Type 0
+IsRangeStage file (FileEnded r end) new = new ≡ stage.Ending (range_answer r.aim end)
+IsRangeStage file state new = new ≡ stage.Ranging file
+
+-- what becomes of a rebuild
+abbrev pub IsRebuildStage : ℕ → Rebuilder → Rebuild → Stage → Type 0
+IsRebuildStage n rebuilder (Going s) new = new ≡ stage.Rebuilding n rebuilder
+IsRebuildStage n rebuilder (Ended end) new = new ≡ stage.Ending (answers.Rebuild end)
+
+-- the answer is said
+abbrev pub IsDoneStage : Stage → Type 0
+IsDoneStage (stage.Ending answer) = Unit {0}
+IsDoneStage s = ⊥
+
+abbrev pub IsAnswerIn : Stage → Answer → Type 0
+IsAnswerIn (stage.Ending a) answer = answer ≡ a
+IsAnswerIn s answer = ⊥

@@ -1,0 +1,11 @@
+use Rattle.std.proofs.lemmas.Result.{err_from_is_err_and}
+use Rattle.rz_player.proofs.Behind.{tells-behind}
+use Rattle.rz_player.proofs.turns.take_turn.Goals as goal
+
+pub returns-in_err-turn-clause-taken : goal.returns-in_err-turn-clause-taken
+returns-in_err-turn-clause-taken g c b held exact =
+    let p = err_from_is_err_and c.from_residual.result c.from_residual.ensures.1 in
+    rw (p.1, p.2) (tells-behind b.log (g.S.Stage.world c.args.stage.now) (g.S.Stage.world c.turn.new.self) c.in_err-turn.ensures.log)
+
+pub returns-in_err-turn-clause-stopped : goal.returns-in_err-turn-clause-stopped
+returns-in_err-turn-clause-stopped g c = let p = err_from_is_err_and c.from_residual.result c.from_residual.ensures.1 in rw (p.1, p.2) tt

@@ -1,0 +1,91 @@
+-- How a turn, a round, a line or a script ends: whole, or cut off between two turns. Where a turn, a line or an order was not
+-- done, what was played stands in the log.
+use Rattle.std.specs.Prelude.{ℕ, Bool, true, false, IsTrue, ◌≡◌, ◌<◌, ◌≤◌, List, ◌∷◌, ◌++◌, Result, Ok, Err}
+use Rattle.std.specs.List.{AllByRecursion}
+use Rattle.rz_events.specs.Volume.{Volume}
+use Rattle.rz_events.specs.declared.keys.Actor.{Actor}
+use Rattle.rz_events.specs.declared.events.Event.{Event}
+use Rattle.rz_script.specs.declared.line.Line.{Line}
+use Rattle.rz_play.specs.World.{World, has_work}
+use Rattle.rz_play.specs.Turns.{IsTurn}
+use Rattle.rz_play.specs.Lines.{IsRound, PlaysLine}
+use Rattle.rz_play.specs.Stops.{TurnsSpent, HasCause, StopsLine, BeginsLine, most_turns}
+use Rattle.rz_play.specs.Played.{IsPlayedFrom, IsStoppedFrom, IsBegunFrom}
+use Rattle.rz_player.specs.Behind.{Before}
+use Rattle.rz_player.specs.declared.turns.Cut.{Cut}
+use Rattle.rz_player.specs.declared.turns.Cut.TheVariants as cut
+use Rattle.rz_player.specs.declared.lines.PlayEnd.{PlayEnd}
+use Rattle.rz_player.specs.declared.lines.PlayEnd.TheVariants as end
+
+-- what was so with what there was before the first line is so still
+abbrev pub Carries : (Before → Type 0) → (Before → Type 0) → Type 0
+Carries before after = (b : Before) → before b → after b
+
+-- the log and the count of lost messages are those of this world
+abbrev pub TellsOf : World → World → Type 0
+TellsOf last next = (next.log ≡ last.log) × (next.lost ≡ last.lost)
+
+-- they are those of a world up to which so much was played
+abbrev pub IsLogOf : (World → Type 0) → World → Type 0
+IsLogOf begun next = (last : World) × begun last × (last.turns ≤ most_turns) × TellsOf last next
+
+-- a turn
+abbrev pub IsTurnTaken : Volume → Actor → World → Result (Unit {0}) Cut → World → Type 0
+IsTurnTaken v by w (Ok done) next = IsTurn v by w next × (w.turns < most_turns)
+IsTurnTaken v by w (Err cut.TooManyTurns) next = (next ≡ w) × HasCause v TurnsSpent w by
+IsTurnTaken v by w (Err cut.NoMemory) next = TellsOf w next
+
+-- A round of these actors: whether one had work, and took a turn.
+
+abbrev pub HadWork : List Actor → World → Bool → World → Type 0
+HadWork actors w true next = w.turns < next.turns
+HadWork actors w false next = (next ≡ w) × AllByRecursion (λ by. has_work (w.seats by) ≡ false) actors
+
+-- it stops before the turn of one that has work
+abbrev pub StopsAmong : Volume → List Actor → World → World → Type 0
+StopsAmong v actors w next = (done : List Actor) × (by : Actor) × (more : List Actor) × (actors ≡ done ++ by ∷ more)
+    × IsRound v done w next × (has_work (next.seats by) ≡ true) × HasCause v TurnsSpent next by
+
+abbrev pub BeginsAmong : Volume → List Actor → World → World → Type 0
+BeginsAmong v actors w next = (done more : List Actor) × (actors ≡ done ++ more) × IsRound v done w next
+
+abbrev pub IsRoundPlayed : Volume → List Actor → World → Result Bool Cut → World → Type 0
+IsRoundPlayed v actors w (Ok any) next = IsRound v actors w next × HadWork actors w any next × (next.turns ≤ most_turns)
+IsRoundPlayed v actors w (Err cut.TooManyTurns) next = StopsAmong v actors w next
+IsRoundPlayed v actors w (Err cut.NoMemory) next = IsLogOf (BeginsAmong v actors w) next
+
+-- a round in which an actor had work counts its turns
+abbrev pub CountsTurns : Result Bool Cut → World → World → Type 0
+CountsTurns (Ok true) w next = w.turns < next.turns
+CountsTurns result w next = Unit {0}
+
+-- a line
+abbrev pub IsLinePlayed : Volume → Line → World → Result (Unit {0}) Cut → World → Type 0
+IsLinePlayed v line w (Ok done) next = PlaysLine v line w next × (next.turns ≤ most_turns)
+IsLinePlayed v line w (Err cut.TooManyTurns) next = StopsLine v TurnsSpent line w next
+IsLinePlayed v line w (Err cut.NoMemory) next = IsLogOf (BeginsLine v line w) next
+
+-- what is so where a line, a round or a turn stopped before a turn that is one too many
+abbrev pub OnStop : {A : Type 0} → Result A Cut → Type 0 → Type 0
+OnStop (Err cut.TooManyTurns) so = so
+OnStop result so = Unit {0}
+
+-- what a play can be cut off by: want of memory, and where there is a journal also its disk or its room
+abbrev pub CutsOff : (journaled : Bool) → PlayEnd → Type 0
+CutsOff journaled end.Ended = ⊥
+CutsOff journaled end.TooManyTurns = ⊥
+CutsOff journaled end.NoMemory = Unit {0}
+CutsOff journaled end.Journal = IsTrue journaled
+CutsOff journaled end.JournalFull = IsTrue journaled
+
+-- A play that was cut off ended as the stage says.
+abbrev pub EndsBy : (journaled : Bool) → (why : PlayEnd) → PlayEnd → Type 0
+EndsBy journaled why end.Ended = Unit {0}
+EndsBy journaled why end.TooManyTurns = Unit {0}
+EndsBy journaled why e = (e ≡ why) × CutsOff journaled e
+
+-- A script, by how its play ended. The link has lost at most so many messages then.
+abbrev pub IsEnded : Volume → World → List Line → PlayEnd → ℕ → List Event → Type 0
+IsEnded v first lines end.Ended lost h = (p : IsPlayedFrom v first lines h) × (p.last.lost ≤ lost)
+IsEnded v first lines end.TooManyTurns lost h = (p : IsStoppedFrom v TurnsSpent first lines h) × (p.last.lost ≤ lost)
+IsEnded v first lines cut_off lost h = (p : IsBegunFrom v first lines h) × (p.last.lost ≤ lost)

@@ -1,5 +1,0 @@
-use Rattle.rz_read_laws.proofs.ReadCourse.{asks-in-order}
-use Rattle.rz_read_laws.proofs.reads.asks.Goals as goal
-
-pub returns : goal.returns
-returns c = asks-in-order

@@ -1,5 +1,0 @@
-use Rattle.rz_read_laws.proofs.ReadCourse.{ends-exactly}
-use Rattle.rz_read_laws.proofs.reads.ends.Goals as goal
-
-pub returns : goal.returns
-returns c = ends-exactly

@@ -1,5 +1,0 @@
-use Rattle.rz_read_laws.proofs.WriteCourse.{asks-in-order}
-use Rattle.rz_read_laws.proofs.writes.asks.Goals as goal
-
-pub returns : goal.returns
-returns c = asks-in-order

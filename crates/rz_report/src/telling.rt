@@ -1,0 +1,93 @@
+//! What is written of a play, and of a refusal.
+
+ghost use Rattle.std.specs.Prelude.{◌≡◌, ◌⊎◌, IfOk};
+ghost use Rattle.rz_report.specs.Output.{Lacks, Sunk};
+ghost use Rattle.rz_report.specs.Telling.{Refuses, Says, SaysSoFar, Stops, text_so_far, text_told};
+
+use crate::output::finish;
+use crate::summary;
+use rz_events::Event;
+use rz_player::PlayEnd;
+use rz_ports::Sink;
+use rz_request::{Refusal, Stop, Wish};
+use rz_show::show;
+use std::alloc::{AllocError, Global};
+
+/// What is printed of the log of a whole play, of which a scrub found these lines.
+fn text_told(alloc: Global, wish: Wish, found: &[u8], log: &[Event]) -> Result<Vec<u8>, AllocError>
+    ensures { IfOk result (λ t. t.items ≡ text_told wish found.now log.now) }
+{
+    match wish {
+        Wish::Replay | Wish::First | Wish::Again => show(alloc, log, true),
+        Wish::Load { seed } => summary(alloc, seed, log),
+        Wish::Scrub => {
+            let mut text = show(alloc, log, true)?;
+            text.extend_from_slice(found)?;
+            Ok(text)
+        }
+    }
+}
+
+/// What is printed of a play that was cut off for this refusal: the text so far, and its line.
+fn text_so_far(alloc: Global, why: &Refusal, log: &[Event]) -> Result<Vec<u8>, AllocError>
+    ensures { IfOk result (λ t. t.items ≡ text_so_far why.now log.now) }
+{
+    let mut text = show(alloc, log, false)?;
+    let line = why.line(alloc)?;
+    text.extend_from_slice(&line)?;
+    Ok(text)
+}
+
+/// Writes the text of a play that was cut off for this refusal, and gives the status.
+fn tell_cut<O: Sink>(alloc: Global, why: &Refusal, log: &[Event], output: &mut O) -> u8
+    ensures { let sink : Sunk = record { before = O.taken output.old; after = O.taken output.new; old = O.faults output.old; new = O.faults output.new } in SaysSoFar why.now log.now sink result ⊎ Lacks sink result }
+{
+    match text_so_far(alloc, why, log) {
+        Ok(text) => finish(output, why.status(), &text),
+        Err(_) => 70,
+    }
+}
+
+/// Writes what is to be told of a play, of which a scrub found these lines, and gives the status.
+pub(crate) fn tell<O: Sink>(
+    alloc: Global,
+    end: PlayEnd,
+    wish: Wish,
+    found: &[u8],
+    log: &[Event],
+    output: &mut O,
+) -> u8
+    ensures { let sink : Sunk = record { before = O.taken output.old; after = O.taken output.new; old = O.faults output.old; new = O.faults output.new } in Says end wish found.now log.now sink result ⊎ Lacks sink result }
+{
+    match end {
+        PlayEnd::Ended => match text_told(alloc, wish, found, log) {
+            Ok(text) => finish(output, 0, &text),
+            Err(_) => 70,
+        },
+        PlayEnd::TooManyTurns => tell_cut(alloc, &Refusal::Turns, log, output),
+        PlayEnd::Journal => tell_cut(alloc, &Refusal::Journal, log, output),
+        PlayEnd::JournalFull => tell_cut(alloc, &Refusal::Full, log, output),
+        PlayEnd::NoMemory => 70,
+    }
+}
+
+/// Writes the line of a refusal, and gives the status.
+pub fn refuse<O: Sink>(alloc: Global, refusal: &Refusal, output: &mut O) -> u8
+    ensures { Refuses refusal.now (record { before = O.taken output.old; after = O.taken output.new; old = O.faults output.old; new = O.faults output.new }) result }
+{
+    match refusal.line(alloc) {
+        Ok(line) => finish(output, refusal.status(), &line),
+        Err(_) => 70,
+    }
+}
+
+/// Writes what is to be told where there is nothing to play, and gives the status.
+pub fn stop<O: Sink>(alloc: Global, stop: &Stop, output: &mut O) -> u8
+    ensures { Stops stop.now (record { before = O.taken output.old; after = O.taken output.new; old = O.faults output.old; new = O.faults output.new }) result }
+{
+    match stop {
+        Stop::NoMemory => 70,
+        Stop::Source => 4,
+        Stop::Refused(refusal) => refuse(alloc, refusal, output),
+    }
+}

@@ -1,0 +1,14 @@
+use Rattle.std.proofs.Common.{ℕ, ◌≡◌, ◌≤◌, None, drop}
+use Rattle.rz_scrub.specs.Records.{Records, bins_at, no_records}
+use Rattle.rz_scrub_report.specs.Asks.{AreAsked}
+use Rattle.rz_scrub_report.specs.Stores.{HasAsked, State}
+use Rattle.rz_scrub_report.proofs.asking.gather.Given as goal
+
+abbrev pub invariant-loop-i : goal.invariant-loop-i
+invariant-loop-i g l = record {
+  desk : l.desk.layout ≡ l.fn.desk.layout;
+  bare : (p : ℕ) → l.i ≤ p → bins_at l.desk.scrub p ≡ None;
+  asked : HasAsked g.S.Store.is_open g.S.Store.described g.S.Store.gives g.S.Store.state g.S.Store.counts g.S.Store.only_asked l.fn.store l.store
+      (λ w mid. (next : State) (t : Records) → AreAsked (g.S.Store.gives l.fn.store) l.listed l.i (drop l.i l.nodes) mid next l.desk.scrub t
+      → AreAsked (g.S.Store.gives l.fn.store) l.listed 0 l.nodes w next (no_records l.fn.desk.layout) t);
+}

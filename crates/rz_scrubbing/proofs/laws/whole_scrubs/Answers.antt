@@ -1,5 +1,0 @@
-use Rattle.rz_scrubbing.proofs.Given.{scrub-whole}
-use Rattle.rz_scrubbing.proofs.laws.whole_scrubs.Goals as goal
-
-pub returns : goal.returns
-returns g c = λ s w next text given scrubbed. scrub-whole (g.S.Store.described s).layout (g.S.Store.gives s) w next text given scrubbed

@@ -1,0 +1,73 @@
+-- The writes of a log begin with texts of bytes.
+use Rattle.std.proofs.Common.{◌≡◌, ◌<◌, ◌==◌, ℕ, Bool, true, false, cond, List, [], ◌∷◌, Option, Some, None, refl, sym, ◌∙◌, ap, subst, inl}
+use Rattle.std.specs.List.{All}
+use Rattle.rz_events.specs.declared.keys.Actor.{Actor}
+use Rattle.rz_events.specs.declared.keys.Key.{Key}
+use Rattle.rz_events.specs.declared.export.Call.{Call}
+use Rattle.rz_events.specs.declared.export.Call.TheVariants as call
+use Rattle.rz_events.specs.declared.export.Reply.{Reply}
+use Rattle.rz_events.specs.declared.export.Reply.TheVariants as reply
+use Rattle.rz_events.specs.declared.events.Word.TheVariants.{Export}
+use Rattle.rz_events.specs.declared.events.Event.{Event}
+use Rattle.rz_events.specs.declared.events.Event.TheVariants as e
+use Rattle.rz_events.specs.Events.{same_word, word_of}
+use Rattle.rz_core.specs.History.{Begun, begun_by, first_some, of_word, wrote}
+use Rattle.rz_chronicle.specs.Keys.{events_at, word_key}
+use Rattle.rz_chronicle.specs.Holds.{Commits}
+use Rattle.rz_chronicle.proofs.Same.{word-same}
+use Rattle.rz_shared_locked.specs.Offices.{AreBytes, HasBytes, event_given}
+
+-- only the export's word has writes that begin
+not-begun : (s : ℕ) (x : Event) → same_word Export (word_of x) ≡ false → begun_by s x ≡ None
+not-begun s (e.Begin by key stamp base text) is = absurd cc
+not-begun s _ is = refl
+
+first-none : (o : Option Begun) (p : Option Begun) → p ≡ None → first_some o p ≡ o
+first-none None p none = none
+first-none (Some b) p none = refl
+
+wrote-export : (h : List Event) (s : ℕ) → wrote (of_word Export h) s ≡ wrote h s
+wrote-export [] s = refl
+wrote-export (x ∷ h) s = go (same_word Export (word_of x)) refl (wrote-export h s)
+  where
+    go : (b : Bool) → same_word Export (word_of x) ≡ b → wrote (of_word Export h) s ≡ wrote h s → wrote (cond b (x ∷ of_word Export h) (of_word Export h)) s ≡ first_some (wrote h s) (begun_by s x)
+    go true is rest = ap (λ (o : Option Begun). first_some o (begun_by s x)) rest
+    go false is rest = rest ∙ sym (first-none (wrote h s) (begun_by s x) (not-begun s x is))
+
+-- a log with the same events of the export
+pub bytes-same : (old new : List Event) → events_at (word_key Export) new ≡ events_at (word_key Export) old → AreBytes old → AreBytes new
+bytes-same old new same bytes s b is =
+    bytes s b (sym (wrote-export old s) ∙ ap (λ (w : List Event). wrote w s) (sym (word-same Export new old same)) ∙ wrote-export new s ∙ is)
+
+pub bytes-none : AreBytes []
+bytes-none s b is = absurd cc
+
+-- an event more
+by-stamp : (key : Key) (stamp base : ℕ) (text : List ℕ) (by : Actor) (s : ℕ) (b : Begun) → All (λ x. x < 256) text → (same : Bool) → cond same (Some (record { by = by; key = key; base = base; text = text })) None ≡ Some b → All (λ x. x < 256) b.text
+by-stamp key stamp base text by s b bytes true is = let it : record { by = by; key = key; base = base; text = text } ≡ b = cc in subst (λ (w : Begun). All (λ x. x < 256) w.text) it bytes
+by-stamp key stamp base text by s b bytes false is = absurd cc
+
+event-bytes : (by : Actor) (q : Call) (given : Reply) → HasBytes q → (s : ℕ) (b : Begun) → begun_by s (event_given by q given) ≡ Some b → All (λ x. x < 256) b.text
+event-bytes by (call.Begin key text) (reply.Begun stamp base) bytes s b is = by-stamp key stamp base text by s b bytes (s == stamp) is
+event-bytes by (call.Begin key text) (reply.Denied why) bytes s b is = absurd cc
+event-bytes by (call.Tree c) (reply.Tree r) bytes s b is = absurd cc
+event-bytes by (call.Publish key stamp mask size) reply.Accepted bytes s b is = absurd cc
+event-bytes by (call.Publish key stamp mask size) (reply.Enrolled position fence) bytes s b is = absurd cc
+event-bytes by (call.Publish key stamp mask size) (reply.Revoked later) bytes s b is = absurd cc
+event-bytes by (call.Publish key stamp mask size) (reply.Denied why) bytes s b is = absurd cc
+event-bytes by (call.Look key) (reply.Looked given) bytes s b is = absurd cc
+event-bytes by (call.Look key) (reply.Denied why) bytes s b is = absurd cc
+event-bytes by (call.Enroll node loss) (reply.Fence fence) bytes s b is = absurd cc
+event-bytes by (call.Enroll node loss) (reply.Denied why) bytes s b is = absurd cc
+event-bytes by (call.Next node after) (reply.Listed given) bytes s b is = absurd cc
+event-bytes by (call.Recheck key) (reply.Looked given) bytes s b is = absurd cc
+event-bytes by (call.Recheck key) (reply.Denied why) bytes s b is = absurd cc
+event-bytes by q given bytes s b is = absurd cc
+
+by-old : (old : Option Begun) (x : Event) (s : ℕ) (b : Begun) → ((c : Begun) → old ≡ Some c → All (λ x. x < 256) c.text) → ((c : Begun) → begun_by s x ≡ Some c → All (λ x. x < 256) c.text) → first_some old (begun_by s x) ≡ Some b → All (λ x. x < 256) b.text
+by-old None x s b before now is = now b is
+by-old (Some c) x s b before now is = before b is
+
+pub bytes-after : (by : Actor) (q : Call) (given : Reply) (ks : List ℕ) (old new : List Event) → HasBytes q → AreBytes old → Commits (word_key Export ∷ ks) old (event_given by q given) new → AreBytes new
+bytes-after by q given ks old new has bytes it = subst AreBytes (sym it.last)
+    (λ s b is. by-old (wrote it.before s) (event_given by q given) s b (bytes-same old it.before (it.stays (word_key Export) (inl refl)) bytes s) (event-bytes by q given has s) is)

@@ -1,0 +1,5 @@
+use Rattle.rz_shared_locked.proofs.OfficeLaws as laws
+use Rattle.rz_shared_locked.proofs.laws.caller_kept.Goals as goal
+
+pub returns : goal.returns
+returns c = λ v. laws.caller-kept v (c.one_run.ensures v) (c.call_kept.ensures v) c.actors_kept.ensures

@@ -1,0 +1,33 @@
+//! The event of an answer is added to the log.
+ghost use Rattle.std.specs.Prelude.{◌≡◌, ◌+◌, ◌<◌, ◌^◌, ◌∷◌, IfSome};
+ghost use Rattle.rz_events.specs.Events.{word_of, by_of};
+ghost use Rattle.rz_chronicle.specs.Keys.{count_at, word_key};
+ghost use Rattle.rz_chronicle.specs.Kinds.{IsFit, MayCome};
+ghost use Rattle.rz_shared_locked.specs.Adding.{Adds};
+
+use rz_chronicle::{Book, Itself, Naming, Pass, Post};
+use rz_events::Event;
+
+/// Adds the event of an answer, if it has one. The pass and the post have entered.
+pub(crate) fn add<J: Naming>(
+    book: &Book<J>,
+    pass: &mut Pass<J>,
+    post: &mut Post<J>,
+    event: Option<Event>,
+)
+    requires one { post.old.log ≡ pass.old.log }
+    requires its { IfSome event (λ x. (word_of x ≡ post.old.word) × (by_of x ≡ pass.old.actor)) }
+    requires legal { IfSome event (λ x. MayCome J.kind pass.old.log x) }
+    requires room { count_at (word_key post.old.word) post.old.log + 1 < 2 ^ 64 }
+    ensures same { (pass.new.actor ≡ pass.old.actor) × (pass.new.keys ≡ pass.old.keys) × (post.new.word ≡ post.old.word) }
+    ensures one { post.new.log ≡ pass.new.log }
+    ensures adds { Adds (word_key post.old.word ∷ pass.old.keys) pass.old.log event pass.new.log }
+    ensures fit { IsFit J.kind pass.new.log }
+{
+    let _by = pass.actor();
+    match &event {
+        Some(event) => book.commit::<Event, Itself>(pass, post, event),
+        None => {}
+    }
+    drop(event);
+}

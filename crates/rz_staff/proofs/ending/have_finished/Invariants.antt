@@ -1,8 +1,0 @@
-use Rattle.std.proofs.Common.{take}
-use Rattle.std.specs.List.{AllByRecursion}
-use Rattle.rz_staff.specs.Staff.{WantsNothing}
-use Rattle.rz_staff.proofs.ending.have_finished.Given as goal
-
--- none of the members so far wants anything
-abbrev pub invariant-loop-member : goal.invariant-loop-member
-invariant-loop-member g l = AllByRecursion WantsNothing (take l.member-index l.members)

@@ -1,7 +1,0 @@
-use Rattle.std.specs.Vec.Iter.{into_iter_items}
-use Rattle.rz_staff.proofs.Gathered.{SoFar}
-use Rattle.rz_staff.proofs.passes.gather_all.Given as goal
-
--- the passes so far are gathered
-abbrev pub invariant-loop-pass : goal.invariant-loop-pass
-invariant-loop-pass g l = SoFar g.J.Naming.kind l.fn.front l.fn.passes.items (into_iter_items l.pass-iterator) l.front

@@ -1,0 +1,147 @@
+-- Messages to nodes.
+use Rattle.std.proofs.Common.{◌≡◌, ◌≢◌, ℕ, ◌<◌, ◌≤◌, Bool, true, List, length, Option, Some, refl, sym, ◌∙◌, ap, subst, arith}
+use Rattle.mj_angles.specs.declared.layout.Layout.{Layout}
+use Rattle.mj_angles.specs.Layout.{safe_of, bins_at_of, max_bins_of}
+use Rattle.rz_events.specs.Volume.{Volume}
+use Rattle.rz_link.specs.declared.Sent.{Sent}
+use Rattle.rz_link.specs.declared.Sent.TheVariants as sent
+use Rattle.rz_events.specs.declared.keys.Actor.{Actor}
+use Rattle.rz_events.specs.declared.nodes.NodeAsk.{NodeAsk}
+use Rattle.rz_events.specs.declared.nodes.NodeAsk.TheVariants as ask
+use Rattle.rz_events.specs.declared.nodes.NodeAnswer.{NodeAnswer}
+use Rattle.rz_events.specs.declared.nodes.NodeAnswer.TheVariants as answer
+use Rattle.rz_events.specs.declared.nodes.FetchAnswer.TheVariants as fetch
+use Rattle.rz_events.specs.declared.nodes.ReplaceAnswer.TheVariants as replace
+use Rattle.rz_events.specs.declared.events.Event.{Event}
+use Rattle.rz_node_model.specs.NodeEvents.{node_event}
+use Rattle.rz_operation.specs.Answers.{MayMiss, ComeWith, HasBinsTo, IsLossy, IsAnswer, IsAnswerTo}
+use Rattle.rz_operation.specs.Machine.{Machine, HasBinsFor, AreBinsFor}
+use Rattle.rz_operation_model.specs.Ask.{Ask, AskNode, ask_of}
+use Rattle.rz_operation_model.specs.Turns.{goes_by_link}
+use Rattle.rz_core.specs.History.{Facts, facts, of_actor}
+use Rattle.rz_core.specs.Own.{IsOpen}
+use Rattle.rz_acting.specs.Acting.{IsActing}
+use Rattle.rz_acting.specs.Laws.{IsAskingLaw}
+use Rattle.rz_block_laws.specs.Laws.{IsHandingLaw}
+use Rattle.rz_shared_locked.specs.Seats.{MayAsk, IsRead}
+use Rattle.rz_play.specs.Lines.{noted}
+use Rattle.rz_play_laws.specs.Own.{IsOfActor}
+use Rattle.rz_play_laws.proofs.Events.{node-event}
+use Rattle.rz_threads_steps.specs.Adding.{AddsOwn}
+use Rattle.rz_threads_steps.specs.Asking.{IsPlaced}
+
+-- ---- what may be lost
+
+lossy : (question : NodeAsk) → goes_by_link question ≡ true → IsLossy question
+lossy (ask.Keep head) is = tt
+lossy (ask.Fetch key position stamp) is = tt
+lossy (ask.Refill fence head) is = tt
+lossy (ask.Drop fid) is = tt
+lossy ask.Probe is = absurd (cc)
+lossy ask.Stop is = absurd (cc)
+lossy ask.Start is = absurd (cc)
+lossy ask.Lose is = absurd (cc)
+lossy (ask.Replace loss fence) is = absurd (cc)
+
+pub may-miss : (asked : Ask) (n : ℕ) (question : NodeAsk) → asked ≡ AskNode n question → goes_by_link question ≡ true → MayMiss asked
+may-miss asked n question is by_link = subst MayMiss (sym is) (lossy question by_link)
+
+-- ---- room for what is fetched
+
+has-bins : (layout : Layout) (question : NodeAsk) (a : NodeAnswer) (bins : List ℕ) → IsPlaced layout question → ((position : ℕ) → position < safe_of layout → bins_at_of layout position ≤ length bins) → HasBinsTo layout question a bins
+has-bins layout (ask.Fetch key position stamp) (answer.Fetch (fetch.Held r)) bins placed most = most position placed
+has-bins layout (ask.Fetch key position stamp) (answer.Fetch fetch.Nothing) bins placed most = tt
+has-bins layout (ask.Fetch key position stamp) (answer.Fetch fetch.Lost) bins placed most = tt
+has-bins layout (ask.Fetch key position stamp) (answer.Fetch fetch.Down) bins placed most = tt
+has-bins layout (ask.Fetch key position stamp) (answer.Fetch fetch.DiskFault) bins placed most = tt
+has-bins layout (ask.Fetch key position stamp) a bins placed most = tt
+has-bins layout question a bins placed most = tt
+
+-- room for a record of the layout is room for what is fetched
+pub come-with : (layout : Layout) (asked : Ask) (n : ℕ) (question : NodeAsk) (a : NodeAnswer) (bins : List ℕ) → asked ≡ AskNode n question → IsPlaced layout question → ((position : ℕ) → position < safe_of layout → bins_at_of layout position ≤ length bins)
+    → ComeWith layout asked a bins
+come-with layout asked n question a bins is placed most = subst (λ (x : Ask). ComeWith layout x a bins) (sym is) (has-bins layout question a bins placed most)
+
+-- ---- an answer has an event, but for want of memory
+
+event-to : (layout : Layout) (by : Actor) (n : ℕ) (question : NodeAsk) (a : NodeAnswer) → IsAnswerTo layout question a → a ≢ answer.Replace replace.NoMemory → (x : Event) × (node_event by n question a ≡ Some x)
+event-to layout by n (ask.Keep head) (answer.Keep a) is some = (_, refl)
+event-to layout by n (ask.Fetch key position stamp) (answer.Fetch a) is some = (_, refl)
+event-to layout by n (ask.Drop fid) (answer.Drop a) is some = (_, refl)
+event-to layout by n ask.Probe (answer.Probe a) is some = (_, refl)
+event-to layout by n (ask.Replace loss fence) (answer.Replace replace.Replaced) is some = (_, refl)
+event-to layout by n (ask.Replace loss fence) (answer.Replace replace.NotLost) is some = (_, refl)
+event-to layout by n (ask.Replace loss fence) (answer.Replace (replace.OtherLoss now)) is some = (_, refl)
+event-to layout by n (ask.Replace loss fence) (answer.Replace replace.NoMemory) is some = absurd (some refl)
+event-to layout by n (ask.Replace loss fence) (answer.Replace replace.DiskFault) is some = (_, refl)
+event-to layout by n (ask.Refill fence head) (answer.Refill a) is some = (_, refl)
+event-to layout by n ask.Stop a is some = absurd is
+event-to layout by n ask.Start a is some = absurd is
+event-to layout by n ask.Lose a is some = absurd is
+event-to layout by n question a is some = absurd is
+
+pub event-of : (m : Machine) (by : Actor) (n : ℕ) (question : NodeAsk) (a : NodeAnswer) → ask_of m.layout m.work ≡ AskNode n question → IsAnswer m.layout (ask_of m.layout m.work) a → a ≢ answer.Replace replace.NoMemory
+    → (x : Event) × (node_event by n question a ≡ Some x)
+event-of m by n question a asked is some = event-to m.layout by n question a (subst (λ (k : Ask). IsAnswer m.layout k a) asked is) some
+
+-- ---- what a caller must have done
+
+pub may-ask : (v : Volume) → IsAskingLaw v → IsHandingLaw v → (h : List Event) (by : Actor) (number : ℕ) (m : Machine) (n : ℕ) (question : NodeAsk) (bins : List ℕ) → IsActing v h by number m
+    → ask_of m.layout m.work ≡ AskNode n question → (HasBinsFor question → AreBinsFor m question bins) → MayAsk v h by n question bins
+may-ask v asks handing h by number m n question bins acts asked have = record {
+  proper = (asks h by number m (AskNode n question) acts asked).0;
+  hands = handing (facts h) (of_actor by h) (of_actor by h) by m n question bins acts.true_to asked have;
+}
+
+-- an operation whose message goes through the link is open
+pub is-open : (v : Volume) → IsAskingLaw v → (h : List Event) (by : Actor) (number : ℕ) (m : Machine) (n : ℕ) (question : NodeAsk) → IsActing v h by number m → ask_of m.layout m.work ≡ AskNode n question
+    → goes_by_link question ≡ true → IsOpen (of_actor by h)
+is-open v asks h by number m n question acts asked link = (asks h by number m (AskNode n question) acts asked).3 link
+
+-- ---- bins that are handed to a node
+
+-- what a node is not to keep comes without bins
+abbrev pub IsBinless : NodeAsk → Type 0
+IsBinless (ask.Keep head) = ⊥
+IsBinless (ask.Refill fence head) = ⊥
+IsBinless question = Unit {0}
+
+pub no-bins : (question : NodeAsk) → IsBinless question → HasBinsFor question → ⊥
+no-bins (ask.Keep head) binless has = binless
+no-bins (ask.Refill fence head) binless has = binless
+no-bins (_) binless has = has
+
+-- what it is to keep comes with them, and no record is read
+abbrev pub IsBinful : NodeAsk → Type 0
+IsBinful (ask.Keep head) = Unit {0}
+IsBinful (ask.Refill fence head) = Unit {0}
+IsBinful question = ⊥
+
+pub no-read : (v : Volume) (f : Facts) (n : ℕ) (question : NodeAsk) (given : NodeAnswer) (bins bins' : List ℕ) → IsBinful question → IsRead v f n question given bins bins'
+no-read v f n (ask.Keep head) given bins bins' is = tt
+no-read v f n (ask.Refill fence head) given bins bins' is = tt
+no-read v f n (_) given bins bins' is = absurd is
+
+-- ---- what is lost does not come through
+
+pub not-through-replylost : (s : Sent) → s ≡ sent.ReplyLost → s ≢ sent.Through
+not-through-replylost s is = λ same. (let both : sent.ReplyLost ≡ sent.Through = sym is ∙ same in cc)
+
+pub not-through-requestlost : (s : Sent) → s ≡ sent.RequestLost → s ≢ sent.Through
+not-through-requestlost s is = λ same. (let both : sent.RequestLost ≡ sent.Through = sym is ∙ same in cc)
+
+-- room for the most bins is room for those of any position
+pub fetch-room : (a b : Layout) (most n k : ℕ) → a ≡ b → most ≡ max_bins_of a → ((position : ℕ) → position < safe_of a → bins_at_of a position ≤ most) → max_bins_of b ≤ n → k ≡ n
+    → (position : ℕ) → position < safe_of b → bins_at_of b position ≤ k
+fetch-room a b most n k same is each room many position low =
+    let at_most : bins_at_of b position ≤ most = subst (λ (y : Layout). (p : ℕ) → p < safe_of y → bins_at_of y p ≤ most) same each position low in
+    let top : most ≡ max_bins_of b = is ∙ ap max_bins_of same in
+    omega (arith, at_most, top, room, many)
+
+-- ---- after the answer of a node the operation is open
+
+pub open-after : (v : Volume) (honest : Bool) (by a : Actor) (n : ℕ) (question : NodeAsk) (given : NodeAnswer) (old new : List Event) → a ≡ by → IsOfActor question → ((x : Event) × (node_event by n question given ≡ Some x))
+    → AddsOwn v honest by old (node_event by n question given) new → IsOpen (of_actor a new)
+open-after v honest by a n question given old new a_is of (x, is) adds =
+    subst (λ (k : Actor). IsOpen (of_actor k new)) (sym a_is)
+    (subst IsOpen (sym (adds.own ∙ ap (λ (o : Option Event). noted o (of_actor by old)) is)) (node-event by n question given x of is).going)

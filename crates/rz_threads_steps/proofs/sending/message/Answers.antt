@@ -1,0 +1,66 @@
+use Rattle.std.proofs.Common.{◌≡◌, ◌∙◌, true, sym, subst, arith}
+use Rattle.rz_events.specs.Volume.{Volume}
+use Rattle.rz_script_words.specs.Limits.{has_node}
+use Rattle.rz_play_laws.proofs.Scripts.{node-of}
+use Rattle.rz_chronicle.specs.Kinds.{volume_in}
+use Rattle.rz_threads_steps.proofs.Messages.{not-through-replylost, not-through-requestlost}
+use Rattle.rz_threads_steps.proofs.sending.message.Goals as goal
+
+pub returns-in-Through-clause-lasts : goal.returns-in-Through-clause-lasts
+returns-in-Through-clause-lasts g c = c.through.ensures.lasts
+
+pub returns-in-Through-clause-lost : goal.returns-in-Through-clause-lost
+returns-in-Through-clause-lost g c = (let same = c.through.ensures.quiet in let more = c.fate.ensures.lasting in omega (arith, same, more))
+
+pub returns-in-Through-clause-unshown : goal.returns-in-Through-clause-unshown
+returns-in-Through-clause-unshown g c = c.through.ensures.unshown
+
+pub returns-in-Through-clause-acted : goal.returns-in-Through-clause-acted
+returns-in-Through-clause-acted g c = c.through.ensures.acted
+
+pub returns-in-Through-clause-cut : goal.returns-in-Through-clause-cut
+returns-in-Through-clause-cut g c = c.through.ensures.cut
+
+pub returns-in-ReplyLost-clause-lasts : goal.returns-in-ReplyLost-clause-lasts
+returns-in-ReplyLost-clause-lasts g c = c.without_reply.ensures.lasts
+
+pub returns-in-ReplyLost-clause-lost : goal.returns-in-ReplyLost-clause-lost
+returns-in-ReplyLost-clause-lost g c = (let one = c.without_reply.ensures.one in let more = c.fate.ensures.risen (not-through-replylost c.fate.result c.in-ReplyLost.is) in omega (arith, one, more))
+
+pub returns-in-ReplyLost-clause-unshown : goal.returns-in-ReplyLost-clause-unshown
+returns-in-ReplyLost-clause-unshown g c = c.without_reply.ensures.unshown
+
+pub returns-in-ReplyLost-clause-acted : goal.returns-in-ReplyLost-clause-acted
+returns-in-ReplyLost-clause-acted g c = c.without_reply.ensures.acted
+
+pub returns-in-ReplyLost-clause-cut : goal.returns-in-ReplyLost-clause-cut
+returns-in-ReplyLost-clause-cut g c = c.without_reply.ensures.cut
+
+pub without_reply-requires-clause-lossy : goal.without_reply-requires-clause-lossy
+without_reply-requires-clause-lossy g c = c.fate.ensures.by_link (not-through-replylost c.fate.result c.in-ReplyLost.is)
+
+pub returns-in-RequestLost-clause-lasts : goal.returns-in-RequestLost-clause-lasts
+returns-in-RequestLost-clause-lasts g c = c.without_request.ensures.lasts
+
+pub returns-in-RequestLost-clause-lost : goal.returns-in-RequestLost-clause-lost
+returns-in-RequestLost-clause-lost g c = (let one = c.without_request.ensures.one in let more = c.fate.ensures.risen (not-through-requestlost c.fate.result c.in-RequestLost.is) in omega (arith, one, more))
+
+pub returns-in-RequestLost-clause-unshown : goal.returns-in-RequestLost-clause-unshown
+returns-in-RequestLost-clause-unshown g c = c.without_request.ensures.unshown
+
+pub returns-in-RequestLost-clause-acted : goal.returns-in-RequestLost-clause-acted
+returns-in-RequestLost-clause-acted g c = c.without_request.ensures.acted
+
+pub returns-in-RequestLost-clause-cut : goal.returns-in-RequestLost-clause-cut
+returns-in-RequestLost-clause-cut g c = c.without_request.ensures.cut
+
+pub without_request-requires-clause-lossy : goal.without_request-requires-clause-lossy
+without_request-requires-clause-lossy g c = c.fate.ensures.by_link (not-through-requestlost c.fate.result c.in-RequestLost.is)
+
+pub through-requires-clause-node : goal.through-requires-clause-node
+through-requires-clause-node g c =
+    node-of (volume_in g.J.Naming.kind) c.args.node (omega arith, omega arith, subst (λ (v : Volume). has_node v c.args.node ≡ true) c.requires.volume (sym c.is_in.ensures ∙ c.if-not-is_in.false))
+
+pub without_reply-requires-clause-node : goal.without_reply-requires-clause-node
+without_reply-requires-clause-node g c =
+    node-of (volume_in g.J.Naming.kind) c.args.node (omega arith, omega arith, subst (λ (v : Volume). has_node v c.args.node ≡ true) c.requires.volume (sym c.is_in.ensures ∙ c.if-not-is_in.false))

@@ -1,0 +1,80 @@
+use Rattle.std.proofs.Common.{◌≡◌, ◌∙◌, ◌≤◌, true, length, refl, sym, ap, subst}
+use Rattle.mj_angles.specs.declared.layout.Layout.{Layout}
+use Rattle.mj_angles.specs.Layout.{max_bins_of}
+use Rattle.rz_events.specs.Volume.{Volume}
+use Rattle.rz_node_model.specs.NodeEvents.{node_event}
+use Rattle.rz_operation_model.specs.Ask.{ask_of}
+use Rattle.rz_operation_model.specs.Steps.{Answered}
+use Rattle.rz_core.specs.History.{of_actor}
+use Rattle.rz_chronicle.specs.Kinds.{is_honest, volume_in}
+use Rattle.rz_show.specs.Shown.{shown_of}
+use Rattle.rz_threads_steps.specs.Acted.{Lasts}
+use Rattle.rz_threads_steps.specs.Asking.{IsPlaced}
+use Rattle.rz_chronicle.specs.Rules.{PassView}
+use Rattle.rz_play.specs.Faults.{missed}
+use Rattle.rz_threads_steps.specs.Turned.{IsCutOff}
+use Rattle.rz_threads_steps.proofs.Acts.{still-lasts, still-cut, on-err, cut-by, node-step, heard-of}
+use Rattle.rz_threads_steps.proofs.Messages.{come-with, event-of, fetch-room}
+use Rattle.rz_threads_steps.proofs.sending.through.Goals as goal
+
+pub returns-then-not-has_room-clause-lasts : goal.returns-then-not-has_room-clause-lasts
+returns-then-not-has_room-clause-lasts g c = still-lasts g.J.Naming.kind c.args.pass.now c.actor-fit.ensures.fit
+
+pub returns-then-not-has_room-clause-quiet : goal.returns-then-not-has_room-clause-quiet
+returns-then-not-has_room-clause-quiet g c = refl
+
+pub returns-then-not-has_room-clause-unshown : goal.returns-then-not-has_room-clause-unshown
+returns-then-not-has_room-clause-unshown g c = refl
+
+pub returns-then-not-has_room-clause-cut : goal.returns-then-not-has_room-clause-cut
+returns-then-not-has_room-clause-cut g c = still-cut c.args.pass.now.actor c.args.pass.now.log c.args.machine.now
+
+pub returns-in_err-answer-clause-lasts : goal.returns-in_err-answer-clause-lasts
+returns-in_err-answer-clause-lasts g c = subst (λ (q : PassView). Lasts g.J.Naming.kind c.args.pass.now q) (sym c.in_err-answer.ensures.still) (still-lasts g.J.Naming.kind c.args.pass.now c.actor-fit.ensures.fit)
+
+pub returns-in_err-answer-clause-quiet : goal.returns-in_err-answer-clause-quiet
+returns-in_err-answer-clause-quiet g c = ap (λ (q : PassView). missed (of_actor c.args.pass.now.actor q.log)) c.in_err-answer.ensures.still
+
+pub returns-in_err-answer-clause-unshown : goal.returns-in_err-answer-clause-unshown
+returns-in_err-answer-clause-unshown g c = ap (λ (q : PassView). shown_of (of_actor c.args.pass.now.actor q.log)) c.in_err-answer.ensures.still
+
+pub returns-in_err-answer-clause-cut : goal.returns-in_err-answer-clause-cut
+returns-in_err-answer-clause-cut g c = on-err c.from_residual.result (λ number. subst (λ (q : PassView). IsCutOff c.args.pass.now.actor number c.args.pass.now.log q.log c.args.machine.now) (sym c.in_err-answer.ensures.still) (still-cut c.args.pass.now.actor c.args.pass.now.log c.args.machine.now number))
+
+pub returns-then-wants_memory-clause-lasts : goal.returns-then-wants_memory-clause-lasts
+returns-then-wants_memory-clause-lasts g c = c.in_ok-answer.ensures.served.lasts
+
+pub returns-then-wants_memory-clause-quiet : goal.returns-then-wants_memory-clause-quiet
+returns-then-wants_memory-clause-quiet g c = c.in_ok-answer.ensures.served.quiet
+
+pub returns-then-wants_memory-clause-unshown : goal.returns-then-wants_memory-clause-unshown
+returns-then-wants_memory-clause-unshown g c = c.in_ok-answer.ensures.served.unshown
+
+pub returns-then-wants_memory-clause-cut : goal.returns-then-wants_memory-clause-cut
+returns-then-wants_memory-clause-cut g c =
+    λ number. cut-by (volume_in g.J.Naming.kind) (is_honest g.J.Naming.kind) c.args.pass.now.actor number c.args.pass.now.log c.serve.new.pass.log c.args.machine.now (node_event c.args.pass.now.actor c.args.node c.args.ask.now c.in_ok-answer.answer) c.in_ok-answer.ensures.served.adds
+    (λ x is. (Answered true c.in_ok-answer.answer, node-step c.args.pass.now.actor number c.args.machine.now c.args.node c.args.ask.now c.in_ok-answer.answer x c.requires.asked is))
+
+pub returns-clause-lasts : goal.returns-clause-lasts
+returns-clause-lasts g c = c.in_ok-answer.ensures.served.lasts
+
+pub returns-clause-quiet : goal.returns-clause-quiet
+returns-clause-quiet g c = c.in_ok-answer.ensures.served.quiet
+
+pub returns-clause-unshown : goal.returns-clause-unshown
+returns-clause-unshown g c = c.in_ok-answer.ensures.served.unshown
+
+pub returns-clause-acted : goal.returns-clause-acted
+returns-clause-acted g c =
+    λ number right. heard-of g.J.Naming.kind number c.args.pass.now c.serve.new.pass c.args.machine.now c.tell_answer.new.self c.in_ok-answer.ensures.served.lasts (c.hears.ensures (volume_in g.J.Naming.kind)) c.args.node c.args.ask.now c.in_ok-answer.answer c.args.bins.now c.serve.new.bins c.requires.asked
+    (event-of c.args.machine.now c.args.pass.now.actor c.args.node c.args.ask.now c.in_ok-answer.answer c.requires.asked (c.takes_answer.ensures c.if-not-takes_answer.false) (c.wants_memory.ensures c.if-wants_memory.false))
+    c.in_ok-answer.ensures.served.adds c.in_ok-answer.ensures.served.read c.tell_answer.ensures right
+
+pub tell_answer-requires-clause-bins : goal.tell_answer-requires-clause-bins
+tell_answer-requires-clause-bins g c =
+    let m = c.args.machine.now in
+    let same : c.layout-layout.result ≡ m.layout = c.layout-layout.ensures ∙ ap (λ (v : Volume). v.layout) c.requires.volume ∙ sym c.requires.layout in
+    come-with m.layout (ask_of m.layout m.work) c.args.node c.args.ask.now c.in_ok-answer.answer c.serve.new.bins c.requires.asked
+    (subst (λ (y : Layout). IsPlaced y c.args.ask.now) same (c.is_placed.ensures c.if-not-is_placed.false))
+    (fetch-room c.layout-layout.result m.layout c.max_bins-most.result (length c.args.bins.now) (length c.serve.new.bins) same c.max_bins-most.ensures.value c.max_bins-most.ensures.greatest
+    (subst (λ (y : Layout). max_bins_of y ≤ length c.args.bins.now) (sym c.requires.layout) c.requires.room) c.serve.auto.bins)

@@ -1,0 +1,48 @@
+use Rattle.std.proofs.Common.{◌∙◌, false, refl, ap, arith}
+use Rattle.rz_events.specs.declared.events.Event.TheVariants as e
+use Rattle.rz_operation_model.specs.Ask.{ask_of}
+use Rattle.rz_core.specs.History.{of_actor}
+use Rattle.rz_chronicle.specs.Kinds.{volume_in}
+use Rattle.rz_play.specs.Faults.{missed}
+use Rattle.rz_show.specs.Shown.{shown_of}
+use Rattle.rz_threads_steps.proofs.Added.{lost-count}
+use Rattle.rz_threads_steps.proofs.Shows.{unshown-of}
+use Rattle.rz_threads_steps.proofs.Acts.{still-lasts, still-cut, missed-request}
+use Rattle.rz_threads_steps.proofs.Messages.{may-miss, is-open}
+use Rattle.rz_threads_steps.proofs.sending.without_request.Goals as goal
+
+pub returns-then-not-has_room-clause-lasts : goal.returns-then-not-has_room-clause-lasts
+returns-then-not-has_room-clause-lasts g c = still-lasts g.J.Naming.kind c.args.pass.now c.actor-fit.ensures.fit
+
+pub returns-then-not-has_room-clause-one : goal.returns-then-not-has_room-clause-one
+returns-then-not-has_room-clause-one g c = omega arith
+
+pub returns-then-not-has_room-clause-unshown : goal.returns-then-not-has_room-clause-unshown
+returns-then-not-has_room-clause-unshown g c = refl
+
+pub returns-then-not-has_room-clause-cut : goal.returns-then-not-has_room-clause-cut
+returns-then-not-has_room-clause-cut g c = still-cut c.args.pass.now.actor c.args.pass.now.log c.args.machine.now
+
+pub add_missed-requires-clause-going : goal.add_missed-requires-clause-going
+add_missed-requires-clause-going g c = λ honest. is-open (volume_in g.J.Naming.kind) (c.asks.ensures (volume_in g.J.Naming.kind)) c.args.pass.now.log c.args.pass.now.actor c.requires.right.0 c.args.machine.now c.args.node c.args.ask.now (c.requires.right.1 honest) c.requires.asked c.requires.lossy
+
+pub tell_missed-requires-clause-asked : goal.tell_missed-requires-clause-asked
+tell_missed-requires-clause-asked g c = may-miss (ask_of c.args.machine.now.layout c.args.machine.now.work) c.args.node c.args.ask.now c.requires.asked c.requires.lossy
+
+pub returns-clause-lasts : goal.returns-clause-lasts
+returns-clause-lasts g c = c.add_missed.ensures.lasts
+
+pub returns-clause-one : goal.returns-clause-one
+returns-clause-one g c =
+    let own = ap missed c.add_missed.ensures.adds.own in
+    let one = lost-count c.args.pass.now.actor c.args.node false (of_actor c.args.pass.now.actor c.args.pass.now.log) in
+    omega (arith, own, one)
+
+pub returns-clause-unshown : goal.returns-clause-unshown
+returns-clause-unshown g c =
+    ap shown_of c.add_missed.ensures.adds.own ∙ unshown-of (e.Missed c.args.pass.now.actor c.args.node false) (of_actor c.args.pass.now.actor c.args.pass.now.log) refl
+
+pub returns-clause-acted : goal.returns-clause-acted
+returns-clause-acted g c =
+    λ number right. missed-request g.J.Naming.kind number c.args.pass.now c.add_missed.new.pass c.args.machine.now c.tell_missed.new.self c.add_missed.ensures.lasts (c.goes.ensures (volume_in g.J.Naming.kind)) c.args.node c.args.ask.now c.requires.asked c.requires.lossy
+    c.add_missed.ensures.adds c.tell_missed.ensures right

@@ -1,0 +1,91 @@
+//! Calls of the export that an operation asks for.
+ghost use Rattle.std.specs.Prelude.{◌≡◌, ℕ, IfOk, OnOk, OnErr};
+ghost use Rattle.rz_operation.specs.Meaning as meaning;
+ghost use Rattle.rz_operation_model.specs.Ask.{ask_of, AskExport};
+ghost use Rattle.rz_core.specs.History.{of_actor};
+ghost use Rattle.rz_play.specs.Faults.{missed};
+ghost use Rattle.rz_chronicle.specs.Kinds.{volume_in};
+ghost use Rattle.rz_show.specs.Shown.{shown_of};
+ghost use Rattle.rz_threads_steps.specs.Acted.{Lasts, IsRight, HasActed};
+ghost use Rattle.rz_threads_steps.specs.Turned.{IsCutOff};
+
+use crate::adding::call_export;
+use crate::showing::show_open;
+use crate::store::Store;
+use rz_chronicle::Pass;
+use rz_disk::Disk;
+use rz_events::{Actor, Call, Event, Text};
+use rz_operation::{Ask, ExportAsk, Machine};
+use rz_player::NoMemory;
+use rz_shared::Counting;
+use std::alloc::{AllocError, Global};
+use std::sync::Wait;
+
+/// A call with texts of its own.
+fn call_of(alloc: Global, ask: ExportAsk<'_>) -> Result<Call, AllocError>
+    ensures { IfOk result (λ c. c ≡ meaning.call_of ask.entry) }
+{
+    Ok(match ask {
+        ExportAsk::Tree(call) => Call::Tree(call.copy(alloc)?),
+        ExportAsk::Begin { key, text } => Call::Begin {
+            key,
+            text: Text::from_bytes(alloc, text)?,
+        },
+        ExportAsk::Publish { key, published } => Call::Publish {
+            key,
+            stamp: published.stamp,
+            mask: published.mask,
+            length: published.length,
+        },
+        ExportAsk::Look { key } => Call::Look { key },
+        ExportAsk::Recheck { key } => Call::Recheck { key },
+        ExportAsk::Enroll { node, loss } => Call::Enroll { node, loss },
+        ExportAsk::Next { node, after } => Call::Next { node, after },
+    })
+}
+
+/// The call of the export that a machine asks for.
+pub fn next_call(alloc: Global, machine: &Machine) -> Result<Call, NoMemory>
+    ensures { IfOk result (λ c. ask_of machine.now.layout machine.now.work ≡ AskExport c) }
+{
+    match machine.next() {
+        Ask::Export(ask) => Ok(call_of(alloc, ask)?),
+        _ => Err(NoMemory),
+    }
+}
+
+/// Asks the export what a machine asks of it, and tells the machine the reply. An open that was granted a
+/// file is shown.
+pub fn ask_export<R: Wait, D: Disk, J: Counting>(
+    rt: &R,
+    alloc: Global,
+    store: &Store<D, J>,
+    pass: &mut Pass<J>,
+    machine: &mut Machine,
+    shown: &mut Vec<Event>,
+) -> Result<(), NoMemory>
+    requires volume { store.now.volume ≡ volume_in J.kind }
+    requires actor { ¬ (pass.old.actor ≡ Actor.Admin) }
+    requires right { (number : ℕ) × IsRight J.kind pass.old number machine.old }
+    requires shows { shown.old.items ≡ shown_of (of_actor pass.old.actor pass.old.log) }
+    ensures lasts { Lasts J.kind pass.old pass.new }
+    ensures quiet { missed (of_actor pass.old.actor pass.new.log) ≡ missed (of_actor pass.old.actor pass.old.log) }
+    ensures shows { shown.new.items ≡ shown_of (of_actor pass.old.actor pass.new.log) }
+    ensures acted { OnOk result ((number : ℕ) → IsRight J.kind pass.old number machine.old → HasActed J.kind number pass.old pass.new machine.old machine.new) }
+    ensures cut { OnErr result ((number : ℕ) → IsCutOff pass.old.actor number pass.old.log pass.new.log machine.old) }
+{
+    rz_acting::asks();
+    rz_acting::goes();
+    let by = pass.actor();
+    shown.reserve(1)?;
+    let call = next_call(alloc, machine)?;
+    let reply = call_export(rt, store, pass, &call);
+    let takes = machine.takes_reply(&reply);
+    show_open(by, call, &reply, shown);
+    if !takes {
+        drop(reply);
+        return Err(NoMemory);
+    }
+    machine.tell_reply(reply);
+    Ok(())
+}

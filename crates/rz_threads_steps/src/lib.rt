@@ -1,0 +1,31 @@
+//! The steps of an operation beside others: what it asks of a cluster, each with its event in the book.
+//!
+//! A [`Store`] is shared by all actors. [`call_export`], [`call_node`] and [`add_own`] are the calls and acts of
+//! one actor over it. Each adds its event to the book before the actor hears of the answer, so the actor's own
+//! events are those that it had and this one, whatever others add, and over an honest book the event says what
+//! is so for good. `next_call`, `next_open` and `said` turn what a machine asks into calls and events; `fate`
+//! says how a message fares, and `release` gives back a lock on a range of bytes, which [`open_locked`] takes.
+//!
+//! [`ask_export`], [`open_locked`], [`message`] and [`say`] are one step each, by what a machine asks: they ask,
+//! tell the machine the answer, and keep the events that are shown. The operation has then taken a turn and is
+//! right beside the log again. Where memory is wanting, or an answer is none to what was asked, which no store
+//! over an honest book gives, the turn was cut off: the answer's event may be there, and the machine was not told.
+//!
+//! In reading order: `store`, `adding`, `showing`, `exports`, `locking`, `sending`, `words`.
+#![tactic(auto)]
+
+mod adding;
+mod exports;
+mod locking;
+mod sending;
+mod showing;
+mod store;
+mod words;
+
+pub use adding::{add_own, call_export, call_node};
+pub use exports::{ask_export, next_call};
+pub use locking::{Wish, next_open, open_locked, release};
+pub use rz_player::NoMemory;
+pub use sending::{fate, message};
+pub use store::Store;
+pub use words::{said, say};

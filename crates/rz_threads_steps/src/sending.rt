@@ -1,0 +1,304 @@
+//! Messages to nodes.
+ghost use Rattle.std.specs.Prelude.{◌≡◌, ◌≢◌, ◌+◌, ◌<◌, ◌≤◌, ◌^◌, ℕ, true, false, Some, IfOk, OnOk, OnErr, IsTrue, length};
+ghost use Rattle.mj_angles.specs.Layout.{max_bins_of};
+ghost use Rattle.rz_events.specs.declared.nodes.NodeAnswer.TheVariants as answer;
+ghost use Rattle.rz_events.specs.declared.nodes.ReplaceAnswer.TheVariants as replace;
+ghost use Rattle.rz_events.specs.declared.events.Event.TheVariants as e;
+ghost use Rattle.rz_config.specs.Described.{has_sid};
+ghost use Rattle.rz_script_words.specs.Limits.{has_node};
+ghost use Rattle.rz_node.specs.Calls.{IsRecord};
+ghost use Rattle.rz_operation_model.specs.Ask.{ask_of, AskNode};
+ghost use Rattle.rz_operation_model.specs.Turns.{goes_by_link};
+ghost use Rattle.rz_core.specs.History.{of_actor};
+ghost use Rattle.rz_core.specs.NodeRows.{IsNodeOf};
+ghost use Rattle.rz_core.specs.Own.{IsOpen};
+ghost use Rattle.rz_play.specs.Faults.{missed};
+ghost use Rattle.rz_chronicle.specs.Keys.{count_at, word_key};
+ghost use Rattle.rz_chronicle.specs.Kinds.{is_honest, volume_in};
+ghost use Rattle.rz_events.specs.declared.events.Word.TheVariants as w;
+ghost use Rattle.rz_show.specs.Shown.{shown_of};
+ghost use Rattle.rz_threads_steps.specs.Acted.{Lasts, IsRight, HasActed, IsServed};
+ghost use Rattle.rz_threads_steps.specs.Adding.{AddsOwn};
+ghost use Rattle.rz_threads_steps.specs.Asking.{IsPlaced};
+ghost use Rattle.rz_threads_steps.specs.Turned.{AreLost, IsCutOff};
+
+use crate::adding::{add_own, call_node};
+use crate::store::Store;
+use mj_angles::Layout;
+use rz_chronicle::Pass;
+use rz_config::Volume;
+use rz_disk::Disk;
+use rz_events::{Actor, Event, Head, NodeAnswer, NodeAsk, NodeSpec, ReplaceAnswer};
+use rz_link::{Link, Sent};
+use rz_operation::Machine;
+use rz_player::NoMemory;
+use rz_shared::Counting;
+use std::sync::Wait;
+
+/// Whether the message of a call goes through the link.
+fn by_link(ask: &NodeAsk) -> bool
+    ensures { result ≡ goes_by_link ask.now }
+{
+    match ask {
+        NodeAsk::Keep(_) | NodeAsk::Fetch { .. } | NodeAsk::Refill { .. } | NodeAsk::Drop { .. } =>
+            true,
+        NodeAsk::Probe | NodeAsk::Stop | NodeAsk::Start | NodeAsk::Lose | NodeAsk::Replace { .. } =>
+            false,
+    }
+}
+
+/// How a message fares.
+pub fn fate<L: Link>(ask: &NodeAsk, node: u16, link: &mut L) -> Sent
+    ensures by_link { result ≢ Sent.Through → goes_by_link ask.now ≡ true }
+    ensures lasting { L.lost link.old ≤ L.lost link.new }
+    ensures risen { result ≢ Sent.Through → L.lost link.old < L.lost link.new }
+{
+    if !by_link(ask) {
+        return Sent::Through;
+    }
+    link.send(node)
+}
+
+/// Whether one of these nodes has this number.
+fn is_among(nodes: &[NodeSpec], number: u16) -> bool
+    ensures { result ≡ has_sid number nodes.now }
+{
+    nodes.iter().any(|node| node.sid == number)
+}
+
+/// Whether a node of the volume has this number.
+fn is_in(volume: &Volume, number: u16) -> bool
+    ensures { result ≡ has_node volume.now number }
+{
+    let clusters = volume.clusters.as_slice();
+    clusters
+        .iter()
+        .any(|cluster| is_among(cluster.nodes.as_slice(), number))
+}
+
+/// Whether a head and so many bins are those of a record of this layout.
+#[tactic(auto, unfolding(rz_record::specs::Record::bins_of))]
+fn is_record(layout: Layout, head: &Head, bins: &[u64]) -> bool
+    ensures { IsTrue result → IsRecord layout head.now bins.now }
+{
+    if head.layout != layout || head.bsize != layout.bsize() || head.stamp == 0 {
+        return false;
+    }
+    if usize::from(head.position) >= layout.safe() || head.base >= head.stamp {
+        return false;
+    }
+    head.length as usize <= layout.block_bytes() && bins.len() == layout.bins_at(head.position)
+}
+
+/// Whether what is fetched lies at a position of the layout.
+fn is_placed(layout: Layout, ask: &NodeAsk) -> bool
+    ensures { IsTrue result → IsPlaced layout ask.now }
+{
+    match ask {
+        NodeAsk::Fetch { position, .. } => usize::from(*position) < layout.safe(),
+        _ => true,
+    }
+}
+
+/// Whether a node says that memory is wanting. Such an answer has no event.
+fn wants_memory(given: &NodeAnswer) -> bool
+    ensures { result ≡ false → given.now ≢ answer.Replace replace.NoMemory }
+{
+    matches!(given, NodeAnswer::Replace(ReplaceAnswer::NoMemory))
+}
+
+/// Gives a call to a node, with the bins of what it is to keep, or with room for those that it reads.
+fn serve<R: Wait, D: Disk, J: Counting>(
+    rt: &R,
+    store: &Store<D, J>,
+    pass: &mut Pass<J>,
+    node: u16,
+    machine: &Machine,
+    ask: &NodeAsk,
+    bins: &mut [u64],
+) -> Result<NodeAnswer, NoMemory>
+    requires volume { store.now.volume ≡ volume_in J.kind }
+    requires node { IsNodeOf (volume_in J.kind) node }
+    requires actor { ¬ (pass.old.actor ≡ Actor.Admin) }
+    requires asked { ask_of machine.now.layout machine.now.work ≡ AskNode node ask.now }
+    requires right { (number : ℕ) × IsRight J.kind pass.old number machine.now }
+    requires room { max_bins_of (volume_in J.kind).layout ≤ length bins.old }
+    ensures served { IfOk result (λ a. IsServed J.kind node ask.now a pass.old pass.new bins.old bins.new) }
+    ensures still { OnErr result (pass.new ≡ pass.old) }
+{
+    rz_acting::asks();
+    rz_block_laws::handing();
+    let layout = store.volume.layout;
+    let _fit = pass.actor();
+    match ask {
+        NodeAsk::Keep(head) | NodeAsk::Refill { head, .. } => {
+            let given = machine.bins();
+            if !is_record(layout, head, given) || bins.len() < given.len() {
+                return Err(NoMemory);
+            }
+            let own = &mut bins[..given.len()];
+            own.copy_from_slice(given);
+            Ok(call_node(rt, store, pass, node, ask, own))
+        }
+        NodeAsk::Fetch { .. } | NodeAsk::Drop { .. } | NodeAsk::Probe | NodeAsk::Replace { .. } =>
+            Ok(call_node(rt, store, pass, node, ask, bins)),
+        NodeAsk::Stop | NodeAsk::Start | NodeAsk::Lose => Err(NoMemory),
+    }
+}
+
+/// The message comes through.
+fn through<R: Wait, D: Disk, J: Counting>(
+    rt: &R,
+    store: &Store<D, J>,
+    pass: &mut Pass<J>,
+    node: u16,
+    machine: &mut Machine,
+    ask: &NodeAsk,
+    bins: &mut [u64],
+) -> Result<(), NoMemory>
+    requires volume { store.now.volume ≡ volume_in J.kind }
+    requires node { IsNodeOf (volume_in J.kind) node }
+    requires actor { ¬ (pass.old.actor ≡ Actor.Admin) }
+    requires layout { machine.old.layout ≡ (volume_in J.kind).layout }
+    requires asked { ask_of machine.old.layout machine.old.work ≡ AskNode node ask.now }
+    requires right { (number : ℕ) × IsRight J.kind pass.old number machine.old }
+    requires room { max_bins_of (volume_in J.kind).layout ≤ length bins.old }
+    ensures lasts { Lasts J.kind pass.old pass.new }
+    ensures quiet { missed (of_actor pass.old.actor pass.new.log) ≡ missed (of_actor pass.old.actor pass.old.log) }
+    ensures unshown { shown_of (of_actor pass.old.actor pass.new.log) ≡ shown_of (of_actor pass.old.actor pass.old.log) }
+    ensures acted { OnOk result ((number : ℕ) → IsRight J.kind pass.old number machine.old → HasActed J.kind number pass.old pass.new machine.old machine.new) }
+    ensures cut { OnErr result ((number : ℕ) → IsCutOff pass.old.actor number pass.old.log pass.new.log machine.old) }
+{
+    rz_acting::hears();
+    let layout = store.layout();
+    let _most = layout.max_bins();
+    let _fit = pass.actor();
+    if !machine.has_room() || !is_placed(layout, ask) {
+        return Err(NoMemory);
+    }
+    let answer = serve(rt, store, pass, node, machine, ask, bins)?;
+    if wants_memory(&answer) || !machine.takes_answer(&answer) {
+        return Err(NoMemory);
+    }
+    machine.tell_answer(answer, bins);
+    Ok(())
+}
+
+/// Adds that the message to a node, or its answer, was lost.
+fn add_missed<D: Disk, J: Counting>(store: &Store<D, J>, pass: &mut Pass<J>, node: u16, reply: bool)
+    requires volume { store.now.volume ≡ volume_in J.kind }
+    requires actor { ¬ (pass.old.actor ≡ Actor.Admin) }
+    requires going { IsTrue (is_honest J.kind) → IsOpen (of_actor pass.old.actor pass.old.log) }
+    requires room { count_at (word_key (w.Own pass.old.actor)) pass.old.log + 1 < 2 ^ 64 }
+    ensures lasts { Lasts J.kind pass.old pass.new }
+    ensures adds { AddsOwn (volume_in J.kind) (is_honest J.kind) pass.old.actor pass.old.log (Some (e.Missed pass.old.actor node reply)) pass.new.log }
+{
+    rz_chronicle::words_counted();
+    let by = pass.actor();
+    let event = Event::Missed { by, node, reply };
+    add_own(store, pass, &event);
+    drop(event);
+}
+
+/// The node is given the call, and its answer is lost.
+fn without_reply<R: Wait, D: Disk, J: Counting>(
+    rt: &R,
+    store: &Store<D, J>,
+    pass: &mut Pass<J>,
+    node: u16,
+    machine: &mut Machine,
+    ask: &NodeAsk,
+    bins: &mut [u64],
+) -> Result<(), NoMemory>
+    requires volume { store.now.volume ≡ volume_in J.kind }
+    requires node { IsNodeOf (volume_in J.kind) node }
+    requires actor { ¬ (pass.old.actor ≡ Actor.Admin) }
+    requires asked { ask_of machine.old.layout machine.old.work ≡ AskNode node ask.now }
+    requires right { (number : ℕ) × IsRight J.kind pass.old number machine.old }
+    requires lossy { goes_by_link ask.now ≡ true }
+    requires room { max_bins_of (volume_in J.kind).layout ≤ length bins.old }
+    ensures lasts { Lasts J.kind pass.old pass.new }
+    ensures one { missed (of_actor pass.old.actor pass.new.log) ≤ missed (of_actor pass.old.actor pass.old.log) + 1 }
+    ensures unshown { shown_of (of_actor pass.old.actor pass.new.log) ≡ shown_of (of_actor pass.old.actor pass.old.log) }
+    ensures acted { OnOk result ((number : ℕ) → IsRight J.kind pass.old number machine.old → HasActed J.kind number pass.old pass.new machine.old machine.new) }
+    ensures cut { OnErr result ((number : ℕ) → IsCutOff pass.old.actor number pass.old.log pass.new.log machine.old) }
+{
+    rz_acting::goes();
+    let _fit = pass.actor();
+    if !machine.has_room() {
+        return Err(NoMemory);
+    }
+    let answer = serve(rt, store, pass, node, machine, ask, bins)?;
+    if wants_memory(&answer) || !machine.takes_answer(&answer) || !pass.room() {
+        return Err(NoMemory);
+    }
+    add_missed(store, pass, node, true);
+    machine.tell_missed();
+    Ok(())
+}
+
+/// The message is lost.
+fn without_request<D: Disk, J: Counting>(
+    store: &Store<D, J>,
+    pass: &mut Pass<J>,
+    node: u16,
+    machine: &mut Machine,
+    ask: &NodeAsk,
+) -> Result<(), NoMemory>
+    requires volume { store.now.volume ≡ volume_in J.kind }
+    requires actor { ¬ (pass.old.actor ≡ Actor.Admin) }
+    requires asked { ask_of machine.old.layout machine.old.work ≡ AskNode node ask.now }
+    requires right { (number : ℕ) × IsRight J.kind pass.old number machine.old }
+    requires lossy { goes_by_link ask.now ≡ true }
+    ensures lasts { Lasts J.kind pass.old pass.new }
+    ensures one { missed (of_actor pass.old.actor pass.new.log) ≤ missed (of_actor pass.old.actor pass.old.log) + 1 }
+    ensures unshown { shown_of (of_actor pass.old.actor pass.new.log) ≡ shown_of (of_actor pass.old.actor pass.old.log) }
+    ensures acted { OnOk result ((number : ℕ) → IsRight J.kind pass.old number machine.old → HasActed J.kind number pass.old pass.new machine.old machine.new) }
+    ensures cut { OnErr result ((number : ℕ) → IsCutOff pass.old.actor number pass.old.log pass.new.log machine.old) }
+{
+    rz_acting::asks();
+    rz_acting::goes();
+    let _ = ask;
+    let _fit = pass.actor();
+    if !machine.has_room() || !pass.room() {
+        return Err(NoMemory);
+    }
+    add_missed(store, pass, node, false);
+    machine.tell_missed();
+    Ok(())
+}
+
+/// Sends a node of the volume what a machine asks of it, and tells the machine the answer, or that the message
+/// or its answer was lost. A record that is fetched comes into `bins`.
+pub fn message<R: Wait, D: Disk, J: Counting, L: Link>(
+    rt: &R,
+    store: &Store<D, J>,
+    pass: &mut Pass<J>,
+    link: &mut L,
+    node: u16,
+    machine: &mut Machine,
+    ask: NodeAsk,
+    bins: &mut [u64],
+) -> Result<(), NoMemory>
+    requires volume { store.now.volume ≡ volume_in J.kind }
+    requires actor { ¬ (pass.old.actor ≡ Actor.Admin) }
+    requires layout { machine.old.layout ≡ (volume_in J.kind).layout }
+    requires asked { ask_of machine.old.layout machine.old.work ≡ AskNode node ask }
+    requires right { (number : ℕ) × IsRight J.kind pass.old number machine.old }
+    requires room { max_bins_of (volume_in J.kind).layout ≤ length bins.old }
+    ensures lasts { Lasts J.kind pass.old pass.new }
+    ensures lost { AreLost pass.old.actor pass.old.log pass.new.log (L.lost link.old) (L.lost link.new) }
+    ensures unshown { shown_of (of_actor pass.old.actor pass.new.log) ≡ shown_of (of_actor pass.old.actor pass.old.log) }
+    ensures acted { OnOk result ((number : ℕ) → IsRight J.kind pass.old number machine.old → HasActed J.kind number pass.old pass.new machine.old machine.new) }
+    ensures cut { OnErr result ((number : ℕ) → IsCutOff pass.old.actor number pass.old.log pass.new.log machine.old) }
+{
+    let _fit = pass.actor();
+    if node == 0 || !is_in(&store.volume, node) {
+        return Err(NoMemory);
+    }
+    match fate(&ask, node, link) {
+        Sent::Through => through(rt, store, pass, node, machine, &ask, bins),
+        Sent::ReplyLost => without_reply(rt, store, pass, node, machine, &ask, bins),
+        Sent::RequestLost => without_request(store, pass, node, machine, &ask),
+    }
+}

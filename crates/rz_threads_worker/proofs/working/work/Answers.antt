@@ -1,0 +1,62 @@
+use Rattle.std.proofs.Common.{◌∙◌, refl, sym}
+use Rattle.rz_chronicle.specs.Kinds.{is_honest, volume_in}
+use Rattle.rz_threads_steps.proofs.Acts.{still-lasts, lasts-on}
+use Rattle.rz_threads_worker.specs.Workers.{seat_of}
+use Rattle.rz_threads_worker.proofs.Doings.{none-done, still-lost}
+use Rattle.rz_threads_worker.proofs.Workings.{done-both, lost-both, shown-at}
+use Rattle.rz_threads_worker.proofs.working.work.Goals as goal
+
+pub loop-init : goal.loop-init
+loop-init g c =
+    record {
+      lasts = still-lasts g.J.Naming.kind c.args.worker.now.pass c.actor-fit.ensures.fit;
+      ready = c.requires.ready;
+      done = none-done (is_honest g.J.Naming.kind) (volume_in g.J.Naming.kind).layout c.args.worker.now.pass.actor (seat_of c.args.worker.now.seat) c.args.worker.now.pass.log c.args.worker.now.pass.log refl;
+      lost = still-lost c.args.worker.now.pass.actor c.args.worker.now.pass.log (g.L.Link.lost c.args.worker.now.link);
+    }
+
+pub returns-then-not-has_work-clause-same : goal.returns-then-not-has_work-clause-same
+returns-then-not-has_work-clause-same g c = (c.loop.invariant.lasts.actor, c.loop.invariant.lasts.keys)
+
+pub returns-then-not-has_work-clause-later : goal.returns-then-not-has_work-clause-later
+returns-then-not-has_work-clause-later g c = c.loop.invariant.lasts.later
+
+pub returns-then-not-has_work-clause-done : goal.returns-then-not-has_work-clause-done
+returns-then-not-has_work-clause-done g c = record { last = seat_of c.loop.worker.seat; done = c.loop.invariant.done; rests = sym c.has_work.ensures ∙ c.if-not-has_work.true }
+
+pub returns-then-not-has_work-clause-lost : goal.returns-then-not-has_work-clause-lost
+returns-then-not-has_work-clause-lost g c = c.loop.invariant.lost
+
+pub returns-then-not-has_work-clause-shown : goal.returns-then-not-has_work-clause-shown
+returns-then-not-has_work-clause-shown g c = shown-at g.J.Naming.kind c.args.worker.now.pass c.loop.worker.pass c.loop.worker.pass c.loop.invariant.lasts c.loop.worker.shown.items c.loop.invariant.ready.shows
+
+pub returns-then-not-has_work-clause-fit : goal.returns-then-not-has_work-clause-fit
+returns-then-not-has_work-clause-fit g c = c.loop.invariant.lasts.fit
+
+pub returns-in-Err-clause-same : goal.returns-in-Err-clause-same
+returns-in-Err-clause-same g c =
+    let all = lasts-on g.J.Naming.kind c.args.worker.now.pass c.loop.worker.pass c.take_turn.new.worker.pass c.loop.invariant.lasts c.in-Err.ensures.lasts in (all.actor, all.keys)
+
+pub returns-in-Err-clause-later : goal.returns-in-Err-clause-later
+returns-in-Err-clause-later g c = (lasts-on g.J.Naming.kind c.args.worker.now.pass c.loop.worker.pass c.take_turn.new.worker.pass c.loop.invariant.lasts c.in-Err.ensures.lasts).later
+
+pub returns-in-Err-clause-begun : goal.returns-in-Err-clause-begun
+returns-in-Err-clause-begun g c = (c.in-Err.ensures.begun.0, done-both g.J.Naming.kind c.args.worker.now.pass c.loop.worker.pass c.take_turn.new.worker.pass c.loop.invariant.lasts (is_honest g.J.Naming.kind) (volume_in g.J.Naming.kind).layout (seat_of c.args.worker.now.seat) (seat_of c.loop.worker.seat) c.in-Err.ensures.begun.0 c.loop.invariant.done c.in-Err.ensures.begun.1)
+
+pub returns-in-Err-clause-lost : goal.returns-in-Err-clause-lost
+returns-in-Err-clause-lost g c = lost-both g.J.Naming.kind c.args.worker.now.pass c.loop.worker.pass c.take_turn.new.worker.pass c.loop.invariant.lasts (g.L.Link.lost c.args.worker.now.link) (g.L.Link.lost c.loop.worker.link) (g.L.Link.lost c.take_turn.new.worker.link) c.loop.invariant.lost c.in-Err.ensures.lost
+
+pub returns-in-Err-clause-shown : goal.returns-in-Err-clause-shown
+returns-in-Err-clause-shown g c = shown-at g.J.Naming.kind c.args.worker.now.pass c.loop.worker.pass c.take_turn.new.worker.pass c.loop.invariant.lasts c.take_turn.new.worker.shown.items c.in-Err.ensures.shown
+
+pub returns-in-Err-clause-fit : goal.returns-in-Err-clause-fit
+returns-in-Err-clause-fit g c = c.in-Err.ensures.lasts.fit
+
+pub loop-preserved : goal.loop-preserved
+loop-preserved g c =
+    record {
+      lasts = lasts-on g.J.Naming.kind c.args.worker.now.pass c.loop.worker.pass c.take_turn.new.worker.pass c.loop.invariant.lasts c.in_default.ensures.lasts;
+      ready = c.in_default.ensures.ready;
+      done = done-both g.J.Naming.kind c.args.worker.now.pass c.loop.worker.pass c.take_turn.new.worker.pass c.loop.invariant.lasts (is_honest g.J.Naming.kind) (volume_in g.J.Naming.kind).layout (seat_of c.args.worker.now.seat) (seat_of c.loop.worker.seat) (seat_of c.take_turn.new.worker.seat) c.loop.invariant.done c.in_default.ensures.done;
+      lost = lost-both g.J.Naming.kind c.args.worker.now.pass c.loop.worker.pass c.take_turn.new.worker.pass c.loop.invariant.lasts (g.L.Link.lost c.args.worker.now.link) (g.L.Link.lost c.loop.worker.link) (g.L.Link.lost c.take_turn.new.worker.link) c.loop.invariant.lost c.in_default.ensures.lost;
+    }

@@ -1,0 +1,102 @@
+-- Words that are counted one after another, while the tallies of all of them are held.
+use Rattle.std.proofs.Common.{◌≡◌, ◌≤◌, ◌<◌, ◌+◌, ◌++◌, ℕ, zero, suc, Bool, true, false, cond, List, [], ◌∷◌, Option, Some, None, length, append-nil, append_assoc, sym, refl, ap, ap₂, ◌∙◌, subst, inl, inr, arith}
+use Rattle.std.proofs.lemmas.List.Sums.{sum_by-cons}
+use Rattle.rz_events.specs.declared.events.Word.{Word}
+use Rattle.rz_events.specs.declared.events.Event.{Event}
+use Rattle.rz_chronicle.specs.Keys.{IsLater, IsOneOf, count_at, events_at, moves_of, owner, touches, word_key}
+use Rattle.rz_chronicle.specs.Holds.{Stays}
+use Rattle.rz_chronicle.specs.Rules.{PassView}
+use Rattle.rz_threads_workers.specs.Gathered.{GoesOn}
+use Rattle.rz_threads_workers.specs.Moves.{HoldsAll}
+
+-- how many events of the words at the first places of a book of these nodes a history has
+unfoldable pub moves_before : ℕ → List ℕ → List Event → ℕ
+moves_before zero sids h = 0
+moves_before (suc place) sids h = moves_before place sids h + moves_of (owner sids place) h
+
+-- the same of all its 338 places
+abbrev pub moves_in : List ℕ → List Event → ℕ
+moves_in sids h = moves_before 338 sids h
+
+-- A pass that goes on, and goes on again.
+
+one-of-left : (k : ℕ) (xs ys : List ℕ) → IsOneOf k xs → IsOneOf k (xs ++ ys)
+one-of-left k [] ys h = absurd h
+one-of-left k (x ∷ xs) ys h = elim h [ inl e ↦ inl e | inr more ↦ inr (one-of-left k xs ys more) ]
+
+goes-nowhere : (p : PassView) → GoesOn p p
+goes-nowhere p = record { actor = refl; more = []; keys = sym (append-nil p.keys); stays = λ k is. refl; later = ([], refl) }
+
+goes-further : (a b c : PassView) → GoesOn a b → GoesOn b c → GoesOn a c
+goes-further a b c p q = record {
+  actor = q.actor ∙ p.actor;
+  more = p.more ++ q.more;
+  keys = q.keys ∙ (ap (λ (ks : List ℕ). ks ++ q.more) p.keys ∙ append_assoc a.keys p.more q.more);
+  stays = λ k is. q.stays k (subst (IsOneOf k) (sym p.keys) (one-of-left k a.keys p.more is)) ∙ p.stays k is;
+  later = (q.later.0 ++ p.later.0, q.later.1 ∙ (ap (λ (l : List Event). q.later.0 ++ l) p.later.1 ∙ sym (append_assoc q.later.0 p.later.0 a.log)));
+}
+
+-- What a word has moved.
+
+-- as many events of a key as are counted
+counted : (k : ℕ) (h : List Event) → count_at k h ≡ length (events_at k h)
+counted k [] = refl
+counted k (x ∷ h) = sum_by-cons (λ (e : Event). cond (touches k e) 1 0) x h ∙ either (touches k x) (counted k h)
+  where
+    either : (b : Bool) → count_at k h ≡ length (events_at k h) → cond b 1 0 + count_at k h ≡ length (cond b (x ∷ events_at k h) (events_at k h))
+    either true rest = omega (arith, rest)
+    either false rest = omega (arith, rest)
+
+-- a word whose tally is held has moved no more
+moves-same : (w : Option Word) (old new : List Event) → ((x : Word) → w ≡ Some x → events_at (word_key x) new ≡ events_at (word_key x) old) → moves_of w new ≡ moves_of w old
+moves-same None old new same = refl
+moves-same (Some x) old new same = counted (word_key x) new ∙ (ap (λ (es : List Event). length es) (same x refl) ∙ sym (counted (word_key x) old))
+
+moves-next : (place : ℕ) (sids : List ℕ) (h : List Event) → moves_before (suc place) sids h ≡ moves_before place sids h + moves_of (owner sids place) h
+unfolding moves_before
+moves-next place sids h = refl
+
+moves-more : (place : ℕ) (sids : List ℕ) (h : List Event) → moves_before (place + 1) sids h ≡ moves_before place sids h + moves_of (owner sids place) h
+moves-more place sids h = let next : place + 1 ≡ suc place = omega arith in ap (λ (n : ℕ). moves_before n sids h) next ∙ moves-next place sids h
+
+module _ (sids ks : List ℕ) (old new : List Event) (holds : HoldsAll sids ks) (stays : Stays ks old new) where
+  place-same : (place : ℕ) → place < 338 → moves_of (owner sids place) new ≡ moves_of (owner sids place) old
+  place-same place low = moves-same (owner sids place) old new (λ w is. stays (word_key w) (holds place w low is))
+
+  before-same : (place : ℕ) → place ≤ 338 → moves_before place sids new ≡ moves_before place sids old
+  unfolding moves_before
+  before-same zero low = refl
+  before-same (suc place) low = ap₂ (λ (a b : ℕ). a + b) (before-same place (omega (arith, low))) (place-same place (omega (arith, low)))
+
+-- the words at the first places are counted
+pub record Counted (sids : List ℕ) (old now : PassView) (place sum : ℕ) : Type 0 where
+  pub goes : GoesOn old now
+  pub few : place ≤ 338
+  pub sum_is : sum ≡ moves_before place sids old.log
+
+none-moved : (sids : List ℕ) (h : List Event) → 0 ≡ moves_before 0 sids h
+unfolding moves_before
+none-moved sids h = refl
+
+pub counted-first : (sids : List ℕ) (p : PassView) → Counted sids p p 0 0
+counted-first sids p = record { goes = goes-nowhere p; few = omega arith; sum_is = none-moved sids p.log }
+
+-- one step of a pass that keeps its tallies
+steps-on : (mid new : PassView) → new.actor ≡ mid.actor → new.keys ≡ mid.keys → IsLater mid.log new.log → Stays mid.keys mid.log new.log → GoesOn mid new
+steps-on mid new actor keys later stays = record { actor = actor; more = []; keys = keys ∙ sym (append-nil mid.keys); stays = stays; later = later }
+
+pub counted-more : (sids : List ℕ) (old mid new : PassView) (place sum count all : ℕ) → HoldsAll sids old.keys → place < 338 → Counted sids old mid place sum
+    → new.actor ≡ mid.actor → new.keys ≡ mid.keys → IsLater mid.log new.log → Stays mid.keys mid.log new.log → count ≡ moves_of (owner sids place) new.log → all ≡ sum + count
+    → Counted sids old new (place + 1) all
+counted-more sids old mid new place sum count all holds low so actor keys later stays moved is =
+    let goes = goes-further old mid new so.goes (steps-on mid new actor keys later stays) in
+    let here : count ≡ moves_of (owner sids place) old.log = moved ∙ place-same sids old.keys old.log new.log holds goes.stays place low in
+    record { goes = goes; few = omega (arith, low); sum_is = is ∙ (ap₂ (λ (a b : ℕ). a + b) so.sum_is here ∙ sym (moves-more place sids old.log)) }
+
+-- all words are counted
+pub counted-old : (sids : List ℕ) (old now : PassView) (place sum : ℕ) → 338 ≤ place → Counted sids old now place sum → sum ≡ moves_in sids old.log
+counted-old sids old now place sum past so = let last : place ≡ 338 = omega (arith, past, so.few) in so.sum_is ∙ ap (λ (n : ℕ). moves_before n sids old.log) last
+
+pub counted-now : (sids : List ℕ) (old now : PassView) (place sum : ℕ) → HoldsAll sids old.keys → 338 ≤ place → Counted sids old now place sum → sum ≡ moves_in sids now.log
+counted-now sids old now place sum holds past so =
+    counted-old sids old now place sum past so ∙ sym (before-same sids old.keys old.log now.log holds so.goes.stays 338 (omega arith))

@@ -1,0 +1,59 @@
+//! What members bring with them before they have a link.
+ghost use Rattle.std.specs.Prelude.{◌≡◌, IfOk};
+ghost use Rattle.std.specs.List.{AllByRecursion, AllZip};
+ghost use Rattle.rz_chronicle.specs.Kinds.{volume_in};
+ghost use Rattle.rz_script.specs.Lines.{AreLines};
+ghost use Rattle.rz_threads_workers.specs.Staff.{IsNew, IsRecruit};
+
+use crate::operations_of;
+use mj_angles::Layout;
+use rz_chronicle::Pass;
+use rz_script::{Line, Operation};
+use rz_shared::Counting;
+use std::alloc::{AllocError, Global};
+use std::collections::VecDeque;
+
+/// The pass of an actor, what it has to do, and room for the bins of a record.
+#[derive(Drop)]
+pub(crate) struct Recruit<J: Counting> {
+    pub(crate) pass: Pass<J>,
+    pub(crate) todo: VecDeque<Operation>,
+    pub(crate) bins: Vec<u64>,
+}
+
+/// Gives an actor that has done nothing what the lines give it to do.
+fn recruit_one<J: Counting>(
+    alloc: Global,
+    layout: Layout,
+    pass: Pass<J>,
+    lines: &[Line],
+) -> Result<Recruit<J>, AllocError>
+    requires layout { layout ≡ (volume_in J.kind).layout }
+    requires lines { AreLines (volume_in J.kind) lines.now }
+    requires new { IsNew pass }
+    ensures { IfOk result (λ r. IsRecruit J.kind lines.now pass r) }
+{
+    let todo = operations_of(alloc, pass.actor(), lines)?;
+    let bins = Vec::from_elem(alloc, 0, layout.max_bins())?;
+    Ok(Recruit { pass, todo, bins })
+}
+
+/// Gives each of these actors what the lines give it to do.
+pub(crate) fn recruit_all<J: Counting>(
+    alloc: Global,
+    layout: Layout,
+    passes: Vec<Pass<J>>,
+    lines: &[Line],
+) -> Result<Vec<Recruit<J>>, AllocError>
+    requires layout { layout ≡ (volume_in J.kind).layout }
+    requires lines { AreLines (volume_in J.kind) lines.now }
+    requires new { AllByRecursion IsNew passes.items }
+    ensures { IfOk result (λ rs. AllZip (IsRecruit J.kind lines.now) passes.items rs.items) }
+{
+    let mut recruits = Vec::with_capacity(alloc, passes.len())?;
+    for pass in passes {
+        let newest = recruit_one(alloc, layout, pass, lines)?;
+        recruits.push(newest)?;
+    }
+    Ok(recruits)
+}
