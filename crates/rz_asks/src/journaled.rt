@@ -3,14 +3,13 @@ ghost use Rattle.std.specs.Prelude.{◌≡◌, ℕ, List, IsTrue, IfOk, OnOk, On
 ghost use Rattle.rz_events.specs.declared.export.Call.{Call as ACall};
 ghost use Rattle.rz_export_model.specs.Export.{export_reply, export_after, is_proper};
 ghost use Rattle.rz_journal.specs.Seen.{calls_after};
-ghost use Rattle.rz_operation.specs.Meaning.{call_of};
+ghost use Rattle.rz_events.specs.Borrowed.{call_of};
 ghost use Rattle.rz_asks.specs.Stands.{IsKept, IsLeft, wants_memory};
 
 use crate::memory::NoReply;
 use rz_disk::Disk;
-use rz_events::{Call, Reply, Text};
+use rz_events::{Call, CallRef, Reply, Text};
 use rz_journal::{Journal, JournalReply};
-use rz_operation::ExportAsk;
 use std::alloc::{AllocError, Global};
 
 /// Why a journal did not keep a call.
@@ -31,7 +30,7 @@ pub struct Journaled<D: Disk> {
 
 impl<D: Disk> Journaled<D> {
     /// The reply of the export, whose call then stands on the disk where it was accepted.
-    pub(crate) fn reply(&mut self, alloc: Global, ask: ExportAsk<'_>) -> Result<Reply, NoReply>
+    pub(crate) fn reply(&mut self, alloc: Global, ask: CallRef<'_>) -> Result<Reply, NoReply>
         ensures reply { IfOk result (λ r. r ≡ export_reply self.old.journal.export (call_of ask.entry)) }
         ensures after { OnOk result (self.new.journal.export ≡ export_after self.old.journal.export (call_of ask.entry)) }
         ensures kept { IfOk result (λ r. (first : ℕ) (calls : List ACall) → IsKept D.tells D.meter D.image first self.old calls → IsKept D.tells D.meter D.image first self.new (calls_after r (call_of ask.entry) calls)) }
@@ -85,24 +84,24 @@ fn wants_memory(reply: &Reply) -> bool
 }
 
 /// What is asked as a call of its own, in new memory.
-fn call_asked(alloc: Global, ask: ExportAsk<'_>) -> Result<Call, AllocError>
+fn call_asked(alloc: Global, ask: CallRef<'_>) -> Result<Call, AllocError>
     ensures { IfOk result (λ c. c ≡ call_of ask.entry) }
 {
     Ok(match ask {
-        ExportAsk::Tree(call) => Call::Tree(call.copy(alloc)?),
-        ExportAsk::Begin { key, text } => Call::Begin {
+        CallRef::Tree(call) => Call::Tree(call.copy(alloc)?),
+        CallRef::Begin { key, text } => Call::Begin {
             key,
             text: Text::from_bytes(alloc, text)?,
         },
-        ExportAsk::Publish { key, published } => Call::Publish {
+        CallRef::Publish { key, published } => Call::Publish {
             key,
             stamp: published.stamp,
             mask: published.mask,
             length: published.length,
         },
-        ExportAsk::Look { key } => Call::Look { key },
-        ExportAsk::Recheck { key } => Call::Recheck { key },
-        ExportAsk::Enroll { node, loss } => Call::Enroll { node, loss },
-        ExportAsk::Next { node, after } => Call::Next { node, after },
+        CallRef::Look { key } => Call::Look { key },
+        CallRef::Recheck { key } => Call::Recheck { key },
+        CallRef::Enroll { node, loss } => Call::Enroll { node, loss },
+        CallRef::Next { node, after } => Call::Next { node, after },
     })
 }

@@ -13,9 +13,9 @@ use crate::log::Log;
 use crate::replies::note_names;
 use crate::{Metadata, NoMemory};
 use rz_disk::Disk;
-use rz_events::{Actor, Reply, TreeCall, TreeReply};
+use rz_events::{Actor, CallRef, Reply, TreeCall, TreeReply};
 use rz_locks::{LockAnswer, LockKind, Locks, Range};
-use rz_operation::{Ask, ExportAsk, Machine};
+use rz_operation::{Ask, Machine};
 use std::alloc::Global;
 
 /// Opens the file that a machine asks for, and takes its lock where no held lock conflicts.
@@ -59,7 +59,7 @@ pub fn open<D: Disk>(
         return Err(NoMemory);
     }
     let copy = call.copy(alloc)?;
-    let Ok(reply) = export.reply(alloc, ExportAsk::Tree(call)) else {
+    let Ok(reply) = export.reply(alloc, CallRef::Tree(call)) else {
         drop(copy);
         return Err(NoMemory);
     };

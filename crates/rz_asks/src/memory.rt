@@ -1,11 +1,10 @@
 //! An export in memory.
 ghost use Rattle.std.specs.Prelude.{◌≡◌, IfOk, OnOk, OnErr};
 ghost use Rattle.rz_export_model.specs.Export.{export_reply, export_after};
-ghost use Rattle.rz_operation.specs.Meaning.{call_of};
+ghost use Rattle.rz_events.specs.Borrowed.{call_of};
 
-use rz_events::{Call, Key, Published, Reply};
+use rz_events::{Call, CallRef, Key, Published, Reply};
 use rz_export::Export;
-use rz_operation::ExportAsk;
 use std::alloc::AllocError;
 
 /// There is no reply: memory is wanting, or the export does not take the call, or its journal did not
@@ -20,19 +19,19 @@ impl From<AllocError> for NoReply {
 }
 
 /// The reply of an export in memory.
-pub(crate) fn reply_to(export: &mut Export, ask: ExportAsk<'_>) -> Result<Reply, NoReply>
+pub(crate) fn reply_to(export: &mut Export, ask: CallRef<'_>) -> Result<Reply, NoReply>
     ensures reply { IfOk result (λ r. r ≡ export_reply export.old (call_of ask.entry)) }
     ensures after { OnOk result (export.new ≡ export_after export.old (call_of ask.entry)) }
     ensures err { OnErr result (export.new ≡ export.old) }
 {
     match ask {
-        ExportAsk::Tree(call) => Ok(Reply::Tree(export.name(call)?)),
-        ExportAsk::Begin { key, .. } => Ok(export.begin(key)?),
-        ExportAsk::Publish { key, published } => publish(export, key, published),
-        ExportAsk::Look { key } => Ok(export.look(key)),
-        ExportAsk::Recheck { key } => Ok(export.recheck(key)),
-        ExportAsk::Enroll { node, loss } => enroll(export, node, loss),
-        ExportAsk::Next { node, after } => Ok(export.next(node, after)),
+        CallRef::Tree(call) => Ok(Reply::Tree(export.name(call)?)),
+        CallRef::Begin { key, .. } => Ok(export.begin(key)?),
+        CallRef::Publish { key, published } => publish(export, key, published),
+        CallRef::Look { key } => Ok(export.look(key)),
+        CallRef::Recheck { key } => Ok(export.recheck(key)),
+        CallRef::Enroll { node, loss } => enroll(export, node, loss),
+        CallRef::Next { node, after } => Ok(export.next(node, after)),
     }
 }
 

@@ -9,7 +9,7 @@ ghost use Rattle.rz_journal.specs.Kept.{IsAfter};
 ghost use Rattle.rz_journal.specs.Opening.{IsRefused};
 ghost use Rattle.rz_journal.specs.Seen.{calls_after};
 ghost use Rattle.rz_journal.specs.Stands.{IsShut};
-ghost use Rattle.rz_operation.specs.Meaning.{call_of};
+ghost use Rattle.rz_events.specs.Borrowed.{call_of};
 ghost use Rattle.rz_asks.specs.Enrolled.{loss_of};
 ghost use Rattle.rz_asks.specs.Reopened.{AllTextsOf, IsAsItCame, MakesExport};
 ghost use Rattle.rz_asks.specs.Stands.{export_in, disk_of, refusal_of, is_journaled, Stands, StandsAtEnd};
@@ -20,10 +20,9 @@ use crate::memory::{NoReply, reply_to};
 use rz_cells::FormatFault;
 use rz_config::Volume;
 use rz_disk::Disk;
-use rz_events::{Key, Listed, NodeSpec, Reply};
+use rz_events::{CallRef, Key, Listed, NodeSpec, Reply};
 use rz_export::Export;
 use rz_journal::{Journal, JournalFault};
-use rz_operation::ExportAsk;
 use std::alloc::{AllocError, Global};
 
 /// The export of a store, in memory alone or behind a journal on a disk.
@@ -93,7 +92,7 @@ impl<D: Disk> Metadata<D> {
 
     /// The reply to what an operation asks. Behind a journal a call that is accepted stands on the disk
     /// then.
-    pub fn reply(&mut self, alloc: Global, ask: ExportAsk<'_>) -> Result<Reply, NoReply>
+    pub fn reply(&mut self, alloc: Global, ask: CallRef<'_>) -> Result<Reply, NoReply>
         ensures reply { IfOk result (λ r. r ≡ export_reply (export_in self.old) (call_of ask.entry)) }
         ensures after { OnOk result (export_in self.new ≡ export_after (export_in self.old) (call_of ask.entry)) }
         ensures kept { IfOk result (λ r. (first : ℕ) (calls : List ACall) → Stands D.tells D.meter D.image first self.old calls → Stands D.tells D.meter D.image first self.new (calls_after r (call_of ask.entry) calls)) }

@@ -4,7 +4,7 @@ ghost use Rattle.std.specs.List.{All};
 ghost use Rattle.rz_events.specs.declared.export.Reply.TheVariants as model;
 ghost use Rattle.rz_export_model.specs.ExportEvents.{export_event};
 ghost use Rattle.rz_asks.specs.Stands.{export_in, is_journaled};
-ghost use Rattle.rz_operation.specs.Meaning.{call_of};
+ghost use Rattle.rz_events.specs.Borrowed.{call_of};
 ghost use Rattle.rz_asks.specs.Journals.{HasBytes, KeepsAsked, EndsOn};
 ghost use Rattle.rz_asks.specs.Parts.{AreWords, IsNoted, IsExportPart};
 
@@ -12,9 +12,9 @@ use crate::log::Log;
 use crate::{Metadata, NoMemory};
 use rz_disk::Disk;
 use rz_events::{
-    Actor, Asked, Call, Denial, Event, Key, Published, Reply, Text, TreeCall, TreeReply,
+    Actor, Asked, Call, CallRef, Denial, Event, Key, Published, Reply, Text, TreeCall, TreeReply,
 };
-use rz_operation::{Ask, ExportAsk, Machine};
+use rz_operation::{Ask, Machine};
 use std::alloc::{AllocError, Global};
 
 /// The texts of a call, for the log.
@@ -74,10 +74,10 @@ pub fn ask_export<D: Disk>(
 }
 
 /// The text of a write that begins is one of bytes, as each text is.
-fn look_into(ask: ExportAsk<'_>)
+fn look_into(ask: CallRef<'_>)
     ensures { HasBytes (call_of ask.entry) }
 {
-    if let ExportAsk::Begin { text, .. } = ask {
+    if let CallRef::Begin { text, .. } = ask {
         are_bytes(text);
     }
 }
@@ -89,17 +89,17 @@ fn are_bytes(text: &[u8])
 }
 
 /// The texts of a call, in new memory.
-fn words_of(alloc: Global, ask: ExportAsk<'_>) -> Result<Words, AllocError>
+fn words_of(alloc: Global, ask: CallRef<'_>) -> Result<Words, AllocError>
     ensures { IfOk result (λ w. AreWords ask.entry w) }
 {
     match ask {
-        ExportAsk::Tree(call) => Ok(Words::Call(call.copy(alloc)?)),
-        ExportAsk::Begin { text, .. } => Ok(Words::Text(Text::from_bytes(alloc, text)?)),
-        ExportAsk::Publish { .. }
-        | ExportAsk::Look { .. }
-        | ExportAsk::Recheck { .. }
-        | ExportAsk::Enroll { .. }
-        | ExportAsk::Next { .. } => Ok(Words::Nothing),
+        CallRef::Tree(call) => Ok(Words::Call(call.copy(alloc)?)),
+        CallRef::Begin { text, .. } => Ok(Words::Text(Text::from_bytes(alloc, text)?)),
+        CallRef::Publish { .. }
+        | CallRef::Look { .. }
+        | CallRef::Recheck { .. }
+        | CallRef::Enroll { .. }
+        | CallRef::Next { .. } => Ok(Words::Nothing),
     }
 }
 
@@ -107,7 +107,7 @@ fn words_of(alloc: Global, ask: ExportAsk<'_>) -> Result<Words, AllocError>
 fn note_reply(
     alloc: Global,
     by: Actor,
-    ask: ExportAsk<'_>,
+    ask: CallRef<'_>,
     words: Words,
     reply: &Reply,
     log: &mut Log,
@@ -172,11 +172,11 @@ fn reply_on_names(alloc: Global, reply: &Reply) -> Result<TreeReply, NoMemory>
 }
 
 /// The event of the reply to a begin.
-fn begin_event(by: Actor, ask: ExportAsk<'_>, text: Text, reply: &Reply) -> Option<Event>
+fn begin_event(by: Actor, ask: CallRef<'_>, text: Text, reply: &Reply) -> Option<Event>
     requires { AreWords ask (Words.Text text) }
     ensures { result ≡ export_event by (call_of ask.entry) reply.now }
 {
-    let ExportAsk::Begin { key, .. } = ask else {
+    let CallRef::Begin { key, .. } = ask else {
         return None;
     };
     match reply {
@@ -193,17 +193,17 @@ fn begin_event(by: Actor, ask: ExportAsk<'_>, text: Text, reply: &Reply) -> Opti
 }
 
 /// The event of a reply that has no texts.
-fn plain_event(by: Actor, ask: ExportAsk<'_>, reply: &Reply) -> Option<Event>
+fn plain_event(by: Actor, ask: CallRef<'_>, reply: &Reply) -> Option<Event>
     requires { AreWords ask Words.Nothing }
     ensures { result ≡ export_event by (call_of ask.entry) reply.now }
 {
     match ask {
-        ExportAsk::Publish { key, published } => publish_event(by, key, published, reply),
-        ExportAsk::Look { key } => look_event(by, key, reply),
-        ExportAsk::Recheck { key } => recheck_event(by, key, reply),
-        ExportAsk::Enroll { node, loss } => enroll_event(by, node, loss, reply),
-        ExportAsk::Next { node, after } => next_event(by, node, after, reply),
-        ExportAsk::Tree(_) | ExportAsk::Begin { .. } => None,
+        CallRef::Publish { key, published } => publish_event(by, key, published, reply),
+        CallRef::Look { key } => look_event(by, key, reply),
+        CallRef::Recheck { key } => recheck_event(by, key, reply),
+        CallRef::Enroll { node, loss } => enroll_event(by, node, loss, reply),
+        CallRef::Next { node, after } => next_event(by, node, after, reply),
+        CallRef::Tree(_) | CallRef::Begin { .. } => None,
     }
 }
 

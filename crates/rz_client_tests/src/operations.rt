@@ -1,10 +1,10 @@
 //! Operations driven by hand.
 
 use rz_events::{
-    Answer, Datum, Denial, DropAnswer, FileInfo, KeepAnswer, Layout, NodeAnswer, NodeAsk,
+    Answer, CallRef, Datum, Denial, DropAnswer, FileInfo, KeepAnswer, Layout, NodeAnswer, NodeAsk,
     Operation, Places, Reply, Text, TreeCall, TreeReply,
 };
-use rz_operation::{Ask, ExportAsk, Machine, Saying};
+use rz_operation::{Ask, Machine, Saying};
 use std::process::Abort;
 use std::test::Fail;
 
@@ -30,10 +30,10 @@ fn path(rt: &(impl Abort + AllocGlobal)) -> Text {
 /// What is asked of the export, in a word.
 fn word(ask: &Ask<'_>) -> &'static str {
     match ask {
-        Ask::Export(ExportAsk::Tree(_)) => "tree",
-        Ask::Export(ExportAsk::Begin { .. }) => "begin",
-        Ask::Export(ExportAsk::Publish { .. }) => "publish",
-        Ask::Export(ExportAsk::Look { .. }) => "look",
+        Ask::Export(CallRef::Tree(_)) => "tree",
+        Ask::Export(CallRef::Begin { .. }) => "begin",
+        Ask::Export(CallRef::Publish { .. }) => "publish",
+        Ask::Export(CallRef::Look { .. }) => "look",
         _ => "",
     }
 }

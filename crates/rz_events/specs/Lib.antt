@@ -5,4 +5,5 @@ pub mod Masks
 pub mod Volume
 pub mod Nodes
 pub mod Calls
+pub mod Borrowed
 pub mod Events

@@ -26,9 +26,9 @@ mod tree;
 
 pub use ends::{Denial, LeftWhy, ReadEnd, ReadMark, RebuildEnd, Seen, Why, WriteEnd};
 pub use events::{Answer, Event, Word, actor_of, word_of};
-pub use export::{Asked, Call, Reply};
+pub use export::{Asked, Call, CallRef, Reply};
 pub use files::{Attr, FileInfo, Kind, Listed, NodeSpec, Places, Published};
-pub use keys::{Actor, Key};
+pub use keys::{Actor, CLIENTS, Key, REBUILDERS};
 pub use machines::{
     FileAnswer, FileAsk, FileEnd, ReaderAnswer, ReaderAsk, RebuildAnswer, RebuildAsk, WriterAnswer,
     WriterAsk,

@@ -12,13 +12,13 @@ use crate::begins::{begun, begun_par};
 use crate::replies::{after_answer, after_lock, after_miss, after_reply, after_said, answer_in};
 use crate::takes::{is_answer, is_lock_reply, is_reply};
 use mj_angles::Layout;
-use rz_events::{Answer, NodeAnswer, Operation, Reply};
+use rz_events::{Answer, CallRef, NodeAnswer, Operation, Reply};
 use rz_operation_states::blocks::{read_ask, write_ask};
 use rz_operation_states::drops::drop_ask;
 use rz_operation_states::locks::lock_ask;
 use rz_operation_states::ranges::range_ask;
 use rz_operation_states::rebuilds::rebuilder_ask;
-use rz_operation_states::{Ask, ExportAsk, Saying, Stage};
+use rz_operation_states::{Ask, Saying, Stage};
 use std::alloc::{AllocError, Global};
 use std::marker::Model;
 use std::mem::replace;
@@ -78,9 +78,9 @@ impl Machine {
         ensures head { HasHead self.now.layout (ask_of self.now.layout self.now.work) }
     {
         match &self.stage {
-            Stage::Calling(call) => Ask::Export(ExportAsk::Tree(call)),
+            Stage::Calling(call) => Ask::Export(CallRef::Tree(call)),
             Stage::Dropping { fid, places, done } => drop_ask(*fid, places, *done),
-            Stage::Opening { call, .. } => Ask::Export(ExportAsk::Tree(call)),
+            Stage::Opening { call, .. } => Ask::Export(CallRef::Tree(call)),
             Stage::Writing { writer, text } => write_ask(writer, text.bytes()),
             Stage::Locking { call, plan } => lock_ask(self.layout, call, plan),
             Stage::Reading(reader) => read_ask(reader),

@@ -4,12 +4,13 @@ ghost use Rattle.std.specs.Prelude.{◌≡◌, ◌<◌, IsTrue};
 ghost use Rattle.std.specs.Int.{bit_at};
 ghost use Rattle.rz_client_model.specs.Read.{IsTold, IsFetched};
 ghost use Rattle.rz_operation_model.specs.Rebuild.{IsNextAnswer};
-ghost use Rattle.rz_operation_states.specs.Meaning.{call_of, meaning_of};
+ghost use Rattle.rz_events.specs.Borrowed.{call_of};
+ghost use Rattle.rz_operation_states.specs.Meaning.{meaning_of};
 ghost use Rattle.rz_operation_states.specs.Answers.{IsReply, IsReplyTo, IsLockReply, IsTreeReply, IsBeginReply, IsPublishReply, IsLookReply, IsEnrollReply, IsNextReply, IsAnswer, IsAnswerTo};
 
 use mj_angles::Layout;
-use rz_events::{FetchAnswer, Listed, NodeAnswer, NodeAsk, Published, Reply, TreeReply};
-use rz_operation_states::{Ask, ExportAsk};
+use rz_events::{CallRef, FetchAnswer, Listed, NodeAnswer, NodeAsk, Published, Reply, TreeReply};
+use rz_operation_states::Ask;
 use rz_rebuild::position_of;
 
 /// Whether this is a reply to what was asked of the export.
@@ -43,17 +44,17 @@ pub fn is_answer(layout: Layout, ask: &Ask<'_>, answer: &NodeAnswer) -> bool
 }
 
 /// Whether this is a reply to a call.
-fn is_reply_to(layout: Layout, ask: &ExportAsk<'_>, reply: &Reply) -> bool
+fn is_reply_to(layout: Layout, ask: &CallRef<'_>, reply: &Reply) -> bool
     ensures { IsTrue result → IsReplyTo layout (call_of ask.now) reply.now }
 {
     match ask {
-        ExportAsk::Tree(_) => is_tree_reply(layout, reply),
-        ExportAsk::Begin { .. } => is_begin_reply(reply),
-        ExportAsk::Publish { published, .. } => is_publish_reply(published.mask, reply),
-        ExportAsk::Look { .. } => is_look_reply(layout, reply),
-        ExportAsk::Recheck { .. } => is_look_reply(layout, reply),
-        ExportAsk::Enroll { .. } => matches!(reply, Reply::Fence { .. } | Reply::Denied(_)),
-        ExportAsk::Next { node, .. } => is_next_reply(layout, *node, reply),
+        CallRef::Tree(_) => is_tree_reply(layout, reply),
+        CallRef::Begin { .. } => is_begin_reply(reply),
+        CallRef::Publish { published, .. } => is_publish_reply(published.mask, reply),
+        CallRef::Look { .. } => is_look_reply(layout, reply),
+        CallRef::Recheck { .. } => is_look_reply(layout, reply),
+        CallRef::Enroll { .. } => matches!(reply, Reply::Fence { .. } | Reply::Denied(_)),
+        CallRef::Next { node, .. } => is_next_reply(layout, *node, reply),
     }
 }
 

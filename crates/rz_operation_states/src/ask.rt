@@ -1,12 +1,12 @@
 //! What an operation asks next.
 
-use rz_events::{Answer, Key, LeftWhy, NodeAsk, Published, ReadMark, TreeCall, WriteEnd};
+use rz_events::{Answer, CallRef, Key, LeftWhy, NodeAsk, ReadMark, TreeCall, WriteEnd};
 
 /// What an operation asks next. It borrows what it names.
 #[derive(Clone, Copy, Drop)]
 pub enum Ask<'a> {
     /// A call of the export.
-    Export(ExportAsk<'a>),
+    Export(CallRef<'a>),
     /// The file is opened by this call, and so many bytes from `from` on are locked, for this operation
     /// alone or shared.
     Lock {
@@ -24,18 +24,6 @@ pub enum Ask<'a> {
     Say(Saying<'a>),
     /// Nothing is left to do.
     Rest,
-}
-
-/// A call of the export.
-#[derive(Clone, Copy, Drop)]
-pub enum ExportAsk<'a> {
-    Tree(&'a TreeCall),
-    Begin { key: Key, text: &'a [u8] },
-    Publish { key: Key, published: Published },
-    Look { key: Key },
-    Recheck { key: Key },
-    Enroll { node: u16, loss: u64 },
-    Next { node: u16, after: Option<Key> },
 }
 
 /// An event of the actor's own word. A block of a range is a part of its operation.

@@ -12,11 +12,11 @@ ghost use Rattle.rz_operation_states.specs.Answers.{IsFetchGiven, IsKeepAsk, IsF
 ghost use Rattle.rz_operation_states.specs.Told.{write_answer, read_answer};
 ghost use Rattle.rz_operation_states.specs.Records.{HasHead};
 
-use crate::ask::{Ask, ExportAsk, Saying};
+use crate::ask::{Ask, Saying};
 use rz_client_model::WriterState;
 use rz_events::{
-    FetchAnswer, Head, KeepAnswer, Key, NodeAnswer, NodeAsk, Published, ReadMark, ReaderAnswer,
-    ReaderAsk, Reply, WriteEnd, WriterAnswer, WriterAsk,
+    CallRef, FetchAnswer, Head, KeepAnswer, Key, NodeAnswer, NodeAsk, Published, ReadMark,
+    ReaderAnswer, ReaderAsk, Reply, WriteEnd, WriterAnswer, WriterAsk,
 };
 use rz_reader::Reader;
 use rz_writer::Writer;
@@ -34,7 +34,7 @@ pub(crate) fn write_asked<'a>(
 {
     let key = state.key;
     match ask {
-        WriterAsk::Begin { .. } => Ask::Export(ExportAsk::Begin { key, text }),
+        WriterAsk::Begin { .. } => Ask::Export(CallRef::Begin { key, text }),
         WriterAsk::Keep {
             position,
             node,
@@ -52,7 +52,7 @@ pub(crate) fn write_asked<'a>(
                 base,
             }),
         },
-        WriterAsk::Publish { stamp, mask } => Ask::Export(ExportAsk::Publish {
+        WriterAsk::Publish { stamp, mask } => Ask::Export(CallRef::Publish {
             key,
             published: Published {
                 stamp,
@@ -77,7 +77,7 @@ pub(crate) fn read_asked(
     ensures { meaning_of result ≡ read_asks part key end ask }
 {
     match ask {
-        ReaderAsk::Look => Ask::Export(ExportAsk::Look { key }),
+        ReaderAsk::Look => Ask::Export(CallRef::Look { key }),
         ReaderAsk::Fetch {
             position,
             node,
@@ -90,7 +90,7 @@ pub(crate) fn read_asked(
                 stamp,
             },
         },
-        ReaderAsk::Recheck => Ask::Export(ExportAsk::Recheck { key }),
+        ReaderAsk::Recheck => Ask::Export(CallRef::Recheck { key }),
         ReaderAsk::End => match end {
             Some(mark) => Ask::Say(Saying::Got { key, part, mark }),
             None => Ask::Rest,

@@ -16,5 +16,5 @@ pub mod ranges;
 pub mod rebuilds;
 mod stage;
 
-pub use ask::{Ask, ExportAsk, Saying};
+pub use ask::{Ask, Saying};
 pub use stage::{Plan, Stage};

@@ -10,10 +10,10 @@ ghost use Rattle.rz_operation_states.specs.Answers.{IsReply, IsAnswer, ComeWith,
 ghost use Rattle.rz_operation_states.specs.Told.{rebuild_reply, rebuild_answer};
 ghost use Rattle.rz_operation_states.specs.Inside.{IsStage, IsRebuilding, IsRebuildStage, machine_of, work_of};
 
-use crate::ask::{Ask, ExportAsk, Saying};
+use crate::ask::{Ask, Saying};
 use crate::stage::Stage;
 use mj_angles::Layout;
-use rz_events::{Answer, Head, NodeAnswer, NodeAsk, RebuildAnswer, RebuildAsk, Reply};
+use rz_events::{Answer, CallRef, Head, NodeAnswer, NodeAsk, RebuildAnswer, RebuildAsk, Reply};
 use rz_rebuild::Rebuilder;
 
 /// What an operation asks that rebuilds a node.
@@ -25,12 +25,12 @@ fn rebuild_ask(layout: Layout, node: u16, ask: RebuildAsk) -> Ask<'static>
             node,
             ask: NodeAsk::Probe,
         },
-        RebuildAsk::Enroll { loss } => Ask::Export(ExportAsk::Enroll { node, loss }),
+        RebuildAsk::Enroll { loss } => Ask::Export(CallRef::Enroll { node, loss }),
         RebuildAsk::Replace { loss, fence } => Ask::Node {
             node,
             ask: NodeAsk::Replace { loss, fence },
         },
-        RebuildAsk::Next { after } => Ask::Export(ExportAsk::Next { node, after }),
+        RebuildAsk::Next { after } => Ask::Export(CallRef::Next { node, after }),
         RebuildAsk::Fetch {
             key,
             position,
@@ -66,7 +66,7 @@ fn rebuild_ask(layout: Layout, node: u16, ask: RebuildAsk) -> Ask<'static>
                 },
             },
         },
-        RebuildAsk::Recheck { key } => Ask::Export(ExportAsk::Recheck { key }),
+        RebuildAsk::Recheck { key } => Ask::Export(CallRef::Recheck { key }),
         RebuildAsk::Left { key, why } => Ask::Say(Saying::Left { key, why }),
         RebuildAsk::End => Ask::Rest,
     }

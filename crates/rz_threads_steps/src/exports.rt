@@ -1,6 +1,6 @@
 //! Calls of the export that an operation asks for.
 ghost use Rattle.std.specs.Prelude.{◌≡◌, ℕ, IfOk, OnOk, OnErr};
-ghost use Rattle.rz_operation.specs.Meaning as meaning;
+ghost use Rattle.rz_events.specs.Borrowed as borrowed;
 ghost use Rattle.rz_operation_model.specs.Ask.{ask_of, AskExport};
 ghost use Rattle.rz_core.specs.History.{of_actor};
 ghost use Rattle.rz_play.specs.Faults.{missed};
@@ -14,33 +14,33 @@ use crate::showing::show_open;
 use crate::store::Store;
 use rz_chronicle::Pass;
 use rz_disk::Disk;
-use rz_events::{Actor, Call, Event, Text};
-use rz_operation::{Ask, ExportAsk, Machine};
+use rz_events::{Actor, Call, CallRef, Event, Text};
+use rz_operation::{Ask, Machine};
 use rz_player::NoMemory;
 use rz_shared::Counting;
 use std::alloc::{AllocError, Global};
 use std::sync::Wait;
 
 /// A call with texts of its own.
-fn call_of(alloc: Global, ask: ExportAsk<'_>) -> Result<Call, AllocError>
-    ensures { IfOk result (λ c. c ≡ meaning.call_of ask.entry) }
+fn call_of(alloc: Global, ask: CallRef<'_>) -> Result<Call, AllocError>
+    ensures { IfOk result (λ c. c ≡ borrowed.call_of ask.entry) }
 {
     Ok(match ask {
-        ExportAsk::Tree(call) => Call::Tree(call.copy(alloc)?),
-        ExportAsk::Begin { key, text } => Call::Begin {
+        CallRef::Tree(call) => Call::Tree(call.copy(alloc)?),
+        CallRef::Begin { key, text } => Call::Begin {
             key,
             text: Text::from_bytes(alloc, text)?,
         },
-        ExportAsk::Publish { key, published } => Call::Publish {
+        CallRef::Publish { key, published } => Call::Publish {
             key,
             stamp: published.stamp,
             mask: published.mask,
             length: published.length,
         },
-        ExportAsk::Look { key } => Call::Look { key },
-        ExportAsk::Recheck { key } => Call::Recheck { key },
-        ExportAsk::Enroll { node, loss } => Call::Enroll { node, loss },
-        ExportAsk::Next { node, after } => Call::Next { node, after },
+        CallRef::Look { key } => Call::Look { key },
+        CallRef::Recheck { key } => Call::Recheck { key },
+        CallRef::Enroll { node, loss } => Call::Enroll { node, loss },
+        CallRef::Next { node, after } => Call::Next { node, after },
     })
 }
 

@@ -1,4 +1,4 @@
-use Rattle.rz_operation.specs.Meaning.{call_of}
+use Rattle.rz_events.specs.Borrowed.{call_of}
 use Rattle.rz_asks.proofs.Keeping.{keeps-asked, ends-unasked, ends-refused, ends-unnoted, on-err, at-err}
 use Rattle.rz_asks.proofs.replies.ask_export.Goals as goal
 

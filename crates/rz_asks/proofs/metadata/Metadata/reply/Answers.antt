@@ -1,7 +1,7 @@
 use Rattle.std.proofs.Common.{ℕ, List, IfOk, sym, ◌∙◌, ap, subst}
 use Rattle.rz_events.specs.declared.export.Call.{Call}
 use Rattle.rz_journal.specs.Seen.{calls_after}
-use Rattle.rz_operation.specs.Meaning.{call_of}
+use Rattle.rz_events.specs.Borrowed.{call_of}
 use Rattle.rz_asks.specs.declared.metadata.Metadata.{Metadata}
 use Rattle.rz_asks.specs.Stands.{export_in, IsKept, Stands}
 use Rattle.rz_asks.proofs.MetadataReplies.{volume-kept}
