@@ -32,8 +32,8 @@ use Rattle.rz_operation_model.specs.Rebuild.{position_in}
 use Rattle.rz_core.specs.History.{Facts, Begun}
 use Rattle.rz_core.specs.HeldRecords.{block_of, bins_at, head_at, record_at, record_on}
 use Rattle.rz_play_laws.specs.Own.{IsPlacing}
-use Rattle.rz_image_laws.specs.Records.{IsRecordOf}
-use Rattle.rz_image_laws.specs.Laws.{IsWrittenLaw, IsReadBack}
+use Rattle.rz_node_laws.specs.Records.{IsRecordOf}
+use Rattle.rz_node_laws.specs.Laws.{IsWrittenLaw, IsReadBack}
 use Rattle.rz_block_laws.specs.InHand.{IsWriteBlock, IsPairOf, IsReadInHand}
 
 -- ---- blocks

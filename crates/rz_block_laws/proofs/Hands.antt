@@ -33,8 +33,8 @@ use Rattle.rz_operation.specs.Machine.{Machine, HasBinsFor, AreBinsFor}
 use Rattle.rz_core.specs.History.{Facts, Begun, length_in, base_in}
 use Rattle.rz_core.specs.HeldRecords.{block_of, head_at}
 use Rattle.rz_play_laws.specs.Own.{IsOwn, IsWrite, IsSending, IsWriteStage, IsFilling}
-use Rattle.rz_image_laws.specs.Records.{HandsRecord, IsRecordOf}
-use Rattle.rz_image_laws.specs.Laws.{IsWrittenLaw}
+use Rattle.rz_node_laws.specs.Records.{HandsRecord, IsRecordOf}
+use Rattle.rz_node_laws.specs.Laws.{IsWrittenLaw}
 use Rattle.rz_block_laws.specs.InHand.{IsInHand, IsWriteBlock}
 use Rattle.rz_block_laws.specs.Laws.{IsHandingLaw}
 

@@ -6,3 +6,8 @@ mod Marks
 mod Takes
 mod Sent
 mod Turns
+mod Fresh
+mod Texts
+mod Sayings
+mod Starts
+mod Acts

@@ -40,7 +40,7 @@ use Rattle.rz_operation.specs.Answers.{Goes, IsAnswered, pairs_in, IsBlockIn}
 use Rattle.rz_operation.specs.Machine.{Machine}
 use Rattle.rz_core.specs.History.{Facts, IsPlace}
 use Rattle.rz_play_laws.specs.Own.{IsOwn, IsRead, IsPlacing, IsCopying}
-use Rattle.rz_image_laws.specs.Laws.{IsWrittenLaw, IsReadBack}
+use Rattle.rz_node_laws.specs.Laws.{IsWrittenLaw, IsReadBack}
 use Rattle.rz_block_laws.specs.InHand.{IsInHand, IsReadInHand, IsPairOf, IsWriteBlock}
 use Rattle.rz_block_laws.specs.Laws.{IsFetchedLaw}
 use Rattle.rz_block_laws.proofs.Hands.{asks-question, got-no-node, gave-no-node, lock-no-node}

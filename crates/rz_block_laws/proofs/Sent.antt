@@ -31,8 +31,8 @@ use Rattle.rz_operation.specs.Answers.{Goes}
 use Rattle.rz_operation.specs.Machine.{Machine}
 use Rattle.rz_core.specs.History.{Facts}
 use Rattle.rz_play_laws.specs.Own.{IsOwn, IsUnderWay, IsProper, IsOwnProper}
-use Rattle.rz_image_laws.specs.Images.{IsImaged}
-use Rattle.rz_image_laws.specs.Laws.{IsCallLaw, IsFetchLaw, IsReadBack}
+use Rattle.rz_node_laws.specs.Images.{IsImaged}
+use Rattle.rz_node_laws.specs.Laws.{IsCallLaw, IsFetchLaw, IsReadBack}
 use Rattle.rz_block_laws.specs.InHand.{IsInHand}
 use Rattle.rz_block_laws.specs.Laws.{IsTrueTo, IsHandingLaw, IsFetchedLaw, IsGoingLaw, IsNoFetch, IsMessage, IsAnswerTold, IsMessageLaw}
 

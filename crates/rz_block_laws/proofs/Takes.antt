@@ -18,7 +18,7 @@ use Rattle.rz_operation_model.specs.Ask.{Ask}
 use Rattle.rz_operation.specs.Answers.{IsAnswer, IsAnswerTo}
 use Rattle.rz_core.specs.History.{Facts}
 use Rattle.rz_play_laws.specs.Own.{IsOfActor}
-use Rattle.rz_image_laws.specs.Laws.{IsReadBack}
+use Rattle.rz_node_laws.specs.Laws.{IsReadBack}
 use Rattle.rz_block_laws.specs.Laws.{IsTakenLaw}
 use Rattle.rz_block_laws.proofs.Fetching.{of-record}
 

@@ -22,8 +22,8 @@ use Rattle.rz_operation.specs.Machine.{Machine}
 use Rattle.rz_core.specs.History.{Facts, facts}
 use Rattle.rz_core.specs.Longer.{IsPermanent}
 use Rattle.rz_play_laws.specs.Own.{GrowsTo, IsOwnProper}
-use Rattle.rz_image_laws.specs.Images.{IsImaged}
-use Rattle.rz_image_laws.specs.Laws.{IsFetchLaw, IsLongerLaw, IsReadBack}
+use Rattle.rz_node_laws.specs.Images.{IsImaged}
+use Rattle.rz_node_laws.specs.Laws.{IsFetchLaw, IsLongerLaw, IsReadBack}
 use Rattle.rz_block_laws.specs.Laws.{IsGoingLaw, IsGrowingLaw, IsMessage, IsMessageLaw, IsTakenLaw}
 use Rattle.rz_block_laws.specs.Turns.{IsTrueActor, IsLastingLaw, IsToldLaw, IsHeard, IsHeardLaw}
 use Rattle.rz_block_laws.proofs.Sent.{at-node}

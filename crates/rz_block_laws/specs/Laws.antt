@@ -29,9 +29,9 @@ use Rattle.rz_operation.specs.Answers.{Goes, IsAnswer, IsAnswered}
 use Rattle.rz_operation.specs.Machine.{Machine, HasBinsFor, AreBinsFor}
 use Rattle.rz_core.specs.History.{Facts, IsPlace}
 use Rattle.rz_play_laws.specs.Own.{GrowsTo, IsOfActor, IsOwn, IsUnderWay}
-use Rattle.rz_image_laws.specs.Images.{IsImaged}
-use Rattle.rz_image_laws.specs.Records.{HandsRecord}
-use Rattle.rz_image_laws.specs.Laws.{IsReadBack}
+use Rattle.rz_node_laws.specs.Images.{IsImaged}
+use Rattle.rz_node_laws.specs.Records.{HandsRecord}
+use Rattle.rz_node_laws.specs.Laws.{IsReadBack}
 use Rattle.rz_block_laws.specs.InHand.{IsInHand}
 
 -- a machine of the volume's layout, of which its actor's own events say how far it has come, with what is true in hand

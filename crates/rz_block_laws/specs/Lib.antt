@@ -1,3 +1,5 @@
 pub mod InHand
 pub mod Laws
 pub mod Turns
+pub mod Acting
+pub mod ActingLaws

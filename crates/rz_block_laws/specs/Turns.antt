@@ -15,7 +15,7 @@ use Rattle.rz_operation.specs.Answers.{Goes, IsAnswerTo}
 use Rattle.rz_operation.specs.Machine.{Machine}
 use Rattle.rz_core.specs.History.{Facts, facts}
 use Rattle.rz_play_laws.specs.Own.{IsUnderWay}
-use Rattle.rz_image_laws.specs.Images.{IsImaged}
+use Rattle.rz_node_laws.specs.Images.{IsImaged}
 use Rattle.rz_block_laws.specs.InHand.{IsInHand}
 use Rattle.rz_block_laws.specs.Laws.{IsTrueTo, IsNoFetch, IsMessage, IsAnswerTold}
 

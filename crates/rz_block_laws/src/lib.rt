@@ -9,6 +9,9 @@
 //! to a node, with the images of the node's disk. `lasting`, `told` and `heard` say the same of an actor
 //! and a log that grows.
 //!
+//! [`acting`] has what follows for an actor that works beside others: its operation is right from its first
+//! turn on, what it asks is proper, and the text that it tells is that of the write.
+//!
 //! The functions have no code. What each one says is its clause, which is proved of every operation.
 #![tactic(auto)]
 
@@ -17,20 +20,22 @@ ghost use Rattle.rz_events.specs.Volume.{Volume};
 ghost use Rattle.rz_block_laws.specs.Laws.{IsHandingLaw, IsFetchedLaw, IsGoingLaw, IsGrowingLaw, IsBeginningLaw, IsFittingLaw, IsTakenLaw, IsMessageLaw};
 ghost use Rattle.rz_block_laws.specs.Turns.{IsLastingLaw, IsToldLaw, IsHeardLaw};
 
+pub mod acting;
+
 use rz_disk::Disk;
 
 /// What an operation hands to a node is the record of its write.
 pub fn handing()
     ensures { (v : Volume) → IsHandingLaw v }
 {
-    rz_image_laws::recorded();
+    rz_node_laws::recorded();
 }
 
 /// A record that a node gave is that of the write which is read, and the records fit a block.
 pub fn fetched()
     ensures { (v : Volume) → IsFetchedLaw v }
 {
-    rz_image_laws::recorded();
+    rz_node_laws::recorded();
 }
 
 /// Whatever else an operation is told, what it has in hand stays true.
@@ -63,8 +68,8 @@ pub fn taken()
 pub fn message<D: Disk>()
     ensures { IsTrue D.tells → (v : Volume) → IsMessageLaw D.text D.image v }
 {
-    rz_image_laws::called::<D>();
-    rz_image_laws::fetched::<D>();
+    rz_node_laws::called::<D>();
+    rz_node_laws::fetched::<D>();
     rz_play_laws::own_proper();
     handing();
     fetched();
@@ -95,8 +100,8 @@ pub fn heard<D: Disk>()
     ensures { IsTrue D.tells → (v : Volume) → IsHeardLaw D.text D.image v }
 {
     rz_core::permanent();
-    rz_image_laws::fetched::<D>();
-    rz_image_laws::longer::<D>();
+    rz_node_laws::fetched::<D>();
+    rz_node_laws::longer::<D>();
     rz_play_laws::own_proper();
     taken();
     growing();

@@ -29,6 +29,11 @@ pub record Begun : Type 0 where
   pub base : ℕ
   pub text : List ℕ
 
+-- the text of a write that began, or nothing
+abbrev pub text_in : Option Begun → List ℕ
+text_in None = []
+text_in (Some b) = b.text
+
 -- what an event says of the write with stamp s
 abbrev pub begun_by : ℕ → Event → Option Begun
 begun_by s (e.Begin by key stamp base text) =

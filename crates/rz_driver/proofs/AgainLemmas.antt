@@ -34,12 +34,12 @@ use Rattle.rz_journal.specs.JournalText.{after_all}
 use Rattle.rz_journal.specs.Opening.{IsRefused}
 use Rattle.rz_journal.specs.declared.rebuilding.JournalFault.{JournalFault}
 use Rattle.rz_journal.specs.declared.rebuilding.JournalFault.TheVariants as fault
-use Rattle.rz_asks.specs.declared.metadata.Metadata.{Metadata}
-use Rattle.rz_asks.specs.declared.metadata.Metadata.TheVariants.{InMemory, Journaled}
-use Rattle.rz_asks.specs.Enrolled.{loss_of}
-use Rattle.rz_asks.specs.Reopened.{AllTextsOf, IsAsItCame, MakesExport}
-use Rattle.rz_asks.specs.Stands.{disk_of, export_in, is_journaled, Stands}
-use Rattle.rz_image_laws.specs.Images.{AreImages, IsImaged, geometry_in}
+use Rattle.rz_metadata.specs.declared.metadata.Metadata.{Metadata}
+use Rattle.rz_metadata.specs.declared.metadata.Metadata.TheVariants.{InMemory, Journaled}
+use Rattle.rz_metadata.specs.Enrolled.{loss_of}
+use Rattle.rz_metadata.specs.Reopened.{AllTextsOf, IsAsItCame, MakesExport}
+use Rattle.rz_metadata.specs.Stands.{disk_of, export_in, is_journaled, Stands}
+use Rattle.rz_node_laws.specs.Images.{AreImages, IsImaged, geometry_in}
 use Rattle.rz_nodes.specs.declared.formatting.Station.{Station}
 use Rattle.rz_nodes.specs.Formatted.{geometry_of}
 use Rattle.rz_nodes.proofs.Rowwise.{get-behind}

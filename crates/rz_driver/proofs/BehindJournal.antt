@@ -15,7 +15,7 @@ use Rattle.rz_core.specs.History.{facts, of_word}
 use Rattle.rz_events.specs.declared.events.Word.TheVariants.{Node}
 use Rattle.rz_export_model.specs.Export.{Export, new_export}
 use Rattle.rz_node.specs.View.{NodeView}
-use Rattle.rz_asks.specs.Stands.{export_in, Stands}
+use Rattle.rz_metadata.specs.Stands.{export_in, Stands}
 use Rattle.rz_play.specs.World.{World, new_world}
 use Rattle.rz_nodes.specs.declared.fault.DriverFault.{DriverFault}
 use Rattle.rz_nodes.specs.declared.fault.DriverFault.TheVariants as driver

@@ -5,10 +5,10 @@ use Rattle.std.proofs.lemmas.List.{length-append}
 use Rattle.rz_disk.specs.Meter.{faults}
 use Rattle.rz_disk.specs.declared.disk.Disk.{Ghosts}
 use Rattle.rz_events.specs.declared.events.Event.{Event}
-use Rattle.rz_image_laws.specs.Laws.{IsLogLaw}
+use Rattle.rz_node_laws.specs.Laws.{IsLogLaw}
 use Rattle.rz_nodes.specs.Formatted.{disks_of}
-use Rattle.rz_asks.specs.declared.journaled.Refusal.{Refusal}
-use Rattle.rz_asks.specs.Stands.{disk_of, is_journaled, refusal_of}
+use Rattle.rz_metadata.specs.declared.journaled.Refusal.{Refusal}
+use Rattle.rz_metadata.specs.Stands.{disk_of, is_journaled, refusal_of}
 use Rattle.rz_driver_nodes.specs.Images.{AreDisksImaged}
 use Rattle.rz_driver_nodes.proofs.PictureLemmas.{disks-imaged}
 use Rattle.rz_player.specs.Behind.{Before}

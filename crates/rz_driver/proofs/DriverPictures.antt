@@ -29,9 +29,9 @@ use Rattle.rz_play_laws.specs.Fine.{IsFine, IsFineIfShort, IsSeated, IsTelling}
 use Rattle.rz_play_laws.proofs.Frames.{same_actor-true}
 use Rattle.rz_play_laws.proofs.Turning.{in-runs}
 use Rattle.rz_restart_laws.specs.Calls.{HasLength}
-use Rattle.rz_asks.specs.Journals.{call_asked}
-use Rattle.rz_asks.specs.Logged.{Logged}
-use Rattle.rz_asks.specs.Parts.{IsUnbegun}
+use Rattle.rz_driver_asks.specs.Asked.{call_asked}
+use Rattle.rz_log.specs.Logged.{Logged}
+use Rattle.rz_driver_asks.specs.Parts.{IsUnbegun}
 use Rattle.rz_player.specs.Behind.{Before, behind}
 use Rattle.rz_block_laws.specs.Turns.{IsLastingLaw, HasInHand}
 use Rattle.rz_driver.specs.declared.driver.Driver.{Driver}

@@ -15,7 +15,7 @@ use Rattle.rz_events.specs.Events.{word_of, same_word}
 use Rattle.rz_export_model.specs.ExportEvents.{export_event}
 use Rattle.rz_core.specs.History.{Begun, facts, wrote, begun_by, first_some, of_word}
 use Rattle.rz_core.proofs.NodeSteps.{the_some}
-use Rattle.rz_asks.specs.Journals.{HasBytes}
+use Rattle.rz_metadata.specs.Journals.{HasBytes}
 use Rattle.rz_driver.specs.Pictures.{AreBytes}
 
 -- ---- behind an earlier log

@@ -7,7 +7,7 @@ use Rattle.rz_events.specs.declared.keys.Key.{Key}
 use Rattle.rz_events.specs.declared.keys.Actor.TheVariants.{Admin}
 use Rattle.rz_events.specs.declared.nodes.FetchAnswer.{FetchAnswer}
 use Rattle.rz_events.specs.declared.events.Event.{Event}
-use Rattle.rz_asks.specs.Stands.{export_in}
+use Rattle.rz_metadata.specs.Stands.{export_in}
 use Rattle.rz_node_model.specs.NodeEvents.{fetch_event}
 use Rattle.rz_scrub_report.specs.Stores.{GoesOn, IsFetched}
 use Rattle.rz_driver.specs.declared.driver.Driver.{Driver}

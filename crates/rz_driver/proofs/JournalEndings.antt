@@ -8,13 +8,13 @@ use Rattle.rz_events.specs.declared.events.Event.{Event}
 use Rattle.rz_export_model.specs.Export.{Export, new_export}
 use Rattle.rz_journal.specs.JournalText.{after_all}
 use Rattle.rz_journal.specs.Kept.{AllStandFor, AllStandForEither}
-use Rattle.rz_asks.specs.declared.journaled.Journaled.{Journaled as Behind}
-use Rattle.rz_asks.specs.declared.journaled.Refusal.{Refusal}
-use Rattle.rz_asks.specs.declared.journaled.Refusal.TheVariants.{Full, Failed}
-use Rattle.rz_asks.specs.declared.metadata.Metadata.{Metadata}
-use Rattle.rz_asks.specs.declared.metadata.Metadata.TheVariants.{InMemory, Journaled}
-use Rattle.rz_asks.specs.Stands.{export_in, disk_of, refusal_of, IsKept, IsLeft, IsLeftBy, OverfillsHalf}
-use Rattle.rz_asks.specs.Journals.{EndsWith}
+use Rattle.rz_metadata.specs.declared.journaled.Journaled.{Journaled as Behind}
+use Rattle.rz_metadata.specs.declared.journaled.Refusal.{Refusal}
+use Rattle.rz_metadata.specs.declared.journaled.Refusal.TheVariants.{Full, Failed}
+use Rattle.rz_metadata.specs.declared.metadata.Metadata.{Metadata}
+use Rattle.rz_metadata.specs.declared.metadata.Metadata.TheVariants.{InMemory, Journaled}
+use Rattle.rz_metadata.specs.Stands.{export_in, disk_of, refusal_of, IsKept, IsLeft, IsLeftBy, OverfillsHalf}
+use Rattle.rz_metadata.specs.Journals.{EndsWith}
 use Rattle.rz_driver.specs.Endings.{AreCallsOf, StandFor, StandForEither, StandsForLog, EndsFor, EndsAsRefused}
 use Rattle.rz_driver.specs.Journals.{KeepsLog, EndsLog}
 use Rattle.rz_driver.proofs.KeptCalls.{exactly}

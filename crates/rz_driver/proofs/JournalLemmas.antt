@@ -25,10 +25,11 @@ use Rattle.rz_play.specs.Lines.{noted}
 use Rattle.rz_play_laws.proofs.Turning.{in-runs}
 use Rattle.rz_restart_laws.specs.Calls.{HasLength}
 use Rattle.rz_restart_laws.specs.Laws.{IsCallTold, IsNoCall}
-use Rattle.rz_asks.specs.Journals.{call_asked, KeepsCall, EndsOn}
-use Rattle.rz_asks.specs.Parts.{IsNoted}
-use Rattle.rz_asks.specs.declared.metadata.Metadata.{Metadata}
-use Rattle.rz_asks.specs.Stands.{export_in, Stands}
+use Rattle.rz_metadata.specs.Journals.{KeepsCall, EndsOn}
+use Rattle.rz_driver_asks.specs.Asked.{call_asked}
+use Rattle.rz_driver_asks.specs.Parts.{IsNoted}
+use Rattle.rz_metadata.specs.declared.metadata.Metadata.{Metadata}
+use Rattle.rz_metadata.specs.Stands.{export_in, Stands}
 use Rattle.rz_nodes.specs.declared.formatting.Station.{Station}
 use Rattle.rz_driver_nodes.specs.Administration.{IsStarted}
 use Rattle.rz_driver_nodes.proofs.EventWords.{node-word}

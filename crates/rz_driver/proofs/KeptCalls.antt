@@ -20,7 +20,7 @@ use Rattle.rz_operation_model.specs.Work.{Work, Over}
 use Rattle.rz_play_laws.specs.Own.{IsOwn, IsUnderWay, IsProper, IsOwnProper}
 use Rattle.rz_restart_laws.specs.Calls.{changing_calls, AreTold, HasLength}
 use Rattle.rz_restart_laws.specs.Laws.{IsCallTold, IsNoCall}
-use Rattle.rz_asks.specs.Journals.{call_asked}
+use Rattle.rz_driver_asks.specs.Asked.{call_asked}
 use Rattle.rz_driver.specs.Endings.{AreCallsOf}
 use Rattle.rz_driver_actors.proofs.ExportEvents.{word-grows}
 

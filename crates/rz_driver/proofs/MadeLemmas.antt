@@ -16,14 +16,14 @@ use Rattle.rz_events.specs.declared.keys.Actor.{Actor}
 use Rattle.rz_events.specs.declared.keys.Actor.TheVariants.{Client, Rebuilder}
 use Rattle.rz_core.specs.NodeRows.{cells_among, cells_of}
 use Rattle.rz_export_model.specs.Export.{new_export}
-use Rattle.rz_asks.specs.Stands.{export_in}
+use Rattle.rz_metadata.specs.Stands.{export_in}
 use Rattle.rz_node_model.specs.States.{NodeState, fresh}
 use Rattle.rz_play.specs.World.{Seat as APlayer, empty_seat, new_world}
 use Rattle.rz_driver.specs.declared.driver.Driver.{Driver}
 use Rattle.rz_driver_actors.specs.declared.seat.Seat.{Seat}
 use Rattle.rz_driver_actors.specs.declared.shared.Shared.{Shared}
 use Rattle.rz_nodes.specs.declared.formatting.Station.{Station}
-use Rattle.rz_asks.specs.Locking.{lock_of}
+use Rattle.rz_driver_asks.specs.Locking.{lock_of}
 use Rattle.rz_nodes.specs.Formatted.{IsFormatted, AreFormatted}
 use Rattle.rz_driver_actors.specs.Seats.{work_in, seat_of, HasLayout, IsSeat, IsEmptySeat}
 use Rattle.rz_driver_nodes.specs.Stations.{state_in, numbers_of, IsStation}

@@ -22,8 +22,8 @@ use Rattle.rz_core.specs.NodeRows.{cells_of}
 use Rattle.rz_operation.specs.Machine.{Machine}
 use Rattle.rz_play.specs.World.{World, new_world}
 use Rattle.rz_play_laws.specs.Fine.{IsFine}
-use Rattle.rz_image_laws.specs.Images.{IsImaged, geometry_in}
-use Rattle.rz_image_laws.specs.Laws.{IsFreshLaw}
+use Rattle.rz_node_laws.specs.Images.{IsImaged, geometry_in}
+use Rattle.rz_node_laws.specs.Laws.{IsFreshLaw}
 use Rattle.rz_driver_actors.specs.declared.seat.Seat.{Seat}
 use Rattle.rz_nodes.specs.declared.formatting.Station.{Station}
 use Rattle.rz_nodes.specs.Formatted.{AreFormatted, IsFormatted, geometry_of}

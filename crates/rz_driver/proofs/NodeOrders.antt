@@ -18,7 +18,7 @@ use Rattle.rz_events.specs.declared.events.Event.{Event}
 use Rattle.rz_events.specs.declared.events.Event.TheVariants as event
 use Rattle.rz_core.specs.NodeRows.{cells_of}
 use Rattle.rz_locks.specs.Held.{Held}
-use Rattle.rz_asks.specs.Stands.{export_in}
+use Rattle.rz_metadata.specs.Stands.{export_in}
 use Rattle.rz_node_model.specs.States.{NodeState}
 use Rattle.rz_node_model.specs.Answers.{IsNodeAnswer}
 use Rattle.rz_node_model.specs.Afterwards.{after_answer}

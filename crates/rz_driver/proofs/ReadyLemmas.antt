@@ -21,7 +21,7 @@ use Rattle.rz_driver_actors.specs.declared.seat.Seat.{Seat}
 use Rattle.rz_driver_actors.specs.declared.shared.Shared.{Shared}
 use Rattle.rz_nodes.specs.declared.formatting.Station.{Station}
 use Rattle.rz_driver_actors.specs.Acts.{IsAct, Rests, Exports, Opens, Sends, Says, IsSameActor, IsFate, Through, ReplyLost, RequestLost, IsReleased, locks_after}
-use Rattle.rz_asks.specs.Locking.{lock_of, lock_if, Grants}
+use Rattle.rz_driver_asks.specs.Locking.{lock_of, lock_if, Grants}
 use Rattle.rz_driver_actors.specs.Seats.{seat_of, HasLayout, IsSeat}
 use Rattle.rz_driver_nodes.specs.Stations.{numbers_of, IsStation}
 use Rattle.rz_driver.specs.Worlds.{place_of, seat_in, AreLocks, HaveNoLocks}

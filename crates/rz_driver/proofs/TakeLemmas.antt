@@ -20,8 +20,8 @@ use Rattle.rz_driver_actors.specs.declared.seat.Seat.{Seat}
 use Rattle.rz_driver_actors.specs.declared.shared.Shared.{Shared}
 use Rattle.rz_nodes.specs.declared.formatting.Station.{Station}
 use Rattle.rz_driver_actors.specs.Acts.{IsAct, HasLayouts}
-use Rattle.rz_asks.specs.Locking.{lock_of}
-use Rattle.rz_asks.specs.Logged.{Logged}
+use Rattle.rz_driver_asks.specs.Locking.{lock_of}
+use Rattle.rz_log.specs.Logged.{Logged}
 use Rattle.rz_driver_actors.specs.Seats.{seat_of, IsSeat}
 use Rattle.rz_driver_nodes.specs.Stations.{IsStation}
 use Rattle.rz_driver.specs.Worlds.{place_of, seat_in, world, world_of, AreLocks, HaveNoLocks, IsDriver}

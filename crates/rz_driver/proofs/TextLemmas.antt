@@ -30,13 +30,13 @@ use Rattle.rz_operation_model.specs.Rebuild.{Probing, Enrolling, Replacing, List
 use Rattle.rz_operation_model.specs.Ask.{Say, Saying, SayGot, SayGave, SayLeft, SayDone, ask_of, is_part, gave, read_asks, write_asks, rebuild_asks, lock_asks}
 use Rattle.rz_operation.specs.Machine.{text_found}
 use Rattle.rz_operation.specs.Machine as machine
-use Rattle.rz_core.specs.History.{Facts, Begun, facts, wrote, begun_by, first_some}
+use Rattle.rz_core.specs.History.{Facts, Begun, facts, wrote, begun_by, first_some, text_in}
 use Rattle.rz_core.specs.HeldRecords.{block_of}
 use Rattle.rz_core.specs.Legal.{IsLegalInRuns}
 use Rattle.rz_core.proofs.Extends.{wrote-more}
 use Rattle.rz_core.proofs.Stamps.{wrote-cases, begun_by-is}
-use Rattle.rz_play.specs.Turns.{found_text, text_in, text_said}
-use Rattle.rz_asks.specs.Parts.{IsUnbegun}
+use Rattle.rz_play.specs.Turns.{found_text, text_said}
+use Rattle.rz_driver_asks.specs.Parts.{IsUnbegun}
 use Rattle.rz_block_laws.specs.InHand.{IsInHand, IsReadInHand, IsWriteBlock}
 use Rattle.rz_driver.specs.Pictures.{AreBytes, KnowsLength, KnowsLengths}
 

@@ -25,7 +25,7 @@ use Rattle.rz_locks.specs.declared.conflict.LockKind.{LockKind}
 use Rattle.rz_locks.specs.declared.conflict.Range.{Range}
 use Rattle.rz_locks.specs.Conflicts.{Conflict}
 use Rattle.rz_locks.specs.Held.{Held, Blocks}
-use Rattle.rz_asks.specs.Stands.{export_in}
+use Rattle.rz_metadata.specs.Stands.{export_in}
 use Rattle.rz_operation.specs.Answers.{Goes}
 use Rattle.rz_operation.specs.Machine.{Machine, text_of}
 use Rattle.rz_operation_model.specs.Ask.{Ask, AskExport, AskNode, AskLock, Say, Rest, Saying, SayGot, SayGave, SayLeft, SayDone, ask_of}
@@ -37,10 +37,10 @@ use Rattle.rz_driver_actors.specs.declared.seat.Seat.{Seat}
 use Rattle.rz_driver_actors.specs.declared.shared.Shared.{Shared}
 use Rattle.rz_nodes.specs.declared.formatting.Station.{Station}
 use Rattle.rz_driver_actors.specs.Acts.{IsAct, Rests, Exports, Opens, Sends, Says, IsSameActor, IsMessage, IsFate, Through, ReplyLost, RequestLost, IsReleased, lock_left}
-use Rattle.rz_asks.specs.Locking.{lock_of, lock_if, open_reply, Grants, IsOpenPart}
+use Rattle.rz_driver_asks.specs.Locking.{lock_of, lock_if, open_reply, Grants, IsOpenPart}
 use Rattle.rz_driver_nodes.specs.Nodes.{IsServed, IsAsked}
 use Rattle.rz_operation_model.specs.Turns.{said_event}
-use Rattle.rz_asks.specs.Parts.{IsTold, IsExportPart, IsSayPart, IsUnbegun, is_done}
+use Rattle.rz_driver_asks.specs.Parts.{IsTold, IsExportPart, IsSayPart, IsUnbegun, is_done}
 use Rattle.rz_player.specs.Behind.{behind}
 use Rattle.rz_driver_actors.specs.Seats.{work_in, seat_of, HasLayout}
 use Rattle.rz_driver_nodes.specs.Stations.{state_in, IsStation}

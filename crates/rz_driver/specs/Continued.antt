@@ -13,11 +13,11 @@ use Rattle.rz_export_model.specs.Export.{Export}
 use Rattle.rz_journal.specs.Opening.{IsRefused}
 use Rattle.rz_journal.specs.declared.rebuilding.JournalFault.{JournalFault}
 use Rattle.rz_journal.specs.declared.rebuilding.JournalFault.TheVariants as fault
-use Rattle.rz_asks.specs.declared.metadata.Metadata.{Metadata}
-use Rattle.rz_asks.specs.Enrolled.{loss_of}
-use Rattle.rz_asks.specs.Reopened.{MakesExport, number_of}
-use Rattle.rz_asks.specs.Stands.{disk_of, export_in, refusal_of}
-use Rattle.rz_asks.specs.declared.journaled.Refusal.TheVariants.{Full}
+use Rattle.rz_metadata.specs.declared.metadata.Metadata.{Metadata}
+use Rattle.rz_metadata.specs.Enrolled.{loss_of}
+use Rattle.rz_metadata.specs.Reopened.{MakesExport, number_of}
+use Rattle.rz_metadata.specs.Stands.{disk_of, export_in, refusal_of}
+use Rattle.rz_metadata.specs.declared.journaled.Refusal.TheVariants.{Full}
 use Rattle.rz_nodes.specs.declared.refusal.OpenRefusal.{OpenRefusal}
 use Rattle.rz_nodes.specs.declared.refusal.OpenRefusal.TheVariants as refusal
 use Rattle.rz_nodes.specs.Opened.{AreKept, AreOpened, IsCause}

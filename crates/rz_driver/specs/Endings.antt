@@ -8,9 +8,9 @@ use Rattle.rz_events.specs.declared.events.Word.TheVariants.{Export}
 use Rattle.rz_core.specs.History.{of_word}
 use Rattle.rz_export_model.specs.Export.{new_export}
 use Rattle.rz_journal.specs.JournalText.{IsTextOf, after_all}
-use Rattle.rz_asks.specs.declared.journaled.Refusal.{Refusal}
-use Rattle.rz_asks.specs.declared.journaled.Refusal.TheVariants.{Full, Failed}
-use Rattle.rz_asks.specs.Stands.{OverfillsHalf}
+use Rattle.rz_metadata.specs.declared.journaled.Refusal.{Refusal}
+use Rattle.rz_metadata.specs.declared.journaled.Refusal.TheVariants.{Full, Failed}
+use Rattle.rz_metadata.specs.Stands.{OverfillsHalf}
 use Rattle.rz_player.specs.declared.lines.PlayEnd.{PlayEnd}
 use Rattle.rz_player.specs.declared.lines.PlayEnd.TheVariants as end
 use Rattle.rz_restart_laws.specs.Calls.{changing_calls, AreTold}

@@ -4,7 +4,7 @@ use Rattle.rz_disk.specs.Meter.{Meter, Rises, faults}
 use Rattle.rz_disk.specs.declared.disk.Disk.{Ghosts}
 use Rattle.rz_events.specs.Volume.{Volume, nodes_of}
 use Rattle.rz_export_model.specs.Export.{new_export}
-use Rattle.rz_asks.specs.Stands.{export_in, is_journaled, Stands}
+use Rattle.rz_metadata.specs.Stands.{export_in, is_journaled, Stands}
 use Rattle.rz_nodes.specs.Formatted.{AreBack}
 use Rattle.rz_nodes.specs.declared.fault.DriverFault.{DriverFault}
 use Rattle.rz_nodes.specs.declared.fault.DriverFault.TheVariants as driver

@@ -7,9 +7,9 @@ use Rattle.rz_events.specs.declared.export.Call.{Call}
 use Rattle.rz_events.specs.declared.events.Event.{Event}
 use Rattle.rz_core.specs.History.{facts}
 use Rattle.rz_player.specs.Behind.{Before}
-use Rattle.rz_asks.specs.declared.metadata.Metadata.{Metadata}
-use Rattle.rz_asks.specs.Stands.{export_in, Stands}
-use Rattle.rz_asks.specs.Journals.{EndsWith}
+use Rattle.rz_metadata.specs.declared.metadata.Metadata.{Metadata}
+use Rattle.rz_metadata.specs.Stands.{export_in, Stands}
+use Rattle.rz_metadata.specs.Journals.{EndsWith}
 use Rattle.rz_driver.specs.declared.driver.Driver.{Driver}
 use Rattle.rz_driver.specs.Endings.{AreCallsOf}
 use Rattle.rz_driver.specs.Pictures.{AreBytes}

@@ -12,7 +12,7 @@ use Rattle.rz_events.specs.declared.keys.Actor.{Actor}
 use Rattle.rz_events.specs.declared.keys.Actor.TheVariants.{Client, Rebuilder, Admin}
 use Rattle.rz_locks.specs.Held.{Held}
 use Rattle.rz_player.specs.Behind.{Before}
-use Rattle.rz_asks.specs.Stands.{export_in}
+use Rattle.rz_metadata.specs.Stands.{export_in}
 use Rattle.rz_play.specs.World.{World, Seat as APlayer, empty_seat}
 use Rattle.rz_driver_actors.specs.declared.seat.Seat.{Seat}
 use Rattle.rz_driver_actors.specs.declared.shared.Shared.{Shared}

@@ -4,7 +4,7 @@ ghost use Rattle.mj_angles.specs.Layout.{max_bins_of};
 ghost use Rattle.rz_events.specs.declared.keys.Actor.TheVariants.{Admin};
 ghost use Rattle.rz_events.specs.declared.events.Event.{Event};
 ghost use Rattle.rz_export_model.specs.Export.{published_after};
-ghost use Rattle.rz_asks.specs.Stands.{export_in};
+ghost use Rattle.rz_metadata.specs.Stands.{export_in};
 ghost use Rattle.rz_node.specs.Spends.{fetch_used};
 ghost use Rattle.rz_node_model.specs.NodeEvents.{fetch_event};
 ghost use Rattle.rz_scrub_report.specs.Stores.{IsRead};

@@ -4,7 +4,7 @@ ghost use Rattle.std.specs.Vec.{vec_len, vec_capacity};
 ghost use Rattle.rz_disk.specs.Meter.{faults};
 ghost use Rattle.rz_events.specs.declared.events.Event.{Event};
 ghost use Rattle.rz_player.specs.Behind.{Before};
-ghost use Rattle.rz_asks.specs.Stands.{disk_of, is_journaled, refusal_of};
+ghost use Rattle.rz_metadata.specs.Stands.{disk_of, is_journaled, refusal_of};
 ghost use Rattle.rz_driver.specs.Fetches.{Metered};
 ghost use Rattle.rz_driver_nodes.specs.Meters.{AreDisksCounted};
 ghost use Rattle.rz_driver.specs.OnlyAsked.{IsLeftSince};
@@ -16,10 +16,10 @@ ghost use Rattle.rz_driver.specs.Journals.{journal_place};
 ghost use Rattle.rz_driver.specs.Worlds.{numbers_in, is_exact, Holds, Leaves};
 
 use crate::driver::Driver;
-use rz_asks::Refusal;
 use rz_disk::{Disk, Fused};
 use rz_driver_actors::Shared;
 use rz_events::Event;
+use rz_metadata::Refusal;
 use rz_nodes::{Station, hand_back};
 
 impl<D: Disk> Driver<D> {
@@ -43,7 +43,7 @@ impl<D: Disk> Driver<D> {
         ensures asked { (h : List Event) (first : ℕ → ℕ) → Metered self h first → AreDisksCounted D.meter first 0 (numbers_in self) result.1.items h }
         ensures since { (b : Before) → IsLeftSince self b → IsTrue D.tells → AreDisksImaged D.image self.volume (numbers_in self) result.1.items (self.shared.log.events ++ b.log) }
     {
-        rz_image_laws::logged::<D>();
+        rz_node_laws::logged::<D>();
         self.close_with(None)
     }
 
@@ -93,7 +93,7 @@ impl<D: Disk> Driver<D> {
         // the same record.
         ensures left { (b : Before) → EndsWhole self b → is_journaled self.shared.export ≡ true → IsTrue D.tells → AreLeft D.image self.volume (self.shared.log.events ++ b.log) result.1.items }
     {
-        rz_image_laws::logged::<D>();
+        rz_node_laws::logged::<D>();
         let Driver {
             volume,
             shared,

@@ -3,17 +3,17 @@ ghost use Rattle.std.specs.Prelude.{◌≡◌, ◌+◌, ◌≤◌, ◌++◌, ◌
 ghost use Rattle.std.specs.Vec.{vec_len, vec_capacity};
 ghost use Rattle.rz_events.specs.Volume.{nodes_of};
 ghost use Rattle.rz_nodes.specs.Formatted.{AreFormatted, IsCause, disks_of, fault_at};
-ghost use Rattle.rz_asks.specs.Stands.{is_journaled};
+ghost use Rattle.rz_metadata.specs.Stands.{is_journaled};
 ghost use Rattle.rz_play.specs.World.{new_world};
 ghost use Rattle.rz_driver_nodes.specs.Meters.{faults_at};
 ghost use Rattle.rz_driver.specs.Formatted.{AreBackWithJournal, IsBehindJournal, IsJournalRefused};
 ghost use Rattle.rz_driver.specs.Worlds.{anew, world_of, is_exact, IsDriver, Holds};
 
 use crate::driver::Driver;
-use rz_asks::Metadata;
 use rz_cells::FormatFault;
 use rz_config::Volume;
 use rz_disk::Disk;
+use rz_metadata::Metadata;
 use rz_nodes::DriverFault;
 use std::alloc::Global;
 use std::mem::replace;

@@ -1,7 +1,7 @@
 //! A new driver: each disk is formatted, and nothing is played.
 ghost use Rattle.std.specs.Prelude.{◌≡◌, true, false, IfOk, IfErr, length};
 ghost use Rattle.rz_events.specs.Volume.{nodes_of};
-ghost use Rattle.rz_asks.specs.Stands.{is_journaled};
+ghost use Rattle.rz_metadata.specs.Stands.{is_journaled};
 ghost use Rattle.rz_play.specs.World.{new_world};
 ghost use Rattle.rz_nodes.specs.Formatted.{AreBack, AreFormatted, IsCause};
 ghost use Rattle.rz_driver_nodes.specs.Meters.{faults_at};
@@ -9,11 +9,11 @@ ghost use Rattle.rz_driver.specs.Worlds.{anew, world_of, is_exact, IsDriver, Hol
 
 use crate::driver::Driver;
 use crate::parts::{new_export, new_parts};
-use rz_asks::Log;
 use rz_config::Volume;
 use rz_disk::Disk;
 use rz_driver_actors::Shared;
 use rz_locks::Locks;
+use rz_log::Log;
 use rz_nodes::{DriverFault, format_all};
 use std::alloc::Global;
 
@@ -36,7 +36,7 @@ impl<D: Disk> Driver<D> {
         ensures back { IfErr result (λ r. AreBack D.tells D.meter D.image volume.now.layout (nodes_of volume.now.clusters) disks.items r.0.items) }
         ensures cause { IfErr result (λ r. IsCause D.meter disks.items r.0.items r.1) }
     {
-        rz_image_laws::fresh::<D>();
+        rz_node_laws::fresh::<D>();
         let Ok(parts) = new_parts::<D>(alloc, volume) else {
             return Err((disks, DriverFault::NoMemory));
         };

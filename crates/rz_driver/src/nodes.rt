@@ -8,7 +8,7 @@ ghost use Rattle.rz_play.specs.Lines.{IsAdminCall};
 ghost use Rattle.rz_script.specs.declared.line.Line.TheVariants as line;
 ghost use Rattle.rz_player.specs.Ends.{Carries};
 ghost use Rattle.rz_play.specs.Free.{PlaysLineOver};
-ghost use Rattle.rz_asks.specs.Stands.{is_journaled};
+ghost use Rattle.rz_metadata.specs.Stands.{is_journaled};
 ghost use Rattle.rz_driver.specs.Worlds.{world_of, is_exact, IsDriver, Holds, Leaves};
 
 use crate::NoMemory;

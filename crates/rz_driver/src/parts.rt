@@ -5,14 +5,14 @@ ghost use Rattle.std.specs.Vec.{vec_len, vec_capacity};
 ghost use Rattle.mj_angles.specs.Layout.{max_bins_of};
 ghost use Rattle.rz_events.specs.Volume.{IsNode, IsVolume, nodes_of};
 ghost use Rattle.rz_export_model.specs.Export.{new_export};
-ghost use Rattle.rz_asks.specs.Stands.{export_in, is_journaled, Stands};
+ghost use Rattle.rz_metadata.specs.Stands.{export_in, is_journaled, Stands};
 ghost use Rattle.rz_driver_actors.specs.Seats.{IsEmptySeat};
 
-use rz_asks::Metadata;
 use rz_config::Volume;
 use rz_disk::Disk;
 use rz_driver_actors::Seat;
 use rz_events::NodeSpec;
+use rz_metadata::Metadata;
 use rz_nodes::all_nodes;
 use std::alloc::{AllocError, Global};
 

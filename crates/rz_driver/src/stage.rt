@@ -2,16 +2,16 @@
 ghost use Rattle.std.specs.Prelude.{◌≡◌};
 
 use crate::driver::Driver;
-use rz_asks::Refusal;
 use rz_disk::Disk;
 use rz_events::{Actor, Event, Operation};
 use rz_link::Link;
+use rz_metadata::Refusal;
 use rz_player::{LoggedStage, NoMemory, PlayEnd, Stage};
 
 impl<D: Disk> Stage for Driver<D> {
     ghost use Rattle.rz_driver.specs.Worlds.{world_of, is_exact, tells-exactly, IsDriver, Holds, Leaves};
     ghost use Rattle.rz_driver.specs.Endings.{end_by};
-    ghost use Rattle.rz_asks.specs.Stands.{is_journaled, refusal_of};
+    ghost use Rattle.rz_metadata.specs.Stands.{is_journaled, refusal_of};
     ghost use Rattle.std.proofs.Common.{inl};
 
     ghost tells = { D.tells };

@@ -5,7 +5,7 @@ ghost use Rattle.rz_play.specs.Turns.{IsTurn};
 ghost use Rattle.rz_play.specs.World.{has_work};
 ghost use Rattle.rz_player.specs.Behind.{Before, behind};
 ghost use Rattle.rz_player.specs.Ends.{Carries};
-ghost use Rattle.rz_asks.specs.Stands.{is_journaled};
+ghost use Rattle.rz_metadata.specs.Stands.{is_journaled};
 ghost use Rattle.rz_driver.specs.Worlds.{place_of, world_of, is_exact, IsDriver, Holds, Leaves};
 
 use crate::NoMemory;

@@ -19,9 +19,9 @@ use Rattle.rz_operation_model.specs.Ask.{Ask, ask_of}
 use Rattle.rz_operation_model.specs.Steps.{Told, Replied, Locked, Missed, Noted}
 use Rattle.rz_operation_model.specs.Turns.{IsStep, RequestLost as StepLost, goes_by_link, said_event}
 use Rattle.rz_play.specs.Turns.{IsLost}
-use Rattle.rz_asks.specs.Locking.{IsOpenPart, open_reply}
-use Rattle.rz_asks.specs.Parts.{IsExportPart, IsSayPart}
-use Rattle.rz_image_laws.specs.Laws.{IsLongerLaw}
+use Rattle.rz_driver_asks.specs.Locking.{IsOpenPart, open_reply}
+use Rattle.rz_driver_asks.specs.Parts.{IsExportPart, IsSayPart}
+use Rattle.rz_node_laws.specs.Laws.{IsLongerLaw}
 use Rattle.rz_block_laws.specs.Laws.{IsNoFetch}
 use Rattle.rz_block_laws.specs.Turns.{HasInHand, IsToldLaw}
 use Rattle.rz_driver_actors.specs.declared.seat.Seat.{Seat}

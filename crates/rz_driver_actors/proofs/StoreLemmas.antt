@@ -13,10 +13,10 @@ use Rattle.rz_core.specs.History.{of_word}
 use Rattle.rz_operation.specs.Machine.{Machine, text_of}
 use Rattle.rz_operation_model.specs.Ask.{Saying, SayGot, SayGave, SayLeft, SayDone}
 use Rattle.rz_operation_model.specs.Turns.{said_event}
-use Rattle.rz_asks.specs.Journals.{EndsOn}
-use Rattle.rz_asks.specs.Parts.{IsSayPart}
-use Rattle.rz_asks.specs.declared.metadata.Metadata.{Metadata}
-use Rattle.rz_asks.specs.Stands.{export_in, is_journaled}
+use Rattle.rz_metadata.specs.Journals.{EndsOn}
+use Rattle.rz_driver_asks.specs.Parts.{IsSayPart}
+use Rattle.rz_metadata.specs.declared.metadata.Metadata.{Metadata}
+use Rattle.rz_metadata.specs.Stands.{export_in, is_journaled}
 use Rattle.rz_nodes.specs.declared.formatting.Station.{Station}
 use Rattle.rz_driver_nodes.proofs.EventWords.{node-word}
 use Rattle.rz_driver_actors.specs.declared.shared.Shared.{Shared}

@@ -12,16 +12,16 @@ use Rattle.rz_locks.specs.declared.conflict.Range.{Range}
 use Rattle.rz_locks.specs.Held.{Held}
 use Rattle.rz_operation.specs.Machine.{Machine}
 use Rattle.rz_operation_model.specs.Ask.{Ask, AskExport, AskNode, AskLock, Say, Rest, Saying, ask_of}
-use Rattle.rz_asks.specs.Stands.{export_in}
+use Rattle.rz_metadata.specs.Stands.{export_in}
 use Rattle.rz_play.specs.Turns.{IsLost, IsThrough, lost_after}
 use Rattle.rz_driver_actors.specs.declared.acting.Kind.{Kind}
 use Rattle.rz_driver_actors.specs.declared.acting.Kind.TheVariants as kind
 use Rattle.rz_driver_actors.specs.declared.seat.Seat.{Seat}
 use Rattle.rz_driver_actors.specs.declared.shared.Shared.{Shared}
 use Rattle.rz_nodes.specs.declared.formatting.Station.{Station}
-use Rattle.rz_asks.specs.Locking.{IsOpenPart}
+use Rattle.rz_driver_asks.specs.Locking.{IsOpenPart}
 use Rattle.rz_driver_nodes.specs.Nodes.{IsAsked, IsThroughPart, IsReplyLostPart, IsRequestLostPart}
-use Rattle.rz_asks.specs.Parts.{IsExportPart, IsSayPart}
+use Rattle.rz_driver_asks.specs.Parts.{IsExportPart, IsSayPart}
 use Rattle.rz_driver_actors.specs.Seats.{work_in}
 use Rattle.rz_driver_nodes.specs.Stations.{IsAt, IsCalled}
 

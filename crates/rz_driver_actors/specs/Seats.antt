@@ -8,7 +8,7 @@ use Rattle.rz_operation.specs.Answers.{IsOperation}
 use Rattle.rz_operation_model.specs.Work.{Work, Over}
 use Rattle.rz_play.specs.World.{Seat as APlayer, is_over}
 use Rattle.rz_driver_actors.specs.declared.seat.Seat.{Seat}
-use Rattle.rz_asks.specs.Locking.{lock_of}
+use Rattle.rz_driver_asks.specs.Locking.{lock_of}
 
 abbrev pub work_in : Option Machine → Work
 work_in None = Over

@@ -10,10 +10,11 @@ use Rattle.rz_export_model.specs.ExportEvents.{export_event}
 use Rattle.rz_core.specs.History.{of_word}
 use Rattle.rz_operation.specs.Machine.{Machine}
 use Rattle.rz_operation_model.specs.Ask.{ask_of}
-use Rattle.rz_asks.specs.declared.metadata.Metadata.{Metadata}
-use Rattle.rz_asks.specs.Stands.{export_in, is_journaled}
-use Rattle.rz_asks.specs.Journals.{call_asked, KeepsCall}
-use Rattle.rz_asks.specs.Parts.{IsNoted}
+use Rattle.rz_metadata.specs.declared.metadata.Metadata.{Metadata}
+use Rattle.rz_metadata.specs.Stands.{export_in, is_journaled}
+use Rattle.rz_metadata.specs.Journals.{KeepsCall}
+use Rattle.rz_driver_asks.specs.Asked.{call_asked}
+use Rattle.rz_driver_asks.specs.Parts.{IsNoted}
 
 -- the metadata of one volume still, in memory still or behind a journal still
 pub record IsSameStore {D : Type 0} (m m' : Metadata D) : Type 0 where

@@ -6,11 +6,11 @@ ghost use Rattle.mj_angles.specs.Layout.{max_bins_of};
 ghost use Rattle.rz_events.specs.declared.keys.Actor.TheVariants as actor;
 ghost use Rattle.rz_operation_model.specs.Ask.{ask_of};
 ghost use Rattle.rz_play.specs.Turns as model;
-ghost use Rattle.rz_asks.specs.Locking.{lock_of};
+ghost use Rattle.rz_driver_asks.specs.Locking.{lock_of};
 ghost use Rattle.rz_driver_nodes.specs.Nodes.{IsAsked};
 ghost use Rattle.rz_driver_actors.specs.Seats.{HasLayout};
 ghost use Rattle.rz_driver_nodes.specs.Meters.{AreMetered, AreCounted, CarriesCounts};
-ghost use Rattle.rz_asks.specs.Journals.{EndsOn};
+ghost use Rattle.rz_metadata.specs.Journals.{EndsOn};
 ghost use Rattle.rz_driver_actors.specs.Stores.{IsExportTurn, IsSameStore};
 ghost use Rattle.rz_driver_actors.specs.Hands.{KeepsPicture, SparesPicture};
 ghost use Rattle.rz_driver_actors.specs.Acts.{IsKind, IsMessage, IsReleased, IsSameActor, IsAct, HasLayouts};
@@ -18,8 +18,8 @@ ghost use Rattle.rz_driver_actors.specs.Acts.{IsKind, IsMessage, IsReleased, IsS
 use crate::seat::Seat;
 use crate::shared::Shared;
 use mj_angles::Layout;
-use rz_asks::{ask_export, open, say};
 use rz_disk::Disk;
+use rz_driver_asks::{ask_export, open, say};
 use rz_driver_nodes::{fate, find, through, without_reply, without_request};
 use rz_events::{Actor, NodeAsk};
 use rz_link::{Link, Sent};
@@ -82,7 +82,7 @@ pub fn act<D: Disk, J: Disk, L: Link>(
     ensures spared { OnErr result (IsTrue D.tells → SparesPicture D.image by seat.old.machine shared.old.stations.items shared.old.log.events shared.new.stations.items) }
 {
     rz_block_laws::told();
-    rz_image_laws::longer::<D>();
+    rz_node_laws::longer::<D>();
     let Some(machine) = &mut seat.machine else {
         return Ok(());
     };
@@ -162,7 +162,7 @@ fn message<D: Disk, J: Disk, L: Link>(
     ensures spared { OnErr result (IsTrue D.tells → SparesPicture D.image by (Some machine.old) shared.old.stations.items shared.old.log.events shared.new.stations.items) }
 {
     rz_block_laws::told();
-    rz_image_laws::longer::<D>();
+    rz_node_laws::longer::<D>();
     let Some(place) = find(shared.stations.as_slice(), number) else {
         return Err(NoMemory);
     };

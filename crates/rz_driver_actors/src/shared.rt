@@ -1,8 +1,9 @@
 //! What all actors share.
 
-use rz_asks::{Log, Metadata};
 use rz_disk::Disk;
 use rz_locks::Locks;
+use rz_log::Log;
+use rz_metadata::Metadata;
 use rz_nodes::Station;
 
 /// What all actors share: the nodes in the order of the description, the export, which may stand behind a

@@ -22,7 +22,7 @@ use Rattle.rz_operation_model.specs.Ask.{ask_of, read_asks, is_part, rebuild_ask
 use Rattle.rz_operation_model.specs.Rebuild.{RebuildState, Copying, Tally, after_read, base_told, rebuild_ask}
 use Rattle.rz_operation_model.specs.Steps.{Answered, told}
 use Rattle.rz_operation_model.specs.Work.{Work, Course, Calling, Dropping, Opening, Locking, Writing, Reading, Rebuilding, Ending, Over}
-use Rattle.rz_asks.specs.Parts.{IsTold, is_bad}
+use Rattle.rz_driver_asks.specs.Parts.{IsTold, is_bad}
 
 never : {A : Type 0} (b : Bool) → b ≡ true → b ≡ false → A
 never b t f = let none : true ≡ false = sym t ∙ f in absurd (cc)

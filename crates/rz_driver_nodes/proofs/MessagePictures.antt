@@ -29,10 +29,10 @@ use Rattle.rz_operation.specs.Machine.{Machine, HasBinsFor}
 use Rattle.rz_operation_model.specs.Ask.{Ask, AskExport, AskNode, AskLock, Say, Rest, SayGot, SayGave, SayLeft, SayDone, ask_of}
 use Rattle.rz_operation_model.specs.Steps.{Missed}
 use Rattle.rz_operation_model.specs.Turns.{IsStep, ReplyLost, goes_by_link}
-use Rattle.rz_asks.specs.Logged.{stamp_begun}
-use Rattle.rz_asks.specs.Parts.{is_bad}
+use Rattle.rz_log.specs.Logged.{stamp_begun}
+use Rattle.rz_driver_asks.specs.Parts.{is_bad}
 use Rattle.rz_play_laws.specs.Own.{IsOfActor}
-use Rattle.rz_image_laws.specs.Images.{IsImaged}
+use Rattle.rz_node_laws.specs.Images.{IsImaged}
 use Rattle.rz_block_laws.specs.Laws.{IsMessage, IsFittingLaw}
 use Rattle.rz_block_laws.specs.Turns.{HasInHand, IsTrueActor, IsHeard, IsHeardLaw, IsToldLaw}
 use Rattle.rz_driver_nodes.specs.Nodes.{IsAsked, IsFetchOf}

@@ -39,10 +39,10 @@ use Rattle.rz_node.specs.Calls as calls
 use Rattle.rz_node.specs.Calls.{Counts}
 use Rattle.rz_play.specs.Faults.{unplanned}
 use Rattle.rz_play.specs.Lines.{noted}
-use Rattle.rz_disk_laws.specs.Metered.{IsMetered, IsNoStart, IsFaultLaw, IsArmLaw, IsStartLaw, IsOpening}
+use Rattle.rz_node_laws.specs.Metered.{IsMetered, IsNoStart, IsFaultLaw, IsArmLaw, IsStartLaw, IsOpening}
 use Rattle.rz_disk.specs.UnderFuse.{UnderFuse, fused_meter}
 use Rattle.rz_nodes.specs.declared.formatting.Station.{Station}
-use Rattle.rz_asks.specs.Parts.{IsNoted}
+use Rattle.rz_driver_asks.specs.Parts.{IsNoted}
 use Rattle.rz_driver_nodes.specs.Stations.{IsAt, numbers_of}
 use Rattle.mj_angles.specs.declared.layout.Layout.{Layout}
 use Rattle.rz_events.specs.declared.files.NodeSpec.{NodeSpec}

@@ -21,10 +21,10 @@ use Rattle.rz_node.specs.Opens.{IfStarted, IfTook}
 use Rattle.rz_node.specs.View.{NodeView}
 use Rattle.rz_node.specs.Leaves.{Leaves}
 use Rattle.rz_core.specs.History.{Facts, facts}
-use Rattle.rz_asks.specs.Logged.{stamp_begun}
-use Rattle.rz_image_laws.specs.Images.{IsImaged, geometry_in}
-use Rattle.rz_image_laws.specs.Laws.{IsCallLaw, IsCrashLaw, IsFewerLaw, IsLongerLaw}
-use Rattle.rz_image_laws.specs.Records.{HandsRecord}
+use Rattle.rz_log.specs.Logged.{stamp_begun}
+use Rattle.rz_node_laws.specs.Images.{IsImaged, geometry_in}
+use Rattle.rz_node_laws.specs.Laws.{IsCallLaw, IsCrashLaw, IsFewerLaw, IsLongerLaw}
+use Rattle.rz_node_laws.specs.Records.{HandsRecord}
 use Rattle.rz_nodes.specs.declared.formatting.Station.{Station}
 use Rattle.rz_driver_nodes.specs.Images.{HasImages, KeepsImages, KeepsRow, SparesRow}
 use Rattle.rz_driver_nodes.proofs.MessagePictures.{node-quiet}

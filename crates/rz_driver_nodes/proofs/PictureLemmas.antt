@@ -16,8 +16,8 @@ use Rattle.rz_node.specs.View.{NodeView}
 use Rattle.rz_core.specs.History.{Facts, facts, of_word}
 use Rattle.rz_core.specs.Tied.{IsNode}
 use Rattle.rz_play.specs.Lines.{noted}
-use Rattle.rz_image_laws.specs.Images.{AreImages, IsImaged}
-use Rattle.rz_image_laws.specs.Laws.{IsLongerLaw, IsLogLaw}
+use Rattle.rz_node_laws.specs.Images.{AreImages, IsImaged}
+use Rattle.rz_node_laws.specs.Laws.{IsLongerLaw, IsLogLaw}
 use Rattle.rz_nodes.specs.declared.formatting.Station.{Station}
 use Rattle.rz_driver_nodes.specs.Images.{HasImages, AreImaged, IsRight, AreDisksImaged, fused_image}
 use Rattle.rz_driver_nodes.specs.Stations.{state_in, numbers_of}

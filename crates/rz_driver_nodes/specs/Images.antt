@@ -10,7 +10,7 @@ use Rattle.rz_node.specs.View.{NodeView}
 use Rattle.rz_core.specs.History.{Facts, facts, of_word}
 use Rattle.rz_core.specs.Tied.{IsNode}
 use Rattle.rz_operation.specs.Machine.{Machine}
-use Rattle.rz_image_laws.specs.Images.{AreImages, IsImaged, geometry_in}
+use Rattle.rz_node_laws.specs.Images.{AreImages, IsImaged, geometry_in}
 use Rattle.rz_block_laws.specs.Turns.{HasInHand, IsTrueActor}
 use Rattle.rz_nodes.specs.declared.formatting.Station.{Station}
 use Rattle.rz_driver_nodes.specs.Stations.{state_in}

@@ -8,7 +8,7 @@ use Rattle.rz_core.specs.History.{of_word}
 use Rattle.rz_node.specs.View.{NodeView}
 use Rattle.rz_play.specs.Faults.{AreFaultsCounted}
 use Rattle.rz_play.specs.Lines.{noted}
-use Rattle.rz_disk_laws.specs.Metered.{IsMetered}
+use Rattle.rz_node_laws.specs.Metered.{IsMetered}
 use Rattle.rz_nodes.specs.declared.formatting.Station.{Station}
 use Rattle.rz_driver_nodes.specs.Stations.{numbers_of}
 

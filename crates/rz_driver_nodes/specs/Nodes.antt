@@ -21,7 +21,7 @@ use Rattle.rz_operation.specs.Machine.{Machine}
 use Rattle.rz_operation_model.specs.Ask.{AskNode, ask_of}
 use Rattle.rz_operation_model.specs.Steps.{Answered, Missed}
 use Rattle.rz_play.specs.Turns.{IsLost, IsThrough}
-use Rattle.rz_asks.specs.Parts.{IsTold, IsNoted}
+use Rattle.rz_driver_asks.specs.Parts.{IsTold, IsNoted}
 
 -- how a message fares is as a line of the script says, or, where none does, it may be lost if it goes through the link
 abbrev pub Fares : Option Bool → NodeAsk → Sent → Type 0

@@ -3,16 +3,16 @@ ghost use Rattle.std.specs.Prelude.{◌≡◌, ◌≢◌, ◌⊎◌, ◌<◌, �
 ghost use Rattle.rz_events.specs.declared.nodes.NodeAsk.TheVariants as ask;
 ghost use Rattle.rz_events.specs.declared.events.Event.TheVariants as e;
 ghost use Rattle.rz_play.specs.Lines.{noted};
-ghost use Rattle.rz_asks.specs.Logged.{stamp_begun};
+ghost use Rattle.rz_log.specs.Logged.{stamp_begun};
 ghost use Rattle.rz_driver_nodes.specs.Images.{KeepsImages, KeepsRow, SparesRow};
 ghost use Rattle.rz_driver_nodes.specs.Meters.{AreMetered, AreCounted, CarriesCounts, Goes};
 ghost use Rattle.rz_driver_nodes.specs.Stations.{IsCalled};
 ghost use Rattle.rz_driver_nodes.specs.Administration.{IsOrdered, IsOrder, IsFreeOrder, IsStarted, IsArmed, IsArming, IsCalledAt, IsCrashedAt};
 
 use crate::station::find;
-use rz_asks::Log;
 use rz_disk::Disk;
 use rz_events::{Actor, Event, NodeAnswer, NodeAsk, Phase, StartAnswer};
+use rz_log::Log;
 use rz_node::node_event;
 use rz_nodes::Station;
 use rz_player::NoMemory;
@@ -32,7 +32,7 @@ pub fn stop_node<D: Disk>(
     ensures pictured { OnOk result (IsTrue D.tells → KeepsRow D.image stations.old log.old.events stations.new log.new.events) }
     ensures spared { OnErr result (IsTrue D.tells → SparesRow D.image stations.old log.old.events stations.new) }
 {
-    rz_image_laws::longer::<D>();
+    rz_node_laws::longer::<D>();
     let Some(place) = find(stations, sid) else {
         return Err(NoMemory);
     };
@@ -55,7 +55,7 @@ pub fn lose_node<D: Disk>(
     ensures pictured { OnOk result (IsTrue D.tells → KeepsRow D.image stations.old log.old.events stations.new log.new.events) }
     ensures spared { OnErr result (IsTrue D.tells → SparesRow D.image stations.old log.old.events stations.new) }
 {
-    rz_image_laws::longer::<D>();
+    rz_node_laws::longer::<D>();
     let Some(place) = find(stations, sid) else {
         return Err(NoMemory);
     };
@@ -87,7 +87,7 @@ pub fn start_node<D: Disk>(
     ensures pictured { OnOk result (IsTrue D.tells → KeepsRow D.image stations.old log.old.events stations.new log.new.events) }
     ensures spared { OnErr result (IsTrue D.tells → SparesRow D.image stations.old log.old.events stations.new) }
 {
-    rz_image_laws::longer::<D>();
+    rz_node_laws::longer::<D>();
     let Some(place) = find(stations, sid) else {
         return Err(NoMemory);
     };
@@ -114,7 +114,7 @@ pub fn arm_node<D: Disk>(
     ensures pictured { OnOk result (IsTrue D.tells → KeepsRow D.image stations.old log.old.events stations.new log.new.events) }
     ensures spared { OnErr result (IsTrue D.tells → SparesRow D.image stations.old log.old.events stations.new) }
 {
-    rz_image_laws::longer::<D>();
+    rz_node_laws::longer::<D>();
     let Some(place) = find(stations, sid) else {
         return Err(NoMemory);
     };
@@ -147,8 +147,8 @@ fn stop<D: Disk>(station: &mut Station<D>) -> Option<Event>
     ensures counted { (D.meter station.old.node.disk).own ≤ (D.meter station.new.node.disk).own }
     ensures images { IsTrue D.tells → KeepsImages D.image station.old station.new }
 {
-    rz_image_laws::called::<D>();
-    rz_disk_laws::faults();
+    rz_node_laws::called::<D>();
+    rz_node_laws::faults();
     let answer = NodeAnswer::Stop(station.node.stop());
     node_event(Actor::Admin, station.sid, &NodeAsk::Stop, &answer)
 }
@@ -159,8 +159,8 @@ fn lose<D: Disk>(station: &mut Station<D>) -> Option<Event>
     ensures counted { (D.meter station.old.node.disk).own ≤ (D.meter station.new.node.disk).own }
     ensures images { IsTrue D.tells → KeepsImages D.image station.old station.new }
 {
-    rz_image_laws::called::<D>();
-    rz_disk_laws::faults();
+    rz_node_laws::called::<D>();
+    rz_node_laws::faults();
     let answer = NodeAnswer::Lose(station.node.lose());
     node_event(Actor::Admin, station.sid, &NodeAsk::Lose, &answer)
 }
@@ -177,10 +177,10 @@ fn start<D: Disk>(alloc: Global, station: &mut Station<D>) -> Result<Option<Even
     ensures images { IsTrue D.tells → KeepsImages D.image station.old station.new }
     ensures same { OnErr result (station.new.node.state ≡ station.old.node.state) }
 {
-    rz_image_laws::called::<D>();
-    rz_image_laws::crashed::<D>();
-    rz_image_laws::fewer::<D>();
-    rz_disk_laws::started();
+    rz_node_laws::called::<D>();
+    rz_node_laws::crashed::<D>();
+    rz_node_laws::fewer::<D>();
+    rz_node_laws::started();
     if station.node.phase() == Phase::Down {
         station.node.crash(station.pick);
         station.node.arm(None);
@@ -201,8 +201,8 @@ fn arm<D: Disk>(station: &mut Station<D>, passes: u64, pick: u64)
     ensures counted { (D.meter station.old.node.disk).own ≤ (D.meter station.new.node.disk).own }
     ensures images { IsTrue D.tells → KeepsImages D.image station.old station.new }
 {
-    rz_image_laws::fewer::<D>();
-    rz_disk_laws::armed();
+    rz_node_laws::fewer::<D>();
+    rz_node_laws::armed();
     station.node.arm(Some(passes));
     station.pick = pick;
 }

@@ -50,6 +50,6 @@ fn fetch<D: Disk>(station: &mut Station<D>, key: Key, stamp: u64, room: &mut [u6
     ensures behind { drop (max_bins_of station.old.node.geometry.layout) room.new ≡ drop (max_bins_of station.old.node.geometry.layout) room.old }
     ensures metered { (position : ℕ) → Goes D.meter station.old station.new (Some (fetch_event Admin station.old.sid key position stamp result)) }
 {
-    rz_disk_laws::faults();
+    rz_node_laws::faults();
     station.node.fetch_into(key, stamp, room)
 }

@@ -11,13 +11,14 @@ ghost use Rattle.rz_play_laws.specs.Own.{IsOfActor};
 ghost use Rattle.rz_driver_nodes.specs.Nodes.{Fares, IsServed, IsAsked, IsFetchOf, IsPlaced, IsThroughPart, IsReplyLostPart, IsRequestLostPart};
 ghost use Rattle.rz_driver_nodes.specs.Meters.{GoesOn};
 ghost use Rattle.rz_driver_nodes.specs.Images.{KeepsNode, SparesNode};
-ghost use Rattle.rz_asks.specs.Parts.{is_bad};
+ghost use Rattle.rz_driver_asks.specs.Parts.{is_bad};
 
 use mj_angles::Layout;
-use rz_asks::{Log, is_bad, let_go};
 use rz_disk::Disk;
+use rz_driver_asks::is_bad;
 use rz_events::{Actor, Event, FetchAnswer, Head, NodeAnswer, NodeAsk};
 use rz_link::{Link, Sent};
+use rz_log::{Log, let_go};
 use rz_node::{Node, answer_node, node_event};
 use rz_operation::Machine;
 use rz_player::NoMemory;
@@ -172,7 +173,7 @@ pub fn through<D: Disk>(
     ensures pictured { OnOk result (IsTrue D.tells → KeepsNode D.image by number machine.old machine.new node.old node.new log.old.events log.new.events) }
     ensures spared { OnErr result (IsTrue D.tells → SparesNode D.image by number machine.old node.old node.new log.old.events) }
 {
-    rz_disk_laws::faults();
+    rz_node_laws::faults();
     rz_block_laws::heard::<D>();
     rz_block_laws::fitting();
     if !machine.has_room() || !is_placed(layout, &ask) {
@@ -218,7 +219,7 @@ pub fn without_reply<D: Disk>(
     ensures pictured { OnOk result (IsTrue D.tells → KeepsNode D.image by number machine.old machine.new node.old node.new log.old.events log.new.events) }
     ensures spared { OnErr result (IsTrue D.tells → SparesNode D.image by number machine.old node.old node.new log.old.events) }
 {
-    rz_disk_laws::faults();
+    rz_node_laws::faults();
     rz_block_laws::heard::<D>();
     rz_block_laws::told();
     if !machine.has_room() {

@@ -22,7 +22,7 @@ use Rattle.rz_node_model.specs.Afterwards.{after_answer}
 use Rattle.rz_node_model.specs.NodeEvents.{node_event}
 use Rattle.rz_export_model.specs.Export.{export_reply, export_after}
 use Rattle.rz_export_model.specs.ExportEvents.{export_event}
-use Rattle.rz_core.specs.History.{Begun, Facts, facts}
+use Rattle.rz_core.specs.History.{Facts, facts, text_in}
 use Rattle.rz_core.specs.NodeRows.{cells_of}
 use Rattle.rz_operation_model.specs.Ask.{Ask, AskExport, AskNode, AskLock, Say, Rest, Saying, SayGot, SayDone, ask_of}
 use Rattle.rz_operation_model.specs.Turns.{said_event, goes_by_link}
@@ -30,11 +30,6 @@ use Rattle.rz_operation_model.specs.Steps.{Told, Replied, Locked, Answered, Miss
 use Rattle.rz_play.specs.World.{World, Seat, with_seat, with_node, with_work, at_work, IsFree}
 
 -- Events of the actor's own word.
-
--- the text of a write that began, or nothing
-abbrev pub text_in : Option Begun → List ℕ
-text_in None = []
-text_in (Some b) = b.text
 
 -- a read finds the text of the write that it names
 abbrev pub found_text : Facts → ReadMark → List ℕ

@@ -8,7 +8,7 @@ use Rattle.rz_events.specs.declared.ends.ReadMark.{ReadMark}
 use Rattle.rz_events.specs.declared.ends.ReadMark.TheVariants as mark
 use Rattle.rz_events.specs.declared.events.Event.{Event}
 use Rattle.rz_events.specs.declared.events.Event.TheVariants as e
-use Rattle.rz_core.specs.History.{Facts}
+use Rattle.rz_core.specs.History.{Facts, text_in}
 use Rattle.rz_core.specs.OwnRows.{GotRow}
 use Rattle.rz_core.proofs.Extends.{Extends}
 use Rattle.rz_core.proofs.Rows.{row-extends, got-extends, gave-extends}
@@ -19,7 +19,7 @@ use Rattle.rz_client_model.specs.declared.writing.WriteStage.TheVariants as writ
 use Rattle.rz_operation_model.specs.Work.{Work, RangePlan, WriteBytes, ReadBytes, Calling, Dropping, Opening, Locking, Writing, Reading, Rebuilding, Ending, Over}
 use Rattle.rz_operation_model.specs.Ask.{ask_of}
 use Rattle.rz_operation_model.specs.Steps.{Told, told, read_end}
-use Rattle.rz_play.specs.Turns.{found_text, text_in}
+use Rattle.rz_play.specs.Turns.{found_text}
 use Rattle.rz_play_laws.specs.Own.{AreToldBy, IsFetching, IsWriteStage, IsReadStage, IsRebuildStage, IsOwn, IsProper}
 use Rattle.rz_operation_model.specs.Turns.{IsStep}
 use Rattle.rz_operation_model.specs.Rebuild.{RebuildState, Probing, Enrolling, Replacing, Listing, Copying, Refilling, Leaving}

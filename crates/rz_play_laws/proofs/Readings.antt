@@ -27,7 +27,7 @@ use Rattle.rz_events.specs.Events.{same_key}
 use Rattle.rz_node_model.specs.Versions.{Stands}
 use Rattle.rz_node_model.specs.NodeEvents.{node_event, fetch_event}
 use Rattle.rz_export_model.specs.ExportEvents.{look_event, recheck_event}
-use Rattle.rz_core.specs.History.{Facts, Begun}
+use Rattle.rz_core.specs.History.{Facts, Begun, text_in}
 use Rattle.rz_events.specs.Masks.{stamp_told}
 use Rattle.rz_core.specs.ExportRows.{HasLooked}
 use Rattle.rz_core.specs.Own.{since, fetched_at, is_look, is_end, IsOpen, HasDistinct}
@@ -43,7 +43,7 @@ use Rattle.rz_client_model.specs.Read.{none_fetched, next_position, with_seen, w
 use Rattle.rz_operation_model.specs.Work.{Course, Reading}
 use Rattle.rz_operation_model.specs.Ask.{SayGot, is_part, ask_of, read_asks}
 use Rattle.rz_operation_model.specs.Steps.{Told, Replied, Answered, Missed, told}
-use Rattle.rz_play.specs.Turns.{text_in, found_text}
+use Rattle.rz_play.specs.Turns.{found_text}
 use Rattle.rz_core.specs.Courses.{IsCourse}
 use Rattle.rz_play_laws.specs.Own.{IsPlacing, IsToldBy, AreToldBy, IsFetching, IsLookedUp, IsReadStage, IsRead, InCourse, IsOwn, IsProper}
 use Rattle.rz_operation_model.specs.Turns.{IsStep}

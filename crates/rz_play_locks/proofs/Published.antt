@@ -12,7 +12,7 @@ use Rattle.rz_events.specs.declared.events.Word.TheVariants.{Export, Node}
 use Rattle.rz_events.specs.declared.events.Event.{Event}
 use Rattle.rz_events.specs.declared.events.Event.TheVariants as e
 use Rattle.rz_events.specs.Events.{by_of, word_of, same_key}
-use Rattle.rz_core.specs.History.{Facts, facts, of_word}
+use Rattle.rz_core.specs.History.{Facts, facts, of_word, text_in}
 use Rattle.rz_core.specs.Legal.{IsLegalInRuns}
 use Rattle.rz_core.specs.ExportWord.{accepted, is_newer}
 use Rattle.rz_core.proofs.Stamps.{accepted-begun, same_key-true}
@@ -20,7 +20,6 @@ use Rattle.rz_core.proofs.Extends.{wrote-more}
 use Rattle.rz_operation_model.specs.Ask.{Ask, AskExport, AskNode, AskLock, Say, Rest, Saying, SayGot, SayGave, SayLeft, SayDone}
 use Rattle.rz_operation_model.specs.Steps.{Told}
 use Rattle.rz_operation_model.specs.Turns.{IsStep, IsNodeStep, said_event}
-use Rattle.rz_play.specs.Turns.{text_in}
 use Rattle.rz_play_laws.specs.Own.{IsProper, IsOfActor}
 use Rattle.rz_play_laws.proofs.Steps.{export-step, node-step, lock-step, say-step}
 use Rattle.rz_play_laws.proofs.Events.{export-event, node-event}

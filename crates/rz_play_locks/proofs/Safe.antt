@@ -13,7 +13,7 @@ use Rattle.rz_events.specs.declared.events.Word.TheVariants.{Export, Node}
 use Rattle.rz_events.specs.declared.events.Event.{Event}
 use Rattle.rz_events.specs.declared.events.Event.TheVariants as e
 use Rattle.rz_events.specs.Events.{word_of, same_actor}
-use Rattle.rz_core.specs.History.{facts, of_word, of_actor}
+use Rattle.rz_core.specs.History.{facts, of_word, of_actor, text_in}
 use Rattle.rz_core.specs.Legal.{IsLegalInRuns}
 use Rattle.rz_core.specs.ExportWord.{accepted}
 use Rattle.rz_node_model.specs.States.{NodeState}
@@ -32,7 +32,7 @@ use Rattle.rz_play.specs.World.{World, Seat, world_after, with_seat, take_up, at
 use Rattle.rz_locks.specs.declared.conflict.Lock.{Lock}
 use Rattle.rz_locks.specs.Conflicts.{HasByte}
 use Rattle.rz_play.specs.Lines.{with_operation, with_miss}
-use Rattle.rz_play.specs.Turns.{IsTurn, counted, text_in, kind_of}
+use Rattle.rz_play.specs.Turns.{IsTurn, counted, kind_of}
 use Rattle.rz_play_laws.proofs.Scripts.{seated}
 use Rattle.rz_play_laws.proofs.Turning.{in-runs}
 use Rattle.rz_play_laws.specs.Own.{IsOwn, IsWriteStage}

@@ -29,7 +29,7 @@ use Rattle.rz_events.specs.declared.events.Event.{Event}
 use Rattle.rz_events.specs.declared.events.Event.TheVariants as e
 use Rattle.rz_events.specs.Events.{word_of}
 use Rattle.rz_export_model.specs.ExportEvents.{export_event}
-use Rattle.rz_core.specs.History.{facts}
+use Rattle.rz_core.specs.History.{facts, text_in}
 use Rattle.rz_core.specs.Legal.{IsLegalInRuns}
 use Rattle.rz_core.proofs.NodeSteps.{the_some}
 use Rattle.rz_client_model.specs.declared.reading.ReaderState.{ReaderState}
@@ -51,7 +51,7 @@ use Rattle.rz_operation_model.specs.Ask.{Ask, Say, ask_of}
 use Rattle.rz_operation_model.specs.Steps.{Told, Replied, Locked, Answered, Missed, Noted, begun, told, in_range, whole_answer, in_rebuild, rebuild_after, drop_at, said_reading, said_writing, after_call, read_end}
 use Rattle.rz_operation_model.specs.Turns.{IsStep, IsExportStep, IsNodeStep}
 use Rattle.rz_locks.specs.declared.conflict.Lock.{Lock}
-use Rattle.rz_play.specs.Turns.{found_text, text_said, text_in}
+use Rattle.rz_play.specs.Turns.{found_text, text_said}
 use Rattle.rz_play_laws.specs.Own.{IsOfActor}
 use Rattle.rz_play_laws.proofs.Frames.{same_actor-refl}
 use Rattle.rz_play_laws.proofs.Steps.{export-step, node-step, lock-step}

@@ -23,7 +23,7 @@ use Rattle.rz_events.specs.declared.events.Word.TheVariants.{Export, Node}
 use Rattle.rz_events.specs.declared.events.Event.{Event}
 use Rattle.rz_events.specs.declared.events.Event.TheVariants as e
 use Rattle.rz_events.specs.Events.{word_of, same_actor, same_key}
-use Rattle.rz_core.specs.History.{Facts, facts, of_word, of_actor}
+use Rattle.rz_core.specs.History.{Facts, facts, of_word, of_actor, text_in}
 use Rattle.rz_core.specs.Legal.{IsLegalInRuns}
 use Rattle.rz_core.specs.ExportWord.{accepted, is_newer}
 use Rattle.rz_core.proofs.Stamps.{cases_le, same_key-true}
@@ -31,7 +31,6 @@ use Rattle.rz_safety.specs.Reads.{IsAcked}
 use Rattle.rz_safety.proofs.Acked.{accepted-acked}
 use Rattle.rz_safety.proofs.OrderLaws.{ordered}
 use Rattle.std.proofs.lemmas.Bool.{lt-ltb}
-use Rattle.rz_play.specs.Turns.{text_in}
 use Rattle.rz_node_model.specs.States.{NodeState, fresh}
 use Rattle.rz_export_model.specs.Export.{Export as ExportState, new_export}
 use Rattle.std.proofs.lemmas.List.{append-nil}

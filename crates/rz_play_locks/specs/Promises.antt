@@ -16,12 +16,11 @@ use Rattle.rz_events.specs.declared.events.Word.TheVariants.{Export}
 use Rattle.rz_events.specs.declared.events.Event.{Event}
 use Rattle.rz_events.specs.declared.events.Event.TheVariants as e
 use Rattle.rz_events.specs.Events.{same_actor, same_key}
-use Rattle.rz_core.specs.History.{Facts, facts, of_actor, of_word}
+use Rattle.rz_core.specs.History.{Facts, facts, of_actor, of_word, text_in}
 use Rattle.rz_core.specs.ExportWord.{accepted}
 use Rattle.rz_events.specs.declared.operations.Operation.{Operation}
 use Rattle.rz_events.specs.declared.operations.Operation.TheVariants as operation
 use Rattle.rz_operation_model.specs.Ranges.{bytes_of, patched}
-use Rattle.rz_play.specs.Turns.{text_in}
 use Rattle.rz_play_locks.specs.Operations.{in_hand, IsGuarded}
 
 -- the text of what is published, or nothing

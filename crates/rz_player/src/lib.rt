@@ -13,5 +13,6 @@ mod stage;
 mod turns;
 
 pub use lines::{PlayEnd, play};
-pub use stage::{LoggedStage, NoMemory, Stage};
+pub use rz_log::NoMemory;
+pub use stage::{LoggedStage, Stage};
 pub use turns::{Cut, MOST_TURNS};

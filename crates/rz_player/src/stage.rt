@@ -16,17 +16,7 @@ ghost use Rattle.rz_play.specs.Free.{PlaysLineOver};
 use crate::lines::PlayEnd;
 use rz_events::{Actor, Event, Operation};
 use rz_link::Link;
-use std::alloc::AllocError;
-
-/// Memory is wanting; or, of a stage with a journal, the journal did not keep a call.
-#[derive(Clone, Copy, Debug, PartialEq, Eq, Drop)]
-pub struct NoMemory;
-
-impl From<AllocError> for NoMemory {
-    fn from(_: AllocError) -> Self {
-        NoMemory
-    }
-}
+use rz_log::NoMemory;
 
 /// Nodes, an export and actors that a script is played on.
 ///

@@ -6,9 +6,10 @@ ghost use Rattle.rz_play.specs.Stops.{most_turns};
 ghost use Rattle.rz_player.specs.Behind.{Before, behind};
 ghost use Rattle.rz_player.specs.Ends.{Carries, IsTurnTaken, IsLinePlayed, OnStop};
 
-use crate::stage::{NoMemory, Stage};
+use crate::stage::Stage;
 use rz_events::Actor;
 use rz_link::Link;
+use rz_log::NoMemory;
 
 /// A play has at most so many turns.
 pub const MOST_TURNS: u32 = 1_000_000;

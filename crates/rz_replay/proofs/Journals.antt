@@ -8,11 +8,11 @@ use Rattle.rz_events.specs.declared.events.Event.{Event}
 use Rattle.rz_script.specs.declared.line.Line.{Line}
 use Rattle.rz_nodes.specs.Formatted.{AreBack}
 use Rattle.rz_driver_nodes.specs.Meters.{AreDisksCounted, faults_at}
-use Rattle.rz_asks.specs.declared.metadata.Metadata.{Metadata}
-use Rattle.rz_asks.specs.declared.metadata.Metadata.TheVariants.{InMemory, Journaled}
-use Rattle.rz_asks.specs.declared.journaled.Refusal.{Refusal}
-use Rattle.rz_asks.specs.declared.journaled.Refusal.TheVariants.{Full, Failed}
-use Rattle.rz_asks.specs.Stands.{disk_of, is_journaled}
+use Rattle.rz_metadata.specs.declared.metadata.Metadata.{Metadata}
+use Rattle.rz_metadata.specs.declared.metadata.Metadata.TheVariants.{InMemory, Journaled}
+use Rattle.rz_metadata.specs.declared.journaled.Refusal.{Refusal}
+use Rattle.rz_metadata.specs.declared.journaled.Refusal.TheVariants.{Full, Failed}
+use Rattle.rz_metadata.specs.Stands.{disk_of, is_journaled}
 use Rattle.rz_core.specs.Legal.{IsLegalInRuns}
 use Rattle.rz_driver.specs.Continued.{AreLeft}
 use Rattle.rz_driver.specs.Endings.{EndsAsRefused, StandsForLog, end_by}

@@ -12,8 +12,8 @@ use Rattle.rz_nodes.specs.declared.fault.DriverFault.TheVariants.{NoMemory, Disk
 use Rattle.rz_request.specs.declared.wishes.Request.{Request}
 use Rattle.rz_report.specs.Output.{Sunk}
 use Rattle.rz_report.specs.Replays.{Unplayed, Opens}
+use Rattle.rz_report.specs.Telling.{Fails}
 use Rattle.rz_replay.specs.Disks.{faulted}
-use Rattle.rz_run.specs.Runs.{Fails}
 
 module _ {D : Type 0} (tells : Bool) (meter : D → Meter) (image : D → List ℕ → Type 0) (layout : Layout) where
   -- no count fell

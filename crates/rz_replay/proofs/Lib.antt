@@ -5,3 +5,6 @@ pub mod Journals
 pub mod Lent
 pub mod Untold
 pub mod Wanting
+pub mod Blocks
+pub mod Listed
+pub mod Nodes

@@ -9,8 +9,8 @@ use Rattle.rz_events.specs.declared.nodes.Phase.TheVariants.{Lost}
 use Rattle.rz_events.specs.declared.events.Word.TheVariants.{Node}
 use Rattle.rz_events.specs.declared.events.Event.{Event}
 use Rattle.rz_nodes.specs.Formatted.{AreBack}
-use Rattle.rz_asks.specs.declared.journaled.Refusal.{Refusal}
-use Rattle.rz_asks.specs.declared.journaled.Refusal.TheVariants.{Full, Failed}
+use Rattle.rz_metadata.specs.declared.journaled.Refusal.{Refusal}
+use Rattle.rz_metadata.specs.declared.journaled.Refusal.TheVariants.{Full, Failed}
 use Rattle.rz_driver.specs.Endings.{EndsAsRefused, StandsForLog}
 use Rattle.rz_driver.specs.Formatted.{IsJournalBack}
 use Rattle.rz_core.specs.History.{of_word}

@@ -2,3 +2,4 @@ pub mod Clear
 pub mod Disks
 pub mod Migrations
 pub mod Replays
+pub mod Untouched

@@ -1,6 +1,7 @@
-//! A law without code: when a replay that goes on after earlier runs comes to its end.
+//! Laws without code: when a replay that goes on after earlier runs comes to its end, and what a scrub finds.
 
 ghost use Rattle.rz_replay.specs.Clear.{IsComplete};
+ghost use Rattle.rz_replay.specs.Untouched.{IsUntouchedLaw};
 
 use rz_disk::Disk;
 
@@ -11,4 +12,14 @@ pub fn completes_again<D: Disk>()
     ensures { IsComplete D.text D.meter D.image }
 {
     rz_report::completes_again();
+}
+
+/// Between two turns, over disks that tell their texts, what the nodes of a published block tell of its
+/// record, and give of it, are the projections of one block: of the text with which the write of the
+/// published stamp began. So no line of a scrub then says that a record is altered.
+pub fn untouched<D: Disk>()
+    ensures { IsUntouchedLaw D.tells D.text D.image }
+{
+    rz_log_laws::laid();
+    rz_node_laws::fetched::<D>();
 }

@@ -9,6 +9,7 @@ ghost use Rattle.rz_report.specs.Replays.{Course, Follows};
 ghost use Rattle.rz_replay.specs.Disks.{HandsBack, faulted};
 ghost use Rattle.rz_replay.specs.Replays.{FailsAgain, Plays, Replays, old_node_of};
 
+use crate::laws::untouched;
 use crate::migrating::carry;
 use rz_disk::Disk;
 use rz_driver::Driver;
@@ -16,9 +17,8 @@ use rz_events::Event;
 use rz_link::Link;
 use rz_nodes::OpenRefusal;
 use rz_ports::{Sink, Source};
-use rz_report::{begins, perform, refuse, stop};
+use rz_report::{begins, perform, refuse, refuse_disks, stop};
 use rz_request::{Command, Refusal, Request, Wish, WordsError, request, wanted};
-use rz_run::refuse_disks;
 use rz_script::Script;
 use std::alloc::{AllocError, Global};
 use std::mem;
@@ -71,7 +71,7 @@ fn play_plain<D: Disk, L: Link, O: Sink>(
     ensures { (course : Course) × Follows D.tells course request.now (faulted D.meter disks.old.items disks.new.items) (L.lost link.new - L.lost link.old) (record { before = O.taken output.old; after = O.taken output.new; old = O.faults output.old; new = O.faults output.new }) result.status (reverse result.log.items)
         × HandsBack D.tells D.text D.meter D.image course (Ok request.now) (L.lost link.new - L.lost link.old) disks.old.items disks.new.items (reverse result.log.items) }
 {
-    rz_scrub_laws::untouched::<D>();
+    untouched::<D>();
     let volume = request.script.volume();
     let _nodes = volume.node_count();
     let lent = mem::replace(disks, Vec::new(alloc));
@@ -112,7 +112,7 @@ fn play_first<D: Disk, L: Link, O: Sink>(
         × HandsBack D.tells D.text D.meter D.image course (Ok request.now) (L.lost link.new - L.lost link.old) disks.old.items disks.new.items (reverse result.log.items) }
 {
     rz_core::one_run();
-    rz_scrub_laws::untouched::<D>();
+    untouched::<D>();
     let volume = request.script.volume();
     let _nodes = volume.node_count();
     let lent = mem::replace(disks, Vec::new(alloc));
@@ -172,7 +172,7 @@ fn play_again<D: Disk, L: Link, O: Sink>(
     ensures { (course : Course) × Follows D.tells course request.now (faulted D.meter disks.old.items disks.new.items) (L.lost link.new - L.lost link.old) (record { before = O.taken output.old; after = O.taken output.new; old = O.faults output.old; new = O.faults output.new }) result.status (reverse result.log.items)
         × HandsBack D.tells D.text D.meter D.image course (Ok request.now) (L.lost link.new - L.lost link.old) disks.old.items disks.new.items (reverse result.log.items) }
 {
-    rz_scrub_laws::untouched::<D>();
+    untouched::<D>();
     begins();
     rz_restart_laws::restarting();
     rz_restart_laws::afterwards();

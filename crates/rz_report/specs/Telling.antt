@@ -2,6 +2,8 @@
 use Rattle.std.specs.Prelude.{ℕ, Bool, true, false, ◌≡◌, ◌⊎◌, ◌≤◌, ◌+◌, IsTrue, List, ◌++◌, reverse}
 use Rattle.rz_events.specs.Volume.{Volume}
 use Rattle.rz_events.specs.declared.events.Event.{Event}
+use Rattle.rz_nodes.specs.declared.fault.DriverFault.{DriverFault}
+use Rattle.rz_nodes.specs.declared.fault.DriverFault.TheVariants as faults
 use Rattle.rz_script.specs.declared.line.Line.{Line}
 use Rattle.rz_play.specs.World.{World, new_world}
 use Rattle.rz_play.specs.Faults.{missed, misses}
@@ -88,6 +90,11 @@ PerformsBehind holds exact tells v w lines wish end later lost log sink status =
 -- the line of a refusal was to be written with its status, or there was no memory
 abbrev pub Refuses : Refusal → Sunk → ℕ → Type 0
 Refuses refusal sink status = Ends sink (status_of refusal) (line_of refusal) status ⊎ Lacks sink status
+
+-- the disks are not formatted: memory is wanting, or the line of the disk that failed was to be written
+abbrev pub Fails : DriverFault → Sunk → ℕ → Type 0
+Fails faults.NoMemory sink status = Lacks sink status
+Fails (faults.Disk index) sink status = Refuses (refusals.Disk index) sink status
 
 -- there is nothing to play: memory is wanting, or the source failed and nothing is written, or the line of the refusal was to be
 -- written

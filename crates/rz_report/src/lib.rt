@@ -33,4 +33,4 @@ pub use line::summary;
 pub use output::finish;
 pub use performing::perform;
 pub use rz_player::LoggedStage;
-pub use telling::{refuse, stop};
+pub use telling::{refuse, refuse_disks, stop};

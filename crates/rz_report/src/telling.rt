@@ -2,11 +2,12 @@
 
 ghost use Rattle.std.specs.Prelude.{◌≡◌, ◌⊎◌, IfOk};
 ghost use Rattle.rz_report.specs.Output.{Lacks, Sunk};
-ghost use Rattle.rz_report.specs.Telling.{Refuses, Says, SaysSoFar, Stops, text_so_far, text_told};
+ghost use Rattle.rz_report.specs.Telling.{Fails, Refuses, Says, SaysSoFar, Stops, text_so_far, text_told};
 
 use crate::output::finish;
 use crate::summary;
 use rz_events::Event;
+use rz_nodes::DriverFault;
 use rz_player::PlayEnd;
 use rz_ports::Sink;
 use rz_request::{Refusal, Stop, Wish};
@@ -78,6 +79,16 @@ pub fn refuse<O: Sink>(alloc: Global, refusal: &Refusal, output: &mut O) -> u8
     match refusal.line(alloc) {
         Ok(line) => finish(output, refusal.status(), &line),
         Err(_) => 70,
+    }
+}
+
+/// Writes why the disks were not formatted, and gives the status.
+pub fn refuse_disks<O: Sink>(alloc: Global, fault: DriverFault, output: &mut O) -> u8
+    ensures { Fails fault (record { before = O.taken output.old; after = O.taken output.new; old = O.faults output.old; new = O.faults output.new }) result }
+{
+    match fault {
+        DriverFault::NoMemory => 70,
+        DriverFault::Disk { index } => refuse(alloc, &Refusal::Disk { index }, output),
     }
 }
 

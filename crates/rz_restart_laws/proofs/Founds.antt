@@ -33,8 +33,8 @@ use Rattle.rz_core.specs.Tied.{record_in}
 use Rattle.rz_core.proofs.Extends.{IsKnown, IsPlaced, Knows, KnowsChange, OfChange, held-known, undecided-known, all-changed, all-taken}
 use Rattle.rz_core.proofs.Stamps.{same_key-true}
 use Rattle.rz_core.proofs.NodeLaws.{node, IsRows, IsPair, word-pair, undecided-down}
-use Rattle.rz_image_laws.specs.Records.{on_disk, records_in}
-use Rattle.rz_image_laws.specs.Images.{geometry_in, IsImaged}
+use Rattle.rz_node_laws.specs.Records.{on_disk, records_in}
+use Rattle.rz_node_laws.specs.Images.{geometry_in, IsImaged}
 use Rattle.rz_restart_laws.specs.Found.{StandsByLog}
 use Rattle.rz_restart_laws.specs.Laws.{IsFoundLaw}
 use Rattle.rz_restart_laws.proofs.Lists.{found-has, found-of, falls-of, same-list}

@@ -13,8 +13,8 @@ use Rattle.rz_core.specs.NodeWord.{last_fence}
 use Rattle.rz_core.specs.NodeRows.{IsNodeOf}
 use Rattle.rz_core.specs.HeldRecords.{held_records, settled_records}
 use Rattle.rz_log_laws.specs.Losses.{loss_in}
-use Rattle.rz_image_laws.specs.Records.{on_disk}
-use Rattle.rz_image_laws.specs.Images.{geometry_in}
+use Rattle.rz_node_laws.specs.Records.{on_disk}
+use Rattle.rz_node_laws.specs.Images.{geometry_in}
 use Rattle.rz_journal.specs.JournalText.{after_all}
 use Rattle.rz_restart_laws.specs.Calls.{changing_calls}
 

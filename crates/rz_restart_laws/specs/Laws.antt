@@ -14,7 +14,7 @@ use Rattle.rz_core.specs.History.{facts, of_word}
 use Rattle.rz_core.specs.ExportWord.{export_of}
 use Rattle.rz_core.specs.Legal.{IsLegalInRuns}
 use Rattle.rz_core.specs.Tied.{IsNode, IsExport}
-use Rattle.rz_image_laws.specs.Images.{IsImaged, geometry_in}
+use Rattle.rz_node_laws.specs.Images.{IsImaged, geometry_in}
 use Rattle.rz_journal.specs.JournalText.{after_all}
 use Rattle.rz_journal.specs.Seen.{calls_after}
 use Rattle.rz_script.specs.declared.line.Line.{Line}

@@ -13,10 +13,11 @@ use Rattle.rz_request.specs.Runs.{AsksIf}
 use Rattle.rz_request.specs.declared.refusal.Stop.{Stop}
 use Rattle.rz_request.specs.declared.refusal.Stop.TheVariants as stops
 use Rattle.rz_report.specs.Output.{Sunk, Lacks}
+use Rattle.rz_report.specs.Telling.{Fails}
 use Rattle.rz_report.proofs.Asked.{HasCome, has-come}
 use Rattle.rz_run.specs.Clear.{IsComplete, IsFinished}
 use Rattle.rz_run.specs.Handed.{Handed}
-use Rattle.rz_run.specs.Runs.{Fails, Follows, IsPlayed, IsToldOf, IsUnplayed, Plays}
+use Rattle.rz_run.specs.Runs.{Follows, IsPlayed, IsToldOf, IsUnplayed, Plays}
 
 module _ {D L : Type 0} (tells honest : Bool) (meter : D → Meter) (image : D → List ℕ → Type 0) (count : L → ℕ) (disks : Handed D) (links : Handed L) (sink : Sunk) (status : ℕ) (s : Script)
     (sink_whole : ¬ Rises sink.old sink.new) (formatted : IsUnplayed tells meter image s.volume disks links sink status → (index : ℕ) → ¬ IsCause meter disks.old disks.new (faults.Disk index)) where

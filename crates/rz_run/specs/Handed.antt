@@ -7,7 +7,7 @@ use Rattle.rz_events.specs.declared.keys.Actor.{Actor}
 use Rattle.rz_events.specs.declared.events.Word.TheVariants.{Node}
 use Rattle.rz_events.specs.declared.events.Event.{Event}
 use Rattle.rz_core.specs.History.{facts, of_actor, of_word}
-use Rattle.rz_image_laws.specs.Images.{AreImages, geometry_in}
+use Rattle.rz_node_laws.specs.Images.{AreImages, geometry_in}
 use Rattle.rz_play.specs.Faults.{missed}
 use Rattle.rz_play.specs.World.{actors}
 use Rattle.rz_chronicle.specs.Keys.{sids_of}

@@ -5,24 +5,17 @@ use Rattle.rz_events.specs.Volume.{Volume, nodes_of}
 use Rattle.rz_events.specs.declared.events.Event.{Event}
 use Rattle.rz_nodes.specs.Formatted.{AreBack, IsCause}
 use Rattle.rz_nodes.specs.declared.fault.DriverFault.{DriverFault}
-use Rattle.rz_nodes.specs.declared.fault.DriverFault.TheVariants as faults
 use Rattle.rz_script.specs.Scripts.{Script}
 use Rattle.rz_script.specs.declared.line.Line.{Line}
 use Rattle.rz_show.specs.RunText.{run_text}
 use Rattle.rz_request.specs.Line.{Meaning}
 use Rattle.rz_request.specs.Requests.{Reading}
 use Rattle.rz_request.specs.Runs.{AsksRun}
-use Rattle.rz_request.specs.declared.refusal.Refusal.TheVariants as refusals
 use Rattle.rz_request.specs.declared.refusal.Stop.{Stop}
 use Rattle.rz_report.specs.Output.{Sunk, Ends, Lacks}
-use Rattle.rz_report.specs.Telling.{Refuses, Stops}
+use Rattle.rz_report.specs.Telling.{Fails, Stops}
 use Rattle.rz_run.specs.Done.{IsAllBegun, IsAllFinished, IsTrueLog}
 use Rattle.rz_run.specs.Handed.{AreDisksTold, AreLinksTold, Handed}
-
--- the disks are not formatted: memory is wanting, or the line of the disk that failed was to be written
-abbrev pub Fails : DriverFault → Sunk → ℕ → Type 0
-Fails faults.NoMemory sink status = Lacks sink status
-Fails (faults.Disk index) sink status = Refuses (refusals.Disk index) sink status
 
 -- No play began. Either memory was wanting, or a disk failed while it was formatted, and its faults rose. Each image of each disk is
 -- one from before, or its header is shut, or it stands for nothing. The links are as they came.

@@ -25,4 +25,3 @@ mod telling;
 pub use laws::completes;
 pub use outcome::Ran;
 pub use running::run;
-pub use telling::refuse_disks;

@@ -4,14 +4,11 @@ ghost use Rattle.rz_chronicle.specs.Keys.{sids_of};
 ghost use Rattle.rz_threads_workers.specs.Moves.{HoldsAll};
 ghost use Rattle.rz_show.specs.RunText.{AreShownOf, run_text};
 ghost use Rattle.rz_report.specs.Output.{Ends, Lacks, Sunk};
-ghost use Rattle.rz_run.specs.Runs.{Fails};
 
 use rz_chronicle::{Book, Naming, Pass};
 use rz_events::Event;
-use rz_nodes::DriverFault;
 use rz_ports::Sink;
-use rz_report::{finish, refuse};
-use rz_request::Refusal;
+use rz_report::finish;
 use rz_show::show_run;
 use rz_threads_workers::count_all;
 use std::alloc::Global;
@@ -19,16 +16,6 @@ use std::sync::Wait;
 
 /// There was no memory.
 pub(crate) const NO_MEMORY: u8 = 70;
-
-/// Writes why the disks were not formatted, and gives the status.
-pub fn refuse_disks<O: Sink>(alloc: Global, fault: DriverFault, output: &mut O) -> u8
-    ensures { Fails fault (record { before = O.taken output.old; after = O.taken output.new; old = O.faults output.old; new = O.faults output.new }) result }
-{
-    match fault {
-        DriverFault::NoMemory => NO_MEMORY,
-        DriverFault::Disk { index } => refuse(alloc, &Refusal::Disk { index }, output),
-    }
-}
 
 /// Writes the text of the log that a pass has seen, of which these are the events that are shown, and gives
 /// the status.

@@ -12,7 +12,7 @@ use Rattle.rz_cells_slots.specs.declared.geometry.Geometry.{Geometry}
 use Rattle.rz_cells_slots.specs.Held.{nothing}
 use Rattle.rz_cells_slots.specs.Stands.{StandsFor}
 use Rattle.rz_core.specs.NodeRows.{cells_among, cells_of, IsNodeOf}
-use Rattle.rz_image_laws.specs.Images.{geometry_in}
+use Rattle.rz_node_laws.specs.Images.{geometry_in}
 use Rattle.rz_chronicle.specs.Rules.{PostView}
 use Rattle.rz_chronicle.specs.Deals.{new_post}
 use Rattle.rz_chronicle.specs.Keys.{sids_of}

@@ -12,7 +12,7 @@ use Rattle.rz_core.specs.NodeRows.{IsNodeOf}
 use Rattle.rz_chronicle.specs.Rules.{PostView}
 use Rattle.rz_chronicle.specs.Deals.{new_post}
 use Rattle.rz_nodes.specs.declared.formatting.Station.{Station}
-use Rattle.rz_image_laws.specs.Images.{geometry_in}
+use Rattle.rz_node_laws.specs.Images.{geometry_in}
 
 -- A node of the volume on a disk that was formatted for it and is not armed, whose one image is its text, and whose count of faults
 -- did not fall since it was `first` of that node; and the post of its word, which has no event.

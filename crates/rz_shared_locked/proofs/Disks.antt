@@ -16,8 +16,8 @@ use Rattle.rz_node.specs.Change.{IsBranch}
 use Rattle.rz_node.specs.Opens.{IfStarted, IfTook}
 use Rattle.rz_node.specs.Leaves.{Leaves, Starts}
 use Rattle.rz_core.specs.History.{Facts}
-use Rattle.rz_image_laws.specs.Images.{IsImaged}
-use Rattle.rz_image_laws.specs.Laws.{IsFetchLaw}
+use Rattle.rz_node_laws.specs.Images.{IsImaged}
+use Rattle.rz_node_laws.specs.Laws.{IsFetchLaw}
 use Rattle.rz_shared_locked.specs.Seats.{IsRead}
 
 -- a start leaves the disk as it was, and settled where the node is up

@@ -20,8 +20,8 @@ use Rattle.rz_core.specs.HeldRecords.{record_on}
 use Rattle.rz_core.specs.Longer.{IsOneRun, IsPermanent}
 use Rattle.rz_core.specs.Tied.{IsNode, IsProperAsk, IsNodeStep, IsNodeLaw}
 use Rattle.rz_log_laws.specs.Beside.{IsNodeKept, IsAskKept, IsArming}
-use Rattle.rz_image_laws.specs.Records.{IsRecordOf, HandsRecord}
-use Rattle.rz_image_laws.specs.Laws.{IsLongerLaw}
+use Rattle.rz_node_laws.specs.Records.{IsRecordOf, HandsRecord}
+use Rattle.rz_node_laws.specs.Laws.{IsLongerLaw}
 use Rattle.rz_chronicle.specs.Keys.{IsLater, events_at, count_at, word_key, actor_key}
 use Rattle.rz_shared_locked.specs.Laws.{IsSeatKept, IsAskerKept, IsReadKept, IsAnswerLaw, IsArmLaw}
 
@@ -56,7 +56,7 @@ ask-later v one kept actors old new by n question legal later same proper =
 pub seat-kept : {D : Type 0} (image : D → List ℕ → Type 0) (v : Volume) → IsOneRun v → IsNodeKept v → IsLongerLaw image → AreWordsKept → IsSeatKept image v
 seat-kept {D = D} image v one kept longer words old new n node legal later same logged = record {
   tied = node-later v one kept words old new n node.state legal later same logged.tied;
-  imaged = subst (λ (h : List Event). Rattle.rz_image_laws.specs.Images.IsImaged v (facts h) n node.state node.geometry (image node.disk)) (sym later.1)
+  imaged = subst (λ (h : List Event). Rattle.rz_node_laws.specs.Images.IsImaged v (facts h) n node.state node.geometry (image node.disk)) (sym later.1)
       (longer v old later.0 n node.geometry node.state node.disk logged.imaged);
 }
 

@@ -30,7 +30,7 @@ use Rattle.rz_node.specs.Calls as calls
 use Rattle.rz_core.specs.History.{of_word}
 use Rattle.rz_play.specs.Faults.{fuse_of}
 use Rattle.rz_play.specs.Lines.{noted}
-use Rattle.rz_disk_laws.specs.Metered.{IsMetered, IsNoStart, IsFaultLaw, IsArmLaw, IsStartLaw, IsOpening, IsCounted}
+use Rattle.rz_node_laws.specs.Metered.{IsMetered, IsNoStart, IsFaultLaw, IsArmLaw, IsStartLaw, IsOpening, IsCounted}
 use Rattle.rz_shared_locked.specs.Counts.{IsExact, GoesWith, AreCountedSince, rearmed}
 
 -- The word of a node grows by the node's events.

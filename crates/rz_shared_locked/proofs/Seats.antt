@@ -18,8 +18,8 @@ use Rattle.rz_core.specs.NodeRows.{cells_of, IsNodeOf}
 use Rattle.rz_core.specs.Legal.{IsLegal}
 use Rattle.rz_core.specs.Tied.{IsNode, IsOpening}
 use Rattle.rz_play.specs.Lines.{noted}
-use Rattle.rz_image_laws.specs.Images.{IsImaged}
-use Rattle.rz_image_laws.specs.Laws.{IsLongerLaw}
+use Rattle.rz_node_laws.specs.Images.{IsImaged}
+use Rattle.rz_node_laws.specs.Laws.{IsLongerLaw}
 use Rattle.rz_chronicle.specs.Keys.{IsLater, IsOneOf, events_at, count_at, word_key, actor_key}
 use Rattle.rz_chronicle.specs.Kinds.{IsFit, MayCome, is_honest, volume_in}
 use Rattle.rz_shared_locked.specs.Adding.{Adds}

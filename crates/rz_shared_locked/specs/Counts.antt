@@ -6,7 +6,7 @@ use Rattle.rz_events.specs.declared.nodes.StartAnswer.TheVariants as start
 use Rattle.rz_events.specs.declared.events.Event.{Event}
 use Rattle.rz_node.specs.View.{NodeView}
 use Rattle.rz_play.specs.Faults.{AreFaultsCounted}
-use Rattle.rz_disk_laws.specs.Metered.{IsMetered}
+use Rattle.rz_node_laws.specs.Metered.{IsMetered}
 
 -- a count below the last value of a u64 has counted each fault
 abbrev pub IsExact : ℕ → Type 0

@@ -16,9 +16,9 @@ use Rattle.rz_node.specs.View.{NodeView}
 use Rattle.rz_core.specs.History.{Facts, facts, of_word, of_actor}
 use Rattle.rz_core.specs.NodeRows.{cells_of}
 use Rattle.rz_core.specs.Tied.{IsNode, IsProperAsk, IsOpening}
-use Rattle.rz_image_laws.specs.Records.{HandsRecord}
-use Rattle.rz_image_laws.specs.Images.{AreImages, IsImaged, geometry_in}
-use Rattle.rz_image_laws.specs.Laws.{IsReadBack}
+use Rattle.rz_node_laws.specs.Records.{HandsRecord}
+use Rattle.rz_node_laws.specs.Images.{AreImages, IsImaged, geometry_in}
+use Rattle.rz_node_laws.specs.Laws.{IsReadBack}
 use Rattle.rz_chronicle.specs.Keys.{IsLater, events_at, word_key}
 use Rattle.rz_chronicle.specs.Kinds.{is_honest, volume_in}
 use Rattle.rz_shared_locked.specs.Adding.{Adds}

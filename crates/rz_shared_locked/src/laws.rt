@@ -10,7 +10,7 @@ pub(crate) fn seat_kept<D: Disk>()
 {
     rz_core::one_run();
     rz_log_laws::node_kept();
-    rz_image_laws::longer::<D>();
+    rz_node_laws::longer::<D>();
     rz_chronicle::words_kept();
 }
 

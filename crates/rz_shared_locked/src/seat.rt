@@ -11,7 +11,7 @@ ghost use Rattle.rz_node_model.specs.NodeEvents as model;
 ghost use Rattle.rz_node.specs.Calls.{Takes, IsUnread};
 ghost use Rattle.rz_core.specs.History.{facts, of_word};
 ghost use Rattle.rz_core.specs.NodeRows.{IsNodeOf};
-ghost use Rattle.rz_image_laws.specs.Images.{geometry_in};
+ghost use Rattle.rz_node_laws.specs.Images.{geometry_in};
 ghost use Rattle.rz_chronicle.specs.Keys.{count_at, word_key, IsLater};
 ghost use Rattle.rz_chronicle.specs.Kinds.{IsFit, is_honest, volume_in};
 ghost use Rattle.rz_chronicle.specs.Holds.{Commits, Stays};
@@ -51,7 +51,7 @@ impl<D: Disk, J: Counting> Model for Seat<D, J> {
     ghost use Rattle.rz_core.specs.NodeRows.{IsNodeOf};
     ghost use Rattle.rz_play.specs.Faults.{fuse_of};
     ghost use Rattle.rz_chronicle.specs.Kinds.{is_honest, volume_in};
-    ghost use Rattle.rz_image_laws.specs.Images.{geometry_in};
+    ghost use Rattle.rz_node_laws.specs.Images.{geometry_in};
     ghost use Rattle.rz_shared_locked.specs.Counts.{GoesWith};
     ghost use Rattle.rz_shared_locked.specs.Picks.{pick_of};
     ghost use Rattle.rz_shared_locked.specs.Seats.{SeatView, IsLogged};
@@ -86,7 +86,7 @@ impl<D: Disk, J: Counting> Seat<D, J> {
         ensures { result ≡ record { node = sid; log = [] } }
     {
         rz_log_laws::beginning();
-        rz_image_laws::fresh::<D>();
+        rz_node_laws::fresh::<D>();
         Seat {
             alloc,
             sid,
@@ -113,8 +113,8 @@ impl<D: Disk, J: Counting> Seat<D, J> {
         ensures counted { AreCountedSince (J.first self.node) (D.meter result.0).own (of_word (w.Node self.node) self.log) }
     {
         crate::laws::seat_kept::<D>();
-        rz_image_laws::logged::<D>();
-        rz_disk_laws::counted();
+        rz_node_laws::logged::<D>();
+        rz_node_laws::counted();
         let _fit = self.post.room();
         let Seat {
             alloc: _,
@@ -225,7 +225,7 @@ impl<D: Disk, J: Counting> Seat<D, J> {
         crate::laws::seat_kept::<D>();
         crate::laws::read_kept();
         crate::laws::answers();
-        rz_image_laws::longer::<D>();
+        rz_node_laws::longer::<D>();
         let by = pass.actor();
         rz_chronicle::words_kept();
         let answer = serve(
@@ -255,10 +255,10 @@ impl<D: Disk, J: Counting> Seat<D, J> {
         ensures fit { IsFit J.kind pass.new.log }
     {
         crate::laws::arming();
-        rz_image_laws::fewer::<D>();
-        rz_image_laws::longer::<D>();
+        rz_node_laws::fewer::<D>();
+        rz_node_laws::longer::<D>();
         rz_chronicle::words_kept();
-        rz_disk_laws::armed();
+        rz_node_laws::armed();
         let _by = pass.actor();
         self.node.arm(Some(passes));
         self.pick = pick;

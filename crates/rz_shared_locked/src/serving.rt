@@ -18,8 +18,8 @@ ghost use Rattle.rz_play.specs.Lines.{noted};
 ghost use Rattle.rz_node.specs.Calls.{Takes, IsUnread};
 ghost use Rattle.rz_core.specs.History.{Facts, of_word};
 ghost use Rattle.rz_core.specs.Tied.{IsOpening};
-ghost use Rattle.rz_image_laws.specs.Records.{HandsRecord};
-ghost use Rattle.rz_image_laws.specs.Images.{IsImaged};
+ghost use Rattle.rz_node_laws.specs.Records.{HandsRecord};
+ghost use Rattle.rz_node_laws.specs.Images.{IsImaged};
 ghost use Rattle.rz_shared_locked.specs.Counts.{GoesWith, rearmed};
 ghost use Rattle.rz_shared_locked.specs.Picks.{pick_of};
 ghost use Rattle.rz_shared_locked.specs.Seats.{IsRead};
@@ -64,9 +64,9 @@ pub(crate) fn serve<D: Disk, J: Naming>(
     if matches!(ask, NodeAsk::Start) {
         return NodeAnswer::Start(start(alloc, pick, left, node));
     }
-    rz_image_laws::called::<D>();
-    rz_image_laws::fetched::<D>();
-    rz_disk_laws::faults();
+    rz_node_laws::called::<D>();
+    rz_node_laws::fetched::<D>();
+    rz_node_laws::faults();
     answer_node(node, alloc, ask, bins)
 }
 
@@ -85,7 +85,7 @@ fn start<D: Disk>(alloc: Global, pick: u64, left: Option<u64>, node: &mut Node<D
     if node.phase() != Phase::Down {
         return StartAnswer::NotDown;
     }
-    rz_disk_laws::started();
+    rz_node_laws::started();
     lose_power(pick, node);
     let answer = open_disk(alloc, node);
     rearm(left, &answer, node);
@@ -102,8 +102,8 @@ fn lose_power<D: Disk>(pick: u64, node: &mut Node<D>)
     ensures meter { D.meter node.new.disk ≡ armed None (D.meter node.old.disk) }
     ensures imaged { IsTrue D.tells → (v : Volume) (f : Facts) (n : ℕ) → IsImaged v f n node.old.state node.old.geometry (D.image node.old.disk) → IsImaged v f n node.new.state node.new.geometry (D.image node.new.disk) }
 {
-    rz_image_laws::crashed::<D>();
-    rz_image_laws::fewer::<D>();
+    rz_node_laws::crashed::<D>();
+    rz_node_laws::fewer::<D>();
     node.crash(pick);
     node.arm(None);
 }
@@ -119,7 +119,7 @@ fn open_disk<D: Disk>(alloc: Global, node: &mut Node<D>) -> StartAnswer
     ensures opens { Opens (opening_calls node.old.geometry) result (D.meter node.old.disk) (D.meter node.new.disk) }
     ensures imaged { IsTrue D.tells → (v : Volume) (f : Facts) (n : ℕ) → IsImaged v f n node.old.state node.old.geometry (D.image node.old.disk) → IsImaged v f n node.new.state node.new.geometry (D.image node.new.disk) }
 {
-    rz_image_laws::called::<D>();
+    rz_node_laws::called::<D>();
     node.start(alloc)
 }
 
@@ -132,7 +132,7 @@ fn rearm<D: Disk>(left: Option<u64>, answer: &StartAnswer, node: &mut Node<D>)
     ensures meter { D.meter node.new.disk ≡ rearmed answer.now left (D.meter node.old.disk) }
     ensures imaged { IsTrue D.tells → (v : Volume) (f : Facts) (n : ℕ) → IsImaged v f n node.old.state node.old.geometry (D.image node.old.disk) → IsImaged v f n node.new.state node.new.geometry (D.image node.new.disk) }
 {
-    rz_image_laws::fewer::<D>();
+    rz_node_laws::fewer::<D>();
     match answer {
         StartAnswer::NoMemory => node.arm(left),
         StartAnswer::Started { .. } | StartAnswer::NotDown | StartAnswer::Unopened(_) => {}

@@ -32,9 +32,9 @@ use Rattle.rz_play.specs.Lines.{noted}
 use Rattle.rz_play_laws.specs.Own.{IsToldBy, AreToldBy}
 use Rattle.rz_play_laws.proofs.Telling.{told-extends}
 use Rattle.rz_block_laws.specs.Laws.{IsNoFetch}
-use Rattle.rz_image_laws.specs.Laws.{IsReadBack}
-use Rattle.rz_acting.specs.Acting.{IsActing, TellsBytes, AreBytes}
-use Rattle.rz_acting.specs.Laws.{IsGoingLaw, IsHearingLaw}
+use Rattle.rz_node_laws.specs.Laws.{IsReadBack}
+use Rattle.rz_block_laws.specs.Acting.{IsActing, TellsBytes, AreBytes}
+use Rattle.rz_block_laws.specs.ActingLaws.{IsGoingLaw, IsHearingLaw}
 use Rattle.rz_chronicle.specs.Keys.{IsLater}
 use Rattle.rz_chronicle.specs.Kinds.{IsFit, is_honest, volume_in}
 use Rattle.rz_chronicle.specs.Rules.{PassView}

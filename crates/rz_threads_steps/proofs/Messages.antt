@@ -20,8 +20,8 @@ use Rattle.rz_operation_model.specs.Ask.{Ask, AskNode, ask_of}
 use Rattle.rz_operation_model.specs.Turns.{goes_by_link}
 use Rattle.rz_core.specs.History.{Facts, facts, of_actor}
 use Rattle.rz_core.specs.Own.{IsOpen}
-use Rattle.rz_acting.specs.Acting.{IsActing}
-use Rattle.rz_acting.specs.Laws.{IsAskingLaw}
+use Rattle.rz_block_laws.specs.Acting.{IsActing}
+use Rattle.rz_block_laws.specs.ActingLaws.{IsAskingLaw}
 use Rattle.rz_block_laws.specs.Laws.{IsHandingLaw}
 use Rattle.rz_shared_locked.specs.Seats.{MayAsk, IsRead}
 use Rattle.rz_play.specs.Lines.{noted}

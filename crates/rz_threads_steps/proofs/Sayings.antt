@@ -14,7 +14,7 @@ use Rattle.rz_core.specs.History.{Facts, facts, of_word, of_actor}
 use Rattle.rz_core.specs.Legal.{Row, Allowed, HasWord, IsAllowed}
 use Rattle.rz_play.specs.Turns.{text_said}
 use Rattle.rz_play_laws.specs.Own.{IsProper}
-use Rattle.rz_acting.specs.Laws.{IsAskingLaw, IsSayingLaw}
+use Rattle.rz_block_laws.specs.ActingLaws.{IsAskingLaw, IsSayingLaw}
 use Rattle.rz_chronicle.specs.Keys.{count_at, word_key}
 use Rattle.rz_chronicle.specs.Kinds.{IsFit, MayCome, volume_in}
 use Rattle.rz_chronicle.specs.Rules.{PassView}

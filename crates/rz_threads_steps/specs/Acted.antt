@@ -7,7 +7,7 @@ use Rattle.rz_operation.specs.Machine.{Machine}
 use Rattle.rz_core.specs.History.{facts, of_actor}
 use Rattle.rz_play.specs.Faults.{missed}
 use Rattle.rz_play_laws.specs.Own.{IsOfActor}
-use Rattle.rz_acting.specs.Acting.{IsActing}
+use Rattle.rz_block_laws.specs.Acting.{IsActing}
 use Rattle.rz_chronicle.specs.Keys.{IsLater}
 use Rattle.rz_chronicle.specs.Kinds.{IsFit, is_honest, volume_in}
 use Rattle.rz_chronicle.specs.Rules.{PassView}

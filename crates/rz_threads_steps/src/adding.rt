@@ -11,7 +11,7 @@ ghost use Rattle.rz_core.specs.NodeRows.{IsNodeOf};
 ghost use Rattle.rz_core.specs.Tied.{IsProperCall};
 ghost use Rattle.rz_play.specs.Faults.{missed};
 ghost use Rattle.rz_play_laws.specs.Own.{IsOfActor};
-ghost use Rattle.rz_acting.specs.Acting.{AreBytes};
+ghost use Rattle.rz_block_laws.specs.Acting.{AreBytes};
 ghost use Rattle.rz_chronicle.specs.Keys.{count_at, word_key};
 ghost use Rattle.rz_chronicle.specs.Kinds.{IsFit, MayCome, is_honest, volume_in};
 ghost use Rattle.rz_shared_locked.specs.Seats.{MayAsk, IsRead};

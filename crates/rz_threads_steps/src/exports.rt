@@ -74,8 +74,8 @@ pub fn ask_export<R: Wait, D: Disk, J: Counting>(
     ensures acted { OnOk result ((number : ℕ) → IsRight J.kind pass.old number machine.old → HasActed J.kind number pass.old pass.new machine.old machine.new) }
     ensures cut { OnErr result ((number : ℕ) → IsCutOff pass.old.actor number pass.old.log pass.new.log machine.old) }
 {
-    rz_acting::asks();
-    rz_acting::goes();
+    rz_block_laws::acting::asks();
+    rz_block_laws::acting::goes();
     let by = pass.actor();
     shown.reserve(1)?;
     let call = next_call(alloc, machine)?;

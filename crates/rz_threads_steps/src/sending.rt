@@ -126,7 +126,7 @@ fn serve<R: Wait, D: Disk, J: Counting>(
     ensures served { IfOk result (λ a. IsServed J.kind node ask.now a pass.old pass.new bins.old bins.new) }
     ensures still { OnErr result (pass.new ≡ pass.old) }
 {
-    rz_acting::asks();
+    rz_block_laws::acting::asks();
     rz_block_laws::handing();
     let layout = store.volume.layout;
     let _fit = pass.actor();
@@ -169,7 +169,7 @@ fn through<R: Wait, D: Disk, J: Counting>(
     ensures acted { OnOk result ((number : ℕ) → IsRight J.kind pass.old number machine.old → HasActed J.kind number pass.old pass.new machine.old machine.new) }
     ensures cut { OnErr result ((number : ℕ) → IsCutOff pass.old.actor number pass.old.log pass.new.log machine.old) }
 {
-    rz_acting::hears();
+    rz_block_laws::acting::hears();
     let layout = store.layout();
     let _most = layout.max_bins();
     let _fit = pass.actor();
@@ -223,7 +223,7 @@ fn without_reply<R: Wait, D: Disk, J: Counting>(
     ensures acted { OnOk result ((number : ℕ) → IsRight J.kind pass.old number machine.old → HasActed J.kind number pass.old pass.new machine.old machine.new) }
     ensures cut { OnErr result ((number : ℕ) → IsCutOff pass.old.actor number pass.old.log pass.new.log machine.old) }
 {
-    rz_acting::goes();
+    rz_block_laws::acting::goes();
     let _fit = pass.actor();
     if !machine.has_room() {
         return Err(NoMemory);
@@ -256,8 +256,8 @@ fn without_request<D: Disk, J: Counting>(
     ensures acted { OnOk result ((number : ℕ) → IsRight J.kind pass.old number machine.old → HasActed J.kind number pass.old pass.new machine.old machine.new) }
     ensures cut { OnErr result ((number : ℕ) → IsCutOff pass.old.actor number pass.old.log pass.new.log machine.old) }
 {
-    rz_acting::asks();
-    rz_acting::goes();
+    rz_block_laws::acting::asks();
+    rz_block_laws::acting::goes();
     let _ = ask;
     let _fit = pass.actor();
     if !machine.has_room() || !pass.room() {

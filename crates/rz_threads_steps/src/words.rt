@@ -104,9 +104,9 @@ pub fn say<D: Disk, J: Counting>(
     ensures acted { OnOk result (HasActed J.kind number pass.old pass.new machine.old machine.new) }
     ensures cut { OnErr result (IsCutOff pass.old.actor number pass.old.log pass.new.log machine.old) }
 {
-    rz_acting::asks();
-    rz_acting::says();
-    rz_acting::goes();
+    rz_block_laws::acting::asks();
+    rz_block_laws::acting::says();
+    rz_block_laws::acting::goes();
     rz_chronicle::words_counted();
     let by = pass.actor();
     if !machine.has_room() || !pass.room() {

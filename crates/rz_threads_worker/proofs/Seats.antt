@@ -15,7 +15,7 @@ use Rattle.rz_core.specs.History.{facts, of_actor}
 use Rattle.rz_core.specs.Own.{IsBetween}
 use Rattle.rz_play.specs.World.{Seat as APlayer, take_up, at_work, is_over}
 use Rattle.rz_play_laws.specs.Own.{IsOwn}
-use Rattle.rz_acting.specs.Laws.{IsBeginningLaw}
+use Rattle.rz_block_laws.specs.ActingLaws.{IsBeginningLaw}
 use Rattle.rz_chronicle.specs.Kinds.{volume_in}
 use Rattle.rz_chronicle.specs.Rules.{PassView}
 use Rattle.rz_threads_steps.specs.Acted.{IsRight}

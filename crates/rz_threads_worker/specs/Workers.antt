@@ -15,7 +15,7 @@ use Rattle.rz_core.specs.History.{of_actor}
 use Rattle.rz_core.specs.Own.{IsBetween}
 use Rattle.rz_operation_model.specs.Steps.{begun}
 use Rattle.rz_play.specs.World.{Seat as APlayer, has_work, is_over}
-use Rattle.rz_acting.specs.Acting.{IsActing}
+use Rattle.rz_block_laws.specs.Acting.{IsActing}
 use Rattle.rz_chronicle.specs.Kinds.{is_honest, volume_in}
 use Rattle.rz_chronicle.specs.Rules.{PassView}
 use Rattle.rz_show.specs.Shown.{shown_of}

@@ -36,7 +36,7 @@ fn take_turn<R: Threads + Wait + Sync, D: Disk, J: Counting, L: Link>(
     ensures done { OnOk result (HasDone (is_honest J.kind) (volume_in J.kind).layout worker.old.pass.actor (seat_of worker.old.seat) (seat_of worker.new.seat) worker.old.pass.log worker.new.pass.log) }
     ensures begun { OnErr result (IsBegun (is_honest J.kind) (volume_in J.kind).layout worker.old.pass.actor (seat_of worker.old.seat) worker.old.pass.log worker.new.pass.log) }
 {
-    rz_acting::begins();
+    rz_block_laws::acting::begins();
     let _fit = worker.pass.actor();
     let layout = store.layout();
     worker.seat.take_up(rt, alloc, layout)?;

@@ -1,8 +1,8 @@
 use Rattle.std.proofs.Common.{List, sym, ◌∙◌, subst}
 use Rattle.rz_events.specs.Volume.{Volume}
 use Rattle.rz_journal.specs.Opening.{IsRefused}
-use Rattle.rz_asks.specs.Reopened.{AllTextsOf, MakesExport}
-use Rattle.rz_asks.specs.Stands.{export_in}
+use Rattle.rz_metadata.specs.Reopened.{AllTextsOf, MakesExport}
+use Rattle.rz_metadata.specs.Stands.{export_in}
 use Rattle.rz_nodes.specs.declared.refusal.OpenRefusal.{OpenRefusal}
 use Rattle.rz_driver.specs.Continued.{IsJournalCause}
 use Rattle.rz_driver.proofs.AgainLemmas.{as-it-came, cause-of}

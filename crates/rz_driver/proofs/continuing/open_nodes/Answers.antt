@@ -4,8 +4,8 @@ use Rattle.std.proofs.lemmas.List.{length-map}
 use Rattle.mj_angles.specs.declared.layout.Layout.{Layout}
 use Rattle.rz_events.specs.Volume.{Volume, IsNode, nodes_of}
 use Rattle.rz_events.specs.declared.files.NodeSpec.{NodeSpec}
-use Rattle.rz_asks.specs.Enrolled.{loss_of}
-use Rattle.rz_asks.specs.Stands.{export_in}
+use Rattle.rz_metadata.specs.Enrolled.{loss_of}
+use Rattle.rz_metadata.specs.Stands.{export_in}
 use Rattle.rz_nodes.specs.Opened.{AreOpened, IsCause}
 use Rattle.rz_driver.specs.Continued.{losses_of}
 use Rattle.rz_driver.proofs.AgainLemmas.{kept-same, opened-many}

@@ -4,14 +4,15 @@ use Rattle.rz_driver_actors.specs.Acts.{IsMessage, Exports, Opens, Sends, Says}
 use Rattle.rz_events.specs.declared.export.Call.TheVariants as call
 use Rattle.rz_events.specs.declared.tree.TreeCall.TheVariants as tree
 use Rattle.rz_export_model.specs.Export.{export_reply}
-use Rattle.rz_asks.specs.Stands.{export_in}
+use Rattle.rz_metadata.specs.Stands.{export_in}
 use Rattle.rz_operation.specs.Machine.{text_of}
-use Rattle.rz_asks.specs.Journals.{call_asked, EndsOn, KeepsAsked}
+use Rattle.rz_metadata.specs.Journals.{EndsOn}
+use Rattle.rz_driver_asks.specs.Asked.{call_asked, KeepsAsked}
 use Rattle.rz_driver_actors.specs.Stores.{Asks, AsksNothing}
 use Rattle.rz_driver_actors.proofs.StoreLemmas.{ends-with-it, fate-stays, said-stays-export, same-store}
 use Rattle.rz_driver_nodes.proofs.MeterLemmas.{still-err, metered-stays, still-left, export-stays, said-stays}
-use Rattle.rz_asks.specs.Locking.{IsOpenPart, open_reply}
-use Rattle.rz_asks.specs.Parts.{IsExportPart}
+use Rattle.rz_driver_asks.specs.Locking.{IsOpenPart, open_reply}
+use Rattle.rz_driver_asks.specs.Parts.{IsExportPart}
 use Rattle.rz_driver_actors.specs.Hands.{KeepsPicture, SparesPicture}
 use Rattle.rz_driver_actors.proofs.ActPictures.{still-keeps, still-spares, at-machine, at-spares, export-keeps, open-keeps, say-keeps}
 use Rattle.rz_driver_nodes.proofs.PictureLemmas.{both-ok, on-err}

@@ -4,7 +4,7 @@ use Rattle.std.proofs.lemmas.Option.{slice_get-get_or}
 use Rattle.std.proofs.lemmas.Result.{on_ok_weaker, on_err_weaker}
 use Rattle.rz_events.specs.declared.events.Event.{Event}
 use Rattle.rz_events.specs.declared.events.Event.TheVariants as e
-use Rattle.rz_asks.specs.Logged.{stamp_begun}
+use Rattle.rz_log.specs.Logged.{stamp_begun}
 use Rattle.rz_driver_nodes.proofs.MeterLemmas.{metered-counts, still-err, order-held, order-left, sid-at}
 use Rattle.rz_driver_nodes.proofs.Rows.{at-within}
 use Rattle.rz_driver_nodes.proofs.OrderPictures.{row-keeps, still-row}

@@ -4,7 +4,7 @@ use Rattle.std.proofs.lemmas.Option.{slice_get-get_or}
 use Rattle.std.proofs.lemmas.Result.{on_ok_weaker, on_err_weaker}
 use Rattle.rz_events.specs.declared.nodes.NodeAsk.TheVariants as ask
 use Rattle.rz_events.specs.declared.events.Event.{Event}
-use Rattle.rz_asks.specs.Logged.{stamp_begun}
+use Rattle.rz_log.specs.Logged.{stamp_begun}
 use Rattle.rz_play.specs.Lines.{noted}
 use Rattle.rz_driver_nodes.proofs.MeterLemmas.{metered-counts, still-err, order-err, order-held, order-left}
 use Rattle.rz_driver_nodes.proofs.Rows.{at-within}

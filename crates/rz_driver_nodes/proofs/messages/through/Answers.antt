@@ -3,7 +3,7 @@ use Rattle.std.specs.Prelude.{not}
 use Rattle.std.proofs.lemmas.Result.{on_ok_weaker, on_err_weaker}
 use Rattle.rz_cells_slots.specs.Opening.{opening_calls}
 use Rattle.rz_node_model.specs.NodeEvents.{node_event}
-use Rattle.rz_asks.specs.Logged.{stamp_begun}
+use Rattle.rz_log.specs.Logged.{stamp_begun}
 use Rattle.rz_driver_nodes.proofs.Fits.{told-true}
 use Rattle.rz_driver_nodes.proofs.MeterLemmas.{call-goes, call-lasts, noted-goes}
 use Rattle.rz_driver_nodes.proofs.MessagePictures.{answers-to, eventless, fits-always, good-always, keeps-through, node-quiet, not-called}

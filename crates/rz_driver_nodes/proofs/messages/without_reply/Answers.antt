@@ -6,7 +6,7 @@ use Rattle.rz_node_model.specs.NodeEvents.{node_event}
 use Rattle.rz_driver_nodes.proofs.MeterLemmas.{call-goes, call-lasts, missed-goes}
 use Rattle.rz_operation_model.specs.Ask.{ask_of}
 use Rattle.rz_driver_nodes.proofs.Asks.{may-miss}
-use Rattle.rz_asks.specs.Logged.{stamp_begun}
+use Rattle.rz_log.specs.Logged.{stamp_begun}
 use Rattle.rz_driver_nodes.proofs.MessagePictures.{eventless, keeps-lost, node-quiet, not-called}
 use Rattle.rz_driver_nodes.proofs.PictureLemmas.{on-err}
 use Rattle.rz_driver_nodes.proofs.messages.without_reply.Goals as goal

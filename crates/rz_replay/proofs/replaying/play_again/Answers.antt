@@ -11,15 +11,14 @@ use Rattle.rz_restart_laws.specs.Earlier.{IsEarlier, IsRestarted}
 use Rattle.rz_events.specs.Volume.{Volume, nodes_of}
 use Rattle.rz_events.specs.declared.events.Event.{Event}
 use Rattle.rz_nodes.specs.Formatted.{disks_of}
-use Rattle.rz_asks.specs.Stands.{disk_of, export_in, is_journaled, refusal_of}
+use Rattle.rz_metadata.specs.Stands.{disk_of, export_in, is_journaled, refusal_of}
 use Rattle.rz_nodes.specs.Opened.{AreKept}
 use Rattle.rz_script.specs.declared.line.Line.{Line}
 use Rattle.rz_driver_nodes.specs.Meters.{faults_at}
 use Rattle.rz_driver_nodes.specs.Stations.{state_in}
 use Rattle.rz_core.specs.HeldRecords.{block_of}
-use Rattle.rz_core.specs.History.{facts}
+use Rattle.rz_core.specs.History.{facts, text_in}
 use Rattle.rz_core.specs.Legal.{IsLegalInRuns}
-use Rattle.rz_scrub_laws.specs.Untouched.{text_in}
 use Rattle.rz_play.specs.World.{World, world_after}
 use Rattle.rz_play.specs.Played.{IsBegunFrom}
 use Rattle.rz_play_laws.specs.Fine.{IsFine, MayBegin}

@@ -12,12 +12,11 @@ use Rattle.rz_events.specs.Volume.{Volume, nodes_of}
 use Rattle.rz_events.specs.declared.events.Event.{Event}
 use Rattle.rz_events.specs.declared.files.NodeSpec.{NodeSpec}
 use Rattle.rz_nodes.specs.Formatted.{IsCause, disks_of}
-use Rattle.rz_asks.specs.Stands.{disk_of, is_journaled, refusal_of}
+use Rattle.rz_metadata.specs.Stands.{disk_of, is_journaled, refusal_of}
 use Rattle.rz_script.specs.declared.line.Line.{Line}
 use Rattle.rz_driver_nodes.specs.Meters.{faults_at}
 use Rattle.rz_core.specs.HeldRecords.{block_of}
-use Rattle.rz_core.specs.History.{facts}
-use Rattle.rz_scrub_laws.specs.Untouched.{text_in}
+use Rattle.rz_core.specs.History.{facts, text_in}
 use Rattle.rz_node_model.specs.States.{fresh}
 use Rattle.rz_export_model.specs.Export.{new_export}
 use Rattle.rz_play.specs.World.{new_world}

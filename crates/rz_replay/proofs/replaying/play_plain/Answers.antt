@@ -10,8 +10,7 @@ use Rattle.rz_driver_nodes.specs.Meters.{faults_at}
 use Rattle.rz_nodes.specs.Formatted.{AreBack, IsCause}
 use Rattle.rz_driver.specs.Worlds.{Holds, anew, exact_if, is_exact, world_of}
 use Rattle.rz_core.specs.HeldRecords.{block_of}
-use Rattle.rz_core.specs.History.{facts}
-use Rattle.rz_scrub_laws.specs.Untouched.{text_in}
+use Rattle.rz_core.specs.History.{facts, text_in}
 use Rattle.rz_node_model.specs.States.{fresh}
 use Rattle.rz_export_model.specs.Export.{new_export}
 use Rattle.rz_play.specs.World.{new_world}
@@ -22,7 +21,7 @@ use Rattle.rz_report.specs.Output.{Sunk}
 use Rattle.rz_replay.specs.Disks.{AreFaultsTold, AreImagesTold}
 use Rattle.rz_report.specs.Replays.{Unplayed, Performed, IsToldAs}
 use Rattle.rz_player.specs.declared.lines.PlayEnd.{PlayEnd}
-use Rattle.rz_asks.specs.Stands.{is_journaled}
+use Rattle.rz_metadata.specs.Stands.{is_journaled}
 use Rattle.rz_replay.proofs.Journals.{plain-back, plain-end}
 use Rattle.rz_replay.proofs.Lent.{back-faults, counted-none, not-opened}
 use Rattle.rz_replay.proofs.Untold.{told-none}

@@ -3,7 +3,7 @@ use Rattle.rz_events.specs.declared.nodes.NodeAsk.TheVariants as ask
 use Rattle.rz_events.specs.declared.nodes.NodeAnswer.TheVariants as answer
 use Rattle.rz_cells_slots.specs.declared.geometry.Geometry.{Geometry}
 use Rattle.rz_node_model.specs.States.{NodeState}
-use Rattle.rz_image_laws.specs.Images.{IsImaged}
+use Rattle.rz_node_laws.specs.Images.{IsImaged}
 use Rattle.rz_shared_locked.proofs.Disks.{starts}
 use Rattle.rz_shared_locked.proofs.Metering.{phase-after}
 use Rattle.rz_shared_locked.proofs.serving.open_disk.Goals as goal

@@ -9,7 +9,7 @@ use Rattle.rz_play.specs.Lines.{with_operation}
 use Rattle.rz_player.specs.Behind.{behind}
 use Rattle.rz_script.specs.declared.line.Line.TheVariants as line
 use Rattle.rz_driver_actors.specs.declared.seat.Seat.{Seat}
-use Rattle.rz_asks.specs.Locking.{lock_of}
+use Rattle.rz_driver_asks.specs.Locking.{lock_of}
 use Rattle.rz_driver_actors.specs.Seats.{IsSeat, HasLayout, work_in, seat_of}
 use Rattle.rz_driver.specs.Worlds.{place_of, world, world_of}
 use Rattle.rz_driver_nodes.proofs.Rows.{all-at}

@@ -2,7 +2,7 @@ use Rattle.std.proofs.Common.{arith, ◌≡◌, ◌<◌, ◌≤◌, ◌+◌, ◌
 use Rattle.std.proofs.lemmas.Result.{IfOk-weaker, IfErr-weaker}
 use Rattle.rz_events.specs.Volume.{nodes_of}
 use Rattle.rz_events.specs.declared.events.Event.{Event}
-use Rattle.rz_asks.specs.Stands.{is_journaled}
+use Rattle.rz_metadata.specs.Stands.{is_journaled}
 use Rattle.rz_nodes.specs.Opened.{AreKept}
 use Rattle.rz_restart_laws.specs.Earlier.{IsEarlier, IsRestarted}
 use Rattle.rz_driver_nodes.specs.Images.{AreDisksImaged}

@@ -8,8 +8,8 @@ use Rattle.rz_nodes.specs.declared.formatting.Station.{Station}
 use Rattle.rz_nodes.specs.Formatted.{disks_of}
 use Rattle.rz_journal.specs.JournalText.{IsTextOf}
 use Rattle.rz_journal.specs.Stands.{IsShut}
-use Rattle.rz_asks.specs.declared.metadata.Metadata.{Metadata}
-use Rattle.rz_asks.specs.Stands.{export_in, is_journaled, Stands}
+use Rattle.rz_metadata.specs.declared.metadata.Metadata.{Metadata}
+use Rattle.rz_metadata.specs.Stands.{export_in, is_journaled, Stands}
 use Rattle.rz_driver.proofs.BehindJournal.{fault-is, journal-untouched}
 use Rattle.rz_driver.proofs.driver.Driver.behind_journal.Goals as goal
 

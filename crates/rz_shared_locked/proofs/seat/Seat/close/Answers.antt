@@ -3,7 +3,7 @@ use Rattle.rz_events.specs.declared.events.Word.TheVariants as w
 use Rattle.rz_events.specs.declared.events.Event.{Event}
 use Rattle.rz_cells_slots.specs.declared.geometry.Geometry.{Geometry}
 use Rattle.rz_core.specs.History.{facts, of_word}
-use Rattle.rz_image_laws.specs.Images.{AreImages, geometry_in}
+use Rattle.rz_node_laws.specs.Images.{AreImages, geometry_in}
 use Rattle.rz_chronicle.specs.Kinds.{volume_in}
 use Rattle.rz_shared_locked.specs.Counts.{AreCountedSince}
 use Rattle.rz_shared_locked.specs.Seats.{AreImagesFrom, SeatView}

@@ -6,7 +6,7 @@ use Rattle.rz_cells_slots.specs.Stands.{StandsFor}
 use Rattle.rz_node_model.specs.States.{NodeState}
 use Rattle.rz_core.specs.History.{facts, of_word}
 use Rattle.rz_core.specs.Tied.{IsNode}
-use Rattle.rz_image_laws.specs.Images.{IsImaged}
+use Rattle.rz_node_laws.specs.Images.{IsImaged}
 use Rattle.rz_chronicle.specs.Kinds.{volume_in}
 use Rattle.rz_chronicle.specs.Rules.{PostView}
 use Rattle.rz_play.specs.Faults.{fuse_of}

@@ -1,5 +1,0 @@
-mod Fresh
-mod Texts
-mod Sayings
-mod Starts
-mod Acts

@@ -1,5 +1,0 @@
-use Rattle.rz_acting.proofs.Acts as laws
-use Rattle.rz_acting.proofs.goes.Goals as goal
-
-pub returns : goal.returns
-returns c = λ v. laws.goes-law c.permanent.ensures v (c.own_turn.ensures v) (c.told.ensures v)

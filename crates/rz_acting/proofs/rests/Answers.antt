@@ -1,5 +1,0 @@
-use Rattle.rz_acting.proofs.Acts as laws
-use Rattle.rz_acting.proofs.rests.Goals as goal
-
-pub returns : goal.returns
-returns c = λ v. laws.rests-law c.permanent.ensures v (c.own_kept.ensures v) (c.lasting.ensures v)

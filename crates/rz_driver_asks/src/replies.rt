@@ -1,0 +1,303 @@
+//! Calls of the export.
+ghost use Rattle.std.specs.Prelude.{◌≡◌, ◌+◌, ◌<◌, ◌≤◌, Some, IfOk, OnOk, OnErr};
+ghost use Rattle.std.specs.List.{All};
+ghost use Rattle.rz_events.specs.declared.export.Reply.TheVariants as model;
+ghost use Rattle.rz_export_model.specs.ExportEvents.{export_event};
+ghost use Rattle.rz_metadata.specs.Stands.{export_in, is_journaled};
+ghost use Rattle.rz_events.specs.Borrowed.{call_of};
+ghost use Rattle.rz_metadata.specs.Journals.{HasBytes, EndsOn};
+ghost use Rattle.rz_driver_asks.specs.Asked.{KeepsAsked};
+ghost use Rattle.rz_driver_asks.specs.Parts.{AreWords, IsNoted, IsExportPart};
+
+use rz_disk::Disk;
+use rz_events::{
+    Actor, Asked, Call, CallRef, Denial, Event, Key, Published, Reply, Text, TreeCall, TreeReply,
+};
+use rz_log::{Log, NoMemory};
+use rz_metadata::Metadata;
+use rz_operation::{Ask, Machine};
+use std::alloc::{AllocError, Global};
+
+/// The texts of a call, for the log.
+#[derive(Drop)]
+pub(crate) enum Words {
+    Call(TreeCall),
+    Text(Text),
+    Nothing,
+}
+
+/// Asks the export what a machine asks of it, tells the machine the reply, and notes it.
+///
+/// The log's texts of the call are copied before the export is asked, so that no memory is wanting once a call
+/// has changed it.
+pub fn ask_export<D: Disk>(
+    alloc: Global,
+    by: Actor,
+    machine: &mut Machine,
+    export: &mut Metadata<D>,
+    log: &mut Log,
+) -> Result<(), NoMemory>
+    requires room { 0 < log.old.room }
+    ensures ok { OnOk result (IsExportPart by machine.old machine.new (export_in export.old) (export_in export.new) log.old.events log.new.events) }
+    ensures err { OnErr result (log.new.events ≡ log.old.events) }
+    ensures kept { OnOk result (KeepsAsked D.tells D.meter D.image machine.old export.old export.new) }
+    ensures left { OnErr result (EndsOn D.tells D.meter D.image export.old export.new) }
+
+    // On every exit.
+    ensures earlier { log.new.earlier ≡ log.old.earlier }
+    ensures journal { is_journaled export.new ≡ is_journaled export.old }
+    ensures volume { (export_in export.new).volume ≡ (export_in export.old).volume }
+{
+    let Ask::Export(ask) = machine.next() else {
+        return Err(NoMemory);
+    };
+    look_into(ask);
+    let words = words_of(alloc, ask)?;
+    let Ok(reply) = export.reply(alloc, ask) else {
+        drop(words);
+        return Err(NoMemory);
+    };
+    if !machine.takes_reply(&reply) {
+        drop(words);
+        drop(reply);
+        return Err(NoMemory);
+    }
+    match note_reply(alloc, by, ask, words, &reply, log) {
+        Ok(()) => {
+            machine.tell_reply(reply);
+            Ok(())
+        }
+        Err(fault) => {
+            drop(reply);
+            Err(fault)
+        }
+    }
+}
+
+/// The text of a write that begins is one of bytes, as each text is.
+fn look_into(ask: CallRef<'_>)
+    ensures { HasBytes (call_of ask.entry) }
+{
+    if let CallRef::Begin { text, .. } = ask {
+        are_bytes(text);
+    }
+}
+
+fn are_bytes(text: &[u8])
+    ensures { All (λ x. x < 256) text.now }
+{
+    let _count = text.len();
+}
+
+/// The texts of a call, in new memory.
+fn words_of(alloc: Global, ask: CallRef<'_>) -> Result<Words, AllocError>
+    ensures { IfOk result (λ w. AreWords ask.entry w) }
+{
+    match ask {
+        CallRef::Tree(call) => Ok(Words::Call(call.copy(alloc)?)),
+        CallRef::Begin { text, .. } => Ok(Words::Text(Text::from_bytes(alloc, text)?)),
+        CallRef::Publish { .. }
+        | CallRef::Look { .. }
+        | CallRef::Recheck { .. }
+        | CallRef::Enroll { .. }
+        | CallRef::Next { .. } => Ok(Words::Nothing),
+    }
+}
+
+/// Notes the event of a reply.
+fn note_reply(
+    alloc: Global,
+    by: Actor,
+    ask: CallRef<'_>,
+    words: Words,
+    reply: &Reply,
+    log: &mut Log,
+) -> Result<(), NoMemory>
+    requires words { AreWords ask words }
+    requires room { 0 < log.old.room }
+    ensures ok { OnOk result (IsNoted (export_event by (call_of ask.entry) reply.now) log.old.events log.new.events) }
+    ensures err { OnErr result (log.new.events ≡ log.old.events) }
+    ensures earlier { log.new.earlier ≡ log.old.earlier }
+{
+    match words {
+        Words::Call(call) => note_names(alloc, by, call, reply, log),
+        Words::Text(text) => note(begin_event(by, ask, text, reply), log),
+        Words::Nothing => note(plain_event(by, ask, reply), log),
+    }
+}
+
+/// Notes an event, where there is one.
+pub fn note(event: Option<Event>, log: &mut Log) -> Result<(), NoMemory>
+    requires room { 0 < log.old.room }
+    ensures ok { OnOk result (IsNoted event log.old.events log.new.events) }
+    ensures err { OnErr result (log.new.events ≡ log.old.events) }
+    ensures room { log.old.room ≤ log.new.room + 1 }
+    ensures earlier { log.new.earlier ≡ log.old.earlier }
+{
+    match event {
+        Some(event) => log.note(event),
+        None => Err(NoMemory),
+    }
+}
+
+/// Notes a call on names, with a copy of its reply.
+pub(crate) fn note_names(
+    alloc: Global,
+    by: Actor,
+    call: TreeCall,
+    reply: &Reply,
+    log: &mut Log,
+) -> Result<(), NoMemory>
+    requires room { 0 < log.old.room }
+    ensures ok { OnOk result (IsNoted (export_event by (Call.Tree call) reply.now) log.old.events log.new.events) }
+    ensures err { OnErr result (log.new.events ≡ log.old.events) }
+    ensures earlier { log.new.earlier ≡ log.old.earlier }
+{
+    match reply_on_names(alloc, reply) {
+        Ok(reply) => log.note(Event::Meta { by, call, reply }),
+        Err(fault) => {
+            drop(call);
+            Err(fault)
+        }
+    }
+}
+
+/// A copy of the reply to a call on names.
+fn reply_on_names(alloc: Global, reply: &Reply) -> Result<TreeReply, NoMemory>
+    ensures { IfOk result (λ r. reply.now ≡ model.Tree r) }
+{
+    match reply {
+        Reply::Tree(answer) => Ok(answer.copy(alloc)?),
+        _ => Err(NoMemory),
+    }
+}
+
+/// The event of the reply to a begin.
+fn begin_event(by: Actor, ask: CallRef<'_>, text: Text, reply: &Reply) -> Option<Event>
+    requires { AreWords ask (Words.Text text) }
+    ensures { result ≡ export_event by (call_of ask.entry) reply.now }
+{
+    let CallRef::Begin { key, .. } = ask else {
+        return None;
+    };
+    match reply {
+        Reply::Begun { stamp, base } => Some(Event::Begin {
+            by,
+            key,
+            stamp: *stamp,
+            base: *base,
+            text,
+        }),
+        Reply::Denied(why) => denied(by, Asked::Begin { key }, *why),
+        _ => None,
+    }
+}
+
+/// The event of a reply that has no texts.
+fn plain_event(by: Actor, ask: CallRef<'_>, reply: &Reply) -> Option<Event>
+    requires { AreWords ask Words.Nothing }
+    ensures { result ≡ export_event by (call_of ask.entry) reply.now }
+{
+    match ask {
+        CallRef::Publish { key, published } => publish_event(by, key, published, reply),
+        CallRef::Look { key } => look_event(by, key, reply),
+        CallRef::Recheck { key } => recheck_event(by, key, reply),
+        CallRef::Enroll { node, loss } => enroll_event(by, node, loss, reply),
+        CallRef::Next { node, after } => next_event(by, node, after, reply),
+        CallRef::Tree(_) | CallRef::Begin { .. } => None,
+    }
+}
+
+fn publish_event(by: Actor, key: Key, published: Published, reply: &Reply) -> Option<Event>
+    ensures { result ≡ export_event by (Call.Publish key published.stamp published.mask published.length) reply.now }
+{
+    let stamp = published.stamp;
+    let mask = published.mask;
+    match reply {
+        Reply::Accepted => Some(Event::Publish {
+            by,
+            key,
+            stamp,
+            mask,
+            refused: None,
+        }),
+        Reply::Enrolled { position, fence } => Some(Event::Publish {
+            by,
+            key,
+            stamp,
+            mask,
+            refused: Some((*position, *fence)),
+        }),
+        Reply::Revoked { later } => Some(Event::Revoked {
+            by,
+            key,
+            stamp,
+            later: *later,
+        }),
+        Reply::Denied(why) => denied(by, Asked::Publish { key }, *why),
+        _ => None,
+    }
+}
+
+fn look_event(by: Actor, key: Key, reply: &Reply) -> Option<Event>
+    ensures { result ≡ export_event by (Call.Look key) reply.now }
+{
+    match reply {
+        Reply::Looked(answer) => Some(Event::Look {
+            by,
+            key,
+            answer: *answer,
+        }),
+        Reply::Denied(why) => denied(by, Asked::Look { key }, *why),
+        _ => None,
+    }
+}
+
+fn recheck_event(by: Actor, key: Key, reply: &Reply) -> Option<Event>
+    ensures { result ≡ export_event by (Call.Recheck key) reply.now }
+{
+    match reply {
+        Reply::Looked(answer) => Some(Event::Recheck {
+            by,
+            key,
+            answer: *answer,
+        }),
+        Reply::Denied(why) => denied(by, Asked::Recheck { key }, *why),
+        _ => None,
+    }
+}
+
+fn enroll_event(by: Actor, node: u16, loss: u64, reply: &Reply) -> Option<Event>
+    ensures { result ≡ export_event by (Call.Enroll node loss) reply.now }
+{
+    match reply {
+        Reply::Fence { fence } => Some(Event::Enroll {
+            by,
+            node,
+            loss,
+            fence: *fence,
+        }),
+        Reply::Denied(why) => denied(by, Asked::Enroll { node, loss }, *why),
+        _ => None,
+    }
+}
+
+fn next_event(by: Actor, node: u16, after: Option<Key>, reply: &Reply) -> Option<Event>
+    ensures { result ≡ export_event by (Call.Next node after) reply.now }
+{
+    match reply {
+        Reply::Listed(answer) => Some(Event::Next {
+            by,
+            node,
+            after,
+            answer: *answer,
+        }),
+        _ => None,
+    }
+}
+
+fn denied(by: Actor, asked: Asked, why: Denial) -> Option<Event>
+    ensures { result ≡ Some (Event.Denied by asked why) }
+{
+    Some(Event::Denied { by, asked, why })
+}

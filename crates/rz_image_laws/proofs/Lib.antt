@@ -1,4 +1,0 @@
-mod Held
-mod Records
-mod Calls
-mod Words

@@ -1,5 +1,0 @@
-use Rattle.rz_image_laws.proofs.Words as laws
-use Rattle.rz_image_laws.proofs.longer.Goals as goal
-
-pub returns : goal.returns
-returns g c = laws.longer-law g.D.Disk.image c.permanent.ensures

@@ -1,3 +1,0 @@
-pub mod Records
-pub mod Images
-pub mod Laws

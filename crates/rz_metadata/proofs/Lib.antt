@@ -1,0 +1,3 @@
+mod KeptAgain
+mod PartLosses
+mod MetadataReplies

@@ -1,0 +1,62 @@
+-- A journal that was formatted, one for whose call memory was wanting, and what no call changes.
+use Rattle.std.proofs.Common.{◌≡◌, ℕ, ◌≤◌, Bool, true, false, cond, IsTrue, List, [], ◌∷◌, ◌++◌, Option, None, Result, Ok, Err, OnOk, OnErr, refl, sym, ◌∙◌, ap, subst}
+use Rattle.std.specs.Prelude.{◌&&◌, is_some}
+use Rattle.rz_disk.specs.Images.{Only}
+use Rattle.rz_disk.specs.Meter.{Meter, faults}
+use Rattle.rz_events.specs.Volume.{Volume}
+use Rattle.rz_events.specs.declared.export.Call.{Call}
+use Rattle.rz_events.specs.declared.export.Reply.{Reply}
+use Rattle.rz_events.specs.declared.export.Reply.TheVariants.{Tree, Begun, Accepted, Enrolled, Looked, Fence, Listed, Denied, NoMemory, Revoked}
+use Rattle.rz_export_model.specs.Export.{Export, new_export, export_after}
+use Rattle.rz_journal.specs.JournalText.{IsTextOf}
+use Rattle.rz_journal.specs.Kept.{IsAfter, AllStandFor}
+use Rattle.rz_journal.specs.Said.{entry_of}
+use Rattle.rz_journal.specs.Seen.{JournalView, calls_after}
+use Rattle.rz_journal.proofs.Refused.{volume_same}
+use Rattle.rz_metadata.specs.declared.journaled.Refusal.{Refusal}
+use Rattle.rz_metadata.specs.Stands.{IsKept, IsLeft, IsLeftBy, wants_memory}
+
+-- a journal that was formatted kept no calls
+pub made-anew : {D : Type 0} (tells : Bool) (meter : D → Meter) (text : D → List ℕ) (image : D → List ℕ → Type 0) (v : Volume) (j : JournalView D) → j.export ≡ new_export v 0 → j.closed ≡ false
+    → (IsTrue tells → IsTextOf v (text j.disk) []) → Only (text j.disk) (image j.disk) → (first : ℕ) → first ≤ faults (meter j.disk) → IsKept tells meter image first (record { journal = j; refusal = None }) []
+made-anew tells meter text image v j made opened stands settled first counted =
+    let volume : j.export.volume ≡ v = ap (λ (s : Export). s.volume) made in
+    record {
+      unrefused = refl;
+      is_open = opened;
+      after = record { accepted = tt; made = made ∙ ap (λ (u : Volume). new_export u 0) (sym volume) };
+      images = λ told c is. subst (λ (b : List ℕ). IsTextOf j.export.volume b []) (sym (settled c is)) (subst (λ (u : Volume). IsTextOf u (text j.disk) []) (sym volume) (stands told));
+      lasts = counted;
+    }
+
+pub is-wanting : (r : Reply) → wants_memory r ≡ true → r ≡ NoMemory
+is-wanting NoMemory is = refl
+is-wanting (Tree t) is = absurd (cc)
+is-wanting (Begun stamp base) is = absurd (cc)
+is-wanting Accepted is = absurd (cc)
+is-wanting (Enrolled position fence) is = absurd (cc)
+is-wanting (Looked p) is = absurd (cc)
+is-wanting (Fence fence) is = absurd (cc)
+is-wanting (Listed l) is = absurd (cc)
+is-wanting (Denied why) is = absurd (cc)
+is-wanting (Revoked later) is = absurd (cc)
+
+-- where memory is wanting no call is added
+none-added : (c : Call) (calls : List Call) → calls_after NoMemory c calls ≡ calls
+none-added c calls = go (is_some (entry_of c))
+  where
+    go : (b : Bool) → cond (b && false) (calls ++ c ∷ []) calls ≡ calls
+    go true = refl
+    go false = refl
+
+pub left-wanting : {D : Type 0} (tells : Bool) (meter : D → Meter) (image : D → List ℕ → Type 0) (first : ℕ) (old new : JournalView D) (c : Call) (calls : List Call) (refusal : Option Refusal) (r : Reply) → r ≡ NoMemory
+    → (IsAfter old.export calls → IsAfter new.export (calls_after r c calls)) → (IsTrue tells → (later : List Call) → IsAfter new.export later → AllStandFor (image new.disk) new.export later)
+    → IsKept tells meter image first (record { journal = old; refusal = refusal }) calls → IsLeft tells meter image first (record { journal = new; refusal = refusal }) calls c
+left-wanting tells meter image first old new c calls refusal r wants more stands kept =
+    let after : IsAfter new.export calls = subst (IsAfter new.export) (ap (λ (x : Reply). calls_after x c calls) wants ∙ none-added c calls) (more kept.after) in
+    subst (λ (o : Option Refusal). IsLeftBy o tells (image new.disk) first (faults (meter new.disk)) new.export calls c) (sym kept.unrefused) (λ told. stands told calls after)
+
+-- no call changes the volume
+pub volume-kept : {E : Type 0} (old new : Export) (c : Call) (result : Result Reply E) → OnOk result (new ≡ export_after old c) → OnErr result (new ≡ old) → new.volume ≡ old.volume
+volume-kept old new c (Ok r) after same = ap (λ (s : Export). s.volume) after ∙ volume_same old c
+volume-kept old new c (Err e) after same = ap (λ (s : Export). s.volume) same

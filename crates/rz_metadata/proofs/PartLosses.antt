@@ -1,0 +1,130 @@
+-- The losses that the parts of an export say.
+use Rattle.std.proofs.lemmas.Bool.{cases_lt}
+use Rattle.std.proofs.Common.{◌≡◌, ⊎_elim, ℕ, ◌+◌, ◌-◌, ◌<◌, ◌≤◌, Bool, true, false, cond, List, [], ◌∷◌, ◌++◌, length, map, drop, get_or, Option, Some, None, Result, Ok, IfOk, refl, sym, ◌∙◌, ap, subst, arith, append_assoc, eqb-true, eq-eqb}
+use Rattle.std.proofs.lemmas.List.{drop_all, drop_more, append-nil}
+use Rattle.std.proofs.lemmas.List.Elements.{filter_map-append}
+use Rattle.std.proofs.lemmas.Option.{slice_get_within, get_or_from_slice_get, slice_get-get_or}
+use Rattle.std.specs.Prelude.{◌==◌}
+use Rattle.std.specs.declared.alloc.AllocError.{AllocError}
+use Rattle.std.specs.List.{slice_get}
+use Rattle.std.specs.Option.{option_map_or}
+use Rattle.std.specs.Ordering.{nat_cmp, eq_by_cmp}
+use Rattle.std.specs.Cmp.{unsigned_tied}
+use Rattle.std.specs.FinMap as maps
+use Rattle.std.specs.FinMap.{get-entries}
+use Rattle.std.specs.FinMap.Entries.{find}
+use Rattle.rz_events.specs.declared.keys.Key.{Key}
+use Rattle.rz_export_model.specs.Export.{Export, Block, Enrolled}
+use Rattle.rz_export_model.specs.Paths.{Path}
+use Rattle.rz_export_model.specs.Tree.{Object}
+use Rattle.rz_names.specs.Names.{below_root}
+use Rattle.rz_tree.specs.Parts.{object_part, name_part}
+use Rattle.rz_tree.specs.declared.parts.Part.{Part}
+use Rattle.rz_export.specs.Parts.{IsBefore, export_parts, flat_parts, block_part, enrolled_part}
+use Rattle.rz_metadata.specs.Enrolled.{loss_among, loss_of, losses_in, losses_enrolled}
+
+-- ---- the parts, one by one
+
+-- what the parts so far and those to come say, and the part at the place of the count
+pub record Walk (parts : List Part) (i : ℕ) (losses : List (ℕ × ℕ)) (next : Option Part) : Type 0 where
+  pub so_far : losses ++ losses_in (drop i parts) ≡ losses_in parts
+  pub here : next ≡ slice_get parts i
+
+-- the part that is found from the one before it
+pub first-next : (parts : List Part) (found : Result (Option Part) AllocError) (next : Option Part) → found ≡ Ok next → ((i : ℕ) → IsBefore None parts i → IfOk found (λ part. part ≡ slice_get parts i)) → next ≡ slice_get parts 0
+first-next parts found next is each = subst (λ (r : Result (Option Part) AllocError). IfOk r (λ part. part ≡ slice_get parts 0)) is (each 0 refl)
+
+pub later-next : (parts : List Part) (i : ℕ) (part : Part) (found : Result (Option Part) AllocError) (next : Option Part) → slice_get parts i ≡ Some part → found ≡ Ok next
+    → ((k : ℕ) → IsBefore (Some part) parts k → IfOk found (λ part. part ≡ slice_get parts k)) → next ≡ slice_get parts (i + 1)
+later-next parts i part found next at is each =
+    let less : i + 1 - 1 ≡ i = omega arith in
+    subst (λ (r : Result (Option Part) AllocError). IfOk r (λ part. part ≡ slice_get parts (i + 1))) is
+    (each (i + 1) (omega arith, ap (slice_get parts) less ∙ at))
+
+part-here : (parts : List Part) (i : ℕ) (part : Part) → slice_get parts i ≡ Some part → drop i parts ≡ part ∷ drop (i + 1) parts
+part-here parts i part at =
+    drop_more parts i part (slice_get_within parts i part at) ∙ ap (λ (p : Part). p ∷ drop (i + 1) parts) (get_or_from_slice_get parts i part part at)
+
+-- one part more
+pub goes-on : (parts : List Part) (i : ℕ) (part : Part) (losses new : List (ℕ × ℕ)) → slice_get parts i ≡ Some part → losses ++ losses_in (drop i parts) ≡ losses_in parts → new ≡ losses ++ losses_in (part ∷ [])
+    → new ++ losses_in (drop (i + 1) parts) ≡ losses_in parts
+goes-on parts i part losses new at so_far is =
+    ap (λ (r : List (ℕ × ℕ)). r ++ losses_in (drop (i + 1) parts)) is
+    ∙ append_assoc losses (losses_in (part ∷ [])) (losses_in (drop (i + 1) parts))
+    ∙ ap (λ (r : List (ℕ × ℕ)). losses ++ r) (sym (losses-append (part ∷ []) (drop (i + 1) parts)) ∙ ap losses_in (sym (part-here parts i part at)))
+    ∙ so_far
+  where
+    losses-append : (xs ys : List Part) → losses_in (xs ++ ys) ≡ losses_in xs ++ losses_in ys
+    losses-append xs ys = filter_map-append _ xs ys
+
+none-past : (parts : List Part) (i : ℕ) → slice_get parts i ≡ None → length parts ≤ i
+none-past parts i none = ⊎_elim
+    (λ (lt : i < length parts). none_within parts i lt none)
+    (λ (le : length parts ≤ i). le)
+    (cases_lt i (length parts))
+  where
+    none_within : (ps : List Part) (k : ℕ) → k < length ps → slice_get ps k ≡ None → length ps ≤ k
+    none_within [] k lt none = absurd (omega arith)
+    none_within (p ∷ ps) k lt none = (let some = slice_get-get_or (p ∷ ps) k p lt in let wrong : None ≡ Some (get_or (p ∷ ps) k p) = sym none ∙ some in absurd (cc))
+
+-- ---- what all parts say
+
+none-of-objects : (es : List (ℕ × Object)) (more : List Part) → losses_in (map object_part es ++ more) ≡ losses_in more
+none-of-objects [] more = refl
+none-of-objects (e ∷ es) more = none-of-objects es more
+
+none-of-names : (es : List (Path × ℕ)) (more : List Part) → losses_in (map name_part es ++ more) ≡ losses_in more
+none-of-names [] more = refl
+none-of-names (e ∷ es) more = none-of-names es more
+
+none-of-blocks : (es : List (Key × Block)) (more : List Part) → losses_in (map block_part es ++ more) ≡ losses_in more
+none-of-blocks [] more = refl
+none-of-blocks (e ∷ es) more = none-of-blocks es more
+
+of-enrolments : (es : List (ℕ × Enrolled)) → losses_in (map enrolled_part es) ≡ map (λ (e : ℕ × Enrolled). (e.0, e.1.loss)) es
+of-enrolments [] = refl
+of-enrolments (e ∷ es) = ap (λ (ls : List (ℕ × ℕ)). (e.0, e.1.loss) ∷ ls) (of-enrolments es)
+
+-- the parts of an export say its losses
+pub all-said : (s : Export) → losses_in (export_parts s) ≡ losses_enrolled s
+all-said s =
+    ap losses_in (append_assoc (map object_part (maps.entries s.tree.objects)) (map name_part (below_root s.tree.names)) (flat_parts s))
+    ∙ none-of-objects (maps.entries s.tree.objects) (map name_part (below_root s.tree.names) ++ flat_parts s)
+    ∙ none-of-names (below_root s.tree.names) (flat_parts s)
+    ∙ none-of-blocks (maps.entries s.blocks) (map enrolled_part (maps.entries s.enrolled))
+    ∙ of-enrolments (maps.entries s.enrolled)
+
+pub ends-with : (s : Export) (i : ℕ) (losses : List (ℕ × ℕ)) → slice_get (export_parts s) i ≡ None → losses ++ losses_in (drop i (export_parts s)) ≡ losses_in (export_parts s) → losses ≡ losses_enrolled s
+ends-with s i losses none so_far =
+    sym (append-nil losses) ∙ ap (λ (ps : List Part). losses ++ losses_in ps) (sym (drop_all i (export_parts s) (none-past (export_parts s) i none))) ∙ so_far ∙ all-said s
+
+-- ---- the loss of a node
+
+among-entries : (q : ℕ) (es : List (ℕ × Enrolled)) → loss_among q (map (λ (e : ℕ × Enrolled). (e.0, e.1.loss)) es) ≡ option_map_or (λ (e : Enrolled). e.loss) (find nat_cmp q es) 0
+among-entries q [] = refl
+among-entries q (e ∷ es) = go (among-entries q es) (e.0 == q) refl
+  where
+    tied : (t : Bool) → (e.0 == q) ≡ t → eq_by_cmp nat_cmp q e.0 ≡ t
+    tied true is = unsigned_tied q e.0 ∙ eq-eqb q e.0 (sym (eqb-true e.0 q is))
+    tied false is = unsigned_tied q e.0 ∙ other (q == e.0) refl
+      where
+        other : (t : Bool) → (q == e.0) ≡ t → t ≡ false
+        other true on = let same : (e.0 == q) ≡ true = eq-eqb e.0 q (sym (eqb-true q e.0 on)) in cc
+        other false off = refl
+
+    go : loss_among q (map (λ (x : ℕ × Enrolled). (x.0, x.1.loss)) es) ≡ option_map_or (λ (x : Enrolled). x.loss) (find nat_cmp q es) 0 → (t : Bool) → (e.0 == q) ≡ t
+        → loss_among q ((e.0, e.1.loss) ∷ map (λ (x : ℕ × Enrolled). (x.0, x.1.loss)) es) ≡ option_map_or (λ (x : Enrolled). x.loss) (find nat_cmp q (e ∷ es)) 0
+    go later true is =
+        ap (λ t. cond t e.1.loss (loss_among q (map (λ (x : ℕ × Enrolled). (x.0, x.1.loss)) es))) is
+        ∙ sym (ap (λ t. option_map_or (λ (x : Enrolled). x.loss) (cond t (Some e.1) (find nat_cmp q es)) 0) (tied true is))
+    go later false is =
+        ap (λ t. cond t e.1.loss (loss_among q (map (λ (x : ℕ × Enrolled). (x.0, x.1.loss)) es))) is
+        ∙ later
+        ∙ sym (ap (λ t. option_map_or (λ (x : Enrolled). x.loss) (cond t (Some e.1) (find nat_cmp q es)) 0) (tied false is))
+
+pub among-enrolled : (s : Export) (q : ℕ) → loss_among q (losses_enrolled s) ≡ loss_of s q
+among-enrolled s q = among-entries q (maps.entries s.enrolled) ∙ ap (λ (o : Option Enrolled). option_map_or (λ (e : Enrolled). e.loss) o 0) (sym (get-entries s.enrolled q))
+
+pub map-alike : {X Y : Type 0} (f g : X → Y) → ((x : X) → f x ≡ g x) → (xs : List X) → map f xs ≡ map g xs
+map-alike f g same [] = refl
+map-alike f g same (x ∷ xs) = ap (λ y. y ∷ map f xs) (same x) ∙ ap (λ ys. g x ∷ ys) (map-alike f g same xs)

@@ -1,0 +1,19 @@
+use Rattle.std.proofs.Common.{ℕ, List, IfOk, sym, ◌∙◌, ap, subst}
+use Rattle.rz_events.specs.declared.export.Call.{Call}
+use Rattle.rz_journal.specs.Seen.{calls_after}
+use Rattle.rz_events.specs.Borrowed.{call_of}
+use Rattle.rz_metadata.specs.declared.metadata.Metadata.{Metadata}
+use Rattle.rz_metadata.specs.Stands.{export_in, IsKept, Stands}
+use Rattle.rz_metadata.proofs.MetadataReplies.{volume-kept}
+use Rattle.rz_metadata.proofs.metadata.Metadata.reply.Goals as goal
+
+pub returns-in-Journaled-clause-kept : goal.returns-in-Journaled-clause-kept
+returns-in-Journaled-clause-kept g c =
+    subst (λ (m : Metadata g.row.D.Denot). IfOk c.reply.result (λ r. (first : ℕ) (calls : List Call) → Stands g.D.Disk.tells g.D.Disk.meter g.D.Disk.image first m calls
+    → IsKept {D = g.row.D.Denot} g.D.Disk.tells g.D.Disk.meter g.D.Disk.image first c.reply.new.self (calls_after r (call_of c.args.ask) calls)))
+    (sym c.in-Journaled.is) c.reply.ensures.kept
+
+pub returns-in-InMemory-clause-volume : goal.returns-in-InMemory-clause-volume
+returns-in-InMemory-clause-volume g c =
+    volume-kept c.in-InMemory.export c.reply_to.new.export (call_of c.args.ask) c.reply_to.result c.reply_to.ensures.after c.reply_to.ensures.err
+    ∙ ap (λ (m : Metadata g.row.D.Denot). (export_in m).volume) (sym c.in-InMemory.is)

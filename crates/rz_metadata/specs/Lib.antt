@@ -1,0 +1,4 @@
+pub mod Enrolled
+pub mod Reopened
+pub mod Stands
+pub mod Journals

@@ -1,0 +1,153 @@
+//! The metadata of a store.
+ghost use Rattle.std.specs.Prelude.{◌≡◌, ◌⊎◌, ◌≤◌, ℕ, true, false, List, [], IsTrue, IsSome, IfSome, IfOk, None, map, IfErr, OnOk, OnErr};
+ghost use Rattle.rz_disk.specs.Meter.{Rises, faults};
+ghost use Rattle.rz_events.specs.declared.files.NodeSpec.{NodeSpec as ANode};
+ghost use Rattle.rz_events.specs.declared.export.Call.{Call as ACall};
+ghost use Rattle.rz_export_model.specs.Export.{export_reply, export_after, new_export, published_after};
+ghost use Rattle.rz_journal.specs.JournalText.{IsTextOf};
+ghost use Rattle.rz_journal.specs.Kept.{IsAfter};
+ghost use Rattle.rz_journal.specs.Opening.{IsRefused};
+ghost use Rattle.rz_journal.specs.Seen.{calls_after};
+ghost use Rattle.rz_journal.specs.Stands.{IsShut};
+ghost use Rattle.rz_events.specs.Borrowed.{call_of};
+ghost use Rattle.rz_metadata.specs.Enrolled.{loss_of};
+ghost use Rattle.rz_metadata.specs.Reopened.{AllTextsOf, IsAsItCame, MakesExport};
+ghost use Rattle.rz_metadata.specs.Stands.{export_in, disk_of, refusal_of, is_journaled, Stands, StandsAtEnd};
+
+use crate::journaled::{Journaled, Refusal};
+use crate::losses::losses_of;
+use crate::memory::{NoReply, reply_to};
+use rz_cells::FormatFault;
+use rz_config::Volume;
+use rz_disk::Disk;
+use rz_events::{CallRef, Key, Listed, NodeSpec, Reply};
+use rz_export::Export;
+use rz_journal::{Journal, JournalFault};
+use std::alloc::{AllocError, Global};
+
+/// The export of a store, in memory alone or behind a journal on a disk.
+#[derive(Drop)]
+pub enum Metadata<D: Disk> {
+    InMemory(Export),
+    Journaled(Journaled<D>),
+}
+
+impl<D: Disk> Metadata<D> {
+    /// The export of a new store, in memory.
+    pub fn in_memory(alloc: Global, volume: Volume) -> Result<Metadata<D>, AllocError>
+        ensures export { IfOk result (λ m. export_in m ≡ new_export volume 0) }
+        ensures stands { IfOk result (λ m. (first : ℕ) → Stands D.tells D.meter D.image first m []) }
+        ensures journal { IfOk result (λ m. is_journaled m ≡ false) }
+    {
+        Ok(Metadata::InMemory(Export::new(alloc, volume, 0)?))
+    }
+
+    /// Makes a disk anew, and a journal on it whose export is that of a new store.
+    pub fn format(alloc: Global, volume: Volume, disk: D) -> Result<Metadata<D>, (D, FormatFault)>
+        ensures export { IfOk result (λ m. export_in m ≡ new_export volume 0) }
+        ensures stands { IfOk result (λ m. Stands D.tells D.meter D.image (faults (D.meter disk)) m []) }
+        ensures journal { IfOk result (λ m. is_journaled m ≡ true) }
+
+        // Otherwise each image is one from before, or its header is shut, or it stands for no calls.
+        ensures crash { IfErr result (λ e. IsTrue D.tells → (c : List ℕ) → D.image e.0 c → D.image disk c ⊎ IsShut c ⊎ IsTextOf volume c []) }
+        ensures lasts { IfErr result (λ e. faults (D.meter disk) ≤ faults (D.meter e.0)) }
+        ensures risen { IfErr result (λ e. e.1 ≡ FormatFault.DiskFault → Rises (faults (D.meter disk)) (faults (D.meter e.0))) }
+    {
+        match Journal::format(alloc, volume, disk) {
+            Ok(journal) => Ok(Metadata::Journaled(Journaled {
+                journal,
+                refusal: None,
+            })),
+            Err(back) => Err(back),
+        }
+    }
+
+    /// Opens a journal again on a disk that was formatted, with the export that its entries make. The disk
+    /// stays as it is.
+    pub fn reopen(alloc: Global, volume: Volume, disk: D) -> Result<Metadata<D>, (D, JournalFault)>
+        ensures volume { IfOk result (λ m. (export_in m).volume ≡ volume) }
+        ensures made { IfOk result (λ m. IsTrue D.tells → MakesExport volume (D.text disk) (export_in m)) }
+        ensures journal { IfOk result (λ m. is_journaled m ≡ true) }
+        ensures refusal { IfOk result (λ m. refusal_of m ≡ None) }
+
+        // It stands for the calls for which each image of the disk stood as it came, and has the export after them.
+        ensures calls { IfOk result (λ m. IsTrue D.tells → (calls : List ACall) → IsTextOf volume (D.text disk) calls → IsAfter (export_in m) calls) }
+        ensures stands { IfOk result (λ m. IsTrue D.tells → (calls : List ACall) → AllTextsOf volume (D.image disk) calls → Stands D.tells D.meter D.image (faults (D.meter disk)) m calls) }
+
+        // Each fault is the first that the text has.
+        ensures refused { IfErr result (λ e. IsRefused D.tells volume (D.text disk) e.1) }
+        ensures risen { IfErr result (λ e. e.1 ≡ JournalFault.DiskFault → Rises (faults (D.meter disk)) (faults (D.meter e.0))) }
+
+        ensures came { IfOk result (λ m. IfSome (disk_of m) (IsAsItCame D.meter D.text D.image disk)) }
+        ensures back { IfErr result (λ e. IsAsItCame D.meter D.text D.image disk e.0) }
+    {
+        match Journal::reopen(alloc, volume, disk) {
+            Ok(journal) => {
+                let refusal = None;
+                Ok(Metadata::Journaled(Journaled { journal, refusal }))
+            }
+            Err(back) => Err(back),
+        }
+    }
+
+    /// The reply to what an operation asks. Behind a journal a call that is accepted stands on the disk
+    /// then.
+    pub fn reply(&mut self, alloc: Global, ask: CallRef<'_>) -> Result<Reply, NoReply>
+        ensures reply { IfOk result (λ r. r ≡ export_reply (export_in self.old) (call_of ask.entry)) }
+        ensures after { OnOk result (export_in self.new ≡ export_after (export_in self.old) (call_of ask.entry)) }
+        ensures kept { IfOk result (λ r. (first : ℕ) (calls : List ACall) → Stands D.tells D.meter D.image first self.old calls → Stands D.tells D.meter D.image first self.new (calls_after r (call_of ask.entry) calls)) }
+        ensures left { OnErr result ((first : ℕ) (calls : List ACall) → Stands D.tells D.meter D.image first self.old calls → StandsAtEnd D.tells D.meter D.image first self.new calls (call_of ask.entry)) }
+
+        // On every exit.
+        ensures journal { is_journaled self.new ≡ is_journaled self.old }
+        ensures volume { (export_in self.new).volume ≡ (export_in self.old).volume }
+    {
+        match self {
+            Metadata::InMemory(export) => reply_to(export, ask),
+            Metadata::Journaled(journaled) => journaled.reply(alloc, ask),
+        }
+    }
+
+    /// The least published block of a live file above `after`.
+    pub fn published(&self, after: Option<Key>) -> Option<Listed>
+        ensures { result ≡ published_after (export_in self.now) after }
+    {
+        match self {
+            Metadata::InMemory(export) => export.published(after),
+            Metadata::Journaled(journaled) => journaled.journal.export().published(after),
+        }
+    }
+
+    /// The loss that was enrolled last of each of these nodes, or 0.
+    pub fn losses(&self, alloc: Global, nodes: &[NodeSpec]) -> Result<Vec<u64>, AllocError>
+        ensures { IfOk result (λ v. v.items ≡ map (λ (n : ANode). loss_of (export_in self.now) n.sid) nodes.now) }
+    {
+        match self {
+            Metadata::InMemory(export) => losses_of(alloc, export, nodes),
+            Metadata::Journaled(journaled) => losses_of(alloc, journaled.journal.export(), nodes),
+        }
+    }
+
+    /// Why the journal did not keep a call, if there is a journal and it did not.
+    pub fn refusal(&self) -> Option<Refusal>
+        ensures { result ≡ refusal_of self.now }
+    {
+        match self {
+            Metadata::InMemory(_) => None,
+            Metadata::Journaled(journaled) => journaled.refusal,
+        }
+    }
+
+    /// The journal's disk, if there is a journal.
+    pub fn into_disk(self) -> Option<D>
+        ensures { result ≡ disk_of self }
+    {
+        match self {
+            Metadata::InMemory(export) => {
+                drop(export);
+                None
+            }
+            Metadata::Journaled(journaled) => Some(journaled.journal.into_disk()),
+        }
+    }
+}

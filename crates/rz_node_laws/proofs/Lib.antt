@@ -1,0 +1,6 @@
+mod MeterSteps
+mod MeterCalls
+mod Held
+mod Records
+mod ImageCalls
+mod Words

@@ -1,0 +1,4 @@
+pub mod Metered
+pub mod Records
+pub mod Images
+pub mod Laws

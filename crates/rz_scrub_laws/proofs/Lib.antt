@@ -1,3 +1,0 @@
-mod Blocks
-mod Listed
-mod Nodes

@@ -1,5 +1,0 @@
-use Rattle.rz_scrub_laws.proofs.Nodes.{given-back}
-use Rattle.rz_scrub_laws.proofs.untouched.Goals as goal
-
-pub returns : goal.returns
-returns g c = λ v old w seats stations same picture told. given-back g.D.Disk.tells g.D.Disk.text g.D.Disk.image (c.fetched.ensures told) told c.laid.ensures v old w seats stations same picture
