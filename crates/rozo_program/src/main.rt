@@ -13,7 +13,7 @@ use rz_link::PlainLink;
 use rz_ports::{StdSink, StdSource};
 use rz_replay::{FilesFault, files, memory, replay};
 use rz_report::refuse;
-use rz_request::{Command, Refusal, Wanted, WordsError, wanted};
+use rz_request::{Command, Refusal, Status, Wanted, WordsError, wanted};
 use rz_run::run;
 use std::alloc::{AllocError, Global};
 use std::io::ErrorKind;
@@ -21,12 +21,6 @@ use std::process::ExitCode;
 use std::sync::Wait;
 use std::thread::Threads;
 use std::{env, io};
-
-/// There was no memory.
-const NO_MEMORY: u8 = 70;
-
-/// The system did not give the words.
-const NO_WORDS: u8 = 71;
 
 /// The words of the command line.
 fn words_of(rt: &HostRuntime) -> io::Result<Vec<String>> {
@@ -53,7 +47,7 @@ fn play_on_threads<T: Threads + Wait + Sync, D: Disk + Send>(
     requires tells { IsTrue honest → IsTrue D.tells }
 {
     let Ok(links) = links(rt.alloc()) else {
-        return NO_MEMORY;
+        return Status::NO_MEMORY;
     };
     let mut input = StdSource::new(rt.reader());
     let mut output = StdSink::new(io::writer(rt));
@@ -113,7 +107,7 @@ fn play_in_memory<T: Threads + Wait + Sync>(
 ) -> u8 {
     match memory(rt.alloc(), count) {
         Ok(disks) => play(threads, rt, words, command, disks, true),
-        Err(_) => NO_MEMORY,
+        Err(_) => Status::NO_MEMORY,
     }
 }
 
@@ -147,7 +141,7 @@ fn play_wanted<T: Threads + Wait + Sync>(
     match files(rt, rt.alloc(), folder.as_str(), kept, wanted.disks) {
         Ok(disks) => play(threads, rt, words, wanted.command, disks, false),
         Err(FilesFault::Unopened { index }) => refuse_file(rt, index),
-        Err(FilesFault::NoMemory) => NO_MEMORY,
+        Err(FilesFault::NoMemory) => Status::NO_MEMORY,
     }
 }
 
@@ -156,15 +150,15 @@ fn perform<T: Threads + Wait + Sync>(threads: &T, rt: &HostRuntime, words: &[Str
     match wanted(rt.alloc(), words) {
         Ok(wanted) => play_wanted(threads, rt, words, &wanted),
         Err(WordsError::Usage) => play_in_memory(threads, rt, words, Command::Replay, 0),
-        Err(WordsError::NoMemory) => NO_MEMORY,
+        Err(WordsError::NoMemory) => Status::NO_MEMORY,
     }
 }
 
 fn main(rt: HostRuntime) -> ExitCode {
     let status = match words_of(&rt) {
         Ok(words) => perform(&rt, &rt, &words),
-        Err(error) if error.kind() == ErrorKind::OutOfMemory => NO_MEMORY,
-        Err(_) => NO_WORDS,
+        Err(error) if error.kind() == ErrorKind::OutOfMemory => Status::NO_MEMORY,
+        Err(_) => Status::NO_WORDS,
     };
     ExitCode::from(status)
 }

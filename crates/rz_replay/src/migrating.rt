@@ -5,7 +5,7 @@ ghost use Rattle.rz_replay.specs.Migrations.{Carries, TellsMigration};
 use rz_disk::Disk;
 use rz_ports::{Sink, Source};
 use rz_report::{finish, stop};
-use rz_request::{Migrated, Stop, migrate};
+use rz_request::{Migrated, Status, Stop, migrate};
 use std::alloc::Global;
 
 /// Writes what came of a migration, and gives the status.
@@ -14,8 +14,8 @@ fn tell<O: Sink>(alloc: Global, outcome: &Result<Migrated, Stop>, output: &mut O
 {
     match outcome {
         Ok(migrated) => match migrated.line(alloc) {
-            Ok(line) => finish(output, 0, &line),
-            Err(_) => 70,
+            Ok(line) => finish(output, Status::DONE, &line),
+            Err(_) => Status::NO_MEMORY,
         },
         Err(why) => stop(alloc, why, output),
     }

@@ -18,7 +18,7 @@ use rz_link::Link;
 use rz_nodes::OpenRefusal;
 use rz_ports::{Sink, Source};
 use rz_report::{begins, perform, refuse, refuse_disks, stop};
-use rz_request::{Command, Refusal, Request, Wish, WordsError, request, wanted};
+use rz_request::{Command, Refusal, Request, Status, Wish, WordsError, request, wanted};
 use rz_script::Script;
 use std::alloc::{AllocError, Global};
 use std::mem;
@@ -143,7 +143,7 @@ fn refuse_opening<O: Sink>(alloc: Global, why: OpenRefusal, output: &mut O) -> u
     ensures { FailsAgain why (record { before = O.taken output.old; after = O.taken output.new; old = O.faults output.old; new = O.faults output.new }) result }
 {
     match why {
-        OpenRefusal::NoMemory => 70,
+        OpenRefusal::NoMemory => Status::NO_MEMORY,
         OpenRefusal::Open { index, cause } => {
             refuse(alloc, &Refusal::Open { index, cause }, output)
         }
@@ -266,6 +266,6 @@ pub fn replay<I: Source, O: Sink, D: Disk, L: Link>(
             unplayed(alloc, status)
         }
         Ok(None) => play_words(alloc, words, input, output, disks, link),
-        Err(_) => unplayed(alloc, 70),
+        Err(_) => unplayed(alloc, Status::NO_MEMORY),
     }
 }

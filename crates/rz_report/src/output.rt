@@ -4,6 +4,7 @@ ghost use Rattle.std.specs.Prelude.{◌≡◌, ◌≤◌, ◌<◌, ◌+◌, ◌-
 ghost use Rattle.rz_report.specs.Output.{Ends, HasWritten};
 
 use rz_ports::Sink;
+use rz_request::Status;
 
 /// Writes all of a text, in as many pieces as it takes. Where a write fails or takes nothing, no
 /// more is written, and the answer is false.
@@ -24,5 +25,9 @@ pub fn write_all<O: Sink>(output: &mut O, text: &[u8]) -> bool
 pub fn finish<O: Sink>(output: &mut O, status: u8, text: &[u8]) -> u8
     ensures { Ends (record { before = O.taken output.old; after = O.taken output.new; old = O.faults output.old; new = O.faults output.new }) status text.now result }
 {
-    if write_all(output, text) { status } else { 5 }
+    if write_all(output, text) {
+        status
+    } else {
+        Status::SINK
+    }
 }

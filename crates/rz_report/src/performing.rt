@@ -19,7 +19,7 @@ use crate::telling::tell;
 use rz_link::Link;
 use rz_player::{LoggedStage, play};
 use rz_ports::Sink;
-use rz_request::Wish;
+use rz_request::{Status, Wish};
 use rz_script::Script;
 use rz_scrub_report::Store;
 use std::alloc::Global;
@@ -54,6 +54,6 @@ pub fn perform<S: LoggedStage + Store, L: Link, O: Sink>(
     let end = play(stage, script.lines(), link);
     match find(alloc, end, wish, stage) {
         Ok(found) => tell(alloc, end, wish, &found, stage.log(), output),
-        Err(_) => 70,
+        Err(_) => Status::NO_MEMORY,
     }
 }

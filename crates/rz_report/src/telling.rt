@@ -10,7 +10,7 @@ use rz_events::Event;
 use rz_nodes::DriverFault;
 use rz_player::PlayEnd;
 use rz_ports::Sink;
-use rz_request::{Refusal, Stop, Wish};
+use rz_request::{Refusal, Status, Stop, Wish};
 use rz_show::show;
 use std::alloc::{AllocError, Global};
 
@@ -45,7 +45,7 @@ fn tell_cut<O: Sink>(alloc: Global, why: &Refusal, log: &[Event], output: &mut O
 {
     match text_so_far(alloc, why, log) {
         Ok(text) => finish(output, why.status(), &text),
-        Err(_) => 70,
+        Err(_) => Status::NO_MEMORY,
     }
 }
 
@@ -62,13 +62,13 @@ pub(crate) fn tell<O: Sink>(
 {
     match end {
         PlayEnd::Ended => match text_told(alloc, wish, found, log) {
-            Ok(text) => finish(output, 0, &text),
-            Err(_) => 70,
+            Ok(text) => finish(output, Status::DONE, &text),
+            Err(_) => Status::NO_MEMORY,
         },
         PlayEnd::TooManyTurns => tell_cut(alloc, &Refusal::Turns, log, output),
         PlayEnd::Journal => tell_cut(alloc, &Refusal::Journal, log, output),
         PlayEnd::JournalFull => tell_cut(alloc, &Refusal::Full, log, output),
-        PlayEnd::NoMemory => 70,
+        PlayEnd::NoMemory => Status::NO_MEMORY,
     }
 }
 
@@ -78,7 +78,7 @@ pub fn refuse<O: Sink>(alloc: Global, refusal: &Refusal, output: &mut O) -> u8
 {
     match refusal.line(alloc) {
         Ok(line) => finish(output, refusal.status(), &line),
-        Err(_) => 70,
+        Err(_) => Status::NO_MEMORY,
     }
 }
 
@@ -87,7 +87,7 @@ pub fn refuse_disks<O: Sink>(alloc: Global, fault: DriverFault, output: &mut O) 
     ensures { Fails fault (record { before = O.taken output.old; after = O.taken output.new; old = O.faults output.old; new = O.faults output.new }) result }
 {
     match fault {
-        DriverFault::NoMemory => 70,
+        DriverFault::NoMemory => Status::NO_MEMORY,
         DriverFault::Disk { index } => refuse(alloc, &Refusal::Disk { index }, output),
     }
 }
@@ -97,8 +97,8 @@ pub fn stop<O: Sink>(alloc: Global, stop: &Stop, output: &mut O) -> u8
     ensures { Stops stop.now (record { before = O.taken output.old; after = O.taken output.new; old = O.faults output.old; new = O.faults output.new }) result }
 {
     match stop {
-        Stop::NoMemory => 70,
-        Stop::Source => 4,
+        Stop::NoMemory => Status::NO_MEMORY,
+        Stop::Source => Status::SOURCE,
         Stop::Refused(refusal) => refuse(alloc, refusal, output),
     }
 }

@@ -23,7 +23,7 @@
 //! refused would count as want of memory; the tests show that it takes each order and spelling.
 //!
 //! In reading order: the words in `command`, `items`, `numbers`, `line`, `parser`, `wanting`; what they ask for
-//! in `refusal`, `causes`, `input`, `reading`, `wishes`, `asking`, `running`; an old disk in `old`, `outcome`,
+//! in `status`, `refusal`, `causes`, `input`, `reading`, `wishes`, `asking`, `running`; an old disk in `old`, `outcome`,
 //! `carrying`, `migrating`.
 #![tactic(auto)]
 
@@ -42,6 +42,7 @@ mod parser;
 mod reading;
 mod refusal;
 mod running;
+mod status;
 mod wanting;
 mod wishes;
 
@@ -52,5 +53,6 @@ pub use old::{OldNode, migration};
 pub use outcome::Migrated;
 pub use refusal::{Refusal, Stop};
 pub use running::run_script;
+pub use status::Status;
 pub use wanting::wanted;
 pub use wishes::{Request, Wish};

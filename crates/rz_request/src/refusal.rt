@@ -4,6 +4,7 @@ ghost use Rattle.std.specs.Prelude.{◌≡◌, IfOk};
 ghost use Rattle.rz_request.specs.Refusals.{line_of, script_line, status_of, volume_line, disks_line, disk_line, node_line, old_line, open_line};
 
 use crate::causes::{script_cause, volume_cause};
+use crate::status::Status;
 use rz_script::{ScriptCause, VolumeFault};
 use std::alloc::{AllocError, Global};
 
@@ -124,19 +125,19 @@ impl Refusal {
         ensures { result ≡ status_of self.now }
     {
         match self {
-            Refusal::Usage => 2,
-            Refusal::Script { .. } => 3,
-            Refusal::Volume(_) => 6,
-            Refusal::Long => 7,
-            Refusal::Turns => 8,
-            Refusal::Large => 9,
-            Refusal::Disks { .. } => 10,
-            Refusal::Disk { .. } => 11,
-            Refusal::Node { .. } => 12,
-            Refusal::Old { .. } => 13,
-            Refusal::Journal => 14,
-            Refusal::Full => 15,
-            Refusal::Open { .. } => 16,
+            Refusal::Usage => Status::USAGE,
+            Refusal::Script { .. } => Status::SCRIPT,
+            Refusal::Volume(_) => Status::VOLUME,
+            Refusal::Long => Status::LONG,
+            Refusal::Turns => Status::TURNS,
+            Refusal::Large => Status::LARGE,
+            Refusal::Disks { .. } => Status::DISKS,
+            Refusal::Disk { .. } => Status::DISK,
+            Refusal::Node { .. } => Status::NODE,
+            Refusal::Old { .. } => Status::OLD,
+            Refusal::Journal => Status::JOURNAL,
+            Refusal::Full => Status::FULL,
+            Refusal::Open { .. } => Status::OPEN,
         }
     }
 

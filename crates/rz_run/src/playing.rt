@@ -15,13 +15,14 @@ ghost use Rattle.rz_run.specs.Runs.{Plays};
 use crate::casting::{Cast, engage, links_of};
 use crate::laws::true_logs;
 use crate::outcome::Ran;
-use crate::telling::{NO_MEMORY, tell};
+use crate::telling::tell;
 use rz_chronicle::{Opened, read_back};
 use rz_disk::Disk;
 use rz_link::Link;
 use rz_locks::Locks;
 use rz_ports::Sink;
 use rz_report::refuse_disks;
+use rz_request::Status;
 use rz_script::Script;
 use rz_shared::{Cluster, Counting};
 use rz_threads::{Played, play};
@@ -131,7 +132,7 @@ pub(crate) fn play_book<
     match engage::<J, L>(alloc, opened, script, links) {
         Ok(cast) => play_cast(rt, alloc, cast, script, disks, output),
         Err(links) => Ran {
-            status: NO_MEMORY,
+            status: Status::NO_MEMORY,
             disks,
             links,
         },

@@ -6,13 +6,12 @@ ghost use Rattle.rz_run.specs.Runs.{Plays, Runs};
 
 use crate::outcome::Ran;
 use crate::playing::play_book;
-use crate::telling::NO_MEMORY;
 use rz_chronicle::{Opened, read_back};
 use rz_disk::Disk;
 use rz_link::Link;
 use rz_ports::{Sink, Source};
 use rz_report::stop;
-use rz_request::run_script;
+use rz_request::{Status, run_script};
 use rz_script::Script;
 use std::alloc::Global;
 use std::marker::Brand;
@@ -42,7 +41,7 @@ fn play_script<R: Threads + Wait + Sync, O: Sink, D: Disk + Send, L: Link + Send
             play_book::<Brand, R, O, D, L>(rt, alloc, opened, script, disks, links, output)
         }
         Err(_) => Ran {
-            status: NO_MEMORY,
+            status: Status::NO_MEMORY,
             disks,
             links,
         },

@@ -9,13 +9,11 @@ use rz_chronicle::{Book, Naming, Pass};
 use rz_events::Event;
 use rz_ports::Sink;
 use rz_report::finish;
+use rz_request::Status;
 use rz_show::show_run;
 use rz_threads_workers::count_all;
 use std::alloc::Global;
 use std::sync::Wait;
-
-/// There was no memory.
-pub(crate) const NO_MEMORY: u8 = 70;
 
 /// Writes the text of the log that a pass has seen, of which these are the events that are shown, and gives
 /// the status.
@@ -34,8 +32,8 @@ fn tell_log<R: Wait, J: Naming, O: Sink>(
     let mut front = front;
     let events = count_all(rt, book, &mut front);
     match show_run(alloc, shown, events) {
-        Ok(text) => finish(output, 0, &text),
-        Err(_) => NO_MEMORY,
+        Ok(text) => finish(output, Status::DONE, &text),
+        Err(_) => Status::NO_MEMORY,
     }
 }
 
@@ -56,6 +54,6 @@ pub(crate) fn tell<R: Wait, J: Naming, O: Sink>(
     if ended {
         tell_log(rt, alloc, book, front, shown, output)
     } else {
-        NO_MEMORY
+        Status::NO_MEMORY
     }
 }
