@@ -3,6 +3,7 @@ pub mod Paths
 pub mod Tree
 pub mod Refusals
 pub mod TreeCalls
+pub mod Files
 pub mod Place
 pub mod Export
 pub mod ExportEvents
