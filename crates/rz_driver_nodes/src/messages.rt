@@ -4,7 +4,7 @@ ghost use Rattle.rz_cells_slots.specs.Opening.{opening_calls};
 ghost use Rattle.mj_angles.specs.Layout.{max_bins_of};
 ghost use Rattle.rz_block_laws.specs.Laws as laws;
 ghost use Rattle.rz_node.specs.Calls.{Counts, IsNoStart, IsRecord};
-ghost use Rattle.rz_operation.specs.Answers.{HasRoom, IsAnswered, IsAnswerTo};
+ghost use Rattle.rz_operation.specs.Answers.{IsAnswered, IsAnswerTo};
 ghost use Rattle.rz_operation_model.specs.Ask.{ask_of};
 ghost use Rattle.rz_operation_model.specs.Turns.{goes_by_link};
 ghost use Rattle.rz_play_laws.specs.Own.{IsOfActor};
@@ -137,7 +137,6 @@ fn tell(
     requires asked { (n : ℕ) × IsAsked machine.old n ask.now }
     requires placed { IsPlaced layout ask.now }
     requires answers { IsAnswerTo layout ask.now answer }
-    requires room { HasRoom machine.old.work }
     requires bins { max_bins_of layout ≤ length bins.now }
     ensures goes { result ≡ not (is_bad (ask_of machine.new.layout machine.new.work)) }
     ensures answered { IsAnswered machine.old answer bins.now machine.new }
@@ -176,7 +175,7 @@ pub fn through<D: Disk>(
     rz_node_laws::faults();
     rz_block_laws::heard::<D>();
     rz_block_laws::fitting();
-    if !machine.has_room() || !is_placed(layout, &ask) {
+    if !is_placed(layout, &ask) {
         return Err(NoMemory);
     }
     let answer = serve(alloc, layout, machine, &ask, node, bins)?;
@@ -222,9 +221,6 @@ pub fn without_reply<D: Disk>(
     rz_node_laws::faults();
     rz_block_laws::heard::<D>();
     rz_block_laws::told();
-    if !machine.has_room() {
-        return Err(NoMemory);
-    }
     let answer = serve(alloc, layout, machine, &ask, node, bins)?;
     let Some(event) = node_event(by, number, &ask, &answer) else {
         return Err(NoMemory);
@@ -255,9 +251,6 @@ pub fn without_request(
     ensures err { OnErr result (log.new.events ≡ log.old.events) }
     ensures earlier { log.new.earlier ≡ log.old.earlier }
 {
-    if !machine.has_room() {
-        return Err(NoMemory);
-    }
     machine.tell_missed();
     log.note(Event::Missed {
         by,

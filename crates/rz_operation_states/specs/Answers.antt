@@ -30,7 +30,7 @@ use Rattle.rz_operation_model.specs.Ranges.{bytes_of}
 use Rattle.rz_operation_model.specs.Ask.{Ask, AskExport, AskNode, AskLock, Say, Saying, SayDone}
 use Rattle.rz_operation_model.specs.Steps.{Told, Answered, told, reader_after}
 use Rattle.rz_operation_model.specs.Rebuild.{IsNextAnswer}
-use Rattle.rz_rebuild.specs.Machine.{HasBinsAt, HasRoomAt, pairs_at_state, pairs_fetched_at, IsBlockAt}
+use Rattle.rz_rebuild.specs.Machine.{HasBinsAt, pairs_at_state, pairs_fetched_at, IsBlockAt}
 use Rattle.rz_operation_model.specs.Work.{Work, RangePlan, WriteBytes, ReadBytes, Reading, Rebuilding}
 use Rattle.rz_operation_states.specs.Machine.{Machine}
 
@@ -243,8 +243,3 @@ IsFetchedInto r a bins new = (fits : Bool) × AreFitting r.state.layout (pairs_t
     × (new.state ≡ reader_after r.state (Answered fits (answer.Fetch a)))
     × (new.pairs ≡ pairs_at new.state.stage (pairs_told r a bins))
     × IsBlockOf r.state.layout (pairs_told r a bins) new.state.stage new.block
-
--- what counts the blocks of a rebuild has room for one more
-abbrev pub HasRoom : Work → Type 0
-HasRoom (Rebuilding n s) = HasRoomAt s
-HasRoom work = Unit {0}

@@ -173,7 +173,7 @@ fn through<R: Wait, D: Disk, J: Counting>(
     let layout = store.layout();
     let _most = layout.max_bins();
     let _fit = pass.actor();
-    if !machine.has_room() || !is_placed(layout, ask) {
+    if !is_placed(layout, ask) {
         return Err(NoMemory);
     }
     let answer = serve(rt, store, pass, node, machine, ask, bins)?;
@@ -225,9 +225,6 @@ fn without_reply<R: Wait, D: Disk, J: Counting>(
 {
     rz_block_laws::acting::goes();
     let _fit = pass.actor();
-    if !machine.has_room() {
-        return Err(NoMemory);
-    }
     let answer = serve(rt, store, pass, node, machine, ask, bins)?;
     if wants_memory(&answer) || !machine.takes_answer(&answer) || !pass.room() {
         return Err(NoMemory);
@@ -260,7 +257,7 @@ fn without_request<D: Disk, J: Counting>(
     rz_block_laws::acting::goes();
     let _ = ask;
     let _fit = pass.actor();
-    if !machine.has_room() || !pass.room() {
+    if !pass.room() {
         return Err(NoMemory);
     }
     add_missed(store, pass, node, false);
