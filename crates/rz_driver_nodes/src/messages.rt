@@ -1,5 +1,5 @@
 //! Messages to nodes.
-ghost use Rattle.std.specs.Prelude.{◌≡◌, ◌≢◌, ◌↔◌, ◌<◌, ◌≤◌, ℕ, List, true, None, IsTrue, OnOk, OnErr, IfOk, length, not};
+ghost use Rattle.std.specs.Prelude.{◌≡◌, ◌↔◌, ◌<◌, ◌≤◌, ℕ, List, true, IsTrue, OnOk, OnErr, IfOk, length, not};
 ghost use Rattle.rz_cells_slots.specs.Opening.{opening_calls};
 ghost use Rattle.mj_angles.specs.Layout.{max_bins_of};
 ghost use Rattle.rz_block_laws.specs.Laws as laws;
@@ -8,7 +8,7 @@ ghost use Rattle.rz_operation.specs.Answers.{IsAnswered, IsAnswerTo};
 ghost use Rattle.rz_operation_model.specs.Ask.{ask_of};
 ghost use Rattle.rz_operation_model.specs.Turns.{goes_by_link};
 ghost use Rattle.rz_play_laws.specs.Own.{IsOfActor};
-ghost use Rattle.rz_driver_nodes.specs.Nodes.{Fares, IsServed, IsAsked, IsFetchOf, IsPlaced, IsThroughPart, IsReplyLostPart, IsRequestLostPart};
+ghost use Rattle.rz_driver_nodes.specs.Nodes.{IsServed, IsAsked, IsFetchOf, IsPlaced, IsThroughPart, IsReplyLostPart, IsRequestLostPart};
 ghost use Rattle.rz_driver_nodes.specs.Meters.{GoesOn};
 ghost use Rattle.rz_driver_nodes.specs.Images.{KeepsNode, SparesNode};
 ghost use Rattle.rz_driver_asks.specs.Parts.{is_bad};
@@ -17,40 +17,11 @@ use mj_angles::Layout;
 use rz_disk::Disk;
 use rz_driver_asks::is_bad;
 use rz_events::{Actor, Event, FetchAnswer, Head, NodeAnswer, NodeAsk};
-use rz_link::{Link, Sent};
 use rz_log::{Log, let_go};
 use rz_node::{Node, answer_node, node_event};
 use rz_operation::Machine;
 use rz_player::NoMemory;
 use std::alloc::Global;
-
-/// Whether the message of a call goes through the link.
-fn by_link(ask: &NodeAsk) -> bool
-    ensures { result ≡ goes_by_link ask.now }
-{
-    match ask {
-        NodeAsk::Keep(_) | NodeAsk::Fetch { .. } | NodeAsk::Refill { .. } | NodeAsk::Drop { .. } =>
-            true,
-        NodeAsk::Probe | NodeAsk::Stop | NodeAsk::Start | NodeAsk::Lose | NodeAsk::Replace { .. } =>
-            false,
-    }
-}
-
-/// How a message fares: as a line of the script says, or as the link does.
-pub fn fate<L: Link>(miss: Option<bool>, ask: &NodeAsk, node: u16, link: &mut L) -> Sent
-    ensures fares { Fares miss ask.now result }
-    ensures lasting { L.lost link.old ≤ L.lost link.new }
-    ensures risen { miss ≡ None → result ≢ Sent.Through → L.lost link.old < L.lost link.new }
-{
-    if !by_link(ask) {
-        return Sent::Through;
-    }
-    match miss {
-        Some(true) => Sent::ReplyLost,
-        Some(false) => Sent::RequestLost,
-        None => link.send(node),
-    }
-}
 
 /// Whether a head and so many bins are those of a record of this layout.
 #[tactic(auto, unfolding(rz_record::specs::Record::bins_of))]

@@ -1,5 +1,5 @@
 //! Messages to nodes.
-ghost use Rattle.std.specs.Prelude.{◌≡◌, ◌≢◌, ◌+◌, ◌<◌, ◌≤◌, ◌^◌, ℕ, true, false, Some, IfOk, OnOk, OnErr, IsTrue, length};
+ghost use Rattle.std.specs.Prelude.{◌≡◌, ◌≢◌, ◌+◌, ◌<◌, ◌≤◌, ◌^◌, ℕ, true, false, Some, None, IfOk, OnOk, OnErr, IsTrue, length};
 ghost use Rattle.mj_angles.specs.Layout.{max_bins_of};
 ghost use Rattle.rz_events.specs.declared.nodes.NodeAnswer.TheVariants as answer;
 ghost use Rattle.rz_events.specs.declared.nodes.ReplaceAnswer.TheVariants as replace;
@@ -13,6 +13,7 @@ ghost use Rattle.rz_core.specs.History.{of_actor};
 ghost use Rattle.rz_core.specs.NodeRows.{IsNodeOf};
 ghost use Rattle.rz_core.specs.Own.{IsOpen};
 ghost use Rattle.rz_play.specs.Faults.{missed};
+ghost use Rattle.rz_player.specs.Messages.{IsSent, IsNotedAs};
 ghost use Rattle.rz_chronicle.specs.Keys.{count_at, word_key};
 ghost use Rattle.rz_chronicle.specs.Kinds.{is_honest, volume_in};
 ghost use Rattle.rz_events.specs.declared.events.Word.TheVariants as w;
@@ -29,35 +30,11 @@ use rz_chronicle::Pass;
 use rz_config::Volume;
 use rz_disk::Disk;
 use rz_events::{Actor, Event, Head, NodeAnswer, NodeAsk, NodeSpec, ReplaceAnswer};
-use rz_link::{Link, Sent};
-use rz_operation::Machine;
+use rz_link::{Link, Sent, fate};
+use rz_operation::{Machine, goes_by_link};
 use rz_player::NoMemory;
 use rz_shared::Counting;
 use std::sync::Wait;
-
-/// Whether the message of a call goes through the link.
-fn by_link(ask: &NodeAsk) -> bool
-    ensures { result ≡ goes_by_link ask.now }
-{
-    match ask {
-        NodeAsk::Keep(_) | NodeAsk::Fetch { .. } | NodeAsk::Refill { .. } | NodeAsk::Drop { .. } =>
-            true,
-        NodeAsk::Probe | NodeAsk::Stop | NodeAsk::Start | NodeAsk::Lose | NodeAsk::Replace { .. } =>
-            false,
-    }
-}
-
-/// How a message fares.
-pub fn fate<L: Link>(ask: &NodeAsk, node: u16, link: &mut L) -> Sent
-    ensures by_link { result ≢ Sent.Through → goes_by_link ask.now ≡ true }
-    ensures lasting { L.lost link.old ≤ L.lost link.new }
-    ensures risen { result ≢ Sent.Through → L.lost link.old < L.lost link.new }
-{
-    if !by_link(ask) {
-        return Sent::Through;
-    }
-    link.send(node)
-}
 
 /// Whether one of these nodes has this number.
 fn is_among(nodes: &[NodeSpec], number: u16) -> bool
@@ -166,6 +143,7 @@ fn through<R: Wait, D: Disk, J: Counting>(
     ensures lasts { Lasts J.kind pass.old pass.new }
     ensures quiet { missed (of_actor pass.old.actor pass.new.log) ≡ missed (of_actor pass.old.actor pass.old.log) }
     ensures unshown { shown_of (of_actor pass.old.actor pass.new.log) ≡ shown_of (of_actor pass.old.actor pass.old.log) }
+    ensures noted { OnOk result (IsNotedAs pass.old.actor node ask.now Sent.Through (of_actor pass.old.actor pass.old.log) (of_actor pass.old.actor pass.new.log)) }
     ensures acted { OnOk result ((number : ℕ) → IsRight J.kind pass.old number machine.old → HasActed J.kind number pass.old pass.new machine.old machine.new) }
     ensures cut { OnErr result ((number : ℕ) → IsCutOff pass.old.actor number pass.old.log pass.new.log machine.old) }
 {
@@ -220,6 +198,7 @@ fn without_reply<R: Wait, D: Disk, J: Counting>(
     ensures lasts { Lasts J.kind pass.old pass.new }
     ensures one { missed (of_actor pass.old.actor pass.new.log) ≤ missed (of_actor pass.old.actor pass.old.log) + 1 }
     ensures unshown { shown_of (of_actor pass.old.actor pass.new.log) ≡ shown_of (of_actor pass.old.actor pass.old.log) }
+    ensures noted { OnOk result (IsNotedAs pass.old.actor node ask.now Sent.ReplyLost (of_actor pass.old.actor pass.old.log) (of_actor pass.old.actor pass.new.log)) }
     ensures acted { OnOk result ((number : ℕ) → IsRight J.kind pass.old number machine.old → HasActed J.kind number pass.old pass.new machine.old machine.new) }
     ensures cut { OnErr result ((number : ℕ) → IsCutOff pass.old.actor number pass.old.log pass.new.log machine.old) }
 {
@@ -250,6 +229,7 @@ fn without_request<D: Disk, J: Counting>(
     ensures lasts { Lasts J.kind pass.old pass.new }
     ensures one { missed (of_actor pass.old.actor pass.new.log) ≤ missed (of_actor pass.old.actor pass.old.log) + 1 }
     ensures unshown { shown_of (of_actor pass.old.actor pass.new.log) ≡ shown_of (of_actor pass.old.actor pass.old.log) }
+    ensures noted { OnOk result (IsNotedAs pass.old.actor node ask.now Sent.RequestLost (of_actor pass.old.actor pass.old.log) (of_actor pass.old.actor pass.new.log)) }
     ensures acted { OnOk result ((number : ℕ) → IsRight J.kind pass.old number machine.old → HasActed J.kind number pass.old pass.new machine.old machine.new) }
     ensures cut { OnErr result ((number : ℕ) → IsCutOff pass.old.actor number pass.old.log pass.new.log machine.old) }
 {
@@ -285,6 +265,7 @@ pub fn message<R: Wait, D: Disk, J: Counting, L: Link>(
     requires room { max_bins_of (volume_in J.kind).layout ≤ length bins.old }
     ensures lasts { Lasts J.kind pass.old pass.new }
     ensures lost { AreLost pass.old.actor pass.old.log pass.new.log (L.lost link.old) (L.lost link.new) }
+    ensures sent { OnOk result (IsSent L.says None pass.old.actor node ask link.old link.new (of_actor pass.old.actor pass.old.log) (of_actor pass.old.actor pass.new.log)) }
     ensures unshown { shown_of (of_actor pass.old.actor pass.new.log) ≡ shown_of (of_actor pass.old.actor pass.old.log) }
     ensures acted { OnOk result ((number : ℕ) → IsRight J.kind pass.old number machine.old → HasActed J.kind number pass.old pass.new machine.old machine.new) }
     ensures cut { OnErr result ((number : ℕ) → IsCutOff pass.old.actor number pass.old.log pass.new.log machine.old) }
@@ -293,7 +274,7 @@ pub fn message<R: Wait, D: Disk, J: Counting, L: Link>(
     if node == 0 || !is_in(&store.volume, node) {
         return Err(NoMemory);
     }
-    match fate(&ask, node, link) {
+    match fate(goes_by_link(&ask), None, node, link) {
         Sent::Through => through(rt, store, pass, node, machine, &ask, bins),
         Sent::ReplyLost => without_reply(rt, store, pass, node, machine, &ask, bins),
         Sent::RequestLost => without_request(store, pass, node, machine, &ask),

@@ -14,7 +14,7 @@ use Rattle.rz_chronicle.specs.Rules.{PassView}
 use Rattle.rz_play.specs.Faults.{missed}
 use Rattle.rz_threads_steps.specs.Turned.{IsCutOff}
 use Rattle.rz_threads_steps.proofs.Acts.{still-lasts, still-cut, on-err, cut-by, node-step, heard-of}
-use Rattle.rz_threads_steps.proofs.Messages.{come-with, event-of, fetch-room}
+use Rattle.rz_threads_steps.proofs.Messages.{come-with, event-of, fetch-room, noted-through}
 use Rattle.rz_threads_steps.proofs.sending.through.Goals as goal
 
 pub returns-then-not-is_placed-clause-lasts : goal.returns-then-not-is_placed-clause-lasts
@@ -63,6 +63,12 @@ returns-clause-quiet g c = c.in_ok-answer.ensures.served.quiet
 
 pub returns-clause-unshown : goal.returns-clause-unshown
 returns-clause-unshown g c = c.in_ok-answer.ensures.served.unshown
+
+pub returns-clause-noted : goal.returns-clause-noted
+returns-clause-noted g c =
+    noted-through (volume_in g.J.Naming.kind) (is_honest g.J.Naming.kind) c.args.pass.now.actor c.args.node c.args.ask.now c.in_ok-answer.answer c.args.pass.now.log c.serve.new.pass.log
+    (event-of c.args.machine.now c.args.pass.now.actor c.args.node c.args.ask.now c.in_ok-answer.answer c.requires.asked (c.takes_answer.ensures.0 c.if-not-takes_answer.false) (c.wants_memory.ensures c.if-wants_memory.false))
+    c.in_ok-answer.ensures.served.adds
 
 pub returns-clause-acted : goal.returns-clause-acted
 returns-clause-acted g c =

@@ -15,7 +15,7 @@ use Rattle.rz_threads_steps.specs.Turned.{IsCutOff}
 use Rattle.rz_threads_steps.proofs.Added.{lost-count}
 use Rattle.rz_threads_steps.proofs.Shows.{unshown-of}
 use Rattle.rz_threads_steps.proofs.Acts.{still-lasts, still-cut, on-err, lasts-on, cut-by, node-step, missed-reply}
-use Rattle.rz_threads_steps.proofs.Messages.{event-of, may-miss, open-after}
+use Rattle.rz_threads_steps.proofs.Messages.{event-of, may-miss, open-after, noted-reply}
 use Rattle.rz_threads_steps.proofs.sending.without_reply.Goals as goal
 
 pub returns-in_err-answer-clause-lasts : goal.returns-in_err-answer-clause-lasts
@@ -65,6 +65,13 @@ returns-clause-one g c =
 
 pub returns-clause-unshown : goal.returns-clause-unshown
 returns-clause-unshown g c = ap shown_of (subst (λ (a : Actor). AddsOwn (volume_in g.J.Naming.kind) (is_honest g.J.Naming.kind) a c.serve.new.pass.log (Some (e.Missed a c.args.node true)) c.add_missed.new.pass.log) c.in_ok-answer.ensures.served.lasts.actor c.add_missed.ensures.adds).own ∙ unshown-of (e.Missed c.args.pass.now.actor c.args.node true) (of_actor c.args.pass.now.actor c.serve.new.pass.log) refl ∙ c.in_ok-answer.ensures.served.unshown
+
+pub returns-clause-noted : goal.returns-clause-noted
+returns-clause-noted g c =
+    noted-reply (volume_in g.J.Naming.kind) (is_honest g.J.Naming.kind) c.args.pass.now.actor c.args.node c.args.ask.now c.in_ok-answer.answer c.args.pass.now.log c.serve.new.pass.log
+    (event-of c.args.machine.now c.args.pass.now.actor c.args.node c.args.ask.now c.in_ok-answer.answer c.requires.asked (c.takes_answer.ensures.0 c.if-not-takes_answer.false) (c.wants_memory.ensures c.if-wants_memory.false))
+    c.in_ok-answer.ensures.served.adds c.add_missed.new.pass.log
+    (subst (λ (a : Actor). AddsOwn (volume_in g.J.Naming.kind) (is_honest g.J.Naming.kind) a c.serve.new.pass.log (Some (e.Missed a c.args.node true)) c.add_missed.new.pass.log) c.in_ok-answer.ensures.served.lasts.actor c.add_missed.ensures.adds)
 
 pub returns-clause-acted : goal.returns-clause-acted
 returns-clause-acted g c =

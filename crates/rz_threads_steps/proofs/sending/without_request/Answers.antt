@@ -42,6 +42,9 @@ pub returns-clause-unshown : goal.returns-clause-unshown
 returns-clause-unshown g c =
     ap shown_of c.add_missed.ensures.adds.own ∙ unshown-of (e.Missed c.args.pass.now.actor c.args.node false) (of_actor c.args.pass.now.actor c.args.pass.now.log) refl
 
+pub returns-clause-noted : goal.returns-clause-noted
+returns-clause-noted g c = c.add_missed.ensures.adds.own
+
 pub returns-clause-acted : goal.returns-clause-acted
 returns-clause-acted g c =
     λ number right. missed-request g.J.Naming.kind number c.args.pass.now c.add_missed.new.pass c.args.machine.now c.tell_missed.new.self c.add_missed.ensures.lasts (c.goes.ensures (volume_in g.J.Naming.kind)) c.args.node c.args.ask.now c.requires.asked c.requires.lossy
