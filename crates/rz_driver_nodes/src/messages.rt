@@ -3,7 +3,7 @@ ghost use Rattle.std.specs.Prelude.{◌≡◌, ◌↔◌, ◌<◌, ◌≤◌, �
 ghost use Rattle.rz_cells_slots.specs.Opening.{opening_calls};
 ghost use Rattle.mj_angles.specs.Layout.{max_bins_of};
 ghost use Rattle.rz_block_laws.specs.Laws as laws;
-ghost use Rattle.rz_node.specs.Calls.{Counts, IsNoStart, IsRecord};
+ghost use Rattle.rz_node.specs.Calls.{Counts, IsNoStart};
 ghost use Rattle.rz_operation.specs.Answers.{IsAnswered, IsAnswerTo};
 ghost use Rattle.rz_operation_model.specs.Ask.{ask_of};
 ghost use Rattle.rz_operation_model.specs.Turns.{goes_by_link};
@@ -16,26 +16,12 @@ ghost use Rattle.rz_driver_asks.specs.Parts.{is_bad};
 use mj_angles::Layout;
 use rz_disk::Disk;
 use rz_driver_asks::is_bad;
-use rz_events::{Actor, Event, FetchAnswer, Head, NodeAnswer, NodeAsk};
+use rz_events::{Actor, Event, FetchAnswer, NodeAnswer, NodeAsk};
 use rz_log::{Log, let_go};
-use rz_node::{Node, answer_node, node_event};
+use rz_node::{Node, answer_node, is_record, node_event};
 use rz_operation::Machine;
 use rz_player::NoMemory;
 use std::alloc::Global;
-
-/// Whether a head and so many bins are those of a record of this layout.
-#[tactic(auto, unfolding(rz_record::specs::Record::bins_of))]
-fn is_record(layout: Layout, head: &Head, bins: &[u64]) -> bool
-    ensures { IsTrue result → IsRecord layout head.now bins.now }
-{
-    if head.layout != layout || head.bsize != layout.bsize() || head.stamp == 0 {
-        return false;
-    }
-    if usize::from(head.position) >= layout.safe() || head.base >= head.stamp {
-        return false;
-    }
-    head.length as usize <= layout.block_bytes() && bins.len() == layout.bins_at(head.position)
-}
 
 /// Gives a call to a node, with the bins of what it is to keep, or with room for those that it reads.
 fn serve<D: Disk>(
@@ -66,10 +52,10 @@ fn serve<D: Disk>(
             }
             let own = &mut bins[..given.len()];
             own.copy_from_slice(given);
-            Ok(answer_node(node, alloc, ask, own))
+            Ok(answer_node(alloc, node, ask, own))
         }
         NodeAsk::Fetch { .. } | NodeAsk::Drop { .. } | NodeAsk::Probe | NodeAsk::Replace { .. } =>
-            Ok(answer_node(node, alloc, ask, bins)),
+            Ok(answer_node(alloc, node, ask, bins)),
         NodeAsk::Stop | NodeAsk::Start | NodeAsk::Lose => Err(NoMemory),
     }
 }

@@ -29,6 +29,7 @@ use Rattle.rz_events.specs.declared.operations.Operation.TheVariants as operatio
 use Rattle.rz_operation_model.specs.Ranges.{bytes_of}
 use Rattle.rz_operation_model.specs.Ask.{Ask, AskExport, AskNode, AskLock, Say, Saying, SayDone}
 use Rattle.rz_operation_model.specs.Steps.{Told, Answered, told, reader_after}
+use Rattle.rz_operation_model.specs.Turns.{goes_by_link}
 use Rattle.rz_operation_model.specs.Rebuild.{IsNextAnswer}
 use Rattle.rz_rebuild.specs.Machine.{HasBinsAt, pairs_at_state, pairs_fetched_at, IsBlockAt}
 use Rattle.rz_operation_model.specs.Work.{Work, RangePlan, WriteBytes, ReadBytes, Reading, Rebuilding}
@@ -161,15 +162,8 @@ ComeWith layout (AskNode n question) a bins = HasBinsTo layout question a bins
 ComeWith layout ask a bins = Unit {0}
 
 -- a message that the link may lose was asked
-abbrev pub IsLossy : NodeAsk → Type 0
-IsLossy (ask.Keep head) = Unit {0}
-IsLossy (ask.Fetch key position stamp) = Unit {0}
-IsLossy (ask.Refill fence head) = Unit {0}
-IsLossy (ask.Drop fid) = Unit {0}
-IsLossy question = ⊥
-
 abbrev pub MayMiss : Ask → Type 0
-MayMiss (AskNode n question) = IsLossy question
+MayMiss (AskNode n question) = goes_by_link question ≡ true
 MayMiss ask = ⊥
 
 -- the end of a block is said, or that it was left

@@ -15,7 +15,7 @@ use Rattle.rz_events.specs.declared.nodes.ReplaceAnswer.TheVariants as replace
 use Rattle.rz_events.specs.declared.events.Event.{Event}
 use Rattle.rz_events.specs.declared.events.Event.TheVariants as e
 use Rattle.rz_node_model.specs.NodeEvents.{node_event}
-use Rattle.rz_operation.specs.Answers.{MayMiss, ComeWith, HasBinsTo, IsLossy, IsAnswer, IsAnswerTo}
+use Rattle.rz_operation.specs.Answers.{MayMiss, ComeWith, HasBinsTo, IsAnswer, IsAnswerTo}
 use Rattle.rz_operation.specs.Machine.{Machine, HasBinsFor, AreBinsFor}
 use Rattle.rz_operation_model.specs.Ask.{Ask, AskNode, ask_of}
 use Rattle.rz_operation_model.specs.Turns.{goes_by_link}
@@ -34,19 +34,8 @@ use Rattle.rz_threads_steps.specs.Asking.{IsPlaced}
 
 -- ---- what may be lost
 
-lossy : (question : NodeAsk) → goes_by_link question ≡ true → IsLossy question
-lossy (ask.Keep head) is = tt
-lossy (ask.Fetch key position stamp) is = tt
-lossy (ask.Refill fence head) is = tt
-lossy (ask.Drop fid) is = tt
-lossy ask.Probe is = absurd (cc)
-lossy ask.Stop is = absurd (cc)
-lossy ask.Start is = absurd (cc)
-lossy ask.Lose is = absurd (cc)
-lossy (ask.Replace loss fence) is = absurd (cc)
-
 pub may-miss : (asked : Ask) (n : ℕ) (question : NodeAsk) → asked ≡ AskNode n question → goes_by_link question ≡ true → MayMiss asked
-may-miss asked n question is by_link = subst MayMiss (sym is) (lossy question by_link)
+may-miss asked n question is by_link = subst MayMiss (sym is) by_link
 
 -- ---- room for what is fetched
 

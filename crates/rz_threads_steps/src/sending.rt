@@ -6,7 +6,6 @@ ghost use Rattle.rz_events.specs.declared.nodes.ReplaceAnswer.TheVariants as rep
 ghost use Rattle.rz_events.specs.declared.events.Event.TheVariants as e;
 ghost use Rattle.rz_config.specs.Described.{has_sid};
 ghost use Rattle.rz_script_words.specs.Limits.{has_node};
-ghost use Rattle.rz_node.specs.Calls.{IsRecord};
 ghost use Rattle.rz_operation_model.specs.Ask.{ask_of, AskNode};
 ghost use Rattle.rz_operation_model.specs.Turns.{goes_by_link};
 ghost use Rattle.rz_core.specs.History.{of_actor};
@@ -29,8 +28,9 @@ use mj_angles::Layout;
 use rz_chronicle::Pass;
 use rz_config::Volume;
 use rz_disk::Disk;
-use rz_events::{Actor, Event, Head, NodeAnswer, NodeAsk, NodeSpec, ReplaceAnswer};
+use rz_events::{Actor, Event, NodeAnswer, NodeAsk, NodeSpec, ReplaceAnswer};
 use rz_link::{Link, Sent, fate};
+use rz_node::is_record;
 use rz_operation::{Machine, goes_by_link};
 use rz_player::NoMemory;
 use rz_shared::Counting;
@@ -51,20 +51,6 @@ fn is_in(volume: &Volume, number: u16) -> bool
     clusters
         .iter()
         .any(|cluster| is_among(cluster.nodes.as_slice(), number))
-}
-
-/// Whether a head and so many bins are those of a record of this layout.
-#[tactic(auto, unfolding(rz_record::specs::Record::bins_of))]
-fn is_record(layout: Layout, head: &Head, bins: &[u64]) -> bool
-    ensures { IsTrue result → IsRecord layout head.now bins.now }
-{
-    if head.layout != layout || head.bsize != layout.bsize() || head.stamp == 0 {
-        return false;
-    }
-    if usize::from(head.position) >= layout.safe() || head.base >= head.stamp {
-        return false;
-    }
-    head.length as usize <= layout.block_bytes() && bins.len() == layout.bins_at(head.position)
 }
 
 /// Whether what is fetched lies at a position of the layout.
