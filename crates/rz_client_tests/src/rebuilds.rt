@@ -101,7 +101,7 @@ fn step(
         bins[second] |= 2;
     }
     assert!(rt;
-        belongs(asked, &answer) && are_enough(asked, &bins) && rebuilder.has_room(),
+        belongs(asked, &answer) && are_enough(asked, &bins),
         "no answer to {asked:?}"
     );
     rebuilder.tell(answer, &bins);

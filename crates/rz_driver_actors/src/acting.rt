@@ -9,6 +9,7 @@ ghost use Rattle.rz_play.specs.Turns as model;
 ghost use Rattle.rz_driver_asks.specs.Locking.{lock_of};
 ghost use Rattle.rz_driver_nodes.specs.Nodes.{IsAsked};
 ghost use Rattle.rz_driver_actors.specs.Seats.{HasLayout};
+ghost use Rattle.rz_player.specs.Messages.{IsSent};
 ghost use Rattle.rz_driver_nodes.specs.Meters.{AreMetered, AreCounted, CarriesCounts};
 ghost use Rattle.rz_metadata.specs.Journals.{EndsOn};
 ghost use Rattle.rz_driver_actors.specs.Stores.{IsExportTurn, IsSameStore};
@@ -20,11 +21,11 @@ use crate::shared::Shared;
 use mj_angles::Layout;
 use rz_disk::Disk;
 use rz_driver_asks::{ask_export, open, say};
-use rz_driver_nodes::{fate, find, through, without_reply, without_request};
+use rz_driver_nodes::{find, through, without_reply, without_request};
 use rz_events::{Actor, NodeAsk};
-use rz_link::{Link, Sent};
+use rz_link::{Link, Sent, fate};
 use rz_locks::{LockKind, Locks, Range};
-use rz_operation::{Ask, Machine};
+use rz_operation::{Ask, Machine, goes_by_link};
 use rz_player::NoMemory;
 use std::alloc::Global;
 
@@ -147,6 +148,7 @@ fn message<D: Disk, J: Disk, L: Link>(
     requires bins { max_bins_of layout ≤ length shared.old.bins.items }
     requires room { 2 ≤ shared.old.log.room }
     ensures ok { OnOk result (IsMessage by number ask machine.old machine.new miss.old miss.new shared.old shared.new) }
+    ensures sent { OnOk result (IsSent L.says miss.old by number ask link.old link.new shared.old.log.events shared.new.log.events) }
     ensures miss { OnErr result (miss.new ≡ miss.old) }
     ensures locks { shared.new.locks ≡ shared.old.locks }
     ensures err { OnErr result (shared.new.log.events ≡ shared.old.log.events) }
@@ -172,7 +174,7 @@ fn message<D: Disk, J: Disk, L: Link>(
     let node = &mut shared.stations[place].node;
     let bins = &mut shared.bins;
     let log = &mut shared.log;
-    match fate(*miss, &ask, number, link) {
+    match fate(goes_by_link(&ask), *miss, number, link) {
         Sent::Through => through(alloc, layout, by, number, machine, ask, node, bins, log),
         Sent::ReplyLost => {
             without_reply(alloc, layout, by, number, machine, ask, node, bins, log)?;

@@ -28,9 +28,6 @@ pub fn say(
     ensures err { OnErr result (log.new.events ≡ log.old.events) }
     ensures earlier { log.new.earlier ≡ log.old.earlier }
 {
-    if !machine.has_room() {
-        return Err(NoMemory);
-    }
     match machine.next() {
         Ask::Say(Saying::Got { key, part, mark }) => {
             let end = end_of(alloc, machine, mark, log)?;

@@ -8,25 +8,14 @@ use Rattle.rz_events.specs.declared.nodes.NodeAsk.TheVariants as ask
 use Rattle.rz_events.specs.declared.nodes.NodeAnswer.{NodeAnswer}
 use Rattle.rz_events.specs.declared.nodes.NodeAnswer.TheVariants as answer
 use Rattle.rz_events.specs.declared.nodes.FetchAnswer.TheVariants as fetch
-use Rattle.rz_operation.specs.Answers.{MayMiss, ComeWith, HasBinsTo, IsLossy}
+use Rattle.rz_operation.specs.Answers.{MayMiss, ComeWith, HasBinsTo}
 use Rattle.rz_operation_model.specs.Ask.{Ask, AskNode}
 use Rattle.rz_operation_model.specs.Turns.{goes_by_link}
 use Rattle.rz_driver_nodes.specs.Nodes.{IsPlaced}
 
-lossy : (question : NodeAsk) → goes_by_link question ≡ true → IsLossy question
-lossy (ask.Keep head) is = tt
-lossy (ask.Fetch key position stamp) is = tt
-lossy (ask.Refill fence head) is = tt
-lossy (ask.Drop fid) is = tt
-lossy ask.Probe is = absurd (cc)
-lossy ask.Stop is = absurd (cc)
-lossy ask.Start is = absurd (cc)
-lossy ask.Lose is = absurd (cc)
-lossy (ask.Replace loss fence) is = absurd (cc)
-
 -- a message that goes through the link may be lost
 pub may-miss : (asked : Ask) (n : ℕ) (question : NodeAsk) → asked ≡ AskNode n question → goes_by_link question ≡ true → MayMiss asked
-may-miss asked n question is by_link = subst MayMiss (sym is) (lossy question by_link)
+may-miss asked n question is by_link = subst MayMiss (sym is) by_link
 
 has-bins : (layout : Layout) (question : NodeAsk) (a : NodeAnswer) (bins : List ℕ) → IsPlaced layout question → ((position : ℕ) → position < safe_of layout → bins_at_of layout position ≤ length bins) → HasBinsTo layout question a bins
 has-bins layout (ask.Fetch key position stamp) (answer.Fetch (fetch.Held r)) bins placed most = most position placed

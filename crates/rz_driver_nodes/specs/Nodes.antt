@@ -1,9 +1,7 @@
 -- What a message to a node makes of the parts that it uses.
-use Rattle.std.specs.Prelude.{ℕ, Bool, true, false, ◌≡◌, ◌<◌, List, ◌∷◌, Option, Some}
+use Rattle.std.specs.Prelude.{ℕ, true, false, ◌≡◌, ◌<◌, List, ◌∷◌, Some}
 use Rattle.mj_angles.specs.declared.layout.Layout.{Layout}
 use Rattle.mj_angles.specs.Layout.{safe_of}
-use Rattle.rz_link.specs.declared.Sent.{Sent}
-use Rattle.rz_link.specs.declared.Sent.TheVariants as sent
 use Rattle.rz_events.specs.declared.keys.Actor.{Actor}
 use Rattle.rz_events.specs.declared.nodes.NodeAsk.{NodeAsk}
 use Rattle.rz_events.specs.declared.nodes.NodeAsk.TheVariants as ask
@@ -20,14 +18,7 @@ use Rattle.rz_operation.specs.Answers.{Goes}
 use Rattle.rz_operation.specs.Machine.{Machine}
 use Rattle.rz_operation_model.specs.Ask.{AskNode, ask_of}
 use Rattle.rz_operation_model.specs.Steps.{Answered, Missed}
-use Rattle.rz_play.specs.Turns.{IsLost, IsThrough}
 use Rattle.rz_driver_asks.specs.Parts.{IsTold, IsNoted}
-
--- how a message fares is as a line of the script says, or, where none does, it may be lost if it goes through the link
-abbrev pub Fares : Option Bool → NodeAsk → Sent → Type 0
-Fares miss question sent.Through = IsThrough miss question
-Fares miss question sent.RequestLost = IsLost miss question false
-Fares miss question sent.ReplyLost = IsLost miss question true
 
 -- the machine asks this of the node
 abbrev pub IsAsked : Machine → ℕ → NodeAsk → Type 0

@@ -1,14 +1,14 @@
 //! Messages to nodes.
-ghost use Rattle.std.specs.Prelude.{◌≡◌, ◌≢◌, ◌↔◌, ◌<◌, ◌≤◌, ℕ, List, true, None, IsTrue, OnOk, OnErr, IfOk, length, not};
+ghost use Rattle.std.specs.Prelude.{◌≡◌, ◌↔◌, ◌<◌, ◌≤◌, ℕ, List, true, IsTrue, OnOk, OnErr, IfOk, length, not};
 ghost use Rattle.rz_cells_slots.specs.Opening.{opening_calls};
 ghost use Rattle.mj_angles.specs.Layout.{max_bins_of};
 ghost use Rattle.rz_block_laws.specs.Laws as laws;
-ghost use Rattle.rz_node.specs.Calls.{Counts, IsNoStart, IsRecord};
-ghost use Rattle.rz_operation.specs.Answers.{HasRoom, IsAnswered, IsAnswerTo};
+ghost use Rattle.rz_node.specs.Calls.{Counts, IsNoStart};
+ghost use Rattle.rz_operation.specs.Answers.{IsAnswered, IsAnswerTo};
 ghost use Rattle.rz_operation_model.specs.Ask.{ask_of};
 ghost use Rattle.rz_operation_model.specs.Turns.{goes_by_link};
 ghost use Rattle.rz_play_laws.specs.Own.{IsOfActor};
-ghost use Rattle.rz_driver_nodes.specs.Nodes.{Fares, IsServed, IsAsked, IsFetchOf, IsPlaced, IsThroughPart, IsReplyLostPart, IsRequestLostPart};
+ghost use Rattle.rz_driver_nodes.specs.Nodes.{IsServed, IsAsked, IsFetchOf, IsPlaced, IsThroughPart, IsReplyLostPart, IsRequestLostPart};
 ghost use Rattle.rz_driver_nodes.specs.Meters.{GoesOn};
 ghost use Rattle.rz_driver_nodes.specs.Images.{KeepsNode, SparesNode};
 ghost use Rattle.rz_driver_asks.specs.Parts.{is_bad};
@@ -16,55 +16,12 @@ ghost use Rattle.rz_driver_asks.specs.Parts.{is_bad};
 use mj_angles::Layout;
 use rz_disk::Disk;
 use rz_driver_asks::is_bad;
-use rz_events::{Actor, Event, FetchAnswer, Head, NodeAnswer, NodeAsk};
-use rz_link::{Link, Sent};
+use rz_events::{Actor, Event, FetchAnswer, NodeAnswer, NodeAsk};
 use rz_log::{Log, let_go};
-use rz_node::{Node, answer_node, node_event};
+use rz_node::{Node, answer_node, is_record, node_event};
 use rz_operation::Machine;
 use rz_player::NoMemory;
 use std::alloc::Global;
-
-/// Whether the message of a call goes through the link.
-fn by_link(ask: &NodeAsk) -> bool
-    ensures { result ≡ goes_by_link ask.now }
-{
-    match ask {
-        NodeAsk::Keep(_) | NodeAsk::Fetch { .. } | NodeAsk::Refill { .. } | NodeAsk::Drop { .. } =>
-            true,
-        NodeAsk::Probe | NodeAsk::Stop | NodeAsk::Start | NodeAsk::Lose | NodeAsk::Replace { .. } =>
-            false,
-    }
-}
-
-/// How a message fares: as a line of the script says, or as the link does.
-pub fn fate<L: Link>(miss: Option<bool>, ask: &NodeAsk, node: u16, link: &mut L) -> Sent
-    ensures fares { Fares miss ask.now result }
-    ensures lasting { L.lost link.old ≤ L.lost link.new }
-    ensures risen { miss ≡ None → result ≢ Sent.Through → L.lost link.old < L.lost link.new }
-{
-    if !by_link(ask) {
-        return Sent::Through;
-    }
-    match miss {
-        Some(true) => Sent::ReplyLost,
-        Some(false) => Sent::RequestLost,
-        None => link.send(node),
-    }
-}
-
-/// Whether a head and so many bins are those of a record of this layout.
-#[tactic(auto, unfolding(rz_record::specs::Record::bins_of))]
-fn is_record(layout: Layout, head: &Head, bins: &[u64]) -> bool
-    ensures { IsTrue result → IsRecord layout head.now bins.now }
-{
-    if head.layout != layout || head.bsize != layout.bsize() || head.stamp == 0 {
-        return false;
-    }
-    if usize::from(head.position) >= layout.safe() || head.base >= head.stamp {
-        return false;
-    }
-    head.length as usize <= layout.block_bytes() && bins.len() == layout.bins_at(head.position)
-}
 
 /// Gives a call to a node, with the bins of what it is to keep, or with room for those that it reads.
 fn serve<D: Disk>(
@@ -95,10 +52,10 @@ fn serve<D: Disk>(
             }
             let own = &mut bins[..given.len()];
             own.copy_from_slice(given);
-            Ok(answer_node(node, alloc, ask, own))
+            Ok(answer_node(alloc, node, ask, own))
         }
         NodeAsk::Fetch { .. } | NodeAsk::Drop { .. } | NodeAsk::Probe | NodeAsk::Replace { .. } =>
-            Ok(answer_node(node, alloc, ask, bins)),
+            Ok(answer_node(alloc, node, ask, bins)),
         NodeAsk::Stop | NodeAsk::Start | NodeAsk::Lose => Err(NoMemory),
     }
 }
@@ -137,7 +94,6 @@ fn tell(
     requires asked { (n : ℕ) × IsAsked machine.old n ask.now }
     requires placed { IsPlaced layout ask.now }
     requires answers { IsAnswerTo layout ask.now answer }
-    requires room { HasRoom machine.old.work }
     requires bins { max_bins_of layout ≤ length bins.now }
     ensures goes { result ≡ not (is_bad (ask_of machine.new.layout machine.new.work)) }
     ensures answered { IsAnswered machine.old answer bins.now machine.new }
@@ -176,7 +132,7 @@ pub fn through<D: Disk>(
     rz_node_laws::faults();
     rz_block_laws::heard::<D>();
     rz_block_laws::fitting();
-    if !machine.has_room() || !is_placed(layout, &ask) {
+    if !is_placed(layout, &ask) {
         return Err(NoMemory);
     }
     let answer = serve(alloc, layout, machine, &ask, node, bins)?;
@@ -222,9 +178,6 @@ pub fn without_reply<D: Disk>(
     rz_node_laws::faults();
     rz_block_laws::heard::<D>();
     rz_block_laws::told();
-    if !machine.has_room() {
-        return Err(NoMemory);
-    }
     let answer = serve(alloc, layout, machine, &ask, node, bins)?;
     let Some(event) = node_event(by, number, &ask, &answer) else {
         return Err(NoMemory);
@@ -255,9 +208,6 @@ pub fn without_request(
     ensures err { OnErr result (log.new.events ≡ log.old.events) }
     ensures earlier { log.new.earlier ≡ log.old.earlier }
 {
-    if !machine.has_room() {
-        return Err(NoMemory);
-    }
     machine.tell_missed();
     log.note(Event::Missed {
         by,

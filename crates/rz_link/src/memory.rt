@@ -61,6 +61,8 @@ impl Link for MemLink {
 
     ghost lost = { λ journey. journey.lost };
 
+    ghost says = { λ journey node sent new. (sent ≡ fares journey) × (new ≡ after_send journey) };
+
     fn send(&mut self, _node: u16) -> Sent
         ensures answer { result ≡ fares self.old }
         ensures after { self.new ≡ after_send self.old }

@@ -14,7 +14,11 @@ impl PlainLink {
 }
 
 impl Link for PlainLink {
+    ghost use Rattle.rz_link.specs.declared.Sent.TheVariants.{Through};
+
     ghost lost = { λ _. 0 };
+
+    ghost says = { λ link node sent new. sent ≡ Through };
 
     fn send(&mut self, _node: u16) -> Sent
         ensures { result ≡ Sent.Through }

@@ -1,5 +1,5 @@
 //! Any call of a node.
-ghost use Rattle.std.specs.Prelude.{◌≡◌, ℕ, IsTrue, drop, length};
+ghost use Rattle.std.specs.Prelude.{◌≡◌, ◌↔◌, ℕ, IsTrue, drop, length};
 ghost use Rattle.mj_angles.specs.Layout.{max_bins_of};
 ghost use Rattle.rz_disk.specs.Images.{Only, Within};
 ghost use Rattle.rz_cells_slots.specs.Held.{Records};
@@ -9,22 +9,37 @@ ghost use Rattle.rz_cells_slots.specs.Stands.{StandsFor};
 ghost use Rattle.rz_node_model.specs.Answers.{IsNodeAnswer};
 ghost use Rattle.rz_node_model.specs.Afterwards.{after_answer};
 ghost use Rattle.rz_node_model.specs.States.{opened};
-ghost use Rattle.rz_node.specs.Calls.{Takes, IsNoStart, IsReading, IsSettled, IsUnread, IsUnused, IfStart, Counts};
+ghost use Rattle.rz_node.specs.Calls.{Takes, IsRecord, IsNoStart, IsReading, IsSettled, IsUnread, IsUnused, IfStart, Counts};
 ghost use Rattle.rz_node.specs.DownDisk.{has_taken};
 ghost use Rattle.rz_node.specs.HeldOnDisk.{IsHeldOnDisk};
 ghost use Rattle.rz_node.specs.Leaves.{Leaves};
 ghost use Rattle.rz_node.specs.Opens.{IfStarted, IfUnopened, TookIs, UnlessStarted};
 
 use crate::Node;
+use mj_angles::Layout;
 use rz_disk::Disk;
-use rz_events::{NodeAnswer, NodeAsk, OpenFault};
+use rz_events::{Head, NodeAnswer, NodeAsk, OpenFault};
 use std::alloc::Global;
+
+/// Whether a head and so many bins are those of a record of this layout.
+#[tactic(auto, unfolding(rz_record::specs::Record::bins_of))]
+pub fn is_record(layout: Layout, head: &Head, bins: &[u64]) -> bool
+    ensures { IsTrue result ↔ IsRecord layout head.now bins.now }
+{
+    head.layout == layout
+        && head.bsize == layout.bsize()
+        && head.stamp != 0
+        && usize::from(head.position) < layout.safe()
+        && head.base < head.stamp
+        && head.length as usize <= layout.block_bytes()
+        && bins.len() == layout.bins_at(head.position)
+}
 
 /// Gives a call to a node. The bins are those of a record that is to be kept, or the room for those of
 /// a record that is fetched.
 pub fn answer_node<D: Disk>(
-    node: &mut Node<D>,
     alloc: Global,
+    node: &mut Node<D>,
     ask: &NodeAsk,
     bins: &mut [u64],
 ) -> NodeAnswer

@@ -12,7 +12,7 @@
 //!
 //! [`answer_node`] gives any call to a node, as one function, and says no less than the calls themselves: what the
 //! answer, the state and the meter of the disk are, and what the disk may have after a crash then. [`node_event`]
-//! makes of an answer the event that the log has of it. Both say what the models say, and nothing of who calls or when.
+//! makes of an answer the event that the log has of it. [`is_record`] tells whether bins may be handed in with a head. Both say what the models say, and nothing of who calls or when.
 //!
 //! In reading order: `node`, `fetching`, `storing`, `keeping`, `dropping`, `rows`, `opening`, `replacing`, `laws`,
 //! `events`, `calls`.
@@ -30,7 +30,7 @@ mod replacing;
 mod rows;
 mod storing;
 
-pub use calls::answer_node;
+pub use calls::{answer_node, is_record};
 pub use events::node_event;
 pub use laws::change;
 pub use node::Node;

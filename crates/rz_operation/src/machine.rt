@@ -6,7 +6,7 @@ ghost use Rattle.rz_operation_model.specs.Steps.{begun, Replied, Locked, Missed,
 ghost use Rattle.rz_operation_states.specs.Meaning.{meaning_of};
 ghost use Rattle.rz_operation_states.specs.Machine.{is_over, HasBins, AreBins, HasText, text_of};
 ghost use Rattle.rz_operation_states.specs.Records.{HasHead, IsCount};
-ghost use Rattle.rz_operation_states.specs.Answers.{IsOperation, IsReply, IsLockReply, IsAnswer, ComeWith, MayMiss, IsPartSaid, IsDone, HasRoom, Goes, IsAnswered};
+ghost use Rattle.rz_operation_states.specs.Answers.{IsOperation, IsReply, IsLockReply, IsAnswer, ComeWith, MayMiss, IsPartSaid, IsDone, Goes, IsAnswered};
 
 use crate::begins::{begun, begun_par};
 use crate::replies::{after_answer, after_lock, after_miss, after_reply, after_said, answer_in};
@@ -124,7 +124,6 @@ impl Machine {
     pub fn tell_answer(&mut self, answer: NodeAnswer, bins: &[u64])
         requires asked { IsAnswer self.old.layout (ask_of self.old.layout self.old.work) answer }
         requires bins { ComeWith self.old.layout (ask_of self.old.layout self.old.work) answer bins.now }
-        requires room { HasRoom self.old.work }
         ensures { IsAnswered self.old answer bins.now self.new }
     {
         let stage = replace(&mut self.stage, Stage::Over);
@@ -135,7 +134,6 @@ impl Machine {
     /// Takes it that the message to the node, or its answer, was lost.
     pub fn tell_missed(&mut self)
         requires asked { MayMiss (ask_of self.old.layout self.old.work) }
-        requires room { HasRoom self.old.work }
         ensures { Goes self.old self.old.pairs Missed self.new }
     {
         let stage = replace(&mut self.stage, Stage::Over);
@@ -146,7 +144,6 @@ impl Machine {
     /// Takes it that the end of a block was said, or that a block was left.
     pub fn tell_said(&mut self)
         requires asked { IsPartSaid (ask_of self.old.layout self.old.work) }
-        requires room { HasRoom self.old.work }
         ensures { Goes self.old self.old.pairs (Noted (text_of self.old)) self.new }
     {
         let stage = replace(&mut self.stage, Stage::Over);
@@ -166,33 +163,23 @@ impl Machine {
 
     /// Whether this is a reply to what the operation asks of the export.
     pub fn takes_reply(&self, reply: &Reply) -> bool
-        ensures { IsTrue result → IsReply self.now.layout (ask_of self.now.layout self.now.work) reply.now }
+        ensures { IsTrue result ↔ IsReply self.now.layout (ask_of self.now.layout self.now.work) reply.now }
     {
         is_reply(self.layout, &self.next(), reply)
     }
 
     /// Whether this is a reply to the open with a lock that the operation asks.
     pub fn takes_locked(&self, reply: &Reply) -> bool
-        ensures { IsTrue result → IsLockReply self.now.layout (ask_of self.now.layout self.now.work) reply.now }
+        ensures { IsTrue result ↔ IsLockReply self.now.layout (ask_of self.now.layout self.now.work) reply.now }
     {
         is_lock_reply(self.layout, &self.next(), reply)
     }
 
     /// Whether this is an answer to what the operation asks of a node.
     pub fn takes_answer(&self, answer: &NodeAnswer) -> bool
-        ensures { IsTrue result → IsAnswer self.now.layout (ask_of self.now.layout self.now.work) answer.now }
+        ensures { IsTrue result ↔ IsAnswer self.now.layout (ask_of self.now.layout self.now.work) answer.now }
     {
         is_answer(self.layout, &self.next(), answer)
-    }
-
-    /// Whether what counts the blocks of a rebuild has room for one more.
-    pub fn has_room(&self) -> bool
-        ensures { IsTrue result ↔ HasRoom self.now.work }
-    {
-        match &self.stage {
-            Stage::Rebuilding { rebuilder, .. } => rebuilder.has_room(),
-            _ => true,
-        }
     }
 
     /// The bins of what a node is to keep, or to have as a refill.

@@ -3,7 +3,7 @@
 ghost use Rattle.std.specs.Prelude.{◌≡◌};
 ghost use Rattle.rz_operation_model.specs.Ask.{ask_of};
 ghost use Rattle.rz_operation_model.specs.Steps.{Replied, Locked, Missed, Noted};
-ghost use Rattle.rz_operation_states.specs.Answers.{IsReply, IsLockReply, IsAnswer, ComeWith, MayMiss, IsPartSaid, HasRoom, Goes, IsAnswered, IsDrop, IsKeep, IsTreeReply};
+ghost use Rattle.rz_operation_states.specs.Answers.{IsReply, IsLockReply, IsAnswer, ComeWith, MayMiss, IsPartSaid, Goes, IsAnswered, IsDrop, IsKeep, IsTreeReply};
 ghost use Rattle.rz_operation_states.specs.Machine.{text_of};
 ghost use Rattle.rz_operation_states.specs.Inside.{IsStage, IsDoneStage, IsAnswerIn, machine_of, work_of};
 
@@ -97,7 +97,6 @@ pub fn after_answer(layout: Layout, stage: Stage, answer: NodeAnswer, bins: &[u6
     requires inside { IsStage layout stage }
     requires asked { IsAnswer layout (ask_of layout (work_of stage)) answer }
     requires bins { ComeWith layout (ask_of layout (work_of stage)) answer bins.now }
-    requires room { HasRoom (work_of stage) }
     ensures goes { IsAnswered (machine_of layout stage) answer bins.now (machine_of layout result) }
     ensures inside { IsStage layout result }
 {
@@ -127,7 +126,6 @@ pub fn after_answer(layout: Layout, stage: Stage, answer: NodeAnswer, bins: &[u6
 pub fn after_miss(layout: Layout, stage: Stage) -> Stage
     requires inside { IsStage layout stage }
     requires asked { MayMiss (ask_of layout (work_of stage)) }
-    requires room { HasRoom (work_of stage) }
     ensures goes { Goes (machine_of layout stage) (machine_of layout stage).pairs Missed (machine_of layout result) }
     ensures inside { IsStage layout result }
 {
@@ -155,7 +153,6 @@ pub fn after_miss(layout: Layout, stage: Stage) -> Stage
 pub fn after_said(layout: Layout, stage: Stage) -> Stage
     requires inside { IsStage layout stage }
     requires asked { IsPartSaid (ask_of layout (work_of stage)) }
-    requires room { HasRoom (work_of stage) }
     ensures goes { Goes (machine_of layout stage) (machine_of layout stage).pairs (Noted (text_of (machine_of layout stage))) (machine_of layout result) }
     ensures inside { IsStage layout result }
 {

@@ -1,6 +1,6 @@
 //! Whether an answer belongs to what was asked, tested at run time for whoever does not know it otherwise.
 
-ghost use Rattle.std.specs.Prelude.{◌≡◌, ◌<◌, IsTrue};
+ghost use Rattle.std.specs.Prelude.{◌≡◌, ◌<◌, ◌↔◌, IsTrue};
 ghost use Rattle.std.specs.Int.{bit_at};
 ghost use Rattle.rz_client_model.specs.Read.{IsTold, IsFetched};
 ghost use Rattle.rz_operation_model.specs.Rebuild.{IsNextAnswer};
@@ -15,7 +15,7 @@ use rz_rebuild::position_of;
 
 /// Whether this is a reply to what was asked of the export.
 pub fn is_reply(layout: Layout, ask: &Ask<'_>, reply: &Reply) -> bool
-    ensures { IsTrue result → IsReply layout (meaning_of ask.now) reply.now }
+    ensures { IsTrue result ↔ IsReply layout (meaning_of ask.now) reply.now }
 {
     match ask {
         Ask::Export(ask) => is_reply_to(layout, ask, reply),
@@ -25,7 +25,7 @@ pub fn is_reply(layout: Layout, ask: &Ask<'_>, reply: &Reply) -> bool
 
 /// Whether this is a reply to an open with a lock.
 pub fn is_lock_reply(layout: Layout, ask: &Ask<'_>, reply: &Reply) -> bool
-    ensures { IsTrue result → IsLockReply layout (meaning_of ask.now) reply.now }
+    ensures { IsTrue result ↔ IsLockReply layout (meaning_of ask.now) reply.now }
 {
     match ask {
         Ask::Lock { .. } => is_tree_reply(layout, reply),
@@ -35,7 +35,7 @@ pub fn is_lock_reply(layout: Layout, ask: &Ask<'_>, reply: &Reply) -> bool
 
 /// Whether this is an answer to what was asked of a node.
 pub fn is_answer(layout: Layout, ask: &Ask<'_>, answer: &NodeAnswer) -> bool
-    ensures { IsTrue result → IsAnswer layout (meaning_of ask.now) answer.now }
+    ensures { IsTrue result ↔ IsAnswer layout (meaning_of ask.now) answer.now }
 {
     match ask {
         Ask::Node { ask, .. } => is_answer_to(layout, ask, answer),
@@ -45,7 +45,7 @@ pub fn is_answer(layout: Layout, ask: &Ask<'_>, answer: &NodeAnswer) -> bool
 
 /// Whether this is a reply to a call.
 fn is_reply_to(layout: Layout, ask: &CallRef<'_>, reply: &Reply) -> bool
-    ensures { IsTrue result → IsReplyTo layout (call_of ask.now) reply.now }
+    ensures { IsTrue result ↔ IsReplyTo layout (call_of ask.now) reply.now }
 {
     match ask {
         CallRef::Tree(_) => is_tree_reply(layout, reply),
@@ -60,7 +60,7 @@ fn is_reply_to(layout: Layout, ask: &CallRef<'_>, reply: &Reply) -> bool
 
 /// Whether this is a reply to a call on names: a file has a node for each position.
 fn is_tree_reply(layout: Layout, reply: &Reply) -> bool
-    ensures { IsTrue result → IsTreeReply layout reply.now }
+    ensures { IsTrue result ↔ IsTreeReply layout reply.now }
 {
     match reply {
         Reply::Tree(TreeReply::File(info)) => info.places.list().len() == layout.safe(),
@@ -71,7 +71,7 @@ fn is_tree_reply(layout: Layout, reply: &Reply) -> bool
 
 /// Whether this is a reply to a begin: the base is below the stamp.
 fn is_begin_reply(reply: &Reply) -> bool
-    ensures { IsTrue result → IsBeginReply reply.now }
+    ensures { IsTrue result ↔ IsBeginReply reply.now }
 {
     match reply {
         Reply::Begun { stamp, base } => base < stamp,
@@ -82,7 +82,7 @@ fn is_begin_reply(reply: &Reply) -> bool
 
 /// Whether this is a reply to a publish: an enrolled position is one of the mask.
 fn is_publish_reply(mask: u16, reply: &Reply) -> bool
-    ensures { IsTrue result → IsPublishReply mask reply.now }
+    ensures { IsTrue result ↔ IsPublishReply mask reply.now }
 {
     match reply {
         Reply::Accepted => true,
@@ -95,7 +95,7 @@ fn is_publish_reply(mask: u16, reply: &Reply) -> bool
 
 /// Whether this is a reply to a look or a recheck.
 fn is_look_reply(layout: Layout, reply: &Reply) -> bool
-    ensures { IsTrue result → IsLookReply layout reply.now }
+    ensures { IsTrue result ↔ IsLookReply layout reply.now }
 {
     match reply {
         Reply::Looked(published) => is_told(layout, *published),
@@ -106,7 +106,7 @@ fn is_look_reply(layout: Layout, reply: &Reply) -> bool
 
 /// Whether this is a reply to which block is next for a node.
 fn is_next_reply(layout: Layout, node: u16, reply: &Reply) -> bool
-    ensures { IsTrue result → IsNextReply layout node reply.now }
+    ensures { IsTrue result ↔ IsNextReply layout node reply.now }
 {
     match reply {
         Reply::Listed(listed) => is_listed(layout, node, listed),
@@ -116,7 +116,7 @@ fn is_next_reply(layout: Layout, node: u16, reply: &Reply) -> bool
 
 /// Whether a block can be listed for a node: it has a position of the block's file.
 fn is_listed(layout: Layout, node: u16, listed: &Option<Listed>) -> bool
-    ensures { IsTrue result → IsNextAnswer layout node listed.now }
+    ensures { IsTrue result ↔ IsNextAnswer layout node listed.now }
 {
     let Some(listed) = listed else {
         return true;
@@ -130,7 +130,7 @@ fn is_listed(layout: Layout, node: u16, listed: &Option<Listed>) -> bool
 
 /// Whether what is told as published can be.
 fn is_told(layout: Layout, published: Option<Published>) -> bool
-    ensures { IsTrue result → IsTold layout published }
+    ensures { IsTrue result ↔ IsTold layout published }
 {
     let Some(published) = published else {
         return true;
@@ -143,14 +143,14 @@ fn is_told(layout: Layout, published: Option<Published>) -> bool
 /// Whether a mask names a position.
 #[tactic(auto, using(std::proofs::lemmas::Nat::Bits::shr_and_one))]
 fn has_bit(mask: u16, position: u8) -> bool
-    ensures { IsTrue result → (position < 16) × (bit_at mask position ≡ 1) }
+    ensures { IsTrue result ↔ ((position < 16) × (bit_at mask position ≡ 1)) }
 {
     position < 16 && (mask >> position) & 1 == 1
 }
 
 /// Whether this is an answer to a call of a node.
 fn is_answer_to(layout: Layout, ask: &NodeAsk, answer: &NodeAnswer) -> bool
-    ensures { IsTrue result → IsAnswerTo layout ask.now answer.now }
+    ensures { IsTrue result ↔ IsAnswerTo layout ask.now answer.now }
 {
     match (ask, answer) {
         (NodeAsk::Keep(_), NodeAnswer::Keep(_)) => true,
@@ -165,7 +165,7 @@ fn is_answer_to(layout: Layout, ask: &NodeAsk, answer: &NodeAnswer) -> bool
 
 /// Whether this can be fetched.
 fn is_fetched(layout: Layout, answer: &FetchAnswer) -> bool
-    ensures { IsTrue result → IsFetched layout answer.now }
+    ensures { IsTrue result ↔ IsFetched layout answer.now }
 {
     match answer {
         FetchAnswer::Held(held) => {

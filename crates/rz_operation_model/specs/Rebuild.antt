@@ -1,6 +1,6 @@
 -- The rebuild of a node: its loss is enrolled and its disk replaced, and then each block that it has to hold is read and
 -- refilled, in the order of keys.
-use Rattle.std.specs.Prelude.{ℕ, Bool, ◌≡◌, ◌<◌, ◌≤◌, ◌==◌, ◌&&◌, ◌+◌, cond, List, [], ◌∷◌, length, Option, Some, None}
+use Rattle.std.specs.Prelude.{ℕ, Bool, ◌≡◌, ◌<◌, ◌≤◌, ◌==◌, ◌&&◌, ◌+◌, ◌-◌, ◌^◌, min, cond, List, [], ◌∷◌, length, Option, Some, None}
 use Rattle.mj_angles.specs.declared.layout.Layout.{Layout}
 use Rattle.mj_angles.specs.Layout.{safe_of, block_bytes_of}
 use Rattle.rz_events.specs.declared.keys.Key.{Key}
@@ -59,12 +59,16 @@ pub data Rebuild : Type 0 where
 abbrev pub started : ℕ → Tally
 started fence = record { fence = fence; after = None; refilled = 0; left = 0 }
 
+-- one more; a count of 64 bits stands still at its end
+abbrev pub one_more : ℕ → ℕ
+one_more count = min (count + 1) (2 ^ 64 - 1)
+
 -- one more key was refilled, or left
 abbrev pub with_refilled : Tally → Key → Tally
-with_refilled t key = record t { after = Some key; refilled = t.refilled + 1 }
+with_refilled t key = record t { after = Some key; refilled = one_more t.refilled }
 
 abbrev pub with_left : Tally → Key → Tally
-with_left t key = record t { after = Some key; left = t.left + 1 }
+with_left t key = record t { after = Some key; left = one_more t.left }
 
 -- the position of the node among these, of which the first is position i
 abbrev pub position_in : ℕ → ℕ → List ℕ → ℕ

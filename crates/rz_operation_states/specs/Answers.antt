@@ -29,8 +29,9 @@ use Rattle.rz_events.specs.declared.operations.Operation.TheVariants as operatio
 use Rattle.rz_operation_model.specs.Ranges.{bytes_of}
 use Rattle.rz_operation_model.specs.Ask.{Ask, AskExport, AskNode, AskLock, Say, Saying, SayDone}
 use Rattle.rz_operation_model.specs.Steps.{Told, Answered, told, reader_after}
+use Rattle.rz_operation_model.specs.Turns.{goes_by_link}
 use Rattle.rz_operation_model.specs.Rebuild.{IsNextAnswer}
-use Rattle.rz_rebuild.specs.Machine.{HasBinsAt, HasRoomAt, pairs_at_state, pairs_fetched_at, IsBlockAt}
+use Rattle.rz_rebuild.specs.Machine.{HasBinsAt, pairs_at_state, pairs_fetched_at, IsBlockAt}
 use Rattle.rz_operation_model.specs.Work.{Work, RangePlan, WriteBytes, ReadBytes, Reading, Rebuilding}
 use Rattle.rz_operation_states.specs.Machine.{Machine}
 
@@ -161,15 +162,8 @@ ComeWith layout (AskNode n question) a bins = HasBinsTo layout question a bins
 ComeWith layout ask a bins = Unit {0}
 
 -- a message that the link may lose was asked
-abbrev pub IsLossy : NodeAsk → Type 0
-IsLossy (ask.Keep head) = Unit {0}
-IsLossy (ask.Fetch key position stamp) = Unit {0}
-IsLossy (ask.Refill fence head) = Unit {0}
-IsLossy (ask.Drop fid) = Unit {0}
-IsLossy question = ⊥
-
 abbrev pub MayMiss : Ask → Type 0
-MayMiss (AskNode n question) = IsLossy question
+MayMiss (AskNode n question) = goes_by_link question ≡ true
 MayMiss ask = ⊥
 
 -- the end of a block is said, or that it was left
@@ -243,8 +237,3 @@ IsFetchedInto r a bins new = (fits : Bool) × AreFitting r.state.layout (pairs_t
     × (new.state ≡ reader_after r.state (Answered fits (answer.Fetch a)))
     × (new.pairs ≡ pairs_at new.state.stage (pairs_told r a bins))
     × IsBlockOf r.state.layout (pairs_told r a bins) new.state.stage new.block
-
--- what counts the blocks of a rebuild has room for one more
-abbrev pub HasRoom : Work → Type 0
-HasRoom (Rebuilding n s) = HasRoomAt s
-HasRoom work = Unit {0}

@@ -1,5 +1,8 @@
 //! What an operation asks next.
 
+ghost use Rattle.std.specs.Prelude.{◌≡◌};
+ghost use Rattle.rz_operation_model.specs.Turns.{goes_by_link};
+
 use rz_events::{Answer, CallRef, Key, LeftWhy, NodeAsk, ReadMark, TreeCall, WriteEnd};
 
 /// What an operation asks next. It borrows what it names.
@@ -44,4 +47,16 @@ pub enum Saying<'a> {
         why: LeftWhy,
     },
     Done(&'a Answer),
+}
+
+/// Whether the message of a call goes through the link.
+pub fn goes_by_link(ask: &NodeAsk) -> bool
+    ensures { result ≡ goes_by_link ask.now }
+{
+    match ask {
+        NodeAsk::Keep(_) | NodeAsk::Fetch { .. } | NodeAsk::Refill { .. } | NodeAsk::Drop { .. } =>
+            true,
+        NodeAsk::Probe | NodeAsk::Stop | NodeAsk::Start | NodeAsk::Lose | NodeAsk::Replace { .. } =>
+            false,
+    }
 }

@@ -6,7 +6,7 @@ ghost use Rattle.rz_operation_model.specs.Steps.{Replied, Missed, Noted, in_rebu
 ghost use Rattle.rz_operation_states.specs.Meaning.{meaning_of};
 ghost use Rattle.rz_operation_states.specs.Machine.{text_of};
 ghost use Rattle.rz_operation_states.specs.Records.{HasHead};
-ghost use Rattle.rz_operation_states.specs.Answers.{IsReply, IsAnswer, ComeWith, MayMiss, IsPartSaid, HasRoom, Goes, IsAnswered};
+ghost use Rattle.rz_operation_states.specs.Answers.{IsReply, IsAnswer, ComeWith, MayMiss, IsPartSaid, Goes, IsAnswered};
 ghost use Rattle.rz_operation_states.specs.Told.{rebuild_reply, rebuild_answer};
 ghost use Rattle.rz_operation_states.specs.Inside.{IsStage, IsRebuilding, IsRebuildStage, machine_of, work_of};
 
@@ -145,7 +145,6 @@ pub fn rebuild_answered(
     requires inside { IsRebuilding layout node rebuilder }
     requires asked { IsAnswer layout (ask_of layout (work_of (Stage.Rebuilding node rebuilder))) answer }
     requires bins { ComeWith layout (ask_of layout (work_of (Stage.Rebuilding node rebuilder))) answer bins.now }
-    requires room { HasRoom (work_of (Stage.Rebuilding node rebuilder)) }
     ensures goes { IsAnswered (machine_of layout (Stage.Rebuilding node rebuilder)) answer bins.now (machine_of layout result) }
     ensures inside { IsStage layout result }
 {
@@ -160,7 +159,6 @@ pub fn rebuild_answered(
 pub fn rebuild_missed(layout: Layout, node: u16, mut rebuilder: Rebuilder) -> Stage
     requires inside { IsRebuilding layout node rebuilder }
     requires asked { MayMiss (ask_of layout (work_of (Stage.Rebuilding node rebuilder))) }
-    requires room { HasRoom (work_of (Stage.Rebuilding node rebuilder)) }
     ensures goes { Goes (machine_of layout (Stage.Rebuilding node rebuilder)) rebuilder.pairs Missed (machine_of layout result) }
     ensures inside { IsStage layout result }
 {
@@ -172,7 +170,6 @@ pub fn rebuild_missed(layout: Layout, node: u16, mut rebuilder: Rebuilder) -> St
 pub fn rebuild_said(layout: Layout, node: u16, mut rebuilder: Rebuilder) -> Stage
     requires inside { IsRebuilding layout node rebuilder }
     requires asked { IsPartSaid (ask_of layout (work_of (Stage.Rebuilding node rebuilder))) }
-    requires room { HasRoom (work_of (Stage.Rebuilding node rebuilder)) }
     ensures goes { Goes (machine_of layout (Stage.Rebuilding node rebuilder)) rebuilder.pairs (Noted (text_of (machine_of layout (Stage.Rebuilding node rebuilder)))) (machine_of layout result) }
     ensures inside { IsStage layout result }
 {

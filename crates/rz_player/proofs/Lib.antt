@@ -6,3 +6,4 @@ mod Scripts
 mod Stops
 mod Behind
 pub mod Anew
+pub mod Fates

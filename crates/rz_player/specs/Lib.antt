@@ -1,3 +1,4 @@
 pub mod Behind
 pub mod Ends
 pub mod Free
+pub mod Messages

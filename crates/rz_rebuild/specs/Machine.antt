@@ -1,5 +1,5 @@
 -- What contracts see of a rebuilder, and what an answer makes of it.
-use Rattle.std.specs.Prelude.{ℕ, Bool, true, ◌≡◌, ◌<◌, ◌≤◌, ◌+◌, ◌^◌, List, [], length, Option, Some, None, IsSomeAnd}
+use Rattle.std.specs.Prelude.{ℕ, Bool, true, ◌≡◌, ◌<◌, ◌≤◌, List, [], length, Option, Some, None, IsSomeAnd}
 use Rattle.mj_angles.specs.declared.layout.Layout.{Layout}
 use Rattle.mj_angles.specs.Layout.{safe_of, angle_of, bins_at_of}
 use Rattle.mj_forward.specs.Forward.{projection_of}
@@ -108,16 +108,6 @@ HasBinsAt layout position a bins = Unit {0}
 abbrev pub ComeWith : Layout → RebuildAsk → RebuildAnswer → List ℕ → Type 0
 ComeWith layout (ask.Fetch key position of stamp) (told.Fetched a) bins = HasBinsAt layout position a bins
 ComeWith layout question a bins = Unit {0}
-
--- what counts the blocks has room for one more
-abbrev pub HasRoomAt : RebuildState → Type 0
-HasRoomAt (Refilling t l size base) = t.refilled + 1 < 2 ^ 64
-HasRoomAt (Leaving t key why) = t.left + 1 < 2 ^ 64
-HasRoomAt s = Unit {0}
-
-abbrev pub HasRoom : Rebuild → Type 0
-HasRoom (Going s) = HasRoomAt s
-HasRoom (Ended end) = Unit {0}
 
 -- it asks the node to have a record as a refill
 abbrev pub IsRefill : RebuildAsk → Type 0

@@ -1,9 +1,9 @@
 //! How a rebuild goes on after an answer, but for the read of its block.
 
-ghost use Rattle.std.specs.Prelude.{◌≡◌, ◌<◌, ◌+◌, ◌^◌, Some, true};
+ghost use Rattle.std.specs.Prelude.{◌≡◌, Some, true};
 ghost use Rattle.mj_angles.specs.declared.layout.Layout.{Layout};
 ghost use Rattle.rz_client_model.specs.declared.reading.ReaderState.{ReaderState};
-ghost use Rattle.rz_operation_model.specs.Rebuild.{Probing, Enrolling, Replacing, Refilling, end_of, after_refill, rebuild_told};
+ghost use Rattle.rz_operation_model.specs.Rebuild.{Probing, Enrolling, Replacing, Refilling, one_more, end_of, after_refill, rebuild_told};
 ghost use Rattle.rz_rebuild.specs.Kinds.{IsProbed, IsEnrolled, IsReplaced, IsRefilled};
 ghost use Rattle.rz_rebuild.specs.Inside.{state_of, tally_of, IsStill};
 
@@ -61,8 +61,7 @@ pub fn after_replace(loss: u64, fence: u64, answer: RebuildAnswer) -> Step
 
 /// How a rebuild goes on after the refill of a block.
 pub fn after_refill(copied: &Copied, length: u32, answer: RebuildAnswer) -> Step
-    requires asked { IsRefilled answer }
-    requires room { copied.now.tally.refilled + 1 < 2 ^ 64 }
+    requires { IsRefilled answer }
     ensures state { (layout : Layout) (r : ReaderState) → state_of r result ≡ rebuild_told layout true (Refilling (tally_of copied.now.tally) copied.now.listed length copied.now.base) answer }
     ensures still { IsStill result }
 {
@@ -75,7 +74,6 @@ pub fn after_refill(copied: &Copied, length: u32, answer: RebuildAnswer) -> Step
 
 /// How a rebuild goes on after the node's answer to a refill.
 fn after_refilled(copied: &Copied, answer: RefillAnswer) -> Step
-    requires { copied.now.tally.refilled + 1 < 2 ^ 64 }
     ensures state { (r : ReaderState) → state_of r result ≡ after_refill (tally_of copied.now.tally) copied.now.listed answer }
     ensures still { IsStill result }
 {
@@ -92,12 +90,11 @@ fn after_refilled(copied: &Copied, answer: RefillAnswer) -> Step
 
 /// The block in hand was refilled.
 fn refilled(copied: &Copied) -> Step
-    requires { copied.now.tally.refilled + 1 < 2 ^ 64 }
-    ensures { result ≡ Step.Listing (record copied.now.tally { after = Some copied.now.listed.key; refilled = copied.now.tally.refilled + 1 }) }
+    ensures { result ≡ Step.Listing (record copied.now.tally { after = Some copied.now.listed.key; refilled = one_more copied.now.tally.refilled }) }
 {
     Step::Listing(Tally {
         after: Some(copied.listed.key),
-        refilled: copied.tally.refilled + 1,
+        refilled: copied.tally.refilled.saturating_add(1),
         ..copied.tally
     })
 }
@@ -115,12 +112,11 @@ pub fn leaving(copied: &Copied, why: LeftWhy) -> Step
 
 /// How a rebuild goes on once it was said that a block is left.
 pub fn after_left(tally: Tally, key: Key) -> Step
-    requires { tally.left + 1 < 2 ^ 64 }
-    ensures { result ≡ Step.Listing (record tally { after = Some key; left = tally.left + 1 }) }
+    ensures { result ≡ Step.Listing (record tally { after = Some key; left = one_more tally.left }) }
 {
     Step::Listing(Tally {
         after: Some(key),
-        left: tally.left + 1,
+        left: tally.left.saturating_add(1),
         ..tally
     })
 }

@@ -3,7 +3,7 @@
 ghost use Rattle.std.specs.Prelude.{◌≡◌, ◌↔◌, IfOk, IsTrue, ℕ, List, length};
 ghost use Rattle.mj_angles.specs.Layout.{safe_of, max_bins_of};
 ghost use Rattle.rz_operation_model.specs.Rebuild.{IsRebuildAnswer};
-ghost use Rattle.rz_rebuild.specs.Machine.{machine_for, ask_in, end_in, IsUnderWay, IsAskOf, ComeWith, HasRoom, IsAnswered, IsRefill, AreBins, IsCountFor};
+ghost use Rattle.rz_rebuild.specs.Machine.{machine_for, ask_in, end_in, IsUnderWay, IsAskOf, ComeWith, IsAnswered, IsRefill, AreBins, IsCountFor};
 ghost use Rattle.rz_rebuild.specs.Kinds.{IsListing};
 ghost use Rattle.rz_rebuild.specs.Inside.{IsStep, IsProjected, machine_of, state_of};
 
@@ -85,7 +85,6 @@ impl Rebuilder {
     pub fn tell(&mut self, answer: RebuildAnswer, bins: &[u64])
         requires asked { IsRebuildAnswer self.old.layout self.old.node (ask_in self.old.node self.old.state) answer }
         requires bins { ComeWith self.old.layout (ask_in self.old.node self.old.state) answer bins.now }
-        requires room { HasRoom self.old.state }
         ensures answered { IsAnswered self.old answer bins.now self.new }
         ensures layout { self.new.layout ≡ self.old.layout }
         ensures node { self.new.node ≡ self.old.node }
@@ -105,17 +104,6 @@ impl Rebuilder {
             &self.reader,
             &mut self.bins,
         );
-    }
-
-    /// Whether the blocks that were refilled or left can be counted once more.
-    pub fn has_room(&self) -> bool
-        ensures { IsTrue result ↔ HasRoom self.now.state }
-    {
-        match &self.step {
-            Step::Refilling { copied, .. } => copied.tally.refilled < u64::MAX,
-            Step::Leaving { tally, .. } => tally.left < u64::MAX,
-            _ => true,
-        }
     }
 
     /// How the rebuild ended, once it has.
@@ -142,7 +130,6 @@ fn after(
     requires step { IsStep layout node reader.old step.now }
     requires asked { IsRebuildAnswer layout node (ask_in node (state_of reader.old.state step.now)) answer }
     requires bins { ComeWith layout (ask_in node (state_of reader.old.state step.now)) answer bins.now }
-    requires room { HasRoom (state_of reader.old.state step.now) }
     ensures goes { IsAnswered (machine_of layout node reader.old step.now) answer bins.now (machine_of layout node reader.new result) }
     ensures inside { IsStep layout node reader.new result }
     ensures layout { reader.new.state.layout ≡ layout }

@@ -164,6 +164,8 @@ impl<'a, L: Link> ClockLink<'a, L> {
 impl<'a, L: Link> Link for ClockLink<'a, L> {
     ghost lost = { L.lost };
 
+    ghost says = { L.says };
+
     fn send(&mut self, node: u16) -> Sent {
         self.clock.count_message();
         self.link.send(node)

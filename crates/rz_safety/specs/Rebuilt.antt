@@ -1,5 +1,5 @@
 -- What a finished rebuild has done. Histories and own events have the newest event first.
-use Rattle.std.specs.Prelude.{ℕ, true, ◌≡◌, ◌⊎◌, ◌<◌, ◌+◌, List, [], ◌∷◌, Option, Some, None}
+use Rattle.std.specs.Prelude.{ℕ, true, ◌≡◌, ◌⊎◌, ◌<◌, List, [], ◌∷◌, Option, Some, None}
 use Rattle.rz_events.specs.declared.keys.Key.{Key}
 use Rattle.rz_events.specs.declared.keys.Actor.{Actor}
 use Rattle.rz_events.specs.declared.files.Published.{Published}
@@ -15,6 +15,7 @@ use Rattle.rz_core.specs.History.{of_word, of_actor, facts, IsPlace}
 use Rattle.rz_core.specs.NodeWord.{losses, held, last_fence, undecided}
 use Rattle.rz_core.specs.ExportWord.{is_live, published}
 use Rattle.rz_events.specs.Masks.{stamp_told, HasBit}
+use Rattle.rz_operation_model.specs.Rebuild.{one_more}
 
 -- Where a rebuild stands: ready for a `Next` after this key; a `Next` after the first key was told the second, with that
 -- stamp, and nothing came of it yet; or a `Next` was told that no key is left.
@@ -24,9 +25,9 @@ pub data Stage : Type 0 where
   Ended : Stage
 
 -- The rebuilder's own events since its replacement of node n, for that loss and with that fence, are those of a rebuild
--- that stands here and has refilled so many keys. Each key that a `Next` told was refilled with the stamp that it told,
--- or was passed over with it, and the following `Next` asks after it; or a recheck told another stamp, and the following
--- `Next` asks as before. No other key was refilled at the node.
+-- that stands here and has refilled so many keys, as far as its count goes. Each key that a `Next` told was refilled with
+-- the stamp that it told, or was passed over with it, and the following `Next` asks after it; or a recheck told another
+-- stamp, and the following `Next` asks as before. No other key was refilled at the node.
 abbrev pub IsRun : List Event → ℕ → ℕ → ℕ → ℕ → Stage → Type 0
 IsRun [] n loss fence count stage = ⊥
 IsRun (e.Replace by m l f ∷ o) n loss fence count stage =
@@ -37,10 +38,10 @@ IsRun (e.Next by m after (Some l) ∷ o) n loss fence count stage =
     (m ≡ n) × (stage ≡ Told after l.key l.published.stamp) × IsRun o n loss fence count (Ready after)
 IsRun (e.Did by m (change.Refill f key s p) ∷ o) n loss fence count stage =
     (¬ (m ≡ n) × IsRun o n loss fence count stage)
-    ⊎ ((m ≡ n) × (stage ≡ Ready (Some key)) × ((a : Option Key) × (done : ℕ) × (count ≡ done + 1) × IsRun o n loss fence done (Told a key s)))
+    ⊎ ((m ≡ n) × (stage ≡ Ready (Some key)) × ((a : Option Key) × (done : ℕ) × (count ≡ one_more done) × IsRun o n loss fence done (Told a key s)))
 IsRun (e.Passed by m key s now ∷ o) n loss fence count stage =
     IsRun o n loss fence count stage
-    ⊎ ((m ≡ n) × (stage ≡ Ready (Some key)) × ((a : Option Key) × (done : ℕ) × (count ≡ done + 1) × IsRun o n loss fence done (Told a key s)))
+    ⊎ ((m ≡ n) × (stage ≡ Ready (Some key)) × ((a : Option Key) × (done : ℕ) × (count ≡ one_more done) × IsRun o n loss fence done (Told a key s)))
 IsRun (e.Recheck by key answer ∷ o) n loss fence count stage =
     IsRun o n loss fence count stage
     ⊎ ((a : Option Key) × (s : ℕ) × (stage ≡ Ready a) × ¬ (stamp_told answer ≡ s) × IsRun o n loss fence count (Told a key s))

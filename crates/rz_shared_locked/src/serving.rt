@@ -67,7 +67,7 @@ pub(crate) fn serve<D: Disk, J: Naming>(
     rz_node_laws::called::<D>();
     rz_node_laws::fetched::<D>();
     rz_node_laws::faults();
-    answer_node(node, alloc, ask, bins)
+    answer_node(alloc, node, ask, bins)
 }
 
 /// Starts a node. One that is down first loses what a loss of power may lose of its disk, which is then

@@ -1,5 +1,5 @@
 -- Messages to nodes.
-use Rattle.std.proofs.Common.{◌≡◌, ◌≢◌, ℕ, ◌<◌, ◌≤◌, Bool, true, List, length, Option, Some, refl, sym, ◌∙◌, ap, subst, arith}
+use Rattle.std.proofs.Common.{◌≡◌, ◌≢◌, ℕ, ◌<◌, ◌≤◌, Bool, true, List, ◌∷◌, length, Option, Some, refl, sym, ◌∙◌, ap, subst, arith}
 use Rattle.mj_angles.specs.declared.layout.Layout.{Layout}
 use Rattle.mj_angles.specs.Layout.{safe_of, bins_at_of, max_bins_of}
 use Rattle.rz_events.specs.Volume.{Volume}
@@ -13,8 +13,9 @@ use Rattle.rz_events.specs.declared.nodes.NodeAnswer.TheVariants as answer
 use Rattle.rz_events.specs.declared.nodes.FetchAnswer.TheVariants as fetch
 use Rattle.rz_events.specs.declared.nodes.ReplaceAnswer.TheVariants as replace
 use Rattle.rz_events.specs.declared.events.Event.{Event}
+use Rattle.rz_events.specs.declared.events.Event.TheVariants as e
 use Rattle.rz_node_model.specs.NodeEvents.{node_event}
-use Rattle.rz_operation.specs.Answers.{MayMiss, ComeWith, HasBinsTo, IsLossy, IsAnswer, IsAnswerTo}
+use Rattle.rz_operation.specs.Answers.{MayMiss, ComeWith, HasBinsTo, IsAnswer, IsAnswerTo}
 use Rattle.rz_operation.specs.Machine.{Machine, HasBinsFor, AreBinsFor}
 use Rattle.rz_operation_model.specs.Ask.{Ask, AskNode, ask_of}
 use Rattle.rz_operation_model.specs.Turns.{goes_by_link}
@@ -26,25 +27,15 @@ use Rattle.rz_block_laws.specs.Laws.{IsHandingLaw}
 use Rattle.rz_shared_locked.specs.Seats.{MayAsk, IsRead}
 use Rattle.rz_play.specs.Lines.{noted}
 use Rattle.rz_play_laws.specs.Own.{IsOfActor}
+use Rattle.rz_player.specs.Messages.{IsNotedAs}
 use Rattle.rz_play_laws.proofs.Events.{node-event}
 use Rattle.rz_threads_steps.specs.Adding.{AddsOwn}
 use Rattle.rz_threads_steps.specs.Asking.{IsPlaced}
 
 -- ---- what may be lost
 
-lossy : (question : NodeAsk) → goes_by_link question ≡ true → IsLossy question
-lossy (ask.Keep head) is = tt
-lossy (ask.Fetch key position stamp) is = tt
-lossy (ask.Refill fence head) is = tt
-lossy (ask.Drop fid) is = tt
-lossy ask.Probe is = absurd (cc)
-lossy ask.Stop is = absurd (cc)
-lossy ask.Start is = absurd (cc)
-lossy ask.Lose is = absurd (cc)
-lossy (ask.Replace loss fence) is = absurd (cc)
-
 pub may-miss : (asked : Ask) (n : ℕ) (question : NodeAsk) → asked ≡ AskNode n question → goes_by_link question ≡ true → MayMiss asked
-may-miss asked n question is by_link = subst MayMiss (sym is) (lossy question by_link)
+may-miss asked n question is by_link = subst MayMiss (sym is) by_link
 
 -- ---- room for what is fetched
 
@@ -83,6 +74,19 @@ event-to layout by n question a is some = absurd is
 pub event-of : (m : Machine) (by : Actor) (n : ℕ) (question : NodeAsk) (a : NodeAnswer) → ask_of m.layout m.work ≡ AskNode n question → IsAnswer m.layout (ask_of m.layout m.work) a → a ≢ answer.Replace replace.NoMemory
     → (x : Event) × (node_event by n question a ≡ Some x)
 event-of m by n question a asked is some = event-to m.layout by n question a (subst (λ (k : Ask). IsAnswer m.layout k a) asked is) some
+
+-- ---- the events of a message
+
+module _ (v : Volume) (honest : Bool) (by : Actor) (n : ℕ) (question : NodeAsk) (given : NodeAnswer) (old mid : List Event) (has : (x : Event) × (node_event by n question given ≡ Some x))
+    (adds : AddsOwn v honest by old (node_event by n question given) mid) where
+  its-event : of_actor by mid ≡ has.0 ∷ of_actor by old
+  its-event = adds.own ∙ ap (λ (o : Option Event). noted o (of_actor by old)) has.1
+
+  pub noted-through : IsNotedAs by n question sent.Through (of_actor by old) (of_actor by mid)
+  noted-through = (has.0, (given, has.1), its-event)
+
+  pub noted-reply : (new : List Event) → AddsOwn v honest by mid (Some (e.Missed by n true)) new → IsNotedAs by n question sent.ReplyLost (of_actor by old) (of_actor by new)
+  noted-reply new lost = (has.0, (given, has.1), lost.own ∙ ap (λ (o : List Event). e.Missed by n true ∷ o) its-event)
 
 -- ---- what a caller must have done
 

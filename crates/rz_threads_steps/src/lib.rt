@@ -3,8 +3,8 @@
 //! A [`Store`] is shared by all actors. [`call_export`], [`call_node`] and [`add_own`] are the calls and acts of
 //! one actor over it. Each adds its event to the book before the actor hears of the answer, so the actor's own
 //! events are those that it had and this one, whatever others add, and over an honest book the event says what
-//! is so for good. `next_call`, `next_open` and `said` turn what a machine asks into calls and events; `fate`
-//! says how a message fares, and `release` gives back a lock on a range of bytes, which [`open_locked`] takes.
+//! is so for good. `next_call`, `next_open` and `said` turn what a machine asks into calls and events, and
+//! `release` gives back a lock on a range of bytes, which [`open_locked`] takes.
 //!
 //! [`ask_export`], [`open_locked`], [`message`] and [`say`] are one step each, by what a machine asks: they ask,
 //! tell the machine the answer, and keep the events that are shown. The operation has then taken a turn and is
@@ -26,6 +26,6 @@ pub use adding::{add_own, call_export, call_node};
 pub use exports::{ask_export, next_call};
 pub use locking::{Wish, next_open, open_locked, release};
 pub use rz_player::NoMemory;
-pub use sending::{fate, message};
+pub use sending::message;
 pub use store::Store;
 pub use words::{said, say};

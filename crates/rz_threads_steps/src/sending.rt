@@ -1,18 +1,18 @@
 //! Messages to nodes.
-ghost use Rattle.std.specs.Prelude.{◌≡◌, ◌≢◌, ◌+◌, ◌<◌, ◌≤◌, ◌^◌, ℕ, true, false, Some, IfOk, OnOk, OnErr, IsTrue, length};
+ghost use Rattle.std.specs.Prelude.{◌≡◌, ◌≢◌, ◌+◌, ◌<◌, ◌≤◌, ◌^◌, ℕ, true, false, Some, None, IfOk, OnOk, OnErr, IsTrue, length};
 ghost use Rattle.mj_angles.specs.Layout.{max_bins_of};
 ghost use Rattle.rz_events.specs.declared.nodes.NodeAnswer.TheVariants as answer;
 ghost use Rattle.rz_events.specs.declared.nodes.ReplaceAnswer.TheVariants as replace;
 ghost use Rattle.rz_events.specs.declared.events.Event.TheVariants as e;
 ghost use Rattle.rz_config.specs.Described.{has_sid};
 ghost use Rattle.rz_script_words.specs.Limits.{has_node};
-ghost use Rattle.rz_node.specs.Calls.{IsRecord};
 ghost use Rattle.rz_operation_model.specs.Ask.{ask_of, AskNode};
 ghost use Rattle.rz_operation_model.specs.Turns.{goes_by_link};
 ghost use Rattle.rz_core.specs.History.{of_actor};
 ghost use Rattle.rz_core.specs.NodeRows.{IsNodeOf};
 ghost use Rattle.rz_core.specs.Own.{IsOpen};
 ghost use Rattle.rz_play.specs.Faults.{missed};
+ghost use Rattle.rz_player.specs.Messages.{IsSent, IsNotedAs};
 ghost use Rattle.rz_chronicle.specs.Keys.{count_at, word_key};
 ghost use Rattle.rz_chronicle.specs.Kinds.{is_honest, volume_in};
 ghost use Rattle.rz_events.specs.declared.events.Word.TheVariants as w;
@@ -28,36 +28,13 @@ use mj_angles::Layout;
 use rz_chronicle::Pass;
 use rz_config::Volume;
 use rz_disk::Disk;
-use rz_events::{Actor, Event, Head, NodeAnswer, NodeAsk, NodeSpec, ReplaceAnswer};
-use rz_link::{Link, Sent};
-use rz_operation::Machine;
+use rz_events::{Actor, Event, NodeAnswer, NodeAsk, NodeSpec, ReplaceAnswer};
+use rz_link::{Link, Sent, fate};
+use rz_node::is_record;
+use rz_operation::{Machine, goes_by_link};
 use rz_player::NoMemory;
 use rz_shared::Counting;
 use std::sync::Wait;
-
-/// Whether the message of a call goes through the link.
-fn by_link(ask: &NodeAsk) -> bool
-    ensures { result ≡ goes_by_link ask.now }
-{
-    match ask {
-        NodeAsk::Keep(_) | NodeAsk::Fetch { .. } | NodeAsk::Refill { .. } | NodeAsk::Drop { .. } =>
-            true,
-        NodeAsk::Probe | NodeAsk::Stop | NodeAsk::Start | NodeAsk::Lose | NodeAsk::Replace { .. } =>
-            false,
-    }
-}
-
-/// How a message fares.
-pub fn fate<L: Link>(ask: &NodeAsk, node: u16, link: &mut L) -> Sent
-    ensures by_link { result ≢ Sent.Through → goes_by_link ask.now ≡ true }
-    ensures lasting { L.lost link.old ≤ L.lost link.new }
-    ensures risen { result ≢ Sent.Through → L.lost link.old < L.lost link.new }
-{
-    if !by_link(ask) {
-        return Sent::Through;
-    }
-    link.send(node)
-}
 
 /// Whether one of these nodes has this number.
 fn is_among(nodes: &[NodeSpec], number: u16) -> bool
@@ -74,20 +51,6 @@ fn is_in(volume: &Volume, number: u16) -> bool
     clusters
         .iter()
         .any(|cluster| is_among(cluster.nodes.as_slice(), number))
-}
-
-/// Whether a head and so many bins are those of a record of this layout.
-#[tactic(auto, unfolding(rz_record::specs::Record::bins_of))]
-fn is_record(layout: Layout, head: &Head, bins: &[u64]) -> bool
-    ensures { IsTrue result → IsRecord layout head.now bins.now }
-{
-    if head.layout != layout || head.bsize != layout.bsize() || head.stamp == 0 {
-        return false;
-    }
-    if usize::from(head.position) >= layout.safe() || head.base >= head.stamp {
-        return false;
-    }
-    head.length as usize <= layout.block_bytes() && bins.len() == layout.bins_at(head.position)
 }
 
 /// Whether what is fetched lies at a position of the layout.
@@ -166,6 +129,7 @@ fn through<R: Wait, D: Disk, J: Counting>(
     ensures lasts { Lasts J.kind pass.old pass.new }
     ensures quiet { missed (of_actor pass.old.actor pass.new.log) ≡ missed (of_actor pass.old.actor pass.old.log) }
     ensures unshown { shown_of (of_actor pass.old.actor pass.new.log) ≡ shown_of (of_actor pass.old.actor pass.old.log) }
+    ensures noted { OnOk result (IsNotedAs pass.old.actor node ask.now Sent.Through (of_actor pass.old.actor pass.old.log) (of_actor pass.old.actor pass.new.log)) }
     ensures acted { OnOk result ((number : ℕ) → IsRight J.kind pass.old number machine.old → HasActed J.kind number pass.old pass.new machine.old machine.new) }
     ensures cut { OnErr result ((number : ℕ) → IsCutOff pass.old.actor number pass.old.log pass.new.log machine.old) }
 {
@@ -173,7 +137,7 @@ fn through<R: Wait, D: Disk, J: Counting>(
     let layout = store.layout();
     let _most = layout.max_bins();
     let _fit = pass.actor();
-    if !machine.has_room() || !is_placed(layout, ask) {
+    if !is_placed(layout, ask) {
         return Err(NoMemory);
     }
     let answer = serve(rt, store, pass, node, machine, ask, bins)?;
@@ -220,14 +184,12 @@ fn without_reply<R: Wait, D: Disk, J: Counting>(
     ensures lasts { Lasts J.kind pass.old pass.new }
     ensures one { missed (of_actor pass.old.actor pass.new.log) ≤ missed (of_actor pass.old.actor pass.old.log) + 1 }
     ensures unshown { shown_of (of_actor pass.old.actor pass.new.log) ≡ shown_of (of_actor pass.old.actor pass.old.log) }
+    ensures noted { OnOk result (IsNotedAs pass.old.actor node ask.now Sent.ReplyLost (of_actor pass.old.actor pass.old.log) (of_actor pass.old.actor pass.new.log)) }
     ensures acted { OnOk result ((number : ℕ) → IsRight J.kind pass.old number machine.old → HasActed J.kind number pass.old pass.new machine.old machine.new) }
     ensures cut { OnErr result ((number : ℕ) → IsCutOff pass.old.actor number pass.old.log pass.new.log machine.old) }
 {
     rz_block_laws::acting::goes();
     let _fit = pass.actor();
-    if !machine.has_room() {
-        return Err(NoMemory);
-    }
     let answer = serve(rt, store, pass, node, machine, ask, bins)?;
     if wants_memory(&answer) || !machine.takes_answer(&answer) || !pass.room() {
         return Err(NoMemory);
@@ -253,6 +215,7 @@ fn without_request<D: Disk, J: Counting>(
     ensures lasts { Lasts J.kind pass.old pass.new }
     ensures one { missed (of_actor pass.old.actor pass.new.log) ≤ missed (of_actor pass.old.actor pass.old.log) + 1 }
     ensures unshown { shown_of (of_actor pass.old.actor pass.new.log) ≡ shown_of (of_actor pass.old.actor pass.old.log) }
+    ensures noted { OnOk result (IsNotedAs pass.old.actor node ask.now Sent.RequestLost (of_actor pass.old.actor pass.old.log) (of_actor pass.old.actor pass.new.log)) }
     ensures acted { OnOk result ((number : ℕ) → IsRight J.kind pass.old number machine.old → HasActed J.kind number pass.old pass.new machine.old machine.new) }
     ensures cut { OnErr result ((number : ℕ) → IsCutOff pass.old.actor number pass.old.log pass.new.log machine.old) }
 {
@@ -260,7 +223,7 @@ fn without_request<D: Disk, J: Counting>(
     rz_block_laws::acting::goes();
     let _ = ask;
     let _fit = pass.actor();
-    if !machine.has_room() || !pass.room() {
+    if !pass.room() {
         return Err(NoMemory);
     }
     add_missed(store, pass, node, false);
@@ -288,6 +251,7 @@ pub fn message<R: Wait, D: Disk, J: Counting, L: Link>(
     requires room { max_bins_of (volume_in J.kind).layout ≤ length bins.old }
     ensures lasts { Lasts J.kind pass.old pass.new }
     ensures lost { AreLost pass.old.actor pass.old.log pass.new.log (L.lost link.old) (L.lost link.new) }
+    ensures sent { OnOk result (IsSent L.says None pass.old.actor node ask link.old link.new (of_actor pass.old.actor pass.old.log) (of_actor pass.old.actor pass.new.log)) }
     ensures unshown { shown_of (of_actor pass.old.actor pass.new.log) ≡ shown_of (of_actor pass.old.actor pass.old.log) }
     ensures acted { OnOk result ((number : ℕ) → IsRight J.kind pass.old number machine.old → HasActed J.kind number pass.old pass.new machine.old machine.new) }
     ensures cut { OnErr result ((number : ℕ) → IsCutOff pass.old.actor number pass.old.log pass.new.log machine.old) }
@@ -296,7 +260,7 @@ pub fn message<R: Wait, D: Disk, J: Counting, L: Link>(
     if node == 0 || !is_in(&store.volume, node) {
         return Err(NoMemory);
     }
-    match fate(&ask, node, link) {
+    match fate(goes_by_link(&ask), None, node, link) {
         Sent::Through => through(rt, store, pass, node, machine, &ask, bins),
         Sent::ReplyLost => without_reply(rt, store, pass, node, machine, &ask, bins),
         Sent::RequestLost => without_request(store, pass, node, machine, &ask),

@@ -1,7 +1,6 @@
 //! Words of an actor's own.
 ghost use Rattle.std.specs.Prelude.{◌≡◌, Bool, IfOk, OnOk, OnErr};
 ghost use Rattle.rz_events.specs.declared.keys.Key.{Key as AKey};
-ghost use Rattle.rz_operation.specs.Answers.{HasRoom};
 ghost use Rattle.rz_operation.specs.Machine.{text_of};
 ghost use Rattle.rz_operation_model.specs.Ask.{ask_of, Say, SayGot};
 ghost use Rattle.rz_operation_model.specs.Steps.{read_end};
@@ -48,7 +47,6 @@ fn end_of(alloc: Global, machine: &Machine, mark: ReadMark) -> Result<ReadEnd, A
 
 /// The event of what a machine is about to say, which it has then said.
 pub fn said(alloc: Global, by: Actor, number: u32, machine: &mut Machine) -> Result<Event, NoMemory>
-    requires { HasRoom machine.old.work }
     ensures said { IfOk result (IsSaid by number machine.old machine.new) }
 {
     match machine.next() {
@@ -109,7 +107,7 @@ pub fn say<D: Disk, J: Counting>(
     rz_block_laws::acting::goes();
     rz_chronicle::words_counted();
     let by = pass.actor();
-    if !machine.has_room() || !pass.room() {
+    if !pass.room() {
         return Err(NoMemory);
     }
     shown.reserve(1)?;

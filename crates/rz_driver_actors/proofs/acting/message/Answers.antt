@@ -12,6 +12,8 @@ use Rattle.rz_driver_nodes.proofs.MeterLemmas.{order-err, sid-at, metered-counts
 use Rattle.rz_driver_actors.proofs.MessageLemmas.{read-at, within-len, layout-at}
 use Rattle.rz_driver_actors.proofs.ActPictures.{node-keeps, node-spares, still-spares, unheard-keeps, lost-by-link, through-grows, lost-grows}
 use Rattle.rz_driver_nodes.proofs.PictureLemmas.{both-ok, on-err}
+use Rattle.rz_player.proofs.Fates.{comes-through, loses-reply, loses-request, sent-as}
+use Rattle.rz_link.specs.declared.Sent.TheVariants as sent
 use Rattle.rz_driver_actors.proofs.acting.message.Goals as goal
 
 pub index_mut-requires : goal.index_mut-requires
@@ -42,7 +44,7 @@ returns-in-Through-clause-ok g c =
       is = there.1;
       called = record { sid = refl; pick = refl; geometry = c.through.ensures.geometry };
       stations = refl;
-      fate = Through part c.in-Through.ensures.fares refl refl;
+      fate = Through part (comes-through c.goes_by_link.result c.args.ask c.goes_by_link.ensures c.args.miss.now c.in-Through.ensures.fared.said c.in-Through.ensures.fared.fate) refl refl;
       export = refl;
       locks = refl;
     }) c.through.ensures.ok
@@ -59,7 +61,7 @@ returns-in_ok-without_reply-in-ReplyLost-clause-ok g c =
       is = there.1;
       called = record { sid = refl; pick = refl; geometry = c.without_reply.ensures.geometry };
       stations = refl;
-      fate = ReplyLost c.in_ok-without_reply-in-ReplyLost.ensures.ok c.in-ReplyLost.ensures.fares refl c.in-Some-lost_after.ensures.1;
+      fate = ReplyLost c.in_ok-without_reply-in-ReplyLost.ensures.ok (loses-reply c.goes_by_link.result c.args.ask c.goes_by_link.ensures c.args.miss.now c.in-ReplyLost.ensures.fared.said c.in-ReplyLost.ensures.fared.fate) refl c.in-Some-lost_after.ensures.1;
       export = refl;
       locks = refl;
     }
@@ -76,10 +78,32 @@ returns-in_ok-without_request-in-RequestLost-clause-ok g c =
       is = there.1;
       called = record { sid = refl; pick = refl; geometry = refl };
       stations = refl;
-      fate = RequestLost refl c.in_ok-without_request-in-RequestLost.ensures.ok c.in-RequestLost.ensures.fares refl c.in-Some-lost_after.ensures.1;
+      fate = RequestLost refl c.in_ok-without_request-in-RequestLost.ensures.ok (loses-request c.goes_by_link.result c.args.ask c.goes_by_link.ensures c.args.miss.now c.in-RequestLost.ensures.fared.said c.in-RequestLost.ensures.fared.fate) refl c.in-Some-lost_after.ensures.1;
       export = refl;
       locks = refl;
     }
+
+-- What the link said.
+
+pub returns-in-Through-clause-sent : goal.returns-in-Through-clause-sent
+returns-in-Through-clause-sent g c =
+    let s = c.index_mut.result.now in
+    let h = c.args.shared.now.log.events in
+    on_ok_weaker c.through.result
+    (λ (part : IsThroughPart c.args.by c.args.number s.node.geometry.cells c.args.ask s.node.state c.through.new.node.state c.args.machine.now c.through.new.machine h c.through.new.log.events).
+    sent-as c.goes_by_link.result c.args.ask c.goes_by_link.ensures g.L.Link.says c.args.miss.now c.args.by c.args.number c.args.link.now c.fate.new.link h c.through.new.log.events sent.Through c.in-Through.ensures.fared
+    (part.noted.0, (part.given, part.noted.1), part.noted.2)) c.through.ensures.ok
+
+pub returns-in_ok-without_reply-in-ReplyLost-clause-sent : goal.returns-in_ok-without_reply-in-ReplyLost-clause-sent
+returns-in_ok-without_reply-in-ReplyLost-clause-sent g c =
+    let part = c.in_ok-without_reply-in-ReplyLost.ensures.ok in
+    sent-as c.goes_by_link.result c.args.ask c.goes_by_link.ensures g.L.Link.says c.args.miss.now c.args.by c.args.number c.args.link.now c.fate.new.link c.args.shared.now.log.events c.without_reply.new.log.events sent.ReplyLost c.in-ReplyLost.ensures.fared
+    (part.event, (part.given, part.event_is), part.noted)
+
+pub returns-in_ok-without_request-in-RequestLost-clause-sent : goal.returns-in_ok-without_request-in-RequestLost-clause-sent
+returns-in_ok-without_request-in-RequestLost-clause-sent g c =
+    sent-as c.goes_by_link.result c.args.ask c.goes_by_link.ensures g.L.Link.says c.args.miss.now c.args.by c.args.number c.args.link.now c.fate.new.link c.args.shared.now.log.events c.without_request.new.log.events sent.RequestLost c.in-RequestLost.ensures.fared
+    c.in_ok-without_request-in-RequestLost.ensures.ok.noted
 
 -- The words beside the meters.
 
@@ -211,7 +235,7 @@ returns-in_ok-without_request-in-RequestLost-clause-pictured g c = λ told.
     let s = c.index_mut.result.now in
     let there = read-at row c.as_slice.result.now c.args.number c.in-Some.place s c.as_slice.ensures.value c.in-Some.ensures c.index_mut.ensures.value in
     unheard-keeps g.D.Disk.image c.args.by row c.longer.ensures c.told.ensures c.args.machine.now c.without_request.new.machine c.args.shared.now.log.events c.without_request.new.log.events c.args.number c.args.ask c.in-Some.place s there.1 c.requires.asked
-    (lost-by-link c.args.miss.now c.args.ask _ c.in-RequestLost.ensures.fares) c.in_ok-without_request-in-RequestLost.ensures.ok
+    (lost-by-link c.args.miss.now c.args.ask _ (loses-request c.goes_by_link.result c.args.ask c.goes_by_link.ensures c.args.miss.now c.in-RequestLost.ensures.fared.said c.in-RequestLost.ensures.fared.fate)) c.in_ok-without_request-in-RequestLost.ensures.ok
 
 pub returns-in_err-without_request-in-RequestLost-clause-spared : goal.returns-in_err-without_request-in-RequestLost-clause-spared
 returns-in_err-without_request-in-RequestLost-clause-spared g c =

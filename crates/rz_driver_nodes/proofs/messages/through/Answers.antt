@@ -106,5 +106,5 @@ returns-in_default-clause-spared g c = λ told.
 pub returns-in_err-answer-clause-spared : goal.returns-in_err-answer-clause-spared
 returns-in_err-answer-clause-spared g c = on-err c.from_residual.result (λ told. not-called g.D.Disk.image c.args.by c.args.number c.args.machine.now c.args.node.now c.serve.new.node c.args.log.now.events c.in_err-answer.ensures.same)
 
-pub returns-then-not-has_room-clause-spared : goal.returns-then-not-has_room-clause-spared
-returns-then-not-has_room-clause-spared g c = λ told. not-called g.D.Disk.image c.args.by c.args.number c.args.machine.now c.args.node.now c.args.node.now c.args.log.now.events refl
+pub returns-then-not-is_placed-clause-spared : goal.returns-then-not-is_placed-clause-spared
+returns-then-not-is_placed-clause-spared g c = λ told. not-called g.D.Disk.image c.args.by c.args.number c.args.machine.now c.args.node.now c.args.node.now c.args.log.now.events refl

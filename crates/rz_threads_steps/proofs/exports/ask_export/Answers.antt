@@ -69,4 +69,4 @@ pub returns-clause-acted : goal.returns-clause-acted
 returns-clause-acted g c =
     λ number right.
     exported g.J.Naming.kind number c.args.pass.now c.call_export-reply.new.pass c.args.machine.now c.tell_reply.new.self (record { actor = c.call_export-reply.ensures.same.0; keys = c.call_export-reply.ensures.same.1; later = c.call_export-reply.ensures.adds.later; fit = c.call_export-reply.ensures.fit })
-    (c.goes.ensures (volume_in g.J.Naming.kind)) c.in_ok-call.call c.call_export-reply.result c.in_ok-call.ensures (c.takes_reply-takes.ensures c.if-not-takes.false) c.call_export-reply.ensures.adds c.call_export-reply.ensures.bytes c.tell_reply.ensures right
+    (c.goes.ensures (volume_in g.J.Naming.kind)) c.in_ok-call.call c.call_export-reply.result c.in_ok-call.ensures (c.takes_reply-takes.ensures.0 c.if-not-takes.false) c.call_export-reply.ensures.adds c.call_export-reply.ensures.bytes c.tell_reply.ensures right

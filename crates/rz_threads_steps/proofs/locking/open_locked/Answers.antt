@@ -73,4 +73,4 @@ pub returns-clause-acted : goal.returns-clause-acted
 returns-clause-acted g c =
     λ number right.
     opened g.J.Naming.kind number c.args.pass.now c.call_export-reply.new.pass c.args.machine.now c.tell_locked.new.self (record { actor = c.call_export-reply.ensures.same.0; keys = c.call_export-reply.ensures.same.1; later = c.call_export-reply.ensures.adds.later; fit = c.call_export-reply.ensures.fit })
-    (c.goes.ensures (volume_in g.J.Naming.kind)) c.in_ok-opening.ensures.0 c.in_ok-opening.opening.1.exclusive c.in_ok-opening.opening.1.from c.in_ok-opening.opening.1.count c.take-granted.result c.in_ok-opening.opening.0 c.call_export-reply.result c.in_ok-opening.ensures.1 c.in_ok-opening.ensures.2 (c.takes_locked-takes.ensures c.if-not-takes.false) c.call_export-reply.ensures.adds c.tell_locked.ensures right
+    (c.goes.ensures (volume_in g.J.Naming.kind)) c.in_ok-opening.ensures.0 c.in_ok-opening.opening.1.exclusive c.in_ok-opening.opening.1.from c.in_ok-opening.opening.1.count c.take-granted.result c.in_ok-opening.opening.0 c.call_export-reply.result c.in_ok-opening.ensures.1 c.in_ok-opening.ensures.2 (c.takes_locked-takes.ensures.0 c.if-not-takes.false) c.call_export-reply.ensures.adds c.tell_locked.ensures right

@@ -14,20 +14,20 @@ use Rattle.rz_chronicle.specs.Rules.{PassView}
 use Rattle.rz_play.specs.Faults.{missed}
 use Rattle.rz_threads_steps.specs.Turned.{IsCutOff}
 use Rattle.rz_threads_steps.proofs.Acts.{still-lasts, still-cut, on-err, cut-by, node-step, heard-of}
-use Rattle.rz_threads_steps.proofs.Messages.{come-with, event-of, fetch-room}
+use Rattle.rz_threads_steps.proofs.Messages.{come-with, event-of, fetch-room, noted-through}
 use Rattle.rz_threads_steps.proofs.sending.through.Goals as goal
 
-pub returns-then-not-has_room-clause-lasts : goal.returns-then-not-has_room-clause-lasts
-returns-then-not-has_room-clause-lasts g c = still-lasts g.J.Naming.kind c.args.pass.now c.actor-fit.ensures.fit
+pub returns-then-not-is_placed-clause-lasts : goal.returns-then-not-is_placed-clause-lasts
+returns-then-not-is_placed-clause-lasts g c = still-lasts g.J.Naming.kind c.args.pass.now c.actor-fit.ensures.fit
 
-pub returns-then-not-has_room-clause-quiet : goal.returns-then-not-has_room-clause-quiet
-returns-then-not-has_room-clause-quiet g c = refl
+pub returns-then-not-is_placed-clause-quiet : goal.returns-then-not-is_placed-clause-quiet
+returns-then-not-is_placed-clause-quiet g c = refl
 
-pub returns-then-not-has_room-clause-unshown : goal.returns-then-not-has_room-clause-unshown
-returns-then-not-has_room-clause-unshown g c = refl
+pub returns-then-not-is_placed-clause-unshown : goal.returns-then-not-is_placed-clause-unshown
+returns-then-not-is_placed-clause-unshown g c = refl
 
-pub returns-then-not-has_room-clause-cut : goal.returns-then-not-has_room-clause-cut
-returns-then-not-has_room-clause-cut g c = still-cut c.args.pass.now.actor c.args.pass.now.log c.args.machine.now
+pub returns-then-not-is_placed-clause-cut : goal.returns-then-not-is_placed-clause-cut
+returns-then-not-is_placed-clause-cut g c = still-cut c.args.pass.now.actor c.args.pass.now.log c.args.machine.now
 
 pub returns-in_err-answer-clause-lasts : goal.returns-in_err-answer-clause-lasts
 returns-in_err-answer-clause-lasts g c = subst (λ (q : PassView). Lasts g.J.Naming.kind c.args.pass.now q) (sym c.in_err-answer.ensures.still) (still-lasts g.J.Naming.kind c.args.pass.now c.actor-fit.ensures.fit)
@@ -64,10 +64,16 @@ returns-clause-quiet g c = c.in_ok-answer.ensures.served.quiet
 pub returns-clause-unshown : goal.returns-clause-unshown
 returns-clause-unshown g c = c.in_ok-answer.ensures.served.unshown
 
+pub returns-clause-noted : goal.returns-clause-noted
+returns-clause-noted g c =
+    noted-through (volume_in g.J.Naming.kind) (is_honest g.J.Naming.kind) c.args.pass.now.actor c.args.node c.args.ask.now c.in_ok-answer.answer c.args.pass.now.log c.serve.new.pass.log
+    (event-of c.args.machine.now c.args.pass.now.actor c.args.node c.args.ask.now c.in_ok-answer.answer c.requires.asked (c.takes_answer.ensures.0 c.if-not-takes_answer.false) (c.wants_memory.ensures c.if-wants_memory.false))
+    c.in_ok-answer.ensures.served.adds
+
 pub returns-clause-acted : goal.returns-clause-acted
 returns-clause-acted g c =
     λ number right. heard-of g.J.Naming.kind number c.args.pass.now c.serve.new.pass c.args.machine.now c.tell_answer.new.self c.in_ok-answer.ensures.served.lasts (c.hears.ensures (volume_in g.J.Naming.kind)) c.args.node c.args.ask.now c.in_ok-answer.answer c.args.bins.now c.serve.new.bins c.requires.asked
-    (event-of c.args.machine.now c.args.pass.now.actor c.args.node c.args.ask.now c.in_ok-answer.answer c.requires.asked (c.takes_answer.ensures c.if-not-takes_answer.false) (c.wants_memory.ensures c.if-wants_memory.false))
+    (event-of c.args.machine.now c.args.pass.now.actor c.args.node c.args.ask.now c.in_ok-answer.answer c.requires.asked (c.takes_answer.ensures.0 c.if-not-takes_answer.false) (c.wants_memory.ensures c.if-wants_memory.false))
     c.in_ok-answer.ensures.served.adds c.in_ok-answer.ensures.served.read c.tell_answer.ensures right
 
 pub tell_answer-requires-clause-bins : goal.tell_answer-requires-clause-bins

@@ -15,20 +15,8 @@ use Rattle.rz_threads_steps.specs.Turned.{IsCutOff}
 use Rattle.rz_threads_steps.proofs.Added.{lost-count}
 use Rattle.rz_threads_steps.proofs.Shows.{unshown-of}
 use Rattle.rz_threads_steps.proofs.Acts.{still-lasts, still-cut, on-err, lasts-on, cut-by, node-step, missed-reply}
-use Rattle.rz_threads_steps.proofs.Messages.{event-of, may-miss, open-after}
+use Rattle.rz_threads_steps.proofs.Messages.{event-of, may-miss, open-after, noted-reply}
 use Rattle.rz_threads_steps.proofs.sending.without_reply.Goals as goal
-
-pub returns-then-not-has_room-clause-lasts : goal.returns-then-not-has_room-clause-lasts
-returns-then-not-has_room-clause-lasts g c = still-lasts g.J.Naming.kind c.args.pass.now c.actor-fit.ensures.fit
-
-pub returns-then-not-has_room-clause-one : goal.returns-then-not-has_room-clause-one
-returns-then-not-has_room-clause-one g c = omega arith
-
-pub returns-then-not-has_room-clause-unshown : goal.returns-then-not-has_room-clause-unshown
-returns-then-not-has_room-clause-unshown g c = refl
-
-pub returns-then-not-has_room-clause-cut : goal.returns-then-not-has_room-clause-cut
-returns-then-not-has_room-clause-cut g c = still-cut c.args.pass.now.actor c.args.pass.now.log c.args.machine.now
 
 pub returns-in_err-answer-clause-lasts : goal.returns-in_err-answer-clause-lasts
 returns-in_err-answer-clause-lasts g c = subst (λ (q : PassView). Lasts g.J.Naming.kind c.args.pass.now q) (sym c.in_err-answer.ensures.still) (still-lasts g.J.Naming.kind c.args.pass.now c.actor-fit.ensures.fit)
@@ -63,7 +51,7 @@ pub add_missed-requires-clause-actor : goal.add_missed-requires-clause-actor
 add_missed-requires-clause-actor g c = λ is. c.requires.actor (sym c.in_ok-answer.ensures.served.lasts.actor ∙ is)
 
 pub add_missed-requires-clause-going : goal.add_missed-requires-clause-going
-add_missed-requires-clause-going g c = λ honest. open-after (volume_in g.J.Naming.kind) (is_honest g.J.Naming.kind) c.args.pass.now.actor c.serve.new.pass.actor c.args.node c.args.ask.now c.in_ok-answer.answer c.args.pass.now.log c.serve.new.pass.log c.in_ok-answer.ensures.served.lasts.actor c.in_ok-answer.ensures.served.for_actor (event-of c.args.machine.now c.args.pass.now.actor c.args.node c.args.ask.now c.in_ok-answer.answer c.requires.asked (c.takes_answer.ensures c.if-not-takes_answer.false) (c.wants_memory.ensures c.if-wants_memory.false)) c.in_ok-answer.ensures.served.adds
+add_missed-requires-clause-going g c = λ honest. open-after (volume_in g.J.Naming.kind) (is_honest g.J.Naming.kind) c.args.pass.now.actor c.serve.new.pass.actor c.args.node c.args.ask.now c.in_ok-answer.answer c.args.pass.now.log c.serve.new.pass.log c.in_ok-answer.ensures.served.lasts.actor c.in_ok-answer.ensures.served.for_actor (event-of c.args.machine.now c.args.pass.now.actor c.args.node c.args.ask.now c.in_ok-answer.answer c.requires.asked (c.takes_answer.ensures.0 c.if-not-takes_answer.false) (c.wants_memory.ensures c.if-wants_memory.false)) c.in_ok-answer.ensures.served.adds
 
 pub tell_missed-requires-clause-asked : goal.tell_missed-requires-clause-asked
 tell_missed-requires-clause-asked g c = may-miss (ask_of c.args.machine.now.layout c.args.machine.now.work) c.args.node c.args.ask.now c.requires.asked c.requires.lossy
@@ -78,7 +66,14 @@ returns-clause-one g c =
 pub returns-clause-unshown : goal.returns-clause-unshown
 returns-clause-unshown g c = ap shown_of (subst (λ (a : Actor). AddsOwn (volume_in g.J.Naming.kind) (is_honest g.J.Naming.kind) a c.serve.new.pass.log (Some (e.Missed a c.args.node true)) c.add_missed.new.pass.log) c.in_ok-answer.ensures.served.lasts.actor c.add_missed.ensures.adds).own ∙ unshown-of (e.Missed c.args.pass.now.actor c.args.node true) (of_actor c.args.pass.now.actor c.serve.new.pass.log) refl ∙ c.in_ok-answer.ensures.served.unshown
 
+pub returns-clause-noted : goal.returns-clause-noted
+returns-clause-noted g c =
+    noted-reply (volume_in g.J.Naming.kind) (is_honest g.J.Naming.kind) c.args.pass.now.actor c.args.node c.args.ask.now c.in_ok-answer.answer c.args.pass.now.log c.serve.new.pass.log
+    (event-of c.args.machine.now c.args.pass.now.actor c.args.node c.args.ask.now c.in_ok-answer.answer c.requires.asked (c.takes_answer.ensures.0 c.if-not-takes_answer.false) (c.wants_memory.ensures c.if-wants_memory.false))
+    c.in_ok-answer.ensures.served.adds c.add_missed.new.pass.log
+    (subst (λ (a : Actor). AddsOwn (volume_in g.J.Naming.kind) (is_honest g.J.Naming.kind) a c.serve.new.pass.log (Some (e.Missed a c.args.node true)) c.add_missed.new.pass.log) c.in_ok-answer.ensures.served.lasts.actor c.add_missed.ensures.adds)
+
 pub returns-clause-acted : goal.returns-clause-acted
 returns-clause-acted g c =
     λ number right. missed-reply g.J.Naming.kind number c.args.pass.now c.add_missed.new.pass c.args.machine.now c.tell_missed.new.self (lasts-on g.J.Naming.kind c.args.pass.now c.serve.new.pass c.add_missed.new.pass c.in_ok-answer.ensures.served.lasts c.add_missed.ensures.lasts) (c.goes.ensures (volume_in g.J.Naming.kind)) c.args.node c.args.ask.now c.in_ok-answer.answer c.serve.new.pass.log
-    c.requires.asked c.requires.lossy (event-of c.args.machine.now c.args.pass.now.actor c.args.node c.args.ask.now c.in_ok-answer.answer c.requires.asked (c.takes_answer.ensures c.if-not-takes_answer.false) (c.wants_memory.ensures c.if-wants_memory.false)) c.in_ok-answer.ensures.served.adds (subst (λ (a : Actor). AddsOwn (volume_in g.J.Naming.kind) (is_honest g.J.Naming.kind) a c.serve.new.pass.log (Some (e.Missed a c.args.node true)) c.add_missed.new.pass.log) c.in_ok-answer.ensures.served.lasts.actor c.add_missed.ensures.adds) c.tell_missed.ensures right
+    c.requires.asked c.requires.lossy (event-of c.args.machine.now c.args.pass.now.actor c.args.node c.args.ask.now c.in_ok-answer.answer c.requires.asked (c.takes_answer.ensures.0 c.if-not-takes_answer.false) (c.wants_memory.ensures c.if-wants_memory.false)) c.in_ok-answer.ensures.served.adds (subst (λ (a : Actor). AddsOwn (volume_in g.J.Naming.kind) (is_honest g.J.Naming.kind) a c.serve.new.pass.log (Some (e.Missed a c.args.node true)) c.add_missed.new.pass.log) c.in_ok-answer.ensures.served.lasts.actor c.add_missed.ensures.adds) c.tell_missed.ensures right

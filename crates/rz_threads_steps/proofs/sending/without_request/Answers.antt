@@ -11,17 +11,17 @@ use Rattle.rz_threads_steps.proofs.Acts.{still-lasts, still-cut, missed-request}
 use Rattle.rz_threads_steps.proofs.Messages.{may-miss, is-open}
 use Rattle.rz_threads_steps.proofs.sending.without_request.Goals as goal
 
-pub returns-then-not-has_room-clause-lasts : goal.returns-then-not-has_room-clause-lasts
-returns-then-not-has_room-clause-lasts g c = still-lasts g.J.Naming.kind c.args.pass.now c.actor-fit.ensures.fit
+pub returns-then-not-room-clause-lasts : goal.returns-then-not-room-clause-lasts
+returns-then-not-room-clause-lasts g c = still-lasts g.J.Naming.kind c.args.pass.now c.actor-fit.ensures.fit
 
-pub returns-then-not-has_room-clause-one : goal.returns-then-not-has_room-clause-one
-returns-then-not-has_room-clause-one g c = omega arith
+pub returns-then-not-room-clause-one : goal.returns-then-not-room-clause-one
+returns-then-not-room-clause-one g c = omega arith
 
-pub returns-then-not-has_room-clause-unshown : goal.returns-then-not-has_room-clause-unshown
-returns-then-not-has_room-clause-unshown g c = refl
+pub returns-then-not-room-clause-unshown : goal.returns-then-not-room-clause-unshown
+returns-then-not-room-clause-unshown g c = refl
 
-pub returns-then-not-has_room-clause-cut : goal.returns-then-not-has_room-clause-cut
-returns-then-not-has_room-clause-cut g c = still-cut c.args.pass.now.actor c.args.pass.now.log c.args.machine.now
+pub returns-then-not-room-clause-cut : goal.returns-then-not-room-clause-cut
+returns-then-not-room-clause-cut g c = still-cut c.args.pass.now.actor c.args.pass.now.log c.args.machine.now
 
 pub add_missed-requires-clause-going : goal.add_missed-requires-clause-going
 add_missed-requires-clause-going g c = λ honest. is-open (volume_in g.J.Naming.kind) (c.asks.ensures (volume_in g.J.Naming.kind)) c.args.pass.now.log c.args.pass.now.actor c.requires.right.0 c.args.machine.now c.args.node c.args.ask.now (c.requires.right.1 honest) c.requires.asked c.requires.lossy
@@ -41,6 +41,9 @@ returns-clause-one g c =
 pub returns-clause-unshown : goal.returns-clause-unshown
 returns-clause-unshown g c =
     ap shown_of c.add_missed.ensures.adds.own ∙ unshown-of (e.Missed c.args.pass.now.actor c.args.node false) (of_actor c.args.pass.now.actor c.args.pass.now.log) refl
+
+pub returns-clause-noted : goal.returns-clause-noted
+returns-clause-noted g c = c.add_missed.ensures.adds.own
 
 pub returns-clause-acted : goal.returns-clause-acted
 returns-clause-acted g c =

@@ -9,17 +9,17 @@ use Rattle.rz_threads_steps.proofs.Acts.{still-lasts, still-cut, on-err, shows-o
 use Rattle.rz_threads_steps.proofs.Sayings.{its-by, its-word, say-may, say-step, at-actor}
 use Rattle.rz_threads_steps.proofs.words.say.Goals as goal
 
-pub returns-then-not-has_room-clause-lasts : goal.returns-then-not-has_room-clause-lasts
-returns-then-not-has_room-clause-lasts g c = still-lasts g.J.Naming.kind c.args.pass.now c.actor-by.ensures.fit
+pub returns-then-not-room-clause-lasts : goal.returns-then-not-room-clause-lasts
+returns-then-not-room-clause-lasts g c = still-lasts g.J.Naming.kind c.args.pass.now c.actor-by.ensures.fit
 
-pub returns-then-not-has_room-clause-quiet : goal.returns-then-not-has_room-clause-quiet
-returns-then-not-has_room-clause-quiet g c = refl
+pub returns-then-not-room-clause-quiet : goal.returns-then-not-room-clause-quiet
+returns-then-not-room-clause-quiet g c = refl
 
-pub returns-then-not-has_room-clause-shows : goal.returns-then-not-has_room-clause-shows
-returns-then-not-has_room-clause-shows g c = c.requires.shows
+pub returns-then-not-room-clause-shows : goal.returns-then-not-room-clause-shows
+returns-then-not-room-clause-shows g c = c.requires.shows
 
-pub returns-then-not-has_room-clause-cut : goal.returns-then-not-has_room-clause-cut
-returns-then-not-has_room-clause-cut g c = still-cut c.args.pass.now.actor c.args.pass.now.log c.args.machine.now c.args.number
+pub returns-then-not-room-clause-cut : goal.returns-then-not-room-clause-cut
+returns-then-not-room-clause-cut g c = still-cut c.args.pass.now.actor c.args.pass.now.log c.args.machine.now c.args.number
 
 pub returns-in_err-reserve-clause-lasts : goal.returns-in_err-reserve-clause-lasts
 returns-in_err-reserve-clause-lasts g c = still-lasts g.J.Naming.kind c.args.pass.now c.actor-by.ensures.fit
