@@ -1,5 +1,5 @@
 -- What a replay over disks comes to.
-use Rattle.std.specs.Prelude.{ℕ, ◌≡◌, Bool, List, [], length, Option, Some, None, Result}
+use Rattle.std.specs.Prelude.{ℕ, ◌≡◌, Bool, List, [], length, Option, Some, None, Result, Ok}
 use Rattle.rz_request.specs.Line.{Meaning}
 use Rattle.rz_request.specs.declared.command.Command.{Command}
 use Rattle.rz_request.specs.declared.command.Command.TheVariants.{Migrate}
@@ -12,7 +12,7 @@ use Rattle.rz_request.specs.declared.refusal.Refusal.TheVariants as refusals
 use Rattle.rz_request.specs.declared.refusal.Stop.{Stop}
 use Rattle.rz_request.specs.declared.wishes.Request.{Request}
 use Rattle.rz_report.specs.Output.{Sunk, Lacks}
-use Rattle.rz_report.specs.Replays.{Course, Ensues}
+use Rattle.rz_report.specs.Replays.{Course, Ensues, Follows}
 use Rattle.rz_report.specs.Telling.{Refuses}
 use Rattle.rz_replay.specs.Disks.{HandsBack, faulted}
 use Rattle.rz_replay.specs.Migrations.{Carries}
@@ -21,6 +21,11 @@ use Rattle.rz_replay.specs.Migrations.{Carries}
 abbrev pub FailsAgain : OpenRefusal → Sunk → ℕ → Type 0
 FailsAgain opens.NoMemory sink status = Lacks sink status
 FailsAgain (opens.Open index cause) sink status = Refuses (refusals.Open index cause) sink status
+
+-- A request is played over disks, before and after, with a link that lost so many messages and a sink; and the disks are handed back.
+abbrev pub PlaysRequest : {D : Type 0} → Bool → (D → List ℕ) → (D → Meter) → (D → List ℕ → Type 0) → Request → List D → List D → (lost : ℕ) → Sunk → ℕ → List Event → Type 0
+PlaysRequest tells text meter image r old new lost sink status h =
+    (course : Course) × Follows tells course r (faulted meter old new) lost sink status h × HandsBack tells text meter image course (Ok r) lost old new h
 
 -- A play at words of this meaning, over a source, disks before and after, a link that lost so many messages, and a sink: what the
 -- words and the source ask for of so many disks is answered, and played; and the disks are handed back.

@@ -5,9 +5,7 @@ ghost use Rattle.rz_request.specs.Line.{meaning};
 ghost use Rattle.rz_request.specs.Requests.{disks_for, nodes_in};
 ghost use Rattle.rz_request.specs.declared.wishes.Wish.TheVariants.{First, Again};
 ghost use Rattle.rz_play_laws.specs.Runs.{IsScript};
-ghost use Rattle.rz_report.specs.Replays.{Course, Follows};
-ghost use Rattle.rz_replay.specs.Disks.{HandsBack, faulted};
-ghost use Rattle.rz_replay.specs.Replays.{FailsAgain, Plays, Replays, old_node_of};
+ghost use Rattle.rz_replay.specs.Replays.{FailsAgain, Plays, PlaysRequest, Replays, old_node_of};
 
 use crate::laws::untouched;
 use crate::migrating::carry;
@@ -68,8 +66,7 @@ fn play_plain<D: Disk, L: Link, O: Sink>(
     requires plain { request.now.wish ≢ First }
     requires anew { request.now.wish ≢ Again }
     requires count { length disks.old.items ≡ nodes_in request.now.script }
-    ensures { (course : Course) × Follows D.tells course request.now (faulted D.meter disks.old.items disks.new.items) (L.lost link.new - L.lost link.old) (record { before = O.taken output.old; after = O.taken output.new; old = O.faults output.old; new = O.faults output.new }) result.status (reverse result.log.items)
-        × HandsBack D.tells D.text D.meter D.image course (Ok request.now) (L.lost link.new - L.lost link.old) disks.old.items disks.new.items (reverse result.log.items) }
+    ensures { PlaysRequest D.tells D.text D.meter D.image request.now disks.old.items disks.new.items (L.lost link.new - L.lost link.old) (record { before = O.taken output.old; after = O.taken output.new; old = O.faults output.old; new = O.faults output.new }) result.status (reverse result.log.items) }
 {
     untouched::<D>();
     let volume = request.script.volume();
@@ -108,8 +105,7 @@ fn play_first<D: Disk, L: Link, O: Sink>(
 ) -> Played
     requires first { request.now.wish ≡ First }
     requires count { length disks.old.items ≡ nodes_in request.now.script + 1 }
-    ensures { (course : Course) × Follows D.tells course request.now (faulted D.meter disks.old.items disks.new.items) (L.lost link.new - L.lost link.old) (record { before = O.taken output.old; after = O.taken output.new; old = O.faults output.old; new = O.faults output.new }) result.status (reverse result.log.items)
-        × HandsBack D.tells D.text D.meter D.image course (Ok request.now) (L.lost link.new - L.lost link.old) disks.old.items disks.new.items (reverse result.log.items) }
+    ensures { PlaysRequest D.tells D.text D.meter D.image request.now disks.old.items disks.new.items (L.lost link.new - L.lost link.old) (record { before = O.taken output.old; after = O.taken output.new; old = O.faults output.old; new = O.faults output.new }) result.status (reverse result.log.items) }
 {
     rz_core::one_run();
     untouched::<D>();
@@ -169,8 +165,7 @@ fn play_again<D: Disk, L: Link, O: Sink>(
 ) -> Played
     requires again { request.now.wish ≡ Again }
     requires count { length disks.old.items ≡ nodes_in request.now.script + 1 }
-    ensures { (course : Course) × Follows D.tells course request.now (faulted D.meter disks.old.items disks.new.items) (L.lost link.new - L.lost link.old) (record { before = O.taken output.old; after = O.taken output.new; old = O.faults output.old; new = O.faults output.new }) result.status (reverse result.log.items)
-        × HandsBack D.tells D.text D.meter D.image course (Ok request.now) (L.lost link.new - L.lost link.old) disks.old.items disks.new.items (reverse result.log.items) }
+    ensures { PlaysRequest D.tells D.text D.meter D.image request.now disks.old.items disks.new.items (L.lost link.new - L.lost link.old) (record { before = O.taken output.old; after = O.taken output.new; old = O.faults output.old; new = O.faults output.new }) result.status (reverse result.log.items) }
 {
     untouched::<D>();
     begins();
@@ -213,8 +208,7 @@ fn play_request<D: Disk, L: Link, O: Sink>(
     output: &mut O,
 ) -> Played
     requires { length disks.old.items ≡ disks_for request.now.wish request.now.script }
-    ensures { (course : Course) × Follows D.tells course request.now (faulted D.meter disks.old.items disks.new.items) (L.lost link.new - L.lost link.old) (record { before = O.taken output.old; after = O.taken output.new; old = O.faults output.old; new = O.faults output.new }) result.status (reverse result.log.items)
-        × HandsBack D.tells D.text D.meter D.image course (Ok request.now) (L.lost link.new - L.lost link.old) disks.old.items disks.new.items (reverse result.log.items) }
+    ensures { PlaysRequest D.tells D.text D.meter D.image request.now disks.old.items disks.new.items (L.lost link.new - L.lost link.old) (record { before = O.taken output.old; after = O.taken output.new; old = O.faults output.old; new = O.faults output.new }) result.status (reverse result.log.items) }
 {
     match request.wish {
         Wish::First => play_first(alloc, request, disks, link, output),
