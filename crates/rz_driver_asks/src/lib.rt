@@ -14,5 +14,5 @@ mod replies;
 mod words;
 
 pub use locking::open;
-pub use replies::{ask_export, note};
+pub use replies::ask_export;
 pub use words::{is_bad, say};

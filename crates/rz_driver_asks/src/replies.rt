@@ -127,7 +127,7 @@ fn note_reply(
 }
 
 /// Notes an event, where there is one.
-pub fn note(event: Option<Event>, log: &mut Log) -> Result<(), NoMemory>
+fn note(event: Option<Event>, log: &mut Log) -> Result<(), NoMemory>
     requires room { 0 < log.old.room }
     ensures ok { OnOk result (IsNoted event log.old.events log.new.events) }
     ensures err { OnErr result (log.new.events ≡ log.old.events) }
