@@ -118,7 +118,7 @@ impl<D: Disk, J: Counting> Cluster<D, J> {
                 Ok(Cluster {
                     nodes: parts.nodes,
                     seats,
-                    office: Mutex::new(Office::new(parts.export, export)),
+                    office: Mutex::new(Office::new(alloc, parts.export, export)),
                     room: Mutex::new(Room::of(parts.unlocked, home, posts)),
                 })
             }

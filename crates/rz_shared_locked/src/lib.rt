@@ -19,5 +19,5 @@ mod serving;
 mod waiting;
 
 pub use counting::Counting;
-pub use office::Office;
+pub use office::{Office, answer_export};
 pub use seat::Seat;

@@ -5,7 +5,8 @@ ghost use Rattle.rz_events.specs.declared.keys.Actor.{Actor as AnActor};
 ghost use Rattle.rz_events.specs.declared.export.Call.{Call as ACall};
 ghost use Rattle.rz_events.specs.declared.events.Word.TheVariants as w;
 ghost use Rattle.rz_events.specs.Events.{word_of, by_of};
-ghost use Rattle.rz_export_model.specs.Export.{new_export};
+ghost use Rattle.rz_export.specs.Calls.{IsAnswered};
+ghost use Rattle.rz_export_model.specs.Export.{is_proper, new_export};
 ghost use Rattle.rz_export_model.specs.ExportEvents.{export_event};
 ghost use Rattle.rz_core.specs.History.{facts, of_actor};
 ghost use Rattle.rz_core.specs.Tied.{IsProperCall};
@@ -19,12 +20,23 @@ use crate::waiting::without_reply;
 use rz_chronicle::{Asks, Book, Naming, Pass, Post};
 use rz_events::{Actor, Call, Reply};
 use rz_export::Export;
+use std::alloc::Global;
 use std::marker::{Brand, Model, PhantomData};
 use std::sync::Wait;
+
+/// Gives an export a call that it takes: the reply of the model, with the model's next state, or that memory
+/// is wanting, and then nothing changes. An export takes memory by the allocator that it was made with.
+pub fn answer_export(_alloc: Global, export: &mut Export, call: &Call) -> Reply
+    requires { IsTrue (is_proper export.old call.now) }
+    ensures { IsAnswered export.old call.now result export.new }
+{
+    export.answer(call)
+}
 
 /// The export under its lock, with the tally of its word.
 #[derive(Drop)]
 pub struct Office<J: Naming> {
+    alloc: Global,
     export: Export,
     post: Post<J>,
 }
@@ -75,20 +87,24 @@ impl<C: Asking> Asks<Reply> for Given<C> {
 
 impl<J: Naming> Office<J> {
     /// The office of a new export, whose word has no event yet.
-    pub fn new(export: Export, post: Post<J>) -> Office<J>
+    pub fn new(alloc: Global, export: Export, post: Post<J>) -> Office<J>
         requires post { post ≡ new_post w.Export }
         requires export { export ≡ new_export (volume_in J.kind) 0 }
         ensures { result ≡ [] }
     {
         rz_log_laws::beginning();
-        Office { export, post }
+        Office {
+            alloc,
+            export,
+            post,
+        }
     }
 
     /// The tally of the export's word.
     pub fn close(self) -> Post<J>
         ensures { result ≡ record { word = w.Export; log = self } }
     {
-        let Office { export, post } = self;
+        let Office { export, post, .. } = self;
         drop(export);
         post
     }
@@ -149,7 +165,7 @@ impl<J: Naming> Office<J> {
         if !self.export.takes(call) {
             return without_reply(rt);
         }
-        let reply = self.export.answer(call);
+        let reply = answer_export(self.alloc, &mut self.export, call);
         if matches!(reply, Reply::NoMemory) {
             return reply;
         }
