@@ -23,4 +23,4 @@ mod seating;
 pub use cluster::Cluster;
 pub use rz_node::answer_node;
 pub use rz_nodes::DriverFault;
-pub use rz_shared_locked::{Counting, Office, Seat, answer_export};
+pub use rz_shared_locked::{Counting, LockedExport, LockedNode, answer_export};
