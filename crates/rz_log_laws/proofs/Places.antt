@@ -1,6 +1,6 @@
 -- Where files lie: on as many nodes as the layout has positions, all of one cluster and no two alike.
 use Rattle.std.proofs.Common.{◌≡◌, ◌≢◌, ◌⊎◌, inl, inr, ◌<◌, ◌≤◌, ◌+◌, ◌==◌, ℕ, zero, suc, Bool, true, false, cond, List, [], ◌∷◌, ◌++◌, length, map, take, drop, refl, sym, ◌∙◌, ap, subst, arith, Option, Some, None}
-use Rattle.std.specs.Prelude.{slice_get, All, nat_eq}
+use Rattle.std.specs.Prelude.{slice_get, nat_eq}
 use Rattle.std.specs.Option.{option_map_or}
 use Rattle.std.specs.List.{AllByRecursion, IsDistinct}
 use Rattle.std.proofs.lemmas.Bool.{eq-eqb}
@@ -17,12 +17,12 @@ use Rattle.rz_events.specs.declared.tree.TreeFault.TheVariants as fault
 use Rattle.rz_events.specs.declared.events.Event.{Event}
 use Rattle.rz_events.specs.declared.events.Event.TheVariants as e
 use Rattle.rz_node_model.specs.Versions.{Stands}
-use Rattle.rz_export_model.specs.Place.{Room, Rooms, rooms_of, clusters_of, is_better, best_of, is_before, at_its_place, in_order, placed_in, placed_among, place}
+use Rattle.rz_export_model.specs.Place.{Room, Rooms, clusters_of, best_of, is_before, at_its_place, in_order, placed_in, placed_among, place}
 use Rattle.rz_export_model.specs.Tree.{Tree, Found, found_at}
 use Rattle.rz_export_model.specs.Refusals.{path_in, refusal}
 use Rattle.rz_export_model.specs.TreeCalls.{answer_to, reply_to}
 use Rattle.rz_export_model.specs.Export.{Export, new_places, free_of}
-use Rattle.rz_export_model.proofs.Rooms.{sids, all-insert, all-order, all-take, long-insert, long-order, long-take, rooms-sids, rooms-long, long-both, long-drop, best-of, clusters-long, map-long, all-there}
+use Rattle.rz_export_model.proofs.Rooms.{sids, all-insert, all-order, all-take, long-order, long-take, rooms-sids, rooms-long, long-both, long-drop, best-of, clusters-long, map-long, all-there}
 use Rattle.rz_core.specs.History.{facts, places_of, placed_by, first_some}
 use Rattle.rz_core.specs.ExportWord.{export_of}
 use Rattle.rz_core.specs.NodeRows.{IsNodeOf}
