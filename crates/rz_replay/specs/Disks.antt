@@ -132,16 +132,16 @@ abbrev pub AreLocksKept : Volume → List Event → List Line → List Event →
 AreLocksKept v old lines h = (last : World) × IsKeptAfter v.layout (λ a. given a lines) old h last
 
 -- A play that went on after this earlier log. Behind that log, with the nodes stopped and started, its own is that of a play of the
--- lines and is legal, and both are sound. No update is lost, if there are fewer than 2^63 events behind it. Each of its lost messages
--- was lost by a line or by the link, and its disks' faults are counted by its own events. The images of each disk stand for what both
--- logs say, and one more run may go on after both.
+-- lines and is legal, and both are sound. No update is lost. Each of its lost messages was lost by a line or by the link, and
+-- its disks' faults are counted by its own events. The images of each disk stand for what both logs say, and one more run may go
+-- on after both.
 pub record IsGoneOn {D : Type 0} (tells : Bool) (meter : D → Meter) (image : D → List ℕ → Type 0) (end : PlayEnd) (v : Volume) (lines : List Line) (lost : ℕ) (earlier : List Event)
     (disks : List D) (journal : D) (nodes_back : List D) (journal_back : D) (h : List Event) : Type 0 where
   pub old : List Event
   pub restarted : IsRestarted v earlier old
   pub played : IsPlayAfter v old lines end lost (h ++ old)
   pub run : IsRunAfter v old (h ++ old)
-  pub kept : length old < 2 ^ 63 → AreLocksKept v old lines (h ++ old)
+  pub kept : AreLocksKept v old lines (h ++ old)
   pub losses : missed h ≤ misses lines + lost
   pub faults_told : AreFaultsTold meter v disks nodes_back h
   pub images_told : AreImagesTold tells meter image (Performed end []) v disks nodes_back (h ++ old)

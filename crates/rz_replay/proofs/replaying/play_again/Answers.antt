@@ -180,14 +180,14 @@ module _ (g : given.Over) (c : goal.After-drop-disks g) where
           c.afterwards.ensures volume c.args.request.now.script.lines c.keeps_rules.ensures played.nodes played.export old played.fine (omega (arith, short)) (log ++ old) begun
 
       -- and what locks promise
-      kept : (earlier : List Event) → IsEarlier volume earlier → IsRestarted volume earlier old → length old < 2 ^ 63 → AreLocksKept volume old c.args.request.now.script.lines (log ++ old)
-      kept earlier is (took, may, restarted_is) below =
+      kept : (earlier : List Event) → IsEarlier volume earlier → IsRestarted volume earlier old → AreLocksKept volume old c.args.request.now.script.lines (log ++ old)
+      kept earlier is (took, may, restarted_is) =
           let restart = c.restarting.ensures volume c.keeps_rules.ensures.volume earlier is took may in
           let may_begin : MayBegin volume played.nodes played.export old = record {
             legal = subst (IsLegalInRuns volume) (sym restarted_is) restart.legal;
             nodes_are = played.fine.nodes_are;
             export_is = played.fine.export_is;
-            few = below;
+            few = held.3.short;
           } in
           (begun.last, c.after.ensures volume c.args.request.now.script.lines c.keeps_rules.ensures played.nodes played.export old may_begin (log ++ old) begun)
 

@@ -235,7 +235,7 @@ returns-in-Err g c =
       Unplayed,
       (
         not-opened g.D.Disk.tells meter c.args.request.now old new lost sink c.unplayed.result.status
-            (reverse c.unplayed.result.log.items) c.in-Err.fault kept cause (rw c.unplayed.ensures.status c.refuse_disks-status.ensures) none,
+            (reverse c.unplayed.result.log.items) c.in-Err.fault (λ is. let other : First ≡ Again = sym c.requires.first ∙ is in cc) kept cause (rw c.unplayed.ensures.status c.refuse_disks-status.ensures) none,
         λ tells. told_as c.args.request.now.wish v c.args.request.now.script.lines lost (reverse c.unplayed.result.log.items)
             (λ is. let other : First ≡ Again = sym c.requires.first ∙ is in cc) (told-none v c.args.request.now.script.lines lost (reverse c.unplayed.result.log.items) none),
       ),

@@ -128,7 +128,7 @@ returns-in-Err g c =
       Unplayed,
       (
         not-opened g.D.Disk.tells g.D.Disk.meter c.args.request.now c.args.disks.now.items c.in-Err.back.items lost sink c.unplayed.result.status
-            (reverse c.unplayed.result.log.items) c.in-Err.fault kept cause (rw c.unplayed.ensures.status c.refuse_disks-status.ensures) none,
+            (reverse c.unplayed.result.log.items) c.in-Err.fault c.requires.anew kept cause (rw c.unplayed.ensures.status c.refuse_disks-status.ensures) none,
         λ told. told_as c.args.request.now.wish c.args.request.now.script.volume c.args.request.now.script.lines lost (reverse c.unplayed.result.log.items) c.requires.anew
             (told-none c.args.request.now.script.volume c.args.request.now.script.lines lost (reverse c.unplayed.result.log.items) none),
       ),
