@@ -6,7 +6,7 @@ ghost use Rattle.rz_chronicle.specs.Kinds.{kind_of};
 use crate::telling::Teller;
 use crate::threads::add_all;
 use crate::words::BookSize;
-use rz_chronicle::{Book, Naming, Opened, Pass, read_back};
+use rz_chronicle::{Book, Naming, NewBook, Pass, read_back};
 use rz_config::Volume;
 use std::alloc::{AllocError, Global};
 use std::io;
@@ -54,7 +54,7 @@ fn run_clients<J: Naming + Send + Sync, R: Threads + Print + Clock + Sync + Drop
 
 fn run_in<J: Naming + Send + Sync, R: Threads + Print + Clock + Sync + Drop>(
     teller: &Teller<R>,
-    opened: Opened,
+    opened: NewBook,
     size: BookSize,
 ) -> io::Result<()>
     requires named { (opened.seen.book ≡ J.book) × (opened.hand.tallies ≡ J.tallies) × (opened.hand.copy ≡ J.copy) × (opened.hand.kind ≡ J.kind) }
@@ -74,11 +74,11 @@ fn run_in<J: Naming + Send + Sync, R: Threads + Print + Clock + Sync + Drop>(
 }
 
 /// Opens a book of a plain volume.
-fn open(alloc: Global) -> Result<Opened, AllocError>
+fn open(alloc: Global) -> Result<NewBook, AllocError>
     ensures { IfOk result (λ o. o.hand.kind ≡ kind_of false plain_volume) }
 {
     let volume = Volume::plain(alloc)?;
-    let opened = Opened::start(alloc, &volume, false);
+    let opened = NewBook::start(alloc, &volume, false);
     drop(volume);
     opened
 }

@@ -15,7 +15,7 @@ use Rattle.rz_events.specs.Volume.{Volume}
 use Rattle.rz_core.specs.Legal.{IsLegal, IsAllowed, IsForeign, IsLocal}
 use Rattle.rz_chronicle.specs.Keys.{touches, events_at, count_at, word_key, actor_key, IsLater}
 use Rattle.rz_chronicle.specs.Kinds.{history, HasPlace, HavePlaces, MayCome, volume_in}
-use Rattle.rz_chronicle.specs.Tally.{at, Agree, IsHolding, HasCount, Covers, MayFollow, counts}
+use Rattle.rz_chronicle.specs.Tokens.{at, Agree, IsHolding, HasCount, Covers, MayFollow, counts}
 use Rattle.rz_chronicle.specs.Holds.{keys, Stays}
 use Rattle.rz_chronicle.proofs.Keys.{count-append}
 

@@ -11,7 +11,7 @@ use Rattle.rz_events.specs.declared.events.Event.{Event}
 use Rattle.rz_events.specs.Events.{by_of, word_of}
 use Rattle.rz_chronicle.specs.Keys.{touches, count_at, word_key, actor_key, rows, IsInRow}
 use Rattle.rz_chronicle.specs.Kinds.{IsFit}
-use Rattle.rz_chronicle.specs.Tally.{at, Agree, IsHolding, HasCount, Covers, notes, held_in, mark}
+use Rattle.rz_chronicle.specs.Tokens.{at, Agree, IsHolding, HasCount, Covers, notes, held_in, mark}
 
 pub fit-first : (kind : List ℕ) → IsFit kind []
 fit-first kind honest = tt

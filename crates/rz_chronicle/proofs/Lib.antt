@@ -3,14 +3,14 @@ pub mod Trades
 pub mod Adding
 pub mod Back
 pub mod Histories
-pub mod Hands
+pub mod Tokens
 pub mod Joint
 pub mod Rows
 pub mod Numbers
-pub mod Deals
+pub mod Dealing
 pub mod Apart
 pub mod Pens
 pub mod Settling
 pub mod Same
 pub mod Dealt
-pub mod Posts
+pub mod WordTokens

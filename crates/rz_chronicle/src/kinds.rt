@@ -8,12 +8,12 @@ use std::marker::Model;
 
 /// The kind of a book: the volume whose log it has, and whether it keeps that log legal.
 #[derive(Drop)]
-pub struct Kind {
+pub struct BookKind {
     volume: Volume,
     honest: bool,
 }
 
-impl Model for Kind {
+impl Model for BookKind {
     ghost use Rattle.std.specs.Prelude.{List, ℕ};
     ghost use Rattle.rz_chronicle.specs.Kinds.{kind_of};
 
@@ -22,12 +22,12 @@ impl Model for Kind {
     ghost view = { λ k. kind_of k.honest k.volume };
 }
 
-impl Kind {
+impl BookKind {
     /// The kind of an honest book of this volume, or of one that takes every event.
-    pub fn of(volume: Volume, honest: bool) -> Kind
+    pub fn of(volume: Volume, honest: bool) -> BookKind
         ensures { result ≡ kind_of honest volume }
     {
-        Kind { volume, honest }
+        BookKind { volume, honest }
     }
 }
 

@@ -1,11 +1,11 @@
-//! What callers hold: a pass for each actor, and a post for each word that many callers move.
+//! What callers hold: a pass for each actor, and a word_token for each word that many callers move.
 ghost use Rattle.std.specs.Prelude.{◌≡◌, ◌+◌, ◌<◌, ◌^◌, [], ◌∷◌, IsTrue, ◌↔◌, Some};
 ghost use Rattle.rz_events.specs.declared.events.Word.TheVariants as w;
 ghost use Rattle.rz_chronicle.specs.Keys.{count_at, word_key, actor_key, rows, IsOneOf, IsMember, own_keys, owner, sids_of};
 ghost use Rattle.rz_chronicle.specs.Kinds.{HavePlaces, IsFit, volume_in};
 ghost use Rattle.rz_chronicle.specs.Holds.{IsShared};
 
-use crate::hand::{Hand, Law};
+use crate::tokens::{Law, Tokens};
 use crate::told::Told;
 use logbook::Seen;
 use rz_events::{Actor, Event};
@@ -42,7 +42,7 @@ impl Naming for Brand {
 pub struct Pass<J: Naming> {
     pub(crate) actor: Actor,
     pub(crate) moved: u64,
-    pub(crate) hand: Option<Hand>,
+    pub(crate) tokens: Option<Tokens>,
     pub(crate) seen: Seen<Event, Told, Law>,
     pub(crate) of: PhantomData<J>,
 }
@@ -52,15 +52,15 @@ impl<J: Naming> Model for Pass<J> {
     ghost use Rattle.rz_events.specs.declared.events.Word.TheVariants as w;
     ghost use Rattle.rz_chronicle.specs.Keys.{count_at, word_key, IsMember};
     ghost use Rattle.rz_chronicle.specs.Kinds.{history, HavePlaces, IsFit};
-    ghost use Rattle.rz_chronicle.specs.Holds.{keys_in, IsHand, IsOwn};
+    ghost use Rattle.rz_chronicle.specs.Holds.{keys_in, AreTokens, IsOwn};
     ghost use Rattle.rz_chronicle.specs.Rules.{PassView};
 
     ghost Value = { PassView };
 
-    ghost view = { λ p. record { actor = p.actor; log = history p.seen.log; keys = keys_in p.hand } };
+    ghost view = { λ p. record { actor = p.actor; log = history p.seen.log; keys = keys_in p.tokens } };
 
     ghost invariant = { λ p. (p.seen.book ≡ J.book) × (p.seen.names ≡ J.tallies ∷ J.copy ∷ J.kind)
-        × IsSomeAnd p.hand (λ h. IsHand J.tallies J.copy J.kind p.seen.log h × IsOwn p.actor h.held)
+        × IsSomeAnd p.tokens (λ h. AreTokens J.tallies J.copy J.kind p.seen.log h × IsOwn p.actor h.held)
         × (p.moved ≡ count_at (word_key (w.Own p.actor)) p.seen.log)
         × IsMember p.actor
         × IsFit J.kind (history p.seen.log)
@@ -69,17 +69,17 @@ impl<J: Naming> Model for Pass<J> {
 
 impl<J: Naming> Pass<J> {
     // The pass of an actor that has done nothing yet.
-    pub(crate) fn of_hand(actor: Actor, hand: Hand, seen: Seen<Event, Told, Law>) -> Pass<J>
+    pub(crate) fn of_tokens(actor: Actor, tokens: Tokens, seen: Seen<Event, Told, Law>) -> Pass<J>
         requires seen { (seen.book ≡ J.book) × (seen.names ≡ J.tallies ∷ J.copy ∷ J.kind) × (seen.log ≡ []) }
-        requires names { (hand.tallies ≡ J.tallies) × (hand.copy ≡ J.copy) × (hand.kind ≡ J.kind) × (hand.log ≡ []) }
-        requires held { hand.held ≡ (word_key (w.Own actor), 0) ∷ (actor_key actor, 0) ∷ [] }
+        requires names { (tokens.tallies ≡ J.tallies) × (tokens.copy ≡ J.copy) × (tokens.kind ≡ J.kind) × (tokens.log ≡ []) }
+        requires held { tokens.held ≡ (word_key (w.Own actor), 0) ∷ (actor_key actor, 0) ∷ [] }
         requires member { IsMember actor }
         ensures { result ≡ record { actor = actor; log = []; keys = own_keys actor } }
     {
         Pass {
             actor,
             moved: 0,
-            hand: Some(hand),
+            tokens: Some(tokens),
             seen,
             of: PhantomData,
         }
@@ -108,28 +108,28 @@ impl<J: Naming> Pass<J> {
 
 /// The tally of a word that is moved under a lock, with the log in which it moved last.
 #[derive(Drop)]
-pub struct Post<J: Naming> {
+pub struct WordToken<J: Naming> {
     pub(crate) word: rz_events::Word,
     pub(crate) place: u16,
     pub(crate) moved: u64,
-    pub(crate) hand: Option<Hand>,
+    pub(crate) tokens: Option<Tokens>,
     pub(crate) seen: Seen<Event, Told, Law>,
     pub(crate) of: PhantomData<J>,
 }
 
-impl<J: Naming> Model for Post<J> {
+impl<J: Naming> Model for WordToken<J> {
     ghost use Rattle.std.specs.Prelude.{◌≡◌, ◌<◌, [], ◌∷◌, IsSomeAnd, Some};
     ghost use Rattle.rz_chronicle.specs.Keys.{word_key, owner, sids_of, rows};
     ghost use Rattle.rz_chronicle.specs.Kinds.{history, IsFit, volume_in};
-    ghost use Rattle.rz_chronicle.specs.Holds.{IsHand, IsShared};
-    ghost use Rattle.rz_chronicle.specs.Rules.{PostView};
+    ghost use Rattle.rz_chronicle.specs.Holds.{AreTokens, IsShared};
+    ghost use Rattle.rz_chronicle.specs.Rules.{WordTokenView};
 
-    ghost Value = { PostView };
+    ghost Value = { WordTokenView };
 
     ghost view = { λ p. record { word = p.word; log = history p.seen.log } };
 
     ghost invariant = { λ p. (p.seen.book ≡ J.book) × (p.seen.names ≡ J.tallies ∷ J.copy ∷ J.kind)
-        × IsSomeAnd p.hand (λ h. IsHand J.tallies J.copy J.kind p.seen.log h × (h.held ≡ (word_key p.word, p.moved) ∷ []))
+        × IsSomeAnd p.tokens (λ h. AreTokens J.tallies J.copy J.kind p.seen.log h × (h.held ≡ (word_key p.word, p.moved) ∷ []))
         × (owner (sids_of (volume_in J.kind)) p.place ≡ Some p.word)
         × IsShared p.word
         × IsFit J.kind (history p.seen.log)
@@ -137,26 +137,26 @@ impl<J: Naming> Model for Post<J> {
         × (word_key p.word < rows) };
 }
 
-impl<J: Naming> Post<J> {
-    // The post of a word that has no event yet.
-    pub(crate) fn of_hand(
+impl<J: Naming> WordToken<J> {
+    // The word_token of a word that has no event yet.
+    pub(crate) fn of_tokens(
         word: rz_events::Word,
         place: u16,
-        hand: Hand,
+        tokens: Tokens,
         seen: Seen<Event, Told, Law>,
-    ) -> Post<J>
+    ) -> WordToken<J>
         requires seen { (seen.book ≡ J.book) × (seen.names ≡ J.tallies ∷ J.copy ∷ J.kind) × (seen.log ≡ []) }
-        requires names { (hand.tallies ≡ J.tallies) × (hand.copy ≡ J.copy) × (hand.kind ≡ J.kind) × (hand.log ≡ []) }
-        requires held { hand.held ≡ (word_key word, 0) ∷ [] }
+        requires names { (tokens.tallies ≡ J.tallies) × (tokens.copy ≡ J.copy) × (tokens.kind ≡ J.kind) × (tokens.log ≡ []) }
+        requires held { tokens.held ≡ (word_key word, 0) ∷ [] }
         requires place { (place < 338) × (owner (sids_of (volume_in J.kind)) place ≡ Some word) }
         requires word { IsShared word × (word_key word < rows) }
         ensures { result ≡ record { word = word; log = [] } }
     {
-        Post {
+        WordToken {
             word,
             place,
             moved: 0,
-            hand: Some(hand),
+            tokens: Some(tokens),
             seen,
             of: PhantomData,
         }
@@ -171,9 +171,9 @@ impl<J: Naming> Post<J> {
     }
 }
 
-/// The posts of a book: the export's, and those of the nodes in the order of the description.
+/// The word_tokens of a book: the export's, and those of the nodes in the order of the description.
 #[derive(Drop)]
 pub struct Desk<J: Naming> {
-    pub export: Post<J>,
-    pub nodes: Vec<Post<J>>,
+    pub export: WordToken<J>,
+    pub nodes: Vec<WordToken<J>>,
 }

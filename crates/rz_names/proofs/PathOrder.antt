@@ -8,8 +8,8 @@ use Rattle.rz_names.specs.Names.{is_after, is_up_to, is_within, by_order}
 use Rattle.std.specs.Option.{option_copied}
 use Rattle.rz_export_model.proofs.Tests.{eq_true}
 use Rattle.rz_names.specs.Cuts.{passes}
-use Rattle.rz_names.specs.declared.cuts.Cut.{Cut}
-use Rattle.rz_names.specs.declared.cuts.Cut.TheVariants.{Before, Reached, Within, UpTo}
+use Rattle.rz_names.specs.declared.cuts.PathCut.{PathCut}
+use Rattle.rz_names.specs.declared.cuts.PathCut.TheVariants.{Before, Reached, Within, UpTo}
 use Rattle.rz_names.proofs.Sorted.{Falls, flipped, unflipped, before-falls}
 
 pub then_less : (r s : Ordering) → ordering_then r s ≡ Less → (r ≡ Less) ⊎ ((r ≡ Equal) × (s ≡ Less))
@@ -166,7 +166,7 @@ pub not_less-falls : (path : Path) → Falls path_cmp (λ k. not (is_lt (path_cm
 not_less-falls path a b ab h = at_most path a b ab (not_less _ h)
 
 -- what stands before a cut falls along paths in order
-pub passes-falls : (cut : Cut) → Falls path_cmp (passes cut)
+pub passes-falls : (cut : PathCut) → Falls path_cmp (passes cut)
 passes-falls (Before names) = before-falls paths_total names.now
 passes-falls (Reached names after) = up_to-falls names.now (option_copied after)
 passes-falls (Within names) = within-falls names.now

@@ -43,9 +43,9 @@ pub record IsFine (v : Volume) (old : List Event) (w : World) : Type 0 where
   pub legal : IsLegalAfter v old run
   pub nodes_are : (n : ℕ) → IsNode (facts w.log) (of_word (Node n) w.log) (w.nodes n)
   pub export_is : IsExport v (facts w.log) (of_word Export w.log) w.export
-  pub own : (by : Actor) → IsSeated by → IsOwn v (facts w.log) (of_actor by w.log) (of_actor by run) by (w.seats by).work
-  pub under_way : (by : Actor) → IsSeated by → IsUnderWay v by (w.seats by).number (of_actor by run) (w.seats by).work
-  pub todo : (by : Actor) → AllByRecursion (IsOperation v by) (w.seats by).todo
+  pub own : (by : Actor) → IsSeated by → IsOwn v (facts w.log) (of_actor by w.log) (of_actor by run) by (w.agendas by).work
+  pub under_way : (by : Actor) → IsSeated by → IsUnderWay v by (w.agendas by).number (of_actor by run) (w.agendas by).work
+  pub todo : (by : Actor) → AllByRecursion (IsOperation v by) (w.agendas by).todo
 
 -- a log has room for fewer than 2^64 events
 abbrev pub IsFineIfShort : Volume → List Event → World → Type 0

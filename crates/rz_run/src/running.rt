@@ -6,7 +6,7 @@ ghost use Rattle.rz_run.specs.Runs.{Plays, Runs};
 
 use crate::outcome::Ran;
 use crate::playing::play_book;
-use rz_chronicle::{Opened, read_back};
+use rz_chronicle::{NewBook, read_back};
 use rz_disk::Disk;
 use rz_link::Link;
 use rz_ports::{Sink, Source};
@@ -36,7 +36,7 @@ fn play_script<R: Threads + Wait + Sync, O: Sink, D: Disk + Send, L: Link + Send
     read_back();
     let volume = script.volume();
     let _rules = volume.node_count();
-    match Opened::start(alloc, volume, honest) {
+    match NewBook::start(alloc, volume, honest) {
         Ok(opened) => {
             play_book::<Brand, R, O, D, L>(rt, alloc, opened, script, disks, links, output)
         }

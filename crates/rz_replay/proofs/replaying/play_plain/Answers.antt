@@ -43,7 +43,7 @@ perform-status-requires-clause-stage g c = record {
   exact_is = λ d e asked. ap (λ (s : Shared (UnderFuse g.row.D.Denot) g.row.D.Denot). exact_if g.D.Disk.tells s.log.earlier) asked.shared;
   whole = λ d b ready held tells few after l is. (
     block_of d.volume.layout (text_in ((facts (d.shared.log.events ++ b.log)).wrote l.published.stamp)),
-    c.untouched.ensures d.volume b.log (world_of d) d.seats.items d.shared.stations.items refl (held.1 tells few) tells after l is,
+    c.untouched.ensures d.volume b.log (world_of d) d.agendas.items d.shared.servers.items refl (held.1 tells few) tells after l is,
   );
 }
 

@@ -9,7 +9,7 @@ use Rattle.rz_shared_locked.proofs.adding.add.Goals.{in-Some, in-None}
 
 pub returns-clause-adds : goal.returns-clause-adds
 returns-clause-adds g c =
-    let ks = word_key c.args.post.now.word ∷ c.args.pass.now.keys in
+    let ks = word_key c.args.word_token.now.word ∷ c.args.pass.now.keys in
     let old = c.args.pass.now.log in
     elim c.match-event.branch [
       | in-Some w ↦ subst (λ (o : Option Event). Adds ks old o c.match-event.pass.log) (sym w.in-Some.is)
