@@ -1,12 +1,12 @@
 //! Clients that add events to a book, and the line that tells of them.
 ghost use Rattle.std.specs.Prelude.{◌≡◌, ◌≤◌, false, length, IfOk};
 ghost use Rattle.rz_config.specs.Plain.{plain_volume};
-ghost use Rattle.rz_chronicle.specs.Kinds.{kind_of};
+ghost use Rattle.rz_chronicle.specs.Kinds.{HasEarlierLog, kind_of};
 
 use crate::telling::Teller;
 use crate::threads::add_all;
 use crate::words::BookSize;
-use rz_chronicle::{Book, Naming, Opened, Pass, read_back};
+use rz_chronicle::{Book, Naming, NewBook, Pass, read_back, read_back_after};
 use rz_config::Volume;
 use std::alloc::{AllocError, Global};
 use std::io;
@@ -54,11 +54,12 @@ fn run_clients<J: Naming + Send + Sync, R: Threads + Print + Clock + Sync + Drop
 
 fn run_in<J: Naming + Send + Sync, R: Threads + Print + Clock + Sync + Drop>(
     teller: &Teller<R>,
-    opened: Opened,
+    opened: NewBook,
     size: BookSize,
 ) -> io::Result<()>
     requires named { (opened.seen.book ≡ J.book) × (opened.hand.tallies ≡ J.tallies) × (opened.hand.copy ≡ J.copy) × (opened.hand.kind ≡ J.kind) }
     requires kind { J.kind ≡ kind_of false plain_volume }
+    requires earlier { HasEarlierLog J.kind J.earlier }
 {
     let (book, mut crew) = opened.named::<J>(teller.alloc)?;
     let ran = run_clients(
@@ -74,11 +75,11 @@ fn run_in<J: Naming + Send + Sync, R: Threads + Print + Clock + Sync + Drop>(
 }
 
 /// Opens a book of a plain volume.
-fn open(alloc: Global) -> Result<Opened, AllocError>
+fn open(alloc: Global) -> Result<NewBook, AllocError>
     ensures { IfOk result (λ o. o.hand.kind ≡ kind_of false plain_volume) }
 {
     let volume = Volume::plain(alloc)?;
-    let opened = Opened::start(alloc, &volume, false);
+    let opened = NewBook::start(alloc, &volume, false);
     drop(volume);
     opened
 }
@@ -92,5 +93,6 @@ pub fn run_book<R: Threads + Print + Clock + Sync + Drop>(
         return Ok(());
     };
     let opened = open(teller.alloc)?;
+    read_back_after();
     run_in::<Brand, _>(teller, opened, size)
 }

@@ -3,7 +3,7 @@
 ghost use Rattle.std.specs.Prelude.{◌≡◌, length};
 
 use crate::exports::FilledExport;
-use crate::files::Kind;
+use crate::files::NameUse;
 use crate::telling::Teller;
 use crate::words::FilesSize;
 use rz_events::TreeCall;
@@ -68,7 +68,7 @@ fn run_lookups<R: Print + Clock + Drop>(
     export: &mut FilledExport,
     calls: u32,
 ) -> io::Result<()> {
-    let lookups = export.calls(Kind::Lookup, calls)?;
+    let lookups = export.calls(NameUse::Lookup, calls)?;
     let ran = time_lookups(teller, export, &lookups);
     drop(lookups);
     ran
@@ -89,7 +89,7 @@ fn run_rounds<R: Print + Clock + Drop>(
     export: &mut FilledExport,
     calls: u32,
 ) -> io::Result<()> {
-    let creates = export.calls(Kind::Create, calls)?;
+    let creates = export.calls(NameUse::Create, calls)?;
     let ran = run_with(teller, export, &creates, calls);
     drop(creates);
     ran
@@ -104,7 +104,7 @@ fn run_with<R: Print + Clock + Drop>(
 ) -> io::Result<()>
     requires { length creates.now ≡ calls }
 {
-    let unlinks = export.calls(Kind::Unlink, calls)?;
+    let unlinks = export.calls(NameUse::Unlink, calls)?;
     let ran = time_rounds(teller, export, creates, &unlinks);
     drop(unlinks);
     ran

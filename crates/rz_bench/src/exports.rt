@@ -3,7 +3,7 @@
 ghost use Rattle.std.specs.Prelude.{◌≡◌, ◌-◌, ◌≤◌, IfOk, OnOk, length, vec_len, vec_capacity};
 
 use crate::files::{
-    Files, Kind, call_of, create, is_first, made, mkdir, publish, published, stamp_of, volume,
+    Files, NameUse, call_of, create, is_first, made, mkdir, publish, published, stamp_of, volume,
 };
 use crate::tally::{Tally, spread};
 use crate::words::FilesSize;
@@ -254,7 +254,7 @@ impl FilledExport {
     }
 
     /// Calls on the names of files, or on those beside them.
-    pub fn calls(&self, kind: Kind, count: u32) -> Result<Vec<TreeCall>, AllocError>
+    pub fn calls(&self, kind: NameUse, count: u32) -> Result<Vec<TreeCall>, AllocError>
         ensures { IfOk result (λ v. vec_len v ≡ count) }
     {
         let mut calls = Vec::with_capacity(self.alloc, count as usize)?;
@@ -268,7 +268,12 @@ impl FilledExport {
     }
 
     /// Adds so many calls to none.
-    fn add_calls(&self, calls: &mut Vec<TreeCall>, kind: Kind, count: u32) -> Result<(), AllocError>
+    fn add_calls(
+        &self,
+        calls: &mut Vec<TreeCall>,
+        kind: NameUse,
+        count: u32,
+    ) -> Result<(), AllocError>
         requires none { vec_len calls.old ≡ 0 }
         requires room { count ≤ vec_capacity calls.old }
         ensures { OnOk result (vec_len calls.new ≡ count) }

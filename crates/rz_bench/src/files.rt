@@ -28,7 +28,7 @@ pub struct Files {
 
 /// What a name is given for.
 #[derive(Clone, Copy, Drop)]
-pub enum Kind {
+pub enum NameUse {
     /// To look up a file.
     Lookup,
     /// To make one more file beside a file.
@@ -88,15 +88,15 @@ pub fn create(alloc: Global, file: u32) -> Result<TreeCall, AllocError> {
 }
 
 /// A call on the name of a file, or on that of one more beside it.
-pub fn call_of(alloc: Global, kind: Kind, file: u32) -> Result<TreeCall, AllocError> {
+pub fn call_of(alloc: Global, kind: NameUse, file: u32) -> Result<TreeCall, AllocError> {
     match kind {
-        Kind::Lookup => Ok(TreeCall::Lookup {
+        NameUse::Lookup => Ok(TreeCall::Lookup {
             path: path_of(alloc, file)?,
         }),
-        Kind::Create => Ok(TreeCall::Create {
+        NameUse::Create => Ok(TreeCall::Create {
             path: path_beside(alloc, file)?,
         }),
-        Kind::Unlink => Ok(TreeCall::Unlink {
+        NameUse::Unlink => Ok(TreeCall::Unlink {
             path: path_beside(alloc, file)?,
         }),
     }

@@ -31,13 +31,13 @@ mod work;
 use std::io::ErrorKind;
 use std::process::ExitCode;
 use std::{env, io};
-use words::Plan;
+use words::BenchPlan;
 
 const USAGE: &str = "usage: rz_bench [node PAIRS OPS] [export FILES BLOCKS OPS] \
 [journal FILES BLOCKS WRITES] [book THREADS EVENTS] [times], of which one is to be run";
 
 /// What the words of the command line want to be run, where they are understood.
-fn plan(rt: &HostRuntime) -> io::Result<Option<Plan>> {
+fn plan(rt: &HostRuntime) -> io::Result<Option<BenchPlan>> {
     let words: Vec<String> = env::args(rt)?.collect(rt.alloc())?;
     let plan = words::plan_of(words.get(1..).unwrap_or(&[]));
     drop(words);

@@ -5,7 +5,7 @@ use crate::export_runs::run_export;
 use crate::journal_runs::run_journal;
 use crate::node_runs::run_node;
 use crate::telling::Teller;
-use crate::words::Plan;
+use crate::words::BenchPlan;
 use std::alloc::Global;
 use std::io;
 use std::rt::Clock;
@@ -15,7 +15,7 @@ use std::thread::Threads;
 pub fn run<R: Threads + Print + Clock + Sync + Drop>(
     rt: &R,
     alloc: Global,
-    plan: &Plan,
+    plan: &BenchPlan,
 ) -> io::Result<()> {
     let teller = Teller {
         rt,

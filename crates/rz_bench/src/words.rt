@@ -33,7 +33,7 @@ pub struct BookSize {
 
 /// What is to be run, and whether times are told.
 #[derive(Clone, Copy, Drop)]
-pub struct Plan {
+pub struct BenchPlan {
     pub node: Option<NodeSize>,
     pub export: Option<FilesSize>,
     pub journal: Option<FilesSize>,
@@ -128,7 +128,7 @@ fn times(words: &[String]) -> Option<bool> {
 }
 
 /// What the words after the program's name want to be run, where they are understood.
-pub fn plan_of(words: &[String]) -> Option<Plan> {
+pub fn plan_of(words: &[String]) -> Option<BenchPlan> {
     let (node, rest) = split(node_size(words), words);
     let (export, rest) = split(files_size("export", rest), rest);
     let (journal, rest) = split(files_size("journal", rest), rest);
@@ -137,7 +137,7 @@ pub fn plan_of(words: &[String]) -> Option<Plan> {
         return None;
     }
     let times = times(rest)?;
-    Some(Plan {
+    Some(BenchPlan {
         node,
         export,
         journal,

@@ -15,6 +15,7 @@ use Rattle.std.specs.FinMap.Entries.{find, is_sorted, below_all, same_entries}
 use Rattle.rz_events.specs.Keys.{key_cmp, keys_total, exact_keys}
 use Rattle.rz_events.specs.declared.keys.Key.{Key}
 use Rattle.rz_events.specs.declared.files.Published.{Published}
+use Rattle.rz_export_model.proofs.Tests.{both}
 use Rattle.rz_export_model.specs.Export.{Block, Blocks, begun, with_published, newer_of}
 use Rattle.rz_blocks.specs.declared.blocks.Entry.{Entry}
 use Rattle.rz_blocks.specs.Shown.{shown, shown_entries}
@@ -60,10 +61,6 @@ one-gone es fs k h = same_map keys_total exact_keys _ _ (λ q.
     get-shown fs q ∙ ap (option_map shown) (h q) ∙ map-cond (is_at (key_cmp k) q) None (kept_at es q)
     ∙ ap (λ b. cond b None (option_map shown (kept_at es q))) ((eq_by_cmp_equiv keys_total).symm k q)
     ∙ sym (get-remove keys_total (map_of es) k q ∙ ap (cond (eq_by_cmp key_cmp q k) None) (get-shown es q)))
-
-both : (a b : Bool) → T a → T b → T (a && b)
-both true b p q = q
-both false b p q = absurd p
 
 below-shown : (k : Key) (es : Kept) → AllByRecursion (λ y. key_cmp k y ≡ Less) (keys_of es) → T (below_all key_cmp k (shown_entries es))
 below-shown k [] h = tt

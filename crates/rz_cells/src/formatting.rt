@@ -7,7 +7,7 @@ ghost use Rattle.rz_cells_slots.specs.Stands.{IsShut, StandsFor};
 ghost use Rattle.rz_cells.specs.Open.{AreOpen};
 
 use crate::{Cells, FormatFault, Geometry};
-use rz_cells_slots::{Room, blank, empty};
+use rz_cells_slots::{CellsMemory, blank, empty};
 use rz_disk::Disk;
 use std::alloc::Global;
 
@@ -39,13 +39,13 @@ impl<D: Disk> Cells<D> {
         ensures unplanned { IfErr result (λ e. e.1 ≡ FormatFault.NoMemory → (D.meter e.0).planned ≡ (D.meter disk).planned) }
     {
         let mut disk = disk;
-        let Ok(room) = Room::new(alloc, &geometry) else {
+        let Ok(room) = CellsMemory::new(alloc, &geometry) else {
             return Err((disk, FormatFault::NoMemory));
         };
         if let Err(fault) = blank(&mut disk, alloc, &geometry, fence) {
             return Err((disk, fault));
         }
-        let Room {
+        let CellsMemory {
             gates,
             heads,
             buffer,

@@ -14,7 +14,7 @@ ghost use Rattle.rz_cells_slots.specs.Copied.{copy_calls};
 ghost use Rattle.rz_cells.specs.Open.{AreOpen};
 
 use crate::{Cells, Geometry, MigrateFault};
-use rz_cells_slots::{Room, carry};
+use rz_cells_slots::{CellsMemory, carry};
 use rz_disk::Disk;
 use rz_events::OpenFault;
 use std::alloc::Global;
@@ -89,7 +89,7 @@ impl<D: Disk> Cells<D> {
         let mut disk = new;
         match carry(alloc, &geometry, old, &mut disk) {
             Ok((fence, room)) => {
-                let Room {
+                let CellsMemory {
                     gates,
                     heads,
                     buffer,

@@ -10,7 +10,7 @@ ghost use Rattle.rz_cells_slots.specs.Opening.{NotSize, Refuses, opening_calls};
 ghost use Rattle.rz_cells.specs.Open.{AreOpen};
 
 use crate::{Cells, Geometry};
-use rz_cells_slots::{Room, read_disk};
+use rz_cells_slots::{CellsMemory, read_disk};
 use rz_disk::Disk;
 use rz_events::OpenFault;
 use std::alloc::Global;
@@ -53,7 +53,7 @@ impl<D: Disk> Cells<D> {
         let mut disk = disk;
         match read_disk(&mut disk, alloc, &geometry) {
             Ok((fence, room)) => {
-                let Room {
+                let CellsMemory {
                     gates,
                     heads,
                     buffer,
@@ -109,7 +109,7 @@ impl<D: Disk> Cells<D> {
         ensures wrong_size { IfErr result (λ e. (have need : ℕ) → e ≡ OpenFault.WrongSize have need → self.new ≡ self.old) }
     {
         let (fence, room) = read_disk(&mut self.disk, alloc, &self.geometry)?;
-        let Room {
+        let CellsMemory {
             gates,
             heads,
             buffer,

@@ -30,6 +30,6 @@ pub use geometry::Geometry;
 pub use heads::Heads;
 pub use migrating::{MigrateFault, carry};
 pub use opening::read_disk;
-pub use room::{Room, empty};
+pub use room::{CellsMemory, empty};
 pub use spelling::{read_bins, spell};
 pub use switching::switch;

@@ -16,7 +16,7 @@ use crate::Geometry;
 use crate::copying::{copy, pair_up};
 use crate::judging::Firsts;
 use crate::old::{OldCells, open_old};
-use crate::room::Room;
+use crate::room::CellsMemory;
 use rz_disk::Disk;
 use rz_events::OpenFault;
 use std::alloc::{AllocError, Global};
@@ -38,7 +38,7 @@ pub fn carry<D: Disk>(
     geometry: &Geometry,
     old: &mut D,
     new: &mut D,
-) -> Result<(u64, Room), MigrateFault>
+) -> Result<(u64, CellsMemory), MigrateFault>
     requires { IsGeometry geometry.now }
     ensures open { IfOk result (λ r. IsOpen D.tells (D.text new.new) (D.image new.new) geometry.now r.0 r.1.gates.items r.1.heads) }
     ensures gates { IfOk result (λ r. length r.1.gates.items ≡ 2 * geometry.now.cells) }
@@ -154,7 +154,7 @@ fn carry_into<D: Disk>(
 #[derive(Drop)]
 struct Reserved {
     /// Of the new disk.
-    room: Room,
+    room: CellsMemory,
     /// Of the old disk.
     cells: OldCells,
     firsts: Firsts,
@@ -177,7 +177,7 @@ fn reserve(alloc: Global, geometry: &Geometry) -> Result<Reserved, AllocError>
     ensures bins { IfOk result (λ r. 48 + 8 * length r.bins.items ≡ slot_of geometry.now) }
 {
     Ok(Reserved {
-        room: Room::new(alloc, geometry)?,
+        room: CellsMemory::new(alloc, geometry)?,
         cells: OldCells::new(alloc, geometry)?,
         firsts: HashMap::with_capacity(alloc, geometry.cells as usize)?,
         bins: Vec::from_elem(alloc, 0, geometry.layout.max_bins())?,

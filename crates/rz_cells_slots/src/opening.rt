@@ -12,7 +12,7 @@ use crate::geometry::{HEADER_BYTES, Version};
 use crate::heads::Heads;
 use crate::judging::Firsts;
 use crate::reading::{read_header, read_heads};
-use crate::room::Room;
+use crate::room::CellsMemory;
 use rz_disk::Disk;
 use rz_events::OpenFault;
 use std::alloc::Global;
@@ -23,7 +23,7 @@ pub fn read_disk<D: Disk>(
     disk: &mut D,
     alloc: Global,
     geometry: &Geometry,
-) -> Result<(u64, Room), OpenFault>
+) -> Result<(u64, CellsMemory), OpenFault>
     requires { IsGeometry geometry.now }
     ensures open { IfOk result (λ r. IsOpen D.tells (D.text disk.new) (D.image disk.new) geometry.now r.0 r.1.gates.items r.1.heads) }
     ensures gates { IfOk result (λ r. length r.1.gates.items ≡ 2 * geometry.now.cells) }
@@ -38,7 +38,7 @@ pub fn read_disk<D: Disk>(
     ensures fault { IsErrOf result OpenFault.DiskFault → Rises (faults (D.meter disk.old)) (faults (D.meter disk.new)) }
     ensures own_fault { IsErrOf result OpenFault.DiskFault → HasPasses (opening_calls geometry.now) (D.meter disk.old) → Rises (D.meter disk.old).own (D.meter disk.new).own }
 {
-    let Ok(room) = Room::new(alloc, geometry) else {
+    let Ok(room) = CellsMemory::new(alloc, geometry) else {
         return Err(OpenFault::NoMemory);
     };
     let Ok(firsts) = HashMap::with_capacity(alloc, 2 * geometry.cells as usize) else {

@@ -9,14 +9,14 @@ use std::alloc::{AllocError, Global};
 
 /// A gate and a head for each cell, and room for one record.
 #[derive(Drop)]
-pub struct Room {
+pub struct CellsMemory {
     pub gates: Vec<u8>,
     pub heads: Heads,
     pub buffer: Vec<u8>,
 }
 
-impl Room {
-    pub fn new(alloc: Global, geometry: &Geometry) -> Result<Room, AllocError>
+impl CellsMemory {
+    pub fn new(alloc: Global, geometry: &Geometry) -> Result<CellsMemory, AllocError>
         requires { IsGeometry geometry.now }
         ensures gates { IfOk result (λ r. length r.gates.items ≡ 2 * geometry.now.cells) }
         ensures shut { IfOk result (λ r. (c : ℕ) → slice_index r.gates.items c ≡ 0) }
@@ -25,7 +25,7 @@ impl Room {
         ensures buffer { IfOk result (λ r. length r.buffer.items ≡ slot_of geometry.now) }
     {
         let cells = 2 * geometry.cells as usize;
-        Ok(Room {
+        Ok(CellsMemory {
             gates: Vec::from_elem(alloc, 0, cells)?,
             heads: Heads::new(alloc, geometry.cells)?,
             buffer: Vec::from_elem(alloc, 0, geometry.slot_bytes() as usize)?,

@@ -11,7 +11,7 @@ use Rattle.rz_events.specs.declared.events.Event.{Event}
 use Rattle.rz_events.specs.Events.{word_of}
 use Rattle.rz_chronicle.specs.declared.told.Told.{Told}
 use Rattle.rz_chronicle.specs.Keys.{count_at, word_key, key_at, rows, IsInRow}
-use Rattle.rz_chronicle.specs.Tally.{mark}
+use Rattle.rz_chronicle.specs.Tokens.{mark}
 use Rattle.rz_chronicle.specs.Rules.{IsKept, IsMove, Adds, Looks, AreWords, named}
 use Rattle.rz_chronicle.proofs.Keys.{count-same, count-other, touches-own, touches-other}
 

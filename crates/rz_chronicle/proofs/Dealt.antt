@@ -6,11 +6,11 @@ use Rattle.rz_events.specs.declared.keys.Actor.{Actor}
 use Rattle.rz_events.specs.declared.keys.Actor.TheVariants.{Client, Rebuilder, Admin}
 use Rattle.rz_events.specs.declared.events.Word.TheVariants.{Node, Own}
 use Rattle.rz_chronicle.specs.Keys.{number, word_key, actor_key, rows}
-use Rattle.rz_chronicle.specs.Tally.{IsHolding, zeros}
+use Rattle.rz_chronicle.specs.Tokens.{IsHolding, zeros}
 use Rattle.rz_chronicle.specs.Rules.{PassView}
-use Rattle.rz_chronicle.specs.Deals.{new_pass, ArePasses}
+use Rattle.rz_chronicle.specs.Dealing.{new_pass, ArePasses}
 use Rattle.rz_chronicle.proofs.Adding.{below_or}
-use Rattle.rz_chronicle.proofs.Deals.{zeros-held}
+use Rattle.rz_chronicle.proofs.Dealing.{zeros-held}
 use Rattle.rz_chronicle.proofs.Rows.{rows-is}
 
 -- one pass more

@@ -5,10 +5,10 @@ use Rattle.rz_events.specs.declared.events.Event.{Event}
 use Rattle.rz_events.specs.Events.{word_of}
 use Rattle.rz_chronicle.specs.Keys.{count_at, word_key}
 use Rattle.rz_chronicle.specs.Kinds.{history}
-use Rattle.rz_chronicle.specs.Tally.{at, Agree, AllInRow, IsHolding, Ends, counts, without, count_in}
+use Rattle.rz_chronicle.specs.Tokens.{at, Agree, AllInRow, IsHolding, Ends, counts, without, count_in}
 use Rattle.rz_chronicle.specs.Holds.{keys, Commits}
 use Rattle.rz_chronicle.proofs.Keys.{count-same, touches-own}
-use Rattle.rz_chronicle.proofs.Hands.{committed}
+use Rattle.rz_chronicle.proofs.Tokens.{committed}
 
 same-number : (k : ℕ) → (k == k) ≡ true
 same-number k = grind (arith, nat_tests)

@@ -7,7 +7,7 @@ use Rattle.logbook.specs.Pages.{Book, Named, Nib}
 use Rattle.rz_chronicle.specs.Rules.{named}
 use Rattle.logbook.specs.declared.tokens.Pen.{Pen}
 use Rattle.rz_chronicle.specs.Keys.{key_at, rows}
-use Rattle.rz_chronicle.specs.Deals.{IsFresh, AreFresh}
+use Rattle.rz_chronicle.specs.Dealing.{IsFresh, AreFresh}
 use Rattle.rz_chronicle.proofs.Adding.{below_or}
 use Rattle.rz_chronicle.proofs.Apart.{keys-apart}
 

@@ -27,10 +27,10 @@ use Rattle.rz_events.specs.contracts.events.Event.{the_row}
 use Rattle.rz_events.specs.declared.events.Event.{Event}
 use Rattle.rz_chronicle.specs.declared.told.Told.{Told}
 use Rattle.rz_chronicle.specs.Keys.{rows, IsInRow}
-use Rattle.rz_chronicle.specs.Kinds.{history, HasPlace, IsFit}
-use Rattle.rz_chronicle.specs.Tally.{halves, parts, at, Agree, AreApart, counts, grown, kept, hand_owns, gained, AllInRow, IsHolding, IsOfKind, Covers, MayFollow, zeros, without, count_in}
+use Rattle.rz_chronicle.specs.Kinds.{HasPlace, Fits}
+use Rattle.rz_chronicle.specs.Tokens.{halves, parts, at, Agree, AreApart, counts, grown, kept, tokens_own, gained, AllInRow, IsHolding, IsOfKind, Covers, MayFollow, zeros, without, count_in}
 use Rattle.rz_chronicle.specs.Rules.{IsMove}
-use Rattle.rz_chronicle.proofs.Keys.{fit-first, outside, at-at, at-keys}
+use Rattle.rz_chronicle.proofs.Keys.{outside, at-at, at-keys}
 use Rattle.rz_chronicle.proofs.Histories.{placed-more}
 
 pub halves_keyless : (δ k n : ℕ) (f : ℕ → ℕ) → Keyless (halves δ k n f)
@@ -129,7 +129,7 @@ module _ {M : Type 1} {𝓤 : Ura M} (𝓛 : Logic 𝓤) (δ : ℕ) where
             move ! (2 ∷ 0 ∷ []) $ fjoin ! $ done !
       ]
 
-  -- what a hand holds is what the book counts
+  -- what a tokens holds is what the book counts
   agrees : (n : ℕ) (f : ℕ → ℕ) (held : List (ℕ × ℕ)) → AllByRecursion (λ (x : ℕ × ℕ). x.0 < n) held
       → ⟦ halves δ 0 n f ⟧ ∗ ⟦ parts δ held ⟧ ⊢ upd 𝓤 (⟦ halves δ 0 n f ⟧ ∗ ⟦ fsep (parts δ (at f held)) (fact (Agree f held)) ⟧)
   agrees n f [] low = let Z : Pr = ⟦ halves δ 0 n f ⟧ ∗ ⟦ fsep (parts δ []) (fact (Agree f [])) ⟧ in
@@ -145,7 +145,7 @@ module _ {M : Type 1} {𝓤 : Ura M} (𝓛 : Logic 𝓤) (δ : ℕ) where
       move ! (1 ∷ []) $ fsplit ! $ move ! (1 ∷ []) $ fpick ! (λ rest. drop ! $ move ! (2 ∷ []) $ fsplit ! $ move ! (1 ∷ []) $ fpick ! (λ here. drop ! $
       fjoin ! $ nothing ! $ fpack ! (Agree f (x ∷ held)) (λ _. ftrue) (here, rest) $ move ! (1 ∷ 0 ∷ []) $ fjoin ! $ move ! (1 ∷ 0 ∷ []) $ done !))
 
-  -- the tallies of a hand move, where the others stay
+  -- the tallies of a tokens move, where the others stay
   updates : (n : ℕ) (f g : ℕ → ℕ) (held : List (ℕ × ℕ)) → AllByRecursion (λ (x : ℕ × ℕ). x.0 < n) held → ((k : ℕ) → mathlib.Core.Logic.◌⊎◌ (IsHolding k held) (f k ≡ g k))
       → ⟦ halves δ 0 n f ⟧ ∗ ⟦ parts δ held ⟧ ⊢ upd 𝓤 (⟦ halves δ 0 n g ⟧ ∗ ⟦ parts δ (at g held) ⟧)
   updates n f g [] low out = let Z : Pr = ⟦ halves δ 0 n g ⟧ ∗ ⟦ parts δ [] ⟧ in
@@ -191,7 +191,7 @@ module _ {M : Type 1} {𝓤 : Ura M} (𝓛 : Logic 𝓤) (δ : ℕ) where
       settle 𝓛 Z (‵ (halves δ 0 n g) ⊛ ‵ three) $ split ! $ move ! (1 ∷ []) $ fsplit ! $ move ! (1 ∷ []) $
       fpick ! (λ same. absurd (let moved : g a ≡ f a + 1 = put-here f a (f a + 1) in omega (arith, same, moved)))
 
-  -- so no key of a hand is held twice
+  -- so no key of a tokens is held twice
   alone : (n : ℕ) (f : ℕ → ℕ) (held : List (ℕ × ℕ)) → AllByRecursion (λ (x : ℕ × ℕ). x.0 < n) held
       → ⟦ halves δ 0 n f ⟧ ∗ ⟦ parts δ held ⟧ ⊢ upd 𝓤 (⟦ halves δ 0 n f ⟧ ∗ ⟦ fsep (parts δ held) (fact (AreApart held)) ⟧)
   alone n f [] low = let Z : Pr = ⟦ halves δ 0 n f ⟧ ∗ ⟦ fsep (parts δ []) (fact (AreApart [])) ⟧ in
@@ -244,13 +244,13 @@ module _ {M : Type 1} {𝓤 : Ura M} (𝓛 : Logic 𝓤) (δ : ℕ) where
 
   trade : (η : ℕ) (kind : List ℕ) (held : List (ℕ × ℕ)) (log : List Event) (ask : Event) → AllInRow held → May kind held log ask → (xs ys : List Event) (won : Bool)
       → MatchBool won (IsInRow ask × (ys ≡ xs ++ ask ∷ [])) (ys ≡ xs)
-      → ⟦ kept (δ ∷ η ∷ kind) xs ⟧ ∗ ⟦ hand_owns δ η held log ⟧ ⊢ upd 𝓤 (⟦ kept (δ ∷ η ∷ kind) ys ⟧ ∗ ⟦ gained (δ ∷ η ∷ kind) held xs ys ⟧)
+      → ⟦ kept (δ ∷ η ∷ kind) xs ⟧ ∗ ⟦ tokens_own δ η held log ⟧ ⊢ upd 𝓤 (⟦ kept (δ ∷ η ∷ kind) ys ⟧ ∗ ⟦ gained (δ ∷ η ∷ kind) held xs ys ⟧)
   trade η kind held log ask low may xs ys won m =
       let c = the_row.coded.code in let Z : Pr = ⟦ kept (δ ∷ η ∷ kind) ys ⟧ ∗ ⟦ gained (δ ∷ η ∷ kind) held xs ys ⟧ in
       let mine : Fml = fsep (parts δ (at (counts xs) held)) (fact (Agree (counts xs) held)) in
       let single : Fml = fsep (parts δ held) (fact (AreApart held)) in
       let all : Type 0 = Agree (counts xs) held × IsOfKind kind ys × AreApart held in
-      qed 𝓛 (‵ (kept (δ ∷ η ∷ kind) xs) ∷ ‵ (hand_owns δ η held log) ∷ []) ∵
+      qed 𝓛 (‵ (kept (δ ∷ η ∷ kind) xs) ∷ ‵ (tokens_own δ η held log) ∷ []) ∵
       fsplit3 ! $ move ! (2 ∷ []) $ fpick ! (λ was. drop ! $ move ! (2 ∷ []) $ fsplit ! $
       -- parts, reached, halves, grown
       move ! (3 ∷ 1 ∷ []) $
@@ -283,14 +283,14 @@ module _ {M : Type 1} {𝓤 : Ura M} (𝓛 : Logic 𝓤) (δ : ℕ) where
       move ! (1 ∷ []) $ nothing ! $ fpack ! (IsOfKind kind ys) (λ _. ftrue) so.of_kind $ move ! (1 ∷ 0 ∷ []) $ fjoin ! $ move ! (2 ∷ 0 ∷ []) $ fjoin ! $ keep ! (0 ∷ 1 ∷ []) $ done !))))
 
   pub offers : (η : ℕ) (kind : List ℕ) (held : List (ℕ × ℕ)) (log : List Event) (ask : Event) → AllInRow held → May kind held log ask
-      → ⟦ hand_owns δ η held log ⟧ ⊢ ⟦ offer_owns (kept (δ ∷ η ∷ kind)) (IsMove ask) (λ answer. gained (δ ∷ η ∷ kind) held answer.before answer.log) None ⟧
+      → ⟦ tokens_own δ η held log ⟧ ⊢ ⟦ offer_owns (kept (δ ∷ η ∷ kind)) (IsMove ask) (λ answer. gained (δ ∷ η ∷ kind) held answer.before answer.log) None ⟧
   offers η kind held log ask low may =
       let names : List ℕ = δ ∷ η ∷ kind in
       let N : List Event × List Event × Told → Pr = λ z. wand 𝓤 ⟦ kept names z.0 ⟧ (upd 𝓤 (⟦ kept names z.1 ⟧ ∗ ⟦ gained names held z.2.before z.2.log ⟧)) in
       all_i 𝓤 (λ (z : List Event × List Event × Told). all 𝓤 (λ (_ : IsMove ask z.0 z.1 z.2). N z)) (λ z. all_i 𝓤 (λ (_ : IsMove ask z.0 z.1 z.2). N z) (λ m.
-      let P : List Event × List Event → Type 1 = λ w. ⟦ kept names z.0 ⟧ ∗ ⟦ hand_owns δ η held log ⟧ ⊢ upd 𝓤 (⟦ kept names z.1 ⟧ ∗ ⟦ gained names held w.0 w.1 ⟧) in
+      let P : List Event × List Event → Type 1 = λ w. ⟦ kept names z.0 ⟧ ∗ ⟦ tokens_own δ η held log ⟧ ⊢ upd 𝓤 (⟦ kept names z.1 ⟧ ∗ ⟦ gained names held w.0 w.1 ⟧) in
       let made : P (z.2.before, z.2.log) = subst P (λ i. (sym m.0 i, sym m.1 i)) (trade η kind held log ask low may z.0 z.1 z.2.won m.2) in
-      qed 𝓛 (‵ (hand_owns δ η held log) ∷ []) ∵ assume ! (‵ (kept names z.0)) $ by ! made))
+      qed 𝓛 (‵ (tokens_own δ η held log) ∷ []) ∵ assume ! (‵ (kept names z.0)) $ by ! made))
 
 grown_keyless : (η : ℕ) (log : List Event) → Keyless (grown η log)
 unfolding latest
@@ -305,23 +305,23 @@ pub parts_keyless : (δ : ℕ) (held : List (ℕ × ℕ)) → Keyless (parts δ 
 parts_keyless δ [] = tt
 parts_keyless δ (x ∷ held) = (entry_keyless halved δ x.0 _, parts_keyless δ held)
 
-pub hand_keyless : (δ η : ℕ) (held : List (ℕ × ℕ)) (log : List Event) → Keyless (hand_owns δ η held log)
+pub tokens_keyless : (δ η : ℕ) (held : List (ℕ × ℕ)) (log : List Event) → Keyless (tokens_own δ η held log)
 unfolding at_least
-hand_keyless δ η held log = (parts_keyless δ held, tt)
+tokens_keyless δ η held log = (parts_keyless δ held, tt)
 
 module _ {M : Type 1} {𝓤 : Ura M} (𝓛 : Logic 𝓤) where
-  -- what a hand is at the start
+  -- what a tokens is at the start
   abbrev pub Begun : List ℕ → ℕ × ℕ → SProp 𝓤
-  Begun kind n = sep 𝓤 (sem 𝓛 (kept (n.0 ∷ n.1 ∷ kind) [])) (sem 𝓛 (hand_owns n.0 n.1 (zeros 0 rows) []))
+  Begun kind n = sep 𝓤 (sem 𝓛 (kept (n.0 ∷ n.1 ∷ kind) [])) (sem 𝓛 (tokens_own n.0 n.1 (zeros 0 rows) []))
 
-  pub begins : (kind : List ℕ) → ent 𝓤 (emp 𝓤) (𝓛.H.⇛ (ex 𝓤 (Begun kind)))
-  begins kind = qed 𝓛 [] ∵ updating ! $
+  pub begins : (kind : List ℕ) → Fits kind [] → ent 𝓤 (emp 𝓤) (𝓛.H.⇛ (ex 𝓤 (Begun kind)))
+  begins kind fits = qed 𝓛 [] ∵ updating ! $
       use0 𝓛 (later (some (λ (δ : ℕ). ‵ (roster δ 0 [])))) (via 𝓤 _ (entries_new halved 𝓛 0 (λ _. (full_share, 0))) (basic 𝓛 _)) $ await ! tt $ pick ! (λ δ.
       use1 𝓛 (later (‵ (halves δ 0 rows (counts [])) ⊛ ‵ (parts δ (zeros 0 rows)))) (via 𝓤 _ (dealt 𝓛 δ rows 0) (basic 𝓛 _)) $ await ! tt $ split ! $
       use0 𝓛 (later (some (λ (η : ℕ). ‵ (grown η [])))) (via 𝓤 _ (latest_new logs 𝓛 []) (basic 𝓛 _)) $ await ! tt $ pick ! (λ η.
       use1 𝓛 (‵ (grown η []) ⊛ ‵ (reached the_row.coded.code η [])) (latest_shows logs 𝓛 full_share η [] [] (logs.same [])) $ split ! $ now ! $
       -- grown, reached, halves, parts
-      nothing ! $ fpack ! (IsOfKind kind []) (λ _. ftrue) (fit-first kind, tt) $ move ! (1 ∷ 0 ∷ []) $ fjoin ! $ move ! (2 ∷ 0 ∷ []) $ fjoin ! $
+      nothing ! $ fpack ! (IsOfKind kind []) (λ _. ftrue) (fits, tt) $ move ! (1 ∷ 0 ∷ []) $ fjoin ! $ move ! (2 ∷ 0 ∷ []) $ fjoin ! $
       -- kept, reached, parts
       move ! (2 ∷ 1 ∷ []) $ fjoin ! $ move ! (1 ∷ 0 ∷ []) $ show ! (Begun kind) (δ, η) $ done !))
 

@@ -1,23 +1,23 @@
--- What passes and posts know of the log that they have seen, and what calls do to it.
+-- What passes and word_tokens know of the log that they have seen, and what calls do to it.
 use Rattle.std.specs.Prelude.{ℕ, ◌≡◌, List, [], ◌∷◌, map, Option, Some, None}
 use Rattle.rz_events.specs.declared.keys.Actor.{Actor}
 use Rattle.rz_events.specs.declared.events.Word.{Word}
 use Rattle.rz_events.specs.declared.events.Word.TheVariants.{Export, Node, Own}
 use Rattle.rz_events.specs.declared.events.Event.{Event}
-use Rattle.rz_chronicle.specs.declared.hand.Hand.{Hand}
-use Rattle.rz_chronicle.specs.Keys.{word_key, actor_key, events_at, IsOneOf, IsLater}
-use Rattle.rz_chronicle.specs.Rules.{PostView}
-use Rattle.rz_chronicle.specs.Tally.{IsHolding, AllInRow, at, counts}
+use Rattle.rz_chronicle.specs.declared.tokens.Tokens.{Tokens}
+use Rattle.rz_chronicle.specs.Keys.{word_key, actor_key, events_at, IsMember, IsOneOf, IsLater}
+use Rattle.rz_chronicle.specs.Rules.{WordTokenView}
+use Rattle.rz_chronicle.specs.Tokens.{IsHolding, AllInRow, at, counts}
 
 abbrev pub keys : List (ℕ × ℕ) → List ℕ
 keys held = map (λ x. x.0) held
 
-abbrev pub keys_in : Option Hand → List ℕ
+abbrev pub keys_in : Option Tokens → List ℕ
 keys_in None = []
 keys_in (Some h) = keys h.held
 
--- the hand belongs to the book with these names, and is up to date with the log
-pub record IsHand (tallies copy : ℕ) (kind : List ℕ) (log : List Event) (h : Hand) : Type 0 where
+-- the tokens belongs to the book with these names, and is up to date with the log
+pub record AreTokens (tallies copy : ℕ) (kind : List ℕ) (log : List Event) (h : Tokens) : Type 0 where
   pub tallies_is : h.tallies ≡ tallies
   pub copy_is : h.copy ≡ copy
   pub kind_is : h.kind ≡ kind
@@ -25,7 +25,7 @@ pub record IsHand (tallies copy : ℕ) (kind : List ℕ) (log : List Event) (h :
   pub right : h.held ≡ at (counts log) h.held
   pub low : AllInRow h.held
 
--- the hand has the tallies of the actor and of its own word
+-- the tokens has the tallies of the actor and of its own word
 pub record IsOwn (a : Actor) (held : List (ℕ × ℕ)) : Type 0 where
   pub own : IsHolding (word_key (Own a)) held
   pub by : IsHolding (actor_key a) held
@@ -41,17 +41,21 @@ pub record Commits (ks : List ℕ) (old : List Event) (x : Event) (new : List Ev
   pub stays : Stays ks old before
   pub last : new ≡ x ∷ before
 
--- a later history, in which the events of the word of a post are those that it had when the post was given back
-abbrev pub IsSettled : PostView → List Event → Type 0
+-- a later history, in which the events of the word of a word_token are those that it had when the word_token was given back
+abbrev pub IsSettled : WordTokenView → List Event → Type 0
 IsSettled p h = IsLater p.log h × Stays (word_key p.word ∷ []) p.log h
 
--- the counts of the hand are those of the log that it has, and their keys are in the row
-pub record IsRight (h : Hand) : Type 0 where
+-- the counts of the tokens are those of the log that it has, and their keys are in the row
+pub record IsRight (h : Tokens) : Type 0 where
   pub right : h.held ≡ at (counts h.log) h.held
   pub low : AllInRow h.held
 
+-- these are the keys of all actors
+abbrev pub HasAllActors : List ℕ → Type 0
+HasAllActors ks = (a : Actor) → IsMember a → IsOneOf (actor_key a) ks
+
 -- both hands belong to one book
-pub record AreOfOne (a b : Hand) : Type 0 where
+pub record AreOfOne (a b : Tokens) : Type 0 where
   pub tallies : a.tallies ≡ b.tallies
   pub copy : a.copy ≡ b.copy
   pub kind : a.kind ≡ b.kind

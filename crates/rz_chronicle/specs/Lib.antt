@@ -1,6 +1,7 @@
 pub mod Keys
 pub mod Kinds
-pub mod Tally
+pub mod Tokens
 pub mod Rules
 pub mod Holds
-pub mod Deals
+pub mod Dealing
+pub mod Laws

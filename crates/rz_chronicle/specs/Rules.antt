@@ -43,6 +43,6 @@ pub record PassView : Type 0 where
   pub keys : List ℕ
 
 -- what contracts see of the tally of a word under its lock
-pub record PostView : Type 0 where
+pub record WordTokenView : Type 0 where
   pub word : Word
   pub log : List Event

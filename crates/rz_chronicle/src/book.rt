@@ -4,18 +4,18 @@ ghost use Rattle.std.specs.List.{AllByRecursion, IsDistinct};
 ghost use Rattle.rz_events.specs.declared.events.Word.{Word as AWord};
 ghost use Rattle.rz_events.specs.declared.events.Word.TheVariants as w;
 ghost use Rattle.rz_events.specs.Events.{word_of as word_at, by_of};
-ghost use Rattle.rz_chronicle.specs.Keys.{count_at, word_key, rows, owner, key_at, moves_of, sids_of, IsLater, StandApart};
-ghost use Rattle.rz_chronicle.specs.Kinds.{IsFit, MayCome, history, volume_in};
+ghost use Rattle.rz_chronicle.specs.Keys.{count_at, word_key, actor_key, rows, owner, key_at, moves_of, sids_of, IsLater, IsMember, IsOneOf, StandApart};
+ghost use Rattle.rz_chronicle.specs.Kinds.{IsFit, MayCome, MayComeAfter, history, volume_in};
 ghost use Rattle.rz_chronicle.specs.Rules.{named, AreWords};
-ghost use Rattle.rz_chronicle.specs.Holds.{Commits, Stays, IsHand, IsSettled, keys};
+ghost use Rattle.rz_chronicle.specs.Holds.{Commits, Stays, AreTokens, IsSettled, keys};
 
-use crate::hand::{Asks, Hand, Itself, Law};
-use crate::passes::{Desk, Naming, Pass, Post};
+use crate::passes::{Desk, Naming, Pass, WordToken};
 use crate::places::{key_of, owner_at, place_of};
 use crate::steps::{append, append_both, view, view_both};
+use crate::tokens::{Asks, Itself, Law, Tokens};
 use crate::told::Told;
 use logbook::{Seen, Word};
-use rz_events::Event;
+use rz_events::{Actor, Event};
 use std::marker::{Model, PhantomData};
 
 /// The words that all threads share.
@@ -71,61 +71,68 @@ impl<J: Naming> Book<J> {
         requires word { word_at event.now ≡ w.Own pass.old.actor }
         requires actor { by_of event.now ≡ pass.old.actor }
         requires legal { MayCome J.kind pass.old.log event.now }
+        requires after { MayComeAfter J.kind pass.old.log event.now }
         requires room { count_at (word_key (w.Own pass.old.actor)) pass.old.log + 1 < 2 ^ 64 }
         ensures same { (pass.new.actor ≡ pass.old.actor) × (pass.new.keys ≡ pass.old.keys) }
         ensures commits { Commits pass.old.keys pass.old.log event.now pass.new.log }
         ensures fit { IsFit J.kind pass.new.log }
     {
-        if let Some(hand) = pass.hand.take() {
+        if let Some(tokens) = pass.tokens.take() {
             let word = self.row(place_of(pass.actor));
-            let hand = append::<Event, Itself>(word, &mut pass.seen, hand, pass.moved, event);
-            pass.hand = Some(hand);
+            let tokens = append::<Event, Itself>(word, &mut pass.seen, tokens, pass.moved, event);
+            pass.tokens = Some(tokens);
             pass.moved += 1;
         }
     }
 
-    /// Lets a pass and the post of a word see one log, which has what both have seen. The caller is under
+    /// Lets a pass and the word_token of a word see one log, which has what both have seen. The caller is under
     /// the word's lock.
-    pub fn enter(&self, pass: &mut Pass<J>, post: &mut Post<J>)
-        ensures same { (pass.new.actor ≡ pass.old.actor) × (pass.new.keys ≡ pass.old.keys) × (post.new.word ≡ post.old.word) }
-        ensures one { post.new.log ≡ pass.new.log }
-        ensures later { IsLater pass.old.log pass.new.log × IsLater post.old.log pass.new.log }
+    pub fn enter(&self, pass: &mut Pass<J>, word_token: &mut WordToken<J>)
+        ensures same { (pass.new.actor ≡ pass.old.actor) × (pass.new.keys ≡ pass.old.keys) × (word_token.new.word ≡ word_token.old.word) }
+        ensures one { word_token.new.log ≡ pass.new.log }
+        ensures later { IsLater pass.old.log pass.new.log × IsLater word_token.old.log pass.new.log }
         ensures stays { Stays pass.old.keys pass.old.log pass.new.log }
-        ensures serves { Stays (word_key post.old.word ∷ []) post.old.log pass.new.log }
+        ensures serves { Stays (word_key word_token.old.word ∷ []) word_token.old.log pass.new.log }
         ensures fit { IsFit J.kind pass.new.log }
     {
-        if let Some(mine) = pass.hand.take() {
-            if let Some(its) = post.hand.take() {
-                pass.seen.learn(&post.seen);
-                let word = self.row(post.place);
-                let key = key_of(&post.word);
-                let (its, mine) = view_both(word, &mut pass.seen, its, mine, key, post.moved);
-                post.seen = pass.seen.again();
-                post.hand = Some(its);
-                pass.hand = Some(mine);
+        if let Some(mine) = pass.tokens.take() {
+            if let Some(its) = word_token.tokens.take() {
+                pass.seen.learn(&word_token.seen);
+                let word = self.row(word_token.place);
+                let key = key_of(&word_token.word);
+                let (its, mine) = view_both(word, &mut pass.seen, its, mine, key, word_token.moved);
+                word_token.seen = pass.seen.again();
+                word_token.tokens = Some(its);
+                pass.tokens = Some(mine);
             }
         }
     }
 
-    /// Adds the event of a value, of the word whose post the caller holds too, under the word's lock. The
+    /// Adds the event of a value, of the word whose word_token the caller holds too, under the word's lock. The
     /// two have entered.
     #[tactic(auto, using(crate::proofs::Histories::count_history))]
-    pub fn commit<X, N: Asks<X>>(&self, pass: &mut Pass<J>, post: &mut Post<J>, about: &X)
-        requires one { post.old.log ≡ pass.old.log }
-        requires word { word_at (N.event about.now) ≡ post.old.word }
+    pub fn commit<X, N: Asks<X>>(
+        &self,
+        pass: &mut Pass<J>,
+        word_token: &mut WordToken<J>,
+        about: &X,
+    )
+        requires one { word_token.old.log ≡ pass.old.log }
+        requires word { word_at (N.event about.now) ≡ word_token.old.word }
         requires actor { by_of (N.event about.now) ≡ pass.old.actor }
         requires legal { MayCome J.kind pass.old.log (N.event about.now) }
-        requires room { count_at (word_key post.old.word) post.old.log + 1 < 2 ^ 64 }
-        ensures same { (pass.new.actor ≡ pass.old.actor) × (pass.new.keys ≡ pass.old.keys) × (post.new.word ≡ post.old.word) }
-        ensures one { post.new.log ≡ pass.new.log }
-        ensures commits { Commits (word_key post.old.word ∷ pass.old.keys) pass.old.log (N.event about.now) pass.new.log }
+        requires after { MayComeAfter J.kind pass.old.log (N.event about.now) }
+        requires room { count_at (word_key word_token.old.word) word_token.old.log + 1 < 2 ^ 64 }
+        ensures same { (pass.new.actor ≡ pass.old.actor) × (pass.new.keys ≡ pass.old.keys) × (word_token.new.word ≡ word_token.old.word) }
+        ensures one { word_token.new.log ≡ pass.new.log }
+        ensures commits { Commits (word_key word_token.old.word ∷ pass.old.keys) pass.old.log (N.event about.now) pass.new.log }
         ensures fit { IsFit J.kind pass.new.log }
     {
-        if let Some(mine) = pass.hand.take() {
-            if let Some(its) = post.hand.take() {
-                let word = self.row(post.place);
-                let key = key_of(&post.word);
-                let moved = post.moved;
+        if let Some(mine) = pass.tokens.take() {
+            if let Some(its) = word_token.tokens.take() {
+                let word = self.row(word_token.place);
+                let key = key_of(&word_token.word);
+                let moved = word_token.moved;
                 let (its, mine) = append_both::<X, N>(
                     word,
                     &mut pass.seen,
@@ -135,10 +142,10 @@ impl<J: Naming> Book<J> {
                     moved,
                     about,
                 );
-                post.seen = pass.seen.again();
-                post.hand = Some(its);
-                post.moved += 1;
-                pass.hand = Some(mine);
+                word_token.seen = pass.seen.again();
+                word_token.tokens = Some(its);
+                word_token.moved += 1;
+                pass.tokens = Some(mine);
             }
         }
     }
@@ -150,18 +157,18 @@ impl<J: Naming> Book<J> {
         ensures stays { Stays pass.old.keys pass.old.log pass.new.log }
         ensures fit { IsFit J.kind pass.new.log }
     {
-        if let Some(hand) = pass.hand.take() {
+        if let Some(tokens) = pass.tokens.take() {
             pass.seen.learn(&other.seen);
             let word = self.row(place_of(pass.actor));
-            let (hand, _) = view(word, &mut pass.seen, hand);
-            pass.hand = Some(hand);
+            let (tokens, _) = view(word, &mut pass.seen, tokens);
+            pass.tokens = Some(tokens);
         }
     }
 
     // Lets `front` see a log and gives it the tallies that were kept with it. No tally was held by two.
-    fn absorb(&self, front: &mut Pass<J>, theirs: Hand, seen: &Seen<Event, Told, Law>)
+    fn absorb(&self, front: &mut Pass<J>, theirs: Tokens, seen: &Seen<Event, Told, Law>)
         requires book { seen.now.book ≡ J.book }
-        requires theirs { IsHand J.tallies J.copy J.kind seen.now.log theirs }
+        requires theirs { AreTokens J.tallies J.copy J.kind seen.now.log theirs }
         ensures same { (front.new.actor ≡ front.old.actor) × (front.new.keys ≡ front.old.keys ++ keys theirs.held) }
         ensures later { IsLater front.old.log front.new.log × IsLater (history seen.now.log) front.new.log }
         ensures stays { Stays front.old.keys front.old.log front.new.log }
@@ -169,11 +176,11 @@ impl<J: Naming> Book<J> {
         ensures apart { IsDistinct nat_eq front.new.keys }
         ensures fit { IsFit J.kind front.new.log }
     {
-        if let Some(mine) = front.hand.take() {
+        if let Some(mine) = front.tokens.take() {
             front.seen.learn(seen);
             let word = self.row(place_of(front.actor));
-            let (hand, _) = view(word, &mut front.seen, mine.join(theirs));
-            front.hand = Some(hand);
+            let (tokens, _) = view(word, &mut front.seen, mine.join(theirs));
+            front.tokens = Some(tokens);
         }
     }
 
@@ -189,33 +196,33 @@ impl<J: Naming> Book<J> {
         let Pass {
             actor: _,
             moved: _,
-            hand,
+            tokens,
             seen,
             of: _,
         } = other;
-        if let Some(theirs) = hand {
+        if let Some(theirs) = tokens {
             self.absorb(front, theirs, &seen);
         }
     }
 
     // Lets `front` see what a word's events are, and hands it the word's tally.
-    fn settle_one(&self, front: &mut Pass<J>, post: Post<J>)
-        ensures same { (front.new.actor ≡ front.old.actor) × (front.new.keys ≡ front.old.keys ++ word_key post.word ∷ []) }
+    fn settle_one(&self, front: &mut Pass<J>, word_token: WordToken<J>)
+        ensures same { (front.new.actor ≡ front.old.actor) × (front.new.keys ≡ front.old.keys ++ word_key word_token.word ∷ []) }
         ensures later { IsLater front.old.log front.new.log }
         ensures stays { Stays front.old.keys front.old.log front.new.log }
-        ensures settles { IsSettled post front.new.log }
+        ensures settles { IsSettled word_token front.new.log }
         ensures apart { IsDistinct nat_eq front.new.keys }
         ensures fit { IsFit J.kind front.new.log }
     {
-        let Post {
+        let WordToken {
             word: _,
             place: _,
             moved: _,
-            hand,
+            tokens,
             seen,
             of: _,
-        } = post;
-        if let Some(theirs) = hand {
+        } = word_token;
+        if let Some(theirs) = tokens {
             self.absorb(front, theirs, &seen);
         }
     }
@@ -231,8 +238,8 @@ impl<J: Naming> Book<J> {
     {
         let Desk { export, nodes } = desk;
         self.settle_one(front, export);
-        'nodes: for post in nodes {
-            self.settle_one(front, post);
+        'nodes: for word_token in nodes {
+            self.settle_one(front, word_token);
         }
     }
 
@@ -247,15 +254,30 @@ impl<J: Naming> Book<J> {
         ensures count { result ≡ moves_of (owner (sids_of (volume_in J.kind)) place) pass.new.log }
         ensures fit { IsFit J.kind pass.new.log }
     {
-        match pass.hand.take() {
-            Some(hand) => {
+        match pass.tokens.take() {
+            Some(tokens) => {
                 let word = self.row(place);
-                let (hand, found) = view(word, &mut pass.seen, hand);
-                pass.hand = Some(hand);
+                let (tokens, found) = view(word, &mut pass.seen, tokens);
+                pass.tokens = Some(tokens);
                 found
             }
             None => 0,
         }
+    }
+
+    /// Lets a pass act as another of the actors whose tallies it holds.
+    #[tactic(auto, using(crate::proofs::Histories::count_history))]
+    pub fn turn_to(&self, pass: &mut Pass<J>, actor: Actor)
+        requires member { IsMember actor }
+        requires held { IsOneOf (word_key (w.Own actor)) pass.old.keys × IsOneOf (actor_key actor) pass.old.keys }
+        ensures same { (pass.new.actor ≡ actor) × (pass.new.keys ≡ pass.old.keys) }
+        ensures later { IsLater pass.old.log pass.new.log }
+        ensures stays { Stays pass.old.keys pass.old.log pass.new.log }
+        ensures fit { IsFit J.kind pass.new.log }
+    {
+        let moved = self.load(pass, place_of(actor));
+        pass.actor = actor;
+        pass.moved = moved;
     }
 
     /// No word stands at two places of the book, which is of its kind's volume.

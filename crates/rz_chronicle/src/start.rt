@@ -1,5 +1,5 @@
 //! How a book is made, and what it deals out.
-ghost use Rattle.std.specs.Prelude.{◌≡◌, ◌+◌, ◌≤◌, ◌++◌, [], ◌∷◌, map, length, nat_eq, OnOk, IfOk};
+ghost use Rattle.std.specs.Prelude.{◌≡◌, ◌+◌, ◌≤◌, ◌++◌, [], ◌∷◌, map, length, nat_eq, IsTrue, OnOk, IfOk};
 ghost use Rattle.std.specs.List.{IsDistinct};
 ghost use Rattle.std.proofs.lemmas.Map.Keys.{IsDistinct-prop};
 ghost use Rattle.logbook.specs.Pages.{Book as ABook};
@@ -8,23 +8,24 @@ ghost use Rattle.rz_events.specs.declared.keys.Actor.TheVariants as a;
 ghost use Rattle.rz_events.specs.declared.events.Word.TheVariants as w;
 ghost use Rattle.rz_events.specs.Volume.{nodes_of};
 ghost use Rattle.rz_chronicle.specs.Keys.{rows, sids_of};
-ghost use Rattle.rz_chronicle.specs.Kinds.{kind_of, volume_in};
-ghost use Rattle.rz_chronicle.specs.Tally.{zeros};
+ghost use Rattle.rz_core.specs.Legal.{IsLegalInRuns};
+ghost use Rattle.rz_chronicle.specs.Kinds.{goes_on, kind_of, kind_after, volume_in, HasEarlierLog};
+ghost use Rattle.rz_chronicle.specs.Tokens.{zeros};
 ghost use Rattle.rz_chronicle.specs.Rules.{AreWords};
-ghost use Rattle.rz_chronicle.specs.Deals.{new_pass, new_post, ArePasses, AreFresh};
+ghost use Rattle.rz_chronicle.specs.Dealing.{new_pass, new_word_token, ArePasses, AreFresh};
 
 use crate::book::Book;
-use crate::deal::{Deal, clients, posts, rebuilders};
-use crate::hand::{Hand, Law, begin};
-use crate::kinds::{Kind, read_back};
+use crate::dealer::{Dealer, clients, rebuilders, word_tokens};
+use crate::kinds::{Beginning, BookKind, read_back_after};
 use crate::passes::{Desk, Naming, Pass};
 use crate::places::{WORDS, key_at};
+use crate::tokens::{Law, Tokens, begin};
 use crate::told::Told;
 use logbook::{Opening, Pen, Pens, Seen, Word};
 use rz_config::{ClusterSpec, NodeSpec, Volume};
 use rz_events::{Actor, Event};
 use std::alloc::{AllocError, Global};
-use std::marker::PhantomData;
+use std::marker::{Brand, PhantomData};
 
 /// The empty log.
 pub struct Empty;
@@ -106,24 +107,24 @@ fn words(
 
 /// A new book with an empty log, which has no name yet.
 #[derive(Drop)]
-pub struct Opened {
+pub struct NewBook {
     words: Vec<Word<Event, Told, Law>>,
     nodes: Vec<u16>,
     pub seen: Seen<Event, Told, Law>,
-    pub hand: Hand,
+    pub tokens: Tokens,
     ghost long: { length words.items ≡ 338 },
     ghost are: { AreWords seen.book nodes.items words.items },
     ghost few: { length nodes.items ≤ 256 },
     ghost distinct: { IsDistinct nat_eq nodes.items } by { IsDistinct-prop nat_eq nodes.items },
-    ghost numbers: { nodes.items ≡ sids_of (volume_in hand.kind) },
-    ghost names: { seen.names ≡ hand.tallies ∷ hand.copy ∷ hand.kind },
+    ghost numbers: { nodes.items ≡ sids_of (volume_in tokens.kind) },
+    ghost names: { seen.names ≡ tokens.tallies ∷ tokens.copy ∷ tokens.kind },
     ghost empty: { seen.log ≡ [] },
-    ghost all: { hand.held ≡ zeros 0 rows },
-    ghost none: { hand.log ≡ [] },
+    ghost all: { tokens.held ≡ zeros 0 rows },
+    ghost none: { tokens.log ≡ [] },
 }
 
 /// What a new book deals out: a pass for the administrator, for each of 64 clients and of 16
-/// rebuilders, and the posts of the other words.
+/// rebuilders, and the word_tokens of the other words.
 #[derive(Drop)]
 pub struct Crew<J: Naming> {
     pub admin: Pass<J>,
@@ -132,59 +133,74 @@ pub struct Crew<J: Naming> {
     pub desk: Desk<J>,
 }
 
-impl Opened {
-    /// A new book of this volume, honest or not. It takes all the memory that the book will ever need
-    /// but that of its crew's lists.
-    pub fn start(alloc: Global, volume: &Volume, honest: bool) -> Result<Opened, AllocError>
-        ensures { IfOk result (λ o. o.hand.kind ≡ kind_of honest volume.now) }
+impl NewBook {
+    /// A new book of this volume, honest or not, whose log begins anew. It takes all the memory that the
+    /// book will ever need but that of its crew's lists.
+    pub fn start(alloc: Global, volume: &Volume, honest: bool) -> Result<NewBook, AllocError>
+        ensures { IfOk result (λ o. o.tokens.kind ≡ kind_of honest volume.now) }
+    {
+        NewBook::after::<Brand>(alloc, volume, honest)
+    }
+
+    /// A new book of this volume, honest or not, whose log goes on after an earlier one. The earlier log
+    /// takes no memory.
+    pub fn after<B: Beginning>(
+        alloc: Global,
+        volume: &Volume,
+        honest: bool,
+    ) -> Result<NewBook, AllocError>
+        requires { IsTrue honest → IsLegalInRuns volume.now B.earlier }
+        ensures { IfOk result (λ o. o.tokens.kind ≡ kind_after honest volume.now B.earlier) }
     {
         let nodes = numbers(alloc, volume.clusters.as_slice())?;
         let _few = volume.node_count();
-        let kind = Kind::of(volume.copy(alloc)?, honest);
-        read_back();
-        let (start, hand) = begin(&kind);
+        let kind = BookKind::of(volume.copy(alloc)?, honest);
+        read_back_after();
+        let (start, tokens) = begin::<B>(&kind);
         drop(kind);
         let count = key_count();
         let (seen, pens) = Seen::open_row::<Empty, Empty>(&Empty, start, count);
         let pens = all_pens(alloc, pens, count)?;
         let words = words(alloc, pens, nodes.as_slice())?;
-        Ok(Opened {
+        Ok(NewBook {
             words,
             nodes,
             seen,
-            hand,
+            tokens,
         })
     }
 
     /// The book under a name, and its crew.
     pub fn named<J: Naming>(self, alloc: Global) -> Result<(Book<J>, Crew<J>), AllocError>
-        requires { (self.seen.book ≡ J.book) × (self.hand.tallies ≡ J.tallies) × (self.hand.copy ≡ J.copy) × (self.hand.kind ≡ J.kind) }
+        requires names { (self.seen.book ≡ J.book) × (self.tokens.tallies ≡ J.tallies) × (self.tokens.copy ≡ J.copy) × (self.tokens.kind ≡ J.kind) }
+        requires earlier { HasEarlierLog J.kind J.earlier }
+        requires legal { IsTrue (goes_on J.kind) → IsLegalInRuns (volume_in J.kind) J.earlier }
         ensures book { IfOk result (λ r. r.0 ≡ volume_in J.kind) }
         ensures admin { IfOk result (λ r. r.1.admin ≡ new_pass a.Admin) }
         ensures clients { IfOk result (λ r. ArePasses 64 (λ i. a.Client (i + 1)) r.1.clients.items) }
         ensures rebuilders { IfOk result (λ r. ArePasses 16 (λ i. a.Rebuilder (i + 1)) r.1.rebuilders.items) }
-        ensures export { IfOk result (λ r. r.1.desk.export ≡ new_post w.Export) }
-        ensures nodes { IfOk result (λ r. r.1.desk.nodes.items ≡ map (λ n. new_post (w.Node n)) (sids_of (volume_in J.kind))) }
+        ensures export { IfOk result (λ r. r.1.desk.export ≡ new_word_token w.Export) }
+        ensures nodes { IfOk result (λ r. r.1.desk.nodes.items ≡ map (λ n. new_word_token (w.Node n)) (sids_of (volume_in J.kind))) }
     {
-        let Opened {
+        let NewBook {
             words,
             nodes,
             seen,
-            hand,
+            tokens,
         } = self;
-        let deal = Deal {
-            hand,
+        let dealer = Dealer {
+            tokens,
             seen,
             of: PhantomData,
         };
-        let (export, deal) = deal.post(rz_events::Word::Export, 0);
-        let (posts, deal) = posts(alloc, deal, nodes.as_slice())?;
-        let (admin, deal) = deal.pass(Actor::Admin);
-        let (clients, deal) = clients(alloc, deal)?;
-        let (rebuilders, _) = rebuilders(alloc, deal)?;
+        let (export, dealer) = dealer.word_token(rz_events::Word::Export, 0);
+        let (word_tokens, dealer) = word_tokens(alloc, dealer, nodes.as_slice())?;
+        let (admin, dealer) = dealer.pass(Actor::Admin);
+        let (clients, dealer) = clients(alloc, dealer)?;
+        let (rebuilders, _) = rebuilders(alloc, dealer)?;
         let desk = Desk {
             export,
-            nodes: posts,
+            nodes: word_tokens,
         };
         let crew = Crew {
             admin,

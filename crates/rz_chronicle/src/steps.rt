@@ -4,11 +4,12 @@ ghost use Rattle.rz_events.specs.declared.events.Word.{Word as AWord};
 ghost use mathlib.Core.List.{IsPrefix};
 ghost use Rattle.rz_events.specs.Events.{word_of as word_at, by_of};
 ghost use Rattle.rz_chronicle.specs.Keys.{count_at, word_key, actor_key, IsInRow, rows};
-ghost use Rattle.rz_chronicle.specs.Kinds.{HasPlace, HavePlaces, IsFit, MayCome, history};
-ghost use Rattle.rz_chronicle.specs.Tally.{AllInRow, AreApart, Covers, HasCount, IsHolding, Ends, Agree, at, counts};
+ghost use Rattle.rz_chronicle.specs.Kinds.{HasPlace, HavePlaces, Fits, MayFit, history};
+ghost use Rattle.rz_chronicle.specs.Tokens.{AllInRow, AreApart, Covers, HasCount, IsHolding, Ends, Agree, at, counts};
 ghost use Rattle.rz_chronicle.specs.Holds.{AreOfOne, IsRight, Commits, keys};
 
-use crate::hand::{Asks, Hand, Law, Mine};
+use crate::laws::local_after;
+use crate::tokens::{Asks, Law, Mine, Tokens};
 use crate::told::Told;
 use logbook::{Play, Seen, Word};
 use rz_events::Event;
@@ -31,62 +32,63 @@ impl Play<Event, Told> for Look {
     ghost then = { Looks };
 }
 
-/// Adds the event of a value. The hand has the tally of the word, so that nobody else moves it, and the
+/// Adds the event of a value. The tokens has the tally of the word, so that nobody else moves it, and the
 /// exchange is won.
 pub fn append<X, N: Asks<X>>(
     word: &Word<Event, Told, Law>,
     seen: &mut Seen<Event, Told, Law>,
-    hand: Hand,
+    tokens: Tokens,
     moved: u64,
     about: &X,
-) -> Hand
+) -> Tokens
     requires word { (word.now.tracked ≡ true) × (word.now.key ≡ word_key (word_at (N.event about.now))) × IsInRow (N.event about.now) }
     requires book { seen.old.book ≡ word.now.book }
-    requires names { seen.old.names ≡ hand.tallies ∷ hand.copy ∷ hand.kind }
-    requires held { IsRight hand × Covers hand.held (N.event about.now) }
-    requires legal { MayCome hand.kind (history hand.log) (N.event about.now) }
-    requires place { HasPlace hand.kind (N.event about.now) }
-    requires count { HasCount hand.held (word_key (word_at (N.event about.now))) moved }
+    requires names { seen.old.names ≡ tokens.tallies ∷ tokens.copy ∷ tokens.kind }
+    requires held { IsRight tokens × Covers tokens.held (N.event about.now) }
+    requires legal { MayFit tokens.kind (history tokens.log) (N.event about.now) }
+    requires place { HasPlace tokens.kind (N.event about.now) }
+    requires count { HasCount tokens.held (word_key (word_at (N.event about.now))) moved }
     requires room { moved + 1 < 2 ^ 64 }
     ensures book { (seen.new.book ≡ seen.old.book) × (seen.new.names ≡ seen.old.names) }
-    ensures hand { (result.tallies ≡ hand.tallies) × (result.copy ≡ hand.copy) × (result.kind ≡ hand.kind) }
-    ensures held { (result.held ≡ at (counts seen.new.log) hand.held) × (result.log ≡ seen.new.log) }
-    ensures ends { Ends hand.held seen.old.log (N.event about.now) seen.new.log }
-    ensures fit { IsFit hand.kind (history seen.new.log) }
-    ensures places { HavePlaces hand.kind (history seen.new.log) }
+    ensures tokens { (result.tallies ≡ tokens.tallies) × (result.copy ≡ tokens.copy) × (result.kind ≡ tokens.kind) }
+    ensures held { (result.held ≡ at (counts seen.new.log) tokens.held) × (result.log ≡ seen.new.log) }
+    ensures ends { Ends tokens.held seen.old.log (N.event about.now) seen.new.log }
+    ensures fit { Fits tokens.kind (history seen.new.log) }
+    ensures places { HavePlaces tokens.kind (history seen.new.log) }
 {
     rz_core::local();
-    let mut offer = hand.offer::<X, N>(about);
+    local_after();
+    let mut offer = tokens.offer::<X, N>(about);
     let mut pen = seen.no_pen();
     let _found = word.compare_exchange::<Add, Mine>(moved, moved + 1, seen, &mut offer, &mut pen);
-    Hand::back(offer.into_gain())
+    Tokens::back(offer.into_gain())
 }
 
-/// Looks at the log as it is, in which the hand's counts are right, and says how often a word has moved
+/// Looks at the log as it is, in which the tokens's counts are right, and says how often a word has moved
 /// there.
 pub fn view(
     word: &Word<Event, Told, Law>,
     seen: &mut Seen<Event, Told, Law>,
-    hand: Hand,
-) -> (Hand, u64)
+    tokens: Tokens,
+) -> (Tokens, u64)
     requires word { (word.now.tracked ≡ true) × (word.now.key < rows) }
     requires key { (w : AWord) × (word.now.key ≡ word_key w) }
     requires book { seen.old.book ≡ word.now.book }
-    requires names { seen.old.names ≡ hand.tallies ∷ hand.copy ∷ hand.kind }
-    requires held { AllInRow hand.held }
+    requires names { seen.old.names ≡ tokens.tallies ∷ tokens.copy ∷ tokens.kind }
+    requires held { AllInRow tokens.held }
     ensures book { (seen.new.book ≡ seen.old.book) × (seen.new.names ≡ seen.old.names) }
-    ensures hand { (result.0.tallies ≡ hand.tallies) × (result.0.copy ≡ hand.copy) × (result.0.kind ≡ hand.kind) }
-    ensures held { (result.0.held ≡ at (counts seen.new.log) hand.held) × (result.0.log ≡ seen.new.log) }
-    ensures agree { Agree (counts seen.new.log) hand.held }
-    ensures apart { AreApart hand.held }
+    ensures tokens { (result.0.tallies ≡ tokens.tallies) × (result.0.copy ≡ tokens.copy) × (result.0.kind ≡ tokens.kind) }
+    ensures held { (result.0.held ≡ at (counts seen.new.log) tokens.held) × (result.0.log ≡ seen.new.log) }
+    ensures agree { Agree (counts seen.new.log) tokens.held }
+    ensures apart { AreApart tokens.held }
     ensures seen { IsPrefix seen.old.log seen.new.log }
-    ensures fit { IsFit hand.kind (history seen.new.log) }
-    ensures places { HavePlaces hand.kind (history seen.new.log) }
+    ensures fit { Fits tokens.kind (history seen.new.log) }
+    ensures places { HavePlaces tokens.kind (history seen.new.log) }
     ensures count { result.1 ≡ count_at word.now.key seen.new.log }
 {
-    let mut offer = hand.look();
+    let mut offer = tokens.look();
     let found = word.load::<Look, Mine>(seen, &mut offer);
-    (Hand::back(offer.into_gain()), found)
+    (Tokens::back(offer.into_gain()), found)
 }
 
 /// Looks at the log as it is, in which the counts of both hands are right: `its` has the tally of one
@@ -94,11 +96,11 @@ pub fn view(
 pub fn view_both(
     word: &Word<Event, Told, Law>,
     seen: &mut Seen<Event, Told, Law>,
-    its: Hand,
-    mine: Hand,
+    its: Tokens,
+    mine: Tokens,
     key: u64,
     moved: u64,
-) -> (Hand, Hand)
+) -> (Tokens, Tokens)
     requires word { (word.now.tracked ≡ true) × (word.now.key < rows) }
     requires key { (w : AWord) × (word.now.key ≡ word_key w) }
     requires book { seen.old.book ≡ word.now.book }
@@ -112,11 +114,11 @@ pub fn view_both(
     ensures its { (result.0.held ≡ (key, moved) ∷ []) × (result.0.log ≡ seen.new.log) }
     ensures agree { Agree (counts seen.new.log) mine.held × (count_at key seen.new.log ≡ moved) }
     ensures seen { IsPrefix seen.old.log seen.new.log }
-    ensures fit { IsFit mine.kind (history seen.new.log) }
+    ensures fit { Fits mine.kind (history seen.new.log) }
     ensures places { HavePlaces mine.kind (history seen.new.log) }
 {
-    let (hand, _) = view(word, seen, its.join(mine));
-    hand.parted(key)
+    let (tokens, _) = view(word, seen, its.join(mine));
+    tokens.parted(key)
 }
 
 /// Adds the event of a value, of a word that `its` has the tally of, by an actor that `mine` has the
@@ -124,19 +126,19 @@ pub fn view_both(
 pub fn append_both<X, N: Asks<X>>(
     word: &Word<Event, Told, Law>,
     seen: &mut Seen<Event, Told, Law>,
-    its: Hand,
-    mine: Hand,
+    its: Tokens,
+    mine: Tokens,
     key: u64,
     moved: u64,
     about: &X,
-) -> (Hand, Hand)
+) -> (Tokens, Tokens)
     requires word { (word.now.tracked ≡ true) × (word.now.key ≡ key) × (word_key (word_at (N.event about.now)) ≡ key) × IsInRow (N.event about.now) }
     requires book { seen.old.book ≡ word.now.book }
     requires names { seen.old.names ≡ mine.tallies ∷ mine.copy ∷ mine.kind }
     requires one { AreOfOne its mine }
     requires mine { IsRight mine × IsHolding (actor_key (by_of (N.event about.now))) mine.held × (mine.log ≡ seen.old.log) }
     requires its { (its.held ≡ (key, moved) ∷ []) × (its.log ≡ mine.log) × (count_at key mine.log ≡ moved) }
-    requires legal { MayCome mine.kind (history mine.log) (N.event about.now) }
+    requires legal { MayFit mine.kind (history mine.log) (N.event about.now) }
     requires place { HasPlace mine.kind (N.event about.now) }
     requires room { moved + 1 < 2 ^ 64 }
     ensures book { (seen.new.book ≡ seen.old.book) × (seen.new.names ≡ seen.old.names) }
@@ -145,9 +147,9 @@ pub fn append_both<X, N: Asks<X>>(
     ensures its { (result.0.held ≡ (key, moved + 1) ∷ []) × (result.0.log ≡ seen.new.log) }
     ensures count { count_at key seen.new.log ≡ moved + 1 }
     ensures commits { Commits (key ∷ keys mine.held) (history mine.log) (N.event about.now) (history seen.new.log) }
-    ensures fit { IsFit mine.kind (history seen.new.log) }
+    ensures fit { Fits mine.kind (history seen.new.log) }
     ensures places { HavePlaces mine.kind (history seen.new.log) }
 {
-    let hand = append::<X, N>(word, seen, its.join(mine), moved, about);
-    hand.parted(key)
+    let tokens = append::<X, N>(word, seen, its.join(mine), moved, about);
+    tokens.parted(key)
 }

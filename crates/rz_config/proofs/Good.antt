@@ -15,7 +15,7 @@ use Rattle.rz_events.specs.declared.files.NodeSpec.{NodeSpec}
 use Rattle.rz_events.specs.Volume.{Volume, Cluster, nodes_of, IsNode, IsCluster, IsVolume}
 use Rattle.rz_config.specs.declared.fault.VolumeCause.{VolumeCause}
 use Rattle.rz_config.specs.declared.fault.VolumeCause.TheVariants.{OutOfRange, Twice, TooFewNodes, TooMany}
-use Rattle.rz_config.specs.declared.parts.Kind.TheVariants as kinds
+use Rattle.rz_config.specs.declared.parts.ObjectKind.TheVariants as kinds
 use Rattle.rz_config.specs.Described.{Path, Read, fails, ◌>>=◌, refused_if, number_at, number_within, item_count, items_within, list_at, object_at, at_key, at_index, has_sid, has_cid, described_node, nodes_from, described_cid, described_nodes, described_cluster, clusters_from, described_layout, described_clusters, described_volume}
 
 -- a reading of two steps that gives something gives something at each

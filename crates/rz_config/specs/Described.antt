@@ -13,8 +13,8 @@ use Rattle.rz_events.specs.Volume.{Volume, Cluster, nodes_of}
 use Rattle.rz_config.specs.declared.fault.VolumeFault.{VolumeFault}
 use Rattle.rz_config.specs.declared.fault.VolumeCause.{VolumeCause}
 use Rattle.rz_config.specs.declared.fault.VolumeCause.TheVariants.{NotJson, NotObject, UnknownKey, Missing, NotNumber, OutOfRange, NotList, Twice, TooFewNodes, TooMany}
-use Rattle.rz_config.specs.declared.parts.Kind.{Kind}
-use Rattle.rz_config.specs.declared.parts.Kind.TheVariants as kinds
+use Rattle.rz_config.specs.declared.parts.ObjectKind.{ObjectKind}
+use Rattle.rz_config.specs.declared.parts.ObjectKind.TheVariants as kinds
 
 -- where a value stands, as `clusters[0].nodes[3].sid`; the whole value has the empty path
 abbrev pub Path : Type 0
@@ -47,13 +47,13 @@ refused_if b path cause = if b then fails path cause else Ok tt
 -- ---- an object, a number and a list
 
 -- the keys of each kind of object
-abbrev pub is_key : Kind → List ℕ → Bool
+abbrev pub is_key : ObjectKind → List ℕ → Bool
 is_key kinds.Volume k = bytes_eq k (codes "layout") || bytes_eq k (codes "bsize") || bytes_eq k (codes "clusters")
 is_key kinds.Cluster k = bytes_eq k (codes "cid") || bytes_eq k (codes "nodes")
 is_key kinds.Node k = bytes_eq k (codes "sid") || bytes_eq k (codes "cells")
 
 -- the first key that is none of them; the members of an object stand in the byte order of their keys
-abbrev pub unknown_key : Kind → Members → Option (List ℕ)
+abbrev pub unknown_key : ObjectKind → Members → Option (List ℕ)
 unknown_key kind no_members = None
 unknown_key kind (member k d ms) = if is_key kind k then unknown_key kind ms else Some k
 
@@ -66,12 +66,12 @@ abbrev pub told : Path → Path
 told [] = codes "."
 told (b ∷ path) = b ∷ path
 
-abbrev pub members_at : Path → Kind → Option Members → Read (Unit {0})
+abbrev pub members_at : Path → ObjectKind → Option Members → Read (Unit {0})
 members_at path kind None = fails (told path) NotObject
 members_at path kind (Some ms) = all_known path (unknown_key kind ms)
 
 -- an object with none but these keys
-unfoldable pub object_at : Path → Kind → Data → Read (Unit {0})
+unfoldable pub object_at : Path → ObjectKind → Data → Read (Unit {0})
 object_at path kind d = members_at path kind (as_object d)
 
 abbrev pub some_number : Path → Option ℕ → Read ℕ

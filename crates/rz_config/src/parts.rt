@@ -12,7 +12,7 @@ use std::alloc::{AllocError, Global};
 
 /// The kinds of objects in a description.
 #[derive(Clone, Copy)]
-pub enum Kind {
+pub enum ObjectKind {
     Volume,
     Cluster,
     Node,
@@ -89,18 +89,18 @@ pub fn read_list<'a>(
     Ok(list)
 }
 
-fn is_key(kind: Kind, key: &str) -> bool
+fn is_key(kind: ObjectKind, key: &str) -> bool
     ensures { result ≡ is_key kind key.now }
 {
     match kind {
-        Kind::Volume => key == "layout" || key == "bsize" || key == "clusters",
-        Kind::Cluster => key == "cid" || key == "nodes",
-        Kind::Node => key == "sid" || key == "cells",
+        ObjectKind::Volume => key == "layout" || key == "bsize" || key == "clusters",
+        ObjectKind::Cluster => key == "cid" || key == "nodes",
+        ObjectKind::Node => key == "sid" || key == "cells",
     }
 }
 
 /// The first key in byte order that the kind does not have.
-fn unknown_key(kind: Kind, members: &Map<String, Value>) -> Option<&String>
+fn unknown_key(kind: ObjectKind, members: &Map<String, Value>) -> Option<&String>
     ensures { option_map (λ k. string_bytes k.now) result ≡ unknown_key kind (members_view members.now.entries) }
 {
     for key in members.keys() {
@@ -163,7 +163,12 @@ pub fn read_member(
 
 /// An object with none but the keys of its kind.
 #[tactic(auto, unfolding(crate::specs::Described::object_at))]
-pub fn read_object(alloc: Global, path: &str, kind: Kind, value: &Value) -> Result<(), VolumeError>
+pub fn read_object(
+    alloc: Global,
+    path: &str,
+    kind: ObjectKind,
+    value: &Value,
+) -> Result<(), VolumeError>
     ensures { Gives (λ u. u) result (object_at path.now kind (view value.now)) }
 {
     let Some(members) = value.as_object() else {

@@ -9,7 +9,7 @@ ghost use Rattle.rz_config.specs.Answers.{Gives};
 ghost use Rattle.rz_config.specs.Described.{layout_of, layouts, has_sid, has_cid, described_node, nodes_from, described_cid, described_nodes, described_cluster, clusters_from, described_layout, described_clusters, described_volume, volume_of_text};
 
 use crate::parts::{
-    Kind, fault, fault_at, index_path, key_path, read_list, read_member, read_number,
+    ObjectKind, fault, fault_at, index_path, key_path, read_list, read_member, read_number,
     read_number_within, read_object,
 };
 use crate::volume::node_count;
@@ -74,7 +74,7 @@ fn read_node(
 ) -> Result<NodeSpec, VolumeError>
     ensures { Gives (λ n. n) result (described_node path.now (nodes_of clusters.now ++ nodes.now) (view value.now)) }
 {
-    read_object(alloc, path, Kind::Node, value)?;
+    read_object(alloc, path, ObjectKind::Node, value)?;
     let sid = read_member(alloc, path, "sid", 1, 65535, value)? as u16;
     if has_sid(clusters, nodes, sid) {
         return Err(fault_at(alloc, path, "sid", VolumeCause::Twice));
@@ -164,7 +164,7 @@ fn read_cluster(
 ) -> Result<ClusterSpec, VolumeError>
     ensures { Gives (λ c. c) result (described_cluster path.now safe before.now (view value.now)) }
 {
-    read_object(alloc, path, Kind::Cluster, value)?;
+    read_object(alloc, path, ObjectKind::Cluster, value)?;
     let cid = read_cid(alloc, path, before, value)?;
     let nodes = read_list_of_nodes(alloc, path, safe, before, value)?;
     Ok(ClusterSpec { cid, nodes })
@@ -226,7 +226,7 @@ fn read_list_of_clusters(
 fn read_volume(alloc: Global, value: &Value) -> Result<Volume, VolumeError>
     ensures { Gives (λ v. v) result (described_volume (view value.now)) }
 {
-    read_object(alloc, "", Kind::Volume, value)?;
+    read_object(alloc, "", ObjectKind::Volume, value)?;
     let layout = read_layout(alloc, value)?;
     let clusters = read_list_of_clusters(alloc, layout.safe(), value)?;
     Ok(Volume {

@@ -20,7 +20,8 @@ use Rattle.rz_events.specs.declared.events.Event.TheVariants as e
 use Rattle.rz_events.specs.Events.{same_key}
 use Rattle.rz_export_model.specs.Export.{Export as ExportState, Block, Blocks, latest_of, published_of, published_stamp, newer_of, without_file, blocks_after, draws, after_enroll}
 use Rattle.rz_core.specs.History.{Facts, length_in}
-use Rattle.rz_core.specs.ExportWord.{makes, ends, is_made, is_gone, is_live, latest, accepted, is_newer, with_length, published, stamp_in, export_of}
+use Rattle.rz_export_model.specs.Files.{makes, ends}
+use Rattle.rz_core.specs.ExportWord.{is_made, is_gone, is_live, latest, accepted, is_newer, with_length, published, stamp_in, export_of}
 use Rattle.rz_core.specs.ExportRows.{MetaRow}
 use Rattle.rz_core.proofs.NodeLaws.{IsRows}
 use Rattle.rz_core.proofs.Stamps.{same_key-true}

@@ -16,7 +16,8 @@ use Rattle.rz_node_model.specs.Versions.{kept, refilled, without, greater_goes, 
 use Rattle.rz_export_model.specs.Export.{Export, after_tree, after_begin, after_publish, after_enroll}
 use Rattle.rz_core.specs.History.{Facts, Begun, wrote, places_of, facts, IsPlace, Has, base_in, length_in}
 use Rattle.rz_core.specs.NodeWord.{held, base_begun, changed, undecided, settled, itself}
-use Rattle.rz_core.specs.ExportWord.{makes, is_made, is_live, is_newer, accepted, with_length, published, export_of}
+use Rattle.rz_export_model.specs.Files.{makes}
+use Rattle.rz_core.specs.ExportWord.{is_made, is_live, is_newer, accepted, with_length, published, export_of}
 use Rattle.rz_core.specs.Own.{last}
 
 -- what f knows stays so in g

@@ -10,7 +10,6 @@ pub mod NodeSteps
 pub mod NodeRest
 pub mod ExportSteps
 pub mod EnrollLaws
-pub mod TreeTies
 pub mod NameTies
 pub mod ExportCalls
 pub mod BlockTies

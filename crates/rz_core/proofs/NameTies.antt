@@ -1,6 +1,6 @@
 -- The names of the export and the log: which files are live, and where they lie.
 use Rattle.std.proofs.Common.{ℕ, Bool, true, false, ◌==◌, ◌&&◌, ◌||◌, not, ◌≡◌, ◌⊎◌, inl, inr, ◌≤◌, ◌+◌, List, [], ◌∷◌, Option, Some, None, is_some, cond, refl, sym, ◌∙◌, ap, subst, arith}
-use Rattle.std.specs.Option.{option_and_then}
+use Rattle.std.specs.Option.{option_and_then, option_or}
 use Rattle.std.specs.FinMap as maps
 use Rattle.std.specs.Ordering.{nat_cmp, eq_by_cmp}
 use Rattle.std.specs.Cmp.{nat_cmp_total}
@@ -20,13 +20,14 @@ use Rattle.rz_export_model.specs.Firsts.{given_if}
 use Rattle.rz_export_model.specs.Tree.{Tree, Object, empty_tree, new_dir, file_of, file_from, is_file, info_of}
 use Rattle.rz_export_model.specs.Export.{Export as ExportState, new_places, after_tree, after_enroll, draws}
 use Rattle.rz_core.specs.History.{Facts, facts, places_of, placed_by, first_some, Has}
-use Rattle.rz_core.specs.ExportWord.{makes, ends, is_made, is_gone, is_live, export_of}
+use Rattle.rz_export_model.specs.Files.{makes, ends}
+use Rattle.rz_core.specs.ExportWord.{is_made, is_gone, is_live, export_of}
 use Rattle.rz_core.specs.ExportRows.{names_reply}
 use Rattle.rz_core.specs.Legal.{IsLegalInRuns}
 use Rattle.rz_core.proofs.NodeLaws.{IsRows, filter-has}
 use Rattle.rz_core.proofs.Stamps.{export}
 use Rattle.rz_core.proofs.EnrollLaws.{export-rows}
-use Rattle.rz_core.proofs.TreeTies.{Objects, seen, view, made_at, IsBlank, IsStep, quiet, unchanged, apart, step, grows}
+use Rattle.rz_export_model.proofs.Files.{Objects, seen, view, made_at, IsBlank, IsStep, quiet, unchanged, apart, step, grows}
 
 -- an event of the word made the file, which lies there
 abbrev pub HasMade : List Event → ℕ → List ℕ → Type 0
@@ -58,7 +59,7 @@ made-reply (reply.MadeFile info) fid places k = go (fid == info.fid) refl k
     go false off k = cc
 made-reply (_) fid places k = cc
 
-view_cases : (m : Option (List ℕ)) (gone : Bool) (old : Option (List ℕ)) (places : List ℕ) → first_some m (cond gone None old) ≡ Some places → (m ≡ Some places) ⊎ (old ≡ Some places)
+view_cases : (m : Option (List ℕ)) (gone : Bool) (old : Option (List ℕ)) (places : List ℕ) → option_or m (cond gone None old) ≡ Some places → (m ≡ Some places) ⊎ (old ≡ Some places)
 view_cases None true old places k = cc
 view_cases None false old places k = inr k
 view_cases (Some p) gone old places k = inl k
@@ -69,7 +70,7 @@ more-made w x fid places (by, c, info, has, is, at) = (by, c, info, inr has, is,
 -- after a call on names
 module _ (w : List Event) (t u : Tree) (by : Actor) (c : TreeCall) (r : TreeReply) (s : IsStep t u r) (n : AreNames w t) where
   after-live : (fid : ℕ) (m : Option (List ℕ)) → makes r fid ≡ is_some m → (gone : Bool) → ends r fid ≡ gone
-      → is_some (first_some m (cond gone None (view t.objects fid))) ≡ ((is_some m || is_made w fid) && not (gone || is_gone w fid))
+      → is_some (option_or m (cond gone None (view t.objects fid))) ≡ ((is_some m || is_made w fid) && not (gone || is_gone w fid))
   after-live fid (Some p) new true ended = let up = (s.new fid new).0 in let low = s.gone fid ended in absurd (omega (arith, up, low))
   after-live fid (Some p) new false ended =
       let never = false_from_ne_true (is_gone w fid) (λ g. (let up = (s.new fid new).0 in let low = n.gone_low fid g in omega (arith, up, low))) in

@@ -2,24 +2,13 @@
 use Rattle.std.specs.Prelude.{ℕ, Bool, true, false, not, ◌==◌, ◌&&◌, ◌||◌, ◌+◌, nat_lt, List, [], ◌∷◌, Option, Some, None, cond}
 use Rattle.rz_events.specs.declared.keys.Key.{Key}
 use Rattle.rz_events.specs.declared.files.Published.{Published}
-use Rattle.rz_events.specs.declared.tree.TreeReply.{TreeReply}
-use Rattle.rz_events.specs.declared.tree.TreeReply.TheVariants as reply
 use Rattle.rz_events.specs.declared.events.Event.{Event}
 use Rattle.rz_events.specs.declared.events.Event.TheVariants as e
 use Rattle.rz_events.specs.Events.{same_key}
 use Rattle.rz_events.specs.Volume.{Volume}
+use Rattle.rz_export_model.specs.Files.{makes, ends}
 use Rattle.rz_export_model.specs.Export.{Export, new_export, after_tree, after_begin, after_publish, after_enroll}
 use Rattle.rz_core.specs.History.{Facts, length_in}
-
--- the reply makes the file
-abbrev pub makes : TreeReply → ℕ → Bool
-makes (reply.MadeFile info) fid = fid == info.fid
-makes _ fid = false
-
--- with the reply the file's last name went
-abbrev pub ends : TreeReply → ℕ → Bool
-ends (reply.Gone (Some info)) fid = fid == info.fid
-ends _ fid = false
 
 abbrev pub is_made : List Event → ℕ → Bool
 is_made [] fid = false

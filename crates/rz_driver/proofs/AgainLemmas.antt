@@ -40,7 +40,7 @@ use Rattle.rz_metadata.specs.Enrolled.{loss_of}
 use Rattle.rz_metadata.specs.Reopened.{AllTextsOf, IsAsItCame, MakesExport}
 use Rattle.rz_metadata.specs.Stands.{disk_of, export_in, is_journaled, Stands}
 use Rattle.rz_node_laws.specs.Images.{AreImages, IsImaged, geometry_in}
-use Rattle.rz_nodes.specs.declared.formatting.Station.{Station}
+use Rattle.rz_nodes.specs.declared.formatting.Server.{Server}
 use Rattle.rz_nodes.specs.Formatted.{geometry_of}
 use Rattle.rz_nodes.proofs.Rowwise.{get-behind}
 use Rattle.rz_nodes.specs.declared.refusal.OpenRefusal.{OpenRefusal}
@@ -51,31 +51,31 @@ use Rattle.rz_restart_laws.specs.Calls.{calls_told, changing_calls}
 use Rattle.rz_restart_laws.specs.Found.{IsFound, AreFound, StandsByLog}
 use Rattle.rz_restart_laws.specs.Laws.{IsFoundLaw, MayGoOn, GoesOn}
 use Rattle.rz_locks.specs.Held.{Held}
-use Rattle.rz_play.specs.World.{World, Seat as APlayer, empty_seat, world_after}
+use Rattle.rz_play.specs.World.{World, Agenda as APlayer, empty_agenda, world_after}
 use Rattle.rz_play_laws.specs.Fine.{IsFine}
 use Rattle.rz_player.specs.Behind.{Before, behind}
 use Rattle.rz_driver_nodes.specs.Images.{AreDisksImaged, AreImaged, HasImages, fused_image}
 use Rattle.rz_driver_nodes.specs.Meters.{AreMetered, GoesWith, OfEach, faults_at, faults_in}
-use Rattle.rz_driver_nodes.specs.Stations.{state_in, numbers_of, IsStation}
+use Rattle.rz_driver_nodes.specs.Servers.{state_in, numbers_of, IsServer}
 use Rattle.rz_driver.specs.declared.driver.Driver.{Driver}
-use Rattle.rz_driver_actors.specs.declared.seat.Seat.{Seat}
+use Rattle.rz_driver_actors.specs.declared.agenda.Agenda.{Agenda}
 use Rattle.rz_driver.specs.Continued.{journal_refusal, losses_of, AreLeft, IsCauseAgain, IsJournalCause, IsNodeCause, IsOpenedAgain, IsOpenedOver, IsRefusedOver, IsUnopened}
 use Rattle.rz_driver.specs.Endings.{StandsForLog}
 use Rattle.rz_driver.specs.Journals.{KeepsLog, journal_place, HasJournal}
 use Rattle.rz_driver.specs.Pictures.{AreBytes, IsPicture, KnowsLengths}
-use Rattle.rz_driver_actors.specs.Seats.{IsEmptySeat}
-use Rattle.rz_driver.specs.Worlds.{exact_if, is_exact, left_behind, seat_in, world_of, numbers_in, IsDriver, GoesAfter, Holds}
+use Rattle.rz_driver_actors.specs.Agendas.{IsEmptyAgenda}
+use Rattle.rz_driver.specs.Worlds.{exact_if, is_exact, left_behind, agenda_in, world_of, numbers_in, IsDriver, GoesAfter, Holds}
 use Rattle.rz_driver.proofs.KeptCalls.{told-calls}
-use Rattle.rz_driver.proofs.MadeLemmas.{own-cells, empty-in, empty-seats}
+use Rattle.rz_driver.proofs.MadeLemmas.{own-cells, empty-in, empty-agendas}
 use Rattle.rz_driver.proofs.NewPictures.{no-hands}
 
 -- ---- nodes that were opened, each as one with the loss that `f` gives it
 
 module _ {D : Type 0} (tells : Bool) (meter : D → Meter) (text : D → List ℕ) (image : D → List ℕ → Type 0) (v : Volume) (f : NodeSpec → ℕ) where
-  abbrev Opened : List NodeSpec → List D → List (Station (UnderFuse D)) → Type 0
+  abbrev Opened : List NodeSpec → List D → List (Server (UnderFuse D)) → Type 0
   Opened nodes disks row = AllZip (IsOpened tells meter text image v.layout) (zip (zip nodes (map f nodes)) disks) row
 
-  pub opened-numbers : (nodes : List NodeSpec) (disks : List D) (row : List (Station (UnderFuse D))) → length disks ≡ length nodes → Opened nodes disks row → numbers_of row ≡ map (λ (n : NodeSpec). n.sid) nodes
+  pub opened-numbers : (nodes : List NodeSpec) (disks : List D) (row : List (Server (UnderFuse D))) → length disks ≡ length nodes → Opened nodes disks row → numbers_of row ≡ map (λ (n : NodeSpec). n.sid) nodes
   opened-numbers [] [] [] count all = refl
   opened-numbers [] [] (s ∷ row) count all = absurd all
   opened-numbers [] (d ∷ disks) row count all = absurd (omega (arith, count))
@@ -83,22 +83,22 @@ module _ {D : Type 0} (tells : Bool) (meter : D → Meter) (text : D → List �
   opened-numbers (n ∷ nodes) (d ∷ disks) [] count all = absurd all
   opened-numbers (n ∷ nodes) (d ∷ disks) (s ∷ row) count all = λ i. all.0.number i ∷ opened-numbers nodes disks row (omega (arith, count)) all.1 i
 
-  pub opened-many : (nodes : List NodeSpec) (disks : List D) (row : List (Station (UnderFuse D))) → length disks ≡ length nodes → Opened nodes disks row → length row ≡ length nodes
+  pub opened-many : (nodes : List NodeSpec) (disks : List D) (row : List (Server (UnderFuse D))) → length disks ≡ length nodes → Opened nodes disks row → length row ≡ length nodes
   opened-many nodes disks row count all =
-      sym (length-map row (λ (s : Station (UnderFuse D)). s.sid)) ∙ ap length (opened-numbers nodes disks row count all) ∙ length-map nodes (λ (n : NodeSpec). n.sid)
+      sym (length-map row (λ (s : Server (UnderFuse D)). s.sid)) ∙ ap length (opened-numbers nodes disks row count all) ∙ length-map nodes (λ (n : NodeSpec). n.sid)
 
-  pub opened-stations : (nodes : List NodeSpec) (disks : List D) (row : List (Station (UnderFuse D))) → length disks ≡ length nodes → Opened nodes disks row → AllByRecursion (λ n. cells_of v n.sid ≡ n.cells) nodes → AllByRecursion (IsStation v) row
-  opened-stations [] [] [] count all cells = tt
-  opened-stations [] [] (s ∷ row) count all cells = absurd all
-  opened-stations [] (d ∷ disks) row count all cells = absurd (omega (arith, count))
-  opened-stations (n ∷ nodes) [] row count all cells = absurd (omega (arith, count))
-  opened-stations (n ∷ nodes) (d ∷ disks) [] count all cells = absurd all
-  opened-stations (n ∷ nodes) (d ∷ disks) (s ∷ row) count all cells = (
+  pub opened-servers : (nodes : List NodeSpec) (disks : List D) (row : List (Server (UnderFuse D))) → length disks ≡ length nodes → Opened nodes disks row → AllByRecursion (λ n. cells_of v n.sid ≡ n.cells) nodes → AllByRecursion (IsServer v) row
+  opened-servers [] [] [] count all cells = tt
+  opened-servers [] [] (s ∷ row) count all cells = absurd all
+  opened-servers [] (d ∷ disks) row count all cells = absurd (omega (arith, count))
+  opened-servers (n ∷ nodes) [] row count all cells = absurd (omega (arith, count))
+  opened-servers (n ∷ nodes) (d ∷ disks) [] count all cells = absurd all
+  opened-servers (n ∷ nodes) (d ∷ disks) (s ∷ row) count all cells = (
     record {
       layout = ap (λ (g : Geometry). g.layout) all.0.geometry;
       cells = ap (λ (g : Geometry). g.cells) all.0.geometry ∙ sym cells.0 ∙ ap (cells_of v) (sym all.0.number);
     },
-    opened-stations nodes disks row (omega (arith, count)) all.1 cells.1,
+    opened-servers nodes disks row (omega (arith, count)) all.1 cells.1,
   )
 
   -- a disk that is not armed goes with an empty word
@@ -115,7 +115,7 @@ module _ {D : Type 0} (tells : Bool) (meter : D → Meter) (text : D → List �
   )
 
   -- each has an empty word in this run
-  opened-each : (first : ℕ → ℕ) (i : ℕ) (nodes : List NodeSpec) (disks : List D) (row : List (Station (UnderFuse D))) → ((k : ℕ) (d : D) → slice_get disks k ≡ Some d → first (i + k) ≡ faults (meter d)) → length disks ≡ length nodes → Opened nodes disks row
+  opened-each : (first : ℕ → ℕ) (i : ℕ) (nodes : List NodeSpec) (disks : List D) (row : List (Server (UnderFuse D))) → ((k : ℕ) (d : D) → slice_get disks k ≡ Some d → first (i + k) ≡ faults (meter d)) → length disks ≡ length nodes → Opened nodes disks row
       → OfEach (GoesWith (fused_meter meter)) first i row []
   opened-each first i nodes disks [] at count all = tt
   opened-each first i [] [] (s ∷ row) at count all = absurd all
@@ -131,8 +131,8 @@ module _ {D : Type 0} (tells : Bool) (meter : D → Meter) (text : D → List �
       )
 
   -- each lost what it was to have lost
-  opened-losses : (e : Export) → ((n : NodeSpec) → f n ≡ loss_of e n.sid) → (nodes : List NodeSpec) (disks : List D) (row : List (Station (UnderFuse D))) → length disks ≡ length nodes → Opened nodes disks row
-      → AllByRecursion (λ (s : Station (UnderFuse D)). s.node.state.losses ≡ loss_of e s.sid) row
+  opened-losses : (e : Export) → ((n : NodeSpec) → f n ≡ loss_of e n.sid) → (nodes : List NodeSpec) (disks : List D) (row : List (Server (UnderFuse D))) → length disks ≡ length nodes → Opened nodes disks row
+      → AllByRecursion (λ (s : Server (UnderFuse D)). s.node.state.losses ≡ loss_of e s.sid) row
   opened-losses e is nodes disks [] count all = tt
   opened-losses e is [] [] (s ∷ row) count all = absurd all
   opened-losses e is [] (d ∷ disks) (s ∷ row) count all = absurd (omega (arith, count))
@@ -143,10 +143,10 @@ module _ {D : Type 0} (tells : Bool) (meter : D → Meter) (text : D → List �
   -- ---- beside the earlier log, where disks tell
 
   module _ (told : IsTrue tells) (imaged : (d : D) → IsTrue tells → image d (text d)) (h : List Event) (earlier : IsEarlier v h) where
-    abbrev Found : Station (UnderFuse D) → Type 0
+    abbrev Found : Server (UnderFuse D) → Type 0
     Found s = IsFound v h s.sid (text s.node.disk.disk) s.node.state
 
-    found-one : (n : NodeSpec) (d : D) (s : Station (UnderFuse D)) → IsNodeOf v n.sid → cells_of v n.sid ≡ n.cells → IsOpened tells meter text image v.layout ((n, f n), d) s
+    found-one : (n : NodeSpec) (d : D) (s : Server (UnderFuse D)) → IsNodeOf v n.sid → cells_of v n.sid ≡ n.cells → IsOpened tells meter text image v.layout ((n, f n), d) s
         → AreImages v (facts h) (of_word (Node n.sid) h) n.sid (geometry_in v n.sid) (image d) → Found s
     found-one n d s is cells o images =
         let as_in : geometry_of v.layout n ≡ geometry_in v n.sid = λ i. record { layout = v.layout; bsize = bsize_of v.layout; node = n.sid; cells = sym cells i } in
@@ -162,7 +162,7 @@ module _ {D : Type 0} (tells : Bool) (meter : D → Meter) (text : D → List �
         } in
         subst (λ (m : ℕ). IsFound v h m here s.node.state) (sym o.number) one
 
-    pub found-all : (nodes : List NodeSpec) (disks : List D) (row : List (Station (UnderFuse D))) → length disks ≡ length nodes → Opened nodes disks row → AllByRecursion (λ n. IsNodeOf v n.sid) nodes → AllByRecursion (λ n. cells_of v n.sid ≡ n.cells) nodes
+    pub found-all : (nodes : List NodeSpec) (disks : List D) (row : List (Server (UnderFuse D))) → length disks ≡ length nodes → Opened nodes disks row → AllByRecursion (λ n. IsNodeOf v n.sid) nodes → AllByRecursion (λ n. cells_of v n.sid ≡ n.cells) nodes
         → AreDisksImaged image v (map (λ (n : NodeSpec). n.sid) nodes) disks h → AllByRecursion Found row
     found-all nodes disks [] count all are cells left = tt
     found-all [] [] (s ∷ row) count all are cells left = absurd all
@@ -172,24 +172,24 @@ module _ {D : Type 0} (tells : Bool) (meter : D → Meter) (text : D → List �
         (found-one n d s are.0 cells.0 all.0 left.0, found-all nodes disks row (omega (arith, count)) all.1 are.1 cells.1 left.1)
 
     -- the images of the opened disks are those of the nodes' states
-    pub images-all : IsFoundLaw image → (nodes : List NodeSpec) (disks : List D) (row : List (Station (UnderFuse D))) → length disks ≡ length nodes → Opened nodes disks row → AllByRecursion (IsStation v) row → AllByRecursion Found row → AreImaged (fused_image image) v (facts h) row
-    images-all law nodes disks [] count all stations found = tt
-    images-all law [] [] (s ∷ row) count all stations found = absurd all
-    images-all law [] (d ∷ disks) (s ∷ row) count all stations found = absurd (omega (arith, count))
-    images-all law (n ∷ nodes) [] (s ∷ row) count all stations found = absurd (omega (arith, count))
-    images-all law (n ∷ nodes) (d ∷ disks) (s ∷ row) count all stations found =
+    pub images-all : IsFoundLaw image → (nodes : List NodeSpec) (disks : List D) (row : List (Server (UnderFuse D))) → length disks ≡ length nodes → Opened nodes disks row → AllByRecursion (IsServer v) row → AllByRecursion Found row → AreImaged (fused_image image) v (facts h) row
+    images-all law nodes disks [] count all servers found = tt
+    images-all law [] [] (s ∷ row) count all servers found = absurd all
+    images-all law [] (d ∷ disks) (s ∷ row) count all servers found = absurd (omega (arith, count))
+    images-all law (n ∷ nodes) [] (s ∷ row) count all servers found = absurd (omega (arith, count))
+    images-all law (n ∷ nodes) (d ∷ disks) (s ∷ row) count all servers found =
         let o = all.0 in
         let geometry : s.node.geometry ≡ geometry_in v s.sid =
-        o.geometry ∙ (λ i. record { layout = v.layout; bsize = bsize_of v.layout; node = sym o.number i; cells = (sym (ap (λ (g : Geometry). g.cells) o.geometry) ∙ stations.0.cells) i }) in
+        o.geometry ∙ (λ i. record { layout = v.layout; bsize = bsize_of v.layout; node = sym o.number i; cells = (sym (ap (λ (g : Geometry). g.cells) o.geometry) ∙ servers.0.cells) i }) in
         let images = law v h s.sid (text s.node.disk.disk) s.node.state s.node.disk.disk found.0 o.settled in (
           record { geometry = geometry; images = subst (λ (g : Geometry). IsImaged v (facts h) s.sid s.node.state g (image s.node.disk.disk)) (sym geometry) images },
-          images-all law nodes disks row (omega (arith, count)) all.1 stations.1 found.1,
+          images-all law nodes disks row (omega (arith, count)) all.1 servers.1 found.1,
         )
 
 -- ---- the state of a number
 
 module _ {D : Type 0} (P : ℕ → NodeState → Type 0) where
-  state-so : (row : List (Station D)) → AllByRecursion (λ (s : Station D). P s.sid s.node.state) row → (n : ℕ) → IsAmong n (numbers_of row) → P n (state_in row n)
+  state-so : (row : List (Server D)) → AllByRecursion (λ (s : Server D). P s.sid s.node.state) row → (n : ℕ) → IsAmong n (numbers_of row) → P n (state_in row n)
   state-so [] all n is = absurd is
   state-so (s ∷ row) all n is = go (state-so row all.1 n) (n == s.sid) refl
     where
@@ -200,7 +200,7 @@ module _ {D : Type 0} (P : ℕ → NodeState → Type 0) where
         | inr more ↦ rest more
       ]
 
-pub state-none : {D : Type 0} (row : List (Station D)) (n : ℕ) → ¬ IsAmong n (numbers_of row) → state_in row n ≡ fresh
+pub state-none : {D : Type 0} (row : List (Server D)) (n : ℕ) → ¬ IsAmong n (numbers_of row) → state_in row n ≡ fresh
 state-none [] n none = refl
 state-none (s ∷ row) n none = go (state-none row n (λ more. none (inr more))) (n == s.sid) refl
   where
@@ -227,8 +227,8 @@ module _ {D : Type 0} {G : Ghosts D} (v : Volume) (rules : IsVolume v) (export :
   abbrev specs : List NodeSpec
   specs = nodes_of v.clusters
 
-  abbrev row : List (Station (UnderFuse D))
-  row = d.shared.stations.items
+  abbrev row : List (Server (UnderFuse D))
+  row = d.shared.servers.items
 
   abbrev f : NodeSpec → ℕ
   f n = loss_of (export_in export) n.sid
@@ -239,25 +239,25 @@ module _ {D : Type 0} {G : Ghosts D} (v : Volume) (rules : IsVolume v) (export :
   cells : AllByRecursion (λ (n : NodeSpec). cells_of v n.sid ≡ n.cells) specs
   cells = own-cells specs rules.distinct_sids
 
-  stations : AllByRecursion (IsStation v) row
-  stations = opened-stations G.tells G.meter G.text G.image v f specs nodes row count over.made cells
+  servers : AllByRecursion (IsServer v) row
+  servers = opened-servers G.tells G.meter G.text G.image v f specs nodes row count over.made cells
 
   pub over-ready : IsDriver d
   over-ready = record {
-    stations = subst (λ (u : Volume). AllByRecursion (IsStation u) row) (sym over.volume) stations;
+    servers = subst (λ (u : Volume). AllByRecursion (IsServer u) row) (sym over.volume) servers;
     numbers = numbers ∙ ap (λ (u : Volume). map (λ (n : NodeSpec). n.sid) (nodes_of u.clusters)) (sym over.volume);
     bins = let same : max_bins_of d.volume.layout ≡ max_bins_of v.layout = ap (λ (u : Volume). max_bins_of u.layout) over.volume in let bins = over.bins in omega (arith, same, bins);
-    seats = empty-seats d.volume.layout d.seats.items over.seats;
+    agendas = empty-agendas d.volume.layout d.agendas.items over.agendas;
     count = over.count;
-    locks = λ n. ap (λ (h : Held). maps.get h n) over.locks ∙ maps.get-empty _ n ∙ sym (ap (λ (s : APlayer). s.lock) (empty-in d.seats.items over.seats (Client n)));
-    no_locks = λ n. ap (λ (s : APlayer). s.lock) (empty-in d.seats.items over.seats (Rebuilder n));
+    locks = λ n. ap (λ (h : Held). maps.get h n) over.locks ∙ maps.get-empty _ n ∙ sym (ap (λ (s : APlayer). s.lock) (empty-in d.agendas.items over.agendas (Client n)));
+    no_locks = λ n. ap (λ (s : APlayer). s.lock) (empty-in d.agendas.items over.agendas (Rebuilder n));
   }
 
   pub over-world : world_of d ≡ world_after (state_in row) (export_in d.shared.export) []
   over-world = λ i. record {
     nodes = state_in row;
     export = export_in d.shared.export;
-    seats = fun_ext (empty-in d.seats.items over.seats) i;
+    agendas = fun_ext (empty-in d.agendas.items over.agendas) i;
     turns = over.turns i;
     lost = over.lost i;
     log = over.events i;
@@ -315,7 +315,7 @@ module _ {D : Type 0} {G : Ghosts D} (v : Volume) (rules : IsVolume v) (export :
       kept : Stands G.tells G.meter G.image (faults (G.meter journal)) export (changing_calls h)
       kept = stands (changing_calls h) last
 
-      found : AllByRecursion (λ (s : Station (UnderFuse D)). IsFound v h s.sid (G.text s.node.disk.disk) s.node.state) row
+      found : AllByRecursion (λ (s : Server (UnderFuse D)). IsFound v h s.sid (G.text s.node.disk.disk) s.node.state) row
       found = found-all G.tells G.meter G.text G.image v f told imaged h earlier specs nodes row count over.made (numbers-among specs specs (λ n is. is)) cells each
 
       among : (n : ℕ) → IsNodeOf v n → IsAmong n (numbers_of row)
@@ -329,8 +329,8 @@ module _ {D : Type 0} {G : Ghosts D} (v : Volume) (rules : IsVolume v) (export :
         others = λ n no. state-none row n (λ is. no (subst (IsAmong n) numbers is));
       }
         where
-          with-text : (xs : List (Station (UnderFuse D))) → AllByRecursion (λ (s : Station (UnderFuse D)). IsFound v h s.sid (G.text s.node.disk.disk) s.node.state) xs
-              → AllByRecursion (λ (s : Station (UnderFuse D)). (text : List ℕ) × IsFound v h s.sid text s.node.state) xs
+          with-text : (xs : List (Server (UnderFuse D))) → AllByRecursion (λ (s : Server (UnderFuse D)). IsFound v h s.sid (G.text s.node.disk.disk) s.node.state) xs
+              → AllByRecursion (λ (s : Server (UnderFuse D)). (text : List ℕ) × IsFound v h s.sid text s.node.state) xs
           with-text [] all = tt
           with-text (s ∷ xs) all = ((G.text s.node.disk.disk, all.0), with-text xs all.1)
 
@@ -344,15 +344,15 @@ module _ {D : Type 0} {G : Ghosts D} (v : Volume) (rules : IsVolume v) (export :
         there : behind old (world_of d) ≡ world_after (state_in row) (export_in export) old
         there = ap (behind old) over-world ∙ ap (λ (m : Metadata D). world_after (state_in row) (export_in m) old) over.export_is
 
-        picture : IsPicture (fused_image G.image) d.volume old (world_of d) d.seats.items row
-        picture = subst (λ (u : Volume). IsPicture (fused_image G.image) u old (world_of d) d.seats.items row) (sym over.volume) (record {
+        picture : IsPicture (fused_image G.image) d.volume old (world_of d) d.agendas.items row
+        picture = subst (λ (u : Volume). IsPicture (fused_image G.image) u old (world_of d) d.agendas.items row) (sym over.volume) (record {
           rules = rules;
           bytes = subst AreBytes (sym on.restart.facts_are) bytes;
           fine = subst (IsFine v old) (sym there) on.fine;
-          lengths = λ a. subst (λ (w : World). KnowsLengths (facts (d.shared.log.events ++ old)) (w.seats a).work) (sym over-world) tt;
-          hands = no-hands v (facts (d.shared.log.events ++ old)) d.seats.items over.seats;
+          lengths = λ a. subst (λ (w : World). KnowsLengths (facts (d.shared.log.events ++ old)) (w.agendas a).work) (sym over-world) tt;
+          hands = no-hands v (facts (d.shared.log.events ++ old)) d.agendas.items over.agendas;
           disks = subst (λ (g : Facts). AreImaged (fused_image G.image) v g row) (sym on.restart.facts_are ∙ ap facts (sym whole))
-              (images-all G.tells G.meter G.text G.image v f told imaged h earlier images specs nodes row count over.made stations found);
+              (images-all G.tells G.meter G.text G.image v f told imaged h earlier images specs nodes row count over.made servers found);
         })
 
         has-journal : HasJournal d (left_behind counts old)

@@ -19,7 +19,7 @@ use Rattle.rz_metadata.specs.Stands.{export_in, Stands}
 use Rattle.rz_play.specs.World.{World, new_world}
 use Rattle.rz_nodes.specs.declared.fault.DriverFault.{DriverFault}
 use Rattle.rz_nodes.specs.declared.fault.DriverFault.TheVariants as driver
-use Rattle.rz_nodes.specs.declared.formatting.Station.{Station}
+use Rattle.rz_nodes.specs.declared.formatting.Server.{Server}
 use Rattle.rz_cells_slots.specs.declared.formatting.FormatFault.{FormatFault}
 use Rattle.rz_cells_slots.specs.declared.formatting.FormatFault.TheVariants as format
 use Rattle.rz_nodes.specs.Formatted.{AreBack, AreFormatted, IsBack, IsCause, IsFormatted, disks_of, fault_at}
@@ -27,9 +27,9 @@ use Rattle.rz_nodes.proofs.FormatLemmas.{new-back}
 use Rattle.rz_nodes.proofs.Rowwise.{get-behind, zip-length, zip-map}
 use Rattle.rz_driver_nodes.specs.Meters.{AreMetered, GoesWith, OfEach, faults_at, faults_in}
 use Rattle.rz_driver_nodes.specs.Images.{fused_image}
-use Rattle.rz_driver_nodes.specs.Stations.{numbers_of, IsStation}
+use Rattle.rz_driver_nodes.specs.Servers.{numbers_of, IsServer}
 use Rattle.rz_driver.specs.declared.driver.Driver.{Driver}
-use Rattle.rz_driver_actors.specs.declared.seat.Seat.{Seat}
+use Rattle.rz_driver_actors.specs.declared.agenda.Agenda.{Agenda}
 use Rattle.rz_driver_actors.specs.declared.shared.Shared.{Shared}
 use Rattle.rz_driver.specs.Formatted.{IsBehindJournal, IsJournalBack, AreBackWithJournal, IsFault, IsJournalRefused}
 use Rattle.rz_driver.specs.Journals.{KeepsLog, journal_place, HasJournal}
@@ -83,41 +83,41 @@ back-count tells meter image layout nodes front back count all =
 -- ---- the counts of faults
 
 module _ {D : Type 0} (P : ℕ → List Event → NodeView D → Type 0) (first first' : ℕ → ℕ) (h : List Event) where
-  each-again : (i : ℕ) (row : List (Station D)) → ((k : ℕ) → i ≤ k → k < i + length row → first k ≡ first' k) → OfEach P first i row h → OfEach P first' i row h
+  each-again : (i : ℕ) (row : List (Server D)) → ((k : ℕ) → i ≤ k → k < i + length row → first k ≡ first' k) → OfEach P first i row h → OfEach P first' i row h
   each-again i [] same all = tt
   each-again i (s ∷ row) same all = (
     subst (λ (f : ℕ). P f (of_word (Node s.sid) h) s.node) (same i (omega arith) (omega arith)) all.0,
     each-again (i + 1) row (λ k low high. same k (omega (arith, low)) (omega (arith, high))) all.1,
   )
 
-pub metered-again : {D : Type 0} (meter : D → Meter) (numbers : List ℕ) (row : List (Station D)) (h : List Event) (first first' : ℕ → ℕ) → ((k : ℕ) → k < length numbers → first k ≡ first' k)
+pub metered-again : {D : Type 0} (meter : D → Meter) (numbers : List ℕ) (row : List (Server D)) (h : List Event) (first first' : ℕ → ℕ) → ((k : ℕ) → k < length numbers → first k ≡ first' k)
     → AreMetered meter numbers row h first → AreMetered meter numbers row h first'
 metered-again meter numbers row h first first' same met =
-    let count : length row ≡ length numbers = sym (length-map row (λ (s : Station _). s.sid)) ∙ ap length met.named in
+    let count : length row ≡ length numbers = sym (length-map row (λ (s : Server _). s.sid)) ∙ ap length met.named in
     record { named = met.named; apart = met.apart; each = each-again (GoesWith meter) first first' h 0 row (λ k low high. same k (omega (arith, high, count))) met.each }
 
 -- ---- the driver
 
 module _ {D : Type 0} {G : Ghosts D} (journal : D) (d e : Driver D G) (behind : IsBehindJournal journal d e) where
   pub behind-ready : IsDriver d → IsDriver e
-  behind-ready ready = ready-with d e ready behind.volume (ap (λ (v : Vec Seat). v.items) behind.seats)
-      (subst (λ (p : Shared (UnderFuse D) D). AllByRecursion (IsStation d.volume) p.stations.items) (sym behind.shared) ready.stations)
-      (ap (λ (p : Shared (UnderFuse D) D). numbers_of p.stations.items) behind.shared)
+  behind-ready ready = ready-with d e ready behind.volume (ap (λ (v : Vec Agenda). v.items) behind.agendas)
+      (subst (λ (p : Shared (UnderFuse D) D). AllByRecursion (IsServer d.volume) p.servers.items) (sym behind.shared) ready.servers)
+      (ap (λ (p : Shared (UnderFuse D) D). numbers_of p.servers.items) behind.shared)
       (ap (λ (p : Shared (UnderFuse D) D). p.locks) behind.shared) (ap (λ (p : Shared (UnderFuse D) D). p.bins.items) behind.shared)
 
   module _ (v : Volume) (volume : d.volume ≡ v) (new : world_of d ≡ new_world v) where
     pub behind-world : world_of e ≡ new_world v
     behind-world =
         let export : export_in e.shared.export ≡ new_export v 0 = behind.export ∙ ap (λ (u : Volume). new_export u 0) volume in
-        (λ i. world (behind.shared i) (behind.seats i).items (behind.turns i)) ∙ (λ i. record (new i) { export = export i })
+        (λ i. world (behind.shared i) (behind.agendas i).items (behind.turns i)) ∙ (λ i. record (new i) { export = export i })
 
     module _ (tells : Bool) (meter : D → Meter) (text : D → List ℕ) (image : D → List ℕ → Type 0) (nodes : List D) (count : length nodes ≡ length (nodes_of v.clusters)) where
-      pub behind-made : AreFormatted tells meter text image v.layout (nodes_of v.clusters) nodes d.shared.stations.items
-          → AreFormatted tells meter text image v.layout (nodes_of v.clusters) (nodes ++ journal ∷ []) e.shared.stations.items
+      pub behind-made : AreFormatted tells meter text image v.layout (nodes_of v.clusters) nodes d.shared.servers.items
+          → AreFormatted tells meter text image v.layout (nodes_of v.clusters) (nodes ++ journal ∷ []) e.shared.servers.items
       behind-made made =
-          let more : AreFormatted tells meter text image v.layout (nodes_of v.clusters) (nodes ++ journal ∷ []) d.shared.stations.items =
-          subst (λ (ps : List (NodeSpec × D)). AllZip (IsFormatted tells meter text image v.layout) ps d.shared.stations.items) (sym (zip-front (nodes_of v.clusters) nodes (journal ∷ []) count)) made in
-          subst (λ (p : Shared (UnderFuse D) D). AreFormatted tells meter text image v.layout (nodes_of v.clusters) (nodes ++ journal ∷ []) p.stations.items) (sym behind.shared) more
+          let more : AreFormatted tells meter text image v.layout (nodes_of v.clusters) (nodes ++ journal ∷ []) d.shared.servers.items =
+          subst (λ (ps : List (NodeSpec × D)). AllZip (IsFormatted tells meter text image v.layout) ps d.shared.servers.items) (sym (zip-front (nodes_of v.clusters) nodes (journal ∷ []) count)) made in
+          subst (λ (p : Shared (UnderFuse D) D). AreFormatted tells meter text image v.layout (nodes_of v.clusters) (nodes ++ journal ∷ []) p.servers.items) (sym behind.shared) more
 
     module _ (nodes : List D) (count : length nodes ≡ length (nodes_of v.clusters)) where
       abbrev before : ℕ → ℕ
@@ -129,22 +129,22 @@ module _ {D : Type 0} {G : Ghosts D} (journal : D) (d e : Driver D G) (behind : 
       same-log : e.shared.log.events ≡ d.shared.log.events
       same-log = ap (λ (p : Shared (UnderFuse D) D). p.log.events) behind.shared
 
-      metered : AreMetered (fused_meter G.meter) (numbers_in d) d.shared.stations.items d.shared.log.events before → AreMetered (fused_meter G.meter) (numbers_in e) e.shared.stations.items e.shared.log.events now
+      metered : AreMetered (fused_meter G.meter) (numbers_in d) d.shared.servers.items d.shared.log.events before → AreMetered (fused_meter G.meter) (numbers_in e) e.shared.servers.items e.shared.log.events now
       metered met =
           let many : length (numbers_in d) ≡ length nodes = length-map (nodes_of d.volume.clusters) (λ (n : NodeSpec). n.sid) ∙ ap (λ (u : Volume). length (nodes_of u.clusters)) volume ∙ sym count in
-          let again = metered-again (fused_meter G.meter) (numbers_in d) d.shared.stations.items d.shared.log.events before now
+          let again = metered-again (fused_meter G.meter) (numbers_in d) d.shared.servers.items d.shared.log.events before now
           (λ k low. ap (faults_in G.meter) (sym (get-front nodes (journal ∷ []) k (omega (arith, low, many))))) met in
-          let there = subst (λ (p : Shared (UnderFuse D) D). AreMetered (fused_meter G.meter) (numbers_in d) p.stations.items p.log.events now) (sym behind.shared) again in
-          subst (λ (u : Volume). AreMetered (fused_meter G.meter) (map (λ (n : NodeSpec). n.sid) (nodes_of u.clusters)) e.shared.stations.items e.shared.log.events now) (sym behind.volume) there
+          let there = subst (λ (p : Shared (UnderFuse D) D). AreMetered (fused_meter G.meter) (numbers_in d) p.servers.items p.log.events now) (sym behind.shared) again in
+          subst (λ (u : Volume). AreMetered (fused_meter G.meter) (map (λ (n : NodeSpec). n.sid) (nodes_of u.clusters)) e.shared.servers.items e.shared.log.events now) (sym behind.volume) there
 
       picture : HasPicture d [] → HasPicture e []
       picture has = λ told few.
           let was = has told (subst (λ (h : List Event). length (h ++ []) < 2 ^ 64 - 1) same-log few) in
           let worlds : world_of d ≡ world_of e = new ∙ sym behind-world in
-          let one = subst (λ (w : World). IsPicture (fused_image G.image) d.volume [] w d.seats.items d.shared.stations.items) worlds was in
-          let two = subst (λ (s : Vec Seat). IsPicture (fused_image G.image) d.volume [] (world_of e) s.items d.shared.stations.items) (sym behind.seats) one in
-          let three = subst (λ (p : Shared (UnderFuse D) D). IsPicture (fused_image G.image) d.volume [] (world_of e) e.seats.items p.stations.items) (sym behind.shared) two in
-          subst (λ (u : Volume). IsPicture (fused_image G.image) u [] (world_of e) e.seats.items e.shared.stations.items) (sym behind.volume) three
+          let one = subst (λ (w : World). IsPicture (fused_image G.image) d.volume [] w d.agendas.items d.shared.servers.items) worlds was in
+          let two = subst (λ (s : Vec Agenda). IsPicture (fused_image G.image) d.volume [] (world_of e) s.items d.shared.servers.items) (sym behind.agendas) one in
+          let three = subst (λ (p : Shared (UnderFuse D) D). IsPicture (fused_image G.image) d.volume [] (world_of e) e.agendas.items p.servers.items) (sym behind.shared) two in
+          subst (λ (u : Volume). IsPicture (fused_image G.image) u [] (world_of e) e.agendas.items e.shared.servers.items) (sym behind.volume) three
 
       has-journal : HasJournal e (anew now)
       has-journal =
@@ -198,7 +198,7 @@ fault-is meter disk back format.NoMemory fault index place is at risen = subst (
 fault-is meter disk back format.DiskFault fault index place is at risen = subst (IsFault meter place disk back) (sym is) (at, risen refl)
 
 -- no journal was made
-module _ {D : Type 0} (tells : Bool) (meter : D → Meter) (text : D → List ℕ) (image : D → List ℕ → Type 0) (v : Volume) (nodes : List D) (journal : D) (row : List (Station (UnderFuse D))) (back : List D) (fault : DriverFault)
+module _ {D : Type 0} (tells : Bool) (meter : D → Meter) (text : D → List ℕ) (image : D → List ℕ → Type 0) (v : Volume) (nodes : List D) (journal : D) (row : List (Server (UnderFuse D))) (back : List D) (fault : DriverFault)
     (refused : IsJournalRefused tells meter image v (disks_of row) journal back fault) where
   pub refused-back : (disks : List D) → disks ≡ nodes ++ journal ∷ [] → AreFormatted tells meter text image v.layout (nodes_of v.clusters) nodes row → AreBackWithJournal tells meter image v disks back
   refused-back disks split made = record {
@@ -208,7 +208,7 @@ module _ {D : Type 0} (tells : Bool) (meter : D → Meter) (text : D → List �
     nodes_back = disks_of row;
     journal_back = refused.last;
     back_are = refused.back_are;
-    each = zip-map (IsFormatted tells meter text image v.layout) (IsBack tells meter image v.layout) (λ (s : Station (UnderFuse D)). s.node.disk.disk) (zip (nodes_of v.clusters) nodes) row (new-back tells meter text image v.layout) made;
+    each = zip-map (IsFormatted tells meter text image v.layout) (IsBack tells meter image v.layout) (λ (s : Server (UnderFuse D)). s.node.disk.disk) (zip (nodes_of v.clusters) nodes) row (new-back tells meter text image v.layout) made;
     last = refused.kept;
   }
 
@@ -224,6 +224,6 @@ module _ {D : Type 0} (tells : Bool) (meter : D → Meter) (text : D → List �
 
   pub refused-cause : (disks : List D) → disks ≡ nodes ++ journal ∷ [] → length nodes ≡ length row → IsCause meter disks back fault
   refused-cause disks split count =
-      let many : length nodes ≡ length (disks_of row) = count ∙ sym (length-map row (λ (s : Station (UnderFuse D)). s.node.disk.disk)) in
+      let many : length nodes ≡ length (disks_of row) = count ∙ sym (length-map row (λ (s : Server (UnderFuse D)). s.node.disk.disk)) in
       let here = refused-at fault refused.cause many in
       subst (λ (xs : List D). IsCause meter xs back fault) (sym split) (subst (λ (ys : List D). IsCause meter (nodes ++ journal ∷ []) ys fault) (sym refused.back_are) here)

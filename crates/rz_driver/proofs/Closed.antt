@@ -7,7 +7,7 @@ use Rattle.rz_disk.specs.declared.disk.Disk.{Ghosts}
 use Rattle.rz_events.specs.declared.events.Event.{Event}
 use Rattle.rz_node_laws.specs.Laws.{IsLogLaw}
 use Rattle.rz_nodes.specs.Formatted.{disks_of}
-use Rattle.rz_metadata.specs.declared.journaled.Refusal.{Refusal}
+use Rattle.rz_metadata.specs.declared.journaled.JournalRefusal.{JournalRefusal}
 use Rattle.rz_metadata.specs.Stands.{disk_of, is_journaled, refusal_of}
 use Rattle.rz_driver_nodes.specs.Images.{AreDisksImaged}
 use Rattle.rz_driver_nodes.proofs.PictureLemmas.{disks-imaged}
@@ -30,9 +30,9 @@ has-few d b left few =
 
 -- the images of each disk of a node stand for its records, however a play ended
 pub left-imaged : {D : Type 0} {G : Ghosts D} (d : Driver D G) (b : Before) → IsLogLaw G.image → Leaves d b → IsTrue G.tells → length (d.shared.log.events ++ b.log) < 2 ^ 64 - 1
-    → AreDisksImaged G.image d.volume (numbers_in d) (disks_of d.shared.stations.items) (d.shared.log.events ++ b.log)
+    → AreDisksImaged G.image d.volume (numbers_in d) (disks_of d.shared.servers.items) (d.shared.log.events ++ b.log)
 left-imaged {G = G} d b law left told few =
-    let row = d.shared.stations.items in
+    let row = d.shared.servers.items in
     let h = d.shared.log.events ++ b.log in
     subst (λ (ns : List ℕ). AreDisksImaged G.image d.volume ns (disks_of row) h) (leaves-named d b left) (disks-imaged G.image law d.volume h row (leaves-right d b left told few))
 
@@ -66,15 +66,15 @@ module _ {D : Type 0} {G : Ghosts D} (d : Driver D G) (b : Before) (short : leng
   whole-journal (inl held) disk is told = held-journal held disk is told
   whole-journal (inr (left, full)) disk is told =
       full-stands G.tells (G.image disk) (b.counts (journal_place d)) (faults (G.meter disk)) d.volume h
-      (subst (λ (r : Option Refusal). EndsAsRefused r G.tells (G.image disk) (b.counts (journal_place d)) (faults (G.meter disk)) d.volume h) full (left-journal left (tells-exactly d told) disk is)) told
+      (subst (λ (r : Option JournalRefusal). EndsAsRefused r G.tells (G.image disk) (b.counts (journal_place d)) (faults (G.meter disk)) d.volume h) full (left-journal left (tells-exactly d told) disk is)) told
 
   -- what a play left that ended between two turns, or where the journal was full
-  pub whole-disks : IsLogLaw G.image → EndsWhole d b → is_journaled d.shared.export ≡ true → IsTrue G.tells → (disks : List D) → disks ≡ disks_of d.shared.stations.items ++ option_to_list (disk_of d.shared.export)
+  pub whole-disks : IsLogLaw G.image → EndsWhole d b → is_journaled d.shared.export ≡ true → IsTrue G.tells → (disks : List D) → disks ≡ disks_of d.shared.servers.items ++ option_to_list (disk_of d.shared.export)
       → AreLeft G.image d.volume h disks
   whole-disks law ended journaled told disks are =
       let left = whole-left d b ended in
       let disk = some-disk (disk_of d.shared.export) journaled in
-      let row = disks_of d.shared.stations.items in
+      let row = disks_of d.shared.servers.items in
       record {
         nodes = row;
         journal = disk.0;

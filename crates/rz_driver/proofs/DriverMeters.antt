@@ -10,11 +10,11 @@ use Rattle.rz_driver_nodes.specs.Meters.{AreMetered, AreCounted}
 use Rattle.rz_driver_nodes.proofs.MeterLemmas.{metered-counts}
 
 -- the faults are counted where a play ended
-pub leaves-counted : {D : Type 0} {G : Ghosts D} (d : Driver D G) (b : Before) → Leaves d b → AreCounted (fused_meter G.meter) (numbers_in d) d.shared.stations.items d.shared.log.events b.counts
-leaves-counted {G = G} d b (inl held) = metered-counts (fused_meter G.meter) b.counts (numbers_in d) d.shared.stations.items d.shared.log.events held.0
+pub leaves-counted : {D : Type 0} {G : Ghosts D} (d : Driver D G) (b : Before) → Leaves d b → AreCounted (fused_meter G.meter) (numbers_in d) d.shared.servers.items d.shared.log.events b.counts
+leaves-counted {G = G} d b (inl held) = metered-counts (fused_meter G.meter) b.counts (numbers_in d) d.shared.servers.items d.shared.log.events held.0
 leaves-counted {G = G} d b (inr left) = left.0
 
 -- the log of a driver was not changed
 pub log-kept : {D : Type 0} {G : Ghosts D} (d : Driver D G) → IsDriver d → (h : List Event) (b : Before) → h ≡ d.shared.log.events → Holds d b
-    → AreMetered (fused_meter G.meter) (numbers_in d) d.shared.stations.items h b.counts
-log-kept {G = G} d ready h b same met = subst (λ (k : List Event). AreMetered (fused_meter G.meter) (numbers_in d) d.shared.stations.items k b.counts) (sym same) met.0
+    → AreMetered (fused_meter G.meter) (numbers_in d) d.shared.servers.items h b.counts
+log-kept {G = G} d ready h b same met = subst (λ (k : List Event). AreMetered (fused_meter G.meter) (numbers_in d) d.shared.servers.items k b.counts) (sym same) met.0

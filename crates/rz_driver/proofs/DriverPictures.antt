@@ -21,7 +21,7 @@ use Rattle.rz_script.specs.declared.line.Line.{Line}
 use Rattle.rz_operation.specs.Machine.{Machine, text_of, text_asked}
 use Rattle.rz_operation.specs.Machine as machine
 use Rattle.rz_operation_model.specs.Ask.{Ask, Say, Saying, ask_of}
-use Rattle.rz_play.specs.World.{World, Seat as APlayer, with_seat, at_work}
+use Rattle.rz_play.specs.World.{World, Agenda as APlayer, with_agenda, at_work}
 use Rattle.rz_play.specs.Turns.{IsTurn, text_said}
 use Rattle.rz_play.specs.Lines.{PlaysLine}
 use Rattle.rz_play_laws.specs.Own.{IsOwn, IsOwnProper, IsUnderWay}
@@ -35,20 +35,20 @@ use Rattle.rz_driver_asks.specs.Parts.{IsUnbegun}
 use Rattle.rz_player.specs.Behind.{Before, behind}
 use Rattle.rz_block_laws.specs.Turns.{IsLastingLaw, HasInHand}
 use Rattle.rz_driver.specs.declared.driver.Driver.{Driver}
-use Rattle.rz_driver_actors.specs.declared.seat.Seat.{Seat}
-use Rattle.rz_nodes.specs.declared.formatting.Station.{Station}
+use Rattle.rz_driver_actors.specs.declared.agenda.Agenda.{Agenda}
+use Rattle.rz_nodes.specs.declared.formatting.Server.{Server}
 use Rattle.rz_driver_nodes.specs.Meters.{AreMetered, AreCounted, CarriesCounts}
 use Rattle.rz_driver_nodes.specs.Images.{AreImaged, IsRight, KeepsRow, SparesRow, fused_image}
-use Rattle.rz_driver_actors.specs.Hands.{HasTrueHand, IsTrueSeat, KeepsPicture, SparesPicture}
+use Rattle.rz_driver_actors.specs.Hands.{HasTrueHand, IsTrueAgenda, KeepsPicture, SparesPicture}
 use Rattle.rz_driver.specs.Pictures.{IsPicture, KnowsLengths}
-use Rattle.rz_driver_actors.specs.Seats.{HasLayout, seat_of, work_in}
-use Rattle.rz_driver_nodes.specs.Stations.{state_in, numbers_of}
+use Rattle.rz_driver_actors.specs.Agendas.{HasLayout, agenda_of, work_in}
+use Rattle.rz_driver_nodes.specs.Servers.{state_in, numbers_of}
 use Rattle.rz_driver.specs.Worlds.{place_of, world, world_of, numbers_in, exact_if, HasPicture, HasRightDisks, Holds, Leaves}
 use Rattle.rz_driver_nodes.proofs.MeterLemmas.{metered-counts, named-vector}
 use Rattle.rz_driver_nodes.proofs.PictureLemmas.{all-then, GrowsBy, grows-behind, grown-short, are-right}
 use Rattle.rz_driver_nodes.proofs.Rows.{all-set, all-at}
 use Rattle.rz_driver.proofs.KeptCalls.{asked-length}
-use Rattle.rz_driver.proofs.WorldLemmas.{seat-here}
+use Rattle.rz_driver.proofs.WorldLemmas.{agenda-here}
 use Rattle.rz_driver.proofs.TurnLemmas.{AreTexts}
 use Rattle.rz_driver.proofs.LengthLemmas.{at-work-knows, lengths-grow, lengths-turn}
 use Rattle.rz_driver.proofs.TextLemmas.{right, short-text}
@@ -56,8 +56,8 @@ use Rattle.rz_driver.proofs.TextLemmas.{right, short-text}
 -- the laws of a play that are cited here
 abbrev pub WorkingLaw : Type 0
 WorkingLaw = (v : Volume) (old : List Event) (w : World) → (fine : IsFine v old w) → (by : Actor) → IsSeated by
-    → IsOwn v (facts w.log) (of_actor by w.log) (of_actor by fine.run) by (at_work (w.seats by)).work
-    × IsUnderWay v by (at_work (w.seats by)).number (of_actor by fine.run) (at_work (w.seats by)).work
+    → IsOwn v (facts w.log) (of_actor by w.log) (of_actor by fine.run) by (at_work (w.agendas by)).work
+    × IsUnderWay v by (at_work (w.agendas by)).number (of_actor by fine.run) (at_work (w.agendas by)).work
 
 abbrev pub TurnedLaw : Type 0
 TurnedLaw = (v : Volume) → IsVolume v → (old : List Event) (by : Actor) → IsSeated by → (w next : World) → IsTurn v by w next → IsFine v old w → IsFineIfShort v old next
@@ -74,9 +74,9 @@ seated-at (Client n) place at = refl
 seated-at (Rebuilder n) place at = refl
 seated-at Admin place at = absurd (cc)
 
-true-seat : (v : Volume) (f : Facts) (own run : List Event) (by : Actor) (number : ℕ) (o : Option Machine) → HasLayout v.layout o → IsOwn v f own run by (work_in o) → IsUnderWay v by number run (work_in o) → HasTrueHand v f o → IsTrueSeat v f by o
-true-seat v f own run by number None layout is way hand = tt
-true-seat v f own run by number (Some m) layout is way hand = record {
+true-agenda : (v : Volume) (f : Facts) (own run : List Event) (by : Actor) (number : ℕ) (o : Option Machine) → HasLayout v.layout o → IsOwn v f own run by (work_in o) → IsUnderWay v by number run (work_in o) → HasTrueHand v f o → IsTrueAgenda v f by o
+true-agenda v f own run by number None layout is way hand = tt
+true-agenda v f own run by number (Some m) layout is way hand = record {
   own = own;
   run = run;
   number = number;
@@ -91,8 +91,8 @@ module _ (v : Volume) (lasting : IsLastingLaw v) (h h' : List Event) (grown : Gr
   hand-lasts None hand = tt
   hand-lasts (Some m) hand = subst (λ (k : List Event). HasInHand v (facts k) m) (sym grown.1) (lasting h grown.0 m hand)
 
-  pub hands-last : (seats : List Seat) → AllByRecursion (λ (s : Seat). HasTrueHand v (facts h) s.machine) seats → AllByRecursion (λ (s : Seat). HasTrueHand v (facts h') s.machine) seats
-  hands-last seats all = all-then (λ (s : Seat). HasTrueHand v (facts h) s.machine) (λ (s : Seat). HasTrueHand v (facts h') s.machine) seats (λ (s : Seat) hand. hand-lasts s.machine hand) all
+  pub hands-last : (agendas : List Agenda) → AllByRecursion (λ (s : Agenda). HasTrueHand v (facts h) s.machine) agendas → AllByRecursion (λ (s : Agenda). HasTrueHand v (facts h') s.machine) agendas
+  hands-last agendas all = all-then (λ (s : Agenda). HasTrueHand v (facts h) s.machine) (λ (s : Agenda). HasTrueHand v (facts h') s.machine) agendas (λ (s : Agenda) hand. hand-lasts s.machine hand) all
 
 -- ---- a turn
 
@@ -103,8 +103,8 @@ not-earlier false is = refl
 is-not : {A : Type 0} (b : Bool) → b ≡ true → b ≡ false → A
 is-not b one other = absurd (cc)
 
-module _ {D : Type 0} {G : Ghosts D} (by : Actor) (place : ℕ) (d f : Driver D G) (is : d ≡ f) (log : Logged) (a0 a : Seat) (at : place_of by ≡ Some place) (here : slice_get d.seats.items place ≡ Some a0) (layout : HasLayout d.volume.layout a.machine)
-    (taken : seat_of a ≡ at_work (seat_of a0)) (events : log.events ≡ d.shared.log.events) (hand : (v : Volume) (f : Facts) → HasTrueHand v f a0.machine → HasTrueHand v f a.machine) (working : WorkingLaw) (old : List Event) where
+module _ {D : Type 0} {G : Ghosts D} (by : Actor) (place : ℕ) (d f : Driver D G) (is : d ≡ f) (log : Logged) (a0 a : Agenda) (at : place_of by ≡ Some place) (here : slice_get d.agendas.items place ≡ Some a0) (layout : HasLayout d.volume.layout a.machine)
+    (taken : agenda_of a ≡ at_work (agenda_of a0)) (events : log.events ≡ d.shared.log.events) (hand : (v : Volume) (f : Facts) → HasTrueHand v f a0.machine → HasTrueHand v f a.machine) (working : WorkingLaw) (old : List Event) where
   abbrev image : UnderFuse D → List ℕ → Type 0
   image = fused_image G.image
 
@@ -112,23 +112,23 @@ module _ {D : Type 0} {G : Ghosts D} (by : Actor) (place : ℕ) (d f : Driver D 
   h = d.shared.log.events
 
   abbrev Picture : Type 0
-  Picture = IsPicture image d.volume old (world_of d) d.seats.items d.shared.stations.items
+  Picture = IsPicture image d.volume old (world_of d) d.agendas.items d.shared.servers.items
 
-  at-seat : at_work ((world_of d).seats by) ≡ seat_of a
-  at-seat = ap at_work (seat-here d.seats.items by place a0 at here) ∙ sym taken
+  at-agenda : at_work ((world_of d).agendas by) ≡ agenda_of a
+  at-agenda = ap at_work (agenda-here d.agendas.items by place a0 at here) ∙ sym taken
 
   -- what is true of the actor at work and of the disks
-  known : Picture → IsTrueSeat d.volume (facts (log.events ++ old)) by a.machine × AreImaged image d.volume (facts (log.events ++ old)) d.shared.stations.items
+  known : Picture → IsTrueAgenda d.volume (facts (log.events ++ old)) by a.machine × AreImaged image d.volume (facts (log.events ++ old)) d.shared.servers.items
   known was =
       let v = d.volume in
       let whole = facts (h ++ old) in
       let own = of_actor by (h ++ old) in
       let run = of_actor by was.fine.run in
-      let at_hand = subst (λ (s : APlayer). IsOwn v whole own run by s.work × IsUnderWay v by s.number run s.work) at-seat (working v old (behind old (world_of d)) was.fine by (seated-at by place at)) in
-      let in_hand = hand v whole (all-at (λ (s : Seat). HasTrueHand v whole s.machine) d.seats.items place a0 was.hands here) in
-      let seat = true-seat v whole own run by a.number a.machine layout at_hand.0 at_hand.1 in_hand in (
-        subst (λ (k : List Event). IsTrueSeat v (facts (k ++ old)) by a.machine) (sym events) seat,
-        subst (λ (k : List Event). AreImaged image v (facts (k ++ old)) d.shared.stations.items) (sym events) was.disks,
+      let at_hand = subst (λ (s : APlayer). IsOwn v whole own run by s.work × IsUnderWay v by s.number run s.work) at-agenda (working v old (behind old (world_of d)) was.fine by (seated-at by place at)) in
+      let in_hand = hand v whole (all-at (λ (s : Agenda). HasTrueHand v whole s.machine) d.agendas.items place a0 was.hands here) in
+      let agenda = true-agenda v whole own run by a.number a.machine layout at_hand.0 at_hand.1 in_hand in (
+        subst (λ (k : List Event). IsTrueAgenda v (facts (k ++ old)) by a.machine) (sym events) agenda,
+        subst (λ (k : List Event). AreImaged image v (facts (k ++ old)) d.shared.servers.items) (sym events) was.disks,
       )
 
   -- what it says of a text is so by the whole log, where disks tell
@@ -136,14 +136,14 @@ module _ {D : Type 0} {G : Ghosts D} (by : Actor) (place : ℕ) (d f : Driver D 
       → (text_of m ≡ text_said (facts log.events) said) ⊎ ((log.earlier ≡ true) × IsUnbegun (facts log.events) said) → text_of m ≡ text_said (facts (log.events ++ old)) said
   told-text was m said has asks said_so =
       let v = d.volume in
-      let seat : IsTrueSeat v (facts (log.events ++ old)) by (Some m) = subst (λ (o : Option Machine). IsTrueSeat v (facts (log.events ++ old)) by o) has (known was).0 in
-      let knows_there = subst (λ (s : APlayer). KnowsLengths (facts (h ++ old)) s.work) at-seat (at-work-knows (facts (h ++ old)) ((world_of d).seats by) (was.lengths by)) in
+      let agenda : IsTrueAgenda v (facts (log.events ++ old)) by (Some m) = subst (λ (o : Option Machine). IsTrueAgenda v (facts (log.events ++ old)) by o) has (known was).0 in
+      let knows_there = subst (λ (s : APlayer). KnowsLengths (facts (h ++ old)) s.work) at-agenda (at-work-knows (facts (h ++ old)) ((world_of d).agendas by) (was.lengths by)) in
       let knows_here : KnowsLengths (facts (log.events ++ old)) (work_in a.machine) = subst (λ (k : List Event). KnowsLengths (facts (k ++ old)) (work_in a.machine)) (sym events) knows_there in
       let knows : KnowsLengths (facts (log.events ++ old)) m.work = subst (λ (o : Option Machine). KnowsLengths (facts (log.events ++ old)) (work_in o)) has knows_here in
       let legal = subst (λ (k : List Event). IsLegalInRuns v (k ++ old)) (sym events) (in-runs v old (behind old (world_of d)) was.fine) in
       let named : text_of m ≡ machine.text_said m.block said = ap (text_asked m.block) asks in
       let so : (machine.text_said m.block said ≡ text_said (facts log.events) said) ⊎ ((log.earlier ≡ true) × IsUnbegun (facts log.events) said) = elim said_so [ inl same ↦ inl (sym named ∙ same) | inr unbegun ↦ inr unbegun ] in
-      named ∙ right v.layout log.events old log.earlier m.block m.pairs was.bytes (short-text v (log.events ++ old) legal) said m.layout m.work seat.true_to.hand knows asks so
+      named ∙ right v.layout log.events old log.earlier m.block m.pairs was.bytes (short-text v (log.events ++ old) legal) said m.layout m.work agenda.true_to.hand knows asks so
 
   pub turn-texts : (log.earlier ≡ false → old ≡ []) → length old < 2 ^ 63 + 512 → length log.events ≤ 2 ^ 62 → HasPicture d old → exact_if G.tells log.earlier ≡ true → AreTexts a.machine log.earlier log.events old
   turn-texts anew short few picture exact m said has asks said_so = go G.tells refl
@@ -170,12 +170,12 @@ module _ {D : Type 0} {G : Ghosts D} (by : Actor) (place : ℕ) (d f : Driver D 
   turn-lengths proper picture told few asker c has asks g grows =
       let v = d.volume in
       let was = picture told (subst (λ (k : List Event). length (k ++ old) < 2 ^ 64 - 1) events few) in
-      let seat : IsTrueSeat v (facts (log.events ++ old)) by (Some asker) = subst (λ (o : Option Machine). IsTrueSeat v (facts (log.events ++ old)) by o) has (known was).0 in
-      asked-length v (facts (log.events ++ old)) g grows seat.own seat.run by seat.number (proper v) asker.layout asker.work seat.true_to.layout_is seat.true_to.own seat.way c asks
+      let agenda : IsTrueAgenda v (facts (log.events ++ old)) by (Some asker) = subst (λ (o : Option Machine). IsTrueAgenda v (facts (log.events ++ old)) by o) has (known was).0 in
+      asked-length v (facts (log.events ++ old)) g grows agenda.own agenda.run by agenda.number (proper v) asker.layout asker.work agenda.true_to.layout_is agenda.true_to.own agenda.way c asks
 
-  pub turn-picture : (b : Seat) (next : World) (ys : List (Station (UnderFuse D))) → TurnedLaw → TellingLaw → ((v : Volume) → IsLastingLaw v) → (IsTrue G.tells → IsTurn d.volume by (behind old (world_of d)) (behind old next))
-      → (IsTrue G.tells → KeepsPicture image by a.machine b.machine d.shared.stations.items log.events ys next.log) → GrowsBy h next.log → HasPicture f old
-      → IsTrue G.tells → length (next.log ++ old) < 2 ^ 64 - 1 → IsPicture image d.volume old next (set d.seats.items place b) ys
+  pub turn-picture : (b : Agenda) (next : World) (ys : List (Server (UnderFuse D))) → TurnedLaw → TellingLaw → ((v : Volume) → IsLastingLaw v) → (IsTrue G.tells → IsTurn d.volume by (behind old (world_of d)) (behind old next))
+      → (IsTrue G.tells → KeepsPicture image by a.machine b.machine d.shared.servers.items log.events ys next.log) → GrowsBy h next.log → HasPicture f old
+      → IsTrue G.tells → length (next.log ++ old) < 2 ^ 64 - 1 → IsPicture image d.volume old next (set d.agendas.items place b) ys
   turn-picture b next ys turned telling lasting turn keeps grown picture told few =
       let v = d.volume in
       let grows = grows-behind old h next.log grown in
@@ -188,13 +188,13 @@ module _ {D : Type 0} {G : Ghosts D} (by : Actor) (place : ℕ) (d f : Driver D 
         bytes = was.bytes;
         fine = fine;
         lengths = lengths-turn v (telling v was.rules) old by (behind old (world_of d)) (behind old next) (turn told) fine was.lengths;
-        hands = all-set (λ (s : Seat). HasTrueHand v (facts (next.log ++ old)) s.machine) d.seats.items place b (hands-last v (lasting v) (h ++ old) (next.log ++ old) grows d.seats.items was.hands) kept.0;
+        hands = all-set (λ (s : Agenda). HasTrueHand v (facts (next.log ++ old)) s.machine) d.agendas.items place b (hands-last v (lasting v) (h ++ old) (next.log ++ old) grows d.agendas.items was.hands) kept.0;
         disks = kept.1;
       }
 
   -- where the turn ended for want of memory
-  pub turn-spares : (ys : List (Station (UnderFuse D))) → (IsTrue G.tells → SparesPicture image by a.machine d.shared.stations.items log.events ys) → IsTrue G.tells → Picture
-      → AreImaged image d.volume (facts (h ++ old)) ys × (state_in ys ≡ state_in d.shared.stations.items)
+  pub turn-spares : (ys : List (Server (UnderFuse D))) → (IsTrue G.tells → SparesPicture image by a.machine d.shared.servers.items log.events ys) → IsTrue G.tells → Picture
+      → AreImaged image d.volume (facts (h ++ old)) ys × (state_in ys ≡ state_in d.shared.servers.items)
   turn-spares ys spares told was =
       let k = known was in
       let s = spares told d.volume old k.0 k.1 in
@@ -207,9 +207,9 @@ module _ {D : Type 0} {G : Ghosts D} (d f : Driver D G) (is : d ≡ f) (h' : Lis
   held-there = subst (λ (x : Driver D G). Holds x b) (sym is) held
 
   -- the states of all nodes are as before, and so is the log
-  pub right-disks : (ys : List (Station (UnderFuse D))) → numbers_of ys ≡ numbers_of d.shared.stations.items
-      → (IsTrue G.tells → IsPicture (fused_image G.image) d.volume b.log (world_of d) d.seats.items d.shared.stations.items
-      → AreImaged (fused_image G.image) d.volume (facts (d.shared.log.events ++ b.log)) ys × (state_in ys ≡ state_in d.shared.stations.items))
+  pub right-disks : (ys : List (Server (UnderFuse D))) → numbers_of ys ≡ numbers_of d.shared.servers.items
+      → (IsTrue G.tells → IsPicture (fused_image G.image) d.volume b.log (world_of d) d.agendas.items d.shared.servers.items
+      → AreImaged (fused_image G.image) d.volume (facts (d.shared.log.events ++ b.log)) ys × (state_in ys ≡ state_in d.shared.servers.items))
       → IsTrue G.tells → length (h' ++ b.log) < 2 ^ 64 - 1 → AllByRecursion (IsRight (fused_image G.image) d.volume (h' ++ b.log)) ys
   right-disks ys numbers spares told few =
       let h = d.shared.log.events in
@@ -217,22 +217,22 @@ module _ {D : Type 0} {G : Ghosts D} (d f : Driver D G) (is : d ≡ f) (h' : Lis
       let s = spares told was in
       let apart = subst (IsDistinct nat_eq) (sym (numbers ∙ held-there.0.named)) held-there.0.apart in
       subst (λ (k : List Event). AllByRecursion (IsRight (fused_image G.image) d.volume (k ++ b.log)) ys) (sym log)
-      (are-right (fused_image G.image) d.volume (h ++ b.log) (state_in d.shared.stations.items) was.fine.nodes_are ys s.1 apart s.0)
+      (are-right (fused_image G.image) d.volume (h ++ b.log) (state_in d.shared.servers.items) was.fine.nodes_are ys s.1 apart s.0)
 
   -- no node was called
-  pub still-right : IsTrue G.tells → length (h' ++ b.log) < 2 ^ 64 - 1 → AllByRecursion (IsRight (fused_image G.image) d.volume (h' ++ b.log)) d.shared.stations.items
-  still-right = right-disks d.shared.stations.items refl (λ told was. (was.disks, refl))
+  pub still-right : IsTrue G.tells → length (h' ++ b.log) < 2 ^ 64 - 1 → AllByRecursion (IsRight (fused_image G.image) d.volume (h' ++ b.log)) d.shared.servers.items
+  still-right = right-disks d.shared.servers.items refl (λ told was. (was.disks, refl))
 
-  pub still-counted : AreCounted (fused_meter G.meter) (numbers_in d) d.shared.stations.items h' b.counts
-  still-counted = subst (λ (k : List Event). AreCounted (fused_meter G.meter) (numbers_in d) d.shared.stations.items k b.counts) (sym log)
-      (metered-counts (fused_meter G.meter) b.counts (numbers_in d) d.shared.stations.items d.shared.log.events held-there.0)
+  pub still-counted : AreCounted (fused_meter G.meter) (numbers_in d) d.shared.servers.items h' b.counts
+  still-counted = subst (λ (k : List Event). AreCounted (fused_meter G.meter) (numbers_in d) d.shared.servers.items k b.counts) (sym log)
+      (metered-counts (fused_meter G.meter) b.counts (numbers_in d) d.shared.servers.items d.shared.log.events held-there.0)
 
 -- however it ended
 pub leaves-right : {D : Type 0} {G : Ghosts D} (d : Driver D G) (b : Before) → Leaves d b → HasRightDisks d b.log
 leaves-right d b (inl held) = still-right d d refl d.shared.log.events refl b held
 leaves-right d b (inr left) = left.1
 
-pub leaves-named : {D : Type 0} {G : Ghosts D} (d : Driver D G) (b : Before) → Leaves d b → numbers_of d.shared.stations.items ≡ numbers_in d
+pub leaves-named : {D : Type 0} {G : Ghosts D} (d : Driver D G) (b : Before) → Leaves d b → numbers_of d.shared.servers.items ≡ numbers_in d
 leaves-named d b (inl held) = held.0.named
 leaves-named d b (inr left) = left.0.named
 
@@ -243,20 +243,20 @@ leaves-short d b (inr left) = left.3.short
 -- ---- an order
 
 -- an actor is ordered something, and its work stays
-pub works-with : (w : World) (by : Actor) (t : APlayer) → t.work ≡ (w.seats by).work → (a : Actor) → ((with_seat w by t).seats a).work ≡ (w.seats a).work
+pub works-with : (w : World) (by : Actor) (t : APlayer) → t.work ≡ (w.agendas by).work → (a : Actor) → ((with_agenda w by t).agendas a).work ≡ (w.agendas a).work
 works-with w by t same a = go (same_actor a by) refl
   where
-    go : (z : Bool) → same_actor a by ≡ z → (cond z t (w.seats a)).work ≡ (w.seats a).work
-    go true is = same ∙ ap (λ (o : Actor). (w.seats o).work) (sym (same_actor-true a by is))
+    go : (z : Bool) → same_actor a by ≡ z → (cond z t (w.agendas a)).work ≡ (w.agendas a).work
+    go true is = same ∙ ap (λ (o : Actor). (w.agendas o).work) (sym (same_actor-true a by is))
     go false is = refl
 
 module _ {D : Type 0} {G : Ghosts D} (d : Driver D G) (old : List Event) where
-  pub picture-then : (next : World) (seats : List Seat) (ys : List (Station (UnderFuse D))) → GrowsBy d.shared.log.events next.log → ((a : Actor) → (next.seats a).work ≡ ((world_of d).seats a).work)
+  pub picture-then : (next : World) (agendas : List Agenda) (ys : List (Server (UnderFuse D))) → GrowsBy d.shared.log.events next.log → ((a : Actor) → (next.agendas a).work ≡ ((world_of d).agendas a).work)
       → (IsTrue G.tells → IsVolume d.volume → IsFine d.volume old (behind old (world_of d)) → IsFineIfShort d.volume old (behind old next))
-      → (AllByRecursion (λ (s : Seat). HasTrueHand d.volume (facts (d.shared.log.events ++ old)) s.machine) d.seats.items → AllByRecursion (λ (s : Seat). HasTrueHand d.volume (facts (next.log ++ old)) s.machine) seats)
-      → (IsTrue G.tells → AreImaged (fused_image G.image) d.volume (facts (d.shared.log.events ++ old)) d.shared.stations.items → AreImaged (fused_image G.image) d.volume (facts (next.log ++ old)) ys)
-      → HasPicture d old → IsTrue G.tells → length (next.log ++ old) < 2 ^ 64 - 1 → IsPicture (fused_image G.image) d.volume old next seats ys
-  picture-then next seats ys grown works fine hands disks picture told few =
+      → (AllByRecursion (λ (s : Agenda). HasTrueHand d.volume (facts (d.shared.log.events ++ old)) s.machine) d.agendas.items → AllByRecursion (λ (s : Agenda). HasTrueHand d.volume (facts (next.log ++ old)) s.machine) agendas)
+      → (IsTrue G.tells → AreImaged (fused_image G.image) d.volume (facts (d.shared.log.events ++ old)) d.shared.servers.items → AreImaged (fused_image G.image) d.volume (facts (next.log ++ old)) ys)
+      → HasPicture d old → IsTrue G.tells → length (next.log ++ old) < 2 ^ 64 - 1 → IsPicture (fused_image G.image) d.volume old next agendas ys
+  picture-then next agendas ys grown works fine hands disks picture told few =
       let whole = d.shared.log.events ++ old in
       let grows = grows-behind old d.shared.log.events next.log grown in
       let longer : Extends (facts whole) (facts (next.log ++ old)) = subst (λ (k : List Event). Extends (facts whole) (facts k)) (sym grows.1) (extends-more grows.0 whole) in
@@ -265,28 +265,28 @@ module _ {D : Type 0} {G : Ghosts D} (d : Driver D G) (old : List Event) where
         rules = was.rules;
         bytes = was.bytes;
         fine = fine told was.rules was.fine few;
-        lengths = λ a. subst (KnowsLengths (facts (next.log ++ old))) (sym (works a)) (lengths-grow (facts whole) (facts (next.log ++ old)) longer ((world_of d).seats a).work (was.lengths a));
+        lengths = λ a. subst (KnowsLengths (facts (next.log ++ old))) (sym (works a)) (lengths-grow (facts whole) (facts (next.log ++ old)) longer ((world_of d).agendas a).work (was.lengths a));
         hands = hands was.hands;
         disks = disks told was.disks;
       }
 
   -- an actor has more to do, or another plan for its next message
-  pub actor-picture : (place : ℕ) (s b : Seat) (turns : ℕ) → slice_get d.seats.items place ≡ Some s → b.machine ≡ s.machine → ((a : Actor) → ((world d.shared (set d.seats.items place b) turns).seats a).work ≡ ((world_of d).seats a).work)
-      → (IsVolume d.volume → IsFine d.volume old (behind old (world_of d)) → IsFineIfShort d.volume old (behind old (world d.shared (set d.seats.items place b) turns))) → HasPicture d old
-      → IsTrue G.tells → length (d.shared.log.events ++ old) < 2 ^ 64 - 1 → IsPicture (fused_image G.image) d.volume old (world d.shared (set d.seats.items place b) turns) (set d.seats.items place b) d.shared.stations.items
+  pub actor-picture : (place : ℕ) (s b : Agenda) (turns : ℕ) → slice_get d.agendas.items place ≡ Some s → b.machine ≡ s.machine → ((a : Actor) → ((world d.shared (set d.agendas.items place b) turns).agendas a).work ≡ ((world_of d).agendas a).work)
+      → (IsVolume d.volume → IsFine d.volume old (behind old (world_of d)) → IsFineIfShort d.volume old (behind old (world d.shared (set d.agendas.items place b) turns))) → HasPicture d old
+      → IsTrue G.tells → length (d.shared.log.events ++ old) < 2 ^ 64 - 1 → IsPicture (fused_image G.image) d.volume old (world d.shared (set d.agendas.items place b) turns) (set d.agendas.items place b) d.shared.servers.items
   actor-picture place s b turns here machine works fine =
       let v = d.volume in
       let f = facts (d.shared.log.events ++ old) in
-      picture-then (world d.shared (set d.seats.items place b) turns) (set d.seats.items place b) d.shared.stations.items ([], refl) works (λ told. fine)
-      (λ hands. all-set (λ (t : Seat). HasTrueHand v f t.machine) d.seats.items place b hands
-      (subst (HasTrueHand v f) (sym machine) (all-at (λ (t : Seat). HasTrueHand v f t.machine) d.seats.items place s hands here)))
+      picture-then (world d.shared (set d.agendas.items place b) turns) (set d.agendas.items place b) d.shared.servers.items ([], refl) works (λ told. fine)
+      (λ hands. all-set (λ (t : Agenda). HasTrueHand v f t.machine) d.agendas.items place b hands
+      (subst (HasTrueHand v f) (sym machine) (all-at (λ (t : Agenda). HasTrueHand v f t.machine) d.agendas.items place s hands here)))
       (λ told disks. disks)
 
 -- ---- of a node, of which the slice of the vector was written
 
-module _ {D : Type 0} {G : Ghosts D} (d : Driver D G) (xs ys : List (Station (UnderFuse D))) (same : xs ≡ d.shared.stations.items) (b : Before) (held : Holds d b) where
-  abbrev items : List (Station (UnderFuse D))
-  items = (with_items d.shared.stations ys).items
+module _ {D : Type 0} {G : Ghosts D} (d : Driver D G) (xs ys : List (Server (UnderFuse D))) (same : xs ≡ d.shared.servers.items) (b : Before) (held : Holds d b) where
+  abbrev items : List (Server (UnderFuse D))
+  items = (with_items d.shared.servers ys).items
 
   abbrev meter : UnderFuse D → Meter
   meter = fused_meter G.meter
@@ -295,23 +295,23 @@ module _ {D : Type 0} {G : Ghosts D} (d : Driver D G) (xs ys : List (Station (Un
   here = d.shared.log.events ++ b.log
 
   written : numbers_of ys ≡ numbers_of xs → items ≡ ys
-  written named = named-vector meter (numbers_in d) (λ i. i) d.shared.stations xs ys same named
+  written named = named-vector meter (numbers_in d) (λ i. i) d.shared.servers xs ys same named
 
   then-metered : AreMetered meter (numbers_in d) xs d.shared.log.events b.counts
-  then-metered = subst (λ (zs : List (Station (UnderFuse D))). AreMetered meter (numbers_in d) zs d.shared.log.events b.counts) (sym same) held.0
+  then-metered = subst (λ (zs : List (Server (UnderFuse D))). AreMetered meter (numbers_in d) zs d.shared.log.events b.counts) (sym same) held.0
 
-  pub order-holds : ((v : Volume) → IsLastingLaw v) → (next : World) → next.seats ≡ (world_of d).seats → GrowsBy d.shared.log.events next.log → (IsTrue G.tells → KeepsRow (fused_image G.image) xs d.shared.log.events ys next.log)
+  pub order-holds : ((v : Volume) → IsLastingLaw v) → (next : World) → next.agendas ≡ (world_of d).agendas → GrowsBy d.shared.log.events next.log → (IsTrue G.tells → KeepsRow (fused_image G.image) xs d.shared.log.events ys next.log)
       → (IsTrue G.tells → IsVolume d.volume → IsFine d.volume b.log (behind b.log (world_of d)) → IsFineIfShort d.volume b.log (behind b.log next))
       → ((numbers : List ℕ) → CarriesCounts (AreMetered meter numbers xs d.shared.log.events) (AreMetered meter numbers ys next.log))
-      → AreMetered meter (numbers_in d) items next.log b.counts × (IsTrue G.tells → length (next.log ++ b.log) < 2 ^ 64 - 1 → IsPicture (fused_image G.image) d.volume b.log next d.seats.items items)
-  order-holds lasting next seats grown keeps fine holds =
+      → AreMetered meter (numbers_in d) items next.log b.counts × (IsTrue G.tells → length (next.log ++ b.log) < 2 ^ 64 - 1 → IsPicture (fused_image G.image) d.volume b.log next d.agendas.items items)
+  order-holds lasting next agendas grown keeps fine holds =
       let v = d.volume in
       let was = then-metered in
       let now = holds (numbers_in d) b.counts was in
       let is : items ≡ ys = written (now.named ∙ sym was.named) in (
-        subst (λ (zs : List (Station (UnderFuse D))). AreMetered meter (numbers_in d) zs next.log b.counts) (sym is) now,
-        picture-then d b.log next d.seats.items items grown (λ a. ap (λ (f : Actor → APlayer). (f a).work) seats) fine
-            (λ hands. hands-last v (lasting v) here (next.log ++ b.log) (grows-behind b.log d.shared.log.events next.log grown) d.seats.items hands)
+        subst (λ (zs : List (Server (UnderFuse D))). AreMetered meter (numbers_in d) zs next.log b.counts) (sym is) now,
+        picture-then d b.log next d.agendas.items items grown (λ a. ap (λ (f : Actor → APlayer). (f a).work) agendas) fine
+            (λ hands. hands-last v (lasting v) here (next.log ++ b.log) (grows-behind b.log d.shared.log.events next.log grown) d.agendas.items hands)
             (λ told disks. subst (AreImaged (fused_image G.image) v (facts (next.log ++ b.log))) (sym is) (keeps told v b.log (subst (AreImaged (fused_image G.image) v (facts here)) (sym same) disks))) held.1,
       )
 
@@ -324,7 +324,7 @@ module _ {D : Type 0} {G : Ghosts D} (d : Driver D G) (xs ys : List (Station (Un
       let now = leaves (numbers_in d) b.counts was in
       let named = now.named ∙ sym was.named in
       let is : items ≡ ys = written named in (
-        subst (λ (zs : List (Station (UnderFuse D))). AreCounted meter (numbers_in d) zs h' b.counts) (sym is) now,
+        subst (λ (zs : List (Server (UnderFuse D))). AreCounted meter (numbers_in d) zs h' b.counts) (sym is) now,
         right-disks d d refl h' still b held items (ap numbers_of is ∙ named ∙ ap numbers_of same) (λ told picture.
             let s = spares told v b.log (subst (AreImaged (fused_image G.image) v (facts here)) (sym same) picture.disks) in
             (subst (AreImaged (fused_image G.image) v (facts here)) (sym is) s.0, ap state_in is ∙ s.1 ∙ ap state_in same)),

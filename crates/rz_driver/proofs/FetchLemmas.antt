@@ -11,7 +11,7 @@ use Rattle.rz_metadata.specs.Stands.{export_in}
 use Rattle.rz_node_model.specs.NodeEvents.{fetch_event}
 use Rattle.rz_scrub_report.specs.Stores.{GoesOn, IsFetched}
 use Rattle.rz_driver.specs.declared.driver.Driver.{Driver}
-use Rattle.rz_driver_actors.specs.declared.seat.Seat.{Seat}
+use Rattle.rz_driver_actors.specs.declared.agenda.Agenda.{Agenda}
 use Rattle.rz_driver_actors.specs.declared.shared.Shared.{Shared}
 use Rattle.rz_driver_nodes.specs.Fetches.{IsFetch}
 use Rattle.rz_driver.specs.Fetches.{GivesOf, Metered, state_of}
@@ -20,19 +20,19 @@ use Rattle.rz_driver.specs.OnlyAsked.{WasOnlyAsked}
 use Rattle.rz_driver_nodes.specs.Images.{fused_image}
 use Rattle.rz_driver.specs.Worlds.{IsDriver}
 use Rattle.rz_driver.proofs.NodeOrders.{ready-with}
-use Rattle.rz_driver_nodes.proofs.FetchLemmas.{gives-before, numbers-asked, stations-asked}
+use Rattle.rz_driver_nodes.proofs.FetchLemmas.{gives-before, numbers-asked, servers-asked}
 
 module _ {D : Type 0} {G : Ghosts D} (d e : Driver D G) (asked : WasOnlyAsked d e) where
   -- it can be asked again
   pub asked-ready : IsDriver d → IsDriver e
-  asked-ready ready = ready-with d e ready asked.volume (ap (λ (v : Vec Seat). v.items) asked.seats)
-      (stations-asked (fused_text G.text) (fused_image G.image) d.volume d.shared.stations.items e.shared.stations.items asked.nodes ready.stations)
-      (numbers-asked (fused_text G.text) (fused_image G.image) d.shared.stations.items e.shared.stations.items asked.nodes)
+  asked-ready ready = ready-with d e ready asked.volume (ap (λ (v : Vec Agenda). v.items) asked.agendas)
+      (servers-asked (fused_text G.text) (fused_image G.image) d.volume d.shared.servers.items e.shared.servers.items asked.nodes ready.servers)
+      (numbers-asked (fused_text G.text) (fused_image G.image) d.shared.servers.items e.shared.servers.items asked.nodes)
       (ap (λ (s : Shared (UnderFuse D) D). s.locks) asked.shared) (ap (λ (s : Shared (UnderFuse D) D). s.bins.items) asked.shared)
 
   -- as one sees it who scrubs it
   module _ (key : Key) (stamp : ℕ) (given : FetchAnswer) (n : ℕ) where
-    pub fetched-of : IsFetch key stamp given n d.shared.stations.items e.shared.stations.items → (position : ℕ) (h : List Event)
+    pub fetched-of : IsFetch key stamp given n d.shared.servers.items e.shared.servers.items → (position : ℕ) (h : List Event)
         → IsFetched n key position stamp given (state_of d h) (state_of e (fetch_event Admin n key position stamp given ∷ h))
     fetched-of o position h = record { given_is = o.given_is; export = ap (λ (s : Shared (UnderFuse D) D). export_in s.export) asked.shared; nodes = o.states; events = refl }
 
@@ -43,7 +43,7 @@ module _ {D : Type 0} {G : Ghosts D} (d e : Driver D G) (asked : WasOnlyAsked d 
     goes-on position ready met = record {
       ready = ready;
       described_is = asked.volume;
-      given = gives-before G.tells (fused_text G.text) (fused_image G.image) d.shared.stations.items e.shared.stations.items asked.nodes;
+      given = gives-before G.tells (fused_text G.text) (fused_image G.image) d.shared.servers.items e.shared.servers.items asked.nodes;
       export_is = λ h. ap (λ (s : Shared (UnderFuse D) D). export_in s.export) asked.shared;
       counted = met;
       asked = asked;

@@ -9,8 +9,8 @@ use Rattle.rz_export_model.specs.Export.{Export, new_export}
 use Rattle.rz_journal.specs.JournalText.{after_all}
 use Rattle.rz_journal.specs.Kept.{AllStandFor, AllStandForEither}
 use Rattle.rz_metadata.specs.declared.journaled.Journaled.{Journaled as Behind}
-use Rattle.rz_metadata.specs.declared.journaled.Refusal.{Refusal}
-use Rattle.rz_metadata.specs.declared.journaled.Refusal.TheVariants.{Full, Failed}
+use Rattle.rz_metadata.specs.declared.journaled.JournalRefusal.{JournalRefusal}
+use Rattle.rz_metadata.specs.declared.journaled.JournalRefusal.TheVariants.{Full, Failed}
 use Rattle.rz_metadata.specs.declared.metadata.Metadata.{Metadata}
 use Rattle.rz_metadata.specs.declared.metadata.Metadata.TheVariants.{InMemory, Journaled}
 use Rattle.rz_metadata.specs.Stands.{export_in, disk_of, refusal_of, IsKept, IsLeft, IsLeftBy, OverfillsHalf}
@@ -30,7 +30,7 @@ module _ (image : List ℕ → Type 0) (s : Export) (v : Volume) (volume : s.vol
   either-for-volume c all = subst (λ (u : Volume). StandForEither image u calls c) volume all
 
   -- it did not keep one more call
-  left-for : (tells : Bool) (first now : ℕ) (c : Call) (o : Option Refusal) → IsLeftBy o tells image first now s calls c → EndsFor o tells image first now v calls c
+  left-for : (tells : Bool) (first now : ℕ) (c : Call) (o : Option JournalRefusal) → IsLeftBy o tells image first now s calls c → EndsFor o tells image first now v calls c
   left-for tells first now c None left = λ told text is. inl (for-volume (left told) text is)
   left-for tells first now c (Some Full) left = (
     subst (λ (x : Export). OverfillsHalf x c) (left.0.made ∙ ap (λ (u : Volume). after_all (new_export u 0) calls) volume) left.1,
@@ -53,7 +53,7 @@ module _ {D : Type 0} (tells : Bool) (meter : D → Meter) (image : D → List �
     abbrev here : List ℕ → Type 0
     here = image j.journal.disk
 
-    abbrev EndsBy : Option Refusal → Type 0
+    abbrev EndsBy : Option JournalRefusal → Type 0
     EndsBy o = EndsAsRefused o tells here first (faults (meter j.journal.disk)) v h
 
     -- any call will do where none was left

@@ -30,7 +30,7 @@ use Rattle.rz_driver_asks.specs.Asked.{call_asked}
 use Rattle.rz_driver_asks.specs.Parts.{IsNoted}
 use Rattle.rz_metadata.specs.declared.metadata.Metadata.{Metadata}
 use Rattle.rz_metadata.specs.Stands.{export_in, Stands}
-use Rattle.rz_nodes.specs.declared.formatting.Station.{Station}
+use Rattle.rz_nodes.specs.declared.formatting.Server.{Server}
 use Rattle.rz_driver_nodes.specs.Administration.{IsStarted}
 use Rattle.rz_driver_nodes.proofs.EventWords.{node-word}
 use Rattle.rz_driver_nodes.proofs.PictureLemmas.{GrowsBy, grows-behind, grown-short}
@@ -51,8 +51,8 @@ use Rattle.rz_driver.proofs.KeptCalls.{calls-more, calls-same}
 pub order-stays : (n : ℕ) (question : NodeAsk) (given : NodeAnswer) (h h' : List Event) → h' ≡ noted (node_event Admin n question given) h → of_word Export h' ≡ of_word Export h
 order-stays n question given h h' log_is = ap (of_word Export) log_is ∙ noted-stays n (node_event Admin n question given) h (node-word Admin n question given)
 
-pub started-stays : {D : Type 0} (n : ℕ) (xs ys : List (Station D)) (h h' : List Event) → IsStarted n xs ys h h' → of_word Export h' ≡ of_word Export h
-started-stays n xs ys h h' o = order-stays o.station.sid ask.Start o.order.given h h' (o.log_is ∙ ap (λ (x : Option Event). noted x h) o.order.event_is)
+pub started-stays : {D : Type 0} (n : ℕ) (xs ys : List (Server D)) (h h' : List Event) → IsStarted n xs ys h h' → of_word Export h' ≡ of_word Export h
+started-stays n xs ys h h' o = order-stays o.server.sid ask.Start o.order.given h h' (o.log_is ∙ ap (λ (x : Option Event). noted x h) o.order.event_is)
 
 pub arming-stays : (n passes pick : ℕ) (h h' : List Event) → h' ≡ e.Armed n passes pick ∷ h → of_word Export h' ≡ of_word Export h
 arming-stays n passes pick h h' log_is = ap (of_word Export) log_is ∙ node-stays n (e.Armed n passes pick) h refl

@@ -42,13 +42,13 @@ use Rattle.rz_core.specs.History.{Facts, Begun, facts}
 use Rattle.rz_core.specs.Legal.{IsLegalInRuns}
 use Rattle.rz_core.specs.NodeRows.{IsRecord}
 use Rattle.rz_core.proofs.Extends.{Extends, extends-more}
-use Rattle.rz_play.specs.World.{World, Seat as APlayer, at_work, take_up}
+use Rattle.rz_play.specs.World.{World, Agenda as APlayer, at_work, take_up}
 use Rattle.rz_play.specs.Turns.{IsTurn, IsAskTurn, IsLost, counted, text_said}
 use Rattle.rz_play.specs.Turns as turns
 use Rattle.rz_play_laws.specs.Own.{IsToldBy}
 use Rattle.rz_play_laws.specs.Fine.{IsTelling, IsFine}
 use Rattle.rz_play_laws.proofs.Frames.{same_actor-true}
-use Rattle.rz_play_laws.proofs.Turning.{seat-mine, seat-other, in-runs}
+use Rattle.rz_play_laws.proofs.Turning.{agenda-mine, agenda-other, in-runs}
 use Rattle.rz_driver.specs.Pictures.{KnowsLength, KnowsLengths}
 use Rattle.rz_driver.proofs.FreshLengths.{got, calling, dropping, opening, locking, writing, rebuilding, ending}
 
@@ -227,19 +227,19 @@ record IsWent (v : Volume) (w next : World) (by : Actor) (s : APlayer) (a : Ask)
   pub xs : List Event
   pub step : IsStep by s.number a t xs
   pub log_is : next.log ≡ xs ++ w.log
-  pub work_is : (next.seats by).work ≡ told v.layout s.work t
-  pub others : (o : Actor) → same_actor o by ≡ false → next.seats o ≡ w.seats o
+  pub work_is : (next.agendas by).work ≡ told v.layout s.work t
+  pub others : (o : Actor) → same_actor o by ≡ false → next.agendas o ≡ w.agendas o
 
 module _ (v : Volume) (w next : World) (by : Actor) (s : APlayer) where
-  -- of a turn that is told by the actor's seat and events
-  went : (a : Ask) (t : Told) (xs : List Event) (z : World) (after : APlayer) → IsStep by s.number a t xs → next ≡ z → z.log ≡ xs ++ w.log → z.seats ≡ (λ o. cond (same_actor o by) after (w.seats o)) → after.work ≡ told v.layout s.work t → IsWent v w next by s a
-  went a t xs z after step is log seats work = record {
+  -- of a turn that is told by the actor's agenda and events
+  went : (a : Ask) (t : Told) (xs : List Event) (z : World) (after : APlayer) → IsStep by s.number a t xs → next ≡ z → z.log ≡ xs ++ w.log → z.agendas ≡ (λ o. cond (same_actor o by) after (w.agendas o)) → after.work ≡ told v.layout s.work t → IsWent v w next by s a
+  went a t xs z after step is log agendas work = record {
     t = t;
     xs = xs;
     step = step;
     log_is = ap (λ (x : World). x.log) is ∙ log;
-    work_is = ap (λ (x : World). (x.seats by).work) is ∙ ap (λ (f : Actor → APlayer). (f by).work) seats ∙ ap (λ (x : APlayer). x.work) (seat-mine by after (w.seats by)) ∙ work;
-    others = λ o apart. ap (λ (x : World). x.seats o) is ∙ ap (λ (f : Actor → APlayer). f o) seats ∙ seat-other o by (same_actor o by) after (w.seats o) apart;
+    work_is = ap (λ (x : World). (x.agendas by).work) is ∙ ap (λ (f : Actor → APlayer). (f by).work) agendas ∙ ap (λ (x : APlayer). x.work) (agenda-mine by after (w.agendas by)) ∙ work;
+    others = λ o apart. ap (λ (x : World). x.agendas o) is ∙ ap (λ (f : Actor → APlayer). f o) agendas ∙ agenda-other o by (same_actor o by) after (w.agendas o) apart;
   }
 
   lost-link : (question : NodeAsk) (miss : Option Bool) (reply : Bool) → IsLost miss question reply → goes_by_link question ≡ true
@@ -266,26 +266,26 @@ module _ (v : Volume) (telling : IsTelling v) where
   first-told [] h h' is legal = tt
   first-told (x ∷ more) h h' is legal = telling (more ++ h) x (subst (IsLegalInRuns v) is legal)
 
-  pub lengths-turn : (old : List Event) (by : Actor) (w next : World) → IsTurn v by w next → IsFine v old next → ((a : Actor) → KnowsLengths (facts w.log) (w.seats a).work) → (a : Actor) → KnowsLengths (facts next.log) (next.seats a).work
-  lengths-turn old by w next turn fine knows a = elim (step-of v (counted w) next by (at_work (w.seats by)) (ask_of v.layout (at_work (w.seats by)).work) turn) [
-    | inl same ↦ subst (λ (x : World). KnowsLengths (facts x.log) (x.seats a).work) (sym same) (knows a)
+  pub lengths-turn : (old : List Event) (by : Actor) (w next : World) → IsTurn v by w next → IsFine v old next → ((a : Actor) → KnowsLengths (facts w.log) (w.agendas a).work) → (a : Actor) → KnowsLengths (facts next.log) (next.agendas a).work
+  lengths-turn old by w next turn fine knows a = elim (step-of v (counted w) next by (at_work (w.agendas by)) (ask_of v.layout (at_work (w.agendas by)).work) turn) [
+    | inl same ↦ subst (λ (x : World). KnowsLengths (facts x.log) (x.agendas a).work) (sym same) (knows a)
     | inr g ↦ after g (same_actor a by) refl
   ]
     where
       s : APlayer
-      s = at_work (w.seats by)
+      s = at_work (w.agendas by)
 
-      after : IsWent v (counted w) next by (at_work (w.seats by)) (ask_of v.layout (at_work (w.seats by)).work) → (z : Bool) → same_actor a by ≡ z → KnowsLengths (facts next.log) (next.seats a).work
+      after : IsWent v (counted w) next by (at_work (w.agendas by)) (ask_of v.layout (at_work (w.agendas by)).work) → (z : Bool) → same_actor a by ≡ z → KnowsLengths (facts next.log) (next.agendas a).work
       after g true is =
           let whole = g.xs ++ w.log in
           let grows = extends-more g.xs w.log in
-          let now = lengths-go v by (at_work (w.seats by)).number (facts w.log) (facts whole) grows v.layout (at_work (w.seats by)).work g.t g.xs (at-work-knows (facts w.log) (w.seats by) (knows by)) g.step
+          let now = lengths-go v by (at_work (w.agendas by)).number (facts w.log) (facts whole) grows v.layout (at_work (w.agendas by)).work g.t g.xs (at-work-knows (facts w.log) (w.agendas by) (knows by)) g.step
           (first-told g.xs w.log next.log g.log_is (in-runs v old next fine)) in
-          subst (λ (h : List Event). KnowsLengths (facts h) (next.seats a).work) (sym g.log_is)
-          (subst (λ (o : Actor). KnowsLengths (facts whole) (next.seats o).work) (sym (same_actor-true a by is))
+          subst (λ (h : List Event). KnowsLengths (facts h) (next.agendas a).work) (sym g.log_is)
+          (subst (λ (o : Actor). KnowsLengths (facts whole) (next.agendas o).work) (sym (same_actor-true a by is))
           (subst (KnowsLengths (facts whole)) (sym g.work_is) now))
       after g false apart =
           let whole = g.xs ++ w.log in
-          subst (λ (h : List Event). KnowsLengths (facts h) (next.seats a).work) (sym g.log_is)
+          subst (λ (h : List Event). KnowsLengths (facts h) (next.agendas a).work) (sym g.log_is)
           (subst (λ (o : APlayer). KnowsLengths (facts whole) o.work) (sym (g.others a apart))
-          (lengths-grow (facts w.log) (facts whole) (extends-more g.xs w.log) (w.seats a).work (knows a)))
+          (lengths-grow (facts w.log) (facts whole) (extends-more g.xs w.log) (w.agendas a).work (knows a)))

@@ -24,16 +24,16 @@ use Rattle.rz_play.specs.World.{World, new_world}
 use Rattle.rz_play_laws.specs.Fine.{IsFine}
 use Rattle.rz_node_laws.specs.Images.{IsImaged, geometry_in}
 use Rattle.rz_node_laws.specs.Laws.{IsFreshLaw}
-use Rattle.rz_driver_actors.specs.declared.seat.Seat.{Seat}
-use Rattle.rz_nodes.specs.declared.formatting.Station.{Station}
+use Rattle.rz_driver_actors.specs.declared.agenda.Agenda.{Agenda}
+use Rattle.rz_nodes.specs.declared.formatting.Server.{Server}
 use Rattle.rz_nodes.specs.Formatted.{AreFormatted, IsFormatted, geometry_of}
 use Rattle.rz_driver_nodes.specs.Images.{AreImaged, HasImages, fused_image}
 use Rattle.rz_player.specs.Behind.{behind}
 use Rattle.rz_driver_actors.specs.Hands.{HasTrueHand}
 use Rattle.rz_driver.specs.Pictures.{IsPicture, KnowsLengths}
 use Rattle.rz_driver.specs.Worlds.{exact_if}
-use Rattle.rz_driver_actors.specs.Seats.{IsEmptySeat}
-use Rattle.rz_driver_nodes.specs.Stations.{IsStation}
+use Rattle.rz_driver_actors.specs.Agendas.{IsEmptyAgenda}
+use Rattle.rz_driver_nodes.specs.Servers.{IsServer}
 
 -- nothing was played
 none-held : (key : Key) → held_of maps.empty key ≡ []
@@ -63,9 +63,9 @@ new-exact false earlier none = subst (λ (e : Bool). exact_if false e ≡ true) 
 no-hand : (v : Volume) (f : Facts) (o : Option Machine) → o ≡ None → HasTrueHand v f o
 no-hand v f o none = subst (HasTrueHand v f) (sym none) tt
 
-pub no-hands : (v : Volume) (f : Facts) (seats : List Seat) → AllByRecursion IsEmptySeat seats → AllByRecursion (λ (s : Seat). HasTrueHand v f s.machine) seats
+pub no-hands : (v : Volume) (f : Facts) (agendas : List Agenda) → AllByRecursion IsEmptyAgenda agendas → AllByRecursion (λ (s : Agenda). HasTrueHand v f s.machine) agendas
 no-hands v f [] all = tt
-no-hands v f (s ∷ seats) all = (no-hand v f s.machine all.0.machine, no-hands v f seats all.1)
+no-hands v f (s ∷ agendas) all = (no-hand v f s.machine all.0.machine, no-hands v f agendas all.1)
 
 -- the disks were formatted
 module _ {D : Type 0} (tells : Bool) (meter : D → Meter) (text : D → List ℕ) (image : D → List ℕ → Type 0) (law : IsFreshLaw image) (told : IsTrue tells) (v : Volume) (f : Facts) where
@@ -73,7 +73,7 @@ module _ {D : Type 0} (tells : Bool) (meter : D → Meter) (text : D → List �
   empty-of : {g : Geometry} (d : D) → Only (text d) (image d) → StandsFor g 0 (text d) nothing → (c : List ℕ) → image d c → StandsFor g 0 c nothing
   empty-of {g = g} d settled stands c is = subst (λ (b : List ℕ). StandsFor g 0 b nothing) (sym (settled c is)) stands
 
-  new-has : (n : NodeSpec) (d : D) (s : Station (UnderFuse D)) → IsFormatted tells meter text image v.layout (n, d) s → IsStation v s → HasImages (fused_image image) v f s.sid s.node
+  new-has : (n : NodeSpec) (d : D) (s : Server (UnderFuse D)) → IsFormatted tells meter text image v.layout (n, d) s → IsServer v s → HasImages (fused_image image) v f s.sid s.node
   new-has n d s new shape =
       let cells : n.cells ≡ cells_of v s.sid = ap (λ (g : Geometry). g.cells) (sym new.geometry) ∙ shape.cells in
       let as_in : geometry_of v.layout n ≡ geometry_in v s.sid = λ i. record { layout = v.layout; bsize = bsize_of v.layout; node = sym new.number i; cells = cells i } in
@@ -84,23 +84,23 @@ module _ {D : Type 0} (tells : Bool) (meter : D → Meter) (text : D → List �
             (subst (λ (t : NodeState). IsImaged v f s.sid t (geometry_of v.layout n) (image s.node.disk.disk)) (sym new.state) first);
       }
 
-  new-images : (nodes : List NodeSpec) (disks : List D) (row : List (Station (UnderFuse D))) → AreFormatted tells meter text image v.layout nodes disks row → AllByRecursion (IsStation v) row → AreImaged (fused_image image) v f row
+  new-images : (nodes : List NodeSpec) (disks : List D) (row : List (Server (UnderFuse D))) → AreFormatted tells meter text image v.layout nodes disks row → AllByRecursion (IsServer v) row → AreImaged (fused_image image) v f row
   new-images nodes disks [] new all = tt
   new-images [] disks (s ∷ row) new all = absurd new
   new-images (n ∷ nodes) [] (s ∷ row) new all = absurd new
   new-images (n ∷ nodes) (d ∷ disks) (s ∷ row) new all = (new-has n d s new.0 all.0, new-images nodes disks row new.1 all.1)
 
-pub new-picture : {D : Type 0} (tells : Bool) (meter : D → Meter) (text : D → List ℕ) (image : D → List ℕ → Type 0) → IsFreshLaw image → (v : Volume) → IsVolume v → (disks : List D) (w : World) → w ≡ new_world v → (seats : List Seat) → AllByRecursion IsEmptySeat seats
-    → (row : List (Station (UnderFuse D))) → AllByRecursion (IsStation v) row → AreFormatted tells meter text image v.layout (nodes_of v.clusters) disks row → (u : Volume) → u ≡ v
-    → IsTrue tells → length (w.log ++ []) < 2 ^ 64 - 1 → IsPicture (fused_image image) u [] w seats row
-new-picture tells meter text image law v rules disks w world seats empty row stations new u volume told few =
+pub new-picture : {D : Type 0} (tells : Bool) (meter : D → Meter) (text : D → List ℕ) (image : D → List ℕ → Type 0) → IsFreshLaw image → (v : Volume) → IsVolume v → (disks : List D) (w : World) → w ≡ new_world v → (agendas : List Agenda) → AllByRecursion IsEmptyAgenda agendas
+    → (row : List (Server (UnderFuse D))) → AllByRecursion (IsServer v) row → AreFormatted tells meter text image v.layout (nodes_of v.clusters) disks row → (u : Volume) → u ≡ v
+    → IsTrue tells → length (w.log ++ []) < 2 ^ 64 - 1 → IsPicture (fused_image image) u [] w agendas row
+new-picture tells meter text image law v rules disks w world agendas empty row servers new u volume told few =
     let f = facts (w.log ++ []) in
     let same : behind [] w ≡ new_world v = ap (behind []) world in
-    subst (λ (x : Volume). IsPicture (fused_image image) x [] w seats row) (sym volume) (record {
+    subst (λ (x : Volume). IsPicture (fused_image image) x [] w agendas row) (sym volume) (record {
       rules = rules;
       bytes = λ s b none. absurd (cc);
       fine = subst (IsFine v []) (sym same) (new-fine v);
-      lengths = λ a. subst (λ (x : World). KnowsLengths (facts (w.log ++ [])) (x.seats a).work) (sym world) tt;
-      hands = no-hands v f seats empty;
-      disks = new-images tells meter text image law told v f (nodes_of v.clusters) disks row new stations;
+      lengths = λ a. subst (λ (x : World). KnowsLengths (facts (w.log ++ [])) (x.agendas a).work) (sym world) tt;
+      hands = no-hands v f agendas empty;
+      disks = new-images tells meter text image law told v f (nodes_of v.clusters) disks row new servers;
     })

@@ -31,30 +31,30 @@ use Rattle.rz_play.specs.Lines.{IsAdminCall, noted}
 use Rattle.rz_play.specs.Free.{IsFreeStart, PlaysLineOver}
 use Rattle.rz_driver.specs.declared.driver.Driver.{Driver}
 use Rattle.rz_driver_actors.specs.declared.shared.Shared.{Shared}
-use Rattle.rz_nodes.specs.declared.formatting.Station.{Station}
+use Rattle.rz_nodes.specs.declared.formatting.Server.{Server}
 use Rattle.rz_driver_nodes.specs.Administration.{IsOrdered, IsStarted, IsCalledAt, IsArming}
-use Rattle.rz_driver_actors.specs.Seats.{IsSeat}
-use Rattle.rz_driver_nodes.specs.Stations.{state_in, numbers_of, IsStation}
-use Rattle.rz_driver.specs.Worlds.{seat_in, world, world_of, AreLocks, HaveNoLocks, IsDriver}
+use Rattle.rz_driver_actors.specs.Agendas.{IsAgenda}
+use Rattle.rz_driver_nodes.specs.Servers.{state_in, numbers_of, IsServer}
+use Rattle.rz_driver.specs.Worlds.{agenda_in, world, world_of, AreLocks, HaveNoLocks, IsDriver}
 use Rattle.rz_driver_nodes.proofs.Rows.{state-same, all-set, all-at, state-at, state-set}
 use Rattle.rz_driver.proofs.ReadyLemmas.{numbers-kept}
 
 -- ---- a row of nodes in which one was called
 
 module _ {D : Type 0} where
-  pub called-of : (question : NodeAsk) (n : ℕ) (old new : List (Station D)) (log log' : List Event) → IsOrdered question n old new log log' → IsCalledAt n old new
-  called-of question n old new log log' o = record { place = o.place; station = o.station; after = o.after; at = o.at; is = o.is; stations = o.stations; called = o.order.called }
+  pub called-of : (question : NodeAsk) (n : ℕ) (old new : List (Server D)) (log log' : List Event) → IsOrdered question n old new log log' → IsCalledAt n old new
+  called-of question n old new log log' o = record { place = o.place; server = o.server; after = o.after; at = o.at; is = o.is; servers = o.servers; called = o.order.called }
 
-  call-keeps : (v : Volume) (s after : Station D) → after.sid ≡ s.sid → after.node.geometry ≡ s.node.geometry → IsStation v s → IsStation v after
+  call-keeps : (v : Volume) (s after : Server D) → after.sid ≡ s.sid → after.node.geometry ≡ s.node.geometry → IsServer v s → IsServer v after
   call-keeps v s after sid geometry shape = record {
     layout = ap (λ g. g.layout) geometry ∙ shape.layout;
     cells = ap (λ g. g.cells) geometry ∙ shape.cells ∙ ap (cells_of v) (sym sid);
   }
 
-  pub stations-kept : (v : Volume) (xs ys : List (Station D)) (place : ℕ) (s after : Station D) → slice_get xs place ≡ Some s → ys ≡ set xs place after → after.sid ≡ s.sid → after.node.geometry ≡ s.node.geometry
-      → AllByRecursion (IsStation v) xs → AllByRecursion (IsStation v) ys
-  stations-kept v xs ys place s after is set_is sid geometry all = subst (AllByRecursion (IsStation v)) (sym set_is)
-      (all-set (IsStation v) xs place after all (call-keeps v s after sid geometry (all-at (IsStation v) xs place s all is)))
+  pub servers-kept : (v : Volume) (xs ys : List (Server D)) (place : ℕ) (s after : Server D) → slice_get xs place ≡ Some s → ys ≡ set xs place after → after.sid ≡ s.sid → after.node.geometry ≡ s.node.geometry
+      → AllByRecursion (IsServer v) xs → AllByRecursion (IsServer v) ys
+  servers-kept v xs ys place s after is set_is sid geometry all = subst (AllByRecursion (IsServer v)) (sym set_is)
+      (all-set (IsServer v) xs place after all (call-keeps v s after sid geometry (all-at (IsServer v) xs place s all is)))
 
 -- ---- a start, over disks that tell their texts or that do not
 
@@ -65,70 +65,70 @@ start-over v n false w next told free = free
 -- ---- the vector of nodes, of which a slice was written
 
 module _ {X : Type 0} where
-  pub in-vector : (v : Vec (Station X)) (xs ys : List (Station X)) (place : ℕ) (after : Station X) → xs ≡ v.items → ys ≡ set xs place after → (with_items v ys).items ≡ ys
+  pub in-vector : (v : Vec (Server X)) (xs ys : List (Server X)) (place : ℕ) (after : Server X) → xs ≡ v.items → ys ≡ set xs place after → (with_items v ys).items ≡ ys
   in-vector v xs ys place after same is = with_items_is v ys (ap length is ∙ length-set xs place after ∙ ap length same ∙ sym v.ok.0)
 
-  pub ordered-in : (question : NodeAsk) (n : ℕ) (v : Vec (Station X)) (xs ys : List (Station X)) (log log' : List Event) → xs ≡ v.items → IsOrdered question n xs ys log log' → IsOrdered question n v.items (with_items v ys).items log log'
+  pub ordered-in : (question : NodeAsk) (n : ℕ) (v : Vec (Server X)) (xs ys : List (Server X)) (log log' : List Event) → xs ≡ v.items → IsOrdered question n xs ys log log' → IsOrdered question n v.items (with_items v ys).items log log'
   ordered-in question n v xs ys log log' same o =
-      subst (λ (zs : List (Station X)). IsOrdered question n zs (with_items v ys).items log log') same
-      (subst (λ (zs : List (Station X)). IsOrdered question n xs zs log log') (sym (in-vector v xs ys o.place o.after same o.stations)) o)
+      subst (λ (zs : List (Server X)). IsOrdered question n zs (with_items v ys).items log log') same
+      (subst (λ (zs : List (Server X)). IsOrdered question n xs zs log log') (sym (in-vector v xs ys o.place o.after same o.servers)) o)
 
-  pub started-in : (n : ℕ) (v : Vec (Station X)) (xs ys : List (Station X)) (log log' : List Event) → xs ≡ v.items → IsStarted n xs ys log log' → IsStarted n v.items (with_items v ys).items log log'
+  pub started-in : (n : ℕ) (v : Vec (Server X)) (xs ys : List (Server X)) (log log' : List Event) → xs ≡ v.items → IsStarted n xs ys log log' → IsStarted n v.items (with_items v ys).items log log'
   started-in n v xs ys log log' same o =
-      subst (λ (zs : List (Station X)). IsStarted n zs (with_items v ys).items log log') same
-      (subst (λ (zs : List (Station X)). IsStarted n xs zs log log') (sym (in-vector v xs ys o.place o.after same o.stations)) o)
+      subst (λ (zs : List (Server X)). IsStarted n zs (with_items v ys).items log log') same
+      (subst (λ (zs : List (Server X)). IsStarted n xs zs log log') (sym (in-vector v xs ys o.place o.after same o.servers)) o)
 
-  pub called-in : (n : ℕ) (v : Vec (Station X)) (xs ys : List (Station X)) → xs ≡ v.items → IsCalledAt n xs ys → IsCalledAt n v.items (with_items v ys).items
+  pub called-in : (n : ℕ) (v : Vec (Server X)) (xs ys : List (Server X)) → xs ≡ v.items → IsCalledAt n xs ys → IsCalledAt n v.items (with_items v ys).items
   called-in n v xs ys same c =
-      subst (λ (zs : List (Station X)). IsCalledAt n zs (with_items v ys).items) same
-      (subst (λ (zs : List (Station X)). IsCalledAt n xs zs) (sym (in-vector v xs ys c.place c.after same c.stations)) c)
+      subst (λ (zs : List (Server X)). IsCalledAt n zs (with_items v ys).items) same
+      (subst (λ (zs : List (Server X)). IsCalledAt n xs zs) (sym (in-vector v xs ys c.place c.after same c.servers)) c)
 
-  pub arming-in : (passes pick n : ℕ) (v : Vec (Station X)) (xs ys : List (Station X)) (log log' : List Event) → xs ≡ v.items → IsArming passes pick n xs ys log log' → IsArming passes pick n v.items (with_items v ys).items log log'
+  pub arming-in : (passes pick n : ℕ) (v : Vec (Server X)) (xs ys : List (Server X)) (log log' : List Event) → xs ≡ v.items → IsArming passes pick n xs ys log log' → IsArming passes pick n v.items (with_items v ys).items log log'
   arming-in passes pick n v xs ys log log' same a =
-      subst (λ (zs : List (Station X)). IsArming passes pick n zs (with_items v ys).items log log') same
-      (subst (λ (zs : List (Station X)). IsArming passes pick n xs zs log log') (sym (in-vector v xs ys a.place a.after same a.stations)) a)
+      subst (λ (zs : List (Server X)). IsArming passes pick n zs (with_items v ys).items log log') same
+      (subst (λ (zs : List (Server X)). IsArming passes pick n xs zs log log') (sym (in-vector v xs ys a.place a.after same a.servers)) a)
 
 -- ---- a driver of which a node was called
 
-module _ {D : Type 0} {G : Ghosts D} (d e : Driver D G) (ready : IsDriver d) (volume : e.volume ≡ d.volume) (seats : e.seats.items ≡ d.seats.items) where
-  pub ready-with : AllByRecursion (IsStation d.volume) e.shared.stations.items → numbers_of e.shared.stations.items ≡ numbers_of d.shared.stations.items → e.shared.locks ≡ d.shared.locks → e.shared.bins.items ≡ d.shared.bins.items → IsDriver e
-  ready-with stations numbers locks bins = record {
-    stations = subst (λ (v : Volume). AllByRecursion (IsStation v) e.shared.stations.items) (sym volume) stations;
+module _ {D : Type 0} {G : Ghosts D} (d e : Driver D G) (ready : IsDriver d) (volume : e.volume ≡ d.volume) (agendas : e.agendas.items ≡ d.agendas.items) where
+  pub ready-with : AllByRecursion (IsServer d.volume) e.shared.servers.items → numbers_of e.shared.servers.items ≡ numbers_of d.shared.servers.items → e.shared.locks ≡ d.shared.locks → e.shared.bins.items ≡ d.shared.bins.items → IsDriver e
+  ready-with servers numbers locks bins = record {
+    servers = subst (λ (v : Volume). AllByRecursion (IsServer v) e.shared.servers.items) (sym volume) servers;
     numbers = numbers ∙ ready.numbers ∙ ap (λ (v : Volume). map (λ (n : NodeSpec). n.sid) (nodes_of v.clusters)) (sym volume);
     bins = subst (λ (v : Volume). max_bins_of v.layout ≤ length e.shared.bins.items) (sym volume) (subst (λ (xs : List ℕ). max_bins_of d.volume.layout ≤ length xs) (sym bins) ready.bins);
-    seats = subst (λ (v : Volume). AllByRecursion (IsSeat v.layout) e.seats.items) (sym volume) (subst (AllByRecursion (IsSeat d.volume.layout)) (sym seats) ready.seats);
-    count = ap length seats ∙ ready.count;
-    locks = subst (λ (h : Held). AreLocks h e.seats.items) (sym locks) (subst (AreLocks d.shared.locks) (sym seats) ready.locks);
-    no_locks = subst HaveNoLocks (sym seats) ready.no_locks;
+    agendas = subst (λ (v : Volume). AllByRecursion (IsAgenda v.layout) e.agendas.items) (sym volume) (subst (AllByRecursion (IsAgenda d.volume.layout)) (sym agendas) ready.agendas);
+    count = ap length agendas ∙ ready.count;
+    locks = subst (λ (h : Held). AreLocks h e.agendas.items) (sym locks) (subst (AreLocks d.shared.locks) (sym agendas) ready.locks);
+    no_locks = subst HaveNoLocks (sym agendas) ready.no_locks;
   }
 
-  pub called-ready : (n : ℕ) → IsCalledAt n d.shared.stations.items e.shared.stations.items → e.shared.locks ≡ d.shared.locks → e.shared.bins.items ≡ d.shared.bins.items → IsDriver e
+  pub called-ready : (n : ℕ) → IsCalledAt n d.shared.servers.items e.shared.servers.items → e.shared.locks ≡ d.shared.locks → e.shared.bins.items ≡ d.shared.bins.items → IsDriver e
   called-ready n c locks bins = ready-with
-      (stations-kept d.volume d.shared.stations.items e.shared.stations.items c.place c.station c.after c.is c.stations c.called.sid c.called.geometry ready.stations)
-      (numbers-kept d.shared.stations.items e.shared.stations.items c.place c.station c.after c.is c.stations c.called.sid) locks bins
+      (servers-kept d.volume d.shared.servers.items e.shared.servers.items c.place c.server c.after c.is c.servers c.called.sid c.called.geometry ready.servers)
+      (numbers-kept d.shared.servers.items e.shared.servers.items c.place c.server c.after c.is c.servers c.called.sid) locks bins
 
-  pub armed-ready : (passes pick n : ℕ) → IsArming passes pick n d.shared.stations.items e.shared.stations.items d.shared.log.events e.shared.log.events → e.shared.locks ≡ d.shared.locks → e.shared.bins.items ≡ d.shared.bins.items → IsDriver e
+  pub armed-ready : (passes pick n : ℕ) → IsArming passes pick n d.shared.servers.items e.shared.servers.items d.shared.log.events e.shared.log.events → e.shared.locks ≡ d.shared.locks → e.shared.bins.items ≡ d.shared.bins.items → IsDriver e
   armed-ready passes pick n a locks bins = ready-with
-      (stations-kept d.volume d.shared.stations.items e.shared.stations.items a.place a.station a.after a.is a.stations a.armed.sid a.armed.geometry ready.stations)
-      (numbers-kept d.shared.stations.items e.shared.stations.items a.place a.station a.after a.is a.stations a.armed.sid) locks bins
+      (servers-kept d.volume d.shared.servers.items e.shared.servers.items a.place a.server a.after a.is a.servers a.armed.sid a.armed.geometry ready.servers)
+      (numbers-kept d.shared.servers.items e.shared.servers.items a.place a.server a.after a.is a.servers a.armed.sid) locks bins
 
 -- ---- the world after it
 
 module _ {D : Type 0} {G : Ghosts D} (d : Driver D G) (ready : IsDriver d) (q : Shared (UnderFuse D) D) (export : q.export ≡ d.shared.export) (lost : q.lost ≡ d.shared.lost) where
-  abbrev xs : List (Station (UnderFuse D))
-  xs = d.shared.stations.items
+  abbrev xs : List (Server (UnderFuse D))
+  xs = d.shared.servers.items
 
   -- it is a call of the administrator in the world of the play
-  pub admin-call : (question : NodeAsk) (n : ℕ) → IsOrdered question n d.shared.stations.items q.stations.items d.shared.log.events q.log.events → IsAdminCall d.volume n question (world_of d) (world q d.seats.items d.turns)
+  pub admin-call : (question : NodeAsk) (n : ℕ) → IsOrdered question n d.shared.servers.items q.servers.items d.shared.log.events q.log.events → IsAdminCall d.volume n question (world_of d) (world q d.agendas.items d.turns)
   admin-call question n o =
-      let s = o.station in
+      let s = o.server in
       let here = state-at xs n o.place s o.at o.is in
-      let shape = all-at (IsStation d.volume) xs o.place s ready.stations o.is in
+      let shape = all-at (IsServer d.volume) xs o.place s ready.servers o.is in
       let cells : s.node.geometry.cells ≡ cells_of d.volume n = shape.cells ∙ ap (cells_of d.volume) here.0 in
       let given = o.order.given in
       let after : o.after.node.state ≡ after_answer question given (state_in xs n) = o.order.after ∙ ap (after_answer question given) (sym here.1) in
-      let nodes : state_in q.stations.items ≡ (λ m. cond (m == n) (after_answer question given (state_in xs n)) (state_in xs m)) =
-      ap (λ (ys : List (Station (UnderFuse D))). state_in ys) o.stations
+      let nodes : state_in q.servers.items ≡ (λ m. cond (m == n) (after_answer question given (state_in xs n)) (state_in xs m)) =
+      ap (λ (ys : List (Server (UnderFuse D))). state_in ys) o.servers
       ∙ fun_ext (λ m. state-set xs n o.place o.after o.at (o.order.called.sid ∙ here.0) m ∙ ap (λ (x : NodeState). cond (m == n) x (state_in xs m)) after)
       in
       let log : q.log.events ≡ noted (node_event Admin n question given) d.shared.log.events =
@@ -142,7 +142,7 @@ module _ {D : Type 0} {G : Ghosts D} (d : Driver D G) (ready : IsDriver d) (q : 
         next_is = λ i. record {
           nodes = nodes i;
           export = export_in (export i);
-          seats = seat_in d.seats.items;
+          agendas = agenda_in d.agendas.items;
           turns = d.turns;
           lost = lost i;
           log = log i;
@@ -150,15 +150,15 @@ module _ {D : Type 0} {G : Ghosts D} (d : Driver D G) (ready : IsDriver d) (q : 
       }
 
   -- it is a start in the world of a play over disks that need not tell their texts
-  pub free-start : (n : ℕ) → IsStarted n d.shared.stations.items q.stations.items d.shared.log.events q.log.events → IsFreeStart d.volume n (world_of d) (world q d.seats.items d.turns)
+  pub free-start : (n : ℕ) → IsStarted n d.shared.servers.items q.servers.items d.shared.log.events q.log.events → IsFreeStart d.volume n (world_of d) (world q d.agendas.items d.turns)
   free-start n o =
-      let s = o.station in
+      let s = o.server in
       let here = state-at xs n o.place s o.at o.is in
-      let shape = all-at (IsStation d.volume) xs o.place s ready.stations o.is in
+      let shape = all-at (IsServer d.volume) xs o.place s ready.servers o.is in
       let cells : s.node.geometry.cells ≡ cells_of d.volume n = shape.cells ∙ ap (cells_of d.volume) here.0 in
       let given = o.order.given in
-      let nodes : state_in q.stations.items ≡ (λ m. cond (m == n) o.after.node.state (state_in xs m)) =
-      ap (λ (ys : List (Station (UnderFuse D))). state_in ys) o.stations
+      let nodes : state_in q.servers.items ≡ (λ m. cond (m == n) o.after.node.state (state_in xs m)) =
+      ap (λ (ys : List (Server (UnderFuse D))). state_in ys) o.servers
       ∙ fun_ext (λ m. state-set xs n o.place o.after o.at (o.order.called.sid ∙ here.0) m)
       in
       let log : q.log.events ≡ noted (node_event Admin n ask.Start given) d.shared.log.events =
@@ -173,7 +173,7 @@ module _ {D : Type 0} {G : Ghosts D} (d : Driver D G) (ready : IsDriver d) (q : 
         next_is = λ i. record {
           nodes = nodes i;
           export = export_in (export i);
-          seats = seat_in d.seats.items;
+          agendas = agenda_in d.agendas.items;
           turns = d.turns;
           lost = lost i;
           log = log i;
@@ -181,18 +181,18 @@ module _ {D : Type 0} {G : Ghosts D} (d : Driver D G) (ready : IsDriver d) (q : 
       }
 
   -- the states of all nodes stay where a disk is armed
-  pub armed-world : (passes pick n : ℕ) → IsArming passes pick n d.shared.stations.items q.stations.items d.shared.log.events q.log.events
-      → world q d.seats.items d.turns ≡ record (world_of d) { log = event.Armed n passes pick ∷ d.shared.log.events }
+  pub armed-world : (passes pick n : ℕ) → IsArming passes pick n d.shared.servers.items q.servers.items d.shared.log.events q.log.events
+      → world q d.agendas.items d.turns ≡ record (world_of d) { log = event.Armed n passes pick ∷ d.shared.log.events }
   armed-world passes pick n a =
-      let here = state-at xs n a.place a.station a.at a.is in
-      let nodes : state_in q.stations.items ≡ state_in xs =
-      ap (λ (ys : List (Station (UnderFuse D))). state_in ys) a.stations
+      let here = state-at xs n a.place a.server a.at a.is in
+      let nodes : state_in q.servers.items ≡ state_in xs =
+      ap (λ (ys : List (Server (UnderFuse D))). state_in ys) a.servers
       ∙ fun_ext (λ m. state-set xs n a.place a.after a.at (a.armed.sid ∙ here.0) m ∙ state-same xs n m a.after.node.state (a.armed.state ∙ sym here.1))
       in
       λ i. record {
         nodes = nodes i;
         export = export_in (export i);
-        seats = seat_in d.seats.items;
+        agendas = agenda_in d.agendas.items;
         turns = d.turns;
         lost = lost i;
         log = a.log_is i;

@@ -14,41 +14,41 @@ use Rattle.rz_events.specs.declared.keys.Actor.{Actor}
 use Rattle.rz_events.specs.declared.operations.Operation.{Operation}
 use Rattle.rz_events.specs.Events.{same_actor}
 use Rattle.rz_operation.specs.Answers.{IsOperation}
-use Rattle.rz_play.specs.World.{Seat as APlayer, with_seat}
+use Rattle.rz_play.specs.World.{Agenda as APlayer, with_agenda}
 use Rattle.rz_driver.specs.declared.driver.Driver.{Driver}
-use Rattle.rz_driver_actors.specs.declared.seat.Seat.{Seat}
+use Rattle.rz_driver_actors.specs.declared.agenda.Agenda.{Agenda}
 use Rattle.rz_driver_actors.specs.declared.shared.Shared.{Shared}
-use Rattle.rz_driver_actors.specs.Seats.{seat_of, IsSeat}
-use Rattle.rz_driver_nodes.specs.Stations.{numbers_of, IsStation}
-use Rattle.rz_driver.specs.Worlds.{place_of, seat_in, world, AreLocks, HaveNoLocks, IsDriver}
-use Rattle.rz_driver.proofs.WorldLemmas.{seat-here, seat-set}
+use Rattle.rz_driver_actors.specs.Agendas.{agenda_of, IsAgenda}
+use Rattle.rz_driver_nodes.specs.Servers.{numbers_of, IsServer}
+use Rattle.rz_driver.specs.Worlds.{place_of, agenda_in, world, AreLocks, HaveNoLocks, IsDriver}
+use Rattle.rz_driver.proofs.WorldLemmas.{agenda-here, agenda-set}
 use Rattle.rz_driver_nodes.proofs.Rows.{all-set}
 use Rattle.rz_driver.proofs.ReadyLemmas.{locks-stay}
 
 -- the world with one actor changed
-pub ordered : {D J : Type 0} (p : Shared D J) (ss : List Seat) (turns : ℕ) (by : Actor) (place : ℕ) (s b : Seat) (t : APlayer → APlayer) → place_of by ≡ Some place → place < length ss → slice_get ss place ≡ Some s → seat_of b ≡ t (seat_of s)
-    → world p (set ss place b) turns ≡ with_seat (world p ss turns) by (t ((world p ss turns).seats by))
-ordered p ss turns by place s b t at low here is = λ i. record (world p ss turns) { seats = seats i }
+pub ordered : {D J : Type 0} (p : Shared D J) (ss : List Agenda) (turns : ℕ) (by : Actor) (place : ℕ) (s b : Agenda) (t : APlayer → APlayer) → place_of by ≡ Some place → place < length ss → slice_get ss place ≡ Some s → agenda_of b ≡ t (agenda_of s)
+    → world p (set ss place b) turns ≡ with_agenda (world p ss turns) by (t ((world p ss turns).agendas by))
+ordered p ss turns by place s b t at low here is = λ i. record (world p ss turns) { agendas = agendas i }
   where
-    seats : seat_in (set ss place b) ≡ (λ x. cond (same_actor x by) (t (seat_in ss by)) (seat_in ss x))
-    seats = fun_ext (λ x. seat-set ss by place b at low x ∙ ap (λ (y : APlayer). cond (same_actor x by) y (seat_in ss x)) (is ∙ ap t (sym (seat-here ss by place s at here))))
+    agendas : agenda_in (set ss place b) ≡ (λ x. cond (same_actor x by) (t (agenda_in ss by)) (agenda_in ss x))
+    agendas = fun_ext (λ x. agenda-set ss by place b at low x ∙ ap (λ (y : APlayer). cond (same_actor x by) y (agenda_in ss x)) (is ∙ ap t (sym (agenda-here ss by place s at here))))
 
 pub all-more : (layout : Layout) (ops : List Operation) (op : Operation) → AllByRecursion (IsOperation layout) ops → IsOperation layout op → AllByRecursion (IsOperation layout) (ops ++ op ∷ [])
 all-more layout [] op all fits = (fits, tt)
 all-more layout (x ∷ ops) op all fits = (all.0, all-more layout ops op all.1 fits)
 
 -- a driver of which one actor changed, but not its lock
-pub still-ready : {D : Type 0} {G : Ghosts D} (d e : Driver D G) (by : Actor) (place : ℕ) (s b : Seat) → IsDriver d → e.volume ≡ d.volume → e.shared ≡ d.shared → e.seats.items ≡ set d.seats.items place b → place_of by ≡ Some place → place < length d.seats.items
-    → slice_get d.seats.items place ≡ Some s → IsSeat d.volume.layout b → b.lock ≡ s.lock → IsDriver e
-still-ready {D = D} d e by place s b ready volume shared seats at low here seat lock = record {
-  stations = subst (λ (v : Volume). AllByRecursion (IsStation v) e.shared.stations.items) (sym volume) (subst (λ (p : Shared (UnderFuse D) D). AllByRecursion (IsStation d.volume) p.stations.items) (sym shared) ready.stations);
-  numbers = ap (λ (p : Shared (UnderFuse D) D). numbers_of p.stations.items) shared ∙ ready.numbers ∙ ap (λ (v : Volume). map (λ (n : NodeSpec). n.sid) (nodes_of v.clusters)) (sym volume);
+pub still-ready : {D : Type 0} {G : Ghosts D} (d e : Driver D G) (by : Actor) (place : ℕ) (s b : Agenda) → IsDriver d → e.volume ≡ d.volume → e.shared ≡ d.shared → e.agendas.items ≡ set d.agendas.items place b → place_of by ≡ Some place → place < length d.agendas.items
+    → slice_get d.agendas.items place ≡ Some s → IsAgenda d.volume.layout b → b.lock ≡ s.lock → IsDriver e
+still-ready {D = D} d e by place s b ready volume shared agendas at low here agenda lock = record {
+  servers = subst (λ (v : Volume). AllByRecursion (IsServer v) e.shared.servers.items) (sym volume) (subst (λ (p : Shared (UnderFuse D) D). AllByRecursion (IsServer d.volume) p.servers.items) (sym shared) ready.servers);
+  numbers = ap (λ (p : Shared (UnderFuse D) D). numbers_of p.servers.items) shared ∙ ready.numbers ∙ ap (λ (v : Volume). map (λ (n : NodeSpec). n.sid) (nodes_of v.clusters)) (sym volume);
   bins = subst (λ (v : Volume). max_bins_of v.layout ≤ length e.shared.bins.items) (sym volume) (subst (λ (p : Shared (UnderFuse D) D). max_bins_of d.volume.layout ≤ length p.bins.items) (sym shared) ready.bins);
-  seats = subst (λ (v : Volume). AllByRecursion (IsSeat v.layout) e.seats.items) (sym volume) (subst (AllByRecursion (IsSeat d.volume.layout)) (sym seats) (all-set (IsSeat d.volume.layout) d.seats.items place b ready.seats seat));
-  count = ap length seats ∙ length-set d.seats.items place b ∙ ready.count;
-  locks = subst (λ (p : Shared (UnderFuse D) D). AreLocks p.locks e.seats.items) (sym shared) (subst (AreLocks d.shared.locks) (sym seats) both.0);
-  no_locks = subst HaveNoLocks (sym seats) both.1;
+  agendas = subst (λ (v : Volume). AllByRecursion (IsAgenda v.layout) e.agendas.items) (sym volume) (subst (AllByRecursion (IsAgenda d.volume.layout)) (sym agendas) (all-set (IsAgenda d.volume.layout) d.agendas.items place b ready.agendas agenda));
+  count = ap length agendas ∙ length-set d.agendas.items place b ∙ ready.count;
+  locks = subst (λ (p : Shared (UnderFuse D) D). AreLocks p.locks e.agendas.items) (sym shared) (subst (AreLocks d.shared.locks) (sym agendas) both.0);
+  no_locks = subst HaveNoLocks (sym agendas) both.1;
 }
   where
-    both : AreLocks d.shared.locks (set d.seats.items place b) × HaveNoLocks (set d.seats.items place b)
-    both = locks-stay by d.seats.items place at low s b here lock d.shared.locks ready.locks ready.no_locks
+    both : AreLocks d.shared.locks (set d.agendas.items place b) × HaveNoLocks (set d.agendas.items place b)
+    both = locks-stay by d.agendas.items place at low s b here lock d.shared.locks ready.locks ready.no_locks

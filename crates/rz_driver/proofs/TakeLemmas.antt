@@ -13,23 +13,23 @@ use Rattle.rz_events.specs.declared.files.NodeSpec.{NodeSpec}
 use Rattle.rz_events.specs.declared.keys.Actor.{Actor}
 use Rattle.rz_events.specs.declared.keys.Actor.TheVariants.{Client, Rebuilder, Admin}
 use Rattle.rz_events.specs.declared.events.Event.{Event}
-use Rattle.rz_play.specs.World.{World, Seat as APlayer, at_work}
+use Rattle.rz_play.specs.World.{World, Agenda as APlayer, at_work}
 use Rattle.rz_play.specs.Turns.{IsTurn}
 use Rattle.rz_driver.specs.declared.driver.Driver.{Driver}
-use Rattle.rz_driver_actors.specs.declared.seat.Seat.{Seat}
+use Rattle.rz_driver_actors.specs.declared.agenda.Agenda.{Agenda}
 use Rattle.rz_driver_actors.specs.declared.shared.Shared.{Shared}
-use Rattle.rz_nodes.specs.declared.formatting.Station.{Station}
+use Rattle.rz_nodes.specs.declared.formatting.Server.{Server}
 use Rattle.rz_driver_actors.specs.Acts.{IsAct, HasLayouts}
 use Rattle.rz_driver_asks.specs.Locking.{lock_of}
 use Rattle.rz_log.specs.Logged.{Logged}
-use Rattle.rz_driver_actors.specs.Seats.{seat_of, IsSeat}
-use Rattle.rz_driver_nodes.specs.Stations.{IsStation}
-use Rattle.rz_driver.specs.Worlds.{place_of, seat_in, world, world_of, AreLocks, HaveNoLocks, IsDriver}
+use Rattle.rz_driver_actors.specs.Agendas.{agenda_of, IsAgenda}
+use Rattle.rz_driver_nodes.specs.Servers.{IsServer}
+use Rattle.rz_driver.specs.Worlds.{place_of, agenda_in, world, world_of, AreLocks, HaveNoLocks, IsDriver}
 use Rattle.rz_driver_nodes.proofs.Rows.{all-set, all-at}
-use Rattle.rz_driver.proofs.ReadyLemmas.{stations-after, numbers-after, seat-after, locks-after}
+use Rattle.rz_driver.proofs.ReadyLemmas.{servers-after, numbers-after, agenda-after, locks-after}
 use Rattle.rz_player.specs.Behind.{behind}
 use Rattle.rz_driver.proofs.TurnLemmas.{AreTexts, turn-is}
-use Rattle.rz_driver.proofs.WorldLemmas.{client-place, rebuilder-place, seat-here}
+use Rattle.rz_driver.proofs.WorldLemmas.{client-place, rebuilder-place, agenda-here}
 
 place-low : (by : Actor) (q : ℕ) → place_of by ≡ Some q → q < 80
 place-low (Client m) q at = let r = client-place m q at in omega (arith, r.0, r.1, r.2)
@@ -37,56 +37,56 @@ place-low (Rebuilder m) q at = let r = rebuilder-place m q at in omega (arith, r
 place-low Admin q at = absurd (cc)
 
 -- the actor at a place
-pub seat-there : {D : Type 0} {G : Ghosts D} (by : Actor) (place : ℕ) (a : Seat) (d : Driver D G) → IsDriver d → place_of by ≡ Some place → a ≡ get_or d.seats.items place a
-    → (slice_get d.seats.items place ≡ Some a) × (place < length d.seats.items) × IsSeat d.volume.layout a
-seat-there by place a d ready at is =
-    let low : place < length d.seats.items = subst (λ (n : ℕ). place < n) (sym ready.count) (place-low by place at) in
-    let here : slice_get d.seats.items place ≡ Some a = slice_get_read d.seats.items (length d.seats.items) place a refl low is in
-    (here, low, all-at (IsSeat d.volume.layout) d.seats.items place a ready.seats here)
+pub agenda-there : {D : Type 0} {G : Ghosts D} (by : Actor) (place : ℕ) (a : Agenda) (d : Driver D G) → IsDriver d → place_of by ≡ Some place → a ≡ get_or d.agendas.items place a
+    → (slice_get d.agendas.items place ≡ Some a) × (place < length d.agendas.items) × IsAgenda d.volume.layout a
+agenda-there by place a d ready at is =
+    let low : place < length d.agendas.items = subst (λ (n : ℕ). place < n) (sym ready.count) (place-low by place at) in
+    let here : slice_get d.agendas.items place ≡ Some a = slice_get_read d.agendas.items (length d.agendas.items) place a refl low is in
+    (here, low, all-at (IsAgenda d.volume.layout) d.agendas.items place a ready.agendas here)
 
-pub have-layouts : {D : Type 0} (v : Volume) (xs : List (Station D)) → AllByRecursion (IsStation v) xs → HasLayouts v.layout xs
+pub have-layouts : {D : Type 0} (v : Volume) (xs : List (Server D)) → AllByRecursion (IsServer v) xs → HasLayouts v.layout xs
 have-layouts v [] all = tt
 have-layouts v (x ∷ xs) all = (all.0.layout, have-layouts v xs all.1)
 
 -- the locks have what a client notes as its own
-pub tied-at : {D : Type 0} {G : Ghosts D} (by : Actor) (place : ℕ) (a0 a : Seat) (d : Driver D G) → IsDriver d → place_of by ≡ Some place → slice_get d.seats.items place ≡ Some a0 → a.lock ≡ a0.lock
+pub tied-at : {D : Type 0} {G : Ghosts D} (by : Actor) (place : ℕ) (a0 a : Agenda) (d : Driver D G) → IsDriver d → place_of by ≡ Some place → slice_get d.agendas.items place ≡ Some a0 → a.lock ≡ a0.lock
     → (n : ℕ) → by ≡ Client n → get d.shared.locks n ≡ lock_of a.lock
 tied-at by place a0 a d ready at here kept n is =
-    ready.locks n ∙ ap (λ (x : Actor). (seat_in d.seats.items x).lock) (sym is) ∙ ap (λ (s : APlayer). s.lock) (seat-here d.seats.items by place a0 at here) ∙ ap lock_of (sym kept)
+    ready.locks n ∙ ap (λ (x : Actor). (agenda_in d.agendas.items x).lock) (sym is) ∙ ap (λ (s : APlayer). s.lock) (agenda-here d.agendas.items by place a0 at here) ∙ ap lock_of (sym kept)
 
-module _ {D : Type 0} {G : Ghosts D} (by : Actor) (place : ℕ) (d e : Driver D G) (log : Logged) (a0 a b : Seat) (ready : IsDriver d) (at : place_of by ≡ Some place) (here : slice_get d.seats.items place ≡ Some a0) (low : place < length d.seats.items)
-    (taken : seat_of a ≡ at_work (seat_of a0)) (fits : IsSeat d.volume.layout a) (kept : a.lock ≡ a0.lock) (events : log.events ≡ d.shared.log.events)
-    (acts : IsAct d.volume.layout by a b (record d.shared { log = log }) e.shared) (volume : e.volume ≡ d.volume) (seats : e.seats.items ≡ set d.seats.items place b) where
+module _ {D : Type 0} {G : Ghosts D} (by : Actor) (place : ℕ) (d e : Driver D G) (log : Logged) (a0 a b : Agenda) (ready : IsDriver d) (at : place_of by ≡ Some place) (here : slice_get d.agendas.items place ≡ Some a0) (low : place < length d.agendas.items)
+    (taken : agenda_of a ≡ at_work (agenda_of a0)) (fits : IsAgenda d.volume.layout a) (kept : a.lock ≡ a0.lock) (events : log.events ≡ d.shared.log.events)
+    (acts : IsAct d.volume.layout by a b (record d.shared { log = log }) e.shared) (volume : e.volume ≡ d.volume) (agendas : e.agendas.items ≡ set d.agendas.items place b) where
   abbrev p : Shared (UnderFuse D) D
   p = record d.shared { log = log }
 
-  abbrev ss : List Seat
-  ss = d.seats.items
+  abbrev ss : List Agenda
+  ss = d.agendas.items
 
   locks : AreLocks e.shared.locks (set ss place b) × HaveNoLocks (set ss place b)
   locks = locks-after by ss place at low a0 a b here kept d.volume.layout p e.shared acts ready.locks ready.no_locks
 
   pub drives : length e.shared.bins.items ≡ length d.shared.bins.items → IsDriver e
   drives bins = record {
-    stations = subst (λ (v : Volume). AllByRecursion (IsStation v) e.shared.stations.items) (sym volume) (stations-after d.volume d.volume.layout by a b p e.shared acts ready.stations);
+    servers = subst (λ (v : Volume). AllByRecursion (IsServer v) e.shared.servers.items) (sym volume) (servers-after d.volume d.volume.layout by a b p e.shared acts ready.servers);
     numbers = numbers-after d.volume.layout by a b p e.shared acts ∙ ready.numbers ∙ ap (λ (v : Volume). map (λ (n : NodeSpec). n.sid) (nodes_of v.clusters)) (sym volume);
     bins = subst (λ (v : Volume). max_bins_of v.layout ≤ length e.shared.bins.items) (sym volume) (subst (λ (n : ℕ). max_bins_of d.volume.layout ≤ n) (sym bins) ready.bins);
-    seats = subst (λ (v : Volume). AllByRecursion (IsSeat v.layout) e.seats.items) (sym volume)
-        (subst (AllByRecursion (IsSeat d.volume.layout)) (sym seats) (all-set (IsSeat d.volume.layout) ss place b ready.seats (seat-after d.volume.layout by a b p e.shared acts fits)));
-    count = ap length seats ∙ length-set ss place b ∙ ready.count;
-    locks = subst (AreLocks e.shared.locks) (sym seats) locks.0;
-    no_locks = subst HaveNoLocks (sym seats) locks.1;
+    agendas = subst (λ (v : Volume). AllByRecursion (IsAgenda v.layout) e.agendas.items) (sym volume)
+        (subst (AllByRecursion (IsAgenda d.volume.layout)) (sym agendas) (all-set (IsAgenda d.volume.layout) ss place b ready.agendas (agenda-after d.volume.layout by a b p e.shared acts fits)));
+    count = ap length agendas ∙ length-set ss place b ∙ ready.count;
+    locks = subst (AreLocks e.shared.locks) (sym agendas) locks.0;
+    no_locks = subst HaveNoLocks (sym agendas) locks.1;
   }
 
 -- and the world is that after the turn
-pub turned : {D : Type 0} {G : Ghosts D} (by : Actor) (place : ℕ) (d : Driver D G) (q : Shared (UnderFuse D) D) (log : Logged) (a0 a b : Seat) → IsDriver d → place_of by ≡ Some place → slice_get d.seats.items place ≡ Some a0 → place < length d.seats.items
-    → seat_of a ≡ at_work (seat_of a0) → IsSeat d.volume.layout a → a.lock ≡ a0.lock → log.events ≡ d.shared.log.events → IsAct d.volume.layout by a b (record d.shared { log = log }) q
+pub turned : {D : Type 0} {G : Ghosts D} (by : Actor) (place : ℕ) (d : Driver D G) (q : Shared (UnderFuse D) D) (log : Logged) (a0 a b : Agenda) → IsDriver d → place_of by ≡ Some place → slice_get d.agendas.items place ≡ Some a0 → place < length d.agendas.items
+    → agenda_of a ≡ at_work (agenda_of a0) → IsAgenda d.volume.layout a → a.lock ≡ a0.lock → log.events ≡ d.shared.log.events → IsAct d.volume.layout by a b (record d.shared { log = log }) q
     → (earlier : List Event) → AreTexts a.machine log.earlier log.events earlier
-    → (f : Driver D G) → d ≡ f → IsTurn f.volume by (behind earlier (world_of f)) (behind earlier (world q (set d.seats.items place b) (d.turns + 1)))
+    → (f : Driver D G) → d ≡ f → IsTurn f.volume by (behind earlier (world_of f)) (behind earlier (world q (set d.agendas.items place b) (d.turns + 1)))
 turned {D = D} {G = G} by place d q log a0 a b ready at here low taken fits kept events acts earlier texts f is =
     let p : Shared (UnderFuse D) D = record d.shared { log = log } in
-    let next : World = world q (set d.seats.items place b) (d.turns + 1) in
-    let first : world p d.seats.items d.turns ≡ world_of d = ap (λ (h : List Event). record (world_of d) { log = h }) events in
+    let next : World = world q (set d.agendas.items place b) (d.turns + 1) in
+    let first : world p d.agendas.items d.turns ≡ world_of d = ap (λ (h : List Event). record (world_of d) { log = h }) events in
     subst (λ (x : Driver D G). IsTurn x.volume by (behind earlier (world_of x)) (behind earlier next)) is
     (subst (λ (w : World). IsTurn d.volume by (behind earlier w) (behind earlier next)) first
-    (turn-is d.volume by d.seats.items place d.turns at low a0 a here taken fits.machine p q earlier texts ready.locks ready.no_locks ready.stations kept b acts))
+    (turn-is d.volume by d.agendas.items place d.turns at low a0 a here taken fits.machine p q earlier texts ready.locks ready.no_locks ready.servers kept b acts))

@@ -31,22 +31,22 @@ use Rattle.rz_operation.specs.Machine.{Machine, text_of}
 use Rattle.rz_operation_model.specs.Ask.{Ask, AskExport, AskNode, AskLock, Say, Rest, Saying, SayGot, SayGave, SayLeft, SayDone, ask_of}
 use Rattle.rz_operation_model.specs.Work.{Work, Over, Calling, Dropping, Opening, Locking, Writing, Reading, Rebuilding, Ending}
 use Rattle.rz_operation_model.specs.Steps.{Told, Replied, Locked, Answered, Missed, Noted, told, begun}
-use Rattle.rz_play.specs.World.{World, Seat as APlayer, at_work, take_up, Bars, IsFree}
+use Rattle.rz_play.specs.World.{World, Agenda as APlayer, at_work, take_up, Bars, IsFree}
 use Rattle.rz_play.specs.Turns.{IsTurn, IsAskTurn, Through as ComesThrough, ReplyLost as LosesReply, RequestLost as LosesRequest, IsGranted, IsGiven, lock_after, lock_on, locked, advanced, no_miss, counted, text_said}
-use Rattle.rz_driver_actors.specs.declared.seat.Seat.{Seat}
+use Rattle.rz_driver_actors.specs.declared.agenda.Agenda.{Agenda}
 use Rattle.rz_driver_actors.specs.declared.shared.Shared.{Shared}
-use Rattle.rz_nodes.specs.declared.formatting.Station.{Station}
+use Rattle.rz_nodes.specs.declared.formatting.Server.{Server}
 use Rattle.rz_driver_actors.specs.Acts.{IsAct, Rests, Exports, Opens, Sends, Says, IsSameActor, IsMessage, IsFate, Through, ReplyLost, RequestLost, IsReleased, lock_left}
 use Rattle.rz_driver_asks.specs.Locking.{lock_of, lock_if, open_reply, Grants, IsOpenPart}
 use Rattle.rz_driver_nodes.specs.Nodes.{IsServed, IsAsked}
 use Rattle.rz_operation_model.specs.Turns.{said_event}
 use Rattle.rz_driver_asks.specs.Parts.{IsTold, IsExportPart, IsSayPart, IsUnbegun, is_done}
 use Rattle.rz_player.specs.Behind.{behind}
-use Rattle.rz_driver_actors.specs.Seats.{work_in, seat_of, HasLayout}
-use Rattle.rz_driver_nodes.specs.Stations.{state_in, IsStation}
-use Rattle.rz_driver.specs.Worlds.{place_of, seat_at, seat_in, world, AreLocks, HaveNoLocks}
+use Rattle.rz_driver_actors.specs.Agendas.{work_in, agenda_of, HasLayout}
+use Rattle.rz_driver_nodes.specs.Servers.{state_in, IsServer}
+use Rattle.rz_driver.specs.Worlds.{place_of, agenda_at, agenda_in, world, AreLocks, HaveNoLocks}
 use Rattle.rz_driver_nodes.proofs.Rows.{state-at, state-set}
-use Rattle.rz_driver.proofs.WorldLemmas.{set-same, seat-here, seat-set, seat-same, actor-is, all-actors, at-client, client-place}
+use Rattle.rz_driver.proofs.WorldLemmas.{set-same, agenda-here, agenda-set, agenda-same, actor-is, all-actors, at-client, client-place}
 
 -- ---- the actor
 
@@ -74,8 +74,8 @@ rest-same layout s (Reading course r) todo is = refl
 rest-same layout s (Rebuilding n r) todo is = refl
 rest-same layout s (Ending answer) todo is = refl
 
-player-is : (s : APlayer) (a b : Seat) → IsSameActor a b → seat_of a ≡ s → (work : Work) → work_in b.machine ≡ work → (lock : Option Lock) → lock_of b.lock ≡ lock → (miss : Option Bool) → b.miss ≡ miss
-    → seat_of b ≡ record s { work = work; lock = lock; miss = miss }
+player-is : (s : APlayer) (a b : Agenda) → IsSameActor a b → agenda_of a ≡ s → (work : Work) → work_in b.machine ≡ work → (lock : Option Lock) → lock_of b.lock ≡ lock → (miss : Option Bool) → b.miss ≡ miss
+    → agenda_of b ≡ record s { work = work; lock = lock; miss = miss }
 player-is s a b same is work work_is lock lock_is miss miss_is =
     (λ i. record { todo = same.todo i; number = same.number i; work = work_is i; lock = lock_is i; miss = miss_is i })
     ∙ ap (λ (x : APlayer). record x { work = work; lock = lock; miss = miss }) is
@@ -92,22 +92,22 @@ AreTexts o flag h earlier = (m : Machine) (said : Saying) → o ≡ Some m → a
 
 -- ---- the turn
 
-module _ {D J : Type 0} (v : Volume) (by : Actor) (ss : List Seat) (place turns : ℕ) (at : place_of by ≡ Some place) (low : place < length ss) (a0 a : Seat) (here : slice_get ss place ≡ Some a0) (taken : seat_of a ≡ at_work (seat_of a0))
+module _ {D J : Type 0} (v : Volume) (by : Actor) (ss : List Agenda) (place turns : ℕ) (at : place_of by ≡ Some place) (low : place < length ss) (a0 a : Agenda) (here : slice_get ss place ≡ Some a0) (taken : agenda_of a ≡ at_work (agenda_of a0))
     (layout : HasLayout v.layout a.machine) (p q : Shared D J) (earlier : List Event) where
   abbrev w : World
   w = counted (behind earlier (world p ss turns))
 
   abbrev s : APlayer
-  s = seat_of a
+  s = agenda_of a
 
   -- the actor of the world goes to work
-  works : at_work (w.seats by) ≡ s
-  works = ap at_work (seat-here ss by place a0 at here) ∙ sym taken
+  works : at_work (w.agendas by) ≡ s
+  works = ap at_work (agenda-here ss by place a0 at here) ∙ sym taken
 
-  seats-are : (b : Seat) (t : APlayer) → seat_of b ≡ t → seat_in (set ss place b) ≡ (λ x. cond (same_actor x by) t (seat_in ss x))
-  seats-are b t is = fun_ext (λ x. seat-set ss by place b at low x ∙ ap (λ (y : APlayer). cond (same_actor x by) y (seat_in ss x)) is)
+  agendas-are : (b : Agenda) (t : APlayer) → agenda_of b ≡ t → agenda_in (set ss place b) ≡ (λ x. cond (same_actor x by) t (agenda_in ss x))
+  agendas-are b t is = fun_ext (λ x. agenda-set ss by place b at low x ∙ ap (λ (y : APlayer). cond (same_actor x by) y (agenda_in ss x)) is)
 
-  abbrev next : Seat → World
+  abbrev next : Agenda → World
   next b = behind earlier (world q (set ss place b) (turns + 1))
 
   asked : (m : Machine) (ask : Ask) → a.machine ≡ Some m → ask_of m.layout m.work ≡ ask → ask_of v.layout s.work ≡ ask
@@ -115,44 +115,44 @@ module _ {D J : Type 0} (v : Volume) (by : Actor) (ss : List Seat) (place turns 
       let same : m.layout ≡ v.layout = subst (HasLayout v.layout) is layout in
       ap (λ (o : Option Machine). ask_of v.layout (work_in o)) is ∙ ap (λ (y : Layout). ask_of y m.work) (sym same) ∙ asks
 
-  told-is : (m new : Machine) (b : Seat) (t : Told) → a.machine ≡ Some m → b.machine ≡ Some new → IsTold m new t → work_in b.machine ≡ told v.layout s.work t
+  told-is : (m new : Machine) (b : Agenda) (t : Told) → a.machine ≡ Some m → b.machine ≡ Some new → IsTold m new t → work_in b.machine ≡ told v.layout s.work t
   told-is m new b t was is goes =
       let same : m.layout ≡ v.layout = subst (HasLayout v.layout) was layout in
       ap work_in is ∙ goes.work ∙ ap (λ (y : Layout). told y m.work t) same ∙ ap (λ (o : Option Machine). told v.layout (work_in o) t) (sym was)
 
-  lift : (ask : Ask) (b : Seat) → ask_of v.layout s.work ≡ ask → IsAskTurn v w by s ask (next b) → IsTurn v by (behind earlier (world p ss turns)) (next b)
+  lift : (ask : Ask) (b : Agenda) → ask_of v.layout s.work ≡ ask → IsAskTurn v w by s ask (next b) → IsTurn v by (behind earlier (world p ss turns)) (next b)
   lift ask b is turn =
       subst (λ (x : APlayer). IsAskTurn v w by x (ask_of v.layout x.work) (next b)) (sym works) (subst (λ (y : Ask). IsAskTurn v w by s y (next b)) (sym is) turn)
 
-  rests : (b : Seat) → ask_of v.layout s.work ≡ Rest → b ≡ a → q ≡ p → IsTurn v by (behind earlier (world p ss turns)) (next b)
+  rests : (b : Agenda) → ask_of v.layout s.work ≡ Rest → b ≡ a → q ≡ p → IsTurn v by (behind earlier (world p ss turns)) (next b)
   rests b is same shared = lift Rest b is
-      ((λ i. behind earlier (world (shared i) (set ss place (same i)) (turns + 1))) ∙ (λ i. record (behind earlier (world p ss (turns + 1))) { seats = stays i }))
+      ((λ i. behind earlier (world (shared i) (set ss place (same i)) (turns + 1))) ∙ (λ i. record (behind earlier (world p ss (turns + 1))) { agendas = stays i }))
     where
-      unchanged : at_work (seat_of a0) ≡ seat_of a0
-      unchanged = rest-same v.layout (seat_of a0) (seat_of a0).work (seat_of a0).todo (ap (λ (x : APlayer). ask_of v.layout x.work) (sym taken) ∙ is)
+      unchanged : at_work (agenda_of a0) ≡ agenda_of a0
+      unchanged = rest-same v.layout (agenda_of a0) (agenda_of a0).work (agenda_of a0).todo (ap (λ (x : APlayer). ask_of v.layout x.work) (sym taken) ∙ is)
 
-      stays : seat_in (set ss place a) ≡ seat_in ss
-      stays = fun_ext (seat-same ss by place a0 a at low here (taken ∙ unchanged))
+      stays : agenda_in (set ss place a) ≡ agenda_in ss
+      stays = fun_ext (agenda-same ss by place a0 a at low here (taken ∙ unchanged))
 
   -- the actor went on so
-  goes-on : (m new : Machine) (b : Seat) (t : Told) → a.machine ≡ Some m → b.machine ≡ Some new → IsSameActor a b → IsTold m new t → (lock : Option Lock) → lock_of b.lock ≡ lock → (miss : Option Bool) → b.miss ≡ miss
-      → seat_of b ≡ record s { work = told v.layout s.work t; lock = lock; miss = miss }
+  goes-on : (m new : Machine) (b : Agenda) (t : Told) → a.machine ≡ Some m → b.machine ≡ Some new → IsSameActor a b → IsTold m new t → (lock : Option Lock) → lock_of b.lock ≡ lock → (miss : Option Bool) → b.miss ≡ miss
+      → agenda_of b ≡ record s { work = told v.layout s.work t; lock = lock; miss = miss }
   goes-on m new b t was is same goes lock lock_is miss miss_is = player-is s a b same refl (told v.layout s.work t) (told-is m new b t was is goes) lock lock_is miss miss_is
 
   -- ---- the export is asked
 
-  exports : (b : Seat) (old new : Machine) → a.machine ≡ Some old → b.machine ≡ Some new → IsSameActor a b → b.lock ≡ a.lock → b.miss ≡ a.miss
-      → IsExportPart by old new (export_in p.export) (export_in q.export) p.log.events q.log.events → q.stations.items ≡ p.stations.items → q.lost ≡ p.lost → IsTurn v by (behind earlier (world p ss turns)) (next b)
-  exports b old new was is same lock miss (c, asks, replied) stations lost =
+  exports : (b : Agenda) (old new : Machine) → a.machine ≡ Some old → b.machine ≡ Some new → IsSameActor a b → b.lock ≡ a.lock → b.miss ≡ a.miss
+      → IsExportPart by old new (export_in p.export) (export_in q.export) p.log.events q.log.events → q.servers.items ≡ p.servers.items → q.lost ≡ p.lost → IsTurn v by (behind earlier (world p ss turns)) (next b)
+  exports b old new was is same lock miss (c, asks, replied) servers lost =
       let x = replied.noted.0 in
-      let seats = seats-are b (advanced v s (Replied (export_reply (export_in p.export) c))) (goes-on old new b (Replied (export_reply (export_in p.export) c)) was is same (told-of old new (Replied (export_reply (export_in p.export) c)) replied.goes) s.lock (ap lock_of lock) s.miss miss) in
+      let agendas = agendas-are b (advanced v s (Replied (export_reply (export_in p.export) c))) (goes-on old new b (Replied (export_reply (export_in p.export) c)) was is same (told-of old new (Replied (export_reply (export_in p.export) c)) replied.goes) s.lock (ap lock_of lock) s.miss miss) in
       lift (AskExport c) b (asked old (AskExport c) was asks) (
         x,
         replied.noted.1,
         λ i. record {
-          nodes = state_in (stations i);
+          nodes = state_in (servers i);
           export = replied.after i;
-          seats = seats i;
+          agendas = agendas i;
           turns = turns + 1;
           lost = lost i;
           log = replied.noted.2 i ++ earlier;
@@ -174,25 +174,25 @@ module _ {D J : Type 0} (v : Volume) (by : Actor) (ss : List Seat) (place turns 
     blocks-bars l (Some x) blocks = blocks
 
     -- an owner of a lock is a client of the row
-    owner-place : (n : ℕ) (o : Option ℕ) → place_of (Client n) ≡ o → (l : Lock) → Bars (seat_at ss o).lock l → (1 ≤ n) × (n ≤ 64)
+    owner-place : (n : ℕ) (o : Option ℕ) → place_of (Client n) ≡ o → (l : Lock) → Bars (agenda_at ss o).lock l → (1 ≤ n) × (n ≤ 64)
     owner-place n None is l bars = absurd bars
     owner-place n (Some place') is l bars = let r = client-place n place' is in (r.0, r.1)
 
     is-free : (l : Lock) → ((other : ℕ) → Blocks p.locks l other → ⊥) → IsFree w by l
-    is-free l none = all-actors (λ other. same_actor other by ≡ false → ¬ Bars (w.seats other).lock l)
-        (λ m apart bars. none m (subst (λ (o : Option Lock). IsSomeAnd o (λ other. Conflict other l)) (sym (tied m)) (bars-blocks l (seat_in ss (Client m)).lock bars)))
+    is-free l none = all-actors (λ other. same_actor other by ≡ false → ¬ Bars (w.agendas other).lock l)
+        (λ m apart bars. none m (subst (λ (o : Option Lock). IsSomeAnd o (λ other. Conflict other l)) (sym (tied m)) (bars-blocks l (agenda_in ss (Client m)).lock bars)))
         (λ m apart bars. subst (λ (o : Option Lock). Bars o l) (free m) bars)
 
     not-free : (l : Lock) (owner : ℕ) → by ≡ Client owner → lock_of a0.lock ≡ None → (other : ℕ) → Blocks p.locks l other → IsFree w by l → ⊥
     not-free l owner is none other blocks all =
-        let bars : Bars (seat_in ss (Client other)).lock l = blocks-bars l (seat_in ss (Client other)).lock (subst (λ (o : Option Lock). IsSomeAnd o (λ x. Conflict x l)) (tied other) blocks) in
+        let bars : Bars (agenda_in ss (Client other)).lock l = blocks-bars l (agenda_in ss (Client other)).lock (subst (λ (o : Option Lock). IsSomeAnd o (λ x. Conflict x l)) (tied other) blocks) in
         let range = owner-place other (place_of (Client other)) refl l bars in
-        at-client (λ x. same_actor x by ≡ false → ¬ Bars (w.seats x).lock l) other all range.0 range.1 (apart (same_actor (Client other) by) refl bars) bars
+        at-client (λ x. same_actor x by ≡ false → ¬ Bars (w.agendas x).lock l) other all range.0 range.1 (apart (same_actor (Client other) by) refl bars) bars
       where
-        apart : (b : Bool) → same_actor (Client other) by ≡ b → Bars (seat_in ss (Client other)).lock l → same_actor (Client other) by ≡ false
+        apart : (b : Bool) → same_actor (Client other) by ≡ b → Bars (agenda_in ss (Client other)).lock l → same_actor (Client other) by ≡ false
         apart false no_ bars = no_
         apart true eq bars = absurd (subst (λ (o : Option Lock). Bars o l)
-            (ap (λ (x : Actor). (seat_in ss x).lock) (actor-is (Client other) by eq) ∙ ap (λ (x : APlayer). x.lock) (seat-here ss by place a0 at here) ∙ none) bars)
+            (ap (λ (x : Actor). (agenda_in ss x).lock) (actor-is (Client other) by eq) ∙ ap (λ (x : APlayer). x.lock) (agenda-here ss by place a0 at here) ∙ none) bars)
 
     granted-is : (owner : ℕ) → by ≡ Client owner → lock_of a0.lock ≡ None → (o : Option Lock) (granted : Bool) (after : Held) → Grants p.locks owner o granted after → IsGranted w by o granted
     granted-is owner is none None granted after grants = grants.0
@@ -203,13 +203,13 @@ module _ {D J : Type 0} (v : Volume) (by : Actor) (ss : List Seat) (place turns 
     if-cond true x y = refl
     if-cond false x y = refl
 
-    opens : (b : Seat) (old new : Machine) → a.machine ≡ Some old → b.machine ≡ Some new → IsSameActor a b → b.miss ≡ a.miss → a.lock ≡ a0.lock
-        → IsOpenPart by old new (export_in p.export) (export_in q.export) p.locks q.locks a.lock b.lock p.log.events q.log.events → q.stations.items ≡ p.stations.items → q.lost ≡ p.lost → IsTurn v by (behind earlier (world p ss turns)) (next b)
-    opens b old new was is same miss kept (path, exclusive, from, count, asks, (owner, o)) stations lost =
+    opens : (b : Agenda) (old new : Machine) → a.machine ≡ Some old → b.machine ≡ Some new → IsSameActor a b → b.miss ≡ a.miss → a.lock ≡ a0.lock
+        → IsOpenPart by old new (export_in p.export) (export_in q.export) p.locks q.locks a.lock b.lock p.log.events q.log.events → q.servers.items ≡ p.servers.items → q.lost ≡ p.lost → IsTurn v by (behind earlier (world p ss turns)) (next b)
+    opens b old new was is same miss kept (path, exclusive, from, count, asks, (owner, o)) servers lost =
         let answer = open_reply (export_in p.export) path in
         let lock = lock_on answer exclusive from count in
         let x = o.noted.0 in
-        let seats = seats-are b (locked o.granted lock (advanced v s (Locked o.granted answer)))
+        let agendas = agendas-are b (locked o.granted lock (advanced v s (Locked o.granted answer)))
         (goes-on old new b (Locked o.granted answer) was is same (told-of old new (Locked o.granted answer) o.goes) (cond o.granted lock s.lock) (o.held_is ∙ if-cond o.granted lock (lock_of a.lock)) s.miss miss) in
         lift (AskLock path exclusive from count) b (asked old (AskLock path exclusive from count) was asks) (
           x,
@@ -217,9 +217,9 @@ module _ {D J : Type 0} (v : Volume) (by : Actor) (ss : List Seat) (place turns 
           o.granted,
           granted-is owner o.owner_is (sym (ap lock_of kept) ∙ o.none_held) lock o.granted q.locks o.grants,
           λ i. record {
-            nodes = state_in (stations i);
+            nodes = state_in (servers i);
             export = o.after i;
-            seats = seats i;
+            agendas = agendas i;
             turns = turns + 1;
             lost = lost i;
             log = o.noted.2 i ++ earlier;
@@ -228,41 +228,41 @@ module _ {D J : Type 0} (v : Volume) (by : Actor) (ss : List Seat) (place turns 
 
   -- ---- a message is sent
 
-  module _ (stations : AllByRecursion (IsStation v) p.stations.items) where
-    station-at : (ss' : List (Station D)) (i : ℕ) (st : Station D) → AllByRecursion (IsStation v) ss' → slice_get ss' i ≡ Some st → IsStation v st
-    station-at [] i st all is = absurd (cc)
-    station-at (y ∷ ss') zero st all is = subst (IsStation v) (the-one y st is) all.0
+  module _ (servers : AllByRecursion (IsServer v) p.servers.items) where
+    server-at : (ss' : List (Server D)) (i : ℕ) (st : Server D) → AllByRecursion (IsServer v) ss' → slice_get ss' i ≡ Some st → IsServer v st
+    server-at [] i st all is = absurd (cc)
+    server-at (y ∷ ss') zero st all is = subst (IsServer v) (the-one y st is) all.0
       where
-        the-one : (y st : Station D) → Some y ≡ Some st → y ≡ st
+        the-one : (y st : Server D) → Some y ≡ Some st → y ≡ st
         the-one y st is = cc
-    station-at (y ∷ ss') (suc i) st all is = station-at ss' i st all.1 is
+    server-at (y ∷ ss') (suc i) st all is = server-at ss' i st all.1 is
 
-    module _ (n : ℕ) (question : NodeAsk) (old new : Machine) (b : Seat) (m : IsMessage by n question old new a.miss b.miss p q) (was : a.machine ≡ Some old) (is : b.machine ≡ Some new) (same : IsSameActor a b) (lock : b.lock ≡ a.lock) (asks : IsAsked old n question) where
-      found : (m.station.sid ≡ n) × (state_in p.stations.items n ≡ m.station.node.state)
-      found = state-at p.stations.items n m.place m.station m.at m.is
+    module _ (n : ℕ) (question : NodeAsk) (old new : Machine) (b : Agenda) (m : IsMessage by n question old new a.miss b.miss p q) (was : a.machine ≡ Some old) (is : b.machine ≡ Some new) (same : IsSameActor a b) (lock : b.lock ≡ a.lock) (asks : IsAsked old n question) where
+      found : (m.server.sid ≡ n) × (state_in p.servers.items n ≡ m.server.node.state)
+      found = state-at p.servers.items n m.place m.server m.at m.is
 
-      shape : IsStation v m.station
-      shape = station-at p.stations.items m.place m.station stations m.is
+      shape : IsServer v m.server
+      shape = server-at p.servers.items m.place m.server servers m.is
 
       -- the answer is that of the node in its state
-      given-is : (given : NodeAnswer) (x : Event) → IsServed m.station.node.geometry.cells question given m.station.node.state m.after.node.state → node_event by n question given ≡ Some x → IsGiven v w by n question given x
+      given-is : (given : NodeAnswer) (x : Event) → IsServed m.server.node.geometry.cells question given m.server.node.state m.after.node.state → node_event by n question given ≡ Some x → IsGiven v w by n question given x
       given-is given x served event = record {
         given_is = subst (λ (st : NodeState). IsNodeAnswer (cells_of v n) st question given) (sym found.1)
-            (subst (λ (k : ℕ). IsNodeAnswer k m.station.node.state question given) (shape.cells ∙ ap (cells_of v) found.0) served.given_is);
+            (subst (λ (k : ℕ). IsNodeAnswer k m.server.node.state question given) (shape.cells ∙ ap (cells_of v) found.0) served.given_is);
         event = event;
       }
 
       -- and its state is that after the answer
-      states : (given : NodeAnswer) → m.after.node.state ≡ after_answer question given m.station.node.state → state_in q.stations.items ≡ (λ k. cond (k == n) (after_answer question given (w.nodes n)) (w.nodes k))
-      states given after = ap state_in m.stations ∙ fun_ext (λ k. state-set p.stations.items n m.place m.after m.at (m.called.sid ∙ found.0) k
-          ∙ ap (λ (st : NodeState). cond (k == n) st (state_in p.stations.items k)) (after ∙ ap (after_answer question given) (sym found.1)))
+      states : (given : NodeAnswer) → m.after.node.state ≡ after_answer question given m.server.node.state → state_in q.servers.items ≡ (λ k. cond (k == n) (after_answer question given (w.nodes n)) (w.nodes k))
+      states given after = ap state_in m.servers ∙ fun_ext (λ k. state-set p.servers.items n m.place m.after m.at (m.called.sid ∙ found.0) k
+          ∙ ap (λ (st : NodeState). cond (k == n) st (state_in p.servers.items k)) (after ∙ ap (after_answer question given) (sym found.1)))
 
-      sent : IsFate by n question m.station m.after old new a.miss b.miss p q → IsTurn v by (behind earlier (world p ss turns)) (next b)
+      sent : IsFate by n question m.server m.after old new a.miss b.miss p q → IsTurn v by (behind earlier (world p ss turns)) (next b)
       sent (Through part comes miss lost) =
           let given = part.given in
           let x = part.noted.0 in
           let nodes = states given part.served.after in
-          let seats = seats-are b (advanced v s (Answered true given)) (goes-on old new b (Answered true given) was is same part.goes s.lock (ap lock_of lock) s.miss miss) in
+          let agendas = agendas-are b (advanced v s (Answered true given)) (goes-on old new b (Answered true given) was is same part.goes s.lock (ap lock_of lock) s.miss miss) in
           lift (AskNode n question) b (asked old (AskNode n question) was asks) (ComesThrough (
             given,
             x,
@@ -271,7 +271,7 @@ module _ {D J : Type 0} (v : Volume) (by : Actor) (ss : List Seat) (place turns 
             λ i. record {
               nodes = nodes i;
               export = export_in (m.export i);
-              seats = seats i;
+              agendas = agendas i;
               turns = turns + 1;
               lost = lost i;
               log = part.noted.2 i ++ earlier;
@@ -280,7 +280,7 @@ module _ {D J : Type 0} (v : Volume) (by : Actor) (ss : List Seat) (place turns 
       sent (ReplyLost part lost_so miss lost) =
           let given = part.given in
           let nodes = states given part.served.after in
-          let seats = seats-are b (no_miss (advanced v s Missed)) (goes-on old new b Missed was is same (told-of old new Missed part.goes) s.lock (ap lock_of lock) None miss) in
+          let agendas = agendas-are b (no_miss (advanced v s Missed)) (goes-on old new b Missed was is same (told-of old new Missed part.goes) s.lock (ap lock_of lock) None miss) in
           lift (AskNode n question) b (asked old (AskNode n question) was asks) (LosesReply (
             given,
             part.event,
@@ -289,22 +289,22 @@ module _ {D J : Type 0} (v : Volume) (by : Actor) (ss : List Seat) (place turns 
             λ i. record {
               nodes = nodes i;
               export = export_in (m.export i);
-              seats = seats i;
+              agendas = agendas i;
               turns = turns + 1;
               lost = lost i;
               log = part.noted i ++ earlier;
             },
           ))
       sent (RequestLost stays part lost_so miss lost) =
-          let nodes : state_in q.stations.items ≡ state_in p.stations.items =
-          ap state_in (m.stations ∙ ap (set p.stations.items m.place) stays ∙ set-same p.stations.items m.place m.station m.is) in
-          let seats = seats-are b (no_miss (advanced v s Missed)) (goes-on old new b Missed was is same (told-of old new Missed part.goes) s.lock (ap lock_of lock) None miss) in
+          let nodes : state_in q.servers.items ≡ state_in p.servers.items =
+          ap state_in (m.servers ∙ ap (set p.servers.items m.place) stays ∙ set-same p.servers.items m.place m.server m.is) in
+          let agendas = agendas-are b (no_miss (advanced v s Missed)) (goes-on old new b Missed was is same (told-of old new Missed part.goes) s.lock (ap lock_of lock) None miss) in
           lift (AskNode n question) b (asked old (AskNode n question) was asks) (LosesRequest (
             lost_so,
             λ i. record {
               nodes = nodes i;
               export = export_in (m.export i);
-              seats = seats i;
+              agendas = agendas i;
               turns = turns + 1;
               lost = lost i;
               log = part.noted i ++ earlier;
@@ -319,29 +319,29 @@ module _ {D J : Type 0} (v : Volume) (by : Actor) (ss : List Seat) (place turns 
   lock-said (SayGave key part end) done lock lock' done_is left = ap lock_of (left ∙ ap (λ (d : Bool). lock_left d lock) done_is)
   lock-said (SayLeft key why) done lock lock' done_is left = ap lock_of (left ∙ ap (λ (d : Bool). lock_left d lock) done_is)
 
-  says : AreTexts a.machine p.log.earlier p.log.events earlier → (b : Seat) (m new : Machine) → a.machine ≡ Some m → b.machine ≡ Some new → IsSameActor a b → b.miss ≡ a.miss
+  says : AreTexts a.machine p.log.earlier p.log.events earlier → (b : Agenda) (m new : Machine) → a.machine ≡ Some m → b.machine ≡ Some new → IsSameActor a b → b.miss ≡ a.miss
       → (done : Bool) → IsSayPart p.log.earlier by a.number done m new p.log.events q.log.events → IsReleased done by a.lock b.lock p.locks q.locks
-      → q.stations.items ≡ p.stations.items → q.export ≡ p.export → q.lost ≡ p.lost → IsTurn v by (behind earlier (world p ss turns)) (next b)
-  says texts b m new was is same miss done (said, asks, part) released stations export lost =
+      → q.servers.items ≡ p.servers.items → q.export ≡ p.export → q.lost ≡ p.lost → IsTurn v by (behind earlier (world p ss turns)) (next b)
+  says texts b m new was is same miss done (said, asks, part) released servers export lost =
       let text = text_said (facts (p.log.events ++ earlier)) said in
       let named : text_of m ≡ text = texts m said was asks part.known in
       let noted : q.log.events ≡ said_event by a.number text said ∷ p.log.events = part.noted ∙ ap (λ (t : List ℕ). said_event by a.number t said ∷ p.log.events) named in
       let goes : Goes m m.pairs (Noted text) new = subst (λ (t : List ℕ). Goes m m.pairs (Noted t) new) named part.goes in
-      let seats = seats-are b (record (advanced v s (Noted text)) { lock = lock_after said s.lock })
+      let agendas = agendas-are b (record (advanced v s (Noted text)) { lock = lock_after said s.lock })
       (goes-on m new b (Noted text) was is same (told-of m new (Noted text) goes) (lock_after said s.lock) (lock-said said done a.lock b.lock part.done_is released.lock_is) s.miss miss) in
       lift (Say said) b (asked m (Say said) was asks) (λ i. record {
-        nodes = state_in (stations i);
+        nodes = state_in (servers i);
         export = export_in (export i);
-        seats = seats i;
+        agendas = agendas i;
         turns = turns + 1;
         lost = lost i;
         log = noted i ++ earlier;
       })
 
   -- What the actor did is its turn.
-  pub turn-is : AreTexts a.machine p.log.earlier p.log.events earlier → AreLocks p.locks ss → HaveNoLocks ss → AllByRecursion (IsStation v) p.stations.items → a.lock ≡ a0.lock → (b : Seat) → IsAct v.layout by a b p q → IsTurn v by (behind earlier (world p ss turns)) (next b)
-  turn-is texts tied free stations kept b (Rests is same shared) = rests b is same shared
-  turn-is texts tied free stations kept b (Exports old new was is same lock miss part sts lks lost) = exports b old new was is same lock miss part sts lost
-  turn-is texts tied free stations kept b (Opens old new was is same miss part sts lost) = opens tied free b old new was is same miss kept part sts lost
-  turn-is texts tied free stations kept b (Sends old new was is same lock n question asks message) = sent stations n question old new b message was is same lock asks message.fate
-  turn-is texts tied free stations kept b (Says old new was is same miss done part released sts export lost) = says texts b old new was is same miss done part released sts export lost
+  pub turn-is : AreTexts a.machine p.log.earlier p.log.events earlier → AreLocks p.locks ss → HaveNoLocks ss → AllByRecursion (IsServer v) p.servers.items → a.lock ≡ a0.lock → (b : Agenda) → IsAct v.layout by a b p q → IsTurn v by (behind earlier (world p ss turns)) (next b)
+  turn-is texts tied free servers kept b (Rests is same shared) = rests b is same shared
+  turn-is texts tied free servers kept b (Exports old new was is same lock miss part sts lks lost) = exports b old new was is same lock miss part sts lost
+  turn-is texts tied free servers kept b (Opens old new was is same miss part sts lost) = opens tied free b old new was is same miss kept part sts lost
+  turn-is texts tied free servers kept b (Sends old new was is same lock n question asks message) = sent servers n question old new b message was is same lock asks message.fate
+  turn-is texts tied free servers kept b (Says old new was is same miss done part released sts export lost) = says texts b old new was is same miss done part released sts export lost

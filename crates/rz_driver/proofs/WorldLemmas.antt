@@ -8,9 +8,9 @@ use Rattle.rz_events.specs.declared.keys.Actor.{Actor}
 use Rattle.rz_events.specs.declared.keys.Actor.TheVariants.{Client, Rebuilder, Admin}
 use Rattle.rz_events.specs.Events.{same_actor}
 use Rattle.rz_play.specs.World.{actors}
-use Rattle.rz_driver_actors.specs.declared.seat.Seat.{Seat}
-use Rattle.rz_driver_actors.specs.Seats.{seat_of}
-use Rattle.rz_driver.specs.Worlds.{place_if, place_of, seat_there, seat_at, seat_in}
+use Rattle.rz_driver_actors.specs.declared.agenda.Agenda.{Agenda}
+use Rattle.rz_driver_actors.specs.Agendas.{agenda_of}
+use Rattle.rz_driver.specs.Worlds.{place_if, place_of, agenda_there, agenda_at, agenda_in}
 
 never : {A : Type 0} (b : Bool) → b ≡ true → b ≡ false → A
 never b t f = let none : true ≡ false = sym t ∙ f in absurd (cc)
@@ -92,28 +92,28 @@ actor-same Admin = refl
 the-place : (p q : ℕ) → Some p ≡ Some q → p ≡ q
 the-place p q is = cc
 
-pub seat-here : (ss : List Seat) (by : Actor) (place : ℕ) (s : Seat) → place_of by ≡ Some place → slice_get ss place ≡ Some s → seat_in ss by ≡ seat_of s
-seat-here ss by place s at is = ap (seat_at ss) at ∙ ap seat_there is
+pub agenda-here : (ss : List Agenda) (by : Actor) (place : ℕ) (s : Agenda) → place_of by ≡ Some place → slice_get ss place ≡ Some s → agenda_in ss by ≡ agenda_of s
+agenda-here ss by place s at is = ap (agenda_at ss) at ∙ ap agenda_there is
 
 -- the actors after one was changed
-pub seat-set : (ss : List Seat) (by : Actor) (place : ℕ) (s : Seat) → place_of by ≡ Some place → place < length ss → (a : Actor) → seat_in (set ss place s) a ≡ cond (same_actor a by) (seat_of s) (seat_in ss a)
-seat-set ss by place s at low a = go (same_actor a by) refl
+pub agenda-set : (ss : List Agenda) (by : Actor) (place : ℕ) (s : Agenda) → place_of by ≡ Some place → place < length ss → (a : Actor) → agenda_in (set ss place s) a ≡ cond (same_actor a by) (agenda_of s) (agenda_in ss a)
+agenda-set ss by place s at low a = go (same_actor a by) refl
   where
-    other : (o : Option ℕ) → place_of a ≡ o → same_actor a by ≡ false → seat_at (set ss place s) o ≡ seat_at ss o
+    other : (o : Option ℕ) → place_of a ≡ o → same_actor a by ≡ false → agenda_at (set ss place s) o ≡ agenda_at ss o
     other None is apart = refl
-    other (Some q) is apart = ap seat_there (get-set-other ss place q s (λ same. never (same_actor a by)
+    other (Some q) is apart = ap agenda_there (get-set-other ss place q s (λ same. never (same_actor a by)
         (ap (λ (x : Actor). same_actor x by) (same-place a by place (is ∙ ap (λ (k : ℕ). Some k) same) at) ∙ actor-same by) apart))
 
-    go : (b : Bool) → same_actor a by ≡ b → seat_in (set ss place s) a ≡ cond b (seat_of s) (seat_in ss a)
-    go true is = ap (seat_in (set ss place s)) (actor-is a by is) ∙ ap (seat_at (set ss place s)) at ∙ ap seat_there (get-set-same ss place s low)
-    go false is = ap (seat_at (set ss place s)) refl ∙ other (place_of a) refl is
+    go : (b : Bool) → same_actor a by ≡ b → agenda_in (set ss place s) a ≡ cond b (agenda_of s) (agenda_in ss a)
+    go true is = ap (agenda_in (set ss place s)) (actor-is a by is) ∙ ap (agenda_at (set ss place s)) at ∙ ap agenda_there (get-set-same ss place s low)
+    go false is = ap (agenda_at (set ss place s)) refl ∙ other (place_of a) refl is
 
 -- an actor that is as it was
-pub seat-same : (ss : List Seat) (by : Actor) (place : ℕ) (s t : Seat) → place_of by ≡ Some place → place < length ss → slice_get ss place ≡ Some s → seat_of t ≡ seat_of s → (a : Actor) → seat_in (set ss place t) a ≡ seat_in ss a
-seat-same ss by place s t at low is same a = seat-set ss by place t at low a ∙ go (same_actor a by) refl
+pub agenda-same : (ss : List Agenda) (by : Actor) (place : ℕ) (s t : Agenda) → place_of by ≡ Some place → place < length ss → slice_get ss place ≡ Some s → agenda_of t ≡ agenda_of s → (a : Actor) → agenda_in (set ss place t) a ≡ agenda_in ss a
+agenda-same ss by place s t at low is same a = agenda-set ss by place t at low a ∙ go (same_actor a by) refl
   where
-    go : (b : Bool) → same_actor a by ≡ b → cond b (seat_of t) (seat_in ss a) ≡ seat_in ss a
-    go true eq = same ∙ sym (seat-here ss by place s at is) ∙ ap (seat_in ss) (sym (actor-is a by eq))
+    go : (b : Bool) → same_actor a by ≡ b → cond b (agenda_of t) (agenda_in ss a) ≡ agenda_in ss a
+    go true eq = same ∙ sym (agenda-here ss by place s at is) ∙ ap (agenda_in ss) (sym (actor-is a by eq))
     go false no_ = refl
 
 -- ---- all actors

@@ -11,13 +11,13 @@ use Rattle.rz_driver_nodes.specs.Images.{fused_image}
 use Rattle.rz_driver_nodes.proofs.AskedLaws.{all-themselves, all-then}
 
 pub asked-itself : {D : Type 0} {G : Ghosts D} (d : Driver D G) → WasOnlyAsked d d
-asked-itself {G = G} d = record { volume = refl; seats = refl; turns = refl; shared = refl; nodes = all-themselves (fused_text G.text) (fused_image G.image) d.shared.stations.items }
+asked-itself {G = G} d = record { volume = refl; agendas = refl; turns = refl; shared = refl; nodes = all-themselves (fused_text G.text) (fused_image G.image) d.shared.servers.items }
 
 pub asked-then : {D : Type 0} {G : Ghosts D} (a b c : Driver D G) → WasOnlyAsked a b → WasOnlyAsked b c → WasOnlyAsked a c
 asked-then {D = D} {G = G} a b c p q = record {
   volume = q.volume ∙ p.volume;
-  seats = q.seats ∙ p.seats;
+  agendas = q.agendas ∙ p.agendas;
   turns = q.turns ∙ p.turns;
-  shared = q.shared ∙ ap (λ (s : Shared (UnderFuse D) D). let r : Shared (UnderFuse D) D = record s { stations = c.shared.stations } in r) p.shared;
-  nodes = all-then (fused_text G.text) (fused_image G.image) a.shared.stations.items b.shared.stations.items c.shared.stations.items p.nodes q.nodes;
+  shared = q.shared ∙ ap (λ (s : Shared (UnderFuse D) D). let r : Shared (UnderFuse D) D = record s { servers = c.shared.servers } in r) p.shared;
+  nodes = all-then (fused_text G.text) (fused_image G.image) a.shared.servers.items b.shared.servers.items c.shared.servers.items p.nodes q.nodes;
 }

@@ -17,18 +17,18 @@ use Rattle.rz_metadata.specs.declared.metadata.Metadata.{Metadata}
 use Rattle.rz_metadata.specs.Enrolled.{loss_of}
 use Rattle.rz_metadata.specs.Reopened.{MakesExport, number_of}
 use Rattle.rz_metadata.specs.Stands.{disk_of, export_in, refusal_of}
-use Rattle.rz_metadata.specs.declared.journaled.Refusal.TheVariants.{Full}
+use Rattle.rz_metadata.specs.declared.journaled.JournalRefusal.TheVariants.{Full}
 use Rattle.rz_nodes.specs.declared.refusal.OpenRefusal.{OpenRefusal}
 use Rattle.rz_nodes.specs.declared.refusal.OpenRefusal.TheVariants as refusal
 use Rattle.rz_nodes.specs.Opened.{AreKept, AreOpened, IsCause}
 use Rattle.rz_player.specs.Behind.{Before}
 use Rattle.rz_play.specs.World.{world_after}
 use Rattle.rz_driver_nodes.specs.Images.{AreDisksImaged}
-use Rattle.rz_driver_nodes.specs.Stations.{state_in}
+use Rattle.rz_driver_nodes.specs.Servers.{state_in}
 use Rattle.rz_driver.specs.declared.driver.Driver.{Driver}
 use Rattle.rz_driver.specs.Endings.{StandsForLog}
 use Rattle.rz_driver.specs.Pictures.{AreBytes}
-use Rattle.rz_driver_actors.specs.Seats.{IsEmptySeat}
+use Rattle.rz_driver_actors.specs.Agendas.{IsEmptyAgenda}
 use Rattle.rz_driver.specs.Worlds.{world_of, Holds, Leaves}
 
 -- What earlier runs left, and what a run leaves for the next.
@@ -58,9 +58,9 @@ losses_of export v = map (λ (n : NodeSpec). loss_of export n.sid) (nodes_of v.c
 pub record IsOpenedOver {D : Type 0} {G : Ghosts D} (v : Volume) (export : Metadata D) (nodes : List D) (d : Driver D G) : Type 0 where
   pub volume : d.volume ≡ v
   pub export_is : d.shared.export ≡ export
-  pub made : AreOpened G.tells G.meter G.text G.image v.layout (nodes_of v.clusters) (losses_of (export_in export) v) nodes d.shared.stations.items
-  pub seats : AllByRecursion IsEmptySeat d.seats.items
-  pub count : length d.seats.items ≡ 80
+  pub made : AreOpened G.tells G.meter G.text G.image v.layout (nodes_of v.clusters) (losses_of (export_in export) v) nodes d.shared.servers.items
+  pub agendas : AllByRecursion IsEmptyAgenda d.agendas.items
+  pub count : length d.agendas.items ≡ 80
   pub bins : length d.shared.bins.items ≡ max_bins_of v.layout
   pub locks : d.shared.locks ≡ maps.empty
   pub turns : d.turns ≡ 0
@@ -75,8 +75,8 @@ pub record IsOpenedAgain {D : Type 0} {G : Ghosts D} (v : Volume) (disks : List 
   pub journal : D
   pub disks_are : disks ≡ nodes ++ journal ∷ []
   pub export : IsTrue G.tells → MakesExport v (G.text journal) (export_in d.shared.export)
-  pub made : AreOpened G.tells G.meter G.text G.image v.layout (nodes_of v.clusters) (losses_of (export_in d.shared.export) v) nodes d.shared.stations.items
-  pub world : world_of d ≡ world_after (state_in d.shared.stations.items) (export_in d.shared.export) []
+  pub made : AreOpened G.tells G.meter G.text G.image v.layout (nodes_of v.clusters) (losses_of (export_in d.shared.export) v) nodes d.shared.servers.items
+  pub world : world_of d ≡ world_after (state_in d.shared.servers.items) (export_in d.shared.export) []
 
 -- What was refused.
 

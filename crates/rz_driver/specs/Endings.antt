@@ -8,15 +8,15 @@ use Rattle.rz_events.specs.declared.events.Word.TheVariants.{Export}
 use Rattle.rz_core.specs.History.{of_word}
 use Rattle.rz_export_model.specs.Export.{new_export}
 use Rattle.rz_journal.specs.JournalText.{IsTextOf, after_all}
-use Rattle.rz_metadata.specs.declared.journaled.Refusal.{Refusal}
-use Rattle.rz_metadata.specs.declared.journaled.Refusal.TheVariants.{Full, Failed}
+use Rattle.rz_metadata.specs.declared.journaled.JournalRefusal.{JournalRefusal}
+use Rattle.rz_metadata.specs.declared.journaled.JournalRefusal.TheVariants.{Full, Failed}
 use Rattle.rz_metadata.specs.Stands.{OverfillsHalf}
 use Rattle.rz_player.specs.declared.lines.PlayEnd.{PlayEnd}
 use Rattle.rz_player.specs.declared.lines.PlayEnd.TheVariants as end
 use Rattle.rz_restart_laws.specs.Calls.{changing_calls, AreTold}
 
 -- how a play ends where a turn was not taken
-abbrev pub end_by : Option Refusal → PlayEnd
+abbrev pub end_by : Option JournalRefusal → PlayEnd
 end_by None = end.NoMemory
 end_by (Some Full) = end.JournalFull
 end_by (Some Failed) = end.Journal
@@ -41,13 +41,13 @@ StandsForLog image v h = StandFor image v (changing_calls h)
 
 -- Where the journal was full, there is no half for the export and one call more. Where its disk failed, its count of faults rose.
 
-abbrev pub EndsFor : Option Refusal → Bool → (List ℕ → Type 0) → (first now : ℕ) → Volume → List Call → Call → Type 0
+abbrev pub EndsFor : Option JournalRefusal → Bool → (List ℕ → Type 0) → (first now : ℕ) → Volume → List Call → Call → Type 0
 EndsFor None tells image first now v calls c = IsTrue tells → StandForEither image v calls c
 EndsFor (Some Full) tells image first now v calls c = OverfillsHalf (after_all (new_export v 0) calls) c × (IsTrue tells → StandFor image v calls)
 EndsFor (Some Failed) tells image first now v calls c = Rises first now × (IsTrue tells → StandForEither image v calls c)
 
 -- the calls of the log, and the one that was not replied to, if there was one
-pub record EndsAsRefused (refusal : Option Refusal) (tells : Bool) (image : List ℕ → Type 0) (first now : ℕ) (v : Volume) (h : List Event) : Type 0 where
+pub record EndsAsRefused (refusal : Option JournalRefusal) (tells : Bool) (image : List ℕ → Type 0) (first now : ℕ) (v : Volume) (h : List Event) : Type 0 where
   pub calls : List Call
   pub calls_are : AreCallsOf tells h calls
   pub call : Call

@@ -32,7 +32,7 @@ pub record AreBackWithJournal {D : Type 0} (tells : Bool) (meter : D → Meter) 
 -- The export of a driver became a new one, behind a journal on this disk that stands for no calls. The rest is as it was.
 pub record IsBehindJournal {D : Type 0} {G : Ghosts D} (disk : D) (d e : Driver D G) : Type 0 where
   pub volume : e.volume ≡ d.volume
-  pub seats : e.seats ≡ d.seats
+  pub agendas : e.agendas ≡ d.agendas
   pub turns : e.turns ≡ d.turns
   pub shared : e.shared ≡ record d.shared { export = e.shared.export }
   pub export : export_in e.shared.export ≡ new_export d.volume 0

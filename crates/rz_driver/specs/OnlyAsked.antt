@@ -10,10 +10,10 @@ use Rattle.rz_driver_nodes.specs.Asked.{AreOnlyAsked, fused_text}
 -- Of the driver: its nodes were asked, and the rest is as it was, with the export and the log.
 pub record WasOnlyAsked {D : Type 0} {G : Ghosts D} (d e : Driver D G) : Type 0 where
   pub volume : e.volume ≡ d.volume
-  pub seats : e.seats ≡ d.seats
+  pub agendas : e.agendas ≡ d.agendas
   pub turns : e.turns ≡ d.turns
-  pub shared : e.shared ≡ record d.shared { stations = e.shared.stations }
-  pub nodes : AreOnlyAsked (fused_text G.text) (fused_image G.image) d.shared.stations.items e.shared.stations.items
+  pub shared : e.shared ≡ record d.shared { servers = e.shared.servers }
+  pub nodes : AreOnlyAsked (fused_text G.text) (fused_image G.image) d.shared.servers.items e.shared.servers.items
 
 -- a play left a driver so, of which nothing but records was asked since
 abbrev pub IsLeftSince : {D : Type 0} {G : Ghosts D} → Driver D G → Before → Type 0

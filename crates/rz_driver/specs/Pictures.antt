@@ -13,9 +13,9 @@ use Rattle.rz_operation_model.specs.Work.{Work, Reading}
 use Rattle.rz_player.specs.Behind.{behind}
 use Rattle.rz_play.specs.World.{World}
 use Rattle.rz_play_laws.specs.Fine.{IsFine}
-use Rattle.rz_driver_actors.specs.declared.seat.Seat.{Seat}
+use Rattle.rz_driver_actors.specs.declared.agenda.Agenda.{Agenda}
 use Rattle.rz_driver_actors.specs.Hands.{HasTrueHand}
-use Rattle.rz_nodes.specs.declared.formatting.Station.{Station}
+use Rattle.rz_nodes.specs.declared.formatting.Server.{Server}
 use Rattle.rz_driver_nodes.specs.Images.{AreImaged}
 
 -- Texts.
@@ -36,10 +36,10 @@ KnowsLengths f work = Unit {0}
 
 -- Between two turns: the world of the play is in order behind the earlier log, what each actor has in hand is true, and the
 -- images of each disk are those of its node's state.
-pub record IsPicture {D : Type 0} (image : D → List ℕ → Type 0) (v : Volume) (old : List Event) (w : World) (seats : List Seat) (stations : List (Station D)) : Type 0 where
+pub record IsPicture {D : Type 0} (image : D → List ℕ → Type 0) (v : Volume) (old : List Event) (w : World) (agendas : List Agenda) (servers : List (Server D)) : Type 0 where
   pub rules : IsVolume v
   pub bytes : AreBytes (facts old)
   pub fine : IsFine v old (behind old w)
-  pub lengths : (by : Actor) → KnowsLengths (facts (w.log ++ old)) (w.seats by).work
-  pub hands : AllByRecursion (λ (s : Seat). HasTrueHand v (facts (w.log ++ old)) s.machine) seats
-  pub disks : AreImaged image v (facts (w.log ++ old)) stations
+  pub lengths : (by : Actor) → KnowsLengths (facts (w.log ++ old)) (w.agendas by).work
+  pub hands : AllByRecursion (λ (s : Agenda). HasTrueHand v (facts (w.log ++ old)) s.machine) agendas
+  pub disks : AreImaged image v (facts (w.log ++ old)) servers

@@ -13,17 +13,17 @@ use Rattle.rz_events.specs.declared.keys.Actor.TheVariants.{Client, Rebuilder, A
 use Rattle.rz_locks.specs.Held.{Held}
 use Rattle.rz_player.specs.Behind.{Before}
 use Rattle.rz_metadata.specs.Stands.{export_in}
-use Rattle.rz_play.specs.World.{World, Seat as APlayer, empty_seat}
-use Rattle.rz_driver_actors.specs.declared.seat.Seat.{Seat}
+use Rattle.rz_play.specs.World.{World, Agenda as APlayer, empty_agenda}
+use Rattle.rz_driver_actors.specs.declared.agenda.Agenda.{Agenda}
 use Rattle.rz_driver_actors.specs.declared.shared.Shared.{Shared}
 use Rattle.rz_driver.specs.declared.driver.Driver.{Driver}
-use Rattle.rz_driver_actors.specs.Seats.{seat_of, IsSeat}
+use Rattle.rz_driver_actors.specs.Agendas.{agenda_of, IsAgenda}
 use Rattle.rz_disk.specs.UnderFuse.{fused_meter}
 use Rattle.rz_driver_nodes.specs.Meters.{AreMetered, AreCounted}
 use Rattle.rz_driver_nodes.specs.Images.{IsRight, fused_image}
 use Rattle.rz_driver.specs.Journals.{HasJournal, LeavesJournal}
 use Rattle.rz_driver.specs.Pictures.{IsPicture}
-use Rattle.rz_driver_nodes.specs.Stations.{state_in, numbers_of, IsStation}
+use Rattle.rz_driver_nodes.specs.Servers.{state_in, numbers_of, IsServer}
 
 -- Actors stand in a row, the clients 1 to 64 and then the rebuilders 1 to 16.
 
@@ -36,48 +36,48 @@ place_of (Client n) = place_if (nat_le 1 n && nat_le n 64) (n - 1)
 place_of (Rebuilder n) = place_if (nat_le 1 n && nat_le n 16) (n + 63)
 place_of Admin = None
 
-abbrev pub seat_there : Option Seat → APlayer
-seat_there None = empty_seat
-seat_there (Some s) = seat_of s
+abbrev pub agenda_there : Option Agenda → APlayer
+agenda_there None = empty_agenda
+agenda_there (Some s) = agenda_of s
 
-abbrev pub seat_at : List Seat → Option ℕ → APlayer
-seat_at seats None = empty_seat
-seat_at seats (Some place) = seat_there (slice_get seats place)
+abbrev pub agenda_at : List Agenda → Option ℕ → APlayer
+agenda_at agendas None = empty_agenda
+agenda_at agendas (Some place) = agenda_there (slice_get agendas place)
 
-abbrev pub seat_in : List Seat → Actor → APlayer
-seat_in seats by = seat_at seats (place_of by)
+abbrev pub agenda_in : List Agenda → Actor → APlayer
+agenda_in agendas by = agenda_at agendas (place_of by)
 
 -- what is there between two turns
-abbrev pub world : {D J : Type 0} → Shared D J → List Seat → ℕ → World
-world p seats turns = record {
-  nodes = state_in p.stations.items;
+abbrev pub world : {D J : Type 0} → Shared D J → List Agenda → ℕ → World
+world p agendas turns = record {
+  nodes = state_in p.servers.items;
   export = export_in p.export;
-  seats = seat_in seats;
+  agendas = agenda_in agendas;
   turns = turns;
   lost = p.lost;
   log = p.log.events;
 }
 
 abbrev pub world_of : {D : Type 0} {G : Ghosts D} → Driver D G → World
-world_of d = world d.shared d.seats.items d.turns
+world_of d = world d.shared d.agendas.items d.turns
 
 -- the locks are those that the clients note as their own
-abbrev pub AreLocks : Held → List Seat → Type 0
-AreLocks locks seats = (n : ℕ) → get locks n ≡ (seat_in seats (Client n)).lock
+abbrev pub AreLocks : Held → List Agenda → Type 0
+AreLocks locks agendas = (n : ℕ) → get locks n ≡ (agenda_in agendas (Client n)).lock
 
 -- a rebuilder has no lock
-abbrev pub HaveNoLocks : List Seat → Type 0
-HaveNoLocks seats = (n : ℕ) → (seat_in seats (Rebuilder n)).lock ≡ None
+abbrev pub HaveNoLocks : List Agenda → Type 0
+HaveNoLocks agendas = (n : ℕ) → (agenda_in agendas (Rebuilder n)).lock ≡ None
 
 -- A driver between two turns.
 pub record IsDriver {D : Type 0} {G : Ghosts D} (d : Driver D G) : Type 0 where
-  pub stations : AllByRecursion (IsStation d.volume) d.shared.stations.items
-  pub numbers : numbers_of d.shared.stations.items ≡ map (λ (n : NodeSpec). n.sid) (nodes_of d.volume.clusters)
+  pub servers : AllByRecursion (IsServer d.volume) d.shared.servers.items
+  pub numbers : numbers_of d.shared.servers.items ≡ map (λ (n : NodeSpec). n.sid) (nodes_of d.volume.clusters)
   pub bins : max_bins_of d.volume.layout ≤ length d.shared.bins.items
-  pub seats : AllByRecursion (IsSeat d.volume.layout) d.seats.items
-  pub count : length d.seats.items ≡ 80
-  pub locks : AreLocks d.shared.locks d.seats.items
-  pub no_locks : HaveNoLocks d.seats.items
+  pub agendas : AllByRecursion (IsAgenda d.volume.layout) d.agendas.items
+  pub count : length d.agendas.items ≡ 80
+  pub locks : AreLocks d.shared.locks d.agendas.items
+  pub no_locks : HaveNoLocks d.agendas.items
 
 -- the numbers of the volume's nodes
 abbrev pub numbers_in : {D : Type 0} {G : Ghosts D} → Driver D G → List ℕ
@@ -114,20 +114,20 @@ pub record GoesAfter {D : Type 0} {G : Ghosts D} (d : Driver D G) (b : Before) :
 -- where disks tell their texts, and the whole log has room for an event more, actors and disks are right beside it
 abbrev pub HasPicture : {D : Type 0} {G : Ghosts D} → Driver D G → List Event → Type 0
 HasPicture {G = G} d old =
-    IsTrue G.tells → length (d.shared.log.events ++ old) < 2 ^ 64 - 1 → IsPicture (fused_image G.image) d.volume old (world_of d) d.seats.items d.shared.stations.items
+    IsTrue G.tells → length (d.shared.log.events ++ old) < 2 ^ 64 - 1 → IsPicture (fused_image G.image) d.volume old (world_of d) d.agendas.items d.shared.servers.items
 
 -- then each disk is right by the whole log
 abbrev pub HasRightDisks : {D : Type 0} {G : Ghosts D} → Driver D G → List Event → Type 0
 HasRightDisks {G = G} d old =
-    IsTrue G.tells → length (d.shared.log.events ++ old) < 2 ^ 64 - 1 → AllByRecursion (IsRight (fused_image G.image) d.volume (d.shared.log.events ++ old)) d.shared.stations.items
+    IsTrue G.tells → length (d.shared.log.events ++ old) < 2 ^ 64 - 1 → AllByRecursion (IsRight (fused_image G.image) d.volume (d.shared.log.events ++ old)) d.shared.servers.items
 
 -- between two turns each word of the log goes with its disk's meter, and a journal stands for the calls that the whole log tells
 abbrev pub Holds : {D : Type 0} {G : Ghosts D} → Driver D G → Before → Type 0
 Holds {G = G} d b =
-    AreMetered (fused_meter G.meter) (numbers_in d) d.shared.stations.items d.shared.log.events b.counts × HasPicture d b.log × (is_exact d ≡ true → HasJournal d b) × GoesAfter d b
+    AreMetered (fused_meter G.meter) (numbers_in d) d.shared.servers.items d.shared.log.events b.counts × HasPicture d b.log × (is_exact d ≡ true → HasJournal d b) × GoesAfter d b
 
 -- where a play ended they do, or the faults of each word are counted, and a journal may have one call more
 abbrev pub Leaves : {D : Type 0} {G : Ghosts D} → Driver D G → Before → Type 0
 Leaves {G = G} d b =
     Holds d b
-    ⊎ (AreCounted (fused_meter G.meter) (numbers_in d) d.shared.stations.items d.shared.log.events b.counts × HasRightDisks d b.log × (is_exact d ≡ true → LeavesJournal d b) × GoesAfter d b)
+    ⊎ (AreCounted (fused_meter G.meter) (numbers_in d) d.shared.servers.items d.shared.log.events b.counts × HasRightDisks d b.log × (is_exact d ≡ true → LeavesJournal d b) × GoesAfter d b)

@@ -19,7 +19,7 @@ use mj_angles::Layout;
 use rz_disk::Disk;
 use rz_driver_nodes::fetch_node;
 use rz_events::{FetchAnswer, Key, Listed};
-use rz_scrub_report::Store;
+use rz_scrub_report::ScrubbedStore;
 
 impl<D: Disk> Driver<D> {
     /// The least published block of a live file above `after`.
@@ -35,7 +35,7 @@ impl<D: Disk> Driver<D> {
     pub fn fetch(&mut self, node: u16, key: Key, stamp: u64, out: &mut [u64]) -> FetchAnswer
         requires ready { IsDriver self.old }
         requires room { max_bins_of self.old.volume.layout ≤ length out.old }
-        ensures fetched { IsFetch key stamp result node self.old.shared.stations.items self.new.shared.stations.items }
+        ensures fetched { IsFetch key stamp result node self.old.shared.servers.items self.new.shared.servers.items }
         ensures read { IsRead (GivesOf self.old node key) result out.old out.new }
         ensures unread { fetch_used result ≢ Some true → out.new ≡ out.old }
 
@@ -45,11 +45,11 @@ impl<D: Disk> Driver<D> {
         ensures ready { IsDriver self.new }
         ensures metered { (position : ℕ) (h : List Event) → CarriesCounts (Metered self.old h) (Metered self.new (fetch_event Admin node key position stamp result ∷ h)) }
     {
-        fetch_node(self.shared.stations.as_mut_slice(), node, key, stamp, out)
+        fetch_node(self.shared.servers.as_mut_slice(), node, key, stamp, out)
     }
 }
 
-impl<D: Disk> Store for Driver<D> {
+impl<D: Disk> ScrubbedStore for Driver<D> {
     ghost use Rattle.rz_driver.specs.Worlds.{IsDriver};
     ghost use Rattle.rz_driver.specs.Fetches.{GivesOf, Metered, state_of};
     ghost use Rattle.rz_driver.specs.OnlyAsked.{WasOnlyAsked};

@@ -19,12 +19,12 @@ use crate::driver::Driver;
 use rz_disk::{Disk, Fused};
 use rz_driver_actors::Shared;
 use rz_events::Event;
-use rz_metadata::Refusal;
-use rz_nodes::{Station, hand_back};
+use rz_metadata::JournalRefusal;
+use rz_nodes::{Server, hand_back};
 
 impl<D: Disk> Driver<D> {
     /// Why the journal did not keep a call, if there is a journal and it did not.
-    pub fn refusal(&self) -> Option<Refusal>
+    pub fn refusal(&self) -> Option<JournalRefusal>
         ensures { result ≡ refusal_of self.now.shared.export }
     {
         self.shared.export.refusal()
@@ -34,7 +34,7 @@ impl<D: Disk> Driver<D> {
     /// not among them.
     pub fn close(self) -> (Vec<Event>, Vec<D>)
         ensures log { result.0.items ≡ reverse self.shared.log.events }
-        ensures disks { result.1.items ≡ disks_of self.shared.stations.items }
+        ensures disks { result.1.items ≡ disks_of self.shared.servers.items }
         ensures counted { (b : Before) → Leaves self b → AreDisksCounted D.meter b.counts 0 (numbers_in self) result.1.items self.shared.log.events }
         ensures imaged { (b : Before) → Leaves self b → IsTrue D.tells → AreDisksImaged D.image self.volume (numbers_in self) result.1.items (self.shared.log.events ++ b.log) }
 
@@ -51,36 +51,36 @@ impl<D: Disk> Driver<D> {
     pub(crate) fn close_with(self, last: Option<D>) -> (Vec<Event>, Vec<D>)
         ensures log { result.0.items ≡ reverse self.shared.log.events }
         ensures short { length self.shared.log.events ≤ 2 ^ 62 + 2 }
-        ensures disks { result.1.items ≡ disks_of self.shared.stations.items ++ option_to_list last }
+        ensures disks { result.1.items ≡ disks_of self.shared.servers.items ++ option_to_list last }
     {
         let Driver {
             volume,
             shared,
-            seats,
+            agendas,
             home,
             ..
         } = self;
         let Shared {
-            stations,
+            servers,
             export,
             log,
             bins,
             ..
         } = shared;
         drop(volume);
-        drop(seats);
+        drop(agendas);
         drop(export);
         drop(bins);
-        (log.close(), hand_back_with(stations, home, last))
+        (log.close(), hand_back_with(servers, home, last))
     }
 
     /// The log, the oldest event first, and the disks in their order, that of a journal last. What their images
     /// stand for is told by the whole log: that of this run behind that of earlier runs.
     pub fn close_all(self) -> (Vec<Event>, Vec<D>)
         ensures log { result.0.items ≡ reverse self.shared.log.events }
-        ensures disks { result.1.items ≡ disks_of self.shared.stations.items ++ option_to_list (disk_of self.shared.export) }
-        ensures counted { (b : Before) → Leaves self b → AreDisksCounted D.meter b.counts 0 (numbers_in self) (disks_of self.shared.stations.items) self.shared.log.events }
-        ensures imaged { (b : Before) → Leaves self b → IsTrue D.tells → AreDisksImaged D.image self.volume (numbers_in self) (disks_of self.shared.stations.items) (self.shared.log.events ++ b.log) }
+        ensures disks { result.1.items ≡ disks_of self.shared.servers.items ++ option_to_list (disk_of self.shared.export) }
+        ensures counted { (b : Before) → Leaves self b → AreDisksCounted D.meter b.counts 0 (numbers_in self) (disks_of self.shared.servers.items) self.shared.log.events }
+        ensures imaged { (b : Before) → Leaves self b → IsTrue D.tells → AreDisksImaged D.image self.volume (numbers_in self) (disks_of self.shared.servers.items) (self.shared.log.events ++ b.log) }
 
         // Between two turns a journal's disk stands for the calls that changed the export of the log.
         ensures stands { (b : Before) (disk : D) → Holds self b → disk_of self.shared.export ≡ Some disk → IsTrue D.tells → StandsForLog (D.image disk) self.volume (self.shared.log.events ++ b.log) }
@@ -97,42 +97,38 @@ impl<D: Disk> Driver<D> {
         let Driver {
             volume,
             shared,
-            seats,
+            agendas,
             home,
             ..
         } = self;
         let Shared {
-            stations,
+            servers,
             export,
             log,
             bins,
             ..
         } = shared;
         drop(volume);
-        drop(seats);
+        drop(agendas);
         drop(bins);
         let log = log.close();
         let journal = export.into_disk();
-        (log, hand_back_with(stations, home, journal))
+        (log, hand_back_with(servers, home, journal))
     }
 }
 
 /// The disks of the nodes in their order, and behind them this one, if there is one.
-fn hand_back_with<D: Disk>(
-    stations: Vec<Station<Fused<D>>>,
-    home: Vec<D>,
-    last: Option<D>,
-) -> Vec<D>
-    requires room { vec_len stations + vec_len home + 1 ≤ vec_capacity home }
-    ensures { result.items ≡ disks_of stations.items ++ option_to_list last }
+fn hand_back_with<D: Disk>(servers: Vec<Server<Fused<D>>>, home: Vec<D>, last: Option<D>) -> Vec<D>
+    requires room { vec_len servers + vec_len home + 1 ≤ vec_capacity home }
+    ensures { result.items ≡ disks_of servers.items ++ option_to_list last }
 {
     let mut home = home;
     home.clear();
     match last {
         Some(disk) => {
             home.push_reserved(disk);
-            hand_back(stations, home)
+            hand_back(servers, home)
         }
-        None => hand_back(stations, home),
+        None => hand_back(servers, home),
     }
 }

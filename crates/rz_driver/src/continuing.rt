@@ -126,7 +126,7 @@ fn open_nodes<D: Disk>(
     };
     let lost = losses.as_slice();
     match open_all(alloc, volume.layout, specs, lost, nodes) {
-        Ok((stations, emptied)) => {
+        Ok((servers, emptied)) => {
             drop(emptied);
             drop(room);
             let locks = Locks::new();
@@ -135,14 +135,14 @@ fn open_nodes<D: Disk>(
                 alloc,
                 volume: parts.volume,
                 shared: Shared {
-                    stations,
+                    servers,
                     export,
                     locks,
                     lost: 0,
                     log,
                     bins: parts.bins,
                 },
-                seats: parts.seats,
+                agendas: parts.agendas,
                 turns: 0,
                 home: parts.home,
             })

@@ -33,7 +33,7 @@ impl<D: Disk> Driver<D> {
         ensures volume { IfOk result (λ d. d.volume ≡ volume.now) }
         ensures journal { IfOk result (λ d. is_journaled d.shared.export ≡ true) }
         ensures world { IfOk result (λ d. world_of d ≡ new_world volume.now) }
-        ensures made { IfOk result (λ d. AreFormatted D.tells D.meter D.text D.image volume.now.layout (nodes_of volume.now.clusters) disks.items d.shared.stations.items) }
+        ensures made { IfOk result (λ d. AreFormatted D.tells D.meter D.text D.image volume.now.layout (nodes_of volume.now.clusters) disks.items d.shared.servers.items) }
         ensures held { IfOk result (λ d. Holds d (anew (faults_at D.meter disks.items))) }
         ensures back { IfErr result (λ r. AreBackWithJournal D.tells D.meter D.image volume.now disks.items r.0.items) }
         ensures cause { IfErr result (λ r. IsCause D.meter disks.items r.0.items r.1) }
@@ -51,7 +51,7 @@ impl<D: Disk> Driver<D> {
     /// disks of the nodes come back, and behind them this one.
     fn behind_journal(mut self, disk: D) -> Result<Driver<D>, (Vec<D>, DriverFault)>
         ensures behind { IfOk result (λ d. IsBehindJournal disk self d) }
-        ensures back { IfErr result (λ r. IsJournalRefused D.tells D.meter D.image self.volume (disks_of self.shared.stations.items) disk r.0.items r.1) }
+        ensures back { IfErr result (λ r. IsJournalRefused D.tells D.meter D.image self.volume (disks_of self.shared.servers.items) disk r.0.items r.1) }
     {
         let Ok(volume) = self.volume.copy(self.alloc) else {
             return Err((self.back_with(disk), DriverFault::NoMemory));
@@ -62,7 +62,7 @@ impl<D: Disk> Driver<D> {
                 Ok(self)
             }
             Err((disk, fault)) => {
-                let index = self.shared.stations.len();
+                let index = self.shared.servers.len();
                 Err((self.back_with(disk), fault_at(fault, index)))
             }
         }
@@ -70,7 +70,7 @@ impl<D: Disk> Driver<D> {
 
     /// The disks of the nodes, and this one behind them.
     fn back_with(self, last: D) -> Vec<D>
-        ensures { result.items ≡ disks_of self.shared.stations.items ++ last ∷ [] }
+        ensures { result.items ≡ disks_of self.shared.servers.items ++ last ∷ [] }
     {
         let (log, disks) = self.close_with(Some(last));
         drop(log);

@@ -31,4 +31,4 @@ mod turns;
 
 pub use driver::Driver;
 pub use rz_nodes::{DriverFault, OpenRefusal};
-pub(crate) use rz_player::NoMemory;
+pub(crate) use rz_player::Halted;

@@ -31,7 +31,7 @@ impl<D: Disk> Driver<D> {
         ensures volume { IfOk result (λ d. d.volume ≡ volume.now) }
         ensures journal { IfOk result (λ d. is_journaled d.shared.export ≡ false) }
         ensures world { IfOk result (λ d. world_of d ≡ new_world volume.now) }
-        ensures made { IfOk result (λ d. AreFormatted D.tells D.meter D.text D.image volume.now.layout (nodes_of volume.now.clusters) disks.items d.shared.stations.items) }
+        ensures made { IfOk result (λ d. AreFormatted D.tells D.meter D.text D.image volume.now.layout (nodes_of volume.now.clusters) disks.items d.shared.servers.items) }
         ensures held { IfOk result (λ d. Holds d (anew (faults_at D.meter disks.items))) }
         ensures back { IfErr result (λ r. AreBack D.tells D.meter D.image volume.now.layout (nodes_of volume.now.clusters) disks.items r.0.items) }
         ensures cause { IfErr result (λ r. IsCause D.meter disks.items r.0.items r.1) }
@@ -45,7 +45,7 @@ impl<D: Disk> Driver<D> {
             return Err((disks, DriverFault::NoMemory));
         };
         match format_all(alloc, volume.layout, parts.nodes.as_slice(), disks) {
-            Ok((stations, emptied)) => {
+            Ok((servers, emptied)) => {
                 drop(emptied);
                 let locks = Locks::new();
                 let log = Log::new(alloc);
@@ -53,14 +53,14 @@ impl<D: Disk> Driver<D> {
                     alloc,
                     volume: parts.volume,
                     shared: Shared {
-                        stations,
+                        servers,
                         export,
                         locks,
                         lost: 0,
                         log,
                         bins: parts.bins,
                     },
-                    seats: parts.seats,
+                    agendas: parts.agendas,
                     turns: 0,
                     home: parts.home,
                 })

@@ -11,14 +11,14 @@ ghost use Rattle.rz_play.specs.Free.{PlaysLineOver};
 ghost use Rattle.rz_metadata.specs.Stands.{is_journaled};
 ghost use Rattle.rz_driver.specs.Worlds.{world_of, is_exact, IsDriver, Holds, Leaves};
 
-use crate::NoMemory;
+use crate::Halted;
 use crate::driver::Driver;
 use rz_disk::Disk;
 use rz_driver_nodes::{arm_node, lose_node, start_node, stop_node};
 
 impl<D: Disk> Driver<D> {
     /// The node stops.
-    pub(crate) fn order_stop(&mut self, sid: u16) -> Result<(), NoMemory>
+    pub(crate) fn order_stop(&mut self, sid: u16) -> Result<(), Halted>
         requires ready { IsDriver self.old }
         requires line { IsLine self.old.volume (line.Stop sid) }
         ensures volume { self.new.volume ≡ self.old.volume }
@@ -35,11 +35,11 @@ impl<D: Disk> Driver<D> {
         rz_block_laws::lasting();
         rz_restart_laws::untold();
         let shared = &mut self.shared;
-        stop_node(shared.stations.as_mut_slice(), &mut shared.log, sid)
+        stop_node(shared.servers.as_mut_slice(), &mut shared.log, sid)
     }
 
     /// The node starts again. What it finds is said of a disk that tells its text.
-    pub(crate) fn order_start(&mut self, sid: u16) -> Result<(), NoMemory>
+    pub(crate) fn order_start(&mut self, sid: u16) -> Result<(), Halted>
         requires ready { IsDriver self.old }
         requires line { IsLine self.old.volume (line.Start sid) }
         ensures volume { self.new.volume ≡ self.old.volume }
@@ -59,14 +59,14 @@ impl<D: Disk> Driver<D> {
         let shared = &mut self.shared;
         start_node(
             self.alloc,
-            shared.stations.as_mut_slice(),
+            shared.servers.as_mut_slice(),
             &mut shared.log,
             sid,
         )
     }
 
     /// The node loses its disk.
-    pub(crate) fn order_loss(&mut self, sid: u16) -> Result<(), NoMemory>
+    pub(crate) fn order_loss(&mut self, sid: u16) -> Result<(), Halted>
         requires ready { IsDriver self.old }
         requires line { IsLine self.old.volume (line.Lose sid) }
         ensures volume { self.new.volume ≡ self.old.volume }
@@ -83,11 +83,11 @@ impl<D: Disk> Driver<D> {
         rz_block_laws::lasting();
         rz_restart_laws::untold();
         let shared = &mut self.shared;
-        lose_node(shared.stations.as_mut_slice(), &mut shared.log, sid)
+        lose_node(shared.servers.as_mut_slice(), &mut shared.log, sid)
     }
 
     /// The node's disk lets so many device calls pass, and its next crash picks by `pick`.
-    pub(crate) fn order_break(&mut self, sid: u16, passes: u64, pick: u64) -> Result<(), NoMemory>
+    pub(crate) fn order_break(&mut self, sid: u16, passes: u64, pick: u64) -> Result<(), Halted>
         requires ready { IsDriver self.old }
         requires line { IsLine self.old.volume (line.Break sid passes pick) }
         ensures volume { self.new.volume ≡ self.old.volume }
@@ -105,7 +105,7 @@ impl<D: Disk> Driver<D> {
         rz_restart_laws::untold();
         let shared = &mut self.shared;
         arm_node(
-            shared.stations.as_mut_slice(),
+            shared.servers.as_mut_slice(),
             &mut shared.log,
             sid,
             passes,

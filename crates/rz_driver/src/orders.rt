@@ -7,7 +7,7 @@ ghost use Rattle.rz_player.specs.Ends.{Carries};
 ghost use Rattle.rz_metadata.specs.Stands.{is_journaled};
 ghost use Rattle.rz_driver.specs.Worlds.{world_of, is_exact, IsDriver, Holds, Leaves};
 
-use crate::NoMemory;
+use crate::Halted;
 use crate::driver::Driver;
 use crate::turns::place;
 use rz_disk::Disk;
@@ -15,7 +15,7 @@ use rz_events::{Actor, Operation};
 
 impl<D: Disk> Driver<D> {
     /// The operation goes to the end of the actor's list.
-    pub(crate) fn add_operation(&mut self, by: Actor, op: &Operation) -> Result<(), NoMemory>
+    pub(crate) fn add_operation(&mut self, by: Actor, op: &Operation) -> Result<(), Halted>
         requires ready { IsDriver self.old }
         requires line { IsLine self.old.volume (line.Op by op.now) }
         ensures volume { self.new.volume ≡ self.old.volume }
@@ -30,10 +30,10 @@ impl<D: Disk> Driver<D> {
     {
         rz_play_laws::lined();
         let Some(place) = place(by) else {
-            return Err(NoMemory);
+            return Err(Halted);
         };
         let op = op.copy(self.alloc)?;
-        self.seats[place].add(op)?;
+        self.agendas[place].add(op)?;
         Ok(())
     }
 
@@ -51,7 +51,7 @@ impl<D: Disk> Driver<D> {
     {
         rz_play_laws::lined();
         if let Some(place) = place(by) {
-            self.seats[place].miss = Some(reply);
+            self.agendas[place].miss = Some(reply);
         }
     }
 }

@@ -6,11 +6,11 @@ ghost use Rattle.mj_angles.specs.Layout.{max_bins_of};
 ghost use Rattle.rz_events.specs.Volume.{IsNode, IsVolume, nodes_of};
 ghost use Rattle.rz_export_model.specs.Export.{new_export};
 ghost use Rattle.rz_metadata.specs.Stands.{export_in, is_journaled, Stands};
-ghost use Rattle.rz_driver_actors.specs.Seats.{IsEmptySeat};
+ghost use Rattle.rz_driver_actors.specs.Agendas.{IsEmptyAgenda};
 
 use rz_config::Volume;
 use rz_disk::Disk;
-use rz_driver_actors::Seat;
+use rz_driver_actors::Agenda;
 use rz_events::NodeSpec;
 use rz_metadata::Metadata;
 use rz_nodes::all_nodes;
@@ -22,22 +22,25 @@ const SEATS: usize = 80;
 /// The volume and its nodes in order, the actors, room for the bins of a record, and room for a disk of
 /// each node and one more.
 #[derive(Drop)]
-pub(crate) struct Parts<D: Disk> {
+pub(crate) struct DriverParts<D: Disk> {
     pub(crate) volume: Volume,
     pub(crate) nodes: Vec<NodeSpec>,
-    pub(crate) seats: Vec<Seat>,
+    pub(crate) agendas: Vec<Agenda>,
     pub(crate) bins: Vec<u64>,
     pub(crate) home: Vec<D>,
 }
 
 /// The parts of a driver that has played nothing.
-pub(crate) fn new_parts<D: Disk>(alloc: Global, volume: &Volume) -> Result<Parts<D>, AllocError>
+pub(crate) fn new_parts<D: Disk>(
+    alloc: Global,
+    volume: &Volume,
+) -> Result<DriverParts<D>, AllocError>
     ensures volume { IfOk result (λ p. p.volume ≡ volume.now) }
     ensures rules { IsVolume volume.now }
     ensures proper { AllByRecursion IsNode (nodes_of volume.now.clusters) }
     ensures nodes { IfOk result (λ p. p.nodes.items ≡ nodes_of volume.now.clusters) }
-    ensures seats { IfOk result (λ p. AllByRecursion IsEmptySeat p.seats.items) }
-    ensures count { IfOk result (λ p. length p.seats.items ≡ 80) }
+    ensures agendas { IfOk result (λ p. AllByRecursion IsEmptyAgenda p.agendas.items) }
+    ensures count { IfOk result (λ p. length p.agendas.items ≡ 80) }
     ensures bins { IfOk result (λ p. length p.bins.items ≡ max_bins_of volume.now.layout) }
     ensures empty { IfOk result (λ p. vec_len p.home ≡ 0) }
     ensures room { IfOk result (λ p. length (nodes_of volume.now.clusters) + 1 ≤ vec_capacity p.home) }
@@ -47,14 +50,14 @@ pub(crate) fn new_parts<D: Disk>(alloc: Global, volume: &Volume) -> Result<Parts
     let bins = Vec::from_elem(alloc, 0, layout.max_bins())?;
     let home = Vec::with_capacity(alloc, nodes.len() + 1)?;
     let volume = volume.copy(alloc)?;
-    let Ok(seats) = empty_seats(alloc) else {
+    let Ok(agendas) = empty_agendas(alloc) else {
         drop(volume);
         return Err(AllocError);
     };
-    Ok(Parts {
+    Ok(DriverParts {
         volume,
         nodes,
-        seats,
+        agendas,
         bins,
         home,
     })
@@ -71,13 +74,13 @@ pub(crate) fn new_export<D: Disk>(alloc: Global, volume: &Volume) -> Result<Meta
 }
 
 /// The actors of a play, with nothing to do.
-fn empty_seats(alloc: Global) -> Result<Vec<Seat>, AllocError>
-    ensures all { IfOk result (λ v. AllByRecursion IsEmptySeat v.items) }
+fn empty_agendas(alloc: Global) -> Result<Vec<Agenda>, AllocError>
+    ensures all { IfOk result (λ v. AllByRecursion IsEmptyAgenda v.items) }
     ensures count { IfOk result (λ v. length v.items ≡ 80) }
 {
-    let mut seats = Vec::with_capacity(alloc, SEATS)?;
+    let mut agendas = Vec::with_capacity(alloc, SEATS)?;
     for _ in 0..SEATS {
-        seats.push_reserved(Seat::new(alloc));
+        agendas.push_reserved(Agenda::new(alloc));
     }
-    Ok(seats)
+    Ok(agendas)
 }

@@ -5,8 +5,8 @@ use crate::driver::Driver;
 use rz_disk::Disk;
 use rz_events::{Actor, Event, Operation};
 use rz_link::Link;
-use rz_metadata::Refusal;
-use rz_player::{LoggedStage, NoMemory, PlayEnd, Stage};
+use rz_metadata::JournalRefusal;
+use rz_player::{Halted, LoggedStage, PlayEnd, Stage};
 
 impl<D: Disk> Stage for Driver<D> {
     ghost use Rattle.rz_driver.specs.Worlds.{world_of, is_exact, tells-exactly, IsDriver, Holds, Leaves};
@@ -39,8 +39,8 @@ impl<D: Disk> Stage for Driver<D> {
     fn cut_off(&self) -> PlayEnd {
         match self.shared.export.refusal() {
             None => PlayEnd::NoMemory,
-            Some(Refusal::Full) => PlayEnd::JournalFull,
-            Some(Refusal::Failed) => PlayEnd::Journal,
+            Some(JournalRefusal::Full) => PlayEnd::JournalFull,
+            Some(JournalRefusal::Failed) => PlayEnd::Journal,
         }
     }
 
@@ -52,11 +52,11 @@ impl<D: Disk> Stage for Driver<D> {
         self.is_at_work(by)
     }
 
-    fn turn<L: Link>(&mut self, by: Actor, link: &mut L) -> Result<(), NoMemory> {
+    fn turn<L: Link>(&mut self, by: Actor, link: &mut L) -> Result<(), Halted> {
         self.take_turn(by, link)
     }
 
-    fn add(&mut self, by: Actor, op: &Operation) -> Result<(), NoMemory> {
+    fn add(&mut self, by: Actor, op: &Operation) -> Result<(), Halted> {
         self.add_operation(by, op)
     }
 
@@ -64,19 +64,19 @@ impl<D: Disk> Stage for Driver<D> {
         self.plan_miss(by, reply)
     }
 
-    fn stop(&mut self, node: u16) -> Result<(), NoMemory> {
+    fn stop(&mut self, node: u16) -> Result<(), Halted> {
         self.order_stop(node)
     }
 
-    fn start(&mut self, node: u16) -> Result<(), NoMemory> {
+    fn start(&mut self, node: u16) -> Result<(), Halted> {
         self.order_start(node)
     }
 
-    fn lose(&mut self, node: u16) -> Result<(), NoMemory> {
+    fn lose(&mut self, node: u16) -> Result<(), Halted> {
         self.order_loss(node)
     }
 
-    fn arm(&mut self, node: u16, passes: u64, pick: u64) -> Result<(), NoMemory> {
+    fn arm(&mut self, node: u16, passes: u64, pick: u64) -> Result<(), Halted> {
         self.order_break(node, passes, pick)
     }
 }

@@ -8,7 +8,7 @@ ghost use Rattle.rz_player.specs.Ends.{Carries};
 ghost use Rattle.rz_metadata.specs.Stands.{is_journaled};
 ghost use Rattle.rz_driver.specs.Worlds.{place_of, world_of, is_exact, IsDriver, Holds, Leaves};
 
-use crate::NoMemory;
+use crate::Halted;
 use crate::driver::Driver;
 use rz_disk::Disk;
 use rz_driver_actors::act;
@@ -28,7 +28,7 @@ pub(crate) fn place(by: Actor) -> Option<usize>
 
 impl<D: Disk> Driver<D> {
     /// The actor takes a turn.
-    pub(crate) fn take_turn<L: Link>(&mut self, by: Actor, link: &mut L) -> Result<(), NoMemory>
+    pub(crate) fn take_turn<L: Link>(&mut self, by: Actor, link: &mut L) -> Result<(), Halted>
         requires ready { IsDriver self.old }
         requires few { self.old.turns < most_turns }
         ensures ready { OnOk result (IsDriver self.new) }
@@ -51,13 +51,13 @@ impl<D: Disk> Driver<D> {
         rz_restart_laws::told();
         rz_restart_laws::untold();
         let Some(place) = place(by) else {
-            return Err(NoMemory);
+            return Err(Halted);
         };
         self.shared.log.make_room()?;
         let layout = self.volume.layout;
-        let seat = &mut self.seats[place];
-        seat.take_up(self.alloc, layout)?;
-        act(self.alloc, layout, by, seat, &mut self.shared, link)?;
+        let agenda = &mut self.agendas[place];
+        agenda.take_up(self.alloc, layout)?;
+        act(self.alloc, layout, by, agenda, &mut self.shared, link)?;
         self.turns += 1;
         Ok(())
     }
@@ -65,10 +65,10 @@ impl<D: Disk> Driver<D> {
     /// Whether the actor has work.
     pub(crate) fn is_at_work(&self, by: Actor) -> bool
         requires ready { IsDriver self.now }
-        ensures { result ≡ has_work ((world_of self.now).seats by) }
+        ensures { result ≡ has_work ((world_of self.now).agendas by) }
     {
         match place(by) {
-            Some(place) => self.seats[place].has_work(),
+            Some(place) => self.agendas[place].has_work(),
             None => false,
         }
     }

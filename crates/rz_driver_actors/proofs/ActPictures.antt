@@ -24,13 +24,13 @@ use Rattle.rz_driver_asks.specs.Parts.{IsExportPart, IsSayPart}
 use Rattle.rz_node_laws.specs.Laws.{IsLongerLaw}
 use Rattle.rz_block_laws.specs.Laws.{IsNoFetch}
 use Rattle.rz_block_laws.specs.Turns.{HasInHand, IsToldLaw}
-use Rattle.rz_driver_actors.specs.declared.seat.Seat.{Seat}
+use Rattle.rz_driver_actors.specs.declared.agenda.Agenda.{Agenda}
 use Rattle.rz_driver_actors.specs.declared.shared.Shared.{Shared}
-use Rattle.rz_nodes.specs.declared.formatting.Station.{Station}
+use Rattle.rz_nodes.specs.declared.formatting.Server.{Server}
 use Rattle.rz_driver_actors.specs.Acts.{IsAct, IsFate, Rests, Exports, Opens, Sends, Says, Through, ReplyLost, RequestLost}
 use Rattle.rz_driver_nodes.specs.Nodes.{IsAsked, IsThroughPart, IsReplyLostPart, IsRequestLostPart}
 use Rattle.rz_driver_nodes.specs.Images.{HasImages, KeepsNode, SparesNode}
-use Rattle.rz_driver_actors.specs.Hands.{HasTrueHand, IsTrueSeat, KeepsPicture, SparesPicture}
+use Rattle.rz_driver_actors.specs.Hands.{HasTrueHand, IsTrueAgenda, KeepsPicture, SparesPicture}
 use Rattle.rz_driver_nodes.proofs.PictureLemmas.{GrowsBy, grows-behind, row-longer, row-set, row-at, states-stay}
 
 -- a message that was lost goes through the link
@@ -38,23 +38,23 @@ pub lost-by-link : (miss : Option Bool) (question : NodeAsk) (reply : Bool) → 
 lost-by-link None question reply lost = lost
 lost-by-link (Some planned) question reply lost = lost.0
 
-seat-hand : (v : Volume) (h : List Event) (by : Actor) (o : Option Machine) → IsTrueSeat v (facts h) by o → HasTrueHand v (facts h) o
-seat-hand v h by None seat = tt
-seat-hand v h by (Some m) seat = seat.true_to.hand
+agenda-hand : (v : Volume) (h : List Event) (by : Actor) (o : Option Machine) → IsTrueAgenda v (facts h) by o → HasTrueHand v (facts h) o
+agenda-hand v h by None agenda = tt
+agenda-hand v h by (Some m) agenda = agenda.true_to.hand
 
-module _ {D : Type 0} (image : D → List ℕ → Type 0) (by : Actor) (xs : List (Station D)) where
+module _ {D : Type 0} (image : D → List ℕ → Type 0) (by : Actor) (xs : List (Server D)) where
   -- nothing was done
   pub still-keeps : (o : Option Machine) (h : List Event) → KeepsPicture image by o o xs h xs h
-  still-keeps o h = λ v old seat imaged. (seat-hand v (h ++ old) by o seat, imaged)
+  still-keeps o h = λ v old agenda imaged. (agenda-hand v (h ++ old) by o agenda, imaged)
 
   -- no node was called
   pub still-spares : (o : Option Machine) (h : List Event) → SparesPicture image by o xs h xs
-  still-spares o h = λ v old seat imaged. (imaged, refl)
+  still-spares o h = λ v old agenda imaged. (imaged, refl)
 
-  pub at-machine : (o : Option Machine) (m new : Machine) → o ≡ Some m → (h : List Event) (ys : List (Station D)) (h' : List Event) → KeepsPicture image by (Some m) (Some new) xs h ys h' → KeepsPicture image by o (Some new) xs h ys h'
+  pub at-machine : (o : Option Machine) (m new : Machine) → o ≡ Some m → (h : List Event) (ys : List (Server D)) (h' : List Event) → KeepsPicture image by (Some m) (Some new) xs h ys h' → KeepsPicture image by o (Some new) xs h ys h'
   at-machine o m new was h ys h' keeps = subst (λ (x : Option Machine). KeepsPicture image by x (Some new) xs h ys h') (sym was) keeps
 
-  pub at-spares : (o : Option Machine) (m : Machine) → o ≡ Some m → (h : List Event) (ys : List (Station D)) → SparesPicture image by (Some m) xs h ys → SparesPicture image by o xs h ys
+  pub at-spares : (o : Option Machine) (m : Machine) → o ≡ Some m → (h : List Event) (ys : List (Server D)) → SparesPicture image by (Some m) xs h ys → SparesPicture image by o xs h ys
   at-spares o m was h ys spares = subst (λ (x : Option Machine). SparesPicture image by x xs h ys) (sym was) spares
 
   module _ (longer : IsLongerLaw image) (told : (v : Volume) → IsToldLaw v) (o : Option Machine) (m new : Machine) (was : o ≡ Some m) (h h' : List Event) where
@@ -88,7 +88,7 @@ module _ {D : Type 0} (image : D → List ℕ → Type 0) (by : Actor) (xs : Lis
 
   -- ---- the node at a place was sent a message
 
-  module _ (m : Machine) (h : List Event) (n place : ℕ) (s s' : Station D) (named : s.sid ≡ n) (at : slice_get xs place ≡ Some s) (same : s'.sid ≡ s.sid) where
+  module _ (m : Machine) (h : List Event) (n place : ℕ) (s s' : Server D) (named : s.sid ≡ n) (at : slice_get xs place ≡ Some s) (same : s'.sid ≡ s.sid) where
     pub node-keeps : IsLongerLaw image → (new : Machine) (h' : List Event) → GrowsBy h h' → KeepsNode image by n m new s.node s'.node h h' → KeepsPicture image by (Some m) (Some new) xs h (slice_set xs place s') h'
     node-keeps longer new h' grown keeps = λ v old actor imaged.
         let f = facts (h' ++ old) in
@@ -106,7 +106,7 @@ module _ {D : Type 0} (image : D → List ℕ → Type 0) (by : Actor) (xs : Lis
         (row-set image v f xs place s' imaged there, states-stay xs place s s' at same kept.1)
 
   -- it did not hear of it
-  pub unheard-keeps : IsLongerLaw image → ((v : Volume) → IsToldLaw v) → (m new : Machine) (h h' : List Event) (n : ℕ) (question : NodeAsk) (place : ℕ) (s : Station D) → slice_get xs place ≡ Some s → IsAsked m n question → goes_by_link question ≡ true
+  pub unheard-keeps : IsLongerLaw image → ((v : Volume) → IsToldLaw v) → (m new : Machine) (h h' : List Event) (n : ℕ) (question : NodeAsk) (place : ℕ) (s : Server D) → slice_get xs place ≡ Some s → IsAsked m n question → goes_by_link question ≡ true
       → IsRequestLostPart by n m new h h' → KeepsPicture image by (Some m) (Some new) xs h (slice_set xs place s) h'
   unheard-keeps longer told m new h h' n question place s at asked by_link part =
       let x : Event = e.Missed by n false in
@@ -124,12 +124,12 @@ through-grows part = (part.noted.0 ∷ [], part.noted.2)
 pub lost-grows : {by : Actor} {n cells : ℕ} {question : NodeAsk} {s s' : NodeState} {old new : Machine} {h h' : List Event} → IsReplyLostPart by n cells question s s' old new h h' → GrowsBy h h'
 lost-grows {by = by} {n = n} part = (e.Missed by n true ∷ part.event ∷ [], part.noted)
 
-fate-grows : {D J : Type 0} {by : Actor} {n : ℕ} {question : NodeAsk} {s s' : Station D} {old new : Machine} {miss miss' : Option Bool} {p q : Shared D J} → IsFate by n question s s' old new miss miss' p q → GrowsBy p.log.events q.log.events
+fate-grows : {D J : Type 0} {by : Actor} {n : ℕ} {question : NodeAsk} {s s' : Server D} {old new : Machine} {miss miss' : Option Bool} {p q : Shared D J} → IsFate by n question s s' old new miss miss' p q → GrowsBy p.log.events q.log.events
 fate-grows (Through part comes miss lost) = through-grows part
 fate-grows (ReplyLost part lost_so miss lost) = lost-grows part
 fate-grows {by = by} {n = n} (RequestLost stays part lost_so miss lost) = (e.Missed by n false ∷ [], part.noted)
 
-pub act-grows : {D J : Type 0} (layout : Layout) (by : Actor) (a b : Seat) (p q : Shared D J) → IsAct layout by a b p q → GrowsBy p.log.events q.log.events
+pub act-grows : {D J : Type 0} (layout : Layout) (by : Actor) (a b : Agenda) (p q : Shared D J) → IsAct layout by a b p q → GrowsBy p.log.events q.log.events
 act-grows layout by a b p q (Rests asks same shared) = ([], ap (λ (x : Shared _ _). x.log.events) shared)
 act-grows layout by a b p q (Exports old new was is same lock miss (c, asks, r) sts lks lost) = (r.noted.0 ∷ [], r.noted.2)
 act-grows layout by a b p q (Opens old new was is same miss (path, exclusive, from, count, asks, (owner, r)) sts lost) = (r.noted.0 ∷ [], r.noted.2)

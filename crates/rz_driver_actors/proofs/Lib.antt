@@ -1,4 +1,4 @@
-mod SeatLemmas
+mod AgendaLemmas
 mod MessageLemmas
 pub mod ActPictures
 pub mod ExportEvents

@@ -17,7 +17,7 @@ use Rattle.rz_metadata.specs.Journals.{EndsOn}
 use Rattle.rz_driver_asks.specs.Parts.{IsSayPart}
 use Rattle.rz_metadata.specs.declared.metadata.Metadata.{Metadata}
 use Rattle.rz_metadata.specs.Stands.{export_in, is_journaled}
-use Rattle.rz_nodes.specs.declared.formatting.Station.{Station}
+use Rattle.rz_nodes.specs.declared.formatting.Server.{Server}
 use Rattle.rz_driver_nodes.proofs.EventWords.{node-word}
 use Rattle.rz_driver_actors.specs.declared.shared.Shared.{Shared}
 use Rattle.rz_driver_actors.specs.Acts.{IsFate, Through, ReplyLost, RequestLost}
@@ -31,7 +31,7 @@ answer-stays : (by : Actor) (n : ℕ) (question : NodeAsk) (given : NodeAnswer) 
 answer-stays by n question given x h is = node-stays n x h (subst (λ (o : Option Event). IfSome o (λ y. word_of y ≡ Node n)) is (node-word by n question given))
 
 -- a message to a node
-pub fate-stays : {D J : Type 0} {by : Actor} {n : ℕ} {question : NodeAsk} {s s' : Station D} {old new : Machine} {miss miss' : Option Bool} {p q : Shared D J} → IsFate by n question s s' old new miss miss' p q
+pub fate-stays : {D J : Type 0} {by : Actor} {n : ℕ} {question : NodeAsk} {s s' : Server D} {old new : Machine} {miss miss' : Option Bool} {p q : Shared D J} → IsFate by n question s s' old new miss miss' p q
     → of_word Export q.log.events ≡ of_word Export p.log.events
 fate-stays {by = by} {n = n} {question = question} {p = p} (Through part comes miss lost) =
     ap (of_word Export) part.noted.2 ∙ answer-stays by n question part.given part.noted.0 p.log.events part.noted.1

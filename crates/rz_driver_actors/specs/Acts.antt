@@ -14,31 +14,31 @@ use Rattle.rz_operation.specs.Machine.{Machine}
 use Rattle.rz_operation_model.specs.Ask.{Ask, AskExport, AskNode, AskLock, Say, Rest, Saying, ask_of}
 use Rattle.rz_metadata.specs.Stands.{export_in}
 use Rattle.rz_play.specs.Turns.{IsLost, IsThrough, lost_after}
-use Rattle.rz_driver_actors.specs.declared.acting.Kind.{Kind}
-use Rattle.rz_driver_actors.specs.declared.acting.Kind.TheVariants as kind
-use Rattle.rz_driver_actors.specs.declared.seat.Seat.{Seat}
+use Rattle.rz_driver_actors.specs.declared.acting.AskKind.{AskKind}
+use Rattle.rz_driver_actors.specs.declared.acting.AskKind.TheVariants as kind
+use Rattle.rz_driver_actors.specs.declared.agenda.Agenda.{Agenda}
 use Rattle.rz_driver_actors.specs.declared.shared.Shared.{Shared}
-use Rattle.rz_nodes.specs.declared.formatting.Station.{Station}
+use Rattle.rz_nodes.specs.declared.formatting.Server.{Server}
 use Rattle.rz_driver_asks.specs.Locking.{IsOpenPart}
 use Rattle.rz_driver_nodes.specs.Nodes.{IsAsked, IsThroughPart, IsReplyLostPart, IsRequestLostPart}
 use Rattle.rz_driver_asks.specs.Parts.{IsExportPart, IsSayPart}
-use Rattle.rz_driver_actors.specs.Seats.{work_in}
-use Rattle.rz_driver_nodes.specs.Stations.{IsAt, IsCalled}
+use Rattle.rz_driver_actors.specs.Agendas.{work_in}
+use Rattle.rz_driver_nodes.specs.Servers.{IsAt, IsCalled}
 
-abbrev pub HasLayouts : {D : Type 0} → Layout → List (Station D) → Type 0
-HasLayouts {D = D} layout stations = AllByRecursion (λ (s : Station D). s.node.geometry.layout ≡ layout) stations
+abbrev pub HasLayouts : {D : Type 0} → Layout → List (Server D) → Type 0
+HasLayouts {D = D} layout servers = AllByRecursion (λ (s : Server D). s.node.geometry.layout ≡ layout) servers
 
 -- what is asked is of this kind
-abbrev pub IsKind : Ask → Kind → Type 0
-IsKind ask kind.Rest = ask ≡ Rest
-IsKind ask kind.Export = (c : Call) × (ask ≡ AskExport c)
-IsKind ask kind.Lock = (path : List ℕ) × (exclusive : Bool) × (from : ℕ) × (count : ℕ) × (ask ≡ AskLock path exclusive from count)
-IsKind ask (kind.Node n question) = ask ≡ AskNode n question
-IsKind ask kind.Say = (said : Saying) × (ask ≡ Say said)
+abbrev pub IsAskKind : Ask → AskKind → Type 0
+IsAskKind ask kind.Rest = ask ≡ Rest
+IsAskKind ask kind.Export = (c : Call) × (ask ≡ AskExport c)
+IsAskKind ask kind.Lock = (path : List ℕ) × (exclusive : Bool) × (from : ℕ) × (count : ℕ) × (ask ≡ AskLock path exclusive from count)
+IsAskKind ask (kind.Node n question) = ask ≡ AskNode n question
+IsAskKind ask kind.Say = (said : Saying) × (ask ≡ Say said)
 
 -- A message to the node at a place.
 
-pub data IsFate {D J : Type 0} (by : Actor) (n : ℕ) (question : NodeAsk) (s s' : Station D) (old new : Machine) (miss miss' : Option Bool) (p q : Shared D J) : Type 0 where
+pub data IsFate {D J : Type 0} (by : Actor) (n : ℕ) (question : NodeAsk) (s s' : Server D) (old new : Machine) (miss miss' : Option Bool) (p q : Shared D J) : Type 0 where
   Through : IsThroughPart by n s.node.geometry.cells question s.node.state s'.node.state old new p.log.events q.log.events → IsThrough miss question → miss' ≡ miss → q.lost ≡ p.lost
       → IsFate by n question s s' old new miss miss' p q
   ReplyLost : IsReplyLostPart by n s.node.geometry.cells question s.node.state s'.node.state old new p.log.events q.log.events → IsLost miss question true → miss' ≡ None → q.lost ≡ lost_after miss p.lost
@@ -48,13 +48,13 @@ pub data IsFate {D J : Type 0} (by : Actor) (n : ℕ) (question : NodeAsk) (s s'
 
 pub record IsMessage {D J : Type 0} (by : Actor) (n : ℕ) (question : NodeAsk) (old new : Machine) (miss miss' : Option Bool) (p q : Shared D J) : Type 0 where
   pub place : ℕ
-  pub station : Station D
-  pub after : Station D
-  pub at : IsAt p.stations.items n place
-  pub is : slice_get p.stations.items place ≡ Some station
-  pub called : IsCalled station after
-  pub stations : q.stations.items ≡ slice_set p.stations.items place after
-  pub fate : IsFate by n question station after old new miss miss' p q
+  pub server : Server D
+  pub after : Server D
+  pub at : IsAt p.servers.items n place
+  pub is : slice_get p.servers.items place ≡ Some server
+  pub called : IsCalled server after
+  pub servers : q.servers.items ≡ slice_set p.servers.items place after
+  pub fate : IsFate by n question server after old new miss miss' p q
   pub export : q.export ≡ p.export
   pub locks : q.locks ≡ p.locks
 
@@ -72,22 +72,22 @@ pub record IsReleased (done : Bool) (by : Actor) (lock lock' : Option (Range × 
   pub locks_are : locks' ≡ locks_after done by locks
 
 -- what an actor has to do stays
-pub record IsSameActor (a b : Seat) : Type 0 where
+pub record IsSameActor (a b : Agenda) : Type 0 where
   pub todo : b.todo.items ≡ a.todo.items
   pub number : b.number ≡ a.number
 
-pub data IsAct {D J : Type 0} (layout : Layout) (by : Actor) (a b : Seat) (p q : Shared D J) : Type 0 where
+pub data IsAct {D J : Type 0} (layout : Layout) (by : Actor) (a b : Agenda) (p q : Shared D J) : Type 0 where
   Rests : ask_of layout (work_in a.machine) ≡ Rest → b ≡ a → q ≡ p → IsAct layout by a b p q
   Exports : (old new : Machine) → a.machine ≡ Some old → b.machine ≡ Some new → IsSameActor a b → b.lock ≡ a.lock → b.miss ≡ a.miss
-      → IsExportPart by old new (export_in p.export) (export_in q.export) p.log.events q.log.events → q.stations.items ≡ p.stations.items → q.locks ≡ p.locks → q.lost ≡ p.lost
+      → IsExportPart by old new (export_in p.export) (export_in q.export) p.log.events q.log.events → q.servers.items ≡ p.servers.items → q.locks ≡ p.locks → q.lost ≡ p.lost
       → IsAct layout by a b p q
   Opens : (old new : Machine) → a.machine ≡ Some old → b.machine ≡ Some new → IsSameActor a b → b.miss ≡ a.miss
-      → IsOpenPart by old new (export_in p.export) (export_in q.export) p.locks q.locks a.lock b.lock p.log.events q.log.events → q.stations.items ≡ p.stations.items → q.lost ≡ p.lost
+      → IsOpenPart by old new (export_in p.export) (export_in q.export) p.locks q.locks a.lock b.lock p.log.events q.log.events → q.servers.items ≡ p.servers.items → q.lost ≡ p.lost
       → IsAct layout by a b p q
   Sends : (old new : Machine) → a.machine ≡ Some old → b.machine ≡ Some new → IsSameActor a b → b.lock ≡ a.lock
       → (n : ℕ) (question : NodeAsk) → IsAsked old n question → IsMessage by n question old new a.miss b.miss p q
       → IsAct layout by a b p q
   Says : (old new : Machine) → a.machine ≡ Some old → b.machine ≡ Some new → IsSameActor a b → b.miss ≡ a.miss
       → (done : Bool) → IsSayPart p.log.earlier by a.number done old new p.log.events q.log.events → IsReleased done by a.lock b.lock p.locks q.locks
-      → q.stations.items ≡ p.stations.items → q.export ≡ p.export → q.lost ≡ p.lost
+      → q.servers.items ≡ p.servers.items → q.export ≡ p.export → q.lost ≡ p.lost
       → IsAct layout by a b p q

@@ -1,4 +1,4 @@
-pub mod Seats
+pub mod Agendas
 pub mod Acts
 pub mod Hands
 pub mod Stores

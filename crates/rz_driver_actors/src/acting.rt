@@ -8,15 +8,15 @@ ghost use Rattle.rz_operation_model.specs.Ask.{ask_of};
 ghost use Rattle.rz_play.specs.Turns as model;
 ghost use Rattle.rz_driver_asks.specs.Locking.{lock_of};
 ghost use Rattle.rz_driver_nodes.specs.Nodes.{IsAsked};
-ghost use Rattle.rz_driver_actors.specs.Seats.{HasLayout};
+ghost use Rattle.rz_driver_actors.specs.Agendas.{HasLayout};
 ghost use Rattle.rz_player.specs.Messages.{IsSent};
 ghost use Rattle.rz_driver_nodes.specs.Meters.{AreMetered, AreCounted, CarriesCounts};
 ghost use Rattle.rz_metadata.specs.Journals.{EndsOn};
 ghost use Rattle.rz_driver_actors.specs.Stores.{IsExportTurn, IsSameStore};
 ghost use Rattle.rz_driver_actors.specs.Hands.{KeepsPicture, SparesPicture};
-ghost use Rattle.rz_driver_actors.specs.Acts.{IsKind, IsMessage, IsReleased, IsSameActor, IsAct, HasLayouts};
+ghost use Rattle.rz_driver_actors.specs.Acts.{IsAskKind, IsMessage, IsReleased, IsSameActor, IsAct, HasLayouts};
 
-use crate::seat::Seat;
+use crate::agenda::Agenda;
 use crate::shared::Shared;
 use mj_angles::Layout;
 use rz_disk::Disk;
@@ -26,12 +26,12 @@ use rz_events::{Actor, NodeAsk};
 use rz_link::{Link, Sent, fate};
 use rz_locks::{LockKind, Locks, Range};
 use rz_operation::{Ask, Machine, goes_by_link};
-use rz_player::NoMemory;
+use rz_player::Halted;
 use std::alloc::Global;
 
 /// What kind of thing a machine asks.
 #[derive(Clone, Copy, Drop)]
-pub(crate) enum Kind {
+pub(crate) enum AskKind {
     Rest,
     Export,
     Lock,
@@ -39,15 +39,15 @@ pub(crate) enum Kind {
     Say,
 }
 
-fn kind_of(machine: &Machine) -> Kind
-    ensures { IsKind (ask_of machine.now.layout machine.now.work) result }
+fn ask_kind(machine: &Machine) -> AskKind
+    ensures { IsAskKind (ask_of machine.now.layout machine.now.work) result }
 {
     match machine.next() {
-        Ask::Rest => Kind::Rest,
-        Ask::Export(_) => Kind::Export,
-        Ask::Lock { .. } => Kind::Lock,
-        Ask::Node { node, ask } => Kind::Node { node, ask },
-        Ask::Say(_) => Kind::Say,
+        Ask::Rest => AskKind::Rest,
+        Ask::Export(_) => AskKind::Export,
+        Ask::Lock { .. } => AskKind::Lock,
+        Ask::Node { node, ask } => AskKind::Node { node, ask },
+        Ask::Say(_) => AskKind::Say,
     }
 }
 
@@ -56,63 +56,63 @@ pub fn act<D: Disk, J: Disk, L: Link>(
     alloc: Global,
     layout: Layout,
     by: Actor,
-    seat: &mut Seat,
+    agenda: &mut Agenda,
     shared: &mut Shared<D, J>,
     link: &mut L,
-) -> Result<(), NoMemory>
-    requires machine { HasLayout layout seat.old.machine }
-    requires stations { HasLayouts layout shared.old.stations.items }
+) -> Result<(), Halted>
+    requires machine { HasLayout layout agenda.old.machine }
+    requires servers { HasLayouts layout shared.old.servers.items }
     requires bins { max_bins_of layout ≤ length shared.old.bins.items }
-    requires tied { (n : ℕ) → by ≡ actor.Client n → map.get shared.old.locks n ≡ lock_of seat.old.lock }
+    requires tied { (n : ℕ) → by ≡ actor.Client n → map.get shared.old.locks n ≡ lock_of agenda.old.lock }
     requires room { 2 ≤ shared.old.log.room }
-    ensures ok { OnOk result (IsAct layout by seat.old seat.new shared.old shared.new) }
-    ensures actor { IsSameActor seat.old seat.new }
-    ensures miss { OnErr result (seat.new.miss ≡ seat.old.miss) }
+    ensures ok { OnOk result (IsAct layout by agenda.old agenda.new shared.old shared.new) }
+    ensures actor { IsSameActor agenda.old agenda.new }
+    ensures miss { OnErr result (agenda.new.miss ≡ agenda.old.miss) }
     ensures err { OnErr result (shared.new.log.events ≡ shared.old.log.events) }
     ensures earlier { shared.new.log.earlier ≡ shared.old.log.earlier }
     ensures lost { OnErr result (shared.new.lost ≡ shared.old.lost) }
     ensures link { shared.new.lost + L.lost link.old ≤ shared.old.lost + L.lost link.new }
     ensures bins { length shared.new.bins.items ≡ length shared.old.bins.items }
-    ensures count { vec_len shared.new.stations ≡ vec_len shared.old.stations }
-    ensures held { OnOk result ((numbers : List ℕ) → CarriesCounts (AreMetered D.meter numbers shared.old.stations.items shared.old.log.events) (AreMetered D.meter numbers shared.new.stations.items shared.new.log.events)) }
-    ensures left { OnErr result ((numbers : List ℕ) → CarriesCounts (AreMetered D.meter numbers shared.old.stations.items shared.old.log.events) (AreCounted D.meter numbers shared.new.stations.items shared.new.log.events)) }
+    ensures count { vec_len shared.new.servers ≡ vec_len shared.old.servers }
+    ensures held { OnOk result ((numbers : List ℕ) → CarriesCounts (AreMetered D.meter numbers shared.old.servers.items shared.old.log.events) (AreMetered D.meter numbers shared.new.servers.items shared.new.log.events)) }
+    ensures left { OnErr result ((numbers : List ℕ) → CarriesCounts (AreMetered D.meter numbers shared.old.servers.items shared.old.log.events) (AreCounted D.meter numbers shared.new.servers.items shared.new.log.events)) }
     ensures store { IsSameStore shared.old.export shared.new.export }
-    ensures kept { OnOk result (IsExportTurn J.tells J.meter J.image by seat.old.machine shared.old.export shared.new.export shared.old.log.events shared.new.log.events) }
+    ensures kept { OnOk result (IsExportTurn J.tells J.meter J.image by agenda.old.machine shared.old.export shared.new.export shared.old.log.events shared.new.log.events) }
     ensures ended { OnErr result (EndsOn J.tells J.meter J.image shared.old.export shared.new.export) }
-    ensures pictured { OnOk result (IsTrue D.tells → KeepsPicture D.image by seat.old.machine seat.new.machine shared.old.stations.items shared.old.log.events shared.new.stations.items shared.new.log.events) }
-    ensures spared { OnErr result (IsTrue D.tells → SparesPicture D.image by seat.old.machine shared.old.stations.items shared.old.log.events shared.new.stations.items) }
+    ensures pictured { OnOk result (IsTrue D.tells → KeepsPicture D.image by agenda.old.machine agenda.new.machine shared.old.servers.items shared.old.log.events shared.new.servers.items shared.new.log.events) }
+    ensures spared { OnErr result (IsTrue D.tells → SparesPicture D.image by agenda.old.machine shared.old.servers.items shared.old.log.events shared.new.servers.items) }
 {
     rz_block_laws::told();
     rz_node_laws::longer::<D>();
-    let Some(machine) = &mut seat.machine else {
+    let Some(machine) = &mut agenda.machine else {
         return Ok(());
     };
-    match kind_of(machine) {
-        Kind::Rest => Ok(()),
-        Kind::Export => ask_export(alloc, by, machine, &mut shared.export, &mut shared.log),
-        Kind::Lock => open(
+    match ask_kind(machine) {
+        AskKind::Rest => Ok(()),
+        AskKind::Export => ask_export(alloc, by, machine, &mut shared.export, &mut shared.log),
+        AskKind::Lock => open(
             alloc,
             by,
             machine,
-            &mut seat.lock,
+            &mut agenda.lock,
             &mut shared.locks,
             &mut shared.export,
             &mut shared.log,
         ),
-        Kind::Node { node, ask } => message(
+        AskKind::Node { node, ask } => message(
             alloc,
             layout,
             by,
             node,
             ask,
             machine,
-            &mut seat.miss,
+            &mut agenda.miss,
             shared,
             link,
         ),
-        Kind::Say => {
-            let done = say(alloc, by, seat.number, machine, &mut shared.log)?;
-            release_if(done, by, &mut seat.lock, &mut shared.locks);
+        AskKind::Say => {
+            let done = say(alloc, by, agenda.number, machine, &mut shared.log)?;
+            release_if(done, by, &mut agenda.lock, &mut shared.locks);
             Ok(())
         }
     }
@@ -141,10 +141,10 @@ fn message<D: Disk, J: Disk, L: Link>(
     miss: &mut Option<bool>,
     shared: &mut Shared<D, J>,
     link: &mut L,
-) -> Result<(), NoMemory>
+) -> Result<(), Halted>
     requires machine { machine.old.layout ≡ layout }
     requires asked { IsAsked machine.old number ask }
-    requires stations { HasLayouts layout shared.old.stations.items }
+    requires servers { HasLayouts layout shared.old.servers.items }
     requires bins { max_bins_of layout ≤ length shared.old.bins.items }
     requires room { 2 ≤ shared.old.log.room }
     ensures ok { OnOk result (IsMessage by number ask machine.old machine.new miss.old miss.new shared.old shared.new) }
@@ -157,21 +157,21 @@ fn message<D: Disk, J: Disk, L: Link>(
     ensures export { shared.new.export ≡ shared.old.export }
     ensures link { shared.new.lost + L.lost link.old ≤ shared.old.lost + L.lost link.new }
     ensures bins { length shared.new.bins.items ≡ length shared.old.bins.items }
-    ensures count { vec_len shared.new.stations ≡ vec_len shared.old.stations }
-    ensures held { OnOk result ((numbers : List ℕ) → CarriesCounts (AreMetered D.meter numbers shared.old.stations.items shared.old.log.events) (AreMetered D.meter numbers shared.new.stations.items shared.new.log.events)) }
-    ensures left { OnErr result ((numbers : List ℕ) → CarriesCounts (AreMetered D.meter numbers shared.old.stations.items shared.old.log.events) (AreCounted D.meter numbers shared.new.stations.items shared.new.log.events)) }
-    ensures pictured { OnOk result (IsTrue D.tells → KeepsPicture D.image by (Some machine.old) (Some machine.new) shared.old.stations.items shared.old.log.events shared.new.stations.items shared.new.log.events) }
-    ensures spared { OnErr result (IsTrue D.tells → SparesPicture D.image by (Some machine.old) shared.old.stations.items shared.old.log.events shared.new.stations.items) }
+    ensures count { vec_len shared.new.servers ≡ vec_len shared.old.servers }
+    ensures held { OnOk result ((numbers : List ℕ) → CarriesCounts (AreMetered D.meter numbers shared.old.servers.items shared.old.log.events) (AreMetered D.meter numbers shared.new.servers.items shared.new.log.events)) }
+    ensures left { OnErr result ((numbers : List ℕ) → CarriesCounts (AreMetered D.meter numbers shared.old.servers.items shared.old.log.events) (AreCounted D.meter numbers shared.new.servers.items shared.new.log.events)) }
+    ensures pictured { OnOk result (IsTrue D.tells → KeepsPicture D.image by (Some machine.old) (Some machine.new) shared.old.servers.items shared.old.log.events shared.new.servers.items shared.new.log.events) }
+    ensures spared { OnErr result (IsTrue D.tells → SparesPicture D.image by (Some machine.old) shared.old.servers.items shared.old.log.events shared.new.servers.items) }
 {
     rz_block_laws::told();
     rz_node_laws::longer::<D>();
-    let Some(place) = find(shared.stations.as_slice(), number) else {
-        return Err(NoMemory);
+    let Some(place) = find(shared.servers.as_slice(), number) else {
+        return Err(Halted);
     };
     let Some(lost) = lost_after(*miss, shared.lost) else {
-        return Err(NoMemory);
+        return Err(Halted);
     };
-    let node = &mut shared.stations[place].node;
+    let node = &mut shared.servers[place].node;
     let bins = &mut shared.bins;
     let log = &mut shared.log;
     match fate(goes_by_link(&ask), *miss, number, link) {

@@ -18,11 +18,11 @@ use Rattle.rz_operation_model.specs.Turns.{said_event}
 use Rattle.rz_events.specs.declared.export.CallRef.{CallRef}
 use Rattle.rz_events.specs.declared.export.CallRef.TheVariants as export
 use Rattle.rz_play.specs.Turns.{text_said}
-use Rattle.rz_driver_asks.specs.declared.replies.Words.{Words}
-use Rattle.rz_driver_asks.specs.declared.replies.Words.TheVariants as words
+use Rattle.rz_driver_asks.specs.declared.replies.CallTexts.{CallTexts}
+use Rattle.rz_driver_asks.specs.declared.replies.CallTexts.TheVariants as words
 
 -- the texts of what is asked, for the log
-abbrev pub AreWords : CallRef → Words → Type 0
+abbrev pub AreWords : CallRef → CallTexts → Type 0
 AreWords (export.Tree c) (words.Call copy) = copy ≡ c.now
 AreWords (export.Tree c) given = ⊥
 AreWords (export.Begin key text) (words.Text copy) = copy ≡ text.now

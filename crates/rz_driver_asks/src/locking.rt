@@ -14,7 +14,7 @@ use crate::replies::note_names;
 use rz_disk::Disk;
 use rz_events::{Actor, CallRef, Reply, TreeCall, TreeReply};
 use rz_locks::{LockAnswer, LockKind, Locks, Range};
-use rz_log::{Log, NoMemory};
+use rz_log::{Halted, Log};
 use rz_metadata::Metadata;
 use rz_operation::{Ask, Machine};
 use std::alloc::Global;
@@ -28,7 +28,7 @@ pub fn open<D: Disk>(
     locks: &mut Locks,
     export: &mut Metadata<D>,
     log: &mut Log,
-) -> Result<(), NoMemory>
+) -> Result<(), Halted>
     requires tied { (n : ℕ) → by ≡ actor.Client n → map.get locks.old n ≡ lock_of held.old }
     requires room { 0 < log.old.room }
     ensures ok { OnOk result (IsOpenPart by machine.old machine.new (export_in export.old) (export_in export.new) locks.old locks.new held.old held.new log.old.events log.new.events) }
@@ -48,26 +48,26 @@ pub fn open<D: Disk>(
         count,
     } = machine.next()
     else {
-        return Err(NoMemory);
+        return Err(Halted);
     };
     let Actor::Client(owner) = by else {
-        return Err(NoMemory);
+        return Err(Halted);
     };
     if held.is_some() || owner == 0 || owner > 64 {
-        return Err(NoMemory);
+        return Err(Halted);
     }
     if !opens(call) {
-        return Err(NoMemory);
+        return Err(Halted);
     }
     let copy = call.copy(alloc)?;
     let Ok(reply) = export.reply(alloc, CallRef::Tree(call)) else {
         drop(copy);
-        return Err(NoMemory);
+        return Err(Halted);
     };
     if !machine.takes_locked(&reply) {
         drop(copy);
         drop(reply);
-        return Err(NoMemory);
+        return Err(Halted);
     }
     match note_names(alloc, by, copy, &reply, log) {
         Ok(()) => {

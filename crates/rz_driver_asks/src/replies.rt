@@ -13,14 +13,14 @@ use rz_disk::Disk;
 use rz_events::{
     Actor, Asked, Call, CallRef, Denial, Event, Key, Published, Reply, Text, TreeCall, TreeReply,
 };
-use rz_log::{Log, NoMemory};
+use rz_log::{Halted, Log};
 use rz_metadata::Metadata;
 use rz_operation::{Ask, Machine};
 use std::alloc::{AllocError, Global};
 
 /// The texts of a call, for the log.
 #[derive(Drop)]
-pub(crate) enum Words {
+pub(crate) enum CallTexts {
     Call(TreeCall),
     Text(Text),
     Nothing,
@@ -36,7 +36,7 @@ pub fn ask_export<D: Disk>(
     machine: &mut Machine,
     export: &mut Metadata<D>,
     log: &mut Log,
-) -> Result<(), NoMemory>
+) -> Result<(), Halted>
     requires room { 0 < log.old.room }
     ensures ok { OnOk result (IsExportPart by machine.old machine.new (export_in export.old) (export_in export.new) log.old.events log.new.events) }
     ensures err { OnErr result (log.new.events ≡ log.old.events) }
@@ -49,18 +49,18 @@ pub fn ask_export<D: Disk>(
     ensures volume { (export_in export.new).volume ≡ (export_in export.old).volume }
 {
     let Ask::Export(ask) = machine.next() else {
-        return Err(NoMemory);
+        return Err(Halted);
     };
     look_into(ask);
     let words = words_of(alloc, ask)?;
     let Ok(reply) = export.reply(alloc, ask) else {
         drop(words);
-        return Err(NoMemory);
+        return Err(Halted);
     };
     if !machine.takes_reply(&reply) {
         drop(words);
         drop(reply);
-        return Err(NoMemory);
+        return Err(Halted);
     }
     match note_reply(alloc, by, ask, words, &reply, log) {
         Ok(()) => {
@@ -90,17 +90,17 @@ fn are_bytes(text: &[u8])
 }
 
 /// The texts of a call, in new memory.
-fn words_of(alloc: Global, ask: CallRef<'_>) -> Result<Words, AllocError>
+fn words_of(alloc: Global, ask: CallRef<'_>) -> Result<CallTexts, AllocError>
     ensures { IfOk result (λ w. AreWords ask.entry w) }
 {
     match ask {
-        CallRef::Tree(call) => Ok(Words::Call(call.copy(alloc)?)),
-        CallRef::Begin { text, .. } => Ok(Words::Text(Text::from_bytes(alloc, text)?)),
+        CallRef::Tree(call) => Ok(CallTexts::Call(call.copy(alloc)?)),
+        CallRef::Begin { text, .. } => Ok(CallTexts::Text(Text::from_bytes(alloc, text)?)),
         CallRef::Publish { .. }
         | CallRef::Look { .. }
         | CallRef::Recheck { .. }
         | CallRef::Enroll { .. }
-        | CallRef::Next { .. } => Ok(Words::Nothing),
+        | CallRef::Next { .. } => Ok(CallTexts::Nothing),
     }
 }
 
@@ -109,10 +109,10 @@ fn note_reply(
     alloc: Global,
     by: Actor,
     ask: CallRef<'_>,
-    words: Words,
+    words: CallTexts,
     reply: &Reply,
     log: &mut Log,
-) -> Result<(), NoMemory>
+) -> Result<(), Halted>
     requires words { AreWords ask words }
     requires room { 0 < log.old.room }
     ensures ok { OnOk result (IsNoted (export_event by (call_of ask.entry) reply.now) log.old.events log.new.events) }
@@ -120,14 +120,14 @@ fn note_reply(
     ensures earlier { log.new.earlier ≡ log.old.earlier }
 {
     match words {
-        Words::Call(call) => note_names(alloc, by, call, reply, log),
-        Words::Text(text) => note(begin_event(by, ask, text, reply), log),
-        Words::Nothing => note(plain_event(by, ask, reply), log),
+        CallTexts::Call(call) => note_names(alloc, by, call, reply, log),
+        CallTexts::Text(text) => note(begin_event(by, ask, text, reply), log),
+        CallTexts::Nothing => note(plain_event(by, ask, reply), log),
     }
 }
 
 /// Notes an event, where there is one.
-fn note(event: Option<Event>, log: &mut Log) -> Result<(), NoMemory>
+fn note(event: Option<Event>, log: &mut Log) -> Result<(), Halted>
     requires room { 0 < log.old.room }
     ensures ok { OnOk result (IsNoted event log.old.events log.new.events) }
     ensures err { OnErr result (log.new.events ≡ log.old.events) }
@@ -136,7 +136,7 @@ fn note(event: Option<Event>, log: &mut Log) -> Result<(), NoMemory>
 {
     match event {
         Some(event) => log.note(event),
-        None => Err(NoMemory),
+        None => Err(Halted),
     }
 }
 
@@ -147,7 +147,7 @@ pub(crate) fn note_names(
     call: TreeCall,
     reply: &Reply,
     log: &mut Log,
-) -> Result<(), NoMemory>
+) -> Result<(), Halted>
     requires room { 0 < log.old.room }
     ensures ok { OnOk result (IsNoted (export_event by (Call.Tree call) reply.now) log.old.events log.new.events) }
     ensures err { OnErr result (log.new.events ≡ log.old.events) }
@@ -163,18 +163,18 @@ pub(crate) fn note_names(
 }
 
 /// A copy of the reply to a call on names.
-fn reply_on_names(alloc: Global, reply: &Reply) -> Result<TreeReply, NoMemory>
+fn reply_on_names(alloc: Global, reply: &Reply) -> Result<TreeReply, Halted>
     ensures { IfOk result (λ r. reply.now ≡ model.Tree r) }
 {
     match reply {
         Reply::Tree(answer) => Ok(answer.copy(alloc)?),
-        _ => Err(NoMemory),
+        _ => Err(Halted),
     }
 }
 
 /// The event of the reply to a begin.
 fn begin_event(by: Actor, ask: CallRef<'_>, text: Text, reply: &Reply) -> Option<Event>
-    requires { AreWords ask (Words.Text text) }
+    requires { AreWords ask (CallTexts.Text text) }
     ensures { result ≡ export_event by (call_of ask.entry) reply.now }
 {
     let CallRef::Begin { key, .. } = ask else {
@@ -195,7 +195,7 @@ fn begin_event(by: Actor, ask: CallRef<'_>, text: Text, reply: &Reply) -> Option
 
 /// The event of a reply that has no texts.
 fn plain_event(by: Actor, ask: CallRef<'_>, reply: &Reply) -> Option<Event>
-    requires { AreWords ask Words.Nothing }
+    requires { AreWords ask CallTexts.Nothing }
     ensures { result ≡ export_event by (call_of ask.entry) reply.now }
 {
     match ask {

@@ -1,4 +1,4 @@
-//! Words of an actor's own.
+//! CallTexts of an actor's own.
 ghost use Rattle.std.specs.Prelude.{◌≡◌, ◌⊎◌, ◌<◌, Bool, true, IfOk, OnOk, OnErr};
 ghost use Rattle.rz_events.specs.declared.keys.Key.{Key as AKey};
 ghost use Rattle.rz_core.specs.History.{facts};
@@ -9,7 +9,7 @@ ghost use Rattle.rz_play.specs.Turns.{found_text};
 ghost use Rattle.rz_driver_asks.specs.Parts.{IsSayPart, IsUnbegunMark, is_bad};
 
 use rz_events::{Actor, Event, LeftWhy, ReadEnd, ReadMark, Text};
-use rz_log::{Log, NoMemory};
+use rz_log::{Halted, Log};
 use rz_operation::{Ask, Machine, Saying};
 use std::alloc::Global;
 
@@ -22,7 +22,7 @@ pub fn say(
     number: u32,
     machine: &mut Machine,
     log: &mut Log,
-) -> Result<bool, NoMemory>
+) -> Result<bool, Halted>
     requires room { 0 < log.old.room }
     ensures ok { IfOk result (λ done. IsSayPart log.old.earlier by number done machine.old machine.new log.old.events log.new.events) }
     ensures err { OnErr result (log.new.events ≡ log.old.events) }
@@ -62,12 +62,12 @@ pub fn say(
             log.note(Event::Done { by, number, answer })?;
             Ok(true)
         }
-        Ask::Export(_) | Ask::Lock { .. } | Ask::Node { .. } | Ask::Rest => Err(NoMemory),
+        Ask::Export(_) | Ask::Lock { .. } | Ask::Node { .. } | Ask::Rest => Err(Halted),
     }
 }
 
 /// How a read ended, with the text that it found.
-fn end_of(alloc: Global, machine: &Machine, mark: ReadMark, log: &Log) -> Result<ReadEnd, NoMemory>
+fn end_of(alloc: Global, machine: &Machine, mark: ReadMark, log: &Log) -> Result<ReadEnd, Halted>
     requires asked { (key : AKey) × (part : Bool) × (ask_of machine.now.layout machine.now.work ≡ Say (SayGot key part mark)) }
     ensures end { IfOk result (λ end. end ≡ read_end (text_of machine.now) mark) }
     ensures known { OnOk result ((text_of machine.now ≡ found_text (facts log.now.events) mark) ⊎ ((log.now.earlier ≡ true) × IsUnbegunMark (facts log.now.events) mark)) }
@@ -77,7 +77,7 @@ fn end_of(alloc: Global, machine: &Machine, mark: ReadMark, log: &Log) -> Result
             let mut text = Vec::from_elem(alloc, 0, length as usize)?;
             machine.text_into(&mut text);
             if !log.has_text(stamp, text.as_slice()) {
-                return Err(NoMemory);
+                return Err(Halted);
             }
             Ok(ReadEnd::Found {
                 stamp,

@@ -1,16 +1,16 @@
 -- One ask more of nodes, or none.
 use Rattle.std.proofs.Common.{◌∙◌, refl, ℕ, List, [], ◌∷◌}
-use Rattle.rz_nodes.specs.declared.formatting.Station.{Station}
+use Rattle.rz_nodes.specs.declared.formatting.Server.{Server}
 use Rattle.rz_driver_nodes.specs.Asked.{IsOnlyAsked, AreOnlyAsked}
 
-pub one-itself : {D : Type 0} (text : D → List ℕ) (image : D → List ℕ → Type 0) (s : Station D) → IsOnlyAsked text image s s
+pub one-itself : {D : Type 0} (text : D → List ℕ) (image : D → List ℕ → Type 0) (s : Server D) → IsOnlyAsked text image s s
 one-itself text image s = record { called = record { sid = refl; pick = refl; geometry = refl }; fence = refl; text_is = refl; within = λ c has. has }
 
-pub all-themselves : {D : Type 0} (text : D → List ℕ) (image : D → List ℕ → Type 0) (xs : List (Station D)) → AreOnlyAsked text image xs xs
+pub all-themselves : {D : Type 0} (text : D → List ℕ) (image : D → List ℕ → Type 0) (xs : List (Server D)) → AreOnlyAsked text image xs xs
 all-themselves text image [] = tt
 all-themselves text image (s ∷ xs) = (one-itself text image s, all-themselves text image xs)
 
-one-then : {D : Type 0} (text : D → List ℕ) (image : D → List ℕ → Type 0) (a b c : Station D) → IsOnlyAsked text image a b → IsOnlyAsked text image b c → IsOnlyAsked text image a c
+one-then : {D : Type 0} (text : D → List ℕ) (image : D → List ℕ → Type 0) (a b c : Server D) → IsOnlyAsked text image a b → IsOnlyAsked text image b c → IsOnlyAsked text image a c
 one-then text image a b c p q = record {
   called = record { sid = q.called.sid ∙ p.called.sid; pick = q.called.pick ∙ p.called.pick; geometry = q.called.geometry ∙ p.called.geometry };
   fence = q.fence ∙ p.fence;
@@ -18,7 +18,7 @@ one-then text image a b c p q = record {
   within = λ c' has. p.within c' (q.within c' has);
 }
 
-pub all-then : {D : Type 0} (text : D → List ℕ) (image : D → List ℕ → Type 0) (xs ys zs : List (Station D)) → AreOnlyAsked text image xs ys → AreOnlyAsked text image ys zs → AreOnlyAsked text image xs zs
+pub all-then : {D : Type 0} (text : D → List ℕ) (image : D → List ℕ → Type 0) (xs ys zs : List (Server D)) → AreOnlyAsked text image xs ys → AreOnlyAsked text image ys zs → AreOnlyAsked text image xs zs
 all-then text image [] [] [] p q = tt
 all-then text image [] [] (z ∷ zs) p q = q
 all-then text image [] (y ∷ ys) zs p q = absurd p

@@ -41,9 +41,9 @@ use Rattle.rz_play.specs.Faults.{unplanned}
 use Rattle.rz_play.specs.Lines.{noted}
 use Rattle.rz_node_laws.specs.Metered.{IsMetered, IsNoStart, IsFaultLaw, IsArmLaw, IsStartLaw, IsOpening}
 use Rattle.rz_disk.specs.UnderFuse.{UnderFuse, fused_meter}
-use Rattle.rz_nodes.specs.declared.formatting.Station.{Station}
+use Rattle.rz_nodes.specs.declared.formatting.Server.{Server}
 use Rattle.rz_driver_asks.specs.Parts.{IsNoted}
-use Rattle.rz_driver_nodes.specs.Stations.{IsAt, numbers_of}
+use Rattle.rz_driver_nodes.specs.Servers.{IsAt, numbers_of}
 use Rattle.mj_angles.specs.declared.layout.Layout.{Layout}
 use Rattle.rz_events.specs.declared.files.NodeSpec.{NodeSpec}
 use Rattle.rz_events.specs.Volume.{Volume, IsVolume, nodes_of}
@@ -57,32 +57,32 @@ differ : (n m : ℕ) → nat_eq n m ≡ false → n ≢ m
 differ n m apart same = let yes : nat_eq n m ≡ true = eq-eqb n m same in cc
 
 module _ {D : Type 0} where
-  the-one : (x s : Station D) → Some x ≡ Some s → x ≡ s
+  the-one : (x s : Server D) → Some x ≡ Some s → x ≡ s
   the-one x s is = cc
 
-  pub sid-at : (xs : List (Station D)) (n i : ℕ) (s : Station D) → IsAt xs n i → slice_get xs i ≡ Some s → s.sid ≡ n
+  pub sid-at : (xs : List (Server D)) (n i : ℕ) (s : Server D) → IsAt xs n i → slice_get xs i ≡ Some s → s.sid ≡ n
   sid-at [] n i s at is = absurd at
-  sid-at (x ∷ xs) n zero s at is = ap (λ (y : Station D). y.sid) (sym (the-one x s is)) ∙ at
+  sid-at (x ∷ xs) n zero s at is = ap (λ (y : Server D). y.sid) (sym (the-one x s is)) ∙ at
   sid-at (x ∷ xs) n (suc i) s at is = sid-at xs n i s at.1 is
 
-  apart-at : (n place : ℕ) (row : List (Station D)) (s : Station D) → slice_get row place ≡ Some s → AllByRecursion (λ m. nat_eq n m ≡ false) (numbers_of row) → n ≢ s.sid
+  apart-at : (n place : ℕ) (row : List (Server D)) (s : Server D) → slice_get row place ≡ Some s → AllByRecursion (λ m. nat_eq n m ≡ false) (numbers_of row) → n ≢ s.sid
   apart-at n place [] s at apart = absurd (cc)
-  apart-at n zero (r ∷ more) s at apart = subst (λ (t : Station D). n ≢ t.sid) (the-one r s at) (differ n r.sid apart.0)
+  apart-at n zero (r ∷ more) s at apart = subst (λ (t : Server D). n ≢ t.sid) (the-one r s at) (differ n r.sid apart.0)
   apart-at n (suc place) (r ∷ more) s at apart = apart-at n place more s at apart.1
 
-  pub numbers-set : (row : List (Station D)) (place : ℕ) (s s' : Station D) → slice_get row place ≡ Some s → s'.sid ≡ s.sid → numbers_of (slice_set row place s') ≡ numbers_of row
+  pub numbers-set : (row : List (Server D)) (place : ℕ) (s s' : Server D) → slice_get row place ≡ Some s → s'.sid ≡ s.sid → numbers_of (slice_set row place s') ≡ numbers_of row
   numbers-set [] place s s' at same = absurd (cc)
-  numbers-set (r ∷ more) zero s s' at same = ap (λ n. n ∷ numbers_of more) (same ∙ ap (λ (t : Station D). t.sid) (sym (the-one r s at)))
+  numbers-set (r ∷ more) zero s s' at same = ap (λ n. n ∷ numbers_of more) (same ∙ ap (λ (t : Server D). t.sid) (sym (the-one r s at)))
   numbers-set (r ∷ more) (suc place) s s' at same = ap (λ ns. r.sid ∷ ns) (numbers-set more place s s' at same)
 
   module _ (P : ℕ → List Event → NodeView D → Type 0) (first : ℕ → ℕ) (h h' : List Event) where
     -- where all words stay
-    pub all-stay : (i : ℕ) (row : List (Station D)) → ((n : ℕ) → of_word (Node n) h' ≡ of_word (Node n) h) → OfEach P first i row h → OfEach P first i row h'
+    pub all-stay : (i : ℕ) (row : List (Server D)) → ((n : ℕ) → of_word (Node n) h' ≡ of_word (Node n) h) → OfEach P first i row h → OfEach P first i row h'
     all-stay i [] stay o = tt
     all-stay i (s ∷ more) stay o = (subst (λ (w : List Event). P (first i) w s.node) (sym (stay s.sid)) o.0, all-stay (i + 1) more stay o.1)
 
     -- where those of other nodes stay
-    pub others-stay : (i n : ℕ) (row : List (Station D)) → ((m : ℕ) → m ≢ n → of_word (Node m) h' ≡ of_word (Node m) h) → AllByRecursion (λ m. nat_eq n m ≡ false) (numbers_of row)
+    pub others-stay : (i n : ℕ) (row : List (Server D)) → ((m : ℕ) → m ≢ n → of_word (Node m) h' ≡ of_word (Node m) h) → AllByRecursion (λ m. nat_eq n m ≡ false) (numbers_of row)
         → OfEach P first i row h → OfEach P first i row h'
     others-stay i n [] stay apart o = tt
     others-stay i n (s ∷ more) stay apart o =
@@ -90,23 +90,23 @@ module _ {D : Type 0} where
         (subst (λ (w : List Event). P (first i) w s.node) (sym (stay s.sid far)) o.0, others-stay (i + 1) n more stay apart.1 o.1)
 
     -- and the node at a place goes on
-    pub one-goes : (i place : ℕ) (row : List (Station D)) (s s' : Station D) → slice_get row place ≡ Some s → s'.sid ≡ s.sid → IsDistinct nat_eq (numbers_of row)
+    pub one-goes : (i place : ℕ) (row : List (Server D)) (s s' : Server D) → slice_get row place ≡ Some s → s'.sid ≡ s.sid → IsDistinct nat_eq (numbers_of row)
         → ((m : ℕ) → m ≢ s.sid → of_word (Node m) h' ≡ of_word (Node m) h)
         → ((f : ℕ) → P f (of_word (Node s.sid) h) s.node → P f (of_word (Node s.sid) h') s'.node)
         → OfEach P first i row h → OfEach P first i (slice_set row place s') h'
     one-goes i place [] s s' at same apart stay goes o = absurd (cc)
     one-goes i zero (r ∷ more) s s' at same apart stay goes o =
         let here = the-one r s at in
-        let now = goes (first i) (subst (λ (t : Station D). P (first i) (of_word (Node t.sid) h) t.node) here o.0) in
+        let now = goes (first i) (subst (λ (t : Server D). P (first i) (of_word (Node t.sid) h) t.node) here o.0) in
         let first_apart = IsDistinct-head nat_eq r.sid (numbers_of more) apart in
-        let far = subst (λ (t : Station D). AllByRecursion (λ m. nat_eq t.sid m ≡ false) (numbers_of more)) here first_apart in
+        let far = subst (λ (t : Server D). AllByRecursion (λ m. nat_eq t.sid m ≡ false) (numbers_of more)) here first_apart in
         (subst (λ (n : ℕ). P (first i) (of_word (Node n) h') s'.node) (sym same) now, others-stay (i + 1) s.sid more stay far o.1)
     one-goes i (suc place) (r ∷ more) s s' at same apart stay goes o =
         let far = apart-at r.sid place more s at (IsDistinct-head nat_eq r.sid (numbers_of more) apart) in
         (subst (λ (w : List Event). P (first i) w r.node) (sym (stay r.sid far)) o.0, one-goes (i + 1) place more s s' at same (IsDistinct-tail nat_eq r.sid (numbers_of more) apart) stay goes o.1)
 
   -- another statement of each
-  pub each-then : (P Q : ℕ → List Event → NodeView D → Type 0) (first : ℕ → ℕ) (h : List Event) (i : ℕ) (row : List (Station D)) → ((f : ℕ) (w : List Event) (n : NodeView D) → P f w n → Q f w n)
+  pub each-then : (P Q : ℕ → List Event → NodeView D → Type 0) (first : ℕ → ℕ) (h : List Event) (i : ℕ) (row : List (Server D)) → ((f : ℕ) (w : List Event) (n : NodeView D) → P f w n → Q f w n)
       → OfEach P first i row h → OfEach Q first i row h
   each-then P Q first h i [] turns o = tt
   each-then P Q first h i (s ∷ more) turns o = (turns (first i) (of_word (Node s.sid) h) s.node o.0, each-then P Q first h (i + 1) more turns o.1)
@@ -202,7 +202,7 @@ module _ {D : Type 0} (meter : D → Meter) where
 
   module _ (first : ℕ → ℕ) (numbers : List ℕ) where
     -- the row, where one node went on
-    pub metered-step : (row : List (Station D)) (place : ℕ) (s s' : Station D) (h h' : List Event) → slice_get row place ≡ Some s → s'.sid ≡ s.sid → GoesOn meter s.sid s.node s'.node h h'
+    pub metered-step : (row : List (Server D)) (place : ℕ) (s s' : Server D) (h h' : List Event) → slice_get row place ≡ Some s → s'.sid ≡ s.sid → GoesOn meter s.sid s.node s'.node h h'
         → AreMetered meter numbers row h first → AreMetered meter numbers (slice_set row place s') h' first
     metered-step row place s s' h h' at same goes met = record {
       named = numbers-set row place s s' at same ∙ met.named;
@@ -211,19 +211,19 @@ module _ {D : Type 0} (meter : D → Meter) where
     }
 
     -- the row, where an event of no node came
-    pub metered-stays : (row : List (Station D)) (h h' : List Event) → ((n : ℕ) → of_word (Node n) h' ≡ of_word (Node n) h) → AreMetered meter numbers row h first → AreMetered meter numbers row h' first
+    pub metered-stays : (row : List (Server D)) (h h' : List Event) → ((n : ℕ) → of_word (Node n) h' ≡ of_word (Node n) h) → AreMetered meter numbers row h first → AreMetered meter numbers row h' first
     metered-stays row h h' stay met = record { named = met.named; apart = met.apart; each = all-stay (GoesWith meter) first h h' 0 row stay met.each }
 
     -- the row, where an event came of a number that none has
-    pub metered-apart : (n : ℕ) (row : List (Station D)) (h h' : List Event) → AllByRecursion (λ m. nat_eq n m ≡ false) (numbers_of row) → ((m : ℕ) → m ≢ n → of_word (Node m) h' ≡ of_word (Node m) h)
+    pub metered-apart : (n : ℕ) (row : List (Server D)) (h h' : List Event) → AllByRecursion (λ m. nat_eq n m ≡ false) (numbers_of row) → ((m : ℕ) → m ≢ n → of_word (Node m) h' ≡ of_word (Node m) h)
         → AreMetered meter numbers row h first → AreMetered meter numbers row h' first
     metered-apart n row h h' apart stay met = record { named = met.named; apart = met.apart; each = others-stay (GoesWith meter) first h h' 0 n row stay apart met.each }
 
-    pub metered-counts : (row : List (Station D)) (h : List Event) → AreMetered meter numbers row h first → AreCounted meter numbers row h first
+    pub metered-counts : (row : List (Server D)) (h : List Event) → AreMetered meter numbers row h first → AreCounted meter numbers row h first
     metered-counts row h met = record { named = met.named; each = each-then (GoesWith meter) (CountsWith meter) first h 0 row (λ f w n. counts-one f w n) met.each }
 
     -- where a node was called, and that did not come to an event
-    lasted-counts : (row : List (Station D)) (place : ℕ) (s s' : Station D) (h : List Event) → slice_get row place ≡ Some s → s'.sid ≡ s.sid → (meter s.node.disk).own ≤ (meter s'.node.disk).own
+    lasted-counts : (row : List (Server D)) (place : ℕ) (s s' : Server D) (h : List Event) → slice_get row place ≡ Some s → s'.sid ≡ s.sid → (meter s.node.disk).own ≤ (meter s'.node.disk).own
         → AreMetered meter numbers row h first → AreCounted meter numbers (slice_set row place s') h first
     lasted-counts row place s s' h at same rose met =
         let counted = metered-counts row h met in
@@ -235,17 +235,17 @@ module _ {D : Type 0} (meter : D → Meter) where
 
     -- A line's order to the node at a place.
 
-    pub order-held : (row : List (Station D)) (place : ℕ) (s s' : Station D) (event : Option Event) (h h' : List Event) → slice_get row place ≡ Some s → s'.sid ≡ s.sid → Goes meter s s' event
+    pub order-held : (row : List (Server D)) (place : ℕ) (s s' : Server D) (event : Option Event) (h h' : List Event) → slice_get row place ≡ Some s → s'.sid ≡ s.sid → Goes meter s s' event
         → h' ≡ noted event h → AreMetered meter numbers row h first → AreMetered meter numbers (slice_set row place s') h' first
     order-held row place s s' event h h' at same goes log_is met =
         subst (λ (k : List Event). AreMetered meter numbers (slice_set row place s') k first) (sym log_is) (metered-step row place s s' h (noted event h) at same (goes h) met)
 
-    pub order-left : (row : List (Station D)) (place : ℕ) (s s' : Station D) (h h' : List Event) → slice_get row place ≡ Some s → s'.sid ≡ s.sid → (meter s.node.disk).own ≤ (meter s'.node.disk).own
+    pub order-left : (row : List (Server D)) (place : ℕ) (s s' : Server D) (h h' : List Event) → slice_get row place ≡ Some s → s'.sid ≡ s.sid → (meter s.node.disk).own ≤ (meter s'.node.disk).own
         → h' ≡ h → AreMetered meter numbers row h first → AreCounted meter numbers (slice_set row place s') h' first
     order-left row place s s' h h' at same rose log_is met =
         subst (λ (k : List Event). AreCounted meter numbers (slice_set row place s') k first) (sym log_is) (lasted-counts row place s s' h at same rose met)
 
-    pub still-left : (row : List (Station D)) (h h' : List Event) → h' ≡ h → AreMetered meter numbers row h first → AreCounted meter numbers row h' first
+    pub still-left : (row : List (Server D)) (h h' : List Event) → h' ≡ h → AreMetered meter numbers row h first → AreCounted meter numbers row h' first
     still-left row h h' log_is met = subst (λ (k : List Event). AreCounted meter numbers row k first) (sym log_is) (metered-counts row h met)
 
 -- Arming, and starting.
@@ -373,11 +373,11 @@ said-stays by number text said h h' log_is n = ap (of_word (Node n)) log_is ∙ 
 -- The disks that are handed in, and those that are handed back.
 
 module _ {D : Type 0} (meter : D → Meter) (first : ℕ → ℕ) where
-  disks-counted : (i : ℕ) (row : List (Station (UnderFuse D))) (h : List Event) → OfEach (CountsWith (fused_meter meter)) first i row h → AreDisksCounted meter first i (numbers_of row) (disks_of row) h
+  disks-counted : (i : ℕ) (row : List (Server (UnderFuse D))) (h : List Event) → OfEach (CountsWith (fused_meter meter)) first i row h → AreDisksCounted meter first i (numbers_of row) (disks_of row) h
   disks-counted i [] h o = tt
   disks-counted i (s ∷ more) h o = (o.0.0, o.0.1, disks-counted (i + 1) more h o.1)
 
-  pub counted-disks : (numbers : List ℕ) (row : List (Station (UnderFuse D))) (h : List Event) → AreCounted (fused_meter meter) numbers row h first → AreDisksCounted meter first 0 numbers (disks_of row) h
+  pub counted-disks : (numbers : List ℕ) (row : List (Server (UnderFuse D))) (h : List Event) → AreCounted (fused_meter meter) numbers row h first → AreDisksCounted meter first 0 numbers (disks_of row) h
   counted-disks numbers row h c = subst (λ (ns : List ℕ). AreDisksCounted meter first 0 ns (disks_of row) h) c.named (disks-counted 0 row h c.each)
 
   -- a disk that is not armed goes with an empty word
@@ -393,7 +393,7 @@ module _ {D : Type 0} (meter : D → Meter) (first : ℕ → ℕ) where
     },
   )
 
-  pub new-each : (tells : Bool) (text : D → List ℕ) (image : D → List ℕ → Type 0) (layout : Layout) (i : ℕ) (nodes : List NodeSpec) (disks : List D) (row : List (Station (UnderFuse D)))
+  pub new-each : (tells : Bool) (text : D → List ℕ) (image : D → List ℕ → Type 0) (layout : Layout) (i : ℕ) (nodes : List NodeSpec) (disks : List D) (row : List (Server (UnderFuse D)))
       → ((k : ℕ) (d : D) → slice_get disks k ≡ Some d → first (i + k) ≡ faults (meter d)) → AreFormatted tells meter text image layout nodes disks row → OfEach (GoesWith (fused_meter meter)) first i row []
   new-each tells text image layout i nodes disks [] at new = tt
   new-each tells text image layout i [] disks (s ∷ row) at new = absurd new
@@ -408,7 +408,7 @@ module _ {D : Type 0} (meter : D → Meter) (first : ℕ → ℕ) where
       )
 
 -- a new driver
-pub new-holds : {D : Type 0} (tells : Bool) (meter : D → Meter) (text : D → List ℕ) (image : D → List ℕ → Type 0) (v : Volume) → IsVolume v → (disks : List D) (numbers : List ℕ) (row : List (Station (UnderFuse D))) (h : List Event)
+pub new-holds : {D : Type 0} (tells : Bool) (meter : D → Meter) (text : D → List ℕ) (image : D → List ℕ → Type 0) (v : Volume) → IsVolume v → (disks : List D) (numbers : List ℕ) (row : List (Server (UnderFuse D))) (h : List Event)
     → numbers_of row ≡ numbers → numbers ≡ map (λ (n : NodeSpec). n.sid) (nodes_of v.clusters) → AreFormatted tells meter text image v.layout (nodes_of v.clusters) disks row → h ≡ []
     → AreMetered (fused_meter meter) numbers row h (faults_at meter disks)
 new-holds tells meter text image v rules disks numbers row h named same new none = subst (λ (k : List Event). AreMetered (fused_meter meter) numbers row k (faults_at meter disks)) (sym none) (record {
@@ -420,21 +420,21 @@ new-holds tells meter text image v rules disks numbers row h named same new none
 
 -- The vector of nodes, of which a slice was written.
 
-module _ {X : Type 0} (meter : X → Meter) (numbers : List ℕ) (first : ℕ → ℕ) (v : Vec (Station X)) (xs ys : List (Station X)) (same : xs ≡ v.items) where
+module _ {X : Type 0} (meter : X → Meter) (numbers : List ℕ) (first : ℕ → ℕ) (v : Vec (Server X)) (xs ys : List (Server X)) (same : xs ≡ v.items) where
   pub named-vector : numbers_of ys ≡ numbers_of xs → (with_items v ys).items ≡ ys
-  named-vector named = with_items_is v ys (sym (length-map ys (λ (s : Station X). s.sid)) ∙ ap length named ∙ length-map xs (λ (s : Station X). s.sid) ∙ ap length same ∙ sym v.ok.0)
+  named-vector named = with_items_is v ys (sym (length-map ys (λ (s : Server X). s.sid)) ∙ ap length named ∙ length-map xs (λ (s : Server X). s.sid) ∙ ap length same ∙ sym v.ok.0)
 
   pub metered-in : (h h' : List Event) → (AreMetered meter numbers xs h first → AreMetered meter numbers ys h' first) → AreMetered meter numbers v.items h first → AreMetered meter numbers (with_items v ys).items h' first
   metered-in h h' held met =
-      let before = subst (λ (zs : List (Station X)). AreMetered meter numbers zs h first) (sym same) met in
+      let before = subst (λ (zs : List (Server X)). AreMetered meter numbers zs h first) (sym same) met in
       let now = held before in
-      subst (λ (zs : List (Station X)). AreMetered meter numbers zs h' first) (sym (named-vector (now.named ∙ sym before.named))) now
+      subst (λ (zs : List (Server X)). AreMetered meter numbers zs h' first) (sym (named-vector (now.named ∙ sym before.named))) now
 
   pub counted-in : (h h' : List Event) → (AreMetered meter numbers xs h first → AreCounted meter numbers ys h' first) → AreMetered meter numbers v.items h first → AreCounted meter numbers (with_items v ys).items h' first
   counted-in h h' left met =
-      let before = subst (λ (zs : List (Station X)). AreMetered meter numbers zs h first) (sym same) met in
+      let before = subst (λ (zs : List (Server X)). AreMetered meter numbers zs h first) (sym same) met in
       let now = left before in
-      subst (λ (zs : List (Station X)). AreCounted meter numbers zs h' first) (sym (named-vector (now.named ∙ sym before.named))) now
+      subst (λ (zs : List (Server X)). AreCounted meter numbers zs h' first) (sym (named-vector (now.named ∙ sym before.named))) now
 
 -- After an error.
 
@@ -442,13 +442,13 @@ on-err : {T E P : Type 0} (r : Result T E) → P → OnErr r P
 on-err (Ok x) p = tt
 on-err (Err e) p = p
 
-module _ {T E D : Type 0} (r : Result T E) (meter : D → Meter) (row : List (Station D)) where
+module _ {T E D : Type 0} (r : Result T E) (meter : D → Meter) (row : List (Server D)) where
   pub still-err : (h h' : List Event) → h' ≡ h → OnErr r ((numbers : List ℕ) → CarriesCounts (AreMetered meter numbers row h) (AreCounted meter numbers row h'))
   still-err h h' same =
       let P : Type 0 = (numbers : List ℕ) → CarriesCounts (AreMetered meter numbers row h) (AreCounted meter numbers row h') in
       on-err {P = P} r (λ numbers first met. still-left meter first numbers row h h' same met)
 
-  pub order-err : (place : ℕ) (s s' : Station D) (h h' : List Event) → slice_get row place ≡ Some s → s'.sid ≡ s.sid → (meter s.node.disk).own ≤ (meter s'.node.disk).own → h' ≡ h
+  pub order-err : (place : ℕ) (s s' : Server D) (h h' : List Event) → slice_get row place ≡ Some s → s'.sid ≡ s.sid → (meter s.node.disk).own ≤ (meter s'.node.disk).own → h' ≡ h
       → OnErr r ((numbers : List ℕ) → CarriesCounts (AreMetered meter numbers row h) (AreCounted meter numbers (slice_set row place s') h'))
   order-err place s s' h h' at named rose same =
       let P : Type 0 = (numbers : List ℕ) → CarriesCounts (AreMetered meter numbers row h) (AreCounted meter numbers (slice_set row place s') h') in

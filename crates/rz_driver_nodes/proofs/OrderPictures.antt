@@ -25,14 +25,14 @@ use Rattle.rz_log.specs.Logged.{stamp_begun}
 use Rattle.rz_node_laws.specs.Images.{IsImaged, geometry_in}
 use Rattle.rz_node_laws.specs.Laws.{IsCallLaw, IsCrashLaw, IsFewerLaw, IsLongerLaw}
 use Rattle.rz_node_laws.specs.Records.{HandsRecord}
-use Rattle.rz_nodes.specs.declared.formatting.Station.{Station}
+use Rattle.rz_nodes.specs.declared.formatting.Server.{Server}
 use Rattle.rz_driver_nodes.specs.Images.{HasImages, KeepsImages, KeepsRow, SparesRow}
 use Rattle.rz_driver_nodes.proofs.MessagePictures.{node-quiet}
 use Rattle.rz_driver_nodes.proofs.PictureLemmas.{GrowsBy, grows-behind, row-longer, row-set, row-at, states-stay}
 
 module _ {D : Type 0} (image : D → List ℕ → Type 0) where
   -- a node of the same number and geometry
-  has-again : (v : Volume) (f : Facts) (s s' : Station D) (t : NodeState) → s'.sid ≡ s.sid → s'.node.geometry ≡ s.node.geometry → s'.node.state ≡ t → s.node.geometry ≡ geometry_in v s.sid
+  has-again : (v : Volume) (f : Facts) (s s' : Server D) (t : NodeState) → s'.sid ≡ s.sid → s'.node.geometry ≡ s.node.geometry → s'.node.state ≡ t → s.node.geometry ≡ geometry_in v s.sid
       → IsImaged v f s.sid t s.node.geometry (image s'.node.disk) → HasImages image v f s'.sid s'.node
   has-again v f s s' t sid geometry state shape images = record {
     geometry = geometry ∙ shape ∙ ap (geometry_in v) (sym sid);
@@ -41,22 +41,22 @@ module _ {D : Type 0} (image : D → List ℕ → Type 0) where
         (subst (λ (g : Geometry). IsImaged v f s.sid t g (image s'.node.disk)) (sym geometry) images));
   }
 
-  pub both-keep : (s mid s' : Station D) → KeepsImages image s mid → KeepsImages image mid s' → KeepsImages image s s'
+  pub both-keep : (s mid s' : Server D) → KeepsImages image s mid → KeepsImages image mid s' → KeepsImages image s s'
   both-keep s mid s' first then = λ v f has. then v f (first v f has)
 
   -- the disk has no more images
-  pub fewer-keeps : IsFewerLaw image → (s s' : Station D) → s'.sid ≡ s.sid → s'.node.geometry ≡ s.node.geometry → s'.node.state ≡ s.node.state → Within (image s.node.disk) (image s'.node.disk) → KeepsImages image s s'
+  pub fewer-keeps : IsFewerLaw image → (s s' : Server D) → s'.sid ≡ s.sid → s'.node.geometry ≡ s.node.geometry → s'.node.state ≡ s.node.state → Within (image s.node.disk) (image s'.node.disk) → KeepsImages image s s'
   fewer-keeps law s s' sid geometry state within = λ v f has.
       has-again v f s s' s.node.state sid geometry state has.geometry (law v f s.sid s.node.geometry s.node.state s.node.disk s'.node.disk within has.images)
 
   module _ (text : D → List ℕ) where
-    pub crash-keeps : IsCrashLaw text image → (s s' : Station D) → s'.sid ≡ s.sid → s'.node.geometry ≡ s.node.geometry → s'.node.state ≡ s.node.state
+    pub crash-keeps : IsCrashLaw text image → (s s' : Server D) → s'.sid ≡ s.sid → s'.node.geometry ≡ s.node.geometry → s'.node.state ≡ s.node.state
         → image s.node.disk (text s'.node.disk) → Only (text s'.node.disk) (image s'.node.disk) → KeepsImages image s s'
     crash-keeps law s s' sid geometry state left only = λ v f has.
         has-again v f s s' s.node.state sid geometry state has.geometry (law v f s.sid s.node.geometry s.node.state s.node.disk s'.node.disk left only has.images)
 
     -- the node answered the administrator
-    pub call-keeps : IsCallLaw text image → (question : NodeAsk) (given : NodeAnswer) → ((v : Volume) (f : Facts) (n : ℕ) → HandsRecord v f n question []) → (s s' : Station D) → s'.sid ≡ s.sid → s'.node.geometry ≡ s.node.geometry
+    pub call-keeps : IsCallLaw text image → (question : NodeAsk) (given : NodeAnswer) → ((v : Volume) (f : Facts) (n : ℕ) → HandsRecord v f n question []) → (s s' : Server D) → s'.sid ≡ s.sid → s'.node.geometry ≡ s.node.geometry
         → s'.node.state ≡ after_answer question given s.node.state → IsNodeAnswer s.node.geometry.cells s.node.state question given
         → Leaves s.node.geometry s.node.state question given [] [] (text s.node.disk) (text s'.node.disk) (image s.node.disk) (image s'.node.disk) → KeepsImages image s s'
     call-keeps law question given hands s s' sid geometry after is leaves = λ v f has.
@@ -69,7 +69,7 @@ module _ {D : Type 0} (image : D → List ℕ → Type 0) where
 
   -- ---- the node at a place in the row
 
-  module _ (xs : List (Station D)) (place : ℕ) (s s' : Station D) (at : slice_get xs place ≡ Some s) (keeps : KeepsImages image s s') (h : List Event) where
+  module _ (xs : List (Server D)) (place : ℕ) (s s' : Server D) (at : slice_get xs place ≡ Some s) (keeps : KeepsImages image s s') (h : List Event) where
     pub row-keeps : IsLongerLaw image → (h' : List Event) → GrowsBy h h' → KeepsRow image xs h (slice_set xs place s') h'
     row-keeps longer h' grown = λ v old all.
         let f = facts (h ++ old) in
@@ -81,7 +81,7 @@ module _ {D : Type 0} (image : D → List ℕ → Type 0) where
       states-stay xs place s s' at sid state,
     )
 
-  pub still-row : (xs : List (Station D)) (h : List Event) → SparesRow image xs h xs
+  pub still-row : (xs : List (Server D)) (h : List Event) → SparesRow image xs h xs
   still-row xs h = λ v old all. (all, refl)
 
 -- ---- a start

@@ -18,9 +18,9 @@ use Rattle.rz_core.specs.Tied.{IsNode}
 use Rattle.rz_play.specs.Lines.{noted}
 use Rattle.rz_node_laws.specs.Images.{AreImages, IsImaged}
 use Rattle.rz_node_laws.specs.Laws.{IsLongerLaw, IsLogLaw}
-use Rattle.rz_nodes.specs.declared.formatting.Station.{Station}
+use Rattle.rz_nodes.specs.declared.formatting.Server.{Server}
 use Rattle.rz_driver_nodes.specs.Images.{HasImages, AreImaged, IsRight, AreDisksImaged, fused_image}
-use Rattle.rz_driver_nodes.specs.Stations.{state_in, numbers_of}
+use Rattle.rz_driver_nodes.specs.Servers.{state_in, numbers_of}
 use Rattle.rz_nodes.specs.Formatted.{disks_of}
 use Rattle.rz_driver_nodes.proofs.Rows.{all-set, all-at}
 
@@ -83,17 +83,17 @@ module _ {D : Type 0} (image : D → List ℕ → Type 0) where
       images = subst (λ (k : List Event). IsImaged v (facts k) n node.state node.geometry (image node.disk)) (sym grown.1) (longer v h grown.0 n node.geometry node.state node.disk has.images);
     }
 
-    pub row-longer : (row : List (Station D)) → AreImaged image v (facts h) row → AreImaged image v (facts h') row
+    pub row-longer : (row : List (Server D)) → AreImaged image v (facts h) row → AreImaged image v (facts h') row
     row-longer row all =
-        all-then (λ (s : Station D). HasImages image v (facts h) s.sid s.node) (λ (s : Station D). HasImages image v (facts h') s.sid s.node) row
-        (λ (s : Station D) has. node-longer s.sid s.node has) all
+        all-then (λ (s : Server D). HasImages image v (facts h) s.sid s.node) (λ (s : Server D). HasImages image v (facts h') s.sid s.node) row
+        (λ (s : Server D) has. node-longer s.sid s.node has) all
 
   module _ (v : Volume) (f : Facts) where
-    pub row-set : (row : List (Station D)) (place : ℕ) (s : Station D) → AreImaged image v f row → HasImages image v f s.sid s.node → AreImaged image v f (slice_set row place s)
-    row-set row place s all has = all-set (λ (t : Station D). HasImages image v f t.sid t.node) row place s all has
+    pub row-set : (row : List (Server D)) (place : ℕ) (s : Server D) → AreImaged image v f row → HasImages image v f s.sid s.node → AreImaged image v f (slice_set row place s)
+    row-set row place s all has = all-set (λ (t : Server D). HasImages image v f t.sid t.node) row place s all has
 
-    pub row-at : (row : List (Station D)) (place : ℕ) (s : Station D) → slice_get row place ≡ Some s → AreImaged image v f row → HasImages image v f s.sid s.node
-    row-at row place s is all = all-at (λ (t : Station D). HasImages image v f t.sid t.node) row place s all is
+    pub row-at : (row : List (Server D)) (place : ℕ) (s : Server D) → slice_get row place ≡ Some s → AreImaged image v f row → HasImages image v f s.sid s.node
+    row-at row place s is all = all-at (λ (t : Server D). HasImages image v f t.sid t.node) row place s all is
 
 unlike : (n m : ℕ) → nat_eq m n ≡ false → (n == m) ≡ false
 unlike n m apart = go (n == m) refl
@@ -103,29 +103,29 @@ unlike n m apart = go (n == m) refl
     go true is = let same : nat_eq m n ≡ true = eq-eqb m n (sym (eqb-true n m is)) in absurd (cc)
 
 module _ {D : Type 0} where
-  the-one : (x s : Station D) → Some x ≡ Some s → x ≡ s
+  the-one : (x s : Server D) → Some x ≡ Some s → x ≡ s
   the-one x s is = cc
 
-  state-stays : (row : List (Station D)) (place : ℕ) (s s' : Station D) → slice_get row place ≡ Some s → s'.sid ≡ s.sid → s'.node.state ≡ s.node.state → (m : ℕ) → state_in (slice_set row place s') m ≡ state_in row m
+  state-stays : (row : List (Server D)) (place : ℕ) (s s' : Server D) → slice_get row place ≡ Some s → s'.sid ≡ s.sid → s'.node.state ≡ s.node.state → (m : ℕ) → state_in (slice_set row place s') m ≡ state_in row m
   state-stays [] place s s' at sid state m = refl
   state-stays (x ∷ row) zero s s' at sid state m =
       let here = sym (the-one x s at) in
-      let named : s'.sid ≡ x.sid = sid ∙ ap (λ (t : Station D). t.sid) here in
-      let same : s'.node.state ≡ x.node.state = state ∙ ap (λ (t : Station D). t.node.state) here in
+      let named : s'.sid ≡ x.sid = sid ∙ ap (λ (t : Server D). t.sid) here in
+      let same : s'.node.state ≡ x.node.state = state ∙ ap (λ (t : Server D). t.node.state) here in
       λ i. cond (m == named i) (same i) (state_in row m)
   state-stays (x ∷ row) (suc place) s s' at sid state m = ap (cond (m == x.sid) x.node.state) (state-stays row place s s' at sid state m)
 
   -- where a node keeps its state, all do
-  pub states-stay : (row : List (Station D)) (place : ℕ) (s s' : Station D) → slice_get row place ≡ Some s → s'.sid ≡ s.sid → s'.node.state ≡ s.node.state → state_in (slice_set row place s') ≡ state_in row
+  pub states-stay : (row : List (Server D)) (place : ℕ) (s s' : Server D) → slice_get row place ≡ Some s → s'.sid ≡ s.sid → s'.node.state ≡ s.node.state → state_in (slice_set row place s') ≡ state_in row
   states-stay row place s s' at sid state = fun_ext (state-stays row place s s' at sid state)
 
   -- each node of a row without a number twice has the state of its number
-  behind : (x : Station D) (more row : List (Station D)) → AllByRecursion (λ m. nat_eq x.sid m ≡ false) (numbers_of row) → AllByRecursion (λ (s : Station D). state_in more s.sid ≡ s.node.state) row
-      → AllByRecursion (λ (s : Station D). state_in (x ∷ more) s.sid ≡ s.node.state) row
+  behind : (x : Server D) (more row : List (Server D)) → AllByRecursion (λ m. nat_eq x.sid m ≡ false) (numbers_of row) → AllByRecursion (λ (s : Server D). state_in more s.sid ≡ s.node.state) row
+      → AllByRecursion (λ (s : Server D). state_in (x ∷ more) s.sid ≡ s.node.state) row
   behind x more [] apart all = tt
   behind x more (s ∷ row) apart all = (ap (λ b. cond b x.node.state (state_in more s.sid)) (unlike s.sid x.sid apart.0) ∙ all.0, behind x more row apart.1 all.1)
 
-  own-states : (row : List (Station D)) → IsDistinct nat_eq (numbers_of row) → AllByRecursion (λ (s : Station D). state_in row s.sid ≡ s.node.state) row
+  own-states : (row : List (Server D)) → IsDistinct nat_eq (numbers_of row) → AllByRecursion (λ (s : Server D). state_in row s.sid ≡ s.node.state) row
   own-states [] apart = tt
   own-states (x ∷ more) apart = (
     ap (λ b. cond b x.node.state (state_in more x.sid)) (eq-eqb x.sid x.sid refl),
@@ -133,7 +133,7 @@ module _ {D : Type 0} where
   )
 
   rights : (image : D → List ℕ → Type 0) (v : Volume) (h : List Event) (states : ℕ → NodeState) → ((n : ℕ) → IsNode (facts h) (of_word (Node n) h) (states n))
-      → (row : List (Station D)) → AllByRecursion (λ (s : Station D). states s.sid ≡ s.node.state) row → AreImaged image v (facts h) row → AllByRecursion (IsRight image v h) row
+      → (row : List (Server D)) → AllByRecursion (λ (s : Server D). states s.sid ≡ s.node.state) row → AreImaged image v (facts h) row → AllByRecursion (IsRight image v h) row
   rights image v h states are [] own all = tt
   rights image v h states are (s ∷ row) own all = (
     record { images = all.0; state = subst (IsNode (facts h) (of_word (Node s.sid) h)) own.0 (are s.sid) },
@@ -142,12 +142,12 @@ module _ {D : Type 0} where
 
   -- the states are those of the log
   pub are-right : (image : D → List ℕ → Type 0) (v : Volume) (h : List Event) (states : ℕ → NodeState) → ((n : ℕ) → IsNode (facts h) (of_word (Node n) h) (states n))
-      → (row : List (Station D)) → state_in row ≡ states → IsDistinct nat_eq (numbers_of row) → AreImaged image v (facts h) row → AllByRecursion (IsRight image v h) row
+      → (row : List (Server D)) → state_in row ≡ states → IsDistinct nat_eq (numbers_of row) → AreImaged image v (facts h) row → AllByRecursion (IsRight image v h) row
   are-right image v h states are row same apart all =
       rights image v h (state_in row) (λ n. subst (λ (t : ℕ → NodeState). IsNode (facts h) (of_word (Node n) h) (t n)) (sym same) (are n)) row (own-states row apart) all
 
 -- the disks that are handed back
-pub disks-imaged : {D : Type 0} (image : D → List ℕ → Type 0) → IsLogLaw image → (v : Volume) (h : List Event) (row : List (Station (UnderFuse D))) → AllByRecursion (IsRight (fused_image image) v h) row
+pub disks-imaged : {D : Type 0} (image : D → List ℕ → Type 0) → IsLogLaw image → (v : Volume) (h : List Event) (row : List (Server (UnderFuse D))) → AllByRecursion (IsRight (fused_image image) v h) row
     → AreDisksImaged image v (numbers_of row) (disks_of row) h
 disks-imaged image law v h [] all = tt
 disks-imaged image law v h (s ∷ row) all =

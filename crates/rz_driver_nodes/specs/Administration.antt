@@ -13,11 +13,11 @@ use Rattle.rz_node_model.specs.Answers.{IsNodeAnswer}
 use Rattle.rz_node_model.specs.Afterwards.{after_answer}
 use Rattle.rz_node_model.specs.NodeEvents.{node_event}
 use Rattle.rz_play.specs.Lines.{IsTold, noted}
-use Rattle.rz_nodes.specs.declared.formatting.Station.{Station}
-use Rattle.rz_driver_nodes.specs.Stations.{IsAt, IsCalled}
+use Rattle.rz_nodes.specs.declared.formatting.Server.{Server}
+use Rattle.rz_driver_nodes.specs.Servers.{IsAt, IsCalled}
 
 -- a node answered the administrator
-pub record IsOrder {D : Type 0} (question : NodeAsk) (s s' : Station D) (event : Option Event) : Type 0 where
+pub record IsOrder {D : Type 0} (question : NodeAsk) (s s' : Server D) (event : Option Event) : Type 0 where
   pub given : NodeAnswer
   pub given_is : IsNodeAnswer s.node.geometry.cells s.node.state question given
   pub told : IsTold given
@@ -26,7 +26,7 @@ pub record IsOrder {D : Type 0} (question : NodeAsk) (s s' : Station D) (event :
   pub called : IsCalled s s'
 
 -- a node was started, and nothing is said of what it found
-pub record IsFreeOrder {D : Type 0} (s s' : Station D) (event : Option Event) : Type 0 where
+pub record IsFreeOrder {D : Type 0} (s s' : Server D) (event : Option Event) : Type 0 where
   pub given : NodeAnswer
   pub given_is : IsNodeAnswer s.node.geometry.cells s.node.state ask.Start given
   pub answered : given ≢ answer.Start start.NoMemory
@@ -34,63 +34,63 @@ pub record IsFreeOrder {D : Type 0} (s s' : Station D) (event : Option Event) : 
   pub called : IsCalled s s'
 
 -- its disk was armed
-pub record IsArmed {D : Type 0} (pick : ℕ) (s s' : Station D) : Type 0 where
+pub record IsArmed {D : Type 0} (pick : ℕ) (s s' : Server D) : Type 0 where
   pub sid : s'.sid ≡ s.sid
   pub geometry : s'.node.geometry ≡ s.node.geometry
   pub state : s'.node.state ≡ s.node.state
   pub pick_is : s'.pick ≡ pick
 
 -- the node of this number answered, and its event was noted
-pub record IsOrdered {D : Type 0} (question : NodeAsk) (n : ℕ) (old new : List (Station D)) (log log' : List Event) : Type 0 where
+pub record IsOrdered {D : Type 0} (question : NodeAsk) (n : ℕ) (old new : List (Server D)) (log log' : List Event) : Type 0 where
   pub place : ℕ
-  pub station : Station D
-  pub after : Station D
+  pub server : Server D
+  pub after : Server D
   pub event : Option Event
   pub at : IsAt old n place
-  pub is : slice_get old place ≡ Some station
-  pub stations : new ≡ slice_set old place after
-  pub order : IsOrder question station after event
+  pub is : slice_get old place ≡ Some server
+  pub servers : new ≡ slice_set old place after
+  pub order : IsOrder question server after event
   pub log_is : log' ≡ noted event log
 
 -- the node of this number was started, and its event was noted
-pub record IsStarted {D : Type 0} (n : ℕ) (old new : List (Station D)) (log log' : List Event) : Type 0 where
+pub record IsStarted {D : Type 0} (n : ℕ) (old new : List (Server D)) (log log' : List Event) : Type 0 where
   pub place : ℕ
-  pub station : Station D
-  pub after : Station D
+  pub server : Server D
+  pub after : Server D
   pub event : Option Event
   pub at : IsAt old n place
-  pub is : slice_get old place ≡ Some station
-  pub stations : new ≡ slice_set old place after
-  pub order : IsFreeOrder station after event
+  pub is : slice_get old place ≡ Some server
+  pub servers : new ≡ slice_set old place after
+  pub order : IsFreeOrder server after event
   pub log_is : log' ≡ noted event log
 
 -- the node of this number was called, and nothing is said of its answer
-pub record IsCalledAt {D : Type 0} (n : ℕ) (old new : List (Station D)) : Type 0 where
+pub record IsCalledAt {D : Type 0} (n : ℕ) (old new : List (Server D)) : Type 0 where
   pub place : ℕ
-  pub station : Station D
-  pub after : Station D
+  pub server : Server D
+  pub after : Server D
   pub at : IsAt old n place
-  pub is : slice_get old place ≡ Some station
-  pub stations : new ≡ slice_set old place after
-  pub called : IsCalled station after
+  pub is : slice_get old place ≡ Some server
+  pub servers : new ≡ slice_set old place after
+  pub called : IsCalled server after
 
 -- The node of this number was started. Where it was down its disk crashed first, by the pick of its last arming.
-pub record IsCrashedAt {D : Type 0} (picks : D → ℕ → List ℕ → Type 0) (text : D → List ℕ) (n : ℕ) (old new : List (Station D)) : Type 0 where
+pub record IsCrashedAt {D : Type 0} (picks : D → ℕ → List ℕ → Type 0) (text : D → List ℕ) (n : ℕ) (old new : List (Server D)) : Type 0 where
   pub place : ℕ
-  pub station : Station D
-  pub after : Station D
+  pub server : Server D
+  pub after : Server D
   pub at : IsAt old n place
-  pub is : slice_get old place ≡ Some station
-  pub stations : new ≡ slice_set old place after
-  pub crashed : station.node.state.phase ≡ Down → picks station.node.disk station.pick (text after.node.disk)
+  pub is : slice_get old place ≡ Some server
+  pub servers : new ≡ slice_set old place after
+  pub crashed : server.node.state.phase ≡ Down → picks server.node.disk server.pick (text after.node.disk)
 
 -- the disk of the node of this number was armed, and that was noted
-pub record IsArming {D : Type 0} (passes pick n : ℕ) (old new : List (Station D)) (log log' : List Event) : Type 0 where
+pub record IsArming {D : Type 0} (passes pick n : ℕ) (old new : List (Server D)) (log log' : List Event) : Type 0 where
   pub place : ℕ
-  pub station : Station D
-  pub after : Station D
+  pub server : Server D
+  pub after : Server D
   pub at : IsAt old n place
-  pub is : slice_get old place ≡ Some station
-  pub stations : new ≡ slice_set old place after
-  pub armed : IsArmed pick station after
+  pub is : slice_get old place ≡ Some server
+  pub servers : new ≡ slice_set old place after
+  pub armed : IsArmed pick server after
   pub log_is : log' ≡ e.Armed n passes pick ∷ log

@@ -12,8 +12,8 @@ use Rattle.rz_core.specs.Tied.{IsNode}
 use Rattle.rz_operation.specs.Machine.{Machine}
 use Rattle.rz_node_laws.specs.Images.{AreImages, IsImaged, geometry_in}
 use Rattle.rz_block_laws.specs.Turns.{HasInHand, IsTrueActor}
-use Rattle.rz_nodes.specs.declared.formatting.Station.{Station}
-use Rattle.rz_driver_nodes.specs.Stations.{state_in}
+use Rattle.rz_nodes.specs.declared.formatting.Server.{Server}
+use Rattle.rz_driver_nodes.specs.Servers.{state_in}
 
 -- a disk in a fuse has the images of the disk
 abbrev pub fused_image : {D : Type 0} → (D → List ℕ → Type 0) → UnderFuse D → List ℕ → Type 0
@@ -27,8 +27,8 @@ pub record HasImages {D : Type 0} (image : D → List ℕ → Type 0) (v : Volum
   pub images : IsImaged v f n node.state node.geometry (image node.disk)
 
 -- so are those of each node
-abbrev pub AreImaged : {D : Type 0} → (D → List ℕ → Type 0) → Volume → Facts → List (Station D) → Type 0
-AreImaged {D = D} image v f stations = AllByRecursion (λ (s : Station D). HasImages image v f s.sid s.node) stations
+abbrev pub AreImaged : {D : Type 0} → (D → List ℕ → Type 0) → Volume → Facts → List (Server D) → Type 0
+AreImaged {D = D} image v f servers = AllByRecursion (λ (s : Server D). HasImages image v f s.sid s.node) servers
 
 -- What a message to node n keeps, behind the log of all earlier runs.
 
@@ -44,21 +44,21 @@ SparesNode image by n m node node' h =
     → HasImages image v (facts (h ++ old)) n node' × (node'.state ≡ node.state)
 
 -- What an order to a node keeps, whatever the facts are.
-abbrev pub KeepsImages : {D : Type 0} → (D → List ℕ → Type 0) → Station D → Station D → Type 0
+abbrev pub KeepsImages : {D : Type 0} → (D → List ℕ → Type 0) → Server D → Server D → Type 0
 KeepsImages image s s' = (v : Volume) (f : Facts) → HasImages image v f s.sid s.node → HasImages image v f s'.sid s'.node
 
 -- And of all nodes, with the log, behind that of all earlier runs.
 
-abbrev pub KeepsRow : {D : Type 0} → (D → List ℕ → Type 0) → List (Station D) → List Event → List (Station D) → List Event → Type 0
+abbrev pub KeepsRow : {D : Type 0} → (D → List ℕ → Type 0) → List (Server D) → List Event → List (Server D) → List Event → Type 0
 KeepsRow image xs h ys h' = (v : Volume) (old : List Event) → AreImaged image v (facts (h ++ old)) xs → AreImaged image v (facts (h' ++ old)) ys
 
-abbrev pub SparesRow : {D : Type 0} → (D → List ℕ → Type 0) → List (Station D) → List Event → List (Station D) → Type 0
+abbrev pub SparesRow : {D : Type 0} → (D → List ℕ → Type 0) → List (Server D) → List Event → List (Server D) → Type 0
 SparesRow image xs h ys = (v : Volume) (old : List Event) → AreImaged image v (facts (h ++ old)) xs → AreImaged image v (facts (h ++ old)) ys × (state_in ys ≡ state_in xs)
 
 -- Where a play ended.
 
 -- the node has the state that its word of the log gives, and its disk the images of that
-pub record IsRight {D : Type 0} (image : D → List ℕ → Type 0) (v : Volume) (h : List Event) (s : Station D) : Type 0 where
+pub record IsRight {D : Type 0} (image : D → List ℕ → Type 0) (v : Volume) (h : List Event) (s : Server D) : Type 0 where
   pub images : HasImages image v (facts h) s.sid s.node
   pub state : IsNode (facts h) (of_word (Node s.sid) h) s.node.state
 

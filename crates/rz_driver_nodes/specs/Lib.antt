@@ -1,4 +1,4 @@
-pub mod Stations
+pub mod Servers
 pub mod Nodes
 pub mod Meters
 pub mod Images

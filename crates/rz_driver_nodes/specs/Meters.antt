@@ -9,8 +9,8 @@ use Rattle.rz_node.specs.View.{NodeView}
 use Rattle.rz_play.specs.Faults.{AreFaultsCounted}
 use Rattle.rz_play.specs.Lines.{noted}
 use Rattle.rz_node_laws.specs.Metered.{IsMetered}
-use Rattle.rz_nodes.specs.declared.formatting.Station.{Station}
-use Rattle.rz_driver_nodes.specs.Stations.{numbers_of}
+use Rattle.rz_nodes.specs.declared.formatting.Server.{Server}
+use Rattle.rz_driver_nodes.specs.Servers.{numbers_of}
 
 -- Of one node, whose disk had counted so many faults at first.
 
@@ -32,28 +32,28 @@ CarriesCounts before after = (first : ℕ → ℕ) → before first → after fi
 
 -- Of each node in order, from place i on.
 
-abbrev pub OfEach : {D : Type 0} → (ℕ → List Event → NodeView D → Type 0) → (ℕ → ℕ) → ℕ → List (Station D) → List Event → Type 0
+abbrev pub OfEach : {D : Type 0} → (ℕ → List Event → NodeView D → Type 0) → (ℕ → ℕ) → ℕ → List (Server D) → List Event → Type 0
 OfEach P first i [] h = Unit {0}
 OfEach P first i (s ∷ more) h = P (first i) (of_word (Node s.sid) h) s.node × OfEach P first (i + 1) more h
 
 -- The nodes have these numbers, no two of them one, and each word goes with its disk's meter.
-pub record AreMetered {D : Type 0} (meter : D → Meter) (numbers : List ℕ) (stations : List (Station D)) (h : List Event) (first : ℕ → ℕ) : Type 0 where
-  pub named : numbers_of stations ≡ numbers
+pub record AreMetered {D : Type 0} (meter : D → Meter) (numbers : List ℕ) (servers : List (Server D)) (h : List Event) (first : ℕ → ℕ) : Type 0 where
+  pub named : numbers_of servers ≡ numbers
   pub apart : IsDistinct nat_eq numbers
-  pub each : OfEach (GoesWith meter) first 0 stations h
+  pub each : OfEach (GoesWith meter) first 0 servers h
 
 -- The nodes have these numbers, and the faults of each word are counted.
-pub record AreCounted {D : Type 0} (meter : D → Meter) (numbers : List ℕ) (stations : List (Station D)) (h : List Event) (first : ℕ → ℕ) : Type 0 where
-  pub named : numbers_of stations ≡ numbers
-  pub each : OfEach (CountsWith meter) first 0 stations h
+pub record AreCounted {D : Type 0} (meter : D → Meter) (numbers : List ℕ) (servers : List (Server D)) (h : List Event) (first : ℕ → ℕ) : Type 0 where
+  pub named : numbers_of servers ≡ numbers
+  pub each : OfEach (CountsWith meter) first 0 servers h
 
 -- A call of node n: the words of the others stay, and its own goes with its disk still.
 pub record GoesOn {D : Type 0} (meter : D → Meter) (n : ℕ) (node node' : NodeView D) (h h' : List Event) : Type 0 where
   pub others : (m : ℕ) → m ≢ n → of_word (Node m) h' ≡ of_word (Node m) h
   pub goes : (first : ℕ) → GoesWith meter first (of_word (Node n) h) node → GoesWith meter first (of_word (Node n) h') node'
 
--- the station went on, and this event of it, if there is one, is to be noted
-abbrev pub Goes : {D : Type 0} → (D → Meter) → Station D → Station D → Option Event → Type 0
+-- the server went on, and this event of it, if there is one, is to be noted
+abbrev pub Goes : {D : Type 0} → (D → Meter) → Server D → Server D → Option Event → Type 0
 Goes meter s s' event = (h : List Event) → GoesOn meter s.sid s.node s'.node h (noted event h)
 
 -- the faults of the disk at a place, or 0 where there is none

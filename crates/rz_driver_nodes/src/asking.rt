@@ -12,44 +12,44 @@ ghost use Rattle.rz_driver_nodes.specs.Meters.{AreMetered, CarriesCounts, Goes};
 ghost use Rattle.rz_driver_nodes.specs.Fetches.{GivesAt, GivesIn, HaveRoom, IsFetch};
 ghost use Rattle.rz_driver_nodes.specs.Asked.{IsOnlyAsked, AreOnlyAsked};
 
-use crate::station::find;
+use crate::server::find;
 use rz_disk::Disk;
 use rz_events::{FetchAnswer, Key};
-use rz_nodes::Station;
+use rz_nodes::Server;
 
 /// Asks the node of this number for its record of a key with this stamp. The bins come to the front of
 /// `room`. Where no node has the number, the answer is that of a node that holds nothing.
 pub fn fetch_node<D: Disk>(
-    stations: &mut [Station<D>],
+    servers: &mut [Server<D>],
     sid: u16,
     key: Key,
     stamp: u64,
     room: &mut [u64],
 ) -> FetchAnswer
-    requires { HaveRoom (length room.old) stations.old }
-    ensures fetched { IsFetch key stamp result sid stations.old stations.new }
-    ensures asked { AreOnlyAsked D.text D.image stations.old stations.new }
-    ensures read { IsRead (GivesIn D.tells D.text stations.old sid key) result room.old room.new }
+    requires { HaveRoom (length room.old) servers.old }
+    ensures fetched { IsFetch key stamp result sid servers.old servers.new }
+    ensures asked { AreOnlyAsked D.text D.image servers.old servers.new }
+    ensures read { IsRead (GivesIn D.tells D.text servers.old sid key) result room.old room.new }
     ensures unread { fetch_used result ≢ Some true → room.new ≡ room.old }
-    ensures behind { (count : ℕ) → HaveRoom count stations.old → drop count room.new ≡ drop count room.old }
-    ensures metered { (position : ℕ) (numbers : List ℕ) (h : List Event) → CarriesCounts (AreMetered D.meter numbers stations.old h) (AreMetered D.meter numbers stations.new (fetch_event Admin sid key position stamp result ∷ h)) }
+    ensures behind { (count : ℕ) → HaveRoom count servers.old → drop count room.new ≡ drop count room.old }
+    ensures metered { (position : ℕ) (numbers : List ℕ) (h : List Event) → CarriesCounts (AreMetered D.meter numbers servers.old h) (AreMetered D.meter numbers servers.new (fetch_event Admin sid key position stamp result ∷ h)) }
 {
-    match find(stations, sid) {
-        Some(place) => fetch(&mut stations[place], key, stamp, room),
+    match find(servers, sid) {
+        Some(place) => fetch(&mut servers[place], key, stamp, room),
         None => FetchAnswer::Nothing,
     }
 }
 
-fn fetch<D: Disk>(station: &mut Station<D>, key: Key, stamp: u64, room: &mut [u64]) -> FetchAnswer
-    requires { max_bins_of station.old.node.geometry.layout ≤ length room.old }
-    ensures given { IsFetchAnswer (fetch_answer station.old.node.state key stamp) result }
-    ensures after { station.new.node.state ≡ after_fetch result station.old.node.state }
-    ensures asked { IsOnlyAsked D.text D.image station.old station.new }
-    ensures read { IsRead (GivesAt D.tells D.text station.old key) result room.old room.new }
+fn fetch<D: Disk>(server: &mut Server<D>, key: Key, stamp: u64, room: &mut [u64]) -> FetchAnswer
+    requires { max_bins_of server.old.node.geometry.layout ≤ length room.old }
+    ensures given { IsFetchAnswer (fetch_answer server.old.node.state key stamp) result }
+    ensures after { server.new.node.state ≡ after_fetch result server.old.node.state }
+    ensures asked { IsOnlyAsked D.text D.image server.old server.new }
+    ensures read { IsRead (GivesAt D.tells D.text server.old key) result room.old room.new }
     ensures unread { fetch_used result ≢ Some true → room.new ≡ room.old }
-    ensures behind { drop (max_bins_of station.old.node.geometry.layout) room.new ≡ drop (max_bins_of station.old.node.geometry.layout) room.old }
-    ensures metered { (position : ℕ) → Goes D.meter station.old station.new (Some (fetch_event Admin station.old.sid key position stamp result)) }
+    ensures behind { drop (max_bins_of server.old.node.geometry.layout) room.new ≡ drop (max_bins_of server.old.node.geometry.layout) room.old }
+    ensures metered { (position : ℕ) → Goes D.meter server.old server.new (Some (fetch_event Admin server.old.sid key position stamp result)) }
 {
     rz_node_laws::faults();
-    station.node.fetch_into(key, stamp, room)
+    server.node.fetch_into(key, stamp, room)
 }

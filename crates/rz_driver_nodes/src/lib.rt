@@ -8,15 +8,15 @@
 //! that tell their texts, what each image of the disk stands for by the log, behind that of any earlier runs.
 //! They do not say that there is memory.
 //!
-//! In reading order: `station`, `messages`, `administration`, `asking`.
+//! In reading order: `server`, `messages`, `administration`, `asking`.
 #![tactic(auto)]
 
 mod administration;
 mod asking;
 mod messages;
-mod station;
+mod server;
 
 pub use administration::{arm_node, lose_node, start_node, stop_node};
 pub use asking::fetch_node;
 pub use messages::{through, without_reply, without_request};
-pub use station::find;
+pub use server::find;

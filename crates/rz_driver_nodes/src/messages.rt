@@ -20,7 +20,7 @@ use rz_events::{Actor, Event, FetchAnswer, NodeAnswer, NodeAsk};
 use rz_log::{Log, let_go};
 use rz_node::{Node, answer_node, is_record, node_event};
 use rz_operation::Machine;
-use rz_player::NoMemory;
+use rz_player::Halted;
 use std::alloc::Global;
 
 /// Gives a call to a node, with the bins of what it is to keep, or with room for those that it reads.
@@ -31,7 +31,7 @@ fn serve<D: Disk>(
     ask: &NodeAsk,
     node: &mut Node<D>,
     bins: &mut [u64],
-) -> Result<NodeAnswer, NoMemory>
+) -> Result<NodeAnswer, Halted>
     requires layout { node.old.geometry.layout ≡ layout }
     requires asked { (n : ℕ) × IsAsked machine.now n ask.now }
     requires room { max_bins_of layout ≤ length bins.old }
@@ -48,7 +48,7 @@ fn serve<D: Disk>(
         NodeAsk::Keep(head) | NodeAsk::Refill { head, .. } => {
             let given = machine.bins();
             if !is_record(layout, head, given) || bins.len() < given.len() {
-                return Err(NoMemory);
+                return Err(Halted);
             }
             let own = &mut bins[..given.len()];
             own.copy_from_slice(given);
@@ -56,7 +56,7 @@ fn serve<D: Disk>(
         }
         NodeAsk::Fetch { .. } | NodeAsk::Drop { .. } | NodeAsk::Probe | NodeAsk::Replace { .. } =>
             Ok(answer_node(alloc, node, ask, bins)),
-        NodeAsk::Stop | NodeAsk::Start | NodeAsk::Lose => Err(NoMemory),
+        NodeAsk::Stop | NodeAsk::Start | NodeAsk::Lose => Err(Halted),
     }
 }
 
@@ -114,7 +114,7 @@ pub fn through<D: Disk>(
     node: &mut Node<D>,
     bins: &mut [u64],
     log: &mut Log,
-) -> Result<(), NoMemory>
+) -> Result<(), Halted>
     requires layout { node.old.geometry.layout ≡ layout }
     requires machine { machine.old.layout ≡ layout }
     requires asked { IsAsked machine.old number ask }
@@ -133,18 +133,18 @@ pub fn through<D: Disk>(
     rz_block_laws::heard::<D>();
     rz_block_laws::fitting();
     if !is_placed(layout, &ask) {
-        return Err(NoMemory);
+        return Err(Halted);
     }
     let answer = serve(alloc, layout, machine, &ask, node, bins)?;
     if !is_fetch_of(layout, &answer) {
-        return Err(NoMemory);
+        return Err(Halted);
     }
     let Some(event) = node_event(by, number, &ask, &answer) else {
-        return Err(NoMemory);
+        return Err(Halted);
     };
     if !tell(layout, machine, &ask, answer, bins) {
         let_go(event);
-        return Err(NoMemory);
+        return Err(Halted);
     }
     log.note(event)
 }
@@ -160,7 +160,7 @@ pub fn without_reply<D: Disk>(
     node: &mut Node<D>,
     bins: &mut [u64],
     log: &mut Log,
-) -> Result<(), NoMemory>
+) -> Result<(), Halted>
     requires layout { node.old.geometry.layout ≡ layout }
     requires asked { IsAsked machine.old number ask }
     requires lossy { goes_by_link ask ≡ true }
@@ -180,7 +180,7 @@ pub fn without_reply<D: Disk>(
     rz_block_laws::told();
     let answer = serve(alloc, layout, machine, &ask, node, bins)?;
     let Some(event) = node_event(by, number, &ask, &answer) else {
-        return Err(NoMemory);
+        return Err(Halted);
     };
     machine.tell_missed();
     log.note_two(
@@ -200,7 +200,7 @@ pub fn without_request(
     machine: &mut Machine,
     ask: NodeAsk,
     log: &mut Log,
-) -> Result<(), NoMemory>
+) -> Result<(), Halted>
     requires asked { IsAsked machine.old number ask }
     requires lossy { goes_by_link ask ≡ true }
     requires room { 0 < log.old.room }

@@ -25,8 +25,9 @@ use Rattle.rz_export.specs.declared.nodes.Enrolment.{Enrolment}
 use Rattle.rz_export.specs.declared.nodes.KeptNode.{KeptNode}
 use Rattle.rz_export.specs.Nodes.{is_named, moved, recounted, with_enrolment}
 use Rattle.rz_export.specs.Kept.{lies_on, lies_at, used_in, is_place, AreRoomy, HaveRoom, IsBlock, IsKept}
-use Rattle.rz_export.proofs.Files.{IsBlank, apart}
-use Rattle.rz_export.proofs.Counts.{one_if, at_key, eq_true, count-insert, count-len}
+use Rattle.rz_export_model.proofs.Files.{IsBlank, apart}
+use Rattle.rz_export_model.proofs.Tests.{eq_true}
+use Rattle.rz_export.proofs.Counts.{one_if, at_key, count-insert, count-len}
 use Rattle.rz_export.proofs.Used.{file-view, counts-live, moved-count}
 use Rattle.rz_export.proofs.Enrolled.{map-same, specs-set, use-set}
 use Rattle.rz_export.proofs.Marked.{Marks, marked-set, room-kept, room-set}

@@ -11,6 +11,7 @@ use Rattle.std.specs.FinMap.{same_map, entries-insert, get-entries, get-insert, 
 use Rattle.std.specs.FinMap.Entries.{find, put, is_sorted, below_all, by_order}
 use Rattle.rz_events.specs.Keys.{key_cmp, keys_total, exact_keys}
 use Rattle.rz_events.specs.declared.keys.Key.{Key}
+use Rattle.rz_export_model.proofs.Tests.{left, right, both, is_less, eq_true}
 use Rattle.rz_export_model.specs.Export.{Block, Blocks}
 
 abbrev pub Entries : Type 0
@@ -22,28 +23,6 @@ one_if b = cond b 1 0
 -- whether the test passes of what stands at a key
 abbrev pub at_key : (Key × Block → Bool) → Key → Option Block → Bool
 at_key p k o = option_map_or (λ b. p (k, b)) o false
-
-pub eq_true : (r : Ordering) → is_eq r ≡ true → r ≡ Equal
-eq_true Less h = cc
-eq_true Equal h = refl
-eq_true Greater h = cc
-
-pub is_less : (r : Ordering) → T (is_lt r) → r ≡ Less
-is_less Less h = refl
-is_less Equal h = absurd h
-is_less Greater h = absurd h
-
-pub left : (a b : Bool) → T (a && b) → T a
-left true b h = tt
-left false b h = absurd h
-
-pub right : (a b : Bool) → T (a && b) → T b
-right true b h = h
-right false b h = absurd h
-
-both : (a b : Bool) → T a → T b → T (a && b)
-both true b p q = q
-both false b p q = absurd p
 
 pub count-cons : (p : Key × Block → Bool) (e : Key × Block) (es : Entries) → count_by p (e ∷ es) ≡ one_if (p e) + count_by p es
 count-cons p e es = sum_by-cons (λ (x : Key × Block). cond (p x) 1 0) e es

@@ -19,9 +19,10 @@ use Rattle.rz_export_model.specs.Tree.{Tree, file_of}
 use Rattle.rz_export_model.specs.Export.{Export, Block, is_after, is_on, listed_at, published_of, published_after, next_on}
 use Rattle.rz_blocks.specs.Shown.{first_published}
 use Rattle.rz_export.specs.Kept.{lies_on, AreMarked}
-use Rattle.rz_export.proofs.Counts.{Entries, at_key, eq_true, find-below, below-less, left, right}
+use Rattle.rz_export.proofs.Counts.{Entries, at_key, find-below, below-less}
 use Rattle.rz_export.proofs.Used.{counts_at}
-use Rattle.rz_export.proofs.Files.{view}
+use Rattle.rz_export_model.proofs.Files.{view}
+use Rattle.rz_export_model.proofs.Tests.{eq_true, left, right}
 use Rattle.rz_export.proofs.Marked.{Marks, seen-mark}
 
 -- ---- the first that the entries give

@@ -25,7 +25,7 @@ use Rattle.rz_tree.proofs.Lasts.{entries-last}
 use Rattle.rz_tree.proofs.PartLaws.{object-added, name-added}
 use Rattle.rz_export.specs.Parts.{counters, block_part, enrolled_part, flat_parts, export_parts}
 use Rattle.rz_export.proofs.Built.{root-only}
-use Rattle.rz_export.proofs.Files.{apart}
+use Rattle.rz_export_model.proofs.Files.{apart}
 use Rattle.rz_export.specs.Building.{with_part, with_parts, made_of, IsBlockless, MayBeNext, AllFollow, ArePartsOf, MayAdd, AllAdd}
 
 -- a part more is added last

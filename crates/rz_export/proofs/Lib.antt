@@ -1,4 +1,3 @@
-pub mod Files
 pub mod Counts
 pub mod Used
 pub mod Enrolled

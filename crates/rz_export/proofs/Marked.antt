@@ -17,10 +17,11 @@ use Rattle.rz_export_model.specs.Export.{Block, Blocks, published_of, begun, wit
 use Rattle.rz_events.specs.Masks.{has_bit}
 use Rattle.rz_export.specs.Nodes.{is_named}
 use Rattle.rz_export.specs.Kept.{lies_on, lies_at, is_place, AreMarked, AreRoomy, HaveRoom}
-use Rattle.rz_export.proofs.Files.{view}
-use Rattle.rz_export.proofs.Counts.{at_key, eq_true}
+use Rattle.rz_export_model.proofs.Files.{view}
+use Rattle.rz_export.proofs.Counts.{at_key}
 use Rattle.rz_export.proofs.Used.{counts_at, counts-view, file-view}
-use Rattle.rz_export.proofs.Forgets.{get-without}
+use Rattle.rz_export_model.proofs.Forgets.{get-without}
+use Rattle.rz_export_model.proofs.Tests.{eq_true}
 
 abbrev pub Marks : Type 0
 Marks = List Row

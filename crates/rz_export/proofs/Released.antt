@@ -14,10 +14,10 @@ use Rattle.rz_export_model.specs.Export.{Block, Blocks, published_of, without_fi
 use Rattle.rz_export.specs.declared.nodes.KeptNode.{KeptNode}
 use Rattle.rz_export.specs.Nodes.{is_named, moved, recounted}
 use Rattle.rz_export.specs.Kept.{lies_on, used_in, AreCounted, lies_at, gone_in}
-use Rattle.rz_export.proofs.Files.{view}
+use Rattle.rz_export_model.proofs.Files.{view}
 use Rattle.rz_export.proofs.Counts.{one_if, count-remove}
 use Rattle.rz_export.proofs.Used.{counts_at, counts-view, file-view}
-use Rattle.rz_export.proofs.Forgets.{first_of_file, first-own, first-found}
+use Rattle.rz_export_model.proofs.Forgets.{first_of_file, first-own, first-found}
 
 moved-down : (was : Bool) (old new : ℕ) → new + one_if was ≡ old → moved was false old ≡ new
 moved-down true old new e = omega arith

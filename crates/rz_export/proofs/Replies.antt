@@ -12,6 +12,7 @@ use Rattle.rz_events.specs.declared.ends.Denial.TheVariants as denial
 use Rattle.rz_events.specs.declared.export.Call.TheVariants as call
 use Rattle.rz_events.specs.declared.export.Reply.{Reply}
 use Rattle.rz_events.specs.declared.export.Reply.TheVariants as reply
+use Rattle.rz_export_model.proofs.Firsts.{none_first, none_if}
 use Rattle.rz_export_model.specs.Firsts.{first_of, given_if}
 use Rattle.rz_export_model.specs.Tree.{file_of}
 use Rattle.rz_export_model.specs.Export.{Export, latest_of, no_begin, unknown_file, too_far, spent, no_publish, barred, is_proper, is_mask, is_drawn, is_ready}
@@ -69,14 +70,6 @@ pub record MayBegin (s : Export) (key : Key) : Type 0 where
   pub near : key.block < 1048576
   pub room : s.last < 2 ^ 64 - 1
 
-none_first : {A : Type 0} (a b : Option A) → option_or a b ≡ None → (a ≡ None) × (b ≡ None)
-none_first None b k = (refl, k)
-none_first (Some x) b k = cc
-
-not_given : {A : Type 0} (b : Bool) (x : A) → given_if b x ≡ None → b ≡ false
-not_given true x k = cc
-not_given false x k = refl
-
 not_none : (o : Option FileInfo) → is_none o ≡ false → is_some o ≡ true
 not_none None k = cc
 not_none (Some i) k = refl
@@ -92,14 +85,14 @@ may-begin s key none =
     let b = none_first (too_far key) (option_or (spent s) None) a.1 in
     let c = none_first (spent s) None b.1 in
     record {
-      live = not_none (file_of s.tree key.fid) (not_given (is_none (file_of s.tree key.fid)) denial.UnknownFile a.0);
-      near = leb-false 1048576 key.block (not_given (nat_le 1048576 key.block) denial.BlockTooFar b.0);
-      room = leb-false (2 ^ 64 - 1) s.last (not_given (nat_le (2 ^ 64 - 1) s.last) denial.StampsSpent c.0);
+      live = not_none (file_of s.tree key.fid) (none_if (is_none (file_of s.tree key.fid)) denial.UnknownFile a.0);
+      near = leb-false 1048576 key.block (none_if (nat_le 1048576 key.block) denial.BlockTooFar b.0);
+      room = leb-false (2 ^ 64 - 1) s.last (none_if (nat_le (2 ^ 64 - 1) s.last) denial.StampsSpent c.0);
     }
 
 -- a number is left
 pub may-draw : (s : Export) → spent s ≡ None → s.last < 2 ^ 64 - 1
-may-draw s none = leb-false (2 ^ 64 - 1) s.last (not_given (nat_le (2 ^ 64 - 1) s.last) denial.StampsSpent none)
+may-draw s none = leb-false (2 ^ 64 - 1) s.last (none_if (nat_le (2 ^ 64 - 1) s.last) denial.StampsSpent none)
 
 -- the export with a fence
 abbrev pub fenced : Export → ℕ → ℕ → Export

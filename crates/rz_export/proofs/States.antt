@@ -22,8 +22,9 @@ use Rattle.rz_export.specs.declared.nodes.Enrolment.{Enrolment}
 use Rattle.rz_export.specs.declared.nodes.KeptNode.{KeptNode}
 use Rattle.rz_export.specs.Nodes.{new_node, is_named, moved, recounted, with_enrolment}
 use Rattle.rz_export.specs.Kept.{lies_on, lies_at, used_in, is_place, AreRoomy, HaveRoom, IsBlock, IsKept}
-use Rattle.rz_export.proofs.Files.{view, apart, grows}
-use Rattle.rz_export.proofs.Counts.{one_if, at_key, eq_true, count-insert, count-len}
+use Rattle.rz_export_model.proofs.Files.{view, apart, grows}
+use Rattle.rz_export_model.proofs.Tests.{eq_true}
+use Rattle.rz_export.proofs.Counts.{one_if, at_key, count-insert, count-len}
 use Rattle.rz_export.proofs.Used.{live-view, file-view, counts-live, counts-published, used-alike, moved-count}
 use Rattle.rz_export.proofs.Enrolled.{map-same, map-undone, specs-set, use-set}
 use Rattle.rz_export.proofs.Marked.{Marks, marked-begin, marked-set, marked-alike, marked-new, room-kept, room-set, room-alike, room-new}

@@ -20,11 +20,12 @@ use Rattle.rz_export_model.specs.Export.{Export, Block, Blocks, new_places, bloc
 use Rattle.rz_export.specs.declared.nodes.KeptNode.{KeptNode}
 use Rattle.rz_export.specs.Calls.{placed_for}
 use Rattle.rz_export.specs.Kept.{used_in, AreCounted, AreMarked, HaveRoom, IsKept, lies_at, LayThere}
-use Rattle.rz_export.proofs.Files.{seen, view, makes, ends, made_at, IsBlank, IsStep}
+use Rattle.rz_export_model.specs.Files.{makes, ends}
+use Rattle.rz_export_model.proofs.Files.{seen, view, made_at, IsBlank, IsStep}
 use Rattle.rz_export.proofs.Used.{file-view, live-view, used-alike}
 use Rattle.rz_export.proofs.Marked.{Marks, marked-alike, room-alike}
 use Rattle.rz_export.proofs.States.{same-block}
-use Rattle.rz_export.proofs.Forgets.{get-without}
+use Rattle.rz_export_model.proofs.Forgets.{get-without}
 
 -- only a new file needs places
 pub reply-placed : (t : Tree) (s : Export) (c : TreeCall) → reply_to t (placed_for s c).cid (placed_for s c).places c ≡ reply_to t (new_places s).cid (new_places s).places c

@@ -11,7 +11,7 @@ use Rattle.rz_export_model.specs.Tree.{Tree, Object, file_of, file_from, info_of
 use Rattle.rz_export_model.specs.Export.{Block, Blocks, is_on}
 use Rattle.rz_export.specs.Nodes.{is_named, moved}
 use Rattle.rz_export.specs.Kept.{lies_on, used_in}
-use Rattle.rz_export.proofs.Files.{seen, view}
+use Rattle.rz_export_model.proofs.Files.{seen, view}
 use Rattle.rz_export.proofs.Counts.{one_if, at_key, alike}
 
 -- whether a block lies on the node, by where its file lies and what is published

@@ -27,7 +27,7 @@ use Rattle.rz_export_model.specs.TreeCalls.{reply_to}
 use Rattle.rz_export_model.specs.Export.{Export, Block, Blocks, Enrolled, new_places, latest_of, published_of, newer_of, blocks_after, no_begin, no_publish, file_blocks, is_mask, is_drawn, is_node, is_proper, is_ready, draws, after_tree, after_begin, after_publish, export_after}
 use Rattle.rz_tree.proofs.Keys.{false-true, held, one-or-two, get-inserted, get-beside, same_some, not_none}
 use Rattle.rz_export.specs.Building.{MayBePublished}
-use Rattle.rz_export.proofs.Files.{ends}
+use Rattle.rz_export_model.specs.Files.{ends}
 use Rattle.rz_export.proofs.TreeStates.{stays}
 use Rattle.rz_export.proofs.Replies.{may-begin, fitting, unknown-publish}
 use Rattle.rz_export_laws.specs.Whole.{IsWholeBlock, IsWholeEnrolment}

@@ -19,7 +19,9 @@ use Rattle.rz_export_model.specs.Refusals.{path_in, refusal, is_same_object, unr
 use Rattle.rz_export_model.specs.TreeCalls.{last_name_of, without_name, with_name, changed_by, answer_to, tree_after, reply_to}
 use Rattle.rz_tree.proofs.Keys.{false-true, one-or-two, get-inserted, get-beside, get-removed, get-left, same_some, not_none}
 use Rattle.rz_export.specs.Building.{LiesIn}
-use Rattle.rz_export.proofs.Files.{Objects, ends}
+use Rattle.rz_export_model.specs.Files.{ends}
+use Rattle.rz_export_model.proofs.Files.{Objects, may_go, dir_no_file}
+use Rattle.rz_export_model.proofs.Firsts.{none_first, none_unless}
 
 -- there is a file of this number, at least as long as this
 pub record HasFile (os : Objects) (fid size : ℕ) : Type 0 where
@@ -36,27 +38,6 @@ Lie v os = (fid : ℕ) (o : Object) → maps.get os fid ≡ Some o → is_file o
 pub record IsCarried (v : Volume) (os after : Objects) (ended : ℕ → Bool) : Type 0 where
   pub stays : (fid size : ℕ) → HasFile os fid size → ended fid ≡ false → HasFile after fid size
   pub lie : Lie v after
-
-dir_no_file : (k : Kind) → is_dir k ≡ true → is_file k ≡ false
-dir_no_file File q = absurd (false-true q)
-dir_no_file Dir q = refl
-dir_no_file Link q = refl
-
--- the first of no faults
-none_first : {A : Type 0} (a b : Option A) → option_or a b ≡ None → (a ≡ None) × (b ≡ None)
-none_first None b k = (refl, k)
-none_first (Some x) b k = cc
-
-not_given : {A : Type 0} (b : Bool) (x : A) → given_if (not b) x ≡ None → b ≡ true
-not_given true x k = refl
-not_given false x k = cc
-
--- a directory that may go is one
-may_go : (t : Tree) (path : List ℕ) → refusal t (call.Rmdir path) ≡ None → is_at t (path_in path) is_dir ≡ true
-may_go t path k = let p = path_in path in not_given (is_at t p is_dir) fault.NotDir (none_first (not_dir t p) (option_or (not_empty t p) None)
-    (none_first (absent t p) (option_or (not_dir t p) (option_or (not_empty t p) None))
-    (none_first (walk t p) (option_or (absent t p) (option_or (not_dir t p) (option_or (not_empty t p) None)))
-    (none_first (unreadable_or_root path) (option_or (walk t p) (option_or (absent t p) (option_or (not_dir t p) (option_or (not_empty t p) None)))) k).1).1).1).0
 
 module _ (v : Volume) (t : Tree) (lie : Lie v t.objects) where
   abbrev os : Objects

@@ -7,17 +7,10 @@ use Rattle.std.specs.Cmp.{IsTotalOrder, tied_itself}
 use Rattle.std.specs.FinMap as maps
 use Rattle.std.specs.FinMap.{FinMap, IsAntisymmetric, get-entries, entries_sorted, same_entries_map, len-entries, len-empty}
 use Rattle.std.specs.FinMap.Entries.{find, is_sorted, below_all}
+use Rattle.rz_export_model.proofs.Tests.{left, right, is_less}
 use Rattle.rz_tree.specs.Added.{is_behind}
 use Rattle.rz_tree.proofs.Keys.{not_none, same_some}
 use Rattle.rz_tree.proofs.Lasts.{entries-last}
-
-left : (a b : Bool) → T (a && b) → T a
-left true b h = tt
-left false b h = absurd h
-
-right : (a b : Bool) → T (a && b) → T b
-right true b h = h
-right false b h = absurd h
 
 holds : (b : Bool) → T b → b ≡ true
 holds true h = refl
@@ -29,11 +22,6 @@ both false b h k = absurd (not_true h)
   where
     not_true : false ≡ true → ⊥
     not_true h = cc
-
-less : (r : Ordering) → T (is_lt r) → r ≡ Less
-less Less h = refl
-less Equal h = absurd h
-less Greater h = absurd h
 
 no_entries : {Y : Type 0} (es : List Y) → length es ≡ 0 → es ≡ []
 no_entries [] h = refl
@@ -54,7 +42,7 @@ module _ {K X : Type 0} {R : K → K → Ordering} (o : IsTotalOrder R) where
   none-after : (q k : K) (es : List (K × X)) → R q k ≡ Less → T (below_all R k es) → find R q es ≡ None
   none-after q k [] lt h = refl
   none-after q k (e ∷ es) lt h =
-      ap (λ r. cond (is_eq r) (Some e.1) (find R q es)) (o.trans q k e.0 lt (less _ (left _ _ h))) ∙ none-after q k es lt (right _ _ h)
+      ap (λ r. cond (is_eq r) (Some e.1) (find R q es)) (o.trans q k e.0 lt (is_less _ (left _ _ h))) ∙ none-after q k es lt (right _ _ h)
 
   below-mid : (k : K) (xs : List (K × X)) (e : K × X) (ys : List (K × X)) → T (below_all R k (xs ++ e ∷ ys)) → T (is_lt (R k e.0))
   below-mid k [] e ys h = left _ _ h
@@ -73,7 +61,7 @@ module _ {K X : Type 0} {R : K → K → Ordering} (o : IsTotalOrder R) where
   find-mid : (xs : List (K × X)) (e : K × X) (ys : List (K × X)) → T (is_sorted R (xs ++ e ∷ ys)) → find R e.0 (xs ++ e ∷ ys) ≡ Some e.1
   find-mid [] e ys h = ap (λ r. cond (is_eq r) (Some e.1) (find R e.0 ys)) (tied_itself o e.0)
   find-mid (x ∷ xs) e ys h =
-      ap (λ r. cond (is_eq r) (Some x.1) (find R e.0 (xs ++ e ∷ ys))) (o.antisymm e.0 x.0 ∙ ap ordering_reverse (less _ (below-mid x.0 xs e ys (left _ _ h))))
+      ap (λ r. cond (is_eq r) (Some x.1) (find R e.0 (xs ++ e ∷ ys))) (o.antisymm e.0 x.0 ∙ ap ordering_reverse (is_less _ (below-mid x.0 xs e ys (left _ _ h))))
       ∙ find-mid xs e ys (right _ _ h)
 
   find-front : (q : K) (xs : List (K × X)) (e : K × X) (ys : List (K × X)) → R q e.0 ≡ Less → T (below_all R e.0 ys) → find R q xs ≡ find R q (xs ++ e ∷ ys)

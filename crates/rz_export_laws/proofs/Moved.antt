@@ -11,54 +11,14 @@ use Rattle.rz_tree.proofs.Keys.{not_none, false-true}
 use Rattle.rz_tree.proofs.Fronts.{above-append}
 use Rattle.rz_tree.proofs.Rules.{dir-found, dir-is}
 use Rattle.std.proofs.Common.{◌⊎◌, append_assoc, length, drop}
+use Rattle.rz_export_model.proofs.Tests.{eq_true}
 use Rattle.rz_export_model.specs.Paths.{exact_names, same_name, begins_with}
 use Rattle.rz_export_model.specs.Tree.{moved}
-use Rattle.rz_names.proofs.PathOrder.{and_parts, eq_true, begins-front}
+use Rattle.rz_names.proofs.PathOrder.{and_parts, begins-front}
 use Rattle.rz_tree.proofs.Keys.{true-or-false}
 use Rattle.rz_tree.proofs.Moves.{get-in, get-from, get-out, count-moved}
 use Rattle.rz_tree.proofs.Names.{front-there}
-
--- what a path begins with, a longer one begins with
-pub begins-longer : (f q r : Path) → begins_with f q ≡ true → begins_with f (q ++ r) ≡ true
-begins-longer [] q r h = refl
-begins-longer (m ∷ f) [] r h = cc
-begins-longer (m ∷ f) (n ∷ q) r h =
-    let parts = and_parts (same_name m n) (begins_with f q) h in
-    ap (λ b. b && begins_with f (q ++ r)) parts.0 ∙ begins-longer f q r parts.1
-
--- with one more name a path is the front, or begins with it already
-begins-last : (f q : Path) (n : Name) → begins_with f (q ++ n ∷ []) ≡ true → (q ++ n ∷ [] ≡ f) ⊎ (begins_with f q ≡ true)
-begins-last f q n h = elim (true-or-false (begins_with f q)) [
-  | inl is ↦ inr is
-  | inr other ↦ inl (go f q h other)
-]
-  where
-    root_only : (f : Path) (m : Name) → begins_with f (m ∷ []) ≡ true → begins_with f [] ≡ false → m ∷ [] ≡ f
-    root_only [] m h other = cc
-    root_only (k ∷ []) m h other =
-        let whole : m ∷ [] ≡ k ∷ [] = begins-front (k ∷ []) (m ∷ []) h in whole
-    root_only (k ∷ l ∷ f) m h other = absurd (false-true (and_parts (same_name k m) (begins_with (l ∷ f) []) h).1)
-
-    go : (f q : Path) → begins_with f (q ++ n ∷ []) ≡ true → begins_with f q ≡ false → q ++ n ∷ [] ≡ f
-    go [] q h other = cc
-    go (m ∷ f) [] h other = root_only (m ∷ f) n h other
-    go (m ∷ f) (k ∷ q) h other =
-        let parts = and_parts (same_name m k) (begins_with f (q ++ n ∷ [])) h in
-        let rest : q ++ n ∷ [] ≡ f = go f q parts.1 (sym (ap (λ b. b && begins_with f q) parts.0) ∙ other) in
-        let same : m ≡ k = same_first m k parts.0 in
-        λ i. sym same i ∷ rest i
-      where
-        same_first : (m k : Name) → same_name m k ≡ true → m ≡ k
-        same_first m k is = exact_names m k (eq_true _ is)
-
--- a path does not begin with a longer one that it is the front of
-pub above-short : (q : Path) (n : Name) → begins_with (q ++ n ∷ []) q ≡ false
-above-short [] n = refl
-above-short (m ∷ q) n = ap (λ b. same_name m m && b) (above-short q n) ∙ and_false (same_name m m)
-  where
-    and_false : (b : Bool) → (b && false) ≡ false
-    and_false true = refl
-    and_false false = refl
+use Rattle.rz_tree.proofs.Renamings.{begins-longer, begins-last, above-short}
 
 module _ (t : Tree) (w : IsWholeTree t) (p to : Path) (away : begins_with p to ≡ false) (other : is_root to ≡ false)
     (gone : maps.get t.names to ≡ None) (parent : is_at t (above to) is_dir ≡ true)

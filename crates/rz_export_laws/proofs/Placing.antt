@@ -8,10 +8,8 @@ use Rattle.rz_events.specs.declared.files.NodeSpec.{NodeSpec}
 use Rattle.rz_export_model.specs.Place.{Room, Rooms, rooms_of, clusters_of, is_better, best_of, is_before, at_its_place, in_order, placed_in, placed_among}
 use Rattle.rz_export_model.specs.Tree.{new_file}
 use Rattle.rz_export_model.specs.Export.{Export, new_places, free_of}
+use Rattle.rz_export_model.proofs.Rooms.{sids, all-insert, all-order, all-take, long-insert, long-order, long-take, rooms-sids, rooms-long, long-both, long-drop, best-of, clusters-long, map-long, all-there}
 use Rattle.rz_export.specs.Building.{LiesIn, is_home}
-
-abbrev sids : List Room → List ℕ
-sids rooms = map (λ n. n.sid) rooms
 
 abbrev sids_of : Cluster → List ℕ
 sids_of c = map (λ n. n.sid) c.nodes
@@ -20,23 +18,6 @@ turned : (a b : ℕ) → nat_eq a b ≡ false → nat_eq b a ≡ false
 turned a b h = grind (arith, nat_tests)
 
 -- ---- the rooms of a cluster, in order
-
-all-insert : (P : ℕ → Type 0) (n : Room) (ms : List Room) → P n.sid → AllByRecursion P (sids ms) → AllByRecursion P (sids (at_its_place n ms))
-all-insert P n [] own all = (own, tt)
-all-insert P n (m ∷ ms) own all = go (is_before n m) (all-insert P n ms own all.1)
-  where
-    go : (b : Bool) → AllByRecursion P (sids (at_its_place n ms)) → AllByRecursion P (sids (cond b (n ∷ m ∷ ms) (m ∷ at_its_place n ms)))
-    go true rest = (own, all)
-    go false rest = (all.0, rest)
-
-all-order : (P : ℕ → Type 0) (ns : List Room) → AllByRecursion P (sids ns) → AllByRecursion P (sids (in_order ns))
-all-order P [] all = tt
-all-order P (n ∷ ns) all = all-insert P n (in_order ns) all.0 (all-order P ns all.1)
-
-all-take : (P : ℕ → Type 0) (k : ℕ) (ns : List Room) → AllByRecursion P (sids ns) → AllByRecursion P (sids (take k ns))
-all-take P zero ns all = tt
-all-take P (suc k) [] all = tt
-all-take P (suc k) (n ∷ ns) all = (all.0, all-take P k ns all.1)
 
 all-other : (m : ℕ) (ns : List ℕ) → AllByRecursion (λ z. nat_eq m z ≡ false) ns → AllByRecursion (λ z. nat_eq z m ≡ false) ns
 all-other m [] all = tt
@@ -61,23 +42,6 @@ unfolding IsDistinct
 distinct-take zero ns all = tt
 distinct-take (suc k) [] all = tt
 distinct-take (suc k) (n ∷ ns) all = (all-take (λ z. nat_eq n.sid z ≡ false) k ns all.0, distinct-take k ns all.1)
-
-long-insert : (n : Room) (ms : List Room) → length (at_its_place n ms) ≡ length ms + 1
-long-insert n [] = omega arith
-long-insert n (m ∷ ms) = go (is_before n m) (long-insert n ms)
-  where
-    go : (b : Bool) → length (at_its_place n ms) ≡ length ms + 1 → length (cond b (n ∷ m ∷ ms) (m ∷ at_its_place n ms)) ≡ length (m ∷ ms) + 1
-    go true rest = omega arith
-    go false rest = omega (arith, rest)
-
-long-order : (ns : List Room) → length (in_order ns) ≡ length ns
-long-order [] = refl
-long-order (n ∷ ns) = let i = long-insert n (in_order ns) in let r = long-order ns in omega (arith, i, r)
-
-long-take : (k : ℕ) (ns : List Room) → k ≤ length ns → length (sids (take k ns)) ≡ k
-long-take zero ns few = refl
-long-take (suc k) [] few = absurd (omega (arith, few))
-long-take (suc k) (n ∷ ns) few = let r = long-take k ns (omega (arith, few)) in omega (arith, r)
 
 -- ---- the rooms are those of a cluster of the volume
 
@@ -113,25 +77,6 @@ has-first c cs test h = first (test c) (list_any test cs) h
 has-later : (d : Cluster) (cs : List Cluster) (c : Cluster) → HasCluster cs c → HasCluster (d ∷ cs) c
 has-later d cs c has test h = either (test d) (list_any test cs) (has test h)
 
-rooms-sids : (ns : List NodeSpec) (free : List ℕ) → length ns ≤ length free → sids (rooms_of ns free) ≡ map (λ n. n.sid) ns
-rooms-sids [] free few = refl
-rooms-sids (n ∷ ns) [] few = absurd (omega (arith, few))
-rooms-sids (n ∷ ns) (f ∷ free) few = ap (λ (l : List ℕ). n.sid ∷ l) (rooms-sids ns free (omega (arith, few)))
-
-rooms-long : (ns : List NodeSpec) (free : List ℕ) → length ns ≤ length free → length (rooms_of ns free) ≡ length ns
-rooms-long [] free few = refl
-rooms-long (n ∷ ns) [] few = absurd (omega (arith, few))
-rooms-long (n ∷ ns) (f ∷ free) few = let r = rooms-long ns free (omega (arith, few)) in omega (arith, r)
-
-long-both : (ns ms : List NodeSpec) → length (ns ++ ms) ≡ length ns + length ms
-long-both [] ms = omega arith
-long-both (n ∷ ns) ms = let r = long-both ns ms in omega (arith, r)
-
-long-drop : (k : ℕ) (free : List ℕ) → k ≤ length free → length (drop k free) + k ≡ length free
-long-drop zero free few = omega arith
-long-drop (suc k) [] few = absurd (omega (arith, few))
-long-drop (suc k) (f ∷ free) few = let r = long-drop k free (omega (arith, few)) in omega (arith, r)
-
 rooms-of : (v : Volume) (cs : List Cluster) (free : List ℕ) → length free ≡ length (nodes_of cs) → AllByRecursion (IsWide (safe_of v.layout)) cs
     → ((c : Cluster) → HasCluster cs c → HasCluster v.clusters c) → AllByRecursion (AreOf v) (clusters_of cs free)
 rooms-of v [] free many all in_volume = tt
@@ -142,14 +87,6 @@ rooms-of v (c ∷ cs) free many all in_volume =
       record { cluster = c; there = in_volume c (has-first c cs); wide = all.0; number = refl; nodes = rooms-sids c.nodes free few; many = rooms-long c.nodes free few },
       rooms-of v cs (drop (length c.nodes) free) (omega (arith, many, both, rest)) all.1 (λ d has. in_volume d (has-later c cs d has)),
     )
-
-best-of : (P : Rooms → Type 0) (best : Rooms) (cs : List Rooms) → P best → AllByRecursion P cs → P (best_of best cs)
-best-of P best [] is all = is
-best-of P best (c ∷ cs) is all = best-of P (cond (is_better c best) c best) cs (go (is_better c best)) all.1
-  where
-    go : (b : Bool) → P (cond b c best)
-    go true = all.0
-    go false = is
 
 -- ---- the places
 
@@ -192,14 +129,6 @@ lies-among : (v : Volume) (rs : List Rooms) → 0 < length rs → AllByRecursion
 lies-among v [] some all = absurd (omega (arith, some))
 lies-among v (r ∷ rs) some all = lies-placed v (best_of r rs) (best-of (AreOf v) r rs all.0 all.1)
 
-clusters-long : (cs : List Cluster) (free : List ℕ) → length (clusters_of cs free) ≡ length cs
-clusters-long [] free = refl
-clusters-long (c ∷ cs) free = let r = clusters-long cs (drop (length c.nodes) free) in omega (arith, r)
-
-map-long : (g : NodeSpec → ℕ) (ns : List NodeSpec) → length (map g ns) ≡ length ns
-map-long g [] = refl
-map-long g (n ∷ ns) = let r = map-long g ns in omega (arith, r)
-
 -- ---- volumes
 
 front : (P : ℕ → Type 0) (ns ms : List NodeSpec) → AllByRecursion P (map (λ n. n.sid) (ns ++ ms)) → AllByRecursion P (map (λ n. n.sid) ns)
@@ -215,10 +144,6 @@ distinct-right : (ns ms : List NodeSpec) → IsDistinct nat_eq (map (λ n. n.sid
 unfolding IsDistinct
 distinct-right [] ms all = all
 distinct-right (n ∷ ns) ms all = distinct-right ns ms all.1
-
-all-there : {X : Type 0} (P : X → Type 0) (xs : List X) → All P xs → AllByRecursion P xs
-all-there P [] all = tt
-all-there P (x ∷ xs) all = (all 0 x (omega arith), all-there P xs (λ k d few. all (suc k) d (omega (arith, few))))
 
 wide-all : (safe : ℕ) (cs : List Cluster) → AllByRecursion (IsCluster safe) cs → IsDistinct nat_eq (map (λ n. n.sid) (nodes_of cs)) → AllByRecursion (IsWide safe) cs
 wide-all safe [] all distinct = tt

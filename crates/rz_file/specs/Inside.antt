@@ -19,8 +19,8 @@ use Rattle.rz_operation_model.specs.Files.{FileState, Reads, Writes, Ended}
 use Rattle.rz_file.specs.declared.span.Span.{Span}
 use Rattle.rz_file.specs.declared.span.Aim.{Aim}
 use Rattle.rz_file.specs.declared.span.Aim.TheVariants as aim
-use Rattle.rz_file.specs.declared.span.Step.{Step}
-use Rattle.rz_file.specs.declared.span.Step.TheVariants as step
+use Rattle.rz_file.specs.declared.span.RangeStep.{RangeStep}
+use Rattle.rz_file.specs.declared.span.RangeStep.TheVariants as step
 use Rattle.rz_file.specs.Ranges.{range_of, from_first_block, InRange}
 use Rattle.rz_file.specs.Writing.{BlockWrite}
 use Rattle.rz_file.specs.Machine.{Machine, IsEnd}
@@ -34,20 +34,20 @@ aim_of aim.Giving bytes = Giving bytes
 abbrev pub range_in : Span → RangeOf
 range_in s = range_of (aim_of s.aim s.bytes.items) s.range
 
-abbrev pub state_of : Span → ReaderState → WriterState → Step → FileState
+abbrev pub state_of : Span → ReaderState → WriterState → RangeStep → FileState
 state_of s r w step.Reading = Reads (range_in s) r
 state_of s r w step.Writing = Writes (range_in s) s.text.items w
 state_of s r w (step.Ended end) = Ended (range_in s) end
 
-abbrev pub pairs_of : Step → List Pair → List Pair
+abbrev pub pairs_of : RangeStep → List Pair → List Pair
 pairs_of step.Reading pairs = pairs
 pairs_of s pairs = []
 
-abbrev pub block_in : Step → Option Grid → Option Grid
+abbrev pub block_in : RangeStep → Option Grid → Option Grid
 block_in step.Reading block = block
 block_in s block = None
 
-abbrev pub machine_of : Layout → Span → ReaderMachine → BlockWrite → Step → Machine
+abbrev pub machine_of : Layout → Span → ReaderMachine → BlockWrite → RangeStep → Machine
 machine_of layout s r w at = record {
   layout = layout;
   state = state_of s r.state w.state at;
@@ -107,18 +107,18 @@ abbrev pub IsFoundText : Option ReadMark → Option Grid → List ℕ → Type 0
 IsFoundText (Some (mark.Found stamp size)) block found = IsSomeAnd block (λ g. take size found ≡ take size (bytes_from g.words))
 IsFoundText end block found = Unit {0}
 
-abbrev pub IsStep : Layout → Span → ReaderMachine → BlockWrite → Step → Type 0
+abbrev pub IsStep : Layout → Span → ReaderMachine → BlockWrite → RangeStep → Type 0
 IsStep layout s r w step.Reading = IsFoundText (reader_end r.state) r.block s.found.items
 IsStep layout s r w step.Writing = IsWritten layout s w
 IsStep layout s r w (step.Ended end) = IsEnd end
 
-pub record IsFile (layout : Layout) (s : Span) (r : ReaderMachine) (w : BlockWrite) (at : Step) : Type 0 where
+pub record IsFile (layout : Layout) (s : Span) (r : ReaderMachine) (w : BlockWrite) (at : RangeStep) : Type 0 where
   pub span : IsSpan layout s
   pub hands : AreHands layout s.aim r w
   pub step : IsStep layout s r w at
 
 -- a read that begins has nothing fetched
-abbrev pub IsFresh : ReaderMachine → Step → Type 0
+abbrev pub IsFresh : ReaderMachine → RangeStep → Type 0
 IsFresh r step.Reading = (r.pairs ≡ []) × (r.block ≡ None) × (r.state.stage ≡ Looking)
 IsFresh r s = Unit {0}
 

@@ -12,7 +12,7 @@ ghost use Rattle.rz_file.specs.Inside.{IsFile, IsFoundText, machine_of, state_of
 
 use crate::asks::found_size;
 use crate::block_writer::BlockWriter;
-use crate::span::{Span, Step};
+use crate::span::{RangeStep, Span};
 use crate::steps::{after_block, after_part};
 use mj_angles::Layout;
 use rz_events::{FetchAnswer, FileAnswer, ReadMark, ReaderAnswer};
@@ -22,12 +22,12 @@ use rz_reader::Reader;
 pub fn after(
     layout: Layout,
     span: &mut Span,
-    step: Step,
+    step: RangeStep,
     answer: FileAnswer,
     bins: &[u64],
     reader: &mut Reader,
     writer: &mut BlockWriter,
-) -> Step
+) -> RangeStep
     requires inside { IsFile layout span.old reader.old writer.old step }
     requires asked { IsFileAnswer layout (file_ask (state_of span.old reader.old.state writer.old.state step)) answer }
     requires bins { ComeWith layout (file_ask (state_of span.old reader.old.state writer.old.state step)) answer bins.now }
@@ -35,9 +35,9 @@ pub fn after(
     ensures inside { IsFile layout span.new reader.new writer.new result }
 {
     match step {
-        Step::Reading => after_reading(layout, span, answer, bins, reader, writer),
-        Step::Writing => after_writing(layout, span, answer, reader, writer),
-        Step::Ended(_) => unreachable!(),
+        RangeStep::Reading => after_reading(layout, span, answer, bins, reader, writer),
+        RangeStep::Writing => after_writing(layout, span, answer, reader, writer),
+        RangeStep::Ended(_) => unreachable!(),
     }
 }
 
@@ -49,23 +49,23 @@ fn after_reading(
     bins: &[u64],
     reader: &mut Reader,
     writer: &mut BlockWriter,
-) -> Step
-    requires inside { IsFile layout span.old reader.old writer.old Step.Reading }
+) -> RangeStep
+    requires inside { IsFile layout span.old reader.old writer.old RangeStep.Reading }
     requires asked { IsFileAnswer layout (ask_to_read reader.old.state.key.block (reader_end reader.old.state) (reader_ask reader.old.state)) answer }
     requires bins { ComeWith layout (ask_to_read reader.old.state.key.block (reader_end reader.old.state) (reader_ask reader.old.state)) answer bins.now }
-    ensures answered { IsAnswered (machine_of layout span.old reader.old writer.old Step.Reading) answer bins.now (machine_of layout span.new reader.new writer.new result) }
+    ensures answered { IsAnswered (machine_of layout span.old reader.old writer.old RangeStep.Reading) answer bins.now (machine_of layout span.new reader.new writer.new result) }
     ensures inside { IsFile layout span.new reader.new writer.new result }
 {
     match answer {
         FileAnswer::Read(ReaderAnswer::Fetched(answer)) => {
             tell_fetch(reader, answer, bins);
             keep_found(layout, &mut span.found, reader);
-            Step::Reading
+            RangeStep::Reading
         }
         FileAnswer::Read(answer) => {
             tell_other(reader, answer);
             keep_found(layout, &mut span.found, reader);
-            Step::Reading
+            RangeStep::Reading
         }
         FileAnswer::Noted => {
             let Some(mark) = reader.end() else {
@@ -115,16 +115,16 @@ fn after_writing(
     answer: FileAnswer,
     reader: &mut Reader,
     writer: &mut BlockWriter,
-) -> Step
-    requires inside { IsFile layout span.old reader.old writer.old Step.Writing }
+) -> RangeStep
+    requires inside { IsFile layout span.old reader.old writer.old RangeStep.Writing }
     requires asked { IsFileAnswer layout (ask_to_write writer.old.state.key.block (writer_end writer.old.state) (writer_ask writer.old.state)) answer }
-    ensures answered { (bins : List ℕ) → IsAnswered (machine_of layout span.old reader.old writer.old Step.Writing) answer bins (machine_of layout span.new reader.new writer.new result) }
+    ensures answered { (bins : List ℕ) → IsAnswered (machine_of layout span.old reader.old writer.old RangeStep.Writing) answer bins (machine_of layout span.new reader.new writer.new result) }
     ensures inside { IsFile layout span.new reader.new writer.new result }
 {
     match answer {
         FileAnswer::Write(answer) => {
             writer.tell(answer);
-            Step::Writing
+            RangeStep::Writing
         }
         FileAnswer::Noted => {
             let Some(end) = writer.end() else {

@@ -8,7 +8,7 @@ ghost use Rattle.rz_file.specs.Inside.{IsSpan, AreHands, range_in};
 use crate::answers::after;
 use crate::asks::{bins_in, found_size, read_ask, write_ask};
 use crate::block_writer::BlockWriter;
-use crate::span::{Aim, Span, Step};
+use crate::span::{Aim, RangeStep, Span};
 use crate::steps::go_on;
 use mj_angles::Layout;
 use rz_client_model::{ReaderState, WriterState};
@@ -24,7 +24,7 @@ use std::marker::Model;
 pub struct FileMachine {
     layout: Layout,
     span: Span,
-    step: Step,
+    step: RangeStep,
     reader: Reader,
     writer: BlockWriter,
 }
@@ -50,9 +50,9 @@ impl FileMachine {
         ensures place { IsAskOf self.now.layout result }
     {
         match self.step {
-            Step::Reading => read_ask(&self.reader),
-            Step::Writing => write_ask(&self.writer),
-            Step::Ended(_) => FileAsk::End,
+            RangeStep::Reading => read_ask(&self.reader),
+            RangeStep::Writing => write_ask(&self.writer),
+            RangeStep::Ended(_) => FileAsk::End,
         }
     }
 
@@ -71,9 +71,9 @@ impl FileMachine {
         ensures long { IsTextLong self.now.state (length result.now) }
     {
         match self.step {
-            Step::Reading => &self.span.found[..found_size(&self.reader)],
-            Step::Writing => &self.span.text,
-            Step::Ended(_) => &[],
+            RangeStep::Reading => &self.span.found[..found_size(&self.reader)],
+            RangeStep::Writing => &self.span.text,
+            RangeStep::Ended(_) => &[],
         }
     }
 
@@ -101,7 +101,7 @@ impl FileMachine {
         ensures short { IsEndIn self.now.state }
     {
         match self.step {
-            Step::Ended(end) => Some(end),
+            RangeStep::Ended(end) => Some(end),
             _ => None,
         }
     }

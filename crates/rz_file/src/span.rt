@@ -29,7 +29,7 @@ pub struct Span {
 
 /// What comes next.
 #[derive(Clone, Copy, Drop)]
-pub enum Step {
+pub enum RangeStep {
     /// The block in hand is read.
     Reading,
     /// It is written.

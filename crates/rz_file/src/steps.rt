@@ -13,14 +13,19 @@ ghost use Rattle.rz_file.specs.Inside.{IsSpan, AreHands, IsFile, IsFresh, CanWri
 
 use crate::block_writer::BlockWriter;
 use crate::range::Range;
-use crate::span::{Aim, Span, Step};
+use crate::span::{Aim, RangeStep, Span};
 use crate::texts::{patch, push_cut};
 use mj_angles::Layout;
 use rz_events::{FileEnd, ReadMark, WriteEnd};
 use rz_reader::Reader;
 
 /// The range goes on with its next block, if one is left.
-pub fn go_on(layout: Layout, span: &mut Span, reader: &mut Reader, writer: &mut BlockWriter) -> Step
+pub fn go_on(
+    layout: Layout,
+    span: &mut Span,
+    reader: &mut Reader,
+    writer: &mut BlockWriter,
+) -> RangeStep
     requires span { IsSpan layout span.old }
     requires hands { AreHands layout span.old.aim reader.old writer.old }
     ensures state { state_of span.new reader.new.state writer.new.state result ≡ go_on layout (range_in span.old) }
@@ -29,7 +34,7 @@ pub fn go_on(layout: Layout, span: &mut Span, reader: &mut Reader, writer: &mut 
 {
     let range = span.range;
     if range.done == range.size {
-        return Step::Ended(FileEnd::Whole { bytes: range.done });
+        return RangeStep::Ended(FileEnd::Whole { bytes: range.done });
     }
     match span.aim {
         Aim::Taking => read_block(layout, range, reader),
@@ -38,7 +43,7 @@ pub fn go_on(layout: Layout, span: &mut Span, reader: &mut Reader, writer: &mut 
 }
 
 /// The block in hand is written, or is read first where the range does not cover it whole.
-fn give(layout: Layout, span: &mut Span, reader: &mut Reader, writer: &mut BlockWriter) -> Step
+fn give(layout: Layout, span: &mut Span, reader: &mut Reader, writer: &mut BlockWriter) -> RangeStep
     requires span { IsSpan layout span.old }
     requires aim { span.old.aim ≡ Aim.Giving }
     requires hands { AreHands layout span.old.aim reader.old writer.old }
@@ -61,38 +66,38 @@ fn give(layout: Layout, span: &mut Span, reader: &mut Reader, writer: &mut Block
 }
 
 /// The block in hand is read.
-fn read_block(layout: Layout, range: Range, reader: &mut Reader) -> Step
+fn read_block(layout: Layout, range: Range, reader: &mut Reader) -> RangeStep
     requires layout { reader.old.state.layout ≡ layout }
     requires places { length range.info.places ≡ safe_of layout }
     requires range { InRange range }
-    ensures step { result ≡ Step.Reading }
+    ensures step { result ≡ RangeStep.Reading }
     ensures reader { reader.new ≡ machine_for layout range.info ((range.offset + range.done) / block_bytes_of layout) }
 {
     reader.again(&range.info, range.key(layout).block);
-    Step::Reading
+    RangeStep::Reading
 }
 
 /// The block in hand is written with the text.
-fn write_block(layout: Layout, span: &Span, writer: &mut BlockWriter) -> Step
+fn write_block(layout: Layout, span: &Span, writer: &mut BlockWriter) -> RangeStep
     requires layout { writer.old.layout ≡ layout }
     requires bins { CanWrite Aim.Giving writer.old.own }
     requires places { length span.now.range.info.places ≡ safe_of layout }
     requires range { InRange span.now.range }
     requires short { length span.now.text.items ≤ block_bytes_of layout }
-    ensures step { result ≡ Step.Writing }
+    ensures step { result ≡ RangeStep.Writing }
     ensures writer { writer.new ≡ own_write layout span.now.range.info ((span.now.range.offset + span.now.range.done) / block_bytes_of layout) span.now.text.items }
 {
     writer.again(&span.range.info, span.range.key(layout).block, &span.text);
-    Step::Writing
+    RangeStep::Writing
 }
 
 /// The block in hand is written with the text, which is that of the block at this place in the batch.
-fn write_whole(layout: Layout, span: &Span, place: usize, writer: &mut BlockWriter) -> Step
+fn write_whole(layout: Layout, span: &Span, place: usize, writer: &mut BlockWriter) -> RangeStep
     requires layout { writer.old.layout ≡ layout }
     requires places { length span.now.range.info.places ≡ safe_of layout }
     requires range { InRange span.now.range }
     requires short { length span.now.text.items ≤ block_bytes_of layout }
-    ensures step { result ≡ Step.Writing }
+    ensures step { result ≡ RangeStep.Writing }
     ensures writer { writer.new ≡ record writer.old {
       state = writer_start layout (key_in span.now.range.info ((span.now.range.offset + span.now.range.done) / block_bytes_of layout)) span.now.range.info.places (length span.now.text.items);
       place = Some place;
@@ -100,7 +105,7 @@ fn write_whole(layout: Layout, span: &Span, place: usize, writer: &mut BlockWrit
 {
     let block = span.range.key(layout).block;
     writer.again_at(&span.range.info, block, span.text.len() as u32, place);
-    Step::Writing
+    RangeStep::Writing
 }
 
 /// The block in hand was found with the first so many bytes of what was found.
@@ -110,7 +115,7 @@ fn with_text(
     size: usize,
     reader: &mut Reader,
     writer: &mut BlockWriter,
-) -> Step
+) -> RangeStep
     requires span { IsSpan layout span.old }
     requires short { size ≤ block_bytes_of layout }
     requires hands { AreHands layout span.old.aim reader.old writer.old }
@@ -149,7 +154,7 @@ pub fn after_part(
     mark: ReadMark,
     reader: &mut Reader,
     writer: &mut BlockWriter,
-) -> Step
+) -> RangeStep
     requires span { IsSpan layout span.old }
     requires short { IsShortMark layout mark }
     requires hands { AreHands layout span.old.aim reader.old writer.old }
@@ -160,7 +165,7 @@ pub fn after_part(
     match mark {
         ReadMark::Found { length, .. } => with_text(layout, span, length as usize, reader, writer),
         ReadMark::Hole => with_text(layout, span, 0, reader, writer),
-        _ => Step::Ended(FileEnd::ShortRead {
+        _ => RangeStep::Ended(FileEnd::ShortRead {
             bytes: span.range.done,
             end: mark,
         }),
@@ -174,7 +179,7 @@ pub fn after_block(
     end: WriteEnd,
     reader: &mut Reader,
     writer: &mut BlockWriter,
-) -> Step
+) -> RangeStep
     requires span { IsSpan layout span.old }
     requires aim { span.old.aim ≡ Aim.Giving }
     requires hands { AreHands layout span.old.aim reader.old writer.old }
@@ -188,6 +193,6 @@ pub fn after_block(
             span.range.done += span.range.count(layout) as u64;
             go_on(layout, span, reader, writer)
         }
-        _ => Step::Ended(FileEnd::ShortWrite { bytes, end }),
+        _ => RangeStep::Ended(FileEnd::ShortWrite { bytes, end }),
     }
 }

@@ -10,8 +10,8 @@ use Rattle.rz_journal_text.specs.Fronts.{IsThis}
 use Rattle.rz_journal.specs.Row.{Entries, taken, IsEntryAt}
 use Rattle.rz_journal.proofs.FramedRows.{row_more, taken_more}
 use Rattle.rz_journal.proofs.Halves.{entry_at_place}
-use Rattle.rz_journal.specs.declared.reading.Step.{Step}
-use Rattle.rz_journal.specs.declared.reading.Step.TheVariants.{Entry, Damaged}
+use Rattle.rz_journal.specs.declared.reading.EntryFound.{EntryFound}
+use Rattle.rz_journal.specs.declared.reading.EntryFound.TheVariants.{Entry, Damaged}
 use Rattle.rz_journal.specs.JournalText.{AreSpelled}
 use Rattle.rz_journal.specs.Listed.{length_at, IsStep, SoFar}
 
@@ -28,7 +28,7 @@ module _ (half : List ℕ) (at count : ℕ) (gate : get_or half at 0 % 2 ≡ 1) 
       (window (at + 5) count half, there, spelled, omega (arith, long, behind), omega (arith, behind, room))
 
   -- no entry has the bytes
-  pub none_there : {E : Type 0} (r : Result Step E) (fault : EntryFault) → IfOk r (λ step. (step ≡ Damaged) × (fault ≡ BadEntry)) → ((e : Said) → Spells (window (at + 5) count half) e → IsThis e (Err fault)) → IfOk r (IsStep half at)
+  pub none_there : {E : Type 0} (r : Result EntryFound E) (fault : EntryFault) → IfOk r (λ step. (step ≡ Damaged) × (fault ≡ BadEntry)) → ((e : Said) → Spells (window (at + 5) count half) e → IsThis e (Err fault)) → IfOk r (IsStep half at)
   none_there (Err e) fault answered exact = tt
   none_there (Ok step) fault answered exact =
       let bad : (e : Said) → ¬ Spells (window (at + 5) (length_at half at) half) e =
@@ -56,7 +56,7 @@ one_more half entries at e next so_far step =
     )
 
 -- the address behind an entry
-pub next_is : (half : List ℕ) (at : ℕ) (step : Step) (e : Said) (next : ℕ) → step ≡ Entry e next → IsStep half at step → (at < next) × (next < length half)
+pub next_is : (half : List ℕ) (at : ℕ) (step : EntryFound) (e : Said) (next : ℕ) → step ≡ Entry e next → IsStep half at step → (at < next) × (next < length half)
 next_is half at step e next is stands =
     let there : IsStep half at (Entry e next) = subst (IsStep half at) is stands in
     (omega (arith, there.3), there.4)

@@ -18,10 +18,10 @@ use Rattle.rz_export.specs.Building.{with_part, with_parts, made_of, IsCounters,
 use Rattle.rz_export.proofs.Joined.{made-more, all-add}
 use Rattle.rz_journal_text.specs.declared.entry.Entry.{Entry as Said}
 use Rattle.rz_journal_text.specs.declared.entry.Entry.TheVariants as entry
-use Rattle.rz_journal.specs.declared.reading.Step.{Step}
-use Rattle.rz_journal.specs.declared.reading.Step.TheVariants.{End, Entry, Damaged}
-use Rattle.rz_journal.specs.declared.rebuilding.Stage.{Stage}
-use Rattle.rz_journal.specs.declared.rebuilding.Stage.TheVariants.{Empty, Counters, Parts, Calls}
+use Rattle.rz_journal.specs.declared.reading.EntryFound.{EntryFound}
+use Rattle.rz_journal.specs.declared.reading.EntryFound.TheVariants.{End, Entry, Damaged}
+use Rattle.rz_journal.specs.declared.rebuilding.ReopenProgress.{ReopenProgress}
+use Rattle.rz_journal.specs.declared.rebuilding.ReopenProgress.TheVariants.{Empty, Counters, Parts, Calls}
 use Rattle.rz_journal.specs.Said.{call_said, accepts}
 use Rattle.rz_journal.specs.JournalText.{IsAccepted, BeginsWith, Makes}
 use Rattle.rz_journal.specs.Listed.{IsStep, SoFar}
@@ -108,7 +108,7 @@ begins_with : (volume : Volume) (parts : List Part) (s : Export) → s ≡ made_
 begins_with volume [] s made none = made
 begins_with volume (p ∷ ps) s made are = (are, made)
 
-ended_makes : (volume : Volume) (before : List Said) (stage : Stage) (s : Export) → ArePartsSoFar volume before stage s → EndWell volume before → Makes volume before s
+ended_makes : (volume : Volume) (before : List Said) (stage : ReopenProgress) (s : Export) → ArePartsSoFar volume before stage s → EndWell volume before → Makes volume before s
 ended_makes volume before stage s so well = record {
   parts = so.parts;
   first = s;
@@ -121,16 +121,16 @@ ended_makes volume before stage s so well = record {
   made = refl;
 }
 
-pub stage_makes : (volume : Volume) (before : List Said) (stage : Stage) (s : Export) → IsStage volume before stage s → EndWell volume before → Makes volume before s
+pub stage_makes : (volume : Volume) (before : List Said) (stage : ReopenProgress) (s : Export) → IsStage volume before stage s → EndWell volume before → Makes volume before s
 stage_makes volume before Empty s so well = ended_makes volume before Empty s so well
 stage_makes volume before Counters s so well = ended_makes volume before Counters s so well
 stage_makes volume before Parts s so well = ended_makes volume before Parts s so well
 stage_makes volume before Calls s so well = so.makes
 
-parts_made : (volume : Volume) (before : List Said) (stage : Stage) (s : Export) → ArePartsSoFar volume before stage s → s ≡ made_by volume before
+parts_made : (volume : Volume) (before : List Said) (stage : ReopenProgress) (s : Export) → ArePartsSoFar volume before stage s → s ≡ made_by volume before
 parts_made volume before stage s so = so.made ∙ sym (said_parts (new_export volume 0) so.parts) ∙ ap (made_by volume) (sym so.are)
 
-pub stage_made : (volume : Volume) (before : List Said) (stage : Stage) (s : Export) → IsStage volume before stage s → s ≡ made_by volume before
+pub stage_made : (volume : Volume) (before : List Said) (stage : ReopenProgress) (s : Export) → IsStage volume before stage s → s ≡ made_by volume before
 stage_made volume before Empty s so = parts_made volume before Empty s so
 stage_made volume before Counters s so = parts_made volume before Counters s so
 stage_made volume before Parts s so = parts_made volume before Parts s so
@@ -142,7 +142,7 @@ none_stand volume s made = record { parts = []; are = refl; each = tt; made = ma
 
 -- ---- whether the parts so far end well
 
-end_is : (volume : Volume) (before : List Said) (stage : Stage) (s : Export) (so : ArePartsSoFar volume before stage s) → AreNoneOrAll volume so.parts → EndWell volume before
+end_is : (volume : Volume) (before : List Said) (stage : ReopenProgress) (s : Export) (so : ArePartsSoFar volume before stage s) → AreNoneOrAll volume so.parts → EndWell volume before
 end_is volume before stage s so all ps same = subst (AreNoneOrAll volume) (map_one so.parts ps (sym so.are ∙ same)) all
 
 none_end : (volume : Volume) (parts : List Part) → length parts ≡ 0 → AreNoneOrAll volume parts
@@ -178,7 +178,7 @@ parts_end s b means volume before so = (
 
 -- ---- whether a part may stand behind the entries so far
 
-goes_is : (volume : Volume) (before : List Said) (stage : Stage) (s : Export) (p : Part) (so : ArePartsSoFar volume before stage s) → PartGoes volume before p → MayFollow volume so.parts p
+goes_is : (volume : Volume) (before : List Said) (stage : ReopenProgress) (s : Export) (p : Part) (so : ArePartsSoFar volume before stage s) → PartGoes volume before p → MayFollow volume so.parts p
 goes_is volume before stage s p so goes = subst (λ (l : List Part). MayFollow volume l p) (map_one goes.0 so.parts (sym goes.1 ∙ so.are)) goes.2
 
 first_follows : (volume : Volume) (parts : List Part) (p : Part) → length parts ≡ 0 → (IsCounters p → MayFollow volume parts p) × (MayFollow volume parts p → IsCounters p)
@@ -217,21 +217,21 @@ never_tells s p volume before so = ((λ no. absurd (let wrong : false ≡ true =
 
 -- ---- a part more
 
-parts_add : (volume : Volume) (before : List Said) (stage : Stage) (s : Export) (p : Part) → ArePartsSoFar volume before stage s → PartGoes volume before p → MayAdd s p
+parts_add : (volume : Volume) (before : List Said) (stage : ReopenProgress) (s : Export) (p : Part) → ArePartsSoFar volume before stage s → PartGoes volume before p → MayAdd s p
 parts_add volume before stage s p so goes =
     let all = all-add volume (so.parts ++ p ∷ []) (follow_more volume [] so.parts p so.each (goes_is volume before stage s p so goes)) in
     subst (λ (x : Export). MayAdd x p) (sym so.made) (add_last (new_export volume 0) so.parts p all)
 
-add_there : (volume : Volume) (before : List Said) (stage : Stage) (s : Export) (p : Part) → IsStage volume before stage s → PartGoes volume before p → MayAdd s p
+add_there : (volume : Volume) (before : List Said) (stage : ReopenProgress) (s : Export) (p : Part) → IsStage volume before stage s → PartGoes volume before p → MayAdd s p
 add_there volume before Empty s p so goes = parts_add volume before Empty s p so goes
 add_there volume before Counters s p so goes = parts_add volume before Counters s p so goes
 add_there volume before Parts s p so goes = parts_add volume before Parts s p so goes
 add_there volume before Calls s p so goes = absurd (so.past goes.0 goes.1)
 
-pub may_add : (stage : Stage) (s : Export) (p : Part) → IsSomeStage stage s → TellsPart stage s p true → MayAdd s p
+pub may_add : (stage : ReopenProgress) (s : Export) (p : Part) → IsSomeStage stage s → TellsPart stage s p true → MayAdd s p
 may_add stage s p some tells = add_there some.0 some.1 stage s p some.2 ((tells some.0 some.1 some.2).0 refl)
 
-parts_more : (volume : Volume) (before : List Said) (stage later : Stage) (s u : Export) (p : Part) (so : ArePartsSoFar volume before stage s) → PartGoes volume before p → u ≡ with_part s p → IsAt later (length so.parts + 1) → ArePartsSoFar volume (before ++ entry.Built p ∷ []) later u
+parts_more : (volume : Volume) (before : List Said) (stage later : ReopenProgress) (s u : Export) (p : Part) (so : ArePartsSoFar volume before stage s) → PartGoes volume before p → u ≡ with_part s p → IsAt later (length so.parts + 1) → ArePartsSoFar volume (before ++ entry.Built p ∷ []) later u
 parts_more volume before stage later s u p so goes made at = record {
   parts = so.parts ++ p ∷ [];
   are = ap (λ (es : List Said). es ++ entry.Built p ∷ []) so.are ∙ sym (map_more so.parts p);
@@ -240,7 +240,7 @@ parts_more volume before stage later s u p so goes made at = record {
   at = subst (IsAt later) (sym (length_more so.parts p)) at;
 }
 
-pub part_added : (stage : Stage) (s u : Export) (p : Part) → TellsPart stage s p true → u ≡ with_part s p → IsAdded (entry.Built p) stage s true (after_part stage) u
+pub part_added : (stage : ReopenProgress) (s u : Export) (p : Part) → TellsPart stage s p true → u ≡ with_part s p → IsAdded (entry.Built p) stage s true (after_part stage) u
 part_added Empty s u p tells made volume before so =
     let goes = (tells volume before so).0 refl in
     (goes, parts_more volume before Empty Counters s u p so goes made (let none = so.at in omega (arith, none)))
@@ -252,7 +252,7 @@ part_added Parts s u p tells made volume before so =
     (goes, parts_more volume before Parts Parts s u p so goes made (let two = so.at in omega (arith, two)))
 part_added Calls s u p tells made volume before so = let goes = (tells volume before so).0 refl in absurd (so.past goes.0 goes.1)
 
-pub part_stops : (stage : Stage) (s : Export) (p : Part) (later : Stage) (u : Export) → TellsPart stage s p false → IsAdded (entry.Built p) stage s false later u
+pub part_stops : (stage : ReopenProgress) (s : Export) (p : Part) (later : ReopenProgress) (u : Export) → TellsPart stage s p false → IsAdded (entry.Built p) stage s false later u
 part_stops stage s p later u tells volume before so goes = (let wrong : false ≡ true = (tells volume before so).1 goes in absurd (cc))
 
 -- ---- a call more
@@ -271,7 +271,7 @@ goes_call volume before (entry.Publish key stamp mask bytes) c said goes = subst
 goes_call volume before (entry.Enroll node loss) c said goes = subst (CallGoes volume before) said goes
 goes_call volume before (entry.Built p) c said goes = absurd (cc)
 
-pub call_added : (stage : Stage) (s u : Export) (c : Call) → TellsEnd stage s true → IsAccepted s c → u ≡ export_after s c → (e : Said) → call_said e ≡ Some c → IsAdded e stage s true Calls u
+pub call_added : (stage : ReopenProgress) (s u : Export) (c : Call) → TellsEnd stage s true → IsAccepted s c → u ≡ export_after s c → (e : Said) → call_said e ≡ Some c → IsAdded e stage s true Calls u
 call_added stage s u c tells is made e said volume before so =
     let well = (tells volume before so).0 refl in
     let same = stage_made volume before stage s so in (
@@ -284,17 +284,17 @@ call_added stage s u c tells is made e said volume before so =
     )
 
 -- the parts before the call do not end well
-pub early_stops : (stage : Stage) (s : Export) (c : Call) (later : Stage) (u : Export) → TellsEnd stage s false → (e : Said) → call_said e ≡ Some c → IsAdded e stage s false later u
+pub early_stops : (stage : ReopenProgress) (s : Export) (c : Call) (later : ReopenProgress) (u : Export) → TellsEnd stage s false → (e : Said) → call_said e ≡ Some c → IsAdded e stage s false later u
 early_stops stage s c later u tells e said volume before so goes =
     (let wrong : false ≡ true = (tells volume before so).1 (goes_call volume before e c said goes).0 in absurd (cc))
 
 -- the call is not accepted
-pub call_stops : (stage : Stage) (s : Export) (c : Call) (later : Stage) (u : Export) → ¬ IsAccepted s c → (e : Said) → call_said e ≡ Some c → IsAdded e stage s false later u
+pub call_stops : (stage : ReopenProgress) (s : Export) (c : Call) (later : ReopenProgress) (u : Export) → ¬ IsAccepted s c → (e : Said) → call_said e ≡ Some c → IsAdded e stage s false later u
 call_stops stage s c later u never e said volume before so goes =
     never (subst (λ (x : Export). IsAccepted x c) (sym (stage_made volume before stage s so)) (goes_call volume before e c said goes).1)
 
 -- a begin of more bytes than a block has is not accepted
-pub long_stops : (stage : Stage) (s : Export) (key : Key) (bytes : ℕ) (later : Stage) (u : Export) → block_bytes_of s.volume.layout < bytes → IsAdded (entry.Begin key bytes) stage s false later u
+pub long_stops : (stage : ReopenProgress) (s : Export) (key : Key) (bytes : ℕ) (later : ReopenProgress) (u : Export) → block_bytes_of s.volume.layout < bytes → IsAdded (entry.Begin key bytes) stage s false later u
 long_stops stage s key bytes later u long =
     let zeros : List ℕ = replicate bytes 0 in
     call_stops stage s (call.Begin key zeros) later u
@@ -305,7 +305,7 @@ long_stops stage s key bytes later u long =
     (entry.Begin key bytes) refl
 
 -- what is added of a call is added of its entry
-pub added_of : {E : Type 0} (r : Result Bool E) (e : Said) (c : Call) (stage later : Stage) (s u : Export) → call_said e ≡ Some c
+pub added_of : {E : Type 0} (r : Result Bool E) (e : Said) (c : Call) (stage later : ReopenProgress) (s u : Export) → call_said e ≡ Some c
     → IfOk r (λ goes. (d : Said) → call_said d ≡ Some c → IsAdded d stage s goes later u) → IfOk r (λ goes. IsAdded e stage s goes later u)
 added_of (Ok goes) e c stage later s u said added = added e said
 added_of (Err fault) e c stage later s u said added = tt
@@ -320,7 +320,7 @@ asked s u c r answered other = ⊎_elim
 -- ---- all entries so far
 
 -- The entries up to an address of a half, so many, and what they make.
-pub record GoSoFar (volume : Volume) (half : List ℕ) (at count : ℕ) (stage : Stage) (s : Export) : Type 0 where
+pub record GoSoFar (volume : Volume) (half : List ℕ) (at count : ℕ) (stage : ReopenProgress) (s : Export) : Type 0 where
   pub before : List Said
   pub so_far : SoFar half before at
   pub go : AllGo volume [] before
@@ -349,7 +349,7 @@ go_first volume half s some made = record {
   few = omega arith;
 }
 
-module _ (volume : Volume) (half : List ℕ) (at count : ℕ) (stage : Stage) (s : Export) (so : GoSoFar volume half at count stage s) (step : Step) (stands : IsStep half at step) where
+module _ (volume : Volume) (half : List ℕ) (at count : ℕ) (stage : ReopenProgress) (s : Export) (so : GoSoFar volume half at count stage s) (step : EntryFound) (stands : IsStep half at step) where
   stop : IsWrong volume half so.before at → IsDamagedAt volume half count
   stop wrong = record { before = so.before; used = at; so_far = so.so_far; go = so.go; wrong = wrong; count = so.number }
 
@@ -370,7 +370,7 @@ module _ (volume : Volume) (half : List ℕ) (at count : ℕ) (stage : Stage) (s
   pub go_damaged : step ≡ Damaged → IsDamagedAt volume half count
   go_damaged is = stop (inl (subst (IsStep half at) is stands))
 
-  module _ (e : Said) (next : ℕ) (is : step ≡ Entry e next) (later : Stage) (u : Export) where
+  module _ (e : Said) (next : ℕ) (is : step ≡ Entry e next) (later : ReopenProgress) (u : Export) where
     pub go_stop : IsAdded e stage s false later u → IsDamagedAt volume half count
     go_stop added = stop (inr (inl (e, next, subst (IsStep half at) is stands, added volume so.before so.stands)))
 

@@ -9,6 +9,7 @@ use Rattle.std.specs.FinMap.{FinMap, get-entries, entries_sorted}
 use Rattle.std.specs.FinMap.Entries.{find, is_sorted, below_all}
 use Rattle.rz_events.specs.declared.files.Kind.{Kind}
 use Rattle.rz_events.specs.declared.files.Kind.TheVariants.{File, Dir, Link}
+use Rattle.rz_export_model.proofs.Tests.{left, right, is_less}
 use Rattle.rz_export_model.specs.Paths.{Path, paths_total}
 use Rattle.rz_export_model.specs.Tree.{Tree, Object}
 use Rattle.rz_export_model.specs.Export.{Export}
@@ -22,19 +23,6 @@ use Rattle.rz_journal_text.specs.Spelling.{IsShort, PartMayStand}
 
 -- ---- an entry of a map is found in it
 
-left : (a b : Bool) → T (a && b) → T a
-left true b h = tt
-left false b h = absurd h
-
-right : (a b : Bool) → T (a && b) → T b
-right true b h = h
-right false b h = absurd h
-
-less : (r : Ordering) → T (is_lt r) → r ≡ Less
-less Less h = refl
-less Equal h = absurd h
-less Greater h = absurd h
-
 module _ {K X : Type 0} {R : K → K → Ordering} (o : IsTotalOrder R) where
   below-mid : (k : K) (xs : List (K × X)) (e : K × X) (ys : List (K × X)) → T (below_all R k (xs ++ e ∷ ys)) → T (is_lt (R k e.0))
   below-mid k [] e ys h = left _ _ h
@@ -43,7 +31,7 @@ module _ {K X : Type 0} {R : K → K → Ordering} (o : IsTotalOrder R) where
   find-mid : (xs : List (K × X)) (e : K × X) (ys : List (K × X)) → T (is_sorted R (xs ++ e ∷ ys)) → find R e.0 (xs ++ e ∷ ys) ≡ Some e.1
   find-mid [] e ys h = ap (λ r. cond (is_eq r) (Some e.1) (find R e.0 ys)) (tied_itself o e.0)
   find-mid (x ∷ xs) e ys h =
-      ap (λ r. cond (is_eq r) (Some x.1) (find R e.0 (xs ++ e ∷ ys))) (o.antisymm e.0 x.0 ∙ ap ordering_reverse (less _ (below-mid x.0 xs e ys (left _ _ h))))
+      ap (λ r. cond (is_eq r) (Some x.1) (find R e.0 (xs ++ e ∷ ys))) (o.antisymm e.0 x.0 ∙ ap ordering_reverse (is_less _ (below-mid x.0 xs e ys (left _ _ h))))
       ∙ find-mid xs e ys (right _ _ h)
 
   each_from : (m : FinMap R X) (xs es : List (K × X)) → xs ++ es ≡ maps.entries m → AllByRecursion (λ e. maps.get m e.0 ≡ Some e.1) es

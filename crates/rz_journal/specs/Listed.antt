@@ -5,8 +5,8 @@ use Rattle.rz_disk.specs.Images.{window}
 use Rattle.rz_journal_text.specs.declared.entry.Entry.{Entry as Said}
 use Rattle.rz_journal_text.specs.Spelling.{Spells}
 use Rattle.rz_journal.specs.Row.{Entries, taken, IsEntryAt, Row}
-use Rattle.rz_journal.specs.declared.reading.Step.{Step}
-use Rattle.rz_journal.specs.declared.reading.Step.TheVariants.{End, Entry, Damaged}
+use Rattle.rz_journal.specs.declared.reading.EntryFound.{EntryFound}
+use Rattle.rz_journal.specs.declared.reading.EntryFound.TheVariants.{End, Entry, Damaged}
 use Rattle.rz_journal.specs.JournalText.{AreSpelled}
 
 -- the length behind a gate
@@ -19,7 +19,7 @@ pub record IsDamaged (half : List ℕ) (at : ℕ) : Type 0 where
   pub wrong : (length half ≤ at + (5 + length_at half at)) ⊎ ((e : Said) → ¬ Spells (window (at + 5) (length_at half at) half) e)
 
 -- what stands at an address: the end, an entry and the address behind it, or a damaged one
-abbrev pub IsStep : List ℕ → ℕ → Step → Type 0
+abbrev pub IsStep : List ℕ → ℕ → EntryFound → Type 0
 IsStep half at End = slice_index half at % 2 ≡ 0
 IsStep half at (Entry e next) = (bytes : List ℕ) × IsEntryAt at bytes half × Spells bytes e × (next ≡ at + (5 + length bytes)) × (next < length half)
 IsStep half at Damaged = IsDamaged half at

@@ -13,9 +13,9 @@ use Rattle.rz_journal.specs.declared.half_opening.OpenFault.{OpenFault}
 use Rattle.rz_journal.specs.declared.half_opening.OpenFault.TheVariants as half
 use Rattle.rz_journal.specs.Stands.{disk_bytes, half_bytes, half_at, IsJournal}
 use Rattle.rz_journal.specs.HalfOpening.{Refuses}
-use Rattle.rz_journal.specs.declared.reading.Step.TheVariants.{Entry}
-use Rattle.rz_journal.specs.declared.rebuilding.Stage.{Stage}
-use Rattle.rz_journal.specs.declared.rebuilding.Stage.TheVariants.{Empty, Counters, Parts, Calls}
+use Rattle.rz_journal.specs.declared.reading.EntryFound.TheVariants.{Entry}
+use Rattle.rz_journal.specs.declared.rebuilding.ReopenProgress.{ReopenProgress}
+use Rattle.rz_journal.specs.declared.rebuilding.ReopenProgress.TheVariants.{Empty, Counters, Parts, Calls}
 use Rattle.rz_journal.specs.declared.rebuilding.JournalFault.{JournalFault}
 use Rattle.rz_journal.specs.declared.rebuilding.JournalFault.TheVariants.{NoMemory, WrongSize, DiskFault, Unformatted, BadHeader, Damaged}
 use Rattle.rz_journal.specs.Said.{call_said}
@@ -140,14 +140,14 @@ fault_of half.BadHeader = BadHeader
 -- ---- what is known while the entries are read
 
 -- how many parts stand so far
-abbrev pub IsAt : Stage → ℕ → Type 0
+abbrev pub IsAt : ReopenProgress → ℕ → Type 0
 IsAt Empty count = count ≡ 0
 IsAt Counters count = count ≡ 1
 IsAt Parts count = 2 ≤ count
 IsAt Calls count = ⊥
 
 -- The entries so far are parts alone.
-pub record ArePartsSoFar (volume : Volume) (entries : List Said) (stage : Stage) (s : Export) : Type 0 where
+pub record ArePartsSoFar (volume : Volume) (entries : List Said) (stage : ReopenProgress) (s : Export) : Type 0 where
   pub parts : List Part
   pub are : entries ≡ map entry.Built parts
   pub each : AllFollow volume [] parts
@@ -161,33 +161,33 @@ pub record AreCallsSoFar (volume : Volume) (entries : List Said) (s : Export) : 
   pub past : (parts : List Part) → entries ≢ map entry.Built parts
 
 -- what the entries so far are, and the export that they make
-abbrev pub IsStage : Volume → List Said → Stage → Export → Type 0
+abbrev pub IsStage : Volume → List Said → ReopenProgress → Export → Type 0
 IsStage volume entries Empty s = ArePartsSoFar volume entries Empty s
 IsStage volume entries Counters s = ArePartsSoFar volume entries Counters s
 IsStage volume entries Parts s = ArePartsSoFar volume entries Parts s
 IsStage volume entries Calls s = AreCallsSoFar volume entries s
 
 -- the stage behind a part more
-abbrev pub after_part : Stage → Stage
+abbrev pub after_part : ReopenProgress → ReopenProgress
 after_part Empty = Counters
 after_part Counters = Parts
 after_part Parts = Parts
 after_part Calls = Parts
 
 -- some entries are at this stage
-abbrev pub IsSomeStage : Stage → Export → Type 0
+abbrev pub IsSomeStage : ReopenProgress → Export → Type 0
 IsSomeStage stage s = (volume : Volume) × (before : List Said) × IsStage volume before stage s
 
 -- whether the parts so far end well
-abbrev pub TellsEnd : Stage → Export → Bool → Type 0
+abbrev pub TellsEnd : ReopenProgress → Export → Bool → Type 0
 TellsEnd stage s well = (volume : Volume) (before : List Said) → IsStage volume before stage s → IsTrue well ↔ EndWell volume before
 
 -- whether a part may stand behind the entries so far
-abbrev pub TellsPart : Stage → Export → Part → Bool → Type 0
+abbrev pub TellsPart : ReopenProgress → Export → Part → Bool → Type 0
 TellsPart stage s p goes = (volume : Volume) (before : List Said) → IsStage volume before stage s → IsTrue goes ↔ PartGoes volume before p
 
 -- an entry was added where it may stand behind the entries so far
-abbrev pub IsAdded : Said → Stage → Export → Bool → Stage → Export → Type 0
+abbrev pub IsAdded : Said → ReopenProgress → Export → Bool → ReopenProgress → Export → Type 0
 IsAdded e stage s true later u =
     (volume : Volume) (before : List Said) → IsStage volume before stage s → Goes volume before e × IsStage volume (before ++ e ∷ []) later u
 IsAdded e stage s false later u = (volume : Volume) (before : List Said) → IsStage volume before stage s → ¬ Goes volume before e

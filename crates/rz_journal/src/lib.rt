@@ -43,4 +43,4 @@ pub use journal::{Journal, JournalReply};
 pub use rebuilding::JournalFault;
 pub use said::entry_of;
 pub use shape::HALF_BYTES;
-pub use walking::{Place, place_at};
+pub use walking::{EntryPlace, place_at};

@@ -4,13 +4,13 @@ ghost use Rattle.std.specs.Prelude.{◌≡◌, ◌+◌, ◌%◌, ◌<◌, length
 ghost use Rattle.byteorder.specs.Endian.{little_number};
 ghost use Rattle.rz_journal.specs.Listed.{IsStep};
 
-use crate::{Place, place_at};
+use crate::{EntryPlace, place_at};
 use rz_journal_text::{Entry, EntryFault, read};
 use std::alloc::{AllocError, Global};
 
 /// What stands at an address of a half.
 #[derive(Drop)]
-pub enum Step {
+pub enum EntryFound {
     /// The entries before are all.
     End,
     /// An entry, and the address behind it.
@@ -20,19 +20,24 @@ pub enum Step {
 }
 
 /// What stands at an address of a half.
-pub fn next_entry(alloc: Global, half: &[u8], at: usize) -> Result<Step, AllocError>
+pub fn next_entry(alloc: Global, half: &[u8], at: usize) -> Result<EntryFound, AllocError>
     requires { at < length half.now }
     ensures { IfOk result (IsStep half.now at) }
 {
     match place_at(half, at) {
-        Place::End => Ok(Step::End),
-        Place::NoRoom => Ok(Step::Damaged),
-        Place::Entry { count } => entry_there(alloc, half, at, count),
+        EntryPlace::End => Ok(EntryFound::End),
+        EntryPlace::NoRoom => Ok(EntryFound::Damaged),
+        EntryPlace::Entry { count } => entry_there(alloc, half, at, count),
     }
 }
 
 // The entry behind an open gate and its length.
-fn entry_there(alloc: Global, half: &[u8], at: usize, count: usize) -> Result<Step, AllocError>
+fn entry_there(
+    alloc: Global,
+    half: &[u8],
+    at: usize,
+    count: usize,
+) -> Result<EntryFound, AllocError>
     requires gate { slice_index half.now at % 2 ≡ 1 }
     requires count { little_number 4 (drop (at + 1) half.now) ≡ count }
     requires room { at + (5 + count) < length half.now }
@@ -41,17 +46,17 @@ fn entry_there(alloc: Global, half: &[u8], at: usize, count: usize) -> Result<St
     let from = at + 5;
     let next = from + count;
     match read(alloc, &half[from..next]) {
-        Ok(entry) => Ok(Step::Entry { entry, next }),
+        Ok(entry) => Ok(EntryFound::Entry { entry, next }),
         Err(fault) => damaged(fault),
     }
 }
 
 // A damaged entry, unless memory is wanting.
-fn damaged(fault: EntryFault) -> Result<Step, AllocError>
-    ensures { IfOk result (λ step. (step ≡ Step.Damaged) × (fault ≡ EntryFault.BadEntry)) }
+fn damaged(fault: EntryFault) -> Result<EntryFound, AllocError>
+    ensures { IfOk result (λ step. (step ≡ EntryFound.Damaged) × (fault ≡ EntryFault.BadEntry)) }
 {
     match fault {
         EntryFault::NoMemory => Err(AllocError),
-        EntryFault::BadEntry => Ok(Step::Damaged),
+        EntryFault::BadEntry => Ok(EntryFound::Damaged),
     }
 }

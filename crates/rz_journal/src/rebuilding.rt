@@ -8,7 +8,7 @@ ghost use Rattle.rz_journal_text.specs.declared.entry.Entry.{Entry};
 ghost use Rattle.rz_journal.specs.Said.{entry_of, call_said, accepts};
 ghost use Rattle.rz_journal.specs.Opening.{IsSomeStage, TellsEnd, TellsPart, IsAdded, after_part, IsRebuilt, IsStopped};
 
-use crate::reading::{Step, next_entry};
+use crate::reading::{EntryFound, next_entry};
 use crate::said::{accepts, is_kept};
 use rz_config::Volume;
 use rz_events::{Call, Key, Reply, Text};
@@ -35,7 +35,7 @@ pub enum JournalFault {
 
 /// How far the entries went.
 #[derive(Clone, Copy, Drop)]
-pub enum Stage {
+pub enum ReopenProgress {
     Empty,
     /// The counters alone stand so far.
     Counters,
@@ -49,7 +49,7 @@ pub enum Stage {
 #[derive(Drop)]
 pub struct Rebuilt {
     pub export: Export,
-    pub stage: Stage,
+    pub stage: ReopenProgress,
 }
 
 impl Rebuilt {
@@ -58,7 +58,7 @@ impl Rebuilt {
     fn add_all(&mut self, alloc: Global, half: &[u8]) -> Result<usize, JournalFault>
         requires some { 1 ≤ length half.now }
         requires new { self.old.export ≡ new_export self.old.export.volume 0 }
-        requires empty { self.old.stage ≡ Stage.Empty }
+        requires empty { self.old.stage ≡ ReopenProgress.Empty }
         ensures rebuilt { IfOk result (λ used. IsRebuilt self.old.export.volume half.now used self.new.export) }
         ensures used { IfOk result (λ used. used < length half.now) }
         ensures stopped { IfErr result (IsStopped self.old.export.volume half.now) }
@@ -70,14 +70,14 @@ impl Rebuilt {
                 return Err(JournalFault::NoMemory);
             };
             match step {
-                Step::End => {
+                EntryFound::End => {
                     if !self.ends_well() {
                         return Err(JournalFault::Damaged { entry: count });
                     }
                     return Ok(at);
                 }
-                Step::Damaged => return Err(JournalFault::Damaged { entry: count }),
-                Step::Entry { entry, next } => {
+                EntryFound::Damaged => return Err(JournalFault::Damaged { entry: count }),
+                EntryFound::Entry { entry, next } => {
                     let Ok(goes) = self.add(alloc, entry) else {
                         return Err(JournalFault::NoMemory);
                     };
@@ -173,7 +173,7 @@ impl Rebuilt {
         if !accepted {
             return Ok(false);
         }
-        self.stage = Stage::Calls;
+        self.stage = ReopenProgress::Calls;
         Ok(true)
     }
 
@@ -182,10 +182,10 @@ impl Rebuilt {
         ensures { TellsPart self.now.stage self.now.export part.now result }
     {
         match self.stage {
-            Stage::Empty => is_counters(part),
-            Stage::Counters => part.is_root(),
-            Stage::Parts => self.export.allows(part),
-            Stage::Calls => false,
+            ReopenProgress::Empty => is_counters(part),
+            ReopenProgress::Counters => part.is_root(),
+            ReopenProgress::Parts => self.export.allows(part),
+            ReopenProgress::Calls => false,
         }
     }
 
@@ -194,10 +194,10 @@ impl Rebuilt {
         ensures { TellsEnd self.now.stage self.now.export result }
     {
         match self.stage {
-            Stage::Empty => true,
-            Stage::Counters => false,
-            Stage::Parts => self.export.is_named(),
-            Stage::Calls => true,
+            ReopenProgress::Empty => true,
+            ReopenProgress::Counters => false,
+            ReopenProgress::Parts => self.export.is_named(),
+            ReopenProgress::Calls => true,
         }
     }
 
@@ -222,7 +222,7 @@ pub fn rebuild(alloc: Global, volume: Volume, half: &[u8]) -> Result<(Export, us
     };
     let mut so_far = Rebuilt {
         export,
-        stage: Stage::Empty,
+        stage: ReopenProgress::Empty,
     };
     match so_far.add_all(alloc, half) {
         Ok(used) => Ok((so_far.export, used)),
@@ -250,12 +250,13 @@ fn ask(export: &mut Export, call: &Call) -> Result<bool, AllocError>
 }
 
 // The stage behind a part more.
-fn after_part(stage: Stage) -> Stage
+fn after_part(stage: ReopenProgress) -> ReopenProgress
     ensures { result ≡ after_part stage }
 {
     match stage {
-        Stage::Empty => Stage::Counters,
-        Stage::Counters | Stage::Parts | Stage::Calls => Stage::Parts,
+        ReopenProgress::Empty => ReopenProgress::Counters,
+        ReopenProgress::Counters | ReopenProgress::Parts | ReopenProgress::Calls =>
+            ReopenProgress::Parts,
     }
 }
 

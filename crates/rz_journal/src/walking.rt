@@ -7,7 +7,7 @@ use byteorder::{ByteOrder, LittleEndian};
 
 /// What stands at an address of a half.
 #[derive(Clone, Copy, Drop)]
-pub enum Place {
+pub enum EntryPlace {
     /// A shut gate: the entries before it are all.
     End,
     /// An open gate, and an entry of so many bytes five bytes behind it.
@@ -17,20 +17,20 @@ pub enum Place {
 }
 
 /// What stands at an address of a half.
-pub fn place_at(half: &[u8], at: usize) -> Place
+pub fn place_at(half: &[u8], at: usize) -> EntryPlace
     requires { at < length half.now }
     ensures { IsPlace half.now at result }
 {
     if half[at] % 2 == 0 {
-        return Place::End;
+        return EntryPlace::End;
     }
     let behind = half.len() - at;
     if behind <= 5 {
-        return Place::NoRoom;
+        return EntryPlace::NoRoom;
     }
     let count = LittleEndian::read_u32(&half[at + 1..]) as usize;
     if behind - 5 <= count {
-        return Place::NoRoom;
+        return EntryPlace::NoRoom;
     }
-    Place::Entry { count }
+    EntryPlace::Entry { count }
 }

@@ -10,11 +10,11 @@ use std::marker::Model;
 /// Memory is wanting; or a log does not take an event, or the journal of a stage did not keep a call. A play
 /// stops there, and its log has all that happened.
 #[derive(Clone, Copy, Debug, PartialEq, Eq, Drop)]
-pub struct NoMemory;
+pub struct Halted;
 
-impl From<AllocError> for NoMemory {
+impl From<AllocError> for Halted {
     fn from(_: AllocError) -> Self {
-        NoMemory
+        Halted
     }
 }
 
@@ -98,7 +98,7 @@ impl Log {
     }
 
     /// Adds an event. A write whose stamp does not rise is not added.
-    pub fn note(&mut self, event: Event) -> Result<(), NoMemory>
+    pub fn note(&mut self, event: Event) -> Result<(), Halted>
         requires room { 0 < self.old.room }
         ensures ok { OnOk result (self.new.events ≡ event ∷ self.old.events) }
         ensures err { OnErr result (self.new.events ≡ self.old.events) }
@@ -114,7 +114,7 @@ impl Log {
             Some(stamp) => {
                 if stamp <= self.last {
                     let_go(event);
-                    return Err(NoMemory);
+                    return Err(Halted);
                 }
                 let place = self.events.len();
                 self.events.push_reserved(event);
@@ -127,7 +127,7 @@ impl Log {
     }
 
     /// Adds two events, or none where one of them begins a write.
-    pub fn note_two(&mut self, first: Event, second: Event) -> Result<(), NoMemory>
+    pub fn note_two(&mut self, first: Event, second: Event) -> Result<(), Halted>
         requires room { 2 ≤ self.old.room }
         ensures ok { OnOk result (self.new.events ≡ second ∷ first ∷ self.old.events) }
         ensures err { OnErr result (self.new.events ≡ self.old.events) }
@@ -137,7 +137,7 @@ impl Log {
         if stamp_of(&first).is_some() || stamp_of(&second).is_some() {
             let_go(first);
             let_go(second);
-            return Err(NoMemory);
+            return Err(Halted);
         }
         self.events.push_reserved(first);
         self.events.push_reserved(second);

@@ -1,6 +1,6 @@
 -- Where files lie: on as many nodes as the layout has positions, all of one cluster and no two alike.
 use Rattle.std.proofs.Common.{◌≡◌, ◌≢◌, ◌⊎◌, inl, inr, ◌<◌, ◌≤◌, ◌+◌, ◌==◌, ℕ, zero, suc, Bool, true, false, cond, List, [], ◌∷◌, ◌++◌, length, map, take, drop, refl, sym, ◌∙◌, ap, subst, arith, Option, Some, None}
-use Rattle.std.specs.Prelude.{slice_get, All, nat_eq}
+use Rattle.std.specs.Prelude.{slice_get, nat_eq}
 use Rattle.std.specs.Option.{option_map_or}
 use Rattle.std.specs.List.{AllByRecursion, IsDistinct}
 use Rattle.std.proofs.lemmas.Bool.{eq-eqb}
@@ -17,11 +17,12 @@ use Rattle.rz_events.specs.declared.tree.TreeFault.TheVariants as fault
 use Rattle.rz_events.specs.declared.events.Event.{Event}
 use Rattle.rz_events.specs.declared.events.Event.TheVariants as e
 use Rattle.rz_node_model.specs.Versions.{Stands}
-use Rattle.rz_export_model.specs.Place.{Room, Rooms, rooms_of, clusters_of, is_better, best_of, is_before, at_its_place, in_order, placed_in, placed_among, place}
+use Rattle.rz_export_model.specs.Place.{Room, Rooms, clusters_of, best_of, is_before, at_its_place, in_order, placed_in, placed_among, place}
 use Rattle.rz_export_model.specs.Tree.{Tree, Found, found_at}
 use Rattle.rz_export_model.specs.Refusals.{path_in, refusal}
 use Rattle.rz_export_model.specs.TreeCalls.{answer_to, reply_to}
 use Rattle.rz_export_model.specs.Export.{Export, new_places, free_of}
+use Rattle.rz_export_model.proofs.Rooms.{sids, all-insert, all-order, all-take, long-order, long-take, rooms-sids, rooms-long, long-both, long-drop, best-of, clusters-long, map-long, all-there}
 use Rattle.rz_core.specs.History.{facts, places_of, placed_by, first_some}
 use Rattle.rz_core.specs.ExportWord.{export_of}
 use Rattle.rz_core.specs.NodeRows.{IsNodeOf}
@@ -64,26 +65,6 @@ are-distinct (n ∷ ns) all = (differ n ns all.0, are-distinct ns all.1)
 
 -- The rooms of a cluster, in order.
 
-abbrev sids : List Room → List ℕ
-sids rooms = map (λ n. n.sid) rooms
-
-all-insert : (P : ℕ → Type 0) (n : Room) (ms : List Room) → P n.sid → AllByRecursion P (sids ms) → AllByRecursion P (sids (at_its_place n ms))
-all-insert P n [] own all = (own, tt)
-all-insert P n (m ∷ ms) own all = go (is_before n m) (all-insert P n ms own all.1)
-  where
-    go : (b : Bool) → AllByRecursion P (sids (at_its_place n ms)) → AllByRecursion P (sids (cond b (n ∷ m ∷ ms) (m ∷ at_its_place n ms)))
-    go true rest = (own, all)
-    go false rest = (all.0, rest)
-
-all-order : (P : ℕ → Type 0) (ns : List Room) → AllByRecursion P (sids ns) → AllByRecursion P (sids (in_order ns))
-all-order P [] all = tt
-all-order P (n ∷ ns) all = all-insert P n (in_order ns) all.0 (all-order P ns all.1)
-
-all-take : (P : ℕ → Type 0) (k : ℕ) (ns : List Room) → AllByRecursion P (sids ns) → AllByRecursion P (sids (take k ns))
-all-take P zero ns all = tt
-all-take P (suc k) [] all = tt
-all-take P (suc k) (n ∷ ns) all = (all.0, all-take P k ns all.1)
-
 distinct-insert : (n : Room) (ms : List Room) → AllByRecursion (λ m. m ≢ n.sid) (sids ms) → AreDistinct (sids ms) → AreDistinct (sids (at_its_place n ms))
 distinct-insert n [] fresh distinct = (tt, tt)
 distinct-insert n (m ∷ ms) fresh distinct = go (is_before n m) (distinct-insert n ms fresh.1 distinct.1)
@@ -101,23 +82,6 @@ distinct-take zero ns all = tt
 distinct-take (suc k) [] all = tt
 distinct-take (suc k) (n ∷ ns) all = (all-take (λ z. z ≢ n.sid) k ns all.0, distinct-take k ns all.1)
 
-long-insert : (n : Room) (ms : List Room) → length (at_its_place n ms) ≡ length ms + 1
-long-insert n [] = omega arith
-long-insert n (m ∷ ms) = go (is_before n m) (long-insert n ms)
-  where
-    go : (b : Bool) → length (at_its_place n ms) ≡ length ms + 1 → length (cond b (n ∷ m ∷ ms) (m ∷ at_its_place n ms)) ≡ length (m ∷ ms) + 1
-    go true rest = omega arith
-    go false rest = omega (arith, rest)
-
-long-order : (ns : List Room) → length (in_order ns) ≡ length ns
-long-order [] = refl
-long-order (n ∷ ns) = let i = long-insert n (in_order ns) in let r = long-order ns in omega (arith, i, r)
-
-long-take : (k : ℕ) (ns : List Room) → k ≤ length ns → length (sids (take k ns)) ≡ k
-long-take zero ns few = refl
-long-take (suc k) [] few = absurd (omega (arith, few))
-long-take (suc k) (n ∷ ns) few = let r = long-take k ns (omega (arith, few)) in omega (arith, r)
-
 -- The rooms are those of a cluster of the volume.
 
 -- a cluster has enough nodes, and no two of one number
@@ -133,25 +97,6 @@ record AreOf (v : Volume) (r : Rooms) : Type 0 where
   nodes : sids r.nodes ≡ sids_of cluster
   many : length r.nodes ≡ length cluster.nodes
 
-rooms-sids : (ns : List NodeSpec) (free : List ℕ) → length ns ≤ length free → sids (rooms_of ns free) ≡ map (λ n. n.sid) ns
-rooms-sids [] free few = refl
-rooms-sids (n ∷ ns) [] few = absurd (omega (arith, few))
-rooms-sids (n ∷ ns) (f ∷ free) few = ap (λ (l : List ℕ). n.sid ∷ l) (rooms-sids ns free (omega (arith, few)))
-
-rooms-long : (ns : List NodeSpec) (free : List ℕ) → length ns ≤ length free → length (rooms_of ns free) ≡ length ns
-rooms-long [] free few = refl
-rooms-long (n ∷ ns) [] few = absurd (omega (arith, few))
-rooms-long (n ∷ ns) (f ∷ free) few = let r = rooms-long ns free (omega (arith, few)) in omega (arith, r)
-
-long-both : (ns ms : List NodeSpec) → length (ns ++ ms) ≡ length ns + length ms
-long-both [] ms = omega arith
-long-both (n ∷ ns) ms = let r = long-both ns ms in omega (arith, r)
-
-long-drop : (k : ℕ) (free : List ℕ) → k ≤ length free → length (drop k free) + k ≡ length free
-long-drop zero free few = omega arith
-long-drop (suc k) [] few = absurd (omega (arith, few))
-long-drop (suc k) (f ∷ free) few = let r = long-drop k free (omega (arith, few)) in omega (arith, r)
-
 rooms-of : (v : Volume) (cs : List Cluster) (free : List ℕ) → length free ≡ length (nodes_of cs) → AllByRecursion (IsWide (safe_of v.layout)) cs
     → ((c : Cluster) → HasCluster cs c → HasCluster v.clusters c) → AllByRecursion (AreOf v) (clusters_of cs free)
 rooms-of v [] free many all in_volume = tt
@@ -162,14 +107,6 @@ rooms-of v (c ∷ cs) free many all in_volume =
       record { cluster = c; there = in_volume c (inl refl); wide = all.0; nodes = rooms-sids c.nodes free few; many = rooms-long c.nodes free few },
       rooms-of v cs (drop (length c.nodes) free) (omega (arith, many, both, rest)) all.1 (λ d has. in_volume d (inr has)),
     )
-
-best-of : (P : Rooms → Type 0) (best : Rooms) (cs : List Rooms) → P best → AllByRecursion P cs → P (best_of best cs)
-best-of P best [] is all = is
-best-of P best (c ∷ cs) is all = best-of P (cond (is_better c best) c best) cs (go (is_better c best)) all.1
-  where
-    go : (b : Bool) → P (cond b c best)
-    go true = all.0
-    go false = is
 
 -- The places.
 
@@ -215,14 +152,6 @@ laid-among : (v : Volume) (rs : List Rooms) → 0 < length rs → AllByRecursion
 laid-among v [] some all = absurd (omega (arith, some))
 laid-among v (r ∷ rs) some all = laid-in v (best_of r rs) (best-of (AreOf v) r rs all.0 all.1)
 
-clusters-long : (cs : List Cluster) (free : List ℕ) → length (clusters_of cs free) ≡ length cs
-clusters-long [] free = refl
-clusters-long (c ∷ cs) free = let r = clusters-long cs (drop (length c.nodes) free) in omega (arith, r)
-
-map-long : (g : NodeSpec → ℕ) (ns : List NodeSpec) → length (map g ns) ≡ length ns
-map-long g [] = refl
-map-long g (n ∷ ns) = let r = map-long g ns in omega (arith, r)
-
 -- Volumes.
 
 front : (P : ℕ → Type 0) (ns ms : List NodeSpec) → AllByRecursion P (map (λ (s : NodeSpec). s.sid) (ns ++ ms)) → AllByRecursion P (map (λ (s : NodeSpec). s.sid) ns)
@@ -236,10 +165,6 @@ distinct-left (n ∷ ns) ms all = (front (λ m. m ≢ n.sid) ns ms all.0, distin
 distinct-right : (ns ms : List NodeSpec) → AreDistinct (map (λ (s : NodeSpec). s.sid) (ns ++ ms)) → AreDistinct (map (λ (s : NodeSpec). s.sid) ms)
 distinct-right [] ms all = all
 distinct-right (n ∷ ns) ms all = distinct-right ns ms all.1
-
-all-there : {X : Type 0} (P : X → Type 0) (xs : List X) → All P xs → AllByRecursion P xs
-all-there P [] all = tt
-all-there P (x ∷ xs) all = (all 0 x (omega arith), all-there P xs (λ k d few. all (suc k) d (omega (arith, few))))
 
 wide-all : (safe : ℕ) (cs : List Cluster) → AllByRecursion (IsCluster safe) cs → AreDistinct (map (λ (s : NodeSpec). s.sid) (nodes_of cs)) → AllByRecursion (IsWide safe) cs
 wide-all safe [] all distinct = tt

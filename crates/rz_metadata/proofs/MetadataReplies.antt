@@ -13,7 +13,7 @@ use Rattle.rz_journal.specs.Kept.{IsAfter, AllStandFor}
 use Rattle.rz_journal.specs.Said.{entry_of}
 use Rattle.rz_journal.specs.Seen.{JournalView, calls_after}
 use Rattle.rz_journal.proofs.Refused.{volume_same}
-use Rattle.rz_metadata.specs.declared.journaled.Refusal.{Refusal}
+use Rattle.rz_metadata.specs.declared.journaled.JournalRefusal.{JournalRefusal}
 use Rattle.rz_metadata.specs.Stands.{IsKept, IsLeft, IsLeftBy, wants_memory}
 
 -- a journal that was formatted kept no calls
@@ -49,12 +49,12 @@ none-added c calls = go (is_some (entry_of c))
     go true = refl
     go false = refl
 
-pub left-wanting : {D : Type 0} (tells : Bool) (meter : D → Meter) (image : D → List ℕ → Type 0) (first : ℕ) (old new : JournalView D) (c : Call) (calls : List Call) (refusal : Option Refusal) (r : Reply) → r ≡ NoMemory
+pub left-wanting : {D : Type 0} (tells : Bool) (meter : D → Meter) (image : D → List ℕ → Type 0) (first : ℕ) (old new : JournalView D) (c : Call) (calls : List Call) (refusal : Option JournalRefusal) (r : Reply) → r ≡ NoMemory
     → (IsAfter old.export calls → IsAfter new.export (calls_after r c calls)) → (IsTrue tells → (later : List Call) → IsAfter new.export later → AllStandFor (image new.disk) new.export later)
     → IsKept tells meter image first (record { journal = old; refusal = refusal }) calls → IsLeft tells meter image first (record { journal = new; refusal = refusal }) calls c
 left-wanting tells meter image first old new c calls refusal r wants more stands kept =
     let after : IsAfter new.export calls = subst (IsAfter new.export) (ap (λ (x : Reply). calls_after x c calls) wants ∙ none-added c calls) (more kept.after) in
-    subst (λ (o : Option Refusal). IsLeftBy o tells (image new.disk) first (faults (meter new.disk)) new.export calls c) (sym kept.unrefused) (λ told. stands told calls after)
+    subst (λ (o : Option JournalRefusal). IsLeftBy o tells (image new.disk) first (faults (meter new.disk)) new.export calls c) (sym kept.unrefused) (λ told. stands told calls after)
 
 -- no call changes the volume
 pub volume-kept : {E : Type 0} (old new : Export) (c : Call) (result : Result Reply E) → OnOk result (new ≡ export_after old c) → OnErr result (new ≡ old) → new.volume ≡ old.volume

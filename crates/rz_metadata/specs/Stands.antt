@@ -10,8 +10,8 @@ use Rattle.rz_journal.specs.Kept.{IsAfter, AllStandFor, AllStandForEither}
 use Rattle.rz_journal.specs.Room.{row_length, needed}
 use Rattle.rz_journal.specs.Said.{entry_of}
 use Rattle.rz_metadata.specs.declared.journaled.Journaled.{Journaled as Behind}
-use Rattle.rz_metadata.specs.declared.journaled.Refusal.{Refusal}
-use Rattle.rz_metadata.specs.declared.journaled.Refusal.TheVariants.{Full, Failed}
+use Rattle.rz_metadata.specs.declared.journaled.JournalRefusal.{JournalRefusal}
+use Rattle.rz_metadata.specs.declared.journaled.JournalRefusal.TheVariants.{Full, Failed}
 use Rattle.rz_metadata.specs.declared.metadata.Metadata.{Metadata}
 use Rattle.rz_metadata.specs.declared.metadata.Metadata.TheVariants.{InMemory, Journaled}
 
@@ -28,7 +28,7 @@ disk_of (Journaled j) = Some j.journal.disk
 abbrev pub is_journaled : {D : Type 0} → Metadata D → Bool
 is_journaled m = is_some (disk_of m)
 
-abbrev pub refusal_of : {D : Type 0} → Metadata D → Option Refusal
+abbrev pub refusal_of : {D : Type 0} → Metadata D → Option JournalRefusal
 refusal_of (InMemory s) = None
 refusal_of (Journaled j) = j.refusal
 
@@ -49,7 +49,7 @@ OverfillsHalf s c = (e : Entry) × (entry_of c ≡ Some e) × (8_388_576 < neede
 -- then its count of faults rose. Where it was full, it has the export
 -- from before, and no half has room for that call.
 
-abbrev pub IsLeftBy : Option Refusal → Bool → (List ℕ → Type 0) → (first now : ℕ) → Export → List Call → Call → Type 0
+abbrev pub IsLeftBy : Option JournalRefusal → Bool → (List ℕ → Type 0) → (first now : ℕ) → Export → List Call → Call → Type 0
 IsLeftBy None tells image first now s calls c = IsTrue tells → AllStandFor image s calls
 IsLeftBy (Some Full) tells image first now s calls c = IsAfter s calls × OverfillsHalf s c × (IsTrue tells → AllStandFor image s calls)
 IsLeftBy (Some Failed) tells image first now s calls c = Rises first now × (IsTrue tells → AllStandForEither image s calls c)

@@ -14,7 +14,7 @@ use std::alloc::{AllocError, Global};
 
 /// Why a journal did not keep a call.
 #[derive(Clone, Copy, Debug, PartialEq, Eq, Drop)]
-pub enum Refusal {
+pub enum JournalRefusal {
     /// There was no room for the call.
     Full,
     /// A device call failed.
@@ -25,7 +25,7 @@ pub enum Refusal {
 #[derive(Drop)]
 pub struct Journaled<D: Disk> {
     pub(crate) journal: Journal<D>,
-    pub(crate) refusal: Option<Refusal>,
+    pub(crate) refusal: Option<JournalRefusal>,
 }
 
 impl<D: Disk> Journaled<D> {
@@ -65,11 +65,11 @@ impl<D: Disk> Journaled<D> {
                 Ok(reply)
             }
             JournalReply::Full { .. } => {
-                self.refusal = Some(Refusal::Full);
+                self.refusal = Some(JournalRefusal::Full);
                 Err(NoReply)
             }
             JournalReply::DiskFault | JournalReply::Closed => {
-                self.refusal = Some(Refusal::Failed);
+                self.refusal = Some(JournalRefusal::Failed);
                 Err(NoReply)
             }
         }

@@ -19,7 +19,7 @@ mod memory;
 mod metadata;
 mod reopening;
 
-pub use journaled::{Journaled, Refusal};
+pub use journaled::{JournalRefusal, Journaled};
 pub use memory::NoReply;
 pub use metadata::Metadata;
 pub use reopening::fault_number;

@@ -14,7 +14,7 @@ ghost use Rattle.rz_metadata.specs.Enrolled.{loss_of};
 ghost use Rattle.rz_metadata.specs.Reopened.{AllTextsOf, IsAsItCame, MakesExport};
 ghost use Rattle.rz_metadata.specs.Stands.{export_in, disk_of, refusal_of, is_journaled, Stands, StandsAtEnd};
 
-use crate::journaled::{Journaled, Refusal};
+use crate::journaled::{JournalRefusal, Journaled};
 use crate::losses::losses_of;
 use crate::memory::{NoReply, reply_to};
 use rz_cells::FormatFault;
@@ -129,7 +129,7 @@ impl<D: Disk> Metadata<D> {
     }
 
     /// Why the journal did not keep a call, if there is a journal and it did not.
-    pub fn refusal(&self) -> Option<Refusal>
+    pub fn refusal(&self) -> Option<JournalRefusal>
         ensures { result ≡ refusal_of self.now }
     {
         match self {

@@ -4,10 +4,11 @@ use Rattle.std.specs.declared.cmp.Ordering.TheVariants.{Less, Equal, Greater}
 use Rattle.std.specs.Ordering.{is_eq, is_gt, is_lt, eq_by_cmp}
 use Rattle.std.specs.Cmp.{tied_itself}
 use Rattle.std.specs.FinMap.Entries.{find, is_sorted, below_all, where_key}
+use Rattle.rz_export_model.proofs.Tests.{left, right, both, is_less}
 use Rattle.rz_export_model.specs.Paths.{Path, path_cmp, names_total, paths_total, exact_paths, begins_with}
 use Rattle.rz_names.specs.Entries.{run}
 use Rattle.rz_names.specs.Names.{is_within}
-use Rattle.rz_names.proofs.Sorted.{left, right, both, is_less, flipped, unflipped}
+use Rattle.rz_names.proofs.Sorted.{flipped, unflipped}
 use Rattle.rz_names.proofs.PathOrder.{begins-not_gt, between}
 use Rattle.rz_names.proofs.Names.{Entries}
 

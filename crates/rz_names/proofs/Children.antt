@@ -8,11 +8,12 @@ use Rattle.std.specs.FinMap as maps
 use Rattle.std.specs.FinMap.{entries-from_sorted}
 use Rattle.std.specs.Cmp.{tied_itself, tied_back}
 use Rattle.std.specs.FinMap.Entries.{find, is_sorted, below_all}
+use Rattle.rz_export_model.proofs.Tests.{left, right, is_less, eq_true}
 use Rattle.rz_export_model.specs.Paths.{Name, Path, name_cmp, path_cmp, same_name, names_total, paths_total, exact_paths, begins_with, right_under, is_root}
 use Rattle.rz_names.specs.Entries.{run}
 use Rattle.rz_names.specs.Names.{with_root, IsNameMap, is_after, is_up_to, by_order, next_name, entry_after}
-use Rattle.rz_names.proofs.Sorted.{so, left, right, unfound, is_less}
-use Rattle.rz_names.proofs.PathOrder.{eq_true, begins-front, between}
+use Rattle.rz_names.proofs.Sorted.{so, unfound}
+use Rattle.rz_names.proofs.PathOrder.{begins-front, between}
 use Rattle.rz_names.proofs.Places.{drop-past, drop-here}
 use Rattle.rz_names.proofs.Names.{Entries, sorted-kept, take-front, right_under-append, find-kept}
 

@@ -4,9 +4,10 @@ use Rattle.std.specs.declared.cmp.Ordering.TheVariants.{Less, Equal, Greater}
 use Rattle.std.specs.List.{list_all}
 use Rattle.std.specs.Ordering.{is_eq, is_gt, is_lt, eq_by_cmp}
 use Rattle.std.specs.FinMap.Entries.{find, is_sorted, below_all}
+use Rattle.rz_export_model.proofs.Tests.{left, right, both, eq_true}
 use Rattle.rz_export_model.specs.Paths.{Path, path_cmp, paths_total, exact_paths, begins_with, moved_path}
-use Rattle.rz_names.proofs.Sorted.{left, right, both, unflipped}
-use Rattle.rz_names.proofs.PathOrder.{eq_true, and_parts, begins-front, begins-append, append-cmp, past, front-less}
+use Rattle.rz_names.proofs.Sorted.{unflipped}
+use Rattle.rz_names.proofs.PathOrder.{and_parts, begins-front, begins-append, append-cmp, past, front-less}
 use Rattle.rz_names.proofs.Names.{Entries, place, append-[]}
 use Rattle.rz_names.proofs.Blocks.{below-trans}
 

@@ -9,12 +9,12 @@ use Rattle.std.specs.Cmp.{tied_itself, eq_by_cmp_equiv}
 use Rattle.std.specs.FinMap as maps
 use Rattle.std.specs.FinMap.{same_map, same_entries_map, get-from_sorted, entries-from_sorted, entries-insert, get-insert, get-remove, get-empty}
 use Rattle.std.specs.FinMap.Entries.{find, put, is_sorted, where_key, is_sorted-put, find-put, find-where_key, is_sorted-where_key}
+use Rattle.rz_export_model.proofs.Tests.{right, eq_true}
 use Rattle.rz_export_model.specs.Paths.{Name, Path, path_cmp, names_total, paths_total, exact_paths, above, is_root, right_under}
 use Rattle.rz_export_model.specs.Tree.{names_under}
 use Rattle.rz_names.specs.Entries.{run}
 use Rattle.rz_names.specs.Names.{with_root, IsClosed, IsNameMap, root_alone, below_root}
-use Rattle.rz_names.proofs.Sorted.{so, unso, right, insert-run, remove-run}
-use Rattle.rz_names.proofs.PathOrder.{eq_true}
+use Rattle.rz_names.proofs.Sorted.{so, unso, insert-run, remove-run}
 
 abbrev pub Entries : Type 0
 Entries = List (Path × ℕ)

@@ -6,9 +6,10 @@ use Rattle.std.specs.Cmp.{tied_itself, alike_right}
 use Rattle.rz_export_model.specs.Paths.{Name, Path, name_cmp, path_cmp, same_name, names_total, paths_total, exact_names, begins_with}
 use Rattle.rz_names.specs.Names.{is_after, is_up_to, is_within, by_order}
 use Rattle.std.specs.Option.{option_copied}
+use Rattle.rz_export_model.proofs.Tests.{eq_true}
 use Rattle.rz_names.specs.Cuts.{passes}
-use Rattle.rz_names.specs.declared.cuts.Cut.{Cut}
-use Rattle.rz_names.specs.declared.cuts.Cut.TheVariants.{Before, Reached, Within, UpTo}
+use Rattle.rz_names.specs.declared.cuts.PathCut.{PathCut}
+use Rattle.rz_names.specs.declared.cuts.PathCut.TheVariants.{Before, Reached, Within, UpTo}
 use Rattle.rz_names.proofs.Sorted.{Falls, flipped, unflipped, before-falls}
 
 pub then_less : (r s : Ordering) → ordering_then r s ≡ Less → (r ≡ Less) ⊎ ((r ≡ Equal) × (s ≡ Less))
@@ -19,11 +20,6 @@ then_less Greater s h = cc
 pub and_parts : (a b : Bool) → (a && b) ≡ true → (a ≡ true) × (b ≡ true)
 and_parts true b h = (refl, h)
 and_parts false b h = cc
-
-pub eq_true : (r : Ordering) → is_eq r ≡ true → r ≡ Equal
-eq_true Less h = cc
-eq_true Equal h = refl
-eq_true Greater h = cc
 
 -- a path that begins with another is that one and more
 pub begins-front : (f q : Path) → begins_with f q ≡ true → q ≡ f ++ drop (length f) q
@@ -170,7 +166,7 @@ pub not_less-falls : (path : Path) → Falls path_cmp (λ k. not (is_lt (path_cm
 not_less-falls path a b ab h = at_most path a b ab (not_less _ h)
 
 -- what stands before a cut falls along paths in order
-pub passes-falls : (cut : Cut) → Falls path_cmp (passes cut)
+pub passes-falls : (cut : PathCut) → Falls path_cmp (passes cut)
 passes-falls (Before names) = before-falls paths_total names.now
 passes-falls (Reached names after) = up_to-falls names.now (option_copied after)
 passes-falls (Within names) = within-falls names.now

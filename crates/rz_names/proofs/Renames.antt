@@ -8,10 +8,11 @@ use Rattle.std.proofs.lemmas.Bool.{cases_lt}
 use Rattle.std.specs.FinMap as maps
 use Rattle.std.specs.FinMap.{same_map, get-from_sorted, get-from_entries, entries-from_sorted, get-remove}
 use Rattle.std.specs.FinMap.Entries.{find, is_sorted, below_all, where_key, find-where_key, is_sorted-where_key}
+use Rattle.rz_export_model.proofs.Tests.{left, right, both}
 use Rattle.rz_export_model.specs.Paths.{Path, path_cmp, paths_total, exact_paths, begins_with, is_root, above, right_under, same_name}
 use Rattle.rz_export_model.specs.Tree.{names_under, moved}
 use Rattle.rz_names.specs.Names.{with_root, IsNameMap}
-use Rattle.rz_names.proofs.Sorted.{so, unso, left, right, both}
+use Rattle.rz_names.proofs.Sorted.{so, unso}
 use Rattle.rz_names.proofs.PathOrder.{and_parts, begins-front, begins-append}
 use Rattle.rz_names.proofs.Names.{Entries, place, get-kept, find-kept, sorted-kept, others, find-others, none_below, take-above, append-[]}
 use Rattle.rz_names.proofs.Moves.{moves, all_begin, none_begin, spliced, moved_each, unlike, unlike-back, moves-begin, sorted-moves, find-moves, below-append, below-take, below-drop, before-block, sorted-spliced, find-cut_in, find-cut_out, find-each_in, find-each_from, find-each_out}

@@ -6,6 +6,7 @@ use Rattle.std.specs.Ordering.{is_eq, is_gt, is_lt, eq_by_cmp, ordering_reverse}
 use Rattle.std.specs.Cmp.{IsTotalOrder}
 use Rattle.rz_names.specs.Entries.{run, value_at}
 use Rattle.std.specs.FinMap.Entries.{find, put, is_sorted, below_all, where_key, by_order}
+use Rattle.rz_export_model.proofs.Tests.{left, right, both, is_less}
 
 -- where the test holds of a key, it holds of each lesser one
 abbrev pub Falls : {K : Type 0} → (K → K → Ordering) → (K → Bool) → Type 0
@@ -17,23 +18,6 @@ so b h = subst T (sym h) tt
 pub unso : (b : Bool) → T b → b ≡ true
 unso true h = refl
 unso false h = absurd h
-
-pub left : (a b : Bool) → T (a && b) → T a
-left true b h = tt
-left false b h = absurd h
-
-pub right : (a b : Bool) → T (a && b) → T b
-right true b h = h
-right false b h = absurd h
-
-pub both : (a b : Bool) → T a → T b → T (a && b)
-both true b p q = q
-both false b p q = absurd p
-
-pub is_less : (r : Ordering) → T (is_lt r) → r ≡ Less
-is_less Less h = refl
-is_less Equal h = absurd h
-is_less Greater h = absurd h
 
 tied : (r : Ordering) → T (is_eq r) → r ≡ Equal
 tied Less h = absurd h

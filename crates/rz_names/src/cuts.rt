@@ -11,7 +11,7 @@ use std::cmp::Ordering;
 
 /// A place among paths in order, told by those that stand before it.
 #[derive(Clone, Copy)]
-pub enum Cut<'a> {
+pub enum PathCut<'a> {
     /// Behind those that stand before a path.
     Before(&'a [Text]),
     /// Behind those that are at most a path, or below it by a name that is not after the given one.
@@ -22,16 +22,16 @@ pub enum Cut<'a> {
     UpTo(&'a [Text]),
 }
 
-impl Cut<'_> {
+impl PathCut<'_> {
     /// Whether a path stands before the place.
     pub fn is_passed(&self, path: &[Text]) -> bool
         ensures { result ≡ passes self.now path.now }
     {
         match self {
-            Cut::Before(names) => compare(names, path).is_gt(),
-            Cut::Reached(names, after) => reaches(names, *after, path),
-            Cut::Within(names) => !compare(names, path).is_lt() || starts_with(names, path),
-            Cut::UpTo(names) => !compare(names, path).is_lt(),
+            PathCut::Before(names) => compare(names, path).is_gt(),
+            PathCut::Reached(names, after) => reaches(names, *after, path),
+            PathCut::Within(names) => !compare(names, path).is_lt() || starts_with(names, path),
+            PathCut::UpTo(names) => !compare(names, path).is_lt(),
         }
     }
 }

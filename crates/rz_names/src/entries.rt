@@ -11,7 +11,7 @@ ghost use Rattle.rz_names.specs.Entries.{run};
 ghost use Rattle.rz_names.specs.Names.{is_up_to, is_within};
 
 use crate::Path;
-use crate::cuts::Cut;
+use crate::cuts::PathCut;
 use crate::order::compare;
 use rz_events::Text;
 use rz_sequence::{Fork, Mark, Sequence};
@@ -79,7 +79,7 @@ pub fn place_of(entries: &Sequence<Entry>, names: &[Text]) -> usize
     ensures place { result ≡ run (λ k. is_gt (path_cmp names.now k)) entries.now }
     ensures within { result ≤ length entries.now }
 {
-    place(entries, &Cut::Before(names))
+    place(entries, &PathCut::Before(names))
 }
 
 /// How many entries are at most a path, or below it by a name that is not after the given one.
@@ -87,7 +87,7 @@ pub fn place_after(entries: &Sequence<Entry>, names: &[Text], after: Option<&Tex
     requires { IsTrue (is_sorted path_cmp entries.now) }
     ensures { result ≡ run (is_up_to names.now (option_copied after.entry)) entries.now }
 {
-    place(entries, &Cut::Reached(names, after))
+    place(entries, &PathCut::Reached(names, after))
 }
 
 /// How many entries are at most a path, or begin with it.
@@ -96,7 +96,7 @@ pub fn place_past(entries: &Sequence<Entry>, names: &[Text]) -> usize
     ensures place { result ≡ run (is_within names.now) entries.now }
     ensures fits { length entries.now < 2 ^ 64 }
 {
-    place(entries, &Cut::Within(names))
+    place(entries, &PathCut::Within(names))
 }
 
 /// How many entries are not after a path.
@@ -104,7 +104,7 @@ pub fn place_above(entries: &Sequence<Entry>, names: &[Text]) -> usize
     requires { IsTrue (is_sorted path_cmp entries.now) }
     ensures { result ≡ run (λ k. not (is_lt (path_cmp names.now k))) entries.now }
 {
-    place(entries, &Cut::UpTo(names))
+    place(entries, &PathCut::UpTo(names))
 }
 
 /// The number at a path.
@@ -192,7 +192,7 @@ fn push(alloc: Global, entries: &mut Sequence<Entry>, entry: Entry) -> Result<()
 }
 
 // How many entries have paths before a cut.
-fn place(entries: &Sequence<Entry>, cut: &Cut<'_>) -> usize
+fn place(entries: &Sequence<Entry>, cut: &PathCut<'_>) -> usize
     requires { IsTrue (is_sorted path_cmp entries.now) }
     ensures place { result ≡ run (passes cut.now) entries.now }
     ensures fits { length entries.now < 2 ^ 64 }

@@ -9,7 +9,7 @@ use Rattle.mj_angles.specs.declared.layout.Layout.{Layout}
 use Rattle.rz_disk.specs.Meter.{Meter}
 use Rattle.rz_disk.specs.UnderFuse.{UnderFuse}
 use Rattle.rz_events.specs.declared.files.NodeSpec.{NodeSpec}
-use Rattle.rz_nodes.specs.declared.formatting.Station.{Station}
+use Rattle.rz_nodes.specs.declared.formatting.Server.{Server}
 use Rattle.rz_nodes.specs.Formatted.{geometry_of, IsFormatted, IsBack, AreBack}
 use Rattle.rz_nodes.proofs.Rowwise.{get-behind, zip-length, zip-map, zip-mid, zip-same}
 
@@ -48,33 +48,33 @@ module _ {N D : Type 0} where
 
   module _ {S : Type 0} (New : N × D → S → Type 0) (Back : N × D → D → Type 0) (disk_of : S → D) (back-new : (p : N × D) (s : S) → New p s → Back p (disk_of s)) (back-same : (n : N) (d : D) → Back (n, d) d) where
     -- the disks that are back where one was not formatted
-    pub all-back : (nodes : List N) (i : ℕ) (n : N) (stations : List S) (new home back : List D) (disk failed : D) (pairs done : List (N × D))
-        → pairs ≡ done ++ (n, disk) ∷ zip (drop (i + 1) nodes) (reverse new) → home ≡ new ++ failed ∷ [] → back ≡ map disk_of stations ++ reverse home → length new ≡ length nodes - (i + 1)
-        → AllZip New done stations → Back (n, disk) failed → AllZip Back pairs back
-    all-back nodes i n stations new home back disk failed pairs done is pushed_is back_is long all holds =
-        let shape : back ≡ map disk_of stations ++ failed ∷ reverse new = back_is ∙ ap (λ (ys : List D). map disk_of stations ++ ys) (ap reverse pushed_is ∙ turned new failed) in
+    pub all-back : (nodes : List N) (i : ℕ) (n : N) (servers : List S) (new home back : List D) (disk failed : D) (pairs done : List (N × D))
+        → pairs ≡ done ++ (n, disk) ∷ zip (drop (i + 1) nodes) (reverse new) → home ≡ new ++ failed ∷ [] → back ≡ map disk_of servers ++ reverse home → length new ≡ length nodes - (i + 1)
+        → AllZip New done servers → Back (n, disk) failed → AllZip Back pairs back
+    all-back nodes i n servers new home back disk failed pairs done is pushed_is back_is long all holds =
+        let shape : back ≡ map disk_of servers ++ failed ∷ reverse new = back_is ∙ ap (λ (ys : List D). map disk_of servers ++ ys) (ap reverse pushed_is ∙ turned new failed) in
         let lengths : length (reverse new) ≡ length (drop (i + 1) nodes) = length-reverse new ∙ long ∙ sym (length-drop (i + 1) nodes) in
         subst (λ (ps : List (N × D)). AllZip Back ps back) (sym is)
         (subst (AllZip Back (done ++ (n, disk) ∷ zip (drop (i + 1) nodes) (reverse new))) (sym shape)
-        (zip-mid Back done (map disk_of stations) (n, disk) failed (zip (drop (i + 1) nodes) (reverse new)) (reverse new)
-        (zip-map New Back disk_of done stations back-new all) holds
+        (zip-mid Back done (map disk_of servers) (n, disk) failed (zip (drop (i + 1) nodes) (reverse new)) (reverse new)
+        (zip-map New Back disk_of done servers back-new all) holds
         (zip-same Back (drop (i + 1) nodes) (reverse new) lengths back-same)))
 
     -- the one that failed stands at its place
-    pub failed-at : (stations : List S) (new home back : List D) (failed : D) (done : List (N × D)) (i : ℕ) → home ≡ new ++ failed ∷ [] → back ≡ map disk_of stations ++ reverse home → AllZip New done stations → length done ≡ i → slice_get back i ≡ Some failed
-    failed-at stations new home back failed done i pushed_is back_is all long =
-        let shape : back ≡ map disk_of stations ++ failed ∷ reverse new = back_is ∙ ap (λ (ys : List D). map disk_of stations ++ ys) (ap reverse pushed_is ∙ turned new failed) in
-        let place : i ≡ length (map disk_of stations) = sym long ∙ zip-length New done stations all ∙ sym (length-map stations disk_of) in
-        ap (λ (ys : List D). slice_get ys i) shape ∙ ap (slice_get (map disk_of stations ++ failed ∷ reverse new)) place ∙ get-behind (map disk_of stations) failed (reverse new)
+    pub failed-at : (servers : List S) (new home back : List D) (failed : D) (done : List (N × D)) (i : ℕ) → home ≡ new ++ failed ∷ [] → back ≡ map disk_of servers ++ reverse home → AllZip New done servers → length done ≡ i → slice_get back i ≡ Some failed
+    failed-at servers new home back failed done i pushed_is back_is all long =
+        let shape : back ≡ map disk_of servers ++ failed ∷ reverse new = back_is ∙ ap (λ (ys : List D). map disk_of servers ++ ys) (ap reverse pushed_is ∙ turned new failed) in
+        let place : i ≡ length (map disk_of servers) = sym long ∙ zip-length New done servers all ∙ sym (length-map servers disk_of) in
+        ap (λ (ys : List D). slice_get ys i) shape ∙ ap (slice_get (map disk_of servers ++ failed ∷ reverse new)) place ∙ get-behind (map disk_of servers) failed (reverse new)
 
     -- all are formatted
-    pub all-new : (nodes : List N) (i : ℕ) (stations : List S) (home : List D) (pairs done : List (N × D)) → pairs ≡ done ++ zip (drop i nodes) (reverse home) → length nodes ≤ i → AllZip New done stations → AllZip New pairs stations
-    all-new nodes i stations home pairs done is over all =
-        subst (λ (ps : List (N × D)). AllZip New ps stations) (sym (is ∙ ap (λ (ns : List N). done ++ zip ns (reverse home)) (drop_all i nodes over) ∙ append-nil done)) all
+    pub all-new : (nodes : List N) (i : ℕ) (servers : List S) (home : List D) (pairs done : List (N × D)) → pairs ≡ done ++ zip (drop i nodes) (reverse home) → length nodes ≤ i → AllZip New done servers → AllZip New pairs servers
+    all-new nodes i servers home pairs done is over all =
+        subst (λ (ps : List (N × D)). AllZip New ps servers) (sym (is ∙ ap (λ (ns : List N). done ++ zip ns (reverse home)) (drop_all i nodes over) ∙ append-nil done)) all
 
 module _ {D : Type 0} (tells : Bool) (meter : D → Meter) (text : D → List ℕ) (image : D → List ℕ → Type 0) (layout : Layout) where
   -- a disk that was formatted may come back
-  pub new-back : (h : NodeSpec × D) (s : Station (UnderFuse D)) → IsFormatted tells meter text image layout h s → IsBack tells meter image layout h s.node.disk.disk
+  pub new-back : (h : NodeSpec × D) (s : Server (UnderFuse D)) → IsFormatted tells meter text image layout h s → IsBack tells meter image layout h s.node.disk.disk
   new-back h s made = record {
     count = made.count;
     images = λ told c is. inr (inr (subst (λ (b : List ℕ). StandsFor (geometry_of layout h.0) 0 b nothing) (sym (made.settled c is)) (made.stands told)));

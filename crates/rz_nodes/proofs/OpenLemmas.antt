@@ -11,7 +11,7 @@ use Rattle.mj_angles.specs.declared.layout.Layout.{Layout}
 use Rattle.rz_events.specs.declared.files.NodeSpec.{NodeSpec}
 use Rattle.rz_events.specs.declared.nodes.OpenFault.{OpenFault}
 use Rattle.rz_events.specs.declared.nodes.OpenFault.TheVariants as fault
-use Rattle.rz_nodes.specs.declared.formatting.Station.{Station}
+use Rattle.rz_nodes.specs.declared.formatting.Server.{Server}
 use Rattle.rz_nodes.specs.Formatted.{disks_of, geometry_of}
 use Rattle.rz_cells_slots.specs.declared.geometry.Geometry.{Geometry}
 use Rattle.rz_cells_slots.specs.Held.{Records}
@@ -75,17 +75,17 @@ cause-of tells meter text image layout nodes losses disks back index (fault.Twic
 
 module _ {D : Type 0} (tells : Bool) (meter : D → Meter) (text : D → List ℕ) (image : D → List ℕ → Type 0) (layout : Layout) where
   -- a disk that was opened is kept
-  pub opened-kept : (h : (NodeSpec × ℕ) × D) (s : Station (UnderFuse D)) → IsOpened tells meter text image layout h s → IsKept meter text image h.1 s.node.disk.disk
+  pub opened-kept : (h : (NodeSpec × ℕ) × D) (s : Server (UnderFuse D)) → IsOpened tells meter text image layout h s → IsKept meter text image h.1 s.node.disk.disk
   opened-kept h s is = record { count = is.count; same = is.same; images = is.images }
 
   -- the disks so far and those behind the one that failed are in the row that comes back
-  pub first-at : (nodes : List NodeSpec) (losses : List ℕ) (disks back rest : List D) (stations : List (Station (UnderFuse D))) (done later : List ((NodeSpec × ℕ) × D)) (index : ℕ)
-      → zip (zip nodes losses) disks ≡ done ++ later → length done ≡ index → AllZip (IsOpened tells meter text image layout) done stations → length stations ≡ index → back ≡ disks_of stations ++ rest
-      → (made : List (Station (UnderFuse D))) × AllZip (IsOpened tells meter text image layout) (take index (zip (zip nodes losses) disks)) made × (take index back ≡ disks_of made)
-  first-at nodes losses disks back rest stations done later index is long all count back_is = (
-    stations,
-    subst (λ (ps : List ((NodeSpec × ℕ) × D)). AllZip (IsOpened tells meter text image layout) ps stations) (sym (take-front done later _ index is long)) all,
-    take-front (disks_of stations) rest back index back_is (length-map stations (λ (s : Station (UnderFuse D)). s.node.disk.disk) ∙ count),
+  pub first-at : (nodes : List NodeSpec) (losses : List ℕ) (disks back rest : List D) (servers : List (Server (UnderFuse D))) (done later : List ((NodeSpec × ℕ) × D)) (index : ℕ)
+      → zip (zip nodes losses) disks ≡ done ++ later → length done ≡ index → AllZip (IsOpened tells meter text image layout) done servers → length servers ≡ index → back ≡ disks_of servers ++ rest
+      → (made : List (Server (UnderFuse D))) × AllZip (IsOpened tells meter text image layout) (take index (zip (zip nodes losses) disks)) made × (take index back ≡ disks_of made)
+  first-at nodes losses disks back rest servers done later index is long all count back_is = (
+    servers,
+    subst (λ (ps : List ((NodeSpec × ℕ) × D)). AllZip (IsOpened tells meter text image layout) ps servers) (sym (take-front done later _ index is long)) all,
+    take-front (disks_of servers) rest back index back_is (length-map servers (λ (s : Server (UnderFuse D)). s.node.disk.disk) ∙ count),
   )
 
 -- One disk is opened in a new fuse.

@@ -15,7 +15,7 @@ use Rattle.rz_cells_slots.specs.Stands.{IsShut, StandsFor}
 use Rattle.rz_node_model.specs.States.{fresh}
 use Rattle.rz_nodes.specs.declared.fault.DriverFault.{DriverFault}
 use Rattle.rz_nodes.specs.declared.fault.DriverFault.TheVariants as driver
-use Rattle.rz_nodes.specs.declared.formatting.Station.{Station}
+use Rattle.rz_nodes.specs.declared.formatting.Server.{Server}
 
 -- how the disk of a node is laid out
 abbrev pub geometry_of : Layout → NodeSpec → Geometry
@@ -23,7 +23,7 @@ geometry_of layout n = record { layout = layout; bsize = bsize_of layout; node =
 
 -- A disk was formatted for a node: its one image is its text, which stands for nothing. It is not armed, and its count of faults
 -- did not fall.
-pub record IsFormatted {D : Type 0} (tells : Bool) (meter : D → Meter) (text : D → List ℕ) (image : D → List ℕ → Type 0) (layout : Layout) (handed : NodeSpec × D) (s : Station (UnderFuse D)) : Type 0 where
+pub record IsFormatted {D : Type 0} (tells : Bool) (meter : D → Meter) (text : D → List ℕ) (image : D → List ℕ → Type 0) (layout : Layout) (handed : NodeSpec × D) (s : Server (UnderFuse D)) : Type 0 where
   pub number : s.sid ≡ handed.0.sid
   pub geometry : s.node.geometry ≡ geometry_of layout handed.0
   pub state : s.node.state ≡ fresh
@@ -41,7 +41,7 @@ pub record IsBack {D : Type 0} (tells : Bool) (meter : D → Meter) (image : D �
   pub images : IsTrue tells → (c : List ℕ) → image back c → image handed.1 c ⊎ IsShut c ⊎ StandsFor (geometry_of layout handed.0) 0 c nothing
 
 -- each disk, in its order
-abbrev pub AreFormatted : {D : Type 0} → Bool → (D → Meter) → (D → List ℕ) → (D → List ℕ → Type 0) → Layout → List NodeSpec → List D → List (Station (UnderFuse D)) → Type 0
+abbrev pub AreFormatted : {D : Type 0} → Bool → (D → Meter) → (D → List ℕ) → (D → List ℕ → Type 0) → Layout → List NodeSpec → List D → List (Server (UnderFuse D)) → Type 0
 AreFormatted tells meter text image layout nodes disks made = AllZip (IsFormatted tells meter text image layout) (zip nodes disks) made
 
 abbrev pub AreBack : {D : Type 0} → Bool → (D → Meter) → (D → List ℕ → Type 0) → Layout → List NodeSpec → List D → List D → Type 0
@@ -58,5 +58,5 @@ fault_at format.NoMemory index = driver.NoMemory
 fault_at format.DiskFault index = driver.Disk index
 
 -- the disks of these nodes, out of their fuses
-abbrev pub disks_of : {D : Type 0} → List (Station (UnderFuse D)) → List D
-disks_of {D = D} stations = map (λ (s : Station (UnderFuse D)). s.node.disk.disk) stations
+abbrev pub disks_of : {D : Type 0} → List (Server (UnderFuse D)) → List D
+disks_of {D = D} servers = map (λ (s : Server (UnderFuse D)). s.node.disk.disk) servers

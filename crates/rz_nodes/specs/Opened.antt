@@ -15,14 +15,14 @@ use Rattle.rz_cells_slots.specs.Shape.{disk_bytes}
 use Rattle.rz_cells_slots.specs.Stands.{StandsFor}
 use Rattle.rz_node_model.specs.States.{opened}
 use Rattle.rz_node.specs.HeldOnDisk.{IsHeldOnDisk}
-use Rattle.rz_nodes.specs.declared.formatting.Station.{Station}
+use Rattle.rz_nodes.specs.declared.formatting.Server.{Server}
 use Rattle.rz_nodes.specs.Formatted.{disks_of, geometry_of}
 use Rattle.rz_nodes.specs.declared.refusal.OpenRefusal.{OpenRefusal}
 use Rattle.rz_nodes.specs.declared.refusal.OpenRefusal.TheVariants as refusal
 
 -- A disk was opened for a node that lost so many disks: what the node holds is what the disk's text stands for. The disk has the
 -- text that it came with, and that text is its one image. It is not armed, and its count of faults did not fall.
-pub record IsOpened {D : Type 0} (tells : Bool) (meter : D → Meter) (text : D → List ℕ) (image : D → List ℕ → Type 0) (layout : Layout) (handed : (NodeSpec × ℕ) × D) (s : Station (UnderFuse D)) : Type 0 where
+pub record IsOpened {D : Type 0} (tells : Bool) (meter : D → Meter) (text : D → List ℕ) (image : D → List ℕ → Type 0) (layout : Layout) (handed : (NodeSpec × ℕ) × D) (s : Server (UnderFuse D)) : Type 0 where
   pub number : s.sid ≡ handed.0.0.sid
   pub geometry : s.node.geometry ≡ geometry_of layout handed.0.0
   pub state : s.node.state ≡ opened handed.0.1 s.node.state.fence s.node.state.held
@@ -53,7 +53,7 @@ pub record IsFaultOf {D : Type 0} (tells : Bool) (meter : D → Meter) (text : D
 
 -- each disk, in its order
 
-abbrev pub AreOpened : {D : Type 0} → Bool → (D → Meter) → (D → List ℕ) → (D → List ℕ → Type 0) → Layout → List NodeSpec → List ℕ → List D → List (Station (UnderFuse D)) → Type 0
+abbrev pub AreOpened : {D : Type 0} → Bool → (D → Meter) → (D → List ℕ) → (D → List ℕ → Type 0) → Layout → List NodeSpec → List ℕ → List D → List (Server (UnderFuse D)) → Type 0
 AreOpened tells meter text image layout nodes losses disks made = AllZip (IsOpened tells meter text image layout) (zip (zip nodes losses) disks) made
 
 abbrev pub AreKept : {D : Type 0} → (D → Meter) → (D → List ℕ) → (D → List ℕ → Type 0) → List D → List D → Type 0
@@ -68,7 +68,7 @@ pub record IsFirstUnopened {D : Type 0} (tells : Bool) (meter : D → Meter) (te
   pub was : slice_get disks index ≡ Some old
   pub is : slice_get back index ≡ Some new
   pub fault_of : IsFaultOf tells meter text layout node old new why
-  pub before : (made : List (Station (UnderFuse D))) × AllZip (IsOpened tells meter text image layout) (take index (zip (zip nodes losses) disks)) made × (take index back ≡ disks_of made)
+  pub before : (made : List (Server (UnderFuse D))) × AllZip (IsOpened tells meter text image layout) (take index (zip (zip nodes losses) disks)) made × (take index back ≡ disks_of made)
 
 -- why the disks were not opened: the cause is the number of the fault of the first disk that did not open
 abbrev pub IsCause : {D : Type 0} → Bool → (D → Meter) → (D → List ℕ) → (D → List ℕ → Type 0) → Layout → List NodeSpec → List ℕ → List D → List D → OpenRefusal → Type 0

@@ -16,7 +16,7 @@ use std::alloc::Global;
 
 /// A node, its number, and how the next crash of its disk picks.
 #[derive(Drop)]
-pub struct Station<D: Disk> {
+pub struct Server<D: Disk> {
     pub sid: u16,
     pub node: Node<D>,
     pub pick: u64,
@@ -28,7 +28,7 @@ pub fn format_all<D: Disk>(
     layout: Layout,
     nodes: &[NodeSpec],
     disks: Vec<D>,
-) -> Result<(Vec<Station<Fused<D>>>, Vec<D>), (Vec<D>, DriverFault)>
+) -> Result<(Vec<Server<Fused<D>>>, Vec<D>), (Vec<D>, DriverFault)>
     requires nodes { AllByRecursion IsNode nodes.now }
     requires count { length disks.items ≡ length nodes.now }
     ensures made { IfOk result (λ r. AreFormatted D.tells D.meter D.text D.image layout nodes.now disks.items r.0.items) }
@@ -37,26 +37,26 @@ pub fn format_all<D: Disk>(
     ensures back { IfErr result (λ r. AreBack D.tells D.meter D.image layout nodes.now disks.items r.0.items) }
     ensures cause { IfErr result (λ r. IsCause D.meter disks.items r.0.items r.1) }
 {
-    let Ok(mut stations) = Vec::with_capacity(alloc, nodes.len()) else {
+    let Ok(mut servers) = Vec::with_capacity(alloc, nodes.len()) else {
         return Err((disks, DriverFault::NoMemory));
     };
     let mut home = disks;
     home.reverse();
     for (index, node) in nodes.iter().enumerate() {
         let Some(disk) = home.pop() else {
-            return Err((hand_back(stations, home), DriverFault::NoMemory));
+            return Err((hand_back(servers, home), DriverFault::NoMemory));
         };
         match format_one(alloc, layout, *node, disk) {
-            Ok(station) => {
-                let _made = stations.push(station);
+            Ok(server) => {
+                let _made = servers.push(server);
             }
             Err((disk, fault)) => {
                 let _back = home.push(disk);
-                return Err((hand_back(stations, home), fault_at(fault, index)));
+                return Err((hand_back(servers, home), fault_at(fault, index)));
             }
         }
     }
-    Ok((stations, home))
+    Ok((servers, home))
 }
 
 /// A node on a disk that is formatted for it.
@@ -65,7 +65,7 @@ fn format_one<D: Disk>(
     layout: Layout,
     node: NodeSpec,
     disk: D,
-) -> Result<Station<Fused<D>>, (D, FormatFault)>
+) -> Result<Server<Fused<D>>, (D, FormatFault)>
     requires node { IsNode node }
     ensures made { IfOk result (λ s. IsFormatted D.tells D.meter D.text D.image layout (node, disk) s) }
     ensures back { IfErr result (λ r. IsBack D.tells D.meter D.image layout (node, disk) r.0) }
@@ -78,7 +78,7 @@ fn format_one<D: Disk>(
         cells: node.cells,
     };
     match Node::format(alloc, geometry, Fused::new(disk)) {
-        Ok(made) => Ok(Station {
+        Ok(made) => Ok(Server {
             sid: node.sid,
             node: made,
             pick: 0,

@@ -21,7 +21,7 @@ mod refusal;
 
 pub use back::hand_back;
 pub use fault::DriverFault;
-pub use formatting::{Station, format_all};
+pub use formatting::{Server, format_all};
 pub use nodes::all_nodes;
 pub use opening::open_all;
 pub use refusal::OpenRefusal;

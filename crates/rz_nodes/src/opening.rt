@@ -6,7 +6,7 @@ ghost use Rattle.rz_events.specs.Volume.{IsNode};
 ghost use Rattle.rz_nodes.specs.Opened.{AreKept, AreOpened, IsCause, IsKept, IsOpened, IsFaultOf};
 
 use crate::refusal::{OpenRefusal, refusal_at};
-use crate::{Station, hand_back};
+use crate::{Server, hand_back};
 use mj_angles::Layout;
 use rz_disk::{Disk, Fused};
 use rz_events::{NodeSpec, OpenFault};
@@ -21,7 +21,7 @@ pub fn open_all<D: Disk>(
     nodes: &[NodeSpec],
     losses: &[u64],
     disks: Vec<D>,
-) -> Result<(Vec<Station<Fused<D>>>, Vec<D>), (Vec<D>, OpenRefusal)>
+) -> Result<(Vec<Server<Fused<D>>>, Vec<D>), (Vec<D>, OpenRefusal)>
     requires nodes { AllByRecursion IsNode nodes.now }
     requires count { length disks.items ≡ length nodes.now }
     requires losses { length losses.now ≡ length nodes.now }
@@ -31,26 +31,26 @@ pub fn open_all<D: Disk>(
     ensures back { IfErr result (λ r. AreKept D.meter D.text D.image disks.items r.0.items) }
     ensures cause { IfErr result (λ r. IsCause D.tells D.meter D.text D.image layout nodes.now losses.now disks.items r.0.items r.1) }
 {
-    let Ok(mut stations) = Vec::with_capacity(alloc, nodes.len()) else {
+    let Ok(mut servers) = Vec::with_capacity(alloc, nodes.len()) else {
         return Err((disks, OpenRefusal::NoMemory));
     };
     let mut home = disks;
     home.reverse();
     for (index, node) in nodes.iter().enumerate() {
         let Some(disk) = home.pop() else {
-            return Err((hand_back(stations, home), OpenRefusal::NoMemory));
+            return Err((hand_back(servers, home), OpenRefusal::NoMemory));
         };
         match open_one(alloc, layout, *node, losses[index], disk) {
-            Ok(station) => {
-                let _made = stations.push(station);
+            Ok(server) => {
+                let _made = servers.push(server);
             }
             Err((disk, fault)) => {
                 let _back = home.push(disk);
-                return Err((hand_back(stations, home), refusal_at(fault, index)));
+                return Err((hand_back(servers, home), refusal_at(fault, index)));
             }
         }
     }
-    Ok((stations, home))
+    Ok((servers, home))
 }
 
 /// A node that lost so many disks, on its disk, which is opened.
@@ -60,7 +60,7 @@ fn open_one<D: Disk>(
     node: NodeSpec,
     losses: u64,
     disk: D,
-) -> Result<Station<Fused<D>>, (D, OpenFault)>
+) -> Result<Server<Fused<D>>, (D, OpenFault)>
     requires node { IsNode node }
     ensures made { IfOk result (λ s. IsOpened D.tells D.meter D.text D.image layout ((node, losses), disk) s) }
     ensures back { IfErr result (λ r. IsKept D.meter D.text D.image disk r.0) }
@@ -73,7 +73,7 @@ fn open_one<D: Disk>(
         cells: node.cells,
     };
     match Node::reopen(alloc, geometry, losses, Fused::new(disk)) {
-        Ok(opened) => Ok(Station {
+        Ok(opened) => Ok(Server {
             sid: node.sid,
             node: opened,
             pick: 0,

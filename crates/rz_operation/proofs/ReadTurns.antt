@@ -5,7 +5,7 @@ use Rattle.rz_events.specs.declared.nodes.NodeAnswer.TheVariants as node
 use Rattle.rz_client_model.specs.declared.reading.ReaderState.{ReaderState}
 use Rattle.rz_reader.specs.Machine.{Machine as Reader}
 use Rattle.rz_operation_model.specs.Work.{Reading, Alone}
-use Rattle.rz_operation_states.specs.declared.stage.Stage.TheVariants as stage
+use Rattle.rz_operation_states.specs.declared.stage.OperationState.TheVariants as stage
 use Rattle.rz_operation_states.specs.Answers.{IsFetchedInto, IsAnswered}
 use Rattle.rz_operation_states.specs.Inside.{machine_of}
 

@@ -14,7 +14,7 @@ use rz_events::{Answer, Datum, FileInfo, Operation, Places, Text, TreeCall, Tree
 use rz_file::FilePlan;
 use rz_operation_states::drops::dropping;
 use rz_operation_states::ranges::open_range;
-use rz_operation_states::{Plan, Stage};
+use rz_operation_states::{OpenPlan, OperationState};
 use rz_reader::Reader;
 use rz_rebuild::Rebuilder;
 use rz_writer::Writer;
@@ -42,13 +42,13 @@ fn blank(layout: Layout) -> FileInfo
 }
 
 /// How an operation begins.
-pub fn begun(alloc: Global, layout: Layout, op: Operation) -> Result<Stage, AllocError>
+pub fn begun(alloc: Global, layout: Layout, op: Operation) -> Result<OperationState, AllocError>
     requires { IsOperation layout op }
     ensures work { IfOk result (λ s. work_of s ≡ begun op) }
     ensures inside { IfOk result (λ s. IsStage layout s) }
 {
     match op {
-        Operation::Tree(call) => Ok(Stage::Calling(call)),
+        Operation::Tree(call) => Ok(OperationState::Calling(call)),
         Operation::Put { path, block, datum } => put(alloc, layout, path, block, datum),
         Operation::Get { path, block } => get(alloc, layout, path, block),
         Operation::Write {
@@ -57,7 +57,7 @@ pub fn begun(alloc: Global, layout: Layout, op: Operation) -> Result<Stage, Allo
             datum,
         } => {
             let plan = write_plan(alloc, layout, offset, datum)?;
-            Ok(opening(layout, path, Plan::Range(plan)))
+            Ok(opening(layout, path, OpenPlan::Range(plan)))
         }
         Operation::Read {
             path,
@@ -65,7 +65,7 @@ pub fn begun(alloc: Global, layout: Layout, op: Operation) -> Result<Stage, Allo
             length,
         } => {
             let plan = FilePlan::read(alloc, layout, offset, length)?;
-            Ok(opening(layout, path, Plan::Range(plan)))
+            Ok(opening(layout, path, OpenPlan::Range(plan)))
         }
         Operation::Rebuild { node } => rebuild(alloc, layout, node),
         Operation::Update {
@@ -93,7 +93,7 @@ pub fn begun_par<R: Threads + Sync>(
     alloc: Global,
     layout: Layout,
     op: Operation,
-) -> Result<Stage, AllocError>
+) -> Result<OperationState, AllocError>
     requires { IsOperation layout op }
     ensures work { IfOk result (λ s. work_of s ≡ begun op) }
     ensures inside { IfOk result (λ s. IsStage layout s) }
@@ -105,7 +105,7 @@ pub fn begun_par<R: Threads + Sync>(
             datum,
         } => {
             let plan = write_plan_par(rt, alloc, layout, offset, datum)?;
-            Ok(opening(layout, path, Plan::Range(plan)))
+            Ok(opening(layout, path, OpenPlan::Range(plan)))
         }
         Operation::Update {
             path,
@@ -126,7 +126,7 @@ fn put(
     path: Text,
     block: u64,
     datum: Datum,
-) -> Result<Stage, AllocError>
+) -> Result<OperationState, AllocError>
     requires { length (bytes_of datum) ≤ block_bytes_of layout }
     ensures work { IfOk result (λ s. work_of s ≡ begun (Operation.Put path block datum)) }
     ensures inside { IfOk result (λ s. IsStage layout s) }
@@ -136,7 +136,7 @@ fn put(
     Ok(opening(
         layout,
         path,
-        Plan::Put {
+        OpenPlan::Put {
             block,
             writer,
             text,
@@ -145,42 +145,42 @@ fn put(
 }
 
 /// The read of a block begins.
-fn get(alloc: Global, layout: Layout, path: Text, block: u64) -> Result<Stage, AllocError>
+fn get(alloc: Global, layout: Layout, path: Text, block: u64) -> Result<OperationState, AllocError>
     ensures work { IfOk result (λ s. work_of s ≡ begun (Operation.Get path block)) }
     ensures inside { IfOk result (λ s. IsStage layout s) }
 {
     let reader = Reader::start(alloc, layout, &blank(layout), 0)?;
-    Ok(opening(layout, path, Plan::Get { block, reader }))
+    Ok(opening(layout, path, OpenPlan::Get { block, reader }))
 }
 
 /// The rebuild of a node begins.
-fn rebuild(alloc: Global, layout: Layout, node: u16) -> Result<Stage, AllocError>
+fn rebuild(alloc: Global, layout: Layout, node: u16) -> Result<OperationState, AllocError>
     ensures work { IfOk result (λ s. work_of s ≡ begun (Operation.Rebuild node)) }
     ensures inside { IfOk result (λ s. IsStage layout s) }
 {
     let rebuilder = Rebuilder::start(alloc, layout, node)?;
-    Ok(Stage::Rebuilding { node, rebuilder })
+    Ok(OperationState::Rebuilding { node, rebuilder })
 }
 
 /// The file at a path is opened.
-fn opening(layout: Layout, path: Text, plan: Plan) -> Stage
+fn opening(layout: Layout, path: Text, plan: OpenPlan) -> OperationState
     requires { IsPlan layout plan }
-    ensures work { result ≡ Stage.Opening (TreeCall.OpenFile path) plan }
+    ensures work { result ≡ OperationState.Opening (TreeCall.OpenFile path) plan }
     ensures inside { IsStage layout result }
 {
     let call = TreeCall::OpenFile { path };
-    Stage::Opening { call, plan }
+    OperationState::Opening { call, plan }
 }
 
 /// The file at a path is opened and locked.
-fn locking(layout: Layout, path: Text, plan: FilePlan) -> Stage
+fn locking(layout: Layout, path: Text, plan: FilePlan) -> OperationState
     requires layout { plan.layout ≡ layout }
     requires within { IsWithinFile plan.plan }
-    ensures work { result ≡ Stage.Locking (TreeCall.OpenFile path) plan }
+    ensures work { result ≡ OperationState.Locking (TreeCall.OpenFile path) plan }
     ensures inside { IsStage layout result }
 {
     let call = TreeCall::OpenFile { path };
-    Stage::Locking { call, plan }
+    OperationState::Locking { call, plan }
 }
 
 /// The write of a datum from an offset on.
@@ -251,27 +251,27 @@ fn made(alloc: Global, length: u32, seed: u8) -> Result<Text, AllocError>
 }
 
 /// How a call on names goes on.
-pub fn after_call(answer: TreeReply) -> Stage
+pub fn after_call(answer: TreeReply) -> OperationState
     ensures work { work_of result ≡ after_call answer }
     ensures quiet { IsQuiet result }
 {
     match answer {
-        TreeReply::Made { fid } => Stage::Ending(Answer::Created { fid }),
-        TreeReply::MadeFile(info) => Stage::Ending(Answer::Created { fid: info.fid }),
-        TreeReply::Found { fid, kind } => Stage::Ending(Answer::Found { kind, fid }),
-        TreeReply::Attr(attr) => Stage::Ending(Answer::Attr(attr)),
-        TreeReply::Plain => Stage::Ending(Answer::Plain),
-        TreeReply::Gone(None) => Stage::Ending(Answer::Plain),
+        TreeReply::Made { fid } => OperationState::Ending(Answer::Created { fid }),
+        TreeReply::MadeFile(info) => OperationState::Ending(Answer::Created { fid: info.fid }),
+        TreeReply::Found { fid, kind } => OperationState::Ending(Answer::Found { kind, fid }),
+        TreeReply::Attr(attr) => OperationState::Ending(Answer::Attr(attr)),
+        TreeReply::Plain => OperationState::Ending(Answer::Plain),
+        TreeReply::Gone(None) => OperationState::Ending(Answer::Plain),
         TreeReply::Gone(Some(info)) => dropping(info.fid, info.places, 0),
-        TreeReply::Names(names) => Stage::Ending(Answer::Names(names)),
-        TreeReply::Target(target) => Stage::Ending(Answer::Target(target)),
-        TreeReply::File(_) => Stage::Over,
-        TreeReply::Refused(fault) => Stage::Ending(Answer::Refused(fault)),
+        TreeReply::Names(names) => OperationState::Ending(Answer::Names(names)),
+        TreeReply::Target(target) => OperationState::Ending(Answer::Target(target)),
+        TreeReply::File(_) => OperationState::Over,
+        TreeReply::Refused(fault) => OperationState::Ending(Answer::Refused(fault)),
     }
 }
 
 /// How an operation goes on after its file was opened, or not.
-pub fn after_open(layout: Layout, plan: Plan, answer: &TreeReply) -> Stage
+pub fn after_open(layout: Layout, plan: OpenPlan, answer: &TreeReply) -> OperationState
     requires plan { IsPlan layout plan }
     requires places { HasPlaces layout answer.now }
     ensures work { work_of result ≡ after_open layout (plan_of plan) answer.now }
@@ -282,17 +282,17 @@ pub fn after_open(layout: Layout, plan: Plan, answer: &TreeReply) -> Stage
         TreeReply::File(info) => planned(layout, info, plan),
         TreeReply::Refused(fault) => {
             drop(plan);
-            Stage::Ending(Answer::Refused(*fault))
+            OperationState::Ending(Answer::Refused(*fault))
         }
         _ => {
             drop(plan);
-            Stage::Over
+            OperationState::Over
         }
     }
 }
 
 /// How an operation goes on with its file open.
-fn planned(layout: Layout, info: &FileInfo, plan: Plan) -> Stage
+fn planned(layout: Layout, info: &FileInfo, plan: OpenPlan) -> OperationState
     requires plan { IsPlan layout plan }
     requires places { length info.now.places ≡ safe_of layout }
     ensures work { work_of result ≡ planned layout info.now (plan_of plan) }
@@ -300,40 +300,46 @@ fn planned(layout: Layout, info: &FileInfo, plan: Plan) -> Stage
     ensures fresh { IsFresh result }
 {
     match plan {
-        Plan::Put {
+        OpenPlan::Put {
             block,
             writer,
             text,
         } => write_block(layout, info, block, writer, text),
-        Plan::Get { block, reader } => read_block(layout, info, block, reader),
-        Plan::Range(plan) => open_range(layout, info, plan),
+        OpenPlan::Get { block, reader } => read_block(layout, info, block, reader),
+        OpenPlan::Range(plan) => open_range(layout, info, plan),
     }
 }
 
 /// A block is written.
-fn write_block(layout: Layout, info: &FileInfo, block: u64, mut writer: Writer, text: Text) -> Stage
+fn write_block(
+    layout: Layout,
+    info: &FileInfo,
+    block: u64,
+    mut writer: Writer,
+    text: Text,
+) -> OperationState
     requires layout { writer.state.layout ≡ layout }
     requires whole { IsSome writer.block }
     requires short { length text ≤ block_bytes_of layout }
     requires places { length info.now.places ≡ safe_of layout }
-    ensures work { work_of result ≡ planned layout info.now (plan_of (Plan.Put block writer text)) }
+    ensures work { work_of result ≡ planned layout info.now (plan_of (OpenPlan.Put block writer text)) }
     ensures inside { IsStage layout result }
     ensures fresh { IsFresh result }
 {
     writer.again(info, block, text.bytes());
-    Stage::Writing { writer, text }
+    OperationState::Writing { writer, text }
 }
 
 /// A block is read.
-fn read_block(layout: Layout, info: &FileInfo, block: u64, mut reader: Reader) -> Stage
+fn read_block(layout: Layout, info: &FileInfo, block: u64, mut reader: Reader) -> OperationState
     requires layout { reader.state.layout ≡ layout }
     requires places { length info.now.places ≡ safe_of layout }
-    ensures work { work_of result ≡ planned layout info.now (plan_of (Plan.Get block reader)) }
+    ensures work { work_of result ≡ planned layout info.now (plan_of (OpenPlan.Get block reader)) }
     ensures inside { IsStage layout result }
     ensures fresh { IsFresh result }
 {
     reader.again(info, block);
-    Stage::Reading(reader)
+    OperationState::Reading(reader)
 }
 
 /// How an operation goes on after its file was opened and a lock was granted or not: a file that is
@@ -344,7 +350,7 @@ pub fn after_locked(
     plan: FilePlan,
     granted: bool,
     answer: &TreeReply,
-) -> Stage
+) -> OperationState
     requires call { call ≡ TreeCall.OpenFile (path_in call) }
     requires layout { plan.layout ≡ layout }
     requires within { IsWithinFile plan.plan }
@@ -355,13 +361,13 @@ pub fn after_locked(
 {
     if granted {
         drop(call);
-        return after_open(layout, Plan::Range(plan), answer);
+        return after_open(layout, OpenPlan::Range(plan), answer);
     }
     match answer {
-        TreeReply::File(_) => Stage::Locking { call, plan },
+        TreeReply::File(_) => OperationState::Locking { call, plan },
         _ => {
             drop(call);
-            after_open(layout, Plan::Range(plan), answer)
+            after_open(layout, OpenPlan::Range(plan), answer)
         }
     }
 }

@@ -18,7 +18,7 @@ use rz_operation_states::drops::drop_ask;
 use rz_operation_states::locks::lock_ask;
 use rz_operation_states::ranges::range_ask;
 use rz_operation_states::rebuilds::rebuilder_ask;
-use rz_operation_states::{Ask, Saying, Stage};
+use rz_operation_states::{Ask, OperationState, Saying};
 use std::alloc::{AllocError, Global};
 use std::marker::Model;
 use std::mem::replace;
@@ -31,7 +31,7 @@ use std::thread::Threads;
 #[derive(Drop)]
 pub struct Machine {
     layout: Layout,
-    stage: Stage,
+    stage: OperationState,
 }
 
 impl Model for Machine {
@@ -78,18 +78,18 @@ impl Machine {
         ensures head { HasHead self.now.layout (ask_of self.now.layout self.now.work) }
     {
         match &self.stage {
-            Stage::Calling(call) => Ask::Export(CallRef::Tree(call)),
-            Stage::Dropping { fid, places, done } => drop_ask(*fid, places, *done),
-            Stage::Opening { call, .. } => Ask::Export(CallRef::Tree(call)),
-            Stage::Writing { writer, text } => write_ask(writer, text.bytes()),
-            Stage::Locking { call, plan } => lock_ask(self.layout, call, plan),
-            Stage::Reading(reader) => read_ask(reader),
-            Stage::Ranging(file) => range_ask(self.layout, file),
-            Stage::Rebuilding { node, rebuilder } => {
+            OperationState::Calling(call) => Ask::Export(CallRef::Tree(call)),
+            OperationState::Dropping { fid, places, done } => drop_ask(*fid, places, *done),
+            OperationState::Opening { call, .. } => Ask::Export(CallRef::Tree(call)),
+            OperationState::Writing { writer, text } => write_ask(writer, text.bytes()),
+            OperationState::Locking { call, plan } => lock_ask(self.layout, call, plan),
+            OperationState::Reading(reader) => read_ask(reader),
+            OperationState::Ranging(file) => range_ask(self.layout, file),
+            OperationState::Rebuilding { node, rebuilder } => {
                 rebuilder_ask(self.layout, *node, rebuilder)
             }
-            Stage::Ending(answer) => Ask::Say(Saying::Done(answer)),
-            Stage::Over => Ask::Rest,
+            OperationState::Ending(answer) => Ask::Say(Saying::Done(answer)),
+            OperationState::Over => Ask::Rest,
         }
     }
 
@@ -97,7 +97,7 @@ impl Machine {
     pub fn is_over(&self) -> bool
         ensures { result ≡ is_over self.now.work }
     {
-        matches!(&self.stage, Stage::Over)
+        matches!(&self.stage, OperationState::Over)
     }
 
     /// Takes the reply of the export.
@@ -105,7 +105,7 @@ impl Machine {
         requires { IsReply self.old.layout (ask_of self.old.layout self.old.work) reply }
         ensures { Goes self.old self.old.pairs (Replied reply) self.new }
     {
-        let stage = replace(&mut self.stage, Stage::Over);
+        let stage = replace(&mut self.stage, OperationState::Over);
         let next = after_reply(self.layout, stage, reply);
         drop(replace(&mut self.stage, next));
     }
@@ -115,7 +115,7 @@ impl Machine {
         requires { IsLockReply self.old.layout (ask_of self.old.layout self.old.work) reply }
         ensures { Goes self.old self.old.pairs (Locked granted reply) self.new }
     {
-        let stage = replace(&mut self.stage, Stage::Over);
+        let stage = replace(&mut self.stage, OperationState::Over);
         let next = after_lock(self.layout, stage, granted, reply);
         drop(replace(&mut self.stage, next));
     }
@@ -126,7 +126,7 @@ impl Machine {
         requires bins { ComeWith self.old.layout (ask_of self.old.layout self.old.work) answer bins.now }
         ensures { IsAnswered self.old answer bins.now self.new }
     {
-        let stage = replace(&mut self.stage, Stage::Over);
+        let stage = replace(&mut self.stage, OperationState::Over);
         let next = after_answer(self.layout, stage, answer, bins);
         drop(replace(&mut self.stage, next));
     }
@@ -136,7 +136,7 @@ impl Machine {
         requires asked { MayMiss (ask_of self.old.layout self.old.work) }
         ensures { Goes self.old self.old.pairs Missed self.new }
     {
-        let stage = replace(&mut self.stage, Stage::Over);
+        let stage = replace(&mut self.stage, OperationState::Over);
         let next = after_miss(self.layout, stage);
         drop(replace(&mut self.stage, next));
     }
@@ -146,7 +146,7 @@ impl Machine {
         requires asked { IsPartSaid (ask_of self.old.layout self.old.work) }
         ensures { Goes self.old self.old.pairs (Noted (text_of self.old)) self.new }
     {
-        let stage = replace(&mut self.stage, Stage::Over);
+        let stage = replace(&mut self.stage, OperationState::Over);
         let next = after_said(self.layout, stage);
         drop(replace(&mut self.stage, next));
     }
@@ -157,7 +157,7 @@ impl Machine {
         ensures answer { ask_of self.old.layout self.old.work ≡ Say (SayDone result) }
         ensures goes { Goes self.old self.old.pairs (Noted []) self.new }
     {
-        let stage = replace(&mut self.stage, Stage::Over);
+        let stage = replace(&mut self.stage, OperationState::Over);
         answer_in(stage)
     }
 
@@ -189,9 +189,9 @@ impl Machine {
         ensures count { IsCount self.now.layout (ask_of self.now.layout self.now.work) result.now }
     {
         match &self.stage {
-            Stage::Writing { writer, .. } => writer.bins(),
-            Stage::Ranging(file) => file.bins(),
-            Stage::Rebuilding { rebuilder, .. } => rebuilder.bins(),
+            OperationState::Writing { writer, .. } => writer.bins(),
+            OperationState::Ranging(file) => file.bins(),
+            OperationState::Rebuilding { rebuilder, .. } => rebuilder.bins(),
             _ => unreachable!(),
         }
     }
@@ -202,8 +202,8 @@ impl Machine {
         ensures { out.new ≡ text_of self.now }
     {
         match &self.stage {
-            Stage::Reading(reader) => reader.text_into(out),
-            Stage::Ranging(file) => out.copy_from_slice(file.text()),
+            OperationState::Reading(reader) => reader.text_into(out),
+            OperationState::Ranging(file) => out.copy_from_slice(file.text()),
             _ => unreachable!(),
         }
     }

@@ -12,7 +12,7 @@ use mj_angles::Layout;
 use rz_events::{
     Answer, DropAnswer, KeepAnswer, NodeAnswer, ReaderAnswer, Reply, TreeReply, WriterAnswer,
 };
-use rz_operation_states::Stage;
+use rz_operation_states::OperationState;
 use rz_operation_states::blocks::{fetch_answer, tell_fetch, tell_keep, tell_reader, tell_writer};
 use rz_operation_states::drops::{after_drop, dropped};
 use rz_operation_states::ranges::{range_answered, range_missed, range_replied, range_said};
@@ -21,79 +21,89 @@ use rz_operation_states::rebuilds::{
 };
 
 /// How the operation goes on after a reply of the export.
-pub fn after_reply(layout: Layout, stage: Stage, reply: Reply) -> Stage
+pub fn after_reply(layout: Layout, stage: OperationState, reply: Reply) -> OperationState
     requires inside { IsStage layout stage }
     requires asked { IsReply layout (ask_of layout (work_of stage)) reply }
     ensures goes { Goes (machine_of layout stage) (machine_of layout stage).pairs (Replied reply) (machine_of layout result) }
     ensures inside { IsStage layout result }
 {
     match stage {
-        Stage::Calling(call) => {
+        OperationState::Calling(call) => {
             drop(call);
             after_call(tree_reply(layout, reply))
         }
-        Stage::Opening { call, plan } => {
+        OperationState::Opening { call, plan } => {
             drop(call);
             let answer = tree_reply(layout, reply);
             let next = after_open(layout, plan, &answer);
             drop(answer);
             next
         }
-        Stage::Writing { mut writer, text } => {
+        OperationState::Writing { mut writer, text } => {
             tell_writer(&mut writer, &reply);
             drop(reply);
-            Stage::Writing { writer, text }
+            OperationState::Writing { writer, text }
         }
-        Stage::Reading(mut reader) => {
+        OperationState::Reading(mut reader) => {
             tell_reader(&mut reader, &reply);
             drop(reply);
-            Stage::Reading(reader)
+            OperationState::Reading(reader)
         }
-        Stage::Ranging(file) => {
+        OperationState::Ranging(file) => {
             let next = range_replied(layout, file, &reply);
             drop(reply);
             next
         }
-        Stage::Locking { .. } => unreachable!(),
-        Stage::Rebuilding { node, rebuilder } => {
+        OperationState::Locking { .. } => unreachable!(),
+        OperationState::Rebuilding { node, rebuilder } => {
             let next = rebuild_replied(layout, node, rebuilder, &reply);
             drop(reply);
             next
         }
-        Stage::Dropping { .. } => unreachable!(),
-        Stage::Ending(_) => unreachable!(),
-        Stage::Over => unreachable!(),
+        OperationState::Dropping { .. } => unreachable!(),
+        OperationState::Ending(_) => unreachable!(),
+        OperationState::Over => unreachable!(),
     }
 }
 
 /// How the operation goes on after its file was opened and a lock was granted or not.
-pub fn after_lock(layout: Layout, stage: Stage, granted: bool, reply: Reply) -> Stage
+pub fn after_lock(
+    layout: Layout,
+    stage: OperationState,
+    granted: bool,
+    reply: Reply,
+) -> OperationState
     requires inside { IsStage layout stage }
     requires asked { IsLockReply layout (ask_of layout (work_of stage)) reply }
     ensures goes { Goes (machine_of layout stage) (machine_of layout stage).pairs (Locked granted reply) (machine_of layout result) }
     ensures inside { IsStage layout result }
 {
     match stage {
-        Stage::Locking { call, plan } => {
+        OperationState::Locking { call, plan } => {
             let answer = tree_reply(layout, reply);
             let next = after_locked(layout, call, plan, granted, &answer);
             drop(answer);
             next
         }
-        Stage::Calling(_) => unreachable!(),
-        Stage::Dropping { .. } => unreachable!(),
-        Stage::Opening { .. } => unreachable!(),
-        Stage::Writing { .. } => unreachable!(),
-        Stage::Reading(_) => unreachable!(),
-        Stage::Ranging(_) => unreachable!(),
-        Stage::Rebuilding { .. } => unreachable!(),
-        Stage::Ending(_) => unreachable!(),
-        Stage::Over => unreachable!(),
+        OperationState::Calling(_) => unreachable!(),
+        OperationState::Dropping { .. } => unreachable!(),
+        OperationState::Opening { .. } => unreachable!(),
+        OperationState::Writing { .. } => unreachable!(),
+        OperationState::Reading(_) => unreachable!(),
+        OperationState::Ranging(_) => unreachable!(),
+        OperationState::Rebuilding { .. } => unreachable!(),
+        OperationState::Ending(_) => unreachable!(),
+        OperationState::Over => unreachable!(),
     }
 }
 
 /// How the operation goes on after the answer of a node, with the bins that came with it.
-pub fn after_answer(layout: Layout, stage: Stage, answer: NodeAnswer, bins: &[u64]) -> Stage
+pub fn after_answer(
+    layout: Layout,
+    stage: OperationState,
+    answer: NodeAnswer,
+    bins: &[u64],
+) -> OperationState
     requires inside { IsStage layout stage }
     requires asked { IsAnswer layout (ask_of layout (work_of stage)) answer }
     requires bins { ComeWith layout (ask_of layout (work_of stage)) answer bins.now }
@@ -101,98 +111,103 @@ pub fn after_answer(layout: Layout, stage: Stage, answer: NodeAnswer, bins: &[u6
     ensures inside { IsStage layout result }
 {
     match stage {
-        Stage::Writing { mut writer, text } => {
+        OperationState::Writing { mut writer, text } => {
             tell_keep(&mut writer, keep_answer(answer));
-            Stage::Writing { writer, text }
+            OperationState::Writing { writer, text }
         }
-        Stage::Reading(mut reader) => {
+        OperationState::Reading(mut reader) => {
             tell_fetch(&mut reader, fetch_answer(answer), bins);
-            Stage::Reading(reader)
+            OperationState::Reading(reader)
         }
-        Stage::Ranging(file) => range_answered(layout, file, answer, bins),
-        Stage::Locking { .. } => unreachable!(),
-        Stage::Dropping { fid, places, done } => after_drop(fid, places, done, drop_answer(answer)),
-        Stage::Rebuilding { node, rebuilder } => {
+        OperationState::Ranging(file) => range_answered(layout, file, answer, bins),
+        OperationState::Locking { .. } => unreachable!(),
+        OperationState::Dropping { fid, places, done } => after_drop(
+            fid,
+            places,
+            done,
+            drop_answer(answer),
+        ),
+        OperationState::Rebuilding { node, rebuilder } => {
             rebuild_answered(layout, node, rebuilder, answer, bins)
         }
-        Stage::Calling(_) => unreachable!(),
-        Stage::Opening { .. } => unreachable!(),
-        Stage::Ending(_) => unreachable!(),
-        Stage::Over => unreachable!(),
+        OperationState::Calling(_) => unreachable!(),
+        OperationState::Opening { .. } => unreachable!(),
+        OperationState::Ending(_) => unreachable!(),
+        OperationState::Over => unreachable!(),
     }
 }
 
 /// How the operation goes on after a message to a node, or its answer, was lost.
-pub fn after_miss(layout: Layout, stage: Stage) -> Stage
+pub fn after_miss(layout: Layout, stage: OperationState) -> OperationState
     requires inside { IsStage layout stage }
     requires asked { MayMiss (ask_of layout (work_of stage)) }
     ensures goes { Goes (machine_of layout stage) (machine_of layout stage).pairs Missed (machine_of layout result) }
     ensures inside { IsStage layout result }
 {
     match stage {
-        Stage::Writing { mut writer, text } => {
+        OperationState::Writing { mut writer, text } => {
             writer.tell(WriterAnswer::Missed);
-            Stage::Writing { writer, text }
+            OperationState::Writing { writer, text }
         }
-        Stage::Reading(mut reader) => {
+        OperationState::Reading(mut reader) => {
             reader.tell(ReaderAnswer::Missed, &[]);
-            Stage::Reading(reader)
+            OperationState::Reading(reader)
         }
-        Stage::Ranging(file) => range_missed(layout, file),
-        Stage::Locking { .. } => unreachable!(),
-        Stage::Dropping { fid, places, done } => dropped(fid, places, done),
-        Stage::Rebuilding { node, rebuilder } => rebuild_missed(layout, node, rebuilder),
-        Stage::Calling(_) => unreachable!(),
-        Stage::Opening { .. } => unreachable!(),
-        Stage::Ending(_) => unreachable!(),
-        Stage::Over => unreachable!(),
+        OperationState::Ranging(file) => range_missed(layout, file),
+        OperationState::Locking { .. } => unreachable!(),
+        OperationState::Dropping { fid, places, done } => dropped(fid, places, done),
+        OperationState::Rebuilding { node, rebuilder } => rebuild_missed(layout, node, rebuilder),
+        OperationState::Calling(_) => unreachable!(),
+        OperationState::Opening { .. } => unreachable!(),
+        OperationState::Ending(_) => unreachable!(),
+        OperationState::Over => unreachable!(),
     }
 }
 
 /// How the operation goes on after the end of its block was said.
-pub fn after_said(layout: Layout, stage: Stage) -> Stage
+pub fn after_said(layout: Layout, stage: OperationState) -> OperationState
     requires inside { IsStage layout stage }
     requires asked { IsPartSaid (ask_of layout (work_of stage)) }
     ensures goes { Goes (machine_of layout stage) (machine_of layout stage).pairs (Noted (text_of (machine_of layout stage))) (machine_of layout result) }
     ensures inside { IsStage layout result }
 {
     match stage {
-        Stage::Writing { writer, text } => {
+        OperationState::Writing { writer, text } => {
             drop(writer);
             drop(text);
-            Stage::Over
+            OperationState::Over
         }
-        Stage::Reading(reader) => {
+        OperationState::Reading(reader) => {
             drop(reader);
-            Stage::Over
+            OperationState::Over
         }
-        Stage::Ranging(file) => range_said(layout, file),
-        Stage::Locking { .. } => unreachable!(),
-        Stage::Rebuilding { node, rebuilder } => rebuild_said(layout, node, rebuilder),
-        Stage::Dropping { .. } => unreachable!(),
-        Stage::Calling(_) => unreachable!(),
-        Stage::Opening { .. } => unreachable!(),
-        Stage::Ending(_) => unreachable!(),
-        Stage::Over => unreachable!(),
+        OperationState::Ranging(file) => range_said(layout, file),
+        OperationState::Locking { .. } => unreachable!(),
+        OperationState::Rebuilding { node, rebuilder } => rebuild_said(layout, node, rebuilder),
+        OperationState::Dropping { .. } => unreachable!(),
+        OperationState::Calling(_) => unreachable!(),
+        OperationState::Opening { .. } => unreachable!(),
+        OperationState::Ending(_) => unreachable!(),
+        OperationState::Over => unreachable!(),
     }
 }
 
 /// The answer that is said.
-pub fn answer_in(stage: Stage) -> Answer
+pub fn answer_in(stage: OperationState) -> Answer
     requires { IsDoneStage stage }
     ensures { IsAnswerIn stage result }
 {
     match stage {
-        Stage::Ending(answer) => answer,
-        Stage::Rebuilding { .. } => unreachable!(),
-        Stage::Dropping { .. } => unreachable!(),
-        Stage::Writing { .. } => unreachable!(),
-        Stage::Reading(_) => unreachable!(),
-        Stage::Ranging(_) => unreachable!(),
-        Stage::Locking { .. } => unreachable!(),
-        Stage::Calling(_) => unreachable!(),
-        Stage::Opening { .. } => unreachable!(),
-        Stage::Over => unreachable!(),
+        OperationState::Ending(answer) => answer,
+        OperationState::Rebuilding { .. } => unreachable!(),
+        OperationState::Dropping { .. } => unreachable!(),
+        OperationState::Writing { .. } => unreachable!(),
+        OperationState::Reading(_) => unreachable!(),
+        OperationState::Ranging(_) => unreachable!(),
+        OperationState::Locking { .. } => unreachable!(),
+        OperationState::Calling(_) => unreachable!(),
+        OperationState::Opening { .. } => unreachable!(),
+        OperationState::Over => unreachable!(),
     }
 }
 

@@ -31,8 +31,8 @@ use Rattle.rz_operation_model.specs.Work.{RangePlan, WriteBytes, ReadBytes, With
 use Rattle.rz_operation_model.specs.Ask.{ask_of}
 use Rattle.rz_operation_model.specs.Steps.{Told, Replied, Answered, Missed, Noted, told, in_range, range_planned, reader_after, writer_after, said_writing}
 use Rattle.rz_file.specs.Machine.{Machine as FileMachine, begun, Goes as FileGoes, IsAnswered as IsFileAnswered, text_in, text_found as found_text, pairs_in as file_pairs, IsBlockIn as IsFileBlock, pairs_fetched as file_fetched}
-use Rattle.rz_operation_states.specs.declared.stage.Stage.{Stage}
-use Rattle.rz_operation_states.specs.declared.stage.Stage.TheVariants as stage
+use Rattle.rz_operation_states.specs.declared.stage.OperationState.{OperationState}
+use Rattle.rz_operation_states.specs.declared.stage.OperationState.TheVariants as stage
 use Rattle.rz_operation_states.specs.Machine.{text_found, text_asked}
 use Rattle.rz_operation_states.specs.Told.{read_answer, write_answer, as_read, as_write, reply_to, range_reply, range_told, miss_to, range_miss}
 use Rattle.rz_operation_states.specs.Answers.{MayMiss, pairs_in, pairs_fetched, IsBlockIn, Goes, IsAnswered}
@@ -59,14 +59,14 @@ same-fetched layout (Ended r end) pairs a bins = refl
 
 -- How the operation goes on.
 
-settled-goes : (file new_file : FileMachine) (had : List Pair) (t : Told) (next : FileState) (new : Stage) → FileGoes file had next new_file →
+settled-goes : (file new_file : FileMachine) (had : List Pair) (t : Told) (next : FileState) (new : OperationState) → FileGoes file had next new_file →
     told file.layout (in_range file.state) t ≡ in_range next → IsRangeStage new_file new_file.state new →
     Goes (machine_of file.layout (stage.Ranging file)) had t (machine_of file.layout new)
 settled-goes file new_file had t next new goes same is = go new_file.state refl is
   where
     under-way : new ≡ stage.Ranging new_file → Goes (machine_of file.layout (stage.Ranging file)) had t (machine_of file.layout new)
     under-way here =
-        subst (λ (x : Stage). Goes (machine_of file.layout (stage.Ranging file)) had t (machine_of file.layout x)) (sym here)
+        subst (λ (x : OperationState). Goes (machine_of file.layout (stage.Ranging file)) had t (machine_of file.layout x)) (sym here)
         (record {
           layout = refl;
           work = ap in_range goes.state ∙ sym same;
@@ -78,7 +78,7 @@ settled-goes file new_file had t next new goes same is = go new_file.state refl 
     go (Reads r s) at here = under-way here
     go (Writes r text s) at here = under-way here
     go (Ended r end) at here =
-        subst (λ (x : Stage). Goes (machine_of file.layout (stage.Ranging file)) had t (machine_of file.layout x)) (sym here)
+        subst (λ (x : OperationState). Goes (machine_of file.layout (stage.Ranging file)) had t (machine_of file.layout x)) (sym here)
         (record {
           layout = refl;
           work = ap in_range (sym at ∙ goes.state) ∙ sym same;
@@ -86,17 +86,17 @@ settled-goes file new_file had t next new goes same is = go new_file.state refl 
           block = refl;
         })
 
-pub settled-inside : (y : Layout) (file : FileMachine) (state : FileState) (new : Stage) → file.layout ≡ y → file.state ≡ state → IsRangeStage file state new → IsStage y new
+pub settled-inside : (y : Layout) (file : FileMachine) (state : FileState) (new : OperationState) → file.layout ≡ y → file.state ≡ state → IsRangeStage file state new → IsStage y new
 settled-inside y file (Reads r s) new same at is =
-    subst (λ (x : Stage). IsStage y x) (sym is) (record { layout = same; going = subst (λ (z : FileState). IsOpen z) (sym at) tt })
+    subst (λ (x : OperationState). IsStage y x) (sym is) (record { layout = same; going = subst (λ (z : FileState). IsOpen z) (sym at) tt })
 settled-inside y file (Writes r text s) new same at is =
-    subst (λ (x : Stage). IsStage y x) (sym is) (record { layout = same; going = subst (λ (z : FileState). IsOpen z) (sym at) tt })
-settled-inside y file (Ended r end) new same at is = subst (λ (x : Stage). IsStage y x) (sym is) tt
+    subst (λ (x : OperationState). IsStage y x) (sym is) (record { layout = same; going = subst (λ (z : FileState). IsOpen z) (sym at) tt })
+settled-inside y file (Ended r end) new same at is = subst (λ (x : OperationState). IsStage y x) (sym is) tt
 
-pub settled-work : (file : FileMachine) (state : FileState) (new : Stage) → file.state ≡ state → IsRangeStage file state new → work_of new ≡ in_range state
-settled-work file (Reads r s) new at is = ap (λ (x : Stage). work_of x) is ∙ ap (λ (z : FileState). in_range z) at
-settled-work file (Writes r text s) new at is = ap (λ (x : Stage). work_of x) is ∙ ap (λ (z : FileState). in_range z) at
-settled-work file (Ended r end) new at is = ap (λ (x : Stage). work_of x) is
+pub settled-work : (file : FileMachine) (state : FileState) (new : OperationState) → file.state ≡ state → IsRangeStage file state new → work_of new ≡ in_range state
+settled-work file (Reads r s) new at is = ap (λ (x : OperationState). work_of x) is ∙ ap (λ (z : FileState). in_range z) at
+settled-work file (Writes r text s) new at is = ap (λ (x : OperationState). work_of x) is ∙ ap (λ (z : FileState). in_range z) at
+settled-work file (Ended r end) new at is = ap (λ (x : OperationState). work_of x) is
 
 pub range-begun : (layout : Layout) (info : FileInfo) (plan : RangePlan) → in_range (begun layout info plan) ≡ range_planned layout info plan
 range-begun layout info (WriteBytes offset bytes) = refl
@@ -171,7 +171,7 @@ module _ (file new_file : FileMachine) (bins : List ℕ) where
   no-record-missed (asks.Gave block e) h = h
   no-record-missed asks.End h = h
 
-  module _ (new : Stage) (is : IsRangeStage new_file new_file.state new) where
+  module _ (new : OperationState) (is : IsRangeStage new_file new_file.state new) where
     pub replied : (x : Reply) (a : FileAnswer) → range_reply file.state x ≡ Some a → IsFileAnswered file a bins new_file →
         Goes (machine_of file.layout (stage.Ranging file)) file.pairs (Replied x) (machine_of file.layout new)
     replied x a same h =

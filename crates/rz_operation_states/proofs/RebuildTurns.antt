@@ -14,8 +14,8 @@ use Rattle.rz_operation_model.specs.Rebuild.{Rebuild, Going, Ended, rebuild_told
 use Rattle.rz_operation_model.specs.Steps.{Told, Replied, Answered, Missed, Noted, told, in_rebuild}
 use Rattle.rz_reader.specs.Machine.{AreFitting}
 use Rattle.rz_rebuild.specs.Machine.{Machine as Rebuilder, Goes as RebuildGoes, IsAnswered as IsRebuildAnswered, told_in, pairs_in as rebuild_pairs, IsBlockIn as IsRebuildBlock, pairs_fetched as rebuild_fetched}
-use Rattle.rz_operation_states.specs.declared.stage.Stage.{Stage}
-use Rattle.rz_operation_states.specs.declared.stage.Stage.TheVariants as stage
+use Rattle.rz_operation_states.specs.declared.stage.OperationState.{OperationState}
+use Rattle.rz_operation_states.specs.declared.stage.OperationState.TheVariants as stage
 use Rattle.rz_operation_states.specs.Told.{rebuild_reply, rebuild_answer}
 use Rattle.rz_operation_states.specs.Answers.{pairs_in, pairs_fetched, IsBlockIn, Goes, IsAnswered}
 use Rattle.rz_operation_states.specs.Inside.{IsGoing, IsRebuildStage, machine_of}
@@ -76,14 +76,14 @@ noted layout n (Ended end) text going = absurd going
 
 -- How the operation goes on.
 
-pub settled-goes : (n : ℕ) (b b' : Rebuilder) (had : List Pair) (t : Told) (next : Rebuild) (new : Stage) → RebuildGoes b had next b' →
+pub settled-goes : (n : ℕ) (b b' : Rebuilder) (had : List Pair) (t : Told) (next : Rebuild) (new : OperationState) → RebuildGoes b had next b' →
     told b.layout (in_rebuild n b.state) t ≡ in_rebuild n next → IsRebuildStage n b' b'.state new →
     Goes (machine_of b.layout (stage.Rebuilding n b)) had t (machine_of b.layout new)
 settled-goes n b b' had t next new goes same is = go b'.state refl is
   where
     go : (state : Rebuild) → b'.state ≡ state → IsRebuildStage n b' state new → Goes (machine_of b.layout (stage.Rebuilding n b)) had t (machine_of b.layout new)
     go (Going s) at here =
-        subst (λ (x : Stage). Goes (machine_of b.layout (stage.Rebuilding n b)) had t (machine_of b.layout x)) (sym here)
+        subst (λ (x : OperationState). Goes (machine_of b.layout (stage.Rebuilding n b)) had t (machine_of b.layout x)) (sym here)
         (record {
           layout = refl;
           work = ap (in_rebuild n) goes.state ∙ sym same;
@@ -91,7 +91,7 @@ settled-goes n b b' had t next new goes same is = go b'.state refl is
           block = same-block b.layout n b'.state had b'.block goes.block;
         })
     go (Ended end) at here =
-        subst (λ (x : Stage). Goes (machine_of b.layout (stage.Rebuilding n b)) had t (machine_of b.layout x)) (sym here)
+        subst (λ (x : OperationState). Goes (machine_of b.layout (stage.Rebuilding n b)) had t (machine_of b.layout x)) (sym here)
         (record {
           layout = refl;
           work = ap (in_rebuild n) (sym at ∙ goes.state) ∙ sym same;
@@ -99,7 +99,7 @@ settled-goes n b b' had t next new goes same is = go b'.state refl is
           block = refl;
         })
 
-module _ (n : ℕ) (b b' : Rebuilder) (bins : List ℕ) (new : Stage) (going : IsGoing b.state) (is : IsRebuildStage n b' b'.state new) where
+module _ (n : ℕ) (b b' : Rebuilder) (bins : List ℕ) (new : OperationState) (going : IsGoing b.state) (is : IsRebuildStage n b' b'.state new) where
   -- an answer of a node that tells the rebuild `a`
   goes-on : (answer : NodeAnswer) (a : RebuildAnswer) → told b.layout (in_rebuild n b.state) (Answered true answer) ≡ in_rebuild n (told_in b.layout true b.state a) →
       RebuildGoes b b.pairs (told_in b.layout true b.state a) b' →

@@ -15,21 +15,21 @@ use Rattle.rz_operation_model.specs.Files.{FileState, Ended as FileEnded}
 use Rattle.rz_file.specs.Machine.{Machine as FileMachine}
 use Rattle.rz_rebuild.specs.Machine.{Machine as Rebuilder}
 use Rattle.rz_operation_states.specs.Answers.{IsWithinFile}
-use Rattle.rz_operation_states.specs.declared.stage.Stage.{Stage}
-use Rattle.rz_operation_states.specs.declared.stage.Stage.TheVariants as stage
-use Rattle.rz_operation_states.specs.declared.stage.Plan.{Plan}
-use Rattle.rz_operation_states.specs.declared.stage.Plan.TheVariants as plan
+use Rattle.rz_operation_states.specs.declared.stage.OperationState.{OperationState}
+use Rattle.rz_operation_states.specs.declared.stage.OperationState.TheVariants as stage
+use Rattle.rz_operation_states.specs.declared.stage.OpenPlan.{OpenPlan}
+use Rattle.rz_operation_states.specs.declared.stage.OpenPlan.TheVariants as plan
 use Rattle.rz_operation_states.specs.Meaning.{path_in}
 use Rattle.rz_operation_states.specs.Machine.{Machine}
 
 -- What contracts see.
 
-abbrev pub plan_of : Plan → PlanOf
+abbrev pub plan_of : OpenPlan → PlanOf
 plan_of (plan.Put block writer text) = OnBlock (PutBlock block text)
 plan_of (plan.Get block reader) = OnBlock (GetBlock block)
 plan_of (plan.Range p) = OnRange p.plan
 
-abbrev pub work_of : Stage → Work
+abbrev pub work_of : OperationState → Work
 work_of (stage.Calling c) = Calling c
 work_of (stage.Dropping fid places done) = Dropping fid (slice_index places done) (drop (done + 1) places)
 work_of (stage.Opening c p) = Opening (path_in c) (plan_of p)
@@ -41,25 +41,25 @@ work_of (stage.Rebuilding n rebuilder) = in_rebuild n rebuilder.state
 work_of (stage.Ending answer) = Ending answer
 work_of stage.Over = Over
 
-abbrev pub pairs_of : Stage → List Pair
+abbrev pub pairs_of : OperationState → List Pair
 pairs_of (stage.Reading reader) = reader.pairs
 pairs_of (stage.Ranging file) = file.pairs
 pairs_of (stage.Rebuilding n rebuilder) = rebuilder.pairs
 pairs_of s = []
 
-abbrev pub block_in : Stage → Option Grid
+abbrev pub block_in : OperationState → Option Grid
 block_in (stage.Reading reader) = reader.block
 block_in (stage.Ranging file) = file.block
 block_in (stage.Rebuilding n rebuilder) = rebuilder.block
 block_in s = None
 
-abbrev pub machine_of : Layout → Stage → Machine
+abbrev pub machine_of : Layout → OperationState → Machine
 machine_of layout s = record { layout = layout; work = work_of s; pairs = pairs_of s; block = block_in s }
 
 -- What holds between two answers.
 
 -- a machine that waits has the memory of a block
-abbrev pub IsPlan : Layout → Plan → Type 0
+abbrev pub IsPlan : Layout → OpenPlan → Type 0
 IsPlan layout (plan.Put block writer text) = (writer.state.layout ≡ layout) × IsSome writer.block × (length text ≤ block_bytes_of layout)
 IsPlan layout (plan.Get block reader) = reader.state.layout ≡ layout
 IsPlan layout (plan.Range p) = p.layout ≡ layout
@@ -89,7 +89,7 @@ pub record IsRebuilding (y : Layout) (n : ℕ) (rebuilder : Rebuilder) : Type 0 
   pub node : rebuilder.node ≡ n
   pub going : IsGoing rebuilder.state
 
-abbrev pub IsStage : Layout → Stage → Type 0
+abbrev pub IsStage : Layout → OperationState → Type 0
 IsStage layout (stage.Dropping fid places done) = done < length places
 IsStage layout (stage.Opening c p) = (c ≡ tree.OpenFile (path_in c)) × IsPlan layout p
 IsStage layout (stage.Locking c p) = (c ≡ tree.OpenFile (path_in c)) × (p.layout ≡ layout) × IsWithinFile p.plan
@@ -100,34 +100,34 @@ IsStage layout (stage.Rebuilding n rebuilder) = IsRebuilding layout n rebuilder
 IsStage layout s = Unit {0}
 
 -- nothing was fetched yet
-abbrev pub IsFresh : Stage → Type 0
+abbrev pub IsFresh : OperationState → Type 0
 IsFresh (stage.Reading reader) = (reader.pairs ≡ []) × (reader.block ≡ None)
 IsFresh (stage.Ranging file) = (file.pairs ≡ []) × (file.block ≡ None)
 IsFresh (stage.Rebuilding n rebuilder) = ⊥
 IsFresh s = Unit {0}
 
 -- no block is in hand, and no file is about to be opened
-abbrev pub IsQuiet : Stage → Type 0
+abbrev pub IsQuiet : OperationState → Type 0
 IsQuiet (stage.Dropping fid places done) = done < length places
 IsQuiet (stage.Ending answer) = Unit {0}
 IsQuiet stage.Over = Unit {0}
 IsQuiet _ = ⊥
 
 -- what becomes of a range
-abbrev pub IsRangeStage : FileMachine → FileState → Stage → Type 0
+abbrev pub IsRangeStage : FileMachine → FileState → OperationState → Type 0
 IsRangeStage file (FileEnded r end) new = new ≡ stage.Ending (range_answer r.aim end)
 IsRangeStage file state new = new ≡ stage.Ranging file
 
 -- what becomes of a rebuild
-abbrev pub IsRebuildStage : ℕ → Rebuilder → Rebuild → Stage → Type 0
+abbrev pub IsRebuildStage : ℕ → Rebuilder → Rebuild → OperationState → Type 0
 IsRebuildStage n rebuilder (Going s) new = new ≡ stage.Rebuilding n rebuilder
 IsRebuildStage n rebuilder (Ended end) new = new ≡ stage.Ending (answers.Rebuild end)
 
 -- the answer is said
-abbrev pub IsDoneStage : Stage → Type 0
+abbrev pub IsDoneStage : OperationState → Type 0
 IsDoneStage (stage.Ending answer) = Unit {0}
 IsDoneStage s = ⊥
 
-abbrev pub IsAnswerIn : Stage → Answer → Type 0
+abbrev pub IsAnswerIn : OperationState → Answer → Type 0
 IsAnswerIn (stage.Ending a) answer = answer ≡ a
 IsAnswerIn s answer = ⊥

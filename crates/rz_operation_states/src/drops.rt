@@ -8,7 +8,7 @@ ghost use Rattle.rz_operation_states.specs.Meaning.{meaning_of};
 ghost use Rattle.rz_operation_states.specs.Inside.{IsQuiet, work_of};
 
 use crate::ask::Ask;
-use crate::stage::Stage;
+use crate::stage::OperationState;
 use rz_events::{Answer, DropAnswer, NodeAsk, Places};
 
 /// What the drops of a file ask.
@@ -23,7 +23,7 @@ pub fn drop_ask(fid: u128, places: &Places, done: u8) -> Ask<'static>
 }
 
 /// How the drops go on after a node's answer.
-pub fn after_drop(fid: u128, places: Places, done: u8, answer: DropAnswer) -> Stage
+pub fn after_drop(fid: u128, places: Places, done: u8, answer: DropAnswer) -> OperationState
     requires { done < length places }
     ensures work { work_of result ≡ after_drop fid (slice_index places done) (drop (done + 1) places) answer }
     ensures quiet { IsQuiet result }
@@ -39,7 +39,7 @@ pub fn after_drop(fid: u128, places: Places, done: u8, answer: DropAnswer) -> St
 }
 
 /// One node more is done.
-pub fn dropped(fid: u128, places: Places, done: u8) -> Stage
+pub fn dropped(fid: u128, places: Places, done: u8) -> OperationState
     requires { done < length places }
     ensures work { work_of result ≡ drop_at fid (drop (done + 1) places) }
     ensures quiet { IsQuiet result }
@@ -49,14 +49,14 @@ pub fn dropped(fid: u128, places: Places, done: u8) -> Stage
 }
 
 /// The drops of a file, of which so many nodes are done.
-pub fn dropping(fid: u128, places: Places, done: u8) -> Stage
+pub fn dropping(fid: u128, places: Places, done: u8) -> OperationState
     requires { done ≤ length places }
     ensures work { work_of result ≡ drop_at fid (drop done places) }
     ensures quiet { IsQuiet result }
 {
     if (done as usize) < places.list().len() {
-        Stage::Dropping { fid, places, done }
+        OperationState::Dropping { fid, places, done }
     } else {
-        Stage::Ending(Answer::Plain)
+        OperationState::Ending(Answer::Plain)
     }
 }

@@ -1,6 +1,6 @@
 //! The stages of an operation: what each asks next, and how it goes on after an answer.
 //!
-//! A `Stage` is how far an operation has come, with the machine of the block, the range or the rebuild that
+//! A `OperationState` is how far an operation has come, with the machine of the block, the range or the rebuild that
 //! is in hand there. The functions of a module answer for one kind of stage: an `Ask` that borrows what it
 //! names, and after an answer the stage that follows. Their contracts say that stage and ask are those of
 //! `rz_operation_model`. Which stage comes first, and which takes which answer, the crate above says.
@@ -17,4 +17,4 @@ pub mod rebuilds;
 mod stage;
 
 pub use ask::{Ask, Saying, goes_by_link};
-pub use stage::{Plan, Stage};
+pub use stage::{OpenPlan, OperationState};

@@ -15,7 +15,7 @@ ghost use Rattle.rz_operation_states.specs.Inside.{IsStage, IsFresh, IsRanging, 
 
 use crate::ask::{Ask, Saying};
 use crate::blocks::{read_answer, read_asked, write_answer, write_asked};
-use crate::stage::Stage;
+use crate::stage::OperationState;
 use mj_angles::Layout;
 use rz_events::{
     Answer, FileAnswer, FileAsk, FileEnd, FileInfo, NodeAnswer, ReadEnd, ReadMark, ReaderAnswer,
@@ -74,7 +74,7 @@ fn miss_told(file: &FileMachine) -> FileAnswer
 }
 
 /// The file is open: the range is written or read.
-pub fn open_range(layout: Layout, info: &FileInfo, plan: FilePlan) -> Stage
+pub fn open_range(layout: Layout, info: &FileInfo, plan: FilePlan) -> OperationState
     requires layout { plan.layout ≡ layout }
     requires places { length info.now.places ≡ safe_of layout }
     ensures work { work_of result ≡ range_planned layout info.now plan.plan }
@@ -85,12 +85,12 @@ pub fn open_range(layout: Layout, info: &FileInfo, plan: FilePlan) -> Stage
 }
 
 /// What becomes of a range: its end is the answer.
-fn settled(file: FileMachine) -> Stage
+fn settled(file: FileMachine) -> OperationState
     ensures { IsRangeStage file file.state result }
 {
     match file.end() {
-        Some(end) => Stage::Ending(answer_of(file, end)),
-        None => Stage::Ranging(file),
+        Some(end) => OperationState::Ending(answer_of(file, end)),
+        None => OperationState::Ranging(file),
     }
 }
 
@@ -138,10 +138,10 @@ fn short_end(mark: ReadMark) -> ReadEnd
 }
 
 /// How the operation goes on after a reply of the export.
-pub fn range_replied(layout: Layout, mut file: FileMachine, reply: &Reply) -> Stage
+pub fn range_replied(layout: Layout, mut file: FileMachine, reply: &Reply) -> OperationState
     requires inside { IsRanging layout file }
-    requires asked { IsReply layout (ask_of layout (work_of (Stage.Ranging file))) reply.now }
-    ensures goes { Goes (machine_of layout (Stage.Ranging file)) file.pairs (Replied reply.now) (machine_of layout result) }
+    requires asked { IsReply layout (ask_of layout (work_of (OperationState.Ranging file))) reply.now }
+    ensures goes { Goes (machine_of layout (OperationState.Ranging file)) file.pairs (Replied reply.now) (machine_of layout result) }
     ensures inside { IsStage layout result }
 {
     let Some(answer) = reply_told(&file, reply) else {
@@ -157,11 +157,11 @@ pub fn range_answered(
     mut file: FileMachine,
     answer: NodeAnswer,
     bins: &[u64],
-) -> Stage
+) -> OperationState
     requires inside { IsRanging layout file }
-    requires asked { IsAnswer layout (ask_of layout (work_of (Stage.Ranging file))) answer }
-    requires bins { ComeWith layout (ask_of layout (work_of (Stage.Ranging file))) answer bins.now }
-    ensures goes { IsAnswered (machine_of layout (Stage.Ranging file)) answer bins.now (machine_of layout result) }
+    requires asked { IsAnswer layout (ask_of layout (work_of (OperationState.Ranging file))) answer }
+    requires bins { ComeWith layout (ask_of layout (work_of (OperationState.Ranging file))) answer bins.now }
+    ensures goes { IsAnswered (machine_of layout (OperationState.Ranging file)) answer bins.now (machine_of layout result) }
     ensures inside { IsStage layout result }
 {
     let Some(told) = answer_told(answer) else {
@@ -172,10 +172,10 @@ pub fn range_answered(
 }
 
 /// How the operation goes on after a message to a node, or its answer, was lost.
-pub fn range_missed(layout: Layout, mut file: FileMachine) -> Stage
+pub fn range_missed(layout: Layout, mut file: FileMachine) -> OperationState
     requires inside { IsRanging layout file }
-    requires asked { MayMiss (ask_of layout (work_of (Stage.Ranging file))) }
-    ensures goes { Goes (machine_of layout (Stage.Ranging file)) file.pairs Missed (machine_of layout result) }
+    requires asked { MayMiss (ask_of layout (work_of (OperationState.Ranging file))) }
+    ensures goes { Goes (machine_of layout (OperationState.Ranging file)) file.pairs Missed (machine_of layout result) }
     ensures inside { IsStage layout result }
 {
     file.tell(miss_told(&file), &[]);
@@ -183,10 +183,10 @@ pub fn range_missed(layout: Layout, mut file: FileMachine) -> Stage
 }
 
 /// How the operation goes on once the end of a block was said.
-pub fn range_said(layout: Layout, mut file: FileMachine) -> Stage
+pub fn range_said(layout: Layout, mut file: FileMachine) -> OperationState
     requires inside { IsRanging layout file }
-    requires asked { IsPartSaid (ask_of layout (work_of (Stage.Ranging file))) }
-    ensures goes { Goes (machine_of layout (Stage.Ranging file)) file.pairs (Noted (text_of (machine_of layout (Stage.Ranging file)))) (machine_of layout result) }
+    requires asked { IsPartSaid (ask_of layout (work_of (OperationState.Ranging file))) }
+    ensures goes { Goes (machine_of layout (OperationState.Ranging file)) file.pairs (Noted (text_of (machine_of layout (OperationState.Ranging file)))) (machine_of layout result) }
     ensures inside { IsStage layout result }
 {
     file.tell(FileAnswer::Noted, &[]);

@@ -11,7 +11,7 @@ ghost use Rattle.rz_operation_states.specs.Told.{rebuild_reply, rebuild_answer};
 ghost use Rattle.rz_operation_states.specs.Inside.{IsStage, IsRebuilding, IsRebuildStage, machine_of, work_of};
 
 use crate::ask::{Ask, Saying};
-use crate::stage::Stage;
+use crate::stage::OperationState;
 use mj_angles::Layout;
 use rz_events::{Answer, CallRef, Head, NodeAnswer, NodeAsk, RebuildAnswer, RebuildAsk, Reply};
 use rz_rebuild::Rebuilder;
@@ -108,23 +108,28 @@ fn answer_told(answer: NodeAnswer) -> Option<RebuildAnswer>
 }
 
 /// What becomes of a rebuild: its end is the answer.
-fn settled(node: u16, rebuilder: Rebuilder) -> Stage
+fn settled(node: u16, rebuilder: Rebuilder) -> OperationState
     ensures { IsRebuildStage node rebuilder rebuilder.state result }
 {
     match rebuilder.end() {
         Some(end) => {
             drop(rebuilder);
-            Stage::Ending(Answer::Rebuild(end))
+            OperationState::Ending(Answer::Rebuild(end))
         }
-        None => Stage::Rebuilding { node, rebuilder },
+        None => OperationState::Rebuilding { node, rebuilder },
     }
 }
 
 /// How the operation goes on after a reply of the export.
-pub fn rebuild_replied(layout: Layout, node: u16, mut rebuilder: Rebuilder, reply: &Reply) -> Stage
+pub fn rebuild_replied(
+    layout: Layout,
+    node: u16,
+    mut rebuilder: Rebuilder,
+    reply: &Reply,
+) -> OperationState
     requires inside { IsRebuilding layout node rebuilder }
-    requires asked { IsReply layout (ask_of layout (work_of (Stage.Rebuilding node rebuilder))) reply.now }
-    ensures goes { Goes (machine_of layout (Stage.Rebuilding node rebuilder)) rebuilder.pairs (Replied reply.now) (machine_of layout result) }
+    requires asked { IsReply layout (ask_of layout (work_of (OperationState.Rebuilding node rebuilder))) reply.now }
+    ensures goes { Goes (machine_of layout (OperationState.Rebuilding node rebuilder)) rebuilder.pairs (Replied reply.now) (machine_of layout result) }
     ensures inside { IsStage layout result }
 {
     let Some(answer) = reply_told(reply) else {
@@ -141,11 +146,11 @@ pub fn rebuild_answered(
     mut rebuilder: Rebuilder,
     answer: NodeAnswer,
     bins: &[u64],
-) -> Stage
+) -> OperationState
     requires inside { IsRebuilding layout node rebuilder }
-    requires asked { IsAnswer layout (ask_of layout (work_of (Stage.Rebuilding node rebuilder))) answer }
-    requires bins { ComeWith layout (ask_of layout (work_of (Stage.Rebuilding node rebuilder))) answer bins.now }
-    ensures goes { IsAnswered (machine_of layout (Stage.Rebuilding node rebuilder)) answer bins.now (machine_of layout result) }
+    requires asked { IsAnswer layout (ask_of layout (work_of (OperationState.Rebuilding node rebuilder))) answer }
+    requires bins { ComeWith layout (ask_of layout (work_of (OperationState.Rebuilding node rebuilder))) answer bins.now }
+    ensures goes { IsAnswered (machine_of layout (OperationState.Rebuilding node rebuilder)) answer bins.now (machine_of layout result) }
     ensures inside { IsStage layout result }
 {
     let Some(told) = answer_told(answer) else {
@@ -156,10 +161,10 @@ pub fn rebuild_answered(
 }
 
 /// How the operation goes on after a message to a node, or its answer, was lost.
-pub fn rebuild_missed(layout: Layout, node: u16, mut rebuilder: Rebuilder) -> Stage
+pub fn rebuild_missed(layout: Layout, node: u16, mut rebuilder: Rebuilder) -> OperationState
     requires inside { IsRebuilding layout node rebuilder }
-    requires asked { MayMiss (ask_of layout (work_of (Stage.Rebuilding node rebuilder))) }
-    ensures goes { Goes (machine_of layout (Stage.Rebuilding node rebuilder)) rebuilder.pairs Missed (machine_of layout result) }
+    requires asked { MayMiss (ask_of layout (work_of (OperationState.Rebuilding node rebuilder))) }
+    ensures goes { Goes (machine_of layout (OperationState.Rebuilding node rebuilder)) rebuilder.pairs Missed (machine_of layout result) }
     ensures inside { IsStage layout result }
 {
     rebuilder.tell(RebuildAnswer::Missed, &[]);
@@ -167,10 +172,10 @@ pub fn rebuild_missed(layout: Layout, node: u16, mut rebuilder: Rebuilder) -> St
 }
 
 /// How the operation goes on once it was said that a block was left.
-pub fn rebuild_said(layout: Layout, node: u16, mut rebuilder: Rebuilder) -> Stage
+pub fn rebuild_said(layout: Layout, node: u16, mut rebuilder: Rebuilder) -> OperationState
     requires inside { IsRebuilding layout node rebuilder }
-    requires asked { IsPartSaid (ask_of layout (work_of (Stage.Rebuilding node rebuilder))) }
-    ensures goes { Goes (machine_of layout (Stage.Rebuilding node rebuilder)) rebuilder.pairs (Noted (text_of (machine_of layout (Stage.Rebuilding node rebuilder)))) (machine_of layout result) }
+    requires asked { IsPartSaid (ask_of layout (work_of (OperationState.Rebuilding node rebuilder))) }
+    ensures goes { Goes (machine_of layout (OperationState.Rebuilding node rebuilder)) rebuilder.pairs (Noted (text_of (machine_of layout (OperationState.Rebuilding node rebuilder)))) (machine_of layout result) }
     ensures inside { IsStage layout result }
 {
     rebuilder.tell(RebuildAnswer::Noted, &[]);

@@ -8,13 +8,13 @@ use rz_writer::Writer;
 
 /// How far an operation has come, with the machine that it needs there.
 #[derive(Drop)]
-pub enum Stage {
+pub enum OperationState {
     /// One call on names.
     Calling(TreeCall),
     /// The records of a file are dropped at its nodes, of which so many are done.
     Dropping { fid: u128, places: Places, done: u8 },
     /// The file is opened by this call.
-    Opening { call: TreeCall, plan: Plan },
+    Opening { call: TreeCall, plan: OpenPlan },
     /// It is opened by this call, and its bytes are locked.
     Locking { call: TreeCall, plan: FilePlan },
     /// A block is written with this text.
@@ -32,7 +32,7 @@ pub enum Stage {
 
 /// What is done with the file once it is open, with a machine that has its memory and waits.
 #[derive(Drop)]
-pub enum Plan {
+pub enum OpenPlan {
     Put {
         block: u64,
         writer: Writer,

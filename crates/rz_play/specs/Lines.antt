@@ -18,7 +18,7 @@ use Rattle.rz_core.specs.Tied.{IsOpening}
 use Rattle.rz_events.specs.declared.operations.Operation.{Operation}
 use Rattle.rz_script.specs.declared.line.Line.{Line}
 use Rattle.rz_script.specs.declared.line.Line.TheVariants as line
-use Rattle.rz_play.specs.World.{World, Seat, with_seat, has_work, actors}
+use Rattle.rz_play.specs.World.{World, Agenda, with_agenda, has_work, actors}
 use Rattle.rz_play.specs.Turns.{IsTurn, answered}
 
 -- Turns and rounds.
@@ -35,7 +35,7 @@ IsTurnOr false v by w next = next ≡ w
 -- and so do these, one after another
 abbrev pub IsRound : Volume → List Actor → World → World → Type 0
 IsRound v [] w next = next ≡ w
-IsRound v (by ∷ more) w next = (mid : World) × IsTurnOr (has_work (w.seats by)) v by w mid × IsRound v more mid next
+IsRound v (by ∷ more) w next = (mid : World) × IsTurnOr (has_work (w.agendas by)) v by w mid × IsRound v more mid next
 
 abbrev pub IsRounds : Volume → ℕ → World → World → Type 0
 IsRounds v zero w next = next ≡ w
@@ -43,7 +43,7 @@ IsRounds v (suc k) w next = (mid : World) × IsRound v actors w mid × IsRounds 
 
 -- no actor has work
 abbrev pub IsAtRest : World → Type 0
-IsAtRest w = AllByRecursion (λ by. has_work (w.seats by) ≡ false) actors
+IsAtRest w = AllByRecursion (λ by. has_work (w.agendas by) ≡ false) actors
 
 -- The administrator.
 
@@ -63,16 +63,16 @@ pub record IsAdminCall (v : Volume) (n : ℕ) (question : NodeAsk) (w next : Wor
   pub told : IsTold given
   pub next_is : next ≡ record (answered w n question given) { log = noted (node_event Admin n question given) w.log }
 
-abbrev pub with_operation : Seat → Operation → Seat
+abbrev pub with_operation : Agenda → Operation → Agenda
 with_operation s op = record s { todo = s.todo ++ op ∷ [] }
 
 -- a line before that was not used is replaced
-abbrev pub with_miss : Seat → Bool → Seat
+abbrev pub with_miss : Agenda → Bool → Agenda
 with_miss s reply = record s { miss = Some reply }
 
 -- The whole line.
 abbrev pub PlaysLine : Volume → Line → World → World → Type 0
-PlaysLine v (line.Op by op) w next = next ≡ with_seat w by (with_operation (w.seats by) op)
+PlaysLine v (line.Op by op) w next = next ≡ with_agenda w by (with_operation (w.agendas by) op)
 PlaysLine v (line.Turn by k) w next = IsTurns v by k w next
 PlaysLine v (line.Rounds k) w next = IsRounds v k w next
 PlaysLine v line.Rest w next = (k : ℕ) × IsRounds v k w next × IsAtRest next
@@ -80,4 +80,4 @@ PlaysLine v (line.Stop n) w next = IsAdminCall v n ask.Stop w next
 PlaysLine v (line.Start n) w next = IsAdminCall v n ask.Start w next
 PlaysLine v (line.Lose n) w next = IsAdminCall v n ask.Lose w next
 PlaysLine v (line.Break n k pick) w next = next ≡ record w { log = e.Armed n k pick ∷ w.log }
-PlaysLine v (line.Miss by reply) w next = next ≡ with_seat w by (with_miss (w.seats by) reply)
+PlaysLine v (line.Miss by reply) w next = next ≡ with_agenda w by (with_miss (w.agendas by) reply)

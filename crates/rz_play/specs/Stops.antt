@@ -32,7 +32,7 @@ pub data StopCause : Type 0 where
 
 abbrev pub HasCause : Volume → StopCause → World → Actor → Type 0
 HasCause v TurnsSpent w by = w.turns ≡ most_turns
-HasCause v JournalRefused w by = (w.turns < most_turns) × IsChange w.export by (ask_of v.layout (at_work (w.seats by)).work)
+HasCause v JournalRefused w by = (w.turns < most_turns) × IsChange w.export by (ask_of v.layout (at_work (w.agendas by)).work)
 
 -- The turns before it.
 
@@ -43,7 +43,7 @@ pub record StopsRound (v : Volume) (cause : StopCause) (w next : World) : Type 0
   pub more : List Actor
   pub order : actors ≡ done ++ by ∷ more
   pub played : IsRound v done w next
-  pub waits : has_work (next.seats by) ≡ true
+  pub waits : has_work (next.agendas by) ≡ true
   pub why : HasCause v cause next by
 
 abbrev pub StopsLine : Volume → StopCause → Line → World → World → Type 0

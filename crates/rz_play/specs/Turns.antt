@@ -27,7 +27,7 @@ use Rattle.rz_core.specs.NodeRows.{cells_of}
 use Rattle.rz_operation_model.specs.Ask.{Ask, AskExport, AskNode, AskLock, Say, Rest, Saying, SayGot, SayDone, ask_of}
 use Rattle.rz_operation_model.specs.Turns.{said_event, goes_by_link}
 use Rattle.rz_operation_model.specs.Steps.{Told, Replied, Locked, Answered, Missed, Noted, told as told_work}
-use Rattle.rz_play.specs.World.{World, Seat, with_seat, with_node, with_work, at_work, IsFree}
+use Rattle.rz_play.specs.World.{World, Agenda, with_agenda, with_node, with_work, at_work, IsFree}
 
 -- Events of the actor's own word.
 
@@ -65,15 +65,15 @@ lost_after (Some planned) lost = lost
 -- The turn. `s` is the actor at work, and `xs` has the events of the turn, the newest first.
 
 -- after a turn with these events the actor goes on so
-abbrev pub moved : World → Actor → Seat → List Event → World
-moved w by s xs = record (with_seat w by s) { log = xs ++ w.log }
+abbrev pub moved : World → Actor → Agenda → List Event → World
+moved w by s xs = record (with_agenda w by s) { log = xs ++ w.log }
 
 -- the actor is told the answer
-abbrev pub advanced : Volume → Seat → Told → Seat
+abbrev pub advanced : Volume → Agenda → Told → Agenda
 advanced v s t = with_work s (told_work v.layout s.work t)
 
 -- the export answers a call
-abbrev pub IsExportTurn : Volume → World → Actor → Seat → Call → World → Type 0
+abbrev pub IsExportTurn : Volume → World → Actor → Agenda → Call → World → Type 0
 IsExportTurn v w by s c next = (x : Event) × (export_event by c (export_reply w.export c) ≡ Some x)
     × (next ≡ record (moved w by (advanced v s (Replied (export_reply w.export c))) (x ∷ [])) { export = export_after w.export c })
 
@@ -93,10 +93,10 @@ abbrev pub IsGranted : World → Actor → Option Lock → Bool → Type 0
 IsGranted w by None granted = granted ≡ false
 IsGranted w by (Some lock) granted = (granted ≡ true) ↔ IsFree w by lock
 
-abbrev pub locked : Bool → Option Lock → Seat → Seat
+abbrev pub locked : Bool → Option Lock → Agenda → Agenda
 locked granted lock s = record s { lock = cond granted lock s.lock }
 
-abbrev pub IsLockTurn : Volume → World → Actor → Seat → List ℕ → Bool → ℕ → ℕ → World → Type 0
+abbrev pub IsLockTurn : Volume → World → Actor → Agenda → List ℕ → Bool → ℕ → ℕ → World → Type 0
 IsLockTurn v w by s path exclusive from count next =
     let c = call.Tree (tree.OpenFile path) in
     let answer = export_reply w.export c in
@@ -112,39 +112,39 @@ pub record IsGiven (v : Volume) (w : World) (by : Actor) (n : ℕ) (question : N
 abbrev pub answered : World → ℕ → NodeAsk → NodeAnswer → World
 answered w n question given = with_node w n (after_answer question given (w.nodes n))
 
-abbrev pub no_miss : Seat → Seat
+abbrev pub no_miss : Agenda → Agenda
 no_miss s = record s { miss = None }
 
-abbrev pub with_lost : Seat → World → World
+abbrev pub with_lost : Agenda → World → World
 with_lost s w = record w { lost = lost_after s.miss w.lost }
 
 -- the request and the answer come through
-abbrev pub IsThroughTurn : Volume → World → Actor → Seat → ℕ → NodeAsk → World → Type 0
+abbrev pub IsThroughTurn : Volume → World → Actor → Agenda → ℕ → NodeAsk → World → Type 0
 IsThroughTurn v w by s n question next = (given : NodeAnswer) × (x : Event) × IsGiven v w by n question given x
     × IsThrough s.miss question × (next ≡ moved (answered w n question given) by (advanced v s (Answered true given)) (x ∷ []))
 
 -- the node acts, and its answer is lost
-abbrev pub IsReplyLost : Volume → World → Actor → Seat → ℕ → NodeAsk → World → Type 0
+abbrev pub IsReplyLost : Volume → World → Actor → Agenda → ℕ → NodeAsk → World → Type 0
 IsReplyLost v w by s n question next = (given : NodeAnswer) × (x : Event) × IsGiven v w by n question given x
     × IsLost s.miss question true
     × (next ≡ with_lost s (moved (answered w n question given) by (no_miss (advanced v s Missed)) (e.Missed by n true ∷ x ∷ [])))
 
 -- the request is lost
-abbrev pub IsRequestLost : Volume → World → Actor → Seat → ℕ → NodeAsk → World → Type 0
+abbrev pub IsRequestLost : Volume → World → Actor → Agenda → ℕ → NodeAsk → World → Type 0
 IsRequestLost v w by s n question next = IsLost s.miss question false
     × (next ≡ with_lost s (moved w by (no_miss (advanced v s Missed)) (e.Missed by n false ∷ [])))
 
-pub data IsNodeTurn (v : Volume) (w : World) (by : Actor) (s : Seat) (n : ℕ) (question : NodeAsk) (next : World) : Type 0 where
+pub data IsNodeTurn (v : Volume) (w : World) (by : Actor) (s : Agenda) (n : ℕ) (question : NodeAsk) (next : World) : Type 0 where
   Through : IsThroughTurn v w by s n question next → IsNodeTurn v w by s n question next
   ReplyLost : IsReplyLost v w by s n question next → IsNodeTurn v w by s n question next
   RequestLost : IsRequestLost v w by s n question next → IsNodeTurn v w by s n question next
 
 -- the actor says a word of its own
-abbrev pub IsSayTurn : Volume → World → Actor → Seat → Saying → World → Type 0
+abbrev pub IsSayTurn : Volume → World → Actor → Agenda → Saying → World → Type 0
 IsSayTurn v w by s said next = let text = text_said (facts w.log) said in
     next ≡ moved w by (record (advanced v s (Noted text)) { lock = lock_after said s.lock }) (said_event by s.number text said ∷ [])
 
-abbrev pub IsAskTurn : Volume → World → Actor → Seat → Ask → World → Type 0
+abbrev pub IsAskTurn : Volume → World → Actor → Agenda → Ask → World → Type 0
 IsAskTurn v w by s (AskExport c) next = IsExportTurn v w by s c next
 IsAskTurn v w by s (AskNode n question) next = IsNodeTurn v w by s n question next
 IsAskTurn v w by s (AskLock path exclusive from count) next = IsLockTurn v w by s path exclusive from count next
@@ -156,4 +156,4 @@ counted w = record w { turns = w.turns + 1 }
 
 -- A turn of the actor. One without work changes nothing, and counts.
 abbrev pub IsTurn : Volume → Actor → World → World → Type 0
-IsTurn v by w next = let s = at_work (w.seats by) in IsAskTurn v (counted w) by s (ask_of v.layout s.work) next
+IsTurn v by w next = let s = at_work (w.agendas by) in IsAskTurn v (counted w) by s (ask_of v.layout s.work) next

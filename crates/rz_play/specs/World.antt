@@ -16,7 +16,7 @@ use Rattle.rz_operation_model.specs.Steps.{begun}
 
 -- An actor: the operations that it has not begun, the number of the last one that it began, what it is about to do, the
 -- lock that it holds, and how its next message is to be lost, the answer or the request, where a line of the script says it.
-pub record Seat : Type 0 where
+pub record Agenda : Type 0 where
   pub todo : List Operation
   pub number : ℕ
   pub work : Work
@@ -28,22 +28,22 @@ pub record Seat : Type 0 where
 pub record World : Type 0 where
   pub nodes : ℕ → NodeState
   pub export : Export
-  pub seats : Actor → Seat
+  pub agendas : Actor → Agenda
   pub turns : ℕ
   pub lost : ℕ
   pub log : List Event
 
 -- The beginning.
 
-abbrev pub empty_seat : Seat
-empty_seat = record { todo = []; number = 0; work = Over; lock = None; miss = None }
+abbrev pub empty_agenda : Agenda
+empty_agenda = record { todo = []; number = 0; work = Over; lock = None; miss = None }
 
 -- nodes and export stand so after an earlier log, and no actor has anything in hand
 abbrev pub world_after : (ℕ → NodeState) → Export → List Event → World
 world_after nodes export log = record {
   nodes = nodes;
   export = export;
-  seats = λ by. empty_seat;
+  agendas = λ by. empty_agenda;
   turns = 0;
   lost = 0;
   log = log;
@@ -55,23 +55,23 @@ new_world v = world_after (λ n. fresh) (new_export v 0) []
 
 -- What changes.
 
-abbrev pub with_seat : World → Actor → Seat → World
-with_seat w by s = record w { seats = λ a. cond (same_actor a by) s (w.seats a) }
+abbrev pub with_agenda : World → Actor → Agenda → World
+with_agenda w by s = record w { agendas = λ a. cond (same_actor a by) s (w.agendas a) }
 
 abbrev pub with_node : World → ℕ → NodeState → World
 with_node w n s = record w { nodes = λ m. cond (m == n) s (w.nodes m) }
 
-abbrev pub with_work : Seat → Work → Seat
+abbrev pub with_work : Agenda → Work → Agenda
 with_work s work = record s { work = work }
 
 -- Operations are taken up in order.
 
-abbrev pub take_up : Seat → Work → List Operation → Seat
+abbrev pub take_up : Agenda → Work → List Operation → Agenda
 take_up s Over (op ∷ ops) = record s { todo = ops; number = s.number + 1; work = begun op }
 take_up s work ops = s
 
 -- the actor as it goes to work: with its next operation, where it has none in hand
-abbrev pub at_work : Seat → Seat
+abbrev pub at_work : Agenda → Agenda
 at_work s = take_up s s.work s.todo
 
 abbrev pub is_over : Work → Bool
@@ -79,7 +79,7 @@ is_over Over = true
 is_over _ = false
 
 -- an operation is unfinished
-abbrev pub has_work : Seat → Bool
+abbrev pub has_work : Agenda → Bool
 has_work s = not (is_over (at_work s).work)
 
 -- Locks.
@@ -95,4 +95,4 @@ Bars (Some held) lock = Conflict held lock
 
 -- no other actor holds such a lock
 abbrev pub IsFree : World → Actor → Lock → Type 0
-IsFree w by lock = AllByRecursion (λ other. same_actor other by ≡ false → ¬ Bars (w.seats other).lock lock) actors
+IsFree w by lock = AllByRecursion (λ other. same_actor other by ≡ false → ¬ Bars (w.agendas other).lock lock) actors

@@ -18,6 +18,7 @@ use Rattle.rz_events.specs.declared.ends.Seen.{Seen}
 use Rattle.rz_events.specs.declared.ends.Seen.TheVariants as seen
 use Rattle.rz_events.specs.declared.events.Event.{Event}
 use Rattle.rz_events.specs.declared.files.Published.{Published}
+use Rattle.rz_safety.proofs.PositionLaws.{seens-same}
 use Rattle.rz_node_model.specs.Versions.{Stands}
 use Rattle.rz_core.specs.History.{Facts, Begun}
 use Rattle.rz_core.specs.Own.{is_recheck, since, fetched_at, IsFalling, HasDistinct}
@@ -30,13 +31,6 @@ use Rattle.rz_play_laws.specs.Own.{IsPlacing, IsFetching}
 use Rattle.rz_client_model.proofs.Masks.{safe-few}
 
 -- A table in which one outcome changes.
-
-pub seens-same : (key : Key) (s : ℕ) (new old : List Event) (i : ℕ) (places : List ℕ)
-    → ((q n : ℕ) → slice_get places q ≡ Some n → seen_at key s n new ≡ seen_at key s n old) → seens key s new i places ≡ seens key s old i places
-seens-same key s new old i [] same = refl
-seens-same key s new old i (n ∷ places) same =
-    ap (λ w. w ∷ seens key s new (i + 1) places) (same 0 n refl)
-    ∙ ap (λ ws. seen_at key s n old ∷ ws) (seens-same key s new old (i + 1) places (λ q m at. same (suc q) m at))
 
 seens-set : (key : Key) (s : ℕ) (new old : List Event) (i : ℕ) (places : List ℕ) (r : ℕ) (w : Seen) → r < length places
     → ((n : ℕ) → slice_get places r ≡ Some n → seen_at key s n new ≡ w)

@@ -27,7 +27,7 @@ use Rattle.rz_script.specs.declared.line.Line.{Line}
 use Rattle.rz_script.specs.declared.line.Line.TheVariants as line
 use Rattle.rz_node_model.specs.States.{NodeState}
 use Rattle.rz_export_model.specs.Export.{Export as ExportState}
-use Rattle.rz_play.specs.World.{World, Seat, world_after, at_work, take_up, has_work, actors}
+use Rattle.rz_play.specs.World.{World, Agenda, world_after, at_work, take_up, has_work, actors}
 use Rattle.rz_play.specs.Turns.{IsTurn, IsAskTurn, IsNodeTurn, Through, ReplyLost, RequestLost, text_said, lost_after}
 use Rattle.rz_play.specs.Lines.{IsTurns, IsTurnOr, IsRound, IsRounds, IsAdminCall, noted, PlaysLine}
 use Rattle.rz_play.specs.Stops.{StopCause, TurnsSpent, BeginsLine}
@@ -128,11 +128,11 @@ without by (p ∷ ps) (inr more) = go (without by ps more)
 -- link account for.
 pub record Owes (k : ℕ) (w : World) : Type 0 where
   pub waiting : List Actor
-  pub all : (a : Actor) (reply : Bool) → (w.seats a).miss ≡ Some reply → IsIn a waiting
+  pub all : (a : Actor) (reply : Bool) → (w.agendas a).miss ≡ Some reply → IsIn a waiting
   pub few : missed w.log + length waiting ≤ k + w.lost
 
 -- where no actor waits that did not
-owes-still : (k : ℕ) (w next : World) → ((a : Actor) (reply : Bool) → (next.seats a).miss ≡ Some reply → (w.seats a).miss ≡ Some reply)
+owes-still : (k : ℕ) (w next : World) → ((a : Actor) (reply : Bool) → (next.agendas a).miss ≡ Some reply → (w.agendas a).miss ≡ Some reply)
     → missed next.log + w.lost ≤ missed w.log + next.lost → Owes k w → Owes k next
 owes-still k w next still counts o = record {
   waiting = o.waiting;
@@ -141,8 +141,8 @@ owes-still k w next still counts o = record {
 }
 
 -- where one's line is used
-owes-used : (k : ℕ) (w next : World) (by : Actor) (planned : Bool) → (w.seats by).miss ≡ Some planned → (next.seats by).miss ≡ None
-    → ((a : Actor) → same_actor a by ≡ false → next.seats a ≡ w.seats a)
+owes-used : (k : ℕ) (w next : World) (by : Actor) (planned : Bool) → (w.agendas by).miss ≡ Some planned → (next.agendas by).miss ≡ None
+    → ((a : Actor) → same_actor a by ≡ false → next.agendas a ≡ w.agendas a)
     → missed next.log ≡ missed w.log + 1 → next.lost ≡ w.lost → Owes k w → Owes k next
 owes-used k w next by planned waits used others counts same_lost o = go (without by o.waiting (o.all by planned waits))
   where
@@ -153,14 +153,14 @@ owes-used k w next by planned waits used others counts same_lost o = go (without
       few = (let f = o.few in let l = r.fewer in omega (arith, f, l, counts, same_lost));
     }
       where
-        at : (a : Actor) (reply : Bool) → (next.seats a).miss ≡ Some reply → (b : Bool) → same_actor a by ≡ b → IsIn a r.rest
+        at : (a : Actor) (reply : Bool) → (next.agendas a).miss ≡ Some reply → (b : Bool) → same_actor a by ≡ b → IsIn a r.rest
         at a reply is true same =
-            let z : (next.seats by).miss ≡ Some reply = subst (λ y. (next.seats y).miss ≡ Some reply) (same_actor-true a by same) is in cc
-        at a reply is false apart = r.others a apart (o.all a reply (ap (λ (s : Seat). s.miss) (sym (others a apart)) ∙ is))
+            let z : (next.agendas by).miss ≡ Some reply = subst (λ y. (next.agendas y).miss ≡ Some reply) (same_actor-true a by same) is in cc
+        at a reply is false apart = r.others a apart (o.all a reply (ap (λ (s : Agenda). s.miss) (sym (others a apart)) ∙ is))
 
 -- A turn.
 
-kept-miss : (s : Seat) (work : Work) (ops : List Operation) → (take_up s work ops).miss ≡ s.miss
+kept-miss : (s : Agenda) (work : Work) (ops : List Operation) → (take_up s work ops).miss ≡ s.miss
 kept-miss s Over (op ∷ ops) = refl
 kept-miss s Over [] = refl
 kept-miss s (Calling c) ops = refl
@@ -172,69 +172,69 @@ kept-miss s (Reading course r) ops = refl
 kept-miss s (Rebuilding n r) ops = refl
 kept-miss s (Ending a) ops = refl
 
--- the next world has this seat in place of the actor's, and the same others
-seat-still : (w next : World) (by : Actor) (t : Seat) → next.seats ≡ (λ a. cond (same_actor a by) t (w.seats a)) → t.miss ≡ (w.seats by).miss
-    → (a : Actor) (reply : Bool) → (next.seats a).miss ≡ Some reply → (w.seats a).miss ≡ Some reply
-seat-still w next by t seats same a reply is = go (same_actor a by) refl (ap (λ (z : Actor → Seat). (z a).miss) (sym seats) ∙ is)
+-- the next world has this agenda in place of the actor's, and the same others
+agenda-still : (w next : World) (by : Actor) (t : Agenda) → next.agendas ≡ (λ a. cond (same_actor a by) t (w.agendas a)) → t.miss ≡ (w.agendas by).miss
+    → (a : Actor) (reply : Bool) → (next.agendas a).miss ≡ Some reply → (w.agendas a).miss ≡ Some reply
+agenda-still w next by t agendas same a reply is = go (same_actor a by) refl (ap (λ (z : Actor → Agenda). (z a).miss) (sym agendas) ∙ is)
   where
-    go : (b : Bool) → same_actor a by ≡ b → (cond b t (w.seats a)).miss ≡ Some reply → (w.seats a).miss ≡ Some reply
-    go true at is = ap (λ z. (w.seats z).miss) (same_actor-true a by at) ∙ sym same ∙ is
+    go : (b : Bool) → same_actor a by ≡ b → (cond b t (w.agendas a)).miss ≡ Some reply → (w.agendas a).miss ≡ Some reply
+    go true at is = ap (λ z. (w.agendas z).miss) (same_actor-true a by at) ∙ sym same ∙ is
     go false at is = is
 
-seat-others : (w next : World) (by : Actor) (t : Seat) → next.seats ≡ (λ a. cond (same_actor a by) t (w.seats a))
-    → (a : Actor) → same_actor a by ≡ false → next.seats a ≡ w.seats a
-seat-others w next by t seats a apart = ap (λ (z : Actor → Seat). z a) seats ∙ ap (λ b. cond b t (w.seats a)) apart
+agenda-others : (w next : World) (by : Actor) (t : Agenda) → next.agendas ≡ (λ a. cond (same_actor a by) t (w.agendas a))
+    → (a : Actor) → same_actor a by ≡ false → next.agendas a ≡ w.agendas a
+agenda-others w next by t agendas a apart = ap (λ (z : Actor → Agenda). z a) agendas ∙ ap (λ b. cond b t (w.agendas a)) apart
 
-seat-own : (w next : World) (by : Actor) (t : Seat) → next.seats ≡ (λ a. cond (same_actor a by) t (w.seats a)) → (next.seats by) ≡ t
-seat-own w next by t seats = ap (λ (z : Actor → Seat). z by) seats ∙ ap (λ b. cond b t (w.seats by)) (same_actor-refl by)
+agenda-own : (w next : World) (by : Actor) (t : Agenda) → next.agendas ≡ (λ a. cond (same_actor a by) t (w.agendas a)) → (next.agendas by) ≡ t
+agenda-own w next by t agendas = ap (λ (z : Actor → Agenda). z by) agendas ∙ ap (λ b. cond b t (w.agendas by)) (same_actor-refl by)
 
-module _ (k : ℕ) (v : Volume) (w : World) (by : Actor) (s : Seat) (same : s.miss ≡ (w.seats by).miss) (o : Owes k w) where
+module _ (k : ℕ) (v : Volume) (w : World) (by : Actor) (s : Agenda) (same : s.miss ≡ (w.agendas by).miss) (o : Owes k w) where
   -- a turn with one event that is no loss
-  quiet : (next : World) (t : Seat) (x : Event) → next.seats ≡ (λ a. cond (same_actor a by) t (w.seats a)) → t.miss ≡ s.miss → next.log ≡ x ∷ w.log → next.lost ≡ w.lost
+  quiet : (next : World) (t : Agenda) (x : Event) → next.agendas ≡ (λ a. cond (same_actor a by) t (w.agendas a)) → t.miss ≡ s.miss → next.log ≡ x ∷ w.log → next.lost ≡ w.lost
       → is_missed x ≡ false → Owes k next
-  quiet next t x seats keeps log_is lost_is no_loss =
+  quiet next t x agendas keeps log_is lost_is no_loss =
       let c = ap missed log_is ∙ quiet-count x w.log no_loss in
-      owes-still k w next (seat-still w next by t seats (keeps ∙ same)) (omega (arith, c, lost_is)) o
+      owes-still k w next (agenda-still w next by t agendas (keeps ∙ same)) (omega (arith, c, lost_is)) o
 
   -- a turn whose message is lost, as the link says or a line
-  loss : (next : World) (t : Seat) → next.seats ≡ (λ a. cond (same_actor a by) t (w.seats a)) → t.miss ≡ None → missed next.log ≡ missed w.log + 1
+  loss : (next : World) (t : Agenda) → next.agendas ≡ (λ a. cond (same_actor a by) t (w.agendas a)) → t.miss ≡ None → missed next.log ≡ missed w.log + 1
       → (m : Option Bool) → s.miss ≡ m → next.lost ≡ lost_after m w.lost → Owes k next
-  loss next t seats used counts None at lost_is =
-      owes-still k w next (seat-still w next by t seats (used ∙ sym at ∙ same)) (omega (arith, counts, lost_is)) o
-  loss next t seats used counts (Some planned) at lost_is =
-      owes-used k w next by planned (sym same ∙ at) (ap (λ (z : Seat). z.miss) (seat-own w next by t seats) ∙ used) (seat-others w next by t seats) counts lost_is o
+  loss next t agendas used counts None at lost_is =
+      owes-still k w next (agenda-still w next by t agendas (used ∙ sym at ∙ same)) (omega (arith, counts, lost_is)) o
+  loss next t agendas used counts (Some planned) at lost_is =
+      owes-used k w next by planned (sym same ∙ at) (ap (λ (z : Agenda). z.miss) (agenda-own w next by t agendas) ∙ used) (agenda-others w next by t agendas) counts lost_is o
 
   node-owes : (n : ℕ) (question : NodeAsk) (next : World) → IsNodeTurn v w by s n question next → Owes k next
   node-owes n question next (Through t) =
-      quiet next _ t.1 (ap (λ (z : World). z.seats) t.4) refl (ap (λ (z : World). z.log) t.4) (ap (λ (z : World). z.lost) t.4) (node-quiet by n question t.0 t.1 t.2.event)
+      quiet next _ t.1 (ap (λ (z : World). z.agendas) t.4) refl (ap (λ (z : World). z.log) t.4) (ap (λ (z : World). z.lost) t.4) (node-quiet by n question t.0 t.1 t.2.event)
   node-owes n question next (ReplyLost t) =
       let log_is : next.log ≡ e.Missed by n true ∷ t.1 ∷ w.log = ap (λ (z : World). z.log) t.4 in
       let c = ap missed log_is ∙ lost-count by n true (t.1 ∷ w.log) in
       let q = quiet-count t.1 w.log (node-quiet by n question t.0 t.1 t.2.event) in
-      loss next _ (ap (λ (z : World). z.seats) t.4) refl (omega (arith, c, q)) s.miss refl (ap (λ (z : World). z.lost) t.4)
+      loss next _ (ap (λ (z : World). z.agendas) t.4) refl (omega (arith, c, q)) s.miss refl (ap (λ (z : World). z.lost) t.4)
   node-owes n question next (RequestLost t) =
       let log_is : next.log ≡ e.Missed by n false ∷ w.log = ap (λ (z : World). z.log) t.1 in
-      loss next _ (ap (λ (z : World). z.seats) t.1) refl (ap missed log_is ∙ lost-count by n false w.log) s.miss refl (ap (λ (z : World). z.lost) t.1)
+      loss next _ (ap (λ (z : World). z.agendas) t.1) refl (ap missed log_is ∙ lost-count by n false w.log) s.miss refl (ap (λ (z : World). z.lost) t.1)
 
   ask-owes : (a : Ask) (next : World) → IsAskTurn v w by s a next → Owes k next
   ask-owes (AskExport c) next (x, is, next_is) =
-      quiet next _ x (ap (λ (z : World). z.seats) next_is) refl (ap (λ (z : World). z.log) next_is) (ap (λ (z : World). z.lost) next_is)
+      quiet next _ x (ap (λ (z : World). z.agendas) next_is) refl (ap (λ (z : World). z.log) next_is) (ap (λ (z : World). z.lost) next_is)
       (export-quiet x (export-event by c (export_reply w.export c) x is).word_is)
   ask-owes (AskNode n question) next turn = node-owes n question next turn
   ask-owes (AskLock path exclusive from count) next (x, is, granted, free, next_is) =
       let c = call.Tree (tree.OpenFile path) in
-      quiet next _ x (ap (λ (z : World). z.seats) next_is) refl (ap (λ (z : World). z.log) next_is) (ap (λ (z : World). z.lost) next_is)
+      quiet next _ x (ap (λ (z : World). z.agendas) next_is) refl (ap (λ (z : World). z.log) next_is) (ap (λ (z : World). z.lost) next_is)
       (export-quiet x (export-event by c (export_reply w.export c) x is).word_is)
   ask-owes (Say said) next next_is =
-      quiet next _ (said_event by s.number (text_said (facts w.log) said) said) (ap (λ (z : World). z.seats) next_is) refl (ap (λ (z : World). z.log) next_is)
+      quiet next _ (said_event by s.number (text_said (facts w.log) said) said) (ap (λ (z : World). z.agendas) next_is) refl (ap (λ (z : World). z.log) next_is)
       (ap (λ (z : World). z.lost) next_is) (said-quiet by s.number (text_said (facts w.log) said) said)
   ask-owes Rest next next_is = subst (Owes k) (sym next_is) o
 
 module _ (v : Volume) where
   owes-turn : (k : ℕ) (by : Actor) (w next : World) → IsTurn v by w next → Owes k w → Owes k next
   owes-turn k by w next turn o =
-      let s = at_work (w.seats by) in
-      ask-owes k v (record w { turns = w.turns + 1 }) by s (kept-miss (w.seats by) (w.seats by).work (w.seats by).todo)
+      let s = at_work (w.agendas by) in
+      ask-owes k v (record w { turns = w.turns + 1 }) by s (kept-miss (w.agendas by) (w.agendas by).work (w.agendas by).todo)
       (record { waiting = o.waiting; all = o.all; few = o.few }) (ask_of v.layout s.work) next turn
 
   owes-turns : (k : ℕ) (by : Actor) (j : ℕ) (w next : World) → IsTurns v by j w next → Owes k w → Owes k next
@@ -245,9 +245,9 @@ module _ (v : Volume) where
   owes-turn-or k true by w next is o = owes-turn k by w next is o
   owes-turn-or k false by w next is o = subst (Owes k) (sym is) o
 
-  owes-round : (k : ℕ) (seats : List Actor) (w next : World) → IsRound v seats w next → Owes k w → Owes k next
+  owes-round : (k : ℕ) (agendas : List Actor) (w next : World) → IsRound v agendas w next → Owes k w → Owes k next
   owes-round k [] w next is o = subst (Owes k) (sym is) o
-  owes-round k (a ∷ seats) w next (mid, first, more) o = owes-round k seats mid next more (owes-turn-or k (has_work (w.seats a)) a w mid first o)
+  owes-round k (a ∷ agendas) w next (mid, first, more) o = owes-round k agendas mid next more (owes-turn-or k (has_work (w.agendas a)) a w mid first o)
 
   owes-rounds : (k j : ℕ) (w next : World) → IsRounds v j w next → Owes k w → Owes k next
   owes-rounds k zero w next is o = subst (Owes k) (sym is) o
@@ -263,19 +263,19 @@ module _ (v : Volume) where
   owes-admin k n question w next is o =
       let c = ap (λ (z : World). missed z.log) is.next_is ∙ noted-quiet (node_event Admin n question is.given) w.log (λ x at. node-quiet Admin n question is.given x at) in
       let l : next.lost ≡ w.lost = ap (λ (z : World). z.lost) is.next_is in
-      owes-still k w next (λ a reply at. ap (λ (z : World). (z.seats a).miss) (sym is.next_is) ∙ at) (omega (arith, c, l)) o
+      owes-still k w next (λ a reply at. ap (λ (z : World). (z.agendas a).miss) (sym is.next_is) ∙ at) (omega (arith, c, l)) o
 
   -- a line that says that a message is to be lost
   owes-miss : (k : ℕ) (by : Actor) (reply : Bool) (w next : World) → PlaysLine v (line.Miss by reply) w next → Owes k w → Owes (k + 1) next
   owes-miss k by reply w next is o = record {
     waiting = by ∷ o.waiting;
-    all = λ a r at. go a r (same_actor a by) refl (ap (λ (z : World). (z.seats a).miss) (sym is) ∙ at);
+    all = λ a r at. go a r (same_actor a by) refl (ap (λ (z : World). (z.agendas a).miss) (sym is) ∙ at);
     few = (let f = o.few in
         let c : missed next.log ≡ missed w.log = ap (λ (z : World). missed z.log) is in
         let l : next.lost ≡ w.lost = ap (λ (z : World). z.lost) is in omega (arith, f, c, l));
   }
     where
-      go : (a : Actor) (r : Bool) (b : Bool) → same_actor a by ≡ b → (cond b (record (w.seats by) { miss = Some reply }) (w.seats a)).miss ≡ Some r → IsIn a (by ∷ o.waiting)
+      go : (a : Actor) (r : Bool) (b : Bool) → same_actor a by ≡ b → (cond b (record (w.agendas by) { miss = Some reply }) (w.agendas a)).miss ≡ Some r → IsIn a (by ∷ o.waiting)
       go a r true at is = inl (same_actor-true a by at)
       go a r false at is = inr (o.all a r is)
 
@@ -287,7 +287,7 @@ module _ (v : Volume) where
   owes-line k (line.Op by op) w next is o =
       let c : missed next.log ≡ missed w.log = ap (λ (z : World). missed z.log) is in
       let l : next.lost ≡ w.lost = ap (λ (z : World). z.lost) is in
-      owes-still k w next (seat-still w next by (record (w.seats by) { todo = (w.seats by).todo ++ op ∷ [] }) (ap (λ (z : World). z.seats) is) refl) (omega (arith, c, l)) o
+      owes-still k w next (agenda-still w next by (record (w.agendas by) { todo = (w.agendas by).todo ++ op ∷ [] }) (ap (λ (z : World). z.agendas) is) refl) (omega (arith, c, l)) o
   owes-line k (line.Turn by j) w next is o = owes-turns k by j w next is o
   owes-line k (line.Rounds j) w next is o = owes-rounds k j w next is o
   owes-line k line.Rest w next (j, rounds, rest) o = owes-rounds k j w next rounds o
@@ -297,7 +297,7 @@ module _ (v : Volume) where
   owes-line k (line.Break n j pick) w next is o =
       let c = ap (λ (z : World). missed z.log) is ∙ quiet-count (e.Armed n j pick) w.log refl in
       let l : next.lost ≡ w.lost = ap (λ (z : World). z.lost) is in
-      owes-still k w next (λ a reply at. ap (λ (z : World). (z.seats a).miss) (sym is) ∙ at) (omega (arith, c, l)) o
+      owes-still k w next (λ a reply at. ap (λ (z : World). (z.agendas a).miss) (sym is) ∙ at) (omega (arith, c, l)) o
   owes-line k (line.Miss by reply) w next is o = owes-miss k by reply w next is o
 
   owes-begun : (k : ℕ) (l : Line) (w next : World) → BeginsLine v l w next → Owes k w → Owes k next
@@ -351,7 +351,7 @@ module _ (v : Volume) where
   owes-start k n w next is o =
       let c = ap (λ (z : World). missed z.log) is.next_is ∙ noted-quiet v (node_event Admin n ask.Start is.given) w.log (λ x at. node-quiet Admin n ask.Start is.given x at) in
       let l : next.lost ≡ w.lost = ap (λ (z : World). z.lost) is.next_is in
-      owes-still k w next (λ a reply at. ap (λ (z : World). (z.seats a).miss) (sym is.next_is) ∙ at) (omega (arith, c, l)) o
+      owes-still k w next (λ a reply at. ap (λ (z : World). (z.agendas a).miss) (sym is.next_is) ∙ at) (omega (arith, c, l)) o
 
   owes-line-over : (k : ℕ) (l : Line) (tells : Bool) (w next : World) → PlaysLineOver v l tells w next → Owes k w → Owes (with_line v k l) next
   owes-line-over k (line.Start n) true w next is o = owes-line v k (line.Start n) w next is o

@@ -32,7 +32,7 @@ use Rattle.rz_operation_model.specs.Ask.{Ask, AskExport, AskNode, AskLock, Say, 
 use Rattle.rz_events.specs.declared.operations.Operation.{Operation}
 use Rattle.rz_script.specs.declared.line.Line.{Line}
 use Rattle.rz_script.specs.declared.line.Line.TheVariants as line
-use Rattle.rz_play.specs.World.{World, Seat, world_after, with_seat, with_node, at_work, take_up, has_work, actors}
+use Rattle.rz_play.specs.World.{World, Agenda, world_after, with_agenda, with_node, at_work, take_up, has_work, actors}
 use Rattle.rz_play.specs.Stops.{StopCause, TurnsSpent, JournalRefused, HasCause, StopsLine, BeginsLine, most_turns}
 use Rattle.rz_node_model.specs.States.{fresh}
 use Rattle.rz_export_model.specs.Export.{Export as ExportState, new_export}
@@ -63,12 +63,12 @@ use Rattle.rz_play_laws.proofs.Turning.{ask-turn, fine-after, grow, in-runs}
 -- An operation is taken up.
 
 -- An actor at work: its own events say where it stands, and it is under way, or has nothing to do.
-pub record IsAtWork (v : Volume) (f : Facts) (o run : List Event) (by : Actor) (s : Seat) : Type 0 where
+pub record IsAtWork (v : Volume) (f : Facts) (o run : List Event) (by : Actor) (s : Agenda) : Type 0 where
   pub own : IsOwn v f o run by s.work
   pub way : IsUnderWay v by s.number run s.work
   pub todo : AllByRecursion (IsOperation v by) s.todo
 
-module _ (v : Volume) (f : Facts) (o run : List Event) (by : Actor) (s : Seat) (is : IsAtWork v f o run by s) where
+module _ (v : Volume) (f : Facts) (o run : List Event) (by : Actor) (s : Agenda) (is : IsAtWork v f o run by s) where
   over-between : (work : Work) → work ≡ Over → IsOwn v f o run by work → IsBetween run
   over-between work same own = subst (IsOwn v f o run by) same own
 
@@ -102,16 +102,16 @@ counts v old w fine = record {
 
 -- an actor that is at work in a world that is in order
 pub working : (v : Volume) (old : List Event) (w : World) (fine : IsFine v old w) (by : Actor) → IsSeated by
-    → IsAtWork v (facts w.log) (of_actor by w.log) (of_actor by fine.run) by (at_work (w.seats by))
+    → IsAtWork v (facts w.log) (of_actor by w.log) (of_actor by fine.run) by (at_work (w.agendas by))
 working v old w fine by ok =
-    taken v (facts w.log) (of_actor by w.log) (of_actor by fine.run) by (w.seats by)
-    (record { own = fine.own by ok; way = fine.under_way by ok; todo = fine.todo by }) (w.seats by).work (w.seats by).todo refl refl
+    taken v (facts w.log) (of_actor by w.log) (of_actor by fine.run) by (w.agendas by)
+    (record { own = fine.own by ok; way = fine.under_way by ok; todo = fine.todo by }) (w.agendas by).work (w.agendas by).todo refl refl
 
 pub turn : (v : Volume) → IsTelling v → (old : List Event) (by : Actor) → IsSeated by → (w next : World) → IsTurn v by w next → IsFine v old w → IsFineIfShort v old next
 unfolding counts
-turn v tells old by ok w next is fine = go (at_work (w.seats by)) (working v old w fine by ok) is
+turn v tells old by ok w next is fine = go (at_work (w.agendas by)) (working v old w fine by ok) is
   where
-    go : (s : Seat) → IsAtWork v (facts w.log) (of_actor by w.log) (of_actor by fine.run) by s → IsAskTurn v (counted w) by s (ask_of v.layout s.work) next → IsFineIfShort v old next
+    go : (s : Agenda) → IsAtWork v (facts w.log) (of_actor by w.log) (of_actor by fine.run) by s → IsAskTurn v (counted w) by s (ask_of v.layout s.work) next → IsFineIfShort v old next
     go s t turn = by_way t.way
       where
         by_way : IsUnderWay v by s.number (of_actor by fine.run) s.work → IsFineIfShort v old next
@@ -127,7 +127,7 @@ turn v tells old by ok w next is fine = go (at_work (w.seats by)) (working v old
 abbrev Grows : World → World → Type 0
 Grows w next = (xs : List Event) × (next.log ≡ xs ++ w.log) × (length xs ≤ 2) × (next.turns ≡ w.turns)
 
-grown : (v : Volume) (w : World) (by : Actor) (s : Seat) (a : Ask) (next : World) → IsAskTurn v w by s a next → Grows w next
+grown : (v : Volume) (w : World) (by : Actor) (s : Agenda) (a : Ask) (next : World) → IsAskTurn v w by s a next → Grows w next
 grown v w by s (AskExport c) next (x, is, next_is) = (x ∷ [], ap (λ (z : World). z.log) next_is, omega arith, ap (λ (z : World). z.turns) next_is)
 grown v w by s (AskNode n question) next (Through t) = (t.1 ∷ [], ap (λ (z : World). z.log) t.4, omega arith, ap (λ (z : World). z.turns) t.4)
 grown v w by s (AskNode n question) next (ReplyLost t) = (e.Missed by n true ∷ t.1 ∷ [], ap (λ (z : World). z.log) t.4, omega arith, ap (λ (z : World). z.turns) t.4)
@@ -186,7 +186,7 @@ both v old w mid next a b = wider v old w next (0 + 0) 0 (omega arith) (then v o
 module _ (v : Volume) (tells : IsTelling v) (old : List Event) where
   pub by-turn : (by : Actor) → IsSeated by → (w next : World) → IsTurn v by w next → Leads v old w next 0
   by-turn by ok w next is =
-      let s = at_work (w.seats by) in
+      let s = at_work (w.agendas by) in
       let g = grown v (counted w) by s (ask_of v.layout s.work) next is in
       record { grows = longer (counted w) next g; most = by-two w next g; keeps = turn v tells old by ok w next is }
 
@@ -198,10 +198,10 @@ module _ (v : Volume) (tells : IsTelling v) (old : List Event) where
   by-turn-or true by ok w next is = by-turn by ok w next is
   by-turn-or false by ok w next is = stays v old w next is
 
-  pub by-round : (seats : List Actor) → AllByRecursion IsSeated seats → (w next : World) → IsRound v seats w next → Leads v old w next 0
+  pub by-round : (agendas : List Actor) → AllByRecursion IsSeated agendas → (w next : World) → IsRound v agendas w next → Leads v old w next 0
   by-round [] ok w next is = stays v old w next is
-  by-round (a ∷ seats) ok w next (mid, first, more) =
-      both v old w mid next (by-turn-or (has_work (w.seats a)) a ok.0 w mid first) (by-round seats ok.1 mid next more)
+  by-round (a ∷ agendas) ok w next (mid, first, more) =
+      both v old w mid next (by-turn-or (has_work (w.agendas a)) a ok.0 w mid first) (by-round agendas ok.1 mid next more)
 
   all-rebuilders : (ns : List ℕ) → AllByRecursion IsSeated (map Rebuilder ns)
   all-rebuilders [] = tt
@@ -220,10 +220,10 @@ module _ (v : Volume) (tells : IsTelling v) (old : List Event) where
 
   -- The administrator.
 
-  -- a line of a seat alone
-  pub by-seat : (by : Actor) (w next : World) (t : Seat) → t.work ≡ (w.seats by).work → t.number ≡ (w.seats by).number → (AllByRecursion (IsOperation v by) (w.seats by).todo → AllByRecursion (IsOperation v by) t.todo)
-      → next ≡ with_seat w by t → Leads v old w next 0
-  by-seat by w next t same same_number todo is = record {
+  -- a line of an agenda alone
+  pub by-agenda : (by : Actor) (w next : World) (t : Agenda) → t.work ≡ (w.agendas by).work → t.number ≡ (w.agendas by).number → (AllByRecursion (IsOperation v by) (w.agendas by).todo → AllByRecursion (IsOperation v by) t.todo)
+      → next ≡ with_agenda w by t → Leads v old w next 0
+  by-agenda by w next t same same_number todo is = record {
     grows = subst (λ (z : World). length w.log ≤ length z.log) (sym is) (omega arith);
     most = subst (λ (z : World). length z.log + 2 * w.turns ≤ length w.log + 2 * z.turns + 0) (sym is) (omega arith);
     keeps = λ fine few. subst (IsFine v old) (sym is) (record {
@@ -239,21 +239,21 @@ module _ (v : Volume) (tells : IsTelling v) (old : List Event) where
   }
     where
       own-of : (fine : IsFine v old w) (a : Actor) → IsSeated a → (b : Bool) → same_actor a by ≡ b
-          → IsOwn v (facts w.log) (of_actor a w.log) (of_actor a fine.run) a (cond b t (w.seats a)).work
+          → IsOwn v (facts w.log) (of_actor a w.log) (of_actor a fine.run) a (cond b t (w.agendas a)).work
       own-of fine a ok true at =
           let is_by : a ≡ by = same_actor-true a by at in
-          subst (IsOwn v (facts w.log) (of_actor a w.log) (of_actor a fine.run) a) (ap (λ z. (w.seats z).work) is_by ∙ sym same) (fine.own a ok)
+          subst (IsOwn v (facts w.log) (of_actor a w.log) (of_actor a fine.run) a) (ap (λ z. (w.agendas z).work) is_by ∙ sym same) (fine.own a ok)
       own-of fine a ok false apart = fine.own a ok
 
       way-of : (fine : IsFine v old w) (a : Actor) → IsSeated a → (b : Bool) → same_actor a by ≡ b
-          → IsUnderWay v a (cond b t (w.seats a)).number (of_actor a fine.run) (cond b t (w.seats a)).work
+          → IsUnderWay v a (cond b t (w.agendas a)).number (of_actor a fine.run) (cond b t (w.agendas a)).work
       way-of fine a ok true at =
           let is_by : a ≡ by = same_actor-true a by at in
-          subst (λ z. IsUnderWay v a z (of_actor a fine.run) t.work) (ap (λ z. (w.seats z).number) is_by ∙ sym same_number)
-          (subst (IsUnderWay v a (w.seats a).number (of_actor a fine.run)) (ap (λ z. (w.seats z).work) is_by ∙ sym same) (fine.under_way a ok))
+          subst (λ z. IsUnderWay v a z (of_actor a fine.run) t.work) (ap (λ z. (w.agendas z).number) is_by ∙ sym same_number)
+          (subst (IsUnderWay v a (w.agendas a).number (of_actor a fine.run)) (ap (λ z. (w.agendas z).work) is_by ∙ sym same) (fine.under_way a ok))
       way-of fine a ok false apart = fine.under_way a ok
 
-      todo-of : IsFine v old w → (a : Actor) (b : Bool) → same_actor a by ≡ b → AllByRecursion (IsOperation v a) (cond b t (w.seats a)).todo
+      todo-of : IsFine v old w → (a : Actor) (b : Bool) → same_actor a by ≡ b → AllByRecursion (IsOperation v a) (cond b t (w.agendas a)).todo
       todo-of fine a true at = subst (λ z. AllByRecursion (IsOperation v z) t.todo) (sym (same_actor-true a by at)) (todo (fine.todo by))
       todo-of fine a false apart = fine.todo a
 
@@ -273,7 +273,7 @@ module _ (v : Volume) (tells : IsTelling v) (old : List Event) where
     keeps = λ fine few.
         let long : length (x ∷ w.log) < 2 ^ 64 - 1 = subst (λ (z : World). length z.log < 2 ^ 64 - 1) is few in
         let now = step fine (omega (arith, long)) in
-        fine-after v old w fine Admin (w.seats Admin).number (w.seats Admin).work (w.seats Admin).todo (x ∷ []) next
+        fine-after v old w fine Admin (w.agendas Admin).number (w.agendas Admin).work (w.agendas Admin).todo (x ∷ []) next
         (record {
           log_is = ap (λ (z : World). z.log) is;
           mine = (mine, tt);
@@ -282,10 +282,10 @@ module _ (v : Volume) (tells : IsTelling v) (old : List Event) where
               (tied-node v x w.log w.nodes w.export n after (in-runs v old w fine) (record { nodes_are = fine.nodes_are; export_is = fine.export_is }) at now.tied);
           own = λ ok. cc;
           course = λ ok. cc;
-          number_is = ap (λ (z : World). (z.seats Admin).number) is;
-          seat_is = λ a apart. ap (λ (z : World). z.seats a) is;
-          work_is = ap (λ (z : World). (z.seats Admin).work) is;
-          todo_is = ap (λ (z : World). (z.seats Admin).todo) is;
+          number_is = ap (λ (z : World). (z.agendas Admin).number) is;
+          agenda_is = λ a apart. ap (λ (z : World). z.agendas a) is;
+          work_is = ap (λ (z : World). (z.agendas Admin).work) is;
+          todo_is = ap (λ (z : World). (z.agendas Admin).todo) is;
           operations = fine.todo Admin;
         });
   }
@@ -383,7 +383,7 @@ module _ (v : Volume) (tells : IsTelling v) (old : List Event) where
 
   pub by-line : (l : Line) → IsLine v l → (w next : World) → PlaysLine v l w next → Leads v old w next 1
   by-line (line.Op by op) ok w next is =
-      wide w next (by-seat by w next (record (w.seats by) { todo = (w.seats by).todo ++ op ∷ [] }) refl refl (λ all. all-push by (w.seats by).todo op all ok.1) is)
+      wide w next (by-agenda by w next (record (w.agendas by) { todo = (w.agendas by).todo ++ op ∷ [] }) refl refl (λ all. all-push by (w.agendas by).todo op all ok.1) is)
   by-line (line.Turn by k) ok w next is = wide w next (by-turns by (seated by ok.0) k w next is)
   by-line (line.Rounds k) ok w next is = wide w next (by-rounds k w next is)
   by-line line.Rest ok w next (k, rounds, rest) = wide w next (by-rounds k w next rounds)
@@ -393,7 +393,7 @@ module _ (v : Volume) (tells : IsTelling v) (old : List Event) where
   by-line (line.Break n k pick) ok w next is =
       by-admin w next n (e.Armed n k pick) (w.nodes n) refl refl (λ fine few. armed w.log n k pick (w.nodes n) (node-of v n ok.0) (fine.nodes_are n) few)
       (is ∙ ap (λ (nodes : ℕ → NodeState). record w { nodes = nodes; log = e.Armed n k pick ∷ w.log }) (sym (same-nodes w.nodes n)))
-  by-line (line.Miss by reply) ok w next is = wide w next (by-seat by w next (record (w.seats by) { miss = Some reply }) refl refl (λ all. all) is)
+  by-line (line.Miss by reply) ok w next is = wide w next (by-agenda by w next (record (w.agendas by) { miss = Some reply }) refl refl (λ all. all) is)
 
   pub by-lines : (lines : List Line) → AllByRecursion (IsLine v) lines → (w next : World) → PlaysLines v lines w next → Leads v old w next (length lines)
   by-lines [] ok w next is = stays v old w next is

@@ -45,7 +45,7 @@ use Rattle.rz_locks.specs.Conflicts.{HasByte, Conflict}
 use Rattle.rz_core.specs.History.{Facts, facts, of_actor}
 use Rattle.rz_operation_model.specs.Ask.{ask_of}
 use Rattle.rz_events.specs.Masks.{has_bit}
-use Rattle.rz_play.specs.World.{World, Seat, actors, Bars, IsFree, at_work}
+use Rattle.rz_play.specs.World.{World, Agenda, actors, Bars, IsFree, at_work}
 use Rattle.rz_play.specs.Turns.{IsTurn, IsAskTurn, IsThrough, IsLost, Through, ReplyLost, RequestLost, IsGranted, lock_on, counted}
 use Rattle.rz_play_laws.specs.Own.{IsOfActor, IsProper, IsUnderWay}
 use Rattle.rz_play_laws.specs.Fine.{IsFine, IsSeated}
@@ -206,9 +206,9 @@ bars None lock = inr (λ is. is)
 bars (Some held) lock = conflicts held lock
 
 abbrev pub IsOut : World → Actor → Lock → Actor → Type 0
-IsOut w by lock other = same_actor other by ≡ false → Bars (w.seats other).lock lock → ⊥
+IsOut w by lock other = same_actor other by ≡ false → Bars (w.agendas other).lock lock → ⊥
 
-is-out : (w : World) (by : Actor) (lock : Lock) (other : Actor) (b : Bool) → same_actor other by ≡ b → Bars (w.seats other).lock lock ⊎ (Bars (w.seats other).lock lock → ⊥)
+is-out : (w : World) (by : Actor) (lock : Lock) (other : Actor) (b : Bool) → same_actor other by ≡ b → Bars (w.agendas other).lock lock ⊎ (Bars (w.agendas other).lock lock → ⊥)
     → IsOut w by lock other ⊎ (IsOut w by lock other → ⊥)
 is-out w by lock other true is decided = inl (λ apart. cc)
 is-out w by lock other false is (inl barred) = inr (λ free. free is barred)
@@ -224,7 +224,7 @@ both-out w by lock other more (inr none) rest = inr (λ all. none all.0)
 all-out : (w : World) (by : Actor) (lock : Lock) (l : List Actor) → AllByRecursion (IsOut w by lock) l ⊎ (AllByRecursion (IsOut w by lock) l → ⊥)
 all-out w by lock [] = inl tt
 all-out w by lock (other ∷ more) =
-    both-out w by lock other more (is-out w by lock other (same_actor other by) refl (bars (w.seats other).lock lock)) (all-out w by lock more)
+    both-out w by lock other more (is-out w by lock other (same_actor other by) refl (bars (w.agendas other).lock lock)) (all-out w by lock more)
 
 is-free : (w : World) (by : Actor) (lock : Lock) → IsFree w by lock ⊎ (IsFree w by lock → ⊥)
 is-free w by lock = all-out w by lock actors
@@ -244,7 +244,7 @@ IsGoing (AskNode n question) = IsOfActor question
 IsGoing _ = Unit {0}
 
 -- a message is lost where a line says so, and comes through otherwise
-message-goes : (v : Volume) (w : World) (by : Actor) (s : Seat) (n : ℕ) (question : NodeAsk) → IsOfActor question → (m : Option Bool) → s.miss ≡ m → (b : Bool) → goes_by_link question ≡ b
+message-goes : (v : Volume) (w : World) (by : Actor) (s : Agenda) (n : ℕ) (question : NodeAsk) → IsOfActor question → (m : Option Bool) → s.miss ≡ m → (b : Bool) → goes_by_link question ≡ b
     → (next : World) × IsAskTurn v w by s (AskNode n question) next
 message-goes v w by s n question ok None is b link =
     let g = node-goes (cells_of v n) (w.nodes n) by n question ok in
@@ -257,7 +257,7 @@ message-goes v w by s n question ok (Some true) is true link =
     (_, ReplyLost (g.0, g.1, record { given_is = g.2; event = g.3 }, subst (λ z. IsLost z question true) (sym is) (link, refl), refl))
 message-goes v w by s n question ok (Some false) is true link = (_, RequestLost (subst (λ z. IsLost z question false) (sym is) (link, refl), refl))
 
-pub goes-on : (v : Volume) (w : World) (by : Actor) (s : Seat) (a : Ask) → IsGoing a → (next : World) × IsAskTurn v w by s a next
+pub goes-on : (v : Volume) (w : World) (by : Actor) (s : Agenda) (a : Ask) → IsGoing a → (next : World) × IsAskTurn v w by s a next
 goes-on v w by s (AskExport c) ok = let x = export-goes by w.export c in (_, (x.0, x.1, refl))
 goes-on v w by s (AskNode n question) ok = message-goes v w by s n question ok s.miss refl (goes_by_link question) refl
 goes-on v w by s (AskLock path exclusive from count) ok =
@@ -279,10 +279,10 @@ going v f o run by number Rest is = tt
 pub turns-on : (v : Volume) (old : List Event) (w : World) → IsFine v old w → (by : Actor) → IsSeated by → (next : World) × IsTurn v by w next
 turns-on v old w fine by ok = go (working v old w fine by ok) (working v old w fine by ok).way
   where
-    go : IsAtWork v (facts w.log) (of_actor by w.log) (of_actor by fine.run) by (at_work (w.seats by)) → IsUnderWay v by (at_work (w.seats by)).number (of_actor by fine.run) (at_work (w.seats by)).work
+    go : IsAtWork v (facts w.log) (of_actor by w.log) (of_actor by fine.run) by (at_work (w.agendas by)) → IsUnderWay v by (at_work (w.agendas by)).number (of_actor by fine.run) (at_work (w.agendas by)).work
         → (next : World) × IsTurn v by w next
-    go t (inl over) = (counted w, subst (λ z. IsAskTurn v (counted w) by (at_work (w.seats by)) (ask_of v.layout z) (counted w)) (sym over) refl)
+    go t (inl over) = (counted w, subst (λ z. IsAskTurn v (counted w) by (at_work (w.agendas by)) (ask_of v.layout z) (counted w)) (sym over) refl)
     go t (inr course) =
-        goes-on v (counted w) by (at_work (w.seats by)) (ask_of v.layout (at_work (w.seats by)).work)
-        (going v (facts w.log) (of_actor by w.log) (of_actor by fine.run) by (at_work (w.seats by)).number (ask_of v.layout (at_work (w.seats by)).work)
-        (proper v (facts w.log) (of_actor by w.log) (of_actor by fine.run) by (at_work (w.seats by)).number (at_work (w.seats by)).work t.own course))
+        goes-on v (counted w) by (at_work (w.agendas by)) (ask_of v.layout (at_work (w.agendas by)).work)
+        (going v (facts w.log) (of_actor by w.log) (of_actor by fine.run) by (at_work (w.agendas by)).number (ask_of v.layout (at_work (w.agendas by)).work)
+        (proper v (facts w.log) (of_actor by w.log) (of_actor by fine.run) by (at_work (w.agendas by)).number (at_work (w.agendas by)).work t.own course))

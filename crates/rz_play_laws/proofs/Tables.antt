@@ -6,24 +6,12 @@ use Rattle.rz_events.specs.declared.keys.Key.{Key}
 use Rattle.rz_events.specs.declared.ends.Why.{Why}
 use Rattle.rz_events.specs.declared.ends.Why.TheVariants as why
 use Rattle.rz_events.specs.declared.events.Event.{Event}
+use Rattle.rz_safety.proofs.PositionLaws.{whys-same}
 use Rattle.rz_core.specs.Outcomes.{whys, why_at}
 use Rattle.rz_client_model.specs.Write.{is_kept, mask_of}
 use Rattle.rz_client_model.proofs.Masks.{bit-le, mask_of-replicate}
 
 -- A table in which one outcome changes.
-
-pub whys-same : (key : Key) (s : ℕ) (new old : List Event) (i : ℕ) (places : List ℕ)
-    → ((q n : ℕ) → slice_get places q ≡ Some n → why_at key s (i + q) n new ≡ why_at key s (i + q) n old)
-    → whys key s new i places ≡ whys key s old i places
-whys-same key s new old i [] same = refl
-whys-same key s new old i (n ∷ places) same =
-    let first : i + 0 ≡ i = omega arith in
-    let here : why_at key s i n new ≡ why_at key s i n old =
-    subst (λ z. why_at key s z n new ≡ why_at key s z n old) first (same 0 n refl) in
-    let rest = whys-same key s new old (i + 1) places (λ q m at.
-    let next : i + suc q ≡ (i + 1) + q = omega arith in
-    subst (λ z. why_at key s z m new ≡ why_at key s z m old) next (same (suc q) m at)) in
-    ap (λ w. w ∷ whys key s new (i + 1) places) here ∙ ap (λ ws. why_at key s i n old ∷ ws) rest
 
 pub whys-set : (key : Key) (s : ℕ) (new old : List Event) (i : ℕ) (places : List ℕ) (r : ℕ) (w : Why) → r < length places
     → ((n : ℕ) → slice_get places r ≡ Some n → why_at key s (i + r) n new ≡ w)

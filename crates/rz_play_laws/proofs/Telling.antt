@@ -38,6 +38,7 @@ use Rattle.rz_core.proofs.Stamps.{export, drawn, wrote-cases, begun_by-is}
 use Rattle.mj_angles.specs.Layout.{block_bytes_of}
 use Rattle.rz_events.specs.declared.ends.ReadEnd.TheVariants as read
 use Rattle.rz_events.specs.declared.files.Listed.{Listed}
+use Rattle.rz_export_model.proofs.Firsts.{none_first, none_if}
 use Rattle.rz_operation_model.specs.Rebuild.{position_in, position_of}
 use Rattle.rz_play_laws.specs.Own.{IsPlacing, IsReply, IsToldBy}
 use Rattle.rz_play_laws.specs.Fine.{IsTelling}
@@ -77,14 +78,6 @@ IsShape t places c answer = Unit {0}
 refused-shape : (t : Tree) (places : List ℕ) (c : TreeCall) (why : TreeFault) → IsShape t places c (reply.Refused why)
 refused-shape t places (tree.OpenFile path) why = tt
 refused-shape t places (_) why = tt
-
-none_first : {A : Type 0} (a b : Option A) → option_or a b ≡ None → (a ≡ None) × (b ≡ None)
-none_first None b k = (refl, k)
-none_first (Some x) b k = cc
-
-not_if : {A : Type 0} (b : Bool) (x : A) → given_if b x ≡ None → b ≡ false
-not_if true x k = cc
-not_if false x k = refl
 
 -- the object at a path
 object-at : (t : Tree) (path : Path) (f : Found) → found_at t path ≡ Some f → maps.get t.objects f.fid ≡ Some f.object
@@ -185,7 +178,7 @@ answer-shape t cid places (tree.OpenFile path) none =
     (none_first (absent t p) (option_or (dir t p) last)
     (none_first (walk t p) (option_or (absent t p) (option_or (dir t p) last))
     (none_first (unreadable path) (option_or (walk t p) (option_or (absent t p) (option_or (dir t p) last))) none).1).1).1 in
-    open-shape t places path p (not_if (is_at t p is_dir) fault.IsDir parts.0) (not_if (is_at t p is_link) fault.IsLink (none_first (link t p) None parts.1).0)
+    open-shape t places path p (none_if (is_at t p is_dir) fault.IsDir parts.0) (none_if (is_at t p is_link) fault.IsLink (none_first (link t p) None parts.1).0)
 
 reply-shape : (t : Tree) (cid : ℕ) (places : List ℕ) (c : TreeCall) → IsShape t places c (reply_to t cid places c)
 reply-shape t cid places c = go (refusal t c) refl

@@ -28,7 +28,7 @@ use Rattle.rz_operation_model.specs.Work.{Work}
 use Rattle.rz_operation_model.specs.Ask.{Ask, AskExport, AskNode, AskLock, Say, Rest, Saying, SayGot, SayGave, SayLeft, SayDone, ask_of}
 use Rattle.rz_operation_model.specs.Steps.{Told, Replied, Locked, Answered, Missed, Noted, told}
 use Rattle.rz_events.specs.declared.operations.Operation.{Operation}
-use Rattle.rz_play.specs.World.{World, Seat}
+use Rattle.rz_play.specs.World.{World, Agenda}
 use Rattle.rz_play.specs.Turns.{IsAskTurn, IsExportTurn, IsLockTurn, IsNodeTurn, Through, ReplyLost, RequestLost, IsSayTurn, moved, advanced, answered, text_said, no_miss, with_lost, IsLost}
 use Rattle.rz_play_laws.specs.Own.{IsToldBy, AreToldBy, IsOwn, IsProper, IsUnderWay}
 use Rattle.rz_core.proofs.Locality.{next-run}
@@ -50,10 +50,10 @@ pub record IsAfter (v : Volume) (old run : List Event) (w : World) (by : Actor) 
   pub tied : AreTied v (xs ++ w.log) next.nodes next.export
   pub own : IsSeated by → IsOwn v (facts (xs ++ w.log)) (xs ++ of_actor by w.log) (xs ++ of_actor by run) by work
   pub course : IsSeated by → IsUnderWay v by number (xs ++ of_actor by run) work
-  pub number_is : (next.seats by).number ≡ number
-  pub seat_is : (a : Actor) → same_actor a by ≡ false → next.seats a ≡ w.seats a
-  pub work_is : (next.seats by).work ≡ work
-  pub todo_is : (next.seats by).todo ≡ todo
+  pub number_is : (next.agendas by).number ≡ number
+  pub agenda_is : (a : Actor) → same_actor a by ≡ false → next.agendas a ≡ w.agendas a
+  pub work_is : (next.agendas by).work ≡ work
+  pub todo_is : (next.agendas by).todo ≡ todo
   pub operations : AllByRecursion (IsOperation v by) todo
 
 front-first : (xs run old : List Event) → xs ++ (run ++ old) ≡ (xs ++ run) ++ old
@@ -68,45 +68,45 @@ fine-after v old w fine by number work todo xs next after = record {
   legal = after.legal;
   nodes_are = λ n. subst (λ (h : List Event). IsNode (facts h) (of_word (Node n) h) (next.nodes n)) (sym after.log_is) (after.tied.nodes_are n);
   export_is = subst (λ (h : List Event). IsExport v (facts h) (of_word Export h) next.export) (sym after.log_is) after.tied.export_is;
-  own = λ a ok. subst (λ (h : List Event). IsOwn v (facts h) (of_actor a h) (of_actor a (xs ++ fine.run)) a (next.seats a).work) (sym after.log_is) (of_a a ok (same_actor a by) refl);
+  own = λ a ok. subst (λ (h : List Event). IsOwn v (facts h) (of_actor a h) (of_actor a (xs ++ fine.run)) a (next.agendas a).work) (sym after.log_is) (of_a a ok (same_actor a by) refl);
   under_way = λ a ok. way_of a ok (same_actor a by) refl;
   todo = λ a. todo_of a (same_actor a by) refl;
 }
   where
-    of_a : (a : Actor) → IsSeated a → (b : Bool) → same_actor a by ≡ b → IsOwn v (facts (xs ++ w.log)) (of_actor a (xs ++ w.log)) (of_actor a (xs ++ fine.run)) a (next.seats a).work
+    of_a : (a : Actor) → IsSeated a → (b : Bool) → same_actor a by ≡ b → IsOwn v (facts (xs ++ w.log)) (of_actor a (xs ++ w.log)) (of_actor a (xs ++ fine.run)) a (next.agendas a).work
     of_a a ok true is =
-        subst (λ z. IsOwn v (facts (xs ++ w.log)) (of_actor z (xs ++ w.log)) (of_actor z (xs ++ fine.run)) z (next.seats z).work) (sym (same_actor-true a by is))
-        (subst (λ (o : List Event). IsOwn v (facts (xs ++ w.log)) o (of_actor by (xs ++ fine.run)) by (next.seats by).work) (sym (of_actor-mine by xs w.log after.mine))
-        (subst (λ (r : List Event). IsOwn v (facts (xs ++ w.log)) (xs ++ of_actor by w.log) r by (next.seats by).work) (sym (of_actor-mine by xs fine.run after.mine))
+        subst (λ z. IsOwn v (facts (xs ++ w.log)) (of_actor z (xs ++ w.log)) (of_actor z (xs ++ fine.run)) z (next.agendas z).work) (sym (same_actor-true a by is))
+        (subst (λ (o : List Event). IsOwn v (facts (xs ++ w.log)) o (of_actor by (xs ++ fine.run)) by (next.agendas by).work) (sym (of_actor-mine by xs w.log after.mine))
+        (subst (λ (r : List Event). IsOwn v (facts (xs ++ w.log)) (xs ++ of_actor by w.log) r by (next.agendas by).work) (sym (of_actor-mine by xs fine.run after.mine))
         (subst (λ z. IsOwn v (facts (xs ++ w.log)) (xs ++ of_actor by w.log) (xs ++ of_actor by fine.run) by z) (sym after.work_is) (after.own (subst IsSeated (same_actor-true a by is) ok)))))
     of_a a ok false apart =
-        subst (λ (o : List Event). IsOwn v (facts (xs ++ w.log)) o (of_actor a (xs ++ fine.run)) a (next.seats a).work) (sym (of_actor-other a by xs w.log apart after.mine))
-        (subst (λ (r : List Event). IsOwn v (facts (xs ++ w.log)) (of_actor a w.log) r a (next.seats a).work) (sym (of_actor-other a by xs fine.run apart after.mine))
-        (subst (λ (s : Seat). IsOwn v (facts (xs ++ w.log)) (of_actor a w.log) (of_actor a fine.run) a s.work) (sym (after.seat_is a apart))
-        (own-others v (facts w.log) (facts (xs ++ w.log)) (extends-more xs w.log) (of_actor a w.log) (of_actor a fine.run) a (w.seats a).work (fine.own a ok))))
+        subst (λ (o : List Event). IsOwn v (facts (xs ++ w.log)) o (of_actor a (xs ++ fine.run)) a (next.agendas a).work) (sym (of_actor-other a by xs w.log apart after.mine))
+        (subst (λ (r : List Event). IsOwn v (facts (xs ++ w.log)) (of_actor a w.log) r a (next.agendas a).work) (sym (of_actor-other a by xs fine.run apart after.mine))
+        (subst (λ (s : Agenda). IsOwn v (facts (xs ++ w.log)) (of_actor a w.log) (of_actor a fine.run) a s.work) (sym (after.agenda_is a apart))
+        (own-others v (facts w.log) (facts (xs ++ w.log)) (extends-more xs w.log) (of_actor a w.log) (of_actor a fine.run) a (w.agendas a).work (fine.own a ok))))
 
-    way_of : (a : Actor) → IsSeated a → (b : Bool) → same_actor a by ≡ b → IsUnderWay v a (next.seats a).number (of_actor a (xs ++ fine.run)) (next.seats a).work
+    way_of : (a : Actor) → IsSeated a → (b : Bool) → same_actor a by ≡ b → IsUnderWay v a (next.agendas a).number (of_actor a (xs ++ fine.run)) (next.agendas a).work
     way_of a ok true is =
-        subst (λ z. IsUnderWay v z (next.seats z).number (of_actor z (xs ++ fine.run)) (next.seats z).work) (sym (same_actor-true a by is))
-        (subst (λ (r : List Event). IsUnderWay v by (next.seats by).number r (next.seats by).work) (sym (of_actor-mine by xs fine.run after.mine))
-        (subst (λ k. IsUnderWay v by k (xs ++ of_actor by fine.run) (next.seats by).work) (sym after.number_is)
+        subst (λ z. IsUnderWay v z (next.agendas z).number (of_actor z (xs ++ fine.run)) (next.agendas z).work) (sym (same_actor-true a by is))
+        (subst (λ (r : List Event). IsUnderWay v by (next.agendas by).number r (next.agendas by).work) (sym (of_actor-mine by xs fine.run after.mine))
+        (subst (λ k. IsUnderWay v by k (xs ++ of_actor by fine.run) (next.agendas by).work) (sym after.number_is)
         (subst (λ z. IsUnderWay v by number (xs ++ of_actor by fine.run) z) (sym after.work_is) (after.course (subst IsSeated (same_actor-true a by is) ok)))))
     way_of a ok false apart =
-        subst (λ (r : List Event). IsUnderWay v a (next.seats a).number r (next.seats a).work) (sym (of_actor-other a by xs fine.run apart after.mine))
-        (subst (λ (s : Seat). IsUnderWay v a s.number (of_actor a fine.run) s.work) (sym (after.seat_is a apart)) (fine.under_way a ok))
+        subst (λ (r : List Event). IsUnderWay v a (next.agendas a).number r (next.agendas a).work) (sym (of_actor-other a by xs fine.run apart after.mine))
+        (subst (λ (s : Agenda). IsUnderWay v a s.number (of_actor a fine.run) s.work) (sym (after.agenda_is a apart)) (fine.under_way a ok))
 
-    todo_of : (a : Actor) (b : Bool) → same_actor a by ≡ b → AllByRecursion (IsOperation v a) (next.seats a).todo
+    todo_of : (a : Actor) (b : Bool) → same_actor a by ≡ b → AllByRecursion (IsOperation v a) (next.agendas a).todo
     todo_of a true is =
-        subst (λ z. AllByRecursion (IsOperation v z) (next.seats z).todo) (sym (same_actor-true a by is))
+        subst (λ z. AllByRecursion (IsOperation v z) (next.agendas z).todo) (sym (same_actor-true a by is))
         (subst (λ (ops : List Operation). AllByRecursion (IsOperation v by) ops) (sym after.todo_is) after.operations)
-    todo_of a false apart = subst (λ (s : Seat). AllByRecursion (IsOperation v a) s.todo) (sym (after.seat_is a apart)) (fine.todo a)
+    todo_of a false apart = subst (λ (s : Agenda). AllByRecursion (IsOperation v a) s.todo) (sym (after.agenda_is a apart)) (fine.todo a)
 
-pub seat-other : (a by : Actor) (b : Bool) (s t : Seat) → b ≡ false → cond b s t ≡ t
-seat-other a by true s t is = cc
-seat-other a by false s t is = refl
+pub agenda-other : (a by : Actor) (b : Bool) (s t : Agenda) → b ≡ false → cond b s t ≡ t
+agenda-other a by true s t is = cc
+agenda-other a by false s t is = refl
 
-pub seat-mine : (by : Actor) (s t : Seat) → cond (same_actor by by) s t ≡ s
-seat-mine by s t = ap (λ b. cond b s t) (same_actor-refl by)
+pub agenda-mine : (by : Actor) (s t : Agenda) → cond (same_actor by by) s t ≡ s
+agenda-mine by s t = ap (λ b. cond b s t) (same_actor-refl by)
 
 -- what an event says for good is so for good
 told-more : (v : Volume) (x : Event) (h : List Event) (y : Event) → IsToldBy v (facts h) y → IsToldBy v (facts (x ∷ h)) y
@@ -130,7 +130,7 @@ module _ (v : Volume) (old : List Event) (w : World) (fine : IsFine v old w) whe
   now-in-runs x legal = subst (λ (h : List Event). IsLegalInRuns v (x ∷ h)) (sym fine.log_is) (next-run v old (x ∷ fine.run) legal)
 
 -- One turn, at the ask `a` of an actor that is at work.
-module _ (v : Volume) (telling : IsTelling v) (old : List Event) (w : World) (fine : IsFine v old w) (by : Actor) (s : Seat)
+module _ (v : Volume) (telling : IsTelling v) (old : List Event) (w : World) (fine : IsFine v old w) (by : Actor) (s : Agenda)
     (operations : AllByRecursion (IsOperation v by) s.todo) (course : IsCourse v.layout by s.number (of_actor by fine.run) s.work) where
   abbrev f : Facts
   f = facts w.log
@@ -174,10 +174,10 @@ module _ (v : Volume) (telling : IsTelling v) (old : List Event) (w : World) (fi
         own = λ ok. turns (facts (x ∷ w.log)) (extends-more (x ∷ []) w.log) (Replied (export_reply w.export c)) (x ∷ [])
             (export_reply w.export c, x, refl, is, refl) (telling w.log x seen, tt);
         course = λ ok. steps (Replied (export_reply w.export c)) (x ∷ []) (export_reply w.export c, x, refl, is, refl);
-        number_is = ap (λ (z : World). (z.seats by).number) next_is ∙ ap (λ (z : Seat). z.number) (seat-mine by _ _);
-        seat_is = λ a apart. ap (λ (z : World). z.seats a) next_is ∙ seat-other a by (same_actor a by) _ _ apart;
-        work_is = ap (λ (z : World). (z.seats by).work) next_is ∙ ap (λ (z : Seat). z.work) (seat-mine by _ _);
-        todo_is = ap (λ (z : World). (z.seats by).todo) next_is ∙ ap (λ (z : Seat). z.todo) (seat-mine by _ _);
+        number_is = ap (λ (z : World). (z.agendas by).number) next_is ∙ ap (λ (z : Agenda). z.number) (agenda-mine by _ _);
+        agenda_is = λ a apart. ap (λ (z : World). z.agendas a) next_is ∙ agenda-other a by (same_actor a by) _ _ apart;
+        work_is = ap (λ (z : World). (z.agendas by).work) next_is ∙ ap (λ (z : Agenda). z.work) (agenda-mine by _ _);
+        todo_is = ap (λ (z : World). (z.agendas by).todo) next_is ∙ ap (λ (z : Agenda). z.todo) (agenda-mine by _ _);
         operations = operations;
       })
 
@@ -201,10 +201,10 @@ module _ (v : Volume) (telling : IsTelling v) (old : List Event) (w : World) (fi
         own = λ ok. turns (facts (x ∷ w.log)) (extends-more (x ∷ []) w.log) (Locked granted (export_reply w.export c)) (x ∷ [])
             (granted, export_reply w.export c, x, refl, is, refl) (telling w.log x seen, tt);
         course = λ ok. steps (Locked granted (export_reply w.export c)) (x ∷ []) (granted, export_reply w.export c, x, refl, is, refl);
-        number_is = ap (λ (z : World). (z.seats by).number) next_is ∙ ap (λ (z : Seat). z.number) (seat-mine by _ _);
-        seat_is = λ a apart. ap (λ (z : World). z.seats a) next_is ∙ seat-other a by (same_actor a by) _ _ apart;
-        work_is = ap (λ (z : World). (z.seats by).work) next_is ∙ ap (λ (z : Seat). z.work) (seat-mine by _ _);
-        todo_is = ap (λ (z : World). (z.seats by).todo) next_is ∙ ap (λ (z : Seat). z.todo) (seat-mine by _ _);
+        number_is = ap (λ (z : World). (z.agendas by).number) next_is ∙ ap (λ (z : Agenda). z.number) (agenda-mine by _ _);
+        agenda_is = λ a apart. ap (λ (z : World). z.agendas a) next_is ∙ agenda-other a by (same_actor a by) _ _ apart;
+        work_is = ap (λ (z : World). (z.agendas by).work) next_is ∙ ap (λ (z : Agenda). z.work) (agenda-mine by _ _);
+        todo_is = ap (λ (z : World). (z.agendas by).todo) next_is ∙ ap (λ (z : Agenda). z.todo) (agenda-mine by _ _);
         operations = operations;
       })
 
@@ -252,10 +252,10 @@ module _ (v : Volume) (telling : IsTelling v) (old : List Event) (w : World) (fi
         tied = subst (λ (z : World). AreTied v (x ∷ w.log) z.nodes z.export) (sym next_is) (tied-own v x w.log w.nodes w.export by (in-runs v old w fine) tied (said-word s.number text said));
         own = λ ok. turns (facts (x ∷ w.log)) (extends-more (x ∷ []) w.log) (Noted text) (x ∷ []) (text, refl, refl) (telling w.log x seen, tt);
         course = λ ok. steps (Noted text) (x ∷ []) (text, refl, refl);
-        number_is = ap (λ (z : World). (z.seats by).number) next_is ∙ ap (λ (z : Seat). z.number) (seat-mine by _ _);
-        seat_is = λ a apart. ap (λ (z : World). z.seats a) next_is ∙ seat-other a by (same_actor a by) _ _ apart;
-        work_is = ap (λ (z : World). (z.seats by).work) next_is ∙ ap (λ (z : Seat). z.work) (seat-mine by _ _);
-        todo_is = ap (λ (z : World). (z.seats by).todo) next_is ∙ ap (λ (z : Seat). z.todo) (seat-mine by _ _);
+        number_is = ap (λ (z : World). (z.agendas by).number) next_is ∙ ap (λ (z : Agenda). z.number) (agenda-mine by _ _);
+        agenda_is = λ a apart. ap (λ (z : World). z.agendas a) next_is ∙ agenda-other a by (same_actor a by) _ _ apart;
+        work_is = ap (λ (z : World). (z.agendas by).work) next_is ∙ ap (λ (z : Agenda). z.work) (agenda-mine by _ _);
+        todo_is = ap (λ (z : World). (z.agendas by).todo) next_is ∙ ap (λ (z : Agenda). z.todo) (agenda-mine by _ _);
         operations = operations;
       })
 
@@ -286,10 +286,10 @@ module _ (v : Volume) (telling : IsTelling v) (old : List Event) (w : World) (fi
               (tied-node v x w.log w.nodes w.export n (after_answer question given (w.nodes n)) (in-runs v old w fine) tied ev.word_is step.tied);
           own = λ ok. turns (facts (x ∷ w.log)) (extends-more (x ∷ []) w.log) (Answered true given) (x ∷ []) (StepThrough given x is) (telling w.log x seen, tt);
           course = λ ok. steps (Answered true given) (x ∷ []) (StepThrough given x is);
-          number_is = ap (λ (z : World). (z.seats by).number) next_is ∙ ap (λ (z : Seat). z.number) (seat-mine by _ _);
-          seat_is = λ a apart. ap (λ (z : World). z.seats a) next_is ∙ seat-other a by (same_actor a by) _ _ apart;
-          work_is = ap (λ (z : World). (z.seats by).work) next_is ∙ ap (λ (z : Seat). z.work) (seat-mine by _ _);
-          todo_is = ap (λ (z : World). (z.seats by).todo) next_is ∙ ap (λ (z : Seat). z.todo) (seat-mine by _ _);
+          number_is = ap (λ (z : World). (z.agendas by).number) next_is ∙ ap (λ (z : Agenda). z.number) (agenda-mine by _ _);
+          agenda_is = λ a apart. ap (λ (z : World). z.agendas a) next_is ∙ agenda-other a by (same_actor a by) _ _ apart;
+          work_is = ap (λ (z : World). (z.agendas by).work) next_is ∙ ap (λ (z : Agenda). z.work) (agenda-mine by _ _);
+          todo_is = ap (λ (z : World). (z.agendas by).todo) next_is ∙ ap (λ (z : Agenda). z.todo) (agenda-mine by _ _);
           operations = operations;
         })
 
@@ -317,10 +317,10 @@ module _ (v : Volume) (telling : IsTelling v) (old : List Event) (w : World) (fi
           own = λ ok. turns (facts (m ∷ x ∷ w.log)) (extends-more (m ∷ x ∷ []) w.log) Missed (m ∷ x ∷ []) (StepReplyLost given x is link)
               (tt, (told-more v m (x ∷ w.log) x (telling w.log x seen), tt));
           course = λ ok. steps Missed (m ∷ x ∷ []) (StepReplyLost given x is link);
-          number_is = ap (λ (z : World). (z.seats by).number) next_is ∙ ap (λ (z : Seat). z.number) (seat-mine by _ _);
-          seat_is = λ a apart. ap (λ (z : World). z.seats a) next_is ∙ seat-other a by (same_actor a by) _ _ apart;
-          work_is = ap (λ (z : World). (z.seats by).work) next_is ∙ ap (λ (z : Seat). z.work) (seat-mine by _ _);
-          todo_is = ap (λ (z : World). (z.seats by).todo) next_is ∙ ap (λ (z : Seat). z.todo) (seat-mine by _ _);
+          number_is = ap (λ (z : World). (z.agendas by).number) next_is ∙ ap (λ (z : Agenda). z.number) (agenda-mine by _ _);
+          agenda_is = λ a apart. ap (λ (z : World). z.agendas a) next_is ∙ agenda-other a by (same_actor a by) _ _ apart;
+          work_is = ap (λ (z : World). (z.agendas by).work) next_is ∙ ap (λ (z : Agenda). z.work) (agenda-mine by _ _);
+          todo_is = ap (λ (z : World). (z.agendas by).todo) next_is ∙ ap (λ (z : Agenda). z.todo) (agenda-mine by _ _);
           operations = operations;
         })
 
@@ -338,10 +338,10 @@ module _ (v : Volume) (telling : IsTelling v) (old : List Event) (w : World) (fi
           tied = subst (λ (z : World). AreTied v (m ∷ w.log) z.nodes z.export) (sym next_is) (tied-own v m w.log w.nodes w.export by (in-runs v old w fine) tied refl);
           own = λ ok. turns (facts (m ∷ w.log)) (extends-more (m ∷ []) w.log) Missed (m ∷ []) (StepRequestLost link) (tt, tt);
           course = λ ok. steps Missed (m ∷ []) (StepRequestLost link);
-          number_is = ap (λ (z : World). (z.seats by).number) next_is ∙ ap (λ (z : Seat). z.number) (seat-mine by _ _);
-          seat_is = λ a apart. ap (λ (z : World). z.seats a) next_is ∙ seat-other a by (same_actor a by) _ _ apart;
-          work_is = ap (λ (z : World). (z.seats by).work) next_is ∙ ap (λ (z : Seat). z.work) (seat-mine by _ _);
-          todo_is = ap (λ (z : World). (z.seats by).todo) next_is ∙ ap (λ (z : Seat). z.todo) (seat-mine by _ _);
+          number_is = ap (λ (z : World). (z.agendas by).number) next_is ∙ ap (λ (z : Agenda). z.number) (agenda-mine by _ _);
+          agenda_is = λ a apart. ap (λ (z : World). z.agendas a) next_is ∙ agenda-other a by (same_actor a by) _ _ apart;
+          work_is = ap (λ (z : World). (z.agendas by).work) next_is ∙ ap (λ (z : Agenda). z.work) (agenda-mine by _ _);
+          todo_is = ap (λ (z : World). (z.agendas by).todo) next_is ∙ ap (λ (z : Agenda). z.todo) (agenda-mine by _ _);
           operations = operations;
         })
 

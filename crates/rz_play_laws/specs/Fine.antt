@@ -1,5 +1,5 @@
 -- When a world is in order, in a play that goes on after an earlier log.
-use Rattle.std.specs.Prelude.{ℕ, false, ◌≡◌, ◌<◌, ◌-◌, ◌^◌, List, ◌∷◌, ◌++◌, length}
+use Rattle.std.specs.Prelude.{ℕ, false, ◌≡◌, ◌<◌, ◌+◌, ◌-◌, ◌^◌, List, ◌∷◌, ◌++◌, length}
 use Rattle.std.specs.List.{AllByRecursion}
 use Rattle.rz_events.specs.Volume.{Volume}
 use Rattle.rz_events.specs.declared.keys.Actor.{Actor}
@@ -22,12 +22,13 @@ IsTelling v = (h : List Event) (x : Event) → IsLegalInRuns v (x ∷ h) → IsT
 
 -- The beginning.
 
--- A play may begin after this log, which is legal and leaves room: nodes and export are those of the log.
+-- A play may begin after this log, which is legal and leaves room: nodes and export are those of the log. It may have 512
+-- events more than earlier runs, since before a play each of 256 nodes was stopped and started.
 pub record MayBegin (v : Volume) (nodes : ℕ → NodeState) (s : ExportState) (old : List Event) : Type 0 where
   pub legal : IsLegalInRuns v old
   pub nodes_are : (n : ℕ) → IsNode (facts old) (of_word (Node n) old) (nodes n)
   pub export_is : IsExport v (facts old) (of_word Export old) s
-  pub few : length old < 2 ^ 63
+  pub few : length old < 2 ^ 63 + 512
 
 -- Between two turns.
 
@@ -42,9 +43,9 @@ pub record IsFine (v : Volume) (old : List Event) (w : World) : Type 0 where
   pub legal : IsLegalAfter v old run
   pub nodes_are : (n : ℕ) → IsNode (facts w.log) (of_word (Node n) w.log) (w.nodes n)
   pub export_is : IsExport v (facts w.log) (of_word Export w.log) w.export
-  pub own : (by : Actor) → IsSeated by → IsOwn v (facts w.log) (of_actor by w.log) (of_actor by run) by (w.seats by).work
-  pub under_way : (by : Actor) → IsSeated by → IsUnderWay v by (w.seats by).number (of_actor by run) (w.seats by).work
-  pub todo : (by : Actor) → AllByRecursion (IsOperation v by) (w.seats by).todo
+  pub own : (by : Actor) → IsSeated by → IsOwn v (facts w.log) (of_actor by w.log) (of_actor by run) by (w.agendas by).work
+  pub under_way : (by : Actor) → IsSeated by → IsUnderWay v by (w.agendas by).number (of_actor by run) (w.agendas by).work
+  pub todo : (by : Actor) → AllByRecursion (IsOperation v by) (w.agendas by).todo
 
 -- a log has room for fewer than 2^64 events
 abbrev pub IsFineIfShort : Volume → List Event → World → Type 0

@@ -132,8 +132,8 @@ pub fn lined()
 /// In such a world the events of an actor say how far the operation has come that its next turn is of.
 pub fn working()
     ensures { (v : Volume) (old : List AnEvent) (w : World) → (fine : IsFine v old w) → (by : AnActor) → IsSeated by
-        → IsOwn v (facts w.log) (of_actor by w.log) (of_actor by fine.run) by (at_work (w.seats by)).work
-        × IsUnderWay v by (at_work (w.seats by)).number (of_actor by fine.run) (at_work (w.seats by)).work }
+        → IsOwn v (facts w.log) (of_actor by w.log) (of_actor by fine.run) by (at_work (w.agendas by)).work
+        × IsUnderWay v by (at_work (w.agendas by)).number (of_actor by fine.run) (at_work (w.agendas by)).work }
 {}
 
 /// In such a world each actor has a turn, whatever it asks.

@@ -15,7 +15,7 @@ use Rattle.rz_script.specs.Lines.{IsActor}
 use Rattle.rz_events.specs.declared.keys.Actor.TheVariants.{Client, Rebuilder, Admin}
 use Rattle.std.specs.List.{AllByRecursion, range_with_len}
 use Rattle.std.proofs.lemmas.Bool.{cases_lt}
-use Rattle.rz_play.specs.World.{actors, World, Seat, Bars, take_up, at_work}
+use Rattle.rz_play.specs.World.{actors, World, Agenda, Bars, take_up, at_work}
 use Rattle.rz_locks.specs.declared.conflict.Lock.{Lock}
 use Rattle.rz_locks.specs.Conflicts.{Conflict}
 use Rattle.rz_play.specs.Turns.{IsGranted, lock_after, lock_on}
@@ -75,7 +75,7 @@ others-apart a b apart = go (same_actor b a) refl
     go false is = is
 
 -- the lock of an actor is not touched where it goes to work
-pub lock-at_work : (s : Seat) → (at_work s).lock ≡ s.lock
+pub lock-at_work : (s : Agenda) → (at_work s).lock ≡ s.lock
 lock-at_work s = go s.work s.todo
   where
     go : (work : Work) (ops : List Operation) → (take_up s work ops).lock ≡ s.lock
@@ -83,28 +83,28 @@ lock-at_work s = go s.work s.todo
     go Over [] = refl
     go (_) ops = refl
 
-module _ (v : Volume) (w : World) (apart : AreApart w) (by : Actor) (ok : IsActor by) (s : Seat) (same : s.lock ≡ (w.seats by).lock) where
-  old : (b : Actor) → IsActor b → (x y : Lock) → same_actor by b ≡ false → s.lock ≡ Some x → (w.seats b).lock ≡ Some y → ¬ Conflict x y
+module _ (v : Volume) (w : World) (apart : AreApart w) (by : Actor) (ok : IsActor by) (s : Agenda) (same : s.lock ≡ (w.agendas by).lock) where
+  old : (b : Actor) → IsActor b → (x y : Lock) → same_actor by b ≡ false → s.lock ≡ Some x → (w.agendas b).lock ≡ Some y → ¬ Conflict x y
   old b ok_b x y other is at = apart by b x y ok ok_b other (sym same ∙ is) at
 
   -- a lock that was granted conflicts with none
   fresh : (b : Actor) → IsActor b → (x y : Lock) → same_actor b by ≡ false → (wanted : Option Lock) → wanted ≡ Some x → IsGranted w by wanted true
-      → (w.seats b).lock ≡ Some y → ¬ Conflict x y
+      → (w.agendas b).lock ≡ Some y → ¬ Conflict x y
   fresh b ok_b x y other None is granted at conflict = cc
   fresh b ok_b x y other (Some l) is granted at conflict =
       let l_is : l ≡ x = (the_same l x is) in
-      of-actors (λ z. same_actor z by ≡ false → Bars (w.seats z).lock l → ⊥) b ok_b (granted.0 refl) other (subst (λ (z : Option Lock). Bars z l) (sym at) (subst (λ z. Conflict y z) (sym l_is) (turned x y conflict)))
+      of-actors (λ z. same_actor z by ≡ false → Bars (w.agendas z).lock l → ⊥) b ok_b (granted.0 refl) other (subst (λ (z : Option Lock). Bars z l) (sym at) (subst (λ z. Conflict y z) (sym l_is) (turned x y conflict)))
     where
       the_same : (p q : Lock) → Some p ≡ Some q → p ≡ q
       the_same p q k = cc
 
-  said : (what : Saying) (b : Actor) → IsActor b → (x y : Lock) → same_actor by b ≡ false → lock_after what s.lock ≡ Some x → (w.seats b).lock ≡ Some y → ¬ Conflict x y
+  said : (what : Saying) (b : Actor) → IsActor b → (x y : Lock) → same_actor by b ≡ false → lock_after what s.lock ≡ Some x → (w.agendas b).lock ≡ Some y → ¬ Conflict x y
   said (SayDone answer) b ok_b x y other is at = λ conflict. cc
   said (SayGot key part mark) b ok_b x y other is at = old b ok_b x y other is at
   said (SayGave key part end) b ok_b x y other is at = old b ok_b x y other is at
   said (SayLeft key why) b ok_b x y other is at = old b ok_b x y other is at
 
-  mine : (a : Ask) (t : Told) (lock : Option Lock) → IsLockAfter w by s a t lock → (b : Actor) → IsActor b → (x y : Lock) → same_actor b by ≡ false → lock ≡ Some x → (w.seats b).lock ≡ Some y → ¬ Conflict x y
+  mine : (a : Ask) (t : Told) (lock : Option Lock) → IsLockAfter w by s a t lock → (b : Actor) → IsActor b → (x y : Lock) → same_actor b by ≡ false → lock ≡ Some x → (w.agendas b).lock ≡ Some y → ¬ Conflict x y
   mine (AskLock path exclusive from count) t lock (true, (t_is, granted, lock_is)) b ok_b x y other is at =
       fresh b ok_b x y other (lock_on (export_reply w.export (call.Tree (tree.OpenFile path))) exclusive from count) (sym lock_is ∙ is) granted at
   mine (AskLock path exclusive from count) t lock (false, (t_is, granted, lock_is)) b ok_b x y other is at = old b ok_b x y (others-apart b by other) (sym lock_is ∙ is) at
@@ -118,13 +118,13 @@ module _ (v : Volume) (w : World) (apart : AreApart w) (by : Actor) (ok : IsActo
   apart-after a next m p q x y ok_p ok_q other at_p at_q = go (same_actor p by) (same_actor q by) refl refl
     where
       go : (c d : Bool) → same_actor p by ≡ c → same_actor q by ≡ d → ¬ Conflict x y
-      go false false is_p is_q = apart p q x y ok_p ok_q other (sym (ap (λ (z : Seat). z.lock) (m.others p is_p)) ∙ at_p) (sym (ap (λ (z : Seat). z.lock) (m.others q is_q)) ∙ at_q)
+      go false false is_p is_q = apart p q x y ok_p ok_q other (sym (ap (λ (z : Agenda). z.lock) (m.others p is_p)) ∙ at_p) (sym (ap (λ (z : Agenda). z.lock) (m.others q is_q)) ∙ at_q)
       go true false is_p is_q =
-          mine a m.t (next.seats by).lock m.lock_is q ok_q x y is_q (subst (λ z. (next.seats z).lock ≡ Some x) (same_actor-true p by is_p) at_p)
-          (sym (ap (λ (z : Seat). z.lock) (m.others q is_q)) ∙ at_q)
+          mine a m.t (next.agendas by).lock m.lock_is q ok_q x y is_q (subst (λ z. (next.agendas z).lock ≡ Some x) (same_actor-true p by is_p) at_p)
+          (sym (ap (λ (z : Agenda). z.lock) (m.others q is_q)) ∙ at_q)
       go false true is_p is_q = λ conflict.
-          mine a m.t (next.seats by).lock m.lock_is p ok_p y x is_p (subst (λ z. (next.seats z).lock ≡ Some y) (same_actor-true q by is_q) at_q)
-          (sym (ap (λ (z : Seat). z.lock) (m.others p is_p)) ∙ at_p) (turned x y conflict)
+          mine a m.t (next.agendas by).lock m.lock_is p ok_p y x is_p (subst (λ z. (next.agendas z).lock ≡ Some y) (same_actor-true q by is_q) at_q)
+          (sym (ap (λ (z : Agenda). z.lock) (m.others p is_p)) ∙ at_p) (turned x y conflict)
       go true true is_p is_q =
           let same_p = same_actor-true p by is_p in
           let same_q = same_actor-true q by is_q in

@@ -18,7 +18,7 @@ use Rattle.rz_core.proofs.NodeSteps.{the_some}
 use Rattle.rz_events.specs.declared.operations.Operation.{Operation}
 use Rattle.rz_script.specs.declared.line.Line.{Line}
 use Rattle.rz_script.specs.declared.line.Line.TheVariants as line
-use Rattle.rz_play.specs.World.{World, actors, world_after, with_seat, has_work}
+use Rattle.rz_play.specs.World.{World, actors, world_after, with_agenda, has_work}
 use Rattle.rz_play.specs.Turns.{IsTurn}
 use Rattle.rz_play.specs.Lines.{IsTurns, IsTurnOr, IsRound, IsRounds, IsAdminCall, noted, with_operation, with_miss, PlaysLine}
 use Rattle.rz_play.specs.Played.{BeginsLines}
@@ -62,9 +62,9 @@ pub record IsAdmins (x : Event) : Type 0 where
 module _ (v : Volume) (tells : IsTelling v) (old : List Event) (P : (Actor → List Operation) → World → Type 0)
     (turns : (more : Actor → List Operation) (by : Actor) → IsActor by → (w next : World) → IsFine v old w → IsFine v old next → P more w → IsTurn v by w next → P more next)
     (gives : (more : Actor → List Operation) (by : Actor) (op : Operation) (w : World) → P (λ a. cond (same_actor a by) (op ∷ more a) (more a)) w
-    → P more (with_seat w by (with_operation (w.seats by) op)))
-    (misses : (more : Actor → List Operation) (by : Actor) (reply : Bool) (w : World) → P more w → P more (with_seat w by (with_miss (w.seats by) reply)))
-    (admins : (more : Actor → List Operation) (w next : World) (xs : List Event) → IsFine v old w → AllByRecursion IsAdmins xs → next.seats ≡ w.seats → next.log ≡ xs ++ w.log → P more w → P more next) where
+    → P more (with_agenda w by (with_operation (w.agendas by) op)))
+    (misses : (more : Actor → List Operation) (by : Actor) (reply : Bool) (w : World) → P more w → P more (with_agenda w by (with_miss (w.agendas by) reply)))
+    (admins : (more : Actor → List Operation) (w next : World) (xs : List Event) → IsFine v old w → AllByRecursion IsAdmins xs → next.agendas ≡ w.agendas → next.log ≡ xs ++ w.log → P more w → P more next) where
   -- what the lines between these worlds keep
   record Carries (more now : Actor → List Operation) (w next : World) (k : ℕ) : Type 0 where
     leads : Leads v old w next k
@@ -104,10 +104,10 @@ module _ (v : Volume) (tells : IsTelling v) (old : List Event) (P : (Actor → L
     c-turn-or true by ok w next is = c-turn by ok w next is
     c-turn-or false by ok w next is = c-stays more w next is
 
-    c-round : (seats : List Actor) → AllByRecursion IsActor seats → (w next : World) → IsRound v seats w next → Carries more more w next 0
+    c-round : (agendas : List Actor) → AllByRecursion IsActor agendas → (w next : World) → IsRound v agendas w next → Carries more more w next 0
     c-round [] ok w next is = c-stays more w next is
-    c-round (a ∷ seats) ok w next (mid, first, rest) =
-        c-both more w mid next (c-turn-or (has_work (w.seats a)) a ok.0 w mid first) (c-round seats ok.1 mid next rest)
+    c-round (a ∷ agendas) ok w next (mid, first, rest) =
+        c-both more w mid next (c-turn-or (has_work (w.agendas a)) a ok.0 w mid first) (c-round agendas ok.1 mid next rest)
 
     c-rounds : (k : ℕ) (w next : World) → IsRounds v k w next → Carries more more w next 0
     c-rounds zero w next is = c-stays more w next is
@@ -138,8 +138,8 @@ module _ (v : Volume) (tells : IsTelling v) (old : List Event) (P : (Actor → L
     }
       where
         go : IsFine v old w → P more w → (y : Option Event) → node_event Admin n question is.given ≡ y → next.log ≡ noted y w.log → P more next
-        go fine p None at log_is = admins more w next [] fine tt (ap (λ (z : World). z.seats) is.next_is) log_is p
-        go fine p (Some x) at log_is = admins more w next (x ∷ []) fine (whose is.given x at, tt) (ap (λ (z : World). z.seats) is.next_is) log_is p
+        go fine p None at log_is = admins more w next [] fine tt (ap (λ (z : World). z.agendas) is.next_is) log_is p
+        go fine p (Some x) at log_is = admins more w next (x ∷ []) fine (whose is.given x at, tt) (ap (λ (z : World). z.agendas) is.next_is) log_is p
 
   -- the operations that are still to come once a line is played
   abbrev after : (l : Line) → List Line → Actor → List Operation
@@ -160,7 +160,7 @@ module _ (v : Volume) (tells : IsTelling v) (old : List Event) (P : (Actor → L
   c-line (line.Break n k pick) lines ok w next is = record {
     leads = by-line v tells old (line.Break n k pick) ok w next is;
     carries = λ fine p few. admins (λ a. given a lines) w next (e.Armed n k pick ∷ []) fine (record { by_is = refl; at = (n, refl) }, tt)
-        (ap (λ (z : World). z.seats) is) (ap (λ (z : World). z.log) is) p;
+        (ap (λ (z : World). z.agendas) is) (ap (λ (z : World). z.log) is) p;
   }
   c-line (line.Miss by reply) lines ok w next is = record {
     leads = by-line v tells old (line.Miss by reply) ok w next is;
@@ -216,9 +216,9 @@ record InRun (old : List Event) (Q : List Event → World → Type 0) (w : World
 module _ (v : Volume) (tells : IsTelling v) (old : List Event) (Q : (Actor → List Operation) → List Event → World → Type 0)
     (turns : (more : Actor → List Operation) (by : Actor) → IsActor by → (w next : World) (fine : IsFine v old w) (fine_next : IsFine v old next) → Q more fine.run w → IsTurn v by w next → Q more fine_next.run next)
     (gives : (more : Actor → List Operation) (by : Actor) (op : Operation) (run : List Event) (w : World) → Q (λ a. cond (same_actor a by) (op ∷ more a) (more a)) run w
-    → Q more run (with_seat w by (with_operation (w.seats by) op)))
-    (misses : (more : Actor → List Operation) (by : Actor) (reply : Bool) (run : List Event) (w : World) → Q more run w → Q more run (with_seat w by (with_miss (w.seats by) reply)))
-    (admins : (more : Actor → List Operation) (run : List Event) (w next : World) (xs : List Event) → IsFine v old w → w.log ≡ run ++ old → AllByRecursion IsAdmins xs → next.seats ≡ w.seats → next.log ≡ xs ++ w.log
+    → Q more run (with_agenda w by (with_operation (w.agendas by) op)))
+    (misses : (more : Actor → List Operation) (by : Actor) (reply : Bool) (run : List Event) (w : World) → Q more run w → Q more run (with_agenda w by (with_miss (w.agendas by) reply)))
+    (admins : (more : Actor → List Operation) (run : List Event) (w next : World) (xs : List Event) → IsFine v old w → w.log ≡ run ++ old → AllByRecursion IsAdmins xs → next.agendas ≡ w.agendas → next.log ≡ xs ++ w.log
     → Q more run w → Q more (xs ++ run) next) where
   same-run : (w : World) (fine : IsFine v old w) (run : List Event) → w.log ≡ run ++ old → run ≡ fine.run
   same-run w fine run log_is = append_cancel_right run fine.run old (sym log_is ∙ fine.log_is)
@@ -234,10 +234,10 @@ module _ (v : Volume) (tells : IsTelling v) (old : List Event) (Q : (Actor → L
       })
       (λ more by op w r. record { run = r.run; log_is = r.log_is; holds = gives more by op r.run w r.holds })
       (λ more by reply w r. record { run = r.run; log_is = r.log_is; holds = misses more by reply r.run w r.holds })
-      (λ more w next xs fine all seats_are log_is r. record {
+      (λ more w next xs fine all agendas_are log_is r. record {
         run = xs ++ r.run;
         log_is = log_is ∙ ap (λ (z : List Event). xs ++ z) r.log_is ∙ sym (append_assoc xs r.run old);
-        holds = admins more r.run w next xs fine r.log_is all seats_are log_is r.holds;
+        holds = admins more r.run w next xs fine r.log_is all agendas_are log_is r.holds;
       })
       lines script nodes s b (record { run = []; log_is = refl; holds = first }) w is few in
       (k.0, (k.1.0, subst (λ (z : List Event). Q k.1.0 z w) (same-run w k.0 k.1.1.run k.1.1.log_is) k.1.1.holds))

@@ -16,7 +16,7 @@ use Rattle.rz_operation_model.specs.Work.{Work, Calling, Dropping, Opening, Lock
 use Rattle.rz_operation_model.specs.Ask.{Ask, AskExport, AskNode, AskLock, Say, Rest, Saying, SayGot, SayGave, SayLeft, SayDone, ask_of}
 use Rattle.rz_operation_model.specs.Steps.{Told, begun, told}
 use Rattle.rz_operation_model.specs.Turns.{IsStep, said_event}
-use Rattle.rz_play.specs.World.{World, Seat, take_up, at_work}
+use Rattle.rz_play.specs.World.{World, Agenda, take_up, at_work}
 use Rattle.rz_locks.specs.declared.conflict.Lock.{Lock}
 use Rattle.rz_play.specs.Turns.{IsTurn, IsAskTurn, counted}
 use Rattle.rz_play_laws.specs.Own.{IsOwn, IsProper}
@@ -29,7 +29,7 @@ use Rattle.rz_play_laws.proofs.OwnTurns.{proper}
 use Rattle.rz_play_laws.proofs.Plays.{IsAtWork, working}
 use Rattle.rz_play_laws.proofs.Scripts.{seated}
 use Rattle.rz_play_locks.specs.Operations.{in_hand, ended}
-use Rattle.rz_play_locks.specs.Holding.{IsHolding, InHand, IsSeat, IsKeeping}
+use Rattle.rz_play_locks.specs.Holding.{IsHolding, InHand, IsAgenda, IsKeeping}
 use Rattle.rz_play_locks.proofs.Moves.{IsMoved, moves}
 use Rattle.rz_play_locks.proofs.Barring.{apart-after, lock-at_work}
 use Rattle.rz_play_locks.proofs.Turned.{hand-turn}
@@ -70,16 +70,16 @@ next-of (suc n) (x ∷ all) op ops is = next-of n all op ops is
 
 -- What others do changes nothing.
 
-pub seat-frame : (layout : Layout) (ops : Actor → List Operation) (h xs : List Event) (by : Actor) (more : List Operation) (s : Seat) → of_actor by (xs ++ h) ≡ of_actor by h
-    → IsSeat layout ops h by more s → IsSeat layout ops (xs ++ h) by more s
-seat-frame layout ops h xs by more s own is = record {
+pub agenda-frame : (layout : Layout) (ops : Actor → List Operation) (h xs : List Event) (by : Actor) (more : List Operation) (s : Agenda) → of_actor by (xs ++ h) ≡ of_actor by h
+    → IsAgenda layout ops h by more s → IsAgenda layout ops (xs ++ h) by more s
+agenda-frame layout ops h xs by more s own is = record {
   rest = is.rest;
   hand = subst (λ (o : List Event). InHand layout ops o by s.number s.lock s.work) (sym own) is.hand;
 }
 
 -- An operation is taken up.
 
-module _ (layout : Layout) (ops : Actor → List Operation) (h : List Event) (by : Actor) (more : List Operation) (s : Seat) (is : IsSeat layout ops h by more s) where
+module _ (layout : Layout) (ops : Actor → List Operation) (h : List Event) (by : Actor) (more : List Operation) (s : Agenda) (is : IsAgenda layout ops h by more s) where
   begins : (op : Operation) → ended (of_actor by h) ≡ s.number → s.lock ≡ None → slice_get (ops by) s.number ≡ Some op → InHand layout ops (of_actor by h) by (s.number + 1) s.lock (begun op)
   begins op count none at = go op (ap (slice_get (ops by)) count ∙ at)
     where
@@ -93,7 +93,7 @@ module _ (layout : Layout) (ops : Actor → List Operation) (h : List Event) (by
       go (operation.Update path offset datum) at = (ap (λ k. k + 1) count, (operation.Update path offset datum, at, (refl, none)))
       go (operation.View path offset size) at = (ap (λ k. k + 1) count, (operation.View path offset size, at, (refl, none)))
 
-  up : (work : Work) (todo : List Operation) → s.work ≡ work → s.todo ≡ todo → IsSeat layout ops h by more (take_up s work todo)
+  up : (work : Work) (todo : List Operation) → s.work ≡ work → s.todo ≡ todo → IsAgenda layout ops h by more (take_up s work todo)
   up Over (op ∷ rest) at todo =
       let hand : InHand layout ops (of_actor by h) by s.number s.lock Over = subst (InHand layout ops (of_actor by h) by s.number s.lock) at is.hand in
       let k = next-of s.number (ops by) op (rest ++ more) (subst (λ (z : List Operation). z ++ more ≡ drop s.number (ops by)) todo is.rest) in
@@ -111,8 +111,8 @@ module _ (layout : Layout) (ops : Actor → List Operation) (h : List Event) (by
   up (Rebuilding n r) todo at same = is
   up (Ending a) todo at same = is
 
-  pub seat-at_work : IsSeat layout ops h by more (at_work s)
-  seat-at_work = up s.work s.todo refl refl
+  pub agenda-at_work : IsAgenda layout ops h by more (at_work s)
+  agenda-at_work = up s.work s.todo refl refl
 
 -- nothing is in hand, or an operation
 pub record IsInHand (layout : Layout) (ops : Actor → List Operation) (o : List Event) (by : Actor) (number : ℕ) (lock : Option Lock) (work : Work) : Type 0 where
@@ -134,7 +134,7 @@ hand-of layout ops o by number lock (Rebuilding n s) is = inr (record { op = is.
 hand-of layout ops o by number lock (Ending a) is = inr (record { op = is.1.0; count = is.0; at = is.1.1; holds = is.1.2 })
 
 -- A turn, with all that is known of the actor at work; `run` has the events of this run before it.
-pub record IsGoing (v : Volume) (ops : Actor → List Operation) (run : List Event) (w : World) (by : Actor) (s : Seat) (next : World) : Type 0 where
+pub record IsGoing (v : Volume) (ops : Actor → List Operation) (run : List Event) (w : World) (by : Actor) (s : Agenda) (next : World) : Type 0 where
   pub move : IsMoved v (counted w) by s (ask_of v.layout s.work) next
   pub own : IsOwn v (facts w.log) (of_actor by w.log) (of_actor by run) by s.work
   pub proper : IsProper v (facts w.log) (of_actor by w.log) (of_actor by run) by s.number (ask_of v.layout s.work)
@@ -149,9 +149,9 @@ runs-on v old w next fine fine_next xs log_is =
     (sym fine_next.log_is ∙ log_is ∙ ap (λ (z : List Event). xs ++ z) fine.log_is ∙ sym (append_assoc xs fine.run old))
 
 pub going : (v : Volume) (old : List Event) (ops more : Actor → List Operation) (by : Actor) → IsActor by → (w next : World) (fine : IsFine v old w) → IsFine v old next
-    → IsKeeping v.layout ops more fine.run w → IsTurn v by w next → (next ≡ counted w) ⊎ IsGoing v ops fine.run w by (at_work (w.seats by)) next
+    → IsKeeping v.layout ops more fine.run w → IsTurn v by w next → (next ≡ counted w) ⊎ IsGoing v ops fine.run w by (at_work (w.agendas by)) next
 going v old ops more by ok w next fine fine_next keeping turn =
-    go (at_work (w.seats by)) (working v old w fine by (seated by ok)) (seat-at_work v.layout ops fine.run by (more by) (w.seats by) (keeping.seats by ok)) turn
+    go (at_work (w.agendas by)) (working v old w fine by (seated by ok)) (agenda-at_work v.layout ops fine.run by (more by) (w.agendas by) (keeping.agendas by ok)) turn
   where
     all : List Event
     all = of_actor by w.log
@@ -159,7 +159,7 @@ going v old ops more by ok w next fine fine_next keeping turn =
     mine : List Event
     mine = of_actor by fine.run
 
-    moved : (s : Seat) → IsAtWork v (facts w.log) all mine by s → IsInHand v.layout ops mine by s.number s.lock s.work
+    moved : (s : Agenda) → IsAtWork v (facts w.log) all mine by s → IsInHand v.layout ops mine by s.number s.lock s.work
         → IsProper v (facts w.log) all mine by s.number (ask_of v.layout s.work) → IsMoved v (counted w) by s (ask_of v.layout s.work) next → IsGoing v ops fine.run w by s next
     moved s at hand ok_ask m =
         let by_is = step-mine v (facts w.log) all mine by s.number (ask_of v.layout s.work) ok_ask m.t m.xs m.step in
@@ -173,13 +173,13 @@ going v old ops more by ok w next fine fine_next keeping turn =
               (subst (λ (o : List Event). IsOwn v (facts (m.xs ++ w.log)) o (of_actor by (m.xs ++ fine.run)) by (told v.layout s.work m.t)) (of_actor-mine by m.xs w.log by_is)
               (subst (λ (h : List Event). IsOwn v (facts h) (of_actor by h) (of_actor by (m.xs ++ fine.run)) by (told v.layout s.work m.t)) m.log_is
               (subst (λ z. IsOwn v (facts next.log) (of_actor by next.log) (of_actor by (m.xs ++ fine.run)) by z) m.work_is
-              (subst (λ (r : List Event). IsOwn v (facts next.log) (of_actor by next.log) (of_actor by r) by (next.seats by).work) (runs-on v old w next fine fine_next m.xs m.log_is)
+              (subst (λ (r : List Event). IsOwn v (facts next.log) (of_actor by next.log) (of_actor by r) by (next.agendas by).work) (runs-on v old w next fine fine_next m.xs m.log_is)
               (fine_next.own by (seated by ok))))));
         }
 
-    go : (s : Seat) → IsAtWork v (facts w.log) all mine by s → IsSeat v.layout ops fine.run by (more by) s → IsAskTurn v (counted w) by s (ask_of v.layout s.work) next
+    go : (s : Agenda) → IsAtWork v (facts w.log) all mine by s → IsAgenda v.layout ops fine.run by (more by) s → IsAskTurn v (counted w) by s (ask_of v.layout s.work) next
         → (next ≡ counted w) ⊎ IsGoing v ops fine.run w by s next
-    go s at seat turn = elim (hand-of v.layout ops mine by s.number s.lock s.work seat.hand) [
+    go s at agenda turn = elim (hand-of v.layout ops mine by s.number s.lock s.work agenda.hand) [
       | inl over ↦ inl (subst (λ z. IsAskTurn v (counted w) by s (ask_of v.layout z) next) over turn)
       | inr hand ↦ elim at.way [
         | inl over ↦ inl (subst (λ z. IsAskTurn v (counted w) by s (ask_of v.layout z) next) over turn)
@@ -198,29 +198,29 @@ pub keeping-turn : (v : Volume) (old : List Event) (ops more : Actor → List Op
     → IsKeeping v.layout ops more fine.run w → IsTurn v by w next → IsKeeping v.layout ops more fine_next.run next
 keeping-turn v old ops more by ok w next fine fine_next keeping turn = elim (going v old ops more by ok w next fine fine_next keeping turn) [
   | inl same ↦ subst (λ (r : List Event). IsKeeping v.layout ops more r next) (sym (runs-on v old w next fine fine_next [] (ap (λ (z : World). z.log) same)))
-      (subst (IsKeeping v.layout ops more fine.run) (sym same) (record { apart = keeping.apart; seats = keeping.seats }))
+      (subst (IsKeeping v.layout ops more fine.run) (sym same) (record { apart = keeping.apart; agendas = keeping.agendas }))
   | inr g ↦ subst (λ (r : List Event). IsKeeping v.layout ops more r next) (sym (runs-on v old w next fine fine_next g.move.xs g.move.log_is)) (record {
-    apart = apart-after v (counted w) keeping.apart by ok (at_work (w.seats by)) (lock-at_work (w.seats by)) (ask_of v.layout (at_work (w.seats by)).work) next g.move;
-    seats = λ a is. seat g a is (same_actor a by) refl;
+    apart = apart-after v (counted w) keeping.apart by ok (at_work (w.agendas by)) (lock-at_work (w.agendas by)) (ask_of v.layout (at_work (w.agendas by)).work) next g.move;
+    agendas = λ a is. agenda g a is (same_actor a by) refl;
   })
 ]
   where
-    seat : (g : IsGoing v ops fine.run w by (at_work (w.seats by)) next) → (a : Actor) → IsActor a → (b : Bool) → same_actor a by ≡ b → IsSeat v.layout ops (g.move.xs ++ fine.run) a (more a) (next.seats a)
-    seat g a is true at =
-        let s = at_work (w.seats by) in
-        let before = seat-at_work v.layout ops fine.run by (more by) (w.seats by) (keeping.seats by ok) in
+    agenda : (g : IsGoing v ops fine.run w by (at_work (w.agendas by)) next) → (a : Actor) → IsActor a → (b : Bool) → same_actor a by ≡ b → IsAgenda v.layout ops (g.move.xs ++ fine.run) a (more a) (next.agendas a)
+    agenda g a is true at =
+        let s = at_work (w.agendas by) in
+        let before = agenda-at_work v.layout ops fine.run by (more by) (w.agendas by) (keeping.agendas by ok) in
         let m = g.move in
-        let now = hand-turn v ops fine.run by s.number g.hand.op g.hand.count g.hand.at (counted w) s (facts w.log) (of_actor by w.log) (of_actor by fine.run) m.t m.xs (next.seats by).lock s.work g.own g.hand.holds m.step m.lock_is
+        let now = hand-turn v ops fine.run by s.number g.hand.op g.hand.count g.hand.at (counted w) s (facts w.log) (of_actor by w.log) (of_actor by fine.run) m.t m.xs (next.agendas by).lock s.work g.own g.hand.holds m.step m.lock_is
         (between-of v (facts (m.xs ++ w.log)) (m.xs ++ of_actor by w.log) (m.xs ++ of_actor by fine.run) by (told v.layout s.work m.t) g.after) in
-        subst (λ z. IsSeat v.layout ops (m.xs ++ fine.run) z (more z) (next.seats z)) (sym (same_actor-true a by at))
+        subst (λ z. IsAgenda v.layout ops (m.xs ++ fine.run) z (more z) (next.agendas z)) (sym (same_actor-true a by at))
         (record {
-          rest = subst (λ (z : List Operation). z ++ more by ≡ drop (next.seats by).number (ops by)) (sym m.todo_is)
+          rest = subst (λ (z : List Operation). z ++ more by ≡ drop (next.agendas by).number (ops by)) (sym m.todo_is)
               (subst (λ k. s.todo ++ more by ≡ drop k (ops by)) (sym m.number_is) before.rest);
-          hand = subst (λ (o : List Event). InHand v.layout ops o by (next.seats by).number (next.seats by).lock (next.seats by).work) (sym (of_actor-mine by m.xs fine.run g.mine))
-              (subst (λ k. InHand v.layout ops (m.xs ++ of_actor by fine.run) by k (next.seats by).lock (next.seats by).work) (sym m.number_is)
-              (subst (InHand v.layout ops (m.xs ++ of_actor by fine.run) by s.number (next.seats by).lock) (sym m.work_is) now));
+          hand = subst (λ (o : List Event). InHand v.layout ops o by (next.agendas by).number (next.agendas by).lock (next.agendas by).work) (sym (of_actor-mine by m.xs fine.run g.mine))
+              (subst (λ k. InHand v.layout ops (m.xs ++ of_actor by fine.run) by k (next.agendas by).lock (next.agendas by).work) (sym m.number_is)
+              (subst (InHand v.layout ops (m.xs ++ of_actor by fine.run) by s.number (next.agendas by).lock) (sym m.work_is) now));
         })
-    seat g a is false apart =
+    agenda g a is false apart =
         let m = g.move in
-        subst (λ (z : Seat). IsSeat v.layout ops (m.xs ++ fine.run) a (more a) z) (sym (m.others a apart))
-        (seat-frame v.layout ops fine.run m.xs a (more a) (w.seats a) (of_actor-other a by m.xs fine.run apart g.mine) (keeping.seats a is))
+        subst (λ (z : Agenda). IsAgenda v.layout ops (m.xs ++ fine.run) a (more a) z) (sym (m.others a apart))
+        (agenda-frame v.layout ops fine.run m.xs a (more a) (w.agendas a) (of_actor-other a by m.xs fine.run apart g.mine) (keeping.agendas a is))

@@ -265,12 +265,12 @@ pub both-conflict : (layout : Layout) (a b : Lock) (key : Key) → HasBlock layo
 both-conflict layout a b key on_a on_b exclusive = ((on_a.0 ∙ sym on_b.0, (key.block * block_bytes_of layout, on_a.1, on_b.1)), inl exclusive)
 
 -- So no other actor has a lock on a block of which an update's publish is accepted.
-pub barred : (v : Volume) (ops : Actor → List Operation) (run : List Event) (w next : World) (by : Actor) → IsActor by → AreApart w → (g : IsGoing v ops run w by (at_work (w.seats by)) next)
+pub barred : (v : Volume) (ops : Actor → List Operation) (run : List Event) (w next : World) (by : Actor) → IsActor by → AreApart w → (g : IsGoing v ops run w by (at_work (w.agendas by)) next)
     → (b : Actor) (key : Key) (stamp mask : ℕ) (ys : List Event) → g.move.xs ≡ e.Publish b key stamp mask None ∷ ys → IsUpdate (in_hand (ops by) (of_actor by run))
-    → (a : Actor) → IsActor a → same_actor a by ≡ false → (lock : Lock) → (w.seats a).lock ≡ Some lock → ¬ HasBlock v.layout lock key
+    → (a : Actor) → IsActor a → same_actor a by ≡ false → (lock : Lock) → (w.agendas a).lock ≡ Some lock → ¬ HasBlock v.layout lock key
 barred v ops run w next by ok apart g b key stamp mask ys xs_is update a ok_a other lock at on =
-    let s = at_work (w.seats by) in
+    let s = at_work (w.agendas by) in
     let m = g.move in
     let p = publish-step by b s.number key stamp mask ys v (facts w.log) (of_actor by w.log) (of_actor by run) (ask_of v.layout s.work) g.proper m.t m.xs m.step xs_is in
     let k = sending-locked v.layout g.hand.op s.lock s.work key stamp g.hand.holds (sending-of v.layout key stamp mask p.size s.work p.asks) (subst IsUpdate g.hand.at update) in
-    apart by a k.held lock ok ok_a (others-apart a by other) (sym (lock-at_work (w.seats by)) ∙ k.is) at (both-conflict v.layout k.held lock key k.block on k.exclusive)
+    apart by a k.held lock ok ok_a (others-apart a by other) (sym (lock-at_work (w.agendas by)) ∙ k.is) at (both-conflict v.layout k.held lock key k.block on k.exclusive)

@@ -20,7 +20,7 @@ use Rattle.rz_operation_model.specs.Rebuild.{ask_to_copy, Probing, Enrolling, Re
 use Rattle.rz_operation_model.specs.Work.{Work, Calling, Dropping, Opening, Locking, Writing, Reading, Rebuilding, Ending, Over}
 use Rattle.rz_operation_model.specs.Ask.{Ask, AskExport, AskNode, AskLock, Say, Rest, SayGot, SayGave, SayLeft, SayDone, ask_of, is_part, read_asks, rebuild_asks, write_asks, gave}
 use Rattle.rz_operation_model.specs.Turns.{IsStep}
-use Rattle.rz_play.specs.World.{World, Seat, at_work}
+use Rattle.rz_play.specs.World.{World, Agenda, at_work}
 use Rattle.rz_locks.specs.declared.conflict.Lock.{Lock}
 use Rattle.rz_play.specs.Turns.{IsTurn, counted}
 use Rattle.rz_script.specs.Lines.{IsActor}
@@ -77,28 +77,28 @@ module _ (layout : Layout) (op : Operation) (lock : Option Lock) (path : List �
   holds-none Over holds is = absurd holds
 
 pub released : (v : Volume) (old : List Event) (ops more : Actor → List Operation) (w next : World) (fine : IsFine v old w) → IsFine v old next → IsKeeping v.layout ops more fine.run w → (by : Actor) → IsActor by → IsTurn v by w next
-    → (a : Actor) (lock : Lock) → (w.seats a).lock ≡ Some lock → IsReleased w next a lock
+    → (a : Actor) (lock : Lock) → (w.agendas a).lock ≡ Some lock → IsReleased w next a lock
 released v old ops more w next fine fine_next keeping by ok turn a lock held = elim (going v old ops more by ok w next fine fine_next keeping turn) [
-  | inl same ↦ inl (ap (λ (z : World). (z.seats a).lock) same ∙ held)
-  | inr g ↦ seat g (same_actor a by) refl
+  | inl same ↦ inl (ap (λ (z : World). (z.agendas a).lock) same ∙ held)
+  | inr g ↦ agenda g (same_actor a by) refl
 ]
   where
-    at-ask : (g : IsGoing v ops fine.run w by (at_work (w.seats by)) next) → (at_work (w.seats by)).lock ≡ Some lock → (z : Ask) → ask_of v.layout (at_work (w.seats by)).work ≡ z
-        → IsStep by (at_work (w.seats by)).number z g.move.t g.move.xs → IsLockAfter (counted w) by (at_work (w.seats by)) z g.move.t (next.seats by).lock → IsReleased w next by lock
+    at-ask : (g : IsGoing v ops fine.run w by (at_work (w.agendas by)) next) → (at_work (w.agendas by)).lock ≡ Some lock → (z : Ask) → ask_of v.layout (at_work (w.agendas by)).work ≡ z
+        → IsStep by (at_work (w.agendas by)).number z g.move.t g.move.xs → IsLockAfter (counted w) by (at_work (w.agendas by)) z g.move.t (next.agendas by).lock → IsReleased w next by lock
     at-ask g mine (AskExport c) asks step is = inl (is ∙ mine)
     at-ask g mine (AskNode n question) asks step is = inl (is ∙ mine)
     at-ask g mine Rest asks step is = inl (is ∙ mine)
     at-ask g mine (AskLock path exclusive from count) asks step is =
-        let none = holds-none v.layout g.hand.op (at_work (w.seats by)).lock path exclusive from count (at_work (w.seats by)).work g.hand.holds asks in cc
+        let none = holds-none v.layout g.hand.op (at_work (w.agendas by)).lock path exclusive from count (at_work (w.agendas by)).work g.hand.holds asks in cc
     at-ask g mine (Say (SayDone answer)) asks step is =
-        inr ((at_work (w.seats by)).number, answer, g.move.log_is ∙ ap (λ (zs : List Event). zs ++ w.log) step.2)
+        inr ((at_work (w.agendas by)).number, answer, g.move.log_is ∙ ap (λ (zs : List Event). zs ++ w.log) step.2)
     at-ask g mine (Say (SayGot key part m)) asks step is = inl (is.1 ∙ mine)
     at-ask g mine (Say (SayGave key part end)) asks step is = inl (is.1 ∙ mine)
     at-ask g mine (Say (SayLeft key why)) asks step is = inl (is.1 ∙ mine)
 
-    seat : IsGoing v ops fine.run w by (at_work (w.seats by)) next → (b : Bool) → same_actor a by ≡ b → IsReleased w next a lock
-    seat g true is =
+    agenda : IsGoing v ops fine.run w by (at_work (w.agendas by)) next → (b : Bool) → same_actor a by ≡ b → IsReleased w next a lock
+    agenda g true is =
         let same : a ≡ by = same_actor-true a by is in
         subst (λ z. IsReleased w next z lock) (sym same)
-        (at-ask g (lock-at_work (w.seats by) ∙ subst (λ z. (w.seats z).lock ≡ Some lock) same held) (ask_of v.layout (at_work (w.seats by)).work) refl g.move.step g.move.lock_is)
-    seat g false is = inl (ap (λ (z : Seat). z.lock) (g.move.others a is) ∙ held)
+        (at-ask g (lock-at_work (w.agendas by) ∙ subst (λ z. (w.agendas z).lock ≡ Some lock) same held) (ask_of v.layout (at_work (w.agendas by)).work) refl g.move.step g.move.lock_is)
+    agenda g false is = inl (ap (λ (z : Agenda). z.lock) (g.move.others a is) ∙ held)

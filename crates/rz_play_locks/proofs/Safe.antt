@@ -28,7 +28,7 @@ use Rattle.rz_operation_model.specs.Ranges.{Range}
 use Rattle.rz_operation_model.specs.Work.{Work, Plan, OnBlock, OnRange, RangePlan, PutBlock, WriteBytes, ReadBytes, Course, Alone, Within, Calling, Dropping, Opening, Locking, Writing, Reading, Rebuilding, Ending, Over}
 use Rattle.rz_operation_model.specs.Ask.{Ask, AskExport, AskNode, AskLock, Say, Rest, ask_of, first_byte, whole_bytes}
 use Rattle.rz_operation_model.specs.Steps.{Told, begun, told}
-use Rattle.rz_play.specs.World.{World, Seat, world_after, with_seat, take_up, at_work}
+use Rattle.rz_play.specs.World.{World, Agenda, world_after, with_agenda, take_up, at_work}
 use Rattle.rz_locks.specs.declared.conflict.Lock.{Lock}
 use Rattle.rz_locks.specs.Conflicts.{HasByte}
 use Rattle.rz_play.specs.Lines.{with_operation, with_miss}
@@ -132,7 +132,7 @@ none-silent layout ops old run key (e.Publish by at s mask (Some refused) ∷ zs
 none-silent layout ops old run key (_ ∷ zs) silent is = none-silent layout ops old run key zs silent.1 is
 
 -- an operation that is taken up knows nothing yet
-pub text-at_work : (layout : Layout) (ops : Actor → List Operation) (run h : List Event) (m : Option Operation) (s : Seat) → IsText layout ops run h m s.work → IsText layout ops run h m (at_work s).work
+pub text-at_work : (layout : Layout) (ops : Actor → List Operation) (run h : List Event) (m : Option Operation) (s : Agenda) → IsText layout ops run h m s.work → IsText layout ops run h m (at_work s).work
 text-at_work layout ops run h m s is = up s.work s.todo refl
   where
     first : (op : Operation) → IsText layout ops run h m (begun op)
@@ -157,7 +157,7 @@ text-at_work layout ops run h m s is = up s.work s.todo refl
     up (Rebuilding n r) todo at = is
     up (Ending a) todo at = is
 
-said-of : (v : Volume) (ops : Actor → List Operation) (run : List Event) (w : World) (op : Operation) (by : Actor) (s : Seat) (a : Ask) (t : Told) (lock : Option Lock) → IsLockAfter w by s a t lock → IsSaid v ops run w.log op a t
+said-of : (v : Volume) (ops : Actor → List Operation) (run : List Event) (w : World) (op : Operation) (by : Actor) (s : Agenda) (a : Ask) (t : Told) (lock : Option Lock) → IsLockAfter w by s a t lock → IsSaid v ops run w.log op a t
 said-of v ops run w op by s (Say said) t lock is = is.0
 said-of v ops run w op by s (AskExport c) t lock is = tt
 said-of v ops run w op by s (AskNode n question) t lock is = tt
@@ -199,7 +199,7 @@ pub safe-turn : (v : Volume) (old : List Event) (ops more : Actor → List Opera
     → IsSafe v.layout ops more old fine.run w → IsTurn v by w next → IsSafe v.layout ops more old fine_next.run next
 safe-turn v old ops more by ok w next fine fine_next safe turn = elim (going v old ops more by ok w next fine fine_next safe.keeping turn) [
   | inl same ↦ subst (λ (r : List Event). IsSafe v.layout ops more old r next) (sym (runs-on v old w next fine fine_next [] (ap (λ (z : World). z.log) same)))
-      (subst (IsSafe v.layout ops more old run) (sym same) (record { keeping = record { apart = safe.keeping.apart; seats = safe.keeping.seats }; texts = safe.texts; none_lost = safe.none_lost }))
+      (subst (IsSafe v.layout ops more old run) (sym same) (record { keeping = record { apart = safe.keeping.apart; agendas = safe.keeping.agendas }; texts = safe.texts; none_lost = safe.none_lost }))
   | inr g ↦ record {
     keeping = now;
     texts = λ a is. texts g a is (same_actor a by) refl;
@@ -210,11 +210,11 @@ safe-turn v old ops more by ok w next fine fine_next safe turn = elim (going v o
     run : List Event
     run = fine.run
 
-    s : Seat
-    s = at_work (w.seats by)
+    s : Agenda
+    s = at_work (w.agendas by)
 
     Going : Type 0
-    Going = IsGoing v ops run w by (at_work (w.seats by)) next
+    Going = IsGoing v ops run w by (at_work (w.agendas by)) next
 
     now : IsKeeping v.layout ops more fine_next.run next
     now = keeping-turn v old ops more by ok w next fine fine_next safe.keeping turn
@@ -224,57 +224,57 @@ safe-turn v old ops more by ok w next fine fine_next safe turn = elim (going v o
 
     published : (g : Going) (key : Key) → MayPublish by key g.move.xs
     published g key =
-        may-publish v (facts w.log) (of_actor by w.log) (of_actor by run) by (at_work (w.seats by)).number key (ask_of v.layout (at_work (w.seats by)).work) g.proper g.move.t g.move.xs g.move.step
+        may-publish v (facts w.log) (of_actor by w.log) (of_actor by run) by (at_work (w.agendas by)).number key (ask_of v.layout (at_work (w.agendas by)).work) g.proper g.move.t g.move.xs g.move.step
 
     -- an accepted publish of a guarded key is that of an update
     of-guarded : (g : Going) (key : Key) (p : IsPublished by key g.move.xs) → IsGuarded ops key (g.move.xs ++ run) → IsUpdate (in_hand (ops by) (of_actor by run))
     of-guarded g key p guarded = guarded-update ops by key p.stamp p.mask g.move.xs run p.is guarded
 
     -- the text that the actor itself knows
-    known : (g : Going) → IsText v.layout ops run w.log (Some g.hand.op) (at_work (w.seats by)).work
-    known g = text-at_work v.layout ops run w.log (Some g.hand.op) (w.seats by) (subst (λ z. IsText v.layout ops run w.log z (w.seats by).work) g.hand.at (safe.texts by ok))
+    known : (g : Going) → IsText v.layout ops run w.log (Some g.hand.op) (at_work (w.agendas by)).work
+    known g = text-at_work v.layout ops run w.log (Some g.hand.op) (w.agendas by) (subst (λ z. IsText v.layout ops run w.log z (w.agendas by).work) g.hand.at (safe.texts by ok))
 
-    after : (g : Going) → IsText v.layout ops (g.move.xs ++ run) (g.move.xs ++ w.log) (Some g.hand.op) (told v.layout (at_work (w.seats by)).work g.move.t)
+    after : (g : Going) → IsText v.layout ops (g.move.xs ++ run) (g.move.xs ++ w.log) (Some g.hand.op) (told v.layout (at_work (w.agendas by)).work g.move.t)
     after g =
-        text-turn v ops run w.log g.hand.op by (at_work (w.seats by)).number (at_work (w.seats by)).lock g.move.t g.move.xs
-        (subst (IsLegalInRuns v) g.move.log_is (in-runs v old next fine_next)) (in-runs v old w fine) (at_work (w.seats by)).work g.hand.holds (known g) g.move.step
-        (said-of v ops run (counted w) g.hand.op by (at_work (w.seats by)) (ask_of v.layout (at_work (w.seats by)).work) g.move.t (next.seats by).lock g.move.lock_is)
+        text-turn v ops run w.log g.hand.op by (at_work (w.agendas by)).number (at_work (w.agendas by)).lock g.move.t g.move.xs
+        (subst (IsLegalInRuns v) g.move.log_is (in-runs v old next fine_next)) (in-runs v old w fine) (at_work (w.agendas by)).work g.hand.holds (known g) g.move.step
+        (said-of v ops run (counted w) g.hand.op by (at_work (w.agendas by)) (ask_of v.layout (at_work (w.agendas by)).work) g.move.t (next.agendas by).lock g.move.lock_is)
 
-    mine : (g : Going) → IsText v.layout ops fine_next.run next.log (in_hand (ops by) (of_actor by fine_next.run)) (next.seats by).work
-    mine g = elim (hand-of v.layout ops (of_actor by fine_next.run) by (next.seats by).number (next.seats by).lock (next.seats by).work (now.seats by ok).hand) [
+    mine : (g : Going) → IsText v.layout ops fine_next.run next.log (in_hand (ops by) (of_actor by fine_next.run)) (next.agendas by).work
+    mine g = elim (hand-of v.layout ops (of_actor by fine_next.run) by (next.agendas by).number (next.agendas by).lock (next.agendas by).work (now.agendas by ok).hand) [
       | inl over ↦ subst (IsText v.layout ops fine_next.run next.log (in_hand (ops by) (of_actor by fine_next.run))) (sym over) tt
       | inr hand ↦ (
           let a = hand.count in
           let b = g.hand.count in
           let n = g.move.number_is in
           let same : ended (of_actor by fine_next.run) ≡ ended (of_actor by run) = omega (arith, a, b, n) in
-          subst (λ z. IsText v.layout ops fine_next.run next.log z (next.seats by).work) (sym (ap (slice_get (ops by)) same ∙ g.hand.at))
-          (subst (λ (r : List Event). IsText v.layout ops r next.log (Some g.hand.op) (next.seats by).work) (sym (run_is g))
-          (subst (λ (h : List Event). IsText v.layout ops (g.move.xs ++ run) h (Some g.hand.op) (next.seats by).work) (sym g.move.log_is)
+          subst (λ z. IsText v.layout ops fine_next.run next.log z (next.agendas by).work) (sym (ap (slice_get (ops by)) same ∙ g.hand.at))
+          (subst (λ (r : List Event). IsText v.layout ops r next.log (Some g.hand.op) (next.agendas by).work) (sym (run_is g))
+          (subst (λ (h : List Event). IsText v.layout ops (g.move.xs ++ run) h (Some g.hand.op) (next.agendas by).work) (sym g.move.log_is)
           (subst (IsText v.layout ops (g.move.xs ++ run) (g.move.xs ++ w.log) (Some g.hand.op)) (sym g.move.work_is) (after g))))
           )
     ]
 
     -- and the one that another actor knows
-    other : (g : Going) (a : Actor) → IsActor a → same_actor a by ≡ false → IsText v.layout ops (g.move.xs ++ run) (g.move.xs ++ w.log) (in_hand (ops a) (of_actor a run)) (w.seats a).work
-    other g a is apart = elim (hand-of v.layout ops (of_actor a run) a (w.seats a).number (w.seats a).lock (w.seats a).work (safe.keeping.seats a is).hand) [
+    other : (g : Going) (a : Actor) → IsActor a → same_actor a by ≡ false → IsText v.layout ops (g.move.xs ++ run) (g.move.xs ++ w.log) (in_hand (ops a) (of_actor a run)) (w.agendas a).work
+    other g a is apart = elim (hand-of v.layout ops (of_actor a run) a (w.agendas a).number (w.agendas a).lock (w.agendas a).work (safe.keeping.agendas a is).hand) [
       | inl over ↦ subst (IsText v.layout ops (g.move.xs ++ run) (g.move.xs ++ w.log) (in_hand (ops a) (of_actor a run))) (sym over) tt
-      | inr hand ↦ subst (λ z. IsText v.layout ops (g.move.xs ++ run) (g.move.xs ++ w.log) z (w.seats a).work) (sym hand.at)
-          (text-frame v ops run w.log g.move.xs (in-runs v old w fine) hand.op (w.seats a).lock
+      | inr hand ↦ subst (λ z. IsText v.layout ops (g.move.xs ++ run) (g.move.xs ++ w.log) z (w.agendas a).work) (sym hand.at)
+          (text-frame v ops run w.log g.move.xs (in-runs v old w fine) hand.op (w.agendas a).lock
           (λ key guarded on. elim (published g key) [
             | inl silent ↦ accepted-same g.move.xs w.log key silent
             | inr p ↦ absurd (barred v ops run w next by ok safe.keeping.apart g by key p.stamp p.mask [] p.is (of-guarded g key p guarded) a is apart on.held on.is on.block)
           ])
-          (w.seats a).work hand.holds (subst (λ z. IsText v.layout ops run w.log z (w.seats a).work) hand.at (safe.texts a is)))
+          (w.agendas a).work hand.holds (subst (λ z. IsText v.layout ops run w.log z (w.agendas a).work) hand.at (safe.texts a is)))
     ]
 
-    texts : (g : Going) (a : Actor) → IsActor a → (b : Bool) → same_actor a by ≡ b → IsText v.layout ops fine_next.run next.log (in_hand (ops a) (of_actor a fine_next.run)) (next.seats a).work
-    texts g a is true at = subst (λ z. IsText v.layout ops fine_next.run next.log (in_hand (ops z) (of_actor z fine_next.run)) (next.seats z).work) (sym (same_actor-true a by at)) (mine g)
+    texts : (g : Going) (a : Actor) → IsActor a → (b : Bool) → same_actor a by ≡ b → IsText v.layout ops fine_next.run next.log (in_hand (ops a) (of_actor a fine_next.run)) (next.agendas a).work
+    texts g a is true at = subst (λ z. IsText v.layout ops fine_next.run next.log (in_hand (ops z) (of_actor z fine_next.run)) (next.agendas z).work) (sym (same_actor-true a by at)) (mine g)
     texts g a is false apart =
-        subst (λ (r : List Event). IsText v.layout ops r next.log (in_hand (ops a) (of_actor a r)) (next.seats a).work) (sym (run_is g))
-        (subst (λ (h : List Event). IsText v.layout ops (g.move.xs ++ run) h (in_hand (ops a) (of_actor a (g.move.xs ++ run))) (next.seats a).work) (sym g.move.log_is)
-        (subst (λ (z : Seat). IsText v.layout ops (g.move.xs ++ run) (g.move.xs ++ w.log) (in_hand (ops a) (of_actor a (g.move.xs ++ run))) z.work) (sym (g.move.others a apart))
-        (subst (λ (o : List Event). IsText v.layout ops (g.move.xs ++ run) (g.move.xs ++ w.log) (in_hand (ops a) o) (w.seats a).work) (sym (of_actor-other a by g.move.xs run apart g.mine)) (other g a is apart))))
+        subst (λ (r : List Event). IsText v.layout ops r next.log (in_hand (ops a) (of_actor a r)) (next.agendas a).work) (sym (run_is g))
+        (subst (λ (h : List Event). IsText v.layout ops (g.move.xs ++ run) h (in_hand (ops a) (of_actor a (g.move.xs ++ run))) (next.agendas a).work) (sym g.move.log_is)
+        (subst (λ (z : Agenda). IsText v.layout ops (g.move.xs ++ run) (g.move.xs ++ w.log) (in_hand (ops a) (of_actor a (g.move.xs ++ run))) z.work) (sym (g.move.others a apart))
+        (subst (λ (o : List Event). IsText v.layout ops (g.move.xs ++ run) (g.move.xs ++ w.log) (in_hand (ops a) o) (w.agendas a).work) (sym (of_actor-other a by g.move.xs run apart g.mine)) (other g a is apart))))
 
     none : (g : Going) (key : Key) → IsGuarded ops key (g.move.xs ++ run) → NoneLost v.layout ops key old (g.move.xs ++ run)
     none g key guarded =
@@ -285,38 +285,38 @@ safe-turn v old ops more by ok w next fine fine_next safe turn = elim (going v o
             safe.none_lost key less,
             λ same. subst (λ z. IsUpdated v.layout z key.block (published_text (run ++ old) key) (text_in ((facts (run ++ old)).wrote p.stamp))) (sym g.hand.at)
                 (subst (λ (h : List Event). IsUpdated v.layout (Some g.hand.op) key.block (published_text h key) (text_in ((facts h).wrote p.stamp))) fine.log_is
-                (let asks = publish-step by by (at_work (w.seats by)).number key p.stamp p.mask [] v (facts w.log) (of_actor by w.log) (of_actor by run) (ask_of v.layout (at_work (w.seats by)).work) g.proper g.move.t g.move.xs g.move.step p.is in
-                published-updated v ops run w.log (of_actor by w.log) (of_actor by run) by g.hand.op (at_work (w.seats by)).lock (at_work (w.seats by)).work key p.stamp
-                (sending-of v.layout key p.stamp p.mask asks.size (at_work (w.seats by)).work asks.asks) g.hand.holds (known g) g.own (subst IsUpdate g.hand.at (of-guarded g key p guarded)) less)),
+                (let asks = publish-step by by (at_work (w.agendas by)).number key p.stamp p.mask [] v (facts w.log) (of_actor by w.log) (of_actor by run) (ask_of v.layout (at_work (w.agendas by)).work) g.proper g.move.t g.move.xs g.move.step p.is in
+                published-updated v ops run w.log (of_actor by w.log) (of_actor by run) by g.hand.op (at_work (w.agendas by)).lock (at_work (w.agendas by)).work key p.stamp
+                (sending-of v.layout key p.stamp p.mask asks.size (at_work (w.agendas by)).work asks.asks) g.hand.holds (known g) g.own (subst IsUpdate g.hand.at (of-guarded g key p guarded)) less)),
           )
         ]
 
 -- Lines.
 
--- a line that changes one seat, but not what it has in hand
-text-line : (layout : Layout) (ops : Actor → List Operation) (run : List Event) (w : World) (by : Actor) (t : Seat) → t.work ≡ (w.seats by).work
-    → ((a : Actor) → IsActor a → IsText layout ops run w.log (in_hand (ops a) (of_actor a run)) (w.seats a).work)
-    → (a : Actor) → IsActor a → IsText layout ops run w.log (in_hand (ops a) (of_actor a run)) ((with_seat w by t).seats a).work
+-- a line that changes one agenda, but not what it has in hand
+text-line : (layout : Layout) (ops : Actor → List Operation) (run : List Event) (w : World) (by : Actor) (t : Agenda) → t.work ≡ (w.agendas by).work
+    → ((a : Actor) → IsActor a → IsText layout ops run w.log (in_hand (ops a) (of_actor a run)) (w.agendas a).work)
+    → (a : Actor) → IsActor a → IsText layout ops run w.log (in_hand (ops a) (of_actor a run)) ((with_agenda w by t).agendas a).work
 text-line layout ops run w by t same texts a ok = go (same_actor a by) refl
   where
-    go : (b : Bool) → same_actor a by ≡ b → IsText layout ops run w.log (in_hand (ops a) (of_actor a run)) (cond b t (w.seats a)).work
-    go true is = subst (IsText layout ops run w.log (in_hand (ops a) (of_actor a run))) (ap (λ z. (w.seats z).work) (same_actor-true a by is) ∙ sym same) (texts a ok)
+    go : (b : Bool) → same_actor a by ≡ b → IsText layout ops run w.log (in_hand (ops a) (of_actor a run)) (cond b t (w.agendas a)).work
+    go true is = subst (IsText layout ops run w.log (in_hand (ops a) (of_actor a run))) (ap (λ z. (w.agendas z).work) (same_actor-true a by is) ∙ sym same) (texts a ok)
     go false is = texts a ok
 
 module _ (v : Volume) (old : List Event) (ops : Actor → List Operation) where
   pub safe-gives : (more : Actor → List Operation) (by : Actor) (op : Operation) (run : List Event) (w : World) → IsSafe v.layout ops (λ a. cond (same_actor a by) (op ∷ more a) (more a)) old run w
-      → IsSafe v.layout ops more old run (with_seat w by (with_operation (w.seats by) op))
+      → IsSafe v.layout ops more old run (with_agenda w by (with_operation (w.agendas by) op))
   safe-gives more by op run w is = record {
     keeping = keeping-gives v ops more by op run w is.keeping;
-    texts = text-line v.layout ops run w by (with_operation (w.seats by) op) refl is.texts;
+    texts = text-line v.layout ops run w by (with_operation (w.agendas by) op) refl is.texts;
     none_lost = is.none_lost;
   }
 
   pub safe-misses : (more : Actor → List Operation) (by : Actor) (reply : Bool) (run : List Event) (w : World) → IsSafe v.layout ops more old run w
-      → IsSafe v.layout ops more old run (with_seat w by (with_miss (w.seats by) reply))
+      → IsSafe v.layout ops more old run (with_agenda w by (with_miss (w.agendas by) reply))
   safe-misses more by reply run w is = record {
     keeping = keeping-misses v ops more by reply run w is.keeping;
-    texts = text-line v.layout ops run w by (with_miss (w.seats by) reply) refl is.texts;
+    texts = text-line v.layout ops run w by (with_miss (w.agendas by) reply) refl is.texts;
     none_lost = is.none_lost;
   }
 
@@ -332,23 +332,23 @@ module _ (v : Volume) (old : List Event) (ops : Actor → List Operation) where
   admins-by [] all = tt
   admins-by (x ∷ xs) all = (all.0.by_is, admins-by xs all.1)
 
-  pub safe-admins : (more : Actor → List Operation) (run : List Event) (w next : World) (xs : List Event) → IsFine v old w → AllByRecursion IsAdmins xs → next.seats ≡ w.seats → next.log ≡ xs ++ w.log
+  pub safe-admins : (more : Actor → List Operation) (run : List Event) (w next : World) (xs : List Event) → IsFine v old w → AllByRecursion IsAdmins xs → next.agendas ≡ w.agendas → next.log ≡ xs ++ w.log
       → IsSafe v.layout ops more old run w → IsSafe v.layout ops more old (xs ++ run) next
-  safe-admins more run w next xs fine all seats_are log_is is = record {
-    keeping = keeping-admins v ops more run w next xs all seats_are is.keeping;
+  safe-admins more run w next xs fine all agendas_are log_is is = record {
+    keeping = keeping-admins v ops more run w next xs all agendas_are is.keeping;
     texts = λ a ok.
-        subst (λ (h : List Event). IsText v.layout ops (xs ++ run) h (in_hand (ops a) (of_actor a (xs ++ run))) (next.seats a).work) (sym log_is)
-        (subst (λ (z : Actor → Seat). IsText v.layout ops (xs ++ run) (xs ++ w.log) (in_hand (ops a) (of_actor a (xs ++ run))) (z a).work) (sym seats_are)
-        (subst (λ (o : List Event). IsText v.layout ops (xs ++ run) (xs ++ w.log) (in_hand (ops a) o) (w.seats a).work) (sym (of_actor-other a Admin xs run (seated a ok) (admins-by xs all))) (text a ok)));
+        subst (λ (h : List Event). IsText v.layout ops (xs ++ run) h (in_hand (ops a) (of_actor a (xs ++ run))) (next.agendas a).work) (sym log_is)
+        (subst (λ (z : Actor → Agenda). IsText v.layout ops (xs ++ run) (xs ++ w.log) (in_hand (ops a) (of_actor a (xs ++ run))) (z a).work) (sym agendas_are)
+        (subst (λ (o : List Event). IsText v.layout ops (xs ++ run) (xs ++ w.log) (in_hand (ops a) o) (w.agendas a).work) (sym (of_actor-other a Admin xs run (seated a ok) (admins-by xs all))) (text a ok)));
     none_lost = λ key guarded. none-silent v.layout ops old run key xs (admins-silent key xs all) (is.none_lost key (guarded-back ops key xs run guarded));
   }
     where
-      text : (a : Actor) → IsActor a → IsText v.layout ops (xs ++ run) (xs ++ w.log) (in_hand (ops a) (of_actor a run)) (w.seats a).work
-      text a ok = elim (hand-of v.layout ops (of_actor a run) a (w.seats a).number (w.seats a).lock (w.seats a).work (is.keeping.seats a ok).hand) [
+      text : (a : Actor) → IsActor a → IsText v.layout ops (xs ++ run) (xs ++ w.log) (in_hand (ops a) (of_actor a run)) (w.agendas a).work
+      text a ok = elim (hand-of v.layout ops (of_actor a run) a (w.agendas a).number (w.agendas a).lock (w.agendas a).work (is.keeping.agendas a ok).hand) [
         | inl over ↦ subst (IsText v.layout ops (xs ++ run) (xs ++ w.log) (in_hand (ops a) (of_actor a run))) (sym over) tt
-        | inr hand ↦ subst (λ z. IsText v.layout ops (xs ++ run) (xs ++ w.log) z (w.seats a).work) (sym hand.at)
-            (text-frame v ops run w.log xs (in-runs v old w fine) hand.op (w.seats a).lock (λ key guarded on. accepted-same xs w.log key (admins-silent key xs all))
-            (w.seats a).work hand.holds (subst (λ z. IsText v.layout ops run w.log z (w.seats a).work) hand.at (is.texts a ok)))
+        | inr hand ↦ subst (λ z. IsText v.layout ops (xs ++ run) (xs ++ w.log) z (w.agendas a).work) (sym hand.at)
+            (text-frame v ops run w.log xs (in-runs v old w fine) hand.op (w.agendas a).lock (λ key guarded on. accepted-same xs w.log key (admins-silent key xs all))
+            (w.agendas a).work hand.holds (subst (λ z. IsText v.layout ops run w.log z (w.agendas a).work) hand.at (is.texts a ok)))
       ]
 
 pub safe-new : (v : Volume) (ops : Actor → List Operation) (nodes : ℕ → NodeState) (export : ExportState) (old : List Event) → IsSafe v.layout ops ops old [] (world_after nodes export old)

@@ -40,7 +40,7 @@ use Rattle.rz_operation_model.specs.Work.{Work, RangePlan, WriteBytes, ReadBytes
 use Rattle.rz_operation_model.specs.Ask.{Ask, AskExport, AskNode, AskLock, Say, Saying, SayGot, SayGave, SayLeft, SayDone, ask_of, is_part, read_asks, write_asks, rebuild_asks, first_byte, whole_bytes}
 use Rattle.rz_operation_model.specs.Steps.{Told, Replied, Locked, Answered, Missed, Noted, begun, told, in_rebuild, rebuild_after, reader_after, writer_after, after_got, after_gave}
 use Rattle.rz_operation_model.specs.Turns.{IsStep, IsExportStep, IsNodeStep, said_event}
-use Rattle.rz_play.specs.World.{World, Seat}
+use Rattle.rz_play.specs.World.{World, Agenda}
 use Rattle.rz_play.specs.Turns.{kind_of}
 use Rattle.rz_locks.specs.declared.conflict.Lock.{Lock}
 use Rattle.rz_play_laws.specs.Own.{IsOwn, IsOfActor}
@@ -206,7 +206,7 @@ module _ (v : Volume) (ops : Actor → List Operation) (h : List Event) (by : Ac
   by-say now said W f t xs step = say-step by number said (λ t xs. Between xs (W t) → After xs now (W t)) f t xs step
 
   -- Every turn.
-  module _ (w : World) (s : Seat) (f : Facts) (all run : List Event) (t : Told) (xs : List Event) (now : Option Lock) where
+  module _ (w : World) (s : Agenda) (f : Facts) (all run : List Event) (t : Told) (xs : List Event) (now : Option Lock) where
     abbrev Turn : Work → Type 0
     Turn work = IsStep by number (ask_of v.layout work) t xs → IsLockAfter w by s (ask_of v.layout work) t now
         → Between xs (told v.layout work t) → After xs now (told v.layout work t)

@@ -46,7 +46,7 @@ use Rattle.rz_operation_model.specs.Work.{Work, OnRange, RangePlan, WriteBytes, 
 use Rattle.rz_operation_model.specs.Ask.{Ask, AskExport, AskNode, AskLock, Say, Rest, Saying, SayGot, SayGave, SayLeft, SayDone, ask_of, is_part, read_asks, rebuild_asks, write_asks, gave, first_byte, whole_bytes}
 use Rattle.rz_operation_model.specs.Steps.{Told, begun, told}
 use Rattle.rz_operation_model.specs.Turns.{IsStep, said_event}
-use Rattle.rz_play.specs.World.{World, Seat, world_after, with_seat, take_up, at_work}
+use Rattle.rz_play.specs.World.{World, Agenda, world_after, with_agenda, take_up, at_work}
 use Rattle.rz_locks.specs.declared.conflict.Lock.{Lock}
 use Rattle.rz_locks.specs.declared.conflict.LockKind.TheVariants.{Shared}
 use Rattle.rz_script.specs.Lines.{IsActor}
@@ -221,7 +221,7 @@ seen-frame v ops old run h xs legal a path offset count lock opens same (Rebuild
 seen-frame v ops old run h xs legal a path offset count lock opens same Over holds is = tt
 
 -- an operation that is taken up has seen nothing yet
-seen-at_work : (layout : Layout) (ops : Actor → List Operation) (old run h : List Event) (a : Actor) (offset count : ℕ) (s : Seat) → IsSeenAt layout ops old run h a offset count s.work → IsSeenAt layout ops old run h a offset count (at_work s).work
+seen-at_work : (layout : Layout) (ops : Actor → List Operation) (old run h : List Event) (a : Actor) (offset count : ℕ) (s : Agenda) → IsSeenAt layout ops old run h a offset count s.work → IsSeenAt layout ops old run h a offset count (at_work s).work
 seen-at_work layout ops old run h a offset count s is = up s.work s.todo
   where
     first : (op : Operation) → IsSeenAt layout ops old run h a offset count (begun op)
@@ -246,7 +246,7 @@ seen-at_work layout ops old run h a offset count s is = up s.work s.todo
     up (Rebuilding n r) todo = is
     up (Ending b) todo = is
 
-said-text : (v : Volume) (ops : Actor → List Operation) (old run : List Event) (w : World) (log_is : w.log ≡ run ++ old) (before : IsLegalInRuns v w.log) (path : List ℕ) (offset count number : ℕ) (xs : List Event) (by : Actor) (s : Seat) (a : Ask) (t : Told) (lock now : Option Lock)
+said-text : (v : Volume) (ops : Actor → List Operation) (old run : List Event) (w : World) (log_is : w.log ≡ run ++ old) (before : IsLegalInRuns v w.log) (path : List ℕ) (offset count number : ℕ) (xs : List Event) (by : Actor) (s : Agenda) (a : Ask) (t : Told) (lock now : Option Lock)
     → IsLockAfter w by s a t now → IsSaid v ops old run w.log log_is before by path offset count number lock t xs a t
 said-text v ops old run w log_is before path offset count number xs by s (Say said) t lock now is = is.0
 said-text v ops old run w log_is before path offset count number xs by s (AskExport c) t lock now is = tt
@@ -270,9 +270,9 @@ seeing-turn v old ops more by ok w next fine fine_next see turn = elim (going v 
     safe = now;
     seen = λ a is path offset count at. seen g a is path offset count (same_actor a by) refl at;
     whole = subst (λ (r : List Event). AreWhole v.layout ops old r) (sym (run_is g))
-        (whole-turn v ops old run see.whole (facts w.log) (of_actor by w.log) (of_actor by run) by (at_work (w.seats by)).number (ask_of v.layout (at_work (w.seats by)).work) g.proper
+        (whole-turn v ops old run see.whole (facts w.log) (of_actor by w.log) (of_actor by run) by (at_work (w.agendas by)).number (ask_of v.layout (at_work (w.agendas by)).work) g.proper
         (λ answer asks. viewed v.layout ops run (last_open by old run) answer (in_hand (ops by) (of_actor by run)) (λ path offset count at.
-        said path offset count answer at (done-of v.layout offset answer (at_work (w.seats by)).work asks)))
+        said path offset count answer at (done-of v.layout offset answer (at_work (w.agendas by)).work asks)))
         g.move.t g.move.xs g.move.step);
   }
 ]
@@ -281,44 +281,44 @@ seeing-turn v old ops more by ok w next fine fine_next see turn = elim (going v 
     run = fine.run
 
     Going : Type 0
-    Going = IsGoing v ops run w by (at_work (w.seats by)) next
+    Going = IsGoing v ops run w by (at_work (w.agendas by)) next
 
     run_is : (g : Going) → fine_next.run ≡ g.move.xs ++ run
     run_is g = runs-on v old w next fine fine_next g.move.xs g.move.log_is
 
     Seen : List Event → World → Type 0
     Seen r z = (a : Actor) → IsActor a → (path : List ℕ) (offset count : ℕ) → in_hand (ops a) (of_actor a r) ≡ Some (operation.View path offset count)
-        → IsSeenAt v.layout ops old r z.log a offset count (z.seats a).work
+        → IsSeenAt v.layout ops old r z.log a offset count (z.agendas a).work
 
     now : IsSafe v.layout ops more old fine_next.run next
     now = safe-turn v old ops more by ok w next fine fine_next see.safe turn
 
     -- what the actor at work has seen
-    known : (path : List ℕ) (offset count : ℕ) → in_hand (ops by) (of_actor by run) ≡ Some (operation.View path offset count) → IsSeenAt v.layout ops old run w.log by offset count (at_work (w.seats by)).work
-    known path offset count at = seen-at_work v.layout ops old run w.log by offset count (w.seats by) (see.seen by ok path offset count at)
+    known : (path : List ℕ) (offset count : ℕ) → in_hand (ops by) (of_actor by run) ≡ Some (operation.View path offset count) → IsSeenAt v.layout ops old run w.log by offset count (at_work (w.agendas by)).work
+    known path offset count at = seen-at_work v.layout ops old run w.log by offset count (w.agendas by) (see.seen by ok path offset count at)
 
     said : (path : List ℕ) (offset count : ℕ) (answer : Answer) → in_hand (ops by) (of_actor by run) ≡ Some (operation.View path offset count)
-        → ((at_work (w.seats by)).work ≡ Ending answer) ⊎ ((info : FileInfo) (g : List Event) (size : ℕ) → IsWhole v.layout info g offset size answer)
+        → ((at_work (w.agendas by)).work ≡ Ending answer) ⊎ ((info : FileInfo) (g : List Event) (size : ℕ) → IsWhole v.layout info g offset size answer)
         → IsViewedAt v.layout ops run offset count (last_open by old run) answer
     said path offset count answer at (inl is) = subst (IsSeenAt v.layout ops old run w.log by offset count) is (known path offset count at)
     said path offset count answer at (inr is) = viewed-other v.layout ops run offset count answer is (last_open by old run)
 
     after : (g : Going) (path : List ℕ) (offset count : ℕ) → g.hand.op ≡ operation.View path offset count
-        → IsSeenAt v.layout ops old (g.move.xs ++ run) (g.move.xs ++ w.log) by offset count (told v.layout (at_work (w.seats by)).work g.move.t)
+        → IsSeenAt v.layout ops old (g.move.xs ++ run) (g.move.xs ++ w.log) by offset count (told v.layout (at_work (w.agendas by)).work g.move.t)
     after g path offset count is =
-        seen-turn v ops old run w.log fine.log_is (in-runs v old w fine) by path offset count (at_work (w.seats by)).number (at_work (w.seats by)).lock g.move.t g.move.xs (at_work (w.seats by)).work
-        (subst (λ z. IsHolding v.layout z (at_work (w.seats by)).lock (at_work (w.seats by)).work) is g.hand.holds)
-        (text-at_work v.layout ops run w.log (Some (operation.View path offset count)) (w.seats by)
-        (subst (λ z. IsText v.layout ops run w.log z (w.seats by).work) (g.hand.at ∙ ap Some is) (see.safe.texts by ok)))
+        seen-turn v ops old run w.log fine.log_is (in-runs v old w fine) by path offset count (at_work (w.agendas by)).number (at_work (w.agendas by)).lock g.move.t g.move.xs (at_work (w.agendas by)).work
+        (subst (λ z. IsHolding v.layout z (at_work (w.agendas by)).lock (at_work (w.agendas by)).work) is g.hand.holds)
+        (text-at_work v.layout ops run w.log (Some (operation.View path offset count)) (w.agendas by)
+        (subst (λ z. IsText v.layout ops run w.log z (w.agendas by).work) (g.hand.at ∙ ap Some is) (see.safe.texts by ok)))
         (known path offset count (g.hand.at ∙ ap Some is)) g.move.step
-        (said-text v ops old run (counted w) fine.log_is (in-runs v old w fine) path offset count (at_work (w.seats by)).number g.move.xs by (at_work (w.seats by)) (ask_of v.layout (at_work (w.seats by)).work) g.move.t (at_work (w.seats by)).lock (next.seats by).lock g.move.lock_is)
+        (said-text v ops old run (counted w) fine.log_is (in-runs v old w fine) path offset count (at_work (w.agendas by)).number g.move.xs by (at_work (w.agendas by)) (ask_of v.layout (at_work (w.agendas by)).work) g.move.t (at_work (w.agendas by)).lock (next.agendas by).lock g.move.lock_is)
 
     same-op : (a b : Operation) → Some a ≡ Some b → a ≡ b
     same-op a b is = cc
 
     mine : (g : Going) (path : List ℕ) (offset count : ℕ) → in_hand (ops by) (of_actor by fine_next.run) ≡ Some (operation.View path offset count)
-        → IsSeenAt v.layout ops old fine_next.run next.log by offset count (next.seats by).work
-    mine g path offset count at = elim (hand-of v.layout ops (of_actor by fine_next.run) by (next.seats by).number (next.seats by).lock (next.seats by).work (now.keeping.seats by ok).hand) [
+        → IsSeenAt v.layout ops old fine_next.run next.log by offset count (next.agendas by).work
+    mine g path offset count at = elim (hand-of v.layout ops (of_actor by fine_next.run) by (next.agendas by).number (next.agendas by).lock (next.agendas by).work (now.keeping.agendas by ok).hand) [
       | inl over ↦ subst (IsSeenAt v.layout ops old fine_next.run next.log by offset count) (sym over) tt
       | inr hand ↦ (
           let a = hand.count in
@@ -326,67 +326,67 @@ seeing-turn v old ops more by ok w next fine fine_next see turn = elim (going v 
           let n = g.move.number_is in
           let same : ended (of_actor by fine_next.run) ≡ ended (of_actor by run) = omega (arith, a, b, n) in
           let op_is : g.hand.op ≡ operation.View path offset count = same-op g.hand.op (operation.View path offset count) (sym g.hand.at ∙ sym (ap (slice_get (ops by)) same) ∙ at) in
-          subst (λ (r : List Event). IsSeenAt v.layout ops old r next.log by offset count (next.seats by).work) (sym (run_is g))
-          (subst (λ (h : List Event). IsSeenAt v.layout ops old (g.move.xs ++ run) h by offset count (next.seats by).work) (sym g.move.log_is)
+          subst (λ (r : List Event). IsSeenAt v.layout ops old r next.log by offset count (next.agendas by).work) (sym (run_is g))
+          (subst (λ (h : List Event). IsSeenAt v.layout ops old (g.move.xs ++ run) h by offset count (next.agendas by).work) (sym g.move.log_is)
           (subst (IsSeenAt v.layout ops old (g.move.xs ++ run) (g.move.xs ++ w.log) by offset count) (sym g.move.work_is) (after g path offset count op_is)))
           )
     ]
 
     other : (g : Going) (a : Actor) → IsActor a → same_actor a by ≡ false → (path : List ℕ) (offset count : ℕ)
-        → in_hand (ops a) (of_actor a run) ≡ Some (operation.View path offset count) → IsSeenAt v.layout ops old (g.move.xs ++ run) (g.move.xs ++ w.log) a offset count (w.seats a).work
-    other g a is apart path offset count at = elim (hand-of v.layout ops (of_actor a run) a (w.seats a).number (w.seats a).lock (w.seats a).work (see.safe.keeping.seats a is).hand) [
+        → in_hand (ops a) (of_actor a run) ≡ Some (operation.View path offset count) → IsSeenAt v.layout ops old (g.move.xs ++ run) (g.move.xs ++ w.log) a offset count (w.agendas a).work
+    other g a is apart path offset count at = elim (hand-of v.layout ops (of_actor a run) a (w.agendas a).number (w.agendas a).lock (w.agendas a).work (see.safe.keeping.agendas a is).hand) [
       | inl over ↦ subst (IsSeenAt v.layout ops old (g.move.xs ++ run) (g.move.xs ++ w.log) a offset count) (sym over) tt
       | inr hand ↦ (
           let op_is : hand.op ≡ operation.View path offset count = same-op hand.op (operation.View path offset count) (sym hand.at ∙ at) in
-          seen-frame v ops old run w.log g.move.xs (in-runs v old w fine) a path offset count (w.seats a).lock (open-other a by old g.move.xs run apart g.mine)
-          (λ key guarded on. elim (may-publish v (facts w.log) (of_actor by w.log) (of_actor by run) by (at_work (w.seats by)).number key (ask_of v.layout (at_work (w.seats by)).work) g.proper g.move.t g.move.xs g.move.step) [
+          seen-frame v ops old run w.log g.move.xs (in-runs v old w fine) a path offset count (w.agendas a).lock (open-other a by old g.move.xs run apart g.mine)
+          (λ key guarded on. elim (may-publish v (facts w.log) (of_actor by w.log) (of_actor by run) by (at_work (w.agendas by)).number key (ask_of v.layout (at_work (w.agendas by)).work) g.proper g.move.t g.move.xs g.move.step) [
             | inl silent ↦ accepted-same g.move.xs w.log key silent
             | inr p ↦ absurd (barred v ops run w next by ok see.safe.keeping.apart g by key p.stamp p.mask [] p.is (guarded-update ops by key p.stamp p.mask g.move.xs run p.is guarded) a is apart on.held on.is on.block)
           ])
-          (w.seats a).work (subst (λ z. IsHolding v.layout z (w.seats a).lock (w.seats a).work) op_is hand.holds) (see.seen a is path offset count at)
+          (w.agendas a).work (subst (λ z. IsHolding v.layout z (w.agendas a).lock (w.agendas a).work) op_is hand.holds) (see.seen a is path offset count at)
           )
     ]
 
     seen : (g : Going) (a : Actor) → IsActor a → (path : List ℕ) (offset count : ℕ) → (b : Bool) → same_actor a by ≡ b
-        → in_hand (ops a) (of_actor a fine_next.run) ≡ Some (operation.View path offset count) → IsSeenAt v.layout ops old fine_next.run next.log a offset count (next.seats a).work
+        → in_hand (ops a) (of_actor a fine_next.run) ≡ Some (operation.View path offset count) → IsSeenAt v.layout ops old fine_next.run next.log a offset count (next.agendas a).work
     seen g a is path offset count true at hand =
         let same : a ≡ by = same_actor-true a by at in
-        subst (λ z. IsSeenAt v.layout ops old fine_next.run next.log z offset count (next.seats z).work) (sym same)
+        subst (λ z. IsSeenAt v.layout ops old fine_next.run next.log z offset count (next.agendas z).work) (sym same)
         (mine g path offset count (subst (λ z. in_hand (ops z) (of_actor z fine_next.run) ≡ Some (operation.View path offset count)) same hand))
     seen g a is path offset count false apart hand =
-        subst (λ (r : List Event). IsSeenAt v.layout ops old r next.log a offset count (next.seats a).work) (sym (run_is g))
-        (subst (λ (h : List Event). IsSeenAt v.layout ops old (g.move.xs ++ run) h a offset count (next.seats a).work) (sym g.move.log_is)
-        (subst (λ (z : Seat). IsSeenAt v.layout ops old (g.move.xs ++ run) (g.move.xs ++ w.log) a offset count z.work) (sym (g.move.others a apart))
+        subst (λ (r : List Event). IsSeenAt v.layout ops old r next.log a offset count (next.agendas a).work) (sym (run_is g))
+        (subst (λ (h : List Event). IsSeenAt v.layout ops old (g.move.xs ++ run) h a offset count (next.agendas a).work) (sym g.move.log_is)
+        (subst (λ (z : Agenda). IsSeenAt v.layout ops old (g.move.xs ++ run) (g.move.xs ++ w.log) a offset count z.work) (sym (g.move.others a apart))
         (other g a is apart path offset count
         (subst (λ (o : List Event). in_hand (ops a) o ≡ Some (operation.View path offset count)) (of_actor-other a by g.move.xs run apart g.mine)
         (subst (λ (r : List Event). in_hand (ops a) (of_actor a r) ≡ Some (operation.View path offset count)) (run_is g) hand)))))
 
 -- Lines.
 
-seen-line : (layout : Layout) (ops : Actor → List Operation) (old run : List Event) (w : World) (by : Actor) (t : Seat) → t.work ≡ (w.seats by).work
-    → ((a : Actor) → IsActor a → (path : List ℕ) (offset count : ℕ) → in_hand (ops a) (of_actor a run) ≡ Some (operation.View path offset count) → IsSeenAt layout ops old run w.log a offset count (w.seats a).work)
+seen-line : (layout : Layout) (ops : Actor → List Operation) (old run : List Event) (w : World) (by : Actor) (t : Agenda) → t.work ≡ (w.agendas by).work
+    → ((a : Actor) → IsActor a → (path : List ℕ) (offset count : ℕ) → in_hand (ops a) (of_actor a run) ≡ Some (operation.View path offset count) → IsSeenAt layout ops old run w.log a offset count (w.agendas a).work)
     → (a : Actor) → IsActor a → (path : List ℕ) (offset count : ℕ) → in_hand (ops a) (of_actor a run) ≡ Some (operation.View path offset count)
-    → IsSeenAt layout ops old run w.log a offset count ((with_seat w by t).seats a).work
+    → IsSeenAt layout ops old run w.log a offset count ((with_agenda w by t).agendas a).work
 seen-line layout ops old run w by t same seen a ok path offset count at = go (same_actor a by) refl
   where
-    go : (b : Bool) → same_actor a by ≡ b → IsSeenAt layout ops old run w.log a offset count (cond b t (w.seats a)).work
-    go true is = subst (IsSeenAt layout ops old run w.log a offset count) (ap (λ z. (w.seats z).work) (same_actor-true a by is) ∙ sym same) (seen a ok path offset count at)
+    go : (b : Bool) → same_actor a by ≡ b → IsSeenAt layout ops old run w.log a offset count (cond b t (w.agendas a)).work
+    go true is = subst (IsSeenAt layout ops old run w.log a offset count) (ap (λ z. (w.agendas z).work) (same_actor-true a by is) ∙ sym same) (seen a ok path offset count at)
     go false is = seen a ok path offset count at
 
 module _ (v : Volume) (old : List Event) (ops : Actor → List Operation) where
   seeing-gives : (more : Actor → List Operation) (by : Actor) (op : Operation) (run : List Event) (w : World) → IsSeeing v.layout ops (λ a. cond (same_actor a by) (op ∷ more a) (more a)) old run w
-      → IsSeeing v.layout ops more old run (with_seat w by (with_operation (w.seats by) op))
+      → IsSeeing v.layout ops more old run (with_agenda w by (with_operation (w.agendas by) op))
   seeing-gives more by op run w is = record {
     safe = safe-gives v old ops more by op run w is.safe;
-    seen = seen-line v.layout ops old run w by (with_operation (w.seats by) op) refl is.seen;
+    seen = seen-line v.layout ops old run w by (with_operation (w.agendas by) op) refl is.seen;
     whole = is.whole;
   }
 
   seeing-misses : (more : Actor → List Operation) (by : Actor) (reply : Bool) (run : List Event) (w : World) → IsSeeing v.layout ops more old run w
-      → IsSeeing v.layout ops more old run (with_seat w by (with_miss (w.seats by) reply))
+      → IsSeeing v.layout ops more old run (with_agenda w by (with_miss (w.agendas by) reply))
   seeing-misses more by reply run w is = record {
     safe = safe-misses v old ops more by reply run w is.safe;
-    seen = seen-line v.layout ops old run w by (with_miss (w.seats by) reply) refl is.seen;
+    seen = seen-line v.layout ops old run w by (with_miss (w.agendas by) reply) refl is.seen;
     whole = is.whole;
   }
 
@@ -394,13 +394,13 @@ module _ (v : Volume) (old : List Event) (ops : Actor → List Operation) where
   admins-whole [] run all is = is
   admins-whole (x ∷ xs) run all is = by-node v ops old (xs ++ run) (admins-whole xs run all.1 is) x all.0.at.0 all.0.at.1
 
-  seeing-admins : (more : Actor → List Operation) (run : List Event) (w next : World) (xs : List Event) → IsFine v old w → AllByRecursion IsAdmins xs → next.seats ≡ w.seats → next.log ≡ xs ++ w.log
+  seeing-admins : (more : Actor → List Operation) (run : List Event) (w next : World) (xs : List Event) → IsFine v old w → AllByRecursion IsAdmins xs → next.agendas ≡ w.agendas → next.log ≡ xs ++ w.log
       → IsSeeing v.layout ops more old run w → IsSeeing v.layout ops more old (xs ++ run) next
-  seeing-admins more run w next xs fine all seats_are log_is is = record {
-    safe = safe-admins v old ops more run w next xs fine all seats_are log_is is.safe;
+  seeing-admins more run w next xs fine all agendas_are log_is is = record {
+    safe = safe-admins v old ops more run w next xs fine all agendas_are log_is is.safe;
     seen = λ a ok path offset count at.
-        subst (λ (h : List Event). IsSeenAt v.layout ops old (xs ++ run) h a offset count (next.seats a).work) (sym log_is)
-        (subst (λ (z : Actor → Seat). IsSeenAt v.layout ops old (xs ++ run) (xs ++ w.log) a offset count (z a).work) (sym seats_are)
+        subst (λ (h : List Event). IsSeenAt v.layout ops old (xs ++ run) h a offset count (next.agendas a).work) (sym log_is)
+        (subst (λ (z : Actor → Agenda). IsSeenAt v.layout ops old (xs ++ run) (xs ++ w.log) a offset count (z a).work) (sym agendas_are)
         (seen a ok path offset count
         (subst (λ (o : List Event). in_hand (ops a) o ≡ Some (operation.View path offset count)) (of_actor-other a Admin xs run (seated a ok) (admins-by v old ops xs all)) at)));
     whole = admins-whole xs run all is.whole;
@@ -410,14 +410,14 @@ module _ (v : Volume) (old : List Event) (ops : Actor → List Operation) where
       same-op a b is = cc
 
       seen : (a : Actor) → IsActor a → (path : List ℕ) (offset count : ℕ) → in_hand (ops a) (of_actor a run) ≡ Some (operation.View path offset count)
-          → IsSeenAt v.layout ops old (xs ++ run) (xs ++ w.log) a offset count (w.seats a).work
-      seen a ok path offset count at = elim (hand-of v.layout ops (of_actor a run) a (w.seats a).number (w.seats a).lock (w.seats a).work (is.safe.keeping.seats a ok).hand) [
+          → IsSeenAt v.layout ops old (xs ++ run) (xs ++ w.log) a offset count (w.agendas a).work
+      seen a ok path offset count at = elim (hand-of v.layout ops (of_actor a run) a (w.agendas a).number (w.agendas a).lock (w.agendas a).work (is.safe.keeping.agendas a ok).hand) [
         | inl over ↦ subst (IsSeenAt v.layout ops old (xs ++ run) (xs ++ w.log) a offset count) (sym over) tt
         | inr hand ↦ (
             let op_is : hand.op ≡ operation.View path offset count = same-op hand.op (operation.View path offset count) (sym hand.at ∙ at) in
-            seen-frame v ops old run w.log xs (in-runs v old w fine) a path offset count (w.seats a).lock (open-other a Admin old xs run (seated a ok) (admins-by v old ops xs all))
+            seen-frame v ops old run w.log xs (in-runs v old w fine) a path offset count (w.agendas a).lock (open-other a Admin old xs run (seated a ok) (admins-by v old ops xs all))
             (λ key guarded on. accepted-same xs w.log key (admins-silent v old ops key xs all))
-            (w.seats a).work (subst (λ z. IsHolding v.layout z (w.seats a).lock (w.seats a).work) op_is hand.holds) (is.seen a ok path offset count at)
+            (w.agendas a).work (subst (λ z. IsHolding v.layout z (w.agendas a).lock (w.agendas a).work) op_is hand.holds) (is.seen a ok path offset count at)
             )
       ]
 
@@ -431,7 +431,7 @@ kept-after v tells lines script nodes export old b h p =
     let k = reached-run v tells old (λ more run w. IsSeeing v.layout (λ a. given a lines) more old run w)
     (λ more by ok w next fine fine_next k turn. seeing-turn v old (λ a. given a lines) more by ok w next fine fine_next k turn)
     (seeing-gives v old (λ a. given a lines)) (seeing-misses v old (λ a. given a lines))
-    (λ more run w next xs fine run_is all seats_are log_is k. seeing-admins v old (λ a. given a lines) more run w next xs fine all seats_are log_is k)
+    (λ more run w next xs fine run_is all agendas_are log_is k. seeing-admins v old (λ a. given a lines) more run w next xs fine all agendas_are log_is k)
     lines script nodes export b (seeing-new v (λ a. given a lines) nodes export old) p.last p.played p.few in
     record {
       run = k.0.run;
@@ -481,7 +481,7 @@ first-of x (y ∷ ys) h is = (ys, ap (λ (z : Event). z ∷ ys) (head y (ys ++ h
 
 pub barred-turn : (v : Volume) (old : List Event) (ops more : Actor → List Operation) (w next : World) (fine : IsFine v old w) → IsFine v old next → IsKeeping v.layout ops more fine.run w → (by : Actor) → IsActor by → IsTurn v by w next
     → (b : Actor) (key : Key) (stamp mask : ℕ) → next.log ≡ e.Publish b key stamp mask None ∷ w.log → IsUpdate (in_hand (ops by) (of_actor by fine.run))
-    → (a : Actor) → IsActor a → same_actor a by ≡ false → (lock : Lock) → (w.seats a).lock ≡ Some lock → ¬ HasBlock v.layout lock key
+    → (a : Actor) → IsActor a → same_actor a by ≡ false → (lock : Lock) → (w.agendas a).lock ≡ Some lock → ¬ HasBlock v.layout lock key
 barred-turn v old ops more w next fine fine_next keeping by ok turn b key stamp mask log_is update a ok_a apart lock at on = elim (going v old ops more by ok w next fine fine_next keeping turn) [
   | inl same ↦ longer w.log (e.Publish b key stamp mask None) (sym (ap (λ (z : World). z.log) same) ∙ log_is)
   | inr g ↦ (

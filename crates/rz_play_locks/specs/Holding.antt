@@ -14,7 +14,7 @@ use Rattle.rz_operation_model.specs.Ranges.{Range, Aim, Taking, Giving, key_in, 
 use Rattle.rz_operation_model.specs.Work.{Work, OnBlock, OnRange, RangePlan, PutBlock, WriteBytes, ReadBytes, Course, Alone, Within, Calling, Dropping, Opening, Locking, Writing, Reading, Rebuilding, Ending, Over}
 use Rattle.rz_operation_model.specs.Ask.{Ask, AskLock, lock_asks}
 use Rattle.rz_operation_model.specs.Steps.{begun}
-use Rattle.rz_play.specs.World.{World, Seat}
+use Rattle.rz_play.specs.World.{World, Agenda}
 use Rattle.rz_play.specs.Turns.{kind_of}
 use Rattle.rz_locks.specs.declared.conflict.Lock.{Lock}
 use Rattle.rz_locks.specs.Conflicts.{HasByte, Conflict}
@@ -23,7 +23,7 @@ use Rattle.rz_play_locks.specs.Operations.{ended, in_hand}
 
 -- No two locks that are held conflict.
 abbrev pub AreApart : World → Type 0
-AreApart w = (a b : Actor) (x y : Lock) → IsActor a → IsActor b → same_actor a b ≡ false → (w.seats a).lock ≡ Some x → (w.seats b).lock ≡ Some y → ¬ Conflict x y
+AreApart w = (a b : Actor) (x y : Lock) → IsActor a → IsActor b → same_actor a b ≡ false → (w.agendas a).lock ≡ Some x → (w.agendas b).lock ≡ Some y → ¬ Conflict x y
 
 -- the lock is on the block
 abbrev pub HasBlock : Layout → Lock → Key → Type 0
@@ -105,15 +105,15 @@ InHand layout ops o by number lock work =
     (ended o + 1 ≡ number) × ((op : Operation) × (in_hand (ops by) o ≡ Some op) × IsHolding layout op lock work)
 
 -- An actor: what is left to do are the last ones of its operations, and what it has in hand is the one before them.
-pub record IsSeat (layout : Layout) (ops : Actor → List Operation) (run : List Event) (by : Actor) (more : List Operation) (s : Seat) : Type 0 where
+pub record IsAgenda (layout : Layout) (ops : Actor → List Operation) (run : List Event) (by : Actor) (more : List Operation) (s : Agenda) : Type 0 where
   pub rest : s.todo ++ more ≡ drop s.number (ops by)
   pub hand : InHand layout ops (of_actor by run) by s.number s.lock s.work
 
 -- Between two turns; `more` has the operations that each actor is still to be given, and `run` the events of this run.
 pub record IsKeeping (layout : Layout) (ops more : Actor → List Operation) (run : List Event) (w : World) : Type 0 where
   pub apart : AreApart w
-  pub seats : (by : Actor) → IsActor by → IsSeat layout ops run by (more by) (w.seats by)
+  pub agendas : (by : Actor) → IsActor by → IsAgenda layout ops run by (more by) (w.agendas by)
 
 -- After a turn the actor still holds the lock, or the turn was the `Done` of its operation.
 abbrev pub IsReleased : World → World → Actor → Lock → Type 0
-IsReleased w next a lock = ((next.seats a).lock ≡ Some lock) ⊎ ((number : ℕ) × (answer : Answer) × (next.log ≡ e.Done a number answer ∷ w.log))
+IsReleased w next a lock = ((next.agendas a).lock ≡ Some lock) ⊎ ((number : ℕ) × (answer : Answer) × (next.log ≡ e.Done a number answer ∷ w.log))

@@ -55,5 +55,5 @@ IsText layout ops run h m _ = Unit {0}
 -- Between two turns; `run` has the events of this run, which go on after the earlier log.
 pub record IsSafe (layout : Layout) (ops more : Actor → List Operation) (old run : List Event) (w : World) : Type 0 where
   pub keeping : IsKeeping layout ops more run w
-  pub texts : (by : Actor) → IsActor by → IsText layout ops run w.log (in_hand (ops by) (of_actor by run)) (w.seats by).work
+  pub texts : (by : Actor) → IsActor by → IsText layout ops run w.log (in_hand (ops by) (of_actor by run)) (w.agendas by).work
   pub none_lost : (key : Key) → IsGuarded ops key run → NoneLost layout ops key old run

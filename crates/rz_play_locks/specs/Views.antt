@@ -36,5 +36,5 @@ IsSeenAt layout ops old run h a offset count _ = Unit {0}
 pub record IsSeeing (layout : Layout) (ops more : Actor → List Operation) (old run : List Event) (w : World) : Type 0 where
   pub safe : IsSafe layout ops more old run w
   pub seen : (by : Actor) → IsActor by → (path : List ℕ) (offset count : ℕ) → in_hand (ops by) (of_actor by run) ≡ Some (operation.View path offset count)
-      → IsSeenAt layout ops old run w.log by offset count (w.seats by).work
+      → IsSeenAt layout ops old run w.log by offset count (w.agendas by).work
   pub whole : AreWhole layout ops old run

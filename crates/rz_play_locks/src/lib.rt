@@ -52,7 +52,7 @@ pub fn held()
 pub fn released()
     ensures { (v : Volume) (old : List AnEvent) (ops more : AnActor → List AnOperation) (w next : World)
         → (fine : IsFine v old w) → IsFine v old next → IsKeeping v.layout ops more fine.run w → (by : AnActor) → IsActor by → IsTurn v by w next
-        → (a : AnActor) (lock : Lock) → (w.seats a).lock ≡ Some lock → IsReleased w next a lock }
+        → (a : AnActor) (lock : Lock) → (w.agendas a).lock ≡ Some lock → IsReleased w next a lock }
 {}
 
 /// While an actor has a lock on a block, no other actor's update has a publish of it accepted.
@@ -61,7 +61,7 @@ pub fn barred()
         → (fine : IsFine v old w) → IsFine v old next → IsKeeping v.layout ops more fine.run w → (by : AnActor) → IsActor by → IsTurn v by w next
         → (b : AnActor) (key : AKey) (stamp mask : ℕ) → next.log ≡ e.Publish b key stamp mask None ∷ w.log
         → IsUpdate (in_hand (ops by) (of_actor by fine.run)) → (a : AnActor) → IsActor a → same_actor a by ≡ false
-        → (lock : Lock) → (w.seats a).lock ≡ Some lock → ¬ HasBlock v.layout lock key }
+        → (lock : Lock) → (w.agendas a).lock ≡ Some lock → ¬ HasBlock v.layout lock key }
 {}
 
 /// Each accepted publish of a guarded block is of the text that was published before it, with the bytes

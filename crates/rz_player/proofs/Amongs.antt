@@ -9,8 +9,8 @@ use Rattle.rz_play.specs.World.{World, has_work}
 use Rattle.rz_play.specs.Turns.{IsTurn}
 use Rattle.rz_play.specs.Lines.{IsRound, IsTurnOr}
 use Rattle.rz_play.specs.Stops.{most_turns}
-use Rattle.rz_player.specs.declared.turns.Cut.{Cut}
-use Rattle.rz_player.specs.declared.turns.Cut.TheVariants as cut
+use Rattle.rz_player.specs.declared.turns.CutCause.{CutCause}
+use Rattle.rz_player.specs.declared.turns.CutCause.TheVariants as cut
 use Rattle.rz_player.specs.Ends.{IsTurnTaken, IsRoundPlayed, HadWork}
 use Rattle.rz_player.proofs.Counts.{turn-counts}
 use Rattle.rz_player.proofs.Sequences.{round-more}
@@ -24,7 +24,7 @@ pub split-at : (xs : List Actor) (i : ℕ) (d : Actor) → i < length xs → xs 
 split-at xs i d lt = let split = sym (take-append-drop i xs) in
     subst (λ (ys : List Actor). xs ≡ take i xs ++ ys) (rw (add-one) (drop-cons xs i d lt)) split
 
-all-more : (w : World) (xs : List Actor) (by : Actor) → AllByRecursion (λ a. has_work (w.seats a) ≡ false) xs → has_work (w.seats by) ≡ false → AllByRecursion (λ a. has_work (w.seats a) ≡ false) (xs ++ by ∷ [])
+all-more : (w : World) (xs : List Actor) (by : Actor) → AllByRecursion (λ a. has_work (w.agendas a) ≡ false) xs → has_work (w.agendas by) ≡ false → AllByRecursion (λ a. has_work (w.agendas a) ≡ false) (xs ++ by ∷ [])
 all-more w [] by all rests = (rests, tt)
 all-more w (x ∷ xs) by all rests = (all.0, all-more w xs by all.1 rests)
 
@@ -46,39 +46,39 @@ pub record IsUpTo (v : Volume) (done : List Actor) (w : World) (any : Bool) (mid
   pub had : HadWork done w any mid
   pub few : mid.turns ≤ most_turns
 
-taken : (v : Volume) (done : List Actor) (by : Actor) (w : World) (any : Bool) (mid next : World) → IsUpTo v done w any mid → has_work (mid.seats by) ≡ true
+taken : (v : Volume) (done : List Actor) (by : Actor) (w : World) (any : Bool) (mid next : World) → IsUpTo v done w any mid → has_work (mid.agendas by) ≡ true
     → IsTurnTaken v by mid (Ok tt) next → IsUpTo v (done ++ by ∷ []) w true next
 taken v done by w any mid next h busy turn =
     let one = turn-counts v by mid next turn.0 in
     let some = no-fewer done w any mid h.had in
     record {
-      played = round-more v done by w mid next h.played (turn-or (has_work (mid.seats by)) v by mid next busy turn.0);
+      played = round-more v done by w mid next h.played (turn-or (has_work (mid.agendas by)) v by mid next busy turn.0);
       had = omega (arith, one, some);
       few = omega (arith, one, turn.1);
     }
 
-had-skipped : (done : List Actor) (by : Actor) (w : World) (any : Bool) (mid : World) → HadWork done w any mid → has_work (mid.seats by) ≡ false → HadWork (done ++ by ∷ []) w any mid
+had-skipped : (done : List Actor) (by : Actor) (w : World) (any : Bool) (mid : World) → HadWork done w any mid → has_work (mid.agendas by) ≡ false → HadWork (done ++ by ∷ []) w any mid
 had-skipped done by w true mid had rests = had
-had-skipped done by w false mid had rests = (had.0, all-more w done by had.1 (subst (λ (m : World). has_work (m.seats by) ≡ false) had.0 rests))
+had-skipped done by w false mid had rests = (had.0, all-more w done by had.1 (subst (λ (m : World). has_work (m.agendas by) ≡ false) had.0 rests))
 
-skipped : (v : Volume) (done : List Actor) (by : Actor) (w : World) (any : Bool) (mid : World) → IsUpTo v done w any mid → has_work (mid.seats by) ≡ false → IsUpTo v (done ++ by ∷ []) w any mid
+skipped : (v : Volume) (done : List Actor) (by : Actor) (w : World) (any : Bool) (mid : World) → IsUpTo v done w any mid → has_work (mid.agendas by) ≡ false → IsUpTo v (done ++ by ∷ []) w any mid
 skipped v done by w any mid h rests = record {
-  played = round-more v done by w mid mid h.played (idle-or (has_work (mid.seats by)) v by mid rests);
+  played = round-more v done by w mid mid h.played (idle-or (has_work (mid.agendas by)) v by mid rests);
   had = had-skipped done by w any mid h.had rests;
   few = h.few;
 }
 
 -- by their places in the list
 
-pub taken-at : (v : Volume) (xs : List Actor) (i : ℕ) (d : Actor) (w : World) (any : Bool) (mid next : World) → i < length xs → IsUpTo v (take i xs) w any mid → has_work (mid.seats (get_or xs i d)) ≡ true
+pub taken-at : (v : Volume) (xs : List Actor) (i : ℕ) (d : Actor) (w : World) (any : Bool) (mid next : World) → i < length xs → IsUpTo v (take i xs) w any mid → has_work (mid.agendas (get_or xs i d)) ≡ true
     → IsTurnTaken v (get_or xs i d) mid (Ok tt) next → IsUpTo v (take (i + 1) xs) w true next
 taken-at v xs i d w any mid next lt h busy turn = subst (λ (ys : List Actor). IsUpTo v ys w true next) (sym (take_more xs i d lt)) (taken v (take i xs) (get_or xs i d) w any mid next h busy turn)
 
-pub skipped-at : (v : Volume) (xs : List Actor) (i : ℕ) (d : Actor) (w : World) (any : Bool) (mid : World) → i < length xs → IsUpTo v (take i xs) w any mid → has_work (mid.seats (get_or xs i d)) ≡ false
+pub skipped-at : (v : Volume) (xs : List Actor) (i : ℕ) (d : Actor) (w : World) (any : Bool) (mid : World) → i < length xs → IsUpTo v (take i xs) w any mid → has_work (mid.agendas (get_or xs i d)) ≡ false
     → IsUpTo v (take (i + 1) xs) w any mid
 skipped-at v xs i d w any mid lt h rests = subst (λ (ys : List Actor). IsUpTo v ys w any mid) (sym (take_more xs i d lt)) (skipped v (take i xs) (get_or xs i d) w any mid h rests)
 
-pub cut-at : (v : Volume) (xs : List Actor) (i : ℕ) (d : Actor) (w : World) (any : Bool) (mid next : World) (cause : Cut) → i < length xs → IsUpTo v (take i xs) w any mid → has_work (mid.seats (get_or xs i d)) ≡ true
+pub cut-at : (v : Volume) (xs : List Actor) (i : ℕ) (d : Actor) (w : World) (any : Bool) (mid next : World) (cause : CutCause) → i < length xs → IsUpTo v (take i xs) w any mid → has_work (mid.agendas (get_or xs i d)) ≡ true
     → IsTurnTaken v (get_or xs i d) mid (Err cause) next → IsRoundPlayed v xs w (Err cause) next
 cut-at v xs i d w any mid next cut.TooManyTurns lt h busy turn = (
   take i xs,
@@ -86,7 +86,7 @@ cut-at v xs i d w any mid next cut.TooManyTurns lt h busy turn = (
   drop (i + 1) xs,
   split-at xs i d lt,
   subst (λ (m : World). IsRound v (take i xs) w m) (sym turn.0) h.played,
-  subst (λ (m : World). has_work (m.seats (get_or xs i d)) ≡ true) (sym turn.0) busy,
+  subst (λ (m : World). has_work (m.agendas (get_or xs i d)) ≡ true) (sym turn.0) busy,
   subst (λ (m : World). m.turns ≡ most_turns) (sym turn.0) turn.1,
 )
 cut-at v xs i d w any mid next cut.NoMemory lt h busy turn =

@@ -10,7 +10,7 @@ use Rattle.rz_play.specs.World.{World}
 use Rattle.rz_play.specs.Lines.{PlaysLine}
 use Rattle.rz_play.specs.Stops.{StopCause, TurnsSpent, StopsLine, BeginsLine, most_turns}
 use Rattle.rz_play.specs.Played.{PlaysLines, StopsLines, BeginsLines}
-use Rattle.rz_player.specs.declared.turns.Cut.TheVariants as cut
+use Rattle.rz_player.specs.declared.turns.CutCause.TheVariants as cut
 use Rattle.rz_player.specs.declared.lines.PlayEnd.{PlayEnd}
 use Rattle.rz_player.specs.declared.lines.PlayEnd.TheVariants as end
 use Rattle.rz_player.specs.Ends.{CutsOff, IsEnded}

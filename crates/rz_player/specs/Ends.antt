@@ -12,8 +12,8 @@ use Rattle.rz_play.specs.Lines.{IsRound, PlaysLine}
 use Rattle.rz_play.specs.Stops.{TurnsSpent, HasCause, StopsLine, BeginsLine, most_turns}
 use Rattle.rz_play.specs.Played.{IsPlayedFrom, IsStoppedFrom, IsBegunFrom}
 use Rattle.rz_player.specs.Behind.{Before}
-use Rattle.rz_player.specs.declared.turns.Cut.{Cut}
-use Rattle.rz_player.specs.declared.turns.Cut.TheVariants as cut
+use Rattle.rz_player.specs.declared.turns.CutCause.{CutCause}
+use Rattle.rz_player.specs.declared.turns.CutCause.TheVariants as cut
 use Rattle.rz_player.specs.declared.lines.PlayEnd.{PlayEnd}
 use Rattle.rz_player.specs.declared.lines.PlayEnd.TheVariants as end
 
@@ -30,7 +30,7 @@ abbrev pub IsLogOf : (World → Type 0) → World → Type 0
 IsLogOf begun next = (last : World) × begun last × (last.turns ≤ most_turns) × TellsOf last next
 
 -- a turn
-abbrev pub IsTurnTaken : Volume → Actor → World → Result (Unit {0}) Cut → World → Type 0
+abbrev pub IsTurnTaken : Volume → Actor → World → Result (Unit {0}) CutCause → World → Type 0
 IsTurnTaken v by w (Ok done) next = IsTurn v by w next × (w.turns < most_turns)
 IsTurnTaken v by w (Err cut.TooManyTurns) next = (next ≡ w) × HasCause v TurnsSpent w by
 IsTurnTaken v by w (Err cut.NoMemory) next = TellsOf w next
@@ -39,34 +39,34 @@ IsTurnTaken v by w (Err cut.NoMemory) next = TellsOf w next
 
 abbrev pub HadWork : List Actor → World → Bool → World → Type 0
 HadWork actors w true next = w.turns < next.turns
-HadWork actors w false next = (next ≡ w) × AllByRecursion (λ by. has_work (w.seats by) ≡ false) actors
+HadWork actors w false next = (next ≡ w) × AllByRecursion (λ by. has_work (w.agendas by) ≡ false) actors
 
 -- it stops before the turn of one that has work
 abbrev pub StopsAmong : Volume → List Actor → World → World → Type 0
 StopsAmong v actors w next = (done : List Actor) × (by : Actor) × (more : List Actor) × (actors ≡ done ++ by ∷ more)
-    × IsRound v done w next × (has_work (next.seats by) ≡ true) × HasCause v TurnsSpent next by
+    × IsRound v done w next × (has_work (next.agendas by) ≡ true) × HasCause v TurnsSpent next by
 
 abbrev pub BeginsAmong : Volume → List Actor → World → World → Type 0
 BeginsAmong v actors w next = (done more : List Actor) × (actors ≡ done ++ more) × IsRound v done w next
 
-abbrev pub IsRoundPlayed : Volume → List Actor → World → Result Bool Cut → World → Type 0
+abbrev pub IsRoundPlayed : Volume → List Actor → World → Result Bool CutCause → World → Type 0
 IsRoundPlayed v actors w (Ok any) next = IsRound v actors w next × HadWork actors w any next × (next.turns ≤ most_turns)
 IsRoundPlayed v actors w (Err cut.TooManyTurns) next = StopsAmong v actors w next
 IsRoundPlayed v actors w (Err cut.NoMemory) next = IsLogOf (BeginsAmong v actors w) next
 
 -- a round in which an actor had work counts its turns
-abbrev pub CountsTurns : Result Bool Cut → World → World → Type 0
+abbrev pub CountsTurns : Result Bool CutCause → World → World → Type 0
 CountsTurns (Ok true) w next = w.turns < next.turns
 CountsTurns result w next = Unit {0}
 
 -- a line
-abbrev pub IsLinePlayed : Volume → Line → World → Result (Unit {0}) Cut → World → Type 0
+abbrev pub IsLinePlayed : Volume → Line → World → Result (Unit {0}) CutCause → World → Type 0
 IsLinePlayed v line w (Ok done) next = PlaysLine v line w next × (next.turns ≤ most_turns)
 IsLinePlayed v line w (Err cut.TooManyTurns) next = StopsLine v TurnsSpent line w next
 IsLinePlayed v line w (Err cut.NoMemory) next = IsLogOf (BeginsLine v line w) next
 
 -- what is so where a line, a round or a turn stopped before a turn that is one too many
-abbrev pub OnStop : {A : Type 0} → Result A Cut → Type 0 → Type 0
+abbrev pub OnStop : {A : Type 0} → Result A CutCause → Type 0 → Type 0
 OnStop (Err cut.TooManyTurns) so = so
 OnStop result so = Unit {0}
 

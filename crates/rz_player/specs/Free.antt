@@ -6,13 +6,13 @@ use Rattle.rz_script.specs.declared.line.Line.{Line}
 use Rattle.rz_play.specs.World.{World}
 use Rattle.rz_play.specs.Stops.{TurnsSpent, most_turns}
 use Rattle.rz_play.specs.Free.{PlaysLineOver, PlaysLinesOver, StopsLinesOver, BeginsLinesOver}
-use Rattle.rz_player.specs.declared.turns.Cut.{Cut}
+use Rattle.rz_player.specs.declared.turns.CutCause.{CutCause}
 use Rattle.rz_player.specs.declared.lines.PlayEnd.{PlayEnd}
 use Rattle.rz_player.specs.declared.lines.PlayEnd.TheVariants as end
 use Rattle.rz_player.specs.Ends.{IsLinePlayed}
 
 -- a line
-abbrev pub IsLinePlayedOver : Volume → Line → Bool → World → Result (Unit {0}) Cut → World → Type 0
+abbrev pub IsLinePlayedOver : Volume → Line → Bool → World → Result (Unit {0}) CutCause → World → Type 0
 IsLinePlayedOver v l tells w (Ok done) next = PlaysLineOver v l tells w next × (next.turns ≤ most_turns)
 IsLinePlayedOver v l tells w (Err cut) next = IsLinePlayed v l w (Err cut) next
 

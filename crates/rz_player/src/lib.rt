@@ -13,6 +13,6 @@ mod stage;
 mod turns;
 
 pub use lines::{PlayEnd, play};
-pub use rz_log::NoMemory;
+pub use rz_log::Halted;
 pub use stage::{LoggedStage, Stage};
-pub use turns::{Cut, MOST_TURNS};
+pub use turns::{CutCause, MOST_TURNS};

@@ -9,7 +9,7 @@ ghost use Rattle.rz_player.specs.Free.{IsLinePlayedOver, IsEndedOver};
 
 use crate::rounds::{play_rounds, play_to_rest};
 use crate::stage::Stage;
-use crate::turns::{Cut, take_turns};
+use crate::turns::{CutCause, take_turns};
 use rz_link::Link;
 use rz_script::Line;
 
@@ -28,7 +28,7 @@ pub enum PlayEnd {
 }
 
 /// Plays a line.
-fn play_line<S: Stage, L: Link>(stage: &mut S, line: &Line, link: &mut L) -> Result<(), Cut>
+fn play_line<S: Stage, L: Link>(stage: &mut S, line: &Line, link: &mut L) -> Result<(), CutCause>
     requires ready { S.is_ready stage.old }
     requires line { IsLine (S.volume stage.old) line.now }
     requires few { (S.world stage.old).turns ≤ most_turns }
@@ -86,8 +86,8 @@ pub fn play<S: Stage, L: Link>(stage: &mut S, lines: &[Line], link: &mut L) -> P
     for line in lines {
         match play_line(stage, line, link) {
             Ok(()) => {}
-            Err(Cut::TooManyTurns) => return PlayEnd::TooManyTurns,
-            Err(Cut::NoMemory) => return stage.cut_off(),
+            Err(CutCause::TooManyTurns) => return PlayEnd::TooManyTurns,
+            Err(CutCause::NoMemory) => return stage.cut_off(),
         }
     }
     PlayEnd::Ended

@@ -9,7 +9,7 @@ ghost use Rattle.rz_player.specs.Behind.{Before, behind};
 ghost use Rattle.rz_player.specs.Ends.{Carries, CountsTurns, IsRoundPlayed, IsLinePlayed, OnStop};
 
 use crate::stage::Stage;
-use crate::turns::{Cut, take_turn};
+use crate::turns::{CutCause, take_turn};
 use rz_events::Actor;
 use rz_link::Link;
 
@@ -98,7 +98,11 @@ static ACTORS: [Actor; 80] = [
 ];
 
 /// Each of these that has work takes a turn, one after another. Says whether one did.
-fn take_round<S: Stage, L: Link>(stage: &mut S, actors: &[Actor], link: &mut L) -> Result<bool, Cut>
+fn take_round<S: Stage, L: Link>(
+    stage: &mut S,
+    actors: &[Actor],
+    link: &mut L,
+) -> Result<bool, CutCause>
     requires ready { S.is_ready stage.old }
     requires actors { AllByRecursion IsActor actors.now }
     requires few { (S.world stage.old).turns ≤ most_turns }
@@ -125,7 +129,7 @@ fn take_round<S: Stage, L: Link>(stage: &mut S, actors: &[Actor], link: &mut L) 
 }
 
 /// A round of all actors. Says whether one took a turn.
-fn play_round<S: Stage, L: Link>(stage: &mut S, link: &mut L) -> Result<bool, Cut>
+fn play_round<S: Stage, L: Link>(stage: &mut S, link: &mut L) -> Result<bool, CutCause>
     requires ready { S.is_ready stage.old }
     requires few { (S.world stage.old).turns ≤ most_turns }
     ensures volume { S.volume stage.new ≡ S.volume stage.old }
@@ -148,7 +152,7 @@ pub(crate) fn play_rounds<S: Stage, L: Link>(
     stage: &mut S,
     count: u32,
     link: &mut L,
-) -> Result<(), Cut>
+) -> Result<(), CutCause>
     requires ready { S.is_ready stage.old }
     requires few { (S.world stage.old).turns ≤ most_turns }
     ensures volume { S.volume stage.new ≡ S.volume stage.old }
@@ -171,7 +175,7 @@ pub(crate) fn play_rounds<S: Stage, L: Link>(
 }
 
 /// Rounds until no actor has work.
-pub(crate) fn play_to_rest<S: Stage, L: Link>(stage: &mut S, link: &mut L) -> Result<(), Cut>
+pub(crate) fn play_to_rest<S: Stage, L: Link>(stage: &mut S, link: &mut L) -> Result<(), CutCause>
     requires ready { S.is_ready stage.old }
     requires few { (S.world stage.old).turns ≤ most_turns }
     ensures volume { S.volume stage.new ≡ S.volume stage.old }

@@ -16,7 +16,7 @@ ghost use Rattle.rz_play.specs.Free.{PlaysLineOver};
 use crate::lines::PlayEnd;
 use rz_events::{Actor, Event, Operation};
 use rz_link::Link;
-use rz_log::NoMemory;
+use rz_log::Halted;
 
 /// Nodes, an export and actors that a script is played on.
 ///
@@ -72,10 +72,10 @@ pub trait Stage {
     fn is_busy(&self, by: Actor) -> bool
         requires ready { is_ready self.now }
         requires actor { IsActor by }
-        ensures { result ≡ has_work ((world self.now).seats by) };
+        ensures { result ≡ has_work ((world self.now).agendas by) };
 
     /// The actor takes a turn. Its messages go through the link.
-    fn turn<L: Link>(&mut self, by: Actor, link: &mut L) -> Result<(), NoMemory>
+    fn turn<L: Link>(&mut self, by: Actor, link: &mut L) -> Result<(), Halted>
         requires ready { is_ready self.old }
         requires actor { IsActor by }
         requires few { (world self.old).turns < most_turns }
@@ -91,7 +91,7 @@ pub trait Stage {
         ensures left { OnErr result (Carries (holds self.old) (leaves self.new)) };
 
     /// The operation goes to the end of the actor's list.
-    fn add(&mut self, by: Actor, op: &Operation) -> Result<(), NoMemory>
+    fn add(&mut self, by: Actor, op: &Operation) -> Result<(), Halted>
         requires ready { is_ready self.old }
         requires line { IsLine (volume self.old) (line.Op by op.now) }
         ensures volume { volume self.new ≡ volume self.old }
@@ -117,7 +117,7 @@ pub trait Stage {
         ensures held { Carries (holds self.old) (holds self.new) };
 
     /// The node stops.
-    fn stop(&mut self, node: u16) -> Result<(), NoMemory>
+    fn stop(&mut self, node: u16) -> Result<(), Halted>
         requires ready { is_ready self.old }
         requires line { IsLine (volume self.old) (line.Stop node) }
         ensures volume { volume self.new ≡ volume self.old }
@@ -131,7 +131,7 @@ pub trait Stage {
         ensures left { OnErr result (Carries (holds self.old) (leaves self.new)) };
 
     /// The node starts again.
-    fn start(&mut self, node: u16) -> Result<(), NoMemory>
+    fn start(&mut self, node: u16) -> Result<(), Halted>
         requires ready { is_ready self.old }
         requires line { IsLine (volume self.old) (line.Start node) }
         ensures volume { volume self.new ≡ volume self.old }
@@ -146,7 +146,7 @@ pub trait Stage {
         ensures left { OnErr result (Carries (holds self.old) (leaves self.new)) };
 
     /// The node loses its disk.
-    fn lose(&mut self, node: u16) -> Result<(), NoMemory>
+    fn lose(&mut self, node: u16) -> Result<(), Halted>
         requires ready { is_ready self.old }
         requires line { IsLine (volume self.old) (line.Lose node) }
         ensures volume { volume self.new ≡ volume self.old }
@@ -160,7 +160,7 @@ pub trait Stage {
         ensures left { OnErr result (Carries (holds self.old) (leaves self.new)) };
 
     /// The node's disk lets so many device calls pass, and its next crash picks by `pick`.
-    fn arm(&mut self, node: u16, passes: u64, pick: u64) -> Result<(), NoMemory>
+    fn arm(&mut self, node: u16, passes: u64, pick: u64) -> Result<(), Halted>
         requires ready { is_ready self.old }
         requires line { IsLine (volume self.old) (line.Break node passes pick) }
         ensures volume { volume self.new ≡ volume self.old }

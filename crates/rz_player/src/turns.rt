@@ -9,26 +9,26 @@ ghost use Rattle.rz_player.specs.Ends.{Carries, IsTurnTaken, IsLinePlayed, OnSto
 use crate::stage::Stage;
 use rz_events::Actor;
 use rz_link::Link;
-use rz_log::NoMemory;
+use rz_log::Halted;
 
 /// A play has at most so many turns.
 pub const MOST_TURNS: u32 = 1_000_000;
 
 /// Why a line was cut off.
 #[derive(Clone, Copy, Debug, PartialEq, Eq, Drop)]
-pub enum Cut {
+pub enum CutCause {
     /// A turn more was called for than a play has.
     TooManyTurns,
     NoMemory,
 }
 
-impl From<NoMemory> for Cut {
-    ghost use Rattle.rz_player.specs.declared.turns.Cut.TheVariants as cut;
+impl From<Halted> for CutCause {
+    ghost use Rattle.rz_player.specs.declared.turns.CutCause.TheVariants as cut;
 
     ghost from_gives = { λ _ cause. cause ≡ cut.NoMemory };
 
-    fn from(_: NoMemory) -> Self {
-        Cut::NoMemory
+    fn from(_: Halted) -> Self {
+        CutCause::NoMemory
     }
 }
 
@@ -37,7 +37,7 @@ pub(crate) fn take_turn<S: Stage, L: Link>(
     stage: &mut S,
     by: Actor,
     link: &mut L,
-) -> Result<(), Cut>
+) -> Result<(), CutCause>
     requires ready { S.is_ready stage.old }
     requires actor { IsActor by }
     requires few { (S.world stage.old).turns ≤ most_turns }
@@ -54,7 +54,7 @@ pub(crate) fn take_turn<S: Stage, L: Link>(
     ensures taken { (b : Before) → S.holds stage.old b → S.exact stage.old ≡ true → IsTurnTaken (S.volume stage.old) by (behind b.log (S.world stage.old)) result (behind b.log (S.world stage.new)) }
 {
     if stage.turns() >= MOST_TURNS {
-        return Err(Cut::TooManyTurns);
+        return Err(CutCause::TooManyTurns);
     }
     stage.turn(by, link)?;
     Ok(())
@@ -66,7 +66,7 @@ pub(crate) fn take_turns<S: Stage, L: Link>(
     by: Actor,
     count: u32,
     link: &mut L,
-) -> Result<(), Cut>
+) -> Result<(), CutCause>
     requires ready { S.is_ready stage.old }
     requires actor { IsActor by }
     requires few { (S.world stage.old).turns ≤ most_turns }

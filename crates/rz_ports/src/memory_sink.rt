@@ -4,7 +4,7 @@ ghost use Rattle.std.specs.Io.KnownBytes.{Appends, Keeps};
 ghost use Rattle.rz_ports.specs.Counts.{Rises};
 ghost use Rattle.rz_ports.specs.Memory.{Store, Deposit, FailsNext, after_call, after_write};
 
-use crate::plan::Plan;
+use crate::plan::FaultPlan;
 use crate::{Failed, Sink};
 use std::alloc::{AllocError, Global};
 use std::marker::Model;
@@ -72,7 +72,7 @@ impl Sink for PlainSink {
 #[derive(Drop)]
 pub struct MemSink {
     store: PlainSink,
-    plan: Plan,
+    plan: FaultPlan,
 }
 
 impl Model for MemSink {
@@ -90,7 +90,7 @@ impl MemSink {
     {
         Ok(MemSink {
             store: PlainSink::with_room(alloc, room)?,
-            plan: Plan::new(fails),
+            plan: FaultPlan::new(fails),
         })
     }
 

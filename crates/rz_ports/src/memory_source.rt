@@ -4,7 +4,7 @@ ghost use Rattle.std.specs.Io.KnownBytes.{Consumes, Keeps};
 ghost use Rattle.rz_ports.specs.Counts.{Rises};
 ghost use Rattle.rz_ports.specs.Memory.{Feed, FailsNext, after_call};
 
-use crate::plan::Plan;
+use crate::plan::FaultPlan;
 use crate::{Failed, Source};
 use std::marker::Model;
 
@@ -56,7 +56,7 @@ impl Source for PlainSource {
 #[derive(Drop)]
 pub struct MemSource {
     bytes: PlainSource,
-    plan: Plan,
+    plan: FaultPlan,
 }
 
 impl Model for MemSource {
@@ -74,7 +74,7 @@ impl MemSource {
     {
         MemSource {
             bytes: PlainSource::new(bytes),
-            plan: Plan::new(fails),
+            plan: FaultPlan::new(fails),
         }
     }
 }

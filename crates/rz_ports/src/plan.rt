@@ -6,23 +6,23 @@ use std::marker::Model;
 
 /// The numbers of the calls that are to fail, counted from 0, with the calls so far.
 #[derive(Drop)]
-pub(crate) struct Plan {
+pub(crate) struct FaultPlan {
     made: u64,
     fails: Vec<u64>,
     failed: u64,
 }
 
-impl Model for Plan {
+impl Model for FaultPlan {
     ghost Value = { Calls };
 
     ghost view = { λ p. record { made = p.made; fails = p.fails.items; failed = p.failed } };
 }
 
-impl Plan {
+impl FaultPlan {
     pub(crate) fn new(fails: Vec<u64>) -> Self
         ensures { result ≡ record { made = 0; fails = fails.items; failed = 0 } }
     {
-        Plan {
+        FaultPlan {
             made: 0,
             fails,
             failed: 0,

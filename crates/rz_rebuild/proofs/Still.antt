@@ -8,13 +8,13 @@ use Rattle.rz_events.specs.declared.machines.RebuildAnswer.TheVariants as told
 use Rattle.rz_client_model.specs.declared.reading.ReaderState.{ReaderState}
 use Rattle.rz_operation_model.specs.Rebuild.{Rebuild}
 use Rattle.rz_reader.specs.Machine.{Machine as ReaderMachine}
-use Rattle.rz_rebuild.specs.declared.step.Step.{Step}
-use Rattle.rz_rebuild.specs.declared.step.Step.TheVariants as step
+use Rattle.rz_rebuild.specs.declared.step.RebuildStep.{RebuildStep}
+use Rattle.rz_rebuild.specs.declared.step.RebuildStep.TheVariants as step
 use Rattle.rz_rebuild.specs.Machine.{Machine, Goes, IsAnswered, IsBlockIn, pairs_in, told_in}
 use Rattle.rz_rebuild.specs.Kinds.{IsProbed, IsEnrolled, IsReplaced, IsRefilled}
 use Rattle.rz_rebuild.specs.Inside.{IsStill, block_of, machine_of, pairs_of, state_of}
 
-pairs-still : (r : ReaderState) (s : Step) (pairs had : List Pair) → IsStill s → pairs_of s pairs ≡ pairs_in (state_of r s) had
+pairs-still : (r : ReaderState) (s : RebuildStep) (pairs had : List Pair) → IsStill s → pairs_of s pairs ≡ pairs_in (state_of r s) had
 pairs-still r step.Probing pairs had h = refl
 pairs-still r (step.Enrolling loss) pairs had h = refl
 pairs-still r (step.Replacing loss fence) pairs had h = refl
@@ -24,7 +24,7 @@ pairs-still r (step.Refilling c size) pairs had h = absurd h
 pairs-still r (step.Leaving t key why) pairs had h = refl
 pairs-still r (step.Ended end) pairs had h = refl
 
-block-still : (layout : Layout) (r : ReaderState) (s : Step) (had : List Pair) (block : Option Grid) → IsStill s →
+block-still : (layout : Layout) (r : ReaderState) (s : RebuildStep) (had : List Pair) (block : Option Grid) → IsStill s →
     IsBlockIn layout had (state_of r s) (block_of s block)
 block-still layout r step.Probing had block h = refl
 block-still layout r (step.Enrolling loss) had block h = refl
@@ -35,7 +35,7 @@ block-still layout r (step.Refilling c size) had block h = absurd h
 block-still layout r (step.Leaving t key why) had block h = refl
 block-still layout r (step.Ended end) had block h = refl
 
-goes-still : (layout : Layout) (n : ℕ) (r : ReaderMachine) (was s : Step) (had : List Pair) (next : Rebuild) → IsStill s →
+goes-still : (layout : Layout) (n : ℕ) (r : ReaderMachine) (was s : RebuildStep) (had : List Pair) (next : Rebuild) → IsStill s →
     state_of r.state s ≡ next → Goes (machine_of layout n r was) had next (machine_of layout n r s)
 goes-still layout n r was s had next h is = record {
   layout = refl;
@@ -63,7 +63,7 @@ answered m told.Missed bins new h g = g
 answered m told.Noted bins new h g = g
 answered m (told.Rechecked p) bins new h g = g
 
-pub answered-still : (layout : Layout) (n : ℕ) (r : ReaderMachine) (was s : Step) (a : RebuildAnswer) (bins : List ℕ) → IsPlain a → IsStill s →
+pub answered-still : (layout : Layout) (n : ℕ) (r : ReaderMachine) (was s : RebuildStep) (a : RebuildAnswer) (bins : List ℕ) → IsPlain a → IsStill s →
     state_of r.state s ≡ told_in layout true (state_of r.state was) a → IsAnswered (machine_of layout n r was) a bins (machine_of layout n r s)
 answered-still layout n r was s a bins plain h is = answered (machine_of layout n r was) a bins (machine_of layout n r s) plain
     (goes-still layout n r was s (pairs_of was r.pairs) (told_in layout true (state_of r.state was) a) h is)

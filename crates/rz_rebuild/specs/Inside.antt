@@ -13,18 +13,18 @@ use Rattle.rz_client_model.specs.declared.reading.ReadStage.{ReadStage}
 use Rattle.rz_client_model.specs.declared.reading.ReadStage.TheVariants.{Looking, Fetching, Ended as EndedRead}
 use Rattle.rz_reader.specs.Machine.{Machine as ReaderMachine}
 use Rattle.rz_operation_model.specs.Rebuild.{Rebuild, Going, Ended, IsListed, IsFetchingStamp, Tally as TallyOf, Probing, Enrolling, Replacing, Listing, Copying, Refilling, Leaving, position_of}
-use Rattle.rz_rebuild.specs.declared.step.Step.{Step}
-use Rattle.rz_rebuild.specs.declared.step.Step.TheVariants as step
-use Rattle.rz_rebuild.specs.declared.step.Tally.{Tally}
+use Rattle.rz_rebuild.specs.declared.step.RebuildStep.{RebuildStep}
+use Rattle.rz_rebuild.specs.declared.step.RebuildStep.TheVariants as step
+use Rattle.rz_rebuild.specs.declared.step.RebuildProgress.{RebuildProgress}
 use Rattle.rz_rebuild.specs.declared.step.Copied.{Copied}
 use Rattle.rz_rebuild.specs.Machine.{Machine}
 
 -- What contracts see.
 
-abbrev pub tally_of : Tally → TallyOf
+abbrev pub tally_of : RebuildProgress → TallyOf
 tally_of t = record { fence = t.fence; after = t.after; refilled = t.refilled; left = t.left }
 
-abbrev pub state_of : ReaderState → Step → Rebuild
+abbrev pub state_of : ReaderState → RebuildStep → Rebuild
 state_of r step.Probing = Going Probing
 state_of r (step.Enrolling loss) = Going (Enrolling loss)
 state_of r (step.Replacing loss fence) = Going (Replacing loss fence)
@@ -34,15 +34,15 @@ state_of r (step.Refilling c length) = Going (Refilling (tally_of c.tally) c.lis
 state_of r (step.Leaving t key why) = Going (Leaving (tally_of t) key why)
 state_of r (step.Ended end) = Ended end
 
-abbrev pub pairs_of : Step → List Pair → List Pair
+abbrev pub pairs_of : RebuildStep → List Pair → List Pair
 pairs_of (step.Copying c) pairs = pairs
 pairs_of s pairs = []
 
-abbrev pub block_of : Step → Option Grid → Option Grid
+abbrev pub block_of : RebuildStep → Option Grid → Option Grid
 block_of (step.Refilling c length) block = block
 block_of s block = None
 
-abbrev pub machine_of : Layout → ℕ → ReaderMachine → Step → Machine
+abbrev pub machine_of : Layout → ℕ → ReaderMachine → RebuildStep → Machine
 machine_of layout n r s =
     record { layout = layout; node = n; state = state_of r.state s; pairs = pairs_of s r.pairs; block = block_of s r.block }
 
@@ -57,31 +57,31 @@ IsRead stamp (EndedRead end) = Unit {0}
 abbrev pub IsCopied : Layout → ℕ → Copied → Type 0
 IsCopied layout n c = IsListed layout n c.listed × (c.base < c.listed.published.stamp)
 
-abbrev pub IsStep : Layout → ℕ → ReaderMachine → Step → Type 0
+abbrev pub IsStep : Layout → ℕ → ReaderMachine → RebuildStep → Type 0
 IsStep layout n r (step.Copying c) = IsCopied layout n c × IsFetchingStamp c.listed.published.stamp r.state.stage
 IsStep layout n r (step.Refilling c size) = IsCopied layout n c × (size ≤ block_bytes_of layout) × IsSome r.block
 IsStep layout n r s = Unit {0}
 
 -- the first bins are those of the refill
-abbrev pub IsProjected : Layout → ℕ → Step → Option Grid → List ℕ → Type 0
+abbrev pub IsProjected : Layout → ℕ → RebuildStep → Option Grid → List ℕ → Type 0
 IsProjected layout n (step.Refilling c length) block bins = IsSomeAnd block
     (λ g. take (bins_at_of layout (position_of n c.listed)) bins ≡ projection_of g (angle_of layout (position_of n c.listed)))
 IsProjected layout n s block bins = Unit {0}
 
-pub record IsRebuilder (layout : Layout) (n : ℕ) (s : Step) (r : ReaderMachine) (bins : List ℕ) : Type 0 where
+pub record IsRebuilder (layout : Layout) (n : ℕ) (s : RebuildStep) (r : ReaderMachine) (bins : List ℕ) : Type 0 where
   pub room : length bins ≡ max_bins_of layout
   pub reader : r.state.layout ≡ layout
   pub step : IsStep layout n r s
   pub ready : IsProjected layout n s r.block bins
 
 -- a step that reads no block and has none
-abbrev pub IsStill : Step → Type 0
+abbrev pub IsStill : RebuildStep → Type 0
 IsStill (step.Copying c) = ⊥
 IsStill (step.Refilling c length) = ⊥
 IsStill s = Unit {0}
 
 -- how a rebuild goes on after the read of its block
-abbrev pub step_after : Copied → ReadMark → Step
+abbrev pub step_after : Copied → ReadMark → RebuildStep
 step_after c (mark.Found stamp length) = step.Refilling c length
 step_after c (mark.TooFew seen) = step.Leaving c.tally c.listed.key left.TooFew
 step_after c (mark.Moved was now) = step.Listing c.tally

@@ -7,37 +7,37 @@ ghost use Rattle.rz_operation_model.specs.Rebuild.{Probing, Enrolling, Replacing
 ghost use Rattle.rz_rebuild.specs.Kinds.{IsProbed, IsEnrolled, IsReplaced, IsRefilled};
 ghost use Rattle.rz_rebuild.specs.Inside.{state_of, tally_of, IsStill};
 
-use crate::step::{Copied, Step, Tally};
+use crate::step::{Copied, RebuildProgress, RebuildStep};
 use rz_events::{Key, LeftWhy, RebuildAnswer, RebuildEnd, RefillAnswer, ReplaceAnswer};
 
 /// How a rebuild goes on after its probe.
-pub fn after_probe(answer: RebuildAnswer) -> Step
+pub fn after_probe(answer: RebuildAnswer) -> RebuildStep
     requires { IsProbed answer }
     ensures state { (layout : Layout) (r : ReaderState) → state_of r result ≡ rebuild_told layout true Probing answer }
     ensures still { IsStill result }
 {
     match answer {
-        RebuildAnswer::Probed(None) => Step::Ended(RebuildEnd::NotLost),
-        RebuildAnswer::Probed(Some(loss)) => Step::Enrolling { loss },
+        RebuildAnswer::Probed(None) => RebuildStep::Ended(RebuildEnd::NotLost),
+        RebuildAnswer::Probed(Some(loss)) => RebuildStep::Enrolling { loss },
         _ => unreachable!(),
     }
 }
 
 /// How a rebuild goes on after its enrolment.
-pub fn after_enroll(loss: u64, answer: RebuildAnswer) -> Step
+pub fn after_enroll(loss: u64, answer: RebuildAnswer) -> RebuildStep
     requires { IsEnrolled answer }
     ensures state { (layout : Layout) (r : ReaderState) → state_of r result ≡ rebuild_told layout true (Enrolling loss) answer }
     ensures still { IsStill result }
 {
     match answer {
-        RebuildAnswer::Enrolled { fence } => Step::Replacing { loss, fence },
-        RebuildAnswer::Denied(cause) => Step::Ended(RebuildEnd::Denied(cause)),
+        RebuildAnswer::Enrolled { fence } => RebuildStep::Replacing { loss, fence },
+        RebuildAnswer::Denied(cause) => RebuildStep::Ended(RebuildEnd::Denied(cause)),
         _ => unreachable!(),
     }
 }
 
 /// How a rebuild goes on after its replacement.
-pub fn after_replace(loss: u64, fence: u64, answer: RebuildAnswer) -> Step
+pub fn after_replace(loss: u64, fence: u64, answer: RebuildAnswer) -> RebuildStep
     requires { IsReplaced answer }
     ensures state { (layout : Layout) (r : ReaderState) → state_of r result ≡ rebuild_told layout true (Replacing loss fence) answer }
     ensures still { IsStill result }
@@ -46,21 +46,23 @@ pub fn after_replace(loss: u64, fence: u64, answer: RebuildAnswer) -> Step
         unreachable!()
     };
     match answer {
-        ReplaceAnswer::Replaced => Step::Listing(Tally {
+        ReplaceAnswer::Replaced => RebuildStep::Listing(RebuildProgress {
             fence,
             after: None,
             refilled: 0,
             left: 0,
         }),
-        ReplaceAnswer::NotLost => Step::Ended(RebuildEnd::NotLost),
-        ReplaceAnswer::OtherLoss { loss: now } => Step::Ended(RebuildEnd::OtherLoss { loss: now }),
-        ReplaceAnswer::DiskFault => Step::Ended(RebuildEnd::DiskFault),
-        ReplaceAnswer::NoMemory => Step::Replacing { loss, fence },
+        ReplaceAnswer::NotLost => RebuildStep::Ended(RebuildEnd::NotLost),
+        ReplaceAnswer::OtherLoss { loss: now } => RebuildStep::Ended(RebuildEnd::OtherLoss {
+            loss: now,
+        }),
+        ReplaceAnswer::DiskFault => RebuildStep::Ended(RebuildEnd::DiskFault),
+        ReplaceAnswer::NoMemory => RebuildStep::Replacing { loss, fence },
     }
 }
 
 /// How a rebuild goes on after the refill of a block.
-pub fn after_refill(copied: &Copied, length: u32, answer: RebuildAnswer) -> Step
+pub fn after_refill(copied: &Copied, length: u32, answer: RebuildAnswer) -> RebuildStep
     requires { IsRefilled answer }
     ensures state { (layout : Layout) (r : ReaderState) → state_of r result ≡ rebuild_told layout true (Refilling (tally_of copied.now.tally) copied.now.listed length copied.now.base) answer }
     ensures still { IsStill result }
@@ -73,15 +75,15 @@ pub fn after_refill(copied: &Copied, length: u32, answer: RebuildAnswer) -> Step
 }
 
 /// How a rebuild goes on after the node's answer to a refill.
-fn after_refilled(copied: &Copied, answer: RefillAnswer) -> Step
+fn after_refilled(copied: &Copied, answer: RefillAnswer) -> RebuildStep
     ensures state { (r : ReaderState) → state_of r result ≡ after_refill (tally_of copied.now.tally) copied.now.listed answer }
     ensures still { IsStill result }
 {
     match answer {
         RefillAnswer::Kept => refilled(copied),
         RefillAnswer::Passed { .. } => refilled(copied),
-        RefillAnswer::Lost => Step::Ended(RebuildEnd::LostAgain),
-        RefillAnswer::OtherFence { fence } => Step::Ended(RebuildEnd::OtherFence { fence }),
+        RefillAnswer::Lost => RebuildStep::Ended(RebuildEnd::LostAgain),
+        RefillAnswer::OtherFence { fence } => RebuildStep::Ended(RebuildEnd::OtherFence { fence }),
         RefillAnswer::Down => leaving(copied, LeftWhy::Down),
         RefillAnswer::Full => leaving(copied, LeftWhy::Full),
         RefillAnswer::DiskFault => leaving(copied, LeftWhy::DiskFault),
@@ -89,10 +91,10 @@ fn after_refilled(copied: &Copied, answer: RefillAnswer) -> Step
 }
 
 /// The block in hand was refilled.
-fn refilled(copied: &Copied) -> Step
-    ensures { result ≡ Step.Listing (record copied.now.tally { after = Some copied.now.listed.key; refilled = one_more copied.now.tally.refilled }) }
+fn refilled(copied: &Copied) -> RebuildStep
+    ensures { result ≡ RebuildStep.Listing (record copied.now.tally { after = Some copied.now.listed.key; refilled = one_more copied.now.tally.refilled }) }
 {
-    Step::Listing(Tally {
+    RebuildStep::Listing(RebuildProgress {
         after: Some(copied.listed.key),
         refilled: copied.tally.refilled.saturating_add(1),
         ..copied.tally
@@ -100,10 +102,10 @@ fn refilled(copied: &Copied) -> Step
 }
 
 /// It is said that the block in hand is left.
-pub fn leaving(copied: &Copied, why: LeftWhy) -> Step
-    ensures { result ≡ Step.Leaving copied.now.tally copied.now.listed.key why }
+pub fn leaving(copied: &Copied, why: LeftWhy) -> RebuildStep
+    ensures { result ≡ RebuildStep.Leaving copied.now.tally copied.now.listed.key why }
 {
-    Step::Leaving {
+    RebuildStep::Leaving {
         tally: copied.tally,
         key: copied.listed.key,
         why,
@@ -111,10 +113,10 @@ pub fn leaving(copied: &Copied, why: LeftWhy) -> Step
 }
 
 /// How a rebuild goes on once it was said that a block is left.
-pub fn after_left(tally: Tally, key: Key) -> Step
-    ensures { result ≡ Step.Listing (record tally { after = Some key; left = one_more tally.left }) }
+pub fn after_left(tally: RebuildProgress, key: Key) -> RebuildStep
+    ensures { result ≡ RebuildStep.Listing (record tally { after = Some key; left = one_more tally.left }) }
 {
-    Step::Listing(Tally {
+    RebuildStep::Listing(RebuildProgress {
         after: Some(key),
         left: tally.left.saturating_add(1),
         ..tally
@@ -122,7 +124,7 @@ pub fn after_left(tally: Tally, key: Key) -> Step
 }
 
 /// How a rebuild ends where no block is left to be rebuilt.
-pub fn end_of(tally: &Tally) -> RebuildEnd
+pub fn end_of(tally: &RebuildProgress) -> RebuildEnd
     ensures { result ≡ end_of (tally_of tally.now) }
 {
     if tally.left == 0 {

@@ -7,7 +7,7 @@ ghost use Rattle.rz_reader.specs.Machine.{IsAskOf as IsReaderAskOf};
 ghost use Rattle.rz_rebuild.specs.Machine.{ask_in, IsAskOf};
 ghost use Rattle.rz_rebuild.specs.Inside.{state_of};
 
-use crate::step::{Copied, Step};
+use crate::step::{Copied, RebuildStep};
 use rz_events::{Key, Listed, ReaderAsk, RebuildAsk};
 use rz_reader::Reader;
 
@@ -25,25 +25,25 @@ pub fn position_of(node: u16, listed: &Listed) -> u8
 }
 
 /// What a rebuild asks next.
-pub fn ask(node: u16, step: &Step, reader: &Reader) -> RebuildAsk
+pub fn ask(node: u16, step: &RebuildStep, reader: &Reader) -> RebuildAsk
     ensures value { result ≡ ask_in node (state_of reader.now.state step.now) }
     ensures place { IsAskOf reader.now.state.layout result }
 {
     match step {
-        Step::Probing => RebuildAsk::Probe,
-        Step::Enrolling { loss } => RebuildAsk::Enroll { loss: *loss },
-        Step::Replacing { loss, fence } => RebuildAsk::Replace {
+        RebuildStep::Probing => RebuildAsk::Probe,
+        RebuildStep::Enrolling { loss } => RebuildAsk::Enroll { loss: *loss },
+        RebuildStep::Replacing { loss, fence } => RebuildAsk::Replace {
             loss: *loss,
             fence: *fence,
         },
-        Step::Listing(tally) => RebuildAsk::Next { after: tally.after },
-        Step::Copying(copied) => ask_to_copy(copied.listed.key, reader.next()),
-        Step::Refilling { copied, length } => refill_ask(node, copied, *length),
-        Step::Leaving { key, why, .. } => RebuildAsk::Left {
+        RebuildStep::Listing(tally) => RebuildAsk::Next { after: tally.after },
+        RebuildStep::Copying(copied) => ask_to_copy(copied.listed.key, reader.next()),
+        RebuildStep::Refilling { copied, length } => refill_ask(node, copied, *length),
+        RebuildStep::Leaving { key, why, .. } => RebuildAsk::Left {
             key: *key,
             why: *why,
         },
-        Step::Ended(_) => RebuildAsk::End,
+        RebuildStep::Ended(_) => RebuildAsk::End,
     }
 }
 

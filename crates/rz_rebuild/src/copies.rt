@@ -10,7 +10,7 @@ ghost use Rattle.rz_rebuild.specs.Inside.{IsStep, IsRead, IsCopied, machine_of, 
 ghost use Rattle.rz_rebuild.specs.Copies.{IsFetchAsk, IsOtherTold, IsFetchedInto, IsCopyTold};
 
 use crate::answers::{end_of, leaving};
-use crate::step::{Copied, Step, Tally};
+use crate::step::{Copied, RebuildProgress, RebuildStep};
 use mj_angles::Layout;
 use rz_client_model::ReadStage;
 use rz_events::{FetchAnswer, FileInfo, LeftWhy, Listed, ReadMark, ReaderAnswer, RebuildAnswer};
@@ -20,10 +20,10 @@ use rz_reader::Reader;
 pub fn after_next(
     layout: Layout,
     node: u16,
-    tally: Tally,
+    tally: RebuildProgress,
     listed: Option<Listed>,
     reader: &mut Reader,
-) -> Step
+) -> RebuildStep
     requires layout { reader.old.state.layout ≡ layout }
     requires listed { IsNextAnswer layout node listed }
     ensures state { state_of reader.new.state result ≡ after_next layout (tally_of tally) listed }
@@ -33,10 +33,10 @@ pub fn after_next(
     ensures block { block_of result reader.new.block ≡ None }
 {
     match listed {
-        None => Step::Ended(end_of(&tally)),
+        None => RebuildStep::Ended(end_of(&tally)),
         Some(listed) => {
             begin_copy(reader, &listed);
-            Step::Copying(Copied {
+            RebuildStep::Copying(Copied {
                 tally,
                 listed,
                 base: 0,
@@ -68,12 +68,12 @@ pub fn after_copy(
     answer: RebuildAnswer,
     bins: &[u64],
     reader: &mut Reader,
-) -> Step
+) -> RebuildStep
     requires layout { reader.old.state.layout ≡ layout }
-    requires step { IsStep layout node reader.old (Step.Copying copied.now) }
+    requires step { IsStep layout node reader.old (RebuildStep.Copying copied.now) }
     requires asked { IsRebuildAnswer layout node (ask_to_copy copied.now.listed.key (reader_ask reader.old.state)) answer }
     requires bins { ComeWith layout (ask_to_copy copied.now.listed.key (reader_ask reader.old.state)) answer bins.now }
-    ensures goes { IsAnswered (machine_of layout node reader.old (Step.Copying copied.now)) answer bins.now (machine_of layout node reader.new result) }
+    ensures goes { IsAnswered (machine_of layout node reader.old (RebuildStep.Copying copied.now)) answer bins.now (machine_of layout node reader.new result) }
     ensures inside { IsStep layout node reader.new result }
     ensures layout { reader.new.state.layout ≡ layout }
 {
@@ -104,11 +104,11 @@ fn after_fetched(
     answer: FetchAnswer,
     bins: &[u64],
     reader: &mut Reader,
-) -> Step
+) -> RebuildStep
     requires layout { reader.old.state.layout ≡ layout }
-    requires step { IsStep layout node reader.old (Step.Copying copied.now) }
+    requires step { IsStep layout node reader.old (RebuildStep.Copying copied.now) }
     requires asked { IsFetchAsk layout answer bins.now (reader_ask reader.old.state) }
-    ensures goes { IsAnswered (machine_of layout node reader.old (Step.Copying copied.now)) (RebuildAnswer.Fetched answer) bins.now (machine_of layout node reader.new result) }
+    ensures goes { IsAnswered (machine_of layout node reader.old (RebuildStep.Copying copied.now)) (RebuildAnswer.Fetched answer) bins.now (machine_of layout node reader.new result) }
     ensures inside { IsStep layout node reader.new result }
     ensures layout { reader.new.state.layout ≡ layout }
 {
@@ -139,11 +139,11 @@ fn after_other(
     copied: &Copied,
     answer: ReaderAnswer,
     reader: &mut Reader,
-) -> Step
+) -> RebuildStep
     requires layout { reader.old.state.layout ≡ layout }
-    requires step { IsStep layout node reader.old (Step.Copying copied.now) }
+    requires step { IsStep layout node reader.old (RebuildStep.Copying copied.now) }
     requires asked { IsOtherTold layout (reader_ask reader.old.state) answer }
-    ensures goes { IsCopyTold reader.old (machine_of layout node reader.old (Step.Copying copied.now)) copied.now answer (machine_of layout node reader.new result) }
+    ensures goes { IsCopyTold reader.old (machine_of layout node reader.old (RebuildStep.Copying copied.now)) copied.now answer (machine_of layout node reader.new result) }
     ensures inside { IsStep layout node reader.new result }
     ensures layout { reader.new.state.layout ≡ layout }
 {
@@ -184,7 +184,7 @@ fn base_after(layout: Layout, stamp: u64, stage: &ReadStage, base: u64, answer: 
 }
 
 /// How a rebuild goes on as the read of its block stands.
-fn after_read(layout: Layout, node: u16, copied: Copied, reader: &Reader) -> Step
+fn after_read(layout: Layout, node: u16, copied: Copied, reader: &Reader) -> RebuildStep
     requires layout { reader.now.state.layout ≡ layout }
     requires copied { IsCopied layout node copied }
     requires read { IsRead copied.listed.published.stamp reader.now.state.stage }
@@ -195,21 +195,21 @@ fn after_read(layout: Layout, node: u16, copied: Copied, reader: &Reader) -> Ste
 {
     match &reader.state().stage {
         ReadStage::Looking => unreachable!(),
-        ReadStage::Fetching(_) => Step::Copying(copied),
+        ReadStage::Fetching(_) => RebuildStep::Copying(copied),
         ReadStage::Ended(mark) => after_mark(copied, *mark),
     }
 }
 
 /// How a rebuild goes on after the read of its block.
-fn after_mark(copied: Copied, mark: ReadMark) -> Step
+fn after_mark(copied: Copied, mark: ReadMark) -> RebuildStep
     ensures { result ≡ step_after copied mark }
 {
     match mark {
-        ReadMark::Found { length, .. } => Step::Refilling { copied, length },
+        ReadMark::Found { length, .. } => RebuildStep::Refilling { copied, length },
         ReadMark::TooFew { .. } => leaving(&copied, LeftWhy::TooFew),
-        ReadMark::Moved { .. } => Step::Listing(copied.tally),
+        ReadMark::Moved { .. } => RebuildStep::Listing(copied.tally),
         ReadMark::Denied(cause) => leaving(&copied, LeftWhy::Denied(cause)),
         ReadMark::Inconsistent => leaving(&copied, LeftWhy::Inconsistent),
-        ReadMark::Hole => Step::Listing(copied.tally),
+        ReadMark::Hole => RebuildStep::Listing(copied.tally),
     }
 }

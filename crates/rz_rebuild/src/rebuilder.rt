@@ -10,7 +10,7 @@ ghost use Rattle.rz_rebuild.specs.Inside.{IsStep, IsProjected, machine_of, state
 use crate::answers::{after_enroll, after_left, after_probe, after_refill, after_replace};
 use crate::asks::{ask, position_of};
 use crate::copies::{after_copy, after_next};
-use crate::step::{Step, Tally};
+use crate::step::{RebuildProgress, RebuildStep};
 use mj_angles::Layout;
 use rz_events::{FileInfo, Places, RebuildAnswer, RebuildAsk, RebuildEnd};
 use rz_reader::Reader;
@@ -26,7 +26,7 @@ use std::marker::Model;
 pub struct Rebuilder {
     layout: Layout,
     node: u16,
-    step: Step,
+    step: RebuildStep,
     reader: Reader,
     bins: Vec<u64>,
 }
@@ -53,7 +53,7 @@ impl Rebuilder {
         Ok(Rebuilder {
             layout,
             node,
-            step: Step::Probing,
+            step: RebuildStep::Probing,
             reader,
             bins,
         })
@@ -74,7 +74,7 @@ impl Rebuilder {
         ensures bins { AreBins self.now result.now }
         ensures count { IsCountFor self.now.layout (ask_in self.now.node self.now.state) result.now }
     {
-        let Step::Refilling { copied, .. } = &self.step else {
+        let RebuildStep::Refilling { copied, .. } = &self.step else {
             unreachable!()
         };
         let position = position_of(self.node, &copied.listed);
@@ -111,7 +111,7 @@ impl Rebuilder {
         ensures { result ≡ end_in self.now.state }
     {
         match &self.step {
-            Step::Ended(end) => Some(*end),
+            RebuildStep::Ended(end) => Some(*end),
             _ => None,
         }
     }
@@ -121,11 +121,11 @@ impl Rebuilder {
 fn after(
     layout: Layout,
     node: u16,
-    step: &Step,
+    step: &RebuildStep,
     answer: RebuildAnswer,
     bins: &[u64],
     reader: &mut Reader,
-) -> Step
+) -> RebuildStep
     requires layout { reader.old.state.layout ≡ layout }
     requires step { IsStep layout node reader.old step.now }
     requires asked { IsRebuildAnswer layout node (ask_in node (state_of reader.old.state step.now)) answer }
@@ -135,14 +135,14 @@ fn after(
     ensures layout { reader.new.state.layout ≡ layout }
 {
     match step {
-        Step::Probing => after_probe(answer),
-        Step::Enrolling { loss } => after_enroll(*loss, answer),
-        Step::Replacing { loss, fence } => after_replace(*loss, *fence, answer),
-        Step::Listing(tally) => after_listing(layout, node, *tally, answer, reader),
-        Step::Copying(copied) => after_copy(layout, node, copied, answer, bins, reader),
-        Step::Refilling { copied, length } => after_refill(copied, *length, answer),
-        Step::Leaving { tally, key, .. } => after_left(*tally, *key),
-        Step::Ended(_) => unreachable!(),
+        RebuildStep::Probing => after_probe(answer),
+        RebuildStep::Enrolling { loss } => after_enroll(*loss, answer),
+        RebuildStep::Replacing { loss, fence } => after_replace(*loss, *fence, answer),
+        RebuildStep::Listing(tally) => after_listing(layout, node, *tally, answer, reader),
+        RebuildStep::Copying(copied) => after_copy(layout, node, copied, answer, bins, reader),
+        RebuildStep::Refilling { copied, length } => after_refill(copied, *length, answer),
+        RebuildStep::Leaving { tally, key, .. } => after_left(*tally, *key),
+        RebuildStep::Ended(_) => unreachable!(),
     }
 }
 
@@ -150,13 +150,13 @@ fn after(
 fn after_listing(
     layout: Layout,
     node: u16,
-    tally: Tally,
+    tally: RebuildProgress,
     answer: RebuildAnswer,
     reader: &mut Reader,
-) -> Step
+) -> RebuildStep
     requires layout { reader.old.state.layout ≡ layout }
     requires asked { IsListing layout node answer }
-    ensures goes { (bins : List ℕ) → IsAnswered (machine_of layout node reader.old (Step.Listing tally)) answer bins (machine_of layout node reader.new result) }
+    ensures goes { (bins : List ℕ) → IsAnswered (machine_of layout node reader.old (RebuildStep.Listing tally)) answer bins (machine_of layout node reader.new result) }
     ensures inside { IsStep layout node reader.new result }
     ensures layout { reader.new.state.layout ≡ layout }
 {
@@ -167,13 +167,13 @@ fn after_listing(
 }
 
 /// Projects the block in hand at the position of the node, where it is to have it as a refill.
-fn prepare(layout: Layout, node: u16, step: &Step, reader: &Reader, bins: &mut [u64])
+fn prepare(layout: Layout, node: u16, step: &RebuildStep, reader: &Reader, bins: &mut [u64])
     requires layout { reader.now.state.layout ≡ layout }
     requires step { IsStep layout node reader.now step.now }
     requires room { length bins.old ≡ max_bins_of layout }
     ensures { IsProjected layout node step.now reader.now.block bins.new }
 {
-    let Step::Refilling { copied, .. } = step else {
+    let RebuildStep::Refilling { copied, .. } = step else {
         return;
     };
     let position = position_of(node, &copied.listed);

@@ -4,7 +4,7 @@ use rz_events::{Key, LeftWhy, Listed, RebuildEnd};
 
 /// How far a rebuild has come, but for the read of its block.
 #[derive(Clone, Copy, Drop)]
-pub enum Step {
+pub enum RebuildStep {
     /// It asks whether the node has lost its disk.
     Probing,
     Enrolling {
@@ -15,7 +15,7 @@ pub enum Step {
         fence: u64,
     },
     /// It asks which block is next.
-    Listing(Tally),
+    Listing(RebuildProgress),
     /// It reads the block.
     Copying(Copied),
     /// It refills the block with a record of this length.
@@ -25,7 +25,7 @@ pub enum Step {
     },
     /// It says that it leaves the block.
     Leaving {
-        tally: Tally,
+        tally: RebuildProgress,
         key: Key,
         why: LeftWhy,
     },
@@ -34,7 +34,7 @@ pub enum Step {
 
 /// What a rebuild has done so far.
 #[derive(Clone, Copy, Drop)]
-pub struct Tally {
+pub struct RebuildProgress {
     /// The fence of the replacement.
     pub fence: u64,
     /// The last key that is done.
@@ -48,7 +48,7 @@ pub struct Tally {
 /// The block in hand of a rebuild.
 #[derive(Clone, Copy, Drop)]
 pub struct Copied {
-    pub tally: Tally,
+    pub tally: RebuildProgress,
     pub listed: Listed,
     /// The base of the first record that came, or 0.
     pub base: u64,

@@ -10,8 +10,8 @@ use Rattle.rz_nodes.specs.Formatted.{AreBack}
 use Rattle.rz_driver_nodes.specs.Meters.{AreDisksCounted, faults_at}
 use Rattle.rz_metadata.specs.declared.metadata.Metadata.{Metadata}
 use Rattle.rz_metadata.specs.declared.metadata.Metadata.TheVariants.{InMemory, Journaled}
-use Rattle.rz_metadata.specs.declared.journaled.Refusal.{Refusal}
-use Rattle.rz_metadata.specs.declared.journaled.Refusal.TheVariants.{Full, Failed}
+use Rattle.rz_metadata.specs.declared.journaled.JournalRefusal.{JournalRefusal}
+use Rattle.rz_metadata.specs.declared.journaled.JournalRefusal.TheVariants.{Full, Failed}
 use Rattle.rz_metadata.specs.Stands.{disk_of, is_journaled}
 use Rattle.rz_core.specs.Legal.{IsLegalInRuns}
 use Rattle.rz_driver.specs.Continued.{AreLeft}
@@ -105,20 +105,20 @@ module _ {D : Type 0} where
 -- Behind a journal.
 
 -- the end of a play that was cut off tells what the journal refused
-refused : (end : PlayEnd) (refusal : Option Refusal) → end ≡ end_by refusal → refusal ≡ refused_by end
+refused : (end : PlayEnd) (refusal : Option JournalRefusal) → end ≡ end_by refusal → refusal ≡ refused_by end
 refused end None is = ap refused_by (sym is)
 refused end (Some Full) is = ap refused_by (sym is)
 refused end (Some Failed) is = ap refused_by (sym is)
 
 module _ (tells : Bool) (image : List ℕ → Type 0) (first now : ℕ) (v : Volume) (h : List Event) where
-  ends-so : (end : PlayEnd) (refusal : Option Refusal) → end ≡ end_by refusal → EndsAsRefused refusal tells image first now v h → EndsAsRefused (refused_by end) tells image first now v h
-  ends-so end refusal is ended = let P : Option Refusal → Type 0 = λ r. EndsAsRefused r tells image first now v h in subst P (refused end refusal is) ended
+  ends-so : (end : PlayEnd) (refusal : Option JournalRefusal) → end ≡ end_by refusal → EndsAsRefused refusal tells image first now v h → EndsAsRefused (refused_by end) tells image first now v h
+  ends-so end refusal is ended = let P : Option JournalRefusal → Type 0 = λ r. EndsAsRefused r tells image first now v h in subst P (refused end refusal is) ended
 
   failed-so : EndsAsRefused (refused_by ends.Journal) tells image first now v h → HasRisen first now
   failed-so ended = ended.ends.0
 
 -- a journal ends a play of `first`
-pub first-end : (end : PlayEnd) (refusal : Option Refusal) (journaled : Bool) (r : Request) (disks : Faulted) (tells : Bool) (image : List ℕ → Type 0) (v : Volume) (h : List Event)
+pub first-end : (end : PlayEnd) (refusal : Option JournalRefusal) (journaled : Bool) (r : Request) (disks : Faulted) (tells : Bool) (image : List ℕ → Type 0) (v : Volume) (h : List Event)
     → r.wish ≡ wishes.First → EndsBy journaled (end_by refusal) end → EndsAsRefused refusal tells image (disks.old (nodes_in r.script)) (disks.new (nodes_in r.script)) v h → MayEnd end r disks
 first-end ends.Ended refusal journaled r disks tells image v h first cut ended = tt
 first-end ends.TooManyTurns refusal journaled r disks tells image v h first cut ended = tt
@@ -136,7 +136,7 @@ again-end ends.JournalFull r disks again = subst HasJournal (sym again) tt
 again-end ends.Journal r disks again = (subst HasJournal (sym again) tt, λ first. let other : wishes.First ≡ wishes.Again = sym first ∙ again in cc)
 
 module _ {D : Type 0} (tells : Bool) (meter : D → Meter) (image : D → List ℕ → Type 0) (v : Volume) (old new : D) (h : List Event) where
-  pub journal-left : (end : PlayEnd) (refusal : Option Refusal) (journaled : Bool) → EndsBy journaled (end_by refusal) end → BetweenTurns end (IsTrue tells → StandsForLog (image new) v h)
+  pub journal-left : (end : PlayEnd) (refusal : Option JournalRefusal) (journaled : Bool) → EndsBy journaled (end_by refusal) end → BetweenTurns end (IsTrue tells → StandsForLog (image new) v h)
       → EndsAsRefused refusal tells (image new) (faults (meter old)) (faults (meter new)) v h → IsJournalLeft tells meter image end v old new h
   journal-left ends.Ended refusal journaled cut stands ended = stands
   journal-left ends.TooManyTurns refusal journaled cut stands ended = stands
@@ -155,7 +155,7 @@ between-on ends.JournalFull so then on h = tt
 -- What a run leaves for the next.
 
 -- where a play ended between two turns the stage holds, and where the journal was full it says so
-pub whole-end : (Holds Leaves : Type 0) (end : PlayEnd) (refusal : Option Refusal) (journaled : Bool) → EndsBy journaled (end_by refusal) end → BetweenTurns end Holds → Leaves → LeavesNext end (Holds ⊎ (Leaves × (refusal ≡ Some Full)))
+pub whole-end : (Holds Leaves : Type 0) (end : PlayEnd) (refusal : Option JournalRefusal) (journaled : Bool) → EndsBy journaled (end_by refusal) end → BetweenTurns end Holds → Leaves → LeavesNext end (Holds ⊎ (Leaves × (refusal ≡ Some Full)))
 whole-end Holds Leaves ends.Ended refusal journaled cut holds left = inl holds
 whole-end Holds Leaves ends.TooManyTurns refusal journaled cut holds left = inl holds
 whole-end Holds Leaves ends.JournalFull refusal journaled cut holds left = inr (left, refused ends.JournalFull refusal cut.0)

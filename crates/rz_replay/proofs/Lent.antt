@@ -1,5 +1,5 @@
 -- Disks that come back where no driver was made.
-use Rattle.std.proofs.Common.{◌≡◌, inl, inr, ℕ, zero, suc, ◌+◌, ◌-◌, ◌^◌, ◌≤◌, ◌<◌, min, Bool, List, [], ◌∷◌, length, map, refl, ap, ◌∙◌, arith}
+use Rattle.std.proofs.Common.{◌≡◌, ◌≢◌, inl, inr, ℕ, zero, suc, ◌+◌, ◌-◌, ◌^◌, ◌≤◌, ◌<◌, min, Bool, List, [], ◌∷◌, length, map, refl, ap, ◌∙◌, arith}
 use Rattle.mj_angles.specs.declared.layout.Layout.{Layout}
 use Rattle.rz_disk.specs.Meter.{Meter, faults}
 use Rattle.rz_events.specs.declared.files.NodeSpec.{NodeSpec}
@@ -10,6 +10,7 @@ use Rattle.rz_nodes.specs.Formatted.{AreBack, IsCause}
 use Rattle.rz_nodes.specs.declared.fault.DriverFault.{DriverFault}
 use Rattle.rz_nodes.specs.declared.fault.DriverFault.TheVariants.{NoMemory, Disk}
 use Rattle.rz_request.specs.declared.wishes.Request.{Request}
+use Rattle.rz_request.specs.declared.wishes.Wish.TheVariants.{Again}
 use Rattle.rz_report.specs.Output.{Sunk}
 use Rattle.rz_report.specs.Replays.{Unplayed, Opens}
 use Rattle.rz_report.specs.Telling.{Fails}
@@ -50,12 +51,13 @@ risen : (x y o n : ℕ) → x ≡ o → y ≡ n → x ≤ y → min (o + 1) (2 ^
 risen x y o n x_is y_is lasts rises = omega (arith, x_is, y_is, lasts, rises)
 
 -- why there is no driver, as a request that was not played
-pub not-opened : {D : Type 0} (tells : Bool) (meter : D → Meter) (r : Request) (old new : List D) (lost : ℕ) (sink : Sunk) (status : ℕ) (h : List Event) (fault : DriverFault)
+pub not-opened : {D : Type 0} (tells : Bool) (meter : D → Meter) (r : Request) (old new : List D) (lost : ℕ) (sink : Sunk) (status : ℕ) (h : List Event) (fault : DriverFault) → r.wish ≢ Again
     → ((i : ℕ) → faults_at meter old i ≤ faults_at meter new i) → IsCause meter old new fault → Fails fault sink status → h ≡ [] → Opens tells Unplayed r (faulted meter old new) lost sink status h
-not-opened tells meter r old new lost sink status h NoMemory back cause fails none = inl (fails, none)
-not-opened tells meter r old new lost sink status h (Disk index) back cause fails none =
+not-opened tells meter r old new lost sink status h NoMemory anew back cause fails none = inl (fails, none)
+not-opened tells meter r old new lost sink status h (Disk index) anew back cause fails none =
     inr (
       index,
+      anew,
       risen (faults_at meter old index) (faults_at meter new index) (faults (meter cause.0)) (faults (meter cause.1))
           (ap (faults_in meter) cause.2) (ap (faults_in meter) cause.3) (back index) cause.4,
       fails,

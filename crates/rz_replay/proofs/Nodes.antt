@@ -32,13 +32,13 @@ use Rattle.rz_node_laws.specs.Laws.{IsFetchLaw, IsReadBack}
 use Rattle.rz_play.specs.World.{World}
 use Rattle.rz_scrub_report.specs.Asks.{AreGiven}
 use Rattle.rz_scrub_report.specs.Scrubs.{EachListed}
-use Rattle.rz_driver_actors.specs.declared.seat.Seat.{Seat}
-use Rattle.rz_nodes.specs.declared.formatting.Station.{Station}
+use Rattle.rz_driver_actors.specs.declared.agenda.Agenda.{Agenda}
+use Rattle.rz_nodes.specs.declared.formatting.Server.{Server}
 use Rattle.rz_driver_nodes.specs.Fetches.{GivesIn}
 use Rattle.rz_driver_nodes.specs.Asked.{fused_text}
 use Rattle.rz_driver_nodes.specs.Images.{AreImaged, HasImages, fused_image}
 use Rattle.rz_driver.specs.Pictures.{IsPicture}
-use Rattle.rz_driver_nodes.specs.Stations.{state_in}
+use Rattle.rz_driver_nodes.specs.Servers.{state_in}
 use Rattle.rz_driver_nodes.proofs.Rows.{all-at, state-at}
 use Rattle.rz_replay.proofs.Blocks.{front, is-block, length-bins, of-record, position-is}
 use Rattle.rz_replay.proofs.Listed.{listed-file}
@@ -86,20 +86,20 @@ module _ (v : Volume) (f : Facts) (l : Listed) (placed : f.places l.key.fid ≡ 
 
 module _ {D : Type 0} (tells : Bool) (text : D → List ℕ) (image : D → List ℕ → Type 0) (law : IsFetchLaw text image) (told_it : IsTrue tells) where
   -- what a node in the row gives
-  read-back : (v : Volume) (f : Facts) (stations : List (Station (UnderFuse D))) → AreImaged (fused_image image) v f stations → (n : ℕ) (key : Key) (stamp : ℕ) (told : Held) (before room : List ℕ)
-      → IsFetchAnswer (fetch_answer (state_in stations n) key stamp) (fetch.Held told) → GivesIn tells (fused_text text) stations n key told before room → IsReadBack v f n key told before room
-  read-back v f stations imaged n key stamp told before room answers (place, s, at, is, gives) =
-      let here = state-at stations n place s at is in
-      let images : HasImages (fused_image image) v f s.sid s.node = all-at (λ (t : Station (UnderFuse D)). HasImages (fused_image image) v f t.sid t.node) stations place s imaged is in
+  read-back : (v : Volume) (f : Facts) (servers : List (Server (UnderFuse D))) → AreImaged (fused_image image) v f servers → (n : ℕ) (key : Key) (stamp : ℕ) (told : Held) (before room : List ℕ)
+      → IsFetchAnswer (fetch_answer (state_in servers n) key stamp) (fetch.Held told) → GivesIn tells (fused_text text) servers n key told before room → IsReadBack v f n key told before room
+  read-back v f servers imaged n key stamp told before room answers (place, s, at, is, gives) =
+      let here = state-at servers n place s at is in
+      let images : HasImages (fused_image image) v f s.sid s.node = all-at (λ (t : Server (UnderFuse D)). HasImages (fused_image image) v f t.sid t.node) servers place s imaged is in
       let own = subst (λ (m : ℕ). IsImaged v f m s.node.state s.node.geometry (image s.node.disk.disk)) here.0 images.images in
       law v f n 0 s.node.geometry s.node.state key 0 stamp told before room s.node.disk.disk s.node.disk.disk
       (subst (λ (x : NodeState). IsFetchAnswer (fetch_answer x key stamp) (fetch.Held told)) here.1 answers)
       ((λ c has. has), gives told_it) own
 
-  pub given-back : ((v : Volume) → AreLaid v) → (v : Volume) (old : List Event) (w : World) (seats : List Seat) (stations : List (Station (UnderFuse D))) → w.nodes ≡ state_in stations
-      → IsPicture (fused_image image) v old w seats stations
-      → EachListed w.export (λ l. AreGiven v.layout (GivesIn tells (fused_text text) stations) w.nodes l (block_of v.layout (text_in ((facts (w.log ++ old)).wrote l.published.stamp))))
-  given-back laid v old w seats stations same picture after l listed =
+  pub given-back : ((v : Volume) → AreLaid v) → (v : Volume) (old : List Event) (w : World) (agendas : List Agenda) (servers : List (Server (UnderFuse D))) → w.nodes ≡ state_in servers
+      → IsPicture (fused_image image) v old w agendas servers
+      → EachListed w.export (λ l. AreGiven v.layout (GivesIn tells (fused_text text) servers) w.nodes l (block_of v.layout (text_in ((facts (w.log ++ old)).wrote l.published.stamp))))
+  given-back laid v old w agendas servers same picture after l listed =
       let f = facts (w.log ++ old) in
       let fine = picture.fine in
       let legal : IsLegalInRuns v (w.log ++ old) = subst (IsLegalInRuns v) (sym fine.log_is) (next-run v old fine.run fine.legal) in
@@ -110,5 +110,5 @@ module _ {D : Type 0} (tells : Bool) (text : D → List ℕ) (image : D → List
         block = is-block v.layout (text_in (f.wrote l.published.stamp));
         each = λ position n told before room at answers gives.
             of-write v f l placed apart n position at told before room (told-stamp (w.nodes n) l.key l.published.stamp told answers)
-            (read-back v f stations picture.disks n l.key l.published.stamp told before room (subst (λ (nodes : ℕ → NodeState). IsFetchAnswer (fetch_answer (nodes n) l.key l.published.stamp) (fetch.Held told)) same answers) gives);
+            (read-back v f servers picture.disks n l.key l.published.stamp told before room (subst (λ (nodes : ℕ → NodeState). IsFetchAnswer (fetch_answer (nodes n) l.key l.published.stamp) (fetch.Held told)) same answers) gives);
       }

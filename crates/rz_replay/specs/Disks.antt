@@ -9,8 +9,8 @@ use Rattle.rz_events.specs.declared.nodes.Phase.TheVariants.{Lost}
 use Rattle.rz_events.specs.declared.events.Word.TheVariants.{Node}
 use Rattle.rz_events.specs.declared.events.Event.{Event}
 use Rattle.rz_nodes.specs.Formatted.{AreBack}
-use Rattle.rz_metadata.specs.declared.journaled.Refusal.{Refusal}
-use Rattle.rz_metadata.specs.declared.journaled.Refusal.TheVariants.{Full, Failed}
+use Rattle.rz_metadata.specs.declared.journaled.JournalRefusal.{JournalRefusal}
+use Rattle.rz_metadata.specs.declared.journaled.JournalRefusal.TheVariants.{Full, Failed}
 use Rattle.rz_driver.specs.Endings.{EndsAsRefused, StandsForLog}
 use Rattle.rz_driver.specs.Formatted.{IsJournalBack}
 use Rattle.rz_core.specs.History.{of_word}
@@ -30,7 +30,7 @@ use Rattle.rz_play_laws.specs.Runs.{IsRunAfter}
 use Rattle.rz_play_locks.specs.Kept.{IsKeptAfter}
 use Rattle.rz_play_locks.specs.Operations.{given}
 use Rattle.rz_player.specs.Ends.{IsEnded}
-use Rattle.rz_player.specs.declared.lines.PlayEnd.TheVariants.{Ended, TooManyTurns, NoMemory, Journal, JournalFull}
+use Rattle.rz_player.specs.declared.lines.PlayEnd.TheVariants.{Ended, TooManyTurns, Halted, Journal, JournalFull}
 use Rattle.rz_player.specs.declared.lines.PlayEnd.{PlayEnd}
 use Rattle.rz_request.specs.declared.refusal.Stop.{Stop}
 use Rattle.rz_request.specs.declared.wishes.Request.{Request}
@@ -65,10 +65,10 @@ asked_in (Unopened index cause) = []
 asked_in (Performed end later) = later
 
 -- what a journal refused, where a play was cut off
-abbrev pub refused_by : PlayEnd → Option Refusal
+abbrev pub refused_by : PlayEnd → Option JournalRefusal
 refused_by Journal = Some Failed
 refused_by JournalFull = Some Full
-refused_by NoMemory = None
+refused_by Halted = None
 refused_by Ended = None
 refused_by TooManyTurns = None
 
@@ -76,7 +76,7 @@ refused_by TooManyTurns = None
 abbrev pub IsJournalLeft : {D : Type 0} → Bool → (D → Meter) → (D → List ℕ → Type 0) → PlayEnd → Volume → (old new : D) → List Event → Type 0
 IsJournalLeft tells meter image Ended v old new h = IsTrue tells → StandsForLog (image new) v h
 IsJournalLeft tells meter image TooManyTurns v old new h = IsTrue tells → StandsForLog (image new) v h
-IsJournalLeft tells meter image NoMemory v old new h = EndsAsRefused (refused_by NoMemory) tells (image new) (faults (meter old)) (faults (meter new)) v h
+IsJournalLeft tells meter image Halted v old new h = EndsAsRefused (refused_by Halted) tells (image new) (faults (meter old)) (faults (meter new)) v h
 IsJournalLeft tells meter image Journal v old new h = EndsAsRefused (refused_by Journal) tells (image new) (faults (meter old)) (faults (meter new)) v h
 IsJournalLeft tells meter image JournalFull v old new h = EndsAsRefused (refused_by JournalFull) tells (image new) (faults (meter old)) (faults (meter new)) v h
 
@@ -97,7 +97,7 @@ abbrev pub LeavesNext : PlayEnd → Type 0 → Type 0
 LeavesNext Ended next = next
 LeavesNext TooManyTurns next = next
 LeavesNext JournalFull next = next
-LeavesNext NoMemory next = Unit {0}
+LeavesNext Halted next = Unit {0}
 LeavesNext Journal next = Unit {0}
 
 abbrev pub IsNextTold : {D : Type 0} → Bool → (D → List ℕ → Type 0) → Course → Volume → List D → List Event → Type 0
@@ -132,16 +132,16 @@ abbrev pub AreLocksKept : Volume → List Event → List Line → List Event →
 AreLocksKept v old lines h = (last : World) × IsKeptAfter v.layout (λ a. given a lines) old h last
 
 -- A play that went on after this earlier log. Behind that log, with the nodes stopped and started, its own is that of a play of the
--- lines and is legal, and both are sound. No update is lost, if there are fewer than 2^63 events behind it. Each of its lost messages
--- was lost by a line or by the link, and its disks' faults are counted by its own events. The images of each disk stand for what both
--- logs say, and one more run may go on after both.
+-- lines and is legal, and both are sound. No update is lost. Each of its lost messages was lost by a line or by the link, and
+-- its disks' faults are counted by its own events. The images of each disk stand for what both logs say, and one more run may go
+-- on after both.
 pub record IsGoneOn {D : Type 0} (tells : Bool) (meter : D → Meter) (image : D → List ℕ → Type 0) (end : PlayEnd) (v : Volume) (lines : List Line) (lost : ℕ) (earlier : List Event)
     (disks : List D) (journal : D) (nodes_back : List D) (journal_back : D) (h : List Event) : Type 0 where
   pub old : List Event
   pub restarted : IsRestarted v earlier old
   pub played : IsPlayAfter v old lines end lost (h ++ old)
   pub run : IsRunAfter v old (h ++ old)
-  pub kept : length old < 2 ^ 63 → AreLocksKept v old lines (h ++ old)
+  pub kept : AreLocksKept v old lines (h ++ old)
   pub losses : missed h ≤ misses lines + lost
   pub faults_told : AreFaultsTold meter v disks nodes_back h
   pub images_told : AreImagesTold tells meter image (Performed end []) v disks nodes_back (h ++ old)

@@ -1,5 +1,5 @@
-//! What is told where the disk of a journal fails in a play, where a link loses a reply, and where a scrub reads
-//! a byte wrong.
+//! What is told where the disk of a journal fails in a play, where a link loses a message or a reply, and where a
+//! scrub reads a byte wrong.
 
 use super::playing::{FIRST, disks_on, play, play_over, push};
 use rz_disk::{PlainDisk, RotDisk};
@@ -39,22 +39,75 @@ fn rotten(rt: &(impl Abort + AllocGlobal), at: u64) -> Vec<RotDisk<PlainDisk>> {
     disks
 }
 
+/// Plays a script over four disks, and tells whether it ends well with this text. The link loses the message
+/// with this number, without a line of the script.
+fn is_told(
+    rt: &(impl Abort + AllocGlobal),
+    script: &str,
+    number: u64,
+    lost: Sent,
+    told: &str,
+) -> bool {
+    let mut disks = rotten(rt, u64::MAX);
+    let list = vec![in rt.alloc(); (number, lost)].expect(rt, "memory");
+    let link = MemLink::new(list);
+    let (status, text) = play_over(rt, "rozo replay --disks 4", script, &mut disks, link);
+    drop(disks);
+    let is_told = text.as_str() == told;
+    drop(text);
+    status == 0 && is_told
+}
+
 const LOST_REPLY: &str = "c1 1 created 00000000-0000-0000-0000-000000000001
 c1 2 acked 1 0111
 end 11
 ";
 
-/// The link loses it, without a line of the script.
 #[test]
 fn the_reply_to_the_first_keep_is_lost(rt: HostRuntime) -> Result<(), Fail> {
-    let mut disks = rotten(&rt, u64::MAX);
-    let list = vec![in rt.alloc(); (0, Sent::ReplyLost)].expect(&rt, "memory");
-    let link = MemLink::new(list);
-    let (status, text) = play_over(&rt, "rozo replay --disks 4", WRITTEN, &mut disks, link);
-    drop(disks);
-    let is_told = text.as_str() == LOST_REPLY;
-    drop(text);
-    assert!(rt; status == 0 && is_told);
+    assert!(rt; is_told(&rt, WRITTEN, 0, Sent::ReplyLost, LOST_REPLY));
+    Ok(())
+}
+
+/// The node has no event of it.
+const LOST_REQUEST: &str = "c1 1 created 00000000-0000-0000-0000-000000000001
+c1 2 acked 1 0111
+end 10
+";
+
+#[test]
+fn the_request_of_the_first_keep_is_lost(rt: HostRuntime) -> Result<(), Fail> {
+    assert!(rt; is_told(&rt, WRITTEN, 0, Sent::RequestLost, LOST_REQUEST));
+    Ok(())
+}
+
+const READ: &str = "op c1 create /f\nop c1 put /f 0 t:hello\nop c1 get /f 0\nrest\n";
+
+/// Three keeps go before the fetches, and a third node is asked.
+const LOST_FETCH: &str = "c1 1 created 00000000-0000-0000-0000-000000000001
+c1 2 acked 1 1110
+c1 3 data 1 5 x:68656c6c6f
+end 15
+";
+
+#[test]
+fn the_request_of_the_first_fetch_is_lost(rt: HostRuntime) -> Result<(), Fail> {
+    assert!(rt; is_told(&rt, READ, 3, Sent::RequestLost, LOST_FETCH));
+    Ok(())
+}
+
+const UNLINKED: &str = "op c1 create /f\nop c1 put /f 0 t:hello\nop c1 unlink /f\nrest\n";
+
+/// The first node has dropped its version. Of the other three, two drop theirs, and the last has none.
+const LOST_DROP: &str = "c1 1 created 00000000-0000-0000-0000-000000000001
+c1 2 acked 1 1110
+c1 3 done
+end 16
+";
+
+#[test]
+fn the_reply_to_the_first_drop_is_lost(rt: HostRuntime) -> Result<(), Fail> {
+    assert!(rt; is_told(&rt, UNLINKED, 3, Sent::ReplyLost, LOST_DROP));
     Ok(())
 }
 

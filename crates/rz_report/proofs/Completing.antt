@@ -113,7 +113,7 @@ module _ (tells : Bool) (disks : Faulted) (lost : ℕ) (sink : Sunk) (status : �
     followed : (course : Course) → (course ≡ Unplayed → (i : ℕ) → ¬ HasRisen (disks.old i) (disks.new i)) → ((later : List Event) → ¬ (course ≡ Performed ends.JournalFull later)) → (r : Request) → r.script ≡ s → r.wish ≡ wish
         → Opens tells course r disks lost sink status h → IsFinished tells wish s lost sink status h ⊎ Lacks sink status
     followed Unplayed formatted room r script_is wish_is (inl lacks) = inr lacks.0
-    followed Unplayed formatted room r script_is wish_is (inr failed) = absurd (formatted refl failed.0 (has-risen (disks.old failed.0) (disks.new failed.0) failed.1))
+    followed Unplayed formatted room r script_is wish_is (inr failed) = absurd (formatted refl failed.0 (has-risen (disks.old failed.0) (disks.new failed.0) failed.2))
     followed (Unopened index cause) formatted room r script_is wish_is unopened = absurd (anew (sym wish_is ∙ unopened.0))
     followed (Performed end later) formatted room r script_is wish_is performed =
         let P : Script → Type 0 = λ x. PerformsAs tells x.volume x.lines r.wish end later lost h sink status in
@@ -142,7 +142,7 @@ module _ (tells : Bool) (disks : Faulted) (lost : ℕ) (sink : Sunk) (status : �
       → ((end : PlayEnd) (later : List Event) → course ≡ Performed end later → ¬ (end ≡ ends.TooManyTurns) × ¬ (end ≡ ends.Journal) × ¬ (end ≡ ends.JournalFull)) → (r : Request) → r.script ≡ s → r.wish ≡ wishes.Again
       → Opens tells course r disks lost sink status h → IsFinishedAgain course sink status h ⊎ Lacks sink status
   gone-on Unplayed formatted opened uncut r script_is wish_is (inl lacks) = inr lacks.0
-  gone-on Unplayed formatted opened uncut r script_is wish_is (inr failed) = absurd (formatted refl failed.0 (has-risen (disks.old failed.0) (disks.new failed.0) failed.1))
+  gone-on Unplayed formatted opened uncut r script_is wish_is (inr failed) = absurd (failed.1 wish_is)
   gone-on (Unopened index cause) formatted opened uncut r script_is wish_is unopened = absurd (opened index cause refl)
   gone-on (Performed end later) formatted opened uncut r script_is wish_is performed =
       let Q : Wish → Type 0 = λ w. PerformsAs tells r.script.volume r.script.lines w end later lost h sink status in

@@ -1,5 +1,5 @@
 -- What a replay of a request over disks comes to.
-use Rattle.std.specs.Prelude.{ℕ, Bool, ◌≡◌, ◌⊎◌, IsTrue, List, [], Result, Ok, Err}
+use Rattle.std.specs.Prelude.{ℕ, Bool, ◌≡◌, ◌≢◌, ◌⊎◌, IsTrue, List, [], Result, Ok, Err}
 use Rattle.rz_events.specs.Volume.{Volume}
 use Rattle.rz_script.specs.declared.line.Line.{Line}
 use Rattle.rz_disk.specs.Meter.{Rises as HasRisen}
@@ -43,11 +43,12 @@ MayEnd JournalFull r disks = HasJournal r.wish
 MayEnd _ r disks = Unit {0}
 
 -- A request that came so far, with so many messages lost by the link. No play began where memory was wanting, or where a disk
--- failed while it was formatted, and its faults rose. One that was to be used again may not open: then its line was to be written.
+-- that was not to be used again failed while it was formatted, and its faults rose. One that was to be used again may not open:
+-- then its line was to be written.
 abbrev pub Opens : Bool → Course → Request → Faulted → (lost : ℕ) → Sunk → ℕ → List Event → Type 0
 Opens tells Unplayed r disks lost sink status h =
     (Lacks sink status × (h ≡ []))
-    ⊎ ((index : ℕ) × Rises (disks.old index) (disks.new index) × Refuses (refusals.Disk index) sink status × (h ≡ []))
+    ⊎ ((index : ℕ) × (r.wish ≢ Again) × Rises (disks.old index) (disks.new index) × Refuses (refusals.Disk index) sink status × (h ≡ []))
 Opens tells (Unopened index cause) r disks lost sink status h = (r.wish ≡ Again) × Refuses (refusals.Open index cause) sink status × (h ≡ [])
 Opens tells (Performed end later) r disks lost sink status h = MayEnd end r disks × PerformsAs tells r.script.volume r.script.lines r.wish end later lost h sink status
 

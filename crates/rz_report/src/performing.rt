@@ -21,14 +21,14 @@ use rz_player::{LoggedStage, play};
 use rz_ports::Sink;
 use rz_request::{Status, Wish};
 use rz_script::Script;
-use rz_scrub_report::Store;
+use rz_scrub_report::ScrubbedStore;
 use std::alloc::Global;
 
 /// Plays a script on a stage of its volume on which nothing was played, with messages through this link; and
 /// where a scrub is wished for and the play came to its end, asks the nodes for the records of what is
 /// published. Writes what is to be told of it, and gives the status. What is said of the play goes behind
 /// each log of earlier runs that the stage holds with; its log is true where there is none.
-pub fn perform<S: LoggedStage + Store, L: Link, O: Sink>(
+pub fn perform<S: LoggedStage + ScrubbedStore, L: Link, O: Sink>(
     alloc: Global,
     wish: Wish,
     script: &Script,

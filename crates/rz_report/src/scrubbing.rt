@@ -7,7 +7,7 @@ ghost use Rattle.rz_report.specs.Scrubs.{Finds, IsScrubbable};
 use rz_events::Event;
 use rz_player::{LoggedStage, PlayEnd};
 use rz_request::Wish;
-use rz_scrub_report::{Store, scrub, whole_scrubs};
+use rz_scrub_report::{ScrubbedStore, scrub, whole_scrubs};
 use std::alloc::{AllocError, Global};
 
 /// Whether there are no more than half of the events that a log of many runs can count.
@@ -19,7 +19,7 @@ fn is_short(log: &[Event]) -> bool
 
 /// The lines of what is found of the published blocks, where a scrub is wished for and the play came to
 /// its end. Otherwise there are none, and nothing is asked.
-pub(crate) fn find<S: LoggedStage + Store>(
+pub(crate) fn find<S: LoggedStage + ScrubbedStore>(
     alloc: Global,
     end: PlayEnd,
     wish: Wish,

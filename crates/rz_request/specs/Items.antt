@@ -3,17 +3,17 @@ use Rattle.std.specs.Prelude.{ℕ, ◌≡◌, ◌<◌, ◌==◌, Bool, true, fal
 use Rattle.std.specs.List.{before_first, after_first}
 use Rattle.std.specs.Str.{bytes_eq}
 use Rattle.std.specs.Borrow.{Bor}
-use Rattle.rz_request.specs.declared.items.Kind.{Kind}
-use Rattle.rz_request.specs.declared.items.Kind.TheVariants.{Disks, Folder, Plain}
+use Rattle.rz_request.specs.declared.items.ItemKind.{ItemKind}
+use Rattle.rz_request.specs.declared.items.ItemKind.TheVariants.{Disks, Folder, Plain}
 
 abbrev pub Text : Type 0
 Text = List ℕ
 
 -- an option with its value, or a word by itself
 abbrev pub Item : Type 0
-Item = Kind × Text
+Item = ItemKind × Text
 
-abbrev pub option_named : Text → Option Kind
+abbrev pub option_named : Text → Option ItemKind
 option_named name =
     if bytes_eq name (codes "--disks") then Some Disks
     else if bytes_eq name (codes "--dir") then Some Folder
@@ -26,7 +26,7 @@ before_equals word = before_first (λ b. b == 61) word
 abbrev pub after_equals : Text → Text
 after_equals word = after_first (λ b. b == 61) word
 
-abbrev pub attached : Option Kind → Text → Item
+abbrev pub attached : Option ItemKind → Text → Item
 attached (Some kind) word = (kind, after_equals word)
 attached None word = (Plain, word)
 
@@ -35,7 +35,7 @@ abbrev pub item : Text → Item
 item word = attached (option_named (before_equals word)) word
 
 -- an option whose value is the next word, or what the first word spells; and the items after it
-abbrev pub spelled : Option Kind → Text → Text → List Item → List Item → List Item
+abbrev pub spelled : Option ItemKind → Text → Text → List Item → List Item → List Item
 spelled (Some kind) word value after_two after_one = (kind, value) ∷ after_two
 spelled None word value after_two after_one = item word ∷ after_one
 
@@ -45,14 +45,14 @@ items [] = []
 items (word ∷ []) = item word ∷ []
 items (word ∷ value ∷ words) = spelled (option_named word) word value (items words) (items (value ∷ words))
 
-abbrev pub is_kind : Kind → Kind → Bool
+abbrev pub is_kind : ItemKind → ItemKind → Bool
 is_kind Disks Disks = true
 is_kind Folder Folder = true
 is_kind Plain Plain = true
 is_kind _ _ = false
 
 -- what the items of a kind state, in their order
-abbrev pub values : Kind → List Item → List Text
+abbrev pub values : ItemKind → List Item → List Text
 values kind [] = []
 values kind (i ∷ is) = if is_kind i.0 kind then i.1 ∷ values kind is else values kind is
 

@@ -2,7 +2,7 @@
 use Rattle.std.specs.Prelude.{ℕ, ◌≡◌, ◌<◌, ◌==◌, ◌&&◌, nat_le, not, Bool, true, false, if◌then◌else◌, List, [], ◌∷◌, Option, Some, None, Result, Ok, Err, IsSome, codes, option_map, option_and_then, string_bytes}
 use Rattle.std.specs.Str.{bytes_eq}
 use Rattle.rz_script_words.specs.Numerals.{numeral}
-use Rattle.rz_request.specs.declared.items.Kind.TheVariants.{Disks, Folder, Plain}
+use Rattle.rz_request.specs.declared.items.ItemKind.TheVariants.{Disks, Folder, Plain}
 use Rattle.rz_request.specs.declared.command.Command.{Command}
 use Rattle.rz_request.specs.declared.command.Command.TheVariants.{Replay, Run, Load, Migrate, Scrub, First, Again}
 use Rattle.rz_request.specs.declared.line.Line as lines

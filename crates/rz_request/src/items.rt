@@ -5,7 +5,7 @@ ghost use Rattle.rz_request.specs.Items.{AreStated, after_equals, before_equals,
 
 /// What kind of item it is.
 #[derive(Clone, Copy)]
-pub enum Kind {
+pub enum ItemKind {
     /// The option for the number of disks.
     Disks,
     /// The option for the folder.
@@ -17,19 +17,19 @@ pub enum Kind {
 /// An item, and the text that it states.
 #[derive(Clone, Copy)]
 pub struct Item<'a> {
-    pub kind: Kind,
+    pub kind: ItemKind,
     pub text: &'a str,
 }
 
 /// The option that a name is that of.
-fn named(name: &str) -> Option<Kind>
+fn named(name: &str) -> Option<ItemKind>
     ensures { result ≡ option_named name.now }
 {
     if name == "--disks" {
-        return Some(Kind::Disks);
+        return Some(ItemKind::Disks);
     }
     if name == "--dir" {
-        return Some(Kind::Folder);
+        return Some(ItemKind::Folder);
     }
     None
 }
@@ -54,7 +54,7 @@ fn item_of(word: &str) -> Item<'_>
     match named(name) {
         Some(kind) => Item { kind, text: value },
         None => Item {
-            kind: Kind::Plain,
+            kind: ItemKind::Plain,
             text: word,
         },
     }
@@ -80,20 +80,20 @@ fn first_item(words: &[String]) -> Option<(Item<'_>, &[String])>
 }
 
 /// Whether two kinds are the same.
-fn is_kind(kind: Kind, other: Kind) -> bool
+fn is_kind(kind: ItemKind, other: ItemKind) -> bool
     ensures { result ≡ same_kind kind other }
 {
     match (kind, other) {
-        (Kind::Disks, Kind::Disks) => true,
-        (Kind::Folder, Kind::Folder) => true,
-        (Kind::Plain, Kind::Plain) => true,
+        (ItemKind::Disks, ItemKind::Disks) => true,
+        (ItemKind::Folder, ItemKind::Folder) => true,
+        (ItemKind::Plain, ItemKind::Plain) => true,
         _ => false,
     }
 }
 
 /// The text that the items of a kind state, if there is one of them, and nothing where there are
 /// more.
-pub fn stated(words: &[String], kind: Kind) -> Option<Option<&str>>
+pub fn stated(words: &[String], kind: ItemKind) -> Option<Option<&str>>
     ensures { AreStated result (values kind (items (map string_bytes words.now))) }
 {
     let mut found = None;

@@ -3,10 +3,10 @@
 ghost use Rattle.std.specs.Prelude.{◌≡◌, ◌≤◌, IfSome, map, option_map, string_bytes};
 ghost use Rattle.rz_request.specs.Items.{items, values};
 ghost use Rattle.rz_request.specs.Line.{alone, command_of, disks_of, folder_of, is_path as may_be_path, meaning, number_of, seen};
-ghost use Rattle.rz_request.specs.declared.items.Kind.TheVariants as kinds;
+ghost use Rattle.rz_request.specs.declared.items.ItemKind.TheVariants as kinds;
 
 use crate::Command;
-use crate::items::{Kind, stated};
+use crate::items::{ItemKind, stated};
 use crate::numbers::read_number_in;
 
 /// A line that has the form.
@@ -21,7 +21,7 @@ pub struct Line<'a> {
 fn read_disks(words: &[String]) -> Option<u16>
     ensures { result ≡ disks_of (values kinds.Disks (items (map string_bytes words.now))) }
 {
-    match stated(words, Kind::Disks) {
+    match stated(words, ItemKind::Disks) {
         Some(Some(word)) => match read_number_in(word, 1, 256) {
             Some(n) => Some(n as u16),
             None => None,
@@ -45,7 +45,7 @@ fn is_path(text: &str) -> bool
 fn read_folder(words: &[String]) -> Option<Option<&str>>
     ensures { option_map (λ f. option_map (λ path. path.now) f) result ≡ folder_of (values kinds.Folder (items (map string_bytes words.now))) }
 {
-    match stated(words, Kind::Folder) {
+    match stated(words, ItemKind::Folder) {
         Some(None) => Some(None),
         Some(Some(path)) => {
             if is_path(path) {
@@ -62,7 +62,7 @@ fn read_folder(words: &[String]) -> Option<Option<&str>>
 fn read_alone(command: Command, words: &[String]) -> Option<Command>
     ensures { result ≡ alone command (values kinds.Plain (items (map string_bytes words.now))) }
 {
-    match stated(words, Kind::Plain) {
+    match stated(words, ItemKind::Plain) {
         Some(None) => Some(command),
         Some(Some(_)) => None,
         None => None,
@@ -74,7 +74,7 @@ fn read_numbered(words: &[String], low: u64, high: u64) -> Option<u64>
     ensures value { result ≡ number_of low high (values kinds.Plain (items (map string_bytes words.now))) }
     ensures high { IfSome result (λ n. n ≤ high) }
 {
-    match stated(words, Kind::Plain) {
+    match stated(words, ItemKind::Plain) {
         Some(Some(word)) => read_number_in(word, low, high),
         Some(None) => None,
         None => None,

@@ -240,7 +240,7 @@ module _ (v : Volume) (rules : IsVolume v) (h : List Event) (export_now : Export
     nodes_are = nodes-are;
     export_is = export-then;
     fine = fine;
-    begins = λ few. record { legal = restart.legal; nodes_are = nodes-are; export_is = export-then; few = few };
+    begins = record { legal = restart.legal; nodes_are = nodes-are; export_is = export-then; few = (let few = earlier.few in let more = restart.few in omega (arith, few, more)) };
   }
 
   pub goes-on : (then : List Event) × IsRestarted v h then × GoesOn v h export_now nodes then

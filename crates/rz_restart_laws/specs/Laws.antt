@@ -46,7 +46,7 @@ pub record GoesOn (v : Volume) (h : List Event) (export : ExportState) (nodes : 
   pub nodes_are : (n : ℕ) → IsNode (facts old) (of_word (Node n) old) (nodes n)
   pub export_is : IsExport v (facts old) (of_word Export old) export
   pub fine : IsFine v old (world_after nodes export old)
-  pub begins : length old < 2 ^ 63 → MayBegin v nodes export old
+  pub begins : MayBegin v nodes export old
 
 abbrev pub MayGoOn : Volume → Type 0
 MayGoOn v = (h : List Event) (export : ExportState) (nodes : ℕ → NodeState) → IsEarlier v h → AreFound v h export nodes

@@ -1,5 +1,5 @@
 pub mod Firsts
-pub mod Members
+pub mod PoolWorkers
 pub mod Told
 pub mod Asked
 pub mod Completing

@@ -11,23 +11,23 @@ use Rattle.rz_nodes.specs.declared.fault.DriverFault.TheVariants.{NoMemory}
 use Rattle.rz_script.specs.declared.line.Line.{Line}
 use Rattle.rz_core.specs.History.{of_word}
 use Rattle.rz_play.specs.World.{actors}
-use Rattle.rz_chronicle.specs.Deals.{new_pass}
+use Rattle.rz_chronicle.specs.Dealing.{new_pass}
 use Rattle.rz_chronicle.specs.Keys.{sids_of}
 use Rattle.rz_chronicle.specs.Kinds.{is_honest, kind_of, volume_in}
 use Rattle.rz_chronicle.specs.Rules.{PassView}
 use Rattle.rz_shared_locked.specs.Counts.{AreCountedSince}
-use Rattle.rz_shared.proofs.NewSeats.{untouched}
+use Rattle.rz_shared.proofs.NewLockedNodes.{untouched}
 use Rattle.rz_show.specs.RunText.{run_text}
 use Rattle.rz_threads.specs.Orders.{AreBegun, AreDone}
-use Rattle.rz_threads_workers.specs.declared.member.Member.{Member}
-use Rattle.rz_threads_workers.specs.Staff.{IsStaffed}
+use Rattle.rz_threads_workers.specs.declared.pool_worker.PoolWorker.{PoolWorker}
+use Rattle.rz_threads_workers.specs.WorkerPool.{IsPoolWorker}
 use Rattle.rz_threads.specs.Left.{IsLeft}
-use Rattle.rz_threads.specs.Played as member
+use Rattle.rz_threads.specs.PlayResult as member
 use Rattle.rz_report.specs.Output.{Sunk, Ends, Lacks}
 use Rattle.rz_run.specs.Done.{HasBegun, HasFinished, IsAllBegun, IsAllFinished}
 use Rattle.rz_run.specs.Handed.{AreDisksTold, IsDiskTold}
 use Rattle.rz_run.specs.Runs.{IsToldOf, IsUnplayed}
-use Rattle.rz_run.proofs.Members.{begun-all, finished-all}
+use Rattle.rz_run.proofs.PoolWorkers.{begun-all, finished-all}
 
 -- a kind says whether the book is honest, and of which volume it is
 abbrev pub IsReadBack : Type 0
@@ -82,17 +82,17 @@ module _ (read_back : IsReadBack) (kind : List ℕ) (v : Volume) (is : kind ≡ 
       (subst (λ (u : Volume). map first (sids_of u) ≡ map (λ (d : D). faults (meter d)) old) (sym volume-is) firsts)
       (subst (λ (u : Volume). AllZip (IsLeft meter image kind first log) (sids_of u) new) same left))
 
-  module _ {J L : Type 0} (lines : List Line) (ms : List (Member J L)) (staffed : AllZip (IsStaffed kind lines) (map new_pass actors) ms) (admin : PassView) (new : admin ≡ new_pass Admin) (log : List Event) where
+  module _ {J L : Type 0} (lines : List Line) (ms : List (PoolWorker J L)) (staffed : AllZip (IsPoolWorker kind lines) (map new_pass actors) ms) (admin : PassView) (new : admin ≡ new_pass Admin) (log : List Event) where
     -- what all have done
     pub all-begun : AllByRecursion (member.HasBegun kind log) ms → AreBegun kind lines admin.log log → IsAllBegun (is_honest kind) v lines log
     all-begun begun orders = record {
-      members = subst (λ (u : Volume). AllByRecursion (HasBegun (is_honest kind) u lines log) actors) volume-is (begun-all kind lines log actors ms staffed begun);
+      workers = subst (λ (u : Volume). AllByRecursion (HasBegun (is_honest kind) u lines log) actors) volume-is (begun-all kind lines log actors ms staffed begun);
       admin = moved (λ u k. AreBegun k lines [] log) (subst (λ (p : PassView). AreBegun kind lines p.log log) new orders);
     }
 
     pub all-finished : AllByRecursion (member.HasFinished kind log) ms → AreDone kind lines admin.log log → IsAllFinished (is_honest kind) v lines log
     all-finished done orders = record {
-      members = subst (λ (u : Volume). AllByRecursion (HasFinished (is_honest kind) u lines log) actors) volume-is (finished-all kind lines log actors ms staffed done);
+      workers = subst (λ (u : Volume). AllByRecursion (HasFinished (is_honest kind) u lines log) actors) volume-is (finished-all kind lines log actors ms staffed done);
       admin = moved (λ u k. AreDone k lines [] log) (subst (λ (p : PassView). AreDone kind lines p.log log) new orders);
     }
 

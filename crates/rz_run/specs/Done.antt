@@ -15,24 +15,24 @@ use Rattle.rz_play_locks.specs.Operations.{given}
 use Rattle.rz_chronicle.specs.Kinds.{kind_of}
 use Rattle.rz_threads.specs.Orders.{AreBegun, AreDone}
 use Rattle.rz_threads_worker.specs.Doing.{IsBegun}
-use Rattle.rz_threads_worker.specs.Workers.{IsAllDone, seat_with}
+use Rattle.rz_threads_worker.specs.Workers.{IsAllDone, agenda_with}
 
 -- an actor's own events are those of all operations that the lines give it, each once and in their order
 abbrev pub HasFinished : Bool → Volume → List Line → List Event → Actor → Type 0
-HasFinished honest v lines h by = IsAllDone honest v.layout by (seat_with (given by lines)) [] h
+HasFinished honest v lines h by = IsAllDone honest v.layout by (agenda_with (given by lines)) [] h
 
 -- they are those of the first of these operations, and of a beginning of the next
 abbrev pub HasBegun : Bool → Volume → List Line → List Event → Actor → Type 0
-HasBegun honest v lines h by = IsBegun honest v.layout by (seat_with (given by lines)) [] h
+HasBegun honest v lines h by = IsBegun honest v.layout by (agenda_with (given by lines)) [] h
 
 -- Each client and each rebuilder did all that it was given, and the administrator all of its lines.
 pub record IsAllFinished (honest : Bool) (v : Volume) (lines : List Line) (h : List Event) : Type 0 where
-  pub members : AllByRecursion (HasFinished honest v lines h) actors
+  pub workers : AllByRecursion (HasFinished honest v lines h) actors
   pub admin : AreDone (kind_of honest v) lines [] h
 
 -- Each of them did the first part of it, and nothing else.
 pub record IsAllBegun (honest : Bool) (v : Volume) (lines : List Line) (h : List Event) : Type 0 where
-  pub members : AllByRecursion (HasBegun honest v lines h) actors
+  pub workers : AllByRecursion (HasBegun honest v lines h) actors
   pub admin : AreBegun (kind_of honest v) lines [] h
 
 -- The log of an honest book. Each event is allowed after those before it. Each read gives one write's text, no older than what was

@@ -12,14 +12,14 @@
 //!
 //! Nothing here says that a thread runs, whose turn comes first, or that there is memory.
 //!
-//! In reading order: `outcome`, `casting`, `telling`, `laws`, `playing`, `running`.
+//! In reading order: `outcome`, `setting_up`, `telling`, `laws`, `playing`, `running`.
 #![tactic(auto)]
 
-mod casting;
 mod laws;
 mod outcome;
 mod playing;
 mod running;
+mod setting_up;
 mod telling;
 
 pub use laws::completes;

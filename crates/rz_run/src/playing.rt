@@ -5,18 +5,18 @@ ghost use Rattle.rz_disk.specs.Meter.{faults};
 ghost use Rattle.rz_events.specs.declared.keys.Actor.TheVariants as a;
 ghost use Rattle.rz_events.specs.declared.events.Word.TheVariants as w;
 ghost use Rattle.rz_play.specs.World.{actors};
-ghost use Rattle.rz_chronicle.specs.Deals.{new_pass, new_post};
+ghost use Rattle.rz_chronicle.specs.Dealing.{new_pass, new_word_token};
 ghost use Rattle.rz_chronicle.specs.Keys.{sids_of};
-ghost use Rattle.rz_chronicle.specs.Kinds.{is_honest, kind_of, volume_in};
-ghost use Rattle.rz_threads_workers.specs.Staff.{link_of, IsStaffed};
+ghost use Rattle.rz_chronicle.specs.Kinds.{HasEarlierLog, is_honest, kind_of, volume_in};
+ghost use Rattle.rz_threads_workers.specs.WorkerPool.{link_of, IsPoolWorker};
 ghost use Rattle.rz_request.specs.Requests.{nodes_in};
 ghost use Rattle.rz_run.specs.Runs.{Plays};
 
-use crate::casting::{Cast, engage, links_of};
 use crate::laws::true_logs;
 use crate::outcome::Ran;
+use crate::setting_up::{Setup, links_of, set_up};
 use crate::telling::tell;
-use rz_chronicle::{Opened, read_back};
+use rz_chronicle::{NewBook, read_back};
 use rz_disk::Disk;
 use rz_link::Link;
 use rz_locks::Locks;
@@ -25,14 +25,14 @@ use rz_report::refuse_disks;
 use rz_request::Status;
 use rz_script::Script;
 use rz_shared::{Cluster, Counting};
-use rz_threads::{Played, play};
-use rz_threads_worker::Store;
+use rz_threads::{PlayResult, play};
+use rz_threads_worker::SharedStore;
 use std::alloc::Global;
 use std::sync::{Mutex, Wait};
 use std::thread::Threads;
 
-/// Formats the disks, lets the cast play the script, and tells what came of it.
-fn play_cast<
+/// Formats the disks, lets the setup play the script, and tells what came of it.
+fn play_setup<
     R: Threads + Wait + Sync,
     O: Sink,
     D: Disk + Send,
@@ -41,50 +41,50 @@ fn play_cast<
 >(
     rt: &R,
     alloc: Global,
-    cast: Cast<J, L>,
+    setup: Setup<J, L>,
     script: &Script,
     disks: Vec<D>,
     output: &mut O,
 ) -> Ran<D, L>
     requires kind { J.kind ≡ kind_of (is_honest J.kind) script.now.volume }
-    requires book { cast.book ≡ volume_in J.kind }
-    requires admin { cast.admin ≡ new_pass a.Admin }
-    requires export { cast.desk.export ≡ new_post w.Export }
-    requires nodes { cast.desk.nodes.items ≡ map (λ n. new_post (w.Node n)) (sids_of (volume_in J.kind)) }
-    requires staffed { AllZip (IsStaffed J.kind script.now.lines) (map new_pass actors) cast.staff.members.items }
-    requires volume { cast.volume ≡ script.now.volume }
-    requires known { cast.known ≡ script.now.volume }
+    requires book { setup.book ≡ volume_in J.kind }
+    requires admin { setup.admin ≡ new_pass a.Admin }
+    requires export { setup.desk.export ≡ new_word_token w.Export }
+    requires nodes { setup.desk.nodes.items ≡ map (λ n. new_word_token (w.Node n)) (sids_of (volume_in J.kind)) }
+    requires staffed { AllZip (IsPoolWorker J.kind script.now.lines) (map new_pass actors) setup.pool.workers.items }
+    requires volume { setup.volume ≡ script.now.volume }
+    requires known { setup.known ≡ script.now.volume }
     requires count { length disks.items ≡ nodes_in script.now }
     requires tells { IsTrue (is_honest J.kind) → IsTrue D.tells }
     requires counts { map J.first (sids_of script.now.volume) ≡ map (λ d. faults (D.meter d)) disks.items }
-    ensures { Plays D.tells (is_honest J.kind) D.meter D.image L.lost script.now (record { old = disks.items; new = result.disks.items }) (record { old = map link_of cast.staff.members.items; new = result.links.items }) (record { before = O.taken output.old; after = O.taken output.new; old = O.faults output.old; new = O.faults output.new }) result.status }
+    ensures { Plays D.tells (is_honest J.kind) D.meter D.image L.lost script.now (record { old = disks.items; new = result.disks.items }) (record { old = map link_of setup.pool.workers.items; new = result.links.items }) (record { before = O.taken output.old; after = O.taken output.new; old = O.faults output.old; new = O.faults output.new }) result.status }
 {
     true_logs();
     read_back();
-    let Cast {
+    let Setup {
         book,
         admin,
         desk,
-        staff,
+        pool,
         volume,
         known,
-    } = cast;
+    } = setup;
     match Cluster::new(alloc, volume, disks, &book, desk) {
         Ok(cluster) => {
-            let store = Store {
+            let store = SharedStore {
                 cluster,
                 book,
                 volume: known,
                 locks: Mutex::new(Locks::new()),
             };
-            let Played {
+            let PlayResult {
                 front,
                 book,
                 disks,
                 links,
                 shown,
                 ended,
-            } = play(rt, alloc, store, staff, admin, script.lines());
+            } = play(rt, alloc, store, pool, admin, script.lines());
             let status = tell(rt, alloc, &book, front, shown.as_slice(), ended, output);
             Ran {
                 status,
@@ -93,7 +93,7 @@ fn play_cast<
             }
         }
         Err((disks, fault)) => {
-            let links = links_of(staff);
+            let links = links_of(pool);
             let status = refuse_disks(alloc, fault, output);
             Ran {
                 status,
@@ -114,13 +114,14 @@ pub(crate) fn play_book<
 >(
     rt: &R,
     alloc: Global,
-    opened: Opened,
+    opened: NewBook,
     script: &Script,
     disks: Vec<D>,
     links: Vec<L>,
     output: &mut O,
 ) -> Ran<D, L>
     requires named { (opened.seen.book ≡ J.book) × (opened.hand.tallies ≡ J.tallies) × (opened.hand.copy ≡ J.copy) × (opened.hand.kind ≡ J.kind) }
+    requires earlier { HasEarlierLog J.kind J.earlier }
     requires kind { J.kind ≡ kind_of (is_honest J.kind) script.now.volume }
     requires count { length disks.items ≡ nodes_in script.now }
     requires links { length links.items ≡ 80 }
@@ -129,8 +130,8 @@ pub(crate) fn play_book<
     ensures { Plays D.tells (is_honest J.kind) D.meter D.image L.lost script.now (record { old = disks.items; new = result.disks.items }) (record { old = links.items; new = result.links.items }) (record { before = O.taken output.old; after = O.taken output.new; old = O.faults output.old; new = O.faults output.new }) result.status }
 {
     read_back();
-    match engage::<J, L>(alloc, opened, script, links) {
-        Ok(cast) => play_cast(rt, alloc, cast, script, disks, output),
+    match set_up::<J, L>(alloc, opened, script, links) {
+        Ok(setup) => play_setup(rt, alloc, setup, script, disks, output),
         Err(links) => Ran {
             status: Status::NO_MEMORY,
             disks,

@@ -56,7 +56,7 @@ fn links<'a>(
     let mut links = Vec::new(rt.alloc());
     for number in 0u64..80 {
         let link = MemLink::new(losses(rt, run, number));
-        push(rt, &mut links, ClockLink::new(link, clock));
+        push(rt, &mut links, ClockLink::new(link, clock, 0));
     }
     links
 }

@@ -140,11 +140,12 @@ impl<'a, D: Disk> Disk for ClockDisk<'a, D> {
     }
 }
 
-/// A link that counts its messages.
+/// A link that counts its messages, and carries none before so many strokes.
 #[derive(Drop)]
 pub struct ClockLink<'a, L: Link> {
     link: L,
     clock: &'a Clock,
+    strokes: u64,
 }
 
 impl<'a, L: Link> Model for ClockLink<'a, L> {
@@ -156,8 +157,12 @@ impl<'a, L: Link> Model for ClockLink<'a, L> {
 }
 
 impl<'a, L: Link> ClockLink<'a, L> {
-    pub fn new(link: L, clock: &'a Clock) -> ClockLink<'a, L> {
-        ClockLink { link, clock }
+    pub fn new(link: L, clock: &'a Clock, strokes: u64) -> ClockLink<'a, L> {
+        ClockLink {
+            link,
+            clock,
+            strokes,
+        }
     }
 }
 
@@ -167,6 +172,7 @@ impl<'a, L: Link> Link for ClockLink<'a, L> {
     ghost says = { L.says };
 
     fn send(&mut self, node: u16) -> Sent {
+        self.clock.await_strokes(self.strokes);
         self.clock.count_message();
         self.link.send(node)
     }

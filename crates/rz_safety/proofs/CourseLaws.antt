@@ -74,6 +74,7 @@ use Rattle.rz_core.specs.Courses.{IsCourse, Begun, Went, DoneRow}
 use Rattle.rz_core.specs.Legal.{IsLegalInRuns}
 use Rattle.rz_safety.specs.Rebuilt.{Stage, Ready, Told, Ended, IsRun, IsRebuilt, IsRebuildDone, AreRebuilt}
 use Rattle.rz_safety.proofs.RebuildLaws.{complete}
+use Rattle.rz_safety.proofs.VersionLaws.{fenced}
 
 -- What own events say of the operation in hand.
 
@@ -524,7 +525,7 @@ done-rebuilt v h legal by number fence refilled run older newest row =
     let (n, loss, r) = said-rebuilt v.layout by number run fence refilled row.work row.course row.asks in
     let rebuilt : IsRebuilt (of_actor by h) n loss fence refilled =
     subst (λ (o : List Event). IsRebuilt o n loss fence refilled) newest (run-longer run older n loss fence refilled Ended r) in
-    record { node = n; loss = loss; rebuilt = rebuilt; whole = λ now. complete v h legal by n loss fence refilled rebuilt now }
+    record { node = n; loss = loss; rebuilt = rebuilt; whole = λ now. complete v h legal by n loss fence refilled rebuilt now; fenced = fenced v h legal n }
 
 pub rebuilt : (v : Volume) (h : List Event) → IsLegalInRuns v h → AreRebuilt h
 rebuilt v [] legal = tt

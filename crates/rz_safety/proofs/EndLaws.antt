@@ -18,7 +18,8 @@ use Rattle.rz_events.specs.declared.events.Event.{Event}
 use Rattle.rz_events.specs.declared.events.Event.TheVariants as e
 use Rattle.rz_events.specs.Events.{by_of, same_actor}
 use Rattle.rz_core.specs.History.{facts, of_actor, Has}
-use Rattle.rz_core.specs.ExportWord.{latest, accepted, with_length, is_live, is_made, is_gone, makes, ends}
+use Rattle.rz_export_model.specs.Files.{makes, ends}
+use Rattle.rz_core.specs.ExportWord.{latest, accepted, with_length, is_live, is_made, is_gone}
 use Rattle.rz_events.specs.Masks.{stamp_told}
 use Rattle.rz_core.specs.ExportRows.{IsInFile, DeniedRow}
 use Rattle.rz_core.specs.Own.{last, since, is_look, is_recheck, is_export}

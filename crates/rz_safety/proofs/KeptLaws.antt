@@ -17,7 +17,8 @@ use Rattle.rz_events.specs.Events.{by_of, word_of, same_actor, same_word, same_k
 use Rattle.rz_node_model.specs.Versions.{kept, refilled, without, IsAbove, Stands, IsPast, greatest}
 use Rattle.rz_core.specs.History.{Facts, facts, Begun, wrote, of_word, of_actor, Has, IsPlace}
 use Rattle.rz_core.specs.NodeWord.{last_fence, held, changed, base_begun, itself}
-use Rattle.rz_core.specs.ExportWord.{latest, accepted, stamp_in, is_newer, is_gone, is_made, is_live, ends}
+use Rattle.rz_export_model.specs.Files.{ends}
+use Rattle.rz_core.specs.ExportWord.{latest, accepted, stamp_in, is_newer, is_gone, is_made, is_live}
 use Rattle.rz_events.specs.Masks.{HasBit}
 use Rattle.rz_core.specs.NodeRows.{HasGone}
 use Rattle.rz_core.specs.Legal.{IsLegalInRuns, Row}

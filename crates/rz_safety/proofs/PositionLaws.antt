@@ -139,7 +139,7 @@ position-once (k ∷ places) apart (suc p) zero n m at_p at_q other = go (m == n
 position-once (k ∷ places) apart (suc p) (suc q) n m at_p at_q other = position-once places apart.1 p q n m at_p at_q (λ same. other (ap suc same))
 
 -- a table in which the outcome of one position changes
-seens-same : (key : Key) (s : ℕ) (new old : List Event) (i : ℕ) (places : List ℕ)
+pub seens-same : (key : Key) (s : ℕ) (new old : List Event) (i : ℕ) (places : List ℕ)
     → ((q n : ℕ) → slice_get places q ≡ Some n → seen_at key s n new ≡ seen_at key s n old) → seens key s new i places ≡ seens key s old i places
 seens-same key s new old i [] same = refl
 seens-same key s new old i (n ∷ places) same =
@@ -158,7 +158,7 @@ seens-set key s new old i (m ∷ places) (suc r) n at same =
     ap (λ w. w ∷ seens key s new (i + 1) places) (same 0 m (λ z. omega (arith, z)) refl)
     ∙ ap (λ ws. seen_at key s m old ∷ ws) (seens-set key s new old (i + 1) places r n at (λ q k other there. same (suc q) k (λ z. other (omega (arith, z))) there))
 
-whys-same : (key : Key) (s : ℕ) (new old : List Event) (i : ℕ) (places : List ℕ)
+pub whys-same : (key : Key) (s : ℕ) (new old : List Event) (i : ℕ) (places : List ℕ)
     → ((q n : ℕ) → slice_get places q ≡ Some n → why_at key s (i + q) n new ≡ why_at key s (i + q) n old)
     → whys key s new i places ≡ whys key s old i places
 whys-same key s new old i [] same = refl

@@ -63,19 +63,6 @@ abbrev pub IsComplete : List Event → Type 0
 IsComplete h = (by : Actor) (n loss fence refilled : ℕ) → IsRebuilt (of_actor by h) n loss fence refilled
     → losses (of_word (Node n) h) ≡ loss → IsWhole h n fence
 
--- An operation that says it rebuilt a node, with this fence and so many keys, did so; and where the node was not lost since
--- its replacement, it is whole.
-pub record IsRebuildDone (h : List Event) (by : Actor) (fence refilled : ℕ) : Type 0 where
-  pub node : ℕ
-  pub loss : ℕ
-  pub rebuilt : IsRebuilt (of_actor by h) node loss fence refilled
-  pub whole : losses (of_word (Node node) h) ≡ loss → IsWhole h node fence
-
-abbrev pub AreRebuilt : List Event → Type 0
-AreRebuilt [] = Unit {0}
-AreRebuilt (e.Done by number (answers.Rebuild (rebuild.Rebuilt fence refilled)) ∷ h) = AreRebuilt h × IsRebuildDone h by fence refilled
-AreRebuilt (_ ∷ h) = AreRebuilt h
-
 -- the change is a refill of the key with this stamp
 abbrev pub IsRefillOf : Key → ℕ → Option Change → Type 0
 IsRefillOf key s (Some (change.Refill f k t p)) = (k ≡ key) × (t ≡ s)
@@ -91,7 +78,24 @@ IsRefilled (e.Did by m c ∷ w) key s = IsRefillOf key s (Some c) ⊎ IsRefilled
 IsRefilled (e.Start m true ∷ w) key s = IsRefillOf key s (undecided w) ⊎ IsRefilled w key s
 IsRefilled (_ ∷ w) key s = IsRefilled w key s
 
--- Each version that a node holds was refilled, or its stamp is above the node's fence.
-abbrev pub IsFenced : List Event → Type 0
-IsFenced h = (n : ℕ) (key : Key) (s : ℕ) → Stands s (held (facts h) (of_word (Node n) h) key)
+-- Each version that the node holds was refilled, or its stamp is above the node's fence.
+abbrev pub IsFencedAt : List Event → ℕ → Type 0
+IsFencedAt h n = (key : Key) (s : ℕ) → Stands s (held (facts h) (of_word (Node n) h) key)
     → (last_fence (of_word (Node n) h) < s) ⊎ IsRefilled (of_word (Node n) h) key s
+
+abbrev pub IsFenced : List Event → Type 0
+IsFenced h = (n : ℕ) → IsFencedAt h n
+
+-- An operation that says it rebuilt a node, with this fence and so many keys, did so; and where the node was not lost since
+-- its replacement, it is whole. What the node holds was refilled, or kept above its fence.
+pub record IsRebuildDone (h : List Event) (by : Actor) (fence refilled : ℕ) : Type 0 where
+  pub node : ℕ
+  pub loss : ℕ
+  pub rebuilt : IsRebuilt (of_actor by h) node loss fence refilled
+  pub whole : losses (of_word (Node node) h) ≡ loss → IsWhole h node fence
+  pub fenced : IsFencedAt h node
+
+abbrev pub AreRebuilt : List Event → Type 0
+AreRebuilt [] = Unit {0}
+AreRebuilt (e.Done by number (answers.Rebuild (rebuild.Rebuilt fence refilled)) ∷ h) = AreRebuilt h × IsRebuildDone h by fence refilled
+AreRebuilt (_ ∷ h) = AreRebuilt h

@@ -51,7 +51,8 @@ pub fn complete()
 {}
 
 /// Each operation of a legal log that says it rebuilt a node did so, under the fence and with the number
-/// of keys that it says; and where the node was not lost since its replacement, it is whole.
+/// of keys that it says; and where the node was not lost since its replacement, it is whole. What the node
+/// holds then was refilled, or kept with a stamp above its fence.
 pub fn rebuilt()
     ensures { (v : Volume) (h : List AnEvent) → IsLegalInRuns v h → AreRebuilt h }
 {}

@@ -9,7 +9,7 @@ ghost use Rattle.rz_scrub_report.specs.Findings.{IsFinding};
 ghost use Rattle.rz_scrub_report.specs.Stores.{HasAsked};
 
 use crate::finding::{Finding, finding_of};
-use crate::store::Store;
+use crate::store::ScrubbedStore;
 use mj_angles::Layout;
 use rz_events::{FetchAnswer, Listed};
 use rz_scrub::Scrub;
@@ -76,7 +76,7 @@ impl Desk {
 }
 
 /// Asks one node of a block for its record, and adds what it gives.
-fn ask<S: Store>(store: &mut S, desk: &mut Desk, listed: &Listed, position: u8, node: u16)
+fn ask<S: ScrubbedStore>(store: &mut S, desk: &mut Desk, listed: &Listed, position: u8, node: u16)
     requires ready { S.is_open store.old }
     requires layout { (S.described store.old).layout ≡ desk.old.layout }
     requires bare { bins_at desk.old.scrub position ≡ None }
@@ -91,7 +91,7 @@ fn ask<S: Store>(store: &mut S, desk: &mut Desk, listed: &Listed, position: u8, 
 }
 
 /// Asks each node of a block for its record.
-fn gather<S: Store>(store: &mut S, desk: &mut Desk, listed: &Listed)
+fn gather<S: ScrubbedStore>(store: &mut S, desk: &mut Desk, listed: &Listed)
     requires ready { S.is_open store.old }
     requires layout { (S.described store.old).layout ≡ desk.old.layout }
     requires bare { desk.old.scrub ≡ no_records desk.old.layout }
@@ -105,7 +105,7 @@ fn gather<S: Store>(store: &mut S, desk: &mut Desk, listed: &Listed)
 }
 
 /// Asks the nodes of a block, and judges what they give.
-pub(crate) fn find<S: Store>(store: &mut S, desk: &mut Desk, listed: &Listed) -> Finding
+pub(crate) fn find<S: ScrubbedStore>(store: &mut S, desk: &mut Desk, listed: &Listed) -> Finding
     requires ready { S.is_open store.old }
     requires layout { (S.described store.old).layout ≡ desk.old.layout }
     ensures desk { desk.new.layout ≡ desk.old.layout }

@@ -1,6 +1,6 @@
 //! What the records of a store's published blocks are found to be, in lines.
 //!
-//! A [`Store`] is what a scrub looks at: it lists its published blocks, and a node of it can be asked for a
+//! A [`ScrubbedStore`] is what a scrub looks at: it lists its published blocks, and a node of it can be asked for a
 //! record. The contract of [`scrub`] says that there is one line for each published block of a live file, in
 //! the order of keys; that each node of a block was asked once for its record of the published stamp, and
 //! answered as its model says; and that the line says `few` exactly where fewer records came than give a
@@ -25,4 +25,4 @@ pub use finding::Finding;
 pub use laws::{whole_blocks, whole_records, whole_scrubs};
 pub use line::push_line;
 pub use scrubbing::scrub;
-pub use store::Store;
+pub use store::ScrubbedStore;

@@ -6,12 +6,12 @@ ghost use Rattle.rz_scrub_report.specs.Stores.{HasAsked};
 
 use crate::asking::{Desk, find};
 use crate::line::push_line;
-use crate::store::Store;
+use crate::store::ScrubbedStore;
 use std::alloc::{AllocError, Global};
 
 /// The lines of what is found of each published block of a live file, in the order of their keys. Each
 /// node of a block is asked once for its record of the published stamp, and nothing is written back.
-pub fn scrub<S: Store>(alloc: Global, store: &mut S) -> Result<Vec<u8>, AllocError>
+pub fn scrub<S: ScrubbedStore>(alloc: Global, store: &mut S) -> Result<Vec<u8>, AllocError>
     requires { S.is_open store.old }
     ensures { HasAsked S.is_open S.described S.gives S.state S.counts S.only_asked store.old store.new (λ w next. IfOk result (λ text. IsScrubbed (S.described store.old).layout (S.gives store.old) w text.items next)) }
 {

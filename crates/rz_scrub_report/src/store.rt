@@ -18,7 +18,7 @@ use rz_events::{FetchAnswer, Key, Listed};
 ///
 /// It keeps no events. Its contracts speak of the events that its asks would be, had the administrator's
 /// asks a log.
-pub trait Store {
+pub trait ScrubbedStore {
     /// The volume that it is a store of.
     ghost described: { Self → Volume };
 

@@ -229,13 +229,13 @@ impl<T: Mark> Sequence<T> {
     }
 
     // Takes the topmost node off.
-    fn expose(self) -> Option<Parts<T>>
+    fn expose(self) -> Option<SequenceParts<T>>
         ensures { MatchOption result (self ≡ [])
             (λ p. (self ≡ p.left ++ p.middle.value ++ p.right) × (length p.middle.value ≡ 1) × (length self < 2 ^ 64)) }
     {
         let mut middle = self.root?;
         let (left, right) = middle.unlink();
-        Some(Parts {
+        Some(SequenceParts {
             left,
             middle,
             right,
@@ -286,7 +286,7 @@ impl<T: Mark> Sequence<T> {
 
 // The topmost node by itself, and what stood below it.
 #[derive(Drop)]
-struct Parts<T: Mark> {
+struct SequenceParts<T: Mark> {
     left: Sequence<T>,
     middle: Box<Node<T>>,
     right: Sequence<T>,

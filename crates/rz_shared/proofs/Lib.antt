@@ -1,6 +1,6 @@
 pub mod Pairs
 pub mod Readiness
 pub mod Returning
-pub mod NewSeats
+pub mod NewLockedNodes
 pub mod Ordered
 pub mod Sending

@@ -1,4 +1,4 @@
--- The nodes of a volume, formatted, with the posts of their words.
+-- The nodes of a volume, formatted, with the word_tokens of their words.
 use Rattle.std.proofs.Common.{◌≡◌, inl, inr, ℕ, Bool, false, cond, List, [], ◌∷◌, map, length, refl, sym, ◌∙◌, ap, subst, arith, eq-eqb}
 use Rattle.std.specs.Prelude.{nat_eq}
 use Rattle.std.specs.List.{AllByRecursion, AllZip, zip, IsDistinct}
@@ -13,10 +13,10 @@ use Rattle.rz_cells_slots.specs.Held.{nothing}
 use Rattle.rz_cells_slots.specs.Stands.{StandsFor}
 use Rattle.rz_core.specs.NodeRows.{cells_among, cells_of, IsNodeOf}
 use Rattle.rz_node_laws.specs.Images.{geometry_in}
-use Rattle.rz_chronicle.specs.Rules.{PostView}
-use Rattle.rz_chronicle.specs.Deals.{new_post}
+use Rattle.rz_chronicle.specs.Rules.{WordTokenView}
+use Rattle.rz_chronicle.specs.Dealing.{new_word_token}
 use Rattle.rz_chronicle.specs.Keys.{sids_of}
-use Rattle.rz_nodes.specs.declared.formatting.Station.{Station}
+use Rattle.rz_nodes.specs.declared.formatting.Server.{Server}
 use Rattle.rz_nodes.specs.Formatted.{geometry_of, IsFormatted, AreFormatted}
 use Rattle.rz_shared.specs.Arranged.{sids}
 use Rattle.rz_shared.specs.Seating.{IsReady}
@@ -61,24 +61,24 @@ both-hold v (n ∷ specs) cells stands = (record { cells = cells.0; of_volume = 
 pub described : (v : Volume) → IsVolume v → AllByRecursion (IsDescribed v) (nodes_of v.clusters)
 described v rules = both-hold v (nodes_of v.clusters) (own-cells (nodes_of v.clusters) rules.distinct_sids) (each-stands (nodes_of v.clusters))
 
--- Each formatted node and the post of its word are ready.
+-- Each formatted node and the word_token of its word are ready.
 
-abbrev pub post_of : NodeSpec → PostView
-post_of n = new_post (Node n.sid)
+abbrev pub word_token_of : NodeSpec → WordTokenView
+word_token_of n = new_word_token (Node n.sid)
 
-pub posts-are : (specs : List NodeSpec) → map (λ k. new_post (Node k)) (map (λ (n : NodeSpec). n.sid) specs) ≡ map post_of specs
-posts-are [] = refl
-posts-are (n ∷ specs) = ap (λ (ps : List PostView). post_of n ∷ ps) (posts-are specs)
+pub word_tokens-are : (specs : List NodeSpec) → map (λ k. new_word_token (Node k)) (map (λ (n : NodeSpec). n.sid) specs) ≡ map word_token_of specs
+word_tokens-are [] = refl
+word_tokens-are (n ∷ specs) = ap (λ (ps : List WordTokenView). word_token_of n ∷ ps) (word_tokens-are specs)
 
 module _ {D : Type 0} (tells : Bool) (meter : D → Meter) (text : D → List ℕ) (image : D → List ℕ → Type 0) (v : Volume) (first : ℕ → ℕ) where
-  abbrev pub Made : NodeSpec × D → Station (UnderFuse D) → Type 0
+  abbrev pub Made : NodeSpec × D → Server (UnderFuse D) → Type 0
   Made = IsFormatted tells meter text image v.layout
 
-  ready-one : (n : NodeSpec) (d : D) (s : Station (UnderFuse D)) → IsDescribed v n → first n.sid ≡ faults (meter d) → Made (n, d) s → IsReady tells meter text image v first s (post_of n)
+  ready-one : (n : NodeSpec) (d : D) (s : Server (UnderFuse D)) → IsDescribed v n → first n.sid ≡ faults (meter d) → Made (n, d) s → IsReady tells meter text image v first s (word_token_of n)
   ready-one n d s it had made =
       let same : geometry_of v.layout n ≡ geometry_in v s.sid = ap (λ (c : ℕ). record { layout = v.layout; bsize = bsize_of v.layout; node = n.sid; cells = c }) (sym it.cells) ∙ ap (geometry_in v) (sym made.number) in
       record {
-        post_is = ap (λ (k : ℕ). new_post (Node k)) (sym made.number);
+        word_token_is = ap (λ (k : ℕ). new_word_token (Node k)) (sym made.number);
         of_volume = subst (IsNodeOf v) (sym made.number) it.of_volume;
         geometry = made.geometry ∙ same;
         state = made.state;
@@ -88,14 +88,14 @@ module _ {D : Type 0} (tells : Bool) (meter : D → Meter) (text : D → List �
         count = (let same = ap first made.number in let rose = made.count in omega (arith, same, had, rose));
       }
 
-  ready-each : (specs : List NodeSpec) (disks : List D) (stations : List (Station (UnderFuse D))) → length disks ≡ length specs → map first (sids specs) ≡ map (λ (d : D). faults (meter d)) disks → AllByRecursion (IsDescribed v) specs → AllZip Made (zip specs disks) stations
-      → AllZip (IsReady tells meter text image v first) stations (map post_of specs)
+  ready-each : (specs : List NodeSpec) (disks : List D) (servers : List (Server (UnderFuse D))) → length disks ≡ length specs → map first (sids specs) ≡ map (λ (d : D). faults (meter d)) disks → AllByRecursion (IsDescribed v) specs → AllZip Made (zip specs disks) servers
+      → AllZip (IsReady tells meter text image v first) servers (map word_token_of specs)
   ready-each [] [] [] count had each all = tt
-  ready-each [] [] (s ∷ stations) count had each all = absurd all
-  ready-each [] (d ∷ disks) stations count had each all = absurd (omega (arith, count))
-  ready-each (n ∷ specs) [] stations count had each all = absurd (omega (arith, count))
+  ready-each [] [] (s ∷ servers) count had each all = absurd all
+  ready-each [] (d ∷ disks) servers count had each all = absurd (omega (arith, count))
+  ready-each (n ∷ specs) [] servers count had each all = absurd (omega (arith, count))
   ready-each (n ∷ specs) (d ∷ disks) [] count had each all = absurd all
-  ready-each (n ∷ specs) (d ∷ disks) (s ∷ stations) count had each all = (ready-one n d s each.0 (ap (head-or 0) had) all.0, ready-each specs disks stations (omega (arith, count)) (ap rest had) each.1 all.1)
+  ready-each (n ∷ specs) (d ∷ disks) (s ∷ servers) count had each all = (ready-one n d s each.0 (ap (head-or 0) had) all.0, ready-each specs disks servers (omega (arith, count)) (ap rest had) each.1 all.1)
     where
       head-or : ℕ → List ℕ → ℕ
       head-or d [] = d
@@ -106,7 +106,7 @@ module _ {D : Type 0} (tells : Bool) (meter : D → Meter) (text : D → List �
       rest (x ∷ xs) = xs
 
   -- all of them
-  pub ready-all : (rules : IsVolume v) (disks : List D) (stations : List (Station (UnderFuse D))) (posts : List PostView) → length disks ≡ length (nodes_of v.clusters) → map first (sids_of v) ≡ map (λ (d : D). faults (meter d)) disks
-      → AreFormatted tells meter text image v.layout (nodes_of v.clusters) disks stations → posts ≡ map (λ k. new_post (Node k)) (sids_of v) → AllZip (IsReady tells meter text image v first) stations posts
-  ready-all rules disks stations posts count had all is =
-      subst (AllZip (IsReady tells meter text image v first) stations) (sym (is ∙ posts-are (nodes_of v.clusters))) (ready-each (nodes_of v.clusters) disks stations count had (described v rules) all)
+  pub ready-all : (rules : IsVolume v) (disks : List D) (servers : List (Server (UnderFuse D))) (word_tokens : List WordTokenView) → length disks ≡ length (nodes_of v.clusters) → map first (sids_of v) ≡ map (λ (d : D). faults (meter d)) disks
+      → AreFormatted tells meter text image v.layout (nodes_of v.clusters) disks servers → word_tokens ≡ map (λ k. new_word_token (Node k)) (sids_of v) → AllZip (IsReady tells meter text image v first) servers word_tokens
+  ready-all rules disks servers word_tokens count had all is =
+      subst (AllZip (IsReady tells meter text image v first) servers) (sym (is ∙ word_tokens-are (nodes_of v.clusters))) (ready-each (nodes_of v.clusters) disks servers count had (described v rules) all)

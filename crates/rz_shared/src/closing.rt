@@ -5,54 +5,54 @@ ghost use Rattle.std.specs.Vec.{vec_len, vec_capacity};
 ghost use Rattle.rz_events.specs.declared.events.Word.TheVariants as w;
 ghost use Rattle.rz_events.specs.Volume.{nodes_of};
 ghost use Rattle.rz_chronicle.specs.Keys.{sids_of, word_key};
-ghost use Rattle.rz_shared_locked.specs.Seats.{SeatView};
+ghost use Rattle.rz_shared_locked.specs.LockedNodes.{LockedNodeView};
 ghost use Rattle.rz_shared.specs.Returned.{IsReturned};
 
 use crate::arranging::arrange;
 use crate::cluster::Cluster;
-use crate::{Counting, Seat};
-use rz_chronicle::{Desk, Post};
+use crate::{Counting, LockedNode};
+use rz_chronicle::{Desk, WordToken};
 use rz_disk::{Disk, Fused};
 use std::sync::Mutex;
 
-/// Takes each seat out of its lock.
+/// Takes each locked_node out of its lock.
 fn unlock_all<D: Disk, J: Counting>(
-    locks: Vec<Mutex<Seat<Fused<D>, J>>>,
-    room: Vec<Seat<Fused<D>, J>>,
-) -> Vec<Seat<Fused<D>, J>>
+    locks: Vec<Mutex<LockedNode<Fused<D>, J>>>,
+    room: Vec<LockedNode<Fused<D>, J>>,
+) -> Vec<LockedNode<Fused<D>, J>>
     requires room { (vec_len room ≡ 0) × (vec_len locks ≤ vec_capacity room) }
     ensures count { vec_len result ≡ vec_len locks }
 {
     let mut locks = locks;
-    let mut seats = room;
+    let mut locked_nodes = room;
     while let Some(lock) = locks.pop() {
-        seats.push_reserved(lock.into_inner());
+        locked_nodes.push_reserved(lock.into_inner());
     }
-    seats
+    locked_nodes
 }
 
-/// Takes each disk out of its fuse, and each post of a node's word out of its seat, in their order.
+/// Takes each disk out of its fuse, and each word_token of a node's word out of its locked_node, in their order.
 fn empty_all<D: Disk, J: Counting>(
-    seats: Vec<Seat<Fused<D>, J>>,
+    locked_nodes: Vec<LockedNode<Fused<D>, J>>,
     disks: Vec<D>,
-    posts: Vec<Post<J>>,
-) -> (Vec<D>, Vec<Post<J>>)
-    requires disks { (vec_len disks ≡ 0) × (vec_len seats ≤ vec_capacity disks) }
-    requires posts { (vec_len posts ≡ 0) × (vec_len seats ≤ vec_capacity posts) }
-    ensures count { length result.0.items ≡ vec_len seats }
-    ensures words { map (λ p. p.word) result.1.items ≡ map (λ (s : SeatView). w.Node s.node) seats.items }
+    word_tokens: Vec<WordToken<J>>,
+) -> (Vec<D>, Vec<WordToken<J>>)
+    requires disks { (vec_len disks ≡ 0) × (vec_len locked_nodes ≤ vec_capacity disks) }
+    requires word_tokens { (vec_len word_tokens ≡ 0) × (vec_len locked_nodes ≤ vec_capacity word_tokens) }
+    ensures count { length result.0.items ≡ vec_len locked_nodes }
+    ensures words { map (λ p. p.word) result.1.items ≡ map (λ (s : LockedNodeView). w.Node s.node) locked_nodes.items }
     ensures returned { AllZip (IsReturned D.meter D.image J.kind J.first) result.0.items result.1.items }
 {
-    let mut seats = seats;
+    let mut locked_nodes = locked_nodes;
     let mut disks = disks;
-    let mut posts = posts;
-    seats.reverse();
-    while let Some(seat) = seats.pop() {
-        let (disk, post) = seat.close();
+    let mut word_tokens = word_tokens;
+    locked_nodes.reverse();
+    while let Some(locked_node) = locked_nodes.pop() {
+        let (disk, word_token) = locked_node.close();
         disks.push_reserved(disk.into_inner());
-        posts.push_reserved(post);
+        word_tokens.push_reserved(word_token);
     }
-    (disks, posts)
+    (disks, word_tokens)
 }
 
 impl<D: Disk, J: Counting> Cluster<D, J> {
@@ -67,15 +67,15 @@ impl<D: Disk, J: Counting> Cluster<D, J> {
     {
         let Cluster {
             nodes,
-            seats,
-            office,
+            locked_nodes,
+            locked_export,
             room,
         } = self;
-        let export = office.into_inner().close();
+        let export = locked_export.into_inner().close();
         let room = room.into_inner();
-        let mut seats = unlock_all(seats, room.seats);
-        let _all = arrange(&mut seats, nodes.as_slice());
-        let (disks, nodes) = empty_all(seats, room.disks, room.posts);
+        let mut locked_nodes = unlock_all(locked_nodes, room.locked_nodes);
+        let _all = arrange(&mut locked_nodes, nodes.as_slice());
+        let (disks, nodes) = empty_all(locked_nodes, room.disks, room.word_tokens);
         (disks, Desk { export, nodes })
     }
 }

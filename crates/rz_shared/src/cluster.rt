@@ -15,11 +15,11 @@ ghost use Rattle.rz_core.specs.Tied.{IsProperCall};
 ghost use Rattle.rz_chronicle.specs.Keys.{count_at, word_key};
 ghost use Rattle.rz_chronicle.specs.Kinds.{IsFit, MayCome, is_honest, volume_in};
 ghost use Rattle.rz_chronicle.specs.Holds.{Commits};
-ghost use Rattle.rz_shared_locked.specs.Seats.{MayAsk, IsFor, Answered, IsRead};
-ghost use Rattle.rz_shared_locked.specs.Offices.{AreBytes, Replied};
+ghost use Rattle.rz_shared_locked.specs.LockedNodes.{MayAsk, IsFor, Answered, IsRead};
+ghost use Rattle.rz_shared_locked.specs.LockedExports.{AreBytes, Replied};
 
-use crate::room::Room;
-use crate::{Counting, Office, Seat};
+use crate::room::ClosingRoom;
+use crate::{Counting, LockedExport, LockedNode};
 use rz_chronicle::{Book, Pass};
 use rz_disk::{Disk, Fused};
 use rz_events::{Actor, Call, Event, NodeAnswer, NodeAsk, NodeSpec, Reply};
@@ -31,10 +31,10 @@ use std::sync::{Mutex, Wait};
 #[derive(Drop)]
 pub struct Cluster<D: Disk, J: Counting> {
     pub(crate) nodes: Vec<NodeSpec>,
-    pub(crate) seats: Vec<Mutex<Seat<Fused<D>, J>>>,
-    pub(crate) office: Mutex<Office<J>>,
-    /// Room for the disks and the tallies, for when they are handed back.
-    pub(crate) room: Mutex<Room<D, J>>,
+    pub(crate) locked_nodes: Vec<Mutex<LockedNode<Fused<D>, J>>>,
+    pub(crate) locked_export: Mutex<LockedExport<J>>,
+    /// ClosingRoom for the disks and the tallies, for when they are handed back.
+    pub(crate) room: Mutex<ClosingRoom<D, J>>,
 }
 
 impl<D: Disk, J: Counting> Model for Cluster<D, J> {
@@ -49,8 +49,8 @@ impl<D: Disk, J: Counting> Model for Cluster<D, J> {
 
     ghost view = { λ c. volume_in J.kind };
 
-    ghost invariant = { λ c. (c.nodes.items ≡ nodes_of (volume_in J.kind).clusters) × (vec_len c.seats ≡ vec_len c.nodes)
-        × (vec_len c.seats ≡ length (nodes_of (volume_in J.kind).clusters))
+    ghost invariant = { λ c. (c.nodes.items ≡ nodes_of (volume_in J.kind).clusters) × (vec_len c.locked_nodes ≡ vec_len c.nodes)
+        × (vec_len c.locked_nodes ≡ length (nodes_of (volume_in J.kind).clusters))
         × IsDistinct nat_eq (sids_of (volume_in J.kind)) };
 }
 
@@ -68,10 +68,10 @@ fn place_of(nodes: &[NodeSpec], number: u16) -> usize
 
 impl<D: Disk, J: Counting> Cluster<D, J> {
     // The lock at the place of a node.
-    fn seat(&self, node: u16) -> &Mutex<Seat<Fused<D>, J>>
+    fn locked_node(&self, node: u16) -> &Mutex<LockedNode<Fused<D>, J>>
         requires { IsNodeOf (volume_in J.kind) node }
     {
-        &self.seats[place_of(self.nodes.as_slice(), node)]
+        &self.locked_nodes[place_of(self.nodes.as_slice(), node)]
     }
 
     /// Takes the lock of a node, calls it, and adds the event of its answer to the log. It does not return
@@ -99,8 +99,8 @@ impl<D: Disk, J: Counting> Cluster<D, J> {
 
         ensures fit { IsFit J.kind pass.new.log }
     {
-        let seat = self.seat(node);
-        seat.lock(rt).call(rt, book, pass, node, ask, bins)
+        let locked_node = self.locked_node(node);
+        locked_node.lock(rt).call(rt, book, pass, node, ask, bins)
     }
 
     /// Takes the export's lock, calls it, and adds the event of its reply to the log. It does not return
@@ -120,7 +120,7 @@ impl<D: Disk, J: Counting> Cluster<D, J> {
         ensures bytes { AreBytes pass.new.log }
         ensures fit { IsFit J.kind pass.new.log }
     {
-        self.office.lock(rt).call(rt, book, pass, call)
+        self.locked_export.lock(rt).call(rt, book, pass, call)
     }
 
     /// Adds an event of the caller's own word. It waits for nobody.
@@ -134,6 +134,8 @@ impl<D: Disk, J: Counting> Cluster<D, J> {
         ensures commits { Commits pass.old.keys pass.old.log event.now pass.new.log }
         ensures fit { IsFit J.kind pass.new.log }
     {
+        rz_chronicle::begins_anew();
+        let _by = pass.actor();
         book.finish(pass, event);
     }
 
@@ -154,7 +156,7 @@ impl<D: Disk, J: Counting> Cluster<D, J> {
         ensures commits { Commits pass.old.keys pass.old.log (e.Armed node passes pick) pass.new.log }
         ensures fit { IsFit J.kind pass.new.log }
     {
-        let seat = self.seat(node);
-        seat.lock(rt).arm(rt, book, pass, node, passes, pick);
+        let locked_node = self.locked_node(node);
+        locked_node.lock(rt).arm(rt, book, pass, node, passes, pick);
     }
 }

@@ -22,4 +22,4 @@ mod seating;
 
 pub use cluster::Cluster;
 pub use rz_nodes::DriverFault;
-pub use rz_shared_locked::{Counting, Office, Seat};
+pub use rz_shared_locked::{Counting, LockedExport, LockedNode};

@@ -6,15 +6,15 @@ ghost use Rattle.rz_events.specs.declared.events.Word.TheVariants as w;
 ghost use Rattle.std.specs.List.{AllByRecursion};
 ghost use Rattle.rz_events.specs.Volume.{IsVolume, IsNode, nodes_of};
 ghost use Rattle.rz_export_model.specs.Export.{new_export};
-ghost use Rattle.rz_chronicle.specs.Deals.{new_post};
+ghost use Rattle.rz_chronicle.specs.Dealing.{new_word_token};
 ghost use Rattle.rz_chronicle.specs.Keys.{sids_of};
 ghost use Rattle.rz_chronicle.specs.Kinds.{is_honest, volume_in};
 ghost use Rattle.rz_nodes.specs.Formatted.{AreBack, IsCause};
 
 use crate::cluster::Cluster;
-use crate::room::Room;
-use crate::seating::seat_all;
-use crate::{Counting, Office, Seat};
+use crate::room::ClosingRoom;
+use crate::seating::locked_node_all;
+use crate::{Counting, LockedExport, LockedNode};
 use mj_angles::Layout;
 use rz_chronicle::{Book, Desk};
 use rz_config::Volume;
@@ -28,20 +28,23 @@ use std::sync::Mutex;
 /// The layout of a volume, its nodes in order, an export of it, and room for the locks and for what they
 /// hold.
 #[derive(Drop)]
-struct Parts<D: Disk, J: Counting> {
+struct ClusterParts<D: Disk, J: Counting> {
     layout: Layout,
     nodes: Vec<NodeSpec>,
     export: Export,
-    seats: Vec<Mutex<Seat<Fused<D>, J>>>,
-    unlocked: Vec<Seat<Fused<D>, J>>,
+    locked_nodes: Vec<Mutex<LockedNode<Fused<D>, J>>>,
+    unlocked: Vec<LockedNode<Fused<D>, J>>,
 }
 
 /// What a new cluster has beside its disks.
-fn new_parts<D: Disk, J: Counting>(alloc: Global, volume: Volume) -> Result<Parts<D, J>, AllocError>
+fn new_parts<D: Disk, J: Counting>(
+    alloc: Global,
+    volume: Volume,
+) -> Result<ClusterParts<D, J>, AllocError>
     ensures layout { IfOk result (λ p. p.layout ≡ volume.layout) }
     ensures nodes { IfOk result (λ p. p.nodes.items ≡ nodes_of volume.clusters) }
     ensures export { IfOk result (λ p. p.export ≡ new_export volume 0) }
-    ensures room { IfOk result (λ p. (vec_len p.seats ≡ 0) × (vec_len p.nodes ≤ vec_capacity p.seats)) }
+    ensures room { IfOk result (λ p. (vec_len p.locked_nodes ≡ 0) × (vec_len p.nodes ≤ vec_capacity p.locked_nodes)) }
     ensures unlocked { IfOk result (λ p. (vec_len p.unlocked ≡ 0) × (vec_len p.nodes ≤ vec_capacity p.unlocked)) }
     ensures rules { IsVolume volume }
     ensures proper { AllByRecursion IsNode (nodes_of volume.clusters) }
@@ -55,16 +58,16 @@ fn new_parts<D: Disk, J: Counting>(alloc: Global, volume: Volume) -> Result<Part
         drop(nodes);
         return Err(AllocError);
     };
-    let Ok((seats, unlocked)) = empty_rows(alloc, nodes.len()) else {
+    let Ok((locked_nodes, unlocked)) = empty_rows(alloc, nodes.len()) else {
         drop(nodes);
         drop(export);
         return Err(AllocError);
     };
-    Ok(Parts {
+    Ok(ClusterParts {
         layout,
         nodes,
         export,
-        seats,
+        locked_nodes,
         unlocked,
     })
 }
@@ -73,16 +76,22 @@ fn new_parts<D: Disk, J: Counting>(alloc: Global, volume: Volume) -> Result<Part
 fn empty_rows<D: Disk, J: Counting>(
     alloc: Global,
     count: usize,
-) -> Result<(Vec<Mutex<Seat<Fused<D>, J>>>, Vec<Seat<Fused<D>, J>>), AllocError>
+) -> Result<
+    (
+        Vec<Mutex<LockedNode<Fused<D>, J>>>,
+        Vec<LockedNode<Fused<D>, J>>,
+    ),
+    AllocError,
+>
     ensures room { IfOk result (λ r. (vec_len r.0 ≡ 0) × (count ≤ vec_capacity r.0)) }
     ensures unlocked { IfOk result (λ r. (vec_len r.1 ≡ 0) × (count ≤ vec_capacity r.1)) }
 {
-    let seats = Vec::with_capacity(alloc, count)?;
+    let locked_nodes = Vec::with_capacity(alloc, count)?;
     let Ok(unlocked) = Vec::with_capacity(alloc, count) else {
-        drop(seats);
+        drop(locked_nodes);
         return Err(AllocError);
     };
-    Ok((seats, unlocked))
+    Ok((locked_nodes, unlocked))
 }
 
 impl<D: Disk, J: Counting> Cluster<D, J> {
@@ -98,8 +107,8 @@ impl<D: Disk, J: Counting> Cluster<D, J> {
     ) -> Result<Cluster<D, J>, (Vec<D>, DriverFault)>
         requires volume { volume ≡ volume_in J.kind }
         requires count { length disks.items ≡ length (nodes_of volume.clusters) }
-        requires export { desk.export ≡ new_post w.Export }
-        requires nodes { desk.nodes.items ≡ map (λ n. new_post (w.Node n)) (sids_of volume) }
+        requires export { desk.export ≡ new_word_token w.Export }
+        requires nodes { desk.nodes.items ≡ map (λ n. new_word_token (w.Node n)) (sids_of volume) }
         requires tells { IsTrue (is_honest J.kind) → IsTrue D.tells }
         requires counts { map J.first (sids_of volume) ≡ map (λ d. faults (D.meter d)) disks.items }
         ensures volume { IfOk result (λ c. c ≡ volume_in J.kind) }
@@ -112,14 +121,19 @@ impl<D: Disk, J: Counting> Cluster<D, J> {
             return Err((disks, DriverFault::NoMemory));
         };
         match format_all(alloc, parts.layout, parts.nodes.as_slice(), disks) {
-            Ok((stations, home)) => {
+            Ok((servers, home)) => {
                 let Desk { export, nodes } = desk;
-                let (seats, posts) = seat_all(alloc, stations, nodes, parts.seats);
+                let (locked_nodes, word_tokens) = locked_node_all(
+                    alloc,
+                    servers,
+                    nodes,
+                    parts.locked_nodes,
+                );
                 Ok(Cluster {
                     nodes: parts.nodes,
-                    seats,
-                    office: Mutex::new(Office::new(parts.export, export)),
-                    room: Mutex::new(Room::of(parts.unlocked, home, posts)),
+                    locked_nodes,
+                    locked_export: Mutex::new(LockedExport::new(parts.export, export)),
+                    room: Mutex::new(ClosingRoom::of(parts.unlocked, home, word_tokens)),
                 })
             }
             Err(back) => {

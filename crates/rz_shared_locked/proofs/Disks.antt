@@ -18,7 +18,7 @@ use Rattle.rz_node.specs.Leaves.{Leaves, Starts}
 use Rattle.rz_core.specs.History.{Facts}
 use Rattle.rz_node_laws.specs.Images.{IsImaged}
 use Rattle.rz_node_laws.specs.Laws.{IsFetchLaw}
-use Rattle.rz_shared_locked.specs.Seats.{IsRead}
+use Rattle.rz_shared_locked.specs.LockedNodes.{IsRead}
 
 -- a start leaves the disk as it was, and settled where the node is up
 pub starts : (T : Type 0) → T → (g : Geometry) (s : NodeState) (text text' : List ℕ) (image image' : List ℕ → Type 0) (a : StartAnswer) → IfStarted a (Only text' image')

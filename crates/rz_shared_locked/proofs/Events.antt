@@ -24,7 +24,7 @@ use Rattle.rz_node_model.specs.Answers.{IsNodeAnswer}
 use Rattle.rz_node_model.specs.Afterwards.{after_answer}
 use Rattle.rz_node_model.specs.NodeEvents.{node_event, keep_event, refill_event, fetch_event, drop_event}
 use Rattle.rz_core.specs.Tied.{IsOpening}
-use Rattle.rz_shared_locked.specs.Seats.{IsFor}
+use Rattle.rz_shared_locked.specs.LockedNodes.{IsFor}
 
 abbrev pub IsOf : Actor → ℕ → Event → Type 0
 IsOf by node x = (word_of x ≡ Node node) × (by_of x ≡ by)

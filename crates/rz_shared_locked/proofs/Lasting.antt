@@ -23,7 +23,7 @@ use Rattle.rz_log_laws.specs.Beside.{IsNodeKept, IsAskKept, IsArming}
 use Rattle.rz_node_laws.specs.Records.{IsRecordOf, HandsRecord}
 use Rattle.rz_node_laws.specs.Laws.{IsLongerLaw}
 use Rattle.rz_chronicle.specs.Keys.{IsLater, events_at, count_at, word_key, actor_key}
-use Rattle.rz_shared_locked.specs.Laws.{IsSeatKept, IsAskerKept, IsReadKept, IsAnswerLaw, IsArmLaw}
+use Rattle.rz_shared_locked.specs.Laws.{IsLockedNodeKept, IsAskerKept, IsReadKept, IsAnswerLaw, IsArmLaw}
 
 abbrev pub AreWordsKept : Type 0
 AreWordsKept = (w : Word) (h g : List Event) → events_at (word_key w) h ≡ events_at (word_key w) g → of_word w h ≡ of_word w g
@@ -53,8 +53,8 @@ ask-later v one kept actors old new by n question legal later same proper =
     subst (λ (h : List Event). of_actor by h ≡ of_actor by old) later.1 (actors by new old same) in
     subst (λ (h : List Event). IsProperAsk v (facts h) (of_actor by h) by n question) (sym later.1) (kept old later.0 by n question (one old legal) it proper)
 
-pub seat-kept : {D : Type 0} (image : D → List ℕ → Type 0) (v : Volume) → IsOneRun v → IsNodeKept v → IsLongerLaw image → AreWordsKept → IsSeatKept image v
-seat-kept {D = D} image v one kept longer words old new n node legal later same logged = record {
+pub locked_node-kept : {D : Type 0} (image : D → List ℕ → Type 0) (v : Volume) → IsOneRun v → IsNodeKept v → IsLongerLaw image → AreWordsKept → IsLockedNodeKept image v
+locked_node-kept {D = D} image v one kept longer words old new n node legal later same logged = record {
   tied = node-later v one kept words old new n node.state legal later same logged.tied;
   imaged = subst (λ (h : List Event). Rattle.rz_node_laws.specs.Images.IsImaged v (facts h) n node.state node.geometry (image node.disk)) (sym later.1)
       (longer v old later.0 n node.geometry node.state node.disk logged.imaged);

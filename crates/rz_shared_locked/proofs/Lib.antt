@@ -1,11 +1,11 @@
 mod Logs
 mod Lasting
-mod OfficeLaws
+mod LockedExportLaws
 mod Events
 mod Disks
-mod Seats
+mod LockedNodes
 mod Replies
-mod Offices
+mod LockedExports
 mod Metering
 mod Picks
 mod Texts

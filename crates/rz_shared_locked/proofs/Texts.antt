@@ -15,7 +15,7 @@ use Rattle.rz_core.specs.History.{Begun, begun_by, first_some, of_word, wrote}
 use Rattle.rz_chronicle.specs.Keys.{events_at, word_key}
 use Rattle.rz_chronicle.specs.Holds.{Commits}
 use Rattle.rz_chronicle.proofs.Same.{word-same}
-use Rattle.rz_shared_locked.specs.Offices.{AreBytes, HasBytes, event_given}
+use Rattle.rz_shared_locked.specs.LockedExports.{AreBytes, HasBytes, event_given}
 
 -- only the export's word has writes that begin
 not-begun : (s : ℕ) (x : Event) → same_word Export (word_of x) ≡ false → begun_by s x ≡ None

@@ -1,6 +1,6 @@
 pub mod Adding
-pub mod Seats
-pub mod Offices
+pub mod LockedNodes
+pub mod LockedExports
 pub mod Laws
 pub mod Counts
 pub mod Picks

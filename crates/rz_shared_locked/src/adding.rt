@@ -5,28 +5,30 @@ ghost use Rattle.rz_chronicle.specs.Keys.{count_at, word_key};
 ghost use Rattle.rz_chronicle.specs.Kinds.{IsFit, MayCome};
 ghost use Rattle.rz_shared_locked.specs.Adding.{Adds};
 
-use rz_chronicle::{Book, Itself, Naming, Pass, Post};
+use crate::counting::Counting;
+use rz_chronicle::{Book, Itself, Pass, WordToken};
 use rz_events::Event;
 
-/// Adds the event of an answer, if it has one. The pass and the post have entered.
-pub(crate) fn add<J: Naming>(
+/// Adds the event of an answer, if it has one. The pass and the word_token have entered.
+pub(crate) fn add<J: Counting>(
     book: &Book<J>,
     pass: &mut Pass<J>,
-    post: &mut Post<J>,
+    word_token: &mut WordToken<J>,
     event: Option<Event>,
 )
-    requires one { post.old.log ≡ pass.old.log }
-    requires its { IfSome event (λ x. (word_of x ≡ post.old.word) × (by_of x ≡ pass.old.actor)) }
+    requires one { word_token.old.log ≡ pass.old.log }
+    requires its { IfSome event (λ x. (word_of x ≡ word_token.old.word) × (by_of x ≡ pass.old.actor)) }
     requires legal { IfSome event (λ x. MayCome J.kind pass.old.log x) }
-    requires room { count_at (word_key post.old.word) post.old.log + 1 < 2 ^ 64 }
-    ensures same { (pass.new.actor ≡ pass.old.actor) × (pass.new.keys ≡ pass.old.keys) × (post.new.word ≡ post.old.word) }
-    ensures one { post.new.log ≡ pass.new.log }
-    ensures adds { Adds (word_key post.old.word ∷ pass.old.keys) pass.old.log event pass.new.log }
+    requires room { count_at (word_key word_token.old.word) word_token.old.log + 1 < 2 ^ 64 }
+    ensures same { (pass.new.actor ≡ pass.old.actor) × (pass.new.keys ≡ pass.old.keys) × (word_token.new.word ≡ word_token.old.word) }
+    ensures one { word_token.new.log ≡ pass.new.log }
+    ensures adds { Adds (word_key word_token.old.word ∷ pass.old.keys) pass.old.log event pass.new.log }
     ensures fit { IsFit J.kind pass.new.log }
 {
+    rz_chronicle::begins_anew();
     let _by = pass.actor();
     match &event {
-        Some(event) => book.commit::<Event, Itself>(pass, post, event),
+        Some(event) => book.commit::<Event, Itself>(pass, word_token, event),
         None => {}
     }
     drop(event);

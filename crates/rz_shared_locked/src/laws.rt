@@ -1,12 +1,12 @@
 //! What lasts while others act, and that the event of an answer may be added.
 ghost use Rattle.rz_events.specs.Volume.{Volume};
-ghost use Rattle.rz_shared_locked.specs.Laws.{IsSeatKept, IsAskerKept, IsReadKept, IsAnswerLaw, IsArmLaw, IsOfficeKept, IsCallerKept, IsReplyLaw};
+ghost use Rattle.rz_shared_locked.specs.Laws.{IsLockedNodeKept, IsAskerKept, IsReadKept, IsAnswerLaw, IsArmLaw, IsLockedExportKept, IsCallerKept, IsReplyLaw};
 
 use rz_disk::Disk;
 
 /// A node stays the one that the log gives while its word has no event more.
-pub(crate) fn seat_kept<D: Disk>()
-    ensures { (v : Volume) → IsSeatKept D.image v }
+pub(crate) fn locked_node_kept<D: Disk>()
+    ensures { (v : Volume) → IsLockedNodeKept D.image v }
 {
     rz_core::one_run();
     rz_log_laws::node_kept();
@@ -56,8 +56,8 @@ pub(crate) fn arming()
 }
 
 /// The export stays the one that the log gives while its word has no event more.
-pub(crate) fn office_kept()
-    ensures { (v : Volume) → IsOfficeKept v }
+pub(crate) fn locked_export_kept()
+    ensures { (v : Volume) → IsLockedExportKept v }
 {
     rz_core::one_run();
     rz_log_laws::export_kept();

@@ -1,23 +1,23 @@
 //! Nodes and the export under their locks.
 //!
-//! A [`Seat`] has a node and the tally of the node's word, an [`Office`] the export and the tally of its
+//! A [`LockedNode`] has a node and the tally of the node's word, an [`LockedExport`] the export and the tally of its
 //! word. Each call adds the event of its answer to the book before the lock is let go. So over an honest
 //! book the node or the export is always the one that the log gives, and an answer is right for the log
 //! just before its event, whatever other threads did meanwhile. Over any book the faults of a node's word
-//! are those that its disk counted since the node took its seat.
+//! are those that its disk counted since the node took its locked_node.
 //!
-//! In reading order: `counting`, `serving`, `adding`, `waiting`, `seat`, `office`; `laws` has what lasts
+//! In reading order: `counting`, `serving`, `adding`, `waiting`, `locked_node`, `locked_export`; `laws` has what lasts
 //! while others act.
 #![tactic(auto)]
 
 mod adding;
 mod counting;
 mod laws;
-mod office;
-mod seat;
+mod locked_export;
+mod locked_node;
 mod serving;
 mod waiting;
 
 pub use counting::Counting;
-pub use office::Office;
-pub use seat::Seat;
+pub use locked_export::LockedExport;
+pub use locked_node::LockedNode;

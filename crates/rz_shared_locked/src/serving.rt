@@ -22,19 +22,19 @@ ghost use Rattle.rz_node_laws.specs.Records.{HandsRecord};
 ghost use Rattle.rz_node_laws.specs.Images.{IsImaged};
 ghost use Rattle.rz_shared_locked.specs.Counts.{GoesWith, rearmed};
 ghost use Rattle.rz_shared_locked.specs.Picks.{pick_of};
-ghost use Rattle.rz_shared_locked.specs.Seats.{IsRead};
+ghost use Rattle.rz_shared_locked.specs.LockedNodes.{IsRead};
 
-use rz_chronicle::{Naming, Post};
+use rz_chronicle::{Naming, WordToken};
 use rz_disk::Disk;
 use rz_events::{NodeAnswer, NodeAsk, Phase, StartAnswer};
 use rz_node::{Node, answer_node};
 use std::alloc::Global;
 
-/// Gives a call to a node, which has this number and whose word has this post. Before a start the disk
+/// Gives a call to a node, which has this number and whose word has this word_token. Before a start the disk
 /// loses what a loss of power may lose, by `pick`, and `left` is what the node's events leave its fuse.
 pub(crate) fn serve<D: Disk, J: Naming>(
     alloc: Global,
-    post: &Post<J>,
+    word_token: &WordToken<J>,
     sid: u16,
     pick: u64,
     left: Option<u64>,
@@ -44,14 +44,14 @@ pub(crate) fn serve<D: Disk, J: Naming>(
 ) -> NodeAnswer
     requires fuse { IsTrue D.has_fuse }
     requires takes { Takes node.old.geometry.layout ask.now bins.old }
-    requires picked { pick ≡ pick_of (of_word (word.Node sid) post.now.log) }
+    requires picked { pick ≡ pick_of (of_word (word.Node sid) word_token.now.log) }
     ensures answer { IsNodeAnswer node.old.geometry.cells node.old.state ask.now result }
     ensures geometry { node.new.geometry ≡ node.old.geometry }
     ensures after { IsTrue D.tells → node.new.state ≡ after_answer ask.now result node.old.state }
     ensures opening { IsTrue D.tells → IsOpening result }
 
     // A node that is down crashes by the pick of the last arming before it starts.
-    ensures crashed { ask.now ≡ NodeAsk.Start → node.old.state.phase ≡ Phase.Down → D.picks node.old.disk (pick_of (of_word (word.Node sid) post.now.log)) (D.text node.new.disk) }
+    ensures crashed { ask.now ≡ NodeAsk.Start → node.old.state.phase ≡ Phase.Down → D.picks node.old.disk (pick_of (of_word (word.Node sid) word_token.now.log)) (D.text node.new.disk) }
 
     ensures imaged { IsTrue D.tells → (v : Volume) (f : Facts) (n : ℕ) → HandsRecord v f n ask.now bins.old → IsImaged v f n node.old.state node.old.geometry (D.image node.old.disk) → IsImaged v f n node.new.state node.new.geometry (D.image node.new.disk) }
     ensures read { IsTrue D.tells → (v : Volume) (f : Facts) (n : ℕ) → IsImaged v f n node.old.state node.old.geometry (D.image node.old.disk) → IsRead v f n ask.now result bins.old bins.new }
@@ -59,7 +59,7 @@ pub(crate) fn serve<D: Disk, J: Naming>(
     ensures rest { drop (max_bins_of node.old.geometry.layout) bins.new ≡ drop (max_bins_of node.old.geometry.layout) bins.old }
     ensures counts { (first n : ℕ) (w : List AnEvent) (by : AnActor) → left ≡ fuse_of w → GoesWith D.meter first w node.old → GoesWith D.meter first (noted (node_event by n ask.now result) w) node.new }
 {
-    let _ = post;
+    let _ = word_token;
     let _ = sid;
     if matches!(ask, NodeAsk::Start) {
         return NodeAnswer::Start(start(alloc, pick, left, node));

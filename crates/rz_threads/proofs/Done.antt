@@ -17,7 +17,7 @@ use Rattle.rz_script.specs.declared.line.Line.TheVariants as line
 use Rattle.rz_play.specs.Lines.{noted}
 use Rattle.rz_chronicle.specs.Keys.{IsLater, IsOneOf, events_at, actor_key}
 use Rattle.rz_chronicle.specs.Holds.{Stays}
-use Rattle.rz_shared_locked.specs.Seats.{Answered, IsFor}
+use Rattle.rz_shared_locked.specs.LockedNodes.{Answered, IsFor}
 use Rattle.rz_threads.specs.Orders.{IsOrder, is_want, Waits, IsCalled, IsArmed, IsDone, AreDone, AreBegun}
 
 -- Waiting.

@@ -4,5 +4,5 @@ pub mod Working
 pub mod Sending
 pub mod Gathering
 pub mod Leaving
-pub mod Members
+pub mod PoolWorkers
 pub mod Tallies

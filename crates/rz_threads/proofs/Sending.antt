@@ -1,4 +1,4 @@
--- What members share, and what goes to another thread with them.
+-- What workers share, and what goes to another thread with them.
 use denote.Exit.{no}
 use denote.Param.{param, arg}
 use denote.Param.Send.{IsSend, IsSync, param_send, param_sync, arg_send, arg_sync, struct_send, struct_sync, recorded_send, recorded_sync}
@@ -15,7 +15,7 @@ use Rattle.rz_chronicle.specs.declared.passes.Naming as Naming
 use Rattle.rz_chronicle.proofs.book.Book.TheSendSync as Book
 use Rattle.rz_shared_locked.specs.declared.counting.Counting as Counting
 use Rattle.rz_shared.proofs.Sending.{cluster_sync}
-use Rattle.rz_threads_steps.specs.contracts.store.Store as Store
+use Rattle.rz_threads_steps.specs.contracts.store.SharedStore as Store
 
 -- threads may share a store
 pub store_sync : (D K : RattleType) (g : Disk.Ghosts D.Denot) (c : Counting.Ghosts K.Denot) (n : Naming.Ghosts K.Denot) → IsSend D → IsSync (Store.the_row D K g c n)

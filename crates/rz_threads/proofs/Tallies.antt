@@ -10,27 +10,27 @@ use Rattle.rz_script.specs.Lines.{IsActor}
 use Rattle.rz_play.specs.World.{actors}
 use Rattle.rz_play_locks.proofs.Barring.{of-actors}
 use Rattle.rz_chronicle.specs.Keys.{IsOneOf, owner, word_key}
-use Rattle.rz_chronicle.specs.Rules.{PassView, PostView}
+use Rattle.rz_chronicle.specs.Rules.{PassView, WordTokenView}
 use Rattle.rz_threads_workers.specs.Gathered.{GoesOn, IsHeld}
 use Rattle.rz_threads_workers.specs.Moves.{HoldsAll}
-use Rattle.rz_threads_workers.specs.declared.member.Member.{Member}
-use Rattle.rz_threads_workers.specs.Staff.{HasWorked, actor_of, pass_of}
+use Rattle.rz_threads_workers.specs.declared.pool_worker.PoolWorker.{PoolWorker}
+use Rattle.rz_threads_workers.specs.WorkerPool.{HasWorked, actor_of, pass_of}
 use Rattle.rz_threads.proofs.Gathering.{one-of-left, one-of-right}
 
 -- The keys of a desk's posts are those of their words.
 
-keys-of-words : (ps : List PostView) → map (λ (p : PostView). word_key p.word) ps ≡ map word_key (map (λ (p : PostView). p.word) ps)
+keys-of-words : (ps : List WordTokenView) → map (λ (p : WordTokenView). word_key p.word) ps ≡ map word_key (map (λ (p : WordTokenView). p.word) ps)
 keys-of-words [] = refl
 keys-of-words (p ∷ ps) = ap (λ (ks : List ℕ). word_key p.word ∷ ks) (keys-of-words ps)
 
-pub desk-keys : (old new : List ℕ) (export : PostView) (ps : List PostView) (sids : List ℕ) → new ≡ old ++ map (λ (p : PostView). word_key p.word) (export ∷ ps)
-    → export.word ≡ Export → map (λ (p : PostView). p.word) ps ≡ map Node sids → new ≡ old ++ map word_key (Export ∷ map Node sids)
+pub desk-keys : (old new : List ℕ) (export : WordTokenView) (ps : List WordTokenView) (sids : List ℕ) → new ≡ old ++ map (λ (p : WordTokenView). word_key p.word) (export ∷ ps)
+    → export.word ≡ Export → map (λ (p : WordTokenView). p.word) ps ≡ map Node sids → new ≡ old ++ map word_key (Export ∷ map Node sids)
 desk-keys old new export ps sids is first nodes =
     is ∙ ap (λ (ks : List ℕ). old ++ ks) (keys-of-words (export ∷ ps) ∙ ap (map word_key) (ap₂ (λ (a : Word) (words : List Word). a ∷ words) first nodes))
 
--- Members that have worked are the same actors.
+-- PoolWorkers that have worked are the same actors.
 
-pub same-actors : {J L : Type 0} (count : L → ℕ) (kind : List ℕ) (ms ns : List (Member J L)) → AllZip (HasWorked count kind) ms ns → map (λ (p : PassView). p.actor) (map pass_of ns) ≡ map actor_of ms
+pub same-actors : {J L : Type 0} (count : L → ℕ) (kind : List ℕ) (ms ns : List (PoolWorker J L)) → AllZip (HasWorked count kind) ms ns → map (λ (p : PassView). p.actor) (map pass_of ns) ≡ map actor_of ms
 same-actors count kind [] [] all = refl
 same-actors count kind [] (n ∷ ns) all = absurd all
 same-actors count kind (m ∷ ms) [] all = absurd all
@@ -84,13 +84,13 @@ own-words front (p ∷ ps) all = (all.0.word, own-words front ps all.1)
 -- The administrator's pass gathered those of all actors, and then took over the tallies of a desk.
 pub gathered-all : (sids : List ℕ) (old mid new : PassView) (ps : List PassView) → old.actor ≡ Admin → IsOneOf (word_key (Own old.actor)) old.keys → GoesOn old mid
     → new.keys ≡ mid.keys ++ map word_key (Export ∷ map Node sids) → AllByRecursion (IsHeld new) ps → map (λ (p : PassView). p.actor) ps ≡ actors → HoldsAll sids new.keys
-gathered-all sids old mid new ps by own goes keys held are = holds-all sids new.keys (desk 0 (inl refl)) (λ i n is. desk (word_key (Node n)) (inr (node-there sids i n is))) members admin
+gathered-all sids old mid new ps by own goes keys held are = holds-all sids new.keys (desk 0 (inl refl)) (λ i n is. desk (word_key (Node n)) (inr (node-there sids i n is))) workers admin
   where
     desk : (k : ℕ) → IsOneOf k (map word_key (Export ∷ map Node sids)) → IsOneOf k new.keys
     desk k is = subst (IsOneOf k) (sym keys) (one-of-right k mid.keys (map word_key (Export ∷ map Node sids)) is)
 
-    members : (a : Actor) → IsActor a → IsOneOf (word_key (Own a)) new.keys
-    members a is = of-actors (λ (b : Actor). IsOneOf (word_key (Own b)) new.keys) a is (subst (AllByRecursion (λ (b : Actor). IsOneOf (word_key (Own b)) new.keys)) are (own-words new ps held))
+    workers : (a : Actor) → IsActor a → IsOneOf (word_key (Own a)) new.keys
+    workers a is = of-actors (λ (b : Actor). IsOneOf (word_key (Own b)) new.keys) a is (subst (AllByRecursion (λ (b : Actor). IsOneOf (word_key (Own b)) new.keys)) are (own-words new ps held))
 
     first : IsOneOf (word_key (Own Admin)) old.keys
     first = subst (λ (a : Actor). IsOneOf (word_key (Own a)) old.keys) by own

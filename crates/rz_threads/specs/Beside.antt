@@ -1,4 +1,4 @@
--- What the administrator has done beside members at work.
+-- What the administrator has done beside workers at work.
 use Rattle.std.specs.Prelude.{ℕ, Bool, true, ◌≡◌, List}
 use Rattle.rz_script.specs.declared.line.Line.{Line}
 use Rattle.rz_chronicle.specs.Keys.{IsLater}

@@ -1,4 +1,4 @@
 pub mod Orders
 pub mod Beside
 pub mod Left
-pub mod Played
+pub mod PlayResult

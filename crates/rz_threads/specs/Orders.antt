@@ -14,7 +14,7 @@ use Rattle.rz_script.specs.declared.line.Line.{Line}
 use Rattle.rz_script.specs.declared.line.Line.TheVariants as line
 use Rattle.rz_play.specs.Lines.{noted}
 use Rattle.rz_chronicle.specs.Keys.{IsLater}
-use Rattle.rz_shared_locked.specs.Seats.{IsAnswerAt}
+use Rattle.rz_shared_locked.specs.LockedNodes.{IsAnswerAt}
 
 -- these calls of a node the administrator alone makes
 abbrev pub IsOrder : NodeAsk → Type 0

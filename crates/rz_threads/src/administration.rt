@@ -9,7 +9,7 @@ use crate::orders::{arm, order};
 use rz_chronicle::{Book, Pass};
 use rz_disk::Disk;
 use rz_events::{Actor, NodeAsk};
-use rz_player::NoMemory;
+use rz_player::Halted;
 use rz_script::Line;
 use rz_shared::{Cluster, Counting};
 use std::sync::Wait;
@@ -21,7 +21,7 @@ fn carry_out<R: Wait, D: Disk, J: Counting>(
     book: &Book<J>,
     pass: &mut Pass<J>,
     line: &Line,
-) -> Result<(), NoMemory>
+) -> Result<(), Halted>
     requires admin { pass.old.actor ≡ Actor.Admin }
     requires line { IsLine (volume_in J.kind) line.now }
     ensures same { (pass.new.actor ≡ pass.old.actor) × (pass.new.keys ≡ pass.old.keys) }
@@ -54,7 +54,7 @@ pub fn administer<R: Wait, D: Disk, J: Counting>(
     book: &Book<J>,
     pass: &mut Pass<J>,
     lines: &[Line],
-) -> Result<(), NoMemory>
+) -> Result<(), Halted>
     requires admin { pass.old.actor ≡ Actor.Admin }
     requires lines { AreLines (volume_in J.kind) lines.now }
     ensures same { (pass.new.actor ≡ pass.old.actor) × (pass.new.keys ≡ pass.old.keys) }

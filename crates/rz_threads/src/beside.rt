@@ -1,9 +1,9 @@
-//! Members at work, each on its thread, and the administrator beside them.
+//! PoolWorkers at work, each on its thread, and the administrator beside them.
 ghost use Rattle.std.specs.Prelude.{◌≡◌};
 ghost use Rattle.std.specs.List.{AllByRecursion, AllZip};
 ghost use Rattle.rz_script.specs.Lines.{AreLines};
 ghost use Rattle.rz_chronicle.specs.Kinds.{volume_in};
-ghost use Rattle.rz_threads_workers.specs.Staff.{CanWork, HasWorked};
+ghost use Rattle.rz_threads_workers.specs.WorkerPool.{CanWork, HasWorked};
 ghost use Rattle.rz_threads.specs.Beside.{HasOrdered};
 
 use crate::administer;
@@ -13,73 +13,73 @@ use rz_events::Actor;
 use rz_link::Link;
 use rz_script::Line;
 use rz_shared::Counting;
-use rz_threads_worker::{Store, work};
-use rz_threads_workers::Member;
+use rz_threads_worker::{SharedStore, work};
+use rz_threads_workers::PoolWorker;
 use std::alloc::Global;
 use std::sync::Wait;
 use std::thread::{Threads, for_each_mut, join};
 
-/// At most so many threads are at work for the members, which is as many as there are clients and rebuilders.
+/// At most so many threads are at work for the workers, which is as many as there are clients and rebuilders.
 const THREADS: usize = 80;
 
-/// A member does its operations, and notes whether memory was wanting.
+/// A pool_worker does its operations, and notes whether memory was wanting.
 #[tactic(auto, using(crate::proofs::Working::all_begun))]
 fn work_one<R: Threads + Wait + Sync, D: Disk, J: Counting, L: Link>(
     rt: &R,
     alloc: Global,
-    store: &Store<D, J>,
-    member: &mut Member<J, L>,
+    store: &SharedStore<D, J>,
+    pool_worker: &mut PoolWorker<J, L>,
 )
     requires volume { store.now.volume ≡ volume_in J.kind }
-    requires ready { CanWork J.kind member.old }
-    ensures { HasWorked L.lost J.kind member.old member.new }
+    requires ready { CanWork J.kind pool_worker.old }
+    ensures { HasWorked L.lost J.kind pool_worker.old pool_worker.new }
 {
-    member.wanting = work(rt, alloc, store, &mut member.worker).is_err();
+    pool_worker.wanting = work(rt, alloc, store, &mut pool_worker.worker).is_err();
 }
 
-/// All members do their operations, each on a thread of its own where one can be made. It comes back when
+/// All workers do their operations, each on a thread of its own where one can be made. It comes back when
 /// the last of them has stopped.
 pub fn work_all<
     R: Threads + Wait + Sync,
     D: Disk + Send,
     J: Counting + Send + Sync,
     L: Link + Send,
->(rt: &R, alloc: Global, store: &Store<D, J>, members: &mut [Member<J, L>])
+>(rt: &R, alloc: Global, store: &SharedStore<D, J>, workers: &mut [PoolWorker<J, L>])
     requires volume { store.now.volume ≡ volume_in J.kind }
-    requires ready { AllByRecursion (CanWork J.kind) members.old }
-    ensures { AllZip (HasWorked L.lost J.kind) members.old members.new }
+    requires ready { AllByRecursion (CanWork J.kind) workers.old }
+    ensures { AllZip (HasWorked L.lost J.kind) workers.old workers.new }
 {
     for_each_mut(
         rt,
-        members,
+        workers,
         THREADS,
-        &move |_place: usize, member: &mut Member<J, L>|
-            requires { (store.now.volume ≡ volume_in J.kind) × CanWork J.kind member.old }
-            ensures { HasWorked L.lost J.kind member.old member.new }
-        { work_one(rt, alloc, store, member) },
+        &move |_place: usize, pool_worker: &mut PoolWorker<J, L>|
+            requires { (store.now.volume ≡ volume_in J.kind) × CanWork J.kind pool_worker.old }
+            ensures { HasWorked L.lost J.kind pool_worker.old pool_worker.new }
+        { work_one(rt, alloc, store, pool_worker) },
     );
 }
 
-/// The same with members that come by value.
+/// The same with workers that come by value.
 fn worked<R: Threads + Wait + Sync, D: Disk + Send, J: Counting + Send + Sync, L: Link + Send>(
     rt: &R,
     alloc: Global,
-    store: &Store<D, J>,
-    members: Vec<Member<J, L>>,
-) -> Vec<Member<J, L>>
+    store: &SharedStore<D, J>,
+    workers: Vec<PoolWorker<J, L>>,
+) -> Vec<PoolWorker<J, L>>
     requires volume { store.now.volume ≡ volume_in J.kind }
-    requires ready { AllByRecursion (CanWork J.kind) members.items }
-    ensures { AllZip (HasWorked L.lost J.kind) members.items result.items }
+    requires ready { AllByRecursion (CanWork J.kind) workers.items }
+    ensures { AllZip (HasWorked L.lost J.kind) workers.items result.items }
 {
-    let mut members = members;
-    work_all(rt, alloc, store, &mut members);
-    members
+    let mut workers = workers;
+    work_all(rt, alloc, store, &mut workers);
+    workers
 }
 
 /// The administrator carries out its lines. It says whether it came to the end of them.
 fn ordered<R: Wait, D: Disk, J: Counting>(
     rt: &R,
-    store: &Store<D, J>,
+    store: &SharedStore<D, J>,
     admin: Pass<J>,
     lines: &[Line],
 ) -> (Pass<J>, bool)
@@ -92,7 +92,7 @@ fn ordered<R: Wait, D: Disk, J: Counting>(
     (admin, ended)
 }
 
-/// The members do their operations on other threads, and beside them the administrator carries out its lines
+/// The workers do their operations on other threads, and beside them the administrator carries out its lines
 /// on this one.
 fn side_by_side<
     R: Threads + Wait + Sync,
@@ -102,24 +102,24 @@ fn side_by_side<
 >(
     rt: &R,
     alloc: Global,
-    store: &Store<D, J>,
-    members: Vec<Member<J, L>>,
+    store: &SharedStore<D, J>,
+    workers: Vec<PoolWorker<J, L>>,
     admin: Pass<J>,
     lines: &[Line],
-) -> (Vec<Member<J, L>>, (Pass<J>, bool))
+) -> (Vec<PoolWorker<J, L>>, (Pass<J>, bool))
     requires volume { store.now.volume ≡ volume_in J.kind }
-    requires ready { AllByRecursion (CanWork J.kind) members.items }
+    requires ready { AllByRecursion (CanWork J.kind) workers.items }
     requires admin { admin.actor ≡ Actor.Admin }
     requires lines { AreLines (volume_in J.kind) lines.now }
-    ensures worked { AllZip (HasWorked L.lost J.kind) members.items result.0.items }
+    ensures worked { AllZip (HasWorked L.lost J.kind) workers.items result.0.items }
     ensures ordered { HasOrdered J.kind lines.now admin result.1.0 result.1.1 }
 {
     join(
         rt,
-        move || -> Vec<Member<J, L>>
-            requires { (store.now.volume ≡ volume_in J.kind) × AllByRecursion (CanWork J.kind) members.items }
-            ensures { AllZip (HasWorked L.lost J.kind) members.items result.items }
-        { worked(rt, alloc, store, members) },
+        move || -> Vec<PoolWorker<J, L>>
+            requires { (store.now.volume ≡ volume_in J.kind) × AllByRecursion (CanWork J.kind) workers.items }
+            ensures { AllZip (HasWorked L.lost J.kind) workers.items result.items }
+        { worked(rt, alloc, store, workers) },
         move || -> (Pass<J>, bool)
             requires { (admin.actor ≡ Actor.Admin) × AreLines (volume_in J.kind) lines.now }
             ensures { HasOrdered J.kind lines.entry.now admin result.0 result.1 }
@@ -127,35 +127,35 @@ fn side_by_side<
     )
 }
 
-/// What comes of a shift: the members, the administrator's pass, and whether it came to the end of its
+/// What comes of a shift: the workers, the administrator's pass, and whether it came to the end of its
 /// lines.
 #[derive(Drop)]
-pub struct Shift<J: Counting, L: Link> {
-    pub members: Vec<Member<J, L>>,
+pub struct WorkResult<J: Counting, L: Link> {
+    pub workers: Vec<PoolWorker<J, L>>,
     pub admin: Pass<J>,
     pub ended: bool,
 }
 
-/// All members do their operations on threads, and beside them the administrator carries out its lines on
+/// All workers do their operations on threads, and beside them the administrator carries out its lines on
 /// the calling thread. It comes back when all have stopped.
 pub fn at_work<R: Threads + Wait + Sync, D: Disk + Send, J: Counting + Send + Sync, L: Link + Send>(
     rt: &R,
     alloc: Global,
-    store: &Store<D, J>,
-    members: Vec<Member<J, L>>,
+    store: &SharedStore<D, J>,
+    workers: Vec<PoolWorker<J, L>>,
     admin: Pass<J>,
     lines: &[Line],
-) -> Shift<J, L>
+) -> WorkResult<J, L>
     requires volume { store.now.volume ≡ volume_in J.kind }
-    requires ready { AllByRecursion (CanWork J.kind) members.items }
+    requires ready { AllByRecursion (CanWork J.kind) workers.items }
     requires admin { admin.actor ≡ Actor.Admin }
     requires lines { AreLines (volume_in J.kind) lines.now }
-    ensures worked { AllZip (HasWorked L.lost J.kind) members.items result.members.items }
+    ensures worked { AllZip (HasWorked L.lost J.kind) workers.items result.workers.items }
     ensures ordered { HasOrdered J.kind lines.now admin result.admin result.ended }
 {
-    let (members, (admin, ended)) = side_by_side(rt, alloc, store, members, admin, lines);
-    Shift {
-        members,
+    let (workers, (admin, ended)) = side_by_side(rt, alloc, store, workers, admin, lines);
+    WorkResult {
+        workers,
         admin,
         ended,
     }

@@ -7,7 +7,7 @@ ghost use Rattle.rz_threads.specs.Orders.{Waits, IsCalled, IsArmed, IsOrder, is_
 use rz_chronicle::{Book, Pass};
 use rz_disk::Disk;
 use rz_events::{Actor, NodeAnswer, NodeAsk, StartAnswer};
-use rz_player::NoMemory;
+use rz_player::Halted;
 use rz_shared::{Cluster, Counting};
 use std::sync::Wait;
 
@@ -26,7 +26,7 @@ pub(crate) fn order<R: Wait, D: Disk, J: Counting>(
     pass: &mut Pass<J>,
     node: u16,
     ask: &NodeAsk,
-) -> Result<(), NoMemory>
+) -> Result<(), Halted>
     requires admin { pass.old.actor ≡ Actor.Admin }
     requires node { IsNodeOf (volume_in J.kind) node }
     requires order { IsOrder ask.now }
@@ -40,7 +40,7 @@ pub(crate) fn order<R: Wait, D: Disk, J: Counting>(
     let mut bins: [u64; 0] = [];
     let answer = cluster.node_call(rt, book, pass, node, ask, &mut bins);
     if wants_memory(&answer) {
-        return Err(NoMemory);
+        return Err(Halted);
     }
     Ok(())
 }

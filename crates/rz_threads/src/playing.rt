@@ -11,20 +11,20 @@ ghost use Rattle.rz_chronicle.specs.Kinds.{IsFit, volume_in};
 ghost use Rattle.rz_chronicle.specs.Rules.{PassView};
 ghost use Rattle.rz_threads_workers.specs.Gathered.{GoesOn, IsHeld};
 ghost use Rattle.rz_threads_workers.specs.Moves.{HoldsAll};
-ghost use Rattle.rz_threads_workers.specs.Staff.{CanWork, actor_of};
+ghost use Rattle.rz_threads_workers.specs.WorkerPool.{CanWork, actor_of};
 ghost use Rattle.rz_threads.specs.Orders.{AreBegun, AreDone, Waits};
 ghost use Rattle.rz_threads.specs.Left.{IsLeft};
-ghost use Rattle.rz_threads.specs.Played.{HasBegun, HasFinished, HasLost, shown_for};
+ghost use Rattle.rz_threads.specs.PlayResult.{HasBegun, HasFinished, HasLost, shown_for};
 
-use crate::beside::{Shift, at_work};
+use crate::beside::{WorkResult, at_work};
 use rz_chronicle::{Book, Pass};
 use rz_disk::Disk;
 use rz_events::{Actor, Event};
 use rz_link::Link;
 use rz_script::Line;
 use rz_shared::{Cluster, Counting};
-use rz_threads_worker::Store;
-use rz_threads_workers::{Room, Staff, dismiss, gather_all, have_finished};
+use rz_threads_worker::SharedStore;
+use rz_threads_workers::{Results, WorkerPool, gather_all, have_finished, take_results};
 use std::alloc::Global;
 use std::sync::Wait;
 use std::thread::Threads;
@@ -54,10 +54,10 @@ struct Gathered<D: Disk, J: Counting> {
     disks: Vec<D>,
 }
 
-/// Gathers the passes of the members into the administrator's, closes the cluster, and takes over the
+/// Gathers the passes of the workers into the administrator's, closes the cluster, and takes over the
 /// tallies of its words.
 fn gather_up<D: Disk, J: Counting>(
-    store: Store<D, J>,
+    store: SharedStore<D, J>,
     passes: Vec<Pass<J>>,
     admin: Pass<J>,
 ) -> Gathered<D, J>
@@ -72,7 +72,7 @@ fn gather_up<D: Disk, J: Counting>(
     rz_chronicle::actors_kept();
     rz_threads_workers::held_lasts();
     let _own = admin.actor();
-    let Store {
+    let SharedStore {
         cluster,
         book,
         volume,
@@ -94,10 +94,10 @@ fn both(one: bool, other: bool) -> bool
 }
 
 /// What comes of a play: a pass that has seen all of it, the book, the disks in the order of the nodes, the
-/// links and the events that are shown in the order of the members, and whether all operations and all lines
+/// links and the events that are shown in the order of the workers, and whether all operations and all lines
 /// were done.
 #[derive(Drop)]
-pub struct Played<D: Disk, J: Counting, L: Link> {
+pub struct PlayResult<D: Disk, J: Counting, L: Link> {
     pub front: Pass<J>,
     pub book: Book<J>,
     pub disks: Vec<D>,
@@ -106,47 +106,47 @@ pub struct Played<D: Disk, J: Counting, L: Link> {
     pub ended: bool,
 }
 
-/// A play: the members do their operations on threads, beside the administrator's lines. Where memory is
-/// wanting for one of them, it stops early, and the others go on. Where the members are all clients and all
+/// A play: the workers do their operations on threads, beside the administrator's lines. Where memory is
+/// wanting for one of them, it stops early, and the others go on. Where the workers are all clients and all
 /// rebuilders, the pass then holds the tally of each word of the book.
 pub fn play<R: Threads + Wait + Sync, D: Disk + Send, J: Counting + Send + Sync, L: Link + Send>(
     rt: &R,
     alloc: Global,
-    store: Store<D, J>,
-    staff: Staff<J, L>,
+    store: SharedStore<D, J>,
+    pool: WorkerPool<J, L>,
     admin: Pass<J>,
     lines: &[Line],
-) -> Played<D, J, L>
+) -> PlayResult<D, J, L>
     requires volume { store.volume ≡ volume_in J.kind }
-    requires ready { AllByRecursion (CanWork J.kind) staff.members.items }
+    requires ready { AllByRecursion (CanWork J.kind) pool.workers.items }
     requires admin { admin.actor ≡ Actor.Admin }
     requires lines { AreLines (volume_in J.kind) lines.now }
     ensures fit { IsFit J.kind result.front.log }
     ensures book { result.book ≡ store.book }
-    ensures held { map actor_of staff.members.items ≡ actors → HoldsAll (sids_of store.cluster) result.front.keys }
-    ensures begun { AllByRecursion (HasBegun J.kind result.front.log) staff.members.items }
-    ensures finished { result.ended ≡ true → AllByRecursion (HasFinished J.kind result.front.log) staff.members.items }
+    ensures held { map actor_of pool.workers.items ≡ actors → HoldsAll (sids_of store.cluster) result.front.keys }
+    ensures begun { AllByRecursion (HasBegun J.kind result.front.log) pool.workers.items }
+    ensures finished { result.ended ≡ true → AllByRecursion (HasFinished J.kind result.front.log) pool.workers.items }
     ensures ordered { AreBegun J.kind lines.now admin.log result.front.log }
     ensures orders { result.ended ≡ true → AreDone J.kind lines.now admin.log result.front.log }
-    ensures links { AllZip (HasLost L.lost result.front.log) staff.members.items result.links.items }
-    ensures shown { map (λ (s : AVec AnEvent). s.items) result.shown.items ≡ map (shown_for result.front.log) staff.members.items }
+    ensures links { AllZip (HasLost L.lost result.front.log) pool.workers.items result.links.items }
+    ensures shown { map (λ (s : AVec AnEvent). s.items) result.shown.items ≡ map (shown_for result.front.log) pool.workers.items }
     ensures disks { AllZip (IsLeft D.meter D.image J.kind J.first result.front.log) (sids_of store.cluster) result.disks.items }
 {
-    let Staff { members, room } = staff;
-    let Shift {
-        members,
+    let WorkerPool { workers, room } = pool;
+    let WorkResult {
+        workers,
         admin,
         ended,
-    } = at_work(rt, alloc, &store, members, admin, lines);
-    let finished = have_finished(members.as_slice());
+    } = at_work(rt, alloc, &store, workers, admin, lines);
+    let finished = have_finished(workers.as_slice());
     let ended = both(ended, finished);
-    let Room {
+    let Results {
         links,
         passes,
         shown,
-    } = dismiss(members, room);
+    } = take_results(workers, room);
     let Gathered { front, book, disks } = gather_up(store, passes, admin);
-    Played {
+    PlayResult {
         front,
         book,
         disks,

@@ -38,7 +38,7 @@ use Rattle.rz_block_laws.specs.ActingLaws.{IsGoingLaw, IsHearingLaw}
 use Rattle.rz_chronicle.specs.Keys.{IsLater}
 use Rattle.rz_chronicle.specs.Kinds.{IsFit, is_honest, volume_in}
 use Rattle.rz_chronicle.specs.Rules.{PassView}
-use Rattle.rz_shared_locked.specs.Seats.{IsRead}
+use Rattle.rz_shared_locked.specs.LockedNodes.{IsRead}
 use Rattle.rz_show.specs.Shown.{shown_in, shown_of}
 use Rattle.rz_threads_steps.specs.Acted.{Lasts, IsRight, HasActed}
 use Rattle.rz_threads_steps.specs.Adding.{AddsOwn}

@@ -23,7 +23,7 @@ use Rattle.rz_chronicle.specs.Keys.{IsOneOf, events_at, actor_key}
 use Rattle.rz_chronicle.specs.Kinds.{IsFit, is_honest, volume_in}
 use Rattle.rz_chronicle.specs.Holds.{Commits}
 use Rattle.rz_shared_locked.specs.Adding.{Adds}
-use Rattle.rz_shared_locked.specs.Seats.{IsFor}
+use Rattle.rz_shared_locked.specs.LockedNodes.{IsFor}
 use Rattle.rz_threads_steps.specs.Adding.{AddsOwn}
 
 abbrev pub AreKept : Type 0

@@ -24,7 +24,7 @@ use Rattle.rz_core.specs.Own.{IsOpen}
 use Rattle.rz_block_laws.specs.Acting.{IsActing}
 use Rattle.rz_block_laws.specs.ActingLaws.{IsAskingLaw}
 use Rattle.rz_block_laws.specs.Laws.{IsHandingLaw}
-use Rattle.rz_shared_locked.specs.Seats.{MayAsk, IsRead}
+use Rattle.rz_shared_locked.specs.LockedNodes.{MayAsk, IsRead}
 use Rattle.rz_play.specs.Lines.{noted}
 use Rattle.rz_play_laws.specs.Own.{IsOfActor}
 use Rattle.rz_player.specs.Messages.{IsNotedAs}

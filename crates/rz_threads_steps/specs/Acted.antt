@@ -11,7 +11,7 @@ use Rattle.rz_block_laws.specs.Acting.{IsActing}
 use Rattle.rz_chronicle.specs.Keys.{IsLater}
 use Rattle.rz_chronicle.specs.Kinds.{IsFit, is_honest, volume_in}
 use Rattle.rz_chronicle.specs.Rules.{PassView}
-use Rattle.rz_shared_locked.specs.Seats.{IsRead}
+use Rattle.rz_shared_locked.specs.LockedNodes.{IsRead}
 use Rattle.rz_show.specs.Shown.{shown_of}
 use Rattle.rz_threads_steps.specs.Adding.{AddsOwn}
 use Rattle.rz_threads_steps.specs.Turned.{IsTurned}

@@ -14,11 +14,11 @@ ghost use Rattle.rz_play_laws.specs.Own.{IsOfActor};
 ghost use Rattle.rz_block_laws.specs.Acting.{AreBytes};
 ghost use Rattle.rz_chronicle.specs.Keys.{count_at, word_key};
 ghost use Rattle.rz_chronicle.specs.Kinds.{IsFit, MayCome, is_honest, volume_in};
-ghost use Rattle.rz_shared_locked.specs.Seats.{MayAsk, IsRead};
+ghost use Rattle.rz_shared_locked.specs.LockedNodes.{MayAsk, IsRead};
 ghost use Rattle.rz_show.specs.Shown.{shown_of};
 ghost use Rattle.rz_threads_steps.specs.Adding.{AddsOwn};
 
-use crate::store::Store;
+use crate::store::SharedStore;
 use rz_chronicle::Pass;
 use rz_disk::Disk;
 use rz_events::{Actor, Call, Event, NodeAnswer, NodeAsk, Reply};
@@ -28,7 +28,7 @@ use std::sync::Wait;
 /// Calls the export for an actor.
 pub fn call_export<R: Wait, D: Disk, J: Counting>(
     rt: &R,
-    store: &Store<D, J>,
+    store: &SharedStore<D, J>,
     pass: &mut Pass<J>,
     call: &Call,
 ) -> Reply
@@ -52,7 +52,7 @@ pub fn call_export<R: Wait, D: Disk, J: Counting>(
 /// Calls a node of the volume for an actor.
 pub fn call_node<R: Wait, D: Disk, J: Counting>(
     rt: &R,
-    store: &Store<D, J>,
+    store: &SharedStore<D, J>,
     pass: &mut Pass<J>,
     node: u16,
     ask: &NodeAsk,
@@ -87,7 +87,7 @@ pub fn call_node<R: Wait, D: Disk, J: Counting>(
 }
 
 /// Adds an event of the actor's own word.
-pub fn add_own<D: Disk, J: Counting>(store: &Store<D, J>, pass: &mut Pass<J>, event: &Event)
+pub fn add_own<D: Disk, J: Counting>(store: &SharedStore<D, J>, pass: &mut Pass<J>, event: &Event)
     requires volume { store.now.volume ≡ volume_in J.kind }
     requires actor { ¬ (pass.old.actor ≡ Actor.Admin) }
     requires word { word_of event.now ≡ w.Own pass.old.actor }

@@ -11,12 +11,12 @@ ghost use Rattle.rz_threads_steps.specs.Turned.{IsCutOff};
 
 use crate::adding::call_export;
 use crate::showing::show_open;
-use crate::store::Store;
+use crate::store::SharedStore;
 use rz_chronicle::Pass;
 use rz_disk::Disk;
 use rz_events::{Actor, Call, CallRef, Event, Text};
 use rz_operation::{Ask, Machine};
-use rz_player::NoMemory;
+use rz_player::Halted;
 use rz_shared::Counting;
 use std::alloc::{AllocError, Global};
 use std::sync::Wait;
@@ -45,12 +45,12 @@ fn call_of(alloc: Global, ask: CallRef<'_>) -> Result<Call, AllocError>
 }
 
 /// The call of the export that a machine asks for.
-pub fn next_call(alloc: Global, machine: &Machine) -> Result<Call, NoMemory>
+pub fn next_call(alloc: Global, machine: &Machine) -> Result<Call, Halted>
     ensures { IfOk result (λ c. ask_of machine.now.layout machine.now.work ≡ AskExport c) }
 {
     match machine.next() {
         Ask::Export(ask) => Ok(call_of(alloc, ask)?),
-        _ => Err(NoMemory),
+        _ => Err(Halted),
     }
 }
 
@@ -59,11 +59,11 @@ pub fn next_call(alloc: Global, machine: &Machine) -> Result<Call, NoMemory>
 pub fn ask_export<R: Wait, D: Disk, J: Counting>(
     rt: &R,
     alloc: Global,
-    store: &Store<D, J>,
+    store: &SharedStore<D, J>,
     pass: &mut Pass<J>,
     machine: &mut Machine,
     shown: &mut Vec<Event>,
-) -> Result<(), NoMemory>
+) -> Result<(), Halted>
     requires volume { store.now.volume ≡ volume_in J.kind }
     requires actor { ¬ (pass.old.actor ≡ Actor.Admin) }
     requires right { (number : ℕ) × IsRight J.kind pass.old number machine.old }
@@ -84,7 +84,7 @@ pub fn ask_export<R: Wait, D: Disk, J: Counting>(
     show_open(by, call, &reply, shown);
     if !takes {
         drop(reply);
-        return Err(NoMemory);
+        return Err(Halted);
     }
     machine.tell_reply(reply);
     Ok(())

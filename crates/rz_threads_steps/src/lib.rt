@@ -1,6 +1,6 @@
 //! The steps of an operation beside others: what it asks of a cluster, each with its event in the book.
 //!
-//! A [`Store`] is shared by all actors. [`call_export`], [`call_node`] and [`add_own`] are the calls and acts of
+//! A [`SharedStore`] is shared by all actors. [`call_export`], [`call_node`] and [`add_own`] are the calls and acts of
 //! one actor over it. Each adds its event to the book before the actor hears of the answer, so the actor's own
 //! events are those that it had and this one, whatever others add, and over an honest book the event says what
 //! is so for good. `next_call`, `next_open` and `said` turn what a machine asks into calls and events, and
@@ -24,8 +24,8 @@ mod words;
 
 pub use adding::{add_own, call_export, call_node};
 pub use exports::{ask_export, next_call};
-pub use locking::{Wish, next_open, open_locked, release};
-pub use rz_player::NoMemory;
+pub use locking::{WantedLock, next_open, open_locked, release};
+pub use rz_player::Halted;
 pub use sending::message;
-pub use store::Store;
+pub use store::SharedStore;
 pub use words::{said, say};

@@ -13,27 +13,27 @@ ghost use Rattle.rz_threads_steps.specs.Turned.{IsCutOff};
 
 use crate::adding::call_export;
 use crate::showing::show_open;
-use crate::store::Store;
+use crate::store::SharedStore;
 use rz_chronicle::Pass;
 use rz_disk::Disk;
 use rz_events::{Actor, Call, Event, Reply, TreeCall, TreeReply};
 use rz_locks::{LockAnswer, LockKind, Locks, Range};
 use rz_operation::{Ask, Machine};
-use rz_player::NoMemory;
+use rz_player::Halted;
 use rz_shared::Counting;
 use std::alloc::Global;
 use std::sync::{Mutex, Wait};
 
 /// The bytes that are to be locked, for one operation alone or shared.
 #[derive(Clone, Copy, Drop)]
-pub struct Wish {
+pub struct WantedLock {
     pub exclusive: bool,
     pub from: u64,
     pub count: u64,
 }
 
 /// The call that opens the file which a machine asks for, and the bytes of it that it wants locked.
-pub fn next_open(alloc: Global, machine: &Machine) -> Result<(Call, Wish), NoMemory>
+pub fn next_open(alloc: Global, machine: &Machine) -> Result<(Call, WantedLock), Halted>
     ensures { IfOk result (λ r. (path : List ℕ) × (r.0 ≡ calls.Tree (tree.OpenFile path)) × (ask_of machine.now.layout machine.now.work ≡ AskLock path r.1.exclusive r.1.from r.1.count)) }
 {
     let Ask::Lock {
@@ -43,12 +43,12 @@ pub fn next_open(alloc: Global, machine: &Machine) -> Result<(Call, Wish), NoMem
         count,
     } = machine.next()
     else {
-        return Err(NoMemory);
+        return Err(Halted);
     };
     if !opens(call) {
-        return Err(NoMemory);
+        return Err(Halted);
     }
-    let wish = Wish {
+    let wish = WantedLock {
         exclusive,
         from,
         count,
@@ -65,7 +65,7 @@ fn opens(call: &TreeCall) -> bool
 
 /// Takes a client's lock on bytes of the file that was opened, if it was, and answers whether it was
 /// granted. A client that asks again holds none.
-fn take<R: Wait>(rt: &R, locks: &Mutex<Locks>, by: Actor, reply: &Reply, wish: Wish) -> bool {
+fn take<R: Wait>(rt: &R, locks: &Mutex<Locks>, by: Actor, reply: &Reply, wish: WantedLock) -> bool {
     let Reply::Tree(TreeReply::File(info)) = reply else {
         return false;
     };
@@ -111,11 +111,11 @@ pub fn release<R: Wait>(rt: &R, locks: &Mutex<Locks>, by: Actor) {
 pub fn open_locked<R: Wait, D: Disk, J: Counting>(
     rt: &R,
     alloc: Global,
-    store: &Store<D, J>,
+    store: &SharedStore<D, J>,
     pass: &mut Pass<J>,
     machine: &mut Machine,
     shown: &mut Vec<Event>,
-) -> Result<(), NoMemory>
+) -> Result<(), Halted>
     requires volume { store.now.volume ≡ volume_in J.kind }
     requires actor { ¬ (pass.old.actor ≡ Actor.Admin) }
     requires shows { shown.old.items ≡ shown_of (of_actor pass.old.actor pass.old.log) }
@@ -135,7 +135,7 @@ pub fn open_locked<R: Wait, D: Disk, J: Counting>(
     show_open(by, call, &reply, shown);
     if !takes {
         drop(reply);
-        return Err(NoMemory);
+        return Err(Halted);
     }
     let granted = take(rt, &store.locks, by, &reply, wish);
     machine.tell_locked(granted, reply);

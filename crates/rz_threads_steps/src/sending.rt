@@ -23,7 +23,7 @@ ghost use Rattle.rz_threads_steps.specs.Asking.{IsPlaced};
 ghost use Rattle.rz_threads_steps.specs.Turned.{AreLost, IsCutOff};
 
 use crate::adding::{add_own, call_node};
-use crate::store::Store;
+use crate::store::SharedStore;
 use mj_angles::Layout;
 use rz_chronicle::Pass;
 use rz_config::Volume;
@@ -32,7 +32,7 @@ use rz_events::{Actor, Event, NodeAnswer, NodeAsk, NodeSpec, ReplaceAnswer};
 use rz_link::{Link, Sent, fate};
 use rz_node::is_record;
 use rz_operation::{Machine, goes_by_link};
-use rz_player::NoMemory;
+use rz_player::Halted;
 use rz_shared::Counting;
 use std::sync::Wait;
 
@@ -73,13 +73,13 @@ fn wants_memory(given: &NodeAnswer) -> bool
 /// Gives a call to a node, with the bins of what it is to keep, or with room for those that it reads.
 fn serve<R: Wait, D: Disk, J: Counting>(
     rt: &R,
-    store: &Store<D, J>,
+    store: &SharedStore<D, J>,
     pass: &mut Pass<J>,
     node: u16,
     machine: &Machine,
     ask: &NodeAsk,
     bins: &mut [u64],
-) -> Result<NodeAnswer, NoMemory>
+) -> Result<NodeAnswer, Halted>
     requires volume { store.now.volume ≡ volume_in J.kind }
     requires node { IsNodeOf (volume_in J.kind) node }
     requires actor { ¬ (pass.old.actor ≡ Actor.Admin) }
@@ -97,7 +97,7 @@ fn serve<R: Wait, D: Disk, J: Counting>(
         NodeAsk::Keep(head) | NodeAsk::Refill { head, .. } => {
             let given = machine.bins();
             if !is_record(layout, head, given) || bins.len() < given.len() {
-                return Err(NoMemory);
+                return Err(Halted);
             }
             let own = &mut bins[..given.len()];
             own.copy_from_slice(given);
@@ -105,20 +105,20 @@ fn serve<R: Wait, D: Disk, J: Counting>(
         }
         NodeAsk::Fetch { .. } | NodeAsk::Drop { .. } | NodeAsk::Probe | NodeAsk::Replace { .. } =>
             Ok(call_node(rt, store, pass, node, ask, bins)),
-        NodeAsk::Stop | NodeAsk::Start | NodeAsk::Lose => Err(NoMemory),
+        NodeAsk::Stop | NodeAsk::Start | NodeAsk::Lose => Err(Halted),
     }
 }
 
 /// The message comes through.
 fn through<R: Wait, D: Disk, J: Counting>(
     rt: &R,
-    store: &Store<D, J>,
+    store: &SharedStore<D, J>,
     pass: &mut Pass<J>,
     node: u16,
     machine: &mut Machine,
     ask: &NodeAsk,
     bins: &mut [u64],
-) -> Result<(), NoMemory>
+) -> Result<(), Halted>
     requires volume { store.now.volume ≡ volume_in J.kind }
     requires node { IsNodeOf (volume_in J.kind) node }
     requires actor { ¬ (pass.old.actor ≡ Actor.Admin) }
@@ -138,18 +138,23 @@ fn through<R: Wait, D: Disk, J: Counting>(
     let _most = layout.max_bins();
     let _fit = pass.actor();
     if !is_placed(layout, ask) {
-        return Err(NoMemory);
+        return Err(Halted);
     }
     let answer = serve(rt, store, pass, node, machine, ask, bins)?;
     if wants_memory(&answer) || !machine.takes_answer(&answer) {
-        return Err(NoMemory);
+        return Err(Halted);
     }
     machine.tell_answer(answer, bins);
     Ok(())
 }
 
 /// Adds that the message to a node, or its answer, was lost.
-fn add_missed<D: Disk, J: Counting>(store: &Store<D, J>, pass: &mut Pass<J>, node: u16, reply: bool)
+fn add_missed<D: Disk, J: Counting>(
+    store: &SharedStore<D, J>,
+    pass: &mut Pass<J>,
+    node: u16,
+    reply: bool,
+)
     requires volume { store.now.volume ≡ volume_in J.kind }
     requires actor { ¬ (pass.old.actor ≡ Actor.Admin) }
     requires going { IsTrue (is_honest J.kind) → IsOpen (of_actor pass.old.actor pass.old.log) }
@@ -167,13 +172,13 @@ fn add_missed<D: Disk, J: Counting>(store: &Store<D, J>, pass: &mut Pass<J>, nod
 /// The node is given the call, and its answer is lost.
 fn without_reply<R: Wait, D: Disk, J: Counting>(
     rt: &R,
-    store: &Store<D, J>,
+    store: &SharedStore<D, J>,
     pass: &mut Pass<J>,
     node: u16,
     machine: &mut Machine,
     ask: &NodeAsk,
     bins: &mut [u64],
-) -> Result<(), NoMemory>
+) -> Result<(), Halted>
     requires volume { store.now.volume ≡ volume_in J.kind }
     requires node { IsNodeOf (volume_in J.kind) node }
     requires actor { ¬ (pass.old.actor ≡ Actor.Admin) }
@@ -192,7 +197,7 @@ fn without_reply<R: Wait, D: Disk, J: Counting>(
     let _fit = pass.actor();
     let answer = serve(rt, store, pass, node, machine, ask, bins)?;
     if wants_memory(&answer) || !machine.takes_answer(&answer) || !pass.room() {
-        return Err(NoMemory);
+        return Err(Halted);
     }
     add_missed(store, pass, node, true);
     machine.tell_missed();
@@ -201,12 +206,12 @@ fn without_reply<R: Wait, D: Disk, J: Counting>(
 
 /// The message is lost.
 fn without_request<D: Disk, J: Counting>(
-    store: &Store<D, J>,
+    store: &SharedStore<D, J>,
     pass: &mut Pass<J>,
     node: u16,
     machine: &mut Machine,
     ask: &NodeAsk,
-) -> Result<(), NoMemory>
+) -> Result<(), Halted>
     requires volume { store.now.volume ≡ volume_in J.kind }
     requires actor { ¬ (pass.old.actor ≡ Actor.Admin) }
     requires asked { ask_of machine.old.layout machine.old.work ≡ AskNode node ask.now }
@@ -224,7 +229,7 @@ fn without_request<D: Disk, J: Counting>(
     let _ = ask;
     let _fit = pass.actor();
     if !pass.room() {
-        return Err(NoMemory);
+        return Err(Halted);
     }
     add_missed(store, pass, node, false);
     machine.tell_missed();
@@ -235,14 +240,14 @@ fn without_request<D: Disk, J: Counting>(
 /// or its answer was lost. A record that is fetched comes into `bins`.
 pub fn message<R: Wait, D: Disk, J: Counting, L: Link>(
     rt: &R,
-    store: &Store<D, J>,
+    store: &SharedStore<D, J>,
     pass: &mut Pass<J>,
     link: &mut L,
     node: u16,
     machine: &mut Machine,
     ask: NodeAsk,
     bins: &mut [u64],
-) -> Result<(), NoMemory>
+) -> Result<(), Halted>
     requires volume { store.now.volume ≡ volume_in J.kind }
     requires actor { ¬ (pass.old.actor ≡ Actor.Admin) }
     requires layout { machine.old.layout ≡ (volume_in J.kind).layout }
@@ -258,7 +263,7 @@ pub fn message<R: Wait, D: Disk, J: Counting, L: Link>(
 {
     let _fit = pass.actor();
     if node == 0 || !is_in(&store.volume, node) {
-        return Err(NoMemory);
+        return Err(Halted);
     }
     match fate(goes_by_link(&ask), None, node, link) {
         Sent::Through => through(rt, store, pass, node, machine, &ask, bins),

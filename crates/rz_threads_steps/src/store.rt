@@ -11,14 +11,14 @@ use std::sync::Mutex;
 
 /// The cluster, the book of its log, what the volume is, and the locks on ranges of bytes.
 #[derive(Drop)]
-pub struct Store<D: Disk, J: Counting> {
+pub struct SharedStore<D: Disk, J: Counting> {
     pub cluster: Cluster<D, J>,
     pub book: Book<J>,
     pub volume: Volume,
     pub locks: Mutex<Locks>,
 }
 
-impl<D: Disk, J: Counting> Store<D, J> {
+impl<D: Disk, J: Counting> SharedStore<D, J> {
     /// The layout of the volume.
     pub fn layout(&self) -> Layout
         ensures { result ≡ self.now.volume.layout }

@@ -14,12 +14,12 @@ ghost use Rattle.rz_threads_steps.specs.Turned.{IsCutOff};
 
 use crate::adding::add_own;
 use crate::showing::show;
-use crate::store::Store;
+use crate::store::SharedStore;
 use rz_chronicle::Pass;
 use rz_disk::Disk;
 use rz_events::{Actor, Event, ReadEnd, ReadMark, Text};
 use rz_operation::{Ask, Machine, Saying};
-use rz_player::NoMemory;
+use rz_player::Halted;
 use rz_shared::Counting;
 use std::alloc::{AllocError, Global};
 
@@ -46,7 +46,7 @@ fn end_of(alloc: Global, machine: &Machine, mark: ReadMark) -> Result<ReadEnd, A
 }
 
 /// The event of what a machine is about to say, which it has then said.
-pub fn said(alloc: Global, by: Actor, number: u32, machine: &mut Machine) -> Result<Event, NoMemory>
+pub fn said(alloc: Global, by: Actor, number: u32, machine: &mut Machine) -> Result<Event, Halted>
     ensures said { IfOk result (IsSaid by number machine.old machine.new) }
 {
     match machine.next() {
@@ -79,19 +79,19 @@ pub fn said(alloc: Global, by: Actor, number: u32, machine: &mut Machine) -> Res
             let answer = machine.finish();
             Ok(Event::Done { by, number, answer })
         }
-        Ask::Export(_) | Ask::Lock { .. } | Ask::Node { .. } | Ask::Rest => Err(NoMemory),
+        Ask::Export(_) | Ask::Lock { .. } | Ask::Node { .. } | Ask::Rest => Err(Halted),
     }
 }
 
 /// Says what a machine is about to say, and tells it so. Its event may be one that is shown.
 pub fn say<D: Disk, J: Counting>(
     alloc: Global,
-    store: &Store<D, J>,
+    store: &SharedStore<D, J>,
     pass: &mut Pass<J>,
     number: u32,
     machine: &mut Machine,
     shown: &mut Vec<Event>,
-) -> Result<(), NoMemory>
+) -> Result<(), Halted>
     requires volume { store.now.volume ≡ volume_in J.kind }
     requires actor { ¬ (pass.old.actor ≡ Actor.Admin) }
     requires right { IsRight J.kind pass.old number machine.old }
@@ -108,7 +108,7 @@ pub fn say<D: Disk, J: Counting>(
     rz_chronicle::words_counted();
     let by = pass.actor();
     if !pass.room() {
-        return Err(NoMemory);
+        return Err(Halted);
     }
     shown.reserve(1)?;
     let event = said(alloc, by, number, machine)?;

@@ -10,20 +10,20 @@ use Rattle.rz_operation_model.specs.Turns.{IsStep}
 use Rattle.rz_operation.specs.Machine.{Machine}
 use Rattle.rz_core.specs.History.{of_actor}
 use Rattle.rz_play.specs.Faults.{missed}
-use Rattle.rz_play.specs.World.{Seat, at_work, with_work}
+use Rattle.rz_play.specs.World.{Agenda, at_work, with_work}
 use Rattle.rz_threads_steps.specs.Turned.{GoesOn, IsTurned, IsCutOff, AreLost}
 use Rattle.rz_threads_steps.proofs.Acts.{goes-as-told}
 use Rattle.rz_threads_worker.specs.Doing.{IsDoing, Begins, Turns, HasDone, IsBegun}
 
 module _ (honest : Bool) (layout : Layout) (by : Actor) where
   -- turns after turns
-  pub doing-on : (from mid last : Seat) (run more : List Event) → IsDoing honest layout by from run mid → IsDoing honest layout by mid more last → IsDoing honest layout by from (more ++ run) last
+  pub doing-on : (from mid last : Agenda) (run more : List Event) → IsDoing honest layout by from run mid → IsDoing honest layout by mid more last → IsDoing honest layout by from (more ++ run) last
   doing-on from mid last run more first Begins = first
   doing-on from mid last run more first (Turns before s t xs work next step goes) =
       subst (λ (r : List Event). IsDoing honest layout by from r (with_work (at_work s) work)) (sym (append_assoc xs before run))
       (Turns (before ++ run) s t xs work (doing-on from mid s run before first next) step goes)
 
-  pub done-on : (from mid last : Seat) (old between new : List Event) → HasDone honest layout by from mid old between → HasDone honest layout by mid last between new → HasDone honest layout by from last old new
+  pub done-on : (from mid last : Agenda) (old between new : List Event) → HasDone honest layout by from mid old between → HasDone honest layout by mid last between new → HasDone honest layout by from last old new
   done-on from mid last old between new first next = record {
     run = next.run ++ first.run;
     own = next.own ∙ ap (λ (o : List Event). next.run ++ o) first.own ∙ sym (append_assoc next.run first.run (of_actor by old));
@@ -31,19 +31,19 @@ module _ (honest : Bool) (layout : Layout) (by : Actor) where
   }
 
   -- nothing was done
-  pub none-done : (s : Seat) (old new : List Event) → of_actor by new ≡ of_actor by old → HasDone honest layout by s s old new
+  pub none-done : (s : Agenda) (old new : List Event) → of_actor by new ≡ of_actor by old → HasDone honest layout by s s old new
   none-done s old new own = record { run = []; own = own; doing = Begins }
 
   -- one turn was
-  module _ (s w : Seat) (m : Machine) (old new : List Event) (at : w ≡ at_work s) (work : w.work ≡ m.work) (is : m.layout ≡ layout) where
+  module _ (s w : Agenda) (m : Machine) (old new : List Event) (at : w ≡ at_work s) (work : w.work ≡ m.work) (is : m.layout ≡ layout) where
     step-at : (t : Told) (xs : List Event) → IsStep by w.number (ask_of m.layout m.work) t xs → IsStep by (at_work s).number (ask_of layout (at_work s).work) t xs
     step-at t xs step =
-        subst (λ (z : Seat). IsStep by z.number (ask_of layout z.work) t xs) at
+        subst (λ (z : Agenda). IsStep by z.number (ask_of layout z.work) t xs) at
         (subst (λ (k : Work). IsStep by w.number (ask_of layout k) t xs) (sym work) (subst (λ (y : Layout). IsStep by w.number (ask_of y m.work) t xs) is step))
 
     goes-at : (t : Told) (work' : Work) → GoesOn honest m.layout m.work t work' → GoesOn honest layout (at_work s).work t work'
     goes-at t work' goes =
-        subst (λ (z : Seat). GoesOn honest layout z.work t work') at
+        subst (λ (z : Agenda). GoesOn honest layout z.work t work') at
         (subst (λ (k : Work). GoesOn honest layout k t work') (sym work) (subst (λ (y : Layout). GoesOn honest y m.work t work') is goes))
 
     stepped : (t : Told) (xs : List Event) (work' : Work) → of_actor by new ≡ xs ++ of_actor by old → IsStep by w.number (ask_of m.layout m.work) t xs → GoesOn honest m.layout m.work t work'
@@ -51,7 +51,7 @@ module _ (honest : Bool) (layout : Layout) (by : Actor) where
     stepped t xs work' own step goes = record {
       run = xs;
       own = own;
-      doing = subst (λ (z : Seat). IsDoing honest layout by s xs (with_work z work')) (sym at)
+      doing = subst (λ (z : Agenda). IsDoing honest layout by s xs (with_work z work')) (sym at)
           (subst (λ (r : List Event). IsDoing honest layout by s r (with_work (at_work s) work')) (append-nil xs) (Turns [] s t xs work' Begins (step-at t xs step) (goes-at t work' goes)));
     }
 

@@ -1,3 +1,3 @@
 pub mod Doings
-pub mod Seats
+pub mod Agendas
 pub mod Workings

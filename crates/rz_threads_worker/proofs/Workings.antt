@@ -9,17 +9,17 @@ use Rattle.rz_events.specs.declared.events.Event.{Event}
 use Rattle.rz_script.specs.Lines.{IsOperation}
 use Rattle.rz_operation.specs.Machine.{Machine}
 use Rattle.rz_core.specs.History.{of_actor}
-use Rattle.rz_play.specs.World.{Seat as APlayer}
+use Rattle.rz_play.specs.World.{Agenda as APlayer}
 use Rattle.rz_chronicle.specs.Kinds.{is_honest, volume_in}
 use Rattle.rz_chronicle.specs.Rules.{PassView}
 use Rattle.rz_show.specs.Shown.{shown_of}
 use Rattle.rz_threads_steps.specs.Acted.{Lasts, HasActed}
 use Rattle.rz_threads_steps.specs.Turned.{IsCutOff, AreLost}
-use Rattle.rz_threads_worker.specs.declared.seat.Seat.{Seat}
+use Rattle.rz_threads_worker.specs.declared.agenda.Agenda.{Agenda}
 use Rattle.rz_threads_worker.specs.Doing.{HasDone, IsBegun}
-use Rattle.rz_threads_worker.specs.Workers.{IsReady, TakesUp, seat_of, work_in}
+use Rattle.rz_threads_worker.specs.Workers.{IsReady, TakesUp, agenda_of, work_in}
 use Rattle.rz_threads_worker.proofs.Doings.{turn-done, cut-begun, done-on, lost-on}
-use Rattle.rz_threads_worker.proofs.Seats.{taken-up}
+use Rattle.rz_threads_worker.proofs.Agendas.{taken-up}
 
 -- a vector of which a part was written is as long
 pub written : (n : ℕ) (xs ys : List ℕ) → length xs ≡ length ys → n ≡ length ys → length (take n (xs ++ drop (length xs) ys)) ≡ length ys
@@ -29,7 +29,7 @@ written n xs ys same is =
     let left = length-drop (length xs) ys in
     omega (arith, taken, both, left, same, is)
 
-module _ (kind : List ℕ) (p q : PassView) (s : Seat) (m m' : Machine) (bins bins' : List ℕ) (shown shown' : List Event) (ready : IsReady kind p s bins shown) (lasts : Lasts kind p q) where
+module _ (kind : List ℕ) (p q : PassView) (s : Agenda) (m m' : Machine) (bins bins' : List ℕ) (shown shown' : List Event) (ready : IsReady kind p s bins shown) (lasts : Lasts kind p q) where
   abbrev v : Volume
   v = volume_in kind
 
@@ -47,14 +47,14 @@ module _ (kind : List ℕ) (p q : PassView) (s : Seat) (m m' : Machine) (bins bi
 
 -- ---- what a turn makes of the actor's operations
 
-module _ (kind : List ℕ) (p q : PassView) (layout : Layout) (a b : Seat) (m : Machine) (of_volume : layout ≡ (volume_in kind).layout) (takes : TakesUp layout a b) (is : b.machine ≡ Some m) (of_layout : m.layout ≡ (volume_in kind).layout) where
+module _ (kind : List ℕ) (p q : PassView) (layout : Layout) (a b : Agenda) (m : Machine) (of_volume : layout ≡ (volume_in kind).layout) (takes : TakesUp layout a b) (is : b.machine ≡ Some m) (of_layout : m.layout ≡ (volume_in kind).layout) where
   pub turn-taken : (m' : Machine) → HasActed kind b.number p q m m'
-      → HasDone (is_honest kind) (volume_in kind).layout p.actor (seat_of a) (seat_of (record b { machine = Some m' })) p.log q.log
+      → HasDone (is_honest kind) (volume_in kind).layout p.actor (agenda_of a) (agenda_of (record b { machine = Some m' })) p.log q.log
   turn-taken m' acted =
-      turn-done (is_honest kind) (volume_in kind).layout p.actor (seat_of a) (seat_of b) m p.log q.log (taken-up layout a b takes) (ap work_in is) of_layout m' acted.turned
+      turn-done (is_honest kind) (volume_in kind).layout p.actor (agenda_of a) (agenda_of b) m p.log q.log (taken-up layout a b takes) (ap work_in is) of_layout m' acted.turned
 
-  pub turn-begun : IsCutOff p.actor b.number p.log q.log m → IsBegun (is_honest kind) (volume_in kind).layout p.actor (seat_of a) p.log q.log
-  turn-begun cut = cut-begun (is_honest kind) (volume_in kind).layout p.actor (seat_of a) (seat_of b) m p.log q.log (taken-up layout a b takes) (ap work_in is) of_layout cut
+  pub turn-begun : IsCutOff p.actor b.number p.log q.log m → IsBegun (is_honest kind) (volume_in kind).layout p.actor (agenda_of a) p.log q.log
+  turn-begun cut = cut-begun (is_honest kind) (volume_in kind).layout p.actor (agenda_of a) (agenda_of b) m p.log q.log (taken-up layout a b takes) (ap work_in is) of_layout cut
 
 -- ---- turns after turns, of one actor
 

@@ -8,22 +8,22 @@ use Rattle.rz_operation_model.specs.Work.{Work}
 use Rattle.rz_operation_model.specs.Steps.{Told}
 use Rattle.rz_operation_model.specs.Turns.{IsStep}
 use Rattle.rz_core.specs.History.{of_actor}
-use Rattle.rz_play.specs.World.{Seat, at_work, with_work}
+use Rattle.rz_play.specs.World.{Agenda, at_work, with_work}
 use Rattle.rz_threads_steps.specs.Turned.{GoesOn}
 
--- The actor has come from one seat to another by turns with these events of its own, the newest first: each of them once.
-pub data IsDoing (honest : Bool) (layout : Layout) (by : Actor) (from : Seat) : List Event → Seat → Type 0 where
+-- The actor has come from one agenda to another by turns with these events of its own, the newest first: each of them once.
+pub data IsDoing (honest : Bool) (layout : Layout) (by : Actor) (from : Agenda) : List Event → Agenda → Type 0 where
   Begins : IsDoing honest layout by from [] from
-  Turns : (run : List Event) (s : Seat) (t : Told) (xs : List Event) (work : Work) → IsDoing honest layout by from run s
+  Turns : (run : List Event) (s : Agenda) (t : Told) (xs : List Event) (work : Work) → IsDoing honest layout by from run s
       → IsStep by (at_work s).number (ask_of layout (at_work s).work) t xs → GoesOn honest layout (at_work s).work t work
       → IsDoing honest layout by from (xs ++ run) (with_work (at_work s) work)
 
--- Its own events in the new log are those that it had, and those of turns from this seat to that one.
-pub record HasDone (honest : Bool) (layout : Layout) (by : Actor) (from to : Seat) (old new : List Event) : Type 0 where
+-- Its own events in the new log are those that it had, and those of turns from this agenda to that one.
+pub record HasDone (honest : Bool) (layout : Layout) (by : Actor) (from to : Agenda) (old new : List Event) : Type 0 where
   pub run : List Event
   pub own : of_actor by new ≡ run ++ of_actor by old
   pub doing : IsDoing honest layout by from run to
 
 -- some of its operations are done, and a beginning of one
-abbrev pub IsBegun : Bool → Layout → Actor → Seat → List Event → List Event → Type 0
-IsBegun honest layout by from old new = (last : Seat) × HasDone honest layout by from last old new
+abbrev pub IsBegun : Bool → Layout → Actor → Agenda → List Event → List Event → Type 0
+IsBegun honest layout by from old new = (last : Agenda) × HasDone honest layout by from last old new

@@ -14,21 +14,21 @@ use Rattle.rz_operation_model.specs.Work.{Work, Over}
 use Rattle.rz_core.specs.History.{of_actor}
 use Rattle.rz_core.specs.Own.{IsBetween}
 use Rattle.rz_operation_model.specs.Steps.{begun}
-use Rattle.rz_play.specs.World.{Seat as APlayer, has_work, is_over}
+use Rattle.rz_play.specs.World.{Agenda as APlayer, has_work, is_over}
 use Rattle.rz_block_laws.specs.Acting.{IsActing}
 use Rattle.rz_chronicle.specs.Kinds.{is_honest, volume_in}
 use Rattle.rz_chronicle.specs.Rules.{PassView}
 use Rattle.rz_show.specs.Shown.{shown_of}
-use Rattle.rz_threads_worker.specs.declared.seat.Seat.{Seat}
+use Rattle.rz_threads_worker.specs.declared.agenda.Agenda.{Agenda}
 use Rattle.rz_threads_worker.specs.Doing.{HasDone}
 
 abbrev pub work_in : Option Machine → Work
 work_in None = Over
 work_in (Some m) = m.work
 
--- the actor of a play that a worker's seat stands for
-abbrev pub seat_of : Seat → APlayer
-seat_of s = record { todo = s.todo.items; number = s.number; work = work_in s.machine; lock = None; miss = None }
+-- the actor of a play that a worker's agenda stands for
+abbrev pub agenda_of : Agenda → APlayer
+agenda_of s = record { todo = s.todo.items; number = s.number; work = work_in s.machine; lock = None; miss = None }
 
 -- a machine has the layout
 abbrev pub HasLayout : Layout → Option Machine → Type 0
@@ -41,24 +41,24 @@ IsAtHand v h by number None = IsBetween (of_actor by h)
 IsAtHand v h by number (Some m) = IsActing v h by number m
 
 -- A client or a rebuilder that can take its next turn: `bins` has room for a record, and `shown` its events that are shown.
-pub record IsReady (kind : List ℕ) (pass : PassView) (seat : Seat) (bins : List ℕ) (shown : List Event) : Type 0 where
+pub record IsReady (kind : List ℕ) (pass : PassView) (agenda : Agenda) (bins : List ℕ) (shown : List Event) : Type 0 where
   pub actor : ¬ (pass.actor ≡ Admin)
-  pub todo : AllByRecursion (IsOperation (volume_in kind) pass.actor) seat.todo.items
-  pub machine : HasLayout (volume_in kind).layout seat.machine
-  pub at_hand : IsTrue (is_honest kind) → IsAtHand (volume_in kind) pass.log pass.actor seat.number seat.machine
+  pub todo : AllByRecursion (IsOperation (volume_in kind) pass.actor) agenda.todo.items
+  pub machine : HasLayout (volume_in kind).layout agenda.machine
+  pub at_hand : IsTrue (is_honest kind) → IsAtHand (volume_in kind) pass.log pass.actor agenda.number agenda.machine
   pub room : max_bins_of (volume_in kind).layout ≤ length bins
   pub shows : shown ≡ shown_of (of_actor pass.actor pass.log)
 
 -- An operation in hand stays there. Where none is in hand the next one begins, or nothing is left to do.
-pub data TakesUp (layout : Layout) (a b : Seat) : Type 0 where
+pub data TakesUp (layout : Layout) (a b : Agenda) : Type 0 where
   Works : is_over (work_in a.machine) ≡ false → b ≡ a → TakesUp layout a b
   Rests : a.todo.items ≡ [] → b.todo.items ≡ [] → b.number ≡ a.number → b.machine ≡ a.machine → TakesUp layout a b
   Begins : (op : Operation) (m : Machine) → is_over (work_in a.machine) ≡ true → a.todo.items ≡ op ∷ b.todo.items → b.number ≡ a.number + 1
       → b.machine ≡ Some m → m.layout ≡ layout → m.work ≡ begun op → TakesUp layout a b
 
--- a seat with these operations, of which none has begun
-abbrev pub seat_with : List Operation → APlayer
-seat_with todo = record { todo = todo; number = 0; work = Over; lock = None; miss = None }
+-- an agenda with these operations, of which none has begun
+abbrev pub agenda_with : List Operation → APlayer
+agenda_with todo = record { todo = todo; number = 0; work = Over; lock = None; miss = None }
 
 -- All its operations are done, and nothing else: each in turn, and no turn twice.
 pub record IsAllDone (honest : Bool) (layout : Layout) (by : Actor) (from : APlayer) (old new : List Event) : Type 0 where

@@ -7,22 +7,22 @@ ghost use Rattle.rz_chronicle.specs.Kinds.{volume_in};
 ghost use Rattle.rz_show.specs.Shown.{shown_of};
 ghost use Rattle.rz_threads_steps.specs.Acted.{Lasts, IsRight, HasActed};
 ghost use Rattle.rz_threads_steps.specs.Turned.{AreLost, IsCutOff};
-ghost use Rattle.rz_threads_worker.specs.Asking.{IsKind};
+ghost use Rattle.rz_threads_worker.specs.Asking.{IsAskKind};
 
 use rz_chronicle::Pass;
 use rz_disk::Disk;
 use rz_events::{Actor, Event, NodeAsk};
 use rz_link::Link;
 use rz_operation::{Ask, Machine};
-use rz_player::NoMemory;
+use rz_player::Halted;
 use rz_shared::Counting;
-use rz_threads_steps::{Store, ask_export, message, open_locked, say};
+use rz_threads_steps::{SharedStore, ask_export, message, open_locked, say};
 use std::alloc::Global;
 use std::sync::Wait;
 
 /// What kind of thing a machine asks.
 #[derive(Clone, Copy, Drop)]
-pub(crate) enum Kind {
+pub(crate) enum AskKind {
     Rest,
     Export,
     Lock,
@@ -30,15 +30,15 @@ pub(crate) enum Kind {
     Say,
 }
 
-fn kind_of(machine: &Machine) -> Kind
-    ensures { IsKind (ask_of machine.now.layout machine.now.work) result }
+fn ask_kind(machine: &Machine) -> AskKind
+    ensures { IsAskKind (ask_of machine.now.layout machine.now.work) result }
 {
     match machine.next() {
-        Ask::Rest => Kind::Rest,
-        Ask::Export(_) => Kind::Export,
-        Ask::Lock { .. } => Kind::Lock,
-        Ask::Node { node, ask } => Kind::Node { node, ask },
-        Ask::Say(_) => Kind::Say,
+        Ask::Rest => AskKind::Rest,
+        Ask::Export(_) => AskKind::Export,
+        Ask::Lock { .. } => AskKind::Lock,
+        Ask::Node { node, ask } => AskKind::Node { node, ask },
+        Ask::Say(_) => AskKind::Say,
     }
 }
 
@@ -46,14 +46,14 @@ fn kind_of(machine: &Machine) -> Kind
 pub(crate) fn act<R: Wait, D: Disk, J: Counting, L: Link>(
     rt: &R,
     alloc: Global,
-    store: &Store<D, J>,
+    store: &SharedStore<D, J>,
     pass: &mut Pass<J>,
     link: &mut L,
     number: u32,
     machine: &mut Machine,
     bins: &mut [u64],
     shown: &mut Vec<Event>,
-) -> Result<(), NoMemory>
+) -> Result<(), Halted>
     requires volume { store.now.volume ≡ volume_in J.kind }
     requires actor { ¬ (pass.old.actor ≡ Actor.Admin) }
     requires layout { machine.old.layout ≡ (volume_in J.kind).layout }
@@ -67,11 +67,11 @@ pub(crate) fn act<R: Wait, D: Disk, J: Counting, L: Link>(
     ensures cut { OnErr result (IsCutOff pass.old.actor number pass.old.log pass.new.log machine.old) }
 {
     let _fit = pass.actor();
-    match kind_of(machine) {
-        Kind::Rest => Err(NoMemory),
-        Kind::Export => ask_export(rt, alloc, store, pass, machine, shown),
-        Kind::Lock => open_locked(rt, alloc, store, pass, machine, shown),
-        Kind::Node { node, ask } => message(rt, store, pass, link, node, machine, ask, bins),
-        Kind::Say => say(alloc, store, pass, number, machine, shown),
+    match ask_kind(machine) {
+        AskKind::Rest => Err(Halted),
+        AskKind::Export => ask_export(rt, alloc, store, pass, machine, shown),
+        AskKind::Lock => open_locked(rt, alloc, store, pass, machine, shown),
+        AskKind::Node { node, ask } => message(rt, store, pass, link, node, machine, ask, bins),
+        AskKind::Say => say(alloc, store, pass, number, machine, shown),
     }
 }

@@ -1,24 +1,24 @@
 //! One client or rebuilder at work beside others: its operations, step by step, and the laws of its turns.
 //!
-//! A [`Worker`] is one actor at work over a [`Store`], which all actors share: [`work`] does its operations in
+//! A [`Worker`] is one actor at work over a [`SharedStore`], which all actors share: [`work`] does its operations in
 //! order, each turn with its events, and stops only where they are done or memory is wanting. Where an answer is
 //! none to what was asked, which no store over an honest book gives, it stops as for want of memory. A long
 //! write makes its bins in as many threads as there are processors.
 //!
 //! `laws` says what turns make of an actor's operations, one after another.
 //!
-//! In reading order: `acting`, `seat`, `worker`, `working`, `laws`.
+//! In reading order: `acting`, `agenda`, `worker`, `working`, `laws`.
 #![tactic(auto)]
 
 mod acting;
+mod agenda;
 mod laws;
-mod seat;
 mod worker;
 mod working;
 
+pub use agenda::Agenda;
 pub use laws::{cut_off, in_order, turned};
-pub use rz_player::NoMemory;
-pub use rz_threads_steps::Store;
-pub use seat::Seat;
+pub use rz_player::Halted;
+pub use rz_threads_steps::SharedStore;
 pub use worker::Worker;
 pub use working::work;

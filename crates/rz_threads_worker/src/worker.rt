@@ -5,9 +5,9 @@ ghost use Rattle.mj_angles.specs.Layout.{max_bins_of};
 ghost use Rattle.rz_core.specs.History.{of_actor};
 ghost use Rattle.rz_chronicle.specs.Kinds.{volume_in};
 ghost use Rattle.rz_script.specs.Lines.{IsOperation};
-ghost use Rattle.rz_threads_worker.specs.Workers.{seat_of, seat_with, IsReady};
+ghost use Rattle.rz_threads_worker.specs.Workers.{agenda_of, agenda_with, IsReady};
 
-use crate::seat::Seat;
+use crate::agenda::Agenda;
 use rz_chronicle::Pass;
 use rz_events::{Actor, Event, Operation};
 use rz_link::Link;
@@ -21,7 +21,7 @@ use std::collections::VecDeque;
 pub struct Worker<J: Counting, L: Link> {
     pub pass: Pass<J>,
     pub link: L,
-    pub seat: Seat,
+    pub agenda: Agenda,
     pub bins: Vec<u64>,
     pub shown: Vec<Event>,
 }
@@ -39,15 +39,15 @@ impl<J: Counting, L: Link> Worker<J, L> {
         requires fresh { of_actor pass.actor pass.log ≡ [] }
         requires todo { AllByRecursion (IsOperation (volume_in J.kind) pass.actor) todo.items }
         requires room { max_bins_of (volume_in J.kind).layout ≤ length bins.items }
-        ensures ready { IsReady J.kind result.pass result.seat result.bins.items result.shown.items }
+        ensures ready { IsReady J.kind result.pass result.agenda result.bins.items result.shown.items }
         ensures pass { result.pass ≡ pass }
         ensures link { result.link ≡ link }
-        ensures seat { seat_of result.seat ≡ seat_with todo.items }
+        ensures agenda { agenda_of result.agenda ≡ agenda_with todo.items }
     {
         Worker {
             pass,
             link,
-            seat: Seat {
+            agenda: Agenda {
                 todo,
                 number: 0,
                 machine: None,

@@ -7,15 +7,15 @@ ghost use Rattle.rz_show.specs.Shown.{shown_of};
 ghost use Rattle.rz_threads_steps.specs.Acted.{Lasts};
 ghost use Rattle.rz_threads_steps.specs.Turned.{AreLost};
 ghost use Rattle.rz_threads_worker.specs.Doing.{HasDone, IsBegun};
-ghost use Rattle.rz_threads_worker.specs.Workers.{IsAllDone, IsReady, seat_of};
+ghost use Rattle.rz_threads_worker.specs.Workers.{IsAllDone, IsReady, agenda_of};
 
 use crate::acting::act;
 use crate::worker::Worker;
 use rz_disk::Disk;
 use rz_link::Link;
-use rz_player::NoMemory;
+use rz_player::Halted;
 use rz_shared::Counting;
-use rz_threads_steps::{Store, release};
+use rz_threads_steps::{SharedStore, release};
 use std::alloc::Global;
 use std::sync::Wait;
 use std::thread::Threads;
@@ -24,25 +24,25 @@ use std::thread::Threads;
 fn take_turn<R: Threads + Wait + Sync, D: Disk, J: Counting, L: Link>(
     rt: &R,
     alloc: Global,
-    store: &Store<D, J>,
+    store: &SharedStore<D, J>,
     worker: &mut Worker<J, L>,
-) -> Result<(), NoMemory>
+) -> Result<(), Halted>
     requires volume { store.now.volume ≡ volume_in J.kind }
-    requires ready { IsReady J.kind worker.old.pass worker.old.seat worker.old.bins.items worker.old.shown.items }
+    requires ready { IsReady J.kind worker.old.pass worker.old.agenda worker.old.bins.items worker.old.shown.items }
     ensures lasts { Lasts J.kind worker.old.pass worker.new.pass }
     ensures lost { AreLost worker.old.pass.actor worker.old.pass.log worker.new.pass.log (L.lost worker.old.link) (L.lost worker.new.link) }
     ensures shown { worker.new.shown.items ≡ shown_of (of_actor worker.old.pass.actor worker.new.pass.log) }
-    ensures ready { OnOk result (IsReady J.kind worker.new.pass worker.new.seat worker.new.bins.items worker.new.shown.items) }
-    ensures done { OnOk result (HasDone (is_honest J.kind) (volume_in J.kind).layout worker.old.pass.actor (seat_of worker.old.seat) (seat_of worker.new.seat) worker.old.pass.log worker.new.pass.log) }
-    ensures begun { OnErr result (IsBegun (is_honest J.kind) (volume_in J.kind).layout worker.old.pass.actor (seat_of worker.old.seat) worker.old.pass.log worker.new.pass.log) }
+    ensures ready { OnOk result (IsReady J.kind worker.new.pass worker.new.agenda worker.new.bins.items worker.new.shown.items) }
+    ensures done { OnOk result (HasDone (is_honest J.kind) (volume_in J.kind).layout worker.old.pass.actor (agenda_of worker.old.agenda) (agenda_of worker.new.agenda) worker.old.pass.log worker.new.pass.log) }
+    ensures begun { OnErr result (IsBegun (is_honest J.kind) (volume_in J.kind).layout worker.old.pass.actor (agenda_of worker.old.agenda) worker.old.pass.log worker.new.pass.log) }
 {
     rz_block_laws::acting::begins();
     let _fit = worker.pass.actor();
     let layout = store.layout();
-    worker.seat.take_up(rt, alloc, layout)?;
-    let number = worker.seat.number;
-    let Some(machine) = &mut worker.seat.machine else {
-        return Err(NoMemory);
+    worker.agenda.take_up(rt, alloc, layout)?;
+    let number = worker.agenda.number;
+    let Some(machine) = &mut worker.agenda.machine else {
+        return Err(Halted);
     };
     act(
         rt,
@@ -61,10 +61,10 @@ fn take_turn<R: Threads + Wait + Sync, D: Disk, J: Counting, L: Link>(
 /// Lets the lock go, unless the worker's operation still needs it.
 fn release_after<R: Wait, D: Disk, J: Counting, L: Link>(
     rt: &R,
-    store: &Store<D, J>,
+    store: &SharedStore<D, J>,
     worker: &Worker<J, L>,
 ) {
-    let is_over = match &worker.seat.machine {
+    let is_over = match &worker.agenda.machine {
         Some(machine) => machine.is_over(),
         None => true,
     };
@@ -78,22 +78,22 @@ fn release_after<R: Wait, D: Disk, J: Counting, L: Link>(
 pub fn work<R: Threads + Wait + Sync, D: Disk, J: Counting, L: Link>(
     rt: &R,
     alloc: Global,
-    store: &Store<D, J>,
+    store: &SharedStore<D, J>,
     worker: &mut Worker<J, L>,
-) -> Result<(), NoMemory>
+) -> Result<(), Halted>
     requires volume { store.now.volume ≡ volume_in J.kind }
-    requires ready { IsReady J.kind worker.old.pass worker.old.seat worker.old.bins.items worker.old.shown.items }
+    requires ready { IsReady J.kind worker.old.pass worker.old.agenda worker.old.bins.items worker.old.shown.items }
     ensures same { (worker.new.pass.actor ≡ worker.old.pass.actor) × (worker.new.pass.keys ≡ worker.old.pass.keys) }
     ensures later { IsLater worker.old.pass.log worker.new.pass.log }
-    ensures done { OnOk result (IsAllDone (is_honest J.kind) (volume_in J.kind).layout worker.old.pass.actor (seat_of worker.old.seat) worker.old.pass.log worker.new.pass.log) }
-    ensures begun { OnErr result (IsBegun (is_honest J.kind) (volume_in J.kind).layout worker.old.pass.actor (seat_of worker.old.seat) worker.old.pass.log worker.new.pass.log) }
+    ensures done { OnOk result (IsAllDone (is_honest J.kind) (volume_in J.kind).layout worker.old.pass.actor (agenda_of worker.old.agenda) worker.old.pass.log worker.new.pass.log) }
+    ensures begun { OnErr result (IsBegun (is_honest J.kind) (volume_in J.kind).layout worker.old.pass.actor (agenda_of worker.old.agenda) worker.old.pass.log worker.new.pass.log) }
     ensures lost { AreLost worker.old.pass.actor worker.old.pass.log worker.new.pass.log (L.lost worker.old.link) (L.lost worker.new.link) }
     ensures shown { worker.new.shown.items ≡ shown_of (of_actor worker.old.pass.actor worker.new.pass.log) }
     ensures fit { IsFit J.kind worker.new.pass.log }
 {
     let _fit = worker.pass.actor();
     for _ in rt.forever() {
-        if !worker.seat.has_work() {
+        if !worker.agenda.has_work() {
             return Ok(());
         }
         if let Err(why) = take_turn(rt, alloc, store, worker) {

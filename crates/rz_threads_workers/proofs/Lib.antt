@@ -5,5 +5,5 @@ mod Gathered
 mod Pairs
 mod Rolls
 mod Recruits
-mod Hirings
+mod Making
 mod Taken

@@ -6,8 +6,8 @@ use Rattle.rz_events.specs.declared.keys.Actor.{Actor}
 use Rattle.rz_events.specs.declared.keys.Actor.TheVariants.{Client, Rebuilder}
 use Rattle.rz_play.specs.World.{actors}
 use Rattle.rz_chronicle.specs.Rules.{PassView}
-use Rattle.rz_chronicle.specs.Deals.{new_pass, ArePasses}
-use Rattle.rz_threads_workers.specs.Staff.{IsNew}
+use Rattle.rz_chronicle.specs.Dealing.{new_pass, ArePasses}
+use Rattle.rz_threads_workers.specs.WorkerPool.{IsNew}
 
 -- passes that are told one by one, as a row
 dealt : (make : ℕ → Actor) (from n : ℕ) (ps : List PassView) → ArePasses n (λ i. make (i + from)) ps → ps ≡ map new_pass (map make (range_with_len from n))

@@ -1,3 +1,3 @@
 pub mod Gathered
 pub mod Moves
-pub mod Staff
+pub mod WorkerPool

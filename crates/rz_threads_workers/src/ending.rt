@@ -1,54 +1,57 @@
 //! The end of the work.
 ghost use Rattle.std.specs.Prelude.{◌≡◌, false, true, length, map};
 ghost use Rattle.std.specs.List.{AllByRecursion};
-ghost use Rattle.rz_threads_workers.specs.Staff.{link_of, pass_of, shown_by, IsRoomFor, WantsNothing};
+ghost use Rattle.rz_threads_workers.specs.WorkerPool.{link_of, pass_of, shown_by, IsRoomFor, WantsNothing};
 
-use crate::member::{Member, Room};
+use crate::pool_worker::{PoolWorker, Results};
 use rz_link::Link;
 use rz_shared::Counting;
 use rz_threads_worker::Worker;
 
-/// Whether memory was wanting for none of the members, so that all came to the end of their operations.
-pub fn have_finished<J: Counting, L: Link>(members: &[Member<J, L>]) -> bool
-    ensures all { result ≡ true → AllByRecursion WantsNothing members.now }
-    ensures some { result ≡ false → ¬ AllByRecursion WantsNothing members.now }
+/// Whether memory was wanting for none of the workers, so that all came to the end of their operations.
+pub fn have_finished<J: Counting, L: Link>(workers: &[PoolWorker<J, L>]) -> bool
+    ensures all { result ≡ true → AllByRecursion WantsNothing workers.now }
+    ensures some { result ≡ false → ¬ AllByRecursion WantsNothing workers.now }
 {
-    for member in members {
-        if member.wanting {
+    for pool_worker in workers {
+        if pool_worker.wanting {
             return false;
         }
     }
     true
 }
 
-/// Takes the links of the members, their passes and the events that they show, each in the order of the
-/// members.
-pub fn dismiss<J: Counting, L: Link>(members: Vec<Member<J, L>>, room: Room<J, L>) -> Room<J, L>
-    requires room { IsRoomFor (length members.items) room }
-    ensures links { result.links.items ≡ map link_of members.items }
-    ensures passes { result.passes.items ≡ map pass_of members.items }
-    ensures shown { result.shown.items ≡ map shown_by members.items }
+/// Takes the links of the workers, their passes and the events that they show, each in the order of the
+/// workers.
+pub fn take_results<J: Counting, L: Link>(
+    workers: Vec<PoolWorker<J, L>>,
+    room: Results<J, L>,
+) -> Results<J, L>
+    requires room { IsRoomFor (length workers.items) room }
+    ensures links { result.links.items ≡ map link_of workers.items }
+    ensures passes { result.passes.items ≡ map pass_of workers.items }
+    ensures shown { result.shown.items ≡ map shown_by workers.items }
 {
-    let Room {
+    let Results {
         mut links,
         mut passes,
         mut shown,
     } = room;
-    for member in members {
-        let Member { worker, wanting: _ } = member;
+    for pool_worker in workers {
+        let PoolWorker { worker, wanting: _ } = pool_worker;
         let Worker {
             pass,
             link,
-            seat,
+            agenda,
             bins: _bins,
             shown: events,
         } = worker;
-        drop(seat);
+        drop(agenda);
         links.push_reserved(link);
         passes.push_reserved(pass);
         shown.push_reserved(events);
     }
-    Room {
+    Results {
         links,
         passes,
         shown,

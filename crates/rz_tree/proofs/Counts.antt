@@ -7,6 +7,7 @@ use Rattle.std.specs.Ordering.{is_eq, is_lt, eq_by_cmp}
 use Rattle.std.specs.FinMap as maps
 use Rattle.std.specs.FinMap.{FinMap, same_map, entries-insert, get-entries, entries_sorted}
 use Rattle.std.specs.FinMap.Entries.{find, put, is_sorted, below_all, by_order}
+use Rattle.rz_export_model.proofs.Tests.{left, right, is_less}
 use Rattle.rz_export_model.specs.Paths.{Path, path_cmp, paths_total, exact_paths}
 use Rattle.rz_export_model.specs.Tree.{paths_to}
 use Rattle.rz_tree.proofs.Keys.{not_none, one-or-two, ties-itself, get-inserted, get-beside, get-removed, get-left}
@@ -75,19 +76,6 @@ two-paths m p q fid at_p at_q other =
 -- one path is one
 pub some-path : (m : FinMap path_cmp ℕ) (p : Path) (fid : ℕ) → maps.get m p ≡ Some fid → 1 ≤ paths_to m fid
 some-path m p fid at = omega (arith, count-remove m p fid fid at, one_if-same fid)
-
-is_less : (r : Ordering) → T (is_lt r) → r ≡ Less
-is_less Less h = refl
-is_less Equal h = absurd h
-is_less Greater h = absurd h
-
-left : (a b : Bool) → T (a && b) → T a
-left true b h = tt
-left false b h = absurd h
-
-right : (a b : Bool) → T (a && b) → T b
-right true b h = h
-right false b h = absurd h
 
 -- a path below all others is not among them
 pub find-below : (k : Path) (es : Entries) → T (below_all path_cmp k es) → find path_cmp k es ≡ None

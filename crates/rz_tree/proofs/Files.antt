@@ -16,6 +16,7 @@ use Rattle.std.specs.FinMap.Entries.{find, is_sorted, below_all}
 use Rattle.rz_events.specs.declared.files.FileInfo.{FileInfo}
 use Rattle.rz_events.specs.declared.files.Kind.{Kind}
 use Rattle.rz_events.specs.declared.files.Kind.TheVariants.{File, Dir, Link}
+use Rattle.rz_export_model.proofs.Tests.{right}
 use Rattle.rz_export_model.specs.Firsts.{first_given, given_if}
 use Rattle.rz_export_model.specs.Tree.{file_from, is_file, info_of}
 use Rattle.rz_tree.specs.declared.inodes.Inode.{Inode}
@@ -96,10 +97,6 @@ less-of Greater h = cc
 left : (a b : Bool) → T (a && b) → a ≡ true
 left true b h = refl
 left false b h = absurd h
-
-right : (a b : Bool) → T (a && b) → T b
-right true b h = h
-right false b h = absurd h
 
 first-part : (a b : Bool) → T (a && b) → T a
 first-part true b h = tt

@@ -5,11 +5,7 @@ use Rattle.std.specs.Ordering.{is_eq, eq_by_cmp}
 use Rattle.std.specs.Cmp.{IsTotalOrder, tied_itself}
 use Rattle.std.specs.FinMap as maps
 use Rattle.std.specs.FinMap.{FinMap, IsAntisymmetric, get-insert, get-remove}
-
-pub eq_true : (r : Ordering) → is_eq r ≡ true → r ≡ Equal
-eq_true Less h = cc
-eq_true Equal h = refl
-eq_true Greater h = cc
+use Rattle.rz_export_model.proofs.Tests.{eq_true}
 
 pub same_some : {A : Type 0} (x y : A) → Some x ≡ Some y → x ≡ y
 same_some {A} x y h = ap (λ o. first_or o x) h

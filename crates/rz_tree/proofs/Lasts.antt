@@ -7,8 +7,9 @@ use Rattle.std.specs.Cmp.{IsTotalOrder}
 use Rattle.std.specs.FinMap as maps
 use Rattle.std.specs.FinMap.{FinMap, entries-insert, get-entries}
 use Rattle.std.specs.FinMap.Entries.{find, put, by_order}
+use Rattle.rz_export_model.proofs.Tests.{eq_true}
 use Rattle.rz_tree.specs.Added.{is_behind}
-use Rattle.rz_tree.proofs.Keys.{eq_true, not_none, false-true}
+use Rattle.rz_tree.proofs.Keys.{not_none, false-true}
 
 pub and-left : (a b : Bool) → (a && b) ≡ true → a ≡ true
 and-left true b h = refl

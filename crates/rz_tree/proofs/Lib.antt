@@ -12,11 +12,11 @@ pub mod Names
 pub mod Adds
 mod Takes
 mod Links
-mod Renamings
+pub mod Renamings
 pub mod Calls
 mod Replacing
 mod Replies
-mod PartPlaces
+pub mod PartPlaces
 pub mod Walks
 pub mod Lasts
 pub mod PartLaws

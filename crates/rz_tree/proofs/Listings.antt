@@ -9,10 +9,11 @@ use Rattle.std.specs.Cmp.{tied_itself}
 use Rattle.std.specs.FinMap as maps
 use Rattle.std.specs.FinMap.{FinMap, entries_sorted}
 use Rattle.std.specs.FinMap.Entries.{is_sorted, below_all}
+use Rattle.rz_export_model.proofs.Tests.{left, right, is_less, eq_true}
 use Rattle.rz_export_model.specs.Paths.{Name, Path, name_cmp, path_cmp, names_total, exact_names, same_name, right_under}
 use Rattle.rz_export_model.specs.Tree.{names_under}
 use Rattle.rz_names.specs.Names.{is_after, next_name}
-use Rattle.rz_tree.proofs.Keys.{eq_true, same_some, not_none}
+use Rattle.rz_tree.proofs.Keys.{same_some, not_none}
 use Rattle.rz_tree.proofs.Counts.{Entries}
 use Rattle.rz_names.proofs.PathOrder.{append-cmp}
 
@@ -44,19 +45,6 @@ then_equal Greater h = cc
 right-less : (p a b : Path) (x y : Name) → path_cmp a b ≡ Less → right_under p a ≡ Some x → right_under p b ≡ Some y → name_cmp x y ≡ Less
 right-less p a b x y less at_a at_b =
     then_equal (name_cmp x y) (sym (ap (λ q. path_cmp q b) (right-is p a x at_a) ∙ ap (path_cmp (p ++ x ∷ [])) (right-is p b y at_b) ∙ append-cmp p (x ∷ []) (y ∷ [])) ∙ less)
-
-is_less : (r : Ordering) → T (is_lt r) → r ≡ Less
-is_less Less h = refl
-is_less Equal h = absurd h
-is_less Greater h = absurd h
-
-left : (a b : Bool) → T (a && b) → T a
-left true b h = tt
-left false b h = absurd h
-
-right : (a b : Bool) → T (a && b) → T b
-right true b h = h
-right false b h = absurd h
 
 abbrev under : Path → Entries → List Name
 under p es = filter_map (right_under p) (map (λ e. e.0) es)

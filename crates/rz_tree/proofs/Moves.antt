@@ -4,10 +4,10 @@ use Rattle.std.specs.Ordering.{eq_by_cmp}
 use Rattle.std.specs.FinMap as maps
 use Rattle.std.specs.FinMap.{FinMap, get-from_entries, get-entries, get-empty, entries_sorted}
 use Rattle.std.specs.FinMap.Entries.{find, is_sorted}
+use Rattle.rz_export_model.proofs.Tests.{eq_true, left, right}
 use Rattle.rz_export_model.specs.Paths.{Path, path_cmp, paths_total, exact_paths, begins_with, moved_path}
 use Rattle.rz_export_model.specs.Tree.{moved, paths_to}
-use Rattle.rz_names.proofs.PathOrder.{and_parts, begins-front, eq_true}
-use Rattle.rz_names.proofs.Sorted.{left, right}
+use Rattle.rz_names.proofs.PathOrder.{and_parts, begins-front}
 use Rattle.rz_names.proofs.Moves.{not_true, none_begin, moved_each, find-each_in, find-each_from, find-each_out}
 use Rattle.rz_tree.proofs.Counts.{Entries, count_to, one_if, cons-count, count-insert, no-path, find-below}
 use Rattle.rz_tree.proofs.Keys.{ties-itself, not_none}

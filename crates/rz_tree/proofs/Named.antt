@@ -13,31 +13,19 @@ use Rattle.std.specs.Cmp.{nat_cmp_total, ranked, tied_itself}
 use Rattle.std.specs.FinMap as maps
 use Rattle.std.specs.FinMap.{FinMap, get-entries, entries_sorted}
 use Rattle.std.specs.FinMap.Entries.{find, is_sorted, below_all}
+use Rattle.rz_export_model.proofs.Tests.{left, right, is_less, eq_true}
 use Rattle.rz_export_model.specs.Paths.{path_cmp}
 use Rattle.rz_export_model.specs.Tree.{paths_to}
 use Rattle.rz_tree.specs.declared.inodes.Inode.{Inode}
 use Rattle.rz_tree.specs.Inodes.{Table, object_of, objects_of, are_linked}
 use Rattle.rz_tree.specs.Trees.{tree_of, IsCounted}
 use Rattle.rz_tree.specs.Added.{AreNamed}
-use Rattle.rz_tree.proofs.Keys.{not_none, held, same_some, eq_true}
+use Rattle.rz_tree.proofs.Keys.{not_none, held, same_some}
 use Rattle.rz_tree.proofs.Lasts.{and-left, and-right}
 use Rattle.rz_tree.proofs.Rules.{from-map}
 use Rattle.rz_tree.proofs.Tables.{get-objects}
 use Rattle.rz_tree.proofs.Allowed.{and-both}
 use Rattle.rz_tree.proofs.Rows.{Row, table_of, entries-row}
-
-left : (a b : Bool) → T (a && b) → T a
-left true b h = tt
-left false b h = absurd h
-
-right : (a b : Bool) → T (a && b) → T b
-right true b h = h
-right false b h = absurd h
-
-is_less : (r : Ordering) → T (is_lt r) → r ≡ Less
-is_less Less h = refl
-is_less Equal h = absurd h
-is_less Greater h = absurd h
 
 -- nothing is found above a number under the number itself
 none-above : (q x : ℕ) (es : Row) → nat_cmp q x ≡ Equal → T (below_all nat_cmp x es) → find nat_cmp q es ≡ None

@@ -11,17 +11,17 @@ use Rattle.rz_tree.specs.Inodes.{Table, object_of, objects_of}
 use Rattle.rz_tree.specs.Parts.{object_part, name_part, tree_parts}
 use Rattle.rz_tree.proofs.Tables.{entries-objects}
 
-get-left : {X : Type 0} (xs ys : List X) (i : ℕ) → i < length xs → slice_get (xs ++ ys) i ≡ slice_get xs i
+pub get-left : {X : Type 0} (xs ys : List X) (i : ℕ) → i < length xs → slice_get (xs ++ ys) i ≡ slice_get xs i
 get-left [] ys i h = absurd (omega arith)
 get-left (x ∷ xs) ys zero h = refl
 get-left (x ∷ xs) ys (suc i) h = get-left xs ys i (omega arith)
 
-get-right : {X : Type 0} (xs ys : List X) (i n : ℕ) → i ≡ length xs + n → slice_get (xs ++ ys) i ≡ slice_get ys n
+pub get-right : {X : Type 0} (xs ys : List X) (i n : ℕ) → i ≡ length xs + n → slice_get (xs ++ ys) i ≡ slice_get ys n
 get-right [] ys i n h = let same : i ≡ n = omega (arith, h) in ap (slice_get ys) same
 get-right (x ∷ xs) ys zero n h = absurd (omega arith)
 get-right (x ∷ xs) ys (suc i) n h = get-right xs ys i n (omega arith)
 
-length-mapped : {X Y : Type 0} (f : X → Y) (xs : List X) → length (map f xs) ≡ length xs
+pub length-mapped : {X Y : Type 0} (f : X → Y) (xs : List X) → length (map f xs) ≡ length xs
 length-mapped f [] = refl
 length-mapped f (x ∷ xs) = ap suc (length-mapped f xs)
 

@@ -2,11 +2,12 @@
 use Rattle.std.proofs.Common.{◌≡◌, ℕ, ◌≤◌, Bool, true, false, ◌&&◌, [], ◌∷◌, ◌++◌, length, drop, Some, None, is_some, sym, ap, ◌∙◌, subst, refl, inl, inr, ◌⊎◌, append_assoc}
 use Rattle.std.specs.FinMap as maps
 use Rattle.std.specs.FinMap.{FinMap, same_map}
+use Rattle.rz_export_model.proofs.Tests.{eq_true}
 use Rattle.rz_export_model.specs.Paths.{Name, Path, path_cmp, paths_total, exact_paths, exact_names, above, is_root, same_name, begins_with}
 use Rattle.rz_export_model.specs.Tree.{Tree, is_at, is_dir, paths_to, moved}
 use Rattle.rz_tree.specs.Inodes.{Table}
 use Rattle.rz_tree.specs.Trees.{tree_of, IsTree, IsKept}
-use Rattle.rz_tree.proofs.Keys.{eq_true, not_none, false-true, true-or-false, one-or-two, get-removed, get-left}
+use Rattle.rz_tree.proofs.Keys.{not_none, false-true, true-or-false, one-or-two, get-removed, get-left}
 use Rattle.rz_tree.proofs.Fronts.{above-append}
 use Rattle.rz_names.proofs.PathOrder.{and_parts, begins-front}
 use Rattle.rz_tree.proofs.Moves.{get-in, get-from, get-out, count-moved}
@@ -29,7 +30,7 @@ begins-longer (m ∷ f) (n ∷ q) r h =
     ap (λ b. b && begins_with f (q ++ r)) parts.0 ∙ begins-longer f q r parts.1
 
 -- with one more name a path is the front, or begins with it already
-begins-last : (f q : Path) (n : Name) → begins_with f (q ++ n ∷ []) ≡ true → (q ++ n ∷ [] ≡ f) ⊎ (begins_with f q ≡ true)
+pub begins-last : (f q : Path) (n : Name) → begins_with f (q ++ n ∷ []) ≡ true → (q ++ n ∷ [] ≡ f) ⊎ (begins_with f q ≡ true)
 begins-last f q n h = elim (true-or-false (begins_with f q)) [
   | inl is ↦ inr is
   | inr other ↦ inl (go f q h other)

@@ -12,6 +12,7 @@ use Rattle.std.proofs.lemmas.Map.Keys.{sorted_head, sorted_tail}
 use Rattle.std.specs.FinMap as maps
 use Rattle.std.specs.FinMap.{same_map, get-from_entries, get-insert, get-remove, get-entries, len-entries, entries_sorted, nat_cmp-IsAntisymmetric}
 use Rattle.std.specs.FinMap.Entries.{find, is_sorted, below_all, same_entries}
+use Rattle.rz_export_model.proofs.Tests.{both}
 use Rattle.rz_tree.specs.declared.inodes.Inode.{Inode}
 use Rattle.rz_tree.specs.Inodes.{Table, changed_at}
 
@@ -41,10 +42,6 @@ pub one-gone : (es fs : Row) (k : ℕ) → ((q : ℕ) → kept_at fs q ≡ cond 
 one-gone es fs k h = same_map nat_cmp_total nat_cmp-IsAntisymmetric _ _ (λ q.
     get-row fs q ∙ h q ∙ ap (λ b. cond b None (kept_at es q)) ((eq_by_cmp_equiv nat_cmp_total).symm k q)
     ∙ sym (get-remove nat_cmp_total (table_of es) k q ∙ ap (cond (eq_by_cmp nat_cmp q k) None) (get-row es q)))
-
-both : (a b : Bool) → T a → T b → T (a && b)
-both true b p q = q
-both false b p q = absurd p
 
 below-row : (k : ℕ) (es : Row) → AllByRecursion (λ y. nat_cmp k y ≡ Less) (keys_of es) → T (below_all nat_cmp k es)
 below-row k [] h = tt

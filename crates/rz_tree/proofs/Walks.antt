@@ -14,6 +14,7 @@ use Rattle.std.specs.Ordering.{nat_cmp, is_lt, ordering_reverse}
 use Rattle.std.specs.Cmp.{IsTotalOrder, ranked, tied_itself}
 use Rattle.std.specs.FinMap as maps
 use Rattle.std.specs.FinMap.Entries.{is_sorted, below_all}
+use Rattle.rz_export_model.proofs.Tests.{left, right, is_less}
 use Rattle.rz_tree.specs.declared.inodes.Inode.{Inode}
 use Rattle.rz_tree.specs.Inodes.{Table, object_of, seen_entries, objects_of, is_past, first_past, IsStartPast}
 use Rattle.rz_tree.proofs.Keys.{same_some, not_none}
@@ -69,19 +70,6 @@ pub object-past : (after : Option ℕ) (m : Table) → first_past after (maps.en
 object-past after m = ap (first_past after) (entries-objects m) ∙ past-seen after (maps.entries m)
 
 -- ---- the next place
-
-left : (a b : Bool) → T (a && b) → T a
-left true b h = tt
-left false b h = absurd h
-
-right : (a b : Bool) → T (a && b) → T b
-right true b h = h
-right false b h = absurd h
-
-is_less : (r : Ordering) → T (is_lt r) → r ≡ Less
-is_less Less h = refl
-is_less Equal h = absurd h
-is_less Greater h = absurd h
 
 module _ {K X : Type 0} {R : K → K → Ordering} (o : IsTotalOrder R) (past : K → Bool) (z : K × X) (is : (q : K) → past q ≡ is_lt (R z.0 q)) where
   abbrev rest : List (K × X) → Option (K × X)

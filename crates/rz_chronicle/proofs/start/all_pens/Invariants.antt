@@ -1,5 +1,5 @@
 use Rattle.std.proofs.Common.{◌≡◌, ◌+◌, length}
-use Rattle.rz_chronicle.specs.Deals.{AreFresh}
+use Rattle.rz_chronicle.specs.Dealing.{AreFresh}
 use Rattle.rz_chronicle.proofs.start.all_pens.Given as goal
 
 -- as many pens were taken as keys were counted

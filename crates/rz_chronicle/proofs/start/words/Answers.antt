@@ -2,7 +2,7 @@ use Rattle.std.proofs.Common.{◌≡◌, ◌+◌, ◌<◌, ◌∷◌, [], ℕ, l
 use Rattle.std.proofs.lemmas.List.{length-set}
 use Rattle.rz_chronicle.specs.Keys.{key_at, rows}
 use Rattle.rz_chronicle.specs.Rules.{AreWords, named}
-use Rattle.rz_chronicle.specs.Deals.{IsFresh}
+use Rattle.rz_chronicle.specs.Dealing.{IsFresh}
 use Rattle.rz_chronicle.proofs.Adding.{words_more}
 use Rattle.rz_chronicle.proofs.Pens.{Remain, remain-next, pen-named}
 use Rattle.rz_chronicle.proofs.start.words.Goals as goal

@@ -2,7 +2,7 @@ use Rattle.std.proofs.Common.{◌≡◌, length}
 use Rattle.logbook.specs.Pages.{Book}
 use Rattle.rz_chronicle.specs.Keys.{rows}
 use Rattle.rz_chronicle.specs.Rules.{AreWords}
-use Rattle.rz_chronicle.specs.Deals.{AreFresh}
+use Rattle.rz_chronicle.specs.Dealing.{AreFresh}
 use Rattle.rz_chronicle.proofs.Pens.{Remain}
 use Rattle.rz_chronicle.proofs.start.words.Given as goal
 

@@ -13,6 +13,6 @@ push_reserved-requires g c =
 pub returns-in-Some : goal.returns-in-Some
 returns-in-Some g c =
     let disk = c.in-Some.disk in
-    let row = disks_of c.args.stations.items in
+    let row = disks_of c.args.servers.items in
     let home = c.push_reserved.ensures.items ∙ ap (λ (xs : List g.row.D.Denot). xs ++ disk ∷ []) c.clear.ensures.items in
     c.hand_back.ensures ∙ ap (λ (xs : List g.row.D.Denot). row ++ reverse xs) home ∙ ap (λ (o : Option g.row.D.Denot). row ++ option_to_list o) (sym c.in-Some.is)

@@ -44,14 +44,14 @@ returns-in-Ok-open_all-clause-opened g c =
     let lost : c.as_slice-lost.result.now ≡ losses_of (export_in c.args.export) v =
     c.as_slice-lost.ensures.value ∙ c.in-Ok-losses.ensures ∙ ap (map (λ (n : NodeSpec). loss_of (export_in c.args.export) n.sid)) specs in
     let layout : c.volume.inside.layout ≡ v.layout = ap (λ (u : Volume). u.layout) c.volume.view_is in
-    let P = λ (y : Layout) (ns : List NodeSpec) (ls : List ℕ). AreOpened g.D.Disk.tells g.D.Disk.meter g.D.Disk.text g.D.Disk.image y ns ls c.args.nodes.items c.in-Ok-open_all.stations.items in
+    let P = λ (y : Layout) (ns : List NodeSpec) (ls : List ℕ). AreOpened g.D.Disk.tells g.D.Disk.meter g.D.Disk.text g.D.Disk.image y ns ls c.args.nodes.items c.in-Ok-open_all.servers.items in
     record {
       volume = c.in-Ok.ensures.volume;
       export_is = refl;
       made = subst (λ (y : Layout). P y (nodes_of v.clusters) (losses_of (export_in c.args.export) v)) layout
           (subst (λ (ns : List NodeSpec). P c.volume.inside.layout ns (losses_of (export_in c.args.export) v)) specs
           (subst (λ (ls : List ℕ). P c.volume.inside.layout c.as_slice-specs.result.now ls) lost c.in-Ok-open_all.ensures.made));
-      seats = c.in-Ok.ensures.seats;
+      agendas = c.in-Ok.ensures.agendas;
       count = c.in-Ok.ensures.count;
       bins = c.in-Ok.ensures.bins;
       locks = c.new-locks.ensures;
@@ -85,14 +85,14 @@ invariant_of-result g c =
     let f = λ (n : NodeSpec). loss_of (export_in c.args.export) n.sid in
     let nodes : specs ≡ nodes_of c.args.volume.now.clusters = c.as_slice-specs.ensures.value ∙ c.in-Ok.ensures.nodes in
     let lost : c.as_slice-lost.result.now ≡ map f specs = c.as_slice-lost.ensures.value ∙ c.in-Ok-losses.ensures in
-    let stations = c.in-Ok-open_all.stations in
+    let servers = c.in-Ok-open_all.servers in
     let v = c.args.volume.now in
     let layout : c.volume.inside.layout ≡ v.layout = ap (λ (u : Volume). u.layout) c.volume.view_is in
-    let P = λ (y : Layout) (ls : List ℕ). AreOpened g.D.Disk.tells g.D.Disk.meter g.D.Disk.text g.D.Disk.image y specs ls c.args.nodes.items stations.items in
+    let P = λ (y : Layout) (ls : List ℕ). AreOpened g.D.Disk.tells g.D.Disk.meter g.D.Disk.text g.D.Disk.image y specs ls c.args.nodes.items servers.items in
     let made = subst (λ (y : Layout). P y (map f specs)) layout (subst (λ (ls : List ℕ). P c.volume.inside.layout ls) lost c.in-Ok-open_all.ensures.made) in
-    let many = opened-many g.D.Disk.tells g.D.Disk.meter g.D.Disk.text g.D.Disk.image v f specs c.args.nodes.items stations.items (c.requires.count ∙ ap length (sym nodes)) made in
+    let many = opened-many g.D.Disk.tells g.D.Disk.meter g.D.Disk.text g.D.Disk.image v f specs c.args.nodes.items servers.items (c.requires.count ∙ ap length (sym nodes)) made in
     let as_nodes = ap length nodes in
-    let long = stations.ok.0 in
+    let long = servers.ok.0 in
     let empty = c.in-Ok.ensures.empty in
     let room = c.in-Ok.ensures.room in
     record { room = omega (arith, many, as_nodes, long, empty, room) }

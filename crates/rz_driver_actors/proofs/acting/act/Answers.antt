@@ -34,7 +34,7 @@ returns-in-Lock-clause-ok g c =
     let new = c.open.new.machine in
     let p = c.args.shared.now in
     on_ok_weaker c.open.result
-    (λ (part : IsOpenPart c.args.by old new (export_in p.export) (export_in c.open.new.export) p.locks c.open.new.locks c.args.seat.now.lock c.open.new.held p.log.events c.open.new.log.events).
+    (λ (part : IsOpenPart c.args.by old new (export_in p.export) (export_in c.open.new.export) p.locks c.open.new.locks c.args.agenda.now.lock c.open.new.held p.log.events c.open.new.log.events).
     Opens old new c.in-Some.is refl (record { todo = refl; number = refl }) refl part refl refl)
     c.open.ensures.ok
 
@@ -43,7 +43,7 @@ returns-in-Node-clause-ok g c =
     let old = c.in-Some.machine in
     let new = c.message.new.machine in
     on_ok_weaker c.message.result
-    (λ (sent : IsMessage c.args.by c.in-Node.node c.in-Node.ask old new c.args.seat.now.miss c.message.new.miss c.args.shared.now c.message.new.shared).
+    (λ (sent : IsMessage c.args.by c.in-Node.node c.in-Node.ask old new c.args.agenda.now.miss c.message.new.miss c.args.shared.now c.message.new.shared).
     Sends old new c.in-Some.is refl (record { todo = refl; number = refl }) refl c.in-Node.node c.in-Node.ask c.in-Node.ensures sent)
     c.message.ensures.ok
 
@@ -59,13 +59,13 @@ returns-in-Export-clause-held g c =
     let h = p.log.events in
     let h' = c.ask_export.new.log.events in
     on_ok_weaker c.ask_export.result (λ (part : IsExportPart c.args.by c.in-Some.machine c.ask_export.new.machine (export_in p.export) (export_in c.ask_export.new.export) h h'). λ numbers first met.
-    metered-stays g.D.Disk.meter first numbers p.stations.items h h' (export-stays c.args.by part.0 (export_reply (export_in p.export) part.0) h h' part.2.noted) met) c.ask_export.ensures.ok
+    metered-stays g.D.Disk.meter first numbers p.servers.items h h' (export-stays c.args.by part.0 (export_reply (export_in p.export) part.0) h h' part.2.noted) met) c.ask_export.ensures.ok
 
 pub returns-in-Export-clause-left : goal.returns-in-Export-clause-left
 returns-in-Export-clause-left g c =
     let p = c.args.shared.now in
     on_err_weaker c.ask_export.result (λ (same : c.ask_export.new.log.events ≡ p.log.events). λ numbers first met.
-    still-left g.D.Disk.meter first numbers p.stations.items p.log.events c.ask_export.new.log.events same met) c.ask_export.ensures.err
+    still-left g.D.Disk.meter first numbers p.servers.items p.log.events c.ask_export.new.log.events same met) c.ask_export.ensures.err
 
 pub returns-in-Lock-clause-held : goal.returns-in-Lock-clause-held
 returns-in-Lock-clause-held g c =
@@ -73,37 +73,37 @@ returns-in-Lock-clause-held g c =
     let h = p.log.events in
     let h' = c.open.new.log.events in
     on_ok_weaker c.open.result
-    (λ (part : IsOpenPart c.args.by c.in-Some.machine c.open.new.machine (export_in p.export) (export_in c.open.new.export) p.locks c.open.new.locks c.args.seat.now.lock c.open.new.held h h'). λ numbers first met.
-    metered-stays g.D.Disk.meter first numbers p.stations.items h h' (export-stays c.args.by (call.Tree (tree.OpenFile part.0)) (open_reply (export_in p.export) part.0) h h' part.5.1.noted) met) c.open.ensures.ok
+    (λ (part : IsOpenPart c.args.by c.in-Some.machine c.open.new.machine (export_in p.export) (export_in c.open.new.export) p.locks c.open.new.locks c.args.agenda.now.lock c.open.new.held h h'). λ numbers first met.
+    metered-stays g.D.Disk.meter first numbers p.servers.items h h' (export-stays c.args.by (call.Tree (tree.OpenFile part.0)) (open_reply (export_in p.export) part.0) h h' part.5.1.noted) met) c.open.ensures.ok
 
 pub returns-in-Lock-clause-left : goal.returns-in-Lock-clause-left
 returns-in-Lock-clause-left g c =
     let p = c.args.shared.now in
     on_err_weaker c.open.result (λ (same : c.open.new.log.events ≡ p.log.events). λ numbers first met.
-    still-left g.D.Disk.meter first numbers p.stations.items p.log.events c.open.new.log.events same met) c.open.ensures.err
+    still-left g.D.Disk.meter first numbers p.servers.items p.log.events c.open.new.log.events same met) c.open.ensures.err
 
 pub returns-in_ok-done-in-Say-clause-held : goal.returns-in_ok-done-in-Say-clause-held
 returns-in_ok-done-in-Say-clause-held g c = λ numbers first met.
     let p = c.args.shared.now in
     let part = c.in_ok-done-in-Say.ensures.ok in
-    metered-stays g.D.Disk.meter first numbers p.stations.items p.log.events c.say.new.log.events (said-stays c.args.by c.args.seat.now.number (text_of c.in-Some.machine) part.0 p.log.events c.say.new.log.events part.2.noted) met
+    metered-stays g.D.Disk.meter first numbers p.servers.items p.log.events c.say.new.log.events (said-stays c.args.by c.args.agenda.now.number (text_of c.in-Some.machine) part.0 p.log.events c.say.new.log.events part.2.noted) met
 
 pub returns-in_err-done-in-Say-clause-left : goal.returns-in_err-done-in-Say-clause-left
 returns-in_err-done-in-Say-clause-left g c =
     let p = c.args.shared.now in
-    still-err c.from_residual.result g.D.Disk.meter p.stations.items p.log.events c.say.new.log.events c.in_err-done-in-Say.ensures.err
+    still-err c.from_residual.result g.D.Disk.meter p.servers.items p.log.events c.say.new.log.events c.in_err-done-in-Say.ensures.err
 
 -- Beside the log.
 
 pub returns-in_default-clause-pictured : goal.returns-in_default-clause-pictured
-returns-in_default-clause-pictured g c = λ told. still-keeps g.D.Disk.image c.args.by c.args.shared.now.stations.items c.args.seat.now.machine c.args.shared.now.log.events
+returns-in_default-clause-pictured g c = λ told. still-keeps g.D.Disk.image c.args.by c.args.shared.now.servers.items c.args.agenda.now.machine c.args.shared.now.log.events
 
 pub returns-in-Rest-clause-pictured : goal.returns-in-Rest-clause-pictured
 returns-in-Rest-clause-pictured g c = λ told.
-    let row = c.args.shared.now.stations.items in
+    let row = c.args.shared.now.servers.items in
     let h = c.args.shared.now.log.events in
     let m = c.in-Some.machine in
-    at-machine g.D.Disk.image c.args.by row c.args.seat.now.machine m m c.in-Some.is h row h (still-keeps g.D.Disk.image c.args.by row (Some m) h)
+    at-machine g.D.Disk.image c.args.by row c.args.agenda.now.machine m m c.in-Some.is h row h (still-keeps g.D.Disk.image c.args.by row (Some m) h)
 
 pub returns-in-Export-clause-pictured : goal.returns-in-Export-clause-pictured
 returns-in-Export-clause-pictured g c =
@@ -113,7 +113,7 @@ returns-in-Export-clause-pictured g c =
     let m = c.in-Some.machine in
     let new = c.ask_export.new.machine in
     on_ok_weaker c.ask_export.result (λ (part : IsExportPart c.args.by m new (export_in p.export) (export_in c.ask_export.new.export) h h'). λ told.
-    export-keeps g.D.Disk.image c.args.by p.stations.items c.longer.ensures c.told.ensures c.args.seat.now.machine m new c.in-Some.is h h' (export_in p.export) (export_in c.ask_export.new.export) part) c.ask_export.ensures.ok
+    export-keeps g.D.Disk.image c.args.by p.servers.items c.longer.ensures c.told.ensures c.args.agenda.now.machine m new c.in-Some.is h h' (export_in p.export) (export_in c.ask_export.new.export) part) c.ask_export.ensures.ok
 
 pub returns-in-Lock-clause-pictured : goal.returns-in-Lock-clause-pictured
 returns-in-Lock-clause-pictured g c =
@@ -123,8 +123,8 @@ returns-in-Lock-clause-pictured g c =
     let m = c.in-Some.machine in
     let new = c.open.new.machine in
     on_ok_weaker c.open.result
-    (λ (part : IsOpenPart c.args.by m new (export_in p.export) (export_in c.open.new.export) p.locks c.open.new.locks c.args.seat.now.lock c.open.new.held h h'). λ told.
-    open-keeps g.D.Disk.image c.args.by p.stations.items c.longer.ensures c.told.ensures c.args.seat.now.machine m new c.in-Some.is h h' (export_in p.export) (export_in c.open.new.export) p.locks c.open.new.locks c.args.seat.now.lock c.open.new.held part) c.open.ensures.ok
+    (λ (part : IsOpenPart c.args.by m new (export_in p.export) (export_in c.open.new.export) p.locks c.open.new.locks c.args.agenda.now.lock c.open.new.held h h'). λ told.
+    open-keeps g.D.Disk.image c.args.by p.servers.items c.longer.ensures c.told.ensures c.args.agenda.now.machine m new c.in-Some.is h h' (export_in p.export) (export_in c.open.new.export) p.locks c.open.new.locks c.args.agenda.now.lock c.open.new.held part) c.open.ensures.ok
 
 pub returns-in-Node-clause-pictured : goal.returns-in-Node-clause-pictured
 returns-in-Node-clause-pictured g c =
@@ -132,42 +132,42 @@ returns-in-Node-clause-pictured g c =
     let q = c.message.new.shared in
     let m = c.in-Some.machine in
     let new = c.message.new.machine in
-    on_ok_weaker c.message.result (λ (keeps : IsTrue g.D.Disk.tells → KeepsPicture g.D.Disk.image c.args.by (Some m) (Some new) p.stations.items p.log.events q.stations.items q.log.events). λ told.
-    at-machine g.D.Disk.image c.args.by p.stations.items c.args.seat.now.machine m new c.in-Some.is p.log.events q.stations.items q.log.events (keeps told)) c.message.ensures.pictured
+    on_ok_weaker c.message.result (λ (keeps : IsTrue g.D.Disk.tells → KeepsPicture g.D.Disk.image c.args.by (Some m) (Some new) p.servers.items p.log.events q.servers.items q.log.events). λ told.
+    at-machine g.D.Disk.image c.args.by p.servers.items c.args.agenda.now.machine m new c.in-Some.is p.log.events q.servers.items q.log.events (keeps told)) c.message.ensures.pictured
 
 pub returns-in_ok-done-in-Say-clause-pictured : goal.returns-in_ok-done-in-Say-clause-pictured
 returns-in_ok-done-in-Say-clause-pictured g c = λ told.
     let p = c.args.shared.now in
-    say-keeps g.D.Disk.image c.args.by p.stations.items c.longer.ensures c.told.ensures c.args.seat.now.machine c.in-Some.machine c.say.new.machine c.in-Some.is p.log.events c.say.new.log.events p.log.earlier c.args.seat.now.number c.in_ok-done-in-Say.done c.in_ok-done-in-Say.ensures.ok
+    say-keeps g.D.Disk.image c.args.by p.servers.items c.longer.ensures c.told.ensures c.args.agenda.now.machine c.in-Some.machine c.say.new.machine c.in-Some.is p.log.events c.say.new.log.events p.log.earlier c.args.agenda.now.number c.in_ok-done-in-Say.done c.in_ok-done-in-Say.ensures.ok
 
 pub returns-in-Export-clause-spared : goal.returns-in-Export-clause-spared
 returns-in-Export-clause-spared g c =
-    let row = c.args.shared.now.stations.items in
+    let row = c.args.shared.now.servers.items in
     let h = c.args.shared.now.log.events in
-    let P : Type 0 = IsTrue g.D.Disk.tells → SparesPicture g.D.Disk.image c.args.by c.args.seat.now.machine row h row in
-    on-err {P = P} c.ask_export.result (λ told. still-spares g.D.Disk.image c.args.by row c.args.seat.now.machine h)
+    let P : Type 0 = IsTrue g.D.Disk.tells → SparesPicture g.D.Disk.image c.args.by c.args.agenda.now.machine row h row in
+    on-err {P = P} c.ask_export.result (λ told. still-spares g.D.Disk.image c.args.by row c.args.agenda.now.machine h)
 
 pub returns-in-Lock-clause-spared : goal.returns-in-Lock-clause-spared
 returns-in-Lock-clause-spared g c =
-    let row = c.args.shared.now.stations.items in
+    let row = c.args.shared.now.servers.items in
     let h = c.args.shared.now.log.events in
-    let P : Type 0 = IsTrue g.D.Disk.tells → SparesPicture g.D.Disk.image c.args.by c.args.seat.now.machine row h row in
-    on-err {P = P} c.open.result (λ told. still-spares g.D.Disk.image c.args.by row c.args.seat.now.machine h)
+    let P : Type 0 = IsTrue g.D.Disk.tells → SparesPicture g.D.Disk.image c.args.by c.args.agenda.now.machine row h row in
+    on-err {P = P} c.open.result (λ told. still-spares g.D.Disk.image c.args.by row c.args.agenda.now.machine h)
 
 pub returns-in-Node-clause-spared : goal.returns-in-Node-clause-spared
 returns-in-Node-clause-spared g c =
     let p = c.args.shared.now in
     let q = c.message.new.shared in
     let m = c.in-Some.machine in
-    on_err_weaker c.message.result (λ (spares : IsTrue g.D.Disk.tells → SparesPicture g.D.Disk.image c.args.by (Some m) p.stations.items p.log.events q.stations.items). λ told.
-    at-spares g.D.Disk.image c.args.by p.stations.items c.args.seat.now.machine m c.in-Some.is p.log.events q.stations.items (spares told)) c.message.ensures.spared
+    on_err_weaker c.message.result (λ (spares : IsTrue g.D.Disk.tells → SparesPicture g.D.Disk.image c.args.by (Some m) p.servers.items p.log.events q.servers.items). λ told.
+    at-spares g.D.Disk.image c.args.by p.servers.items c.args.agenda.now.machine m c.in-Some.is p.log.events q.servers.items (spares told)) c.message.ensures.spared
 
 pub returns-in_err-done-in-Say-clause-spared : goal.returns-in_err-done-in-Say-clause-spared
 returns-in_err-done-in-Say-clause-spared g c =
-    let row = c.args.shared.now.stations.items in
+    let row = c.args.shared.now.servers.items in
     let h = c.args.shared.now.log.events in
-    let P : Type 0 = IsTrue g.D.Disk.tells → SparesPicture g.D.Disk.image c.args.by c.args.seat.now.machine row h row in
-    on-err {P = P} c.from_residual.result (λ told. still-spares g.D.Disk.image c.args.by row c.args.seat.now.machine h)
+    let P : Type 0 = IsTrue g.D.Disk.tells → SparesPicture g.D.Disk.image c.args.by c.args.agenda.now.machine row h row in
+    on-err {P = P} c.from_residual.result (λ told. still-spares g.D.Disk.image c.args.by row c.args.agenda.now.machine h)
 
 -- The journal beside the log.
 
@@ -215,7 +215,7 @@ returns-in-Lock-clause-kept g c =
     let p = c.args.shared.now in
     let q = c.open.new in
     both-ok c.open.result
-    (λ (keeps : KeepsAsked g.J.Disk.tells g.J.Disk.meter g.J.Disk.image m p.export q.export) (part : IsOpenPart c.args.by m q.machine (export_in p.export) (export_in q.export) p.locks q.locks c.args.seat.now.lock q.held p.log.events q.log.events).
+    (λ (keeps : KeepsAsked g.J.Disk.tells g.J.Disk.meter g.J.Disk.image m p.export q.export) (part : IsOpenPart c.args.by m q.machine (export_in p.export) (export_in q.export) p.locks q.locks c.args.agenda.now.lock q.held p.log.events q.log.events).
     let asks = ap call_asked part.4 in
     Asks m (call.Tree (tree.OpenFile part.0)) c.in-Some.is asks (keeps (call.Tree (tree.OpenFile part.0)) asks) part.5.1.noted)
     c.open.ensures.kept c.open.ensures.ok
@@ -225,7 +225,7 @@ returns-in-Node-clause-kept g c =
     let p = c.args.shared.now in
     let q = c.message.new.shared in
     on_ok_weaker c.message.result
-    (λ (sent : IsMessage c.args.by c.in-Node.node c.in-Node.ask c.in-Some.machine c.message.new.machine c.args.seat.now.miss c.message.new.miss p q).
+    (λ (sent : IsMessage c.args.by c.in-Node.node c.in-Node.ask c.in-Some.machine c.message.new.machine c.args.agenda.now.miss c.message.new.miss p q).
     AsksNothing sent.export (fate-stays sent.fate))
     c.message.ensures.ok
 
@@ -233,7 +233,7 @@ pub returns-in_ok-done-in-Say-clause-kept : goal.returns-in_ok-done-in-Say-claus
 returns-in_ok-done-in-Say-clause-kept g c =
     let p = c.args.shared.now in
     AsksNothing refl
-    (said-stays-export p.log.earlier c.args.by c.args.seat.now.number c.in_ok-done-in-Say.done c.in-Some.machine c.say.new.machine p.log.events c.say.new.log.events c.in_ok-done-in-Say.ensures.ok)
+    (said-stays-export p.log.earlier c.args.by c.args.agenda.now.number c.in_ok-done-in-Say.done c.in-Some.machine c.say.new.machine p.log.events c.say.new.log.events c.in_ok-done-in-Say.ensures.ok)
 
 pub returns-in-Export-clause-ended : goal.returns-in-Export-clause-ended
 returns-in-Export-clause-ended g c = c.ask_export.ensures.left

@@ -2,7 +2,7 @@ use Rattle.std.proofs.Common.{◌≡◌, ℕ, IsTrue, Some, refl, sym, subst}
 use Rattle.std.specs.Prelude.{slice_set}
 use Rattle.std.proofs.Math.Nat.{le_refl}
 use Rattle.std.proofs.lemmas.Result.{on_ok_weaker, on_err_weaker}
-use Rattle.rz_nodes.specs.declared.formatting.Station.{Station}
+use Rattle.rz_nodes.specs.declared.formatting.Server.{Server}
 use Rattle.rz_driver_actors.specs.Acts.{Through, ReplyLost, RequestLost}
 use Rattle.rz_driver_nodes.specs.Nodes.{IsThroughPart}
 use Rattle.rz_driver_nodes.specs.Meters.{GoesOn}
@@ -17,33 +17,33 @@ use Rattle.rz_link.specs.declared.Sent.TheVariants as sent
 use Rattle.rz_driver_actors.proofs.acting.message.Goals as goal
 
 pub index_mut-requires : goal.index_mut-requires
-index_mut-requires g c = within-len c.args.shared.now.stations.items c.as_slice.result.now c.args.number c.in-Some.place _ c.as_slice.ensures.value c.in-Some.ensures c.args.shared.now.stations.ok.0
+index_mut-requires g c = within-len c.args.shared.now.servers.items c.as_slice.result.now c.args.number c.in-Some.place _ c.as_slice.ensures.value c.in-Some.ensures c.args.shared.now.servers.ok.0
 
 pub through-requires-clause-layout : goal.through-requires-clause-layout
 through-requires-clause-layout g c =
-    let xs = c.args.shared.now.stations.items in
+    let xs = c.args.shared.now.servers.items in
     let there = read-at xs c.as_slice.result.now c.args.number c.in-Some.place c.index_mut.result.now c.as_slice.ensures.value c.in-Some.ensures c.index_mut.ensures.value in
-    layout-at c.args.layout xs c.in-Some.place c.index_mut.result.now c.requires.stations there.1
+    layout-at c.args.layout xs c.in-Some.place c.index_mut.result.now c.requires.servers there.1
 
 pub without_reply-requires-clause-layout : goal.without_reply-requires-clause-layout
 without_reply-requires-clause-layout g c =
-    let xs = c.args.shared.now.stations.items in
+    let xs = c.args.shared.now.servers.items in
     let there = read-at xs c.as_slice.result.now c.args.number c.in-Some.place c.index_mut.result.now c.as_slice.ensures.value c.in-Some.ensures c.index_mut.ensures.value in
-    layout-at c.args.layout xs c.in-Some.place c.index_mut.result.now c.requires.stations there.1
+    layout-at c.args.layout xs c.in-Some.place c.index_mut.result.now c.requires.servers there.1
 
 pub returns-in-Through-clause-ok : goal.returns-in-Through-clause-ok
 returns-in-Through-clause-ok g c =
     let s = c.index_mut.result.now in
-    let there = read-at c.args.shared.now.stations.items c.as_slice.result.now c.args.number c.in-Some.place s c.as_slice.ensures.value c.in-Some.ensures c.index_mut.ensures.value in
+    let there = read-at c.args.shared.now.servers.items c.as_slice.result.now c.args.number c.in-Some.place s c.as_slice.ensures.value c.in-Some.ensures c.index_mut.ensures.value in
     on_ok_weaker c.through.result
     (λ (part : IsThroughPart c.args.by c.args.number s.node.geometry.cells c.args.ask s.node.state c.through.new.node.state c.args.machine.now c.through.new.machine c.args.shared.now.log.events c.through.new.log.events). record {
       place = c.in-Some.place;
-      station = s;
+      server = s;
       after = record { sid = s.sid; node = c.through.new.node; pick = s.pick };
       at = there.0;
       is = there.1;
       called = record { sid = refl; pick = refl; geometry = c.through.ensures.geometry };
-      stations = refl;
+      servers = refl;
       fate = Through part (comes-through c.goes_by_link.result c.args.ask c.goes_by_link.ensures c.args.miss.now c.in-Through.ensures.fared.said c.in-Through.ensures.fared.fate) refl refl;
       export = refl;
       locks = refl;
@@ -52,15 +52,15 @@ returns-in-Through-clause-ok g c =
 pub returns-in_ok-without_reply-in-ReplyLost-clause-ok : goal.returns-in_ok-without_reply-in-ReplyLost-clause-ok
 returns-in_ok-without_reply-in-ReplyLost-clause-ok g c =
     let s = c.index_mut.result.now in
-    let there = read-at c.args.shared.now.stations.items c.as_slice.result.now c.args.number c.in-Some.place s c.as_slice.ensures.value c.in-Some.ensures c.index_mut.ensures.value in
+    let there = read-at c.args.shared.now.servers.items c.as_slice.result.now c.args.number c.in-Some.place s c.as_slice.ensures.value c.in-Some.ensures c.index_mut.ensures.value in
     record {
       place = c.in-Some.place;
-      station = s;
+      server = s;
       after = record { sid = s.sid; node = c.without_reply.new.node; pick = s.pick };
       at = there.0;
       is = there.1;
       called = record { sid = refl; pick = refl; geometry = c.without_reply.ensures.geometry };
-      stations = refl;
+      servers = refl;
       fate = ReplyLost c.in_ok-without_reply-in-ReplyLost.ensures.ok (loses-reply c.goes_by_link.result c.args.ask c.goes_by_link.ensures c.args.miss.now c.in-ReplyLost.ensures.fared.said c.in-ReplyLost.ensures.fared.fate) refl c.in-Some-lost_after.ensures.1;
       export = refl;
       locks = refl;
@@ -69,15 +69,15 @@ returns-in_ok-without_reply-in-ReplyLost-clause-ok g c =
 pub returns-in_ok-without_request-in-RequestLost-clause-ok : goal.returns-in_ok-without_request-in-RequestLost-clause-ok
 returns-in_ok-without_request-in-RequestLost-clause-ok g c =
     let s = c.index_mut.result.now in
-    let there = read-at c.args.shared.now.stations.items c.as_slice.result.now c.args.number c.in-Some.place s c.as_slice.ensures.value c.in-Some.ensures c.index_mut.ensures.value in
+    let there = read-at c.args.shared.now.servers.items c.as_slice.result.now c.args.number c.in-Some.place s c.as_slice.ensures.value c.in-Some.ensures c.index_mut.ensures.value in
     record {
       place = c.in-Some.place;
-      station = s;
+      server = s;
       after = record { sid = s.sid; node = s.node; pick = s.pick };
       at = there.0;
       is = there.1;
       called = record { sid = refl; pick = refl; geometry = refl };
-      stations = refl;
+      servers = refl;
       fate = RequestLost refl c.in_ok-without_request-in-RequestLost.ensures.ok (loses-request c.goes_by_link.result c.args.ask c.goes_by_link.ensures c.args.miss.now c.in-RequestLost.ensures.fared.said c.in-RequestLost.ensures.fared.fate) refl c.in-Some-lost_after.ensures.1;
       export = refl;
       locks = refl;
@@ -110,7 +110,7 @@ returns-in_ok-without_request-in-RequestLost-clause-sent g c =
 pub returns-in-Through-clause-held : goal.returns-in-Through-clause-held
 returns-in-Through-clause-held g c =
     let meter = g.D.Disk.meter in
-    let row = c.args.shared.now.stations.items in
+    let row = c.args.shared.now.servers.items in
     let h = c.args.shared.now.log.events in
     let s = c.index_mut.result.now in
     let there = read-at row c.as_slice.result.now c.args.number c.in-Some.place s c.as_slice.ensures.value c.in-Some.ensures c.index_mut.ensures.value in
@@ -122,7 +122,7 @@ returns-in-Through-clause-held g c =
 pub returns-in-Through-clause-left : goal.returns-in-Through-clause-left
 returns-in-Through-clause-left g c =
     let meter = g.D.Disk.meter in
-    let row = c.args.shared.now.stations.items in
+    let row = c.args.shared.now.servers.items in
     let h = c.args.shared.now.log.events in
     let s = c.index_mut.result.now in
     let there = read-at row c.as_slice.result.now c.args.number c.in-Some.place s c.as_slice.ensures.value c.in-Some.ensures c.index_mut.ensures.value in
@@ -133,7 +133,7 @@ returns-in-Through-clause-left g c =
 pub returns-in_ok-without_reply-in-ReplyLost-clause-held : goal.returns-in_ok-without_reply-in-ReplyLost-clause-held
 returns-in_ok-without_reply-in-ReplyLost-clause-held g c = λ numbers first met.
     let meter = g.D.Disk.meter in
-    let row = c.args.shared.now.stations.items in
+    let row = c.args.shared.now.servers.items in
     let h = c.args.shared.now.log.events in
     let s = c.index_mut.result.now in
     let there = read-at row c.as_slice.result.now c.args.number c.in-Some.place s c.as_slice.ensures.value c.in-Some.ensures c.index_mut.ensures.value in
@@ -144,7 +144,7 @@ returns-in_ok-without_reply-in-ReplyLost-clause-held g c = λ numbers first met.
 pub returns-in_ok-without_request-in-RequestLost-clause-held : goal.returns-in_ok-without_request-in-RequestLost-clause-held
 returns-in_ok-without_request-in-RequestLost-clause-held g c = λ numbers first met.
     let meter = g.D.Disk.meter in
-    let row = c.args.shared.now.stations.items in
+    let row = c.args.shared.now.servers.items in
     let h = c.args.shared.now.log.events in
     let s = c.index_mut.result.now in
     let there = read-at row c.as_slice.result.now c.args.number c.in-Some.place s c.as_slice.ensures.value c.in-Some.ensures c.index_mut.ensures.value in
@@ -152,14 +152,14 @@ returns-in_ok-without_request-in-RequestLost-clause-held g c = λ numbers first 
     (unheard-goes meter s.sid s.node c.args.by c.args.number h c.without_request.new.log.events c.in_ok-without_request-in-RequestLost.ensures.ok.noted) met
 
 pub returns-in_default-clause-left : goal.returns-in_default-clause-left
-returns-in_default-clause-left g c = λ numbers first met. metered-counts g.D.Disk.meter first numbers c.args.shared.now.stations.items c.args.shared.now.log.events met
+returns-in_default-clause-left g c = λ numbers first met. metered-counts g.D.Disk.meter first numbers c.args.shared.now.servers.items c.args.shared.now.log.events met
 
 pub returns-in_default-lost_after-clause-left : goal.returns-in_default-lost_after-clause-left
-returns-in_default-lost_after-clause-left g c = λ numbers first met. metered-counts g.D.Disk.meter first numbers c.args.shared.now.stations.items c.args.shared.now.log.events met
+returns-in_default-lost_after-clause-left g c = λ numbers first met. metered-counts g.D.Disk.meter first numbers c.args.shared.now.servers.items c.args.shared.now.log.events met
 
 pub returns-in_err-without_reply-in-ReplyLost-clause-left : goal.returns-in_err-without_reply-in-ReplyLost-clause-left
 returns-in_err-without_reply-in-ReplyLost-clause-left g c =
-    let row = c.args.shared.now.stations.items in
+    let row = c.args.shared.now.servers.items in
     let h = c.args.shared.now.log.events in
     let s = c.index_mut.result.now in
     let there = read-at row c.as_slice.result.now c.args.number c.in-Some.place s c.as_slice.ensures.value c.in-Some.ensures c.index_mut.ensures.value in
@@ -168,7 +168,7 @@ returns-in_err-without_reply-in-ReplyLost-clause-left g c =
 
 pub returns-in_err-without_request-in-RequestLost-clause-left : goal.returns-in_err-without_request-in-RequestLost-clause-left
 returns-in_err-without_request-in-RequestLost-clause-left g c =
-    let row = c.args.shared.now.stations.items in
+    let row = c.args.shared.now.servers.items in
     let h = c.args.shared.now.log.events in
     let s = c.index_mut.result.now in
     let there = read-at row c.as_slice.result.now c.args.number c.in-Some.place s c.as_slice.ensures.value c.in-Some.ensures c.index_mut.ensures.value in
@@ -180,7 +180,7 @@ returns-in_err-without_request-in-RequestLost-clause-left g c =
 pub returns-in-Through-clause-pictured : goal.returns-in-Through-clause-pictured
 returns-in-Through-clause-pictured g c =
     let image = g.D.Disk.image in
-    let row = c.args.shared.now.stations.items in
+    let row = c.args.shared.now.servers.items in
     let h = c.args.shared.now.log.events in
     let h' = c.through.new.log.events in
     let m = c.args.machine.now in
@@ -196,7 +196,7 @@ returns-in-Through-clause-pictured g c =
 pub returns-in-Through-clause-spared : goal.returns-in-Through-clause-spared
 returns-in-Through-clause-spared g c =
     let image = g.D.Disk.image in
-    let row = c.args.shared.now.stations.items in
+    let row = c.args.shared.now.servers.items in
     let h = c.args.shared.now.log.events in
     let m = c.args.machine.now in
     let s = c.index_mut.result.now in
@@ -208,7 +208,7 @@ returns-in-Through-clause-spared g c =
 pub returns-in_ok-without_reply-in-ReplyLost-clause-pictured : goal.returns-in_ok-without_reply-in-ReplyLost-clause-pictured
 returns-in_ok-without_reply-in-ReplyLost-clause-pictured g c = λ told.
     let image = g.D.Disk.image in
-    let row = c.args.shared.now.stations.items in
+    let row = c.args.shared.now.servers.items in
     let h = c.args.shared.now.log.events in
     let s = c.index_mut.result.now in
     let there = read-at row c.as_slice.result.now c.args.number c.in-Some.place s c.as_slice.ensures.value c.in-Some.ensures c.index_mut.ensures.value in
@@ -219,11 +219,11 @@ returns-in_ok-without_reply-in-ReplyLost-clause-pictured g c = λ told.
 pub returns-in_err-without_reply-in-ReplyLost-clause-spared : goal.returns-in_err-without_reply-in-ReplyLost-clause-spared
 returns-in_err-without_reply-in-ReplyLost-clause-spared g c =
     let image = g.D.Disk.image in
-    let row = c.args.shared.now.stations.items in
+    let row = c.args.shared.now.servers.items in
     let h = c.args.shared.now.log.events in
     let m = c.args.machine.now in
     let s = c.index_mut.result.now in
-    let after : Station g.row.D.Denot = record { sid = s.sid; node = c.without_reply.new.node; pick = s.pick } in
+    let after : Server g.row.D.Denot = record { sid = s.sid; node = c.without_reply.new.node; pick = s.pick } in
     let there = read-at row c.as_slice.result.now c.args.number c.in-Some.place s c.as_slice.ensures.value c.in-Some.ensures c.index_mut.ensures.value in
     let named = sid-at row c.args.number c.in-Some.place s there.0 there.1 in
     let P : Type 0 = IsTrue g.D.Disk.tells → SparesPicture image c.args.by (Some m) row h (slice_set row c.in-Some.place after) in
@@ -231,7 +231,7 @@ returns-in_err-without_reply-in-ReplyLost-clause-spared g c =
 
 pub returns-in_ok-without_request-in-RequestLost-clause-pictured : goal.returns-in_ok-without_request-in-RequestLost-clause-pictured
 returns-in_ok-without_request-in-RequestLost-clause-pictured g c = λ told.
-    let row = c.args.shared.now.stations.items in
+    let row = c.args.shared.now.servers.items in
     let s = c.index_mut.result.now in
     let there = read-at row c.as_slice.result.now c.args.number c.in-Some.place s c.as_slice.ensures.value c.in-Some.ensures c.index_mut.ensures.value in
     unheard-keeps g.D.Disk.image c.args.by row c.longer.ensures c.told.ensures c.args.machine.now c.without_request.new.machine c.args.shared.now.log.events c.without_request.new.log.events c.args.number c.args.ask c.in-Some.place s there.1 c.requires.asked
@@ -240,7 +240,7 @@ returns-in_ok-without_request-in-RequestLost-clause-pictured g c = λ told.
 pub returns-in_err-without_request-in-RequestLost-clause-spared : goal.returns-in_err-without_request-in-RequestLost-clause-spared
 returns-in_err-without_request-in-RequestLost-clause-spared g c =
     let image = g.D.Disk.image in
-    let row = c.args.shared.now.stations.items in
+    let row = c.args.shared.now.servers.items in
     let h = c.args.shared.now.log.events in
     let m = c.args.machine.now in
     let s = c.index_mut.result.now in
@@ -250,7 +250,7 @@ returns-in_err-without_request-in-RequestLost-clause-spared g c =
     on-err {P = P} c.from_residual-in_err-without_request-in-RequestLost.result (λ told. node-spares image c.args.by row m h c.args.number c.in-Some.place s s named there.1 refl (λ v old actor has. (has, refl)))
 
 pub returns-in_default-clause-spared : goal.returns-in_default-clause-spared
-returns-in_default-clause-spared g c = λ told. still-spares g.D.Disk.image c.args.by c.args.shared.now.stations.items (Some c.args.machine.now) c.args.shared.now.log.events
+returns-in_default-clause-spared g c = λ told. still-spares g.D.Disk.image c.args.by c.args.shared.now.servers.items (Some c.args.machine.now) c.args.shared.now.log.events
 
 pub returns-in_default-lost_after-clause-spared : goal.returns-in_default-lost_after-clause-spared
-returns-in_default-lost_after-clause-spared g c = λ told. still-spares g.D.Disk.image c.args.by c.args.shared.now.stations.items (Some c.args.machine.now) c.args.shared.now.log.events
+returns-in_default-lost_after-clause-spared g c = λ told. still-spares g.D.Disk.image c.args.by c.args.shared.now.servers.items (Some c.args.machine.now) c.args.shared.now.log.events

@@ -23,7 +23,7 @@ returns-clause-order g c = record {
 pub returns-clause-metered : goal.returns-clause-metered
 returns-clause-metered g c = λ h.
     let meter = g.D.Disk.meter in
-    let s = c.args.station.now in
+    let s = c.args.server.now in
     let node' = c.lose.new.self in
     let after = ap (λ (n : NodeView g.row.D.Denot). n.state) c.lose.ensures.after in
     let same = ap (λ (n : NodeView g.row.D.Denot). meter n.disk) c.lose.ensures.after in
@@ -37,7 +37,7 @@ returns-clause-counted g c =
 
 pub returns-clause-images : goal.returns-clause-images
 returns-clause-images g c = λ told.
-    let s = c.args.station.now in
+    let s = c.args.server.now in
     let node' = c.lose.new.self in
     let after = c.lose.ensures.after in
     call-keeps g.D.Disk.image g.D.Disk.text (c.called.ensures told) ask.Lose (answer.Lose c.lose.result) (λ v f n. tt) s (record { sid = s.sid; node = node'; pick = s.pick }) refl

@@ -20,8 +20,8 @@ use Rattle.rz_node_model.specs.Afterwards.{after_answer}
 use Rattle.rz_node_model.specs.NodeEvents.{node_event, start_event}
 use Rattle.rz_cells_slots.specs.declared.geometry.Geometry.{Geometry}
 use Rattle.rz_node.specs.View.{NodeView}
-use Rattle.rz_nodes.specs.declared.formatting.Station.{Station}
-use Rattle.rz_driver_nodes.specs.Stations.{IsCalled}
+use Rattle.rz_nodes.specs.declared.formatting.Server.{Server}
+use Rattle.rz_driver_nodes.specs.Servers.{IsCalled}
 use Rattle.rz_driver_nodes.specs.Administration.{IsOrder, IsFreeOrder, IsArmed}
 use Rattle.rz_driver_nodes.specs.Images.{KeepsImages}
 use Rattle.rz_driver_nodes.proofs.OrderPictures.{both-keep, call-keeps, crash-keeps, fewer-keeps, starts}
@@ -38,11 +38,11 @@ the-start : (a : StartAnswer) → answer.Start a ≡ answer.Start start.NoMemory
 the-start a same = grind (arith, same)
 
 -- a start leaves the node as it is before it starts
-disarmed-first : {D : Type 0} (old mid : Station D) (n : NodeView D) → IsArmed old.pick old mid → n.geometry ≡ mid.node.geometry
+disarmed-first : {D : Type 0} (old mid : Server D) (n : NodeView D) → IsArmed old.pick old mid → n.geometry ≡ mid.node.geometry
     → IsCalled old (record { sid = mid.sid; node = n; pick = mid.pick })
 disarmed-first old mid n first kept = record { sid = first.sid; pick = first.pick_is; geometry = kept ∙ first.geometry }
 
-order-of : {D : Type 0} (old mid : Station D) (n : NodeView D) (given : StartAnswer) (event : Option Event) → IsArmed old.pick old mid → n.geometry ≡ mid.node.geometry
+order-of : {D : Type 0} (old mid : Server D) (n : NodeView D) (given : StartAnswer) (event : Option Event) → IsArmed old.pick old mid → n.geometry ≡ mid.node.geometry
     → IsNodeAnswer mid.node.geometry.cells mid.node.state ask.Start (answer.Start given) → IsTold (answer.Start given) → n.state ≡ after_answer ask.Start (answer.Start given) mid.node.state
     → event ≡ node_event Admin mid.sid ask.Start (answer.Start given)
     → IsOrder ask.Start old (record { sid = mid.sid; node = n; pick = mid.pick }) event
@@ -56,7 +56,7 @@ order-of old mid n given event first kept is told after noted = record {
   called = disarmed-first old mid n first kept;
 }
 
-free-order : {D : Type 0} (old mid : Station D) (n : NodeView D) (given : StartAnswer) (event : Option Event) → IsArmed old.pick old mid → n.geometry ≡ mid.node.geometry
+free-order : {D : Type 0} (old mid : Server D) (n : NodeView D) (given : StartAnswer) (event : Option Event) → IsArmed old.pick old mid → n.geometry ≡ mid.node.geometry
     → IsNodeAnswer mid.node.geometry.cells mid.node.state ask.Start (answer.Start given) → (given ≡ start.NoMemory → ⊥)
     → event ≡ node_event Admin mid.sid ask.Start (answer.Start given)
     → IsFreeOrder old (record { sid = mid.sid; node = n; pick = mid.pick }) event
@@ -79,34 +79,34 @@ exact-told b (start.Unopened cause) told fits = fits told
 pub returns-in_default : goal.returns-in_default
 returns-in_default g c =
     let meter = g.D.Disk.meter in
-    let old = c.args.station.now in
-    let mid = c.if-eq.station in
+    let old = c.args.server.now in
+    let mid = c.if-eq.server in
     let new = c.start.new.self in
     let given = c.start.result in
     let calls = opening_calls mid.node.geometry in
     let first : IsArmed old.pick old mid = elim c.if-eq.branch [
-      | then-eq w ↦ rw w.station-is (record { sid = refl; geometry = w.arm.ensures.geometry ∙ w.crash.ensures.geometry; state = w.arm.ensures.state ∙ w.crash.ensures.state; pick_is = refl })
-      | else-eq w ↦ rw w.station-is (record { sid = refl; geometry = refl; state = refl; pick_is = refl })
+      | then-eq w ↦ rw w.server-is (record { sid = refl; geometry = w.arm.ensures.geometry ∙ w.crash.ensures.geometry; state = w.arm.ensures.state ∙ w.crash.ensures.state; pick_is = refl })
+      | else-eq w ↦ rw w.server-is (record { sid = refl; geometry = refl; state = refl; pick_is = refl })
     ] in
     let replied = subst (λ (s : NodeState). IsStartAnswer s given) first.state c.start.ensures.answer in
     let started = subst (λ (s : NodeState). IfStarted given (new.state ≡ opened s.losses new.state.fence new.state.held)) first.state c.start.ensures.started in
     let unstarted = subst (λ (s : NodeState). UnlessStarted given (new.state ≡ s)) first.state c.start.ensures.unstarted in
     let event_is : c.node_event.result ≡ start_event old.sid given = c.node_event.ensures ∙ ap (λ (n : ℕ). start_event n given) first.sid in
     let same : (meter mid.node.disk).own ≡ (meter old.node.disk).own = elim c.if-eq.branch [
-      | then-eq w ↦ ap (λ (s : Station g.row.D.Denot). (meter s.node.disk).own) w.station-is
+      | then-eq w ↦ ap (λ (s : Server g.row.D.Denot). (meter s.node.disk).own) w.server-is
           ∙ armed-own g.D.Disk.has_fuse None (meter w.crash.new.self.disk) (meter w.arm.new.self.disk) w.arm.ensures.meter ∙ ap (λ (m : Meter). m.own) w.crash.ensures.meter
-      | else-eq w ↦ ap (λ (s : Station g.row.D.Denot). (meter s.node.disk).own) w.station-is
+      | else-eq w ↦ ap (λ (s : Server g.row.D.Denot). (meter s.node.disk).own) w.server-is
     ] in
     let keeps : IsTrue g.D.Disk.tells → KeepsImages g.D.Disk.image old mid = λ told. elim c.if-eq.branch [
       | then-eq w ↦
-          let crashed : Station g.row.D.Denot = record { sid = old.sid; node = w.crash.new.self; pick = old.pick } in
-          let disarmed : Station g.row.D.Denot = record { sid = old.sid; node = w.arm.new.self; pick = old.pick } in
-          rw w.station-is (both-keep g.D.Disk.image old crashed disarmed
+          let crashed : Server g.row.D.Denot = record { sid = old.sid; node = w.crash.new.self; pick = old.pick } in
+          let disarmed : Server g.row.D.Denot = record { sid = old.sid; node = w.arm.new.self; pick = old.pick } in
+          rw w.server-is (both-keep g.D.Disk.image old crashed disarmed
           (crash-keeps g.D.Disk.image g.D.Disk.text c.crashed.ensures old crashed refl w.crash.ensures.geometry w.crash.ensures.state (w.crash.ensures.left told) w.crash.ensures.only)
           (fewer-keeps g.D.Disk.image c.fewer.ensures crashed disarmed refl w.arm.ensures.geometry w.arm.ensures.state w.arm.ensures.within))
-      | else-eq w ↦ rw w.station-is (λ v f has. has)
+      | else-eq w ↦ rw w.server-is (λ v f has. has)
     ] in
-    let after : Station g.row.D.Denot = record { sid = mid.sid; node = new; pick = mid.pick } in
+    let after : Server g.row.D.Denot = record { sid = mid.sid; node = new; pick = mid.pick } in
     let images : IsTrue g.D.Disk.tells → KeepsImages g.D.Disk.image old after = λ told. both-keep g.D.Disk.image old mid after (keeps told)
     (call-keeps g.D.Disk.image g.D.Disk.text (c.called.ensures told) ask.Start (answer.Start c.start.result) (λ v f n. tt) mid after refl c.start.ensures.geometry (c.start.ensures.after told) c.start.ensures.answer
     (starts mid.node.geometry mid.node.state g.D.Disk.tells told (g.D.Disk.text mid.node.disk) (g.D.Disk.text new.disk) (g.D.Disk.image mid.node.disk) (g.D.Disk.image new.disk)
@@ -119,19 +119,19 @@ returns-in_default g c =
           (start-told given c.in_default.not-NoMemory (exact-told g.D.Disk.tells given told c.start.ensures.exact)) (c.start.ensures.after told) c.node_event.ensures;
       crashed = λ down. elim c.if-eq.branch [
         | then-eq w ↦ subst (λ (t : List ℕ). g.D.Disk.picks old.node.disk old.pick t)
-            (sym (c.start.ensures.text ∙ ap (λ (s : Station g.row.D.Denot). g.D.Disk.text s.node.disk) w.station-is ∙ w.arm.ensures.text)) w.crash.ensures.by_pick
+            (sym (c.start.ensures.text ∙ ap (λ (s : Server g.row.D.Denot). g.D.Disk.text s.node.disk) w.server-is ∙ w.arm.ensures.text)) w.crash.ensures.by_pick
         | else-eq w ↦ let other : old.node.state.phase ≡ Down → ⊥ = search rules in absurd (other down)
       ];
       metered = λ h. subst (λ (o : Option Event). GoesOn meter old.sid old.node new h (noted o h)) (sym event_is) (elim c.if-eq.branch [
         | then-eq w ↦
             let down : old.node.state.phase ≡ Down = search rules in
-            let disarmed : meter mid.node.disk ≡ armed None (meter old.node.disk) = ap (λ (s : Station g.row.D.Denot). meter s.node.disk) w.station-is
+            let disarmed : meter mid.node.disk ≡ armed None (meter old.node.disk) = ap (λ (s : Server g.row.D.Denot). meter s.node.disk) w.server-is
             ∙ armed-there g.D.Disk.has_fuse None (meter w.crash.new.self.disk) (meter w.arm.new.self.disk) c.requires.fuse w.arm.ensures.meter ∙ ap (armed None) w.crash.ensures.meter
             in
             start-down meter c.started.ensures old.sid calls given old.node new (meter mid.node.disk) down replied c.in_default.not-NoMemory disarmed c.start.ensures.opens started unstarted h
         | else-eq w ↦
             let other : old.node.state.phase ≡ Down → ⊥ = search rules in
-            let opens = subst (λ (m : Meter). Opens calls given m (meter new.disk)) (ap (λ (s : Station g.row.D.Denot). meter s.node.disk) w.station-is) c.start.ensures.opens in
+            let opens = subst (λ (m : Meter). Opens calls given m (meter new.disk)) (ap (λ (s : Server g.row.D.Denot). meter s.node.disk) w.server-is) c.start.ensures.opens in
             start-still meter old.sid calls given old.node new other replied opens unstarted h
       ]);
       counted = start-lasts meter calls given old.node new (meter mid.node.disk) same c.start.ensures.opens;
@@ -142,28 +142,28 @@ returns-in_default g c =
 pub returns-in-NoMemory : goal.returns-in-NoMemory
 returns-in-NoMemory g c =
     let meter = g.D.Disk.meter in
-    let old = c.args.station.now in
-    let mid = c.if-eq.station in
+    let old = c.args.server.now in
+    let mid = c.if-eq.server in
     let new = c.start.new.self in
     let first : IsArmed old.pick old mid = elim c.if-eq.branch [
-      | then-eq w ↦ rw w.station-is (record { sid = refl; geometry = w.arm.ensures.geometry ∙ w.crash.ensures.geometry; state = w.arm.ensures.state ∙ w.crash.ensures.state; pick_is = refl })
-      | else-eq w ↦ rw w.station-is (record { sid = refl; geometry = refl; state = refl; pick_is = refl })
+      | then-eq w ↦ rw w.server-is (record { sid = refl; geometry = w.arm.ensures.geometry ∙ w.crash.ensures.geometry; state = w.arm.ensures.state ∙ w.crash.ensures.state; pick_is = refl })
+      | else-eq w ↦ rw w.server-is (record { sid = refl; geometry = refl; state = refl; pick_is = refl })
     ] in
     let same : (meter mid.node.disk).own ≡ (meter old.node.disk).own = elim c.if-eq.branch [
-      | then-eq w ↦ ap (λ (s : Station g.row.D.Denot). (meter s.node.disk).own) w.station-is
+      | then-eq w ↦ ap (λ (s : Server g.row.D.Denot). (meter s.node.disk).own) w.server-is
           ∙ armed-own g.D.Disk.has_fuse None (meter w.crash.new.self.disk) (meter w.arm.new.self.disk) w.arm.ensures.meter ∙ ap (λ (m : Meter). m.own) w.crash.ensures.meter
-      | else-eq w ↦ ap (λ (s : Station g.row.D.Denot). (meter s.node.disk).own) w.station-is
+      | else-eq w ↦ ap (λ (s : Server g.row.D.Denot). (meter s.node.disk).own) w.server-is
     ] in
     let keeps : IsTrue g.D.Disk.tells → KeepsImages g.D.Disk.image old mid = λ told. elim c.if-eq.branch [
       | then-eq w ↦
-          let crashed : Station g.row.D.Denot = record { sid = old.sid; node = w.crash.new.self; pick = old.pick } in
-          let disarmed : Station g.row.D.Denot = record { sid = old.sid; node = w.arm.new.self; pick = old.pick } in
-          rw w.station-is (both-keep g.D.Disk.image old crashed disarmed
+          let crashed : Server g.row.D.Denot = record { sid = old.sid; node = w.crash.new.self; pick = old.pick } in
+          let disarmed : Server g.row.D.Denot = record { sid = old.sid; node = w.arm.new.self; pick = old.pick } in
+          rw w.server-is (both-keep g.D.Disk.image old crashed disarmed
           (crash-keeps g.D.Disk.image g.D.Disk.text c.crashed.ensures old crashed refl w.crash.ensures.geometry w.crash.ensures.state (w.crash.ensures.left told) w.crash.ensures.only)
           (fewer-keeps g.D.Disk.image c.fewer.ensures crashed disarmed refl w.arm.ensures.geometry w.arm.ensures.state w.arm.ensures.within))
-      | else-eq w ↦ rw w.station-is (λ v f has. has)
+      | else-eq w ↦ rw w.server-is (λ v f has. has)
     ] in
-    let after : Station g.row.D.Denot = record { sid = mid.sid; node = new; pick = mid.pick } in
+    let after : Server g.row.D.Denot = record { sid = mid.sid; node = new; pick = mid.pick } in
     let images : IsTrue g.D.Disk.tells → KeepsImages g.D.Disk.image old after = λ told. both-keep g.D.Disk.image old mid after (keeps told)
     (call-keeps g.D.Disk.image g.D.Disk.text (c.called.ensures told) ask.Start (answer.Start c.start.result) (λ v f n. tt) mid after refl c.start.ensures.geometry (c.start.ensures.after told) c.start.ensures.answer
     (starts mid.node.geometry mid.node.state g.D.Disk.tells told (g.D.Disk.text mid.node.disk) (g.D.Disk.text new.disk) (g.D.Disk.image mid.node.disk) (g.D.Disk.image new.disk)
@@ -175,7 +175,7 @@ returns-in-NoMemory g c =
       started = tt;
       crashed = λ down. elim c.if-eq.branch [
         | then-eq w ↦ subst (λ (t : List ℕ). g.D.Disk.picks old.node.disk old.pick t)
-            (sym (c.start.ensures.text ∙ ap (λ (s : Station g.row.D.Denot). g.D.Disk.text s.node.disk) w.station-is ∙ w.arm.ensures.text)) w.crash.ensures.by_pick
+            (sym (c.start.ensures.text ∙ ap (λ (s : Server g.row.D.Denot). g.D.Disk.text s.node.disk) w.server-is ∙ w.arm.ensures.text)) w.crash.ensures.by_pick
         | else-eq w ↦ let other : old.node.state.phase ≡ Down → ⊥ = search rules in absurd (other down)
       ];
       metered = tt;

@@ -12,78 +12,78 @@ use Rattle.rz_driver_nodes.proofs.OrderPictures.{order-quiet, row-keeps, row-spa
 use Rattle.rz_driver_nodes.proofs.PictureLemmas.{noted-grows, on-err}
 use Rattle.rz_driver_nodes.proofs.administration.start_node.Goals as goal
 
-pub offset_bounds-stations-place : goal.offset_bounds-stations-place
-offset_bounds-stations-place g c = let low : c.in-Some.place < length c.args.stations.now = at-within c.args.stations.now c.args.sid c.in-Some.place c.in-Some.ensures in search rules
+pub offset_bounds-servers-place : goal.offset_bounds-servers-place
+offset_bounds-servers-place g c = let low : c.in-Some.place < length c.args.servers.now = at-within c.args.servers.now c.args.sid c.in-Some.place c.in-Some.ensures in search rules
 
-pub bounds-stations-place : goal.bounds-stations-place
-bounds-stations-place g c = at-within c.args.stations.now c.args.sid c.in-Some.place c.in-Some.ensures
+pub bounds-servers-place : goal.bounds-servers-place
+bounds-servers-place g c = at-within c.args.servers.now c.args.sid c.in-Some.place c.in-Some.ensures
 
 pub returns-clause-ok : goal.returns-clause-ok
 returns-clause-ok g c =
-    let low = at-within c.args.stations.now c.args.sid c.in-Some.place c.in-Some.ensures in
+    let low = at-within c.args.servers.now c.args.sid c.in-Some.place c.in-Some.ensures in
     on_ok_weaker c.note.result (λ (h : c.note.new.log.events ≡ noted c.in_ok-event.event c.make_room.new.self.events). λ (told : IsTrue g.D.Disk.tells). record {
       place = c.in-Some.place;
-      station = get_or c.args.stations.now c.in-Some.place c.index-stations-place.result;
-      after = c.start.new.station;
+      server = get_or c.args.servers.now c.in-Some.place c.index-servers-place.result;
+      after = c.start.new.server;
       event = c.in_ok-event.event;
       at = c.in-Some.ensures;
-      is = slice_get-get_or c.args.stations.now c.in-Some.place c.index-stations-place.result low;
-      stations = refl;
+      is = slice_get-get_or c.args.servers.now c.in-Some.place c.index-servers-place.result low;
+      servers = refl;
       order = c.in_ok-event.ensures.ok told;
       log_is = h ∙ ap (noted c.in_ok-event.event) c.make_room.ensures.same;
     }) c.note.ensures.ok
 
 pub returns-clause-started : goal.returns-clause-started
 returns-clause-started g c =
-    let low = at-within c.args.stations.now c.args.sid c.in-Some.place c.in-Some.ensures in
+    let low = at-within c.args.servers.now c.args.sid c.in-Some.place c.in-Some.ensures in
     on_ok_weaker c.note.result (λ (h : c.note.new.log.events ≡ noted c.in_ok-event.event c.make_room.new.self.events). record {
       place = c.in-Some.place;
-      station = get_or c.args.stations.now c.in-Some.place c.index-stations-place.result;
-      after = c.start.new.station;
+      server = get_or c.args.servers.now c.in-Some.place c.index-servers-place.result;
+      after = c.start.new.server;
       event = c.in_ok-event.event;
       at = c.in-Some.ensures;
-      is = slice_get-get_or c.args.stations.now c.in-Some.place c.index-stations-place.result low;
-      stations = refl;
+      is = slice_get-get_or c.args.servers.now c.in-Some.place c.index-servers-place.result low;
+      servers = refl;
       order = c.in_ok-event.ensures.started;
       log_is = h ∙ ap (noted c.in_ok-event.event) c.make_room.ensures.same;
     }) c.note.ensures.ok
 
 pub returns-clause-called : goal.returns-clause-called
 returns-clause-called g c =
-    let low = at-within c.args.stations.now c.args.sid c.in-Some.place c.in-Some.ensures in
+    let low = at-within c.args.servers.now c.args.sid c.in-Some.place c.in-Some.ensures in
     on_ok_weaker c.note.result (λ (h : c.note.new.log.events ≡ noted c.in_ok-event.event c.make_room.new.self.events). record {
       place = c.in-Some.place;
-      station = get_or c.args.stations.now c.in-Some.place c.index-stations-place.result;
-      after = c.start.new.station;
+      server = get_or c.args.servers.now c.in-Some.place c.index-servers-place.result;
+      after = c.start.new.server;
       at = c.in-Some.ensures;
-      is = slice_get-get_or c.args.stations.now c.in-Some.place c.index-stations-place.result low;
-      stations = refl;
+      is = slice_get-get_or c.args.servers.now c.in-Some.place c.index-servers-place.result low;
+      servers = refl;
       called = c.start.ensures.called;
     }) c.note.ensures.ok
 
 pub returns-clause-crashed : goal.returns-clause-crashed
 returns-clause-crashed g c =
-    let low = at-within c.args.stations.now c.args.sid c.in-Some.place c.in-Some.ensures in
+    let low = at-within c.args.servers.now c.args.sid c.in-Some.place c.in-Some.ensures in
     on_ok_weaker c.note.result (λ (h : c.note.new.log.events ≡ noted c.in_ok-event.event c.make_room.new.self.events). record {
       place = c.in-Some.place;
-      station = get_or c.args.stations.now c.in-Some.place c.index-stations-place.result;
-      after = c.start.new.station;
+      server = get_or c.args.servers.now c.in-Some.place c.index-servers-place.result;
+      after = c.start.new.server;
       at = c.in-Some.ensures;
-      is = slice_get-get_or c.args.stations.now c.in-Some.place c.index-stations-place.result low;
-      stations = refl;
+      is = slice_get-get_or c.args.servers.now c.in-Some.place c.index-servers-place.result low;
+      servers = refl;
       crashed = c.start.ensures.crashed;
     }) c.note.ensures.ok
 
 pub returns-clause-stayed : goal.returns-clause-stayed
 returns-clause-stayed g c =
-    let low = at-within c.args.stations.now c.args.sid c.in-Some.place c.in-Some.ensures in
+    let low = at-within c.args.servers.now c.args.sid c.in-Some.place c.in-Some.ensures in
     on-err c.note.result (inr (record {
       place = c.in-Some.place;
-      station = get_or c.args.stations.now c.in-Some.place c.index-stations-place.result;
-      after = c.start.new.station;
+      server = get_or c.args.servers.now c.in-Some.place c.index-servers-place.result;
+      after = c.start.new.server;
       at = c.in-Some.ensures;
-      is = slice_get-get_or c.args.stations.now c.in-Some.place c.index-stations-place.result low;
-      stations = refl;
+      is = slice_get-get_or c.args.servers.now c.in-Some.place c.index-servers-place.result low;
+      servers = refl;
       crashed = c.start.ensures.crashed;
     }))
 
@@ -95,79 +95,79 @@ returns-in_err-make_room-clause-stayed g c = on-err c.from_residual.result (inl 
 
 pub returns-in_err-event-clause-stayed : goal.returns-in_err-event-clause-stayed
 returns-in_err-event-clause-stayed g c =
-    let low = at-within c.args.stations.now c.args.sid c.in-Some.place c.in-Some.ensures in
+    let low = at-within c.args.servers.now c.args.sid c.in-Some.place c.in-Some.ensures in
     on-err c.from_residual-in_err-event.result (inr (record {
       place = c.in-Some.place;
-      station = get_or c.args.stations.now c.in-Some.place c.index-stations-place.result;
-      after = c.start.new.station;
+      server = get_or c.args.servers.now c.in-Some.place c.index-servers-place.result;
+      after = c.start.new.server;
       at = c.in-Some.ensures;
-      is = slice_get-get_or c.args.stations.now c.in-Some.place c.index-stations-place.result low;
-      stations = refl;
+      is = slice_get-get_or c.args.servers.now c.in-Some.place c.index-servers-place.result low;
+      servers = refl;
       crashed = c.start.ensures.crashed;
     }))
 
 pub returns-clause-held : goal.returns-clause-held
 returns-clause-held g c =
-    let row = c.args.stations.now in
+    let row = c.args.servers.now in
     let low = at-within row c.args.sid c.in-Some.place c.in-Some.ensures in
-    let s = get_or row c.in-Some.place c.index-stations-place.result in
-    let at = slice_get-get_or row c.in-Some.place c.index-stations-place.result low in
+    let s = get_or row c.in-Some.place c.index-servers-place.result in
+    let at = slice_get-get_or row c.in-Some.place c.index-servers-place.result low in
     on_ok_weaker c.note.result (λ (h : c.note.new.log.events ≡ noted c.in_ok-event.event c.make_room.new.self.events). λ numbers first met.
-    order-held g.D.Disk.meter first numbers row c.in-Some.place s c.start.new.station c.in_ok-event.event c.args.log.now.events c.note.new.log.events at c.start.ensures.called.sid c.in_ok-event.ensures.metered (h ∙ ap (noted c.in_ok-event.event) c.make_room.ensures.same) met) c.note.ensures.ok
+    order-held g.D.Disk.meter first numbers row c.in-Some.place s c.start.new.server c.in_ok-event.event c.args.log.now.events c.note.new.log.events at c.start.ensures.called.sid c.in_ok-event.ensures.metered (h ∙ ap (noted c.in_ok-event.event) c.make_room.ensures.same) met) c.note.ensures.ok
 
 pub returns-clause-left : goal.returns-clause-left
 returns-clause-left g c =
-    let row = c.args.stations.now in
+    let row = c.args.servers.now in
     let low = at-within row c.args.sid c.in-Some.place c.in-Some.ensures in
-    let s = get_or row c.in-Some.place c.index-stations-place.result in
-    let at = slice_get-get_or row c.in-Some.place c.index-stations-place.result low in
+    let s = get_or row c.in-Some.place c.index-servers-place.result in
+    let at = slice_get-get_or row c.in-Some.place c.index-servers-place.result low in
     on_err_weaker c.note.result (λ (h : c.note.new.log.events ≡ c.make_room.new.self.events). λ numbers first met.
-    order-left g.D.Disk.meter first numbers row c.in-Some.place s c.start.new.station c.args.log.now.events c.note.new.log.events at c.start.ensures.called.sid c.start.ensures.counted (h ∙ c.make_room.ensures.same) met) c.note.ensures.err
+    order-left g.D.Disk.meter first numbers row c.in-Some.place s c.start.new.server c.args.log.now.events c.note.new.log.events at c.start.ensures.called.sid c.start.ensures.counted (h ∙ c.make_room.ensures.same) met) c.note.ensures.err
 
 pub returns-in_default-clause-left : goal.returns-in_default-clause-left
-returns-in_default-clause-left g c = λ numbers first met. metered-counts g.D.Disk.meter first numbers c.args.stations.now c.args.log.now.events met
+returns-in_default-clause-left g c = λ numbers first met. metered-counts g.D.Disk.meter first numbers c.args.servers.now c.args.log.now.events met
 
 pub returns-in_err-make_room-clause-left : goal.returns-in_err-make_room-clause-left
-returns-in_err-make_room-clause-left g c = still-err c.from_residual.result g.D.Disk.meter c.args.stations.now c.args.log.now.events c.make_room.new.self.events c.make_room.ensures.same
+returns-in_err-make_room-clause-left g c = still-err c.from_residual.result g.D.Disk.meter c.args.servers.now c.args.log.now.events c.make_room.new.self.events c.make_room.ensures.same
 
 pub returns-in_err-event-clause-left : goal.returns-in_err-event-clause-left
 returns-in_err-event-clause-left g c =
-    let row = c.args.stations.now in
+    let row = c.args.servers.now in
     let low = at-within row c.args.sid c.in-Some.place c.in-Some.ensures in
-    let s = get_or row c.in-Some.place c.index-stations-place.result in
-    let at = slice_get-get_or row c.in-Some.place c.index-stations-place.result low in
-    order-err c.from_residual-in_err-event.result g.D.Disk.meter row c.in-Some.place s c.start.new.station c.args.log.now.events c.make_room.new.self.events at c.start.ensures.called.sid c.start.ensures.counted c.make_room.ensures.same
+    let s = get_or row c.in-Some.place c.index-servers-place.result in
+    let at = slice_get-get_or row c.in-Some.place c.index-servers-place.result low in
+    order-err c.from_residual-in_err-event.result g.D.Disk.meter row c.in-Some.place s c.start.new.server c.args.log.now.events c.make_room.new.self.events at c.start.ensures.called.sid c.start.ensures.counted c.make_room.ensures.same
 
 -- Beside the log.
 
 pub returns-clause-pictured : goal.returns-clause-pictured
 returns-clause-pictured g c =
-    let row = c.args.stations.now in
+    let row = c.args.servers.now in
     let low = at-within row c.args.sid c.in-Some.place c.in-Some.ensures in
-    let s = get_or row c.in-Some.place c.index-stations-place.result in
-    let at = slice_get-get_or row c.in-Some.place c.index-stations-place.result low in
+    let s = get_or row c.in-Some.place c.index-servers-place.result in
+    let at = slice_get-get_or row c.in-Some.place c.index-servers-place.result low in
     let event = c.in_ok-event.event in
     on_ok_weaker c.note.result (λ (h : c.note.new.log.events ≡ noted event c.make_room.new.self.events). λ told.
-    row-keeps g.D.Disk.image row c.in-Some.place s c.start.new.station at (c.start.ensures.images told) c.args.log.now.events c.longer.ensures c.note.new.log.events
+    row-keeps g.D.Disk.image row c.in-Some.place s c.start.new.server at (c.start.ensures.images told) c.args.log.now.events c.longer.ensures c.note.new.log.events
     (noted-grows event c.args.log.now.events c.note.new.log.events (h ∙ ap (noted event) c.make_room.ensures.same))) c.note.ensures.ok
 
 pub returns-clause-spared : goal.returns-clause-spared
 returns-clause-spared g c =
-    let s = get_or c.args.stations.now c.in-Some.place c.index-stations-place.result in
+    let s = get_or c.args.servers.now c.in-Some.place c.index-servers-place.result in
     let order = c.in_ok-event.ensures.started in
     on_err_weaker c.note.result (λ (begins : IsSomeAnd c.in_ok-event.event (λ (x : Event). stamp_begun x ≢ None)). order-quiet s.sid ask.Start order.given c.in_ok-event.event order.event_is begins) c.note.ensures.begins
 
 pub returns-in_default-clause-spared : goal.returns-in_default-clause-spared
-returns-in_default-clause-spared g c = λ told. still-row g.D.Disk.image c.args.stations.now c.args.log.now.events
+returns-in_default-clause-spared g c = λ told. still-row g.D.Disk.image c.args.servers.now c.args.log.now.events
 
 pub returns-in_err-make_room-clause-spared : goal.returns-in_err-make_room-clause-spared
-returns-in_err-make_room-clause-spared g c = on-err c.from_residual.result (λ told. still-row g.D.Disk.image c.args.stations.now c.args.log.now.events)
+returns-in_err-make_room-clause-spared g c = on-err c.from_residual.result (λ told. still-row g.D.Disk.image c.args.servers.now c.args.log.now.events)
 
 pub returns-in_err-event-clause-spared : goal.returns-in_err-event-clause-spared
 returns-in_err-event-clause-spared g c =
-    let row = c.args.stations.now in
+    let row = c.args.servers.now in
     let low = at-within row c.args.sid c.in-Some.place c.in-Some.ensures in
-    let s = get_or row c.in-Some.place c.index-stations-place.result in
-    let at = slice_get-get_or row c.in-Some.place c.index-stations-place.result low in
+    let s = get_or row c.in-Some.place c.index-servers-place.result in
+    let at = slice_get-get_or row c.in-Some.place c.index-servers-place.result low in
     on-err c.from_residual-in_err-event.result (λ told.
-    row-spares g.D.Disk.image row c.in-Some.place s c.start.new.station at (c.start.ensures.images told) c.args.log.now.events c.start.ensures.called.sid c.in_err-event.ensures.same)
+    row-spares g.D.Disk.image row c.in-Some.place s c.start.new.server at (c.start.ensures.images told) c.args.log.now.events c.start.ensures.called.sid c.in_err-event.ensures.same)

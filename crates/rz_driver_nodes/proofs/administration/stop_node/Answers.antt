@@ -12,71 +12,71 @@ use Rattle.rz_driver_nodes.proofs.OrderPictures.{order-quiet, row-keeps, still-r
 use Rattle.rz_driver_nodes.proofs.PictureLemmas.{noted-grows, on-err}
 use Rattle.rz_driver_nodes.proofs.administration.stop_node.Goals as goal
 
-pub offset_bounds-stations-place : goal.offset_bounds-stations-place
-offset_bounds-stations-place g c = let low : c.in-Some.place < length c.args.stations.now = at-within c.args.stations.now c.args.sid c.in-Some.place c.in-Some.ensures in search rules
+pub offset_bounds-servers-place : goal.offset_bounds-servers-place
+offset_bounds-servers-place g c = let low : c.in-Some.place < length c.args.servers.now = at-within c.args.servers.now c.args.sid c.in-Some.place c.in-Some.ensures in search rules
 
-pub bounds-stations-place : goal.bounds-stations-place
-bounds-stations-place g c = at-within c.args.stations.now c.args.sid c.in-Some.place c.in-Some.ensures
+pub bounds-servers-place : goal.bounds-servers-place
+bounds-servers-place g c = at-within c.args.servers.now c.args.sid c.in-Some.place c.in-Some.ensures
 
 pub returns-clause-ok : goal.returns-clause-ok
 returns-clause-ok g c =
-    let low = at-within c.args.stations.now c.args.sid c.in-Some.place c.in-Some.ensures in
+    let low = at-within c.args.servers.now c.args.sid c.in-Some.place c.in-Some.ensures in
     on_ok_weaker c.note.result (λ (h : c.note.new.log.events ≡ noted c.stop-event.result c.make_room.new.self.events). record {
       place = c.in-Some.place;
-      station = get_or c.args.stations.now c.in-Some.place c.index-stations-place.result;
-      after = c.stop-event.new.station;
+      server = get_or c.args.servers.now c.in-Some.place c.index-servers-place.result;
+      after = c.stop-event.new.server;
       event = c.stop-event.result;
       at = c.in-Some.ensures;
-      is = slice_get-get_or c.args.stations.now c.in-Some.place c.index-stations-place.result low;
-      stations = refl;
+      is = slice_get-get_or c.args.servers.now c.in-Some.place c.index-servers-place.result low;
+      servers = refl;
       order = c.stop-event.ensures.order;
       log_is = h ∙ ap (noted c.stop-event.result) c.make_room.ensures.same;
     }) c.note.ensures.ok
 
 pub returns-clause-held : goal.returns-clause-held
 returns-clause-held g c =
-    let row = c.args.stations.now in
+    let row = c.args.servers.now in
     let low = at-within row c.args.sid c.in-Some.place c.in-Some.ensures in
-    let s = get_or row c.in-Some.place c.index-stations-place.result in
-    let at = slice_get-get_or row c.in-Some.place c.index-stations-place.result low in
+    let s = get_or row c.in-Some.place c.index-servers-place.result in
+    let at = slice_get-get_or row c.in-Some.place c.index-servers-place.result low in
     on_ok_weaker c.note.result (λ (h : c.note.new.log.events ≡ noted c.stop-event.result c.make_room.new.self.events). λ numbers first met.
-    order-held g.D.Disk.meter first numbers row c.in-Some.place s c.stop-event.new.station c.stop-event.result c.args.log.now.events c.note.new.log.events at c.stop-event.ensures.order.called.sid c.stop-event.ensures.metered (h ∙ ap (noted c.stop-event.result) c.make_room.ensures.same) met) c.note.ensures.ok
+    order-held g.D.Disk.meter first numbers row c.in-Some.place s c.stop-event.new.server c.stop-event.result c.args.log.now.events c.note.new.log.events at c.stop-event.ensures.order.called.sid c.stop-event.ensures.metered (h ∙ ap (noted c.stop-event.result) c.make_room.ensures.same) met) c.note.ensures.ok
 
 pub returns-clause-left : goal.returns-clause-left
 returns-clause-left g c =
-    let row = c.args.stations.now in
+    let row = c.args.servers.now in
     let low = at-within row c.args.sid c.in-Some.place c.in-Some.ensures in
-    let s = get_or row c.in-Some.place c.index-stations-place.result in
-    let at = slice_get-get_or row c.in-Some.place c.index-stations-place.result low in
+    let s = get_or row c.in-Some.place c.index-servers-place.result in
+    let at = slice_get-get_or row c.in-Some.place c.index-servers-place.result low in
     on_err_weaker c.note.result (λ (h : c.note.new.log.events ≡ c.make_room.new.self.events). λ numbers first met.
-    order-left g.D.Disk.meter first numbers row c.in-Some.place s c.stop-event.new.station c.args.log.now.events c.note.new.log.events at c.stop-event.ensures.order.called.sid c.stop-event.ensures.counted (h ∙ c.make_room.ensures.same) met) c.note.ensures.err
+    order-left g.D.Disk.meter first numbers row c.in-Some.place s c.stop-event.new.server c.args.log.now.events c.note.new.log.events at c.stop-event.ensures.order.called.sid c.stop-event.ensures.counted (h ∙ c.make_room.ensures.same) met) c.note.ensures.err
 
 pub returns-in_default-clause-left : goal.returns-in_default-clause-left
-returns-in_default-clause-left g c = λ numbers first met. metered-counts g.D.Disk.meter first numbers c.args.stations.now c.args.log.now.events met
+returns-in_default-clause-left g c = λ numbers first met. metered-counts g.D.Disk.meter first numbers c.args.servers.now c.args.log.now.events met
 
 pub returns-in_err-make_room-clause-left : goal.returns-in_err-make_room-clause-left
-returns-in_err-make_room-clause-left g c = still-err c.from_residual.result g.D.Disk.meter c.args.stations.now c.args.log.now.events c.make_room.new.self.events c.make_room.ensures.same
+returns-in_err-make_room-clause-left g c = still-err c.from_residual.result g.D.Disk.meter c.args.servers.now c.args.log.now.events c.make_room.new.self.events c.make_room.ensures.same
 
 -- Beside the log.
 
 pub returns-clause-pictured : goal.returns-clause-pictured
 returns-clause-pictured g c =
-    let row = c.args.stations.now in
+    let row = c.args.servers.now in
     let low = at-within row c.args.sid c.in-Some.place c.in-Some.ensures in
-    let s = get_or row c.in-Some.place c.index-stations-place.result in
-    let at = slice_get-get_or row c.in-Some.place c.index-stations-place.result low in
+    let s = get_or row c.in-Some.place c.index-servers-place.result in
+    let at = slice_get-get_or row c.in-Some.place c.index-servers-place.result low in
     on_ok_weaker c.note.result (λ (h : c.note.new.log.events ≡ noted c.stop-event.result c.make_room.new.self.events). λ told.
-    row-keeps g.D.Disk.image row c.in-Some.place s c.stop-event.new.station at (c.stop-event.ensures.images told) c.args.log.now.events c.longer.ensures c.note.new.log.events
+    row-keeps g.D.Disk.image row c.in-Some.place s c.stop-event.new.server at (c.stop-event.ensures.images told) c.args.log.now.events c.longer.ensures c.note.new.log.events
     (noted-grows c.stop-event.result c.args.log.now.events c.note.new.log.events (h ∙ ap (noted c.stop-event.result) c.make_room.ensures.same))) c.note.ensures.ok
 
 pub returns-clause-spared : goal.returns-clause-spared
 returns-clause-spared g c =
-    let s = get_or c.args.stations.now c.in-Some.place c.index-stations-place.result in
+    let s = get_or c.args.servers.now c.in-Some.place c.index-servers-place.result in
     let order = c.stop-event.ensures.order in
     on_err_weaker c.note.result (λ (begins : IsSomeAnd c.stop-event.result (λ (x : Event). stamp_begun x ≢ None)). order-quiet s.sid ask.Stop order.given c.stop-event.result order.event_is begins) c.note.ensures.begins
 
 pub returns-in_default-clause-spared : goal.returns-in_default-clause-spared
-returns-in_default-clause-spared g c = λ told. still-row g.D.Disk.image c.args.stations.now c.args.log.now.events
+returns-in_default-clause-spared g c = λ told. still-row g.D.Disk.image c.args.servers.now c.args.log.now.events
 
 pub returns-in_err-make_room-clause-spared : goal.returns-in_err-make_room-clause-spared
-returns-in_err-make_room-clause-spared g c = on-err c.from_residual.result (λ told. still-row g.D.Disk.image c.args.stations.now c.args.log.now.events)
+returns-in_err-make_room-clause-spared g c = on-err c.from_residual.result (λ told. still-row g.D.Disk.image c.args.servers.now c.args.log.now.events)

@@ -18,7 +18,7 @@ returns-clause-asked g c =
     let e = c.fetch_into.ensures in
     record {
       called = record { sid = refl; pick = refl; geometry = e.geometry };
-      fence = ap (λ (s : NodeState). s.fence) (e.after 0) ∙ fence-after c.fetch_into.result c.args.station.now.node.state;
+      fence = ap (λ (s : NodeState). s.fence) (e.after 0) ∙ fence-after c.fetch_into.result c.args.server.now.node.state;
       text_is = e.text;
       within = e.within;
     }
@@ -28,7 +28,7 @@ returns-clause-read g c = read-of _ c.fetch_into.result c.args.room.now c.fetch_
 
 pub returns-clause-metered : goal.returns-clause-metered
 returns-clause-metered g c = λ position h.
-    let s = c.args.station.now in
+    let s = c.args.server.now in
     let e = c.fetch_into.ensures in
     call-goes g.D.Disk.meter c.faults.ensures Admin s.sid 0 s.node.geometry.cells (ask.Fetch c.args.key position c.args.stamp) (answer.Fetch c.fetch_into.result) s.node c.fetch_into.new.self tt
     (e.answer position) (e.after position) e.spends h

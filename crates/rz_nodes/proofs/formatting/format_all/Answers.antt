@@ -1,7 +1,7 @@
 use Rattle.std.proofs.Common.{◌≡◌, ℕ, ◌+◌, List, [], ◌∷◌, ◌++◌, length, reverse, refl, sym, ◌∙◌, ap, subst, arith, append_assoc, length-append, vec_len}
 use Rattle.std.specs.List.{AllZip, zip}
 use Rattle.std.specs.Prelude.{slice_get, Some}
-use Rattle.rz_nodes.specs.declared.formatting.Station.{Station}
+use Rattle.rz_nodes.specs.declared.formatting.Server.{Server}
 use Rattle.rz_disk.specs.UnderFuse.{UnderFuse}
 use Rattle.rz_disk.specs.Meter.{Meter, Rises, faults}
 use Rattle.rz_events.specs.Volume.{IsNode}
@@ -44,8 +44,8 @@ format_one-requires g c = record { node = all-get IsNode c.args.nodes.now c.loop
 pub hand_back-requires-in-Err : goal.hand_back-requires-in-Err
 hand_back-requires-in-Err g c =
     let made = c.loop-index.invariant.made in
-    let same = zip-length (IsFormatted g.D.Disk.tells g.D.Disk.meter g.D.Disk.text g.D.Disk.image c.args.layout) made.0 c.loop-index.stations.items made.3 in
-    let len : vec_len c.loop-index.stations ≡ length c.loop-index.stations.items = c.loop-index.stations.ok.0 in
+    let same = zip-length (IsFormatted g.D.Disk.tells g.D.Disk.meter g.D.Disk.text g.D.Disk.image c.args.layout) made.0 c.loop-index.servers.items made.3 in
+    let len : vec_len c.loop-index.servers ≡ length c.loop-index.servers.items = c.loop-index.servers.ok.0 in
     let count : length made.0 ≡ c.loop-index.index = made.2 in
     let room = c.loop-index.invariant.room in
     let more = c.loop-index.invariant.count in
@@ -64,8 +64,8 @@ returns-in-Err-clause-back g c =
     let same_room = c.pop.ensures.capacity in
     let pop_len : vec_len c.pop.new.self ≡ length c.pop.new.self.items = c.pop.new.self.ok.0 in
     let taken = next-taken c.args.nodes.now c.loop-index.index _ c.loop-index.home.items c.pop.new.self.items c.in-Some.disk _ made.0 made.1 c.in-Some.ensures.items c.loop-index-test.true in
-    all-back (IsFormatted g.D.Disk.tells g.D.Disk.meter g.D.Disk.text g.D.Disk.image c.args.layout) (IsBack g.D.Disk.tells g.D.Disk.meter g.D.Disk.image c.args.layout) (λ (s : Station (UnderFuse g.row.D.Denot)). s.node.disk.disk) (new-back g.D.Disk.tells g.D.Disk.meter g.D.Disk.text g.D.Disk.image c.args.layout) (same-back g.D.Disk.tells g.D.Disk.meter g.D.Disk.image c.args.layout)
-    c.args.nodes.now c.loop-index.index _ c.loop-index.stations.items c.pop.new.self.items c.push-back.new.self.items c.hand_back-in-Err.result.items c.in-Some.disk c.in-Err.disk _ made.0 taken
+    all-back (IsFormatted g.D.Disk.tells g.D.Disk.meter g.D.Disk.text g.D.Disk.image c.args.layout) (IsBack g.D.Disk.tells g.D.Disk.meter g.D.Disk.image c.args.layout) (λ (s : Server (UnderFuse g.row.D.Denot)). s.node.disk.disk) (new-back g.D.Disk.tells g.D.Disk.meter g.D.Disk.text g.D.Disk.image c.args.layout) (same-back g.D.Disk.tells g.D.Disk.meter g.D.Disk.image c.args.layout)
+    c.args.nodes.now c.loop-index.index _ c.loop-index.servers.items c.pop.new.self.items c.push-back.new.self.items c.hand_back-in-Err.result.items c.in-Some.disk c.in-Err.disk _ made.0 taken
     (pushed c.pop.new.self.items c.push-back.new.self.items c.in-Err.disk _ c.push-back.ensures.items (c.push-back.ensures.succeeds (omega (arith, room, more, popped, same_room))))
     c.hand_back-in-Err.ensures (omega (arith, more, popped, pop_len)) made.3 c.in-Err.ensures.back
 
@@ -81,8 +81,8 @@ returns-in-Err-clause-cause g c =
     subst (IsCause g.D.Disk.meter c.args.disks.items c.hand_back-in-Err.result.items) (sym c.fault_at.ensures)
     (cause-of g.D.Disk.meter c.args.disks.items c.hand_back-in-Err.result.items c.in-Err.fault c.loop-index.index c.in-Some.disk c.in-Err.disk
     (disk-at c.args.nodes.now c.args.disks.items made.0 _ _ c.in-Some.disk c.loop-index.index taken made.2)
-    (failed-at (IsFormatted g.D.Disk.tells g.D.Disk.meter g.D.Disk.text g.D.Disk.image c.args.layout) (IsBack g.D.Disk.tells g.D.Disk.meter g.D.Disk.image c.args.layout) (λ (s : Station (UnderFuse g.row.D.Denot)). s.node.disk.disk) (new-back g.D.Disk.tells g.D.Disk.meter g.D.Disk.text g.D.Disk.image c.args.layout) (same-back g.D.Disk.tells g.D.Disk.meter g.D.Disk.image c.args.layout)
-    c.loop-index.stations.items c.pop.new.self.items c.push-back.new.self.items c.hand_back-in-Err.result.items c.in-Err.disk made.0 c.loop-index.index
+    (failed-at (IsFormatted g.D.Disk.tells g.D.Disk.meter g.D.Disk.text g.D.Disk.image c.args.layout) (IsBack g.D.Disk.tells g.D.Disk.meter g.D.Disk.image c.args.layout) (λ (s : Server (UnderFuse g.row.D.Denot)). s.node.disk.disk) (new-back g.D.Disk.tells g.D.Disk.meter g.D.Disk.text g.D.Disk.image c.args.layout) (same-back g.D.Disk.tells g.D.Disk.meter g.D.Disk.image c.args.layout)
+    c.loop-index.servers.items c.pop.new.self.items c.push-back.new.self.items c.hand_back-in-Err.result.items c.in-Err.disk made.0 c.loop-index.index
     (pushed c.pop.new.self.items c.push-back.new.self.items c.in-Err.disk _ c.push-back.ensures.items full)
     c.hand_back-in-Err.ensures made.3 made.2)
     c.in-Err.ensures.risen)
@@ -95,20 +95,20 @@ loop-index-preserved g c =
     let more = c.loop-index.invariant.more in
     let popped = c.in-Some.ensures.cases in
     let same_room = c.pop.ensures.capacity in
-    let same = zip-length (IsFormatted g.D.Disk.tells g.D.Disk.meter g.D.Disk.text g.D.Disk.image c.args.layout) made.0 c.loop-index.stations.items made.3 in
-    let len : vec_len c.loop-index.stations ≡ length c.loop-index.stations.items = c.loop-index.stations.ok.0 in
+    let same = zip-length (IsFormatted g.D.Disk.tells g.D.Disk.meter g.D.Disk.text g.D.Disk.image c.args.layout) made.0 c.loop-index.servers.items made.3 in
+    let len : vec_len c.loop-index.servers ≡ length c.loop-index.servers.items = c.loop-index.servers.ok.0 in
     let long : length made.0 ≡ c.loop-index.index = made.2 in
     let low = c.loop-index-test.true in
     let roomy = c.push-made.ensures.capacity in
     let taken = next-taken c.args.nodes.now c.loop-index.index _ c.loop-index.home.items c.pop.new.self.items c.in-Some.disk _ made.0 made.1 c.in-Some.ensures.items low in
-    let items = pushed c.loop-index.stations.items c.push-made.new.self.items c.in-Ok-format_one.station _ c.push-made.ensures.items (c.push-made.ensures.succeeds (omega (arith, more, same, len, long, low))) in
+    let items = pushed c.loop-index.servers.items c.push-made.new.self.items c.in-Ok-format_one.server _ c.push-made.ensures.items (c.push-made.ensures.succeeds (omega (arith, more, same, len, long, low))) in
     record {
       made = (
         made.0 ++ (_, c.in-Some.disk) ∷ [],
         taken ∙ sym (append_assoc made.0 ((_, c.in-Some.disk) ∷ []) _),
         length-append made.0 ((_, c.in-Some.disk) ∷ []) ∙ ap (λ (n : ℕ). n + 1) long,
         subst (AllZip (IsFormatted g.D.Disk.tells g.D.Disk.meter g.D.Disk.text g.D.Disk.image c.args.layout) (made.0 ++ (_, c.in-Some.disk) ∷ [])) (sym items)
-            (zip-more (IsFormatted g.D.Disk.tells g.D.Disk.meter g.D.Disk.text g.D.Disk.image c.args.layout) made.0 c.loop-index.stations.items (_, c.in-Some.disk) c.in-Ok-format_one.station made.3 c.in-Ok-format_one.ensures.made),
+            (zip-more (IsFormatted g.D.Disk.tells g.D.Disk.meter g.D.Disk.text g.D.Disk.image c.args.layout) made.0 c.loop-index.servers.items (_, c.in-Some.disk) c.in-Ok-format_one.server made.3 c.in-Ok-format_one.ensures.made),
       );
       count = omega (arith, count, popped);
       room = omega (arith, room, same_room);
@@ -118,14 +118,14 @@ loop-index-preserved g c =
 pub returns-clause-made : goal.returns-clause-made
 returns-clause-made g c =
     let made = c.loop-index.invariant.made in
-    all-new (IsFormatted g.D.Disk.tells g.D.Disk.meter g.D.Disk.text g.D.Disk.image c.args.layout) (IsBack g.D.Disk.tells g.D.Disk.meter g.D.Disk.image c.args.layout) (λ (s : Station (UnderFuse g.row.D.Denot)). s.node.disk.disk) (new-back g.D.Disk.tells g.D.Disk.meter g.D.Disk.text g.D.Disk.image c.args.layout) (same-back g.D.Disk.tells g.D.Disk.meter g.D.Disk.image c.args.layout)
-    c.args.nodes.now c.loop-index.index c.loop-index.stations.items c.loop-index.home.items _ made.0 made.1 c.loop-index-test.false made.3
+    all-new (IsFormatted g.D.Disk.tells g.D.Disk.meter g.D.Disk.text g.D.Disk.image c.args.layout) (IsBack g.D.Disk.tells g.D.Disk.meter g.D.Disk.image c.args.layout) (λ (s : Server (UnderFuse g.row.D.Denot)). s.node.disk.disk) (new-back g.D.Disk.tells g.D.Disk.meter g.D.Disk.text g.D.Disk.image c.args.layout) (same-back g.D.Disk.tells g.D.Disk.meter g.D.Disk.image c.args.layout)
+    c.args.nodes.now c.loop-index.index c.loop-index.servers.items c.loop-index.home.items _ made.0 made.1 c.loop-index-test.false made.3
 
 pub returns-clause-room : goal.returns-clause-room
 returns-clause-room g c =
     let made = c.loop-index.invariant.made in
-    let same = zip-length (IsFormatted g.D.Disk.tells g.D.Disk.meter g.D.Disk.text g.D.Disk.image c.args.layout) made.0 c.loop-index.stations.items made.3 in
-    let len : vec_len c.loop-index.stations ≡ length c.loop-index.stations.items = c.loop-index.stations.ok.0 in
+    let same = zip-length (IsFormatted g.D.Disk.tells g.D.Disk.meter g.D.Disk.text g.D.Disk.image c.args.layout) made.0 c.loop-index.servers.items made.3 in
+    let len : vec_len c.loop-index.servers ≡ length c.loop-index.servers.items = c.loop-index.servers.ok.0 in
     let count : length made.0 ≡ c.loop-index.index = made.2 in
     let room = c.loop-index.invariant.room in
     let more = c.loop-index.invariant.count in

@@ -8,8 +8,8 @@ use Rattle.rz_nodes.proofs.formatting.format_all.Given as goal
 -- the disks so far are formatted, and those to come wait
 abbrev pub invariant-loop-index : goal.invariant-loop-index
 invariant-loop-index g l = record {
-  made : (done : List (NodeSpec × g.row.D.Denot)) × (zip l.nodes l.fn.disks.items ≡ done ++ zip (drop l.index l.nodes) (reverse l.home.items)) × (length done ≡ l.index) × AllZip (IsFormatted g.D.Disk.tells g.D.Disk.meter g.D.Disk.text g.D.Disk.image l.layout) done l.stations.items;
+  made : (done : List (NodeSpec × g.row.D.Denot)) × (zip l.nodes l.fn.disks.items ≡ done ++ zip (drop l.index l.nodes) (reverse l.home.items)) × (length done ≡ l.index) × AllZip (IsFormatted g.D.Disk.tells g.D.Disk.meter g.D.Disk.text g.D.Disk.image l.layout) done l.servers.items;
   count : vec_len l.home + l.index ≡ length l.nodes;
   room : length l.nodes ≤ vec_capacity l.home;
-  more : length l.nodes ≤ vec_capacity l.stations;
+  more : length l.nodes ≤ vec_capacity l.servers;
 }

@@ -4,7 +4,7 @@ use Rattle.rz_events.specs.declared.machines.FileAnswer.{FileAnswer}
 use Rattle.rz_file.specs.Machine.{IsAnswered as IsFileAnswered}
 use Rattle.rz_operation_model.specs.Ask.{ask_of}
 use Rattle.rz_operation_model.specs.Steps.{Missed, in_range}
-use Rattle.rz_operation_states.specs.declared.stage.Stage.TheVariants as stage
+use Rattle.rz_operation_states.specs.declared.stage.OperationState.TheVariants as stage
 use Rattle.rz_operation_states.specs.Answers.{Goes, MayMiss}
 use Rattle.rz_operation_states.specs.Inside.{machine_of}
 use Rattle.rz_operation_states.proofs.RangeTurns.{missed}

@@ -1,7 +1,7 @@
 use Rattle.std.proofs.Common.{subst, sym, ◌∙◌}
 use Rattle.mj_angles.specs.declared.layout.Layout.{Layout}
 use Rattle.rz_operation_model.specs.Steps.{Replied}
-use Rattle.rz_operation_states.specs.declared.stage.Stage.TheVariants as stage
+use Rattle.rz_operation_states.specs.declared.stage.OperationState.TheVariants as stage
 use Rattle.rz_operation_states.specs.Answers.{Goes}
 use Rattle.rz_operation_states.specs.Inside.{machine_of}
 use Rattle.rz_operation_states.proofs.RangeTurns.{replied}

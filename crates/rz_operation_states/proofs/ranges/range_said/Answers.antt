@@ -1,7 +1,7 @@
 use Rattle.std.proofs.Common.{subst, []}
 use Rattle.mj_angles.specs.declared.layout.Layout.{Layout}
 use Rattle.rz_operation_model.specs.Steps.{Noted}
-use Rattle.rz_operation_states.specs.declared.stage.Stage.TheVariants as stage
+use Rattle.rz_operation_states.specs.declared.stage.OperationState.TheVariants as stage
 use Rattle.rz_operation_states.specs.Machine.{text_of}
 use Rattle.rz_operation_states.specs.Answers.{Goes}
 use Rattle.rz_operation_states.specs.Inside.{machine_of}

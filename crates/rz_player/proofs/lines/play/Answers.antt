@@ -4,8 +4,8 @@ use Rattle.rz_script.specs.declared.line.Line.{Line}
 use Rattle.rz_play.specs.Free.{PlaysLineOver, PlaysLinesOver}
 use Rattle.rz_player.specs.Behind.{behind}
 use Rattle.rz_player.specs.Free.{IsLinePlayedOver}
-use Rattle.rz_player.specs.declared.turns.Cut.{Cut}
-use Rattle.rz_player.specs.declared.turns.Cut.TheVariants as cut
+use Rattle.rz_player.specs.declared.turns.CutCause.{CutCause}
+use Rattle.rz_player.specs.declared.turns.CutCause.TheVariants as cut
 use Rattle.rz_player.proofs.Scripts.{lines-at, script-cut, script-stopped, told}
 use Rattle.rz_player.proofs.lines.play.Goals as goal
 
@@ -19,7 +19,7 @@ stop-over g c b held exact =
     let mid = behind b.log (world c.loop-line.stage) in
     let next = behind b.log (world c.play_line.new.stage) in
     let at_end = subst (λ (v : Volume). IsLinePlayedOver v c.line-item.result tells mid (Err cut.TooManyTurns) next) i.volume
-    (subst (λ (k : Cut). IsLinePlayedOver (volume c.loop-line.stage) c.line-item.result tells mid (Err k) next) c.in-Err-TooManyTurns.field-0-is (e.played b (i.held b held) (i.exact ∙ exact))) in
+    (subst (λ (k : CutCause). IsLinePlayedOver (volume c.loop-line.stage) c.line-item.result tells mid (Err k) next) c.in-Err-TooManyTurns.field-0-is (e.played b (i.held b held) (i.exact ∙ exact))) in
     let at_line = subst (λ (x : Line). IsLinePlayedOver (volume c.args.stage.now) x tells mid (Err cut.TooManyTurns) next) c.line-item.is at_end in
     let lost = g.L.Link.lost in
     let so_far = i.lost in
@@ -44,7 +44,7 @@ cut-over g c b held exact =
     let mid = behind b.log (world c.loop-line.stage) in
     let next = behind b.log (world c.play_line.new.stage) in
     let at_end = subst (λ (v : Volume). IsLinePlayedOver v c.line-item.result tells mid (Err cut.NoMemory) next) i.volume
-    (subst (λ (k : Cut). IsLinePlayedOver (volume c.loop-line.stage) c.line-item.result tells mid (Err k) next) c.in-Err-NoMemory.field-0-is (e.played b (i.held b held) (i.exact ∙ exact))) in
+    (subst (λ (k : CutCause). IsLinePlayedOver (volume c.loop-line.stage) c.line-item.result tells mid (Err k) next) c.in-Err-NoMemory.field-0-is (e.played b (i.held b held) (i.exact ∙ exact))) in
     let at_line = subst (λ (x : Line). IsLinePlayedOver (volume c.args.stage.now) x tells mid (Err cut.NoMemory) next) c.line-item.is at_end in
     let lost = g.L.Link.lost in
     let so_far = i.lost in

@@ -15,7 +15,7 @@ use Rattle.rz_metadata.specs.Stands.{disk_of, export_in, is_journaled, refusal_o
 use Rattle.rz_nodes.specs.Opened.{AreKept}
 use Rattle.rz_script.specs.declared.line.Line.{Line}
 use Rattle.rz_driver_nodes.specs.Meters.{faults_at}
-use Rattle.rz_driver_nodes.specs.Stations.{state_in}
+use Rattle.rz_driver_nodes.specs.Servers.{state_in}
 use Rattle.rz_core.specs.HeldRecords.{block_of}
 use Rattle.rz_core.specs.History.{facts, text_in}
 use Rattle.rz_core.specs.Legal.{IsLegalInRuns}
@@ -39,7 +39,7 @@ use Rattle.rz_replay.proofs.replaying.play_again.Given as given
 use Rattle.rz_replay.proofs.replaying.play_again.Goals as goal
 
 pub perform-status-requires-clause-new : goal.perform-status-requires-clause-new
-perform-status-requires-clause-new g c = (state_in c.in-Ok.driver.shared.stations.items, export_in c.in-Ok.driver.shared.export, c.in-Ok.ensures.opened.world)
+perform-status-requires-clause-new g c = (state_in c.in-Ok.driver.shared.servers.items, export_in c.in-Ok.driver.shared.export, c.in-Ok.ensures.opened.world)
 
 pub perform-status-requires-clause-rules : goal.perform-status-requires-clause-rules
 perform-status-requires-clause-rules g c = c.keeps_rules.ensures.volume
@@ -56,7 +56,7 @@ perform-status-requires-clause-stage g c = record {
   exact_is = λ d e asked. ap (λ (s : Shared (UnderFuse g.row.D.Denot) g.row.D.Denot). exact_if g.D.Disk.tells s.log.earlier) asked.shared;
   whole = λ d b ready held tells few after l is. (
     block_of d.volume.layout (text_in ((facts (d.shared.log.events ++ b.log)).wrote l.published.stamp)),
-    c.untouched.ensures d.volume b.log (world_of d) d.seats.items d.shared.stations.items refl (held.1 tells few) tells after l is,
+    c.untouched.ensures d.volume b.log (world_of d) d.agendas.items d.shared.servers.items refl (held.1 tells few) tells after l is,
   );
 }
 
@@ -91,9 +91,9 @@ module _ (g : given.Over) (c : goal.After-drop-disks g) where
   volume_is = c.perform-status.ensures.volume ∙ driver_volume
 
   abbrev back : List g.row.D.Denot
-  back = disks_of c.perform-status.new.stage.shared.stations.items
+  back = disks_of c.perform-status.new.stage.shared.servers.items
 
-  world_is : world_of c.in-Ok.driver ≡ world_after (state_in c.in-Ok.driver.shared.stations.items) (export_in c.in-Ok.driver.shared.export) []
+  world_is : world_of c.in-Ok.driver ≡ world_after (state_in c.in-Ok.driver.shared.servers.items) (export_in c.in-Ok.driver.shared.export) []
   world_is = c.in-Ok.ensures.opened.world
 
   -- over disks that tell their texts the driver holds with each log that the disks were left with
@@ -158,14 +158,14 @@ module _ (g : given.Over) (c : goal.After-drop-disks g) where
           let none : c.in-Ok.driver.shared.log.events ≡ [] = ap (λ (w : World). w.log) world_is in
           subst (λ (h : List Event). length (h ++ old) < 2 ^ 64 - 1) (sym none) (omega (arith, short))
 
-      fine : IsFine volume old (world_after (state_in c.in-Ok.driver.shared.stations.items) (export_in c.in-Ok.driver.shared.export) old)
+      fine : IsFine volume old (world_after (state_in c.in-Ok.driver.shared.servers.items) (export_in c.in-Ok.driver.shared.export) old)
       fine = subst (λ (w : World). IsFine volume old (behind old w)) world_is (subst (λ (v : Volume). IsFine v old (behind old (world_of c.in-Ok.driver))) driver_volume (held.1 telling few).fine)
 
       played : IsPlayAfter volume old c.args.request.now.script.lines end lost (log ++ old)
       played =
           let E : World → Type 0 = λ w. IsEnded volume (behind old w) c.args.request.now.script.lines end lost (log ++ old) in
           record {
-            nodes = state_in c.in-Ok.driver.shared.stations.items;
+            nodes = state_in c.in-Ok.driver.shared.servers.items;
             export = export_in c.in-Ok.driver.shared.export;
             fine = fine;
             ended = subst E world_is (plays.0 telling);
@@ -180,14 +180,14 @@ module _ (g : given.Over) (c : goal.After-drop-disks g) where
           c.afterwards.ensures volume c.args.request.now.script.lines c.keeps_rules.ensures played.nodes played.export old played.fine (omega (arith, short)) (log ++ old) begun
 
       -- and what locks promise
-      kept : (earlier : List Event) → IsEarlier volume earlier → IsRestarted volume earlier old → length old < 2 ^ 63 → AreLocksKept volume old c.args.request.now.script.lines (log ++ old)
-      kept earlier is (took, may, restarted_is) below =
+      kept : (earlier : List Event) → IsEarlier volume earlier → IsRestarted volume earlier old → AreLocksKept volume old c.args.request.now.script.lines (log ++ old)
+      kept earlier is (took, may, restarted_is) =
           let restart = c.restarting.ensures volume c.keeps_rules.ensures.volume earlier is took may in
           let may_begin : MayBegin volume played.nodes played.export old = record {
             legal = subst (IsLegalInRuns volume) (sym restarted_is) restart.legal;
             nodes_are = played.fine.nodes_are;
             export_is = played.fine.export_is;
-            few = below;
+            few = held.3.short;
           } in
           (begun.last, c.after.ensures volume c.args.request.now.script.lines c.keeps_rules.ensures played.nodes played.export old may_begin (log ++ old) begun)
 

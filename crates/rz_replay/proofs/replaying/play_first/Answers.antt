@@ -50,7 +50,7 @@ perform-status-requires-clause-stage g c = record {
   exact_is = λ d e asked. ap (λ (s : Shared (UnderFuse g.row.D.Denot) g.row.D.Denot). exact_if g.D.Disk.tells s.log.earlier) asked.shared;
   whole = λ d b ready held tells few after l is. (
     block_of d.volume.layout (text_in ((facts (d.shared.log.events ++ b.log)).wrote l.published.stamp)),
-    c.untouched.ensures d.volume b.log (world_of d) d.seats.items d.shared.stations.items refl (held.1 tells few) tells after l is,
+    c.untouched.ensures d.volume b.log (world_of d) d.agendas.items d.shared.servers.items refl (held.1 tells few) tells after l is,
   );
 }
 
@@ -119,7 +119,7 @@ returns-in-Ok g c =
     let Q : List Event → Type 0 = λ x. IsToldAs c.args.request.now.wish v lines lost x in
     let old : List g.row.D.Denot = c.args.disks.now.items in
     let new : List g.row.D.Denot = c.close_all-log.result.1.items in
-    let back : List g.row.D.Denot = disks_of c.perform-status.new.stage.shared.stations.items in
+    let back : List g.row.D.Denot = disks_of c.perform-status.new.stage.shared.servers.items in
     let split = split-last (length (nodes_of v.clusters)) old c.requires.count in
     let disk = has-disk c.perform-status.new.stage.shared.export (c.perform-status.ensures.journal ∙ c.in-Ok.ensures.journal) in
     let new_is : new ≡ back ++ disk.0 ∷ [] = c.close_all-log.ensures.disks ∙ ap (λ (d : Option g.row.D.Denot). back ++ option_to_list d) disk.1 in
@@ -235,7 +235,7 @@ returns-in-Err g c =
       Unplayed,
       (
         not-opened g.D.Disk.tells meter c.args.request.now old new lost sink c.unplayed.result.status
-            (reverse c.unplayed.result.log.items) c.in-Err.fault kept cause (rw c.unplayed.ensures.status c.refuse_disks-status.ensures) none,
+            (reverse c.unplayed.result.log.items) c.in-Err.fault (λ is. let other : First ≡ Again = sym c.requires.first ∙ is in cc) kept cause (rw c.unplayed.ensures.status c.refuse_disks-status.ensures) none,
         λ tells. told_as c.args.request.now.wish v c.args.request.now.script.lines lost (reverse c.unplayed.result.log.items)
             (λ is. let other : First ≡ Again = sym c.requires.first ∙ is in cc) (told-none v c.args.request.now.script.lines lost (reverse c.unplayed.result.log.items) none),
       ),

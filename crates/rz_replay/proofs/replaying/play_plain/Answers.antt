@@ -43,7 +43,7 @@ perform-status-requires-clause-stage g c = record {
   exact_is = λ d e asked. ap (λ (s : Shared (UnderFuse g.row.D.Denot) g.row.D.Denot). exact_if g.D.Disk.tells s.log.earlier) asked.shared;
   whole = λ d b ready held tells few after l is. (
     block_of d.volume.layout (text_in ((facts (d.shared.log.events ++ b.log)).wrote l.published.stamp)),
-    c.untouched.ensures d.volume b.log (world_of d) d.seats.items d.shared.stations.items refl (held.1 tells few) tells after l is,
+    c.untouched.ensures d.volume b.log (world_of d) d.agendas.items d.shared.servers.items refl (held.1 tells few) tells after l is,
   );
 }
 
@@ -128,7 +128,7 @@ returns-in-Err g c =
       Unplayed,
       (
         not-opened g.D.Disk.tells g.D.Disk.meter c.args.request.now c.args.disks.now.items c.in-Err.back.items lost sink c.unplayed.result.status
-            (reverse c.unplayed.result.log.items) c.in-Err.fault kept cause (rw c.unplayed.ensures.status c.refuse_disks-status.ensures) none,
+            (reverse c.unplayed.result.log.items) c.in-Err.fault c.requires.anew kept cause (rw c.unplayed.ensures.status c.refuse_disks-status.ensures) none,
         λ told. told_as c.args.request.now.wish c.args.request.now.script.volume c.args.request.now.script.lines lost (reverse c.unplayed.result.log.items) c.requires.anew
             (told-none c.args.request.now.script.volume c.args.request.now.script.lines lost (reverse c.unplayed.result.log.items) none),
       ),

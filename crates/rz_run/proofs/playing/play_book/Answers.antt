@@ -6,19 +6,19 @@ use Rattle.rz_run.specs.Runs.{Plays}
 use Rattle.rz_run.proofs.Told.{lacking, volume-is}
 use Rattle.rz_run.proofs.playing.play_book.Goals as goal
 
-pub engage-requires-clause-volume : goal.engage-requires-clause-volume
-engage-requires-clause-volume g c = sym (volume-is c.read_back.ensures g.J.Naming.kind c.args.script.now.volume c.requires.kind)
+pub set_up-requires-clause-volume : goal.set_up-requires-clause-volume
+set_up-requires-clause-volume g c = sym (volume-is c.read_back.ensures g.J.Naming.kind c.args.script.now.volume c.requires.kind)
 
 pub returns-in-Ok : goal.returns-in-Ok
 returns-in-Ok g c =
     let sink : Sunk = record {
       before = g.O.Sink.taken c.args.output.now;
-      after = g.O.Sink.taken c.play_cast.new.output;
+      after = g.O.Sink.taken c.play_setup.new.output;
       old = g.O.Sink.faults c.args.output.now;
-      new = g.O.Sink.faults c.play_cast.new.output;
+      new = g.O.Sink.faults c.play_setup.new.output;
     } in
-    subst (λ (ls : List g.row.L.Denot). Plays g.D.Disk.tells (is_honest g.J.Naming.kind) g.D.Disk.meter g.D.Disk.image g.L.Link.lost c.args.script.now (record { old = c.args.disks.items; new = c.play_cast.result.disks.items })
-    (record { old = ls; new = c.play_cast.result.links.items }) sink c.play_cast.result.status) c.in-Ok.ensures.links c.play_cast.ensures
+    subst (λ (ls : List g.row.L.Denot). Plays g.D.Disk.tells (is_honest g.J.Naming.kind) g.D.Disk.meter g.D.Disk.image g.L.Link.lost c.args.script.now (record { old = c.args.disks.items; new = c.play_setup.result.disks.items })
+    (record { old = ls; new = c.play_setup.result.links.items }) sink c.play_setup.result.status) c.in-Ok.ensures.links c.play_setup.ensures
 
 pub returns-in-Err : goal.returns-in-Err
 returns-in-Err g c =

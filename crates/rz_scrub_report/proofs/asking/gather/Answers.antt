@@ -10,12 +10,12 @@ pub loop-i-init : goal.loop-i-init
 loop-i-init g c =
     let nodes = c.list-nodes.result.now in
     let l = c.args.listed.now in
-    let gives = g.S.Store.gives c.args.store.now in
+    let gives = g.S.ScrubbedStore.gives c.args.store.now in
     let layout = c.args.desk.now.layout in
     record {
       desk = refl;
       bare = λ p low. ap (λ (s : Records). bins_at s p) c.requires.bare ∙ bare-at-first layout p;
-      asked = has-none g.S.Store.itself c.args.store.now c.requires.ready
+      asked = has-none g.S.ScrubbedStore.itself c.args.store.now c.requires.ready
           (λ w mid. (next : State) (t : Records) → AreAsked gives l 0 nodes mid next c.args.desk.now.scrub t → AreAsked gives l 0 nodes w next (no_records layout) t)
           (λ w next t rest. subst (λ (s : Records). AreAsked gives l 0 nodes w next s t) c.requires.bare rest);
     }
@@ -23,7 +23,7 @@ loop-i-init g c =
 pub loop-i-preserved : goal.loop-i-preserved
 loop-i-preserved g c =
     let first = c.args.store.now in
-    let gives = g.S.Store.gives first in
+    let gives = g.S.ScrubbedStore.gives first in
     let l = c.args.listed.now in
     let i = c.loop-i.invariant in
     let e = c.ask.ensures in
@@ -34,9 +34,9 @@ loop-i-preserved g c =
     record {
       desk = e.desk ∙ i.desk;
       bare = bare-after (e.asked.told []) i.bare;
-      asked = has-then g.S.Store.then first c.loop-i.store c.ask.new.store
+      asked = has-then g.S.ScrubbedStore.then first c.loop-i.store c.ask.new.store
           (λ w mid. (next : State) (t : Records) → AreAsked gives l c.loop-i.i (drop c.loop-i.i nodes) mid next s t → AreAsked gives l 0 nodes w next (no_records c.args.desk.now.layout) t)
-          (λ w next. IsAsked (g.S.Store.gives c.loop-i.store) l c.loop-i.i n w next s s')
+          (λ w next. IsAsked (g.S.ScrubbedStore.gives c.loop-i.store) l c.loop-i.i n w next s s')
           (λ w mid. (next : State) (t : Records) → AreAsked gives l (c.loop-i.i + 1) (drop (c.loop-i.i + 1) nodes) mid next s' t → AreAsked gives l 0 nodes w next (no_records c.args.desk.now.layout) t)
           i.asked e.asked
           (λ h mid now same before asked next t rest. before next t (asked-next gives l nodes c.loop-i.i mid now next s s' t c.loop-i-test.true (asked-before i.asked.onward.given asked) rest));

@@ -8,7 +8,7 @@ abbrev pub invariant-loop-i : goal.invariant-loop-i
 invariant-loop-i g l = record {
   desk : l.desk.layout ≡ l.fn.desk.layout;
   bare : (p : ℕ) → l.i ≤ p → bins_at l.desk.scrub p ≡ None;
-  asked : HasAsked g.S.Store.is_open g.S.Store.described g.S.Store.gives g.S.Store.state g.S.Store.counts g.S.Store.only_asked l.fn.store l.store
-      (λ w mid. (next : State) (t : Records) → AreAsked (g.S.Store.gives l.fn.store) l.listed l.i (drop l.i l.nodes) mid next l.desk.scrub t
-      → AreAsked (g.S.Store.gives l.fn.store) l.listed 0 l.nodes w next (no_records l.fn.desk.layout) t);
+  asked : HasAsked g.S.ScrubbedStore.is_open g.S.ScrubbedStore.described g.S.ScrubbedStore.gives g.S.ScrubbedStore.state g.S.ScrubbedStore.counts g.S.ScrubbedStore.only_asked l.fn.store l.store
+      (λ w mid. (next : State) (t : Records) → AreAsked (g.S.ScrubbedStore.gives l.fn.store) l.listed l.i (drop l.i l.nodes) mid next l.desk.scrub t
+      → AreAsked (g.S.ScrubbedStore.gives l.fn.store) l.listed 0 l.nodes w next (no_records l.fn.desk.layout) t);
 }

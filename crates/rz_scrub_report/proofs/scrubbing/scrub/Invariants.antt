@@ -7,10 +7,10 @@ use Rattle.rz_scrub_report.proofs.scrubbing.scrub.Given as goal
 abbrev pub invariant-blocks-2 : goal.invariant-blocks-2
 invariant-blocks-2 g l = record {
   desk : l.desk.layout ≡ l.layout;
-  layout : l.layout ≡ (g.S.Store.described l.fn.store).layout;
-  told : HasAsked g.S.Store.is_open g.S.Store.described g.S.Store.gives g.S.Store.state g.S.Store.counts g.S.Store.only_asked l.fn.store l.store
-      (λ w mid. IsSoFar (g.S.Store.described l.fn.store).layout (g.S.Store.gives l.fn.store) w l.text.items l.after mid);
+  layout : l.layout ≡ (g.S.ScrubbedStore.described l.fn.store).layout;
+  told : HasAsked g.S.ScrubbedStore.is_open g.S.ScrubbedStore.described g.S.ScrubbedStore.gives g.S.ScrubbedStore.state g.S.ScrubbedStore.counts g.S.ScrubbedStore.only_asked l.fn.store l.store
+      (λ w mid. IsSoFar (g.S.ScrubbedStore.described l.fn.store).layout (g.S.ScrubbedStore.gives l.fn.store) w l.text.items l.after mid);
 }
 
 abbrev pub decreases-blocks-2 : goal.decreases-blocks-2
-decreases-blocks-2 g l = after_count l.after (maps.entries (g.S.Store.state l.fn.store []).export.blocks)
+decreases-blocks-2 g l = after_count l.after (maps.entries (g.S.ScrubbedStore.state l.fn.store []).export.blocks)

@@ -7,15 +7,15 @@ use Rattle.rz_shared.proofs.Ordered.{words, words-at}
 use Rattle.rz_shared.proofs.closing.empty_all.Given as goal
 
 -- the disks that are back, each beside its tally
-abbrev pub invariant-loop-seat : goal.invariant-loop-seat
-invariant-loop-seat g l = record {
-  returned : AllZip (IsReturned g.D.Disk.meter g.D.Disk.image g.J.Naming.kind g.J.Counting.first) l.disks.items l.posts.items;
-  words : words l.posts.items ++ words-at (reverse l.seats.items) ≡ words-at l.fn.seats.items;
-  count : vec_len l.disks + vec_len l.seats ≡ vec_len l.fn.seats;
-  same : vec_len l.posts ≡ vec_len l.disks;
-  disks : vec_len l.fn.seats ≤ vec_capacity l.disks;
-  posts : vec_len l.fn.seats ≤ vec_capacity l.posts;
+abbrev pub invariant-loop-locked_node : goal.invariant-loop-locked_node
+invariant-loop-locked_node g l = record {
+  returned : AllZip (IsReturned g.D.Disk.meter g.D.Disk.image g.J.Naming.kind g.J.Counting.first) l.disks.items l.word_tokens.items;
+  words : words l.word_tokens.items ++ words-at (reverse l.locked_nodes.items) ≡ words-at l.fn.locked_nodes.items;
+  count : vec_len l.disks + vec_len l.locked_nodes ≡ vec_len l.fn.locked_nodes;
+  same : vec_len l.word_tokens ≡ vec_len l.disks;
+  disks : vec_len l.fn.locked_nodes ≤ vec_capacity l.disks;
+  word_tokens : vec_len l.fn.locked_nodes ≤ vec_capacity l.word_tokens;
 }
 
-abbrev pub decreases-loop-seat : goal.decreases-loop-seat
-decreases-loop-seat g l = vec_len l.seats
+abbrev pub decreases-loop-locked_node : goal.decreases-loop-locked_node
+decreases-loop-locked_node g l = vec_len l.locked_nodes

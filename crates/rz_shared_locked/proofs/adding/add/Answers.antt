@@ -1,15 +1,19 @@
 use Rattle.std.proofs.Common.{◌∷◌, Option, Some, None, refl, sym, subst}
 use Rattle.rz_events.specs.declared.events.Event.{Event}
 use Rattle.rz_chronicle.specs.Keys.{word_key}
+use Rattle.rz_chronicle.specs.Kinds.{HasEarlierLog}
 use Rattle.rz_chronicle.specs.Rules.{PassView}
 use Rattle.rz_shared_locked.specs.Adding.{Adds}
 use Rattle.rz_shared_locked.proofs.Logs.{later-self, commits-adds}
 use Rattle.rz_shared_locked.proofs.adding.add.Goals as goal
 use Rattle.rz_shared_locked.proofs.adding.add.Goals.{in-Some, in-None}
 
+pub commit-requires-clause-after : goal.commit-requires-clause-after
+commit-requires-clause-after g c = c.begins_anew.ensures g.J.Naming.kind _ _ (subst (HasEarlierLog g.J.Naming.kind) g.met.J.Counting.anew c.actor-by.ensures.earlier)
+
 pub returns-clause-adds : goal.returns-clause-adds
 returns-clause-adds g c =
-    let ks = word_key c.args.post.now.word ∷ c.args.pass.now.keys in
+    let ks = word_key c.args.word_token.now.word ∷ c.args.pass.now.keys in
     let old = c.args.pass.now.log in
     elim c.match-event.branch [
       | in-Some w ↦ subst (λ (o : Option Event). Adds ks old o c.match-event.pass.log) (sym w.in-Some.is)

@@ -1,4 +1,4 @@
-use Rattle.rz_shared_locked.proofs.OfficeLaws as laws
+use Rattle.rz_shared_locked.proofs.LockedExportLaws as laws
 use Rattle.rz_shared_locked.proofs.laws.caller_kept.Goals as goal
 
 pub returns : goal.returns

@@ -1,7 +1,7 @@
 use denote.Param.{param}
 use denote.Param.Send.{shr_send}
 use Rattle.std.proofs.Crossing.{Vec-send, send}
-use Rattle.rz_threads_workers.proofs.member.Member.TheSendSync as Member
+use Rattle.rz_threads_workers.proofs.pool_worker.PoolWorker.TheSendSync as Member
 use Rattle.rz_threads.proofs.Sending.{four-sent, store_sync}
 use Rattle.rz_threads.proofs.beside.side_by_side.Goals as goal
 

@@ -2,7 +2,7 @@ use Rattle.std.proofs.Common.{subst, sym}
 use Rattle.rz_events.specs.declared.keys.Actor.{Actor}
 use Rattle.rz_node_model.specs.NodeEvents.{node_event}
 use Rattle.rz_chronicle.specs.Keys.{IsOneOf, actor_key}
-use Rattle.rz_shared_locked.specs.Seats.{Answered, IsFor}
+use Rattle.rz_shared_locked.specs.LockedNodes.{Answered, IsFor}
 use Rattle.rz_threads.proofs.Done.{for-admin, called, idle}
 use Rattle.rz_threads.proofs.orders.order.Goals as goal
 

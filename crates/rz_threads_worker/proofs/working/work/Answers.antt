@@ -1,7 +1,7 @@
 use Rattle.std.proofs.Common.{◌∙◌, refl, sym}
 use Rattle.rz_chronicle.specs.Kinds.{is_honest, volume_in}
 use Rattle.rz_threads_steps.proofs.Acts.{still-lasts, lasts-on}
-use Rattle.rz_threads_worker.specs.Workers.{seat_of}
+use Rattle.rz_threads_worker.specs.Workers.{agenda_of}
 use Rattle.rz_threads_worker.proofs.Doings.{none-done, still-lost}
 use Rattle.rz_threads_worker.proofs.Workings.{done-both, lost-both, shown-at}
 use Rattle.rz_threads_worker.proofs.working.work.Goals as goal
@@ -11,7 +11,7 @@ loop-init g c =
     record {
       lasts = still-lasts g.J.Naming.kind c.args.worker.now.pass c.actor-fit.ensures.fit;
       ready = c.requires.ready;
-      done = none-done (is_honest g.J.Naming.kind) (volume_in g.J.Naming.kind).layout c.args.worker.now.pass.actor (seat_of c.args.worker.now.seat) c.args.worker.now.pass.log c.args.worker.now.pass.log refl;
+      done = none-done (is_honest g.J.Naming.kind) (volume_in g.J.Naming.kind).layout c.args.worker.now.pass.actor (agenda_of c.args.worker.now.agenda) c.args.worker.now.pass.log c.args.worker.now.pass.log refl;
       lost = still-lost c.args.worker.now.pass.actor c.args.worker.now.pass.log (g.L.Link.lost c.args.worker.now.link);
     }
 
@@ -22,7 +22,7 @@ pub returns-then-not-has_work-clause-later : goal.returns-then-not-has_work-clau
 returns-then-not-has_work-clause-later g c = c.loop.invariant.lasts.later
 
 pub returns-then-not-has_work-clause-done : goal.returns-then-not-has_work-clause-done
-returns-then-not-has_work-clause-done g c = record { last = seat_of c.loop.worker.seat; done = c.loop.invariant.done; rests = sym c.has_work.ensures ∙ c.if-not-has_work.true }
+returns-then-not-has_work-clause-done g c = record { last = agenda_of c.loop.worker.agenda; done = c.loop.invariant.done; rests = sym c.has_work.ensures ∙ c.if-not-has_work.true }
 
 pub returns-then-not-has_work-clause-lost : goal.returns-then-not-has_work-clause-lost
 returns-then-not-has_work-clause-lost g c = c.loop.invariant.lost
@@ -41,7 +41,7 @@ pub returns-in-Err-clause-later : goal.returns-in-Err-clause-later
 returns-in-Err-clause-later g c = (lasts-on g.J.Naming.kind c.args.worker.now.pass c.loop.worker.pass c.take_turn.new.worker.pass c.loop.invariant.lasts c.in-Err.ensures.lasts).later
 
 pub returns-in-Err-clause-begun : goal.returns-in-Err-clause-begun
-returns-in-Err-clause-begun g c = (c.in-Err.ensures.begun.0, done-both g.J.Naming.kind c.args.worker.now.pass c.loop.worker.pass c.take_turn.new.worker.pass c.loop.invariant.lasts (is_honest g.J.Naming.kind) (volume_in g.J.Naming.kind).layout (seat_of c.args.worker.now.seat) (seat_of c.loop.worker.seat) c.in-Err.ensures.begun.0 c.loop.invariant.done c.in-Err.ensures.begun.1)
+returns-in-Err-clause-begun g c = (c.in-Err.ensures.begun.0, done-both g.J.Naming.kind c.args.worker.now.pass c.loop.worker.pass c.take_turn.new.worker.pass c.loop.invariant.lasts (is_honest g.J.Naming.kind) (volume_in g.J.Naming.kind).layout (agenda_of c.args.worker.now.agenda) (agenda_of c.loop.worker.agenda) c.in-Err.ensures.begun.0 c.loop.invariant.done c.in-Err.ensures.begun.1)
 
 pub returns-in-Err-clause-lost : goal.returns-in-Err-clause-lost
 returns-in-Err-clause-lost g c = lost-both g.J.Naming.kind c.args.worker.now.pass c.loop.worker.pass c.take_turn.new.worker.pass c.loop.invariant.lasts (g.L.Link.lost c.args.worker.now.link) (g.L.Link.lost c.loop.worker.link) (g.L.Link.lost c.take_turn.new.worker.link) c.loop.invariant.lost c.in-Err.ensures.lost
@@ -57,6 +57,6 @@ loop-preserved g c =
     record {
       lasts = lasts-on g.J.Naming.kind c.args.worker.now.pass c.loop.worker.pass c.take_turn.new.worker.pass c.loop.invariant.lasts c.in_default.ensures.lasts;
       ready = c.in_default.ensures.ready;
-      done = done-both g.J.Naming.kind c.args.worker.now.pass c.loop.worker.pass c.take_turn.new.worker.pass c.loop.invariant.lasts (is_honest g.J.Naming.kind) (volume_in g.J.Naming.kind).layout (seat_of c.args.worker.now.seat) (seat_of c.loop.worker.seat) (seat_of c.take_turn.new.worker.seat) c.loop.invariant.done c.in_default.ensures.done;
+      done = done-both g.J.Naming.kind c.args.worker.now.pass c.loop.worker.pass c.take_turn.new.worker.pass c.loop.invariant.lasts (is_honest g.J.Naming.kind) (volume_in g.J.Naming.kind).layout (agenda_of c.args.worker.now.agenda) (agenda_of c.loop.worker.agenda) (agenda_of c.take_turn.new.worker.agenda) c.loop.invariant.done c.in_default.ensures.done;
       lost = lost-both g.J.Naming.kind c.args.worker.now.pass c.loop.worker.pass c.take_turn.new.worker.pass c.loop.invariant.lasts (g.L.Link.lost c.args.worker.now.link) (g.L.Link.lost c.loop.worker.link) (g.L.Link.lost c.take_turn.new.worker.link) c.loop.invariant.lost c.in_default.ensures.lost;
     }

@@ -1,8 +1,8 @@
 use Rattle.std.proofs.Common.{sym, ap, ◌∙◌}
 use Rattle.std.specs.Prelude.{◌==◌}
 use Rattle.std.specs.FinMap as maps
+use Rattle.rz_export_model.proofs.Forgets.{first_of_file}
 use Rattle.rz_export_model.specs.Firsts.{given_if}
-use Rattle.rz_blocks.proofs.Forgets.{first_of_file}
 use Rattle.rz_blocks.proofs.Ranges.{first-shown}
 use Rattle.rz_blocks.proofs.Shows.{entries-shown}
 use Rattle.rz_blocks.proofs.blocks.Blocks.first_of.Goals as goal

@@ -1,17 +1,17 @@
 use Rattle.std.proofs.Common.{◌≡◌, ◌++◌, List, ℕ, refl, sym, ap, subst, ◌∙◌}
 use Rattle.rz_chronicle.specs.Keys.{IsLater}
-use Rattle.rz_chronicle.specs.Holds.{IsHand, IsOwn, Stays, keys}
+use Rattle.rz_chronicle.specs.Holds.{AreTokens, IsOwn, Stays, keys}
 use Rattle.rz_chronicle.specs.Rules.{PassView}
-use Rattle.rz_chronicle.proofs.Hands.{taken, taken-keys}
+use Rattle.rz_chronicle.proofs.Tokens.{taken, taken-keys}
 use Rattle.rz_chronicle.proofs.book.Book.gather.Goals as goal
 
 pub absorb-requires-clause-theirs : goal.absorb-requires-clause-theirs
 absorb-requires-clause-theirs g c =
-    (taken (λ h. IsHand g.J.Naming.tallies g.J.Naming.copy g.J.Naming.kind c.other.inside.seen.log h × IsOwn c.other.inside.actor h.held) c.other.inside.hand c.other.inside.hand c.in-Some.theirs refl c.in-Some.is c.other.invariant.2).0
+    (taken (λ h. AreTokens g.J.Naming.tallies g.J.Naming.copy g.J.Naming.kind c.other.inside.seen.log h × IsOwn c.other.inside.actor h.held) c.other.inside.tokens c.other.inside.tokens c.in-Some.theirs refl c.in-Some.is c.other.invariant.2).0
 
 pub returns-in-Some-clause-same : goal.returns-in-Some-clause-same
 returns-in-Some-clause-same g c =
-    let right : keys c.in-Some.theirs.held ≡ c.args.other.keys = sym (taken-keys c.other.inside.hand c.other.inside.hand c.in-Some.theirs refl c.in-Some.is) ∙ ap (λ (v : PassView). v.keys) c.other.view_is in
+    let right : keys c.in-Some.theirs.held ≡ c.args.other.keys = sym (taken-keys c.other.inside.tokens c.other.inside.tokens c.in-Some.theirs refl c.in-Some.is) ∙ ap (λ (v : PassView). v.keys) c.other.view_is in
     (c.absorb.ensures.same.0, c.absorb.ensures.same.1 ∙ ap (λ (ks : List ℕ). c.args.front.now.keys ++ ks) right)
 
 pub returns-in-Some-clause-later : goal.returns-in-Some-clause-later
@@ -20,6 +20,6 @@ returns-in-Some-clause-later g c =
 
 pub returns-in-Some-clause-gathers : goal.returns-in-Some-clause-gathers
 returns-in-Some-clause-gathers g c =
-    let ks = sym (taken-keys c.other.inside.hand c.other.inside.hand c.in-Some.theirs refl c.in-Some.is) in
+    let ks = sym (taken-keys c.other.inside.tokens c.other.inside.tokens c.in-Some.theirs refl c.in-Some.is) in
     subst (λ (v : PassView). Stays v.keys v.log c.absorb.new.front.log) c.other.view_is
     (subst (λ (k : List ℕ). Stays k (Rattle.rz_chronicle.specs.Kinds.history c.other.inside.seen.log) c.absorb.new.front.log) ks c.absorb.ensures.gathers)

@@ -8,9 +8,9 @@ use Rattle.rz_play.specs.World.{World}
 use Rattle.rz_play.specs.Lines.{with_operation}
 use Rattle.rz_player.specs.Behind.{behind}
 use Rattle.rz_script.specs.declared.line.Line.TheVariants as line
-use Rattle.rz_driver_actors.specs.declared.seat.Seat.{Seat}
+use Rattle.rz_driver_actors.specs.declared.agenda.Agenda.{Agenda}
 use Rattle.rz_driver_asks.specs.Locking.{lock_of}
-use Rattle.rz_driver_actors.specs.Seats.{IsSeat, HasLayout, work_in, seat_of}
+use Rattle.rz_driver_actors.specs.Agendas.{IsAgenda, HasLayout, work_in, agenda_of}
 use Rattle.rz_driver.specs.Worlds.{place_of, world, world_of}
 use Rattle.rz_driver_nodes.proofs.Rows.{all-at}
 use Rattle.rz_driver.proofs.OrderLemmas.{ordered, still-ready, all-more}
@@ -20,7 +20,7 @@ use Rattle.rz_driver.proofs.JournalLemmas.{goes-after, journal-stays, journal-st
 use Rattle.rz_driver_nodes.proofs.PictureLemmas.{on-err}
 use Rattle.rz_driver.proofs.driver.Driver.add_operation.Goals as goal
 
-added : (s b : Seat) (op : Operation) → b.todo.items ≡ s.todo.items ++ op ∷ [] → b.number ≡ s.number → b.machine ≡ s.machine → b.lock ≡ s.lock → b.miss ≡ s.miss → seat_of b ≡ with_operation (seat_of s) op
+added : (s b : Agenda) (op : Operation) → b.todo.items ≡ s.todo.items ++ op ∷ [] → b.number ≡ s.number → b.machine ≡ s.machine → b.lock ≡ s.lock → b.miss ≡ s.miss → agenda_of b ≡ with_operation (agenda_of s) op
 added s b op todo number machine lock miss = λ i. record { todo = todo i; number = number i; work = work_in (machine i); lock = lock_of (lock i); miss = miss i }
 
 pub returns-clause-ready : goal.returns-clause-ready
@@ -30,10 +30,10 @@ returns-clause-ready g c =
     let b = c.add.new.self in
     let at : place_of c.args.by ≡ Some c.in-Some.place = sym c.place.ensures ∙ c.in-Some.is in
     let row = place-low c.args.by c.in-Some.place at in
-    let count : length d.seats.items ≡ 80 = c.requires.ready.count in
-    let low : c.in-Some.place < length d.seats.items = omega (arith, row, count) in
-    let here : slice_get d.seats.items c.in-Some.place ≡ Some s = slice_get_read d.seats.items (length d.seats.items) c.in-Some.place s refl low c.index_mut.ensures.value in
-    let shape = all-at (IsSeat d.volume.layout) d.seats.items c.in-Some.place s c.requires.ready.seats here in
+    let count : length d.agendas.items ≡ 80 = c.requires.ready.count in
+    let low : c.in-Some.place < length d.agendas.items = omega (arith, row, count) in
+    let here : slice_get d.agendas.items c.in-Some.place ≡ Some s = slice_get_read d.agendas.items (length d.agendas.items) c.in-Some.place s refl low c.index_mut.ensures.value in
+    let shape = all-at (IsAgenda d.volume.layout) d.agendas.items c.in-Some.place s c.requires.ready.agendas here in
     let e = c.in_ok-add.ensures in
     let fits = subst (IsOperation d.volume.layout) (sym c.in_ok-op.ensures) (operation-fits d.volume c.args.by c.args.op.now c.requires.line.1) in
     still-ready d _ c.args.by c.in-Some.place s b c.requires.ready refl refl refl at low here
@@ -49,27 +49,27 @@ returns-clause-played g c =
     let b = c.add.new.self in
     let at : place_of c.args.by ≡ Some c.in-Some.place = sym c.place.ensures ∙ c.in-Some.is in
     let row = place-low c.args.by c.in-Some.place at in
-    let count : length d.seats.items ≡ 80 = c.requires.ready.count in
-    let low : c.in-Some.place < length d.seats.items = omega (arith, row, count) in
-    let here : slice_get d.seats.items c.in-Some.place ≡ Some s = slice_get_read d.seats.items (length d.seats.items) c.in-Some.place s refl low c.index_mut.ensures.value in
+    let count : length d.agendas.items ≡ 80 = c.requires.ready.count in
+    let low : c.in-Some.place < length d.agendas.items = omega (arith, row, count) in
+    let here : slice_get d.agendas.items c.in-Some.place ≡ Some s = slice_get_read d.agendas.items (length d.agendas.items) c.in-Some.place s refl low c.index_mut.ensures.value in
     let e = c.in_ok-add.ensures in
-    ordered d.shared d.seats.items d.turns c.args.by c.in-Some.place s b (λ x. with_operation x c.args.op.now) at low here
+    ordered d.shared d.agendas.items d.turns c.args.by c.in-Some.place s b (λ x. with_operation x c.args.op.now) at low here
     (added s b c.args.op.now (e.todo ∙ ap (λ (o : Operation). s.todo.items ++ o ∷ []) c.in_ok-op.ensures) e.number e.machine e.lock e.miss)
 
 pub returns-clause-held : goal.returns-clause-held
 returns-clause-held g c = λ b met.
     let d = c.args.self.now in
     let s = c.index_mut.result.now in
-    let seat = c.add.new.self in
+    let agenda = c.add.new.self in
     let at : place_of c.args.by ≡ Some c.in-Some.place = sym c.place.ensures ∙ c.in-Some.is in
     let row = place-low c.args.by c.in-Some.place at in
-    let count : length d.seats.items ≡ 80 = c.requires.ready.count in
-    let low : c.in-Some.place < length d.seats.items = omega (arith, row, count) in
-    let here : slice_get d.seats.items c.in-Some.place ≡ Some s = slice_get_read d.seats.items (length d.seats.items) c.in-Some.place s refl low c.index_mut.ensures.value in (
+    let count : length d.agendas.items ≡ 80 = c.requires.ready.count in
+    let low : c.in-Some.place < length d.agendas.items = omega (arith, row, count) in
+    let here : slice_get d.agendas.items c.in-Some.place ≡ Some s = slice_get_read d.agendas.items (length d.agendas.items) c.in-Some.place s refl low c.index_mut.ensures.value in (
       met.0,
-      actor-picture d b.log c.in-Some.place s seat d.turns here c.in_ok-add.ensures.machine
-          (λ a. ap (λ (w : World). (w.seats a).work) (returns-clause-played g c) ∙ works-with (world_of d) c.args.by (with_operation ((world_of d).seats c.args.by) c.args.op.now) refl a) (λ rules fine.
-          c.lined.ensures d.volume rules b.log (line.Op c.args.by c.args.op.now) c.requires.line (behind b.log (world_of d)) (behind b.log (world d.shared (set d.seats.items c.in-Some.place seat) d.turns)) (ap (behind b.log) (returns-clause-played g c)) fine) met.1,
+      actor-picture d b.log c.in-Some.place s agenda d.turns here c.in_ok-add.ensures.machine
+          (λ a. ap (λ (w : World). (w.agendas a).work) (returns-clause-played g c) ∙ works-with (world_of d) c.args.by (with_operation ((world_of d).agendas c.args.by) c.args.op.now) refl a) (λ rules fine.
+          c.lined.ensures d.volume rules b.log (line.Op c.args.by c.args.op.now) c.requires.line (behind b.log (world_of d)) (behind b.log (world d.shared (set d.agendas.items c.in-Some.place agenda) d.turns)) (ap (behind b.log) (returns-clause-played g c)) fine) met.1,
       journal-stays d _ refl refl refl b met.2 refl,
       goes-after d _ refl b met.3,
     )

@@ -4,7 +4,7 @@ use Rattle.rz_disk.specs.Meter.{faults}
 use Rattle.rz_disk.specs.UnderFuse.{UnderFuse}
 use Rattle.rz_events.specs.Volume.{Volume}
 use Rattle.rz_export_model.specs.Export.{new_export}
-use Rattle.rz_nodes.specs.declared.formatting.Station.{Station}
+use Rattle.rz_nodes.specs.declared.formatting.Server.{Server}
 use Rattle.rz_nodes.specs.Formatted.{disks_of}
 use Rattle.rz_journal.specs.JournalText.{IsTextOf}
 use Rattle.rz_journal.specs.Stands.{IsShut}
@@ -27,7 +27,7 @@ returns-in-Ok-format-clause-behind g c =
     let made = c.in-Ok-format.ensures in
     record {
       volume = refl;
-      seats = refl;
+      agendas = refl;
       turns = refl;
       shared = refl;
       export = ap export_in after ∙ made.export ∙ ap (λ (v : Volume). new_export v 0) c.in-Ok.ensures;
@@ -37,13 +37,13 @@ returns-in-Ok-format-clause-behind g c =
 
 pub returns-in-Err-clause-back : goal.returns-in-Err-clause-back
 returns-in-Err-clause-back g c =
-    let row = c.args.self.shared.stations in
+    let row = c.args.self.shared.servers in
     let image = g.D.Disk.image in
     let old = c.args.disk in
     let new = c.in-Err.disk in
     let at = c.len-index.ensures in
     let long = row.ok.0 in
-    let many = length-map row.items (λ (s : Station (UnderFuse g.row.D.Denot)). s.node.disk.disk) in
+    let many = length-map row.items (λ (s : Server (UnderFuse g.row.D.Denot)). s.node.disk.disk) in
     let place : c.len-index.result ≡ length (disks_of row.items) = omega (arith, at, long, many) in
     record {
       last = new;

@@ -10,7 +10,7 @@ use Rattle.rz_driver.proofs.driver.Driver.close_all.Goals as goal
 pub returns-clause-counted : goal.returns-clause-counted
 returns-clause-counted g c = λ b left.
     let d = c.args.self in
-    counted-disks g.D.Disk.meter b.counts (numbers_in d) d.shared.stations.items d.shared.log.events (leaves-counted d b left)
+    counted-disks g.D.Disk.meter b.counts (numbers_in d) d.shared.servers.items d.shared.log.events (leaves-counted d b left)
 
 pub returns-clause-imaged : goal.returns-clause-imaged
 returns-clause-imaged g c = λ b left told.
@@ -25,4 +25,4 @@ returns-clause-ends g c = λ b disk left exact is. left-journal c.args.self b c.
 
 pub returns-clause-left : goal.returns-clause-left
 returns-clause-left g c = λ b ended journaled told.
-    whole-disks c.args.self b c.close-log.ensures.short c.logged.ensures ended journaled told _ (c.hand_back_with.ensures ∙ ap (λ (o : Option g.row.D.Denot). disks_of c.args.self.shared.stations.items ++ option_to_list o) c.into_disk-journal.ensures)
+    whole-disks c.args.self b c.close-log.ensures.short c.logged.ensures ended journaled told _ (c.hand_back_with.ensures ∙ ap (λ (o : Option g.row.D.Denot). disks_of c.args.self.shared.servers.items ++ option_to_list o) c.into_disk-journal.ensures)

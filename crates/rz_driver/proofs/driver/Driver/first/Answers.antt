@@ -58,7 +58,7 @@ returns-in-Ok-new-clause-made g c =
     let journal = c.in-Ok.journal in
     let n = length (nodes_of v.clusters) in
     let count = front-count c.args.disks.items nodes journal n c.in-Ok.ensures.split c.requires.count in
-    let made = λ (disks : List g.row.D.Denot) (e : Driver g.row.D.Denot g.D.Disk). AreFormatted g.D.Disk.tells g.D.Disk.meter g.D.Disk.text g.D.Disk.image v.layout (nodes_of v.clusters) disks e.shared.stations.items in
+    let made = λ (disks : List g.row.D.Denot) (e : Driver g.row.D.Denot g.D.Disk). AreFormatted g.D.Disk.tells g.D.Disk.meter g.D.Disk.text g.D.Disk.image v.layout (nodes_of v.clusters) disks e.shared.servers.items in
     IfOk-weaker c.behind_journal.result (λ e. IsBehindJournal journal d e) (made c.args.disks.items)
     (λ e behind. subst (λ (disks : List g.row.D.Denot). made disks e) (sym c.in-Ok.ensures.split)
     (behind-made journal d e behind v c.in-Ok-new.ensures.volume c.in-Ok-new.ensures.world g.D.Disk.tells g.D.Disk.meter g.D.Disk.text g.D.Disk.image nodes count c.in-Ok-new.ensures.made))
@@ -82,7 +82,7 @@ returns-in-Ok-new-clause-back g c =
     let v = c.args.volume.now in
     let nodes = c.in-Ok.nodes.items in
     let journal = c.in-Ok.journal in
-    let row = d.shared.stations.items in
+    let row = d.shared.servers.items in
     let tells = g.D.Disk.tells in
     let meter = g.D.Disk.meter in
     let image = g.D.Disk.image in
@@ -98,7 +98,7 @@ returns-in-Ok-new-clause-cause g c =
     let v = c.args.volume.now in
     let nodes = c.in-Ok.nodes.items in
     let journal = c.in-Ok.journal in
-    let row = d.shared.stations.items in
+    let row = d.shared.servers.items in
     let tells = g.D.Disk.tells in
     let meter = g.D.Disk.meter in
     let text = g.D.Disk.text in

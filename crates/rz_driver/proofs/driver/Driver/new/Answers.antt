@@ -16,7 +16,7 @@ use Rattle.rz_nodes.proofs.FormatLemmas.{untouched}
 use Rattle.rz_driver_nodes.proofs.MeterLemmas.{new-holds}
 use Rattle.rz_driver.proofs.MadeLemmas.{as-many, new-ready, new-is}
 use Rattle.rz_driver_nodes.specs.Meters.{faults_at}
-use Rattle.rz_driver_nodes.specs.Stations.{IsStation}
+use Rattle.rz_driver_nodes.specs.Servers.{IsServer}
 use Rattle.rz_driver.proofs.NewPictures.{new-exact, new-picture}
 use Rattle.rz_driver.proofs.driver.Driver.new.Goals as goal
 
@@ -35,19 +35,19 @@ format_all-requires-clause-count g c = c.requires.count ∙ ap length (sym (c.as
 pub returns-in-Ok-format_all-clause-made : goal.returns-in-Ok-format_all-clause-made
 returns-in-Ok-format_all-clause-made g c =
     let layout : c.volume.inside.layout ≡ c.args.volume.now.layout = ap (λ (v : Volume). v.layout) c.volume.view_is in
-    subst (λ (y : Layout). AreFormatted g.D.Disk.tells g.D.Disk.meter g.D.Disk.text g.D.Disk.image y (nodes_of c.args.volume.now.clusters) c.args.disks.items c.in-Ok-format_all.stations.items) layout
-    (subst (λ (ns : List NodeSpec). AreFormatted g.D.Disk.tells g.D.Disk.meter g.D.Disk.text g.D.Disk.image c.volume.inside.layout ns c.args.disks.items c.in-Ok-format_all.stations.items) (c.as_slice.ensures.value ∙ c.in-Ok.ensures.nodes) c.in-Ok-format_all.ensures.made)
+    subst (λ (y : Layout). AreFormatted g.D.Disk.tells g.D.Disk.meter g.D.Disk.text g.D.Disk.image y (nodes_of c.args.volume.now.clusters) c.args.disks.items c.in-Ok-format_all.servers.items) layout
+    (subst (λ (ns : List NodeSpec). AreFormatted g.D.Disk.tells g.D.Disk.meter g.D.Disk.text g.D.Disk.image c.volume.inside.layout ns c.args.disks.items c.in-Ok-format_all.servers.items) (c.as_slice.ensures.value ∙ c.in-Ok.ensures.nodes) c.in-Ok-format_all.ensures.made)
 
 pub returns-in-Ok-format_all-clause-ready : goal.returns-in-Ok-format_all-clause-ready
 returns-in-Ok-format_all-clause-ready g c =
     new-ready g.D.Disk.tells g.D.Disk.meter g.D.Disk.text g.D.Disk.image c.args.volume.now c.new_parts.ensures.rules c.args.disks.items c.requires.count _ c.in-Ok.ensures.volume (returns-in-Ok-format_all-clause-made g c)
-    c.in-Ok.ensures.seats c.in-Ok.ensures.count c.in-Ok.ensures.bins c.new-locks.ensures
+    c.in-Ok.ensures.agendas c.in-Ok.ensures.count c.in-Ok.ensures.bins c.new-locks.ensures
 
 pub returns-in-Ok-format_all-clause-world : goal.returns-in-Ok-format_all-clause-world
 returns-in-Ok-format_all-clause-world g c =
     new-is g.D.Disk.tells g.D.Disk.meter g.D.Disk.text g.D.Disk.image c.args.volume.now c.args.disks.items
-    (record { stations = c.in-Ok-format_all.stations; export = c.in-Ok-new_export.export; locks = c.new-locks.result; lost = 0; log = c.new-log.result; bins = c.in-Ok.parts.bins }) c.in-Ok.parts.seats.items (returns-in-Ok-format_all-clause-made g c)
-    c.in-Ok.ensures.seats c.in-Ok-new_export.ensures.export refl c.new-log.ensures.events
+    (record { servers = c.in-Ok-format_all.servers; export = c.in-Ok-new_export.export; locks = c.new-locks.result; lost = 0; log = c.new-log.result; bins = c.in-Ok.parts.bins }) c.in-Ok.parts.agendas.items (returns-in-Ok-format_all-clause-made g c)
+    c.in-Ok.ensures.agendas c.in-Ok-new_export.ensures.export refl c.new-log.ensures.events
 
 pub returns-in-Err-clause-back : goal.returns-in-Err-clause-back
 returns-in-Err-clause-back g c =
@@ -63,13 +63,13 @@ returns-in-Ok-format_all-clause-held g c =
     let v = c.args.volume.now in
     let ready = returns-in-Ok-format_all-clause-ready g c in
     let made = returns-in-Ok-format_all-clause-made g c in
-    let row = c.in-Ok-format_all.stations.items in
+    let row = c.in-Ok-format_all.servers.items in
     let at = faults_at g.D.Disk.meter c.args.disks.items (length (nodes_of c.in-Ok.parts.volume.clusters)) in
     let none : c.new-log.result.events ++ [] ≡ [] = append-nil c.new-log.result.events ∙ c.new-log.ensures.events in
-    let stations : AllByRecursion (IsStation v) row = subst (λ (u : Volume). AllByRecursion (IsStation u) row) c.in-Ok.ensures.volume ready.stations in (
+    let servers : AllByRecursion (IsServer v) row = subst (λ (u : Volume). AllByRecursion (IsServer u) row) c.in-Ok.ensures.volume ready.servers in (
       new-holds g.D.Disk.tells g.D.Disk.meter g.D.Disk.text g.D.Disk.image v c.new_parts.ensures.rules c.args.disks.items _ _ _ ready.numbers
           (ap (λ (u : Volume). map (λ (n : NodeSpec). n.sid) (nodes_of u.clusters)) c.in-Ok.ensures.volume) made c.new-log.ensures.events,
-      new-picture g.D.Disk.tells g.D.Disk.meter g.D.Disk.text g.D.Disk.image c.fresh.ensures v c.new_parts.ensures.rules c.args.disks.items _ (returns-in-Ok-format_all-clause-world g c) c.in-Ok.parts.seats.items c.in-Ok.ensures.seats row stations made
+      new-picture g.D.Disk.tells g.D.Disk.meter g.D.Disk.text g.D.Disk.image c.fresh.ensures v c.new_parts.ensures.rules c.args.disks.items _ (returns-in-Ok-format_all-clause-world g c) c.in-Ok.parts.agendas.items c.in-Ok.ensures.agendas row servers made
           c.in-Ok.parts.volume c.in-Ok.ensures.volume,
       (λ exact. record {
         volume = ap (λ (s : Export). s.volume) c.in-Ok-new_export.ensures.export ∙ sym c.in-Ok.ensures.volume;
@@ -84,10 +84,10 @@ returns-in-Ok-format_all-clause-held g c =
 pub invariant_of-result : goal.invariant_of-result
 invariant_of-result g c =
     let nodes = c.as_slice.ensures.value ∙ c.in-Ok.ensures.nodes in
-    let stations = c.in-Ok-format_all.stations in
-    let many = as-many g.D.Disk.tells g.D.Disk.meter g.D.Disk.text g.D.Disk.image c.volume.inside.layout c.as_slice.result.now c.args.disks.items stations.items (c.requires.count ∙ ap length (sym nodes)) c.in-Ok-format_all.ensures.made in
+    let servers = c.in-Ok-format_all.servers in
+    let many = as-many g.D.Disk.tells g.D.Disk.meter g.D.Disk.text g.D.Disk.image c.volume.inside.layout c.as_slice.result.now c.args.disks.items servers.items (c.requires.count ∙ ap length (sym nodes)) c.in-Ok-format_all.ensures.made in
     let as_nodes = ap length nodes in
-    let long = stations.ok.0 in
+    let long = servers.ok.0 in
     let empty = c.in-Ok.ensures.empty in
     let room = c.in-Ok.ensures.room in
     record { room = omega (arith, many, as_nodes, long, empty, room) }

@@ -20,18 +20,18 @@ pub returns-clause-ready : goal.returns-clause-ready
 returns-clause-ready g c =
     let d = c.args.self.now in
     on_ok_weaker c.arm_node.result
-    (λ (a : IsArming c.args.passes c.args.pick c.args.sid c.as_mut_slice.result.now c.arm_node.new.stations d.shared.log.events c.arm_node.new.log.events).
+    (λ (a : IsArming c.args.passes c.args.pick c.args.sid c.as_mut_slice.result.now c.arm_node.new.servers d.shared.log.events c.arm_node.new.log.events).
     armed-ready d _ c.requires.ready refl refl c.args.passes c.args.pick c.args.sid
-    (arming-in c.args.passes c.args.pick c.args.sid d.shared.stations c.as_mut_slice.result.now c.arm_node.new.stations d.shared.log.events c.arm_node.new.log.events c.as_mut_slice.ensures.value a) refl refl)
+    (arming-in c.args.passes c.args.pick c.args.sid d.shared.servers c.as_mut_slice.result.now c.arm_node.new.servers d.shared.log.events c.arm_node.new.log.events c.as_mut_slice.ensures.value a) refl refl)
     c.arm_node.ensures.ok
 
 pub returns-clause-armed : goal.returns-clause-armed
 returns-clause-armed g c =
     let d = c.args.self.now in
     on_ok_weaker c.arm_node.result
-    (λ (a : IsArming c.args.passes c.args.pick c.args.sid c.as_mut_slice.result.now c.arm_node.new.stations d.shared.log.events c.arm_node.new.log.events).
-    armed-world d c.requires.ready (record d.shared { stations = with_items d.shared.stations c.arm_node.new.stations; log = c.arm_node.new.log }) refl refl c.args.passes c.args.pick c.args.sid
-    (arming-in c.args.passes c.args.pick c.args.sid d.shared.stations c.as_mut_slice.result.now c.arm_node.new.stations d.shared.log.events c.arm_node.new.log.events c.as_mut_slice.ensures.value a))
+    (λ (a : IsArming c.args.passes c.args.pick c.args.sid c.as_mut_slice.result.now c.arm_node.new.servers d.shared.log.events c.arm_node.new.log.events).
+    armed-world d c.requires.ready (record d.shared { servers = with_items d.shared.servers c.arm_node.new.servers; log = c.arm_node.new.log }) refl refl c.args.passes c.args.pick c.args.sid
+    (arming-in c.args.passes c.args.pick c.args.sid d.shared.servers c.as_mut_slice.result.now c.arm_node.new.servers d.shared.log.events c.arm_node.new.log.events c.as_mut_slice.ensures.value a))
     c.arm_node.ensures.ok
 
 pub returns-clause-held : goal.returns-clause-held
@@ -40,10 +40,10 @@ returns-clause-held g c =
     let meter = fused_meter g.D.Disk.meter in
     let image = fused_image g.D.Disk.image in
     let xs = c.as_mut_slice.result.now in
-    let ys = c.arm_node.new.stations in
+    let ys = c.arm_node.new.servers in
     let h = d.shared.log.events in
     let h' = c.arm_node.new.log.events in
-    let next : World = world (record d.shared { stations = with_items d.shared.stations ys; log = c.arm_node.new.log }) d.seats.items d.turns in
+    let next : World = world (record d.shared { servers = with_items d.shared.servers ys; log = c.arm_node.new.log }) d.agendas.items d.turns in
     three-ok c.arm_node.result
     (λ (holds : (numbers : List ℕ) → CarriesCounts (AreMetered meter numbers xs h) (AreMetered meter numbers ys h')) (keeps : IsTrue g.D.Disk.tells → KeepsRow image xs h ys h') (armed : next ≡ record (world_of d) { log = e.Armed c.args.sid c.args.passes c.args.pick ∷ h }).
     λ b held.
@@ -59,7 +59,7 @@ returns-clause-left g c =
     let meter = fused_meter g.D.Disk.meter in
     let image = fused_image g.D.Disk.image in
     let xs = c.as_mut_slice.result.now in
-    let ys = c.arm_node.new.stations in
+    let ys = c.arm_node.new.servers in
     let h = d.shared.log.events in
     let h' = c.arm_node.new.log.events in
     three-err c.arm_node.result

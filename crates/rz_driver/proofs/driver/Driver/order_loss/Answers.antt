@@ -21,8 +21,8 @@ pub returns-clause-ready : goal.returns-clause-ready
 returns-clause-ready g c =
     let d = c.args.self.now in
     on_ok_weaker c.lose_node.result
-    (λ (o : IsOrdered ask.Lose c.args.sid c.as_mut_slice.result.now c.lose_node.new.stations d.shared.log.events c.lose_node.new.log.events).
-    let there = ordered-in ask.Lose c.args.sid d.shared.stations c.as_mut_slice.result.now c.lose_node.new.stations d.shared.log.events c.lose_node.new.log.events c.as_mut_slice.ensures.value o in
+    (λ (o : IsOrdered ask.Lose c.args.sid c.as_mut_slice.result.now c.lose_node.new.servers d.shared.log.events c.lose_node.new.log.events).
+    let there = ordered-in ask.Lose c.args.sid d.shared.servers c.as_mut_slice.result.now c.lose_node.new.servers d.shared.log.events c.lose_node.new.log.events c.as_mut_slice.ensures.value o in
     called-ready d _ c.requires.ready refl refl c.args.sid (called-of ask.Lose c.args.sid _ _ _ _ there) refl refl)
     c.lose_node.ensures.ok
 
@@ -30,9 +30,9 @@ pub returns-clause-called : goal.returns-clause-called
 returns-clause-called g c =
     let d = c.args.self.now in
     on_ok_weaker c.lose_node.result
-    (λ (o : IsOrdered ask.Lose c.args.sid c.as_mut_slice.result.now c.lose_node.new.stations d.shared.log.events c.lose_node.new.log.events).
-    let there = ordered-in ask.Lose c.args.sid d.shared.stations c.as_mut_slice.result.now c.lose_node.new.stations d.shared.log.events c.lose_node.new.log.events c.as_mut_slice.ensures.value o in
-    admin-call d c.requires.ready (record d.shared { stations = with_items d.shared.stations c.lose_node.new.stations; log = c.lose_node.new.log }) refl refl ask.Lose c.args.sid there)
+    (λ (o : IsOrdered ask.Lose c.args.sid c.as_mut_slice.result.now c.lose_node.new.servers d.shared.log.events c.lose_node.new.log.events).
+    let there = ordered-in ask.Lose c.args.sid d.shared.servers c.as_mut_slice.result.now c.lose_node.new.servers d.shared.log.events c.lose_node.new.log.events c.as_mut_slice.ensures.value o in
+    admin-call d c.requires.ready (record d.shared { servers = with_items d.shared.servers c.lose_node.new.servers; log = c.lose_node.new.log }) refl refl ask.Lose c.args.sid there)
     c.lose_node.ensures.ok
 
 pub returns-clause-held : goal.returns-clause-held
@@ -41,10 +41,10 @@ returns-clause-held g c =
     let meter = fused_meter g.D.Disk.meter in
     let image = fused_image g.D.Disk.image in
     let xs = c.as_mut_slice.result.now in
-    let ys = c.lose_node.new.stations in
+    let ys = c.lose_node.new.servers in
     let h = d.shared.log.events in
     let h' = c.lose_node.new.log.events in
-    let next : World = world (record d.shared { stations = with_items d.shared.stations ys; log = c.lose_node.new.log }) d.seats.items d.turns in
+    let next : World = world (record d.shared { servers = with_items d.shared.servers ys; log = c.lose_node.new.log }) d.agendas.items d.turns in
     three-ok c.lose_node.result
     (λ (holds : (numbers : List ℕ) → CarriesCounts (AreMetered meter numbers xs h) (AreMetered meter numbers ys h')) (keeps : IsTrue g.D.Disk.tells → KeepsRow image xs h ys h') (called : IsAdminCall d.volume c.args.sid ask.Lose (world_of d) next).
     λ b held.
@@ -60,7 +60,7 @@ returns-clause-left g c =
     let meter = fused_meter g.D.Disk.meter in
     let image = fused_image g.D.Disk.image in
     let xs = c.as_mut_slice.result.now in
-    let ys = c.lose_node.new.stations in
+    let ys = c.lose_node.new.servers in
     let h = d.shared.log.events in
     let h' = c.lose_node.new.log.events in
     three-err c.lose_node.result

@@ -20,8 +20,8 @@ pub returns-clause-ready : goal.returns-clause-ready
 returns-clause-ready g c =
     let d = c.args.self.now in
     on_ok_weaker c.start_node.result
-    (λ (k : IsCalledAt c.args.sid c.as_mut_slice.result.now c.start_node.new.stations).
-    called-ready d _ c.requires.ready refl refl c.args.sid (called-in c.args.sid d.shared.stations c.as_mut_slice.result.now c.start_node.new.stations c.as_mut_slice.ensures.value k) refl refl)
+    (λ (k : IsCalledAt c.args.sid c.as_mut_slice.result.now c.start_node.new.servers).
+    called-ready d _ c.requires.ready refl refl c.args.sid (called-in c.args.sid d.shared.servers c.as_mut_slice.result.now c.start_node.new.servers c.as_mut_slice.ensures.value k) refl refl)
     c.start_node.ensures.called
 
 pub returns-clause-called : goal.returns-clause-called
@@ -29,12 +29,12 @@ returns-clause-called g c =
     let d = c.args.self.now in
     let slice = c.as_mut_slice.result.now in
     let new = c.start_node.new in
-    let q = record d.shared { stations = with_items d.shared.stations new.stations; log = new.log } in
+    let q = record d.shared { servers = with_items d.shared.servers new.servers; log = new.log } in
     both-ok c.start_node.result
-    (λ (o : IsTrue g.D.Disk.tells → IsOrdered ask.Start c.args.sid slice new.stations d.shared.log.events new.log.events). λ (free : IsStarted c.args.sid slice new.stations d.shared.log.events new.log.events).
-    start-over d.volume c.args.sid g.D.Disk.tells (world_of d) (world q d.seats.items d.turns)
-    (λ told. admin-call d c.requires.ready q refl refl ask.Start c.args.sid (ordered-in ask.Start c.args.sid d.shared.stations slice new.stations d.shared.log.events new.log.events c.as_mut_slice.ensures.value (o told)))
-    (free-start d c.requires.ready q refl refl c.args.sid (started-in c.args.sid d.shared.stations slice new.stations d.shared.log.events new.log.events c.as_mut_slice.ensures.value free)))
+    (λ (o : IsTrue g.D.Disk.tells → IsOrdered ask.Start c.args.sid slice new.servers d.shared.log.events new.log.events). λ (free : IsStarted c.args.sid slice new.servers d.shared.log.events new.log.events).
+    start-over d.volume c.args.sid g.D.Disk.tells (world_of d) (world q d.agendas.items d.turns)
+    (λ told. admin-call d c.requires.ready q refl refl ask.Start c.args.sid (ordered-in ask.Start c.args.sid d.shared.servers slice new.servers d.shared.log.events new.log.events c.as_mut_slice.ensures.value (o told)))
+    (free-start d c.requires.ready q refl refl c.args.sid (started-in c.args.sid d.shared.servers slice new.servers d.shared.log.events new.log.events c.as_mut_slice.ensures.value free)))
     c.start_node.ensures.ok c.start_node.ensures.started
 
 pub returns-clause-held : goal.returns-clause-held
@@ -44,11 +44,11 @@ returns-clause-held g c =
     let image = fused_image g.D.Disk.image in
     let xs = c.as_mut_slice.result.now in
     let new = c.start_node.new in
-    let ys = new.stations in
+    let ys = new.servers in
     let h = d.shared.log.events in
     let h' = new.log.events in
-    let q = record d.shared { stations = with_items d.shared.stations ys; log = new.log } in
-    let next : World = world q d.seats.items d.turns in
+    let q = record d.shared { servers = with_items d.shared.servers ys; log = new.log } in
+    let next : World = world q d.agendas.items d.turns in
     let orders = both-ok c.start_node.result (λ (o : IsTrue g.D.Disk.tells → IsOrdered ask.Start c.args.sid xs ys h h') (free : IsStarted c.args.sid xs ys h h'). (o, free)) c.start_node.ensures.ok c.start_node.ensures.started in
     three-ok c.start_node.result
     (λ (holds : (numbers : List ℕ) → CarriesCounts (AreMetered meter numbers xs h) (AreMetered meter numbers ys h')) (keeps : IsTrue g.D.Disk.tells → KeepsRow image xs h ys h')
@@ -56,7 +56,7 @@ returns-clause-held g c =
     λ b held.
     let o = order-holds d xs ys c.as_mut_slice.ensures.value b held c.lasting.ensures next refl (noted-grows orders.1.event h h' orders.1.log_is) keeps
     (λ told rules fine. c.lined.ensures d.volume rules b.log (line.Start c.args.sid) c.requires.line (behind b.log (world_of d)) (behind b.log next)
-    (admin-behind b.log d.volume c.args.sid ask.Start (world_of d) next (admin-call d c.requires.ready q refl refl ask.Start c.args.sid (ordered-in ask.Start c.args.sid d.shared.stations xs ys h h' c.as_mut_slice.ensures.value (orders.0 told)))) fine) holds in
+    (admin-behind b.log d.volume c.args.sid ask.Start (world_of d) next (admin-call d c.requires.ready q refl refl ask.Start c.args.sid (ordered-in ask.Start c.args.sid d.shared.servers xs ys h h' c.as_mut_slice.ensures.value (orders.0 told)))) fine) holds in
     (o.0, o.1, journal-ordered d _ refl c.start_node.ensures.earlier refl b held.2 (c.untold.ensures d.volume) held.1 (noted-grows orders.1.event h h' orders.1.log_is) (started-stays c.args.sid xs ys h h' orders.1), goes-after d _ c.start_node.ensures.earlier b held.3))
     c.start_node.ensures.held c.start_node.ensures.pictured orders
 
@@ -66,7 +66,7 @@ returns-clause-left g c =
     let meter = fused_meter g.D.Disk.meter in
     let image = fused_image g.D.Disk.image in
     let xs = c.as_mut_slice.result.now in
-    let ys = c.start_node.new.stations in
+    let ys = c.start_node.new.servers in
     let h = d.shared.log.events in
     let h' = c.start_node.new.log.events in
     three-err c.start_node.result

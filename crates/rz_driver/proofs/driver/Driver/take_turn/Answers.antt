@@ -7,47 +7,47 @@ use Rattle.rz_driver.proofs.DriverMeters.{log-kept}
 use Rattle.rz_driver.proofs.JournalLemmas.{goes-after, journal-goes-on, journal-ends, journal-still}
 use Rattle.rz_driver_nodes.proofs.PictureLemmas.{on-err}
 use Rattle.rz_driver_actors.proofs.ActPictures.{act-grows}
-use Rattle.rz_driver.proofs.TakeLemmas.{seat-there, have-layouts, tied-at, drives, turned}
+use Rattle.rz_driver.proofs.TakeLemmas.{agenda-there, have-layouts, tied-at, drives, turned}
 use Rattle.rz_driver.proofs.driver.Driver.take_turn.Goals as goal
 
 pub take_up-requires : goal.take_up-requires
 take_up-requires g c =
     let ready = subst (λ (x : Driver g.row.D.Denot g.D.Disk). IsDriver x) (sym c.self.view_is) c.requires.ready in
-    (seat-there c.args.by c.in-Some.place c.index_mut-seat.result.now _ ready (sym c.place.ensures ∙ c.in-Some.is) c.index_mut-seat.ensures.value).2
+    (agenda-there c.args.by c.in-Some.place c.index_mut-agenda.result.now _ ready (sym c.place.ensures ∙ c.in-Some.is) c.index_mut-agenda.ensures.value).2
 
-pub act-requires-clause-stations : goal.act-requires-clause-stations
-act-requires-clause-stations g c =
+pub act-requires-clause-servers : goal.act-requires-clause-servers
+act-requires-clause-servers g c =
     let ready = subst (λ (x : Driver g.row.D.Denot g.D.Disk). IsDriver x) (sym c.self.view_is) c.requires.ready in
-    have-layouts _ _ ready.stations
+    have-layouts _ _ ready.servers
 
 pub act-requires-clause-tied : goal.act-requires-clause-tied
 act-requires-clause-tied g c =
     let ready = subst (λ (x : Driver g.row.D.Denot g.D.Disk). IsDriver x) (sym c.self.view_is) c.requires.ready in
     let at = sym c.place.ensures ∙ c.in-Some.is in
-    let there = seat-there c.args.by c.in-Some.place c.index_mut-seat.result.now _ ready at c.index_mut-seat.ensures.value in
-    tied-at c.args.by c.in-Some.place c.index_mut-seat.result.now c.take_up.new.self _ ready at there.0 c.take_up.ensures.lock
+    let there = agenda-there c.args.by c.in-Some.place c.index_mut-agenda.result.now _ ready at c.index_mut-agenda.ensures.value in
+    tied-at c.args.by c.in-Some.place c.index_mut-agenda.result.now c.take_up.new.self _ ready at there.0 c.take_up.ensures.lock
 
 pub returns-clause-ready : goal.returns-clause-ready
 returns-clause-ready g c =
     let ready = subst (λ (x : Driver g.row.D.Denot g.D.Disk). IsDriver x) (sym c.self.view_is) c.requires.ready in
     let at = sym c.place.ensures ∙ c.in-Some.is in
-    let there = seat-there c.args.by c.in-Some.place c.index_mut-seat.result.now _ ready at c.index_mut-seat.ensures.value in
-    drives c.args.by c.in-Some.place _ _ c.make_room.new.self c.index_mut-seat.result.now c.take_up.new.self c.act.new.seat ready at there.0 there.1
-    c.in_ok-take_up.ensures.ok c.in_ok-take_up.ensures.seat c.take_up.ensures.lock c.make_room.ensures.same c.in_ok-act.ensures.ok refl refl c.act.ensures.bins
+    let there = agenda-there c.args.by c.in-Some.place c.index_mut-agenda.result.now _ ready at c.index_mut-agenda.ensures.value in
+    drives c.args.by c.in-Some.place _ _ c.make_room.new.self c.index_mut-agenda.result.now c.take_up.new.self c.act.new.agenda ready at there.0 there.1
+    c.in_ok-take_up.ensures.ok c.in_ok-take_up.ensures.agenda c.take_up.ensures.lock c.make_room.ensures.same c.in_ok-act.ensures.ok refl refl c.act.ensures.bins
 
 pub returns-clause-taken : goal.returns-clause-taken
 returns-clause-taken g c = λ b held exact.
     let ready = subst (λ (x : Driver g.row.D.Denot g.D.Disk). IsDriver x) (sym c.self.view_is) c.requires.ready in
     let here = subst (λ (x : Driver g.row.D.Denot g.D.Disk). Holds x b) (sym c.self.view_is) held in
     let at = sym c.place.ensures ∙ c.in-Some.is in
-    let there = seat-there c.args.by c.in-Some.place c.index_mut-seat.result.now _ ready at c.index_mut-seat.ensures.value in
-    let texts = λ (exact : is_exact c.args.self.now ≡ true). turn-texts c.args.by c.in-Some.place _ c.args.self.now c.self.view_is c.make_room.new.self c.index_mut-seat.result.now c.take_up.new.self at there.0 c.in_ok-take_up.ensures.seat.machine
+    let there = agenda-there c.args.by c.in-Some.place c.index_mut-agenda.result.now _ ready at c.index_mut-agenda.ensures.value in
+    let texts = λ (exact : is_exact c.args.self.now ≡ true). turn-texts c.args.by c.in-Some.place _ c.args.self.now c.self.view_is c.make_room.new.self c.index_mut-agenda.result.now c.take_up.new.self at there.0 c.in_ok-take_up.ensures.agenda.machine
     c.in_ok-take_up.ensures.ok c.make_room.ensures.same c.in_ok-take_up.ensures.hand c.working.ensures b.log
     (λ no. here.3.anew (sym c.make_room.ensures.earlier ∙ no)) here.3.short c.in_ok-make_room.ensures.short here.1
     (ap (exact_if g.D.Disk.tells) c.make_room.ensures.earlier ∙ subst (λ (x : Driver g.row.D.Denot g.D.Disk). is_exact x ≡ true) (sym c.self.view_is) exact)
     in
-    turned c.args.by c.in-Some.place _ c.act.new.shared c.make_room.new.self c.index_mut-seat.result.now c.take_up.new.self c.act.new.seat ready at there.0 there.1
-    c.in_ok-take_up.ensures.ok c.in_ok-take_up.ensures.seat c.take_up.ensures.lock c.make_room.ensures.same c.in_ok-act.ensures.ok b.log (texts exact) c.args.self.now c.self.view_is
+    turned c.args.by c.in-Some.place _ c.act.new.shared c.make_room.new.self c.index_mut-agenda.result.now c.take_up.new.self c.act.new.agenda ready at there.0 there.1
+    c.in_ok-take_up.ensures.ok c.in_ok-take_up.ensures.agenda c.take_up.ensures.lock c.make_room.ensures.same c.in_ok-act.ensures.ok b.log (texts exact) c.args.self.now c.self.view_is
 
 pub returns-clause-counted : goal.returns-clause-counted
 returns-clause-counted g c = ap (λ (x : Driver g.row.D.Denot g.D.Disk). x.turns + 1) c.self.view_is
@@ -69,23 +69,23 @@ returns-clause-held g c = λ b met.
     let ready = subst (λ (x : Driver g.row.D.Denot g.D.Disk). IsDriver x) (sym c.self.view_is) c.requires.ready in
     let here = subst (λ (x : Driver g.row.D.Denot g.D.Disk). Holds x b) (sym c.self.view_is) met in
     let at = sym c.place.ensures ∙ c.in-Some.is in
-    let a0 = c.index_mut-seat.result.now in
-    let there = seat-there c.args.by c.in-Some.place a0 _ ready at c.index_mut-seat.ensures.value in
-    let texts = λ (exact : is_exact c.args.self.now ≡ true). turn-texts c.args.by c.in-Some.place _ c.args.self.now c.self.view_is c.make_room.new.self c.index_mut-seat.result.now c.take_up.new.self at there.0 c.in_ok-take_up.ensures.seat.machine
+    let a0 = c.index_mut-agenda.result.now in
+    let there = agenda-there c.args.by c.in-Some.place a0 _ ready at c.index_mut-agenda.ensures.value in
+    let texts = λ (exact : is_exact c.args.self.now ≡ true). turn-texts c.args.by c.in-Some.place _ c.args.self.now c.self.view_is c.make_room.new.self c.index_mut-agenda.result.now c.take_up.new.self at there.0 c.in_ok-take_up.ensures.agenda.machine
     c.in_ok-take_up.ensures.ok c.make_room.ensures.same c.in_ok-take_up.ensures.hand c.working.ensures b.log
     (λ no. here.3.anew (sym c.make_room.ensures.earlier ∙ no)) here.3.short c.in_ok-make_room.ensures.short here.1
     (ap (exact_if g.D.Disk.tells) c.make_room.ensures.earlier ∙ subst (λ (x : Driver g.row.D.Denot g.D.Disk). is_exact x ≡ true) (sym c.self.view_is) exact)
     in
-    let turn = λ (exact : is_exact c.args.self.now ≡ true). turned c.args.by c.in-Some.place _ c.act.new.shared c.make_room.new.self a0 c.take_up.new.self c.act.new.seat ready at there.0 there.1
-    c.in_ok-take_up.ensures.ok c.in_ok-take_up.ensures.seat c.take_up.ensures.lock c.make_room.ensures.same c.in_ok-act.ensures.ok b.log (texts exact) _ refl
+    let turn = λ (exact : is_exact c.args.self.now ≡ true). turned c.args.by c.in-Some.place _ c.act.new.shared c.make_room.new.self a0 c.take_up.new.self c.act.new.agenda ready at there.0 there.1
+    c.in_ok-take_up.ensures.ok c.in_ok-take_up.ensures.agenda c.take_up.ensures.lock c.make_room.ensures.same c.in_ok-act.ensures.ok b.log (texts exact) _ refl
     in
-    let grown = act-grows _ c.args.by c.take_up.new.self c.act.new.seat _ c.act.new.shared c.in_ok-act.ensures.ok in (
+    let grown = act-grows _ c.args.by c.take_up.new.self c.act.new.agenda _ c.act.new.shared c.in_ok-act.ensures.ok in (
       c.in_ok-act.ensures.held _ b.counts (log-kept _ ready c.make_room.new.self.events b c.make_room.ensures.same here),
-      turn-picture c.args.by c.in-Some.place _ c.args.self.now c.self.view_is c.make_room.new.self a0 c.take_up.new.self at there.0 c.in_ok-take_up.ensures.seat.machine
-          c.in_ok-take_up.ensures.ok c.make_room.ensures.same c.in_ok-take_up.ensures.hand c.working.ensures b.log c.act.new.seat _ c.act.new.shared.stations.items c.turned.ensures c.facts_told.ensures c.lasting.ensures
+      turn-picture c.args.by c.in-Some.place _ c.args.self.now c.self.view_is c.make_room.new.self a0 c.take_up.new.self at there.0 c.in_ok-take_up.ensures.agenda.machine
+          c.in_ok-take_up.ensures.ok c.make_room.ensures.same c.in_ok-take_up.ensures.hand c.working.ensures b.log c.act.new.agenda _ c.act.new.shared.servers.items c.turned.ensures c.facts_told.ensures c.lasting.ensures
           (λ told. turn (tells-exactly c.args.self.now told)) c.in_ok-act.ensures.pictured (grown.0, grown.1 ∙ ap (λ (k : List Event). grown.0 ++ k) c.make_room.ensures.same) met.1,
       (λ now. journal-goes-on _ _ refl (c.act.ensures.earlier ∙ c.make_room.ensures.earlier) c.act.ensures.store b c.make_room.new.self.events c.make_room.ensures.same here.2 now here.1 grown (c.told.ensures _) (c.untold.ensures _) c.args.by c.take_up.new.self.machine
-          (turn-lengths c.args.by c.in-Some.place _ c.args.self.now c.self.view_is c.make_room.new.self a0 c.take_up.new.self at there.0 c.in_ok-take_up.ensures.seat.machine
+          (turn-lengths c.args.by c.in-Some.place _ c.args.self.now c.self.view_is c.make_room.new.self a0 c.take_up.new.self at there.0 c.in_ok-take_up.ensures.agenda.machine
           c.in_ok-take_up.ensures.ok c.make_room.ensures.same c.in_ok-take_up.ensures.hand c.working.ensures b.log c.own_proper.ensures here.1)
           c.in_ok-act.ensures.kept),
       goes-after _ _ (c.act.ensures.earlier ∙ c.make_room.ensures.earlier) b here.3,
@@ -119,11 +119,11 @@ returns-in_err-act-clause-left g c = on-err c.from_residual-in_err-act.result (�
     let ready = subst (λ (x : Driver g.row.D.Denot g.D.Disk). IsDriver x) (sym c.self.view_is) c.requires.ready in
     let here = subst (λ (x : Driver g.row.D.Denot g.D.Disk). Holds x b) (sym c.self.view_is) met in
     let at = sym c.place.ensures ∙ c.in-Some.is in
-    let a0 = c.index_mut-seat.result.now in
-    let there = seat-there c.args.by c.in-Some.place a0 _ ready at c.index_mut-seat.ensures.value in
+    let a0 = c.index_mut-agenda.result.now in
+    let there = agenda-there c.args.by c.in-Some.place a0 _ ready at c.index_mut-agenda.ensures.value in
     let counted = c.in_err-act.ensures.left _ b.counts (log-kept _ ready c.make_room.new.self.events b c.make_room.ensures.same here) in
-    let ys = c.act.new.shared.stations.items in
-    let spares = turn-spares c.args.by c.in-Some.place _ c.args.self.now c.self.view_is c.make_room.new.self a0 c.take_up.new.self at there.0 c.in_ok-take_up.ensures.seat.machine
+    let ys = c.act.new.shared.servers.items in
+    let spares = turn-spares c.args.by c.in-Some.place _ c.args.self.now c.self.view_is c.make_room.new.self a0 c.take_up.new.self at there.0 c.in_ok-take_up.ensures.agenda.machine
     c.in_ok-take_up.ensures.ok c.make_room.ensures.same c.in_ok-take_up.ensures.hand c.working.ensures b.log ys c.in_err-act.ensures.spared
     in
     inr (

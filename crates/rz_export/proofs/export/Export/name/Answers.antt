@@ -10,7 +10,7 @@ use Rattle.rz_export.specs.declared.nodes.KeptNode.{KeptNode}
 use Rattle.rz_export.specs.Nodes.{enrolments_of}
 use Rattle.rz_export.specs.Kept.{export_of, AreCounted, IsKept}
 use Rattle.rz_export.specs.Calls.{placed_for}
-use Rattle.rz_export.proofs.Files.{IsStep, step}
+use Rattle.rz_export_model.proofs.Files.{IsStep, step}
 use Rattle.rz_export.proofs.TreeStates.{reply-placed, tree-placed, lay-there, kept-name}
 use Rattle.rz_export.proofs.export.Export.name.Goals as goal
 

@@ -1,6 +1,6 @@
 -- One entry more, or the end of all, or the first that is damaged.
 use Rattle.std.proofs.Common.{rules, ◌≡◌, false, true, sym, subst, arith}
-use Rattle.rz_journal.specs.declared.rebuilding.Stage.{Stage}
+use Rattle.rz_journal.specs.declared.rebuilding.ReopenProgress.{ReopenProgress}
 use Rattle.rz_journal.specs.Opening.{TellsEnd, IsAdded}
 use Rattle.rz_journal.proofs.Listings.{next_is}
 use Rattle.rz_journal.proofs.Openings.{GoSoFar, go_first, go_end, go_badly, go_damaged, go_stop, go_on}
@@ -10,7 +10,7 @@ pub loop-step-init : goal.loop-step-init
 loop-step-init c =
     let old = c.args.self.now in
     let volume = old.export.volume in
-    subst (λ (stage : Stage). GoSoFar volume c.args.half.now 0 0 stage old.export) (sym c.requires.empty) (go_first volume c.args.half.now old.export c.requires.some c.requires.new)
+    subst (λ (stage : ReopenProgress). GoSoFar volume c.args.half.now 0 0 stage old.export) (sym c.requires.empty) (go_first volume c.args.half.now old.export c.requires.some c.requires.new)
 
 pub returns-then-not-ends_well-clause-stopped : goal.returns-then-not-ends_well-clause-stopped
 returns-then-not-ends_well-clause-stopped c =

@@ -1,7 +1,7 @@
 -- The part is added where it may follow.
 use Rattle.std.proofs.Common.{rules, ◌≡◌, false, true, sym, subst}
 use Rattle.rz_journal_text.specs.declared.entry.Entry.TheVariants as entry
-use Rattle.rz_journal.specs.declared.rebuilding.Stage.{Stage}
+use Rattle.rz_journal.specs.declared.rebuilding.ReopenProgress.{ReopenProgress}
 use Rattle.rz_journal.specs.Opening.{TellsPart, IsAdded}
 use Rattle.rz_journal.proofs.Openings.{may_add, part_stops, part_added}
 use Rattle.rz_journal.proofs.rebuilding.Rebuilt.add_part.Goals as goal
@@ -24,5 +24,5 @@ returns c =
     let new = c.add_part.new.self in
     let yes : c.lets_follow.result ≡ true = search rules in
     let tells = subst (TellsPart old.stage old.export c.args.part.now) yes c.lets_follow.ensures in
-    subst (λ (later : Stage). IsAdded (entry.Built c.args.part.now) old.stage old.export true later new) (sym c.after_part-self.ensures)
+    subst (λ (later : ReopenProgress). IsAdded (entry.Built c.args.part.now) old.stage old.export true later new) (sym c.after_part-self.ensures)
     (part_added old.stage old.export new c.args.part.now tells c.in_ok-add_part.ensures.ok)

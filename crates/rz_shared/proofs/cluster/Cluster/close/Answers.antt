@@ -17,10 +17,10 @@ pub returns-clause-order : goal.returns-clause-order
 returns-clause-order g c = λ apart.
     let nodes = ap length c.as_slice.ensures.value in
     let count = c.arrange-all.ensures.count in
-    let all = c.unlock_all-seats.ensures.count in
-    let seats : vec_len c.arrange-all.new.seats ≡ length c.arrange-all.new.seats.items = c.arrange-all.new.seats.ok.0 in
+    let all = c.unlock_all-locked_nodes.ensures.count in
+    let locked_nodes : vec_len c.arrange-all.new.locked_nodes ≡ length c.arrange-all.new.locked_nodes.items = c.arrange-all.new.locked_nodes.ok.0 in
     let specs : vec_len c.self.inside.nodes ≡ length c.self.inside.nodes.items = c.self.inside.nodes.ok.0 in
     let locks = c.self.invariant.1 in
-    in-order g.D.Disk.meter g.D.Disk.image g.J.Naming.kind g.J.Counting.first c.as_slice.result.now c.empty_all-disks.result.0.items c.empty_all-disks.result.1.items c.arrange-all.new.seats.items c.arrange-all.result (c.as_slice.ensures.value ∙ c.self.invariant.0)
-    c.arrange-all.ensures.placed c.arrange-all.ensures.missing (omega (arith, nodes, count, all, seats, specs, locks)) c.empty_all-disks.ensures.words c.empty_all-disks.ensures.returned apart
+    in-order g.D.Disk.meter g.D.Disk.image g.J.Naming.kind g.J.Counting.first c.as_slice.result.now c.empty_all-disks.result.0.items c.empty_all-disks.result.1.items c.arrange-all.new.locked_nodes.items c.arrange-all.result (c.as_slice.ensures.value ∙ c.self.invariant.0)
+    c.arrange-all.ensures.placed c.arrange-all.ensures.missing (omega (arith, nodes, count, all, locked_nodes, specs, locks)) c.empty_all-disks.ensures.words c.empty_all-disks.ensures.returned apart
     ∙ ap (λ (v : Volume). map w.Node (sids_of v)) c.self.view_is

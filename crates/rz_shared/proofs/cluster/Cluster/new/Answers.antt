@@ -6,7 +6,7 @@ use Rattle.rz_events.specs.Volume.{Volume, IsNode, nodes_of}
 use Rattle.rz_events.specs.declared.files.NodeSpec.{NodeSpec}
 use Rattle.rz_chronicle.specs.Keys.{sids_of}
 use Rattle.rz_chronicle.specs.Kinds.{volume_in}
-use Rattle.rz_shared.proofs.NewSeats.{untouched, all-ready, made-length}
+use Rattle.rz_shared.proofs.NewLockedNodes.{untouched, all-ready, made-length}
 use Rattle.rz_shared.proofs.cluster.Cluster.new.Goals as goal
 
 pub returns-in_default-clause-back : goal.returns-in_default-clause-back
@@ -15,23 +15,23 @@ returns-in_default-clause-back g c = untouched g.D.Disk.tells g.D.Disk.meter g.D
 pub format_all-requires-clause-nodes : goal.format_all-requires-clause-nodes
 format_all-requires-clause-nodes g c = subst (AllByRecursion IsNode) (sym (c.as_slice.ensures.value ∙ c.in-Ok.ensures.nodes)) c.new_parts.ensures.proper
 
-pub seat_all-seats-requires-clause-ready : goal.seat_all-seats-requires-clause-ready
-seat_all-seats-requires-clause-ready g c =
-    all-ready g.D.Disk.tells g.D.Disk.meter g.D.Disk.image g.D.Disk.text g.J.Counting.first c.args.volume (volume_in g.J.Naming.kind) c.in-Ok.parts.layout c.as_slice.result.now c.args.disks.items c.in-Ok-format_all.stations.items c.args.desk.nodes.items
+pub locked_node_all-locked_nodes-requires-clause-ready : goal.locked_node_all-locked_nodes-requires-clause-ready
+locked_node_all-locked_nodes-requires-clause-ready g c =
+    all-ready g.D.Disk.tells g.D.Disk.meter g.D.Disk.image g.D.Disk.text g.J.Counting.first c.args.volume (volume_in g.J.Naming.kind) c.in-Ok.parts.layout c.as_slice.result.now c.args.disks.items c.in-Ok-format_all.servers.items c.args.desk.nodes.items
     c.requires.volume c.new_parts.ensures.rules c.in-Ok.ensures.layout (c.as_slice.ensures.value ∙ c.in-Ok.ensures.nodes) c.requires.count c.requires.counts c.in-Ok-format_all.ensures.made c.requires.nodes
 
-pub seat_all-seats-requires-clause-room : goal.seat_all-seats-requires-clause-room
-seat_all-seats-requires-clause-room g c =
-    let same = made-length g.D.Disk.tells g.D.Disk.meter g.D.Disk.image g.D.Disk.text c.in-Ok.parts.layout c.as_slice.result.now c.args.disks.items c.in-Ok-format_all.stations.items
+pub locked_node_all-locked_nodes-requires-clause-room : goal.locked_node_all-locked_nodes-requires-clause-room
+locked_node_all-locked_nodes-requires-clause-room g c =
+    let same = made-length g.D.Disk.tells g.D.Disk.meter g.D.Disk.image g.D.Disk.text c.in-Ok.parts.layout c.as_slice.result.now c.args.disks.items c.in-Ok-format_all.servers.items
     (c.requires.count ∙ ap length (sym (c.as_slice.ensures.value ∙ c.in-Ok.ensures.nodes))) c.in-Ok-format_all.ensures.made in
     let nodes = ap length c.as_slice.ensures.value in
-    let stations : vec_len c.in-Ok-format_all.stations ≡ length c.in-Ok-format_all.stations.items = c.in-Ok-format_all.stations.ok.0 in
+    let servers : vec_len c.in-Ok-format_all.servers ≡ length c.in-Ok-format_all.servers.items = c.in-Ok-format_all.servers.ok.0 in
     let parts : vec_len c.in-Ok.parts.nodes ≡ length c.in-Ok.parts.nodes.items = c.in-Ok.parts.nodes.ok.0 in
     let room = c.in-Ok.ensures.room.1 in
-    (c.in-Ok.ensures.room.0, omega (arith, same, nodes, stations, parts, room))
+    (c.in-Ok.ensures.room.0, omega (arith, same, nodes, servers, parts, room))
 
-pub of-requires-clause-seats : goal.of-requires-clause-seats
-of-requires-clause-seats g c =
+pub of-requires-clause-locked_nodes : goal.of-requires-clause-locked_nodes
+of-requires-clause-locked_nodes g c =
     let all = ap length c.in-Ok.ensures.nodes in
     let volume = ap (λ (v : Volume). length (nodes_of v.clusters)) c.requires.volume in
     let parts : vec_len c.in-Ok.parts.nodes ≡ length c.in-Ok.parts.nodes.items = c.in-Ok.parts.nodes.ok.0 in
@@ -40,36 +40,36 @@ of-requires-clause-seats g c =
 
 pub of-requires-clause-disks : goal.of-requires-clause-disks
 of-requires-clause-disks g c =
-    let same = made-length g.D.Disk.tells g.D.Disk.meter g.D.Disk.image g.D.Disk.text c.in-Ok.parts.layout c.as_slice.result.now c.args.disks.items c.in-Ok-format_all.stations.items
+    let same = made-length g.D.Disk.tells g.D.Disk.meter g.D.Disk.image g.D.Disk.text c.in-Ok.parts.layout c.as_slice.result.now c.args.disks.items c.in-Ok-format_all.servers.items
     (c.requires.count ∙ ap length (sym (c.as_slice.ensures.value ∙ c.in-Ok.ensures.nodes))) c.in-Ok-format_all.ensures.made in
     let nodes = ap length c.as_slice.ensures.value in
     let all = ap length c.in-Ok.ensures.nodes in
     let volume = ap (λ (v : Volume). length (nodes_of v.clusters)) c.requires.volume in
-    let stations : vec_len c.in-Ok-format_all.stations ≡ length c.in-Ok-format_all.stations.items = c.in-Ok-format_all.stations.ok.0 in
+    let servers : vec_len c.in-Ok-format_all.servers ≡ length c.in-Ok-format_all.servers.items = c.in-Ok-format_all.servers.ok.0 in
     let home = c.in-Ok-format_all.ensures.room in
-    (c.in-Ok-format_all.ensures.empty, omega (arith, same, nodes, all, volume, stations, home))
+    (c.in-Ok-format_all.ensures.empty, omega (arith, same, nodes, all, volume, servers, home))
 
-pub of-requires-clause-posts : goal.of-requires-clause-posts
-of-requires-clause-posts g c =
+pub of-requires-clause-word_tokens : goal.of-requires-clause-word_tokens
+of-requires-clause-word_tokens g c =
     let volume = ap (λ (v : Volume). length (nodes_of v.clusters)) c.requires.volume in
     let desk : vec_len c.args.desk.nodes ≡ length c.args.desk.nodes.items = c.args.desk.nodes.ok.0 in
     let fits = c.args.desk.nodes.ok.1 in
-    let posts = ap length c.requires.nodes ∙ (length-map _ _ ∙ length-map (nodes_of c.args.volume.clusters) (λ (n : NodeSpec). n.sid)) in
-    let kept = c.seat_all-seats.ensures.home in
-    (c.seat_all-seats.ensures.empty, omega (arith, volume, desk, fits, posts, kept))
+    let word_tokens = ap length c.requires.nodes ∙ (length-map _ _ ∙ length-map (nodes_of c.args.volume.clusters) (λ (n : NodeSpec). n.sid)) in
+    let kept = c.locked_node_all-locked_nodes.ensures.home in
+    (c.locked_node_all-locked_nodes.ensures.empty, omega (arith, volume, desk, fits, word_tokens, kept))
 
 pub invariant_of-result : goal.invariant_of-result
 invariant_of-result g c =
-    let same = made-length g.D.Disk.tells g.D.Disk.meter g.D.Disk.image g.D.Disk.text c.in-Ok.parts.layout c.as_slice.result.now c.args.disks.items c.in-Ok-format_all.stations.items
+    let same = made-length g.D.Disk.tells g.D.Disk.meter g.D.Disk.image g.D.Disk.text c.in-Ok.parts.layout c.as_slice.result.now c.args.disks.items c.in-Ok-format_all.servers.items
     (c.requires.count ∙ ap length (sym (c.as_slice.ensures.value ∙ c.in-Ok.ensures.nodes))) c.in-Ok-format_all.ensures.made in
     let nodes = ap length c.as_slice.ensures.value in
     let all = ap length c.in-Ok.ensures.nodes in
     let volume = ap (λ (v : Volume). length (nodes_of v.clusters)) c.requires.volume in
-    let stations : vec_len c.in-Ok-format_all.stations ≡ length c.in-Ok-format_all.stations.items = c.in-Ok-format_all.stations.ok.0 in
+    let servers : vec_len c.in-Ok-format_all.servers ≡ length c.in-Ok-format_all.servers.items = c.in-Ok-format_all.servers.ok.0 in
     let parts : vec_len c.in-Ok.parts.nodes ≡ length c.in-Ok.parts.nodes.items = c.in-Ok.parts.nodes.ok.0 in
-    let count = c.seat_all-seats.ensures.count in (
+    let count = c.locked_node_all-locked_nodes.ensures.count in (
       c.in-Ok.ensures.nodes ∙ ap (λ (v : Volume). nodes_of v.clusters) c.requires.volume,
-      omega (arith, count, same, nodes, stations, parts),
-      omega (arith, count, same, nodes, all, stations, volume),
+      omega (arith, count, same, nodes, servers, parts),
+      omega (arith, count, same, nodes, all, servers, volume),
       subst (λ (v : Volume). IsDistinct nat_eq (sids_of v)) c.requires.volume c.new_parts.ensures.rules.distinct_sids,
     )

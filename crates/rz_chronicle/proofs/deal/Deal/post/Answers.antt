@@ -1,7 +1,0 @@
-use Rattle.std.proofs.Common.{◌∙◌}
-use Rattle.rz_chronicle.proofs.Deals.{held-one}
-use Rattle.rz_chronicle.proofs.deal.Deal.post.Goals as goal
-
-pub returns-clause-rest : goal.returns-clause-rest
-returns-clause-rest g c =
-    λ k h apart. held-one k c.key_of.result c.args.self c.one-hand.result.1 c.one-hand.ensures.rest h (λ e. apart (e ∙ c.key_of.ensures.value))

@@ -1,0 +1,13 @@
+use Rattle.std.proofs.Common.{◌≢◌, ◌+◌, ◌<◌, ℕ}
+use Rattle.rz_events.specs.declared.keys.Actor.TheVariants.{Rebuilder}
+use Rattle.rz_events.specs.declared.events.Word.TheVariants.{Own}
+use Rattle.rz_chronicle.specs.Keys.{word_key, actor_key}
+use Rattle.rz_chronicle.specs.Tokens.{IsHolding}
+use Rattle.rz_chronicle.specs.Dealing.{ArePasses}
+use Rattle.rz_chronicle.proofs.dealer.rebuilders.Given as goal
+
+-- the passes so far are dealt out, and no other tally is
+abbrev pub invariant-loop-i : goal.invariant-loop-i
+invariant-loop-i g l = ArePasses l.i (λ i. Rebuilder (i + 1)) l.rebuilders.items
+    × ((c : ℕ) → l.i < c → c < 17 → IsHolding (word_key (Own (Rebuilder c))) l.dealer × IsHolding (actor_key (Rebuilder c)) l.dealer)
+    × ((k : ℕ) → IsHolding k l.fn.dealer → ((c : ℕ) → k ≢ word_key (Own (Rebuilder c))) → ((c : ℕ) → k ≢ actor_key (Rebuilder c)) → IsHolding k l.dealer)

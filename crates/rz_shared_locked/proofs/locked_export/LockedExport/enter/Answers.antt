@@ -1,0 +1,29 @@
+use Rattle.std.proofs.Common.{◌≡◌, ◌∙◌, List, refl, sym, subst, inl}
+use Rattle.rz_events.specs.declared.events.Word.{Word}
+use Rattle.rz_events.specs.declared.events.Word.TheVariants as w
+use Rattle.rz_events.specs.declared.events.Event.{Event}
+use Rattle.rz_core.specs.History.{facts, of_word}
+use Rattle.rz_core.specs.Tied.{IsExport}
+use Rattle.rz_chronicle.specs.Keys.{events_at, word_key}
+use Rattle.rz_chronicle.specs.Kinds.{volume_in}
+use Rattle.rz_shared_locked.specs.LockedExports.{AreBytes}
+use Rattle.rz_shared_locked.proofs.Texts.{bytes-same}
+use Rattle.rz_shared_locked.proofs.locked_export.LockedExport.enter.Goals as goal
+
+pub invariant_of-self : goal.invariant_of-self
+invariant_of-self g c =
+    let v = volume_in g.J.Naming.kind in
+    let s = c.self.inside.export in
+    let inv = c.self.invariant in
+    let old = c.self.inside.word_token.log in
+    let new = c.enter.new.pass.log in
+    let same : events_at (word_key w.Export) new ≡ events_at (word_key w.Export) old =
+    subst (λ (u : Word). events_at (word_key u) new ≡ events_at (word_key u) old) inv.0 (c.enter.ensures.serves (word_key c.self.inside.word_token.word) (inl refl)) in (
+      c.enter.ensures.same.2 ∙ inv.0,
+      inv.1,
+      (
+          λ honest. subst (λ (l : List Event). IsExport v (facts l) (of_word w.Export l) s) (sym c.enter.ensures.one)
+          (c.locked_export_kept.ensures v old new s (c.room-fit.ensures.fit honest) c.enter.ensures.later.1 same (inv.2 honest))
+          ),
+      subst AreBytes (sym c.enter.ensures.one) (bytes-same old new same inv.3),
+    )

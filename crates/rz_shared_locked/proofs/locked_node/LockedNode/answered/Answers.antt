@@ -1,0 +1,214 @@
+use Rattle.std.proofs.Common.{◌≡◌, ◌+◌, ◌<◌, ◌^◌, ℕ, IsTrue, IfSome, List, ◌∷◌, Option, refl, sym, ap, ◌∙◌, subst}
+use Rattle.std.specs.Prelude.{drop}
+use Rattle.mj_angles.specs.Layout.{max_bins_of}
+use Rattle.rz_events.specs.declared.keys.Actor.{Actor}
+use Rattle.rz_events.specs.declared.events.Word.{Word}
+use Rattle.rz_events.specs.declared.events.Word.TheVariants as w
+use Rattle.rz_events.specs.declared.events.Event.{Event}
+use Rattle.rz_events.specs.Events.{by_of, word_of}
+use Rattle.rz_cells_slots.specs.declared.geometry.Geometry.{Geometry}
+use Rattle.rz_node_model.specs.Answers.{IsNodeAnswer}
+use Rattle.rz_node_model.specs.NodeEvents.{node_event}
+use Rattle.rz_core.specs.History.{facts, of_word}
+use Rattle.rz_play.specs.Faults.{fuse_of}
+use Rattle.rz_play.specs.Lines.{noted}
+use Rattle.rz_chronicle.specs.Keys.{count_at, word_key}
+use Rattle.rz_chronicle.specs.Kinds.{MayCome, is_honest, volume_in}
+use Rattle.rz_shared_locked.specs.Adding.{Adds}
+use Rattle.rz_shared_locked.specs.Counts.{GoesWith}
+use Rattle.rz_shared_locked.specs.Picks.{pick_of}
+use Rattle.rz_shared_locked.specs.LockedNodes.{LockedNodeView, IsLogged, MayAsk, Answered, IsRead}
+use Rattle.rz_shared_locked.proofs.Picks.{call-picks}
+use Rattle.rz_shared_locked.proofs.LockedNodes.{Served, its-event, may-come, logged-after, answered, later-adds, word-after}
+use Rattle.rz_shared_locked.proofs.locked_node.LockedNode.answered.Goals as goal
+
+pub add-requires-clause-its : goal.add-requires-clause-its
+add-requires-clause-its g c =
+    let kind = g.J.Naming.kind in
+    let v = volume_in kind in
+    let image = g.D.Disk.image in
+    let n = c.self.inside.sid in
+    let q = c.args.ask.now in
+    let given = c.serve-answer.result in
+    let by = c.args.pass.now.actor in
+    let h = c.args.pass.now.log in
+    let was = c.self.inside.node in
+    let inv = c.self.invariant in
+    let node : n ≡ c.args.self.now.node = ap (λ (x : LockedNodeView). x.node) c.self.view_is in
+    let log : c.self.inside.word_token.log ≡ h = ap (λ (x : LockedNodeView). x.log) c.self.view_is ∙ c.requires.one in
+    let logged : IsTrue (is_honest kind) → IsLogged image v h n was = λ honest. subst (λ (l : List Event). IsLogged image v l n was) log (inv.3 honest).1 in
+    let it : Served kind h by n q given was.state = record {
+      of_volume = inv.1;
+      asker = c.requires.actor;
+      fit = c.actor-by.ensures.fit;
+      tied = λ honest. (logged honest).tied;
+      room = subst (λ (m : ℕ). count_at (word_key (w.Node m)) h + 1 < 2 ^ 64) (sym node)
+          (subst (λ (l : List Event). count_at (word_key (w.Node c.args.self.now.node)) l + 1 < 2 ^ 64) c.requires.one c.requires.room);
+      right = subst (λ (k : Geometry). IsNodeAnswer k.cells was.state q given) inv.2 c.serve-answer.ensures.answer;
+      opening = λ honest. c.serve-answer.ensures.opening (inv.3 honest).0;
+    } in
+    let may : IsTrue (is_honest kind) → MayAsk v h by n q c.args.bins.now = λ honest. subst (λ (m : ℕ). MayAsk v h by m q c.args.bins.now) (sym node) (c.requires.may honest) in
+    let event : c.node_event-event.result ≡ node_event by n q given = c.node_event-event.ensures ∙ ap (λ (a : Actor). node_event a n q given) c.actor-by.ensures.value in
+    subst (λ (o : Option Event). IfSome o (λ x. (word_of x ≡ c.self.inside.word_token.word) × (by_of x ≡ by))) (sym event)
+    (subst (λ (u : Word). IfSome (node_event by n q given) (λ x. (word_of x ≡ u) × (by_of x ≡ by))) (sym inv.0)
+    (its-event kind h by n q given was.state c.args.bins.now (c.answers.ensures v) it may))
+
+pub add-requires-clause-legal : goal.add-requires-clause-legal
+add-requires-clause-legal g c =
+    let kind = g.J.Naming.kind in
+    let v = volume_in kind in
+    let image = g.D.Disk.image in
+    let n = c.self.inside.sid in
+    let q = c.args.ask.now in
+    let given = c.serve-answer.result in
+    let by = c.args.pass.now.actor in
+    let h = c.args.pass.now.log in
+    let was = c.self.inside.node in
+    let inv = c.self.invariant in
+    let node : n ≡ c.args.self.now.node = ap (λ (x : LockedNodeView). x.node) c.self.view_is in
+    let log : c.self.inside.word_token.log ≡ h = ap (λ (x : LockedNodeView). x.log) c.self.view_is ∙ c.requires.one in
+    let logged : IsTrue (is_honest kind) → IsLogged image v h n was = λ honest. subst (λ (l : List Event). IsLogged image v l n was) log (inv.3 honest).1 in
+    let it : Served kind h by n q given was.state = record {
+      of_volume = inv.1;
+      asker = c.requires.actor;
+      fit = c.actor-by.ensures.fit;
+      tied = λ honest. (logged honest).tied;
+      room = subst (λ (m : ℕ). count_at (word_key (w.Node m)) h + 1 < 2 ^ 64) (sym node)
+          (subst (λ (l : List Event). count_at (word_key (w.Node c.args.self.now.node)) l + 1 < 2 ^ 64) c.requires.one c.requires.room);
+      right = subst (λ (k : Geometry). IsNodeAnswer k.cells was.state q given) inv.2 c.serve-answer.ensures.answer;
+      opening = λ honest. c.serve-answer.ensures.opening (inv.3 honest).0;
+    } in
+    let may : IsTrue (is_honest kind) → MayAsk v h by n q c.args.bins.now = λ honest. subst (λ (m : ℕ). MayAsk v h by m q c.args.bins.now) (sym node) (c.requires.may honest) in
+    let event : c.node_event-event.result ≡ node_event by n q given = c.node_event-event.ensures ∙ ap (λ (a : Actor). node_event a n q given) c.actor-by.ensures.value in
+    subst (λ (o : Option Event). IfSome o (λ x. MayCome kind h x)) (sym event)
+    (may-come kind h by n q given was.state c.args.bins.now (c.answers.ensures v) it may)
+
+pub invariant_of-self : goal.invariant_of-self
+invariant_of-self g c =
+    let kind = g.J.Naming.kind in
+    let v = volume_in kind in
+    let image = g.D.Disk.image in
+    let n = c.self.inside.sid in
+    let q = c.args.ask.now in
+    let given = c.serve-answer.result in
+    let by = c.args.pass.now.actor in
+    let h = c.args.pass.now.log in
+    let was = c.self.inside.node in
+    let inv = c.self.invariant in
+    let node : n ≡ c.args.self.now.node = ap (λ (x : LockedNodeView). x.node) c.self.view_is in
+    let log : c.self.inside.word_token.log ≡ h = ap (λ (x : LockedNodeView). x.log) c.self.view_is ∙ c.requires.one in
+    let logged : IsTrue (is_honest kind) → IsLogged image v h n was = λ honest. subst (λ (l : List Event). IsLogged image v l n was) log (inv.3 honest).1 in
+    let it : Served kind h by n q given was.state = record {
+      of_volume = inv.1;
+      asker = c.requires.actor;
+      fit = c.actor-by.ensures.fit;
+      tied = λ honest. (logged honest).tied;
+      room = subst (λ (m : ℕ). count_at (word_key (w.Node m)) h + 1 < 2 ^ 64) (sym node)
+          (subst (λ (l : List Event). count_at (word_key (w.Node c.args.self.now.node)) l + 1 < 2 ^ 64) c.requires.one c.requires.room);
+      right = subst (λ (k : Geometry). IsNodeAnswer k.cells was.state q given) inv.2 c.serve-answer.ensures.answer;
+      opening = λ honest. c.serve-answer.ensures.opening (inv.3 honest).0;
+    } in
+    let may : IsTrue (is_honest kind) → MayAsk v h by n q c.args.bins.now = λ honest. subst (λ (m : ℕ). MayAsk v h by m q c.args.bins.now) (sym node) (c.requires.may honest) in
+    let event : c.node_event-event.result ≡ node_event by n q given = c.node_event-event.ensures ∙ ap (λ (a : Actor). node_event a n q given) c.actor-by.ensures.value in
+    let new = c.add.new.pass.log in
+    let after = c.serve-answer.new.node in
+    let ks = c.args.pass.now.keys in
+    let adds : Adds (word_key (w.Node n) ∷ ks) h (node_event by n q given) new =
+    subst (λ (u : Word). Adds (word_key u ∷ ks) h (node_event by n q given) new) inv.0
+    (subst (λ (o : Option Event). Adds (word_key c.self.inside.word_token.word ∷ ks) h o new) event c.add.ensures.adds) in
+    let own = its-event kind h by n q given was.state c.args.bins.now (c.answers.ensures v) it may in
+    let word : of_word (w.Node n) c.add.new.word_token.log ≡ noted (node_event by n q given) (of_word (w.Node n) c.self.inside.word_token.log) =
+    ap (of_word (w.Node n)) c.add.ensures.one ∙ word-after c.words_kept.ensures by n ks c.self.inside.word_token.log h new (node_event by n q given) log adds own in (
+      c.add.ensures.same.2 ∙ inv.0,
+      inv.1,
+      c.serve-answer.ensures.geometry ∙ inv.2,
+      λ honest. (
+        (inv.3 honest).0,
+        subst (λ (l : List Event). IsLogged image v l n after) (sym c.add.ensures.one)
+            (logged-after kind h by n q given was.state c.args.bins.now (c.answers.ensures v) it may image (c.locked_node_kept.ensures v) c.longer.ensures was after refl logged ks new adds c.actor-by.ensures.own c.add.ensures.fit
+            (λ honest. c.serve-answer.ensures.after (inv.3 honest).0)
+            (λ honest. c.serve-answer.ensures.imaged (inv.3 honest).0 v (facts h) n (may honest).hands (logged honest).imaged) honest),
+      ),
+      inv.4,
+      c.left_with-self-inside.ensures (of_word (w.Node n) c.self.inside.word_token.log) inv.5 ∙ ap (λ (o : Option Event). fuse_of (noted o (of_word (w.Node n) c.self.inside.word_token.log))) event ∙ ap fuse_of (sym word),
+      subst (λ (u : List Event). GoesWith g.D.Disk.meter (g.J.Counting.first n) u after) (sym word)
+          (c.serve-answer.ensures.counts (g.J.Counting.first n) n (of_word (w.Node n) c.self.inside.word_token.log) by inv.5 inv.6),
+      inv.7 ∙ sym (call-picks by n q given (of_word (w.Node n) c.self.inside.word_token.log)) ∙ ap pick_of (sym word),
+    )
+
+pub returns-clause-answered : goal.returns-clause-answered
+returns-clause-answered g c =
+    let kind = g.J.Naming.kind in
+    let v = volume_in kind in
+    let image = g.D.Disk.image in
+    let n = c.self.inside.sid in
+    let q = c.args.ask.now in
+    let given = c.serve-answer.result in
+    let by = c.args.pass.now.actor in
+    let h = c.args.pass.now.log in
+    let was = c.self.inside.node in
+    let inv = c.self.invariant in
+    let node : n ≡ c.args.self.now.node = ap (λ (x : LockedNodeView). x.node) c.self.view_is in
+    let log : c.self.inside.word_token.log ≡ h = ap (λ (x : LockedNodeView). x.log) c.self.view_is ∙ c.requires.one in
+    let logged : IsTrue (is_honest kind) → IsLogged image v h n was = λ honest. subst (λ (l : List Event). IsLogged image v l n was) log (inv.3 honest).1 in
+    let it : Served kind h by n q given was.state = record {
+      of_volume = inv.1;
+      asker = c.requires.actor;
+      fit = c.actor-by.ensures.fit;
+      tied = λ honest. (logged honest).tied;
+      room = subst (λ (m : ℕ). count_at (word_key (w.Node m)) h + 1 < 2 ^ 64) (sym node)
+          (subst (λ (l : List Event). count_at (word_key (w.Node c.args.self.now.node)) l + 1 < 2 ^ 64) c.requires.one c.requires.room);
+      right = subst (λ (k : Geometry). IsNodeAnswer k.cells was.state q given) inv.2 c.serve-answer.ensures.answer;
+      opening = λ honest. c.serve-answer.ensures.opening (inv.3 honest).0;
+    } in
+    let may : IsTrue (is_honest kind) → MayAsk v h by n q c.args.bins.now = λ honest. subst (λ (m : ℕ). MayAsk v h by m q c.args.bins.now) (sym node) (c.requires.may honest) in
+    let event : c.node_event-event.result ≡ node_event by n q given = c.node_event-event.ensures ∙ ap (λ (a : Actor). node_event a n q given) c.actor-by.ensures.value in
+    let new = c.add.new.pass.log in
+    let after = c.serve-answer.new.node in
+    let ks = c.args.pass.now.keys in
+    let adds : Adds (word_key (w.Node n) ∷ ks) h (node_event by n q given) new =
+    subst (λ (u : Word). Adds (word_key u ∷ ks) h (node_event by n q given) new) inv.0
+    (subst (λ (o : Option Event). Adds (word_key c.self.inside.word_token.word ∷ ks) h o new) event c.add.ensures.adds) in
+    subst (λ (m : ℕ). Answered kind m q given (node_event by m q given) ks h new) node
+    (answered kind h by n q given was.state c.args.bins.now (c.answers.ensures v) it may image (c.locked_node_kept.ensures v) c.longer.ensures was after refl logged ks new adds c.actor-by.ensures.own c.add.ensures.fit)
+
+pub returns-clause-read : goal.returns-clause-read
+returns-clause-read g c =
+    let kind = g.J.Naming.kind in
+    let v = volume_in kind in
+    let image = g.D.Disk.image in
+    let n = c.self.inside.sid in
+    let q = c.args.ask.now in
+    let given = c.serve-answer.result in
+    let by = c.args.pass.now.actor in
+    let h = c.args.pass.now.log in
+    let was = c.self.inside.node in
+    let inv = c.self.invariant in
+    let node : n ≡ c.args.self.now.node = ap (λ (x : LockedNodeView). x.node) c.self.view_is in
+    let log : c.self.inside.word_token.log ≡ h = ap (λ (x : LockedNodeView). x.log) c.self.view_is ∙ c.requires.one in
+    let logged : IsTrue (is_honest kind) → IsLogged image v h n was = λ honest. subst (λ (l : List Event). IsLogged image v l n was) log (inv.3 honest).1 in
+    let it : Served kind h by n q given was.state = record {
+      of_volume = inv.1;
+      asker = c.requires.actor;
+      fit = c.actor-by.ensures.fit;
+      tied = λ honest. (logged honest).tied;
+      room = subst (λ (m : ℕ). count_at (word_key (w.Node m)) h + 1 < 2 ^ 64) (sym node)
+          (subst (λ (l : List Event). count_at (word_key (w.Node c.args.self.now.node)) l + 1 < 2 ^ 64) c.requires.one c.requires.room);
+      right = subst (λ (k : Geometry). IsNodeAnswer k.cells was.state q given) inv.2 c.serve-answer.ensures.answer;
+      opening = λ honest. c.serve-answer.ensures.opening (inv.3 honest).0;
+    } in
+    let may : IsTrue (is_honest kind) → MayAsk v h by n q c.args.bins.now = λ honest. subst (λ (m : ℕ). MayAsk v h by m q c.args.bins.now) (sym node) (c.requires.may honest) in
+    let event : c.node_event-event.result ≡ node_event by n q given = c.node_event-event.ensures ∙ ap (λ (a : Actor). node_event a n q given) c.actor-by.ensures.value in
+    let new = c.add.new.pass.log in
+    let after = c.serve-answer.new.node in
+    let ks = c.args.pass.now.keys in
+    let adds : Adds (word_key (w.Node n) ∷ ks) h (node_event by n q given) new =
+    subst (λ (u : Word). Adds (word_key u ∷ ks) h (node_event by n q given) new) inv.0
+    (subst (λ (o : Option Event). Adds (word_key c.self.inside.word_token.word ∷ ks) h o new) event c.add.ensures.adds) in
+    λ honest. subst (λ (m : ℕ). IsRead v (facts new) m q given c.args.bins.now c.serve-answer.new.bins) node
+    (c.read_kept.ensures v h new n q given c.args.bins.now c.serve-answer.new.bins (later-adds (word_key (w.Node n) ∷ ks) h (node_event by n q given) new adds)
+    (c.serve-answer.ensures.read (inv.3 honest).0 v (facts h) n (logged honest).imaged))
+
+pub returns-clause-rest : goal.returns-clause-rest
+returns-clause-rest g c =
+    subst (λ (k : Geometry). drop (max_bins_of k.layout) c.serve-answer.new.bins ≡ drop (max_bins_of k.layout) c.args.bins.now) c.self.invariant.2 c.serve-answer.ensures.rest

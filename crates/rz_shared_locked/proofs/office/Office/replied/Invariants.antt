@@ -1,5 +1,0 @@
-use Rattle.rz_shared_locked.proofs.office.Office.replied.Given as goal
-
--- the call is that of the pass's actor
-abbrev pub ghosts-add_reply : goal.ghosts-add_reply
-ghosts-add_reply g a = record { by = a.by; call = a.call.now }

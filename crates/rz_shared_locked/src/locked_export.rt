@@ -1,0 +1,200 @@
+//! The export under its lock.
+ghost use Rattle.std.specs.Prelude.{◌≡◌, ◌+◌, ◌<◌, ◌^◌, [], ◌∷◌, IsTrue};
+ghost use Rattle.std.specs.List.{All};
+ghost use Rattle.rz_events.specs.declared.keys.Actor.{Actor as AnActor};
+ghost use Rattle.rz_events.specs.declared.export.Call.{Call as ACall};
+ghost use Rattle.rz_events.specs.declared.events.Word.TheVariants as w;
+ghost use Rattle.rz_events.specs.Events.{word_of, by_of};
+ghost use Rattle.rz_export_model.specs.Export.{new_export};
+ghost use Rattle.rz_export_model.specs.ExportEvents.{export_event};
+ghost use Rattle.rz_core.specs.History.{facts, of_actor};
+ghost use Rattle.rz_core.specs.Tied.{IsProperCall};
+ghost use Rattle.rz_chronicle.specs.Keys.{count_at, word_key, IsLater};
+ghost use Rattle.rz_chronicle.specs.Kinds.{IsFit, MayCome, is_honest, volume_in};
+ghost use Rattle.rz_chronicle.specs.Holds.{Commits, Stays};
+ghost use Rattle.rz_chronicle.specs.Dealing.{new_word_token};
+ghost use Rattle.rz_shared_locked.specs.LockedExports.{AreBytes, HasBytes, Replied, event_given};
+
+use crate::waiting::without_reply;
+use rz_chronicle::{Asks, Book, Pass, WordToken};
+use rz_events::{Actor, Call, Reply};
+use rz_export::Export;
+use std::marker::{Brand, Model, PhantomData};
+use std::sync::Wait;
+
+/// The export under its lock, with the tally of its word.
+#[derive(Drop)]
+pub struct LockedExport<J: Counting> {
+    export: Export,
+    word_token: WordToken<J>,
+}
+
+impl<J: Counting> Model for LockedExport<J> {
+    ghost use Rattle.std.specs.Prelude.{◌≡◌, List, IsTrue};
+    ghost use Rattle.rz_events.specs.declared.events.Event.{Event as AnEvent};
+    ghost use Rattle.rz_events.specs.declared.events.Word.TheVariants as w;
+    ghost use Rattle.rz_core.specs.History.{facts, of_word};
+    ghost use Rattle.rz_core.specs.Tied.{IsExport};
+    ghost use Rattle.rz_chronicle.specs.Kinds.{is_honest, volume_in};
+    ghost use Rattle.rz_shared_locked.specs.LockedExports.{AreBytes};
+
+    ghost Value = { List AnEvent };
+
+    ghost view = { λ o. o.word_token.log };
+
+    ghost invariant = { λ o. (o.word_token.word ≡ w.Export) × (o.export.volume ≡ volume_in J.kind)
+        × (IsTrue (is_honest J.kind) → IsExport (volume_in J.kind) (facts o.word_token.log) (of_word w.Export o.word_token.log) o.export)
+        × AreBytes o.word_token.log };
+}
+
+/// An actor and its call, of which a reply is.
+trait Asking {
+    ghost by: { AnActor };
+
+    ghost call: { ACall };
+}
+
+impl Asking for Brand {
+    ghost use Rattle.rz_events.specs.declared.keys.Actor.TheVariants as a;
+    ghost use Rattle.rz_events.specs.declared.export.Call.TheVariants as c;
+    ghost use Rattle.std.specs.Prelude.{None};
+
+    ghost by = { a.Admin };
+
+    ghost call = { c.Next 0 None };
+}
+
+/// A reply stands for its event, so that no event is made and no text copied.
+struct Given<C: Asking> {
+    of: PhantomData<C>,
+}
+
+impl<C: Asking> Asks<Reply> for Given<C> {
+    ghost event = { λ r. event_given C.by C.call r };
+}
+
+impl<J: Counting> LockedExport<J> {
+    /// The locked_export of a new export, whose word has no event yet.
+    pub fn new(export: Export, word_token: WordToken<J>) -> LockedExport<J>
+        requires word_token { word_token ≡ new_word_token w.Export }
+        requires export { export ≡ new_export (volume_in J.kind) 0 }
+        ensures { result ≡ [] }
+    {
+        rz_log_laws::beginning();
+        LockedExport { export, word_token }
+    }
+
+    /// The tally of the export's word.
+    pub fn close(self) -> WordToken<J>
+        ensures { result ≡ record { word = w.Export; log = self } }
+    {
+        let LockedExport { export, word_token } = self;
+        drop(export);
+        word_token
+    }
+
+    /// Calls the export, and adds the event of its reply to the log. It does not return where the export
+    /// does not take the call, which it does over an honest book, or where its word cannot move.
+    pub fn call<R: Wait>(
+        &mut self,
+        rt: &R,
+        book: &Book<J>,
+        pass: &mut Pass<J>,
+        call: &Call,
+    ) -> Reply
+        requires actor { ¬ (pass.old.actor ≡ Actor.Admin) }
+        requires may { IsTrue (is_honest J.kind) → IsProperCall (volume_in J.kind) (facts pass.old.log) (of_actor pass.old.actor pass.old.log) pass.old.actor call.now }
+        ensures same { (pass.new.actor ≡ pass.old.actor) × (pass.new.keys ≡ pass.old.keys) }
+        ensures replied { Replied J.kind call.now result (export_event pass.old.actor call.now result) pass.old.keys pass.old.log pass.new.log }
+        ensures bytes { AreBytes pass.new.log }
+        ensures fit { IsFit J.kind pass.new.log }
+    {
+        crate::laws::caller_kept();
+        let _by = pass.actor();
+        if !self.enter(book, pass) {
+            return without_reply(rt);
+        }
+        self.replied(rt, book, pass, call)
+    }
+
+    // Lets the pass and the locked_export see one log. It answers whether the export's word can move.
+    fn enter(&mut self, book: &Book<J>, pass: &mut Pass<J>) -> bool
+        ensures same { (pass.new.actor ≡ pass.old.actor) × (pass.new.keys ≡ pass.old.keys) }
+        ensures one { self.new ≡ pass.new.log }
+        ensures later { IsLater pass.old.log pass.new.log }
+        ensures stays { Stays pass.old.keys pass.old.log pass.new.log }
+        ensures room { IsTrue result → count_at (word_key w.Export) self.new + 1 < 2 ^ 64 }
+        ensures enters { count_at (word_key w.Export) self.new + 1 < 2 ^ 64 → IsTrue result }
+    {
+        crate::laws::locked_export_kept();
+        let _fit = self.word_token.room();
+        book.enter(pass, &mut self.word_token);
+        self.word_token.room()
+    }
+
+    // The call where its pass and the locked_export have entered, and the word can move.
+    fn replied<R: Wait>(&mut self, rt: &R, book: &Book<J>, pass: &mut Pass<J>, call: &Call) -> Reply
+        requires one { self.old ≡ pass.old.log }
+        requires room { count_at (word_key w.Export) self.old + 1 < 2 ^ 64 }
+        requires may { IsTrue (is_honest J.kind) → IsProperCall (volume_in J.kind) (facts pass.old.log) (of_actor pass.old.actor pass.old.log) pass.old.actor call.now }
+        ensures same { (pass.new.actor ≡ pass.old.actor) × (pass.new.keys ≡ pass.old.keys) }
+        ensures replied { Replied J.kind call.now result (export_event pass.old.actor call.now result) pass.old.keys pass.old.log pass.new.log }
+        ensures bytes { AreBytes pass.new.log }
+        ensures fit { IsFit J.kind pass.new.log }
+    {
+        crate::laws::locked_export_kept();
+        crate::laws::replies();
+        let by = pass.actor();
+        look_into(call);
+        if !self.export.takes(call) {
+            return without_reply(rt);
+        }
+        let reply = self.export.answer(call);
+        if matches!(reply, Reply::NoMemory) {
+            return reply;
+        }
+        add_reply::<J, Brand>(book, pass, &mut self.word_token, by, call, &reply);
+        reply
+    }
+}
+
+/// The text of a write that begins is one of bytes, as each text is.
+fn look_into(call: &Call)
+    ensures { HasBytes call.now }
+{
+    if let Call::Begin { text, .. } = call {
+        are_bytes(text.bytes());
+    }
+}
+
+fn are_bytes(text: &[u8])
+    ensures { All (λ x. x < 256) text.now }
+{
+    let _count = text.len();
+}
+
+/// Adds the event of a reply that has one. The pass and the word_token have entered.
+fn add_reply<J: Counting, C: Asking>(
+    book: &Book<J>,
+    pass: &mut Pass<J>,
+    word_token: &mut WordToken<J>,
+    by: Actor,
+    call: &Call,
+    reply: &Reply,
+)
+    requires of { (by ≡ C.by) × (call.now ≡ C.call) }
+    requires one { word_token.old.log ≡ pass.old.log }
+    requires its { (word_of (event_given by call.now reply.now) ≡ word_token.old.word) × (by_of (event_given by call.now reply.now) ≡ pass.old.actor) }
+    requires legal { MayCome J.kind pass.old.log (event_given by call.now reply.now) }
+    requires room { count_at (word_key word_token.old.word) word_token.old.log + 1 < 2 ^ 64 }
+    ensures same { (pass.new.actor ≡ pass.old.actor) × (pass.new.keys ≡ pass.old.keys) × (word_token.new.word ≡ word_token.old.word) }
+    ensures one { word_token.new.log ≡ pass.new.log }
+    ensures commits { Commits (word_key word_token.old.word ∷ pass.old.keys) pass.old.log (event_given by call.now reply.now) pass.new.log }
+    ensures fit { IsFit J.kind pass.new.log }
+{
+    let _ = by;
+    let _ = call;
+    rz_chronicle::begins_anew();
+    let _by = pass.actor();
+    book.commit::<Reply, Given<C>>(pass, word_token, reply);
+}

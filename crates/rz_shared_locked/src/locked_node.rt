@@ -1,0 +1,273 @@
+//! A node under its lock.
+ghost use Rattle.std.specs.Prelude.{◌≡◌, ◌+◌, ◌<◌, ◌≤◌, ◌^◌, [], IsTrue, Some, None, drop};
+ghost use Rattle.mj_angles.specs.Layout.{max_bins_of};
+ghost use Rattle.rz_events.specs.declared.events.Word.TheVariants as w;
+ghost use Rattle.rz_events.specs.declared.events.Event.TheVariants as e;
+ghost use Rattle.rz_disk.specs.Images.{Only};
+ghost use Rattle.rz_cells_slots.specs.Held.{nothing};
+ghost use Rattle.rz_cells_slots.specs.Stands.{StandsFor};
+ghost use Rattle.rz_node_model.specs.States.{fresh};
+ghost use Rattle.rz_node_model.specs.NodeEvents as model;
+ghost use Rattle.rz_node.specs.Calls.{Takes, IsUnread};
+ghost use Rattle.rz_core.specs.History.{facts, of_word};
+ghost use Rattle.rz_core.specs.NodeRows.{IsNodeOf};
+ghost use Rattle.rz_node_laws.specs.Images.{geometry_in};
+ghost use Rattle.rz_chronicle.specs.Keys.{count_at, word_key, IsLater};
+ghost use Rattle.rz_chronicle.specs.Kinds.{IsFit, is_honest, volume_in};
+ghost use Rattle.rz_chronicle.specs.Holds.{Commits, Stays};
+ghost use Rattle.rz_chronicle.specs.Dealing.{new_word_token};
+ghost use Rattle.rz_shared_locked.specs.Counts.{AreCountedSince};
+ghost use Rattle.rz_shared_locked.specs.LockedNodes.{MayAsk, IsFor, Answered, AreImagesFrom, IsRead};
+
+use crate::adding::add;
+use crate::counting::{Counting, left_with};
+use crate::serving::serve;
+use crate::waiting::{stalled, unanswered};
+use rz_chronicle::{Book, Pass, WordToken};
+use rz_disk::Disk;
+use rz_events::{Actor, Event, NodeAnswer, NodeAsk};
+use rz_node::{Node, node_event};
+use std::alloc::Global;
+use std::marker::Model;
+use std::sync::Wait;
+
+/// A node under its lock, with the tally of its word.
+#[derive(Drop)]
+pub struct LockedNode<D: Disk, J: Counting> {
+    alloc: Global,
+    sid: u16,
+    node: Node<D>,
+    /// How the next crash of the disk picks.
+    pick: u64,
+    /// The passes that the node's events leave its fuse, where it is armed.
+    left: Option<u64>,
+    word_token: WordToken<J>,
+}
+
+impl<D: Disk, J: Counting> Model for LockedNode<D, J> {
+    ghost use Rattle.std.specs.Prelude.{◌≡◌, IsTrue};
+    ghost use Rattle.rz_events.specs.declared.events.Word.TheVariants as w;
+    ghost use Rattle.rz_core.specs.History.{of_word};
+    ghost use Rattle.rz_core.specs.NodeRows.{IsNodeOf};
+    ghost use Rattle.rz_play.specs.Faults.{fuse_of};
+    ghost use Rattle.rz_chronicle.specs.Kinds.{is_honest, volume_in};
+    ghost use Rattle.rz_node_laws.specs.Images.{geometry_in};
+    ghost use Rattle.rz_shared_locked.specs.Counts.{GoesWith};
+    ghost use Rattle.rz_shared_locked.specs.Picks.{pick_of};
+    ghost use Rattle.rz_shared_locked.specs.LockedNodes.{LockedNodeView, IsLogged};
+
+    ghost Value = { LockedNodeView };
+
+    ghost view = { λ s. record { node = s.sid; log = s.word_token.log } };
+
+    ghost invariant = { λ s. (s.word_token.word ≡ w.Node s.sid) × IsNodeOf (volume_in J.kind) s.sid
+        × (s.node.geometry ≡ geometry_in (volume_in J.kind) s.sid)
+        × (IsTrue (is_honest J.kind) → IsTrue D.tells × IsLogged D.image (volume_in J.kind) s.word_token.log s.sid s.node)
+        × IsTrue D.has_fuse
+        × (s.left ≡ fuse_of (of_word (w.Node s.sid) s.word_token.log))
+        × GoesWith D.meter (J.first s.sid) (of_word (w.Node s.sid) s.word_token.log) s.node
+        × (s.pick ≡ pick_of (of_word (w.Node s.sid) s.word_token.log)) };
+}
+
+impl<D: Disk, J: Counting> LockedNode<D, J> {
+    /// The locked_node of a node on a disk that was formatted and is not armed, whose word has no event yet. Over
+    /// an honest book the disk tells what it holds.
+    pub fn new(alloc: Global, sid: u16, node: Node<D>, word_token: WordToken<J>) -> LockedNode<D, J>
+        requires word_token { word_token ≡ new_word_token (w.Node sid) }
+        requires of_volume { IsNodeOf (volume_in J.kind) sid }
+        requires geometry { node.geometry ≡ geometry_in (volume_in J.kind) sid }
+        requires fresh { node.state ≡ fresh }
+        requires stands { IsTrue D.tells → StandsFor node.geometry 0 (D.text node.disk) nothing }
+        requires settled { Only (D.text node.disk) (D.image node.disk) }
+        requires tells { IsTrue (is_honest J.kind) → IsTrue D.tells }
+        requires fuse { IsTrue D.has_fuse }
+        requires unarmed { (D.meter node.disk).fuse ≡ None }
+        requires count { J.first sid ≤ (D.meter node.disk).own }
+        ensures { result ≡ record { node = sid; log = [] } }
+    {
+        rz_log_laws::beginning();
+        rz_node_laws::fresh::<D>();
+        LockedNode {
+            alloc,
+            sid,
+            node,
+            pick: 0,
+            left: None,
+            word_token,
+        }
+    }
+
+    /// Its node's number.
+    pub fn number(&self) -> u16
+        ensures { result ≡ self.now.node }
+    {
+        self.sid
+    }
+
+    /// The disk, and the tally of the node's word, of which the disk counted the faults. Over an honest book
+    /// each image of the disk is one that the word gives, in each later log too that has no further event of it.
+    pub fn close(self) -> (D, WordToken<J>)
+        ensures word_token { result.1 ≡ record { word = w.Node self.node; log = self.log } }
+        ensures of_volume { IsNodeOf (volume_in J.kind) self.node }
+        ensures images { IsTrue (is_honest J.kind) → AreImagesFrom (volume_in J.kind) self.log self.node (D.image result.0) }
+        ensures counted { AreCountedSince (J.first self.node) (D.meter result.0).own (of_word (w.Node self.node) self.log) }
+    {
+        crate::laws::locked_node_kept::<D>();
+        rz_node_laws::logged::<D>();
+        rz_node_laws::counted();
+        let _fit = self.word_token.room();
+        let LockedNode {
+            alloc: _,
+            sid: _,
+            node,
+            pick: _,
+            left: _,
+            word_token,
+        } = self;
+        (node.into_disk(), word_token)
+    }
+
+    /// Calls the node, and adds the event of its answer to the log. It does not return where this is
+    /// another node, or where its word cannot move.
+    pub fn call<R: Wait>(
+        &mut self,
+        rt: &R,
+        book: &Book<J>,
+        pass: &mut Pass<J>,
+        node: u16,
+        ask: &NodeAsk,
+        bins: &mut [u64],
+    ) -> NodeAnswer
+        requires takes { Takes (volume_in J.kind).layout ask.now bins.old }
+        requires actor { IsFor pass.old.actor ask.now }
+        requires may { IsTrue (is_honest J.kind) → MayAsk (volume_in J.kind) pass.old.log pass.old.actor node ask.now bins.old }
+        ensures locked_node { self.new.node ≡ self.old.node }
+        ensures same { (pass.new.actor ≡ pass.old.actor) × (pass.new.keys ≡ pass.old.keys) }
+        ensures answered { Answered J.kind node ask.now result (model.node_event pass.old.actor node ask.now result) pass.old.keys pass.old.log pass.new.log }
+        ensures read { IsTrue (is_honest J.kind) → IsRead (volume_in J.kind) (facts pass.new.log) node ask.now result bins.old bins.new }
+
+        // The caller's bins are written where a record was read, and not behind the most bins that one has.
+        ensures unread { IsUnread result → bins.new ≡ bins.old }
+        ensures rest { drop (max_bins_of (volume_in J.kind).layout) bins.new ≡ drop (max_bins_of (volume_in J.kind).layout) bins.old }
+
+        ensures fit { IsFit J.kind pass.new.log }
+    {
+        crate::laws::asker_kept();
+        let _by = pass.actor();
+        if !self.enter(book, pass, node) {
+            return stalled(rt);
+        }
+        self.answered(book, pass, ask, bins)
+    }
+
+    /// Arms the fuse of the node's disk with `passes`, keeps how its next crash picks, and adds that to
+    /// the log. It does not return where this is another node, or where its word cannot move.
+    pub fn arm<R: Wait>(
+        &mut self,
+        rt: &R,
+        book: &Book<J>,
+        pass: &mut Pass<J>,
+        node: u16,
+        passes: u64,
+        pick: u64,
+    )
+        requires actor { pass.old.actor ≡ Actor.Admin }
+        ensures locked_node { self.new.node ≡ self.old.node }
+        ensures same { (pass.new.actor ≡ pass.old.actor) × (pass.new.keys ≡ pass.old.keys) }
+        ensures commits { Commits pass.old.keys pass.old.log (e.Armed node passes pick) pass.new.log }
+        ensures fit { IsFit J.kind pass.new.log }
+    {
+        if !self.enter(book, pass, node) {
+            return unanswered(rt);
+        }
+        self.armed(book, pass, passes, pick)
+    }
+
+    // Lets the pass and the locked_node see one log. It answers whether this is the node and its word can move.
+    fn enter(&mut self, book: &Book<J>, pass: &mut Pass<J>, node: u16) -> bool
+        ensures locked_node { self.new.node ≡ self.old.node }
+        ensures same { (pass.new.actor ≡ pass.old.actor) × (pass.new.keys ≡ pass.old.keys) }
+        ensures one { self.new.log ≡ pass.new.log }
+        ensures later { IsLater pass.old.log pass.new.log }
+        ensures stays { Stays pass.old.keys pass.old.log pass.new.log }
+        ensures node { IsTrue result → self.new.node ≡ node }
+        ensures room { IsTrue result → count_at (word_key (w.Node self.new.node)) self.new.log + 1 < 2 ^ 64 }
+        ensures enters { self.new.node ≡ node → count_at (word_key (w.Node self.new.node)) self.new.log + 1 < 2 ^ 64 → IsTrue result }
+    {
+        crate::laws::locked_node_kept::<D>();
+        rz_chronicle::words_kept();
+        let _fit = self.word_token.room();
+        book.enter(pass, &mut self.word_token);
+        self.sid == node && self.word_token.room()
+    }
+
+    // The call where its pass and the locked_node have entered, and the word can move.
+    fn answered(
+        &mut self,
+        book: &Book<J>,
+        pass: &mut Pass<J>,
+        ask: &NodeAsk,
+        bins: &mut [u64],
+    ) -> NodeAnswer
+        requires one { self.old.log ≡ pass.old.log }
+        requires room { count_at (word_key (w.Node self.old.node)) self.old.log + 1 < 2 ^ 64 }
+        requires takes { Takes (volume_in J.kind).layout ask.now bins.old }
+        requires actor { IsFor pass.old.actor ask.now }
+        requires may { IsTrue (is_honest J.kind) → MayAsk (volume_in J.kind) pass.old.log pass.old.actor self.old.node ask.now bins.old }
+        ensures locked_node { self.new.node ≡ self.old.node }
+        ensures same { (pass.new.actor ≡ pass.old.actor) × (pass.new.keys ≡ pass.old.keys) }
+        ensures answered { Answered J.kind self.old.node ask.now result (model.node_event pass.old.actor self.old.node ask.now result) pass.old.keys pass.old.log pass.new.log }
+        ensures read { IsTrue (is_honest J.kind) → IsRead (volume_in J.kind) (facts pass.new.log) self.old.node ask.now result bins.old bins.new }
+        ensures unread { IsUnread result → bins.new ≡ bins.old }
+        ensures rest { drop (max_bins_of (volume_in J.kind).layout) bins.new ≡ drop (max_bins_of (volume_in J.kind).layout) bins.old }
+        ensures fit { IsFit J.kind pass.new.log }
+    {
+        crate::laws::locked_node_kept::<D>();
+        crate::laws::read_kept();
+        crate::laws::answers();
+        rz_node_laws::longer::<D>();
+        let by = pass.actor();
+        rz_chronicle::words_kept();
+        let answer = serve(
+            self.alloc,
+            &self.word_token,
+            self.sid,
+            self.pick,
+            self.left,
+            &mut self.node,
+            ask,
+            bins,
+        );
+        let event = node_event(by, self.sid, ask, &answer);
+        self.left = left_with(self.left, &event);
+        add(book, pass, &mut self.word_token, event);
+        answer
+    }
+
+    // The arming where its pass and the locked_node have entered, and the word can move.
+    fn armed(&mut self, book: &Book<J>, pass: &mut Pass<J>, passes: u64, pick: u64)
+        requires one { self.old.log ≡ pass.old.log }
+        requires room { count_at (word_key (w.Node self.old.node)) self.old.log + 1 < 2 ^ 64 }
+        requires actor { pass.old.actor ≡ Actor.Admin }
+        ensures locked_node { self.new.node ≡ self.old.node }
+        ensures same { (pass.new.actor ≡ pass.old.actor) × (pass.new.keys ≡ pass.old.keys) }
+        ensures commits { Commits pass.old.keys pass.old.log (e.Armed self.old.node passes pick) pass.new.log }
+        ensures fit { IsFit J.kind pass.new.log }
+    {
+        crate::laws::arming();
+        rz_node_laws::fewer::<D>();
+        rz_node_laws::longer::<D>();
+        rz_chronicle::words_kept();
+        rz_node_laws::armed();
+        let _by = pass.actor();
+        self.node.arm(Some(passes));
+        self.pick = pick;
+        self.left = Some(passes);
+        let event = Event::Armed {
+            node: self.sid,
+            k: passes,
+            pick,
+        };
+        add(book, pass, &mut self.word_token, Some(event));
+    }
+}

@@ -1,0 +1,141 @@
+-- A worker takes up its next operation.
+use Rattle.std.proofs.Common.{◌≡◌, ℕ, ◌+◌, Bool, true, false, not, List, [], ◌∷◌, length, drop, Option, Some, None, refl, sym, ◌∙◌, ap, subst, arith}
+use Rattle.std.specs.List.{AllByRecursion}
+use Rattle.mj_angles.specs.declared.layout.Layout.{Layout}
+use Rattle.rz_events.specs.Volume.{Volume}
+use Rattle.rz_events.specs.declared.keys.Actor.{Actor}
+use Rattle.rz_events.specs.declared.events.Event.{Event}
+use Rattle.rz_events.specs.declared.operations.Operation.{Operation}
+use Rattle.rz_script.specs.Lines.{IsOperation}
+use Rattle.rz_operation.specs.Answers as answers
+use Rattle.rz_operation.specs.Machine.{Machine}
+use Rattle.rz_operation_model.specs.Work.{Work, Calling, Dropping, Opening, Locking, Writing, Reading, Rebuilding, Ending, Over}
+use Rattle.rz_operation_model.specs.Steps.{begun}
+use Rattle.rz_core.specs.History.{facts, of_actor}
+use Rattle.rz_core.specs.Own.{IsBetween}
+use Rattle.rz_play.specs.World.{Agenda as APlayer, take_up, at_work, is_over}
+use Rattle.rz_play_laws.specs.Own.{IsOwn}
+use Rattle.rz_block_laws.specs.ActingLaws.{IsBeginningLaw}
+use Rattle.rz_chronicle.specs.Kinds.{volume_in}
+use Rattle.rz_chronicle.specs.Rules.{PassView}
+use Rattle.rz_threads_steps.specs.Acted.{IsRight}
+use Rattle.rz_threads_worker.specs.declared.agenda.Agenda.{Agenda}
+use Rattle.rz_threads_worker.specs.Workers.{work_in, agenda_of, HasLayout, IsAtHand, IsReady, TakesUp, Works, Rests, Begins}
+
+-- ---- in the words of a play
+
+-- an operation in hand stays
+same-work : (s : APlayer) (work : Work) (ops : List Operation) → is_over work ≡ false → take_up s work ops ≡ s
+same-work s Over ops busy = absurd (cc)
+same-work s (Calling c) ops busy = refl
+same-work s (Dropping fid n places) ops busy = refl
+same-work s (Opening path plan) ops busy = refl
+same-work s (Locking path plan) ops busy = refl
+same-work s (Writing course text w) ops busy = refl
+same-work s (Reading course r) ops busy = refl
+same-work s (Rebuilding n r) ops busy = refl
+same-work s (Ending answer) ops busy = refl
+
+-- nothing to do
+no-work : (s : APlayer) (work : Work) → take_up s work [] ≡ s
+no-work s Over = refl
+no-work s (Calling c) = refl
+no-work s (Dropping fid n places) = refl
+no-work s (Opening path plan) = refl
+no-work s (Locking path plan) = refl
+no-work s (Writing course text w) = refl
+no-work s (Reading course r) = refl
+no-work s (Rebuilding n r) = refl
+no-work s (Ending answer) = refl
+
+over-is : (work : Work) → is_over work ≡ true → work ≡ Over
+over-is Over is = refl
+over-is (Calling c) is = absurd (cc)
+over-is (Dropping fid n places) is = absurd (cc)
+over-is (Opening path plan) is = absurd (cc)
+over-is (Locking path plan) is = absurd (cc)
+over-is (Writing course text w) is = absurd (cc)
+over-is (Reading course r) is = absurd (cc)
+over-is (Rebuilding n r) is = absurd (cc)
+over-is (Ending answer) is = absurd (cc)
+
+-- the next operation was taken up
+next-work : (s : APlayer) (op : Operation) (ops : List Operation) (number : ℕ) (work : Work) → is_over s.work ≡ true → s.todo ≡ op ∷ ops → number ≡ s.number + 1 → work ≡ begun op
+    → record s { todo = ops; number = number; work = work } ≡ at_work s
+next-work s op ops number work over todo num is =
+    ap (λ (n : ℕ). record s { todo = ops; number = n; work = work }) num
+    ∙ ap (λ (w : Work). record s { todo = ops; number = s.number + 1; work = w }) is
+    ∙ sym (ap (take_up s s.work) todo ∙ ap (λ (w : Work). take_up s w (op ∷ ops)) (over-is s.work over))
+
+-- the agenda is that of an actor at work
+pub taken-up : (layout : Layout) (a b : Agenda) → TakesUp layout a b → agenda_of b ≡ at_work (agenda_of a)
+taken-up layout a b (Works busy same) = ap agenda_of same ∙ sym (same-work (agenda_of a) (work_in a.machine) a.todo.items busy)
+taken-up layout a b (Rests none still number hand) =
+    (λ i. record { todo = (still ∙ sym none) i; number = number i; work = work_in (hand i); lock = None; miss = None })
+    ∙ sym (ap (take_up (agenda_of a) (work_in a.machine)) none ∙ no-work (agenda_of a) (work_in a.machine))
+taken-up layout a b (Begins op m over todo number is lay work) =
+    next-work (agenda_of a) op b.todo.items b.number (work_in b.machine) over todo number (ap work_in is ∙ work)
+
+pub negated : (b : Bool) → false ≡ not b → b ≡ true
+negated true is = refl
+negated false is = absurd (cc)
+
+pub negated-too : (b : Bool) → true ≡ not b → b ≡ false
+negated-too true is = absurd (cc)
+negated-too false is = refl
+
+-- a row of which nothing came is empty
+pub none-left : (old new : List Operation) → old ≡ new → new ≡ drop 1 old → old ≡ []
+none-left [] new same rest = refl
+none-left (op ∷ ops) new same rest =
+    let short : length (op ∷ ops) ≡ length ops = ap length (same ∙ rest) in
+    absurd (omega (arith, short))
+
+-- ---- the operations are such as machines take
+
+pub all-taken : (v : Volume) → IsBeginningLaw v → (by : Actor) (ops : List Operation) → AllByRecursion (IsOperation v by) ops → AllByRecursion (answers.IsOperation v.layout) ops
+all-taken v begins by [] all = tt
+all-taken v begins by (op ∷ ops) all = ((begins by op all.0).takes, all-taken v begins by ops all.1)
+
+-- ---- it is ready with what it took up
+
+-- where none is in hand, the actor is between two operations
+between : (v : Volume) (h : List Event) (by : Actor) (number : ℕ) (hand : Option Machine) → is_over (work_in hand) ≡ true → IsAtHand v h by number hand → IsBetween (of_actor by h)
+between v h by number None over at = at
+between v h by number (Some m) over at = subst (λ (w : Work). IsOwn v (facts h) (of_actor by h) (of_actor by h) by w) (over-is m.work over) at.true_to.own
+
+module _ (kind : List ℕ) (pass : PassView) (a b : Agenda) (bins : List ℕ) (shown : List Event) (ready : IsReady kind pass a bins shown) where
+  abbrev v : Volume
+  v = volume_in kind
+
+  begins-ready : IsBeginningLaw v → (op : Operation) (m : Machine) → is_over (work_in a.machine) ≡ true → a.todo.items ≡ op ∷ b.todo.items → b.machine ≡ Some m → m.layout ≡ v.layout → m.work ≡ begun op → IsReady kind pass b bins shown
+  begins-ready begins op m over todo is layout work =
+      let all = subst (AllByRecursion (IsOperation v pass.actor)) todo ready.todo in
+      record {
+        actor = ready.actor;
+        todo = all.1;
+        machine = subst (HasLayout v.layout) (sym is) layout;
+        at_hand = λ honest. subst (IsAtHand v pass.log pass.actor b.number) (sym is)
+            ((begins pass.actor op all.0).acts pass.log b.number m (between v pass.log pass.actor a.number a.machine over (ready.at_hand honest)) layout work);
+        room = ready.room;
+        shows = ready.shows;
+      }
+
+  pub ready-on : IsBeginningLaw v → (layout : Layout) → layout ≡ v.layout → TakesUp layout a b → IsReady kind pass b bins shown
+  ready-on begins layout is (Works busy same) = subst (λ (s : Agenda). IsReady kind pass s bins shown) (sym same) ready
+  ready-on begins layout is (Rests none still number hand) = record {
+    actor = ready.actor;
+    todo = subst (AllByRecursion (IsOperation v pass.actor)) (sym still) tt;
+    machine = subst (HasLayout v.layout) (sym hand) ready.machine;
+    at_hand = λ honest. subst (λ (n : ℕ). IsAtHand v pass.log pass.actor n b.machine) (sym number) (subst (IsAtHand v pass.log pass.actor a.number) (sym hand) (ready.at_hand honest));
+    room = ready.room;
+    shows = ready.shows;
+  }
+  ready-on begins layout is (Begins op m over todo number some lay work) = begins-ready begins op m over todo some (lay ∙ is) work
+
+  -- the machine in hand
+  pub hand-layout : (m : Machine) → a.machine ≡ Some m → m.layout ≡ v.layout
+  hand-layout m is = subst (HasLayout v.layout) is ready.machine
+
+  pub hand-right : (m : Machine) → a.machine ≡ Some m → IsRight kind pass a.number m
+  hand-right m is honest = subst (IsAtHand v pass.log pass.actor a.number) is (ready.at_hand honest)
