@@ -17,7 +17,7 @@ ghost use Rattle.rz_chronicle.specs.Dealing.{new_word_token};
 ghost use Rattle.rz_shared_locked.specs.LockedExports.{AreBytes, HasBytes, Replied, event_given};
 
 use crate::waiting::without_reply;
-use rz_chronicle::{Asks, Book, Naming, Pass, WordToken};
+use rz_chronicle::{Asks, Book, Pass, WordToken};
 use rz_events::{Actor, Call, Reply};
 use rz_export::Export;
 use std::alloc::Global;
@@ -35,13 +35,13 @@ pub fn answer_export(_alloc: Global, export: &mut Export, call: &Call) -> Reply
 
 /// The export under its lock, with the tally of its word.
 #[derive(Drop)]
-pub struct LockedExport<J: Naming> {
+pub struct LockedExport<J: Counting> {
     alloc: Global,
     export: Export,
     word_token: WordToken<J>,
 }
 
-impl<J: Naming> Model for LockedExport<J> {
+impl<J: Counting> Model for LockedExport<J> {
     ghost use Rattle.std.specs.Prelude.{◌≡◌, List, IsTrue};
     ghost use Rattle.rz_events.specs.declared.events.Event.{Event as AnEvent};
     ghost use Rattle.rz_events.specs.declared.events.Word.TheVariants as w;
@@ -85,7 +85,7 @@ impl<C: Asking> Asks<Reply> for Given<C> {
     ghost event = { λ r. event_given C.by C.call r };
 }
 
-impl<J: Naming> LockedExport<J> {
+impl<J: Counting> LockedExport<J> {
     /// The locked_export of a new export, whose word has no event yet.
     pub fn new(alloc: Global, export: Export, word_token: WordToken<J>) -> LockedExport<J>
         requires word_token { word_token ≡ new_word_token w.Export }
@@ -194,7 +194,7 @@ fn are_bytes(text: &[u8])
 }
 
 /// Adds the event of a reply that has one. The pass and the word_token have entered.
-fn add_reply<J: Naming, C: Asking>(
+fn add_reply<J: Counting, C: Asking>(
     book: &Book<J>,
     pass: &mut Pass<J>,
     word_token: &mut WordToken<J>,
@@ -214,5 +214,7 @@ fn add_reply<J: Naming, C: Asking>(
 {
     let _ = by;
     let _ = call;
+    rz_chronicle::begins_anew();
+    let _by = pass.actor();
     book.commit::<Reply, Given<C>>(pass, word_token, reply);
 }
