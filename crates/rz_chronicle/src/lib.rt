@@ -1,13 +1,13 @@
 //! The chronicle: one log that all threads share, to which each call and each act adds one event.
 //!
 //! A [`Book`] has a word for the export, for each node and for each actor, which counts that owner's
-//! events. Whoever holds the tally of a word alone moves it: an actor by its [`Pass`], a caller under a
+//! events. Whoever holds the token of a word alone moves it: an actor by its [`Pass`], a caller under a
 //! lock by the lock's [`WordToken`] beside its own pass. So an event is added by one exchange that is always
 //! won, and no call of a book waits or takes memory. The log itself takes no memory: it is what proofs
 //! know of the words.
 //!
 //! The book is of a volume, and honest or not: an honest one keeps its log legal. Which book a pass, a
-//! word_token or a desk belongs to is the type parameter `J`, which each program picks once.
+//! token or a desk belongs to is the type parameter `J`, which each program picks once.
 //!
 //! In reading order: `kinds`, `places`, `told`, `tokens`, `steps`, `passes`, `book`, `dealer`, `start`, `laws`.
 #![tactic(auto)]

@@ -8,7 +8,7 @@ ghost use Rattle.rz_shared_locked.specs.Adding.{Adds};
 use rz_chronicle::{Book, Itself, Naming, Pass, WordToken};
 use rz_events::Event;
 
-/// Adds the event of an answer, if it has one. The pass and the word_token have entered.
+/// Adds the event of an answer, if it has one. The pass and the token have entered.
 pub(crate) fn add<J: Naming>(
     book: &Book<J>,
     pass: &mut Pass<J>,

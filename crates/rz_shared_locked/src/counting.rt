@@ -9,7 +9,7 @@ use rz_events::{Event, Why};
 use std::marker::Brand;
 
 /// The name of a book, with the faults that the disk of each node had counted when the nodes took their
-/// locked_nodes.
+/// locked nodes.
 pub trait Counting: Naming {
     ghost use Rattle.std.specs.Prelude.{ℕ};
 

@@ -22,7 +22,7 @@ use rz_export::Export;
 use std::marker::{Brand, Model, PhantomData};
 use std::sync::Wait;
 
-/// The export under its lock, with the tally of its word.
+/// The export under its lock, with the token of its word.
 #[derive(Drop)]
 pub struct LockedExport<J: Naming> {
     export: Export,
@@ -74,7 +74,7 @@ impl<C: Asking> Asks<Reply> for Given<C> {
 }
 
 impl<J: Naming> LockedExport<J> {
-    /// The locked_export of a new export, whose word has no event yet.
+    /// The locked export of a new export, whose word has no event yet.
     pub fn new(export: Export, word_token: WordToken<J>) -> LockedExport<J>
         requires word_token { word_token ≡ new_word_token w.Export }
         requires export { export ≡ new_export (volume_in J.kind) 0 }
@@ -84,7 +84,7 @@ impl<J: Naming> LockedExport<J> {
         LockedExport { export, word_token }
     }
 
-    /// The tally of the export's word.
+    /// The token of the export's word.
     pub fn close(self) -> WordToken<J>
         ensures { result ≡ record { word = w.Export; log = self } }
     {
@@ -117,7 +117,7 @@ impl<J: Naming> LockedExport<J> {
         self.replied(rt, book, pass, call)
     }
 
-    // Lets the pass and the locked_export see one log. It answers whether the export's word can move.
+    // Lets the pass and the locked export see one log. It answers whether the export's word can move.
     fn enter(&mut self, book: &Book<J>, pass: &mut Pass<J>) -> bool
         ensures same { (pass.new.actor ≡ pass.old.actor) × (pass.new.keys ≡ pass.old.keys) }
         ensures one { self.new ≡ pass.new.log }
@@ -132,7 +132,7 @@ impl<J: Naming> LockedExport<J> {
         self.word_token.room()
     }
 
-    // The call where its pass and the locked_export have entered, and the word can move.
+    // The call where its pass and the locked export have entered, and the word can move.
     fn replied<R: Wait>(&mut self, rt: &R, book: &Book<J>, pass: &mut Pass<J>, call: &Call) -> Reply
         requires one { self.old ≡ pass.old.log }
         requires room { count_at (word_key w.Export) self.old + 1 < 2 ^ 64 }
@@ -173,7 +173,7 @@ fn are_bytes(text: &[u8])
     let _count = text.len();
 }
 
-/// Adds the event of a reply that has one. The pass and the word_token have entered.
+/// Adds the event of a reply that has one. The pass and the token have entered.
 fn add_reply<J: Naming, C: Asking>(
     book: &Book<J>,
     pass: &mut Pass<J>,
