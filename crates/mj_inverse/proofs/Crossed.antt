@@ -1,14 +1,14 @@
 -- The words on a line, where each row has room for zeros on both sides of its columns.
 use Rattle.std.proofs.Common.{◌≡◌, ◌≢◌, ℕ, ◌+◌, ◌-◌, ◌*◌, ◌<◌, ◌≤◌, sym, ap, ◌∙◌, subst, arith, ◌⊎◌, inl, inr, ℤ, pos, List, get_or}
 use Rattle.std.specs.Prelude.{negsuc, unsigned_abs, ◌==◌, if◌then◌else◌}
-use Rattle.std.proofs.Math.Nat.{mul-le-mul_left, mul-le-mul_right}
+use Rattle.std.proofs.Math.Nat.{mul-le-mul_left}
 use Rattle.std.proofs.lemmas.Nat.{mul-add-lt, same_from_place, row_fits}
 use Rattle.std.proofs.lemmas.Bool.{cases_lt}
 use Rattle.mj_angles.specs.Xor.{xor_below}
 use Rattle.mj_angles.specs.Projection.{bins, bin, offset, row_start}
 use Rattle.mj_angles.proofs.Sums.{xor_below-same, row_at, row_misses}
 use Rattle.mj_inverse_sums.specs.Line.{line_sum}
-use Rattle.mj_inverse.specs.Padded.{IsPadded, inner, step_of, width_of, reach_of}
+use Rattle.mj_inverse.specs.Padded.{IsPadded, inner, step_of, width_of}
 
 -- where a line meets row j
 pub same_place : (p : ℤ) (w reach rows b j : ℕ) → unsigned_abs p ≤ w → unsigned_abs p * (rows - 1) ≤ reach → j < rows →
@@ -74,33 +74,26 @@ module _ (g : List ℕ) (i rows cols reach : ℕ) (padded : IsPadded rows cols r
       (λ j h. word_on p b j small reaches within h)
 
 -- a line stays within the rows
-module _ (rows cols : ℕ) where
-  w : ℕ
-  w = width_of cols (reach_of rows)
-
-  pub reaches : (p : ℤ) → unsigned_abs p ≤ 16 → unsigned_abs p * (rows - 1) ≤ reach_of rows
-  reaches p small = omega (arith, mul-le-mul_right (rows - 1) small)
-
+module _ (rows cols reach : ℕ) where
   eight : (x y : ℕ) → x < y → 8 * x + 8 ≤ 8 * y
   eight x y h = omega arith
 
-  pub line_fits : (p : ℤ) (b j : ℕ) → unsigned_abs p ≤ 16 → b < bins p rows cols → j < rows →
-      8 * (reach_of rows - offset p rows + b + j * step_of (width_of cols (reach_of rows)) p) + 8 ≤ 8 * (rows * width_of cols (reach_of rows))
-  line_fits p b j small within h =
-      let v : ℕ = width_of cols (reach_of rows) in
-      let r = reaches p small in
-      let col : ℕ = reach_of rows + b - row_start p rows j in
-      let near : col < width_of cols (reach_of rows) = omega (arith, within, r) in
+  pub line_fits : (p : ℤ) (b j : ℕ) → unsigned_abs p ≤ reach → unsigned_abs p * (rows - 1) ≤ reach → b < bins p rows cols → j < rows →
+      8 * (reach - offset p rows + b + j * step_of (width_of cols reach) p) + 8 ≤ 8 * (rows * width_of cols reach)
+  line_fits p b j small r within h =
+      let v : ℕ = width_of cols reach in
+      let col : ℕ = reach + b - row_start p rows j in
+      let near : col < width_of cols reach = omega (arith, within, r) in
       let low : unsigned_abs p ≤ v = omega arith in
-      let place = same_place p v (reach_of rows) rows b j low r h in
+      let place = same_place p v reach rows b j low r h in
       let inside : j * v + col < rows * v = omega (arith, mul-add-lt j v col rows h near) in
-      eight (reach_of rows - offset p rows + b + j * step_of v p) (rows * v) (omega (arith, place, inside))
+      eight (reach - offset p rows + b + j * step_of v p) (rows * v) (omega (arith, place, inside))
 
-  pub own_fits : (n k : ℕ) → n < rows → k < cols → 8 * (n * width_of cols (reach_of rows) + (reach_of rows + k)) + 8 ≤ 8 * (rows * width_of cols (reach_of rows))
+  pub own_fits : (n k : ℕ) → n < rows → k < cols → 8 * (n * width_of cols reach + (reach + k)) + 8 ≤ 8 * (rows * width_of cols reach)
   own_fits n k h m =
-      let v : ℕ = width_of cols (reach_of rows) in
-      let near : reach_of rows + k < v = omega arith in
-      eight (n * v + (reach_of rows + k)) (rows * v) (omega (arith, mul-add-lt n v (reach_of rows + k) rows h near))
+      let v : ℕ = width_of cols reach in
+      let near : reach + k < v = omega arith in
+      eight (n * v + (reach + k)) (rows * v) (omega (arith, mul-add-lt n v (reach + k) rows h near))
 
 -- a word in another place
 pub elsewhere : (x y i : ℕ) → y ≢ x → i < 8 → (8 * y + i < 8 * x) ⊎ (8 * x + 8 ≤ 8 * y + i)
@@ -119,91 +112,123 @@ kept_place old new x y i ne small below above = by (elsewhere x y i ne small)
     by (inr high) = above (8 * y + i) high
 
 -- what is written in one place changes nothing else
-module _ (rows cols : ℕ) (old new : List ℕ) (n k : ℕ) (in_row : n < rows) (in_col : k < cols)
-    (below : (m : ℕ) → m < 8 * (n * width_of cols (reach_of rows) + (reach_of rows + k)) → get_or new m 0 ≡ get_or old m 0)
-    (above : (m : ℕ) → 8 * (n * width_of cols (reach_of rows) + (reach_of rows + k)) + 8 ≤ m → get_or new m 0 ≡ get_or old m 0) where
+module _ (rows cols reach : ℕ) (old new : List ℕ) (n k : ℕ) (in_row : n < rows) (in_col : k < cols)
+    (below : (m : ℕ) → m < 8 * (n * width_of cols reach + (reach + k)) → get_or new m 0 ≡ get_or old m 0)
+    (above : (m : ℕ) → 8 * (n * width_of cols reach + (reach + k)) + 8 ≤ m → get_or new m 0 ≡ get_or old m 0) where
   pub other_words : (i l' k' : ℕ) → i < 8 → l' < rows → k' < cols → (l' ≡ n → k' ≡ k → ⊥) →
-      inner new (width_of cols (reach_of rows)) (reach_of rows) i l' k' ≡ inner old (width_of cols (reach_of rows)) (reach_of rows) i l' k'
+      inner new (width_of cols reach) reach i l' k' ≡ inner old (width_of cols reach) reach i l' k'
   other_words i l' k' small h m ne =
-      let v : ℕ = width_of cols (reach_of rows) in
-      kept_place old new (n * v + (reach_of rows + k)) (l' * v + (reach_of rows + k')) i
-      (λ e. let same = same_from_place l' (reach_of rows + k') n (reach_of rows + k) v (omega arith) (omega arith) e in ne same.0 (let c = same.1 in omega arith)) small below above
+      let v : ℕ = width_of cols reach in
+      kept_place old new (n * v + (reach + k)) (l' * v + (reach + k')) i
+      (λ e. let same = same_from_place l' (reach + k') n (reach + k) v (omega arith) (omega arith) e in ne same.0 (let c = same.1 in omega arith)) small below above
 
-  pub still_padded : IsPadded rows cols (reach_of rows) old → IsPadded rows cols (reach_of rows) new
+  pub still_padded : IsPadded rows cols reach old → IsPadded rows cols reach new
   still_padded padded = record {
     left = λ l c i h small low.
-        (let v : ℕ = width_of cols (reach_of rows) in
-        kept_place old new (n * v + (reach_of rows + k)) (l * v + c) i
-        (λ e. let same = (same_from_place l c n (reach_of rows + k) v (omega arith) (omega arith) e).1 in absurd (omega arith)) small below above
+        (let v : ℕ = width_of cols reach in
+        kept_place old new (n * v + (reach + k)) (l * v + c) i
+        (λ e. let same = (same_from_place l c n (reach + k) v (omega arith) (omega arith) e).1 in absurd (omega arith)) small below above
         ∙ padded.left l c i h small low);
     right = λ l c i h small from near.
-        (let v : ℕ = width_of cols (reach_of rows) in
-        kept_place old new (n * v + (reach_of rows + k)) (l * v + c) i
-        (λ e. let same = (same_from_place l c n (reach_of rows + k) v near (omega arith) e).1 in absurd (omega arith)) small below above
+        (let v : ℕ = width_of cols reach in
+        kept_place old new (n * v + (reach + k)) (l * v + c) i
+        (λ e. let same = (same_from_place l c n (reach + k) v near (omega arith) e).1 in absurd (omega arith)) small below above
         ∙ padded.right l c i h small from near);
   }
 
 -- one more row is copied
-pub copied_more : (rows cols : ℕ) (grid old new : List ℕ) (l : ℕ) → l < rows →
-    ((m : ℕ) → m < 8 * cols → get_or new (8 * (l * cols) + m) 0 ≡ get_or grid (8 * (l * width_of cols (reach_of rows) + reach_of rows) + m) 0) →
+pub copied_more : (rows cols reach : ℕ) (grid old new : List ℕ) (l : ℕ) → l < rows →
+    ((m : ℕ) → m < 8 * cols → get_or new (8 * (l * cols) + m) 0 ≡ get_or grid (8 * (l * width_of cols reach + reach) + m) 0) →
     ((m : ℕ) → m < 8 * (l * cols) → get_or new m 0 ≡ get_or old m 0) →
-    ((i l' k : ℕ) → i < 8 → l' < l → k < cols → get_or old (8 * (l' * cols + k) + i) 0 ≡ inner grid (width_of cols (reach_of rows)) (reach_of rows) i l' k) →
-    (i l' k : ℕ) → i < 8 → l' < l + 1 → k < cols → get_or new (8 * (l' * cols + k) + i) 0 ≡ inner grid (width_of cols (reach_of rows)) (reach_of rows) i l' k
-copied_more rows cols grid old new l few inside below before i l' k small h m = by (cases_lt l' l)
+    ((i l' k : ℕ) → i < 8 → l' < l → k < cols → get_or old (8 * (l' * cols + k) + i) 0 ≡ inner grid (width_of cols reach) reach i l' k) →
+    (i l' k : ℕ) → i < 8 → l' < l + 1 → k < cols → get_or new (8 * (l' * cols + k) + i) 0 ≡ inner grid (width_of cols reach) reach i l' k
+copied_more rows cols reach grid old new l few inside below before i l' k small h m = by (cases_lt l' l)
   where
-    by : (l' < l) ⊎ (l ≤ l') → get_or new (8 * (l' * cols + k) + i) 0 ≡ inner grid (width_of cols (reach_of rows)) (reach_of rows) i l' k
+    by : (l' < l) ⊎ (l ≤ l') → get_or new (8 * (l' * cols + k) + i) 0 ≡ inner grid (width_of cols reach) reach i l' k
     by (inl less) =
         let row : l' * cols + cols ≤ l * cols = row_fits l' cols l cols less (omega arith) in
         below (8 * (l' * cols + k) + i) (omega (arith, row)) ∙ before i l' k small less m
     by (inr more) =
         let e : l ≡ l' = omega arith in
-        let v : ℕ = width_of cols (reach_of rows) in
-        let P : ℕ → Type 0 = λ x. get_or new (8 * (x * cols + k) + i) 0 ≡ inner grid (width_of cols (reach_of rows)) (reach_of rows) i x k in
+        let v : ℕ = width_of cols reach in
+        let P : ℕ → Type 0 = λ x. get_or new (8 * (x * cols + k) + i) 0 ≡ inner grid (width_of cols reach) reach i x k in
         let to : 8 * (l * cols) + (8 * k + i) ≡ 8 * (l * cols + k) + i = omega arith in
-        let from : 8 * (l * v + reach_of rows) + (8 * k + i) ≡ 8 * (l * v + (reach_of rows + k)) + i = omega arith in
+        let from : 8 * (l * v + reach) + (8 * k + i) ≡ 8 * (l * v + (reach + k)) + i = omega arith in
         let here : P l = ap (λ x. get_or new x 0) (sym to) ∙ inside (8 * k + i) (omega arith) ∙ ap (λ x. get_or grid x 0) from in
         subst P e here
 
 -- a row is written, and nothing else
-module _ (rows cols : ℕ) (old new : List ℕ) (n : ℕ) (in_row : n < rows)
-    (below : (m : ℕ) → m < 8 * (n * width_of cols (reach_of rows) + reach_of rows) → get_or new m 0 ≡ get_or old m 0)
-    (above : (m : ℕ) → 8 * (n * width_of cols (reach_of rows) + reach_of rows) + 8 * cols ≤ m → get_or new m 0 ≡ get_or old m 0) where
+module _ (rows cols reach : ℕ) (old new : List ℕ) (n : ℕ) (in_row : n < rows)
+    (below : (m : ℕ) → m < 8 * (n * width_of cols reach + reach) → get_or new m 0 ≡ get_or old m 0)
+    (above : (m : ℕ) → 8 * (n * width_of cols reach + reach) + 8 * cols ≤ m → get_or new m 0 ≡ get_or old m 0) where
   -- the place lies before the row
-  row_before : (l c i : ℕ) → i < 8 → c < width_of cols (reach_of rows) → l < n → get_or new (8 * (l * width_of cols (reach_of rows) + c) + i) 0 ≡ get_or old (8 * (l * width_of cols (reach_of rows) + c) + i) 0
+  row_before : (l c i : ℕ) → i < 8 → c < width_of cols reach → l < n → get_or new (8 * (l * width_of cols reach + c) + i) 0 ≡ get_or old (8 * (l * width_of cols reach + c) + i) 0
   row_before l c i small near less =
-      let v : ℕ = width_of cols (reach_of rows) in
+      let v : ℕ = width_of cols reach in
       let row : l * v + v ≤ n * v = row_fits l v n v less (omega arith) in
       below (8 * (l * v + c) + i) (omega arith)
 
-  row_after : (l c i : ℕ) → i < 8 → n < l → get_or new (8 * (l * width_of cols (reach_of rows) + c) + i) 0 ≡ get_or old (8 * (l * width_of cols (reach_of rows) + c) + i) 0
+  row_after : (l c i : ℕ) → i < 8 → n < l → get_or new (8 * (l * width_of cols reach + c) + i) 0 ≡ get_or old (8 * (l * width_of cols reach + c) + i) 0
   row_after l c i small more =
-      let v : ℕ = width_of cols (reach_of rows) in
+      let v : ℕ = width_of cols reach in
       let row : n * v + v ≤ l * v = row_fits n v l v more (omega arith) in
       above (8 * (l * v + c) + i) (omega arith)
 
-  pub row_padded : IsPadded rows cols (reach_of rows) old → IsPadded rows cols (reach_of rows) new
+  pub row_padded : IsPadded rows cols reach old → IsPadded rows cols reach new
   row_padded padded = record {
     left = λ l c i h small low. left l c i small low (cases_lt l n) (cases_lt n l) ∙ padded.left l c i h small low;
     right = λ l c i h small from near. right l c i small from near (cases_lt l n) (cases_lt n l) ∙ padded.right l c i h small from near;
   }
     where
-      left : (l c i : ℕ) → i < 8 → c < reach_of rows → (l < n) ⊎ (n ≤ l) → (n < l) ⊎ (l ≤ n) →
-          get_or new (8 * (l * width_of cols (reach_of rows) + c) + i) 0 ≡ get_or old (8 * (l * width_of cols (reach_of rows) + c) + i) 0
+      left : (l c i : ℕ) → i < 8 → c < reach → (l < n) ⊎ (n ≤ l) → (n < l) ⊎ (l ≤ n) →
+          get_or new (8 * (l * width_of cols reach + c) + i) 0 ≡ get_or old (8 * (l * width_of cols reach + c) + i) 0
       left l c i small low (inl less) _ = row_before l c i small (omega arith) less
       left l c i small low (inr _) (inl more) = row_after l c i small more
       left l c i small low (inr a) (inr b) =
           let e : n ≡ l = omega arith in
-          let P : ℕ → Type 0 = λ y. get_or new (8 * (y * width_of cols (reach_of rows) + c) + i) 0 ≡ get_or old (8 * (y * width_of cols (reach_of rows) + c) + i) 0 in
-          subst P e (below (8 * (n * width_of cols (reach_of rows) + c) + i) (omega arith))
+          let P : ℕ → Type 0 = λ y. get_or new (8 * (y * width_of cols reach + c) + i) 0 ≡ get_or old (8 * (y * width_of cols reach + c) + i) 0 in
+          subst P e (below (8 * (n * width_of cols reach + c) + i) (omega arith))
 
-      right : (l c i : ℕ) → i < 8 → reach_of rows + cols ≤ c → c < width_of cols (reach_of rows) → (l < n) ⊎ (n ≤ l) → (n < l) ⊎ (l ≤ n) →
-          get_or new (8 * (l * width_of cols (reach_of rows) + c) + i) 0 ≡ get_or old (8 * (l * width_of cols (reach_of rows) + c) + i) 0
+      right : (l c i : ℕ) → i < 8 → reach + cols ≤ c → c < width_of cols reach → (l < n) ⊎ (n ≤ l) → (n < l) ⊎ (l ≤ n) →
+          get_or new (8 * (l * width_of cols reach + c) + i) 0 ≡ get_or old (8 * (l * width_of cols reach + c) + i) 0
       right l c i small from near (inl less) _ = row_before l c i small near less
       right l c i small from near (inr _) (inl more) = row_after l c i small more
       right l c i small from near (inr a) (inr b) =
           let e : n ≡ l = omega arith in
-          let P : ℕ → Type 0 = λ y. get_or new (8 * (y * width_of cols (reach_of rows) + c) + i) 0 ≡ get_or old (8 * (y * width_of cols (reach_of rows) + c) + i) 0 in
-          subst P e (above (8 * (n * width_of cols (reach_of rows) + c) + i) (omega arith))
+          let P : ℕ → Type 0 = λ y. get_or new (8 * (y * width_of cols reach + c) + i) 0 ≡ get_or old (8 * (y * width_of cols reach + c) + i) 0 in
+          subst P e (above (8 * (n * width_of cols reach + c) + i) (omega arith))
 
-  pub row_kept : (i l k : ℕ) → i < 8 → l < n → k < cols → inner new (width_of cols (reach_of rows)) (reach_of rows) i l k ≡ inner old (width_of cols (reach_of rows)) (reach_of rows) i l k
-  row_kept i l k small less near = row_before l (reach_of rows + k) i small (omega arith) less
+  pub row_kept : (i l k : ℕ) → i < 8 → l < n → k < cols → inner new (width_of cols reach) reach i l k ≡ inner old (width_of cols reach) reach i l k
+  row_kept i l k small less near = row_before l (reach + k) i small (omega arith) less
+
+-- the places beside one more row are made zero
+pub padded_more : (cols reach l at : ℕ) (old mid new : List ℕ) → at ≡ l * width_of cols reach → IsPadded l cols reach old →
+    ((k : ℕ) → k < 8 * at → get_or mid k 0 ≡ get_or old k 0) → ((c i : ℕ) → c < reach → i < 8 → get_or mid (8 * (at + c) + i) 0 ≡ 0) →
+    ((k : ℕ) → k < 8 * (at + (reach + cols)) → get_or new k 0 ≡ get_or mid k 0) → ((c i : ℕ) → c < reach → i < 8 → get_or new (8 * (at + (reach + cols) + c) + i) 0 ≡ 0) →
+    IsPadded (l + 1) cols reach new
+padded_more cols reach l at old mid new is padded below zero below' zero' = record {
+  left = λ n c i h small low. left n c i small low (cases_lt n l) h;
+  right = λ n c i h small from near. right n c i small from near (cases_lt n l) h;
+}
+  where
+    before : (n c i : ℕ) → i < 8 → c < width_of cols reach → n < l → get_or new (8 * (n * width_of cols reach + c) + i) 0 ≡ get_or old (8 * (n * width_of cols reach + c) + i) 0
+    before n c i small near less =
+        let v : ℕ = width_of cols reach in
+        let row : n * v + v ≤ l * v = row_fits n v l v less (omega arith) in
+        below' (8 * (n * v + c) + i) (omega arith) ∙ below (8 * (n * v + c) + i) (omega arith)
+
+    left : (n c i : ℕ) → i < 8 → c < reach → (n < l) ⊎ (l ≤ n) → n < l + 1 → get_or new (8 * (n * width_of cols reach + c) + i) 0 ≡ 0
+    left n c i small low (inl less) h = before n c i small (omega arith) less ∙ padded.left n c i less small low
+    left n c i small low (inr more) h =
+        let e : l ≡ n = omega arith in
+        let P : ℕ → Type 0 = λ x. get_or new (8 * (x + c) + i) 0 ≡ 0 in
+        subst P (is ∙ ap (λ x. x * width_of cols reach) e) (below' (8 * (at + c) + i) (omega arith) ∙ zero c i low small)
+
+    right : (n c i : ℕ) → i < 8 → reach + cols ≤ c → c < width_of cols reach → (n < l) ⊎ (l ≤ n) → n < l + 1 → get_or new (8 * (n * width_of cols reach + c) + i) 0 ≡ 0
+    right n c i small from near (inl less) h = before n c i small near less ∙ padded.right n c i less small from near
+    right n c i small from near (inr more) h =
+        let e : l ≡ n = omega arith in
+        let d : ℕ = c - (reach + cols) in
+        let place : 8 * (at + (reach + cols) + d) + i ≡ 8 * (at + c) + i = omega arith in
+        let P : ℕ → Type 0 = λ x. get_or new (8 * (x + c) + i) 0 ≡ 0 in
+        subst P (is ∙ ap (λ x. x * width_of cols reach) e) (ap (λ k. get_or new k 0) (sym place) ∙ zero' d i (omega arith) small)

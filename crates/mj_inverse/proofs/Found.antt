@@ -4,17 +4,18 @@ use Rattle.std.specs.Prelude.{unsigned_abs, slice_range, All}
 use Rattle.std.proofs.lemmas.List.{places, ext_get_or, length-append}
 use Rattle.std.proofs.lemmas.List.FromFn.{get_or-map-range_with_len, length-map-range_with_len}
 use Rattle.std.proofs.Math.Nat.{mul-le-mul_right}
+use Rattle.std.proofs.lemmas.Nat.{mul-add-lt}
 use Rattle.rz_words.specs.Grid.{Grid, IsShape, word, grid_of}
 use Rattle.mj_angles.specs.Projection.{bins, projection}
 use Rattle.mj_angles.proofs.Order.{lifted}
 use Rattle.mj_angles.proofs.Projections.{get_or-projection, projection-from_bins}
 use Rattle.mj_inverse.specs.Fits.{Pair, IsFound, AnglesDiffer, pairs_from, total_bins}
 use Rattle.mj_inverse.specs.Rows.{Every, Differ}
-use Rattle.mj_inverse.specs.Store.{Distinct, lane_of, lane_pair, lane_search, lane_grid}
-use Rattle.mj_inverse.specs.Padded.{HasBins, IsPlaced, IsKept, pair_over, pairs_over, placed_at, placed_from, raised_angle, search_over}
+use Rattle.mj_inverse.specs.Store.{Distinct, lane_of, lane_pair, lane_search}
+use Rattle.mj_inverse.specs.Padded.{HasBins, IsPlaced, IsLined, IsKept, IsTaken, inner, width_of, pair_over, pairs_over, placed_at, placed_from, raised_angle, search_over}
 use Rattle.mj_inverse.specs.declared.placed.Placed.{Placed}
 use Rattle.mj_inverse.proofs.Put.{slice_is}
-use Rattle.mj_inverse.proofs.Stores.{FitsWords, all_from_every, every_from_all, lane_words, words_from_rows, every_more, distinct_more, lifted-one, bins_le}
+use Rattle.mj_inverse.proofs.Stores.{FitsWords, all_from_every, every_from_all, words_from_rows, every_more, distinct_more, lifted-one, bins_le}
 use Rattle.mj_inverse.proofs.Tied.{rows_from_words}
 
 module _ (rows cols j : ℕ) (ws : List ℕ) (s : Placed) (h : j < 8) (given : IsPlaced rows cols (length ws) s) where
@@ -51,19 +52,16 @@ module _ (rows cols j : ℕ) (ws : List ℕ) (h : j < 8) (w : ℕ → ℕ) where
 
 module _ (rows cols j : ℕ) (ws : List ℕ) (all : List Placed) (shape : IsShape rows cols) (h : j < 8) (given : Every (IsPlaced rows cols (length ws)) all) where
   -- words that have the bins are a block that is found
-  pub found_from_bins : (out : List ℕ) → length out ≡ 8 * (rows * cols) → Every (HasBins rows cols j (λ l k. get_or out (8 * (l * cols + k) + j) 0) ws) all →
-      IsFound (lane_search 8 j (search_over rows cols ws all)) (lane_grid 8 j rows cols out)
+  pub found_from_bins : (out : List ℕ) → length out ≡ rows * cols → Every (HasBins rows cols j (λ l k. get_or out (l * cols + k) 0) ws) all →
+      IsFound (lane_search 8 j (search_over rows cols ws all)) (grid_of rows cols out)
   found_from_bins out long has =
-      let w : ℕ → ℕ = λ i. get_or out (8 * i + j) 0 in
-      let v : ℕ → ℕ = λ i. get_or (lane_of 8 j (rows * cols) out) i 0 in
+      let w : ℕ → ℕ = λ i. get_or out i 0 in
       let fits : Every (FitsWords rows cols w) (map (lane_pair 8 j rows cols) (pairs_over rows cols ws all)) = fits_from_bins rows cols j ws h w all given has in
-      let P : (ℕ → ℕ) → Type 0 = λ w. Every (FitsWords rows cols w) (map (lane_pair 8 j rows cols) (pairs_over rows cols ws all)) in
-      let fits' : Every (FitsWords rows cols v) (map (lane_pair 8 j rows cols) (pairs_over rows cols ws all)) = subst P (sym (lane_words 8 j (rows * cols) out h long)) fits in
       record {
-        grid = record { shape = shape; full = length-map-range_with_len (λ i. get_or out (8 * i + j) 0) 0 (rows * cols) };
+        grid = record { shape = shape; full = long };
         rows = refl;
         cols = refl;
-        fits = all_from_every (FitsWords rows cols v) (map (lane_pair 8 j rows cols) (pairs_over rows cols ws all)) fits';
+        fits = all_from_every (FitsWords rows cols w) (map (lane_pair 8 j rows cols) (pairs_over rows cols ws all)) fits;
       }
 
   -- a block that is found has the bins
@@ -79,19 +77,35 @@ module _ (rows cols j : ℕ) (ws : List ℕ) (all : List Placed) (shape : IsShap
       bins_from_fits rows cols j ws h w all given fits'
 
   -- blocks with the same words are the same
-  pub grid_same : (g : Grid) (out : List ℕ) → length out ≡ 8 * (rows * cols) → IsFound (lane_search 8 j (search_over rows cols ws all)) g →
-      ((l k : ℕ) → l < rows → k < cols → get_or g.words (l * cols + k) 0 ≡ get_or out (8 * (l * cols + k) + j) 0) → g ≡ lane_grid 8 j rows cols out
+  pub grid_same : (g : Grid) (out : List ℕ) → length out ≡ rows * cols → IsFound (lane_search 8 j (search_over rows cols ws all)) g →
+      ((l k : ℕ) → l < rows → k < cols → get_or g.words (l * cols + k) 0 ≡ get_or out (l * cols + k) 0) → g ≡ grid_of rows cols out
   grid_same g out long found same =
       let v : ℕ → ℕ = λ i. get_or g.words i 0 in
-      let w : ℕ → ℕ = λ i. get_or out (8 * i + j) 0 in
+      let w : ℕ → ℕ = λ i. get_or out i 0 in
       let m : g.rows * g.cols ≡ rows * cols = ap (λ r. r * g.cols) found.rows ∙ ap (λ c. rows * c) found.cols in
-      let k : length (lane_of 8 j (rows * cols) out) ≡ rows * cols = length-map-range_with_len (λ i. get_or out (8 * i + j) 0) 0 (rows * cols) in
       let n : length g.words ≡ rows * cols = found.grid.full ∙ m in
-      let at : (i : ℕ) → i < length g.words → get_or g.words i 0 ≡ get_or (lane_of 8 j (rows * cols) out) i 0 = λ i l.
-      words_from_rows cols 0 rows v w (rows_from_words cols 0 rows v w same) i (let e : cols * rows ≡ rows * cols = omega arith in omega arith)
-      ∙ ap (λ (f : ℕ → ℕ). f i) (sym (lane_words 8 j (rows * cols) out h long)) in
-      let words : g.words ≡ lane_of 8 j (rows * cols) out = ext_get_or 0 g.words (lane_of 8 j (rows * cols) out) (n ∙ sym k) at in
+      let at : (i : ℕ) → i < length g.words → get_or g.words i 0 ≡ get_or out i 0 = λ i l.
+      words_from_rows cols 0 rows v w (rows_from_words cols 0 rows v w same) i (let e : cols * rows ≡ rows * cols = omega arith in omega arith) in
+      let words : g.words ≡ out = ext_get_or 0 g.words out (n ∙ sym long) at in
       ap (λ r. grid_of r g.cols g.words) found.rows ∙ ap (λ c. grid_of rows c g.words) found.cols ∙ ap (grid_of rows cols) words
+
+-- the words of a block among eight, in a list of their own
+pub lane_taken : (rows cols reach j : ℕ) (grid out : List ℕ) → j < 8 → length out ≡ 8 * (rows * cols) →
+    ((i l k : ℕ) → i < 8 → l < rows → k < cols → get_or out (8 * (l * cols + k) + i) 0 ≡ inner grid (width_of cols reach) reach i l k) → IsTaken rows cols reach grid j (lane_of 8 j (rows * cols) out)
+lane_taken rows cols reach j grid out small long same = record {
+  full = length-map-range_with_len (λ i. get_or out (8 * i + j) 0) 0 (rows * cols);
+  words = λ l k a b.
+      (let near : l * cols + k < rows * cols = omega (arith, mul-add-lt l cols k rows a b) in
+      get_or-map-range_with_len (λ i. get_or out (8 * i + j) 0) 0 (rows * cols) (l * cols + k) (l * cols + k) 0 near (omega arith) ∙ same j l k small a b);
+}
+
+-- all angles from -16 to 16 stay within 16 places for each row
+pub lined_wide : (rows cols n : ℕ) → 0 < rows → (all : List Placed) → Every (IsPlaced rows cols n) all → Every (IsLined rows (16 * rows)) all
+lined_wide rows cols n some [] placed = tt
+lined_wide rows cols n some (s ∷ rest) (g, placed) = (
+  record { small = g.small; lifts = g.lifts; near = (let k = g.small in omega arith); reaches = (let k = mul-le-mul_right (rows - 1) g.small in omega arith) },
+  lined_wide rows cols n some rest placed,
+)
 
 -- no two angles are the same
 other_angles : (rows cols n : ℕ) (ws : List ℕ) (s : Placed) (all : List Placed) → IsPlaced rows cols n s → Every (IsPlaced rows cols n) all →
@@ -187,6 +201,12 @@ are_placed rows cols from n [] small fits = tt
 are_placed rows cols from n (p ∷ rest) (s, small) fits =
     let sum : 8 * (from + (bins p rows cols + total_bins rows cols rest)) ≤ n = fits in
     (record { small = s; lifts = refl; within = omega arith }, are_placed rows cols (from + bins p rows cols) n rest small (omega arith))
+
+pub are_lined : (rows cols reach from : ℕ) (angles : List ℤ) → Every (λ p. unsigned_abs p ≤ 16) angles → Every (λ p. unsigned_abs p ≤ reach) angles → Every (λ p. unsigned_abs p * (rows - 1) ≤ reach) angles →
+    Every (IsLined rows reach) (placed_from rows cols from angles)
+are_lined rows cols reach from [] small near reaches = tt
+are_lined rows cols reach from (p ∷ rest) (s, small) (n, near) (r, reaches) =
+    (record { small = s; lifts = refl; near = n; reaches = r }, are_lined rows cols reach (from + bins p rows cols) rest small near reaches)
 
 other_lifted : (rows cols from : ℕ) (p : ℤ) (angles : List ℤ) → unsigned_abs p ≤ 16 → Every (λ p. unsigned_abs p ≤ 16) angles → Every (λ q. q ≢ p) angles →
     Every (λ y. raised_angle y ≢ lifted 16 p) (placed_from rows cols from angles)

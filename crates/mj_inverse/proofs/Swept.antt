@@ -4,12 +4,12 @@ use Rattle.std.specs.Prelude.{bit_xor, if◌then◌else◌, ◌==◌}
 use Rattle.std.proofs.lemmas.Bool.{cases_eq, cases_lt}
 use Rattle.std.proofs.lemmas.Grind.{common_steps}
 use lib.Bits.{xor_self, xor_assoc, xor_comm, xor_zero_l, xor_zero_r}
-use Rattle.mj_angles.proofs.Sums.{xor_below-same}
+use Rattle.mj_angles.proofs.Sums.{xor_below-same, row_within}
 use Rattle.mj_angles.specs.Projection.{bins, bin, row_start}
 use Rattle.mj_angles.proofs.Order.{slope_sum, lifted, same_bin, lower_before, higher_before}
-use Rattle.mj_angles.proofs.Peel.{AnglesFall, ZeroBefore, turn_of, Falls-lifted, bin_alone, bin_next, bin-xor, zero_row, zero_turn, same_from_xor}
+use Rattle.mj_angles.proofs.Peel.{AnglesFall, ZeroBefore, turn_of, Falls-lifted, bin_alone, bin_next, bin-xor, zero_start, zero_row, zero_turn, same_from_xor}
 use Rattle.mj_inverse.specs.Rows.{Every}
-use Rattle.mj_inverse.specs.Padded.{IsPadded, inner, reach_of, width_of, direction_at, HasBins, IsSwept, AreTold, AreBins, beyond, bin_at, beyond_line}
+use Rattle.mj_inverse.specs.Padded.{inner, width_of, direction_at, HasBins, IsSwept, AreTold, AreBins, AreGiven, beyond, bin_at, giver, giver_line}
 use Rattle.mj_inverse.specs.declared.placed.Placed.{Placed}
 
 xor_same_right : (a b c : ℕ) → bit_xor a c ≡ bit_xor b c → a ≡ b
@@ -18,38 +18,6 @@ xor_same_right a b c e =
 
 twice : (a b : ℕ) → bit_xor a (bit_xor a b) ≡ b
 twice a b = sym (xor_assoc a a b) ∙ ap (λ y. bit_xor y b) (xor_self a) ∙ xor_zero_l b
-
--- one more word was read
-module _ (f f' h : ℕ → ℕ → ℕ) (p : ℕ → ℤ) (rows cols t n k x : ℕ) (fall : AnglesFall p 16 rows) (in_row : n < rows) (in_col : k < cols) (is : k + turn_of p 16 rows n ≡ t)
-    (here : f' n k ≡ bit_xor (f n k) (bit_xor x (bin f rows cols (p n) (row_start (p n) rows n + k))))
-    (other : (l' k' : ℕ) → l' < rows → k' < cols → (l' ≡ n → k' ≡ k → ⊥) → f' l' k' ≡ f l' k')
-    (fits : x ≡ bin h rows cols (p n) (row_start (p n) rows n + k))
-    (before : ZeroBefore (beyond h f) p 16 rows cols t n) where
-  read_here : beyond h f' n k ≡ 0
-  read_here =
-      let b : ℕ = row_start (p n) rows n + k in
-      let w : ℕ = bit_xor x (bin f rows cols (p n) b) in
-      let gives : w ≡ beyond h f n k =
-      ap (λ y. bit_xor y (bin f rows cols (p n) b)) fits ∙ sym (bin-xor h f rows cols (p n) b) ∙ bin_next (beyond h f) p 16 rows cols t n k fall before in_row in_col is in
-      ap (bit_xor (h n k)) here ∙ sym (xor_assoc (h n k) (f n k) w) ∙ ap (bit_xor (beyond h f n k)) gives ∙ xor_self (beyond h f n k)
-
-  stays : (l' k' : ℕ) → l' < rows → k' < cols → (l' ≡ n → k' ≡ k → ⊥) → beyond h f l' k' ≡ 0 → beyond h f' l' k' ≡ 0
-  stays l' k' m m' ne z = ap (bit_xor (h l' k')) (other l' k' m m' ne) ∙ z
-
-  early_differs : (l' k' : ℕ) → l' ≡ n → k' ≡ k → k' + turn_of p 16 rows l' < t → ⊥
-  early_differs l' k' e e' early =
-      let same : k' + turn_of p 16 rows l' ≡ k + turn_of p 16 rows n = ap (λ x. x + turn_of p 16 rows l') e' ∙ ap (λ x. k + turn_of p 16 rows x) e in
-      omega arith
-
-  pub read_more : ZeroBefore (beyond h f') p 16 rows cols t (n + 1)
-  read_more =
-      zero_row (beyond h f') p 16 rows cols t n
-      (record {
-        earlier = λ l' k' m m' early. stays l' k' m m' (λ e e'. early_differs l' k' e e' early) (before.earlier l' k' m m' early);
-        now = λ l' k' m m' now above. stays l' k' m m' (λ e e'. absurd (omega arith)) (before.now l' k' m m' now above);
-      })
-      (λ k' m' now. let e : k ≡ k' = omega arith in
-      let P : ℕ → Type 0 = λ y. beyond h f' n y ≡ 0 in subst P e read_here)
 
 -- the words on the line of a word say what its bin is
 bin-on_line : (f g : ℕ → ℕ → ℕ) (rows cols : ℕ) (p : ℤ) (b : ℕ) → ((l k : ℕ) → l < rows → k < cols → row_start p rows l + k ≡ b → f l k ≡ g l k) → bin f rows cols p b ≡ bin g rows cols p b
@@ -135,67 +103,46 @@ module _ (f f' : ℕ → ℕ → ℕ) (p : ℕ → ℤ) (rows cols t n k x : ℕ
       let P : ℕ → Type 0 = λ y. bit_xor (w n (row_start (p n) rows n + y)) (bin f' rows cols (p n) (row_start (p n) rows n + y)) ≡ 0 in
       subst P e (ap (λ y. bit_xor y (bin f' rows cols (p n) (row_start (p n) rows n + k))) gives ∙ ap (bit_xor x) told_here ∙ xor_self x))
 
-pub swept_start : (rows cols : ℕ) (ws : List ℕ) (all : List Placed) (grid : List ℕ) (t : ℕ) → IsPadded rows cols (reach_of rows) grid → AreBins rows cols ws all grid rows →
-    ((l : ℕ) → l < rows → t ≤ turn_of (direction_at all) 16 rows l) → IsSwept rows cols ws all grid t 0
-swept_start rows cols ws all grid t padded given first = record {
+pub swept_start : (rows cols reach : ℕ) (ws : List ℕ) (all : List Placed) (grid : List ℕ) (t : ℕ) → AreBins rows cols reach ws all grid rows →
+    ((l : ℕ) → l < rows → t ≤ turn_of (direction_at all) 16 rows l) → IsSwept rows cols reach ws all grid t 0
+swept_start rows cols reach ws all grid t given first = record {
   later = λ i l k m a b e. given i l k m a b;
   next = λ i l k m a b e e'. given i l k m a b;
-  padded = padded;
-  known = λ i h m every. record {
-    earlier = λ l k a b e. let late = first l a in absurd (omega arith);
-    now = λ l k a b e e'. absurd (omega arith);
-  };
   told = λ i m. record {
     earlier = λ l k a b e. let late = first l a in absurd (omega arith);
     now = λ l k a b e e'. absurd (omega arith);
   };
 }
 
-pub swept_none : (rows cols : ℕ) (ws : List ℕ) (all : List Placed) (grid : List ℕ) (t n : ℕ) → ((k : ℕ) → k < cols → k + turn_of (direction_at all) 16 rows n ≢ t) →
-    IsSwept rows cols ws all grid t n → IsSwept rows cols ws all grid t (n + 1)
-swept_none rows cols ws all grid t n none before = record {
+pub swept_none : (rows cols reach : ℕ) (ws : List ℕ) (all : List Placed) (grid : List ℕ) (t n : ℕ) → ((k : ℕ) → k < cols → k + turn_of (direction_at all) 16 rows n ≢ t) →
+    IsSwept rows cols reach ws all grid t n → IsSwept rows cols reach ws all grid t (n + 1)
+swept_none rows cols reach ws all grid t n none before = record {
   later = before.later;
   next = λ i l k m a b e le. before.next i l k m a b e (omega arith);
-  padded = before.padded;
-  known = λ i h m every. zero_row (beyond h (inner grid (width_of cols (reach_of rows)) (reach_of rows) i)) (direction_at all) 16 rows cols t n (before.known i h m every) (λ k a e. absurd (none k a e));
-  told = λ i m. zero_row (beyond_line rows cols ws all i (inner grid (width_of cols (reach_of rows)) (reach_of rows) i)) (direction_at all) 16 rows cols t n (before.told i m) (λ k a e. absurd (none k a e));
+  told = λ i m. zero_row (beyond (giver rows ws all i) (giver_line rows cols (direction_at all) (inner grid (width_of cols reach) reach i))) (direction_at all) 16 rows cols t n (before.told i m) (λ k a e. absurd (none k a e));
 }
 
-pub swept_turn : (rows cols : ℕ) (ws : List ℕ) (all : List Placed) (grid : List ℕ) (t : ℕ) → IsSwept rows cols ws all grid t rows → IsSwept rows cols ws all grid (t + 1) 0
-swept_turn rows cols ws all grid t before = record {
+pub swept_turn : (rows cols reach : ℕ) (ws : List ℕ) (all : List Placed) (grid : List ℕ) (t : ℕ) → IsSwept rows cols reach ws all grid t rows → IsSwept rows cols reach ws all grid (t + 1) 0
+swept_turn rows cols reach ws all grid t before = record {
   later = λ i l k m a b e. before.later i l k m a b (omega arith);
   next = λ i l k m a b e le. before.later i l k m a b (omega arith);
-  padded = before.padded;
-  known = λ i h m every. zero_turn (beyond h (inner grid (width_of cols (reach_of rows)) (reach_of rows) i)) (direction_at all) 16 rows cols t (before.known i h m every);
-  told = λ i m. zero_turn (beyond_line rows cols ws all i (inner grid (width_of cols (reach_of rows)) (reach_of rows) i)) (direction_at all) 16 rows cols t (before.told i m);
+  told = λ i m. zero_turn (beyond (giver rows ws all i) (giver_line rows cols (direction_at all) (inner grid (width_of cols reach) reach i))) (direction_at all) 16 rows cols t (before.told i m);
 }
 
-pub swept_more : (rows cols : ℕ) (ws : List ℕ) (all : List Placed) (grid grid' : List ℕ) (t n k : ℕ) (s : Placed) → AnglesFall (direction_at all) 16 rows → n < rows → k < cols → k + turn_of (direction_at all) 16 rows n ≡ t →
-    direction_at all n ≡ s.direction → ((i b : ℕ) → bin_at ws all n i b ≡ get_or ws (8 * (s.from + b) + i) 0) → ((P : Placed → Type 0) → Every P all → P s) → row_start s.direction rows n + k < bins s.direction rows cols →
-    ((i : ℕ) → i < 8 → inner grid' (width_of cols (reach_of rows)) (reach_of rows) i n k ≡
-    bin (inner grid (width_of cols (reach_of rows)) (reach_of rows) i) rows cols s.direction (row_start s.direction rows n + k)) →
-    ((i l' k' : ℕ) → i < 8 → l' < rows → k' < cols → (l' ≡ n → k' ≡ k → ⊥) →
-    inner grid' (width_of cols (reach_of rows)) (reach_of rows) i l' k' ≡ inner grid (width_of cols (reach_of rows)) (reach_of rows) i l' k') →
-    IsPadded rows cols (reach_of rows) grid' → IsSwept rows cols ws all grid t n → IsSwept rows cols ws all grid' t (n + 1)
-swept_more rows cols ws all grid grid' t n k s fall in_row in_col is turned binned at within here other padded before = record {
-  padded = padded;
+pub swept_more : (rows cols reach : ℕ) (ws : List ℕ) (all : List Placed) (grid grid' : List ℕ) (t n k : ℕ) (p : ℤ) → AnglesFall (direction_at all) 16 rows → n < rows → k < cols → k + turn_of (direction_at all) 16 rows n ≡ t →
+    direction_at all n ≡ p →
+    ((i : ℕ) → i < 8 → inner grid' (width_of cols reach) reach i n k ≡ bin (inner grid (width_of cols reach) reach i) rows cols p (row_start p rows n + k)) →
+    ((i l' k' : ℕ) → i < 8 → l' < rows → k' < cols → (l' ≡ n → k' ≡ k → ⊥) → inner grid' (width_of cols reach) reach i l' k' ≡ inner grid (width_of cols reach) reach i l' k') →
+    IsSwept rows cols reach ws all grid t n → IsSwept rows cols reach ws all grid' t (n + 1)
+swept_more rows cols reach ws all grid grid' t n k p fall in_row in_col is turned here other before = record {
   later = λ i l' k' m a b e. other i l' k' m a b (λ row col. after l' k' row col e) ∙ before.later i l' k' m a b e;
   next = λ i l' k' m a b e le. other i l' k' m a b (λ row col. absurd (omega arith)) ∙ before.next i l' k' m a b e (omega arith);
-  known = λ i h m every.
-      (let f : ℕ → ℕ → ℕ = inner grid (width_of cols (reach_of rows)) (reach_of rows) i in
-      let f' : ℕ → ℕ → ℕ = inner grid' (width_of cols (reach_of rows)) (reach_of rows) i in
-      let x : ℕ = get_or ws (8 * (s.from + (row_start s.direction rows n + k)) + i) 0 in
-      let Q : ℤ → Type 0 = λ q. x ≡ bin h rows cols q (row_start q rows n + k) in
-      read_more f f' h (direction_at all) rows cols t n k x fall in_row in_col is
-      (gives i m) (λ l' k' a b ne. other i l' k' m a b ne)
-      (subst Q (sym turned) (at (HasBins rows cols i h ws) every (row_start s.direction rows n + k) within)) (before.known i h m every));
   told = λ i m.
-      (let f : ℕ → ℕ → ℕ = inner grid (width_of cols (reach_of rows)) (reach_of rows) i in
-      let f' : ℕ → ℕ → ℕ = inner grid' (width_of cols (reach_of rows)) (reach_of rows) i in
-      let x : ℕ = get_or ws (8 * (s.from + (row_start s.direction rows n + k)) + i) 0 in
-      told_more f f' (direction_at all) rows cols t n k x fall in_row in_col is
+      (let f : ℕ → ℕ → ℕ = inner grid (width_of cols reach) reach i in
+      let f' : ℕ → ℕ → ℕ = inner grid' (width_of cols reach) reach i in
+      told_more f f' (direction_at all) rows cols t n k (giver rows ws all i n k) fall in_row in_col is
       (gives i m) (λ l' k' a b ne. other i l' k' m a b ne)
-      (λ l b. bin_at ws all l i b) (stands i) (before.told i m));
+      (λ l b. bin_at ws all l i b) refl (before.told i m));
 }
   where
     after : (l' k' : ℕ) → l' ≡ n → k' ≡ k → t < k' + turn_of (direction_at all) 16 rows l' → ⊥
@@ -204,61 +151,96 @@ swept_more rows cols ws all grid grid' t n k s fall in_row in_col is turned binn
         ap (λ x. x + turn_of (direction_at all) 16 rows l') col ∙ ap (λ x. k + turn_of (direction_at all) 16 rows x) row in
         omega arith
 
-    stands : (i : ℕ) → bin_at ws all n i (row_start (direction_at all n) rows n + k) ≡ get_or ws (8 * (s.from + (row_start s.direction rows n + k)) + i) 0
-    stands i = ap (λ q. bin_at ws all n i (row_start q rows n + k)) turned ∙ binned i (row_start s.direction rows n + k)
-
     -- what is written is the word that was there, the bin and the sum of its line
-    gives : (i : ℕ) → i < 8 → inner grid' (width_of cols (reach_of rows)) (reach_of rows) i n k ≡
-        bit_xor (inner grid (width_of cols (reach_of rows)) (reach_of rows) i n k)
-        (bit_xor (get_or ws (8 * (s.from + (row_start s.direction rows n + k)) + i) 0)
-        (bin (inner grid (width_of cols (reach_of rows)) (reach_of rows) i) rows cols (direction_at all n) (row_start (direction_at all n) rows n + k)))
+    gives : (i : ℕ) → i < 8 → inner grid' (width_of cols reach) reach i n k ≡
+        bit_xor (inner grid (width_of cols reach) reach i n k)
+        (bit_xor (giver rows ws all i n k)
+        (bin (inner grid (width_of cols reach) reach i) rows cols (direction_at all n) (row_start (direction_at all n) rows n + k)))
     gives i m =
-        let f : ℕ → ℕ → ℕ = inner grid (width_of cols (reach_of rows)) (reach_of rows) i in
-        let x : ℕ = get_or ws (8 * (s.from + (row_start s.direction rows n + k)) + i) 0 in
+        let f : ℕ → ℕ → ℕ = inner grid (width_of cols reach) reach i in
+        let x : ℕ = giver rows ws all i n k in
         let v : ℕ = bin f rows cols (direction_at all n) (row_start (direction_at all n) rows n + k) in
-        let was : f n k ≡ x = before.next i n k m in_row in_col is (omega arith) ∙ stands i in
+        let was : f n k ≡ x = before.next i n k m in_row in_col is (omega arith) in
         here i m ∙ ap (λ q. bin f rows cols q (row_start q rows n + k)) (sym turned) ∙ sym (twice x v) ∙ ap (λ y. bit_xor y (bit_xor x v)) (sym was)
 
 -- all words were read
-pub swept_all : (rows cols : ℕ) (ws : List ℕ) (all : List Placed) (grid : List ℕ) (t : ℕ) → IsSwept rows cols ws all grid t 0 → ((l : ℕ) → l < rows → cols + turn_of (direction_at all) 16 rows l ≤ t) →
-    (i : ℕ) (f : ℕ → ℕ → ℕ) → i < 8 → Every (HasBins rows cols i f ws) all →
-    (l k : ℕ) → l < rows → k < cols → f l k ≡ inner grid (width_of cols (reach_of rows)) (reach_of rows) i l k
-swept_all rows cols ws all grid t is late i f m every l k a b =
+pub swept_all : (rows cols reach : ℕ) (ws : List ℕ) (all : List Placed) (grid : List ℕ) (t : ℕ) → IsSwept rows cols reach ws all grid t 0 → ((l : ℕ) → l < rows → cols + turn_of (direction_at all) 16 rows l ≤ t) →
+    AreGiven rows cols reach ws all grid
+swept_all rows cols reach ws all grid t is late i l k m a b =
     let e = late l a in
-    same_from_xor (f l k) (inner grid (width_of cols (reach_of rows)) (reach_of rows) i l k) ((is.known i f m every).earlier l k a b (omega arith))
+    same_from_xor (giver rows ws all i l k) (giver_line rows cols (direction_at all) (inner grid (width_of cols reach) reach i) l k) ((is.told i m).earlier l k a b (omega arith))
 
-told_from : (rows cols n : ℕ) (ws : List ℕ) (all : List Placed) (grid : List ℕ) →
+told_from : (rows cols reach n : ℕ) (ws : List ℕ) (all : List Placed) (grid : List ℕ) →
     ((i l k : ℕ) → i < 8 → l < length all → k < cols → bin_at ws all l i (row_start (direction_at all l) rows (n + l) + k)
-    ≡ bin (inner grid (width_of cols (reach_of rows)) (reach_of rows) i) rows cols (direction_at all l) (row_start (direction_at all l) rows (n + l) + k)) →
-    AreTold rows cols ws grid n all
-told_from rows cols n ws [] grid told = tt
-told_from rows cols n ws (s ∷ rest) grid told = (
+    ≡ bin (inner grid (width_of cols reach) reach i) rows cols (direction_at all l) (row_start (direction_at all l) rows (n + l) + k)) →
+    AreTold rows cols reach ws grid n all
+told_from rows cols reach n ws [] grid told = tt
+told_from rows cols reach n ws (s ∷ rest) grid told = (
   λ i k small m.
       let e : n + 0 ≡ n = omega arith in
       let P : ℕ → Type 0 = λ y. get_or ws (8 * (s.from + (row_start s.direction rows y + k)) + i) 0
-      ≡ bin (inner grid (width_of cols (reach_of rows)) (reach_of rows) i) rows cols s.direction (row_start s.direction rows y + k) in
+      ≡ bin (inner grid (width_of cols reach) reach i) rows cols s.direction (row_start s.direction rows y + k) in
       subst P e (told i 0 k small (let z : 0 < suc (length rest) = omega arith in z) m),
-  told_from rows cols (n + 1) ws rest grid (λ i l k small h m.
+  told_from rows cols reach (n + 1) ws rest grid (λ i l k small h m.
       let e : n + suc l ≡ n + 1 + l = omega arith in
       let P : ℕ → Type 0 = λ y. bin_at ws rest l i (row_start (direction_at rest l) rows y + k)
-      ≡ bin (inner grid (width_of cols (reach_of rows)) (reach_of rows) i) rows cols (direction_at rest l) (row_start (direction_at rest l) rows y + k) in
+      ≡ bin (inner grid (width_of cols reach) reach i) rows cols (direction_at rest l) (row_start (direction_at rest l) rows y + k) in
       subst P e (told i (suc l) k small (let z : suc l < suc (length rest) = omega arith in z) m)),
 )
 
--- the words have all bins that gave them
-pub told_all : (rows cols : ℕ) (ws : List ℕ) (all : List Placed) (grid : List ℕ) (t : ℕ) → length all ≡ rows → IsSwept rows cols ws all grid t 0 → ((l : ℕ) → l < rows → cols + turn_of (direction_at all) 16 rows l ≤ t) →
-    AreTold rows cols ws grid 0 all
-told_all rows cols ws all grid t count is late =
-    told_from rows cols 0 ws all grid
+-- the words have all bins that gave them, said projection by projection
+pub told_all : (rows cols reach : ℕ) (ws : List ℕ) (all : List Placed) (grid : List ℕ) → length all ≡ rows → AreGiven rows cols reach ws all grid → AreTold rows cols reach ws grid 0 all
+told_all rows cols reach ws all grid count given =
+    told_from rows cols reach 0 ws all grid
     (λ i l k small h m.
-    let e = late l (omega arith) in
     let o : 0 + l ≡ l = omega arith in
     let P : ℕ → Type 0 = λ y. bin_at ws all l i (row_start (direction_at all l) rows y + k)
-    ≡ bin (inner grid (width_of cols (reach_of rows)) (reach_of rows) i) rows cols (direction_at all l) (row_start (direction_at all l) rows y + k) in
-    let f : ℕ → ℕ → ℕ = inner grid (width_of cols (reach_of rows)) (reach_of rows) i in
-    let here : P l = same_from_xor (bin_at ws all l i (row_start (direction_at all l) rows l + k)) (bin f rows cols (direction_at all l) (row_start (direction_at all l) rows l + k))
-    ((is.told i small).earlier l k (omega arith) m (omega arith)) in
+    ≡ bin (inner grid (width_of cols reach) reach i) rows cols (direction_at all l) (row_start (direction_at all l) rows y + k) in
+    let here : P l = given i l k small (omega arith) m in
     subst P (sym o) here)
+
+-- words that have all bins have those that give a word
+gives_at : (rows cols i : ℕ) (ws : List ℕ) (f : ℕ → ℕ → ℕ) (all : List Placed) → Every (HasBins rows cols i f ws) all → (l b : ℕ) → l < length all → b < bins (direction_at all l) rows cols →
+    bin_at ws all l i b ≡ bin f rows cols (direction_at all l) b
+gives_at rows cols i ws f [] every l b h within = absurd (omega arith)
+gives_at rows cols i ws f (s ∷ rest) (has, every) zero b h within = has b within
+gives_at rows cols i ws f (s ∷ rest) (has, every) (suc l) b h within = gives_at rows cols i ws f rest every l b (let k : suc l < suc (length rest) = h in omega arith) within
+
+-- words whose bins that give a word are all zero are zero
+module _ (d : ℕ → ℕ → ℕ) (p : ℕ → ℤ) (rows cols : ℕ) (a : AnglesFall p 16 rows)
+    (none : (l k : ℕ) → l < rows → k < cols → bin d rows cols (p l) (row_start (p l) rows l + k) ≡ 0) where
+  zero_rows : (t n : ℕ) → n ≤ rows → ZeroBefore d p 16 rows cols t 0 → ZeroBefore d p 16 rows cols t n
+  zero_rows t zero h before = before
+  zero_rows t (suc n) h before =
+      let now = zero_rows t n (omega arith) before in
+      let e : n + 1 ≡ suc n = omega arith in
+      let P : ℕ → Type 0 = λ x. ZeroBefore d p 16 rows cols t x in
+      subst P e (zero_row d p 16 rows cols t n now (λ k h' is. sym (bin_next d p 16 rows cols t n k a now (omega arith) h' is) ∙ none n k (omega arith) h'))
+
+  zero_turns : (t : ℕ) → ZeroBefore d p 16 rows cols t 0
+  zero_turns zero = zero_start d p 16 rows cols
+  zero_turns (suc t) =
+      let e : t + 1 ≡ suc t = omega arith in
+      let P : ℕ → Type 0 = λ x. ZeroBefore d p 16 rows cols x 0 in
+      subst P e (zero_turn d p 16 rows cols t (zero_rows t rows (omega arith) (zero_turns t)))
+
+  given_zero : (l k : ℕ) → l < rows → k < cols → d l k ≡ 0
+  given_zero l k h h' = (zero_turns (k + turn_of p 16 rows l + 1)).earlier l k h h' (omega arith)
+
+-- no other words can have all bins
+pub only_words : (rows cols reach i : ℕ) (ws : List ℕ) (all : List Placed) (grid : List ℕ) (f : ℕ → ℕ → ℕ) → AnglesFall (direction_at all) 16 rows → length all ≡ rows → i < 8 →
+    AreGiven rows cols reach ws all grid → Every (HasBins rows cols i f ws) all → (l k : ℕ) → l < rows → k < cols → f l k ≡ inner grid (width_of cols reach) reach i l k
+only_words rows cols reach i ws all grid f fall count small given every l k h m =
+    let p : ℕ → ℤ = direction_at all in
+    let g : ℕ → ℕ → ℕ = inner grid (width_of cols reach) reach i in
+    same_from_xor (f l k) (g l k)
+    (given_zero (beyond f g) p rows cols fall
+    (λ l' k' a b.
+    let s : ℕ = row_start (p l') rows l' + k' in
+    let within : row_start (direction_at all l') rows l' + k' < bins (direction_at all l') rows cols = (let r = row_within (direction_at all l') rows cols l' a in omega arith) in
+    bin-xor f g rows cols (p l') s ∙ ap (λ x. bit_xor x (bin g rows cols (p l') s)) (sym (gives_at rows cols i ws f all every l' (row_start (direction_at all l') rows l' + k') (omega arith) within) ∙ given i l' k' small a b)
+    ∙ xor_self (bin g rows cols (p l') s))
+    l k h m)
 
 pub slope_sum-step : (q : ℕ → ℕ) (l : ℕ) → 0 < l → slope_sum q (l - 1) + q l ≡ slope_sum q l
 slope_sum-step q zero h = absurd (omega arith)

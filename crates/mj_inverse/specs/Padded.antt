@@ -1,5 +1,5 @@
 -- Eight blocks side by side, in rows with room for zeros on both sides of the columns.
-use Rattle.std.specs.Prelude.{◌≡◌, ℕ, zero, suc, ◌+◌, ◌-◌, ◌*◌, ◌<◌, ◌≤◌, ℤ, pos, negsuc, List, [], ◌∷◌, length, slice_index, slice_range, unsigned_abs, bit_xor}
+use Rattle.std.specs.Prelude.{◌≡◌, ℕ, zero, suc, ◌+◌, ◌-◌, ◌*◌, ◌<◌, ◌≤◌, ℤ, pos, negsuc, List, [], ◌∷◌, length, slice_index, slice_range, get_or, unsigned_abs, bit_xor}
 use Rattle.rz_words.specs.Grid.{IsShape}
 use Rattle.mj_angles.proofs.Order.{lifted}
 use Rattle.mj_inverse.specs.Fits.{Pair, Search}
@@ -8,10 +8,7 @@ use Rattle.mj_angles.specs.Projection.{bin, bins, offset, row_start}
 use Rattle.mj_angles.proofs.Peel.{ZeroBefore, turn_of}
 use Rattle.mj_inverse.specs.Rows.{Every}
 use Rattle.mj_inverse.specs.declared.placed.Placed.{Placed}
-
--- so many places are free on each side of a row: a line that meets a row meets all others within them
-abbrev pub reach_of : ℕ → ℕ
-reach_of rows = 16 * rows
+use Rattle.mj_inverse.specs.declared.lines.Line.{Line}
 
 -- the places of a row
 abbrev pub width_of : ℕ → ℕ → ℕ
@@ -80,19 +77,27 @@ abbrev pub IsFalling : List Placed → Type 0
 IsFalling [] = Unit {0}
 IsFalling (x ∷ xs) = Every (λ y. y.angle < x.angle) xs × IsFalling xs
 
+-- the lines of a projection at an angle from -16 to 16 meet no place further than `reach` from the columns
+pub record IsLined (rows reach : ℕ) (s : Placed) : Type 0 where
+  pub small : unsigned_abs s.direction ≤ 16
+  pub lifts : s.angle ≡ lifted 16 s.direction
+  pub near : unsigned_abs s.direction ≤ reach
+  pub reaches : unsigned_abs s.direction * (rows - 1) ≤ reach
+
+abbrev pub no_line : Line
+no_line = record { turn = 0; at = 0; step = 0; own = 0 }
+
+-- how the first n rows are read, where row l is read at the angle p l
+pub record AreLines (rows cols reach : ℕ) (p : ℕ → ℤ) (lines : List Line) (n : ℕ) : Type 0 where
+  pub turns : (l : ℕ) → l < n → (get_or lines l no_line).turn ≡ turn_of p 16 rows l
+  pub ats : (l : ℕ) → l < n → (get_or lines l no_line).at ≡ reach - offset (p l) rows + row_start (p l) rows l
+  pub steps : (l : ℕ) → l < n → (get_or lines l no_line).step ≡ step_of (width_of cols reach) (p l)
+  pub owns : (l : ℕ) → l < n → (get_or lines l no_line).own ≡ l * width_of cols reach + reach
+  pub early : (l : ℕ) → l < n → (get_or lines l no_line).turn ≤ 768
+
 -- the words f have the bins of block i, which stand in ws
 abbrev pub HasBins : ℕ → ℕ → ℕ → (ℕ → ℕ → ℕ) → List ℕ → Placed → Type 0
 HasBins rows cols i f ws s = (b : ℕ) → b < bins s.direction rows cols → slice_index ws (8 * (s.from + b) + i) ≡ bin f rows cols s.direction b
-
--- of each block, the only words that can have its bins
-abbrev pub IsOnly : ℕ → ℕ → List ℕ → List Placed → List ℕ → Type 0
-IsOnly rows cols ws all g =
-    (i : ℕ) (f : ℕ → ℕ → ℕ) → i < 8 → Every (HasBins rows cols i f ws) all →
-    (l k : ℕ) → l < rows → k < cols → f l k ≡ inner g (width_of cols (reach_of rows)) (reach_of rows) i l k
-
--- what h has beyond f
-abbrev pub beyond : (ℕ → ℕ → ℕ) → (ℕ → ℕ → ℕ) → ℕ → ℕ → ℕ
-beyond h f l k = bit_xor (h l k) (f l k)
 
 -- bin b of projection l, of block i
 abbrev pub bin_at : List ℕ → List Placed → ℕ → ℕ → ℕ → ℕ
@@ -100,45 +105,49 @@ bin_at ws [] l i b = 0
 bin_at ws (s ∷ rest) zero i b = slice_index ws (8 * (s.from + b) + i)
 bin_at ws (s ∷ rest) (suc l) i b = bin_at ws rest l i b
 
--- what the bin that gives a word has beyond the words f on its line
-abbrev pub beyond_line : ℕ → ℕ → List ℕ → List Placed → ℕ → (ℕ → ℕ → ℕ) → ℕ → ℕ → ℕ
-beyond_line rows cols ws all i f l k =
-    bit_xor (bin_at ws all l i (row_start (direction_at all l) rows l + k)) (bin f rows cols (direction_at all l) (row_start (direction_at all l) rows l + k))
+-- the bin that gives the word in column k of row l, of block i
+abbrev pub giver : ℕ → List ℕ → List Placed → ℕ → ℕ → ℕ → ℕ
+giver rows ws all i l k = bin_at ws all l i (row_start (direction_at all l) rows l + k)
 
--- where the line of column 0 of row l meets row 0, and how far it is on in each row, at the angle that gives row l
-abbrev pub line_at : ℕ → ℤ → ℕ → ℕ
-line_at rows p l = 16 * rows - offset p rows + row_start p rows l
+-- the words on its line
+abbrev pub giver_line : ℕ → ℕ → (ℕ → ℤ) → (ℕ → ℕ → ℕ) → ℕ → ℕ → ℕ
+giver_line rows cols p f l k = bin f rows cols (p l) (row_start (p l) rows l + k)
 
--- the lines of the first n rows
-pub record AreLines (rows cols : ℕ) (all : List Placed) (xs ys : List ℕ) (n : ℕ) : Type 0 where
-  pub ats : (l : ℕ) → l < n → slice_index xs l ≡ line_at rows (direction_at all l) l
-  pub steps : (l : ℕ) → l < n → slice_index ys l ≡ step_of (width_of cols (reach_of rows)) (direction_at all l)
+-- what h has beyond f
+abbrev pub beyond : (ℕ → ℕ → ℕ) → (ℕ → ℕ → ℕ) → ℕ → ℕ → ℕ
+beyond h f l k = bit_xor (h l k) (f l k)
 
--- all words before row n of turn t were read, of each block, and in place of the others stand the bins that give them
-pub record IsSwept (rows cols : ℕ) (ws : List ℕ) (all : List Placed) (grid : List ℕ) (t n : ℕ) : Type 0 where
-  pub padded : IsPadded rows cols (reach_of rows) grid
-  pub known : (i : ℕ) (h : ℕ → ℕ → ℕ) → i < 8 → Every (HasBins rows cols i h ws) all →
-      ZeroBefore (beyond h (inner grid (width_of cols (reach_of rows)) (reach_of rows) i)) (direction_at all) 16 rows cols t n
-  pub told : (i : ℕ) → i < 8 → ZeroBefore (beyond_line rows cols ws all i (inner grid (width_of cols (reach_of rows)) (reach_of rows) i)) (direction_at all) 16 rows cols t n
+-- all words before row n of turn t were read, of each block: they have the bins that gave them. In place of the others stand the bins that give them
+pub record IsSwept (rows cols reach : ℕ) (ws : List ℕ) (all : List Placed) (grid : List ℕ) (t n : ℕ) : Type 0 where
+  pub told : (i : ℕ) → i < 8 → ZeroBefore (beyond (giver rows ws all i) (giver_line rows cols (direction_at all) (inner grid (width_of cols reach) reach i))) (direction_at all) 16 rows cols t n
   pub later : (i l k : ℕ) → i < 8 → l < rows → k < cols → t < k + turn_of (direction_at all) 16 rows l →
-      inner grid (width_of cols (reach_of rows)) (reach_of rows) i l k ≡ bin_at ws all l i (row_start (direction_at all l) rows l + k)
+      inner grid (width_of cols reach) reach i l k ≡ giver rows ws all i l k
   pub next : (i l k : ℕ) → i < 8 → l < rows → k < cols → k + turn_of (direction_at all) 16 rows l ≡ t → n ≤ l →
-      inner grid (width_of cols (reach_of rows)) (reach_of rows) i l k ≡ bin_at ws all l i (row_start (direction_at all l) rows l + k)
+      inner grid (width_of cols reach) reach i l k ≡ giver rows ws all i l k
 
 -- each word of the first n rows is the bin that gives it
-abbrev pub AreBins : ℕ → ℕ → List ℕ → List Placed → List ℕ → ℕ → Type 0
-AreBins rows cols ws all grid n =
-    (i l k : ℕ) → i < 8 → l < n → k < cols →
-    inner grid (width_of cols (reach_of rows)) (reach_of rows) i l k ≡ bin_at ws all l i (row_start (direction_at all l) rows l + k)
+abbrev pub AreBins : ℕ → ℕ → ℕ → List ℕ → List Placed → List ℕ → ℕ → Type 0
+AreBins rows cols reach ws all grid n =
+    (i l k : ℕ) → i < 8 → l < n → k < cols → inner grid (width_of cols reach) reach i l k ≡ giver rows ws all i l k
+
+-- the words have the bins that gave them
+abbrev pub AreGiven : ℕ → ℕ → ℕ → List ℕ → List Placed → List ℕ → Type 0
+AreGiven rows cols reach ws all grid =
+    (i l k : ℕ) → i < 8 → l < rows → k < cols → giver rows ws all i l k ≡ giver_line rows cols (direction_at all) (inner grid (width_of cols reach) reach i) l k
 
 -- the words have the bins that gave row n
-abbrev pub IsTold : ℕ → ℕ → List ℕ → List ℕ → ℕ → Placed → Type 0
-IsTold rows cols ws grid n s =
+abbrev pub IsTold : ℕ → ℕ → ℕ → List ℕ → List ℕ → ℕ → Placed → Type 0
+IsTold rows cols reach ws grid n s =
     (i k : ℕ) → i < 8 → k < cols →
     slice_index ws (8 * (s.from + (row_start s.direction rows n + k)) + i)
-    ≡ bin (inner grid (width_of cols (reach_of rows)) (reach_of rows) i) rows cols s.direction (row_start s.direction rows n + k)
+    ≡ bin (inner grid (width_of cols reach) reach i) rows cols s.direction (row_start s.direction rows n + k)
 
 -- the first gave row n, and each of the others the next row
-abbrev pub AreTold : ℕ → ℕ → List ℕ → List ℕ → ℕ → List Placed → Type 0
-AreTold rows cols ws grid n [] = Unit {0}
-AreTold rows cols ws grid n (s ∷ rest) = IsTold rows cols ws grid n s × AreTold rows cols ws grid (n + 1) rest
+abbrev pub AreTold : ℕ → ℕ → ℕ → List ℕ → List ℕ → ℕ → List Placed → Type 0
+AreTold rows cols reach ws grid n [] = Unit {0}
+AreTold rows cols reach ws grid n (s ∷ rest) = IsTold rows cols reach ws grid n s × AreTold rows cols reach ws grid (n + 1) rest
+
+-- these are the words of block i
+pub record IsTaken (rows cols reach : ℕ) (grid : List ℕ) (i : ℕ) (ws : List ℕ) : Type 0 where
+  pub full : length ws ≡ rows * cols
+  pub words : (l k : ℕ) → l < rows → k < cols → slice_index ws (l * cols + k) ≡ inner grid (width_of cols reach) reach i l k

@@ -7,12 +7,12 @@ ghost use Rattle.mj_angles.specs.Projection.{bins as bin_count};
 ghost use Rattle.mj_inverse.specs.Fits.{AnglesDiffer, IsFound, empty_search, search_from, total_bins, with_pair};
 ghost use Rattle.mj_inverse.specs.Store.{lane_search, lane_grid};
 
+use crate::finding::{find_beside, find_from_beside};
+use crate::lines::Frame;
 use crate::placed::{Placed, add_placed, add_words};
-use crate::sweep::{find, find_from};
 use mj_inverse_sums::zeros;
 use std::alloc::{AllocError, Global};
 use std::marker::Model;
-use std::simd::prelude::*;
 
 /// Room for as many projections as a block has rows, each of eight blocks, and for finding the blocks.
 ///
@@ -25,22 +25,20 @@ pub struct WorkEight {
     used: usize,
     all: Vec<Placed>,
     words: Vec<u64>,
-    marks: Vec<u64>,
-    turns: Vec<usize>,
     grid: Vec<u64>,
 }
 
 impl Model for WorkEight {
     ghost use Rattle.std.specs.Prelude.{◌≡◌, ◌≤◌, ◌+◌, ◌*◌, vec_len, vec_capacity};
     ghost use Rattle.mj_inverse.specs.Fits.{Search};
-    ghost use Rattle.mj_inverse.specs.Padded.{IsKept, IsPadded, reach_of, search_over, width_of};
+    ghost use Rattle.mj_inverse.specs.Padded.{IsKept, IsPadded, search_over, width_of};
 
     ghost Value = { Search };
 
     ghost view = { λ w. search_over w.rows w.cols w.words.items w.all.items };
 
-    ghost invariant = { λ w. IsKept w.rows w.cols w.used w.words.items w.all.items × (vec_len w.marks ≡ 8) × (vec_len w.turns ≡ w.rows)
-        × (vec_len w.grid ≡ 8 * (w.rows * width_of w.cols (reach_of w.rows))) × IsPadded w.rows w.cols (reach_of w.rows) w.grid.items
+    ghost invariant = { λ w. IsKept w.rows w.cols w.used w.words.items w.all.items
+        × (vec_len w.grid ≡ 8 * (w.rows * width_of w.cols (16 * w.rows))) × IsPadded w.rows w.cols (16 * w.rows) w.grid.items
         × (w.rows ≤ vec_capacity w.all) × (8 * (w.rows * (w.cols + 16 * w.rows)) ≤ vec_capacity w.words) };
 }
 
@@ -52,8 +50,6 @@ impl WorkEight {
     {
         let all = Vec::with_capacity(alloc, rows)?;
         let words = Vec::with_capacity(alloc, 8 * (rows * (cols + 16 * rows)))?;
-        let marks = vec![in alloc; 0u64; 8]?;
-        let turns = vec![in alloc; 0usize; rows]?;
         let grid = zeros(alloc, 8 * (rows * (cols + 32 * rows)))?;
         Ok(WorkEight {
             rows,
@@ -61,8 +57,6 @@ impl WorkEight {
             used: 0,
             all,
             words,
-            marks,
-            turns,
             grid,
         })
     }
@@ -100,22 +94,16 @@ impl WorkEight {
         ensures only { (j : ℕ) (g : Grid) → j < 8 → IsFound (lane_search 8 j self.old) g → g ≡ lane_grid 8 j self.old.rows self.old.cols out.new }
         ensures clear { self.new ≡ empty_search self.old.rows self.old.cols }
     {
-        let rows = self.rows;
-        let cols = self.cols;
-        find(
-            &mut self.all,
-            &self.words,
-            &mut self.turns,
-            rows,
-            cols,
-            &mut self.grid,
-            out,
-            &mut self.marks,
-        );
+        let frame = Frame {
+            rows: self.rows,
+            cols: self.cols,
+            reach: 16 * self.rows,
+        };
+        let answer = find_beside(&mut self.all, &self.words, frame, &mut self.grid, out);
         self.all.clear();
         self.words.clear();
         self.used = 0;
-        mask(&self.marks)
+        answer
     }
 
     /// The same of the projections at these angles, whose bins stand one projection after the other. None were
@@ -134,32 +122,11 @@ impl WorkEight {
             g ≡ lane_grid 8 j self.old.rows self.old.cols out.new }
         ensures same { self.new ≡ empty_search self.old.rows self.old.cols }
     {
-        let rows = self.rows;
-        let cols = self.cols;
-        find_from(
-            &mut self.all,
-            angles,
-            bins,
-            &mut self.turns,
-            rows,
-            cols,
-            &mut self.grid,
-            out,
-            &mut self.marks,
-        );
-        self.words.clear();
-        self.used = 0;
-        mask(&self.marks)
+        let frame = Frame {
+            rows: self.rows,
+            cols: self.cols,
+            reach: 16 * self.rows,
+        };
+        find_from_beside(angles, bins, frame, &mut self.grid, out)
     }
-}
-
-/// Which of eight words are not zero, a bit for each.
-fn mask(marks: &[u64]) -> u8
-    requires { length marks.now ≡ 8 }
-    ensures { (j : ℕ) → j < 8 → (result / 2 ^ j % 2 ≡ 0 ↔ slice_index marks.now j ≡ 0) }
-{
-    let lanes = u64x8::from_slice(marks)
-        .simd_ne(u64x8::splat(0))
-        .to_bitmask();
-    lanes as u8
 }

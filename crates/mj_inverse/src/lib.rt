@@ -11,12 +11,16 @@
 //! or. The rows are then put together from the quotients. A remainder anywhere says that no block fits.
 //!
 //! Eight blocks side by side are read off word by word instead, each word from its bin and the other words
-//! on its line, and then projected again and compared.
+//! on its line. So the words have the bins that gave them, and only the other bins are compared.
 #![tactic(auto)]
 
+mod compare;
 mod eight;
 mod ends;
+mod finding;
 mod invert;
+mod lent;
+mod lines;
 mod order;
 mod placed;
 mod series;
@@ -25,4 +29,6 @@ mod sweep;
 mod work;
 
 pub use eight::WorkEight;
+pub use lent::{solve_beside, solve_in};
+pub use lines::Frame;
 pub use work::{Inconsistent, Work};

@@ -8,7 +8,7 @@ ghost use Rattle.mj_inverse.specs.Padded.{placed_at, placed_from};
 use mj_angles::bins;
 
 /// A projection of eight blocks.
-#[derive(Drop)]
+#[derive(Clone, Copy)]
 pub struct Placed {
     /// The angle of the projection.
     pub direction: i32,
@@ -18,12 +18,16 @@ pub struct Placed {
     pub from: usize,
 }
 
-/// The angle, raised by 16.
-fn lifted_angle(p: i32) -> usize
+/// A projection whose bins begin in place `from`.
+fn one_placed(p: i32, from: usize) -> Placed
     requires { unsigned_abs p ≤ 16 }
-    ensures { result ≡ lifted 16 p }
+    ensures { result ≡ placed_at p from }
 {
-    (p + 16) as usize
+    Placed {
+        direction: p,
+        angle: (p + 16) as usize,
+        from,
+    }
 }
 
 /// Adds a projection whose bins begin in place `from`.
@@ -33,32 +37,25 @@ pub fn add_placed(all: &mut Vec<Placed>, p: i32, from: usize)
     ensures items { all.new.items ≡ all.old.items ++ placed_at p from ∷ [] }
     ensures capacity { vec_capacity all.old ≤ vec_capacity all.new }
 {
-    let angle = lifted_angle(p);
-    let Ok(()) = all.push(Placed {
-        direction: p,
-        angle,
-        from,
-    }) else {
+    let Ok(()) = all.push(one_placed(p, from)) else {
         return;
     };
 }
 
-/// Adds projections at these angles, whose bins stand one after the other.
-pub fn place_from(all: &mut Vec<Placed>, angles: &[i32], from: usize, rows: usize, cols: usize)
+/// Writes the projections at these angles, whose bins stand one after the other.
+pub fn place_from(all: &mut [Placed], angles: &[i32], from: usize, rows: usize, cols: usize)
     requires shape { IsShape rows cols }
     requires small { All (λ p. unsigned_abs p ≤ 16) angles.now }
-    requires room { vec_len all.old + length angles.now ≤ vec_capacity all.old }
+    requires room { length all.old ≡ length angles.now }
     requires few { from + length angles.now * (cols + 256) ≤ 2 ^ 32 }
-    ensures items { all.new.items ≡ all.old.items ++ placed_from rows cols from angles.now }
-    ensures capacity { vec_capacity all.old ≤ vec_capacity all.new }
+    ensures { all.new ≡ placed_from rows cols from angles.now }
 {
-    match angles.split_first() {
-        None => {}
-        Some((first, rest)) => {
-            let p = *first;
-            add_placed(all, p, from);
-            place_from(all, rest, from + bins(p, rows, cols), rows, cols);
+    match (angles.split_first(), all.split_first_mut()) {
+        (Some((p, others)), Some((first, rest))) => {
+            *first = one_placed(*p, from);
+            place_from(rest, others, from + bins(*p, rows, cols), rows, cols);
         }
+        _ => {}
     }
 }
 

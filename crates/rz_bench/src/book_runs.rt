@@ -1,12 +1,12 @@
 //! Clients that add events to a book, and the line that tells of them.
 ghost use Rattle.std.specs.Prelude.{◌≡◌, ◌≤◌, false, length, IfOk};
 ghost use Rattle.rz_config.specs.Plain.{plain_volume};
-ghost use Rattle.rz_chronicle.specs.Kinds.{kind_of};
+ghost use Rattle.rz_chronicle.specs.Kinds.{HasEarlierLog, kind_of};
 
 use crate::telling::Teller;
 use crate::threads::add_all;
 use crate::words::BookSize;
-use rz_chronicle::{Book, Naming, NewBook, Pass, read_back};
+use rz_chronicle::{Book, Naming, NewBook, Pass, read_back, read_back_after};
 use rz_config::Volume;
 use std::alloc::{AllocError, Global};
 use std::io;
@@ -59,6 +59,7 @@ fn run_in<J: Naming + Send + Sync, R: Threads + Print + Clock + Sync + Drop>(
 ) -> io::Result<()>
     requires named { (opened.seen.book ≡ J.book) × (opened.tokens.tallies ≡ J.tallies) × (opened.tokens.copy ≡ J.copy) × (opened.tokens.kind ≡ J.kind) }
     requires kind { J.kind ≡ kind_of false plain_volume }
+    requires earlier { HasEarlierLog J.kind J.earlier }
 {
     let (book, mut crew) = opened.named::<J>(teller.alloc)?;
     let ran = run_clients(
@@ -92,5 +93,6 @@ pub fn run_book<R: Threads + Print + Clock + Sync + Drop>(
         return Ok(());
     };
     let opened = open(teller.alloc)?;
+    read_back_after();
     run_in::<Brand, _>(teller, opened, size)
 }

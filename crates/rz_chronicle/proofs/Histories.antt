@@ -3,7 +3,7 @@ use Rattle.std.proofs.Common.{◌≡◌, ◌==◌, ◌||◌, ℕ, Bool, true, fa
 use Rattle.std.specs.List.{AllByRecursion, filter}
 use Rattle.std.proofs.lemmas.Bool.{eqb-true}
 use Rattle.std.proofs.lemmas.Bool.Decides.{nat_tests}
-use Rattle.std.proofs.lemmas.List.{reverse-append, reverse-reverse}
+use Rattle.std.proofs.lemmas.List.{reverse-append, reverse-reverse, append_assoc}
 use mathlib.Core.List.{IsPrefix}
 use Rattle.rz_events.specs.declared.keys.Actor.{Actor}
 use Rattle.rz_events.specs.declared.keys.Actor.TheVariants.{Client, Rebuilder, Admin}
@@ -12,9 +12,12 @@ use Rattle.rz_events.specs.declared.events.Word.TheVariants.{Export, Node, Own}
 use Rattle.rz_events.specs.declared.events.Event.{Event}
 use Rattle.rz_events.specs.Events.{by_of, word_of, same_actor, same_word}
 use Rattle.rz_events.specs.Volume.{Volume}
-use Rattle.rz_core.specs.Legal.{IsLegal, IsAllowed, IsForeign, IsLocal}
+use Rattle.rz_core.specs.History.{of_actor}
+use Rattle.rz_core.specs.Legal.{IsLegal, IsAllowed, IsForeign, IsLocal, IsLegalInRuns, IsAllowedIn, IsLocalInRuns, IsLegalAfter}
+use Rattle.rz_core.specs.Longer.{IsNextRun}
 use Rattle.rz_chronicle.specs.Keys.{touches, events_at, count_at, word_key, actor_key, IsLater}
-use Rattle.rz_chronicle.specs.Kinds.{history, HasPlace, HavePlaces, MayCome, volume_in}
+use Rattle.rz_chronicle.specs.Kinds.{history, HasPlace, HavePlaces, MayFit, volume_in}
+use Rattle.rz_chronicle.specs.Laws.{IsLocalAfter}
 use Rattle.rz_chronicle.specs.Tokens.{at, Agree, IsHolding, HasCount, Covers, MayFollow, counts}
 use Rattle.rz_chronicle.specs.Holds.{keys, Stays}
 use Rattle.rz_chronicle.proofs.Keys.{count-append}
@@ -152,16 +155,35 @@ foreign x log xs p w a =
     let bys = all-map (λ y. touches (actor_key (by_of x)) y ≡ false) (λ y. same_actor (by_of x) (by_of y) ≡ false) (reverse p.0) (other-actor (by_of x)) (between (actor_key (by_of x)) log xs p a) in
     all-both (λ y. same_word (word_of x) (word_of y) ≡ false) (λ y. same_actor (by_of x) (by_of y) ≡ false) (reverse p.0) ws bys
 
+-- The same after an earlier log.
+pub local-after : ((v : Volume) → IsLocalInRuns v) → ((v : Volume) → IsNextRun v) → (v : Volume) → IsLocalAfter v
+local-after local next v earlier h more x legal foreign-all allowed =
+    let others = all-map (IsForeign x) (λ y. same_actor (by_of x) (by_of y) ≡ false) more (λ y f. f.1) foreign-all in
+    let run : of_actor (by_of x) (more ++ h) ≡ of_actor (by_of x) h = filter-none (λ y. same_actor (by_of x) (by_of y)) more h others in
+    let runs = subst (λ (z : List Event). IsLegalInRuns v z) (append_assoc more h earlier) (next v earlier (more ++ h) legal) in
+    let now = local v (h ++ earlier) more (of_actor (by_of x) h) x runs foreign-all allowed in (
+      legal,
+      subst (λ (z : List Event). IsAllowedIn v z (of_actor (by_of x) (more ++ h)) x) (sym (append_assoc more h earlier))
+          (subst (λ (r : List Event). IsAllowedIn v (more ++ (h ++ earlier)) r x) (sym run) now),
+    )
+
 -- what may come may follow all that others add
-pub follows : ((v : Volume) → IsLocal v) → (kind : List ℕ) (held : List (ℕ × ℕ)) (log : List Event) (x : Event) → held ≡ at (counts log) held → Covers held x → MayCome kind (history log) x → MayFollow kind held log x
-follows local kind held log x right covers may xs p agree fit honest =
+pub follows : ((v : Volume) → IsLocal v) → ((v : Volume) → IsLocalAfter v) → (kind : List ℕ) (held : List (ℕ × ℕ)) (log : List Event) (x : Event) → held ≡ at (counts log) held → Covers held x
+    → MayFit kind (history log) x → MayFollow kind held log x
+follows local local_after kind held log x right covers may xs p agree fit =
     let v : Volume = volume_in kind in
     let w : count_at (word_key (word_of x)) xs ≡ count_at (word_key (word_of x)) log = same-held held (counts log) (counts xs) (word_key (word_of x)) right agree covers.0 in
     let a : count_at (actor_key (by_of x)) xs ≡ count_at (actor_key (by_of x)) log = same-held held (counts log) (counts xs) (actor_key (by_of x)) right agree covers.1 in
-    let split : history xs ≡ reverse p.0 ++ history log = (later log xs p).1 in
-    let legal : IsLegal v (history xs) = fit honest in
-    let still : IsAllowed v (reverse p.0 ++ history log) x = local v (history log) (reverse p.0) x (subst (IsLegal v) split legal) (foreign x log xs p w a) (may honest) in
-    subst (IsLegal v) (sym (history-more xs x)) (legal, subst (λ (h : List Event). IsAllowed v h x) (sym split) still)
+    let split : history xs ≡ reverse p.0 ++ history log = (later log xs p).1 in (
+      (λ honest.
+          let legal : IsLegal v (history xs) = fit.0 honest in
+          let still : IsAllowed v (reverse p.0 ++ history log) x = local v (history log) (reverse p.0) x (subst (IsLegal v) split legal) (foreign x log xs p w a) (may.0 honest) in
+          subst (IsLegal v) (sym (history-more xs x)) (legal, subst (λ (h : List Event). IsAllowed v h x) (sym split) still)),
+      (λ on earlier is.
+          let legal : IsLegalAfter v earlier (reverse p.0 ++ history log) = subst (IsLegalAfter v earlier) split (fit.1 on earlier is) in
+          let now : IsLegalAfter v earlier (x ∷ reverse p.0 ++ history log) = local_after v earlier (history log) (reverse p.0) x legal (foreign x log xs p w a) (may.1 on earlier is) in
+          subst (IsLegalAfter v earlier) (sym (history-more xs x)) (subst (λ (h : List Event). IsLegalAfter v earlier (x ∷ h)) (sym split) now)),
+    )
 
 pub count_history : (k : ℕ) (xs : List Event) → count_at k (history xs) ≡ count_at k xs
 count_history k [] = refl

@@ -1,5 +1,6 @@
 -- Keys, and how many events of each a log has.
-use Rattle.std.proofs.Common.{◌≡◌, ◌≢◌, ◌==◌, ◌||◌, ℕ, ◌+◌, Bool, true, false, List, [], ◌∷◌, ◌++◌, cond, sym, refl, ap, ap₂, ◌∙◌, subst, inl, inr, arith}
+use Rattle.std.proofs.Common.{◌≡◌, ◌≢◌, ◌==◌, ◌||◌, ℕ, ◌+◌, ◌<◌, ◌^◌, nat_lt, Bool, true, false, List, [], ◌∷◌, ◌++◌, cond, sym, refl, ap, ap₂, ◌∙◌, subst, inl, inr, arith}
+use Rattle.std.specs.Prelude.{IsTrue}
 use Rattle.std.specs.List.{AllByRecursion}
 use Rattle.std.proofs.lemmas.Bool.Decides.{nat_tests}
 use Rattle.std.proofs.lemmas.Bool.{eqb-true}
@@ -10,11 +11,7 @@ use Rattle.rz_events.specs.declared.events.Word.TheVariants.{Export, Node, Own}
 use Rattle.rz_events.specs.declared.events.Event.{Event}
 use Rattle.rz_events.specs.Events.{by_of, word_of}
 use Rattle.rz_chronicle.specs.Keys.{touches, count_at, word_key, actor_key, rows, IsInRow}
-use Rattle.rz_chronicle.specs.Kinds.{IsFit}
 use Rattle.rz_chronicle.specs.Tokens.{at, Agree, IsHolding, HasCount, Covers, notes, held_in, mark}
-
-pub fit-first : (kind : List ℕ) → IsFit kind []
-fit-first kind honest = tt
 
 pub count-append : (k : ℕ) (xs ys : List Event) → count_at k (xs ++ ys) ≡ count_at k xs + count_at k ys
 count-append k xs ys = sum_by-append (λ (e : Event). cond (touches k e) 1 0) xs ys
@@ -82,3 +79,10 @@ has-agreed f (x ∷ held) k n h all = elim h [
 pub mark-out : IsInRow mark → ⊥
 unfolding rows
 mark-out h = absurd (omega (arith, h))
+
+-- a word that has moved so often can move once more
+pub room-64 : (m n : ℕ) → m ≡ n → (IsTrue (nat_lt m 18446744073709551615) → n + 1 < 2 ^ 64) × (n + 1 < 2 ^ 64 → IsTrue (nat_lt m 18446744073709551615))
+room-64 m n is = (λ h. grind (arith, nat_tests, is, h), λ h. grind (arith, nat_tests, is, h))
+
+pub room-62 : (m n : ℕ) → m ≡ n → (IsTrue (nat_lt m 4611686018427387903) → n + 1 < 2 ^ 62) × (n + 1 < 2 ^ 62 → IsTrue (nat_lt m 4611686018427387903))
+room-62 m n is = (λ h. grind (arith, nat_tests, is, h), λ h. grind (arith, nat_tests, is, h))

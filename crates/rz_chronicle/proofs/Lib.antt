@@ -6,6 +6,8 @@ pub mod Histories
 pub mod Tokens
 pub mod Joint
 pub mod Rows
+pub mod Earlier
+pub mod Alone
 pub mod Numbers
 pub mod Dealing
 pub mod Apart

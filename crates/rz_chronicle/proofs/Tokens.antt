@@ -9,7 +9,7 @@ use Rattle.rz_events.specs.declared.events.Event.{Event}
 use Rattle.rz_events.specs.Events.{by_of, word_of}
 use Rattle.rz_chronicle.specs.declared.tokens.Tokens.{Tokens}
 use Rattle.rz_chronicle.specs.Keys.{touches, count_at, events_at, IsOneOf, IsMember, word_key, actor_key, owner, key_at, key_of_owner, rows}
-use Rattle.rz_chronicle.specs.Kinds.{history, MayCome}
+use Rattle.rz_chronicle.specs.Kinds.{history, MayFit}
 use Rattle.rz_chronicle.specs.Tokens.{at, Agree, AllInRow, IsHolding, HasCount, Covers, Ends, counts}
 use Rattle.rz_chronicle.specs.Holds.{keys, keys_in, AreTokens, IsOwn, IsRight, IsShared, Commits}
 use Rattle.rz_chronicle.proofs.Keys.{at-at, at-keys, at-holding, count-same, touches-own, touches-other, count-append}
@@ -45,8 +45,8 @@ member-actor-low Admin m = omega arith
 pub tokens-right : (δ η : ℕ) (kind : List ℕ) (log : List Event) (h : Tokens) → AreTokens δ η kind log h → IsRight h
 tokens-right δ η kind log h is = record { right = subst (λ (l : List Event). h.held ≡ at (counts l) h.held) (sym is.log_is) is.right; low = is.low }
 
-pub tokens-may : (δ η : ℕ) (kind : List ℕ) (log : List Event) (x : Event) (h : Tokens) → AreTokens δ η kind log h → MayCome kind (history log) x → MayCome h.kind (history h.log) x
-tokens-may δ η kind log x h is may = subst (λ (l : List Event). MayCome h.kind (history l) x) (sym is.log_is) (subst (λ (k : List ℕ). MayCome k (history log) x) (sym is.kind_is) may)
+pub tokens-may : (δ η : ℕ) (kind : List ℕ) (log : List Event) (x : Event) (h : Tokens) → AreTokens δ η kind log h → MayFit kind (history log) x → MayFit h.kind (history h.log) x
+tokens-may δ η kind log x h is may = subst (λ (l : List Event). MayFit h.kind (history l) x) (sym is.log_is) (subst (λ (k : List ℕ). MayFit k (history log) x) (sym is.kind_is) may)
 
 -- the tokens after a step
 pub tokens-after : (δ η : ℕ) (kind : List ℕ) (xs ys : List Event) (h r : Tokens) → AreTokens δ η kind xs h
@@ -212,3 +212,13 @@ word_token-first δ η kind k h t c n l is low = (
   },
   is,
 )
+
+keys-holding : (k : ℕ) (held : List (ℕ × ℕ)) → IsOneOf k (keys held) → IsHolding k held
+keys-holding k [] one = one
+keys-holding k (x ∷ held) one = elim one [ inl e ↦ inl e | inr rest ↦ inr (keys-holding k held rest) ]
+
+-- a tokens is that of another actor too, whose tallies it has
+pub own-other : (δ η : ℕ) (kind : List ℕ) (log : List Event) (a b : Actor) (o : Option Tokens) → IsSomeAnd o (λ h. AreTokens δ η kind log h × IsOwn a h.held)
+    → IsOneOf (word_key (Own b)) (keys_in o) → IsOneOf (actor_key b) (keys_in o) → IsSomeAnd o (λ h. AreTokens δ η kind log h × IsOwn b h.held)
+own-other δ η kind log a b None is own by = is
+own-other δ η kind log a b (Some h) is own by = (is.0, record { own = keys-holding (word_key (Own b)) h.held own; by = keys-holding (actor_key b) h.held by })

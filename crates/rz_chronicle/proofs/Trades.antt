@@ -27,10 +27,10 @@ use Rattle.rz_events.specs.contracts.events.Event.{the_row}
 use Rattle.rz_events.specs.declared.events.Event.{Event}
 use Rattle.rz_chronicle.specs.declared.told.Told.{Told}
 use Rattle.rz_chronicle.specs.Keys.{rows, IsInRow}
-use Rattle.rz_chronicle.specs.Kinds.{history, HasPlace, IsFit}
+use Rattle.rz_chronicle.specs.Kinds.{HasPlace, Fits}
 use Rattle.rz_chronicle.specs.Tokens.{halves, parts, at, Agree, AreApart, counts, grown, kept, tokens_own, gained, AllInRow, IsHolding, IsOfKind, Covers, MayFollow, zeros, without, count_in}
 use Rattle.rz_chronicle.specs.Rules.{IsMove}
-use Rattle.rz_chronicle.proofs.Keys.{fit-first, outside, at-at, at-keys}
+use Rattle.rz_chronicle.proofs.Keys.{outside, at-at, at-keys}
 use Rattle.rz_chronicle.proofs.Histories.{placed-more}
 
 pub halves_keyless : (δ k n : ℕ) (f : ℕ → ℕ) → Keyless (halves δ k n f)
@@ -314,14 +314,14 @@ module _ {M : Type 1} {𝓤 : Ura M} (𝓛 : Logic 𝓤) where
   abbrev pub Begun : List ℕ → ℕ × ℕ → SProp 𝓤
   Begun kind n = sep 𝓤 (sem 𝓛 (kept (n.0 ∷ n.1 ∷ kind) [])) (sem 𝓛 (tokens_own n.0 n.1 (zeros 0 rows) []))
 
-  pub begins : (kind : List ℕ) → ent 𝓤 (emp 𝓤) (𝓛.H.⇛ (ex 𝓤 (Begun kind)))
-  begins kind = qed 𝓛 [] ∵ updating ! $
+  pub begins : (kind : List ℕ) → Fits kind [] → ent 𝓤 (emp 𝓤) (𝓛.H.⇛ (ex 𝓤 (Begun kind)))
+  begins kind fits = qed 𝓛 [] ∵ updating ! $
       use0 𝓛 (later (some (λ (δ : ℕ). ‵ (roster δ 0 [])))) (via 𝓤 _ (entries_new halved 𝓛 0 (λ _. (full_share, 0))) (basic 𝓛 _)) $ await ! tt $ pick ! (λ δ.
       use1 𝓛 (later (‵ (halves δ 0 rows (counts [])) ⊛ ‵ (parts δ (zeros 0 rows)))) (via 𝓤 _ (dealt 𝓛 δ rows 0) (basic 𝓛 _)) $ await ! tt $ split ! $
       use0 𝓛 (later (some (λ (η : ℕ). ‵ (grown η [])))) (via 𝓤 _ (latest_new logs 𝓛 []) (basic 𝓛 _)) $ await ! tt $ pick ! (λ η.
       use1 𝓛 (‵ (grown η []) ⊛ ‵ (reached the_row.coded.code η [])) (latest_shows logs 𝓛 full_share η [] [] (logs.same [])) $ split ! $ now ! $
       -- grown, reached, halves, parts
-      nothing ! $ fpack ! (IsOfKind kind []) (λ _. ftrue) (fit-first kind, tt) $ move ! (1 ∷ 0 ∷ []) $ fjoin ! $ move ! (2 ∷ 0 ∷ []) $ fjoin ! $
+      nothing ! $ fpack ! (IsOfKind kind []) (λ _. ftrue) (fits, tt) $ move ! (1 ∷ 0 ∷ []) $ fjoin ! $ move ! (2 ∷ 0 ∷ []) $ fjoin ! $
       -- kept, reached, parts
       move ! (2 ∷ 1 ∷ []) $ fjoin ! $ move ! (1 ∷ 0 ∷ []) $ show ! (Begun kind) (δ, η) $ done !))
 

@@ -5,7 +5,7 @@ use Rattle.rz_events.specs.declared.events.Word.{Word}
 use Rattle.rz_events.specs.declared.events.Word.TheVariants.{Export, Node, Own}
 use Rattle.rz_events.specs.declared.events.Event.{Event}
 use Rattle.rz_chronicle.specs.declared.tokens.Tokens.{Tokens}
-use Rattle.rz_chronicle.specs.Keys.{word_key, actor_key, events_at, IsOneOf, IsLater}
+use Rattle.rz_chronicle.specs.Keys.{word_key, actor_key, events_at, IsMember, IsOneOf, IsLater}
 use Rattle.rz_chronicle.specs.Rules.{WordTokenView}
 use Rattle.rz_chronicle.specs.Tokens.{IsHolding, AllInRow, at, counts}
 
@@ -50,7 +50,11 @@ pub record IsRight (h : Tokens) : Type 0 where
   pub right : h.held ≡ at (counts h.log) h.held
   pub low : AllInRow h.held
 
--- both sets of tokens belong to one book
+-- these are the keys of all actors
+abbrev pub HasAllActors : List ℕ → Type 0
+HasAllActors ks = (a : Actor) → IsMember a → IsOneOf (actor_key a) ks
+
+-- both hands belong to one book
 pub record AreOfOne (a b : Tokens) : Type 0 where
   pub tallies : a.tallies ≡ b.tallies
   pub copy : a.copy ≡ b.copy

@@ -4,3 +4,4 @@ pub mod Tokens
 pub mod Rules
 pub mod Holds
 pub mod Dealing
+pub mod Laws

@@ -12,7 +12,7 @@ use Rattle.rz_events.specs.declared.events.Event.{Event}
 use Rattle.rz_events.specs.declared.events.Event.TheVariants as e
 use Rattle.rz_events.specs.Events.{by_of, word_of}
 use Rattle.rz_chronicle.specs.Keys.{count_at, rows, word_key, actor_key}
-use Rattle.rz_chronicle.specs.Kinds.{history, HavePlaces, IsFit}
+use Rattle.rz_chronicle.specs.Kinds.{history, HavePlaces, Fits}
 
 -- the book's halves of n tokens from k on
 abbrev pub halves : ℕ → ℕ → ℕ → (ℕ → ℕ) → Fml
@@ -44,7 +44,7 @@ grown η log = latest logs full_share η (map the_row.coded.code log)
 
 -- what the kind of a book says of its log
 abbrev pub IsOfKind : List ℕ → List Event → Type 0
-IsOfKind kind log = IsFit kind (history log) × HavePlaces kind (history log)
+IsOfKind kind log = Fits kind (history log) × HavePlaces kind (history log)
 
 -- what callers keep beside the log: a half of each token, a second copy of the log, and what the kind of the book says of it
 abbrev pub kept : List ℕ → List Event → Fml
@@ -96,7 +96,7 @@ Covers held x = IsHolding (word_key (word_of x)) held × IsHolding (actor_key (b
 
 -- the event keeps the kind of the book, whatever others have added
 abbrev pub MayFollow : List ℕ → List (ℕ × ℕ) → List Event → Event → Type 0
-MayFollow kind held log x = (xs : List Event) → IsPrefix log xs → Agree (counts xs) held → IsFit kind (history xs) → IsFit kind (history (xs ++ x ∷ []))
+MayFollow kind held log x = (xs : List Event) → IsPrefix log xs → Agree (counts xs) held → Fits kind (history xs) → Fits kind (history (xs ++ x ∷ []))
 
 -- the keys from k on, with no event each
 abbrev pub zeros : ℕ → ℕ → List (ℕ × ℕ)

@@ -4,8 +4,8 @@ ghost use Rattle.std.specs.List.{AllByRecursion, IsDistinct};
 ghost use Rattle.rz_events.specs.declared.events.Word.{Word as AWord};
 ghost use Rattle.rz_events.specs.declared.events.Word.TheVariants as w;
 ghost use Rattle.rz_events.specs.Events.{word_of as word_at, by_of};
-ghost use Rattle.rz_chronicle.specs.Keys.{count_at, word_key, rows, owner, key_at, moves_of, sids_of, IsLater, StandApart};
-ghost use Rattle.rz_chronicle.specs.Kinds.{IsFit, MayCome, history, volume_in};
+ghost use Rattle.rz_chronicle.specs.Keys.{count_at, word_key, actor_key, rows, owner, key_at, moves_of, sids_of, IsLater, IsMember, IsOneOf, StandApart};
+ghost use Rattle.rz_chronicle.specs.Kinds.{IsFit, MayCome, MayComeAfter, history, volume_in};
 ghost use Rattle.rz_chronicle.specs.Rules.{named, AreWords};
 ghost use Rattle.rz_chronicle.specs.Holds.{Commits, Stays, AreTokens, IsSettled, keys};
 
@@ -15,7 +15,7 @@ use crate::steps::{append, append_both, view, view_both};
 use crate::tokens::{Asks, Itself, Law, Tokens};
 use crate::told::Told;
 use logbook::{Seen, Word};
-use rz_events::Event;
+use rz_events::{Actor, Event};
 use std::marker::{Model, PhantomData};
 
 /// The words that all threads share.
@@ -71,6 +71,7 @@ impl<J: Naming> Book<J> {
         requires word { word_at event.now ≡ w.Own pass.old.actor }
         requires actor { by_of event.now ≡ pass.old.actor }
         requires legal { MayCome J.kind pass.old.log event.now }
+        requires after { MayComeAfter J.kind pass.old.log event.now }
         requires room { count_at (word_key (w.Own pass.old.actor)) pass.old.log + 1 < 2 ^ 64 }
         ensures same { (pass.new.actor ≡ pass.old.actor) × (pass.new.keys ≡ pass.old.keys) }
         ensures commits { Commits pass.old.keys pass.old.log event.now pass.new.log }
@@ -120,6 +121,7 @@ impl<J: Naming> Book<J> {
         requires word { word_at (N.event about.now) ≡ word_token.old.word }
         requires actor { by_of (N.event about.now) ≡ pass.old.actor }
         requires legal { MayCome J.kind pass.old.log (N.event about.now) }
+        requires after { MayComeAfter J.kind pass.old.log (N.event about.now) }
         requires room { count_at (word_key word_token.old.word) word_token.old.log + 1 < 2 ^ 64 }
         ensures same { (pass.new.actor ≡ pass.old.actor) × (pass.new.keys ≡ pass.old.keys) × (word_token.new.word ≡ word_token.old.word) }
         ensures one { word_token.new.log ≡ pass.new.log }
@@ -261,6 +263,21 @@ impl<J: Naming> Book<J> {
             }
             None => 0,
         }
+    }
+
+    /// Lets a pass act as another of the actors whose tallies it holds.
+    #[tactic(auto, using(crate::proofs::Histories::count_history))]
+    pub fn turn_to(&self, pass: &mut Pass<J>, actor: Actor)
+        requires member { IsMember actor }
+        requires held { IsOneOf (word_key (w.Own actor)) pass.old.keys × IsOneOf (actor_key actor) pass.old.keys }
+        ensures same { (pass.new.actor ≡ actor) × (pass.new.keys ≡ pass.old.keys) }
+        ensures later { IsLater pass.old.log pass.new.log }
+        ensures stays { Stays pass.old.keys pass.old.log pass.new.log }
+        ensures fit { IsFit J.kind pass.new.log }
+    {
+        let moved = self.load(pass, place_of(actor));
+        pass.actor = actor;
+        pass.moved = moved;
     }
 
     /// No word stands at two places of the book, which is of its kind's volume.

@@ -14,7 +14,7 @@ use crate::places::key_of;
 use crate::tokens::{Law, Tokens};
 use crate::told::Told;
 use logbook::Seen;
-use rz_events::{Actor, Event, Word};
+use rz_events::{Actor, CLIENTS, Event, REBUILDERS, Word};
 use std::alloc::{AllocError, Global};
 use std::marker::{Model, PhantomData};
 
@@ -29,6 +29,7 @@ pub struct Dealer<J: Naming> {
 impl<J: Naming> Model for Dealer<J> {
     ghost use Rattle.std.specs.Prelude.{◌≡◌, ℕ, List, [], ◌∷◌};
     ghost use Rattle.std.specs.List.{AllByRecursion};
+    ghost use Rattle.rz_chronicle.specs.Kinds.{Fits, HasEarlierLog};
 
     ghost Value = { List (ℕ × ℕ) };
 
@@ -36,7 +37,9 @@ impl<J: Naming> Model for Dealer<J> {
 
     ghost invariant = { λ d. (d.seen.book ≡ J.book) × (d.seen.names ≡ J.tallies ∷ J.copy ∷ J.kind) × (d.seen.log ≡ [])
         × (d.tokens.tallies ≡ J.tallies) × (d.tokens.copy ≡ J.copy) × (d.tokens.kind ≡ J.kind) × (d.tokens.log ≡ [])
-        × AllByRecursion (λ x. x.1 ≡ 0) d.tokens.held };
+        × AllByRecursion (λ x. x.1 ≡ 0) d.tokens.held
+        × HasEarlierLog J.kind J.earlier
+        × Fits J.kind [] };
 }
 
 impl<J: Naming> Dealer<J> {
@@ -111,8 +114,8 @@ pub fn clients<J: Naming>(
     ensures rest { IfOk result (λ r. (k : ℕ) → IsHolding k dealer → ((c : ℕ) → k ≢ word_key (w.Own (a.Client c))) → ((c : ℕ) → k ≢ actor_key (a.Client c)) → IsHolding k r.1) }
 {
     let mut dealer = dealer;
-    let mut clients = Vec::with_capacity(alloc, 64)?;
-    for i in 0..64 {
+    let mut clients = Vec::with_capacity(alloc, CLIENTS as usize)?;
+    for i in 0..CLIENTS {
         let (pass, rest) = dealer.pass(Actor::Client(i + 1));
         dealer = rest;
         clients.push(pass)?;
@@ -129,8 +132,8 @@ pub fn rebuilders<J: Naming>(
     ensures { IfOk result (λ r. ArePasses 16 (λ i. a.Rebuilder (i + 1)) r.0.items) }
 {
     let mut dealer = dealer;
-    let mut rebuilders = Vec::with_capacity(alloc, 16)?;
-    for i in 0..16 {
+    let mut rebuilders = Vec::with_capacity(alloc, REBUILDERS as usize)?;
+    for i in 0..REBUILDERS {
         let (pass, rest) = dealer.pass(Actor::Rebuilder(i + 1));
         dealer = rest;
         rebuilders.push(pass)?;

@@ -2,7 +2,7 @@
 ghost use Rattle.std.specs.Prelude.{◌≡◌, ◌+◌, ◌<◌, ◌^◌, [], ◌∷◌, IsTrue, ◌↔◌, Some};
 ghost use Rattle.rz_events.specs.declared.events.Word.TheVariants as w;
 ghost use Rattle.rz_chronicle.specs.Keys.{count_at, word_key, actor_key, rows, IsOneOf, IsMember, own_keys, owner, sids_of};
-ghost use Rattle.rz_chronicle.specs.Kinds.{HavePlaces, IsFit, volume_in};
+ghost use Rattle.rz_chronicle.specs.Kinds.{Fits, HavePlaces, HasEarlierLog, IsFit, IsFitAfter, volume_in};
 ghost use Rattle.rz_chronicle.specs.Holds.{IsShared};
 
 use crate::tokens::{Law, Tokens};
@@ -11,10 +11,12 @@ use logbook::Seen;
 use rz_events::{Actor, Event};
 use std::marker::{Brand, Model, PhantomData};
 
-/// Which book it is, and of which kind. Each call of a program picks it.
+/// Which book it is, of which kind, and after which earlier log it goes on, which has the newest event
+/// first. Each call of a program picks it.
 pub trait Naming {
     ghost use Rattle.std.specs.Prelude.{ℕ, List};
     ghost use Rattle.logbook.specs.Pages.{Book};
+    ghost use Rattle.rz_events.specs.declared.events.Event.{Event as AnEvent};
 
     ghost book: { Book };
 
@@ -23,6 +25,8 @@ pub trait Naming {
     ghost copy: { ℕ };
 
     ghost kind: { List ℕ };
+
+    ghost earlier: { List AnEvent };
 }
 
 impl Naming for Brand {
@@ -35,6 +39,8 @@ impl Naming for Brand {
     ghost copy = { 0 };
 
     ghost kind = { [] };
+
+    ghost earlier = { [] };
 }
 
 /// What an actor has seen of the log, with the tokens of its own events and of its own word.
@@ -51,7 +57,7 @@ impl<J: Naming> Model for Pass<J> {
     ghost use Rattle.std.specs.Prelude.{◌≡◌, ◌<◌, ◌∷◌, IsSomeAnd};
     ghost use Rattle.rz_events.specs.declared.events.Word.TheVariants as w;
     ghost use Rattle.rz_chronicle.specs.Keys.{count_at, word_key, IsMember};
-    ghost use Rattle.rz_chronicle.specs.Kinds.{history, HavePlaces, IsFit};
+    ghost use Rattle.rz_chronicle.specs.Kinds.{history, HavePlaces, HasEarlierLog, Fits};
     ghost use Rattle.rz_chronicle.specs.Holds.{keys_in, AreTokens, IsOwn};
     ghost use Rattle.rz_chronicle.specs.Rules.{PassView};
 
@@ -63,8 +69,9 @@ impl<J: Naming> Model for Pass<J> {
         × IsSomeAnd p.tokens (λ h. AreTokens J.tallies J.copy J.kind p.seen.log h × IsOwn p.actor h.held)
         × (p.moved ≡ count_at (word_key (w.Own p.actor)) p.seen.log)
         × IsMember p.actor
-        × IsFit J.kind (history p.seen.log)
-        × HavePlaces J.kind (history p.seen.log) };
+        × Fits J.kind (history p.seen.log)
+        × HavePlaces J.kind (history p.seen.log)
+        × HasEarlierLog J.kind J.earlier };
 }
 
 impl<J: Naming> Pass<J> {
@@ -74,6 +81,8 @@ impl<J: Naming> Pass<J> {
         requires names { (tokens.tallies ≡ J.tallies) × (tokens.copy ≡ J.copy) × (tokens.kind ≡ J.kind) × (tokens.log ≡ []) }
         requires held { tokens.held ≡ (word_key (w.Own actor), 0) ∷ (actor_key actor, 0) ∷ [] }
         requires member { IsMember actor }
+        requires earlier { HasEarlierLog J.kind J.earlier }
+        requires fit { Fits J.kind [] }
         ensures { result ≡ record { actor = actor; log = []; keys = own_keys actor } }
     {
         Pass {
@@ -85,14 +94,16 @@ impl<J: Naming> Pass<J> {
         }
     }
 
-    /// Whose it is. A pass holds the tokens of its actor's events and of its own word. The word of each
-    /// event that it has seen stands in the book.
+    /// Whose it is. A pass holds the tallies of its actor's events and of its own word. Each event that it
+    /// has seen is by an actor of the book, and of a word of the book.
     pub fn actor(&self) -> Actor
         ensures value { result ≡ self.now.actor }
         ensures member { IsMember self.now.actor }
         ensures own { IsOneOf (actor_key self.now.actor) self.now.keys }
         ensures word { IsOneOf (word_key (w.Own self.now.actor)) self.now.keys }
         ensures fit { IsFit J.kind self.now.log }
+        ensures after { IsFitAfter J.kind self.now.log }
+        ensures earlier { HasEarlierLog J.kind J.earlier }
         ensures places { HavePlaces J.kind self.now.log }
     {
         self.actor
@@ -103,6 +114,13 @@ impl<J: Naming> Pass<J> {
         ensures { IsTrue result ↔ (count_at (word_key (w.Own self.now.actor)) self.now.log + 1 < 2 ^ 64) }
     {
         self.moved < u64::MAX
+    }
+
+    /// Whether its word can move once more, and have room behind any earlier log.
+    pub fn has_room_after(&self) -> bool
+        ensures { IsTrue result ↔ (count_at (word_key (w.Own self.now.actor)) self.now.log + 1 < 2 ^ 62) }
+    {
+        self.moved < (1 << 62) - 1
     }
 }
 
@@ -120,7 +138,7 @@ pub struct WordToken<J: Naming> {
 impl<J: Naming> Model for WordToken<J> {
     ghost use Rattle.std.specs.Prelude.{◌≡◌, ◌<◌, [], ◌∷◌, IsSomeAnd, Some};
     ghost use Rattle.rz_chronicle.specs.Keys.{word_key, owner, sids_of, rows};
-    ghost use Rattle.rz_chronicle.specs.Kinds.{history, IsFit, volume_in};
+    ghost use Rattle.rz_chronicle.specs.Kinds.{history, HasEarlierLog, Fits, volume_in};
     ghost use Rattle.rz_chronicle.specs.Holds.{AreTokens, IsShared};
     ghost use Rattle.rz_chronicle.specs.Rules.{WordTokenView};
 
@@ -132,9 +150,10 @@ impl<J: Naming> Model for WordToken<J> {
         × IsSomeAnd p.tokens (λ h. AreTokens J.tallies J.copy J.kind p.seen.log h × (h.held ≡ (word_key p.word, p.moved) ∷ []))
         × (owner (sids_of (volume_in J.kind)) p.place ≡ Some p.word)
         × IsShared p.word
-        × IsFit J.kind (history p.seen.log)
+        × Fits J.kind (history p.seen.log)
         × (p.place < 338)
-        × (word_key p.word < rows) };
+        × (word_key p.word < rows)
+        × HasEarlierLog J.kind J.earlier };
 }
 
 impl<J: Naming> WordToken<J> {
@@ -150,6 +169,8 @@ impl<J: Naming> WordToken<J> {
         requires held { tokens.held ≡ (word_key word, 0) ∷ [] }
         requires place { (place < 338) × (owner (sids_of (volume_in J.kind)) place ≡ Some word) }
         requires word { IsShared word × (word_key word < rows) }
+        requires earlier { HasEarlierLog J.kind J.earlier }
+        requires fit { Fits J.kind [] }
         ensures { result ≡ record { word = word; log = [] } }
     {
         WordToken {
@@ -166,8 +187,17 @@ impl<J: Naming> WordToken<J> {
     pub fn room(&self) -> bool
         ensures room { IsTrue result ↔ (count_at (word_key self.now.word) self.now.log + 1 < 2 ^ 64) }
         ensures fit { IsFit J.kind self.now.log }
+        ensures after { IsFitAfter J.kind self.now.log }
+        ensures earlier { HasEarlierLog J.kind J.earlier }
     {
         self.moved < u64::MAX
+    }
+
+    /// Whether its word can move once more, and have room behind any earlier log.
+    pub fn has_room_after(&self) -> bool
+        ensures { IsTrue result ↔ (count_at (word_key self.now.word) self.now.log + 1 < 2 ^ 62) }
+    {
+        self.moved < (1 << 62) - 1
     }
 }
 

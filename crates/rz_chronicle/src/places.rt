@@ -4,11 +4,18 @@ ghost use Rattle.rz_events.specs.declared.events.Word.TheVariants as w;
 ghost use Rattle.rz_chronicle.specs.Keys as keys;
 ghost use Rattle.rz_chronicle.specs.Keys.{word_key, number, rows, IsMember};
 
-use rz_events::{Actor, Word};
+use rz_events::{Actor, CLIENTS, REBUILDERS, Word};
 
-/// How many words a book has: the export's, 256 of nodes, 64 of clients, 16 of rebuilders, and the
-/// administrator's.
-pub const WORDS: u16 = 338;
+/// Where the words of the nodes end, those of the clients, and those of the rebuilders. The export's stands
+/// at 0.
+const NODES_END: u16 = 256;
+
+const CLIENTS_END: u16 = NODES_END + CLIENTS as u16;
+
+const REBUILDERS_END: u16 = CLIENTS_END + REBUILDERS as u16;
+
+/// How many words a book has: the administrator's is the last.
+pub const WORDS: u16 = REBUILDERS_END + 2;
 
 /// The number of a word.
 #[tactic(auto, unfolding(crate::specs::Keys::rows))]
@@ -41,12 +48,12 @@ pub fn owner_at(nodes: &[u16], place: u16) -> Option<Word>
 {
     if place == 0 {
         Some(Word::Export)
-    } else if place <= 256 {
+    } else if place <= NODES_END {
         nodes.get(place as usize - 1).map(|node| Word::Node(*node))
-    } else if place <= 320 {
-        Some(Word::Own(Actor::Client((place - 256) as u8)))
-    } else if place <= 336 {
-        Some(Word::Own(Actor::Rebuilder((place - 320) as u8)))
+    } else if place <= CLIENTS_END {
+        Some(Word::Own(Actor::Client((place - NODES_END) as u8)))
+    } else if place <= REBUILDERS_END {
+        Some(Word::Own(Actor::Rebuilder((place - CLIENTS_END) as u8)))
     } else {
         Some(Word::Own(Actor::Admin))
     }
@@ -72,8 +79,8 @@ pub fn place_of(by: Actor) -> u16
     ensures owner { (sids : List ℕ) → keys.owner sids result ≡ Some (w.Own by) }
 {
     match by {
-        Actor::Client(client) => 256 + u16::from(client),
-        Actor::Rebuilder(rebuilder) => 320 + u16::from(rebuilder),
-        Actor::Admin => 337,
+        Actor::Client(client) => NODES_END + u16::from(client),
+        Actor::Rebuilder(rebuilder) => CLIENTS_END + u16::from(rebuilder),
+        Actor::Admin => REBUILDERS_END + 1,
     }
 }

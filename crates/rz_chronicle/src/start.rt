@@ -1,5 +1,5 @@
 //! How a book is made, and what it deals out.
-ghost use Rattle.std.specs.Prelude.{◌≡◌, ◌+◌, ◌≤◌, ◌++◌, [], ◌∷◌, map, length, nat_eq, OnOk, IfOk};
+ghost use Rattle.std.specs.Prelude.{◌≡◌, ◌+◌, ◌≤◌, ◌++◌, [], ◌∷◌, map, length, nat_eq, IsTrue, OnOk, IfOk};
 ghost use Rattle.std.specs.List.{IsDistinct};
 ghost use Rattle.std.proofs.lemmas.Map.Keys.{IsDistinct-prop};
 ghost use Rattle.logbook.specs.Pages.{Book as ABook};
@@ -8,14 +8,15 @@ ghost use Rattle.rz_events.specs.declared.keys.Actor.TheVariants as a;
 ghost use Rattle.rz_events.specs.declared.events.Word.TheVariants as w;
 ghost use Rattle.rz_events.specs.Volume.{nodes_of};
 ghost use Rattle.rz_chronicle.specs.Keys.{rows, sids_of};
-ghost use Rattle.rz_chronicle.specs.Kinds.{kind_of, volume_in};
+ghost use Rattle.rz_core.specs.Legal.{IsLegalInRuns};
+ghost use Rattle.rz_chronicle.specs.Kinds.{goes_on, kind_of, kind_after, volume_in, HasEarlierLog};
 ghost use Rattle.rz_chronicle.specs.Tokens.{zeros};
 ghost use Rattle.rz_chronicle.specs.Rules.{AreWords};
 ghost use Rattle.rz_chronicle.specs.Dealing.{new_pass, new_word_token, ArePasses, AreFresh};
 
 use crate::book::Book;
 use crate::dealer::{Dealer, clients, rebuilders, word_tokens};
-use crate::kinds::{BookKind, read_back};
+use crate::kinds::{Beginning, BookKind, read_back_after};
 use crate::passes::{Desk, Naming, Pass};
 use crate::places::{WORDS, key_at};
 use crate::tokens::{Law, Tokens, begin};
@@ -24,7 +25,7 @@ use logbook::{Opening, Pen, Pens, Seen, Word};
 use rz_config::{ClusterSpec, NodeSpec, Volume};
 use rz_events::{Actor, Event};
 use std::alloc::{AllocError, Global};
-use std::marker::PhantomData;
+use std::marker::{Brand, PhantomData};
 
 /// The empty log.
 pub struct Empty;
@@ -133,16 +134,29 @@ pub struct Crew<J: Naming> {
 }
 
 impl NewBook {
-    /// A new book of this volume, honest or not. It takes all the memory that the book will ever need
-    /// but that of its crew's lists.
+    /// A new book of this volume, honest or not, whose log begins anew. It takes all the memory that the
+    /// book will ever need but that of its crew's lists.
     pub fn start(alloc: Global, volume: &Volume, honest: bool) -> Result<NewBook, AllocError>
         ensures { IfOk result (λ o. o.tokens.kind ≡ kind_of honest volume.now) }
+    {
+        NewBook::after::<Brand>(alloc, volume, honest)
+    }
+
+    /// A new book of this volume, honest or not, whose log goes on after an earlier one. The earlier log
+    /// takes no memory.
+    pub fn after<B: Beginning>(
+        alloc: Global,
+        volume: &Volume,
+        honest: bool,
+    ) -> Result<NewBook, AllocError>
+        requires { IsTrue honest → IsLegalInRuns volume.now B.earlier }
+        ensures { IfOk result (λ o. o.tokens.kind ≡ kind_after honest volume.now B.earlier) }
     {
         let nodes = numbers(alloc, volume.clusters.as_slice())?;
         let _few = volume.node_count();
         let kind = BookKind::of(volume.copy(alloc)?, honest);
-        read_back();
-        let (start, tokens) = begin(&kind);
+        read_back_after();
+        let (start, tokens) = begin::<B>(&kind);
         drop(kind);
         let count = key_count();
         let (seen, pens) = Seen::open_row::<Empty, Empty>(&Empty, start, count);
@@ -158,7 +172,9 @@ impl NewBook {
 
     /// The book under a name, and its crew.
     pub fn named<J: Naming>(self, alloc: Global) -> Result<(Book<J>, Crew<J>), AllocError>
-        requires { (self.seen.book ≡ J.book) × (self.tokens.tallies ≡ J.tallies) × (self.tokens.copy ≡ J.copy) × (self.tokens.kind ≡ J.kind) }
+        requires names { (self.seen.book ≡ J.book) × (self.tokens.tallies ≡ J.tallies) × (self.tokens.copy ≡ J.copy) × (self.tokens.kind ≡ J.kind) }
+        requires earlier { HasEarlierLog J.kind J.earlier }
+        requires legal { IsTrue (goes_on J.kind) → IsLegalInRuns (volume_in J.kind) J.earlier }
         ensures book { IfOk result (λ r. r.0 ≡ volume_in J.kind) }
         ensures admin { IfOk result (λ r. r.1.admin ≡ new_pass a.Admin) }
         ensures clients { IfOk result (λ r. ArePasses 64 (λ i. a.Client (i + 1)) r.1.clients.items) }

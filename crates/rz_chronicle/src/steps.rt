@@ -4,10 +4,11 @@ ghost use Rattle.rz_events.specs.declared.events.Word.{Word as AWord};
 ghost use mathlib.Core.List.{IsPrefix};
 ghost use Rattle.rz_events.specs.Events.{word_of as word_at, by_of};
 ghost use Rattle.rz_chronicle.specs.Keys.{count_at, word_key, actor_key, IsInRow, rows};
-ghost use Rattle.rz_chronicle.specs.Kinds.{HasPlace, HavePlaces, IsFit, MayCome, history};
+ghost use Rattle.rz_chronicle.specs.Kinds.{HasPlace, HavePlaces, Fits, MayFit, history};
 ghost use Rattle.rz_chronicle.specs.Tokens.{AllInRow, AreApart, Covers, HasCount, IsHolding, Ends, Agree, at, counts};
 ghost use Rattle.rz_chronicle.specs.Holds.{AreOfOne, IsRight, Commits, keys};
 
+use crate::laws::local_after;
 use crate::tokens::{Asks, Law, Mine, Tokens};
 use crate::told::Told;
 use logbook::{Play, Seen, Word};
@@ -44,7 +45,7 @@ pub fn append<X, N: Asks<X>>(
     requires book { seen.old.book ≡ word.now.book }
     requires names { seen.old.names ≡ tokens.tallies ∷ tokens.copy ∷ tokens.kind }
     requires held { IsRight tokens × Covers tokens.held (N.event about.now) }
-    requires legal { MayCome tokens.kind (history tokens.log) (N.event about.now) }
+    requires legal { MayFit tokens.kind (history tokens.log) (N.event about.now) }
     requires place { HasPlace tokens.kind (N.event about.now) }
     requires count { HasCount tokens.held (word_key (word_at (N.event about.now))) moved }
     requires room { moved + 1 < 2 ^ 64 }
@@ -52,10 +53,11 @@ pub fn append<X, N: Asks<X>>(
     ensures tokens { (result.tallies ≡ tokens.tallies) × (result.copy ≡ tokens.copy) × (result.kind ≡ tokens.kind) }
     ensures held { (result.held ≡ at (counts seen.new.log) tokens.held) × (result.log ≡ seen.new.log) }
     ensures ends { Ends tokens.held seen.old.log (N.event about.now) seen.new.log }
-    ensures fit { IsFit tokens.kind (history seen.new.log) }
+    ensures fit { Fits tokens.kind (history seen.new.log) }
     ensures places { HavePlaces tokens.kind (history seen.new.log) }
 {
     rz_core::local();
+    local_after();
     let mut offer = tokens.offer::<X, N>(about);
     let mut pen = seen.no_pen();
     let _found = word.compare_exchange::<Add, Mine>(moved, moved + 1, seen, &mut offer, &mut pen);
@@ -80,7 +82,7 @@ pub fn view(
     ensures agree { Agree (counts seen.new.log) tokens.held }
     ensures apart { AreApart tokens.held }
     ensures seen { IsPrefix seen.old.log seen.new.log }
-    ensures fit { IsFit tokens.kind (history seen.new.log) }
+    ensures fit { Fits tokens.kind (history seen.new.log) }
     ensures places { HavePlaces tokens.kind (history seen.new.log) }
     ensures count { result.1 ≡ count_at word.now.key seen.new.log }
 {
@@ -112,7 +114,7 @@ pub fn view_both(
     ensures its { (result.0.held ≡ (key, moved) ∷ []) × (result.0.log ≡ seen.new.log) }
     ensures agree { Agree (counts seen.new.log) mine.held × (count_at key seen.new.log ≡ moved) }
     ensures seen { IsPrefix seen.old.log seen.new.log }
-    ensures fit { IsFit mine.kind (history seen.new.log) }
+    ensures fit { Fits mine.kind (history seen.new.log) }
     ensures places { HavePlaces mine.kind (history seen.new.log) }
 {
     let (tokens, _) = view(word, seen, its.join(mine));
@@ -136,7 +138,7 @@ pub fn append_both<X, N: Asks<X>>(
     requires one { AreOfOne its mine }
     requires mine { IsRight mine × IsHolding (actor_key (by_of (N.event about.now))) mine.held × (mine.log ≡ seen.old.log) }
     requires its { (its.held ≡ (key, moved) ∷ []) × (its.log ≡ mine.log) × (count_at key mine.log ≡ moved) }
-    requires legal { MayCome mine.kind (history mine.log) (N.event about.now) }
+    requires legal { MayFit mine.kind (history mine.log) (N.event about.now) }
     requires place { HasPlace mine.kind (N.event about.now) }
     requires room { moved + 1 < 2 ^ 64 }
     ensures book { (seen.new.book ≡ seen.old.book) × (seen.new.names ≡ seen.old.names) }
@@ -145,7 +147,7 @@ pub fn append_both<X, N: Asks<X>>(
     ensures its { (result.0.held ≡ (key, moved + 1) ∷ []) × (result.0.log ≡ seen.new.log) }
     ensures count { count_at key seen.new.log ≡ moved + 1 }
     ensures commits { Commits (key ∷ keys mine.held) (history mine.log) (N.event about.now) (history seen.new.log) }
-    ensures fit { IsFit mine.kind (history seen.new.log) }
+    ensures fit { Fits mine.kind (history seen.new.log) }
     ensures places { HavePlaces mine.kind (history seen.new.log) }
 {
     let tokens = append::<X, N>(word, seen, its.join(mine), moved, about);

@@ -2,10 +2,10 @@
 ghost use Rattle.std.specs.Prelude.{◌≡◌, ◌<◌, ℕ, [], ◌∷◌, ◌++◌, List, None, length};
 ghost use Rattle.rz_events.specs.declared.events.Event.{Event as AnEvent};
 ghost use Rattle.rz_chronicle.specs.Keys.{rows};
-ghost use Rattle.rz_chronicle.specs.Kinds.{HasPlace, HavePlaces, IsFit, history};
+ghost use Rattle.rz_chronicle.specs.Kinds.{HasPlace, HavePlaces, Fits, history, with_earlier};
 ghost use Rattle.rz_chronicle.specs.Tokens.{AllInRow, AreApart, Covers, MayFollow, Agree, IsHolding, at, counts, notes, held_in, mark, zeros, without, count_in};
 
-use crate::kinds::BookKind;
+use crate::kinds::{Beginning, BookKind};
 use crate::told::Told;
 use logbook::{Gain, Gained, Offer, Rule, Start};
 use rz_events::Event;
@@ -70,9 +70,10 @@ impl Model for Tokens {
     ghost also_owns = { λ h. tokens_own h.tallies h.copy h.held h.log };
 }
 
-/// What callers keep at the start, and the tokens of all words and actors.
-pub fn begin(kind: &BookKind) -> (Start<Event, Told, Law>, Tokens)
-    ensures { (result.0.names ≡ result.1.tallies ∷ result.1.copy ∷ result.1.kind) × (result.0.shown ≡ []) × (result.1.kind ≡ kind.now) × (result.1.held ≡ zeros 0 rows) × (result.1.log ≡ []) }
+/// What callers keep at the start, and the tallies of all words and actors.
+pub fn begin<B: Beginning>(kind: &BookKind) -> (Start<Event, Told, Law>, Tokens)
+    requires { Fits (with_earlier kind.now B.earlier) [] }
+    ensures { (result.0.names ≡ result.1.tallies ∷ result.1.copy ∷ result.1.kind) × (result.0.shown ≡ []) × (result.1.kind ≡ with_earlier kind.now B.earlier) × (result.1.held ≡ zeros 0 rows) × (result.1.log ≡ []) }
 {
     let _ = kind;
     (
@@ -111,7 +112,7 @@ impl Tokens {
     /// The tokens after the step.
     pub fn back(gained: Gained<Event, Told, Mine>) -> Tokens
         requires { (n : ℕ × (ℕ × List ℕ)) × (gained.names ≡ n.0 ∷ n.1.0 ∷ n.1.1) }
-        ensures { (result.tallies ∷ result.copy ∷ result.kind ≡ gained.names) × (result.held ≡ at (counts gained.answer.log) (held_in gained.about)) × (result.log ≡ gained.answer.log) × Agree (counts gained.answer.before) (held_in gained.about) × IsFit result.kind (history gained.answer.log) × AreApart (held_in gained.about) × HavePlaces result.kind (history gained.answer.log) }
+        ensures { (result.tallies ∷ result.copy ∷ result.kind ≡ gained.names) × (result.held ≡ at (counts gained.answer.log) (held_in gained.about)) × (result.log ≡ gained.answer.log) × Agree (counts gained.answer.before) (held_in gained.about) × Fits result.kind (history gained.answer.log) × AreApart (held_in gained.about) × HavePlaces result.kind (history gained.answer.log) }
     {
         let Gained { marker: _ } = gained;
         Tokens {

@@ -2,7 +2,7 @@
 use Rattle.std.proofs.Common.{◌≡◌, ◌≤◌, Result, Ok, Err, is_err, IsErrOf, OnOk, OnErr, arith}
 use Rattle.std.proofs.lemmas.Grind.{common_steps}
 use Rattle.rz_disk.specs.Meter.{Passes, Rises, faults}
-use Rattle.rz_disk.specs.OverFile.{OverFile, faults_after, after_call, file_meter}
+use Rattle.rz_disk.specs.OverFile.{OverFile, faults_after, after_call, after_change, file_meter}
 
 -- what holds of each value holds where it is Ok, and where it is not
 pub on_ok : {T E : Type 0} {P : Type 0} (result : Result T E) → P → OnOk result P
@@ -17,6 +17,11 @@ on_err (Err e) p = p
 pub counts_only : {T E : Type 0} (result : Result T E) (old new : OverFile) → new ≡ after_call (is_err result) old → Passes result (file_meter old) (file_meter new)
 counts_only (Ok v) old new same = grind (arith, common_steps)
 counts_only (Err e) old new same = grind (arith, common_steps)
+
+-- and one that remembers a failure too
+pub counts_change : {T E : Type 0} (result : Result T E) (old new : OverFile) → new ≡ after_change (is_err result) old → Passes result (file_meter old) (file_meter new)
+counts_change (Ok v) old new same = grind (arith, common_steps)
+counts_change (Err e) old new same = grind (arith, common_steps)
 
 pub on_ok_map : {T E : Type 0} {P Q : Type 0} (result : Result T E) → (P → Q) → OnOk result P → OnOk result Q
 on_ok_map (Ok v) f p = f p

@@ -6,7 +6,7 @@
 //!
 //! Read `disk` first, then `storing`, a write that is synced. `plain` and `mem` keep their bytes in
 //! memory by `medium`. `fused` and `rot` pass their calls on to another disk. `file` is the edge to
-//! the system.
+//! the system, and `placing` says where its file lies.
 #![tactic(auto)]
 
 mod disk;
@@ -14,6 +14,7 @@ mod file;
 mod fused;
 mod medium;
 mod mem;
+mod placing;
 mod plain;
 mod rot;
 mod storing;

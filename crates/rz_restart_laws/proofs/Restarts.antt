@@ -34,7 +34,7 @@ not-there n [] none there = absurd there
 not-there n (m ∷ ns) none (inl is) = let same : nat_eq n m ≡ true = eq-eqb n m (sym is) in let other = none.0 in absurd (cc)
 not-there n (m ∷ ns) none (inr there) = not-there n ns none.1 there
 
-apart : (ns : List ℕ) → IsDistinct nat_eq ns → Apart ns
+pub apart : (ns : List ℕ) → IsDistinct nat_eq ns → Apart ns
 apart [] distinct = tt
 apart (n ∷ ns) distinct = (not-there n ns (IsDistinct-head nat_eq n ns distinct), apart ns (IsDistinct-tail nat_eq n ns distinct))
 
@@ -46,10 +46,10 @@ numbers-apart v rules = apart (numbers v) rules.distinct_sids
 node-is : (m n : ℕ) → Node m ≡ Node n → m ≡ n
 node-is m n is = cc
 
-other-word : (x : Event) (h : List Event) (n m : ℕ) → word_of x ≡ Node n → n ≢ m → node m (x ∷ h) ≡ node m h
+pub other-word : (x : Event) (h : List Event) (n m : ℕ) → word_of x ≡ Node n → n ≢ m → node m (x ∷ h) ≡ node m h
 other-word x h n m of other = at-node x h m (λ w. w ≡ node m h) (λ is. absurd (other (node-is n m (sym of ∙ is)))) refl
 
-own-word : (x : Event) (h : List Event) (n : ℕ) → word_of x ≡ Node n → node n (x ∷ h) ≡ x ∷ node n h
+pub own-word : (x : Event) (h : List Event) (n : ℕ) → word_of x ≡ Node n → node n (x ∷ h) ≡ x ∷ node n h
 own-word x h n of = at-own x h n (λ w. w ≡ x ∷ node n h) of refl
 
 -- ---- a stop where a node is up
@@ -69,7 +69,7 @@ module _ (n : ℕ) (h : List Event) where
 abbrev pub at_rest : ℕ → List Event → List Event
 at_rest n w = stopped_if (phase w) n w
 
-there-or-not : (n m : ℕ) (ns : List ℕ) → ¬ Stands n ns → Stands m ns → n ≢ m
+pub there-or-not : (n m : ℕ) (ns : List ℕ) → ¬ Stands n ns → Stands m ns → n ≢ m
 there-or-not n m ns none there is = none (subst (λ z. Stands z ns) (sym is) there)
 
 stopped-other : (ns : List ℕ) (h : List Event) (m : ℕ) → ¬ Stands m ns → node m (stopped ns h) ≡ node m h
@@ -77,7 +77,7 @@ stopped-other [] h m none = refl
 stopped-other (n ∷ ns) h m none =
     stopped-other ns (stopped_if (phase (node n h)) n h) m (λ there. none (inr there)) ∙ if-other n h (phase (node n h)) m (λ is. none (inl is))
 
-stopped-own : (ns : List ℕ) → Apart ns → (h : List Event) (m : ℕ) → Stands m ns → node m (stopped ns h) ≡ at_rest m (node m h)
+pub stopped-own : (ns : List ℕ) → Apart ns → (h : List Event) (m : ℕ) → Stands m ns → node m (stopped ns h) ≡ at_rest m (node m h)
 stopped-own [] apart h m there = absurd there
 stopped-own (n ∷ ns) apart h m (inl is) =
     stopped-other ns (stopped_if (phase (node n h)) n h) m (λ there. apart.0 (subst (λ z. Stands z ns) (sym is) there))
@@ -89,12 +89,12 @@ stopped-own (n ∷ ns) apart h m (inr there) =
 -- ---- starts
 
 module _ (took : ℕ → Bool) where
-  started-other : (ns : List ℕ) (h : List Event) (m : ℕ) → ¬ Stands m ns → node m (started took ns h) ≡ node m h
+  pub started-other : (ns : List ℕ) (h : List Event) (m : ℕ) → ¬ Stands m ns → node m (started took ns h) ≡ node m h
   started-other [] h m none = refl
   started-other (n ∷ ns) h m none =
       started-other ns (e.Start n (took n) ∷ h) m (λ there. none (inr there)) ∙ other-word (e.Start n (took n)) h n m refl (λ is. none (inl is))
 
-  started-own : (ns : List ℕ) → Apart ns → (h : List Event) (m : ℕ) → Stands m ns → node m (started took ns h) ≡ e.Start m (took m) ∷ node m h
+  pub started-own : (ns : List ℕ) → Apart ns → (h : List Event) (m : ℕ) → Stands m ns → node m (started took ns h) ≡ e.Start m (took m) ∷ node m h
   started-own [] apart h m there = absurd there
   started-own (n ∷ ns) apart h m (inl is) =
       started-other ns (e.Start n (took n) ∷ h) m (λ there. apart.0 (subst (λ z. Stands z ns) (sym is) there))
@@ -112,16 +112,16 @@ word-own v rules took h n there =
 -- ---- they are allowed
 
 -- the log goes on by so many events that leave the permanent facts and the export
-record Quiet (v : Volume) (h old : List Event) (more : ℕ) : Type 0 where
-  legal : IsLegalInRuns v old
-  facts_are : facts old ≡ facts h
-  export_word : export old ≡ export h
-  few : length old ≤ length h + more
+pub record Quiet (v : Volume) (h old : List Event) (more : ℕ) : Type 0 where
+  pub legal : IsLegalInRuns v old
+  pub facts_are : facts old ≡ facts h
+  pub export_word : export old ≡ export h
+  pub few : length old ≤ length h + more
 
-none-more : (v : Volume) (h : List Event) → IsLegalInRuns v h → Quiet v h h 0
+pub none-more : (v : Volume) (h : List Event) → IsLegalInRuns v h → Quiet v h h 0
 none-more v h legal = record { legal = legal; facts_are = refl; export_word = refl; few = omega arith }
 
-then : (v : Volume) (h mid old : List Event) (j k : ℕ) → Quiet v h mid j → Quiet v mid old k → Quiet v h old (j + k)
+pub then : (v : Volume) (h mid old : List Event) (j k : ℕ) → Quiet v h mid j → Quiet v mid old k → Quiet v h old (j + k)
 then v h mid old j k a b = record {
   legal = b.legal;
   facts_are = b.facts_are ∙ a.facts_are;
@@ -129,7 +129,7 @@ then v h mid old j k a b = record {
   few = (let x = a.few in let y = b.few in omega (arith, x, y));
 }
 
-wider : (v : Volume) (h old : List Event) (j k : ℕ) → j ≤ k → Quiet v h old j → Quiet v h old k
+pub wider : (v : Volume) (h old : List Event) (j k : ℕ) → j ≤ k → Quiet v h old j → Quiet v h old k
 wider v h old j k low a = record { legal = a.legal; facts_are = a.facts_are; export_word = a.export_word; few = (let x = a.few in omega (arith, x, low)) }
 
 word-short : (p : Event → Bool) (h : List Event) → length (filter p h) ≤ length h
@@ -140,7 +140,7 @@ word-short p (x ∷ h) = go (p x) (word-short p h)
     go true low = omega (arith, low)
     go false low = omega (arith, low)
 
-room : (h : List Event) (n : ℕ) → length h < 2 ^ 64 - 1 → length (node n h) < 2 ^ 64 - 1
+pub room : (h : List Event) (n : ℕ) → length h < 2 ^ 64 - 1 → length (node n h) < 2 ^ 64 - 1
 room h n few = let low = word-short (λ x. same_word (Node n) (word_of x)) h in omega (arith, low, few)
 
 module _ (v : Volume) (h : List Event) (legal : IsLegalInRuns v h) (few : length h < 2 ^ 64 - 1) (n : ℕ) (there : IsNodeOf v n) where
@@ -165,7 +165,7 @@ module _ (v : Volume) (h : List Event) (legal : IsLegalInRuns v h) (few : length
   stop-if Down is = wider v h h 0 1 (omega arith) (none-more v h legal)
   stop-if Lost is = wider v h h 0 1 (omega arith) (none-more v h legal)
 
-stops : (v : Volume) (ns : List ℕ) → AllByRecursion (IsNodeOf v) ns → (h : List Event) → IsLegalInRuns v h → length h + length ns < 2 ^ 64 - 1 → Quiet v h (stopped ns h) (length ns)
+pub stops : (v : Volume) (ns : List ℕ) → AllByRecursion (IsNodeOf v) ns → (h : List Event) → IsLegalInRuns v h → length h + length ns < 2 ^ 64 - 1 → Quiet v h (stopped ns h) (length ns)
 stops v [] all h legal few = none-more v h legal
 stops v (n ∷ ns) all h legal few =
     let now = stop-if v h legal (omega (arith, few)) n all.0 (phase (node n h)) refl in
@@ -174,7 +174,7 @@ stops v (n ∷ ns) all h legal few =
     wider v h (stopped ns mid) (1 + length ns) (length (n ∷ ns)) (omega arith)
     (then v h mid (stopped ns mid) 1 (length ns) now (stops v ns all.1 mid now.legal (omega (arith, few, long))))
 
-starts : (v : Volume) (took : ℕ → Bool) (ns : List ℕ) → AllByRecursion (IsNodeOf v) ns → Apart ns → (h : List Event) → IsLegalInRuns v h → length h + length ns < 2 ^ 64 - 1
+pub starts : (v : Volume) (took : ℕ → Bool) (ns : List ℕ) → AllByRecursion (IsNodeOf v) ns → Apart ns → (h : List Event) → IsLegalInRuns v h → length h + length ns < 2 ^ 64 - 1
     → ((n : ℕ) → Stands n ns → StartRow (node n h) (took n)) → Quiet v h (started took ns h) (length ns)
 starts v took [] all once h legal few rows = none-more v h legal
 starts v took (n ∷ ns) all once h legal few rows =
@@ -186,23 +186,23 @@ starts v took (n ∷ ns) all once h legal few rows =
     (starts v took ns all.1 once.1 mid now.legal (omega (arith, few, long))
     (λ m at. subst (λ w. StartRow w (took m)) (sym (other-word (e.Start n (took n)) h n m refl (there-or-not n m ns once.0 at))) (rows m (inr at)))))
 
-all-there : (ns : List ℕ) (P : ℕ → Type 0) → ((n : ℕ) → Stands n ns → P n) → AllByRecursion P ns
+pub all-there : (ns : List ℕ) (P : ℕ → Type 0) → ((n : ℕ) → Stands n ns → P n) → AllByRecursion P ns
 all-there [] P each = tt
 all-there (n ∷ ns) P each = (each n (inl refl), all-there ns P (λ m at. each m (inr at)))
 
 -- ---- a node at rest
 
-rest-down : (n : ℕ) (w : List Event) (p : Phase) → phase w ≡ p → p ≢ Lost → phase (stopped_if p n w) ≡ Down
+pub rest-down : (n : ℕ) (w : List Event) (p : Phase) → phase w ≡ p → p ≢ Lost → phase (stopped_if p n w) ≡ Down
 rest-down n w Up is there = refl
 rest-down n w Down is there = is
 rest-down n w Lost is there = absurd (there refl)
 
-rest-undecided : (n : ℕ) (w : List Event) (p : Phase) → undecided (stopped_if p n w) ≡ undecided w
+pub rest-undecided : (n : ℕ) (w : List Event) (p : Phase) → undecided (stopped_if p n w) ≡ undecided w
 rest-undecided n w Up = refl
 rest-undecided n w Down = refl
 rest-undecided n w Lost = refl
 
-few-numbers : (v : Volume) → IsVolume v → length (numbers v) ≤ 256
+pub few-numbers : (v : Volume) → IsVolume v → length (numbers v) ≤ 256
 few-numbers v rules = let same = length-map (nodes_of v.clusters) (λ (spec : NodeSpec). spec.sid) in let few = rules.few_nodes in omega (arith, same, few)
 
 pub restarting : (v : Volume) → IsVolume v → MayRestart v

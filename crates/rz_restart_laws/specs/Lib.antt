@@ -2,3 +2,4 @@ pub mod Earlier
 pub mod Calls
 pub mod Found
 pub mod Laws
+pub mod Returns

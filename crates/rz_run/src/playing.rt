@@ -7,7 +7,7 @@ ghost use Rattle.rz_events.specs.declared.events.Word.TheVariants as w;
 ghost use Rattle.rz_play.specs.World.{actors};
 ghost use Rattle.rz_chronicle.specs.Dealing.{new_pass, new_word_token};
 ghost use Rattle.rz_chronicle.specs.Keys.{sids_of};
-ghost use Rattle.rz_chronicle.specs.Kinds.{is_honest, kind_of, volume_in};
+ghost use Rattle.rz_chronicle.specs.Kinds.{HasEarlierLog, is_honest, kind_of, volume_in};
 ghost use Rattle.rz_threads_workers.specs.WorkerPool.{link_of, IsPoolWorker};
 ghost use Rattle.rz_request.specs.Requests.{nodes_in};
 ghost use Rattle.rz_run.specs.Runs.{Plays};
@@ -121,6 +121,7 @@ pub(crate) fn play_book<
     output: &mut O,
 ) -> Ran<D, L>
     requires named { (opened.seen.book ≡ J.book) × (opened.tokens.tallies ≡ J.tallies) × (opened.tokens.copy ≡ J.copy) × (opened.tokens.kind ≡ J.kind) }
+    requires earlier { HasEarlierLog J.kind J.earlier }
     requires kind { J.kind ≡ kind_of (is_honest J.kind) script.now.volume }
     requires count { length disks.items ≡ nodes_in script.now }
     requires links { length links.items ≡ 80 }

@@ -6,7 +6,7 @@ ghost use Rattle.rz_run.specs.Runs.{Plays, Runs};
 
 use crate::outcome::Ran;
 use crate::playing::play_book;
-use rz_chronicle::{NewBook, read_back};
+use rz_chronicle::{NewBook, read_back, read_back_after};
 use rz_disk::Disk;
 use rz_link::Link;
 use rz_ports::{Sink, Source};
@@ -34,6 +34,7 @@ fn play_script<R: Threads + Wait + Sync, O: Sink, D: Disk + Send, L: Link + Send
     ensures { Plays D.tells honest D.meter D.image L.lost script.now (record { old = disks.items; new = result.disks.items }) (record { old = links.items; new = result.links.items }) (record { before = O.taken output.old; after = O.taken output.new; old = O.faults output.old; new = O.faults output.new }) result.status }
 {
     read_back();
+    read_back_after();
     let volume = script.volume();
     let _rules = volume.node_count();
     match NewBook::start(alloc, volume, honest) {

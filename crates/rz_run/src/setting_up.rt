@@ -6,7 +6,7 @@ ghost use Rattle.rz_events.specs.declared.events.Word.TheVariants as w;
 ghost use Rattle.rz_play.specs.World.{actors};
 ghost use Rattle.rz_chronicle.specs.Dealing.{new_pass, new_word_token};
 ghost use Rattle.rz_chronicle.specs.Keys.{sids_of};
-ghost use Rattle.rz_chronicle.specs.Kinds.{volume_in};
+ghost use Rattle.rz_chronicle.specs.Kinds.{HasEarlierLog, volume_in};
 ghost use Rattle.rz_threads_workers.specs.WorkerPool.{link_of, IsPoolWorker};
 
 use rz_chronicle::{Book, Crew, Desk, NewBook, Pass};
@@ -36,6 +36,7 @@ fn name_book<J: Counting>(
     volume: &Volume,
 ) -> Result<NamedBook<J>, AllocError>
     requires named { (opened.seen.book ≡ J.book) × (opened.tokens.tallies ≡ J.tallies) × (opened.tokens.copy ≡ J.copy) × (opened.tokens.kind ≡ J.kind) }
+    requires earlier { HasEarlierLog J.kind J.earlier }
     ensures book { IfOk result (λ c. c.book ≡ volume_in J.kind) }
     ensures admin { IfOk result (λ c. c.admin ≡ new_pass a.Admin) }
     ensures export { IfOk result (λ c. c.desk.export ≡ new_word_token w.Export) }
@@ -83,6 +84,7 @@ pub(crate) fn set_up<J: Counting, L: Link>(
     links: Vec<L>,
 ) -> Result<Setup<J, L>, Vec<L>>
     requires named { (opened.seen.book ≡ J.book) × (opened.tokens.tallies ≡ J.tallies) × (opened.tokens.copy ≡ J.copy) × (opened.tokens.kind ≡ J.kind) }
+    requires earlier { HasEarlierLog J.kind J.earlier }
     requires volume { script.now.volume ≡ volume_in J.kind }
     requires links { length links.items ≡ 80 }
     ensures book { IfOk result (λ c. c.book ≡ volume_in J.kind) }

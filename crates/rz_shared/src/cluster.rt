@@ -134,6 +134,8 @@ impl<D: Disk, J: Counting> Cluster<D, J> {
         ensures commits { Commits pass.old.keys pass.old.log event.now pass.new.log }
         ensures fit { IsFit J.kind pass.new.log }
     {
+        rz_chronicle::begins_anew();
+        let _by = pass.actor();
         book.finish(pass, event);
     }
 

@@ -21,5 +21,6 @@ mod room;
 mod seating;
 
 pub use cluster::Cluster;
+pub use rz_node::answer_node;
 pub use rz_nodes::DriverFault;
-pub use rz_shared_locked::{Counting, LockedExport, LockedNode};
+pub use rz_shared_locked::{Counting, LockedExport, LockedNode, answer_export};

@@ -132,7 +132,7 @@ impl<D: Disk, J: Counting> Cluster<D, J> {
                 Ok(Cluster {
                     nodes: parts.nodes,
                     locked_nodes,
-                    locked_export: Mutex::new(LockedExport::new(parts.export, export)),
+                    locked_export: Mutex::new(LockedExport::new(alloc, parts.export, export)),
                     room: Mutex::new(ClosingRoom::of(parts.unlocked, home, word_tokens)),
                 })
             }

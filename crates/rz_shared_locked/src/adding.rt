@@ -5,11 +5,12 @@ ghost use Rattle.rz_chronicle.specs.Keys.{count_at, word_key};
 ghost use Rattle.rz_chronicle.specs.Kinds.{IsFit, MayCome};
 ghost use Rattle.rz_shared_locked.specs.Adding.{Adds};
 
-use rz_chronicle::{Book, Itself, Naming, Pass, WordToken};
+use crate::counting::Counting;
+use rz_chronicle::{Book, Itself, Pass, WordToken};
 use rz_events::Event;
 
-/// Adds the event of an answer, if it has one. The pass and the token have entered.
-pub(crate) fn add<J: Naming>(
+/// Adds the event of an answer, if it has one. The pass and the word_token have entered.
+pub(crate) fn add<J: Counting>(
     book: &Book<J>,
     pass: &mut Pass<J>,
     word_token: &mut WordToken<J>,
@@ -24,6 +25,7 @@ pub(crate) fn add<J: Naming>(
     ensures adds { Adds (word_key word_token.old.word ∷ pass.old.keys) pass.old.log event pass.new.log }
     ensures fit { IsFit J.kind pass.new.log }
 {
+    rz_chronicle::begins_anew();
     let _by = pass.actor();
     match &event {
         Some(event) => book.commit::<Event, Itself>(pass, word_token, event),

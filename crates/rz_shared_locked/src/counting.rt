@@ -8,16 +8,22 @@ use rz_chronicle::Naming;
 use rz_events::{Event, Why};
 use std::marker::Brand;
 
-/// The name of a book, with the faults that the disk of each node had counted when the nodes took their
-/// locked nodes.
+/// The name of a book whose log begins anew, with the faults that the disk of each node had counted when
+/// the nodes took their locked_nodes.
 pub trait Counting: Naming {
-    ghost use Rattle.std.specs.Prelude.{ℕ};
+    ghost use Rattle.std.specs.Prelude.{ℕ, ◌≡◌, []};
 
     ghost first: { ℕ → ℕ };
+
+    ghost anew: { Self.earlier ≡ [] };
 }
 
 impl Counting for Brand {
+    ghost use Rattle.std.specs.Prelude.{refl};
+
     ghost first = { λ n. 0 };
+
+    ghost anew = { refl };
 }
 
 /// So many passes of the disk are spent by an event.

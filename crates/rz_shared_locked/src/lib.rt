@@ -19,5 +19,5 @@ mod serving;
 mod waiting;
 
 pub use counting::Counting;
-pub use locked_export::LockedExport;
+pub use locked_export::{LockedExport, answer_export};
 pub use locked_node::LockedNode;

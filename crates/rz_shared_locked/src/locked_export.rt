@@ -5,7 +5,8 @@ ghost use Rattle.rz_events.specs.declared.keys.Actor.{Actor as AnActor};
 ghost use Rattle.rz_events.specs.declared.export.Call.{Call as ACall};
 ghost use Rattle.rz_events.specs.declared.events.Word.TheVariants as w;
 ghost use Rattle.rz_events.specs.Events.{word_of, by_of};
-ghost use Rattle.rz_export_model.specs.Export.{new_export};
+ghost use Rattle.rz_export.specs.Calls.{IsAnswered};
+ghost use Rattle.rz_export_model.specs.Export.{is_proper, new_export};
 ghost use Rattle.rz_export_model.specs.ExportEvents.{export_event};
 ghost use Rattle.rz_core.specs.History.{facts, of_actor};
 ghost use Rattle.rz_core.specs.Tied.{IsProperCall};
@@ -16,20 +17,31 @@ ghost use Rattle.rz_chronicle.specs.Dealing.{new_word_token};
 ghost use Rattle.rz_shared_locked.specs.LockedExports.{AreBytes, HasBytes, Replied, event_given};
 
 use crate::waiting::without_reply;
-use rz_chronicle::{Asks, Book, Naming, Pass, WordToken};
+use rz_chronicle::{Asks, Book, Pass, WordToken};
 use rz_events::{Actor, Call, Reply};
 use rz_export::Export;
+use std::alloc::Global;
 use std::marker::{Brand, Model, PhantomData};
 use std::sync::Wait;
 
-/// The export under its lock, with the token of its word.
+/// Gives an export a call that it takes: the reply of the model, with the model's next state, or that memory
+/// is wanting, and then nothing changes. An export takes memory by the allocator that it was made with.
+pub fn answer_export(_alloc: Global, export: &mut Export, call: &Call) -> Reply
+    requires { IsTrue (is_proper export.old call.now) }
+    ensures { IsAnswered export.old call.now result export.new }
+{
+    export.answer(call)
+}
+
+/// The export under its lock, with the tally of its word.
 #[derive(Drop)]
-pub struct LockedExport<J: Naming> {
+pub struct LockedExport<J: Counting> {
+    alloc: Global,
     export: Export,
     word_token: WordToken<J>,
 }
 
-impl<J: Naming> Model for LockedExport<J> {
+impl<J: Counting> Model for LockedExport<J> {
     ghost use Rattle.std.specs.Prelude.{◌≡◌, List, IsTrue};
     ghost use Rattle.rz_events.specs.declared.events.Event.{Event as AnEvent};
     ghost use Rattle.rz_events.specs.declared.events.Word.TheVariants as w;
@@ -73,22 +85,30 @@ impl<C: Asking> Asks<Reply> for Given<C> {
     ghost event = { λ r. event_given C.by C.call r };
 }
 
-impl<J: Naming> LockedExport<J> {
-    /// The locked export of a new export, whose word has no event yet.
-    pub fn new(export: Export, word_token: WordToken<J>) -> LockedExport<J>
+impl<J: Counting> LockedExport<J> {
+    /// The locked_export of a new export, whose word has no event yet.
+    pub fn new(alloc: Global, export: Export, word_token: WordToken<J>) -> LockedExport<J>
         requires word_token { word_token ≡ new_word_token w.Export }
         requires export { export ≡ new_export (volume_in J.kind) 0 }
         ensures { result ≡ [] }
     {
         rz_log_laws::beginning();
-        LockedExport { export, word_token }
+        LockedExport {
+            alloc,
+            export,
+            word_token,
+        }
     }
 
     /// The token of the export's word.
     pub fn close(self) -> WordToken<J>
         ensures { result ≡ record { word = w.Export; log = self } }
     {
-        let LockedExport { export, word_token } = self;
+        let LockedExport {
+            export,
+            word_token,
+            ..
+        } = self;
         drop(export);
         word_token
     }
@@ -149,7 +169,7 @@ impl<J: Naming> LockedExport<J> {
         if !self.export.takes(call) {
             return without_reply(rt);
         }
-        let reply = self.export.answer(call);
+        let reply = answer_export(self.alloc, &mut self.export, call);
         if matches!(reply, Reply::NoMemory) {
             return reply;
         }
@@ -173,8 +193,8 @@ fn are_bytes(text: &[u8])
     let _count = text.len();
 }
 
-/// Adds the event of a reply that has one. The pass and the token have entered.
-fn add_reply<J: Naming, C: Asking>(
+/// Adds the event of a reply that has one. The pass and the word_token have entered.
+fn add_reply<J: Counting, C: Asking>(
     book: &Book<J>,
     pass: &mut Pass<J>,
     word_token: &mut WordToken<J>,
@@ -194,5 +214,7 @@ fn add_reply<J: Naming, C: Asking>(
 {
     let _ = by;
     let _ = call;
+    rz_chronicle::begins_anew();
+    let _by = pass.actor();
     book.commit::<Reply, Given<C>>(pass, word_token, reply);
 }

@@ -1,6 +1,8 @@
-use rz_disk::{Disk, DiskError, FileDisk, Fused, MemDisk, PlainDisk, RotDisk, store};
+use rz_disk::{Disk, DiskError, Failed, FileDisk, Fused, MemDisk, PlainDisk, RotDisk, store};
 use std::alloc::Global;
 use std::fs;
+use std::io::ErrorKind;
+use std::os::unix::fs::symlink;
 use std::process::Abort;
 use std::rt::Files;
 use std::test::Fail;
@@ -85,5 +87,104 @@ fn a_file_that_is_there_stays_as_it_is(rt: HostRuntime) -> Result<(), Fail> {
     assert!(rt; written.is_ok() && synced.is_ok() && has_bytes(&rt, OTHER, b"therm"));
     fs::remove_file(&rt, OTHER).expect(&rt, "a file");
     assert!(rt; back == *b"there");
+    Ok(())
+}
+
+/// The three device calls on a disk of no bytes.
+fn calls<D: Disk>(disk: &mut D) -> [Result<(), Failed>; 3] {
+    let read = disk.read(0, &mut []);
+    let written = disk.write_at(0, b"");
+    let synced = disk.sync();
+    [read, written, synced]
+}
+
+#[test]
+fn a_failed_sync_fails_each_later_call(rt: HostRuntime) -> Result<(), Fail> {
+    let mut disk = FileDisk::existing(&rt, rt.alloc(), "/dev/null").expect(&rt, "a disk");
+    assert!(rt; disk.size() == 0 && disk.last_error().is_none());
+    let first = calls(&mut disk);
+    let later = calls(&mut disk);
+    let error = disk.last_error().expect(&rt, "an error");
+    drop(disk);
+    assert!(rt; first == [Ok(()), Ok(()), Err(Failed)] && later == [Err(Failed); 3]);
+    assert!(rt; error.kind() == ErrorKind::InvalidInput);
+    Ok(())
+}
+
+/// Takes away what stood there.
+fn clear(rt: &(impl Files + Abort + AllocGlobal), paths: &[&str]) {
+    let _ = fs::create_dir(rt, FOLDER);
+    for path in paths {
+        let _ = fs::remove_file(rt, *path);
+    }
+}
+
+/// Whether a path is a link.
+fn is_link(rt: &(impl Files + Abort + AllocGlobal), path: &str) -> bool {
+    match fs::symlink_metadata(rt, path) {
+        Ok(found) => found.is_symlink(),
+        Err(_) => false,
+    }
+}
+
+#[test]
+fn a_link_stays_a_link(rt: HostRuntime) -> Result<(), Fail> {
+    const LINK: &str = "rz_disk_test/link";
+    const BEHIND: &str = "rz_disk_test/behind";
+    const BESIDE: &str = "rz_disk_test/beside";
+    clear(&rt, &[LINK, BEHIND, BESIDE, "rz_disk_test/behind.new"]);
+    fs::write(&rt, BESIDE, b"kept".as_slice()).expect(&rt, "a file");
+    symlink(&rt, "beside", "rz_disk_test/behind.new").expect(&rt, "a link");
+    symlink(&rt, "behind", LINK).expect(&rt, "a link");
+    let mut disk = FileDisk::new(&rt, rt.alloc(), LINK).expect(&rt, "a disk");
+    let made = disk.reset(rt.alloc(), 3);
+    let is_made = is_link(&rt, LINK) && has_bytes(&rt, BEHIND, b"\0\0\0");
+    let written = store(&mut disk, 1, b"a");
+    let made_anew = disk.reset(rt.alloc(), 2);
+    drop(disk);
+    assert!(rt; made.is_ok() && is_made && written.is_ok() && made_anew.is_ok());
+    assert!(rt; is_link(&rt, LINK) && has_bytes(&rt, BEHIND, b"\0\0"));
+    assert!(rt; has_bytes(&rt, BESIDE, b"kept"));
+    clear(&rt, &[LINK, BEHIND, BESIDE]);
+    Ok(())
+}
+
+#[test]
+fn what_is_no_file_is_not_replaced(rt: HostRuntime) -> Result<(), Fail> {
+    const LOOP: &str = "rz_disk_test/loop";
+    clear(&rt, &[LOOP]);
+    symlink(&rt, "loop", LOOP).expect(&rt, "a link");
+    let mut disk = FileDisk::new(&rt, rt.alloc(), LOOP).expect(&rt, "a disk");
+    let over_link = disk.reset(rt.alloc(), 1);
+    drop(disk);
+    let mut disk = FileDisk::new(&rt, rt.alloc(), FOLDER).expect(&rt, "a disk");
+    let over_folder = disk.reset(rt.alloc(), 1);
+    drop(disk);
+    assert!(rt; over_link == Err(DiskError::Failed) && over_folder == Err(DiskError::Failed));
+    assert!(rt; is_link(&rt, LOOP));
+    clear(&rt, &[LOOP]);
+    Ok(())
+}
+
+#[test]
+fn a_disk_for_reading_is_not_written(rt: HostRuntime) -> Result<(), Fail> {
+    const READ: &str = "rz_disk_test/read";
+    clear(&rt, &[READ]);
+    let missing = FileDisk::reading(&rt, rt.alloc(), READ).err();
+    assert!(rt; missing == Some(DiskError::Failed));
+    fs::write(&rt, READ, b"there".as_slice()).expect(&rt, "a file");
+    let mut disk = FileDisk::reading(&rt, rt.alloc(), READ).expect(&rt, "a disk");
+    let mut back = [9; 5];
+    let synced = disk.sync();
+    let read = disk.read(0, &mut back);
+    assert!(rt; disk.size() == 5 && synced.is_ok() && read.is_ok() && back == *b"there");
+    let written = disk.write_at(0, b"x");
+    let error = disk.last_error().expect(&rt, "an error");
+    assert!(rt; written.is_err() && error.kind() == ErrorKind::ReadOnlyFilesystem);
+    let reset = disk.reset(rt.alloc(), 5);
+    let named = disk.path() == READ;
+    drop(disk);
+    assert!(rt; reset.is_err() && named && has_bytes(&rt, READ, b"there"));
+    clear(&rt, &[READ]);
     Ok(())
 }

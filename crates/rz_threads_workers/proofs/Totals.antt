@@ -122,7 +122,7 @@ total-at : (kind : List ℕ) → StandApart (sids_of (volume_in kind)) → (h : 
 total-at kind apart [] placed = none-before 338 (sids_of (volume_in kind))
 total-at kind apart (x ∷ h) placed =
     let here = placed.0 in
-    one-event (sids_of (volume_in kind)) apart x h here.0 here.1 here.2 ∙ ap suc (total-at kind apart h placed.1)
+    one-event (sids_of (volume_in kind)) apart x h here.place here.low here.owner_is ∙ ap suc (total-at kind apart h placed.1)
 
 -- so the words have as many events as the log
 pub total : (kind : List ℕ) (v : Volume) → v ≡ volume_in kind → StandApart (sids_of v) → (h : List Event) → HavePlaces kind h → moves_in (sids_of v) h ≡ length h

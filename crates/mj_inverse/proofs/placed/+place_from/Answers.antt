@@ -1,6 +1,5 @@
-use Rattle.std.proofs.Common.{rules, arith, ◌≡◌, ◌≤◌, ◌<◌, ◌+◌, ◌*◌, ◌∷◌, ℕ, suc, List, length, ap, subst, ◌∙◌, vec_len, ℤ}
+use Rattle.std.proofs.Common.{rules, arith, ◌≡◌, ◌≤◌, ◌<◌, ◌+◌, ◌*◌, ◌∷◌, ℕ, suc, List, length, ap, subst, ℤ}
 use Rattle.std.specs.Prelude.{All, unsigned_abs}
-use Rattle.std.proofs.lemmas.List.{length-append}
 use Rattle.mj_inverse.proofs.placed.+place_from.Goals as goal
 
 small_rest : (xs rest : List ℤ) (x : ℤ) → xs ≡ x ∷ rest → All (λ p. unsigned_abs p ≤ 16) xs → All (λ p. unsigned_abs p ≤ 16) rest
@@ -14,23 +13,18 @@ enough from b n c h le = let e : suc n * (c + 256) ≡ c + 256 + n * (c + 256) =
 
 pub place_from-requires : goal.place_from-requires
 place_from-requires t c =
-    let e : c.args.angles.now ≡ c.in-Some.first.now ∷ c.in-Some.rest.now = search rules in
-    let long : length c.args.angles.now ≡ suc (length c.in-Some.rest.now) = ap length e in
-    let room = c.requires.room in
-    let capacity = c.add_placed.ensures.capacity in
+    let e : c.args.angles.now ≡ c.in-Some-Some.p.now ∷ c.in-Some-Some.others.now = search rules in
+    let long : length c.args.angles.now ≡ suc (length c.in-Some-Some.others.now) = ap length e in
     let few = c.requires.few in
     let less = c.bins.ensures.few in
     let rows = c.requires.shape.few_rows in
-    let more : length c.add_placed.new.all.items ≡ length c.args.all.now.items + 1 = ap length c.add_placed.ensures.items ∙ length-append c.args.all.now.items _ in
-    let vec : length c.add_placed.new.all.items ≡ vec_len c.add_placed.new.all = search rules in
-    let vec' : length c.args.all.now.items ≡ vec_len c.args.all.now = search rules in
     let P : ℕ → Type 0 = λ n. c.args.from + n * (c.args.cols + 256) ≤ 4294967296 in (
       search rules,
       (
         c.requires.shape,
         (
-          small_rest c.args.angles.now c.in-Some.rest.now c.in-Some.first.now e c.requires.small,
-          (omega arith, enough c.args.from c.bins.result (length c.in-Some.rest.now) c.args.cols (subst P long few) (omega arith)),
+          small_rest c.args.angles.now c.in-Some-Some.others.now c.in-Some-Some.p.now e c.requires.small,
+          (search rules, enough c.args.from c.bins.result (length c.in-Some-Some.others.now) c.args.cols (subst P long few) (omega arith)),
         ),
       ),
     )

@@ -1,23 +1,41 @@
-use Rattle.std.proofs.Common.{arith, ◌≡◌, ◌<◌, ℕ, subst}
+use Rattle.std.proofs.Common.{arith, ◌≡◌, ◌<◌, ℕ, List, subst}
 use Rattle.mj_inverse.specs.Padded.{IsSwept}
 use Rattle.mj_inverse.proofs.Swept.{swept_turn}
 use Rattle.mj_inverse.proofs.sweep.peel_each.Goals as goal
 
+pub turns-init : goal.turns-init
+turns-init c = record { padded = c.requires.padded; swept = λ ws before. before }
+
 pub turns-preserved : goal.turns-preserved
 turns-preserved c =
-    let all : c.rows.n ≡ c.args.rows = omega arith in
-    let P : ℕ → Type 0 = λ n. IsSwept c.args.rows c.args.cols c.args.words.now c.args.all.now c.rows.grid c.turns.t n in
-    swept_turn c.args.rows c.args.cols c.args.words.now c.args.all.now c.rows.grid c.turns.t (subst P all c.rows.invariant)
+    let all : c.rows.n ≡ c.args.frame.rows = omega arith in
+    let P : List ℕ → ℕ → Type 0 = λ ws n. IsSwept c.args.frame.rows c.args.frame.cols c.args.frame.reach ws c.args.all.now c.rows.grid c.turns.t n in
+    record {
+      padded = c.rows.invariant.padded;
+      swept = λ ws before.
+          (let Q : ℕ → Type 0 = P ws in
+          swept_turn c.args.frame.rows c.args.frame.cols c.args.frame.reach ws c.args.all.now c.rows.grid c.turns.t (subst Q all (c.rows.invariant.swept ws before)));
+    }
+
+pub rows-init : goal.rows-init
+rows-init c = record { padded = c.turns.invariant.padded; swept = λ ws before. c.turns.invariant.swept ws before }
 
 pub returns : goal.returns
 returns c =
     let end : c.turns.t ≡ c.args.to = omega arith in
-    let P : ℕ → Type 0 = λ t. IsSwept c.args.rows c.args.cols c.args.words.now c.args.all.now c.turns.grid t 0 in
-    record { swept = subst P end c.turns.invariant }
+    record {
+      padded = c.turns.invariant.padded;
+      swept = λ ws before.
+          (let P : ℕ → Type 0 = λ t. IsSwept c.args.frame.rows c.args.frame.cols c.args.frame.reach ws c.args.all.now c.turns.grid t 0 in
+          subst P end (c.turns.invariant.swept ws before));
+    }
 
 pub rows-preserved : goal.rows-preserved
 rows-preserved c =
-    let few : c.rows.n < c.args.rows = omega arith in
-    let is = c.requires.turns c.rows.n few in
+    let few : c.rows.n < c.args.frame.rows = omega arith in
+    let is = c.requires.lines.turns c.rows.n few in
     let begun = c.requires.begun (omega arith) c.rows.n few in
-    c.read_next.ensures c.turns.t (omega arith) c.rows.invariant
+    record {
+      padded = c.read_next.ensures.padded;
+      swept = λ ws before. c.read_next.ensures.swept ws c.turns.t (omega arith) (c.rows.invariant.swept ws before);
+    }

@@ -1,21 +1,22 @@
-use Rattle.std.proofs.Common.{◌+◌, ◌*◌, ℕ, get_or, sym, ◌∙◌}
-use Rattle.mj_inverse.specs.Padded.{inner, reach_of, width_of}
-use Rattle.mj_inverse.proofs.Tied.{bins_same}
+use Rattle.std.proofs.Common.{rules, ◌≡◌, ◌<◌, ℕ, get_or, replicate}
+use Rattle.std.proofs.lemmas.List.{places}
+use Rattle.mj_inverse.proofs.Falling.{angles_fall}
+use Rattle.mj_inverse.proofs.Swept.{told_all, only_words}
 use Rattle.mj_inverse.proofs.sweep.sweep.Goals as goal
 
-pub returns-clause-exact : goal.returns-clause-exact
-returns-clause-exact c = λ j h unmarked.
-    let rows : ℕ = c.args.rows in
-    let cols : ℕ = c.args.cols in
-    let f : ℕ → ℕ → ℕ = inner c.peel_rows.new.grid (width_of cols (reach_of rows)) (reach_of rows) j in
-    bins_same rows cols j f (λ l k. get_or c.copy_rows.new.out (8 * (l * cols + k) + j) 0) c.args.words.now c.args.all.now (λ l k a b. sym (c.copy_rows.ensures j l k h a b)) ((c.mark.ensures j h).0 unmarked)
+none : (i : ℕ) → i < 8 → ◌≡◌ {A = ℕ} (get_or (replicate 8 0) i 0) 0
+none i h = search (rules, places)
 
-pub returns-clause-complete : goal.returns-clause-complete
-returns-clause-complete c = λ j g h has.
-    let rows : ℕ = c.args.rows in
-    let cols : ℕ = c.args.cols in
-    let f : ℕ → ℕ → ℕ = inner c.peel_rows.new.grid (width_of cols (reach_of rows)) (reach_of rows) j in
-    let same = c.peel_rows.ensures.only j g h has in (
-      (c.mark.ensures j h).1 (bins_same rows cols j g f c.args.words.now c.args.all.now same has),
-      λ l k a b. same l k a b ∙ sym (c.copy_rows.ensures j l k h a b),
-    )
+pub compare_all-requires-clause-told : goal.compare_all-requires-clause-told
+compare_all-requires-clause-told c =
+    told_all c.args.frame.rows c.args.frame.cols c.args.frame.reach c.args.words.now c.args.all.now c.peel_rows.new.grid c.requires.count (c.peel_rows.ensures.given c.args.words.now c.fill_rows.ensures.bins)
+
+pub returns-clause-exact : goal.returns-clause-exact
+returns-clause-exact c = λ i small.
+    let all = c.compare_all.ensures i small in
+    (λ z. (all.0 z).1, λ h. all.1 (none i small, h))
+
+pub returns-clause-only : goal.returns-clause-only
+returns-clause-only c = λ i f small every.
+    only_words c.args.frame.rows c.args.frame.cols c.args.frame.reach i c.args.words.now c.args.all.now c.peel_rows.new.grid f
+    (angles_fall c.args.frame.rows c.args.frame.reach c.args.all.now c.requires.count c.requires.lined c.requires.falls) c.requires.count small (c.peel_rows.ensures.given c.args.words.now c.fill_rows.ensures.bins) every

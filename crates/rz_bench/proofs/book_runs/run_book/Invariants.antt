@@ -1,4 +1,5 @@
+use Rattle.std.specs.Prelude.{[]}
 use Rattle.rz_bench.proofs.book_runs.run_book.Given as goal
 
 abbrev pub ghosts-run_in : goal.ghosts-run_in
-ghosts-run_in g a = record { book = a.opened.seen.book; tallies = a.opened.tokens.tallies; copy = a.opened.tokens.copy; kind = a.opened.tokens.kind }
+ghosts-run_in g a = record { book = a.opened.seen.book; tallies = a.opened.tokens.tallies; copy = a.opened.tokens.copy; kind = a.opened.tokens.kind; earlier = [] }

@@ -9,7 +9,7 @@ use Rattle.rz_chronicle.proofs.steps.append.Goals as goal
 
 pub offer-offer-requires : goal.offer-offer-requires
 offer-offer-requires g c =
-    (c.requires.held.0.low, c.requires.held.1, follows c.local.ensures c.args.tokens.kind c.args.tokens.held c.args.tokens.log (g.N.Asks.event c.args.about.now) c.requires.held.0.right c.requires.held.1 c.requires.legal, c.requires.place)
+    (c.requires.held.0.low, c.requires.held.1, follows c.local.ensures c.local_after.ensures c.args.tokens.kind c.args.tokens.held c.args.tokens.log (g.N.Asks.event c.args.about.now) c.requires.held.0.right c.requires.held.1 c.requires.legal, c.requires.place)
 
 pub compare_exchange-found-requires : goal.compare_exchange-found-requires
 compare_exchange-found-requires g c =

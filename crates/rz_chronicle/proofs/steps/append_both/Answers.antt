@@ -2,7 +2,7 @@ use Rattle.std.proofs.Common.{◌≡◌, ◌<◌, [], ◌∷◌, ℕ, List, sym,
 use Rattle.rz_events.specs.declared.events.Event.{Event}
 use Rattle.rz_events.specs.Events.{word_of}
 use Rattle.rz_chronicle.specs.Keys.{rows, word_key}
-use Rattle.rz_chronicle.specs.Kinds.{HasPlace, MayCome, history}
+use Rattle.rz_chronicle.specs.Kinds.{HasPlace, MayFit, history}
 use Rattle.rz_chronicle.specs.Tokens.{at, counts, AllInRow, Covers, Ends, HasCount}
 use Rattle.rz_chronicle.proofs.Joint.{joined, all-right, first-count, first-without, first-held, moved-by-one, both-commit}
 use Rattle.rz_chronicle.proofs.steps.append_both.Goals as goal
@@ -27,8 +27,8 @@ pub append-tokens-requires-clause-legal : goal.append-tokens-requires-clause-leg
 append-tokens-requires-clause-legal g c =
     let x = g.N.Asks.event c.args.about.now in
     let log : c.join.result.log ≡ c.args.mine.log = c.join.ensures.4 ∙ c.requires.its.1 in
-    subst (λ (k : List ℕ). MayCome k (history c.join.result.log) x) (sym (c.join.ensures.2 ∙ c.requires.one.kind))
-    (subst (λ (l : List Event). MayCome c.args.mine.kind (history l) x) (sym log) c.requires.legal)
+    subst (λ (k : List ℕ). MayFit k (history c.join.result.log) x) (sym (c.join.ensures.2 ∙ c.requires.one.kind))
+    (subst (λ (l : List Event). MayFit c.args.mine.kind (history l) x) (sym log) c.requires.legal)
 
 pub append-tokens-requires-clause-place : goal.append-tokens-requires-clause-place
 append-tokens-requires-clause-place g c =

@@ -1,4 +1,4 @@
-use Rattle.std.proofs.Common.{◌≡◌, ℕ, Bool, List, map, length, refl, sym, ap, ◌∙◌, subst, inl}
+use Rattle.std.proofs.Common.{◌≡◌, ℕ, Bool, List, [], map, length, refl, sym, ap, ◌∙◌, subst, inl, arith}
 use Rattle.std.proofs.lemmas.List.{length-map}
 use Rattle.std.specs.Prelude.{IsTrue, nat_eq}
 use Rattle.std.specs.List.{IsDistinct}
@@ -6,7 +6,7 @@ use Rattle.rz_disk.specs.Meter.{faults}
 use Rattle.rz_events.specs.Volume.{Volume, nodes_of}
 use Rattle.rz_events.specs.declared.files.NodeSpec.{NodeSpec}
 use Rattle.rz_chronicle.specs.Keys.{sids_of}
-use Rattle.rz_chronicle.specs.Kinds.{is_honest, kind_of}
+use Rattle.rz_chronicle.specs.Kinds.{HasEarlierLog, is_honest, kind_of}
 use Rattle.rz_report.specs.Output.{Sunk}
 use Rattle.rz_run.specs.Runs.{Plays}
 use Rattle.rz_run.proofs.Firsts.{beside-all}
@@ -16,6 +16,11 @@ use Rattle.rz_run.proofs.running.play_script.Goals as goal
 pub play_book-requires-clause-kind : goal.play_book-requires-clause-kind
 play_book-requires-clause-kind g c κs within =
     kind-is c.read_back.ensures c.args.honest c.args.script.now.volume c.in-Ok.opened.tokens.kind (c.in-Ok.ensures ∙ ap (kind_of c.args.honest) c.volume-volume.ensures)
+
+pub play_book-requires-clause-earlier : goal.play_book-requires-clause-earlier
+play_book-requires-clause-earlier g c κs within =
+    subst (λ (k : List ℕ). HasEarlierLog k []) (sym (c.in-Ok.ensures ∙ ap (kind_of c.args.honest) c.volume-volume.ensures))
+    ((c.read_back_after.ensures c.args.honest c.args.script.now.volume []).2 (omega arith))
 
 pub play_book-requires-clause-tells : goal.play_book-requires-clause-tells
 play_book-requires-clause-tells g c κs within =

@@ -1,11 +1,15 @@
 use Rattle.std.proofs.Common.{◌∷◌, Option, Some, None, refl, sym, subst}
 use Rattle.rz_events.specs.declared.events.Event.{Event}
 use Rattle.rz_chronicle.specs.Keys.{word_key}
+use Rattle.rz_chronicle.specs.Kinds.{HasEarlierLog}
 use Rattle.rz_chronicle.specs.Rules.{PassView}
 use Rattle.rz_shared_locked.specs.Adding.{Adds}
 use Rattle.rz_shared_locked.proofs.Logs.{later-self, commits-adds}
 use Rattle.rz_shared_locked.proofs.adding.add.Goals as goal
 use Rattle.rz_shared_locked.proofs.adding.add.Goals.{in-Some, in-None}
+
+pub commit-requires-clause-after : goal.commit-requires-clause-after
+commit-requires-clause-after g c = c.begins_anew.ensures g.J.Naming.kind _ _ (subst (HasEarlierLog g.J.Naming.kind) g.met.J.Counting.anew c.actor-by.ensures.earlier)
 
 pub returns-clause-adds : goal.returns-clause-adds
 returns-clause-adds g c =

@@ -24,7 +24,7 @@ add_placed-requires-clause-room c =
     let i = c.self.invariant in
     let room = fewer s.rows s.cols s.words.items s.all.items c.args.self.now c.self.view_is c.requires.room in
     let long : length s.all.items ≡ vec_len s.all = search rules in
-    let capacity = i.5 in
+    let capacity = i.3 in
     omega arith
 
 pub add_words-requires : goal.add_words-requires
@@ -35,7 +35,7 @@ add_words-requires c =
     let size = sized s.rows s.cols s.words.items s.all.items c.args.self.now c.args.p (length c.args.bins.now) c.self.view_is c.requires.size in
     let fits = fits_more s.rows s.cols s.used s.words.items c.args.bins.now s.all.items c.args.p i.0 c.requires.small size room in
     let long : length s.words.items ≡ vec_len s.words = search rules in
-    let capacity = i.6 in
+    let capacity = i.4 in
     record { room = omega arith }
 
 pub invariant_of-self : goal.invariant_of-self
@@ -57,9 +57,9 @@ invariant_of-self c =
     let R : List Placed → Type 0 = λ xs. IsKept s.rows s.cols (s.used + c.bins.result) c.add_words.new.words.items xs in
     let more = c.add_placed.ensures.capacity in
     let wider = c.add_words.ensures.capacity in
-    let enough = i.5 in
-    let enough' = i.6 in
-    (subst R (sym all) (subst Q (sym c.add_words.ensures.items) (subst P (sym many) kept)), i.1, i.2, i.3, i.4, omega arith, omega arith)
+    let enough = i.3 in
+    let enough' = i.4 in
+    (subst R (sym all) (subst Q (sym c.add_words.ensures.items) (subst P (sym many) kept)), i.1, i.2, omega arith, omega arith)
 
 pub returns : goal.returns
 returns c =

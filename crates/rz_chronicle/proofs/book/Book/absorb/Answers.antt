@@ -6,7 +6,7 @@ use Rattle.logbook.specs.Pages.{Named}
 use base.Growing.{prefix_trans}
 use Rattle.rz_events.specs.declared.events.Word.TheVariants.{Own}
 use Rattle.rz_chronicle.specs.Keys.{rows, count_at, IsLater, sids_of}
-use Rattle.rz_chronicle.specs.Kinds.{history, HavePlaces, IsFit, volume_in}
+use Rattle.rz_chronicle.specs.Kinds.{history, HavePlaces, Fits, volume_in}
 use Rattle.rz_chronicle.specs.Tokens.{at, counts, Agree, AllInRow}
 use Rattle.rz_chronicle.specs.Holds.{AreTokens, IsOwn, Stays, keys}
 use Rattle.rz_chronicle.specs.Rules.{PassView}
@@ -46,8 +46,9 @@ invariant_of-front g c =
       ),
       c.front.invariant.3 ∙ own-same c.front.inside.actor mine.held log new h.0.right (agree-left (counts new) mine.held theirs.held agree) h.1,
       c.front.invariant.4,
-      subst (λ (k : List ℕ). IsFit k (history new)) (c.join.ensures.2 ∙ h.0.kind_is) a.fit,
+      subst (λ (k : List ℕ). Fits k (history new)) (c.join.ensures.2 ∙ h.0.kind_is) a.fit,
       subst (λ (k : List ℕ). HavePlaces k (history new)) (c.join.ensures.2 ∙ h.0.kind_is) a.places,
+      c.front.invariant.7,
     )
 
 pub returns-in-Some-clause-same : goal.returns-in-Some-clause-same

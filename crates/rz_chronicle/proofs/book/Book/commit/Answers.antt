@@ -2,8 +2,8 @@ use Rattle.std.proofs.Common.{◌≡◌, ◌<◌, ◌∙◌, [], ◌∷◌, List
 use Rattle.logbook.specs.Pages.{Named}
 use Rattle.rz_events.specs.declared.events.Event.{Event}
 use Rattle.rz_events.specs.Events.{word_of, by_of}
-use Rattle.rz_chronicle.specs.Keys.{rows, word_key, actor_key, count_at, sids_of}
-use Rattle.rz_chronicle.specs.Kinds.{history, HasPlace, HavePlaces, IsFit, MayCome, volume_in}
+use Rattle.rz_chronicle.specs.Keys.{IsMember, rows, word_key, actor_key, count_at, sids_of}
+use Rattle.rz_chronicle.specs.Kinds.{history, HasPlace, HavePlaces, Fits, MayFit, volume_in}
 use Rattle.rz_chronicle.specs.Tokens.{counts, IsHolding}
 use Rattle.rz_chronicle.specs.Holds.{AreTokens, IsOwn, IsShared, Commits, keys}
 use Rattle.rz_chronicle.specs.Rules.{PassView, WordTokenView}
@@ -52,7 +52,7 @@ pub append_both-its-requires-clause-legal : goal.append_both-its-requires-clause
 append_both-its-requires-clause-legal g c =
     let x = g.N.Asks.event c.args.about.now in let log = c.pass.inside.seen.log in
     let h = taken (λ h. AreTokens g.J.Naming.tallies g.J.Naming.copy g.J.Naming.kind log h × IsOwn c.pass.inside.actor h.held) c.pass.inside.tokens c.take.result c.in-Some.mine c.take.ensures.value c.in-Some.is c.pass.invariant.2 in
-    let may : MayCome g.J.Naming.kind (history log) x = subst (λ (v : PassView). MayCome g.J.Naming.kind v.log x) (sym c.pass.view_is) c.requires.legal in
+    let may : MayFit g.J.Naming.kind (history log) x = subst (λ (v : PassView). MayFit g.J.Naming.kind v.log x) (sym c.pass.view_is) (c.requires.legal, c.requires.after) in
     tokens-may g.J.Naming.tallies g.J.Naming.copy g.J.Naming.kind log x c.in-Some.mine h.0 may
 
 pub append_both-its-requires-clause-place : goal.append_both-its-requires-clause-place
@@ -60,7 +60,13 @@ append_both-its-requires-clause-place g c =
     let x = g.N.Asks.event c.args.about.now in let log = c.pass.inside.seen.log in
     let h = taken (λ h. AreTokens g.J.Naming.tallies g.J.Naming.copy g.J.Naming.kind log h × IsOwn c.pass.inside.actor h.held) c.pass.inside.tokens c.take.result c.in-Some.mine c.take.ensures.value c.in-Some.is c.pass.invariant.2 in
     let word : word_of x ≡ c.word_token.inside.word = c.requires.word ∙ ap (λ (v : WordTokenView). v.word) (sym c.word_token.view_is) in
-    subst (λ (k : List ℕ). HasPlace k x) (sym h.0.kind_is) (c.word_token.inside.place, c.word_token.invariant.6, c.word_token.invariant.3 ∙ ap Some (sym word))
+    let who : c.pass.inside.actor ≡ c.args.pass.now.actor = ap (λ (v : PassView). v.actor) c.pass.view_is in
+    subst (λ (k : List ℕ). HasPlace k x) (sym h.0.kind_is) (record {
+      member = subst IsMember (sym (c.requires.actor ∙ sym who)) c.pass.invariant.4;
+      place = c.word_token.inside.place;
+      low = c.word_token.invariant.6;
+      owner_is = c.word_token.invariant.3 ∙ ap Some (sym word);
+    })
 
 pub invariant_of-pass : goal.invariant_of-pass
 invariant_of-pass g c =
@@ -79,8 +85,9 @@ invariant_of-pass g c =
       ),
       c.pass.invariant.3 ∙ own-stays c.pass.inside.actor mine.held log new x shared h.1 commits,
       c.pass.invariant.4,
-      subst (λ (k : List ℕ). IsFit k (history new)) h.0.kind_is a.fit,
+      subst (λ (k : List ℕ). Fits k (history new)) h.0.kind_is a.fit,
       subst (λ (k : List ℕ). HavePlaces k (history new)) h.0.kind_is a.places,
+      c.pass.invariant.7,
     )
 
 pub returns-in-Some-take-clause-same : goal.returns-in-Some-take-clause-same

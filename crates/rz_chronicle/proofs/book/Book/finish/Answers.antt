@@ -2,8 +2,8 @@ use Rattle.std.proofs.Common.{◌≡◌, ◌∙◌, List, ℕ, sym, ap, subst, �
 use Rattle.rz_events.specs.declared.events.Word.TheVariants.{Own}
 use Rattle.rz_events.specs.Events.{word_of}
 use Rattle.logbook.specs.Pages.{Named}
-use Rattle.rz_chronicle.specs.Keys.{word_key, count_at, rows, sids_of}
-use Rattle.rz_chronicle.specs.Kinds.{HasPlace, HavePlaces, MayCome, history, volume_in}
+use Rattle.rz_chronicle.specs.Keys.{IsMember, word_key, count_at, rows, sids_of}
+use Rattle.rz_chronicle.specs.Kinds.{HasPlace, HavePlaces, MayFit, Fits, history, volume_in}
 use Rattle.rz_chronicle.specs.Tokens.{IsHolding}
 use Rattle.rz_chronicle.specs.Holds.{AreTokens, IsOwn, Commits, keys}
 use Rattle.rz_chronicle.specs.Rules.{PassView}
@@ -32,7 +32,7 @@ pub append-tokens-requires-clause-legal : goal.append-tokens-requires-clause-leg
 append-tokens-requires-clause-legal g c =
     let log = c.pass.inside.seen.log in
     let h = taken (λ h. AreTokens g.J.Naming.tallies g.J.Naming.copy g.J.Naming.kind log h × IsOwn c.pass.inside.actor h.held) c.pass.inside.tokens c.take.result c.in-Some.tokens c.take.ensures.value c.in-Some.is c.pass.invariant.2 in
-    let may : MayCome g.J.Naming.kind (history log) c.args.event.now = subst (λ (v : PassView). MayCome g.J.Naming.kind v.log c.args.event.now) (sym c.pass.view_is) c.requires.legal in
+    let may : MayFit g.J.Naming.kind (history log) c.args.event.now = subst (λ (v : PassView). MayFit g.J.Naming.kind v.log c.args.event.now) (sym c.pass.view_is) (c.requires.legal, c.requires.after) in
     tokens-may g.J.Naming.tallies g.J.Naming.copy g.J.Naming.kind log c.args.event.now c.in-Some.tokens h.0 may
 
 pub append-tokens-requires-clause-place : goal.append-tokens-requires-clause-place
@@ -41,7 +41,12 @@ append-tokens-requires-clause-place g c =
     let h = taken (λ h. AreTokens g.J.Naming.tallies g.J.Naming.copy g.J.Naming.kind log h × IsOwn c.pass.inside.actor h.held) c.pass.inside.tokens c.take.result c.in-Some.tokens c.take.ensures.value c.in-Some.is c.pass.invariant.2 in
     let who : c.pass.inside.actor ≡ c.args.pass.now.actor = ap (λ (v : PassView). v.actor) c.pass.view_is in
     let at-word : Own c.pass.inside.actor ≡ word_of c.args.event.now = sym (c.requires.word ∙ ap Own (sym who)) in
-    subst (λ (k : List ℕ). HasPlace k c.args.event.now) (sym h.0.kind_is) (c.place_of.result, c.place_of.ensures.place, c.place_of.ensures.owner sids ∙ ap Some at-word)
+    subst (λ (k : List ℕ). HasPlace k c.args.event.now) (sym h.0.kind_is) (record {
+      member = subst IsMember (sym (c.requires.actor ∙ sym who)) c.pass.invariant.4;
+      place = c.place_of.result;
+      low = c.place_of.ensures.place;
+      owner_is = c.place_of.ensures.owner sids ∙ ap Some at-word;
+    })
 
 pub append-tokens-requires-clause-count : goal.append-tokens-requires-clause-count
 append-tokens-requires-clause-count g c =
@@ -67,8 +72,9 @@ invariant_of-pass g c =
       ),
       moved-on c.in-Some.tokens.held log new c.args.event.now c.pass.inside.moved h.0.right has from a.ends ∙ ap (λ w. count_at (word_key w) new) at-word,
       c.pass.invariant.4,
-      subst (λ (k : List ℕ). Rattle.rz_chronicle.specs.Kinds.IsFit k (history new)) h.0.kind_is a.fit,
+      subst (λ (k : List ℕ). Fits k (history new)) h.0.kind_is a.fit,
       subst (λ (k : List ℕ). HavePlaces k (history new)) h.0.kind_is a.places,
+      c.pass.invariant.7,
     )
 
 pub returns-in-Some-clause-same : goal.returns-in-Some-clause-same

@@ -1,7 +1,7 @@
 use Rattle.std.proofs.Common.{◌∙◌, List, ℕ, sym, ap, subst}
 use mathlib.Core.List.{IsPrefix}
 use Rattle.rz_chronicle.specs.Keys.{count_at, IsLater}
-use Rattle.rz_chronicle.specs.Kinds.{history, HavePlaces, IsFit}
+use Rattle.rz_chronicle.specs.Kinds.{history, HavePlaces, Fits}
 use Rattle.rz_chronicle.specs.Holds.{AreTokens, IsOwn, Stays, keys}
 use Rattle.rz_chronicle.specs.Rules.{PassView}
 use Rattle.rz_chronicle.proofs.Histories.{later, stays}
@@ -22,8 +22,9 @@ invariant_of-pass g c =
       ),
       c.pass.invariant.3 ∙ own-same c.pass.inside.actor mine.held log new h.0.right a.agree h.1,
       c.pass.invariant.4,
-      subst (λ (k : List ℕ). IsFit k (history new)) h.0.kind_is a.fit,
+      subst (λ (k : List ℕ). Fits k (history new)) h.0.kind_is a.fit,
       subst (λ (k : List ℕ). HavePlaces k (history new)) h.0.kind_is a.places,
+      c.pass.invariant.7,
     )
 
 pub returns-in-Some-clause-same : goal.returns-in-Some-clause-same

@@ -4,7 +4,7 @@ use Rattle.logbook.specs.Pages.{Named}
 use base.Growing.{prefix_trans}
 use Rattle.rz_events.specs.declared.events.Word.TheVariants.{Own}
 use Rattle.rz_chronicle.specs.Keys.{rows, count_at, IsLater, sids_of}
-use Rattle.rz_chronicle.specs.Kinds.{history, HavePlaces, IsFit, volume_in}
+use Rattle.rz_chronicle.specs.Kinds.{history, HavePlaces, Fits, volume_in}
 use Rattle.rz_chronicle.specs.Holds.{AreTokens, IsOwn, Stays, keys}
 use Rattle.rz_chronicle.specs.Rules.{PassView}
 use Rattle.rz_chronicle.proofs.Histories.{later, stays}
@@ -33,8 +33,9 @@ invariant_of-pass g c =
       ),
       c.pass.invariant.3 ∙ own-same c.pass.inside.actor mine.held log new h.0.right a.agree h.1,
       c.pass.invariant.4,
-      subst (λ (k : List ℕ). IsFit k (history new)) h.0.kind_is a.fit,
+      subst (λ (k : List ℕ). Fits k (history new)) h.0.kind_is a.fit,
       subst (λ (k : List ℕ). HavePlaces k (history new)) h.0.kind_is a.places,
+      c.pass.invariant.7,
     )
 
 pub returns-in-Some-clause-same : goal.returns-in-Some-clause-same

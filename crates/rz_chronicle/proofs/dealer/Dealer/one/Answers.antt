@@ -13,6 +13,8 @@ invariant_of-result g c =
       p.6 ∙ i.5,
       p.7 ∙ i.6,
       subst AreNone (sym p.9) (none-without c.args.key c.self.inside.tokens.held i.7),
+      i.8,
+      i.9,
     )
 
 pub returns-clause-held : goal.returns-clause-held

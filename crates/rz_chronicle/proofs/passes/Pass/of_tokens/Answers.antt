@@ -2,9 +2,8 @@ use Rattle.std.proofs.Common.{◌≡◌, [], List, sym, ap, subst}
 use Rattle.rz_events.specs.declared.events.Event.{Event}
 use Rattle.rz_events.specs.declared.events.Word.TheVariants.{Own}
 use Rattle.rz_chronicle.specs.Keys.{word_key, count_at}
-use Rattle.rz_chronicle.specs.Kinds.{history, HavePlaces, IsFit}
+use Rattle.rz_chronicle.specs.Kinds.{history, HavePlaces, Fits}
 use Rattle.rz_chronicle.specs.Holds.{AreTokens, IsOwn}
-use Rattle.rz_chronicle.proofs.Keys.{fit-first}
 use Rattle.rz_chronicle.proofs.Tokens.{pass-first}
 use Rattle.rz_chronicle.proofs.passes.Pass.of_tokens.Goals as goal
 
@@ -18,6 +17,7 @@ invariant_of-result g c =
       subst (λ (l : List Event). AreTokens δ η kind l h × IsOwn c.args.actor h.held) (sym empty) first,
       ap (count_at (word_key (Own c.args.actor))) (sym empty),
       c.requires.member,
-      subst (λ (l : List Event). IsFit kind (history l)) (sym empty) (fit-first kind),
+      subst (λ (l : List Event). Fits kind (history l)) (sym empty) c.requires.fit,
       subst (λ (l : List Event). HavePlaces kind (history l)) (sym empty) tt,
+      c.requires.earlier,
     )

@@ -1,8 +1,9 @@
-use Rattle.std.proofs.Common.{◌≡◌, ◌∙◌, sym, subst, arith}
+use Rattle.std.proofs.Common.{◌≡◌, ◌∙◌, sym, subst}
 use Rattle.rz_chronicle.specs.Keys.{word_key, count_at}
 use Rattle.rz_chronicle.specs.Rules.{WordTokenView}
 use Rattle.rz_chronicle.proofs.Histories.{count_history}
 use Rattle.rz_chronicle.proofs.Tokens.{word_token-count}
+use Rattle.rz_chronicle.proofs.Keys.{room-64}
 use Rattle.rz_chronicle.proofs.passes.WordToken.room.Goals as goal
 
 pub returns-clause-room : goal.returns-clause-room
@@ -11,4 +12,4 @@ returns-clause-room g c =
     let m : c.self.inside.moved ≡ count_at k c.self.inside.seen.log = word_token-count g.J.Naming.tallies g.J.Naming.copy g.J.Naming.kind k c.self.inside.moved c.self.inside.seen.log c.self.inside.tokens c.self.invariant.2 in
     let n : c.self.inside.moved ≡ count_at (word_key c.args.self.now.word) c.args.self.now.log =
     subst (λ (v : WordTokenView). c.self.inside.moved ≡ count_at (word_key v.word) v.log) c.self.view_is (m ∙ sym (count_history k c.self.inside.seen.log)) in
-    (λ h. grind (arith, n, h), λ h. grind (arith, n, h))
+    room-64 c.self.inside.moved (count_at (word_key c.args.self.now.word) c.args.self.now.log) n

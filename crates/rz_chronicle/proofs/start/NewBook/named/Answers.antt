@@ -1,19 +1,22 @@
 use Rattle.std.proofs.Common.{◌∷◌, ℕ, List, sym, ap₂, ◌∙◌, subst}
 use Rattle.rz_chronicle.proofs.Dealing.{AreNone, zeros-none}
 use Rattle.rz_chronicle.specs.Keys.{rows}
+use Rattle.rz_chronicle.proofs.Numbers.{fits-nothing}
 use Rattle.rz_chronicle.proofs.Dealt.{export-held, nodes-held, admin-held, clients-held, rebuilders-held}
 use Rattle.rz_chronicle.proofs.start.NewBook.named.Goals as goal
 
 pub invariant_of-dealer : goal.invariant_of-dealer
 invariant_of-dealer g c = (
-  c.requires.0,
-  c.args.self.names ∙ ap₂ (λ (a : ℕ) (r : List ℕ). a ∷ r) c.requires.1 (ap₂ (λ (a : ℕ) (r : List ℕ). a ∷ r) c.requires.2 c.requires.3),
+  c.requires.names.0,
+  c.args.self.names ∙ ap₂ (λ (a : ℕ) (r : List ℕ). a ∷ r) c.requires.names.1 (ap₂ (λ (a : ℕ) (r : List ℕ). a ∷ r) c.requires.names.2 c.requires.names.3),
   c.args.self.empty,
-  c.requires.1,
-  c.requires.2,
-  c.requires.3,
+  c.requires.names.1,
+  c.requires.names.2,
+  c.requires.names.3,
   c.args.self.none,
   subst AreNone (sym c.args.self.all) (zeros-none 0 rows),
+  c.requires.earlier,
+  fits-nothing g.J.Naming.kind g.J.Naming.earlier c.requires.earlier c.requires.legal,
 )
 
 pub word_token-export-requires-clause-held : goal.word_token-export-requires-clause-held

@@ -1,7 +1,7 @@
 use Rattle.std.proofs.Common.{◌≡◌, inl, inr, ⊎_elim, ℕ, ◌+◌, ◌≤◌, List, replicate, length, refl, ap, subst}
 use Rattle.std.proofs.lemmas.List.{length-replicate}
 use Rattle.rz_disk.specs.OverFile.{OverFile, file_meter}
-use Rattle.rz_disk.proofs.FileCalls.{on_ok, on_err, on_ok_map, on_err_map, counts_only, own_lasts, own_rose, faults_rose}
+use Rattle.rz_disk.proofs.FileCalls.{on_ok, on_err, on_ok_map, on_err_map, counts_only, counts_change, own_lasts, own_rose, faults_rose}
 use Rattle.rz_disk.proofs.file.FileDiskDisk.TheImpl.Goals as goal
 
 pub reset-tells : goal.reset-tells
@@ -42,7 +42,7 @@ write_at-tells g x c = record {
   size = ap (λ (d : OverFile). length (replicate d.size 0)) c.ensures.counted;
   written = on_ok c.result (λ told. cc);
   crash = λ _ none. absurd none;
-  meter = counts_only c.result c.args.self.now c.new.self.now c.ensures.counted;
+  meter = counts_change c.result c.args.self.now c.new.self.now c.ensures.counted;
 }
 
 pub write_at-asks : goal.write_at-asks
@@ -54,7 +54,7 @@ sync-tells g x c = record {
   only = on_ok c.result (λ _ none. absurd none);
   crash = λ _ none. none;
   kept = on_err c.result (λ _ none. none);
-  meter = counts_only c.result c.args.self.now c.new.self.now c.ensures.counted;
+  meter = counts_change c.result c.args.self.now c.new.self.now c.ensures.counted;
 }
 
 pub crash-tells : goal.crash-tells

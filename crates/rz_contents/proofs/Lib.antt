@@ -1,0 +1,9 @@
+pub mod Changing
+pub mod Reading
+pub mod Writing
+pub mod Putting
+pub mod Alone
+pub mod Gets
+pub mod Stillness
+pub mod Mending
+pub mod Removing

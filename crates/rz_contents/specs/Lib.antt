@@ -1,0 +1,6 @@
+pub mod Contents
+pub mod Model
+pub mod Putting
+pub mod Getting
+pub mod Mending
+pub mod Removing

@@ -1,0 +1,91 @@
+//! What a store contains, by its log: the names of its files, and of each block the text of the write that is
+//! published. This is all that users see of a store, and the laws say what each of their calls makes of it.
+//! They hold of the logs of any number of runs.
+//!
+//! - [`changes`]: an accepted publish puts the text of its write into its block, and no other event changes
+//!   what a block contains. [`unchanged`]: while nobody publishes a block, it contains what it did.
+//! - [`reads`]: a read tells what its block contained when the read began, whatever others do meanwhile.
+//!   [`read_undisturbed`]: where nobody published the block since, it tells what the block contains.
+//! - [`writes`]: an acknowledged write made its block contain its text.
+//! - [`names`]: a call on names does to the names what it says, and a publish raises the size of its file.
+//!   [`still`]: no other event changes anything that users see.
+//! - [`put_alone`], [`get_alone`], [`rebuild_alone`]: what one operation makes of the store where nobody acts
+//!   beside it. A put changes exactly its block, and nothing if it is not acknowledged; a get and a rebuild
+//!   change nothing.
+//! - [`removed`]: a file whose last name went stays gone.
+//!
+//! In reading order: `Contents` has blocks, `Model` the store as users see it, `Putting`, `Getting`,
+//! `Mending` and `Removing` the single operations. The functions have no code. What each one says is its
+//! clause.
+#![tactic(auto)]
+
+ghost use Rattle.std.specs.Prelude.{List};
+ghost use Rattle.rz_events.specs.Volume.{Volume};
+ghost use Rattle.rz_events.specs.declared.events.Event.{Event as AnEvent};
+ghost use Rattle.rz_core.specs.Legal.{IsLegalInRuns};
+ghost use Rattle.rz_contents.specs.Contents.{ChangesByPublish, StaysUnpublished, AreReadsTrue, IsReadUndisturbed, AreWritesTrue};
+ghost use Rattle.rz_contents.specs.Model.{AreNames, StaysStill};
+ghost use Rattle.rz_contents.specs.Putting.{IsPutAlone};
+ghost use Rattle.rz_contents.specs.Getting.{IsGetAlone};
+ghost use Rattle.rz_contents.specs.Mending.{IsRebuildAlone};
+ghost use Rattle.rz_contents.specs.Removing.{StaysGone};
+
+/// In a legal log an accepted publish puts the text of its write into the block, and no other event
+/// changes what a block contains.
+pub fn changes()
+    ensures { (v : Volume) → ChangesByPublish v }
+{}
+
+/// While nobody publishes a block, it contains what it did.
+pub fn unchanged()
+    ensures { (v : Volume) → StaysUnpublished v }
+{}
+
+/// Each read of a legal log that answers tells what its block contained when the read began, whatever
+/// others do meanwhile.
+pub fn reads()
+    ensures { (v : Volume) (h : List AnEvent) → IsLegalInRuns v h → AreReadsTrue h }
+{}
+
+/// Where nobody published the block meanwhile, it tells what the block contains.
+pub fn read_undisturbed()
+    ensures { (v : Volume) → IsReadUndisturbed v }
+{}
+
+/// Each write of a legal log that was acknowledged put its text into its block.
+pub fn writes()
+    ensures { (v : Volume) (h : List AnEvent) → IsLegalInRuns v h → AreWritesTrue h }
+{}
+
+/// In a legal log a call on names does to the names what it says, and its reply is that of the names before
+/// it. An accepted publish raises the size of its file, and no other event changes the names.
+pub fn names()
+    ensures { (v : Volume) → AreNames v }
+{}
+
+/// Calls that only ask, refused calls, and what concerns nodes alone change nothing that users see.
+pub fn still()
+    ensures { (v : Volume) → StaysStill v }
+{}
+
+/// A put beside which nobody acts puts its text into its block and raises the size of its file where it is
+/// acknowledged, and changes nothing else. Where it ends otherwise it changes nothing.
+pub fn put_alone()
+    ensures { (v : Volume) → IsPutAlone v }
+{}
+
+/// A get beside which nobody acts tells what its block contains, if it tells a text, and changes nothing.
+pub fn get_alone()
+    ensures { (v : Volume) → IsGetAlone v }
+{}
+
+/// A rebuild beside which nobody acts changes nothing that users see, however far it came.
+pub fn rebuild_alone()
+    ensures { (v : Volume) → IsRebuildAlone v }
+{}
+
+/// A file whose last name went stays gone: its number is not given again, and no block of it is looked up,
+/// begun, published or listed.
+pub fn removed()
+    ensures { (v : Volume) → StaysGone v }
+{}
