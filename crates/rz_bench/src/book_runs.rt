@@ -57,7 +57,7 @@ fn run_in<J: Naming + Send + Sync, R: Threads + Print + Clock + Sync + Drop>(
     opened: NewBook,
     size: BookSize,
 ) -> io::Result<()>
-    requires named { (opened.seen.book ≡ J.book) × (opened.hand.tallies ≡ J.tallies) × (opened.hand.copy ≡ J.copy) × (opened.hand.kind ≡ J.kind) }
+    requires named { (opened.seen.book ≡ J.book) × (opened.tokens.tallies ≡ J.tallies) × (opened.tokens.copy ≡ J.copy) × (opened.tokens.kind ≡ J.kind) }
     requires kind { J.kind ≡ kind_of false plain_volume }
     requires earlier { HasEarlierLog J.kind J.earlier }
 {
@@ -76,7 +76,7 @@ fn run_in<J: Naming + Send + Sync, R: Threads + Print + Clock + Sync + Drop>(
 
 /// Opens a book of a plain volume.
 fn open(alloc: Global) -> Result<NewBook, AllocError>
-    ensures { IfOk result (λ o. o.hand.kind ≡ kind_of false plain_volume) }
+    ensures { IfOk result (λ o. o.tokens.kind ≡ kind_of false plain_volume) }
 {
     let volume = Volume::plain(alloc)?;
     let opened = NewBook::start(alloc, &volume, false);

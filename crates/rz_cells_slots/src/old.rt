@@ -33,7 +33,7 @@ pub struct OldCells {
 }
 
 impl OldCells {
-    /// CellsMemory for what a disk carries.
+    /// Room for what a disk carries.
     pub fn new(alloc: Global, geometry: &Geometry) -> Result<OldCells, AllocError>
         ensures gates { IfOk result (λ o. length o.gates.items ≡ geometry.now.cells) }
         ensures heads { IfOk result (λ o. length o.heads.items ≡ geometry.now.cells) }

@@ -23,11 +23,11 @@ passes-more f n ps p are is = (
   ],
 )
 
--- the tallies of an actor
+-- the tokens of an actor
 abbrev pub HasBoth : List (ℕ × ℕ) → Actor → Type 0
 HasBoth held a = IsHolding (word_key (Own a)) held × IsHolding (actor_key a) held
 
--- the tallies of the actors after the i-th are left
+-- the tokens of the actors after the i-th are left
 pub dealt-next : (f : ℕ → Actor) (e : ℕ) → ((c : ℕ) → number (f c) ≡ 3 * c + e) → (i n : ℕ) (old new : List (ℕ × ℕ)) → ((c : ℕ) → i < c → c < n → HasBoth old (f c))
     → ((k : ℕ) → IsHolding k old → k ≢ word_key (Own (f (i + 1))) → k ≢ actor_key (f (i + 1)) → IsHolding k new) → (c : ℕ) → i + 1 < c → c < n → HasBoth new (f c)
 dealt-next f e numbers i n old new held rest c low high =
@@ -36,7 +36,7 @@ dealt-next f e numbers i n old new held rest c low high =
       rest (actor_key (f c)) both.1 (λ is. absurd (omega (arith, is, a, b, low))) (λ is. absurd (omega (arith, is, a, b, low))),
     )
 
--- What is left when a new book deals out its tallies: the export's first, then those of the nodes, the administrator's, those of the
+-- What is left when a new book deals out its tokens: the export's first, then those of the nodes, the administrator's, those of the
 -- clients, and those of the rebuilders.
 
 start-held : (held : List (ℕ × ℕ)) → held ≡ zeros 0 rows → (k : ℕ) → k < rows → IsHolding k held

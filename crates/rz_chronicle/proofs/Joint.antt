@@ -1,4 +1,4 @@
--- A step with two hands: of a word, and of an actor.
+-- A step with two sets of tokens: of a word, and of an actor.
 use Rattle.std.proofs.Common.{◌≡◌, ◌==◌, ℕ, ◌+◌, true, List, [], ◌∷◌, ◌++◌, sym, refl, ap, ap₂, ◌∙◌, subst, inl, arith}
 use Rattle.std.proofs.lemmas.Bool.Decides.{nat_tests}
 use Rattle.rz_events.specs.declared.events.Event.{Event}
@@ -13,7 +13,7 @@ use Rattle.rz_chronicle.proofs.Tokens.{committed}
 same-number : (k : ℕ) → (k == k) ≡ true
 same-number k = grind (arith, nat_tests)
 
--- the tallies of both
+-- the tokens of both
 pub joined : (k n : ℕ) (mine its all : List (ℕ × ℕ)) → its ≡ (k, n) ∷ [] → all ≡ its ++ mine → all ≡ (k, n) ∷ mine
 joined k n mine its all is both = both ∙ ap (λ (h : List (ℕ × ℕ)). h ++ mine) is
 
@@ -28,7 +28,7 @@ all-right k n log mine its all is both count right =
     let f : (k, n) ∷ mine ≡ at (counts log) ((k, n) ∷ mine) = ap₂ (λ (m : ℕ) (h : List (ℕ × ℕ)). (k, m) ∷ h) (sym count) right in
     e ∙ (f ∙ ap (at (counts log)) (sym e))
 
--- the first tally and the others, at a log
+-- the first token and the others, at a log
 pub first-count : (f : ℕ → ℕ) (k n : ℕ) (mine held : List (ℕ × ℕ)) → held ≡ at f ((k, n) ∷ mine) → count_in k held ≡ f k
 first-count f k n mine held is = ap (count_in k) is ∙ rw (same-number k) refl
 

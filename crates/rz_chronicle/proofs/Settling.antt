@@ -12,7 +12,7 @@ use Rattle.rz_chronicle.specs.Rules.{PassView, WordTokenView}
 abbrev pub word_token_keys : List WordTokenView → List ℕ
 word_token_keys ps = map (λ (p : WordTokenView). word_key p.word) ps
 
--- the word_tokens that were given back, and what the front then knows
+-- the tokens that were given back, and what the front then knows
 pub record Settled (kind : List ℕ) (old : PassView) (done : List WordTokenView) (new : PassView) : Type 0 where
   pub actor : new.actor ≡ old.actor
   pub keys : new.keys ≡ old.keys ++ word_token_keys done
@@ -22,7 +22,7 @@ pub record Settled (kind : List ℕ) (old : PassView) (done : List WordTokenView
   pub fit : IsFit kind new.log
   pub apart : IsDistinct nat_eq new.keys
 
--- the export's word_token and those of the nodes but for the rest
+-- the export's token and those of the nodes but for the rest
 abbrev pub Settles : List ℕ → PassView → WordTokenView → List WordTokenView → List WordTokenView → PassView → Type 0
 Settles kind old export all rest new = (done : List WordTokenView) × (all ≡ done ++ rest) × Settled kind old (export ∷ done) new
 

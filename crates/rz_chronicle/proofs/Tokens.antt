@@ -15,7 +15,7 @@ use Rattle.rz_chronicle.specs.Holds.{keys, keys_in, AreTokens, IsOwn, IsRight, I
 use Rattle.rz_chronicle.proofs.Keys.{at-at, at-keys, at-holding, count-same, touches-own, touches-other, count-append}
 use Rattle.rz_chronicle.proofs.Histories.{later, history-more, stays, count-held, same-held, count_history}
 
--- what the invariant says of the tokens that was taken out
+-- what the invariant says of the token that was taken out
 pub taken : (P : Tokens → Type 0) (o r : Option Tokens) (h : Tokens) → r ≡ o → r ≡ Some h → IsSomeAnd o P → P h
 taken P o r h e is all = subst (λ x. IsSomeAnd x P) (sym e ∙ is) all
 
@@ -78,7 +78,7 @@ moved-on held xs new x n right has is e =
     let k : ℕ = word_key (word_of x) in
     ap (λ (m : ℕ). m + 1) (is ∙ sym (same-held held (counts xs) (counts e.0) k right e.2 has)) ∙ (sym (count-same k e.0 x (touches-own x)) ∙ ap (count_at k) (sym e.3))
 
--- the tallies of the actor cover its own events
+-- the tokens of the actor cover its own events
 pub covers : (a : Actor) (held : List (ℕ × ℕ)) (x : Event) → word_of x ≡ Own a → by_of x ≡ a → IsOwn a held → Covers held x
 covers a held x w b own = (subst (λ v. IsHolding (word_key v) held) (sym w) own.own, subst (λ v. IsHolding (actor_key v) held) (sym b) own.by)
 
@@ -164,7 +164,7 @@ pub own-same : (a : Actor) (held : List (ℕ × ℕ)) (xs ys : List Event) → h
     → count_at (word_key (Own a)) xs ≡ count_at (word_key (Own a)) ys
 own-same a held xs ys right agree own = sym (same-held held (counts xs) (counts ys) (word_key (Own a)) right agree own.own)
 
--- a word_token's count is that of its log
+-- a token's count is that of its log
 pub one-count : (k n : ℕ) (f : ℕ → ℕ) (held : List (ℕ × ℕ)) → held ≡ (k, n) ∷ [] → held ≡ at f held → n ≡ f k
 one-count k n f held one right =
     let e : (k, n) ∷ [] ≡ at f ((k, n) ∷ []) = sym one ∙ (right ∙ ap (at f) one) in
@@ -182,7 +182,7 @@ pub own-word : (δ η : ℕ) (kind : List ℕ) (a : Actor) (xs : List Event) (o 
 own-word δ η kind a xs None h = absurd h
 own-word δ η kind a xs (Some tokens) h = holding-key (word_key (Own a)) tokens.held h.1.own
 
--- The first of an actor's tallies and of a word's.
+-- The first of an actor's tokens and of a word's.
 
 pub pass-first : (δ η : ℕ) (kind : List ℕ) (a : Actor) (h : Tokens) → h.tallies ≡ δ → h.copy ≡ η → h.kind ≡ kind → h.log ≡ [] → h.held ≡ (word_key (Own a), 0) ∷ (actor_key a, 0) ∷ []
     → IsMember a → AreTokens δ η kind [] h × IsOwn a h.held

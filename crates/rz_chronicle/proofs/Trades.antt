@@ -1,4 +1,4 @@
--- What a step does to the tallies. Assumes `Logic`.
+-- What a step does to the tokens. Assumes `Logic`.
 use Rattle.std.proofs.Common.{◌≡◌, ◌≢◌, ◌==◌, ℕ, zero, suc, ◌+◌, ◌<◌, ◌≤◌, Bool, true, false, List, [], ◌∷◌, ◌++◌, map, cond, sym, refl, ap, ap₂, ◌∙◌, subst, inl, inr, arith, MatchBool, None}
 use Rattle.std.specs.List.{AllByRecursion, IsDistinct}
 use Rattle.std.specs.Prelude.{nat_eq}
@@ -106,7 +106,7 @@ module _ {M : Type 1} {𝓤 : Ura M} (𝓛 : Logic 𝓤) (δ : ℕ) where
 
   infix 26 ◌⊢◌
   infixr 35 ◌∗◌
-  -- the two halves of a tally agree, and move together
+  -- the two halves of a token agree, and move together
   swap : (k n : ℕ) (f g : ℕ → ℕ) (a t : ℕ) (F : Type 0) → k ≤ a → a < k + n → ((b : ℕ) → b ≢ a → f b ≡ g b) → (f a ≡ t → F)
       → ⟦ halves δ k n f ⟧ ∗ ⟦ part δ a quarter t ⟧ ⊢ upd 𝓤 (⟦ halves δ k n g ⟧ ∗ ⟦ fsep (part δ a quarter (g a)) (fact F) ⟧)
   swap k zero f g a t F low high same so = absurd (omega arith)
@@ -129,7 +129,7 @@ module _ {M : Type 1} {𝓤 : Ura M} (𝓛 : Logic 𝓤) (δ : ℕ) where
             move ! (2 ∷ 0 ∷ []) $ fjoin ! $ done !
       ]
 
-  -- what a tokens holds is what the book counts
+  -- what a set of tokens holds is what the book counts
   agrees : (n : ℕ) (f : ℕ → ℕ) (held : List (ℕ × ℕ)) → AllByRecursion (λ (x : ℕ × ℕ). x.0 < n) held
       → ⟦ halves δ 0 n f ⟧ ∗ ⟦ parts δ held ⟧ ⊢ upd 𝓤 (⟦ halves δ 0 n f ⟧ ∗ ⟦ fsep (parts δ (at f held)) (fact (Agree f held)) ⟧)
   agrees n f [] low = let Z : Pr = ⟦ halves δ 0 n f ⟧ ∗ ⟦ fsep (parts δ []) (fact (Agree f [])) ⟧ in
@@ -145,7 +145,7 @@ module _ {M : Type 1} {𝓤 : Ura M} (𝓛 : Logic 𝓤) (δ : ℕ) where
       move ! (1 ∷ []) $ fsplit ! $ move ! (1 ∷ []) $ fpick ! (λ rest. drop ! $ move ! (2 ∷ []) $ fsplit ! $ move ! (1 ∷ []) $ fpick ! (λ here. drop ! $
       fjoin ! $ nothing ! $ fpack ! (Agree f (x ∷ held)) (λ _. ftrue) (here, rest) $ move ! (1 ∷ 0 ∷ []) $ fjoin ! $ move ! (1 ∷ 0 ∷ []) $ done !))
 
-  -- the tallies of a tokens move, where the others stay
+  -- those of a set of tokens move, where the others stay
   updates : (n : ℕ) (f g : ℕ → ℕ) (held : List (ℕ × ℕ)) → AllByRecursion (λ (x : ℕ × ℕ). x.0 < n) held → ((k : ℕ) → mathlib.Core.Logic.◌⊎◌ (IsHolding k held) (f k ≡ g k))
       → ⟦ halves δ 0 n f ⟧ ∗ ⟦ parts δ held ⟧ ⊢ upd 𝓤 (⟦ halves δ 0 n g ⟧ ∗ ⟦ parts δ (at g held) ⟧)
   updates n f g [] low out = let Z : Pr = ⟦ halves δ 0 n g ⟧ ∗ ⟦ parts δ [] ⟧ in
@@ -170,12 +170,12 @@ module _ {M : Type 1} {𝓤 : Ura M} (𝓛 : Logic 𝓤) (δ : ℕ) where
       use1 𝓛 (‵ (part δ k quarter (count_in k held)) ⊛ ‵ (parts δ (without k held))) (rest inner) $ split ! $
       move ! (2 ∷ 1 ∷ []) $ fjoin ! $ move ! (1 ∷ 0 ∷ []) $ done !
 
-  -- the tally of a key, and the others
+  -- the token of a key, and the others
   pub out : (k : ℕ) (held : List (ℕ × ℕ)) → IsHolding k held → ⟦ parts δ held ⟧ ⊢ ⟦ part δ k quarter (count_in k held) ⟧ ∗ ⟦ parts δ (without k held) ⟧
   out k [] h = absurd h
   out k (x ∷ held) h = out-by k x held (out k held) h (x.0 == k) refl
 
-  -- a tally that is held twice: one would stay behind when the other moves
+  -- a token that is held twice: one would stay behind when the other moves
   twice : (n : ℕ) (f : ℕ → ℕ) (a t u : ℕ) (Z : Pr) → a < n → ⟦ halves δ 0 n f ⟧ ∗ ⟦ part δ a quarter t ⟧ ∗ ⟦ part δ a quarter u ⟧ ⊢ upd 𝓤 Z
   twice n f a t u Z low =
       let g : ℕ → ℕ = put f a (f a + 1) in
@@ -191,7 +191,7 @@ module _ {M : Type 1} {𝓤 : Ura M} (𝓛 : Logic 𝓤) (δ : ℕ) where
       settle 𝓛 Z (‵ (halves δ 0 n g) ⊛ ‵ three) $ split ! $ move ! (1 ∷ []) $ fsplit ! $ move ! (1 ∷ []) $
       fpick ! (λ same. absurd (let moved : g a ≡ f a + 1 = put-here f a (f a + 1) in omega (arith, same, moved)))
 
-  -- so no key of a tokens is held twice
+  -- so no key of a set of tokens is held twice
   alone : (n : ℕ) (f : ℕ → ℕ) (held : List (ℕ × ℕ)) → AllByRecursion (λ (x : ℕ × ℕ). x.0 < n) held
       → ⟦ halves δ 0 n f ⟧ ∗ ⟦ parts δ held ⟧ ⊢ upd 𝓤 (⟦ halves δ 0 n f ⟧ ∗ ⟦ fsep (parts δ held) (fact (AreApart held)) ⟧)
   alone n f [] low = let Z : Pr = ⟦ halves δ 0 n f ⟧ ∗ ⟦ fsep (parts δ []) (fact (AreApart [])) ⟧ in
@@ -212,7 +212,7 @@ module _ {M : Type 1} {𝓤 : Ura M} (𝓛 : Logic 𝓤) (δ : ℕ) where
             fjoin ! $ nothing ! $ fpack ! (AreApart (x ∷ held)) (λ _. ftrue) (apart-more x held none rest) $ move ! (1 ∷ 0 ∷ []) $ fjoin ! $ move ! (1 ∷ 0 ∷ []) $ done !)
       ]
 
-  -- at the start each of n tallies is 0
+  -- at the start each of n tokens is 0
   dealt : (n k : ℕ) → ⟦ roster δ k [] ⟧ ⊢ upd 𝓤 (⟦ halves δ k n (counts []) ⟧ ∗ ⟦ parts δ (zeros k n) ⟧)
   dealt zero k = qed 𝓛 (‵ (roster δ k []) ∷ []) ∵ suffices ! _ (upd_i 𝓤 (⟦ halves δ k zero (counts []) ⟧ ∗ emp 𝓤)) $ drop ! $ nothing ! $ nothing ! $ done !
   dealt (suc n) k = let Z : Pr = ⟦ halves δ k (suc n) (counts []) ⟧ ∗ ⟦ parts δ (zeros k (suc n)) ⟧ in qed 𝓛 (‵ (roster δ k []) ∷ []) ∵
@@ -310,7 +310,7 @@ unfolding at_least
 tokens_keyless δ η held log = (parts_keyless δ held, tt)
 
 module _ {M : Type 1} {𝓤 : Ura M} (𝓛 : Logic 𝓤) where
-  -- what a tokens is at the start
+  -- what a set of tokens is at the start
   abbrev pub Begun : List ℕ → ℕ × ℕ → SProp 𝓤
   Begun kind n = sep 𝓤 (sem 𝓛 (kept (n.0 ∷ n.1 ∷ kind) [])) (sem 𝓛 (tokens_own n.0 n.1 (zeros 0 rows) []))
 
@@ -325,7 +325,7 @@ module _ {M : Type 1} {𝓤 : Ura M} (𝓛 : Logic 𝓤) where
       -- kept, reached, parts
       move ! (2 ∷ 1 ∷ []) $ fjoin ! $ move ! (1 ∷ 0 ∷ []) $ show ! (Begun kind) (δ, η) $ done !))
 
--- the tallies of two hands are those of both
+-- two sets of tokens in one
 pub two_parts : {M : Type 1} {𝓤 : Ura M} (𝓛 : Logic 𝓤) (δ : ℕ) (xs ys : List (ℕ × ℕ)) → ent 𝓤 (sep 𝓤 (sem 𝓛 (parts δ xs)) (sem 𝓛 (parts δ ys))) (sem 𝓛 (parts δ (xs ++ ys)))
 two_parts 𝓛 δ [] ys = qed 𝓛 (‵ (parts δ []) ∷ ‵ (parts δ ys) ∷ []) ∵ drop ! $ done !
 two_parts 𝓛 δ (x ∷ xs) ys = qed 𝓛 (‵ (parts δ (x ∷ xs)) ∷ ‵ (parts δ ys) ∷ []) ∵ fsplit ! $ move ! (1 ∷ 2 ∷ []) $

@@ -10,7 +10,7 @@ use Rattle.rz_chronicle.specs.Rules.{WordTokenView}
 use Rattle.rz_chronicle.specs.Dealing.{new_word_token}
 use Rattle.rz_chronicle.proofs.Apart.{one-place}
 
--- the tallies of the nodes that are not among the first i
+-- the tokens of the nodes that are not among the first i
 abbrev pub AreLeft : List ℕ → ℕ → List (ℕ × ℕ) → Type 0
 AreLeft nodes i held = (n : ℕ) → word_key (Node n) < rows → ((j : ℕ) (d : ℕ) → j < i → n ≢ slice_index_or nodes j d) → IsHolding (word_key (Node n)) held
 

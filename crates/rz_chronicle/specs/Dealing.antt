@@ -11,7 +11,7 @@ use Rattle.rz_chronicle.specs.Rules.{PassView, WordTokenView}
 abbrev pub new_pass : Actor → PassView
 new_pass a = record { actor = a; log = []; keys = own_keys a }
 
--- the word_token of a word that has no event
+-- the token of a word that has no event
 abbrev pub new_word_token : Word → WordTokenView
 new_word_token w = record { word = w; log = [] }
 

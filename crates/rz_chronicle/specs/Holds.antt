@@ -1,4 +1,4 @@
--- What passes and word_tokens know of the log that they have seen, and what calls do to it.
+-- What passes and tokens know of the log that they have seen, and what calls do to it.
 use Rattle.std.specs.Prelude.{ℕ, ◌≡◌, List, [], ◌∷◌, map, Option, Some, None}
 use Rattle.rz_events.specs.declared.keys.Actor.{Actor}
 use Rattle.rz_events.specs.declared.events.Word.{Word}
@@ -16,7 +16,7 @@ abbrev pub keys_in : Option Tokens → List ℕ
 keys_in None = []
 keys_in (Some h) = keys h.held
 
--- the tokens belongs to the book with these names, and is up to date with the log
+-- the tokens belong to the book with these names, and are up to date with the log
 pub record AreTokens (tallies copy : ℕ) (kind : List ℕ) (log : List Event) (h : Tokens) : Type 0 where
   pub tallies_is : h.tallies ≡ tallies
   pub copy_is : h.copy ≡ copy
@@ -25,7 +25,7 @@ pub record AreTokens (tallies copy : ℕ) (kind : List ℕ) (log : List Event) (
   pub right : h.held ≡ at (counts log) h.held
   pub low : AllInRow h.held
 
--- the tokens has the tallies of the actor and of its own word
+-- these are the tokens of the actor and of its own word
 pub record IsOwn (a : Actor) (held : List (ℕ × ℕ)) : Type 0 where
   pub own : IsHolding (word_key (Own a)) held
   pub by : IsHolding (actor_key a) held
@@ -41,7 +41,7 @@ pub record Commits (ks : List ℕ) (old : List Event) (x : Event) (new : List Ev
   pub stays : Stays ks old before
   pub last : new ≡ x ∷ before
 
--- a later history, in which the events of the word of a word_token are those that it had when the word_token was given back
+-- a later history, in which the events of the word of a token are those that it had when the token was given back
 abbrev pub IsSettled : WordTokenView → List Event → Type 0
 IsSettled p h = IsLater p.log h × Stays (word_key p.word ∷ []) p.log h
 

@@ -36,13 +36,13 @@ named b k = record { tracked = true; key = k; book = b }
 abbrev pub AreWords : Book → List ℕ → List Named → Type 0
 AreWords b sids ws = (place : ℕ) (d : Named) → place < length ws → slice_index_or ws place d ≡ named b (key_at sids place)
 
--- what contracts see of a pass: whose it is, the log that it has seen with the newest event first, and the keys whose tallies it holds
+-- what contracts see of a pass: whose it is, the log that it has seen with the newest event first, and the keys whose tokens it holds
 pub record PassView : Type 0 where
   pub actor : Actor
   pub log : List Event
   pub keys : List ℕ
 
--- what contracts see of the tally of a word under its lock
+-- what contracts see of the token of a word under its lock
 pub record WordTokenView : Type 0 where
   pub word : Word
   pub log : List Event

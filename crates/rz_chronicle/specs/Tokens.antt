@@ -1,4 +1,4 @@
--- The events of each word and of each actor are counted twice: in the log, and by whoever holds the tally.
+-- The events of each word and of each actor are counted twice: in the log, and by whoever holds the token.
 use Rattle.std.specs.Prelude.{◌≡◌, ◌==◌, ◌⊎◌, ◌<◌, ◌++◌, ℕ, zero, suc, cond, List, [], ◌∷◌, map, nat_eq}
 use Rattle.std.specs.List.{AllByRecursion, IsDistinct}
 use mathlib.Core.List.{IsPrefix}
@@ -14,7 +14,7 @@ use Rattle.rz_events.specs.Events.{by_of, word_of}
 use Rattle.rz_chronicle.specs.Keys.{count_at, rows, word_key, actor_key}
 use Rattle.rz_chronicle.specs.Kinds.{history, HavePlaces, Fits}
 
--- the book's halves of n tallies from k on
+-- the book's halves of n tokens from k on
 abbrev pub halves : ℕ → ℕ → ℕ → (ℕ → ℕ) → Fml
 halves δ k zero f = ftrue
 halves δ k (suc n) f = fsep (part δ k three_quarters (f k)) (halves δ (suc k) n f)
@@ -46,13 +46,13 @@ grown η log = latest logs full_share η (map the_row.coded.code log)
 abbrev pub IsOfKind : List ℕ → List Event → Type 0
 IsOfKind kind log = Fits kind (history log) × HavePlaces kind (history log)
 
--- what callers keep beside the log: a half of each tally, a second copy of the log, and what the kind of the book says of it
+-- what callers keep beside the log: a half of each token, a second copy of the log, and what the kind of the book says of it
 abbrev pub kept : List ℕ → List Event → Fml
 kept [] log = ftrue
 kept (δ ∷ []) log = ftrue
 kept (δ ∷ η ∷ kind) log = fsep (halves δ 0 rows (counts log)) (fsep (grown η log) (fact (IsOfKind kind log)))
 
--- what a tokens owns: its halves, and that the second copy has reached this log
+-- what tokens own: their halves, and that the second copy has reached this log
 abbrev pub tokens_own : ℕ → ℕ → List (ℕ × ℕ) → List Event → Fml
 tokens_own δ η held log = fsep (parts δ held) (reached the_row.coded.code η log)
 
@@ -90,7 +90,7 @@ abbrev pub IsHolding : ℕ → List (ℕ × ℕ) → Type 0
 IsHolding k [] = ⊥
 IsHolding k (x ∷ held) = (k ≡ x.0) ⊎ IsHolding k held
 
--- the tallies that the event moves are held
+-- the tokens that the event moves are held
 abbrev pub Covers : List (ℕ × ℕ) → Event → Type 0
 Covers held x = IsHolding (word_key (word_of x)) held × IsHolding (actor_key (by_of x)) held
 
@@ -103,7 +103,7 @@ abbrev pub zeros : ℕ → ℕ → List (ℕ × ℕ)
 zeros k zero = []
 zeros k (suc n) = (k, 0) ∷ zeros (suc k) n
 
--- what is left of the tallies once the one of a key was taken out
+-- what is left of the tokens once the one of a key was taken out
 abbrev pub without : ℕ → List (ℕ × ℕ) → List (ℕ × ℕ)
 without k [] = []
 without k (x ∷ held) = cond (x.0 == k) held (x ∷ without k held)

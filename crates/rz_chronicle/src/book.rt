@@ -85,7 +85,7 @@ impl<J: Naming> Book<J> {
         }
     }
 
-    /// Lets a pass and the word_token of a word see one log, which has what both have seen. The caller is under
+    /// Lets a pass and the token of a word see one log, which has what both have seen. The caller is under
     /// the word's lock.
     pub fn enter(&self, pass: &mut Pass<J>, word_token: &mut WordToken<J>)
         ensures same { (pass.new.actor ≡ pass.old.actor) × (pass.new.keys ≡ pass.old.keys) × (word_token.new.word ≡ word_token.old.word) }
@@ -108,7 +108,7 @@ impl<J: Naming> Book<J> {
         }
     }
 
-    /// Adds the event of a value, of the word whose word_token the caller holds too, under the word's lock. The
+    /// Adds the event of a value, of the word whose token the caller holds too, under the word's lock. The
     /// two have entered.
     #[tactic(auto, using(crate::proofs::Histories::count_history))]
     pub fn commit<X, N: Asks<X>>(
@@ -165,7 +165,7 @@ impl<J: Naming> Book<J> {
         }
     }
 
-    // Lets `front` see a log and gives it the tallies that were kept with it. No tally was held by two.
+    // Lets `front` see a log and gives it the tokens that were kept with it. No token was held by two.
     fn absorb(&self, front: &mut Pass<J>, theirs: Tokens, seen: &Seen<Event, Told, Law>)
         requires book { seen.now.book ≡ J.book }
         requires theirs { AreTokens J.tallies J.copy J.kind seen.now.log theirs }
@@ -184,7 +184,7 @@ impl<J: Naming> Book<J> {
         }
     }
 
-    /// Lets `front` see what `other` has seen, and hands it the tallies of `other`.
+    /// Lets `front` see what `other` has seen, and hands it the tokens of `other`.
     pub fn gather(&self, front: &mut Pass<J>, other: Pass<J>)
         ensures same { (front.new.actor ≡ front.old.actor) × (front.new.keys ≡ front.old.keys ++ other.keys) }
         ensures later { IsLater front.old.log front.new.log × IsLater other.log front.new.log }
@@ -205,7 +205,7 @@ impl<J: Naming> Book<J> {
         }
     }
 
-    // Lets `front` see what a word's events are, and hands it the word's tally.
+    // Lets `front` see what a word's events are, and hands it the word's token.
     fn settle_one(&self, front: &mut Pass<J>, word_token: WordToken<J>)
         ensures same { (front.new.actor ≡ front.old.actor) × (front.new.keys ≡ front.old.keys ++ word_key word_token.word ∷ []) }
         ensures later { IsLater front.old.log front.new.log }
@@ -227,7 +227,7 @@ impl<J: Naming> Book<J> {
         }
     }
 
-    /// Lets `front` see the events of the export's and of the nodes' words, and hands it their tallies.
+    /// Lets `front` see the events of the export's and of the nodes' words, and hands it their tokens.
     pub fn settle(&self, front: &mut Pass<J>, desk: Desk<J>)
         ensures same { (front.new.actor ≡ front.old.actor) × (front.new.keys ≡ front.old.keys ++ map (λ p. word_key p.word) (desk.export ∷ desk.nodes.items)) }
         ensures later { IsLater front.old.log front.new.log }

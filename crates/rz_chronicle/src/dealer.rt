@@ -1,4 +1,4 @@
-//! The dealing out of a new book's tallies.
+//! The dealing out of a new book's tokens.
 ghost use Rattle.std.specs.Prelude.{◌≡◌, ◌≢◌, ◌+◌, ◌<◌, ◌≤◌, [], ◌∷◌, ℕ, map, length, nat_eq, IfOk, Some};
 ghost use Rattle.std.specs.List.{IsDistinct};
 ghost use Rattle.rz_events.specs.declared.keys.Actor.TheVariants as a;
@@ -18,7 +18,7 @@ use rz_events::{Actor, CLIENTS, Event, REBUILDERS, Word};
 use std::alloc::{AllocError, Global};
 use std::marker::{Model, PhantomData};
 
-/// Tallies of a book with an empty log that were not dealt out yet.
+/// Tokens of a book with an empty log that were not dealt out yet.
 #[derive(Drop)]
 pub struct Dealer<J: Naming> {
     pub(crate) tokens: Tokens,
@@ -43,7 +43,7 @@ impl<J: Naming> Model for Dealer<J> {
 }
 
 impl<J: Naming> Dealer<J> {
-    // The tally of a key, and the others.
+    // The token of a key, and the others.
     fn one(self, key: u64) -> (Tokens, Dealer<J>)
         requires { IsHolding key self }
         ensures names { (result.0.tallies ≡ J.tallies) × (result.0.copy ≡ J.copy) × (result.0.kind ≡ J.kind) × (result.0.log ≡ []) }
@@ -55,7 +55,7 @@ impl<J: Naming> Dealer<J> {
         (one, Dealer { tokens, seen, of })
     }
 
-    /// The word_token of a word.
+    /// The token of a word.
     pub fn word_token(self, word: Word, place: u16) -> (WordToken<J>, Dealer<J>)
         requires held { IsHolding (word_key word) self }
         requires place { (place < 338) × (owner (sids_of (volume_in J.kind)) place ≡ Some word) }
@@ -83,7 +83,7 @@ impl<J: Naming> Dealer<J> {
     }
 }
 
-/// The word_tokens of these nodes.
+/// The tokens of these nodes.
 pub fn word_tokens<J: Naming>(
     alloc: Global,
     dealer: Dealer<J>,

@@ -1,7 +1,7 @@
 //! The chronicle: one log that all threads share, to which each call and each act adds one event.
 //!
 //! A [`Book`] has a word for the export, for each node and for each actor, which counts that owner's
-//! events. Whoever holds the tally of a word alone moves it: an actor by its [`Pass`], a caller under a
+//! events. Whoever holds the token of a word alone moves it: an actor by its [`Pass`], a caller under a
 //! lock by the lock's [`WordToken`] beside its own pass. So an event is added by one exchange that is always
 //! won, and no call of a book waits or takes memory. The log itself takes no memory: it is what proofs
 //! know of the words.

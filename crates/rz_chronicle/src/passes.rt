@@ -1,4 +1,4 @@
-//! What callers hold: a pass for each actor, and a word_token for each word that many callers move.
+//! What callers hold: a pass for each actor, and a token for each word that many callers move.
 ghost use Rattle.std.specs.Prelude.{◌≡◌, ◌+◌, ◌<◌, ◌^◌, [], ◌∷◌, IsTrue, ◌↔◌, Some};
 ghost use Rattle.rz_events.specs.declared.events.Word.TheVariants as w;
 ghost use Rattle.rz_chronicle.specs.Keys.{count_at, word_key, actor_key, rows, IsOneOf, IsMember, own_keys, owner, sids_of};
@@ -43,7 +43,7 @@ impl Naming for Brand {
     ghost earlier = { [] };
 }
 
-/// What an actor has seen of the log, with the tallies of its own events and of its own word.
+/// What an actor has seen of the log, with the tokens of its own events and of its own word.
 #[derive(Drop)]
 pub struct Pass<J: Naming> {
     pub(crate) actor: Actor,
@@ -124,7 +124,7 @@ impl<J: Naming> Pass<J> {
     }
 }
 
-/// The tally of a word that is moved under a lock, with the log in which it moved last.
+/// The token of a word that is moved under a lock, with the log in which it moved last.
 #[derive(Drop)]
 pub struct WordToken<J: Naming> {
     pub(crate) word: rz_events::Word,
@@ -157,7 +157,7 @@ impl<J: Naming> Model for WordToken<J> {
 }
 
 impl<J: Naming> WordToken<J> {
-    // The word_token of a word that has no event yet.
+    // The token of a word that has no event yet.
     pub(crate) fn of_tokens(
         word: rz_events::Word,
         place: u16,
@@ -201,7 +201,7 @@ impl<J: Naming> WordToken<J> {
     }
 }
 
-/// The word_tokens of a book: the export's, and those of the nodes in the order of the description.
+/// The tokens of a book: the export's, and those of the nodes in the order of the description.
 #[derive(Drop)]
 pub struct Desk<J: Naming> {
     pub export: WordToken<J>,

@@ -124,7 +124,7 @@ pub struct NewBook {
 }
 
 /// What a new book deals out: a pass for the administrator, for each of 64 clients and of 16
-/// rebuilders, and the word_tokens of the other words.
+/// rebuilders, and the tokens of the other words.
 #[derive(Drop)]
 pub struct Crew<J: Naming> {
     pub admin: Pass<J>,

@@ -32,7 +32,7 @@ impl Play<Event, Told> for Look {
     ghost then = { Looks };
 }
 
-/// Adds the event of a value. The tokens has the tally of the word, so that nobody else moves it, and the
+/// Adds the event of a value. The token of the word is among the tokens, so that nobody else moves it, and the
 /// exchange is won.
 pub fn append<X, N: Asks<X>>(
     word: &Word<Event, Told, Law>,
@@ -64,7 +64,7 @@ pub fn append<X, N: Asks<X>>(
     Tokens::back(offer.into_gain())
 }
 
-/// Looks at the log as it is, in which the tokens's counts are right, and says how often a word has moved
+/// Looks at the log as it is, in which the counts of the tokens are right, and says how often a word has moved
 /// there.
 pub fn view(
     word: &Word<Event, Told, Law>,
@@ -91,7 +91,7 @@ pub fn view(
     (Tokens::back(offer.into_gain()), found)
 }
 
-/// Looks at the log as it is, in which the counts of both hands are right: `its` has the tally of one
+/// Looks at the log as it is, in which the counts of both are right: `its` has the token of one
 /// word.
 pub fn view_both(
     word: &Word<Event, Told, Law>,
@@ -121,8 +121,8 @@ pub fn view_both(
     tokens.parted(key)
 }
 
-/// Adds the event of a value, of a word that `its` has the tally of, by an actor that `mine` has the
-/// tally of.
+/// Adds the event of a value, of a word that `its` has the token of, by an actor that `mine` has the
+/// token of.
 pub fn append_both<X, N: Asks<X>>(
     word: &Word<Event, Told, Law>,
     seen: &mut Seen<Event, Told, Law>,

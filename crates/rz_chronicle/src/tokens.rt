@@ -1,4 +1,4 @@
-//! Tallies: the right to add events, as tokens without bytes.
+//! Tokens: the right to add events, without bytes.
 ghost use Rattle.std.specs.Prelude.{◌≡◌, ◌<◌, ℕ, [], ◌∷◌, ◌++◌, List, None, length};
 ghost use Rattle.rz_events.specs.declared.events.Event.{Event as AnEvent};
 ghost use Rattle.rz_chronicle.specs.Keys.{rows};
@@ -32,7 +32,7 @@ impl Rule<Event, Told> for Law {
     ghost moves = { IsMove };
 }
 
-/// What a step gains: the tallies at the log after it.
+/// What a step gains: the tokens at the log after it.
 pub struct Mine;
 
 impl Gain<Event, Told> for Mine {
@@ -53,7 +53,7 @@ impl Asks<Event> for Itself {
     ghost event = { λ x. x };
 }
 
-/// Tallies: how many events some words and actors have in the log. Nobody else can add one.
+/// Tokens: how many events some words and actors have in the log. Nobody else can add one.
 #[derive(Drop)]
 pub struct Tokens {
     marker: PhantomData<()>,
@@ -109,7 +109,7 @@ impl Tokens {
         }
     }
 
-    /// The tallies after the step.
+    /// The tokens after the step.
     pub fn back(gained: Gained<Event, Told, Mine>) -> Tokens
         requires { (n : ℕ × (ℕ × List ℕ)) × (gained.names ≡ n.0 ∷ n.1.0 ∷ n.1.1) }
         ensures { (result.tallies ∷ result.copy ∷ result.kind ≡ gained.names) × (result.held ≡ at (counts gained.answer.log) (held_in gained.about)) × (result.log ≡ gained.answer.log) × Agree (counts gained.answer.before) (held_in gained.about) × Fits result.kind (history gained.answer.log) × AreApart (held_in gained.about) × HavePlaces result.kind (history gained.answer.log) }
@@ -120,7 +120,7 @@ impl Tokens {
         }
     }
 
-    /// Both hands in one, which has the log of the first.
+    /// The tokens of both, with the log of the first.
     pub fn join(self, other: Tokens) -> Tokens
         requires { (other.tallies ≡ self.tallies) × (other.copy ≡ self.copy) }
         ensures { (result.tallies ≡ self.tallies) × (result.copy ≡ self.copy) × (result.kind ≡ self.kind) × (result.held ≡ self.held ++ other.held) × (result.log ≡ self.log) }
@@ -132,7 +132,7 @@ impl Tokens {
         }
     }
 
-    /// The tally of a key, and the others.
+    /// The token of a key, and the others.
     pub fn parted(self, key: u64) -> (Tokens, Tokens)
         requires { IsHolding key self.held }
         ensures { (result.0.tallies ≡ self.tallies) × (result.0.copy ≡ self.copy) × (result.0.kind ≡ self.kind) × (result.0.log ≡ self.log) × (result.1.tallies ≡ self.tallies) × (result.1.copy ≡ self.copy) × (result.1.kind ≡ self.kind) × (result.1.log ≡ self.log) × (result.0.held ≡ (key, count_in key self.held) ∷ []) × (result.1.held ≡ without key self.held) }

@@ -1,6 +1,6 @@
-//! The actors of a play, each in its agenda, and what one does in its turn.
+//! The actors of a play, each with its agenda, and what one does in its turn.
 //!
-//! A [`Agenda`] has what its actor has still to do and the machine of what it is at; [`Shared`] is what all
+//! An [`Agenda`] has what its actor has still to do and the machine of what it is at; [`Shared`] is what all
 //! actors share: the nodes, the export, the locks and the log. [`Agenda::take_up`] takes up the next operation,
 //! and [`act`] does what the operation in hand asks next: it asks the export, asks for a lock, sends a message
 //! to a node or says a word. Its contract says what becomes of the actor and of what all share (`IsAct`), that

@@ -1,4 +1,4 @@
-//! CallTexts of an actor's own.
+//! Words of an actor's own.
 ghost use Rattle.std.specs.Prelude.{◌≡◌, ◌⊎◌, ◌<◌, Bool, true, IfOk, OnOk, OnErr};
 ghost use Rattle.rz_events.specs.declared.keys.Key.{Key as AKey};
 ghost use Rattle.rz_core.specs.History.{facts};

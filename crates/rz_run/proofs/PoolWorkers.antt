@@ -22,7 +22,7 @@ use Rattle.rz_run.specs.Done.{HasBegun, HasFinished}
 use Rattle.rz_run.specs.Handed.{HasLost}
 
 module _ {J L : Type 0} (kind : List ℕ) (lines : List Line) where
-  -- whose pass a member has
+  -- whose pass a worker has
   actor-is : (by : Actor) (m : PoolWorker J L) → IsPoolWorker kind lines (new_pass by) m → actor_of m ≡ by
   actor-is by m s = ap (λ (p : PassView). p.actor) s.pass
 

@@ -120,7 +120,7 @@ pub(crate) fn play_book<
     links: Vec<L>,
     output: &mut O,
 ) -> Ran<D, L>
-    requires named { (opened.seen.book ≡ J.book) × (opened.hand.tallies ≡ J.tallies) × (opened.hand.copy ≡ J.copy) × (opened.hand.kind ≡ J.kind) }
+    requires named { (opened.seen.book ≡ J.book) × (opened.tokens.tallies ≡ J.tallies) × (opened.tokens.copy ≡ J.copy) × (opened.tokens.kind ≡ J.kind) }
     requires earlier { HasEarlierLog J.kind J.earlier }
     requires kind { J.kind ≡ kind_of (is_honest J.kind) script.now.volume }
     requires count { length disks.items ≡ nodes_in script.now }

@@ -17,7 +17,7 @@ use rz_shared::Counting;
 use rz_threads_workers::{Results, WorkerPool, make_pool, passes_in_order, take_results};
 use std::alloc::{AllocError, Global};
 
-/// The book under its name, the pass of the administrator, the word_tokens of the cluster's words, and the passes
+/// The book under its name, the pass of the administrator, the tokens of the cluster's words, and the passes
 /// of those who work. The volume is there twice, for the cluster and for those who work.
 #[derive(Drop)]
 struct NamedBook<J: Counting> {
@@ -35,7 +35,7 @@ fn name_book<J: Counting>(
     opened: NewBook,
     volume: &Volume,
 ) -> Result<NamedBook<J>, AllocError>
-    requires named { (opened.seen.book ≡ J.book) × (opened.hand.tallies ≡ J.tallies) × (opened.hand.copy ≡ J.copy) × (opened.hand.kind ≡ J.kind) }
+    requires named { (opened.seen.book ≡ J.book) × (opened.tokens.tallies ≡ J.tallies) × (opened.tokens.copy ≡ J.copy) × (opened.tokens.kind ≡ J.kind) }
     requires earlier { HasEarlierLog J.kind J.earlier }
     ensures book { IfOk result (λ c. c.book ≡ volume_in J.kind) }
     ensures admin { IfOk result (λ c. c.admin ≡ new_pass a.Admin) }
@@ -63,7 +63,7 @@ fn name_book<J: Counting>(
     })
 }
 
-/// The book of a play, the administrator's pass, the word_tokens of the cluster's words, and the pool. The volume
+/// The book of a play, the administrator's pass, the tokens of the cluster's words, and the pool. The volume
 /// is there twice, for the cluster and for the pool.
 #[derive(Drop)]
 pub(crate) struct Setup<J: Counting, L: Link> {
@@ -75,7 +75,7 @@ pub(crate) struct Setup<J: Counting, L: Link> {
     pub(crate) known: Volume,
 }
 
-/// Makes a pool_worker of each client and each rebuilder of a script, with these links. Where memory is wanting
+/// Makes a worker of each client and each rebuilder of a script, with these links. Where memory is wanting
 /// the links come back.
 pub(crate) fn set_up<J: Counting, L: Link>(
     alloc: Global,
@@ -83,7 +83,7 @@ pub(crate) fn set_up<J: Counting, L: Link>(
     script: &Script,
     links: Vec<L>,
 ) -> Result<Setup<J, L>, Vec<L>>
-    requires named { (opened.seen.book ≡ J.book) × (opened.hand.tallies ≡ J.tallies) × (opened.hand.copy ≡ J.copy) × (opened.hand.kind ≡ J.kind) }
+    requires named { (opened.seen.book ≡ J.book) × (opened.tokens.tallies ≡ J.tallies) × (opened.tokens.copy ≡ J.copy) × (opened.tokens.kind ≡ J.kind) }
     requires earlier { HasEarlierLog J.kind J.earlier }
     requires volume { script.now.volume ≡ volume_in J.kind }
     requires links { length links.items ≡ 80 }

@@ -1,4 +1,4 @@
--- The locked_nodes of a new cluster.
+-- The locked nodes of a new cluster.
 use Rattle.std.proofs.Common.{◌≡◌, ℕ, suc, Bool, List, [], ◌∷◌, length, map, refl, ap, subst, arith}
 use Rattle.std.specs.List.{AllZip}
 use Rattle.mj_angles.specs.declared.layout.Layout.{Layout}

@@ -1,4 +1,4 @@
--- The nodes of a volume, formatted, with the word_tokens of their words.
+-- The nodes of a volume, formatted, with the tokens of their words.
 use Rattle.std.proofs.Common.{◌≡◌, inl, inr, ℕ, Bool, false, cond, List, [], ◌∷◌, map, length, refl, sym, ◌∙◌, ap, subst, arith, eq-eqb}
 use Rattle.std.specs.Prelude.{nat_eq}
 use Rattle.std.specs.List.{AllByRecursion, AllZip, zip, IsDistinct}
@@ -61,7 +61,7 @@ both-hold v (n ∷ specs) cells stands = (record { cells = cells.0; of_volume = 
 pub described : (v : Volume) → IsVolume v → AllByRecursion (IsDescribed v) (nodes_of v.clusters)
 described v rules = both-hold v (nodes_of v.clusters) (own-cells (nodes_of v.clusters) rules.distinct_sids) (each-stands (nodes_of v.clusters))
 
--- Each formatted node and the word_token of its word are ready.
+-- Each formatted node and the token of its word are ready.
 
 abbrev pub word_token_of : NodeSpec → WordTokenView
 word_token_of n = new_word_token (Node n.sid)

@@ -12,7 +12,7 @@ use Rattle.rz_shared_locked.specs.Counts.{AreCountedSince}
 use Rattle.rz_shared_locked.specs.LockedNodes.{AreImagesFrom}
 use Rattle.rz_shared.specs.Returned.{IsReturned}
 
--- a disk out of its fuse, and the word_token of its node's word
+-- a disk out of its fuse, and the token of its node's word
 pub returned : {D : Type 0} (meter : D → Meter) (image : D → List ℕ → Type 0) (kind : List ℕ) (first : ℕ → ℕ) (node : ℕ) (log : List Event) (kept disk : D) (word_token : WordTokenView) → word_token ≡ record { word = Node node; log = log } → disk ≡ kept → IsNodeOf (volume_in kind) node
     → (IsTrue (is_honest kind) → AreImagesFrom (volume_in kind) log node (image kept)) → AreCountedSince (first node) (faults (meter kept)) (of_word (Node node) log) → IsReturned meter image kind first disk word_token
 returned {D = D} meter image kind first node log kept disk word_token is same of_volume images counted = record {

@@ -9,9 +9,9 @@ use Rattle.rz_chronicle.specs.Rules.{WordTokenView}
 use Rattle.rz_shared_locked.specs.Counts.{AreCountedSince}
 use Rattle.rz_shared_locked.specs.LockedNodes.{AreImagesFrom}
 
--- A disk, and the tally of the word of its node, a node of the volume. The faults of the word are those that the disk counted
+-- A disk, and the token of the word of its node, a node of the volume. The faults of the word are those that the disk counted
 -- since it had counted `first` of that node. Over an honest book each image of the disk is one that this word gives, in the log of
--- the tally and in each later one that has no further event of the word.
+-- the token and in each later one that has no further event of the word.
 pub record IsReturned {D : Type 0} (meter : D → Meter) (image : D → List ℕ → Type 0) (kind : List ℕ) (first : ℕ → ℕ) (disk : D) (word_token : WordTokenView) : Type 0 where
   pub node : ℕ
   pub word : word_token.word ≡ Node node

@@ -1,4 +1,4 @@
-//! The end of a cluster: the disks and the tallies go back.
+//! The end of a cluster: the disks and the tokens go back.
 ghost use Rattle.std.specs.Prelude.{◌≡◌, ◌≤◌, length, map, nat_eq};
 ghost use Rattle.std.specs.List.{AllZip, IsDistinct};
 ghost use Rattle.std.specs.Vec.{vec_len, vec_capacity};
@@ -15,7 +15,7 @@ use rz_chronicle::{Desk, WordToken};
 use rz_disk::{Disk, Fused};
 use std::sync::Mutex;
 
-/// Takes each locked_node out of its lock.
+/// Takes each locked node out of its lock.
 fn unlock_all<D: Disk, J: Counting>(
     locks: Vec<Mutex<LockedNode<Fused<D>, J>>>,
     room: Vec<LockedNode<Fused<D>, J>>,
@@ -31,7 +31,7 @@ fn unlock_all<D: Disk, J: Counting>(
     locked_nodes
 }
 
-/// Takes each disk out of its fuse, and each word_token of a node's word out of its locked_node, in their order.
+/// Takes each disk out of its fuse, and each token of a node's word out of its locked node, in their order.
 fn empty_all<D: Disk, J: Counting>(
     locked_nodes: Vec<LockedNode<Fused<D>, J>>,
     disks: Vec<D>,
@@ -56,8 +56,8 @@ fn empty_all<D: Disk, J: Counting>(
 }
 
 impl<D: Disk, J: Counting> Cluster<D, J> {
-    /// The disks, each beside the tally of its node's word, and the tally of the export's. Both stand in
-    /// the order of the description, since no two tallies are of one word. The faults of a word are those
+    /// The disks, each beside the token of its node's word, and the token of the export's. Both stand in
+    /// the order of the description, since no two tokens are of one word. The faults of a word are those
     /// that its disk counted since the cluster was made.
     pub fn close(self) -> (Vec<D>, Desk<J>)
         ensures count { length result.0.items ≡ length (nodes_of self.clusters) }

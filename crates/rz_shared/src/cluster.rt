@@ -33,7 +33,7 @@ pub struct Cluster<D: Disk, J: Counting> {
     pub(crate) nodes: Vec<NodeSpec>,
     pub(crate) locked_nodes: Vec<Mutex<LockedNode<Fused<D>, J>>>,
     pub(crate) locked_export: Mutex<LockedExport<J>>,
-    /// ClosingRoom for the disks and the tallies, for when they are handed back.
+    /// Room for the disks and the tokens, for when they are handed back.
     pub(crate) room: Mutex<ClosingRoom<D, J>>,
 }
 

@@ -7,7 +7,7 @@
 //! event. Which book a cluster belongs to is its type parameter.
 //!
 //! No contract says which node stands behind which lock: a call of a lock that has another node than the
-//! one that was asked waits for ever. At the end each disk comes back beside the tally of its own node, in
+//! one that was asked waits for ever. At the end each disk comes back beside the token of its own node, in
 //! the order of the description.
 //!
 //! In reading order: `room`, `seating`, `cluster`, `making`, `arranging`, `closing`.

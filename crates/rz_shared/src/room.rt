@@ -1,4 +1,4 @@
-//! ClosingRoom for what the locks of a cluster hold, for when it is handed back.
+//! Room for what the locks of a cluster hold, for when it is handed back.
 ghost use Rattle.std.specs.Prelude.{◌≡◌, ◌≤◌, length};
 ghost use Rattle.std.specs.Vec.{vec_len, vec_capacity};
 ghost use Rattle.rz_events.specs.Volume.{nodes_of};

@@ -1,4 +1,4 @@
-//! New nodes take their locked_nodes behind locks.
+//! New nodes are put behind locks.
 ghost use Rattle.std.specs.Prelude.{◌≡◌, ◌≤◌, IsTrue};
 ghost use Rattle.std.specs.List.{AllZip};
 ghost use Rattle.std.specs.Vec.{vec_len, vec_capacity};
@@ -12,7 +12,7 @@ use rz_nodes::Server;
 use std::alloc::Global;
 use std::sync::Mutex;
 
-/// A lock for each node with the word_token of its word, in their order, and the emptied vector of the word_tokens.
+/// A lock for each node with the token of its word, in their order, and the emptied vector of the tokens.
 pub(crate) fn locked_node_all<D: Disk, J: Counting>(
     alloc: Global,
     servers: Vec<Server<Fused<D>>>,
@@ -40,7 +40,7 @@ pub(crate) fn locked_node_all<D: Disk, J: Counting>(
     (locked_nodes, word_tokens)
 }
 
-/// A lock with a node in it and the word_token of its word.
+/// A lock with a node in it and the token of its word.
 fn seated<D: Disk, J: Counting>(
     alloc: Global,
     server: Server<Fused<D>>,

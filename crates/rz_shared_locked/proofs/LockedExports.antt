@@ -37,7 +37,7 @@ pub replied : (s : State) (q : Call) (given : Reply) (new : State) → IsAnswere
 replied s q given new (inl r) some = r
 replied s q given new (inr r) some = absurd (some r.1)
 
--- What is known once the export has replied: `h` is the log that the pass and the locked_export have seen.
+-- What is known once the export has replied: `h` is the log that the pass and the locked export have seen.
 module _ (kind : List ℕ) (h : List Event) (by : Actor) (q : Call) (given : Reply) (s new_s : State) (laws : IsReplyLaw (volume_in kind)) (kept : IsLockedExportKept (volume_in kind)) (fit : IsFit kind h) (of_volume : s.volume ≡ volume_in kind)
     (tied : IsTrue (is_honest kind) → IsExport (volume_in kind) (facts h) (of_word Export h) s) (room : count_at (word_key Export) h + 1 < 2 ^ 64)
     (may : IsTrue (is_honest kind) → IsProperCall (volume_in kind) (facts h) (of_actor by h) by q) (done : (given ≡ export_reply s q) × (new_s ≡ export_after s q)) where

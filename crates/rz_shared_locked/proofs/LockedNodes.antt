@@ -43,12 +43,12 @@ pub later-adds : (ks : List ℕ) (old : List Event) (event : Option Event) (new 
 later-adds ks old event new adds =
     subst (IsLater old) (sym adds.last) (later-trans old adds.before (noted event adds.before) adds.later (later-noted adds.before event))
 
--- The locked_node that has entered has what the log gives.
+-- The locked node that has entered has what the log gives.
 pub entered : {D : Type 0} (image : D → List ℕ → Type 0) (kind : List ℕ) (n : ℕ) (node : NodeView D) (old new : List Event) → IsLockedNodeKept image (volume_in kind) → IsFit kind old → IsLater old new
     → events_at (word_key (Node n)) new ≡ events_at (word_key (Node n)) old → (IsTrue (is_honest kind) → IsLogged image (volume_in kind) old n node) → IsTrue (is_honest kind) → IsLogged image (volume_in kind) new n node
 entered image kind n node old new kept fit later same logged honest = kept old new n node (fit honest) later same (logged honest)
 
--- What is known once a node has answered: `h` is the log that the pass and the locked_node have seen.
+-- What is known once a node has answered: `h` is the log that the pass and the locked node have seen.
 pub record Served (kind : List ℕ) (h : List Event) (by : Actor) (n : ℕ) (question : NodeAsk) (given : NodeAnswer) (s : NodeState) : Type 0 where
   pub of_volume : IsNodeOf (volume_in kind) n
   pub asker : IsFor by question

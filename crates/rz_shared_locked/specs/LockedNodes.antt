@@ -23,7 +23,7 @@ use Rattle.rz_chronicle.specs.Keys.{IsLater, events_at, word_key}
 use Rattle.rz_chronicle.specs.Kinds.{is_honest, volume_in}
 use Rattle.rz_shared_locked.specs.Adding.{Adds}
 
--- what contracts see of a locked_node: its node's number, and the log in which its word moved last
+-- what contracts see of a locked node: its node's number, and the log in which its word moved last
 pub record LockedNodeView : Type 0 where
   pub node : ℕ
   pub log : List Event

@@ -1,10 +1,10 @@
 //! Nodes and the export under their locks.
 //!
-//! A [`LockedNode`] has a node and the tally of the node's word, an [`LockedExport`] the export and the tally of its
+//! A [`LockedNode`] has a node and the token of the node's word, a [`LockedExport`] the export and the token of its
 //! word. Each call adds the event of its answer to the book before the lock is let go. So over an honest
 //! book the node or the export is always the one that the log gives, and an answer is right for the log
 //! just before its event, whatever other threads did meanwhile. Over any book the faults of a node's word
-//! are those that its disk counted since the node took its locked_node.
+//! are those that its disk counted since the node came under its lock.
 //!
 //! In reading order: `counting`, `serving`, `adding`, `waiting`, `locked_node`, `locked_export`; `laws` has what lasts
 //! while others act.

@@ -100,7 +100,7 @@ impl<J: Counting> LockedExport<J> {
         }
     }
 
-    /// The tally of the export's word.
+    /// The token of the export's word.
     pub fn close(self) -> WordToken<J>
         ensures { result ≡ record { word = w.Export; log = self } }
     {
@@ -137,7 +137,7 @@ impl<J: Counting> LockedExport<J> {
         self.replied(rt, book, pass, call)
     }
 
-    // Lets the pass and the locked_export see one log. It answers whether the export's word can move.
+    // Lets the pass and the locked export see one log. It answers whether the export's word can move.
     fn enter(&mut self, book: &Book<J>, pass: &mut Pass<J>) -> bool
         ensures same { (pass.new.actor ≡ pass.old.actor) × (pass.new.keys ≡ pass.old.keys) }
         ensures one { self.new ≡ pass.new.log }
@@ -152,7 +152,7 @@ impl<J: Counting> LockedExport<J> {
         self.word_token.room()
     }
 
-    // The call where its pass and the locked_export have entered, and the word can move.
+    // The call where its pass and the locked export have entered, and the word can move.
     fn replied<R: Wait>(&mut self, rt: &R, book: &Book<J>, pass: &mut Pass<J>, call: &Call) -> Reply
         requires one { self.old ≡ pass.old.log }
         requires room { count_at (word_key w.Export) self.old + 1 < 2 ^ 64 }

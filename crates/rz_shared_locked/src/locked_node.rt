@@ -31,7 +31,7 @@ use std::alloc::Global;
 use std::marker::Model;
 use std::sync::Wait;
 
-/// A node under its lock, with the tally of its word.
+/// A node under its lock, with the token of its word.
 #[derive(Drop)]
 pub struct LockedNode<D: Disk, J: Counting> {
     alloc: Global,
@@ -70,7 +70,7 @@ impl<D: Disk, J: Counting> Model for LockedNode<D, J> {
 }
 
 impl<D: Disk, J: Counting> LockedNode<D, J> {
-    /// The locked_node of a node on a disk that was formatted and is not armed, whose word has no event yet. Over
+    /// The locked node of a node on a disk that was formatted and is not armed, whose word has no event yet. Over
     /// an honest book the disk tells what it holds.
     pub fn new(alloc: Global, sid: u16, node: Node<D>, word_token: WordToken<J>) -> LockedNode<D, J>
         requires word_token { word_token ≡ new_word_token (w.Node sid) }
@@ -104,7 +104,7 @@ impl<D: Disk, J: Counting> LockedNode<D, J> {
         self.sid
     }
 
-    /// The disk, and the tally of the node's word, of which the disk counted the faults. Over an honest book
+    /// The disk, and the token of the node's word, of which the disk counted the faults. Over an honest book
     /// each image of the disk is one that the word gives, in each later log too that has no further event of it.
     pub fn close(self) -> (D, WordToken<J>)
         ensures word_token { result.1 ≡ record { word = w.Node self.node; log = self.log } }
@@ -183,7 +183,7 @@ impl<D: Disk, J: Counting> LockedNode<D, J> {
         self.armed(book, pass, passes, pick)
     }
 
-    // Lets the pass and the locked_node see one log. It answers whether this is the node and its word can move.
+    // Lets the pass and the locked node see one log. It answers whether this is the node and its word can move.
     fn enter(&mut self, book: &Book<J>, pass: &mut Pass<J>, node: u16) -> bool
         ensures locked_node { self.new.node ≡ self.old.node }
         ensures same { (pass.new.actor ≡ pass.old.actor) × (pass.new.keys ≡ pass.old.keys) }
@@ -201,7 +201,7 @@ impl<D: Disk, J: Counting> LockedNode<D, J> {
         self.sid == node && self.word_token.room()
     }
 
-    // The call where its pass and the locked_node have entered, and the word can move.
+    // The call where its pass and the locked node have entered, and the word can move.
     fn answered(
         &mut self,
         book: &Book<J>,
@@ -244,7 +244,7 @@ impl<D: Disk, J: Counting> LockedNode<D, J> {
         answer
     }
 
-    // The arming where its pass and the locked_node have entered, and the word can move.
+    // The arming where its pass and the locked node have entered, and the word can move.
     fn armed(&mut self, book: &Book<J>, pass: &mut Pass<J>, passes: u64, pick: u64)
         requires one { self.old.log ≡ pass.old.log }
         requires room { count_at (word_key (w.Node self.old.node)) self.old.log + 1 < 2 ^ 64 }

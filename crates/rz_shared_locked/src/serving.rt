@@ -30,7 +30,7 @@ use rz_events::{NodeAnswer, NodeAsk, Phase, StartAnswer};
 use rz_node::{Node, answer_node};
 use std::alloc::Global;
 
-/// Gives a call to a node, which has this number and whose word has this word_token. Before a start the disk
+/// Gives a call to a node, which has this number and whose word has this token. Before a start the disk
 /// loses what a loss of power may lose, by `pick`, and `left` is what the node's events leave its fuse.
 pub(crate) fn serve<D: Disk, J: Naming>(
     alloc: Global,

@@ -1,4 +1,4 @@
--- Disks that come back beside the tallies of their nodes.
+-- Disks that come back beside the tokens of their nodes.
 use Rattle.std.proofs.Common.{◌≡◌, ◌++◌, [], ◌∷◌, ℕ, List, map, sym, refl, ap, ◌∙◌, subst, inl}
 use Rattle.std.specs.Prelude.{nat_eq}
 use Rattle.std.specs.List.{AllByRecursion, AllZip, IsDistinct}
@@ -28,7 +28,7 @@ abbrev pub AreWordsKept : Type 0
 AreWordsKept = (w : Word) (h g : List Event) → events_at (word_key w) h ≡ events_at (word_key w) g → of_word w h ≡ of_word w g
 
 module _ {D : Type 0} (meter : D → Meter) (image : D → List ℕ → Type 0) (kind : List ℕ) (first : ℕ → ℕ) (kept : AreWordsKept) (log : List Event) where
-  -- a disk beside the tally of its own node
+  -- a disk beside the token of its own node
   left-own : (d : D) (p : WordTokenView) → IsSettled p log → (r : IsReturned meter image kind first d p) → IsLeft meter image kind first log r.node d
   left-own d p settled r =
       let key : word_key p.word ≡ word_key (Node r.node) = ap word_key r.word in
@@ -54,7 +54,7 @@ module _ {D : Type 0} (meter : D → Meter) (image : D → List ℕ → Type 0) 
   none-is : (a : Word) (us : List Word) → [] ≡ a ∷ us → ⊥
   none-is a us is = cc (is)
 
-  -- each of them, where the tallies are those of these nodes
+  -- each of them, where the tokens are those of these nodes
   pub left-all : (ds : List D) (ps : List WordTokenView) (ns : List ℕ) → AllZip (IsReturned meter image kind first) ds ps → AllByRecursion (λ (p : WordTokenView). IsSettled p log) ps → map (λ (p : WordTokenView). p.word) ps ≡ map Node ns
       → AllZip (IsLeft meter image kind first log) ns ds
   left-all [] [] [] all settled words = tt

@@ -33,7 +33,7 @@ all-done-there honest layout by from old seen log same d = record { last = d.las
 lost-there : (by : Actor) (old seen log : List Event) (before after : ℕ) → of_actor by log ≡ of_actor by seen → AreLost by old seen before after → AreLost by old log before after
 lost-there by old seen log before after same few = subst (λ (own : List Event). missed own + before ≤ missed (of_actor by old) + after) (sym same) few
 
--- The front holds the pass of a pool_worker that has worked.
+-- The front holds the pass of a worker that has worked.
 module _ {J L : Type 0} (count : L → ℕ) (kind : List ℕ) (front : PassView) where
   own-there : (m n : PoolWorker J L) → HasWorked count kind m n → IsHeld front (pass_of n) → of_actor (actor_of m) front.log ≡ of_actor (actor_of m) n.worker.pass.log
   own-there m n w h = subst (λ (by : Actor). of_actor by front.log ≡ of_actor by n.worker.pass.log) w.actor h.own

@@ -1,4 +1,4 @@
--- A pass that holds the tallies of all words of a book.
+-- A pass that holds the tokens of all words of a book.
 use Rattle.std.proofs.Common.{◌≡◌, ◌==◌, ◌<◌, ◌≤◌, ◌-◌, ◌++◌, ℕ, zero, suc, Bool, true, false, cond, List, [], ◌∷◌, Option, Some, None, map, nat_le, option_map, slice_get, sym, refl, ap, ap₂, ◌∙◌, subst, inl, inr, arith}
 use Rattle.std.specs.List.{AllByRecursion, AllZip}
 use Rattle.std.proofs.lemmas.Bool.Decides.{nat_tests}
@@ -81,7 +81,7 @@ own-words : (front : PassView) (ps : List PassView) → AllByRecursion (IsHeld f
 own-words front [] all = tt
 own-words front (p ∷ ps) all = (all.0.word, own-words front ps all.1)
 
--- The administrator's pass gathered those of all actors, and then took over the tallies of a desk.
+-- The administrator's pass gathered those of all actors, and then took over the tokens of a desk.
 pub gathered-all : (sids : List ℕ) (old mid new : PassView) (ps : List PassView) → old.actor ≡ Admin → IsOneOf (word_key (Own old.actor)) old.keys → GoesOn old mid
     → new.keys ≡ mid.keys ++ map word_key (Export ∷ map Node sids) → AllByRecursion (IsHeld new) ps → map (λ (p : PassView). p.actor) ps ≡ actors → HoldsAll sids new.keys
 gathered-all sids old mid new ps by own goes keys held are = holds-all sids new.keys (desk 0 (inl refl)) (λ i n is. desk (word_key (Node n)) (inr (node-there sids i n is))) workers admin

@@ -1,4 +1,4 @@
--- What the log of a whole play says of each pool_worker.
+-- What the log of a whole play says of each worker.
 use Rattle.std.specs.Prelude.{ℕ, List}
 use Rattle.rz_events.specs.declared.events.Event.{Event}
 use Rattle.rz_core.specs.History.{of_actor}
@@ -10,7 +10,7 @@ use Rattle.rz_threads_worker.specs.Workers.{IsAllDone, agenda_of}
 use Rattle.rz_threads_workers.specs.declared.pool_worker.PoolWorker.{PoolWorker}
 use Rattle.rz_threads_workers.specs.WorkerPool.{actor_of}
 
--- The pool_worker stands here as it came to work.
+-- The worker stands here as it came to work.
 
 -- its events in the log are those of some of its operations, and of a beginning of one
 abbrev pub HasBegun : {J L : Type 0} → List ℕ → List Event → PoolWorker J L → Type 0

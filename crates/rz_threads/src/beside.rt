@@ -22,7 +22,7 @@ use std::thread::{Threads, for_each_mut, join};
 /// At most so many threads are at work for the workers, which is as many as there are clients and rebuilders.
 const THREADS: usize = 80;
 
-/// A pool_worker does its operations, and notes whether memory was wanting.
+/// A worker does its operations, and notes whether memory was wanting.
 #[tactic(auto, using(crate::proofs::Working::all_begun))]
 fn work_one<R: Threads + Wait + Sync, D: Disk, J: Counting, L: Link>(
     rt: &R,
@@ -127,7 +127,7 @@ fn side_by_side<
     )
 }
 
-/// What comes of a shift: the workers, the administrator's pass, and whether it came to the end of its
+/// What comes of the work: the workers, the administrator's pass, and whether it came to the end of its
 /// lines.
 #[derive(Drop)]
 pub struct WorkResult<J: Counting, L: Link> {

@@ -1,12 +1,12 @@
 //! Clients and rebuilders at work on threads of their own, beside the administrator.
 //!
-//! [`work_all`] lets each pool_worker of a pool do its operations on a thread of its own, where one can be made,
+//! [`work_all`] lets each worker of a pool do its operations on a thread of its own, where one can be made,
 //! and on the caller's otherwise. [`at_work`] does so beside the administrator's lines, which the calling
 //! thread carries out in their order. No start of a thread can be refused.
 //!
-//! [`play`] is a whole play: when all work is done it gathers what each pool_worker has seen into the pass of the
-//! administrator, closes the cluster, and takes over the tallies of its words. In the log that this pass has
-//! then seen, the events of each pool_worker are those of its operations, each once and in order, the events of
+//! [`play`] is a whole play: when all work is done it gathers what each worker has seen into the pass of the
+//! administrator, closes the cluster, and takes over the tokens of its words. In the log that this pass has
+//! then seen, the events of each worker are those of its operations, each once and in order, the events of
 //! the administrator are those of its lines, and each disk that comes back stands for the events of its
 //! node.
 //!

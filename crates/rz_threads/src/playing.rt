@@ -29,7 +29,7 @@ use std::alloc::Global;
 use std::sync::Wait;
 use std::thread::Threads;
 
-/// Closes the cluster, and hands the front the tallies of the nodes' words and of the export's.
+/// Closes the cluster, and hands the front the tokens of the nodes' words and of the export's.
 fn settled<D: Disk, J: Counting>(
     book: &Book<J>,
     front: &mut Pass<J>,
@@ -55,7 +55,7 @@ struct Gathered<D: Disk, J: Counting> {
 }
 
 /// Gathers the passes of the workers into the administrator's, closes the cluster, and takes over the
-/// tallies of its words.
+/// tokens of its words.
 fn gather_up<D: Disk, J: Counting>(
     store: SharedStore<D, J>,
     passes: Vec<Pass<J>>,
@@ -108,7 +108,7 @@ pub struct PlayResult<D: Disk, J: Counting, L: Link> {
 
 /// A play: the workers do their operations on threads, beside the administrator's lines. Where memory is
 /// wanting for one of them, it stops early, and the others go on. Where the workers are all clients and all
-/// rebuilders, the pass then holds the tally of each word of the book.
+/// rebuilders, the pass then holds the token of each word of the book.
 pub fn play<R: Threads + Wait + Sync, D: Disk + Send, J: Counting + Send + Sync, L: Link + Send>(
     rt: &R,
     alloc: Global,

@@ -16,7 +16,7 @@ use Rattle.rz_show.specs.Shown.{shown_of}
 use Rattle.rz_threads_steps.specs.Adding.{AddsOwn}
 use Rattle.rz_threads_steps.specs.Turned.{IsTurned}
 
--- The pass is that of the same actor, with the same tallies, and has seen more.
+-- The pass is that of the same actor, with the same tokens, and has seen more.
 pub record Lasts (kind : List ℕ) (old new : PassView) : Type 0 where
   pub actor : new.actor ≡ old.actor
   pub keys : new.keys ≡ old.keys

@@ -1,4 +1,4 @@
--- Words that are counted one after another, while the tallies of all of them are held.
+-- Words that are counted one after another, while the tokens of all of them are held.
 use Rattle.std.proofs.Common.{◌≡◌, ◌≤◌, ◌<◌, ◌+◌, ◌++◌, ℕ, zero, suc, Bool, true, false, cond, List, [], ◌∷◌, Option, Some, None, length, append-nil, append_assoc, sym, refl, ap, ap₂, ◌∙◌, subst, inl, inr, arith}
 use Rattle.std.proofs.lemmas.List.Sums.{sum_by-cons}
 use Rattle.rz_events.specs.declared.events.Word.{Word}
@@ -47,7 +47,7 @@ counted k (x ∷ h) = sum_by-cons (λ (e : Event). cond (touches k e) 1 0) x h �
     either true rest = omega (arith, rest)
     either false rest = omega (arith, rest)
 
--- a word whose tally is held has moved no more
+-- a word whose token is held has moved no more
 moves-same : (w : Option Word) (old new : List Event) → ((x : Word) → w ≡ Some x → events_at (word_key x) new ≡ events_at (word_key x) old) → moves_of w new ≡ moves_of w old
 moves-same None old new same = refl
 moves-same (Some x) old new same = counted (word_key x) new ∙ (ap (λ (es : List Event). length es) (same x refl) ∙ sym (counted (word_key x) old))
@@ -81,7 +81,7 @@ none-moved sids h = refl
 pub counted-first : (sids : List ℕ) (p : PassView) → Counted sids p p 0 0
 counted-first sids p = record { goes = goes-nowhere p; few = omega arith; sum_is = none-moved sids p.log }
 
--- one step of a pass that keeps its tallies
+-- one step of a pass that keeps its tokens
 steps-on : (mid new : PassView) → new.actor ≡ mid.actor → new.keys ≡ mid.keys → IsLater mid.log new.log → Stays mid.keys mid.log new.log → GoesOn mid new
 steps-on mid new actor keys later stays = record { actor = actor; more = []; keys = keys ∙ sym (append-nil mid.keys); stays = stays; later = later }
 

@@ -1,4 +1,4 @@
--- Recruits that get their links one after another.
+-- Parts that get their links one after another.
 use Rattle.std.proofs.Common.{◌≡◌, ◌≤◌, ◌+◌, ℕ, List, [], ◌∷◌, ◌++◌, map, length, sym, ap, ◌∙◌, subst, arith, append-nil, append_assoc, length-append}
 use Rattle.std.specs.Prelude.{reverse}
 use Rattle.std.proofs.lemmas.List.{length-reverse, map-append, reverse-append, reverse-reverse}
@@ -37,7 +37,7 @@ module _ {J L : Type 0} (kind : List ℕ) where
   pub next-can : (all rest rest' : List (WorkerParts J)) (r : WorkerParts J) (workers : List (PoolWorker J L)) (left links : List L) → rest ≡ r ∷ rest' → SoFar all rest workers left links → CanJoin kind r
   next-can all rest rest' r workers left links is s = (subst (AllByRecursion (CanJoin kind)) is s.can).0
 
-  -- one more link is left, and one more pool_worker fits
+  -- one more link is left, and one more worker fits
   pub one-left : (all rest rest' : List (WorkerParts J)) (r : WorkerParts J) (workers : List (PoolWorker J L)) (left links : List L) → rest ≡ r ∷ rest' → SoFar all rest workers left links → 1 ≤ length left
   one-left all rest rest' r workers left links is s = (let count = s.count in let long = ap length is in omega (arith, count, long))
 
@@ -70,7 +70,7 @@ module _ {J L : Type 0} (kind : List ℕ) where
         count = omega (arith, fewer, long, count);
       }
 
-  -- all are hired
+  -- all workers are made
 
   pub so-far-all : (all rest : List (WorkerParts J)) (workers : List (PoolWorker J L)) (left links : List L) → rest ≡ [] → SoFar all rest workers left links → AllZip (IsMadeOf kind) all workers
   so-far-all all rest workers left links none s =
@@ -83,7 +83,7 @@ module _ {J L : Type 0} (kind : List ℕ) where
   all-linked all rest workers [] links none s = sym (append-nil (map link_of workers)) ∙ s.linked
   all-linked all rest workers (l ∷ left) links none s = (let empty = s.count ∙ ap length none in absurd (omega (arith, empty)))
 
-  -- a parts with what the lines give its actor became a pool_worker that has this to do
+  -- parts with what the lines give their actor became a worker that has this to do
   pub staffed : (lines : List Line) (p : PassView) (r : WorkerParts J) (m : PoolWorker J L) → AreWorkerParts kind lines p r → IsMadeOf kind r m → IsPoolWorker kind lines p m
   staffed lines p r m made hired = record {
     pass = hired.pass ∙ made.pass;

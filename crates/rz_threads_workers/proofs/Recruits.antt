@@ -1,4 +1,4 @@
--- Recruits that are made one after another.
+-- Parts of workers that are made one after another.
 use Rattle.std.proofs.Common.{◌≡◌, ℕ, List, [], ◌∷◌, ◌++◌, sym, ap, ◌∙◌, subst, append-nil, append_assoc}
 use Rattle.std.specs.List.{AllByRecursion, AllZip}
 use Rattle.rz_script.specs.declared.line.Line.{Line}

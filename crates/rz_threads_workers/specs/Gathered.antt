@@ -1,4 +1,4 @@
--- Passes of which the tallies were handed over.
+-- Passes of which the tokens were handed over.
 use Rattle.std.specs.Prelude.{ℕ, ◌≡◌, ◌++◌, List}
 use Rattle.rz_core.specs.History.{of_actor}
 use Rattle.rz_events.specs.declared.events.Word.TheVariants.{Own}
@@ -6,14 +6,14 @@ use Rattle.rz_chronicle.specs.Keys.{actor_key, word_key, IsOneOf, IsLater}
 use Rattle.rz_chronicle.specs.Holds.{Stays}
 use Rattle.rz_chronicle.specs.Rules.{PassView}
 
--- The pass holds the tally of the other one's actor, whose events in the log are those that the other one has seen, and the tally
+-- The pass holds the token of the other one's actor, whose events in the log are those that the other one has seen, and the token
 -- of the actor's own word.
 pub record IsHeld (front other : PassView) : Type 0 where
   pub held : IsOneOf (actor_key other.actor) front.keys
   pub word : IsOneOf (word_key (Own other.actor)) front.keys
   pub own : of_actor other.actor front.log ≡ of_actor other.actor other.log
 
--- The pass went on: it lost no tally, and the events of those that it held are still the same.
+-- The pass went on: it lost no token, and the events of those that it held are still the same.
 pub record GoesOn (old new : PassView) : Type 0 where
   pub actor : new.actor ≡ old.actor
   pub more : List ℕ

@@ -1,4 +1,4 @@
--- PoolWorkers of a pool: before they are hired, at work, and in the end.
+-- The workers of a pool: before they have their links, at work, and in the end.
 use Rattle.std.specs.Prelude.{ℕ, false, ◌≡◌, ◌≤◌, List, [], length}
 use Rattle.std.specs.List.{AllByRecursion}
 use Rattle.std.specs.Vec.{vec_len, vec_capacity}
@@ -22,7 +22,7 @@ use Rattle.rz_threads_workers.specs.declared.pool_worker.PoolWorker.{PoolWorker}
 use Rattle.rz_threads_workers.specs.declared.pool_worker.Results.{Results}
 use Rattle.rz_threads_workers.specs.declared.worker_parts.WorkerParts.{WorkerParts}
 
--- What a pool_worker has.
+-- What a worker has.
 
 abbrev pub pass_of : {J L : Type 0} → PoolWorker J L → PassView
 pass_of m = m.worker.pass
@@ -44,7 +44,7 @@ CanWork kind m = IsReady kind m.worker.pass m.worker.agenda m.worker.bins.items 
 abbrev pub WantsNothing : {J L : Type 0} → PoolWorker J L → Type 0
 WantsNothing m = m.wanting ≡ false
 
--- How a pool_worker comes to work.
+-- How a worker comes to work.
 
 -- the pass of a client or a rebuilder that has done nothing
 abbrev pub IsNew : PassView → Type 0
@@ -62,14 +62,14 @@ pub record AreWorkerParts {J : Type 0} (kind : List ℕ) (lines : List Line) (p 
   pub todo : r.todo.items ≡ given p.actor lines
   pub can : CanJoin kind r
 
--- it became a pool_worker that can work, and has done nothing yet
+-- it became a worker that can work, and has done nothing yet
 pub record IsMadeOf {J L : Type 0} (kind : List ℕ) (r : WorkerParts J) (m : PoolWorker J L) : Type 0 where
   pub pass : m.worker.pass ≡ r.pass
   pub ready : CanWork kind m
   pub agenda : agenda_of m.worker.agenda ≡ agenda_with r.todo.items
   pub wants : WantsNothing m
 
--- A pool_worker with this pass, that can work and has yet to do all that the lines give its actor.
+-- A worker with this pass, that can work and has yet to do all that the lines give its actor.
 pub record IsPoolWorker {J L : Type 0} (kind : List ℕ) (lines : List Line) (p : PassView) (m : PoolWorker J L) : Type 0 where
   pub pass : m.worker.pass ≡ p
   pub ready : CanWork kind m
@@ -78,7 +78,7 @@ pub record IsPoolWorker {J L : Type 0} (kind : List ℕ) (lines : List Line) (p 
 
 -- PoolWorkers at work.
 
--- A pool_worker has worked, where `count` says how many messages a link has lost. Its events in the log are those of turns from where it
+-- A worker has worked, where `count` says how many messages a link has lost. Its events in the log are those of turns from where it
 -- was, each once, and all its operations are done unless memory was wanting.
 pub record HasWorked {J L : Type 0} (count : L → ℕ) (kind : List ℕ) (old new : PoolWorker J L) : Type 0 where
   pub actor : actor_of new ≡ actor_of old

@@ -29,7 +29,7 @@ fn sum_of<R: Wait>(rt: &R, one: u64, other: u64) -> u64
     }
 }
 
-/// How many events the log has. Each is of one word of the book, and of no other. The pass holds the tally
+/// How many events the log has. Each is of one word of the book, and of no other. The pass holds the token
 /// of each word, so that no event comes while it counts. It does not return where there are too many to be
 /// counted.
 pub fn count_all<R: Wait, J: Naming>(rt: &R, book: &Book<J>, pass: &mut Pass<J>) -> u64

@@ -9,7 +9,7 @@
 //! [`gather_all`] gathers the passes of many actors into one: in the log that it has then seen, the events of each
 //! actor are those that its own pass had, each once and in order, and `held_lasts` says that this stays so.
 //! [`count_all`] adds up the counts that the words of a book stand at. Each event of the log is of one of them, so
-//! that this is the number of its events. The pass that asks holds the tallies of all words, so that no event comes
+//! that this is the number of its events. The pass that asks holds the tokens of all words, so that no event comes
 //! meanwhile: the log that it had seen before has as many.
 //!
 //! In reading order: `roster`, `ordering`, `pool_worker`, `worker_parts`, `making`, `ending`, `passes`, `laws`, `counting`.

@@ -1,4 +1,4 @@
-//! PoolWorkers are hired: each gets a link.
+//! Workers are made: each gets a link.
 ghost use Rattle.std.specs.Prelude.{◌≡◌, ◌≤◌, IfErr, IfOk, length, map};
 ghost use Rattle.std.specs.List.{AllByRecursion, AllZip};
 ghost use Rattle.std.specs.Vec.{vec_len, vec_capacity};
@@ -19,7 +19,7 @@ use rz_shared::Counting;
 use rz_threads_worker::Worker;
 use std::alloc::{AllocError, Global};
 
-/// Those who are to be hired, room for them as workers, and room for what comes back from them.
+/// What workers are made of, room for them as workers, and room for what comes back from them.
 #[derive(Drop)]
 struct PoolParts<J: Counting, L: Link> {
     all_parts: Vec<WorkerParts<J>>,
@@ -53,7 +53,7 @@ fn prepare<J: Counting, L: Link>(
     })
 }
 
-/// A pool_worker with this link.
+/// A worker with this link.
 fn make_worker<J: Counting, L: Link>(
     alloc: Global,
     parts: WorkerParts<J>,
@@ -97,7 +97,7 @@ fn make_workers<J: Counting, L: Link>(
     (workers, links)
 }
 
-/// Makes a pool_worker of each client and each rebuilder, with the operations that the lines give it and with a
+/// Makes a worker of each client and each rebuilder, with the operations that the lines give it and with a
 /// link, all in their order. Where memory is wanting the links come back.
 pub fn make_pool<J: Counting, L: Link>(
     alloc: Global,

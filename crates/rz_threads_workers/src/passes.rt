@@ -6,7 +6,7 @@ ghost use Rattle.rz_threads_workers.specs.Gathered.{GoesOn, IsHeld};
 
 use rz_chronicle::{Book, Naming, Pass};
 
-/// Gathers a pass. The front holds the tallies of its actor afterwards.
+/// Gathers a pass. The front holds the tokens of its actor afterwards.
 fn gather_one<J: Naming>(book: &Book<J>, front: &mut Pass<J>, other: Pass<J>)
     ensures goes { GoesOn front.old front.new }
     ensures held { IsHeld front.new other }

@@ -6,7 +6,7 @@ use Rattle.rz_chronicle.specs.Tokens.{IsHolding}
 use Rattle.rz_chronicle.specs.Dealing.{ArePasses}
 use Rattle.rz_chronicle.proofs.dealer.clients.Given as goal
 
--- the passes so far are dealt out, and no other tally is
+-- the passes so far are dealt out, and no other token is
 abbrev pub invariant-loop-i : goal.invariant-loop-i
 invariant-loop-i g l = ArePasses l.i (λ i. Client (i + 1)) l.clients.items
     × ((c : ℕ) → l.i < c → c < 65 → IsHolding (word_key (Own (Client c))) l.dealer × IsHolding (actor_key (Client c)) l.dealer)

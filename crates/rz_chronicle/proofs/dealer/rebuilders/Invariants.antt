@@ -6,7 +6,7 @@ use Rattle.rz_chronicle.specs.Tokens.{IsHolding}
 use Rattle.rz_chronicle.specs.Dealing.{ArePasses}
 use Rattle.rz_chronicle.proofs.dealer.rebuilders.Given as goal
 
--- the passes so far are dealt out, and no other tally is
+-- the passes so far are dealt out, and no other token is
 abbrev pub invariant-loop-i : goal.invariant-loop-i
 invariant-loop-i g l = ArePasses l.i (λ i. Rebuilder (i + 1)) l.rebuilders.items
     × ((c : ℕ) → l.i < c → c < 17 → IsHolding (word_key (Own (Rebuilder c))) l.dealer × IsHolding (actor_key (Rebuilder c)) l.dealer)

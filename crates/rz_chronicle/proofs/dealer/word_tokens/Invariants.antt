@@ -5,7 +5,7 @@ use Rattle.rz_chronicle.specs.Tokens.{IsHolding}
 use Rattle.rz_chronicle.specs.Dealing.{new_word_token}
 use Rattle.rz_chronicle.proofs.dealer.word_tokens.Given as goal
 
--- the word_tokens of the nodes so far are dealt out, and no other tally is
+-- the tokens of the nodes so far are dealt out, and no other token is
 abbrev pub invariant-loop-i : goal.invariant-loop-i
 invariant-loop-i g l = (l.word_tokens.items ≡ map (λ (n : ℕ). new_word_token (Node n)) (take l.i l.nodes))
     × ((n : ℕ) → word_key (Node n) < rows → ((j : ℕ) (d : ℕ) → j < l.i → n ≢ slice_index_or l.nodes j d) → IsHolding (word_key (Node n)) l.dealer)

@@ -15,7 +15,7 @@ use Rattle.rz_run.proofs.running.play_script.Goals as goal
 
 pub play_book-requires-clause-kind : goal.play_book-requires-clause-kind
 play_book-requires-clause-kind g c κs within =
-    kind-is c.read_back.ensures c.args.honest c.args.script.now.volume c.in-Ok.opened.hand.kind (c.in-Ok.ensures ∙ ap (kind_of c.args.honest) c.volume-volume.ensures)
+    kind-is c.read_back.ensures c.args.honest c.args.script.now.volume c.in-Ok.opened.tokens.kind (c.in-Ok.ensures ∙ ap (kind_of c.args.honest) c.volume-volume.ensures)
 
 pub play_book-requires-clause-earlier : goal.play_book-requires-clause-earlier
 play_book-requires-clause-earlier g c κs within =
@@ -24,7 +24,7 @@ play_book-requires-clause-earlier g c κs within =
 
 pub play_book-requires-clause-tells : goal.play_book-requires-clause-tells
 play_book-requires-clause-tells g c κs within =
-    let same = honest-is c.read_back.ensures c.args.honest c.args.script.now.volume c.in-Ok.opened.hand.kind (c.in-Ok.ensures ∙ ap (kind_of c.args.honest) c.volume-volume.ensures) in
+    let same = honest-is c.read_back.ensures c.args.honest c.args.script.now.volume c.in-Ok.opened.tokens.kind (c.in-Ok.ensures ∙ ap (kind_of c.args.honest) c.volume-volume.ensures) in
     subst (λ (b : Bool). IsTrue b → IsTrue g.D.Disk.tells) (sym same) c.requires.tells
 
 pub play_book-requires-clause-counts : goal.play_book-requires-clause-counts
@@ -43,7 +43,7 @@ returns-in-Ok g c =
       old = g.O.Sink.faults c.args.output.now;
       new = g.O.Sink.faults c.play_book.new.output;
     } in
-    let same = honest-is c.read_back.ensures c.args.honest c.args.script.now.volume c.in-Ok.opened.hand.kind (c.in-Ok.ensures ∙ ap (kind_of c.args.honest) c.volume-volume.ensures) in
+    let same = honest-is c.read_back.ensures c.args.honest c.args.script.now.volume c.in-Ok.opened.tokens.kind (c.in-Ok.ensures ∙ ap (kind_of c.args.honest) c.volume-volume.ensures) in
     subst (λ (b : Bool). Plays g.D.Disk.tells b g.D.Disk.meter g.D.Disk.image g.L.Link.lost c.args.script.now (record { old = c.args.disks.items; new = c.play_book.result.disks.items })
     (record { old = c.args.links.items; new = c.play_book.result.links.items }) sink c.play_book.result.status) same c.play_book.ensures
 

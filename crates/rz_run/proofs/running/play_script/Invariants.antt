@@ -5,7 +5,7 @@ use Rattle.rz_run.proofs.Firsts.{beside}
 use Rattle.rz_run.proofs.running.play_script.Given as goal
 
 abbrev pub ghosts-play_book-J-Naming : goal.ghosts-play_book-J-Naming
-ghosts-play_book-J-Naming g a = record { book = a.opened.seen.book; tallies = a.opened.hand.tallies; copy = a.opened.hand.copy; kind = a.opened.hand.kind; earlier = [] }
+ghosts-play_book-J-Naming g a = record { book = a.opened.seen.book; tallies = a.opened.tokens.tallies; copy = a.opened.tokens.copy; kind = a.opened.tokens.kind; earlier = [] }
 
 -- what each disk has counted
 abbrev pub ghosts-play_book-J-Counting : goal.ghosts-play_book-J-Counting

@@ -6,7 +6,7 @@ use Rattle.rz_shared.specs.Returned.{IsReturned}
 use Rattle.rz_shared.proofs.Ordered.{words, words-at}
 use Rattle.rz_shared.proofs.closing.empty_all.Given as goal
 
--- the disks that are back, each beside its tally
+-- the disks that are back, each beside its token
 abbrev pub invariant-loop-locked_node : goal.invariant-loop-locked_node
 invariant-loop-locked_node g l = record {
   returned : AllZip (IsReturned g.D.Disk.meter g.D.Disk.image g.J.Naming.kind g.J.Counting.first) l.disks.items l.word_tokens.items;

@@ -4,7 +4,7 @@ use Rattle.std.specs.Vec.Iter.{into_iter_items}
 use Rattle.rz_threads_workers.proofs.Making.{SoFar}
 use Rattle.rz_threads_workers.proofs.making.make_workers.Given as goal
 
--- the first are hired, and there is room for all
+-- the first workers are made, and there is room for all
 abbrev pub invariant-loop-parts : goal.invariant-loop-parts
 invariant-loop-parts g l = record {
   first : SoFar g.J.Naming.kind l.fn.all_parts.items (into_iter_items l.parts-iterator) l.workers.items l.links.items l.fn.links.items;

@@ -33,7 +33,7 @@ use Rattle.rz_chronicle.proofs.tokens.Tokens.parted.Code as code
 abbrev Ts : RattleType
 Ts = Hand.the_row
 
--- the tally of the key, and the others
+-- the token of the key, and the others
 cut : {M : Type 1} {𝓤 : seplogic.Ra.Ura.Ura M} (𝓛 : types.Logic.Logic 𝓤) (δ η k : ℕ) (held : List (ℕ × ℕ)) (log : List Event.the_row.Denot) → IsHolding k held
     → ent 𝓤 (sem 𝓛 (tokens_own δ η held log)) (sep 𝓤 (sem 𝓛 (tokens_own δ η ((k, count_in k held) ∷ []) log)) (sem 𝓛 (tokens_own δ η (without k held) log)))
 cut 𝓛 δ η k held log has = let c = Event.the_row.coded.code in qed 𝓛 (‵ (tokens_own δ η held log) ∷ []) ∵ fsplit ! $
