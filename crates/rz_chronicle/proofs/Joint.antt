@@ -8,7 +8,7 @@ use Rattle.rz_chronicle.specs.Kinds.{history}
 use Rattle.rz_chronicle.specs.Tokens.{at, Agree, AllInRow, IsHolding, Ends, counts, without, count_in}
 use Rattle.rz_chronicle.specs.Holds.{keys, Commits}
 use Rattle.rz_chronicle.proofs.Keys.{count-same, touches-own}
-use Rattle.rz_chronicle.proofs.Tokens.{committed}
+use Rattle.rz_chronicle.proofs.TokenLaws.{committed}
 
 same-number : (k : ℕ) → (k == k) ≡ true
 same-number k = grind (arith, nat_tests)

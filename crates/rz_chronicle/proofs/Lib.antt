@@ -3,7 +3,7 @@ pub mod Trades
 pub mod Adding
 pub mod Back
 pub mod Histories
-pub mod Tokens
+pub mod TokenLaws
 pub mod Joint
 pub mod Rows
 pub mod Earlier

@@ -75,10 +75,11 @@ answered by n (ask.Replace loss fence) (answer.Replace given) x asked is = repla
 answered by n (ask.Fetch key position stamp) (answer.Fetch given) x asked is = subst (λ y. changes y ≡ false) (the_some _ x is) (fetched by n key position stamp given)
 answered by n (ask.Refill fence head) (answer.Refill given) x asked is =
     subst (λ y. changes y ≡ false) (the_some _ x is) (refilled by n fence head.key head.stamp head.position given)
-answered by n q given x asked is = unasked q given asked is
-  where
-    unasked : (q : NodeAsk) (given : NodeAnswer) → IsAsked q → node_event by n q given ≡ Some x → changes x ≡ false
-    unasked q given asked is = cc
+answered by n ask.Probe (_) x asked is = cc
+answered by n (ask.Replace loss fence) (_) x asked is = cc
+answered by n (ask.Fetch key position stamp) (_) x asked is = cc
+answered by n (ask.Refill fence head) (_) x asked is = cc
+answered by n (_) given x asked is = absurd asked
 
 node-still : (by : Actor) (n : ℕ) (q : NodeAsk) (t : Told) (ys : List Event) → IsAsked q → IsNodeStep by n q t ys → IsStill ys
 node-still by n q t ys asked (Through given x is) = (answered by n q given x asked is, tt)

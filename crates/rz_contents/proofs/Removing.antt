@@ -1,16 +1,17 @@
 -- A file that is gone stays gone.
-use Rattle.std.proofs.Common.{ℕ, true, false, not, ◌==◌, ◌≡◌, List, Some, None, refl, sym, ◌∙◌, ap, subst, arith}
+use Rattle.std.proofs.Common.{ℕ, true, false, not, ◌==◌, ◌≡◌, List, Some, None, refl, sym, ◌∙◌, ap, subst, arith, true≢false}
 use Rattle.std.proofs.lemmas.Bool.{eqb-true, and_parts, false_from_ne_true}
 use Rattle.rz_events.specs.Volume.{Volume}
 use Rattle.rz_events.specs.declared.events.Event.{Event}
 use Rattle.rz_events.specs.declared.events.Event.TheVariants as e
 use Rattle.rz_export_model.specs.Export.{new_places}
 use Rattle.rz_core.specs.History.{facts}
-use Rattle.rz_core.specs.ExportWord.{makes, is_made, is_gone, is_live, export_of}
+use Rattle.rz_export_model.specs.Files.{makes}
+use Rattle.rz_core.specs.ExportWord.{is_made, is_gone, is_live, export_of}
 use Rattle.rz_core.proofs.Stamps.{export}
 use Rattle.rz_core.proofs.EnrollLaws.{export-rows}
 use Rattle.rz_core.proofs.NameTies.{names-tied}
-use Rattle.rz_core.proofs.TreeTies.{step}
+use Rattle.rz_export_model.proofs.Files.{step}
 use Rattle.rz_contents.specs.Removing.{StaysGone}
 
 -- what the export tells of live files alone, it tells of no file that is gone
@@ -18,8 +19,8 @@ other : (w : List Event) (fid at : ℕ) → is_live w at ≡ true → is_gone w 
 other w fid at live gone = false_from_ne_true (at == fid) (λ same.
     let here : is_gone w at ≡ true = subst (λ n. is_gone w n ≡ true) (sym (eqb-true at fid same)) gone in
     let off = (and_parts (is_made w at) (not (is_gone w at)) live).1 in
-    let no : not true ≡ true = sym (ap not here) ∙ off in
-    absurd cc)
+    let no : false ≡ true = sym (ap not here) ∙ off in
+    true≢false (sym no))
 
 pub removed : (v : Volume) → StaysGone v
 removed v (e.Meta by call reply) h fid legal gone = false_from_ne_true (makes reply fid) (λ made.

@@ -5,7 +5,8 @@ use Rattle.rz_events.specs.declared.events.Word.TheVariants.{Export}
 use Rattle.rz_events.specs.declared.events.Event.{Event}
 use Rattle.rz_events.specs.declared.events.Event.TheVariants as e
 use Rattle.rz_core.specs.History.{of_word}
-use Rattle.rz_core.specs.ExportWord.{makes, is_gone}
+use Rattle.rz_export_model.specs.Files.{makes}
+use Rattle.rz_core.specs.ExportWord.{is_gone}
 use Rattle.rz_core.specs.Legal.{IsLegalInRuns}
 
 -- The export gives the number to a new file, or tells or changes what is known of a block of the file.

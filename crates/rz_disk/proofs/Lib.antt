@@ -2,3 +2,4 @@ pub mod Images
 pub mod Passes
 mod FileCalls
 mod Marks
+mod Patches

@@ -1,5 +1,5 @@
 -- What a disk in memory keeps.
-use Rattle.std.specs.Prelude.{◌≡◌, ℕ, ◌+◌, ◌*◌, ◌%◌, ◌<◌, ◌≤◌, ◌==◌, if◌then◌else◌, Bool, true, false, List, length, replicate, slice_index, slice_index_or}
+use Rattle.std.specs.Prelude.{◌≡◌, ℕ, ◌+◌, ◌*◌, ◌-◌, ◌%◌, ◌<◌, ◌≤◌, ◌==◌, if◌then◌else◌, Bool, true, false, List, ◌++◌, length, take, drop, replicate, slice_index, slice_index_or}
 use Rattle.rz_disk.specs.Images.{Written}
 
 -- what a read gives, what the last sync left, and for each byte whether it was written since
@@ -45,13 +45,17 @@ pub record Picked (pick : ℕ) (synced : List ℕ) (marks : List Bool) (text new
     pub unmarked : (i : ℕ) → slice_index_or marks i false ≡ false
         → slice_index new i ≡ slice_index text i
 
--- All marks lie in a range, and a byte without one is synced.
-pub record IsTracked (text synced : List ℕ) (marks : List Bool) (from to : ℕ) : Type 0 where
-  pub synced_fits : length synced ≡ length text
-  pub marks_fit : length marks ≡ length text
-  pub ordered : from ≤ to
-  pub bounded : to ≤ length text
-  pub marks_from : (i : ℕ) → slice_index_or marks i false ≡ true → from ≤ i
-  pub marks_to : (i : ℕ) → slice_index_or marks i false ≡ true → i < to
-  pub clean : (i : ℕ) → slice_index_or marks i false ≡ false
-      → slice_index synced i ≡ slice_index text i
+-- bytes, and zeros behind them
+abbrev pub padded : ℕ → List ℕ → List ℕ
+padded size bytes = bytes ++ replicate (size - length bytes) 0
+
+-- a list of which a part, from an offset on, is another
+abbrev pub patched : {X : Type 0} → ℕ → List X → List X → List X
+patched from part whole = take from whole ++ (part ++ drop (from + length part) whole)
+
+-- The bytes that are held do not pass the disk's size, and the range lies within them.
+pub record IsHeld (size : ℕ) (text : List ℕ) (from : ℕ) (synced : List ℕ) (marks : List Bool) : Type 0
+  where
+    pub text_fits : length text ≤ size
+    pub one_length : length marks ≡ length synced
+    pub range_fits : from + length synced ≤ length text

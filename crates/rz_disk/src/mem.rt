@@ -11,9 +11,10 @@ use crate::{Disk, DiskError, Failed};
 use std::alloc::Global;
 use std::marker::Model;
 
-/// It holds three bytes for each byte of disk. Its calls `reset`, `read`, `write_at` and `sync` are
-/// counted together, from 0, and it has a list of those that fail. A call that fails changes the
-/// counts alone. A reset that is refused for memory changes nothing, and is not counted.
+/// A reset reserves three bytes for each byte of disk, and touches none of them. Its calls `reset`,
+/// `read`, `write_at` and `sync` are counted together, from 0, and it has a list of those that fail. A
+/// call that fails changes the counts alone. A reset that is refused for memory changes nothing, and
+/// is not counted.
 #[derive(Drop)]
 pub struct MemDisk {
     medium: Medium,

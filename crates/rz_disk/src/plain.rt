@@ -8,7 +8,7 @@ use crate::{Disk, DiskError, Failed};
 use std::alloc::Global;
 use std::marker::Model;
 
-/// It holds three bytes for each byte of disk.
+/// A reset reserves three bytes for each byte of disk, and touches none of them.
 #[derive(Drop)]
 pub struct PlainDisk {
     medium: Medium,

@@ -16,6 +16,7 @@ ghost use Rattle.rz_chronicle.specs.Holds.{Commits, Stays};
 ghost use Rattle.rz_chronicle.specs.Dealing.{new_word_token};
 ghost use Rattle.rz_shared_locked.specs.LockedExports.{AreBytes, HasBytes, Replied, event_given};
 
+use crate::counting::Counting;
 use crate::waiting::without_reply;
 use rz_chronicle::{Asks, Book, Pass, WordToken};
 use rz_events::{Actor, Call, Reply};

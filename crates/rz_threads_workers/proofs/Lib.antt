@@ -5,5 +5,5 @@ mod Gathered
 mod Pairs
 mod Rolls
 mod Recruits
-mod Making
+mod MakingPools
 mod Taken

@@ -3,7 +3,7 @@ use Rattle.std.specs.List.{AllByRecursion}
 use Rattle.rz_threads_workers.specs.WorkerPool.{CanJoin, HasRoom, IsMadeOf, IsNew, AreWorkerParts, IsPoolWorker}
 use Rattle.rz_threads_workers.proofs.Pairs.{zip-length, zip-second, zip-through}
 use Rattle.rz_threads_workers.proofs.Rolls.{all-new, eighty}
-use Rattle.rz_threads_workers.proofs.Making.{staffed}
+use Rattle.rz_threads_workers.proofs.MakingPools.{staffed}
 use Rattle.rz_threads_workers.proofs.making.make_pool.Goals as goal
 
 pub prepare-requires-clause-new : goal.prepare-requires-clause-new

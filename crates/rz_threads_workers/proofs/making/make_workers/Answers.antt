@@ -1,7 +1,7 @@
 use Rattle.std.proofs.Common.{◌≡◌, length, vec_len, ◌∙◌, sym, arith}
 use Rattle.std.specs.Vec.Iter.{into_iter_items}
 use Rattle.rz_threads_workers.proofs.Taken.{empty}
-use Rattle.rz_threads_workers.proofs.Making.{so-far-first, so-far-more, so-far-all, next-can, one-left, one-fits, none-left, all-linked}
+use Rattle.rz_threads_workers.proofs.MakingPools.{so-far-first, so-far-more, so-far-all, next-can, one-left, one-fits, none-left, all-linked}
 use Rattle.rz_threads_workers.proofs.making.make_workers.Goals as goal
 
 pub loop-parts-init : goal.loop-parts-init

@@ -1,7 +1,7 @@
 use Rattle.std.proofs.Common.{◌≡◌, ◌≤◌, length}
 use Rattle.std.specs.Vec.{vec_capacity}
 use Rattle.std.specs.Vec.Iter.{into_iter_items}
-use Rattle.rz_threads_workers.proofs.Making.{SoFar}
+use Rattle.rz_threads_workers.proofs.MakingPools.{SoFar}
 use Rattle.rz_threads_workers.proofs.making.make_workers.Given as goal
 
 -- the first workers are made, and there is room for all

@@ -8,7 +8,7 @@ use Rattle.rz_chronicle.specs.Tokens.{counts, IsHolding}
 use Rattle.rz_chronicle.specs.Holds.{AreTokens, IsOwn, IsShared, Commits, keys}
 use Rattle.rz_chronicle.specs.Rules.{PassView, WordTokenView}
 use Rattle.rz_chronicle.proofs.Histories.{same-log}
-use Rattle.rz_chronicle.proofs.Tokens.{taken, taken-keys, at-same-keys, own-place, tokens-right, tokens-may, tokens-after, own-after, own-stays, one-count, later-keys}
+use Rattle.rz_chronicle.proofs.TokenLaws.{taken, taken-keys, at-same-keys, own-place, tokens-right, tokens-may, tokens-after, own-after, own-stays, one-count, later-keys}
 use Rattle.rz_chronicle.proofs.book.Book.commit.Goals as goal
 
 pub append_both-its-requires-clause-word : goal.append_both-its-requires-clause-word

@@ -8,7 +8,7 @@ use Rattle.rz_chronicle.specs.Tokens.{counts, Agree}
 use Rattle.rz_chronicle.specs.Holds.{AreTokens, IsOwn, Stays, keys}
 use Rattle.rz_chronicle.specs.Rules.{PassView, WordTokenView}
 use Rattle.rz_chronicle.proofs.Histories.{later, stays}
-use Rattle.rz_chronicle.proofs.Tokens.{taken, taken-keys, at-same-keys, own-place, tokens-made, own-after, own-same}
+use Rattle.rz_chronicle.proofs.TokenLaws.{taken, taken-keys, at-same-keys, own-place, tokens-made, own-after, own-same}
 use Rattle.rz_chronicle.proofs.book.Book.enter.Goals as goal
 
 pub view_both-its-requires-clause-word : goal.view_both-its-requires-clause-word

@@ -7,7 +7,7 @@ use Rattle.rz_chronicle.specs.Kinds.{HasPlace, HavePlaces, MayFit, Fits, history
 use Rattle.rz_chronicle.specs.Tokens.{IsHolding}
 use Rattle.rz_chronicle.specs.Holds.{AreTokens, IsOwn, Commits, keys}
 use Rattle.rz_chronicle.specs.Rules.{PassView}
-use Rattle.rz_chronicle.proofs.Tokens.{taken, taken-keys, at-same-keys, tokens-right, tokens-may, tokens-after, own-place, member-low, own-after, committed, moved-on, covers, has-own}
+use Rattle.rz_chronicle.proofs.TokenLaws.{taken, taken-keys, at-same-keys, tokens-right, tokens-may, tokens-after, own-place, member-low, own-after, committed, moved-on, covers, has-own}
 use Rattle.rz_chronicle.proofs.book.Book.finish.Goals as goal
 
 pub append-tokens-requires-clause-word : goal.append-tokens-requires-clause-word

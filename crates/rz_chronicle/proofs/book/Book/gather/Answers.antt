@@ -2,7 +2,7 @@ use Rattle.std.proofs.Common.{◌≡◌, ◌++◌, List, ℕ, refl, sym, ap, sub
 use Rattle.rz_chronicle.specs.Keys.{IsLater}
 use Rattle.rz_chronicle.specs.Holds.{AreTokens, IsOwn, Stays, keys}
 use Rattle.rz_chronicle.specs.Rules.{PassView}
-use Rattle.rz_chronicle.proofs.Tokens.{taken, taken-keys}
+use Rattle.rz_chronicle.proofs.TokenLaws.{taken, taken-keys}
 use Rattle.rz_chronicle.proofs.book.Book.gather.Goals as goal
 
 pub absorb-requires-clause-theirs : goal.absorb-requires-clause-theirs

@@ -5,7 +5,7 @@ use Rattle.rz_chronicle.specs.Kinds.{history, HavePlaces, Fits}
 use Rattle.rz_chronicle.specs.Holds.{AreTokens, IsOwn, Stays, keys}
 use Rattle.rz_chronicle.specs.Rules.{PassView}
 use Rattle.rz_chronicle.proofs.Histories.{later, stays}
-use Rattle.rz_chronicle.proofs.Tokens.{taken, taken-keys, at-same-keys, tokens-made, own-after, own-same}
+use Rattle.rz_chronicle.proofs.TokenLaws.{taken, taken-keys, at-same-keys, tokens-made, own-after, own-same}
 use Rattle.rz_chronicle.proofs.book.Book.load.Goals as goal
 
 pub invariant_of-pass : goal.invariant_of-pass

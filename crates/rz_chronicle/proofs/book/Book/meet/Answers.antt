@@ -8,7 +8,7 @@ use Rattle.rz_chronicle.specs.Kinds.{history, HavePlaces, Fits, volume_in}
 use Rattle.rz_chronicle.specs.Holds.{AreTokens, IsOwn, Stays, keys}
 use Rattle.rz_chronicle.specs.Rules.{PassView}
 use Rattle.rz_chronicle.proofs.Histories.{later, stays}
-use Rattle.rz_chronicle.proofs.Tokens.{taken, taken-keys, at-same-keys, own-place, member-low, tokens-made, own-after, own-same}
+use Rattle.rz_chronicle.proofs.TokenLaws.{taken, taken-keys, at-same-keys, own-place, member-low, tokens-made, own-after, own-same}
 use Rattle.rz_chronicle.proofs.book.Book.meet.Goals as goal
 
 pub view-tokens-requires-clause-word : goal.view-tokens-requires-clause-word

@@ -3,7 +3,7 @@ use Rattle.rz_chronicle.specs.Keys.{word_key}
 use Rattle.rz_chronicle.specs.Kinds.{history}
 use Rattle.rz_chronicle.specs.Holds.{AreTokens, IsSettled, Stays, keys}
 use Rattle.rz_chronicle.specs.Rules.{WordTokenView}
-use Rattle.rz_chronicle.proofs.Tokens.{taken}
+use Rattle.rz_chronicle.proofs.TokenLaws.{taken}
 use Rattle.rz_chronicle.proofs.book.Book.settle_one.Goals as goal
 
 pub absorb-requires-clause-theirs : goal.absorb-requires-clause-theirs

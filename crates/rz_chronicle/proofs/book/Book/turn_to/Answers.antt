@@ -6,7 +6,7 @@ use Rattle.rz_chronicle.specs.Kinds.{volume_in}
 use Rattle.rz_chronicle.specs.Holds.{keys_in}
 use Rattle.rz_chronicle.specs.Rules.{PassView}
 use Rattle.rz_chronicle.proofs.Histories.{count_history}
-use Rattle.rz_chronicle.proofs.Tokens.{member-low, own-other}
+use Rattle.rz_chronicle.proofs.TokenLaws.{member-low, own-other}
 use Rattle.rz_chronicle.proofs.book.Book.turn_to.Goals as goal
 
 pub load-moved-requires-clause-owner : goal.load-moved-requires-clause-owner

@@ -2,7 +2,7 @@ use Rattle.std.proofs.Common.{subst}
 use Rattle.rz_events.specs.declared.events.Word.TheVariants.{Own}
 use Rattle.rz_chronicle.specs.Keys.{actor_key, word_key, IsOneOf}
 use Rattle.rz_chronicle.specs.Rules.{PassView}
-use Rattle.rz_chronicle.proofs.Tokens.{own-key, own-word}
+use Rattle.rz_chronicle.proofs.TokenLaws.{own-key, own-word}
 use Rattle.rz_chronicle.proofs.passes.Pass.actor.Goals as goal
 
 pub returns-clause-own : goal.returns-clause-own

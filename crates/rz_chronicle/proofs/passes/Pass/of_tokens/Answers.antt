@@ -4,7 +4,7 @@ use Rattle.rz_events.specs.declared.events.Word.TheVariants.{Own}
 use Rattle.rz_chronicle.specs.Keys.{word_key, count_at}
 use Rattle.rz_chronicle.specs.Kinds.{history, HavePlaces, Fits}
 use Rattle.rz_chronicle.specs.Holds.{AreTokens, IsOwn}
-use Rattle.rz_chronicle.proofs.Tokens.{pass-first}
+use Rattle.rz_chronicle.proofs.TokenLaws.{pass-first}
 use Rattle.rz_chronicle.proofs.passes.Pass.of_tokens.Goals as goal
 
 pub invariant_of-result : goal.invariant_of-result

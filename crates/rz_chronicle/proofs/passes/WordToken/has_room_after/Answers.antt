@@ -2,7 +2,7 @@ use Rattle.std.proofs.Common.{◌≡◌, ◌∙◌, sym, subst}
 use Rattle.rz_chronicle.specs.Keys.{word_key, count_at}
 use Rattle.rz_chronicle.specs.Rules.{WordTokenView}
 use Rattle.rz_chronicle.proofs.Histories.{count_history}
-use Rattle.rz_chronicle.proofs.Tokens.{word_token-count}
+use Rattle.rz_chronicle.proofs.TokenLaws.{word_token-count}
 use Rattle.rz_chronicle.proofs.Keys.{room-62}
 use Rattle.rz_chronicle.proofs.passes.WordToken.has_room_after.Goals as goal
 
