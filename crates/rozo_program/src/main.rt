@@ -190,9 +190,9 @@ fn perform<T: Threads + Wait + Sync>(threads: &T, rt: &HostRuntime, words: &[Str
 }
 
 /// Takes the words from the system, does what they ask for, and gives the status.
-fn start(rt: &HostRuntime) -> u8 {
+fn start<T: Threads + Wait + Sync>(threads: &T, rt: &HostRuntime) -> u8 {
     match words_of(rt) {
-        Ok(words) => perform(rt, rt, &words),
+        Ok(words) => perform(threads, rt, &words),
         Err(error) if error.kind() == ErrorKind::OutOfMemory => Status::NO_MEMORY,
         Err(_) => Status::NO_WORDS,
     }
@@ -206,7 +206,7 @@ fn main(rt: HostRuntime) -> ExitCode {
     let status = if fillers.lacks_output() {
         Status::SINK
     } else {
-        start(&rt)
+        start(&rt, &rt)
     };
     tell_status(&rt, status);
     drop(fillers);
