@@ -8,6 +8,11 @@
 
 ghost use Rattle.std.specs.Prelude.{◌≡◌, IfOk, IsTrue, length};
 
+mod folder;
+mod streams;
+mod telling;
+
+use folder::lock_folder;
 use rz_disk::Disk;
 use rz_link::PlainLink;
 use rz_ports::{StdSink, StdSource};
@@ -21,6 +26,8 @@ use std::process::ExitCode;
 use std::sync::Wait;
 use std::thread::Threads;
 use std::{env, io};
+use streams::Fillers;
+use telling::{tell_file, tell_lock, tell_status, tell_usage};
 
 /// The words of the command line.
 fn words_of(rt: &HostRuntime) -> io::Result<Vec<String>> {
@@ -127,7 +134,27 @@ fn kept(command: Command, disks: u16) -> u16 {
     }
 }
 
-/// Plays over the disks that the words want. Nobody knows what a file holds.
+/// Plays over disks in the files of a folder, of which nobody knows what they hold.
+fn play_in_folder<T: Threads + Wait + Sync>(
+    threads: &T,
+    rt: &HostRuntime,
+    words: &[String],
+    wanted: &Wanted,
+    folder: &str,
+) -> u8 {
+    let kept = kept(wanted.command, wanted.disks);
+    match files(rt, rt.alloc(), folder, kept, wanted.disks) {
+        Ok(disks) => play(threads, rt, words, wanted.command, disks, false),
+        Err(FilesFault::Unopened { index }) => {
+            tell_file(rt, folder, index);
+            refuse_file(rt, index)
+        }
+        Err(FilesFault::NoMemory) => Status::NO_MEMORY,
+    }
+}
+
+/// Plays over the disks that the words want. A folder is locked meanwhile: two programs over the same disks would
+/// draw the same stamps for different writes.
 fn play_wanted<T: Threads + Wait + Sync>(
     threads: &T,
     rt: &HostRuntime,
@@ -137,11 +164,16 @@ fn play_wanted<T: Threads + Wait + Sync>(
     let Some(folder) = &wanted.folder else {
         return play_in_memory(threads, rt, words, wanted.command, wanted.disks);
     };
-    let kept = kept(wanted.command, wanted.disks);
-    match files(rt, rt.alloc(), folder.as_str(), kept, wanted.disks) {
-        Ok(disks) => play(threads, rt, words, wanted.command, disks, false),
-        Err(FilesFault::Unopened { index }) => refuse_file(rt, index),
-        Err(FilesFault::NoMemory) => Status::NO_MEMORY,
+    match lock_folder(rt, folder.as_str()) {
+        Ok(lock) => {
+            let status = play_in_folder(threads, rt, words, wanted, folder.as_str());
+            drop(lock);
+            status
+        }
+        Err(fault) => {
+            tell_lock(rt, folder.as_str(), &fault);
+            refuse_file(rt, 0)
+        }
     }
 }
 
@@ -149,16 +181,34 @@ fn play_wanted<T: Threads + Wait + Sync>(
 fn perform<T: Threads + Wait + Sync>(threads: &T, rt: &HostRuntime, words: &[String]) -> u8 {
     match wanted(rt.alloc(), words) {
         Ok(wanted) => play_wanted(threads, rt, words, &wanted),
-        Err(WordsError::Usage) => play_in_memory(threads, rt, words, Command::Replay, 0),
+        Err(WordsError::Usage) => {
+            tell_usage(rt);
+            play_in_memory(threads, rt, words, Command::Replay, 0)
+        }
         Err(WordsError::NoMemory) => Status::NO_MEMORY,
     }
 }
 
-fn main(rt: HostRuntime) -> ExitCode {
-    let status = match words_of(&rt) {
-        Ok(words) => perform(&rt, &rt, &words),
+/// Takes the words from the system, does what they ask for, and gives the status.
+fn start<T: Threads + Wait + Sync>(threads: &T, rt: &HostRuntime) -> u8 {
+    match words_of(rt) {
+        Ok(words) => perform(threads, rt, &words),
         Err(error) if error.kind() == ErrorKind::OutOfMemory => Status::NO_MEMORY,
         Err(_) => Status::NO_WORDS,
+    }
+}
+
+fn main(rt: HostRuntime) -> ExitCode {
+    let Ok(fillers) = Fillers::new(&rt) else {
+        return ExitCode::from(Status::NO_MEMORY);
     };
+    // nothing is begun whose outcome nobody could be told
+    let status = if fillers.lacks_output() {
+        Status::SINK
+    } else {
+        start(&rt, &rt)
+    };
+    tell_status(&rt, status);
+    drop(fillers);
     ExitCode::from(status)
 }

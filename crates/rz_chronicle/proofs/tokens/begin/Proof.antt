@@ -50,7 +50,7 @@ begin_spec 𝓤 𝓛 𝓜 𝓡 wired B _ gn dn _ =
     proved 𝓛 En hs c 𝓜 𝓡 (Goes-dropped 𝓛 2 (RefOf (0 ∷ []) tt (plain (λ _. Kind.the_row)) (λ _. tt)) yes (λ κs x f. refl), tt) (#self inst) fn (code.unfolded 𝓤 H 𝓜 𝓡 wired (B, tt) dn)
     (λ κs. (shr_vals, tt)) (λ κs. (shr_Tells (named 0) κs.0 Kind.the_row, tt)) (λ κs qs bounds a gh are.
     let kind : List ℕ = with_earlier a.0.now gn.earlier in let here : Val = vptr a.0.ref_ptr.0 a.0.ref_ptr.1 in
-    let y : (walk_of 𝓛 En hs c).Ghost = ((κs, qs, bounds, a, (here ∷ [], tt)), gh) in let WordToken : Val → SProp 𝓤 = (walk_of 𝓛 En hs c).word_token y in
+    let y : (walk_of 𝓛 En hs c).Ghost = ((κs, qs, bounds, a, (here ∷ [], tt)), gh) in let WordToken : Val → SProp 𝓤 = (walk_of 𝓛 En hs c).post y in
     qed 𝓛 ((‵ (fsep (flft κs.0 qs.0) (fsep (flft κs.1.0 qs.1.0) ftrue)) ⊛ ‵ (owns (types_at En.signature.params κs) a y.0.4)) ∷ raw (fact 𝓤 _) ∷ given _ (‵ ftrue) ∷ []) ∵ keep ! (2 ∷ 0 ∷ []) $ learn ! (λ fits. drop ! $ split ! $ keep ! (0 ∷ []) $
     enter ! 𝓣.C 𝓣.Λ fn (here ∷ []) WordToken $ alloc_all ! (λ l. pass_all ! refl ((tt, tt), tt) $
     use0 𝓛 (later (some (λ (n : ℕ × ℕ). ‵ (kept (n.0 ∷ n.1 ∷ kind) []) ⊛ ‵ (tokens_own n.0 n.1 (zeros 0 rows) [])))) (trades.begins 𝓛 kind fits) $ await ! tt $ pick ! (λ n. split ! $

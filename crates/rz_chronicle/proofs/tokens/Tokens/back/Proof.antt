@@ -42,7 +42,7 @@ back_spec 𝓤 𝓛 𝓜 𝓡 wired =
     proved 𝓛 ended hs c 𝓜 𝓡 (Goes-dropped 𝓛 0 (plain (λ _. Gs)) yes (λ κs x f. refl), tt) #self fn (code.unfolded 𝓤 H 𝓜 𝓡 wired)
     (λ κs. ((λ x. token ∷ []), tt)) (λ κs. ((λ x vs is. token_told All vs is.0), tt)) (λ κs qs bounds a gh are.
     let g = a.0 in
-    let y : (walk_of 𝓛 ended hs c).Ghost = ((κs, qs, bounds, a, (token ∷ [], tt)), gh) in let WordToken : Val → SProp 𝓤 = (walk_of 𝓛 ended hs c).word_token y in
+    let y : (walk_of 𝓛 ended hs c).Ghost = ((κs, qs, bounds, a, (token ∷ [], tt)), gh) in let WordToken : Val → SProp 𝓤 = (walk_of 𝓛 ended hs c).post y in
     qed 𝓛 ((‵ ftrue ⊛ ‵ (owns (types_at ended.signature.params κs) a y.0.4)) ∷ given _ (‵ ftrue) ∷ []) ∵ move ! (1 ∷ []) $ learn ! (λ asked. drop ! $ split ! $
     move ! (1 ∷ []) $ fsplit ! $ fsplit ! $ keep ! (1 ∷ 3 ∷ []) $
     use1 𝓛 (‵ (gained (asked.0.0 ∷ asked.0.1.0 ∷ asked.0.1.1) (held_in g.about) g.answer.before g.answer.log)) (subst (λ (ns : List ℕ). ent 𝓤 (sem 𝓛 (gained g.names (held_in g.about) g.answer.before g.answer.log)) (sem 𝓛 (gained ns (held_in g.about) g.answer.before g.answer.log))) asked.1 (id⊢ 𝓤 _)) $

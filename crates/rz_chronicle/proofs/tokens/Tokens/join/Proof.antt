@@ -44,7 +44,7 @@ join_spec 𝓤 𝓛 𝓜 𝓡 wired =
     proved 𝓛 ended hs c 𝓜 𝓡 (Goes-dropped 𝓛 0 (plain (λ _. Ts)) yes (λ κs x f. refl), (Goes-dropped 𝓛 0 (plain (λ _. Ts)) yes (λ κs x f. refl), tt)) #self fn (code.unfolded 𝓤 H 𝓜 𝓡 wired)
     (λ κs. ((λ x. token ∷ []), ((λ x. token ∷ []), tt))) (λ κs. ((λ x vs is. token_told unit vs is.0), ((λ x vs is. token_told unit vs is.0), tt))) (λ κs qs bounds a gh are.
     let me = a.0 in let other = a.1.0 in
-    let y : (walk_of 𝓛 ended hs c).Ghost = ((κs, qs, bounds, a, (token ∷ [], (token ∷ [], tt))), gh) in let WordToken : Val → SProp 𝓤 = (walk_of 𝓛 ended hs c).word_token y in
+    let y : (walk_of 𝓛 ended hs c).Ghost = ((κs, qs, bounds, a, (token ∷ [], (token ∷ [], tt))), gh) in let WordToken : Val → SProp 𝓤 = (walk_of 𝓛 ended hs c).post y in
     qed 𝓛 ((‵ ftrue ⊛ ‵ (owns (types_at ended.signature.params κs) a y.0.4)) ∷ given _ (‵ ftrue) ∷ []) ∵ move ! (1 ∷ []) $ learn ! (λ asked. drop ! $ split ! $
     move ! (1 ∷ []) $ fsplit ! $ fsplit ! $ move ! (2 ∷ []) $ fsplit ! $ fsplit ! $
     -- the other's value and tokens, the rest, the own value and tokens, the rest

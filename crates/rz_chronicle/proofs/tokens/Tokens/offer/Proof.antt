@@ -51,7 +51,7 @@ offer_spec 𝓤 𝓛 𝓜 𝓡 wired X N _ _ gn dn _ =
     proved 𝓛 En hs c 𝓜 𝓡 (Goes-dropped 𝓛 3 (plain (λ _. Ts)) yes (λ κs x f. refl), (Goes-dropped 𝓛 3 (RefOf (0 ∷ []) tt (plain (λ _. X')) (λ _. tt)) yes (λ κs x f. refl), tt)) (#self inst) fn (code.unfolded 𝓤 H 𝓜 𝓡 wired (X, (N, tt)) dn)
     (λ κs. ((λ x. token ∷ []), (shr_vals, tt))) (λ κs. ((λ x vs is. token_told unit vs is.0), (shr_Tells (named 0) κs.0 X', tt))) (λ κs qs bounds a gh are.
     let me = a.0 in let ask = gn.event a.1.0.now in let at : Val = vptr a.1.0.ref_ptr.0 a.1.0.ref_ptr.1 in
-    let y : (walk_of 𝓛 En hs c).Ghost = ((κs, qs, bounds, a, (token ∷ [], (at ∷ [], tt))), gh) in let WordToken : Val → SProp 𝓤 = (walk_of 𝓛 En hs c).word_token y in
+    let y : (walk_of 𝓛 En hs c).Ghost = ((κs, qs, bounds, a, (token ∷ [], (at ∷ [], tt))), gh) in let WordToken : Val → SProp 𝓤 = (walk_of 𝓛 En hs c).post y in
     qed 𝓛 ((‵ (fsep (flft κs.0 qs.0) (fsep (flft κs.1.0 qs.1.0) (fsep (flft κs.1.1.0 qs.1.1.0) ftrue))) ⊛ ‵ (owns (types_at En.signature.params κs) a y.0.4)) ∷ raw (fact 𝓤 _) ∷ raw (fact 𝓤 _) ∷ given _ (‵ ftrue) ∷ []) ∵ keep ! (3 ∷ 0 ∷ []) $ learn ! (λ asked. drop ! $ split ! $
     move ! (1 ∷ []) $ fsplit ! $ fsplit ! $ keep ! (1 ∷ 3 ∷ []) $
     let about = notes me.held in let names : List ℕ = me.tallies ∷ me.copy ∷ me.kind in let answer = λ (r : Told.the_row.Denot). gained names (held_in about) r.before r.log in

@@ -50,7 +50,7 @@ parted_spec 𝓤 𝓛 𝓜 𝓡 wired =
     proved 𝓛 ended hs c 𝓜 𝓡 (Goes-dropped 𝓛 0 (plain (λ _. Ts)) yes (λ κs x f. refl), (Goes-dropped 𝓛 0 (plain (λ _. u64)) yes (λ κs x f. refl), tt)) #self fn (code.unfolded 𝓤 H 𝓜 𝓡 wired)
     (λ κs. ((λ x. token ∷ []), (uint_vals w64, tt))) (λ κs. ((λ x vs is. token_told unit vs is.0), (uint_Tells w64, tt))) (λ κs qs bounds a gh are.
     let me = a.0 in let key : ℕ = a.1.0 in
-    let y : (walk_of 𝓛 ended hs c).Ghost = ((κs, qs, bounds, a, (token ∷ [], (vint w64 a.1.0 ∷ [], tt))), gh) in let WordToken : Val → SProp 𝓤 = (walk_of 𝓛 ended hs c).word_token y in
+    let y : (walk_of 𝓛 ended hs c).Ghost = ((κs, qs, bounds, a, (token ∷ [], (vint w64 a.1.0 ∷ [], tt))), gh) in let WordToken : Val → SProp 𝓤 = (walk_of 𝓛 ended hs c).post y in
     qed 𝓛 ((‵ ftrue ⊛ ‵ (owns (types_at ended.signature.params κs) a y.0.4)) ∷ given _ (‵ ftrue) ∷ []) ∵ move ! (1 ∷ []) $ learn ! (λ asked. drop ! $ split ! $
     move ! (1 ∷ []) $ fsplit ! $ fsplit ! $ keep ! (1 ∷ 3 ∷ []) $
     let one : List (ℕ × ℕ) = (key, count_in key me.held) ∷ [] in let rest : List (ℕ × ℕ) = without key me.held in
