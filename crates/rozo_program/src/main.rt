@@ -16,7 +16,7 @@ use folder::lock_folder;
 use rz_disk::Disk;
 use rz_link::PlainLink;
 use rz_ports::{StdSink, StdSource};
-use rz_replay::{FilesFault, files, memory, replay};
+use rz_replay::{FilesFault, Kept, files, memory, replay};
 use rz_report::refuse;
 use rz_request::{Command, Refusal, Status, Wanted, WordsError, wanted};
 use rz_run::run;
@@ -27,7 +27,7 @@ use std::sync::Wait;
 use std::thread::Threads;
 use std::{env, io};
 use streams::Fillers;
-use telling::{tell_file, tell_lock, tell_status, tell_usage};
+use telling::{tell_disks, tell_file, tell_lock, tell_status, tell_usage};
 
 /// The words of the command line.
 fn words_of(rt: &HostRuntime) -> io::Result<Vec<String>> {
@@ -42,19 +42,29 @@ fn links(alloc: Global) -> Result<Vec<PlainLink>, AllocError>
     vec![in alloc; PlainLink::new(); 80]
 }
 
-/// Plays on threads what the words ask for, and gives the status. Only `main` has a runtime with threads, and
-/// so it is passed on beside the runtime.
+/// The status of a play, and its disks.
+#[derive(Drop)]
+struct Played<D: Disk> {
+    status: u8,
+    disks: Vec<D>,
+}
+
+/// Plays on threads what the words ask for. Only `main` has a runtime with threads, and so it is passed on beside
+/// the runtime.
 fn play_on_threads<T: Threads + Wait + Sync, D: Disk + Send>(
     threads: &T,
     rt: &HostRuntime,
     words: &[String],
     disks: Vec<D>,
     honest: bool,
-) -> u8
+) -> Played<D>
     requires tells { IsTrue honest → IsTrue D.tells }
 {
     let Ok(links) = links(rt.alloc()) else {
-        return Status::NO_MEMORY;
+        return Played {
+            status: Status::NO_MEMORY,
+            disks,
+        };
     };
     let mut input = StdSource::new(rt.reader());
     let mut output = StdSink::new(io::writer(rt));
@@ -68,11 +78,14 @@ fn play_on_threads<T: Threads + Wait + Sync, D: Disk + Send>(
         links,
         honest,
     );
-    ran.status
+    Played {
+        status: ran.status,
+        disks: ran.disks,
+    }
 }
 
-/// Plays in turns what the words ask for, and gives the status.
-fn play_in_turns<D: Disk>(rt: &HostRuntime, words: &[String], mut disks: Vec<D>) -> u8 {
+/// Plays in turns what the words ask for.
+fn play_in_turns<D: Disk>(rt: &HostRuntime, words: &[String], mut disks: Vec<D>) -> Played<D> {
     let mut input = StdSource::new(rt.reader());
     let mut output = StdSink::new(io::writer(rt));
     let mut link = PlainLink::new();
@@ -84,10 +97,13 @@ fn play_in_turns<D: Disk>(rt: &HostRuntime, words: &[String], mut disks: Vec<D>)
         &mut disks,
         &mut link,
     );
-    played.status
+    Played {
+        status: played.status,
+        disks,
+    }
 }
 
-/// Plays what the words ask for, and gives the status.
+/// Plays what the words ask for.
 fn play<T: Threads + Wait + Sync, D: Disk + Send>(
     threads: &T,
     rt: &HostRuntime,
@@ -95,7 +111,7 @@ fn play<T: Threads + Wait + Sync, D: Disk + Send>(
     command: Command,
     disks: Vec<D>,
     honest: bool,
-) -> u8
+) -> Played<D>
     requires tells { IsTrue honest → IsTrue D.tells }
 {
     match command {
@@ -113,7 +129,7 @@ fn play_in_memory<T: Threads + Wait + Sync>(
     count: u16,
 ) -> u8 {
     match memory(rt.alloc(), count) {
-        Ok(disks) => play(threads, rt, words, command, disks, true),
+        Ok(disks) => play(threads, rt, words, command, disks, true).status,
         Err(_) => Status::NO_MEMORY,
     }
 }
@@ -125,12 +141,12 @@ fn refuse_file(rt: &HostRuntime, index: u16) -> u8 {
     refuse(rt.alloc(), &Refusal::Disk { index }, &mut output)
 }
 
-/// How many of so many disks stand in files that are there already.
-fn kept(command: Command, disks: u16) -> u16 {
+/// Which disks of a command stand in files that are there already.
+fn kept(command: Command) -> Kept {
     match command {
-        Command::Migrate { .. } => 1,
-        Command::Again => disks,
-        _ => 0,
+        Command::Migrate { .. } => Kept::Old,
+        Command::Again => Kept::Everything,
+        _ => Kept::Nothing,
     }
 }
 
@@ -142,11 +158,15 @@ fn play_in_folder<T: Threads + Wait + Sync>(
     wanted: &Wanted,
     folder: &str,
 ) -> u8 {
-    let kept = kept(wanted.command, wanted.disks);
+    let kept = kept(wanted.command);
     match files(rt, rt.alloc(), folder, kept, wanted.disks) {
-        Ok(disks) => play(threads, rt, words, wanted.command, disks, false),
-        Err(FilesFault::Unopened { index }) => {
-            tell_file(rt, folder, index);
+        Ok(disks) => {
+            let played = play(threads, rt, words, wanted.command, disks, false);
+            tell_disks(rt, played.disks.as_slice());
+            played.status
+        }
+        Err(FilesFault::Unopened { index, error }) => {
+            tell_file(rt, folder, index, &error);
             refuse_file(rt, index)
         }
         Err(FilesFault::NoMemory) => Status::NO_MEMORY,

@@ -2,8 +2,9 @@
 //! nobody is told.
 
 use crate::folder::LockFault;
+use rz_disk::FileDisk;
 use rz_request::Status;
-use std::fs;
+use std::io;
 
 /// Says why a folder is not locked.
 pub fn tell_lock(rt: &HostRuntime, path: &str, fault: &LockFault) {
@@ -16,12 +17,19 @@ pub fn tell_lock(rt: &HostRuntime, path: &str, fault: &LockFault) {
 }
 
 /// Says why the file of a disk can't be opened, as the system says it.
-pub fn tell_file(rt: &HostRuntime, folder: &str, index: u16) {
-    let _ = match fs::metadata(rt, folder) {
-        Ok(found) if !found.is_dir() => eprintln!(rt; "rozo: {folder} is no folder"),
-        Ok(_) => eprintln!(rt; "rozo: the file {folder}/disk.{index} can't be opened"),
-        Err(error) => eprintln!(rt; "rozo: {folder}: {error}"),
-    };
+pub fn tell_file(rt: &HostRuntime, folder: &str, index: u16, error: &io::Error) {
+    let _ = eprintln!(rt; "rozo: {folder}/disk.{index}: {error}");
+}
+
+/// Says of each disk whose file failed what the system said of the last call that it failed.
+pub fn tell_disks(rt: &HostRuntime, disks: &[FileDisk<'_, HostRuntime>]) {
+    for disk in disks {
+        let Some(error) = disk.last_error() else {
+            continue;
+        };
+        let path = disk.path();
+        let _ = eprintln!(rt; "rozo: {path}: {error}");
+    }
 }
 
 /// Says what a status means for which nothing is printed, or only a first part of the text.

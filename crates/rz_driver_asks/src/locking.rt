@@ -60,7 +60,7 @@ pub fn open<D: Disk>(
         return Err(Halted);
     }
     let copy = call.copy(alloc)?;
-    let Ok(reply) = export.reply(alloc, CallRef::Tree(call)) else {
+    let Ok(reply) = export.reply(CallRef::Tree(call)) else {
         drop(copy);
         return Err(Halted);
     };

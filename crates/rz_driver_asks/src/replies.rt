@@ -53,7 +53,7 @@ pub fn ask_export<D: Disk>(
     };
     look_into(ask);
     let words = words_of(alloc, ask)?;
-    let Ok(reply) = export.reply(alloc, ask) else {
+    let Ok(reply) = export.reply(ask) else {
         drop(words);
         return Err(Halted);
     };

@@ -1,19 +1,14 @@
 -- Keys of a file that are taken out one by one.
-use Rattle.std.proofs.Common.{◌≡◌, ℕ, ◌-◌, ◌<◌, Bool, true, false, cond, not, List, [], ◌∷◌, length, Option, Some, None, is_some, sym, ap, ◌∙◌, refl, arith}
+use Rattle.std.proofs.Common.{◌≡◌, ℕ, ◌-◌, ◌<◌, Bool, true, false, cond, not, List, [], ◌∷◌, length, Some, None, is_some, sym, ap, ◌∙◌, refl, arith}
 use Rattle.std.specs.Prelude.{◌==◌}
-use Rattle.std.specs.Option.{option_or}
-use Rattle.std.specs.Ordering.{is_eq, eq_by_cmp}
-use Rattle.std.specs.declared.cmp.Ordering.{Ordering}
-use Rattle.std.specs.declared.cmp.Ordering.TheVariants.{Less, Equal, Greater}
-use Rattle.std.specs.Cmp.{tied_itself}
+use Rattle.std.specs.Ordering.{eq_by_cmp}
 use Rattle.std.specs.FinMap as maps
-use Rattle.std.specs.FinMap.{same_map, get-remove, get-retain_keys, get-entries, len-remove, len-entries}
+use Rattle.std.specs.FinMap.{same_map, get-remove, get-entries, len-remove, len-entries}
 use Rattle.std.specs.FinMap.Entries.{find}
 use Rattle.rz_events.specs.Keys.{key_cmp, keys_total, exact_keys}
 use Rattle.rz_events.specs.declared.keys.Key.{Key}
 use Rattle.rz_export_model.proofs.Forgets.{first_of_file, first-own, first-found, none-own, get-without}
 use Rattle.rz_export_model.proofs.Tests.{eq_true}
-use Rattle.rz_export_model.specs.Firsts.{first_given, given_if}
 use Rattle.rz_export_model.specs.Export.{Block, Blocks, without_file}
 
 -- with one key less of the file the rest is the same

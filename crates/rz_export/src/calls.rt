@@ -1,6 +1,7 @@
 //! The calls on names, and the one call for all.
 
 ghost use Rattle.std.specs.Prelude.{◌≡◌, IfOk, OnOk, OnErr, IsTrue};
+ghost use Rattle.rz_events.specs.Borrowed.{call_of};
 ghost use Rattle.rz_export_model.specs.TreeCalls.{reply_to};
 ghost use Rattle.rz_export_model.specs.Export.{after_tree, new_places, is_proper};
 ghost use Rattle.rz_export.specs.Calls.{placed_for, IsAnswered};
@@ -8,7 +9,7 @@ ghost use Rattle.rz_export.specs.Calls.{placed_for, IsAnswered};
 use crate::export::Export;
 use crate::nodes::free_cells;
 use crate::releases::settle;
-use rz_events::{Call, Places, Published, Reply, TreeCall, TreeReply};
+use rz_events::{Call, CallRef, Places, Reply, TreeCall, TreeReply};
 use rz_place::place;
 use std::alloc::AllocError;
 
@@ -20,32 +21,28 @@ impl Export {
         requires { IsTrue (is_proper self.old call.now) }
         ensures { IsAnswered self.old call.now result self.new }
     {
+        self.answer_ref(call.borrowed())
+    }
+
+    /// Answers a borrowed call in the same way, so that none of its texts is copied to ask it.
+    pub fn answer_ref(&mut self, call: CallRef<'_>) -> Reply
+        requires { IsTrue (is_proper self.old (call_of call)) }
+        ensures { IsAnswered self.old (call_of call.entry) result self.new }
+    {
         match call {
-            Call::Tree(call) => match self.name(call) {
+            CallRef::Tree(call) => match self.name(call) {
                 Ok(reply) => Reply::Tree(reply),
                 Err(_) => Reply::NoMemory,
             },
-            Call::Begin { key, .. } => match self.begin(*key) {
+            CallRef::Begin { key, .. } => match self.begin(key) {
                 Ok(reply) => reply,
                 Err(_) => Reply::NoMemory,
             },
-            Call::Publish {
-                key,
-                stamp,
-                mask,
-                length,
-            } => self.publish(
-                *key,
-                Published {
-                    stamp: *stamp,
-                    mask: *mask,
-                    length: *length,
-                },
-            ),
-            Call::Look { key } => self.look(*key),
-            Call::Enroll { node, loss } => self.enroll(*node, *loss),
-            Call::Next { node, after } => self.next(*node, *after),
-            Call::Recheck { key } => self.recheck(*key),
+            CallRef::Publish { key, published } => self.publish(key, published),
+            CallRef::Look { key } => self.look(key),
+            CallRef::Enroll { node, loss } => self.enroll(node, loss),
+            CallRef::Next { node, after } => self.next(node, after),
+            CallRef::Recheck { key } => self.recheck(key),
         }
     }
 

@@ -3,6 +3,7 @@
 ghost use Rattle.std.specs.Prelude.{◌≡◌, ◌≤◌, ◌&&◌, ◌||◌, nat_le, is_none, is_some, length, IsSome};
 ghost use Rattle.std.specs.FinMap as maps;
 ghost use Rattle.mj_angles.specs.Layout.{block_bytes_of};
+ghost use Rattle.rz_events.specs.Borrowed.{call_of};
 ghost use Rattle.rz_events.specs.declared.export.Call.{Call};
 ghost use Rattle.rz_export_model.specs.Tree.{file_of};
 ghost use Rattle.rz_export_model.specs.Export.{no_begin, no_look, too_far, spent, barred, is_mask, is_proper, is_ready};
@@ -10,7 +11,7 @@ ghost use Rattle.rz_export_model.specs.Export.{no_begin, no_look, too_far, spent
 use crate::export::Export;
 use crate::nodes::has_bit;
 use mj_angles::Layout;
-use rz_events::{Call, Denial, Key, Published, Reply};
+use rz_events::{Call, CallRef, Denial, Key, Published, Reply};
 
 /// A file has so many blocks.
 pub const FILE_BLOCKS: u64 = 1_048_576;
@@ -21,26 +22,21 @@ impl Export {
     pub fn takes(&self, call: &Call) -> bool
         ensures { result ≡ is_proper self.now call.now }
     {
+        self.takes_ref(call.borrowed())
+    }
+
+    /// Whether the conditions of `answer_ref` hold of a borrowed call, which are the same.
+    pub fn takes_ref(&self, call: CallRef<'_>) -> bool
+        ensures { result ≡ is_proper self.now (call_of call.entry) }
+    {
         match call {
-            Call::Tree(_) => true,
-            Call::Begin { text, .. } => text.bytes().len() <= self.layout().block_bytes(),
-            Call::Publish {
-                key,
-                stamp,
-                mask,
-                length,
-            } => self.takes_publish(
-                *key,
-                Published {
-                    stamp: *stamp,
-                    mask: *mask,
-                    length: *length,
-                },
-            ),
-            Call::Look { .. } => true,
-            Call::Enroll { node, .. } => self.is_node(*node),
-            Call::Next { .. } => true,
-            Call::Recheck { .. } => true,
+            CallRef::Tree(_) => true,
+            CallRef::Begin { text, .. } => text.len() <= self.layout().block_bytes(),
+            CallRef::Publish { key, published } => self.takes_publish(key, published),
+            CallRef::Look { .. } => true,
+            CallRef::Enroll { node, .. } => self.is_node(node),
+            CallRef::Next { .. } => true,
+            CallRef::Recheck { .. } => true,
         }
     }
 

@@ -5,9 +5,10 @@ ghost use Rattle.mj_angles.specs.Layout.{block_bytes_of};
 ghost use Rattle.rz_client_model.specs.Read.{reader_ask, reader_end, reader_told};
 ghost use Rattle.rz_client_model.specs.Write.{writer_ask, writer_end};
 ghost use Rattle.rz_reader.specs.Machine.{IsBlockOf, pairs_at};
+ghost use Rattle.rz_reader.specs.Told.{IsOtherTold, IsFetchedInto};
 ghost use Rattle.rz_operation_model.specs.Files.{IsFileAnswer, ask_to_read, ask_to_write, file_ask};
 ghost use Rattle.rz_file.specs.Machine.{ComeWith, IsAnswered};
-ghost use Rattle.rz_file.specs.Told.{IsFetchAsk, IsOtherTold, IsFetchedInto};
+ghost use Rattle.rz_file.specs.Told.{IsFetchAsk};
 ghost use Rattle.rz_file.specs.Inside.{IsFile, IsFoundText, machine_of, state_of};
 
 use crate::asks::found_size;

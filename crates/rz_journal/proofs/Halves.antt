@@ -14,7 +14,7 @@ entry_at_place half at count gate is room =
     record { gate = gate; count = is ∙ sym long; bytes = ap (λ (n : ℕ). window (at + 5) n half) long }
 
 module _ (from n : ℕ) (half text : List ℕ) (is : half ≡ window from n text) (fits : from + n ≤ length text) where
-  half-length : length half ≡ n
+  pub half-length : length half ≡ n
   half-length = ap length is ∙ window-length from n text fits
 
   byte_moved : (i : ℕ) → i < n → get_or half i 0 ≡ get_or text (from + i) 0
@@ -58,4 +58,35 @@ module _ (from n : ℕ) (half text : List ℕ) (is : half ≡ window from n text
       record {
         row = subst (λ (k : ℕ). Row k es text) start (row_moved es 0 (omega arith) ends.row);
         shut = ap (λ (b : ℕ). b % 2) (sym (byte_moved (taken es) lt)) ∙ subst (λ (k : ℕ). get_or half k 0 % 2 ≡ 0) place ends.shut;
+      }
+
+  entry_back : (at : ℕ) (e : List ℕ) → at + (5 + length e) ≤ n → IsEntryAt (from + at) e text → IsEntryAt at e half
+  entry_back at e le there =
+      let next : from + (at + 1) ≡ (from + at) + 1 = omega arith in
+      let behind : from + (at + 5) ≡ (from + at) + 5 = omega arith in
+      record {
+        gate = ap (λ (b : ℕ). b % 2) (byte_moved at (omega arith)) ∙ there.gate;
+        count =
+            sym (number_in (at + 1) half)
+            ∙ ap (little_number 4) (window_moved (at + 1) 4 (omega arith))
+            ∙ number_in (from + (at + 1)) text
+            ∙ ap (λ (k : ℕ). little_number 4 (drop k text)) next
+            ∙ there.count;
+        bytes = window_moved (at + 5) (length e) (omega arith) ∙ ap (λ (k : ℕ). window k (length e) text) behind ∙ there.bytes;
+      }
+
+  row_back : (es : Entries) (at : ℕ) → at + taken es ≤ n → Row (from + at) es text → Row at es half
+  row_back [] at le row = tt
+  row_back (e ∷ es) at le row =
+      let place : (from + at) + (5 + length e) ≡ from + (at + (5 + length e)) = omega arith in
+      (entry_back at e (omega arith) row.0, row_back es (at + (5 + length e)) (omega arith) (subst (λ (k : ℕ). Row k es text) place row.1))
+
+  -- and what the disk holds there, the half holds
+  pub ends_back : (es : Entries) → taken es < n → EndsAt from es text → EndsAt 0 es half
+  ends_back es lt ends =
+      let start : from ≡ from + 0 = omega arith in
+      let place : taken es ≡ 0 + taken es = omega arith in
+      record {
+        row = row_back es 0 (omega arith) (subst (λ (k : ℕ). Row k es text) start ends.row);
+        shut = subst (λ (k : ℕ). get_or half k 0 % 2 ≡ 0) place (ap (λ (b : ℕ). b % 2) (byte_moved (taken es) lt) ∙ ends.shut);
       }

@@ -11,15 +11,15 @@ use Rattle.rz_export_laws.specs.Whole.{IsWhole}
 use Rattle.rz_journal_text.specs.declared.entry.Entry.{Entry}
 use Rattle.rz_journal_text.specs.Spelling.{entry_bytes}
 use Rattle.rz_journal.specs.Row.{taken}
-use Rattle.rz_journal.specs.Stands.{StandsFor, IsShut, IsOpen, Either, Becomes, with_last, instead}
+use Rattle.rz_journal.specs.Stands.{StandsFor, IsJournal, IsSameHalf, IsShut, IsOpen, Either, Becomes, with_last, instead}
 use Rattle.rz_journal.proofs.FramedRows.{length-row_bytes}
-use Rattle.rz_journal.specs.Said.{entry_of, accepts}
+use Rattle.rz_journal.specs.Said.{entry_of, accepts, used_after}
 use Rattle.rz_journal.specs.JournalText.{IsAccepted, AreAccepted, after_all, Makes, Keeps, IsTextOf}
-use Rattle.rz_journal.specs.Room.{bytes_of, part_entries, needed, FitsNowhere, IsRow}
-use Rattle.rz_journal.specs.Kept.{IsReady, AllKeep, KeepsEither, AllKeepEither, IsAfter, AllStandFor, AllStandForEither}
+use Rattle.rz_journal.specs.Room.{bytes_of, part_entries, row_length, needed, FitsNowhere, IsRow}
+use Rattle.rz_journal.specs.Kept.{IsReady, IsRowOf, AllKeep, KeepsEither, AllKeepEither, IsAfter, AllStandFor, AllStandForEither}
 use Rattle.rz_journal.specs.declared.journal.JournalReply.{JournalReply}
 use Rattle.rz_journal.specs.declared.journal.JournalReply.TheVariants as answer
-use Rattle.rz_journal.specs.Seen.{JournalView, HasRoom, IsOpenAnswer, IfReply, calls_after}
+use Rattle.rz_journal.specs.Seen.{JournalView, HasRoom, IsOpenAnswer, IsInPlace, IfReply, calls_after}
 use Rattle.rz_journal.proofs.Makings.{after_more, accepted_more, makes_more, makes_none, spelled_more}
 use Rattle.rz_journal.proofs.Refused.{unaccepted_same, unkept_same, volume_same}
 
@@ -232,3 +232,44 @@ calls_answer old new c (answer.Reply told) proper is = λ calls after. ⊎_elim
 calls_answer old new c (answer.Full need have) proper is = tt
 calls_answer old new c answer.DiskFault proper is = tt
 calls_answer old new c answer.Closed proper is = tt
+
+-- ---- an entry that fits goes behind the others
+
+-- a row is as long as its entry says
+row_same : (c : Call) (row : List ℕ) → IsRowOf c row → (e : Entry) → entry_of c ≡ Some e → length row ≡ row_length e
+row_same c row (d, at, is) e there =
+    let both : Some d ≡ Some e = sym at ∙ there in
+    let same : d ≡ e = cc in
+    let long = row_long (d ∷ []) row is in
+    subst (λ (x : Entry). length row ≡ row_length x) same (omega (arith, long))
+
+-- where its number is the same, the half that counted still counts
+pub same_half : (tells : Bool) (text : List ℕ) (image : List ℕ → Type 0) (half used : ℕ) (s : Export) → IsReady tells text image half used s
+    → (new : List ℕ) (left : List ℕ → Type 0) (side count : ℕ) (u : Export) → IsReady tells new left side count u → side ≡ half → IsTrue tells → IsSameHalf text new
+same_half tells text image half used s ready new left side count u after same told k is =
+    let held = ready.is_open.holds told in
+    let now = after.is_open.holds told in
+    subst (λ (h : ℕ). IsJournal h new) (same ∙ sym held.1.journal.picked ∙ is.picked) now.1.journal
+
+in_place : {D : Type 0} (tells : Bool) (text : D → List ℕ) (old new : JournalView D) (c : Call) (row : List ℕ) (r : Reply) → IsRowOf c row
+    → (old.used + length row ≤ 8_388_576 → new.used ≡ used_after r (length row) old.used)
+    → (IsTrue tells → old.used + length row ≤ 8_388_576 → IsSameHalf (text old.disk) (text new.disk)) → IsInPlace tells text old c r new
+in_place tells text old new c row r is used half e at fits =
+    let long = row_same c row is e at in
+    let room : old.used + length row ≤ 8_388_576 = subst (λ (n : ℕ). old.used + n ≤ 8_388_576) (sym long) fits in
+    (subst (λ (n : ℕ). new.used ≡ used_after r n old.used) long (used room), λ told. half told room)
+
+pub place_there : {D : Type 0} (tells : Bool) (text : D → List ℕ) (old new : JournalView D) (c : Call) (row : List ℕ) (r : JournalReply) → IsRowOf c row
+    → IfReply r (λ told. old.used + length row ≤ 8_388_576 → new.used ≡ used_after told (length row) old.used)
+    → IfReply r (λ told. IsTrue tells → old.used + length row ≤ 8_388_576 → IsSameHalf (text old.disk) (text new.disk)) → IfReply r (λ told. IsInPlace tells text old c told new)
+place_there tells text old new c row (answer.Reply told) is used half = in_place tells text old new c row told is used half
+place_there tells text old new c row (answer.Full need have) is used half = tt
+place_there tells text old new c row answer.DiskFault is used half = tt
+place_there tells text old new c row answer.Closed is used half = tt
+
+-- a call that has an entry is not one that only looks
+pub kept_looked : {D : Type 0} (old new : D) (c : Call) (row : List ℕ) (r : JournalReply) → IsRowOf c row → IfReply r (λ told. entry_of c ≡ None → new ≡ old)
+kept_looked old new c row (answer.Reply told) is = λ none. (let never : None ≡ Some is.0 = sym none ∙ is.1 in absurd (cc))
+kept_looked old new c row (answer.Full need have) is = tt
+kept_looked old new c row answer.DiskFault is = tt
+kept_looked old new c row answer.Closed is = tt

@@ -10,5 +10,6 @@ pub mod Openings
 pub mod PartRows
 pub mod Refused
 pub mod Reopened
+mod Exact
 mod WholeTexts
 mod Wholes

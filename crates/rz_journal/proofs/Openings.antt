@@ -32,7 +32,7 @@ use Rattle.rz_journal.proofs.Makings.{after_more, accepted_more, said_more}
 -- ---- entries that are parts
 
 -- other entries say other parts
-map_one : (ps qs : List Part) → map entry.Built ps ≡ map entry.Built qs → ps ≡ qs
+pub map_one : (ps qs : List Part) → map entry.Built ps ≡ map entry.Built qs → ps ≡ qs
 map_one [] [] same = refl
 map_one [] (q ∷ qs) same = absurd (cc)
 map_one (p ∷ ps) [] same = absurd (cc)
@@ -257,7 +257,7 @@ part_stops stage s p later u tells volume before so goes = (let wrong : false �
 
 -- ---- a call more
 
-call_goes : (volume : Volume) (before : List Said) (e : Said) (c : Call) → call_said e ≡ Some c → CallGoes volume before (Some c) → Goes volume before e
+pub call_goes : (volume : Volume) (before : List Said) (e : Said) (c : Call) → call_said e ≡ Some c → CallGoes volume before (Some c) → Goes volume before e
 call_goes volume before (entry.Tree t) c said goes = subst (CallGoes volume before) (sym said) goes
 call_goes volume before (entry.Begin key bytes) c said goes = subst (CallGoes volume before) (sym said) goes
 call_goes volume before (entry.Publish key stamp mask bytes) c said goes = subst (CallGoes volume before) (sym said) goes

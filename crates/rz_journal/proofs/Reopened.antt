@@ -154,7 +154,7 @@ first_made volume [] s begins = begins
 first_made volume (p ∷ ps) s begins = begins.1
 
 -- entries make one export
-makes_made : (volume : Volume) (entries : List Said) (s : Export) → Makes volume entries s → s ≡ made_by volume entries
+pub makes_made : (volume : Volume) (entries : List Said) (s : Export) → Makes volume entries s → s ≡ made_by volume entries
 makes_made volume entries s m =
     m.made ∙ sym (calls_said m.first m.later m.calls m.said)
     ∙ ap (λ (x : Export). said_by_all x m.later) (first_made volume m.parts m.first m.begins ∙ sym (said_parts (new_export volume 0) m.parts))

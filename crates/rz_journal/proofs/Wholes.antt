@@ -1,6 +1,5 @@
 -- The parts of a whole export may stand in entries, and make it again.
-use Rattle.std.proofs.Common.{◌≡◌, ℕ, zero, suc, Bool, ◌&&◌, true, false, cond, T, List, [], ◌∷◌, ◌++◌, length, drop, map, Some, Ordering, refl, sym, ap, ◌∙◌, subst, arith, append_assoc}
-use Rattle.std.specs.declared.cmp.Ordering.TheVariants.{Less, Equal, Greater}
+use Rattle.std.proofs.Common.{◌≡◌, ℕ, zero, suc, cond, T, List, [], ◌∷◌, ◌++◌, length, drop, map, Some, Ordering, refl, sym, ap, ◌∙◌, subst, arith, append_assoc}
 use Rattle.std.specs.Ordering.{is_eq, is_lt, ordering_reverse}
 use Rattle.std.specs.Cmp.{IsTotalOrder, nat_cmp_total, tied_itself}
 use Rattle.std.specs.List.{slice_get, AllByRecursion}

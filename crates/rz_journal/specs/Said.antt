@@ -1,5 +1,5 @@
 -- Which calls a journal keeps, and what its entries say of them.
-use Rattle.std.specs.Prelude.{ℕ, ◌<◌, ◌^◌, Bool, true, false, ◌||◌, nat_lt, cond, List, length, replicate, Option, Some, None}
+use Rattle.std.specs.Prelude.{ℕ, ◌+◌, ◌-◌, ◌<◌, ◌^◌, Bool, true, false, ◌||◌, nat_lt, cond, List, length, replicate, Option, Some, None}
 use Rattle.rz_events.specs.declared.tree.TreeCall.{TreeCall}
 use Rattle.rz_events.specs.declared.tree.TreeCall.TheVariants.{Lookup, Getattr, Rmdir, Mkdir, Create, Unlink, Readlink, Readdir, OpenFile, Setattr, Rename, Link, Symlink}
 use Rattle.rz_events.specs.declared.tree.TreeReply.TheVariants as told
@@ -72,6 +72,11 @@ accepts (reply.Denied why) = false
 accepts (reply.Revoked later) = false
 accepts reply.NoMemory = false
 accepts _ = true
+
+-- the bytes that the entries of a half take after a reply, with a row of so many bytes behind them where it accepts; of
+-- the row its shut gate is not counted
+abbrev pub used_after : Reply → ℕ → ℕ → ℕ
+used_after r row used = cond (accepts r) ((used + row) - 1) used
 
 -- the text of a write that begins has fewer than 2^32 bytes
 abbrev pub HasShortText : Call → Type 0

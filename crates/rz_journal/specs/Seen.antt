@@ -1,5 +1,5 @@
 -- What contracts see of a journal, and what it answers.
-use Rattle.std.specs.Prelude.{◌≡◌, ◌⊎◌, ℕ, Bool, true, false, ◌&&◌, cond, List, [], ◌∷◌, ◌++◌, Some, IsSome, is_some, refl}
+use Rattle.std.specs.Prelude.{◌≡◌, ◌⊎◌, ◌+◌, ◌≤◌, ℕ, Bool, IsTrue, true, false, ◌&&◌, cond, List, [], ◌∷◌, ◌++◌, Some, IsSome, is_some, refl}
 use Rattle.std.specs.Coded.{Coded, code_by, coded×, coded_ℕ, coded_bool}
 use Rattle.rz_events.specs.declared.export.Call.{Call}
 use Rattle.rz_events.specs.declared.export.Reply.{Reply}
@@ -10,7 +10,8 @@ use Rattle.rz_export.specs.Calls.{IsAnswered}
 use Rattle.rz_journal_text.specs.declared.entry.Entry.{Entry}
 use Rattle.rz_journal.specs.declared.journal.JournalReply.{JournalReply}
 use Rattle.rz_journal.specs.declared.journal.JournalReply.TheVariants as answer
-use Rattle.rz_journal.specs.Said.{entry_of, accepts}
+use Rattle.rz_journal.specs.Said.{entry_of, accepts, used_after}
+use Rattle.rz_journal.specs.Stands.{IsSameHalf}
 use Rattle.rz_journal.specs.Room.{row_length, needed, FitsNowhere}
 
 -- a journal: its disk, the bytes that the entries of the half in use take, the export, and whether it is closed
@@ -49,6 +50,12 @@ IsOpenAnswer old c answer.Closed new = ⊥
 abbrev pub IsJournalAnswer : {D : Type 0} → JournalView D → Call → JournalReply → JournalView D → Type 0
 IsJournalAnswer old c r new =
     ((old.closed ≡ true) × (r ≡ answer.Closed) × (new ≡ old)) ⊎ ((old.closed ≡ false) × IsOpenAnswer old c r new)
+
+-- where the entry of a call fits behind the others it goes there, in the half that counted before
+abbrev pub IsInPlace : {D : Type 0} → Bool → (D → List ℕ) → JournalView D → Call → Reply → JournalView D → Type 0
+IsInPlace tells text old c r new =
+    (e : Entry) → entry_of c ≡ Some e → old.used + row_length e ≤ 8_388_576
+    → (new.used ≡ used_after r (row_length e) old.used) × (IsTrue tells → IsSameHalf (text old.disk) (text new.disk))
 
 -- these calls, and the present one where it has an entry and was accepted
 abbrev pub calls_after : Reply → Call → List Call → List Call

@@ -32,6 +32,10 @@ pub record Holds (half : ℕ) (entries : Entries) (text : List ℕ) : Type 0 whe
   pub ends : EndsAt (half_at half) entries text
   pub room : taken entries < 8_388_576
 
+-- the half that counts still counts
+abbrev pub IsSameHalf : List ℕ → List ℕ → Type 0
+IsSameHalf old new = (half : ℕ) → IsJournal half old → IsJournal half new
+
 -- The text stands for a list of entries.
 abbrev pub StandsFor : List ℕ → Entries → Type 0
 StandsFor text entries = (half : ℕ) × Holds half entries text

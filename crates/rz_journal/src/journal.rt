@@ -1,15 +1,17 @@
 //! The journal.
 
-ghost use Rattle.std.specs.Prelude.{◌≡◌, ◌⊎◌, ℕ, List, [], false, true, IsTrue, IfOk, IfErr, MatchResult};
+ghost use Rattle.std.specs.Prelude.{◌≡◌, ◌⊎◌, ◌+◌, ◌≤◌, ℕ, List, [], length, None, false, true, IsTrue, IfOk, IfErr, MatchResult};
 ghost use Rattle.rz_disk.specs.Images.{Only};
 ghost use Rattle.rz_disk.specs.Meter.{Lasts, Rises, faults};
 ghost use Rattle.rz_events.specs.Volume.{IsVolume};
+ghost use Rattle.rz_events.specs.Borrowed.{call_of};
 ghost use Rattle.rz_events.specs.declared.export.Call.{Call};
 ghost use Rattle.rz_export_model.specs.Export.{new_export, is_proper};
-ghost use Rattle.rz_journal.specs.Stands.{IsShut};
+ghost use Rattle.rz_journal.specs.Said.{entry_of, used_after};
+ghost use Rattle.rz_journal.specs.Stands.{IsShut, IsSameHalf};
 ghost use Rattle.rz_journal.specs.JournalText.{IsTextOf};
 ghost use Rattle.rz_journal.specs.Kept.{IsRowOf, AllKeep, AllKeepEither, IsAfter, AllStandFor, AllStandForEither};
-ghost use Rattle.rz_journal.specs.Seen.{IsOpenAnswer, IsJournalAnswer, IfReply, calls_after};
+ghost use Rattle.rz_journal.specs.Seen.{IsOpenAnswer, IsJournalAnswer, IsInPlace, IfReply, calls_after};
 
 use crate::keeping::{keep, look};
 use crate::room::Halt;
@@ -18,7 +20,7 @@ use crate::{Entries, HALF_BYTES};
 use rz_cells::FormatFault;
 use rz_config::Volume;
 use rz_disk::{Disk, DiskError};
-use rz_events::{Call, Reply};
+use rz_events::{Call, CallRef, Reply};
 use rz_export::Export;
 use std::alloc::Global;
 use std::marker::Model;
@@ -110,6 +112,41 @@ impl<D: Disk> Journal<D> {
         ensures calls { IfReply result (λ r. (calls : List Call) → IsAfter self.old.export calls → IsAfter self.new.export (calls_after r call.now calls)) }
         ensures replied { IfReply result (λ r. IsTrue D.tells → (calls : List Call) → IsAfter self.new.export calls → AllStandFor (D.image self.new.disk) self.new.export calls) }
 
+        // An entry that fits goes behind the others, where the call is accepted. So the half that counts is another one
+        // only where the entry does not fit.
+        ensures place { IfReply result (λ r. IsInPlace D.tells D.text self.old call.now r self.new) }
+
+        // A call without an entry leaves the disk as it is.
+        ensures looked { IfReply result (λ r. entry_of call.now ≡ None → self.new.disk ≡ self.old.disk) }
+
+        ensures meter { Lasts (D.meter self.old.disk) (D.meter self.new.disk) }
+        ensures risen { result ≡ JournalReply.DiskFault → Rises (faults (D.meter self.old.disk)) (faults (D.meter self.new.disk)) }
+    {
+        self.answer_ref(call.borrowed())
+    }
+
+    /// Answers a borrowed call in the same way. An entry of a begin has the length of the text alone, so
+    /// that the text is copied nowhere.
+    pub fn answer_ref(&mut self, call: CallRef<'_>) -> JournalReply
+        requires { IsTrue (is_proper self.old.export (call_of call)) }
+        ensures answered { IsJournalAnswer self.old (call_of call.entry) result self.new }
+        ensures volume { self.new.export.volume ≡ self.old.export.volume }
+
+        // On every exit of an open journal each image stands for the calls from before, or for these and this one.
+        ensures atomic { IsTrue D.tells → self.old.closed ≡ false → (calls : List Call) → IsAfter self.old.export calls
+            → AllStandForEither (D.image self.new.disk) self.old.export calls (call_of call.entry) }
+
+        // After a reply each stands for all that were accepted, and these give the export.
+        ensures calls { IfReply result (λ r. (calls : List Call) → IsAfter self.old.export calls → IsAfter self.new.export (calls_after r (call_of call.entry) calls)) }
+        ensures replied { IfReply result (λ r. IsTrue D.tells → (calls : List Call) → IsAfter self.new.export calls → AllStandFor (D.image self.new.disk) self.new.export calls) }
+
+        // An entry that fits goes behind the others, where the call is accepted. So the half that counts is another one
+        // only where the entry does not fit.
+        ensures place { IfReply result (λ r. IsInPlace D.tells D.text self.old (call_of call.entry) r self.new) }
+
+        // A call without an entry leaves the disk as it is.
+        ensures looked { IfReply result (λ r. entry_of (call_of call.entry) ≡ None → self.new.disk ≡ self.old.disk) }
+
         ensures meter { Lasts (D.meter self.old.disk) (D.meter self.new.disk) }
         ensures risen { result ≡ JournalReply.DiskFault → Rises (faults (D.meter self.old.disk)) (faults (D.meter self.new.disk)) }
     {
@@ -124,14 +161,16 @@ impl<D: Disk> Journal<D> {
     }
 
     // Answers a call whose entry has this row.
-    fn keep(&mut self, call: &Call, row: &[u8]) -> JournalReply
-        requires proper { IsTrue (is_proper self.old.export call.now) }
-        requires row { IsRowOf call.now row.now }
+    fn keep(&mut self, call: CallRef<'_>, row: &[u8]) -> JournalReply
+        requires proper { IsTrue (is_proper self.old.export (call_of call)) }
+        requires row { IsRowOf (call_of call) row.now }
         requires open { self.old.closed ≡ false }
-        ensures answered { IsOpenAnswer self.old call.now result self.new }
+        ensures answered { IsOpenAnswer self.old (call_of call.entry) result self.new }
         ensures volume { self.new.export.volume ≡ self.old.export.volume }
-        ensures images { IsTrue D.tells → AllKeepEither (D.image self.new.disk) self.old.export call.now }
+        ensures images { IsTrue D.tells → AllKeepEither (D.image self.new.disk) self.old.export (call_of call.entry) }
         ensures replied { IfReply result (λ r. IsTrue D.tells → AllKeep (D.image self.new.disk) self.new.export) }
+        ensures used { IfReply result (λ r. self.old.used + length row.now ≤ 8_388_576 → self.new.used ≡ used_after r (length row.now) self.old.used) }
+        ensures half { IfReply result (λ r. IsTrue D.tells → self.old.used + length row.now ≤ 8_388_576 → IsSameHalf (D.text self.old.disk) (D.text self.new.disk)) }
         ensures meter { Lasts (D.meter self.old.disk) (D.meter self.new.disk) }
         ensures risen { result ≡ JournalReply.DiskFault → Rises (faults (D.meter self.old.disk)) (faults (D.meter self.new.disk)) }
     {

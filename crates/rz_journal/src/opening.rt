@@ -1,6 +1,6 @@
 //! A journal opened again.
 
-ghost use Rattle.std.specs.Prelude.{◌≡◌, false, IsTrue, List, IfOk, IfErr, MatchResult};
+ghost use Rattle.std.specs.Prelude.{◌≡◌, ◌⊎◌, false, IsTrue, List, IfOk, IfErr, MatchResult};
 ghost use Rattle.rz_disk.specs.Images.{Only, Within};
 ghost use Rattle.rz_disk.specs.Meter.{Lasts, Rises, faults};
 ghost use Rattle.rz_journal.specs.Opening.{IsReopened, IsRefused, fault_of};
@@ -32,6 +32,9 @@ impl<D: Disk> Journal<D> {
 
         // Each fault is the first that the text has.
         ensures refused { IfErr result (λ e. IsRefused D.tells volume (D.text disk) e.1) }
+
+        // A text that stands for calls is refused by want of memory or a failed device call alone.
+        ensures exact { IfErr result (λ e. IsTrue D.tells → (calls : List Call) → IsTextOf volume (D.text disk) calls → (e.1 ≡ JournalFault.NoMemory) ⊎ (e.1 ≡ JournalFault.DiskFault)) }
 
         ensures settled { IfOk result (λ j. Only (D.text j.disk) (D.image j.disk)) }
         ensures text { MatchResult result (λ j. D.text j.disk ≡ D.text disk) (λ e. D.text e.0 ≡ D.text disk) }

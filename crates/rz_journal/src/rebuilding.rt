@@ -1,6 +1,7 @@
 //! An export that entries make, one after another.
 
 ghost use Rattle.std.specs.Prelude.{◌≡◌, ◌↔◌, ◌<◌, ◌≤◌, length, replicate, Some, true, IsTrue, IsSome, IfOk, IfErr};
+ghost use Rattle.rz_events.specs.Borrowed.{call_of};
 ghost use Rattle.rz_events.specs.declared.export.Call.{Call};
 ghost use Rattle.rz_export_model.specs.Export.{new_export, is_proper, export_reply, export_after};
 ghost use Rattle.rz_export.specs.Building.{IsCounters};
@@ -11,7 +12,7 @@ ghost use Rattle.rz_journal.specs.Opening.{IsSomeStage, TellsEnd, TellsPart, IsA
 use crate::reading::{EntryFound, next_entry};
 use crate::said::{accepts, is_kept};
 use rz_config::Volume;
-use rz_events::{Call, Key, Reply, Text};
+use rz_events::{Call, CallRef, Key, Reply, Text};
 use rz_export::Export;
 use rz_journal_text::Entry;
 use rz_tree::Part;
@@ -154,14 +155,14 @@ impl Rebuilt {
     fn take_call(&mut self, call: Call) -> Result<bool, AllocError>
         ensures { IfOk result (λ goes. (e : Entry) → call_said e ≡ Some call → IsAdded e self.old.stage self.old.export goes self.new.stage self.new.export) }
     {
-        let goes = self.add_call(&call);
+        let goes = self.add_call(call.borrowed());
         drop(call);
         goes
     }
 
     // Adds a call, and tells whether it may stand behind the entries before it.
-    fn add_call(&mut self, call: &Call) -> Result<bool, AllocError>
-        ensures { IfOk result (λ goes. (e : Entry) → call_said e ≡ Some call.now → IsAdded e self.old.stage self.old.export goes self.new.stage self.new.export) }
+    fn add_call(&mut self, call: CallRef<'_>) -> Result<bool, AllocError>
+        ensures { IfOk result (λ goes. (e : Entry) → call_said e ≡ Some (call_of call.entry) → IsAdded e self.old.stage self.old.export goes self.new.stage self.new.export) }
     {
         if !self.ends_well() {
             return Ok(false);
@@ -202,10 +203,10 @@ impl Rebuilt {
     }
 
     // Whether a call has an entry, and the export may be asked.
-    fn takes(&self, call: &Call) -> bool
-        ensures { IsTrue result ↔ (IsSome (entry_of call.now) × (is_proper self.now.export call.now ≡ true)) }
+    fn takes(&self, call: CallRef<'_>) -> bool
+        ensures { IsTrue result ↔ (IsSome (entry_of (call_of call.entry)) × (is_proper self.now.export (call_of call.entry) ≡ true)) }
     {
-        is_kept(call) && self.export.takes(call)
+        is_kept(call) && self.export.takes_ref(call)
     }
 }
 
@@ -234,12 +235,12 @@ pub fn rebuild(alloc: Global, volume: Volume, half: &[u8]) -> Result<(Export, us
 }
 
 // Asks the export, and tells whether it accepts the call.
-fn ask(export: &mut Export, call: &Call) -> Result<bool, AllocError>
-    requires { IsTrue (is_proper export.old call.now) }
-    ensures accepted { IfOk result (λ yes. yes ≡ accepts (export_reply export.old call.now)) }
-    ensures after { IfOk result (λ yes. export.new ≡ export_after export.old call.now) }
+fn ask(export: &mut Export, call: CallRef<'_>) -> Result<bool, AllocError>
+    requires { IsTrue (is_proper export.old (call_of call)) }
+    ensures accepted { IfOk result (λ yes. yes ≡ accepts (export_reply export.old (call_of call.entry))) }
+    ensures after { IfOk result (λ yes. export.new ≡ export_after export.old (call_of call.entry)) }
 {
-    let reply = export.answer(call);
+    let reply = export.answer_ref(call);
     let is_wanting = is_want(&reply);
     let is_accepted = accepts(&reply);
     drop(reply);

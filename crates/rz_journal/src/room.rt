@@ -1,6 +1,6 @@
 //! Room for one entry more.
 
-ghost use Rattle.std.specs.Prelude.{◌≡◌, ◌⊎◌, ◌+◌, ◌≤◌, length, IsTrue, IsErrOf, IfErr, OnOk};
+ghost use Rattle.std.specs.Prelude.{◌≡◌, ◌⊎◌, ◌+◌, ◌≤◌, length, IsTrue, IsOk, IsErrOf, IfErr, OnOk};
 ghost use Rattle.rz_disk.specs.Meter.{Lasts, Rises, faults};
 ghost use Rattle.rz_journal.specs.Kept.{IsReady, AllKeep};
 ghost use Rattle.rz_journal.specs.Room.{FitsNowhere, IsHalt};
@@ -33,6 +33,10 @@ pub fn make_room<D: Disk>(
     ensures ready { OnOk result (IsReady D.tells (D.text entries.new.disk) (D.image entries.new.disk) entries.new.half entries.new.used export.now) }
     ensures room { OnOk result (entries.new.used + length row.now ≤ 8_388_576) }
     ensures fits { OnOk result (¬ FitsNowhere export.now entries.old.used (length row.now)) }
+
+    // Where it fits behind the entries these stay, and no memory is taken.
+    ensures stays { entries.old.used + length row.now ≤ 8_388_576 → IsOk result × (entries.new ≡ entries.old) }
+
     ensures halted { IfErr result (IsHalt export.now entries.old.used (length row.now)) }
     ensures untouched { IfErr result (λ h. (h ≡ Halt.Failed) ⊎ (entries.new ≡ entries.old)) }
 

@@ -1,6 +1,7 @@
 //! Entries as the rows that stand in a half.
 
 ghost use Rattle.std.specs.Prelude.{◌≡◌, ◌++◌, [], ◌∷◌, None, IsSome, IfOk, OnOk, OnErr, MatchOption};
+ghost use Rattle.rz_events.specs.Borrowed.{call_of};
 ghost use Rattle.rz_journal_text.specs.Spelling.{entry_bytes, MayStand, Spells};
 ghost use Rattle.rz_journal.specs.Row.{framed};
 ghost use Rattle.rz_export_laws.specs.Whole.{IsWhole};
@@ -10,17 +11,17 @@ ghost use Rattle.rz_journal.specs.Said.{entry_of, HasShortText};
 
 use crate::said::entry_of;
 use crate::{close_row, push_entry};
-use rz_events::Call;
+use rz_events::CallRef;
 use rz_export::Export;
 use rz_journal_text::{Entry, write};
 use rz_tree::Part;
 use std::alloc::{AllocError, Global};
 
 /// The row of the entry of a call, if it has one, with the shut gate behind it.
-pub fn call_row(alloc: Global, call: &Call) -> Result<Option<Vec<u8>>, AllocError>
-    requires { HasShortText call.now }
-    ensures row { IfOk result (λ row. MatchOption row (entry_of call.now ≡ None) (λ row. IsRowOf call.now row.items)) }
-    ensures wanted { OnErr result (IsSome (entry_of call.now)) }
+pub fn call_row(alloc: Global, call: CallRef<'_>) -> Result<Option<Vec<u8>>, AllocError>
+    requires { HasShortText (call_of call) }
+    ensures row { IfOk result (λ row. MatchOption row (entry_of (call_of call.entry) ≡ None) (λ row. IsRowOf (call_of call.entry) row.items)) }
+    ensures wanted { OnErr result (IsSome (entry_of (call_of call.entry))) }
 {
     let Some(entry) = entry_of(alloc, call)? else {
         return Ok(None);

@@ -1,53 +1,47 @@
 //! What a journal keeps of a call.
 
 ghost use Rattle.std.specs.Prelude.{◌≡◌, IfOk, IfSome, IsSome, OnErr, is_some};
+ghost use Rattle.rz_events.specs.Borrowed.{call_of};
+ghost use Rattle.rz_events.specs.declared.export.Call.{Call};
 ghost use Rattle.rz_journal_text.specs.Spelling.{MayStand};
 ghost use Rattle.rz_journal.specs.Said.{only_looks, is_long, has_long_text, entry_of, accepts, HasShortText};
 
-use rz_events::{Call, Reply, Text, TreeCall, TreeReply};
+use rz_events::{CallRef, Reply, Text, TreeCall, TreeReply};
 use rz_journal_text::Entry;
 use std::alloc::{AllocError, Global};
 
-/// The entry of a call that may change the export.
-pub fn entry_of(alloc: Global, call: &Call) -> Result<Option<Entry>, AllocError>
-    requires { HasShortText call.now }
-    ensures entry { IfOk result (λ entry. entry ≡ entry_of call.now) }
+/// The entry of a call that may change the export. Of the text of a begin it has the length alone.
+pub fn entry_of(alloc: Global, call: CallRef<'_>) -> Result<Option<Entry>, AllocError>
+    requires { HasShortText (call_of call) }
+    ensures entry { IfOk result (λ entry. entry ≡ entry_of (call_of call.entry)) }
     ensures stands { IfOk result (λ entry. IfSome entry MayStand) }
-    ensures wanted { OnErr result (IsSome (entry_of call.now)) }
+    ensures wanted { OnErr result (IsSome (entry_of (call_of call.entry))) }
 {
     Ok(match call {
-        Call::Tree(names) => return tree_entry(alloc, names),
-        Call::Begin { key, text } => Some(Entry::Begin {
-            key: *key,
-            bytes: text.bytes().len() as u32,
-        }),
-        Call::Publish {
+        CallRef::Tree(names) => return tree_entry(alloc, names),
+        CallRef::Begin { key, text } => Some(Entry::Begin {
             key,
-            stamp,
-            mask,
-            length,
-        } => Some(Entry::Publish {
-            key: *key,
-            stamp: *stamp,
-            mask: *mask,
-            bytes: *length,
+            bytes: text.len() as u32,
         }),
-        Call::Enroll { node, loss } => Some(Entry::Enroll {
-            node: *node,
-            loss: *loss,
+        CallRef::Publish { key, published } => Some(Entry::Publish {
+            key,
+            stamp: published.stamp,
+            mask: published.mask,
+            bytes: published.length,
         }),
-        Call::Look { .. } | Call::Next { .. } | Call::Recheck { .. } => None,
+        CallRef::Enroll { node, loss } => Some(Entry::Enroll { node, loss }),
+        CallRef::Look { .. } | CallRef::Next { .. } | CallRef::Recheck { .. } => None,
     })
 }
 
 /// Whether a call has an entry.
-pub fn is_kept(call: &Call) -> bool
-    ensures { result ≡ is_some (entry_of call.now) }
+pub fn is_kept(call: CallRef<'_>) -> bool
+    ensures { result ≡ is_some (entry_of (call_of call.entry)) }
 {
     match call {
-        Call::Tree(names) => !only_looks(names) && !has_long_text(names),
-        Call::Begin { .. } | Call::Publish { .. } | Call::Enroll { .. } => true,
-        Call::Look { .. } | Call::Next { .. } | Call::Recheck { .. } => false,
+        CallRef::Tree(names) => !only_looks(names) && !has_long_text(names),
+        CallRef::Begin { .. } | CallRef::Publish { .. } | CallRef::Enroll { .. } => true,
+        CallRef::Look { .. } | CallRef::Next { .. } | CallRef::Recheck { .. } => false,
     }
 }
 

@@ -1,5 +1,5 @@
 -- A journal that was formatted, one for whose call memory was wanting, and what no call changes.
-use Rattle.std.proofs.Common.{◌≡◌, ℕ, ◌≤◌, Bool, true, false, cond, IsTrue, List, [], ◌∷◌, ◌++◌, Option, None, Result, Ok, Err, OnOk, OnErr, refl, sym, ◌∙◌, ap, subst}
+use Rattle.std.proofs.Common.{◌≡◌, ◌⊎◌, ⊎_elim, ℕ, ◌≤◌, Bool, true, false, cond, IsTrue, List, [], ◌∷◌, ◌++◌, Option, None, Result, Ok, Err, OnOk, OnErr, refl, sym, ◌∙◌, ap, subst}
 use Rattle.std.specs.Prelude.{◌&&◌, is_some}
 use Rattle.rz_disk.specs.Images.{Only}
 use Rattle.rz_disk.specs.Meter.{Meter, faults}
@@ -7,7 +7,8 @@ use Rattle.rz_events.specs.Volume.{Volume}
 use Rattle.rz_events.specs.declared.export.Call.{Call}
 use Rattle.rz_events.specs.declared.export.Reply.{Reply}
 use Rattle.rz_events.specs.declared.export.Reply.TheVariants.{Tree, Begun, Accepted, Enrolled, Looked, Fence, Listed, Denied, NoMemory, Revoked}
-use Rattle.rz_export_model.specs.Export.{Export, new_export, export_after}
+use Rattle.rz_export_model.specs.Export.{Export, new_export, export_reply, export_after}
+use Rattle.rz_export.specs.Calls.{IsAnswered, MayWant}
 use Rattle.rz_journal.specs.JournalText.{IsTextOf}
 use Rattle.rz_journal.specs.Kept.{IsAfter, AllStandFor}
 use Rattle.rz_journal.specs.Said.{entry_of}
@@ -40,6 +41,13 @@ is-wanting (Fence fence) is = absurd (cc)
 is-wanting (Listed l) is = absurd (cc)
 is-wanting (Denied why) is = absurd (cc)
 is-wanting (Revoked later) is = absurd (cc)
+
+-- any other reply is that of the model
+pub told-so : (s u : Export) (c : Call) (r : Reply) → IsAnswered s c r u → wants_memory r ≡ false → (r ≡ export_reply s c) × (u ≡ export_after s c)
+told-so s u c r answered other = ⊎_elim
+    (λ (model : (r ≡ export_reply s c) × (u ≡ export_after s c)). model)
+    (λ (want : MayWant s c × (r ≡ NoMemory) × (u ≡ s)). (let wrong : false ≡ true = sym other ∙ ap wants_memory want.1 in absurd (cc)))
+    answered
 
 -- where memory is wanting no call is added
 none-added : (c : Call) (calls : List Call) → calls_after NoMemory c calls ≡ calls

@@ -4,13 +4,12 @@ ghost use Rattle.rz_events.specs.declared.export.Call.{Call as ACall};
 ghost use Rattle.rz_export_model.specs.Export.{export_reply, export_after, is_proper};
 ghost use Rattle.rz_journal.specs.Seen.{calls_after};
 ghost use Rattle.rz_events.specs.Borrowed.{call_of};
-ghost use Rattle.rz_metadata.specs.Stands.{IsKept, IsLeft, wants_memory};
+ghost use Rattle.rz_metadata.specs.Stands.{IsKept, IsLeft};
 
-use crate::memory::NoReply;
+use crate::memory::{NoReply, wants_memory};
 use rz_disk::Disk;
-use rz_events::{Call, CallRef, Reply, Text};
+use rz_events::{CallRef, Reply};
 use rz_journal::{Journal, JournalReply};
-use std::alloc::{AllocError, Global};
 
 /// Why a journal did not keep a call.
 #[derive(Clone, Copy, Debug, PartialEq, Eq, Drop)]
@@ -30,33 +29,29 @@ pub struct Journaled<D: Disk> {
 
 impl<D: Disk> Journaled<D> {
     /// The reply of the export, whose call then stands on the disk where it was accepted.
-    pub(crate) fn reply(&mut self, alloc: Global, ask: CallRef<'_>) -> Result<Reply, NoReply>
+    pub(crate) fn reply(&mut self, ask: CallRef<'_>) -> Result<Reply, NoReply>
         ensures reply { IfOk result (λ r. r ≡ export_reply self.old.journal.export (call_of ask.entry)) }
         ensures after { OnOk result (self.new.journal.export ≡ export_after self.old.journal.export (call_of ask.entry)) }
         ensures kept { IfOk result (λ r. (first : ℕ) (calls : List ACall) → IsKept D.tells D.meter D.image first self.old calls → IsKept D.tells D.meter D.image first self.new (calls_after r (call_of ask.entry) calls)) }
         ensures left { OnErr result ((first : ℕ) (calls : List ACall) → IsKept D.tells D.meter D.image first self.old calls → IsLeft D.tells D.meter D.image first self.new calls (call_of ask.entry)) }
         ensures volume { self.new.journal.export.volume ≡ self.old.journal.export.volume }
     {
-        let call = call_asked(alloc, ask)?;
-        if self.refusal.is_some() || !self.journal.export().takes(&call) {
-            drop(call);
+        if self.refusal.is_some() || !self.journal.export().takes_ref(ask) {
             return Err(NoReply);
         }
-        let reply = self.answer(&call);
-        drop(call);
-        reply
+        self.answer(ask)
     }
 
     // The reply to a call that the export takes.
-    fn answer(&mut self, call: &Call) -> Result<Reply, NoReply>
-        requires { IsTrue (is_proper self.old.journal.export call.now) }
-        ensures reply { IfOk result (λ r. r ≡ export_reply self.old.journal.export call.now) }
-        ensures after { OnOk result (self.new.journal.export ≡ export_after self.old.journal.export call.now) }
-        ensures kept { IfOk result (λ r. (first : ℕ) (calls : List ACall) → IsKept D.tells D.meter D.image first self.old calls → IsKept D.tells D.meter D.image first self.new (calls_after r call.now calls)) }
-        ensures left { OnErr result ((first : ℕ) (calls : List ACall) → IsKept D.tells D.meter D.image first self.old calls → IsLeft D.tells D.meter D.image first self.new calls call.now) }
+    fn answer(&mut self, ask: CallRef<'_>) -> Result<Reply, NoReply>
+        requires { IsTrue (is_proper self.old.journal.export (call_of ask)) }
+        ensures reply { IfOk result (λ r. r ≡ export_reply self.old.journal.export (call_of ask.entry)) }
+        ensures after { OnOk result (self.new.journal.export ≡ export_after self.old.journal.export (call_of ask.entry)) }
+        ensures kept { IfOk result (λ r. (first : ℕ) (calls : List ACall) → IsKept D.tells D.meter D.image first self.old calls → IsKept D.tells D.meter D.image first self.new (calls_after r (call_of ask.entry) calls)) }
+        ensures left { OnErr result ((first : ℕ) (calls : List ACall) → IsKept D.tells D.meter D.image first self.old calls → IsLeft D.tells D.meter D.image first self.new calls (call_of ask.entry)) }
         ensures volume { self.new.journal.export.volume ≡ self.old.journal.export.volume }
     {
-        match self.journal.answer(call) {
+        match self.journal.answer_ref(ask) {
             JournalReply::Reply(reply) => {
                 if wants_memory(&reply) {
                     drop(reply);
@@ -74,34 +69,4 @@ impl<D: Disk> Journaled<D> {
             }
         }
     }
-}
-
-/// Whether a reply says that memory is wanting.
-fn wants_memory(reply: &Reply) -> bool
-    ensures { result ≡ wants_memory reply.now }
-{
-    matches!(reply, Reply::NoMemory)
-}
-
-/// What is asked as a call of its own, in new memory.
-fn call_asked(alloc: Global, ask: CallRef<'_>) -> Result<Call, AllocError>
-    ensures { IfOk result (λ c. c ≡ call_of ask.entry) }
-{
-    Ok(match ask {
-        CallRef::Tree(call) => Call::Tree(call.copy(alloc)?),
-        CallRef::Begin { key, text } => Call::Begin {
-            key,
-            text: Text::from_bytes(alloc, text)?,
-        },
-        CallRef::Publish { key, published } => Call::Publish {
-            key,
-            stamp: published.stamp,
-            mask: published.mask,
-            length: published.length,
-        },
-        CallRef::Look { key } => Call::Look { key },
-        CallRef::Recheck { key } => Call::Recheck { key },
-        CallRef::Enroll { node, loss } => Call::Enroll { node, loss },
-        CallRef::Next { node, after } => Call::Next { node, after },
-    })
 }

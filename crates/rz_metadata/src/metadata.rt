@@ -78,6 +78,9 @@ impl<D: Disk> Metadata<D> {
         ensures refused { IfErr result (λ e. IsRefused D.tells volume (D.text disk) e.1) }
         ensures risen { IfErr result (λ e. e.1 ≡ JournalFault.DiskFault → Rises (faults (D.meter disk)) (faults (D.meter e.0))) }
 
+        // A text that stands for calls is refused by want of memory or a failed device call alone.
+        ensures exact { IfErr result (λ e. IsTrue D.tells → (calls : List ACall) → IsTextOf volume (D.text disk) calls → (e.1 ≡ JournalFault.NoMemory) ⊎ (e.1 ≡ JournalFault.DiskFault)) }
+
         ensures came { IfOk result (λ m. IfSome (disk_of m) (IsAsItCame D.meter D.text D.image disk)) }
         ensures back { IfErr result (λ e. IsAsItCame D.meter D.text D.image disk e.0) }
     {
@@ -92,7 +95,7 @@ impl<D: Disk> Metadata<D> {
 
     /// The reply to what an operation asks. Behind a journal a call that is accepted stands on the disk
     /// then.
-    pub fn reply(&mut self, alloc: Global, ask: CallRef<'_>) -> Result<Reply, NoReply>
+    pub fn reply(&mut self, ask: CallRef<'_>) -> Result<Reply, NoReply>
         ensures reply { IfOk result (λ r. r ≡ export_reply (export_in self.old) (call_of ask.entry)) }
         ensures after { OnOk result (export_in self.new ≡ export_after (export_in self.old) (call_of ask.entry)) }
         ensures kept { IfOk result (λ r. (first : ℕ) (calls : List ACall) → Stands D.tells D.meter D.image first self.old calls → Stands D.tells D.meter D.image first self.new (calls_after r (call_of ask.entry) calls)) }
@@ -104,7 +107,7 @@ impl<D: Disk> Metadata<D> {
     {
         match self {
             Metadata::InMemory(export) => reply_to(export, ask),
-            Metadata::Journaled(journaled) => journaled.reply(alloc, ask),
+            Metadata::Journaled(journaled) => journaled.reply(ask),
         }
     }
 

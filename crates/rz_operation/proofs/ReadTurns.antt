@@ -4,9 +4,10 @@ use Rattle.rz_events.specs.declared.nodes.FetchAnswer.{FetchAnswer}
 use Rattle.rz_events.specs.declared.nodes.NodeAnswer.TheVariants as node
 use Rattle.rz_client_model.specs.declared.reading.ReaderState.{ReaderState}
 use Rattle.rz_reader.specs.Machine.{Machine as Reader}
+use Rattle.rz_reader.specs.Told.{IsFetchedInto}
 use Rattle.rz_operation_model.specs.Work.{Reading, Alone}
 use Rattle.rz_operation_states.specs.declared.stage.OperationState.TheVariants as stage
-use Rattle.rz_operation_states.specs.Answers.{IsFetchedInto, IsAnswered}
+use Rattle.rz_operation_states.specs.Answers.{IsAnswered}
 use Rattle.rz_operation_states.specs.Inside.{machine_of}
 
 pub fetched : (r new : Reader) (a : FetchAnswer) (bins : List ℕ) → IsFetchedInto r a bins new →

@@ -17,18 +17,16 @@ use Rattle.rz_events.specs.declared.nodes.NodeAnswer.{NodeAnswer}
 use Rattle.rz_events.specs.declared.nodes.NodeAnswer.TheVariants as answer
 use Rattle.rz_events.specs.declared.nodes.FetchAnswer.{FetchAnswer}
 use Rattle.rz_events.specs.declared.machines.ReaderAnswer.TheVariants as reads
-use Rattle.rz_events.specs.declared.machines.ReaderAsk.{ReaderAsk}
-use Rattle.rz_events.specs.declared.machines.ReaderAsk.TheVariants as fetches
 use Rattle.rz_events.specs.declared.machines.WriterAsk.{WriterAsk}
 use Rattle.rz_events.specs.declared.machines.WriterAsk.TheVariants as keeps
 use Rattle.rz_client_model.specs.Read.{IsTold, IsFetched}
 use Rattle.rz_reader.specs.Fetched.{record_in}
-use Rattle.rz_reader.specs.Machine.{pairs_at, pairs_if, AreFitting, IsBlockOf, Machine as ReaderMachine}
+use Rattle.rz_reader.specs.Machine.{pairs_at, pairs_if, AreFitting, IsBlockOf}
 use Rattle.rz_events.specs.declared.operations.Operation.{Operation}
 use Rattle.rz_events.specs.declared.operations.Operation.TheVariants as operation
 use Rattle.rz_operation_model.specs.Ranges.{bytes_of}
 use Rattle.rz_operation_model.specs.Ask.{Ask, AskExport, AskNode, AskLock, Say, Saying, SayDone}
-use Rattle.rz_operation_model.specs.Steps.{Told, Answered, told, reader_after}
+use Rattle.rz_operation_model.specs.Steps.{Told, Answered, told}
 use Rattle.rz_operation_model.specs.Turns.{goes_by_link}
 use Rattle.rz_operation_model.specs.Rebuild.{IsNextAnswer}
 use Rattle.rz_rebuild.specs.Machine.{HasBinsAt, pairs_at_state, pairs_fetched_at, IsBlockAt}
@@ -223,17 +221,3 @@ IsAnswered m a bins new = Goes m m.pairs (Answered true a) new
 abbrev pub IsKeepAsk : WriterAsk → Type 0
 IsKeepAsk (keeps.Keep position n stamp base) = Unit {0}
 IsKeepAsk a = ⊥
-
-abbrev pub IsFetchAsk : Layout → FetchAnswer → List ℕ → ReaderAsk → Type 0
-IsFetchAsk layout a bins (fetches.Fetch position n stamp) = IsFetched layout a × HasFetched layout position (answer.Fetch a) bins
-IsFetchAsk layout a bins question = ⊥
-
--- the pairs of a read after an answer
-abbrev pub pairs_told : ReaderMachine → FetchAnswer → List ℕ → List Pair
-pairs_told r a bins = pairs_if r.state.layout r.pairs (record_in r.state.stage (reads.Fetched a)) bins
-
-abbrev pub IsFetchedInto : ReaderMachine → FetchAnswer → List ℕ → ReaderMachine → Type 0
-IsFetchedInto r a bins new = (fits : Bool) × AreFitting r.state.layout (pairs_told r a bins) fits
-    × (new.state ≡ reader_after r.state (Answered fits (answer.Fetch a)))
-    × (new.pairs ≡ pairs_at new.state.stage (pairs_told r a bins))
-    × IsBlockOf r.state.layout (pairs_told r a bins) new.state.stage new.block

@@ -4,11 +4,13 @@ ghost use Rattle.std.specs.Prelude.{◌≡◌, Bool, false, length, Some, IsSome
 ghost use Rattle.rz_client_model.specs.Write.{writer_ask, writer_end, writer_told, IsWriterAnswer};
 ghost use Rattle.rz_client_model.specs.Read.{reader_ask, reader_end, IsReaderAnswer};
 ghost use Rattle.rz_events.specs.declared.machines.WriterAnswer.TheVariants as writes;
+ghost use Rattle.rz_rebuild.specs.Copies.{IsFetchAsk};
 ghost use Rattle.rz_reader.specs.Machine.{IsStateAfter, IsBlockOf, pairs_at, pairs_after, HasBins};
+ghost use Rattle.rz_reader.specs.Told.{IsFetchedInto};
 ghost use Rattle.rz_operation_model.specs.Ask.{write_asks, read_asks};
 ghost use Rattle.rz_operation_model.specs.Steps.{Replied, Answered, writer_after, reader_after};
 ghost use Rattle.rz_operation_states.specs.Meaning.{meaning_of};
-ghost use Rattle.rz_operation_states.specs.Answers.{IsFetchGiven, IsKeepAsk, IsFetchAsk, IsFetchedInto};
+ghost use Rattle.rz_operation_states.specs.Answers.{IsFetchGiven, IsKeepAsk};
 ghost use Rattle.rz_operation_states.specs.Told.{write_answer, read_answer};
 ghost use Rattle.rz_operation_states.specs.Records.{HasHead};
 

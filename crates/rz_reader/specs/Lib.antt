@@ -1,3 +1,4 @@
 pub mod Fetched
 pub mod Machine
 pub mod Inside
+pub mod Told

@@ -1,15 +1,12 @@
 -- What the read of a block that is rebuilt is told.
-use Rattle.std.specs.Prelude.{ℕ, Bool, true, ◌≡◌, List}
+use Rattle.std.specs.Prelude.{ℕ, true, List}
 use Rattle.mj_angles.specs.declared.layout.Layout.{Layout}
-use Rattle.mj_inverse.specs.Fits.{Pair}
 use Rattle.rz_events.specs.declared.nodes.FetchAnswer.{FetchAnswer}
 use Rattle.rz_events.specs.declared.machines.ReaderAsk.{ReaderAsk}
 use Rattle.rz_events.specs.declared.machines.ReaderAsk.TheVariants as ask
 use Rattle.rz_events.specs.declared.machines.ReaderAnswer.{ReaderAnswer}
-use Rattle.rz_events.specs.declared.machines.ReaderAnswer.TheVariants as told
-use Rattle.rz_client_model.specs.Read.{IsFetched, IsReaderAnswer, reader_told}
-use Rattle.rz_reader.specs.Fetched.{record_in}
-use Rattle.rz_reader.specs.Machine.{pairs_at, pairs_if, AreFitting, IsBlockOf, Machine as ReaderMachine}
+use Rattle.rz_client_model.specs.Read.{IsFetched}
+use Rattle.rz_reader.specs.Machine.{Machine as ReaderMachine}
 use Rattle.rz_operation_model.specs.Rebuild.{after_copy}
 use Rattle.rz_rebuild.specs.declared.step.Copied.{Copied}
 use Rattle.rz_rebuild.specs.Machine.{Machine, HasBinsAt, Goes}
@@ -19,24 +16,6 @@ use Rattle.rz_rebuild.specs.Inside.{tally_of}
 abbrev pub IsFetchAsk : Layout → FetchAnswer → List ℕ → ReaderAsk → Type 0
 IsFetchAsk layout a bins (ask.Fetch position n stamp) = IsFetched layout a × HasBinsAt layout position a bins
 IsFetchAsk layout a bins question = ⊥
-
--- no record came
-abbrev pub IsOther : ReaderAnswer → Type 0
-IsOther (told.Fetched a) = ⊥
-IsOther a = Unit {0}
-
-abbrev pub IsOtherTold : Layout → ReaderAsk → ReaderAnswer → Type 0
-IsOtherTold layout question a = IsReaderAnswer layout question a × IsOther a
-
--- the pairs of a read after an answer
-abbrev pub pairs_told : ReaderMachine → FetchAnswer → List ℕ → List Pair
-pairs_told r a bins = pairs_if r.state.layout r.pairs (record_in r.state.stage (told.Fetched a)) bins
-
-abbrev pub IsFetchedInto : ReaderMachine → FetchAnswer → List ℕ → ReaderMachine → Type 0
-IsFetchedInto r a bins new = (fits : Bool) × AreFitting r.state.layout (pairs_told r a bins) fits
-    × (new.state ≡ reader_told fits r.state (told.Fetched a))
-    × (new.pairs ≡ pairs_at new.state.stage (pairs_told r a bins))
-    × IsBlockOf r.state.layout (pairs_told r a bins) new.state.stage new.block
 
 -- the rebuild goes on as its read stands after an answer
 abbrev pub IsCopyTold : ReaderMachine → Machine → Copied → ReaderAnswer → Machine → Type 0

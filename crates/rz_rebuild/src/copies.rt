@@ -4,10 +4,11 @@ ghost use Rattle.std.specs.Prelude.{◌≡◌, ◌<◌, ℕ, List, [], None, tru
 ghost use Rattle.mj_inverse.specs.Fits.{Pair};
 ghost use Rattle.rz_client_model.specs.Read.{IsFetched, reader_ask, reader_end, reader_told};
 ghost use Rattle.rz_reader.specs.Machine.{IsBlockOf, pairs_at};
+ghost use Rattle.rz_reader.specs.Told.{IsOtherTold, IsFetchedInto};
 ghost use Rattle.rz_operation_model.specs.Rebuild.{Going, IsNextAnswer, IsListed, IsRebuildAnswer, IsFetchingStamp, after_next, after_read, reader_of, base_after, ask_to_copy};
 ghost use Rattle.rz_rebuild.specs.Machine.{IsAnswered, IsBlockIn, ComeWith, pairs_in};
 ghost use Rattle.rz_rebuild.specs.Inside.{IsStep, IsRead, IsCopied, machine_of, state_of, tally_of, pairs_of, block_of, step_after};
-ghost use Rattle.rz_rebuild.specs.Copies.{IsFetchAsk, IsOtherTold, IsFetchedInto, IsCopyTold};
+ghost use Rattle.rz_rebuild.specs.Copies.{IsFetchAsk, IsCopyTold};
 
 use crate::answers::{end_of, leaving};
 use crate::step::{Copied, RebuildProgress, RebuildStep};

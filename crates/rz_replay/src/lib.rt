@@ -18,6 +18,6 @@ mod laws;
 mod migrating;
 mod replaying;
 
-pub use disks::{FilesFault, files, memory};
+pub use disks::{FilesFault, Kept, files, memory};
 pub use laws::{completes_again, untouched};
 pub use replaying::{Played, replay};

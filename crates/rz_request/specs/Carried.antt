@@ -1,5 +1,5 @@
 -- What a migration comes to.
-use Rattle.std.specs.Prelude.{ℕ, ◌≡◌, ◌≢◌, ◌⊎◌, ◌++◌, Bool, IsTrue, List, [], ◌∷◌, Option, Result, Ok, Err, codes, count_by, is_some, length}
+use Rattle.std.specs.Prelude.{ℕ, ◌≡◌, ◌≢◌, ◌⊎◌, ◌++◌, Bool, IsTrue, List, [], ◌∷◌, Option, Result, Ok, Err, codes, length}
 use Rattle.std.specs.Fmt.{decimal}
 use Rattle.mj_angles.specs.Layout.{bsize_of}
 use Rattle.rz_disk.specs.Images.{Within}
@@ -11,7 +11,7 @@ use Rattle.rz_events.specs.Nodes.{number_of}
 use Rattle.rz_cells_slots.specs.declared.geometry.Geometry.{Geometry}
 use Rattle.rz_cells_slots.specs.declared.migrating.MigrateFault.{MigrateFault}
 use Rattle.rz_cells_slots.specs.declared.migrating.MigrateFault.TheVariants as carrying
-use Rattle.rz_cells_slots.specs.Held.{Records}
+use Rattle.rz_cells_slots.specs.Held.{Records, count_held}
 use Rattle.rz_cells_slots.specs.Stands.{IsShut, StandsFor}
 use Rattle.rz_cells_slots.specs.Open.{HoldsHeads}
 use Rattle.rz_cells_slots.specs.Opening.{NotSize}
@@ -31,10 +31,6 @@ migrated_line m = codes "migrated " ++ (decimal m.fence ++ (codes " " ++ (decima
 -- how the disk of a node is laid out
 abbrev pub geometry_of : OldNode → Geometry
 geometry_of o = record { layout = o.layout; bsize = bsize_of o.layout; node = o.node.sid; cells = o.node.cells }
-
--- the number of the records that cells with these heads hold
-abbrev pub records_in : List (Option Head) → ℕ
-records_in heads = count_by is_some heads
 
 -- why there is nothing to tell: a failed call of the old disk, 0, or of the new one, 1; or another fault of the old disk
 abbrev pub Stopped : MigrateFault → Stop → Type 0
@@ -67,7 +63,7 @@ IsRefused tells text g old new new' cause =
 -- the old disk. Want of memory says nothing.
 abbrev pub ComesTo : {D : Type 0} → Bool → (D → List ℕ) → (D → List ℕ → Type 0) → (D → Meter) → Geometry → D → D → D → D → Result Migrated Stop → Type 0
 ComesTo tells text image meter g old old' new new' (Ok m) =
-    (heads : List (Option Head)) × (m.records ≡ records_in heads)
+    (heads : List (Option Head)) × (m.records ≡ count_held heads)
     × (IsTrue tells → IsCarried g m.fence (text old) (text new') heads × ((t : List ℕ) → image new' t → CarriesOver g (text old) t))
 ComesTo tells text image meter g old old' new new' (Err stops.NoMemory) = Unit {0}
 ComesTo tells text image meter g old old' new new' (Err (stops.Refused (refusals.Disk index))) =

@@ -1,8 +1,9 @@
 //! One disk carried over onto another.
 ghost use Rattle.std.specs.Prelude.{◌≡◌};
 ghost use Rattle.mj_angles.specs.Layout.{bsize_of};
+ghost use Rattle.rz_cells_slots.specs.Held.{count_held};
 ghost use Rattle.rz_cells_slots.specs.Shape.{IsGeometry};
-ghost use Rattle.rz_request.specs.Carried.{Carries, records_in};
+ghost use Rattle.rz_request.specs.Carried.{Carries};
 
 use crate::outcome::stopped;
 use crate::{Migrated, Stop};
@@ -12,7 +13,7 @@ use std::alloc::Global;
 
 /// How many records these cells hold.
 fn count<D: Disk>(cells: &Cells<D>) -> u64
-    ensures { result ≡ records_in cells.now.heads }
+    ensures { result ≡ count_held cells.now.heads }
 {
     let geometry = cells.geometry();
     let mut records = 0;

@@ -5,6 +5,7 @@ ghost use Rattle.rz_events.specs.declared.files.NodeSpec.{NodeSpec as ANodeSpec}
 ghost use Rattle.rz_events.specs.declared.events.Word.TheVariants as w;
 ghost use Rattle.rz_events.specs.declared.events.Event.TheVariants as e;
 ghost use Rattle.rz_events.specs.Events.{word_of, by_of};
+ghost use Rattle.rz_events.specs.Borrowed.{call_of};
 ghost use Rattle.rz_export_model.specs.ExportEvents.{export_event};
 ghost use Rattle.rz_node_model.specs.NodeEvents.{node_event};
 ghost use Rattle.rz_node_model.specs.Versions.{Stands};
@@ -22,7 +23,7 @@ use crate::room::ClosingRoom;
 use crate::{Counting, LockedExport, LockedNode};
 use rz_chronicle::{Book, Pass};
 use rz_disk::{Disk, Fused};
-use rz_events::{Actor, Call, Event, NodeAnswer, NodeAsk, NodeSpec, Reply};
+use rz_events::{Actor, Call, CallRef, Event, NodeAnswer, NodeAsk, NodeSpec, Reply};
 use std::marker::Model;
 use std::sync::{Mutex, Wait};
 
@@ -117,6 +118,24 @@ impl<D: Disk, J: Counting> Cluster<D, J> {
         requires may { IsTrue (is_honest J.kind) → IsProperCall (volume_in J.kind) (facts pass.old.log) (of_actor pass.old.actor pass.old.log) pass.old.actor call.now }
         ensures same { (pass.new.actor ≡ pass.old.actor) × (pass.new.keys ≡ pass.old.keys) }
         ensures replied { Replied J.kind call.now result (export_event pass.old.actor call.now result) pass.old.keys pass.old.log pass.new.log }
+        ensures bytes { AreBytes pass.new.log }
+        ensures fit { IsFit J.kind pass.new.log }
+    {
+        self.export_call_ref(rt, book, pass, call.borrowed())
+    }
+
+    /// Calls the export in the same way by a borrowed call, so that none of its texts is copied.
+    pub fn export_call_ref<R: Wait>(
+        &self,
+        rt: &R,
+        book: &Book<J>,
+        pass: &mut Pass<J>,
+        call: CallRef<'_>,
+    ) -> Reply
+        requires actor { ¬ (pass.old.actor ≡ Actor.Admin) }
+        requires may { IsTrue (is_honest J.kind) → IsProperCall (volume_in J.kind) (facts pass.old.log) (of_actor pass.old.actor pass.old.log) pass.old.actor (call_of call) }
+        ensures same { (pass.new.actor ≡ pass.old.actor) × (pass.new.keys ≡ pass.old.keys) }
+        ensures replied { Replied J.kind (call_of call.entry) result (export_event pass.old.actor (call_of call.entry) result) pass.old.keys pass.old.log pass.new.log }
         ensures bytes { AreBytes pass.new.log }
         ensures fit { IsFit J.kind pass.new.log }
     {

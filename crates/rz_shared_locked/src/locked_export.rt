@@ -4,6 +4,7 @@ ghost use Rattle.std.specs.List.{All};
 ghost use Rattle.rz_events.specs.declared.keys.Actor.{Actor as AnActor};
 ghost use Rattle.rz_events.specs.declared.export.Call.{Call as ACall};
 ghost use Rattle.rz_events.specs.declared.events.Word.TheVariants as w;
+ghost use Rattle.rz_events.specs.Borrowed.{call_of};
 ghost use Rattle.rz_events.specs.Events.{word_of, by_of};
 ghost use Rattle.rz_export.specs.Calls.{IsAnswered};
 ghost use Rattle.rz_export_model.specs.Export.{is_proper, new_export};
@@ -19,7 +20,7 @@ ghost use Rattle.rz_shared_locked.specs.LockedExports.{AreBytes, HasBytes, Repli
 use crate::counting::Counting;
 use crate::waiting::without_reply;
 use rz_chronicle::{Asks, Book, Pass, WordToken};
-use rz_events::{Actor, Call, Reply};
+use rz_events::{Actor, Call, CallRef, Reply};
 use rz_export::Export;
 use std::alloc::Global;
 use std::marker::{Brand, Model, PhantomData};
@@ -27,11 +28,19 @@ use std::sync::Wait;
 
 /// Gives an export a call that it takes: the reply of the model, with the model's next state, or that memory
 /// is wanting, and then nothing changes. An export takes memory by the allocator that it was made with.
-pub fn answer_export(_alloc: Global, export: &mut Export, call: &Call) -> Reply
+pub fn answer_export(alloc: Global, export: &mut Export, call: &Call) -> Reply
     requires { IsTrue (is_proper export.old call.now) }
     ensures { IsAnswered export.old call.now result export.new }
 {
-    export.answer(call)
+    answer_export_ref(alloc, export, call.borrowed())
+}
+
+/// Gives an export a borrowed call in the same way, so that none of its texts is copied.
+fn answer_export_ref(_alloc: Global, export: &mut Export, call: CallRef<'_>) -> Reply
+    requires { IsTrue (is_proper export.old (call_of call)) }
+    ensures { IsAnswered export.old (call_of call.entry) result export.new }
+{
+    export.answer_ref(call)
 }
 
 /// The export under its lock, with the tally of its word.
@@ -121,12 +130,12 @@ impl<J: Counting> LockedExport<J> {
         rt: &R,
         book: &Book<J>,
         pass: &mut Pass<J>,
-        call: &Call,
+        call: CallRef<'_>,
     ) -> Reply
         requires actor { ¬ (pass.old.actor ≡ Actor.Admin) }
-        requires may { IsTrue (is_honest J.kind) → IsProperCall (volume_in J.kind) (facts pass.old.log) (of_actor pass.old.actor pass.old.log) pass.old.actor call.now }
+        requires may { IsTrue (is_honest J.kind) → IsProperCall (volume_in J.kind) (facts pass.old.log) (of_actor pass.old.actor pass.old.log) pass.old.actor (call_of call) }
         ensures same { (pass.new.actor ≡ pass.old.actor) × (pass.new.keys ≡ pass.old.keys) }
-        ensures replied { Replied J.kind call.now result (export_event pass.old.actor call.now result) pass.old.keys pass.old.log pass.new.log }
+        ensures replied { Replied J.kind (call_of call.entry) result (export_event pass.old.actor (call_of call.entry) result) pass.old.keys pass.old.log pass.new.log }
         ensures bytes { AreBytes pass.new.log }
         ensures fit { IsFit J.kind pass.new.log }
     {
@@ -154,12 +163,18 @@ impl<J: Counting> LockedExport<J> {
     }
 
     // The call where its pass and the locked export have entered, and the word can move.
-    fn replied<R: Wait>(&mut self, rt: &R, book: &Book<J>, pass: &mut Pass<J>, call: &Call) -> Reply
+    fn replied<R: Wait>(
+        &mut self,
+        rt: &R,
+        book: &Book<J>,
+        pass: &mut Pass<J>,
+        call: CallRef<'_>,
+    ) -> Reply
         requires one { self.old ≡ pass.old.log }
         requires room { count_at (word_key w.Export) self.old + 1 < 2 ^ 64 }
-        requires may { IsTrue (is_honest J.kind) → IsProperCall (volume_in J.kind) (facts pass.old.log) (of_actor pass.old.actor pass.old.log) pass.old.actor call.now }
+        requires may { IsTrue (is_honest J.kind) → IsProperCall (volume_in J.kind) (facts pass.old.log) (of_actor pass.old.actor pass.old.log) pass.old.actor (call_of call) }
         ensures same { (pass.new.actor ≡ pass.old.actor) × (pass.new.keys ≡ pass.old.keys) }
-        ensures replied { Replied J.kind call.now result (export_event pass.old.actor call.now result) pass.old.keys pass.old.log pass.new.log }
+        ensures replied { Replied J.kind (call_of call.entry) result (export_event pass.old.actor (call_of call.entry) result) pass.old.keys pass.old.log pass.new.log }
         ensures bytes { AreBytes pass.new.log }
         ensures fit { IsFit J.kind pass.new.log }
     {
@@ -167,10 +182,10 @@ impl<J: Counting> LockedExport<J> {
         crate::laws::replies();
         let by = pass.actor();
         look_into(call);
-        if !self.export.takes(call) {
+        if !self.export.takes_ref(call) {
             return without_reply(rt);
         }
-        let reply = answer_export(self.alloc, &mut self.export, call);
+        let reply = answer_export_ref(self.alloc, &mut self.export, call);
         if matches!(reply, Reply::NoMemory) {
             return reply;
         }
@@ -180,11 +195,11 @@ impl<J: Counting> LockedExport<J> {
 }
 
 /// The text of a write that begins is one of bytes, as each text is.
-fn look_into(call: &Call)
-    ensures { HasBytes call.now }
+fn look_into(call: CallRef<'_>)
+    ensures { HasBytes (call_of call.entry) }
 {
-    if let Call::Begin { text, .. } = call {
-        are_bytes(text.bytes());
+    if let CallRef::Begin { text, .. } = call {
+        are_bytes(text);
     }
 }
 
@@ -200,17 +215,17 @@ fn add_reply<J: Counting, C: Asking>(
     pass: &mut Pass<J>,
     word_token: &mut WordToken<J>,
     by: Actor,
-    call: &Call,
+    call: CallRef<'_>,
     reply: &Reply,
 )
-    requires of { (by ≡ C.by) × (call.now ≡ C.call) }
+    requires of { (by ≡ C.by) × ((call_of call) ≡ C.call) }
     requires one { word_token.old.log ≡ pass.old.log }
-    requires its { (word_of (event_given by call.now reply.now) ≡ word_token.old.word) × (by_of (event_given by call.now reply.now) ≡ pass.old.actor) }
-    requires legal { MayCome J.kind pass.old.log (event_given by call.now reply.now) }
+    requires its { (word_of (event_given by (call_of call) reply.now) ≡ word_token.old.word) × (by_of (event_given by (call_of call) reply.now) ≡ pass.old.actor) }
+    requires legal { MayCome J.kind pass.old.log (event_given by (call_of call) reply.now) }
     requires room { count_at (word_key word_token.old.word) word_token.old.log + 1 < 2 ^ 64 }
     ensures same { (pass.new.actor ≡ pass.old.actor) × (pass.new.keys ≡ pass.old.keys) × (word_token.new.word ≡ word_token.old.word) }
     ensures one { word_token.new.log ≡ pass.new.log }
-    ensures commits { Commits (word_key word_token.old.word ∷ pass.old.keys) pass.old.log (event_given by call.now reply.now) pass.new.log }
+    ensures commits { Commits (word_key word_token.old.word ∷ pass.old.keys) pass.old.log (event_given by (call_of call.entry) reply.now) pass.new.log }
     ensures fit { IsFit J.kind pass.new.log }
 {
     let _ = by;

@@ -6,6 +6,8 @@
 #[cfg(test)]
 mod disks;
 #[cfg(test)]
+mod failing;
+#[cfg(test)]
 mod index;
 #[cfg(test)]
 mod nodes;

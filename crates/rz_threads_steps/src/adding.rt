@@ -3,6 +3,7 @@ ghost use Rattle.std.specs.Prelude.{◌≡◌, ◌+◌, ◌<◌, ◌^◌, IsTrue
 ghost use Rattle.mj_angles.specs.Layout.{max_bins_of};
 ghost use Rattle.rz_events.specs.declared.events.Word.TheVariants as w;
 ghost use Rattle.rz_events.specs.Events.{word_of, by_of};
+ghost use Rattle.rz_events.specs.Borrowed.{call_of};
 ghost use Rattle.rz_export_model.specs.ExportEvents.{export_event};
 ghost use Rattle.rz_node_model.specs.NodeEvents.{node_event};
 ghost use Rattle.rz_node.specs.Calls.{Takes, IsUnread};
@@ -21,7 +22,7 @@ ghost use Rattle.rz_threads_steps.specs.Adding.{AddsOwn};
 use crate::store::SharedStore;
 use rz_chronicle::Pass;
 use rz_disk::Disk;
-use rz_events::{Actor, Call, Event, NodeAnswer, NodeAsk, Reply};
+use rz_events::{Actor, CallRef, Event, NodeAnswer, NodeAsk, Reply};
 use rz_shared::Counting;
 use std::sync::Wait;
 
@@ -30,13 +31,13 @@ pub fn call_export<R: Wait, D: Disk, J: Counting>(
     rt: &R,
     store: &SharedStore<D, J>,
     pass: &mut Pass<J>,
-    call: &Call,
+    call: CallRef<'_>,
 ) -> Reply
     requires volume { store.now.volume ≡ volume_in J.kind }
     requires actor { ¬ (pass.old.actor ≡ Actor.Admin) }
-    requires may { IsTrue (is_honest J.kind) → IsProperCall (volume_in J.kind) (facts pass.old.log) (of_actor pass.old.actor pass.old.log) pass.old.actor call.now }
+    requires may { IsTrue (is_honest J.kind) → IsProperCall (volume_in J.kind) (facts pass.old.log) (of_actor pass.old.actor pass.old.log) pass.old.actor (call_of call) }
     ensures same { (pass.new.actor ≡ pass.old.actor) × (pass.new.keys ≡ pass.old.keys) }
-    ensures adds { AddsOwn (volume_in J.kind) (is_honest J.kind) pass.old.actor pass.old.log (export_event pass.old.actor call.now result) pass.new.log }
+    ensures adds { AddsOwn (volume_in J.kind) (is_honest J.kind) pass.old.actor pass.old.log (export_event pass.old.actor (call_of call.entry) result) pass.new.log }
     ensures quiet { missed (of_actor pass.old.actor pass.new.log) ≡ missed (of_actor pass.old.actor pass.old.log) }
     ensures bytes { AreBytes (facts pass.new.log) }
     ensures fit { IsFit J.kind pass.new.log }
@@ -46,7 +47,7 @@ pub fn call_export<R: Wait, D: Disk, J: Counting>(
     rz_play_laws::facts_told();
     let _rules = store.volume.node_count();
     let _own = pass.actor();
-    store.cluster.export_call(rt, &store.book, pass, call)
+    store.cluster.export_call_ref(rt, &store.book, pass, call)
 }
 
 /// Calls a node of the volume for an actor.

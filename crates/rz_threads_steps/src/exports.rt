@@ -1,56 +1,47 @@
 //! Calls of the export that an operation asks for.
 ghost use Rattle.std.specs.Prelude.{◌≡◌, ℕ, IfOk, OnOk, OnErr};
-ghost use Rattle.rz_events.specs.Borrowed as borrowed;
+ghost use Rattle.rz_events.specs.Borrowed.{call_of};
 ghost use Rattle.rz_operation_model.specs.Ask.{ask_of, AskExport};
 ghost use Rattle.rz_core.specs.History.{of_actor};
 ghost use Rattle.rz_play.specs.Faults.{missed};
 ghost use Rattle.rz_chronicle.specs.Kinds.{volume_in};
 ghost use Rattle.rz_show.specs.Shown.{shown_of};
 ghost use Rattle.rz_threads_steps.specs.Acted.{Lasts, IsRight, HasActed};
+ghost use Rattle.rz_threads_steps.specs.Opening.{IsOpening};
 ghost use Rattle.rz_threads_steps.specs.Turned.{IsCutOff};
 
 use crate::adding::call_export;
-use crate::showing::show_open;
+use crate::showing::show_opening;
 use crate::store::SharedStore;
 use rz_chronicle::Pass;
 use rz_disk::Disk;
-use rz_events::{Actor, Call, CallRef, Event, Text};
+use rz_events::{Actor, CallRef, Event, TreeCall};
 use rz_operation::{Ask, Machine};
 use rz_player::Halted;
 use rz_shared::Counting;
 use std::alloc::{AllocError, Global};
 use std::sync::Wait;
 
-/// A call with texts of its own.
-fn call_of(alloc: Global, ask: CallRef<'_>) -> Result<Call, AllocError>
-    ensures { IfOk result (λ c. c ≡ borrowed.call_of ask.entry) }
-{
-    Ok(match ask {
-        CallRef::Tree(call) => Call::Tree(call.copy(alloc)?),
-        CallRef::Begin { key, text } => Call::Begin {
-            key,
-            text: Text::from_bytes(alloc, text)?,
-        },
-        CallRef::Publish { key, published } => Call::Publish {
-            key,
-            stamp: published.stamp,
-            mask: published.mask,
-            length: published.length,
-        },
-        CallRef::Look { key } => Call::Look { key },
-        CallRef::Recheck { key } => Call::Recheck { key },
-        CallRef::Enroll { node, loss } => Call::Enroll { node, loss },
-        CallRef::Next { node, after } => Call::Next { node, after },
-    })
-}
-
 /// The call of the export that a machine asks for.
-pub fn next_call(alloc: Global, machine: &Machine) -> Result<Call, Halted>
-    ensures { IfOk result (λ c. ask_of machine.now.layout machine.now.work ≡ AskExport c) }
+pub fn next_call(machine: &Machine) -> Result<CallRef<'_>, Halted>
+    ensures { IfOk result (λ c. ask_of machine.now.layout machine.now.work ≡ AskExport (call_of c)) }
 {
     match machine.next() {
-        Ask::Export(ask) => Ok(call_of(alloc, ask)?),
+        Ask::Export(ask) => Ok(ask),
         _ => Err(Halted),
+    }
+}
+
+/// The call of an open, in new memory: it is shown once a file answers it. No other call is.
+fn opening_in(alloc: Global, call: CallRef<'_>) -> Result<Option<TreeCall>, AllocError>
+    ensures { IfOk result (λ opening. IsOpening (call_of call.entry) opening) }
+{
+    let CallRef::Tree(call) = call else {
+        return Ok(None);
+    };
+    match call {
+        TreeCall::OpenFile { .. } => Ok(Some(call.copy(alloc)?)),
+        _ => Ok(None),
     }
 }
 
@@ -78,10 +69,11 @@ pub fn ask_export<R: Wait, D: Disk, J: Counting>(
     rz_block_laws::acting::goes();
     let by = pass.actor();
     shown.reserve(1)?;
-    let call = next_call(alloc, machine)?;
-    let reply = call_export(rt, store, pass, &call);
+    let call = next_call(machine)?;
+    let opening = opening_in(alloc, call)?;
+    let reply = call_export(rt, store, pass, call);
     let takes = machine.takes_reply(&reply);
-    show_open(by, call, &reply, shown);
+    show_opening(by, call, opening, &reply, shown);
     if !takes {
         drop(reply);
         return Err(Halted);

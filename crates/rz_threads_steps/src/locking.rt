@@ -130,7 +130,7 @@ pub fn open_locked<R: Wait, D: Disk, J: Counting>(
     shown.reserve(1)?;
     let opening = next_open(alloc, machine)?;
     let (call, wish) = opening;
-    let reply = call_export(rt, store, pass, &call);
+    let reply = call_export(rt, store, pass, call.borrowed());
     let takes = machine.takes_locked(&reply);
     show_open(by, call, &reply, shown);
     if !takes {

@@ -3,10 +3,12 @@ ghost use Rattle.std.specs.Prelude.{◌≡◌, ◌+◌, ◌≤◌, ◌++◌, IfN
 ghost use Rattle.std.specs.Vec.{vec_len, vec_capacity};
 ghost use Rattle.rz_events.specs.declared.export.Reply.TheVariants as answer;
 ghost use Rattle.rz_events.specs.declared.tree.TreeReply.TheVariants as reply;
+ghost use Rattle.rz_events.specs.Borrowed.{call_of};
 ghost use Rattle.rz_export_model.specs.ExportEvents.{export_event};
 ghost use Rattle.rz_show.specs.Shown as model;
+ghost use Rattle.rz_threads_steps.specs.Opening.{IsOpening};
 
-use rz_events::{Actor, Call, Event, FileInfo, Reply, TreeCall, TreeReply};
+use rz_events::{Actor, Call, CallRef, Event, FileInfo, Reply, TreeCall, TreeReply};
 
 /// The file that a reply tells.
 fn file_in(reply: &Reply) -> Option<FileInfo>
@@ -53,6 +55,25 @@ pub(crate) fn show_open(by: Actor, call: Call, reply: &Reply, shown: &mut Vec<Ev
         show_file(by, call, info, shown);
     } else {
         drop(call);
+    }
+}
+
+/// Keeps the event of a reply, if it is that of an open, of which `opening` is the call.
+pub(crate) fn show_opening(
+    by: Actor,
+    call: CallRef<'_>,
+    opening: Option<TreeCall>,
+    reply: &Reply,
+    shown: &mut Vec<Event>,
+)
+    requires opening { IsOpening (call_of call) opening }
+    requires room { vec_len shown.old + 1 ≤ vec_capacity shown.old }
+    ensures { shown.new.items ≡ shown.old.items ++ model.shown_in (export_event by (call_of call.entry) reply.now) }
+{
+    let _ = call;
+    match opening {
+        Some(opening) => show_open(by, Call::Tree(opening), reply, shown),
+        None => {}
     }
 }
 

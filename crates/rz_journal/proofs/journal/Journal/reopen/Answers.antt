@@ -1,7 +1,10 @@
 -- What was read is what the disk has.
-use Rattle.std.proofs.Common.{ℕ, ◌<◌, ◌≤◌, List, length, sym, subst, ap}
-use Rattle.rz_journal.specs.Opening.{IsRebuilt, IsReopened}
-use Rattle.rz_journal.proofs.Reopened.{some_there, room_there, reopened, ready_there, rebuilt_volume, after_calls}
+use Rattle.std.proofs.Common.{◌≡◌, ◌⊎◌, ℕ, ◌<◌, ◌≤◌, List, length, sym, subst, ap}
+use Rattle.rz_journal.specs.declared.rebuilding.JournalFault.{JournalFault}
+use Rattle.rz_journal.specs.declared.rebuilding.JournalFault.TheVariants.{NoMemory, DiskFault}
+use Rattle.rz_journal.specs.Opening.{IsRebuilt, IsReopened, IsStopped, IsRefused, fault_of}
+use Rattle.rz_journal.proofs.Reopened.{some_there, room_there, reopened, stopped, refused, ready_there, rebuilt_volume, after_calls}
+use Rattle.rz_journal.proofs.Exact.{exact}
 use Rattle.rz_journal.proofs.WholeTexts.{makes_whole}
 use Rattle.rz_journal.proofs.journal.Journal.reopen.Goals as goal
 
@@ -49,3 +52,19 @@ returns-in-Ok-rebuild-clause-calls g c = λ told calls is.
     (subst (λ (b : List ℕ). used < length b) c.bytes.ensures c.in-Ok-rebuild.ensures.used) in
     after_calls volume (g.D.Disk.text c.args.disk) used s (rebuilt_volume volume h.bytes.items used s rebuilt) room
     (subst (λ (t : List ℕ). IsReopened volume t used s) c.in-Ok.ensures.text there) calls is
+
+pub returns-in-Err-clause-exact : goal.returns-in-Err-clause-exact
+returns-in-Err-clause-exact g c = λ told calls is.
+    let text = g.D.Disk.text c.args.disk in
+    let fault = c.in-Err.fault in
+    subst (λ (f : JournalFault). (f ≡ NoMemory) ⊎ (f ≡ DiskFault)) (sym c.refused.ensures)
+    (exact g.D.Disk.tells c.args.volume text (fault_of fault) (refused g.D.Disk.tells c.args.volume text fault c.in-Err.ensures.refused) told calls is)
+
+pub returns-in-Err-rebuild-clause-exact : goal.returns-in-Err-rebuild-clause-exact
+returns-in-Err-rebuild-clause-exact g c = λ told calls is.
+    let h = c.in-Ok.half in
+    let volume = c.args.volume in
+    let fault = c.in-Err-rebuild.fault in
+    let why = subst (λ (b : List ℕ). IsStopped volume b fault) c.bytes.ensures c.in-Err-rebuild.ensures.stopped in
+    let there = stopped g.D.Disk.tells (g.D.Disk.text h.disk) (g.D.Disk.image h.disk) h.half h.bytes.items c.in-Ok.ensures.open volume fault why in
+    exact g.D.Disk.tells volume (g.D.Disk.text c.args.disk) fault (subst (λ (t : List ℕ). IsRefused g.D.Disk.tells volume t fault) c.in-Ok.ensures.text there) told calls is

@@ -1,9 +1,10 @@
 use Rattle.std.proofs.Common.{sym, ◌∙◌}
+use Rattle.rz_events.specs.Borrowed.{call_of}
 use Rattle.rz_metadata.proofs.MetadataReplies.{is-wanting, left-wanting}
 use Rattle.rz_metadata.proofs.journaled.Journaled.answer.Goals as goal
 
 pub returns-then-wants_memory-clause-left : goal.returns-then-wants_memory-clause-left
 returns-then-wants_memory-clause-left g c = λ first calls kept.
     let r = c.in-Reply.reply in
-    left-wanting g.D.Disk.tells g.D.Disk.meter g.D.Disk.image first c.args.self.now.journal c.answer.new.self c.args.call.now calls c.args.self.now.refusal r
+    left-wanting g.D.Disk.tells g.D.Disk.meter g.D.Disk.image first c.args.self.now.journal c.answer_ref.new.self (call_of c.args.ask) calls c.args.self.now.refusal r
     (is-wanting r (sym c.wants_memory.ensures ∙ c.if-wants_memory.true)) (c.in-Reply.ensures.calls calls) c.in-Reply.ensures.replied kept

@@ -1,5 +1,6 @@
 use Rattle.std.proofs.Common.{ℕ, List, subst}
 use Rattle.rz_events.specs.declared.keys.Actor.{Actor}
+use Rattle.rz_events.specs.Borrowed.{call_of}
 use Rattle.rz_export_model.specs.ExportEvents.{export_event}
 use Rattle.rz_shared_locked.specs.LockedExports.{Replied}
 use Rattle.rz_shared_locked.proofs.Logs.{adds-after}
@@ -11,7 +12,7 @@ returns-clause-replied g c =
     let old = c.args.pass.now in
     let mid = c.enter.new.pass in
     let new = c.replied.new.pass.log in
-    let q = c.args.call.now in
+    let q = (call_of c.args.call) in
     let given = c.replied.result in
     let it : Replied kind q given (export_event old.actor q given) old.keys mid.log new =
     subst (λ (ks : List ℕ). Replied kind q given (export_event old.actor q given) ks mid.log new) c.enter.ensures.same.1

@@ -5,6 +5,7 @@ use Rattle.rz_events.specs.declared.events.Word.{Word}
 use Rattle.rz_events.specs.declared.events.Word.TheVariants as w
 use Rattle.rz_events.specs.declared.events.Event.{Event}
 use Rattle.rz_events.specs.Events.{by_of, word_of}
+use Rattle.rz_events.specs.Borrowed.{call_of}
 use Rattle.rz_export_model.specs.Export.{Export as State}
 use Rattle.rz_core.specs.History.{facts, of_word}
 use Rattle.rz_core.specs.Tied.{IsExport}
@@ -21,12 +22,12 @@ pub invariant_of-self : goal.invariant_of-self
 invariant_of-self g c =
     let kind = g.J.Naming.kind in
     let v = volume_in kind in
-    let q = c.args.call.now in
-    let given = c.answer_export-reply.result in
+    let q = (call_of c.args.call) in
+    let given = c.answer_export_ref-reply.result in
     let by = c.args.pass.now.actor in
     let h = c.args.pass.now.log in
     let s = c.self.inside.export in
-    let new_s = c.answer_export-reply.new.export in
+    let new_s = c.answer_export_ref-reply.new.export in
     let inv = c.self.invariant in
     let log : c.self.inside.word_token.log ≡ h = c.self.view_is ∙ c.requires.one in
     let tied : IsTrue (is_honest kind) → IsExport v (facts h) (of_word w.Export h) s = λ honest. subst (λ (l : List Event). IsExport v (facts l) (of_word w.Export l) s) log (inv.2 honest) in
@@ -34,7 +35,7 @@ invariant_of-self g c =
       | in-NoMemory b ↦ b.in-NoMemory.is
       | in_default b ↦ (let there = c.if-matches.true in let not = b.matches-is in cc)
     ] in
-    let wants = wanting s q given new_s c.answer_export-reply.ensures none in
+    let wants = wanting s q given new_s c.answer_export_ref-reply.ensures none in
     let l = c.self.inside.word_token.log in
     (inv.0, ap (λ (e : State). e.volume) wants.1 ∙ inv.1, (λ honest. subst (IsExport v (facts l) (of_word w.Export l)) (sym wants.1) (inv.2 honest)), inv.3)
 
@@ -42,12 +43,12 @@ pub returns-then-matches-clause-replied : goal.returns-then-matches-clause-repli
 returns-then-matches-clause-replied g c =
     let kind = g.J.Naming.kind in
     let v = volume_in kind in
-    let q = c.args.call.now in
-    let given = c.answer_export-reply.result in
+    let q = (call_of c.args.call) in
+    let given = c.answer_export_ref-reply.result in
     let by = c.args.pass.now.actor in
     let h = c.args.pass.now.log in
     let s = c.self.inside.export in
-    let new_s = c.answer_export-reply.new.export in
+    let new_s = c.answer_export_ref-reply.new.export in
     let inv = c.self.invariant in
     let log : c.self.inside.word_token.log ≡ h = c.self.view_is ∙ c.requires.one in
     let tied : IsTrue (is_honest kind) → IsExport v (facts h) (of_word w.Export h) s = λ honest. subst (λ (l : List Event). IsExport v (facts l) (of_word w.Export l) s) log (inv.2 honest) in
@@ -55,19 +56,19 @@ returns-then-matches-clause-replied g c =
       | in-NoMemory b ↦ b.in-NoMemory.is
       | in_default b ↦ (let there = c.if-matches.true in let not = b.matches-is in cc)
     ] in
-    let wants = wanting s q given new_s c.answer_export-reply.ensures none in
+    let wants = wanting s q given new_s c.answer_export_ref-reply.ensures none in
     unadded kind h by q given s c.args.pass.now.keys inv.1 tied wants.0 none
 
 pub add_reply-requires-clause-its : goal.add_reply-requires-clause-its
 add_reply-requires-clause-its g c =
     let kind = g.J.Naming.kind in
     let v = volume_in kind in
-    let q = c.args.call.now in
-    let given = c.answer_export-reply.result in
+    let q = (call_of c.args.call) in
+    let given = c.answer_export_ref-reply.result in
     let by = c.args.pass.now.actor in
     let h = c.args.pass.now.log in
     let s = c.self.inside.export in
-    let new_s = c.answer_export-reply.new.export in
+    let new_s = c.answer_export_ref-reply.new.export in
     let inv = c.self.invariant in
     let log : c.self.inside.word_token.log ≡ h = c.self.view_is ∙ c.requires.one in
     let tied : IsTrue (is_honest kind) → IsExport v (facts h) (of_word w.Export h) s = λ honest. subst (λ (l : List Event). IsExport v (facts l) (of_word w.Export l) s) log (inv.2 honest) in
@@ -75,7 +76,7 @@ add_reply-requires-clause-its g c =
       | in-NoMemory b ↦ (let not = c.if-matches.false in let there = b.matches-is in cc)
       | in_default b ↦ b.in_default.not-NoMemory
     ] in
-    let done = replied s q given new_s c.answer_export-reply.ensures some in
+    let done = replied s q given new_s c.answer_export_ref-reply.ensures some in
     let room : count_at (word_key w.Export) h + 1 < 2 ^ 64 = subst (λ (l : List Event). count_at (word_key w.Export) l + 1 < 2 ^ 64) c.requires.one c.requires.room in
     subst (λ (a : Actor). (word_of (event_given a q given) ≡ c.self.inside.word_token.word) × (by_of (event_given a q given) ≡ by)) (sym c.actor-by.ensures.value)
     (subst (λ (u : Word). (word_of (event_given by q given) ≡ u) × (by_of (event_given by q given) ≡ by)) (sym inv.0)
@@ -85,12 +86,12 @@ pub add_reply-requires-clause-legal : goal.add_reply-requires-clause-legal
 add_reply-requires-clause-legal g c =
     let kind = g.J.Naming.kind in
     let v = volume_in kind in
-    let q = c.args.call.now in
-    let given = c.answer_export-reply.result in
+    let q = (call_of c.args.call) in
+    let given = c.answer_export_ref-reply.result in
     let by = c.args.pass.now.actor in
     let h = c.args.pass.now.log in
     let s = c.self.inside.export in
-    let new_s = c.answer_export-reply.new.export in
+    let new_s = c.answer_export_ref-reply.new.export in
     let inv = c.self.invariant in
     let log : c.self.inside.word_token.log ≡ h = c.self.view_is ∙ c.requires.one in
     let tied : IsTrue (is_honest kind) → IsExport v (facts h) (of_word w.Export h) s = λ honest. subst (λ (l : List Event). IsExport v (facts l) (of_word w.Export l) s) log (inv.2 honest) in
@@ -98,7 +99,7 @@ add_reply-requires-clause-legal g c =
       | in-NoMemory b ↦ (let not = c.if-matches.false in let there = b.matches-is in cc)
       | in_default b ↦ b.in_default.not-NoMemory
     ] in
-    let done = replied s q given new_s c.answer_export-reply.ensures some in
+    let done = replied s q given new_s c.answer_export_ref-reply.ensures some in
     let room : count_at (word_key w.Export) h + 1 < 2 ^ 64 = subst (λ (l : List Event). count_at (word_key w.Export) l + 1 < 2 ^ 64) c.requires.one c.requires.room in
     subst (λ (a : Actor). MayCome kind h (event_given a q given)) (sym c.actor-by.ensures.value)
     (may-come kind h by q given s new_s (c.replies.ensures v) (c.locked_export_kept.ensures v) c.actor-by.ensures.fit inv.1 tied room c.requires.may done)
@@ -107,12 +108,12 @@ pub invariant_of-self-2 : goal.invariant_of-self-2
 invariant_of-self-2 g c =
     let kind = g.J.Naming.kind in
     let v = volume_in kind in
-    let q = c.args.call.now in
-    let given = c.answer_export-reply.result in
+    let q = (call_of c.args.call) in
+    let given = c.answer_export_ref-reply.result in
     let by = c.args.pass.now.actor in
     let h = c.args.pass.now.log in
     let s = c.self.inside.export in
-    let new_s = c.answer_export-reply.new.export in
+    let new_s = c.answer_export_ref-reply.new.export in
     let inv = c.self.invariant in
     let log : c.self.inside.word_token.log ≡ h = c.self.view_is ∙ c.requires.one in
     let tied : IsTrue (is_honest kind) → IsExport v (facts h) (of_word w.Export h) s = λ honest. subst (λ (l : List Event). IsExport v (facts l) (of_word w.Export l) s) log (inv.2 honest) in
@@ -120,7 +121,7 @@ invariant_of-self-2 g c =
       | in-NoMemory b ↦ (let not = c.if-matches.false in let there = b.matches-is in cc)
       | in_default b ↦ b.in_default.not-NoMemory
     ] in
-    let done = replied s q given new_s c.answer_export-reply.ensures some in
+    let done = replied s q given new_s c.answer_export_ref-reply.ensures some in
     let room : count_at (word_key w.Export) h + 1 < 2 ^ 64 = subst (λ (l : List Event). count_at (word_key w.Export) l + 1 < 2 ^ 64) c.requires.one c.requires.room in
     let new = c.add_reply.new.pass.log in
     let ks = c.args.pass.now.keys in
@@ -140,12 +141,12 @@ pub returns-clause-replied : goal.returns-clause-replied
 returns-clause-replied g c =
     let kind = g.J.Naming.kind in
     let v = volume_in kind in
-    let q = c.args.call.now in
-    let given = c.answer_export-reply.result in
+    let q = (call_of c.args.call) in
+    let given = c.answer_export_ref-reply.result in
     let by = c.args.pass.now.actor in
     let h = c.args.pass.now.log in
     let s = c.self.inside.export in
-    let new_s = c.answer_export-reply.new.export in
+    let new_s = c.answer_export_ref-reply.new.export in
     let inv = c.self.invariant in
     let log : c.self.inside.word_token.log ≡ h = c.self.view_is ∙ c.requires.one in
     let tied : IsTrue (is_honest kind) → IsExport v (facts h) (of_word w.Export h) s = λ honest. subst (λ (l : List Event). IsExport v (facts l) (of_word w.Export l) s) log (inv.2 honest) in
@@ -153,7 +154,7 @@ returns-clause-replied g c =
       | in-NoMemory b ↦ (let not = c.if-matches.false in let there = b.matches-is in cc)
       | in_default b ↦ b.in_default.not-NoMemory
     ] in
-    let done = replied s q given new_s c.answer_export-reply.ensures some in
+    let done = replied s q given new_s c.answer_export_ref-reply.ensures some in
     let room : count_at (word_key w.Export) h + 1 < 2 ^ 64 = subst (λ (l : List Event). count_at (word_key w.Export) l + 1 < 2 ^ 64) c.requires.one c.requires.room in
     let new = c.add_reply.new.pass.log in
     let ks = c.args.pass.now.keys in
@@ -168,8 +169,8 @@ returns-then-matches-clause-bytes g c = subst AreBytes (c.self.view_is ∙ c.req
 pub returns-clause-bytes : goal.returns-clause-bytes
 returns-clause-bytes g c =
     let by = c.args.pass.now.actor in
-    let q = c.args.call.now in
-    let given = c.answer_export-reply.result in
+    let q = (call_of c.args.call) in
+    let given = c.answer_export_ref-reply.result in
     let h = c.args.pass.now.log in
     let log : c.self.inside.word_token.log ≡ h = c.self.view_is ∙ c.requires.one in
     let ks = c.args.pass.now.keys in
