@@ -4,6 +4,7 @@ ghost use Rattle.std.specs.Prelude.{◌≡◌, ◌≤◌, ◌<◌, ◌+◌, ◌*
 ghost use Rattle.rz_words.specs.Grid.{IsShape};
 ghost use Rattle.mj_inverse.specs.Padded.{IsTaken, inner, width_of};
 
+use crate::square::put_square;
 use mj_inverse::Frame;
 
 /// Writes so many words of each of eight blocks side by side from place `at` on. Those of block `i` begin at `starts[i]`.
@@ -14,9 +15,27 @@ pub fn bring_together(words: &[u64], starts: &[usize], n: usize, out: &mut [u64]
     ensures inside { (k i : ℕ) → k < n → i < 8 → slice_index out.new (8 * (at + k) + i) ≡ slice_index words.now (slice_index starts.now i + k) }
     ensures below { (k : ℕ) → k < 8 * at → slice_index out.new k ≡ slice_index out.old k }
 {
-    for k in 0..n {
-        put_eight(words, starts, k, out, 8 * (at + k));
+    let mut k = 0;
+    'fours: while n - k >= 4 {
+        put_fours(words, starts, k, out, 8 * (at + k));
+        k += 4;
     }
+    'rest: for j in k..n {
+        put_eight(words, starts, j, out, 8 * (at + j));
+    }
+}
+
+/// Writes the words `k` to `k + 3` of each of eight blocks from place `to` on.
+#[inline(always)]
+fn put_fours(words: &[u64], starts: &[usize], k: usize, out: &mut [u64], to: usize)
+    requires starts { length starts.now ≡ 8 }
+    requires word { (i : ℕ) → i < 8 → slice_index starts.now i + (k + 4) ≤ length words.now }
+    requires out { to + 32 ≤ length out.old }
+    ensures here { (r i : ℕ) → r < 4 → i < 8 → slice_index out.new (to + 8 * r + i) ≡ slice_index words.now (slice_index starts.now i + (k + r)) }
+    ensures below { (m : ℕ) → m < to → slice_index out.new m ≡ slice_index out.old m }
+{
+    put_square(words, starts, 0, k, out, to);
+    put_square(words, starts, 4, k, out, to + 4);
 }
 
 /// Writes word `k` of each of eight blocks from place `to` on.

@@ -9,6 +9,7 @@ ghost use Rattle.mj_c.specs.Answers.{is_ascending_from};
 
 use crate::apart::take_one;
 use crate::room::frame_of;
+use crate::taking::take_eight;
 use mj_angles::Layout;
 use mj_inverse::solve_in;
 
@@ -36,10 +37,43 @@ pub fn solve_group(
         IsKnown layout (search_of layout positions.now own) (part_of layout out.old i) (part_of layout out.new i) (slice_index lost.new i) }
 {
     let answer = solve_in(angles, bins, frame_of(layout), grid);
-    take_each(layout, answer, grid, out, lost);
+    take_all(layout, answer, grid, out, lost);
 }
 
 /// Writes the words of those blocks whose bit is 0.
+fn take_all(layout: Layout, answer: u8, grid: &[u64], out: &mut [u64], lost: &mut [u8])
+    requires grid { length grid.now ≡ rows_room_of layout }
+    requires few { length lost.old ≤ 8 }
+    requires room { length out.old ≡ length lost.old * words_of layout }
+    ensures { IsDone layout (λ i new byte. IsDealt layout grid.now answer out.old i new byte) (length lost.old) (length lost.old) out.old out.new lost.new }
+{
+    if answer == 0 && lost.len() == 8 {
+        take_whole(layout, answer, grid, out, lost);
+    } else {
+        take_each(layout, answer, grid, out, lost);
+    }
+}
+
+/// The same where all eight have words, four words by four.
+fn take_whole(layout: Layout, answer: u8, grid: &[u64], out: &mut [u64], lost: &mut [u8])
+    requires grid { length grid.now ≡ rows_room_of layout }
+    requires zero { answer ≡ 0 }
+    requires eight { length lost.old ≡ 8 }
+    requires room { length out.old ≡ 8 * words_of layout }
+    ensures { IsDone layout (λ i new byte. IsDealt layout grid.now answer out.old i new byte) (length lost.old) (length lost.old) out.old out.new lost.new }
+{
+    take_eight(grid, frame_of(layout), out);
+    clear(lost);
+}
+
+/// Makes all bytes zero.
+fn clear(lost: &mut [u8])
+    ensures { (i : ℕ) → slice_index lost.new i ≡ 0 }
+{
+    lost.fill(0);
+}
+
+/// The same block by block.
 fn take_each(layout: Layout, answer: u8, grid: &[u64], out: &mut [u64], lost: &mut [u8])
     requires grid { length grid.now ≡ rows_room_of layout }
     requires few { length lost.old ≤ 8 }

@@ -30,7 +30,9 @@ mod lent;
 mod lent_eight;
 mod many;
 mod room;
+mod square;
 mod starts;
+mod taking;
 #[cfg(test)]
 mod tests;
 

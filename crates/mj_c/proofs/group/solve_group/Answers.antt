@@ -63,28 +63,28 @@ returns c = record {
       ∙ search_angled y c.args.positions.now c.args.bins.now c.args.angles.now c.requires.angles in
       let seen : lane_search 8 i (search_from c.frame_of.result.rows c.frame_of.result.cols c.args.angles.now c.args.bins.now) ≡ search_of y c.args.positions.now own =
       ap (lane_search 8 i) is ∙ lane_searched own c.args.bins.now (sum_by (bins_at_of y) c.args.positions.now) i lane long c.requires.bins side y c.args.positions.now (search rules) in
-      let dealt : IsDealt y grid answer c.args.out.now i (part_of y c.take_each.new.out i) (get_or c.take_each.new.lost i 0) = c.take_each.ensures.known i few in
-      let T : ℕ → Type 0 = λ r. IsTaken r (cols_of y) (reach_of y) grid i (part_of y c.take_each.new.out i) in
-      let U : ℕ → Type 0 = λ k. IsTaken c.frame_of.result.rows k (reach_of y) grid i (part_of y c.take_each.new.out i) in
-      let V : ℕ → Type 0 = λ r. IsTaken c.frame_of.result.rows c.frame_of.result.cols r grid i (part_of y c.take_each.new.out i) in
-      let taken : get_or c.take_each.new.lost i 0 ≡ 0 → IsTaken c.frame_of.result.rows c.frame_of.result.cols c.frame_of.result.reach grid i (part_of y c.take_each.new.out i) =
+      let dealt : IsDealt y grid answer c.args.out.now i (part_of y c.take_all.new.out i) (get_or c.take_all.new.lost i 0) = c.take_all.ensures.known i few in
+      let T : ℕ → Type 0 = λ r. IsTaken r (cols_of y) (reach_of y) grid i (part_of y c.take_all.new.out i) in
+      let U : ℕ → Type 0 = λ k. IsTaken c.frame_of.result.rows k (reach_of y) grid i (part_of y c.take_all.new.out i) in
+      let V : ℕ → Type 0 = λ r. IsTaken c.frame_of.result.rows c.frame_of.result.cols r grid i (part_of y c.take_all.new.out i) in
+      let taken : get_or c.take_all.new.lost i 0 ≡ 0 → IsTaken c.frame_of.result.rows c.frame_of.result.cols c.frame_of.result.reach grid i (part_of y c.take_all.new.out i) =
       λ z. subst V (sym c.frame_of.ensures.reach) (subst U (sym c.frame_of.ensures.cols) (subst T (sym c.frame_of.ensures.rows) (dealt.taken z))) in
-      let back : grid_of c.frame_of.result.rows c.frame_of.result.cols (part_of y c.take_each.new.out i) ≡ grid_of (inverse_of y) (cols_of y) (part_of y c.take_each.new.out i) =
-      ap (λ r. grid_of r c.frame_of.result.cols (part_of y c.take_each.new.out i)) c.frame_of.ensures.rows ∙ ap (λ k. grid_of (inverse_of y) k (part_of y c.take_each.new.out i)) c.frame_of.ensures.cols in
-      let F : Search → Type 0 = λ s. IsFound s (grid_of c.frame_of.result.rows c.frame_of.result.cols (part_of y c.take_each.new.out i)) in
+      let back : grid_of c.frame_of.result.rows c.frame_of.result.cols (part_of y c.take_all.new.out i) ≡ grid_of (inverse_of y) (cols_of y) (part_of y c.take_all.new.out i) =
+      ap (λ r. grid_of r c.frame_of.result.cols (part_of y c.take_all.new.out i)) c.frame_of.ensures.rows ∙ ap (λ k. grid_of (inverse_of y) k (part_of y c.take_all.new.out i)) c.frame_of.ensures.cols in
+      let F : Search → Type 0 = λ s. IsFound s (grid_of c.frame_of.result.rows c.frame_of.result.cols (part_of y c.take_all.new.out i)) in
       let H : Grid → Type 0 = λ g. IsFound (search_of y c.args.positions.now own) g in
-      let found : get_or c.take_each.new.lost i 0 ≡ 0 → IsFound (search_of y c.args.positions.now own) (grid_of (inverse_of y) (cols_of y) (part_of y c.take_each.new.out i)) =
-      λ z. subst H back (subst F seen (c.solve_in-answer.ensures.found i (part_of y c.take_each.new.out i) lane (sym dealt.bit ∙ z) (taken z))) in
+      let found : get_or c.take_all.new.lost i 0 ≡ 0 → IsFound (search_of y c.args.positions.now own) (grid_of (inverse_of y) (cols_of y) (part_of y c.take_all.new.out i)) =
+      λ z. subst H back (subst F seen (c.solve_in-answer.ensures.found i (part_of y c.take_all.new.out i) lane (sym dealt.bit ∙ z) (taken z))) in
       let G : (g : Grid) → Search → Type 0 = λ g s. IsFound s g in
       let given : (g : Grid) → IsFound (search_of y c.args.positions.now own) g → IsFound (lane_search 8 i (search_from c.frame_of.result.rows c.frame_of.result.cols c.args.angles.now c.args.bins.now)) g =
       λ g f. (let K : Search → Type 0 = G g in subst K (sym seen) f) in
       record {
-        byte = byte_of (get_or c.take_each.new.lost i 0) (answer / 2 ^ i) dealt.bit;
+        byte = byte_of (get_or c.take_all.new.lost i 0) (answer / 2 ^ i) dealt.bit;
         exact = (λ z. (_, found z), λ g. dealt.bit ∙ (c.solve_in-answer.ensures.complete i g.0 lane (given g.0 g.1)).0);
         found = found;
         only = λ g f.
             (let all = c.solve_in-answer.ensures.complete i g lane (given g f) in
-            all.1 (part_of y c.take_each.new.out i) (taken (dealt.bit ∙ all.0)) ∙ back);
+            all.1 (part_of y c.take_all.new.out i) (taken (dealt.bit ∙ all.0)) ∙ back);
         kept = dealt.kept;
       });
 }
