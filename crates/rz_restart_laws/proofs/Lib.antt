@@ -3,4 +3,3 @@ pub mod Restarts
 pub mod Lists
 pub mod Founds
 pub mod GoesOn
-pub mod Returns

@@ -2,4 +2,3 @@ pub mod Earlier
 pub mod Calls
 pub mod Found
 pub mod Laws
-pub mod Returns

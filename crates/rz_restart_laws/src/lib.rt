@@ -6,15 +6,13 @@
 //! makes of the log; `Calls` has the calls that changed the export of a log, for which the journal's
 //! disk stands; `Found` says that nodes and an export were opened on the disks which the log left; and
 //! `Laws` what follows: the log with the stops and the starts is legal, nodes and export are those that
-//! it gives, and a play may go on behind it. `Returns` has earlier logs after which not each node has its
-//! disk.
+//! it gives, and a play may go on behind it.
 //!
 //! The functions have no code. What each one says is its clause.
 #![tactic(auto)]
 
 ghost use Rattle.rz_events.specs.Volume.{Volume, IsVolume};
 ghost use Rattle.rz_restart_laws.specs.Laws.{MayRestart, IsFoundLaw, IsExportAgain, MayGoOn, IsSoundAfterwards, IsCallTold, IsNoCall};
-ghost use Rattle.rz_restart_laws.specs.Returns.{MayReturn};
 
 use rz_disk::Disk;
 
@@ -22,13 +20,6 @@ use rz_disk::Disk;
 /// undecided change, where it has one, or without.
 pub fn restarting()
     ensures { (v : Volume) → IsVolume v → MayRestart v }
-{}
-
-/// After an earlier log that left nodes lost, or some of whose disks are not here: each node that is lost
-/// may have the new disk that was enrolled for it, all nodes may be stopped, and those whose disks are here
-/// started. They are up then, and the others down.
-pub fn returning()
-    ensures { (v : Volume) → IsVolume v → MayReturn v }
 {}
 
 /// A node that was opened on a disk which the log left: what a crash may leave of that disk is what the
