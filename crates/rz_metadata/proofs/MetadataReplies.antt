@@ -1,5 +1,5 @@
 -- A journal that was formatted, one for whose call memory was wanting, and what no call changes.
-use Rattle.std.proofs.Common.{◌≡◌, ◌⊎◌, ⊎_elim, ℕ, ◌≤◌, Bool, true, false, cond, IsTrue, List, [], ◌∷◌, ◌++◌, Option, None, Result, Ok, Err, OnOk, OnErr, refl, sym, ◌∙◌, ap, subst}
+use Rattle.std.proofs.Common.{◌≡◌, ◌⊎◌, ⊎_elim, ℕ, ◌≤◌, Bool, true, false, cond, IsTrue, List, [], ◌∷◌, ◌++◌, Option, Some, None, Result, Ok, Err, OnOk, OnErr, refl, sym, ◌∙◌, ap, subst}
 use Rattle.std.specs.Prelude.{◌&&◌, is_some}
 use Rattle.rz_disk.specs.Images.{Only}
 use Rattle.rz_disk.specs.Meter.{Meter, faults}
@@ -12,9 +12,11 @@ use Rattle.rz_export.specs.Calls.{IsAnswered, MayWant}
 use Rattle.rz_journal.specs.JournalText.{IsTextOf}
 use Rattle.rz_journal.specs.Kept.{IsAfter, AllStandFor}
 use Rattle.rz_journal.specs.Said.{entry_of}
-use Rattle.rz_journal.specs.Seen.{JournalView, calls_after}
+use Rattle.rz_journal.specs.Seen.{JournalView, IsFull, IsJournalAnswer, calls_after}
+use Rattle.rz_journal.specs.declared.journal.JournalReply.TheVariants as answer
 use Rattle.rz_journal.proofs.Refused.{volume_same}
 use Rattle.rz_metadata.specs.declared.journaled.JournalRefusal.{JournalRefusal}
+use Rattle.rz_metadata.specs.declared.journaled.JournalRefusal.TheVariants as refusal
 use Rattle.rz_metadata.specs.Stands.{IsKept, IsLeft, IsLeftBy, wants_memory}
 
 -- a journal that was formatted kept no calls
@@ -63,6 +65,18 @@ pub left-wanting : {D : Type 0} (tells : Bool) (meter : D → Meter) (image : D 
 left-wanting tells meter image first old new c calls refusal r wants more stands kept =
     let after : IsAfter new.export calls = subst (IsAfter new.export) (ap (λ (x : Reply). calls_after x c calls) wants ∙ none-added c calls) (more kept.after) in
     subst (λ (o : Option JournalRefusal). IsLeftBy o tells (image new.disk) first (faults (meter new.disk)) new.export calls c) (sym kept.unrefused) (λ told. stands told calls after)
+
+-- a journal that was full has the export from before, and no half has room for the call
+pub left-full : {D : Type 0} (tells : Bool) (meter : D → Meter) (image : D → List ℕ → Type 0) (first : ℕ) (old new : JournalView D) (c : Call) (calls : List Call) (was : Option JournalRefusal) (need have : ℕ)
+    → IsJournalAnswer old c (answer.Full need have) new → IsKept tells meter image first (record { journal = old; refusal = was }) calls
+    → IsLeft tells meter image first (record { journal = new; refusal = Some refusal.Full }) calls c
+left-full tells meter image first old new c calls was need have answered kept = ⊎_elim
+    (λ (closed : (old.closed ≡ true) × (answer.Full need have ≡ answer.Closed) × (new ≡ old)). absurd (let is = closed.1 in cc))
+    (λ (opened : (old.closed ≡ false) × ((new ≡ old) × IsFull old c need × (have ≡ 8_388_576))).
+    let full = opened.1.1 in
+    subst (λ (j : JournalView _). IsLeft tells meter image first (record { journal = j; refusal = Some refusal.Full }) calls c) (sym opened.1.0)
+    (kept.after, (full.0, full.1, full.2.not_there), kept.images))
+    answered
 
 -- no call changes the volume
 pub volume-kept : {E : Type 0} (old new : Export) (c : Call) (result : Result Reply E) → OnOk result (new ≡ export_after old c) → OnErr result (new ≡ old) → new.volume ≡ old.volume
