@@ -2,6 +2,7 @@
 ghost use Rattle.std.specs.Prelude.{◌≡◌, ◌↔◌, ℕ, IsTrue, drop, length};
 ghost use Rattle.mj_angles.specs.Layout.{max_bins_of};
 ghost use Rattle.rz_disk.specs.Images.{Only, Within};
+ghost use Rattle.rz_record.specs.Record.{IsValid};
 ghost use Rattle.rz_cells_slots.specs.Held.{Records};
 ghost use Rattle.rz_cells_slots.specs.Opening.{NotSize, Refuses, opening_calls};
 ghost use Rattle.rz_cells_slots.specs.Shape.{disk_bytes};
@@ -21,10 +22,9 @@ use rz_disk::Disk;
 use rz_events::{Head, NodeAnswer, NodeAsk, OpenFault};
 use std::alloc::Global;
 
-/// Whether a head and so many bins are those of a record of this layout.
-#[tactic(auto, unfolding(rz_record::specs::Record::bins_of))]
-pub fn is_record(layout: Layout, head: &Head, bins: &[u64]) -> bool
-    ensures { IsTrue result ↔ IsRecord layout head.now bins.now }
+/// Whether a head is that of a record of this layout.
+fn is_head(layout: Layout, head: &Head) -> bool
+    ensures { IsTrue result ↔ (IsValid head.now × (head.now.layout ≡ layout)) }
 {
     head.layout == layout
         && head.bsize == layout.bsize()
@@ -32,7 +32,17 @@ pub fn is_record(layout: Layout, head: &Head, bins: &[u64]) -> bool
         && usize::from(head.position) < layout.safe()
         && head.base < head.stamp
         && head.length as usize <= layout.block_bytes()
-        && bins.len() == layout.bins_at(head.position)
+}
+
+/// Whether a head and so many bins are those of a record of this layout.
+#[tactic(auto, unfolding(rz_record::specs::Record::bins_of))]
+pub fn is_record(layout: Layout, head: &Head, bins: &[u64]) -> bool
+    ensures { IsTrue result ↔ IsRecord layout head.now bins.now }
+{
+    if !is_head(layout, head) {
+        return false;
+    }
+    bins.len() == layout.bins_at(head.position)
 }
 
 /// Gives a call to a node. The bins are those of a record that is to be kept, or the room for those of

@@ -1,5 +1,7 @@
 -- What the images keep is what the calls give.
+use Rattle.std.proofs.Common.{ℕ, List, sym, subst}
 use Rattle.rz_events.specs.Borrowed.{call_of}
+use Rattle.rz_journal.specs.Kept.{IsRowOf}
 use Rattle.rz_journal.proofs.Keepings.{all_either, calls_answer, place_there, kept_looked}
 use Rattle.rz_journal.proofs.journal.Journal.answer_ref.Goals as goal
 
@@ -12,7 +14,9 @@ returns-in-Ok-Some-clause-calls g c = calls_answer c.args.self.now c.keep.new.se
 
 pub returns-in-Ok-Some-clause-place : goal.returns-in-Ok-Some-clause-place
 returns-in-Ok-Some-clause-place g c =
-    place_there g.D.Disk.tells g.D.Disk.text c.args.self.now c.keep.new.self (call_of c.args.call) c.in-Ok-Some.row.items c.keep.result c.in-Ok.ensures.row c.keep.ensures.used c.keep.ensures.half
+    let row = rw c.in-Ok-Some.field-0-is at c.in-Ok-Some.ensures.row in
+    place_there g.D.Disk.tells g.D.Disk.text c.args.self.now c.keep.new.self (call_of c.args.call) c.as_slice.result.now c.keep.result
+    (subst (λ (bytes : List ℕ). IsRowOf (call_of c.args.call) bytes) (sym c.as_slice.ensures.value) row) c.keep.ensures.used c.keep.ensures.half
 
 pub returns-in-Ok-Some-clause-looked : goal.returns-in-Ok-Some-clause-looked
-returns-in-Ok-Some-clause-looked g c = kept_looked c.args.self.now.disk c.keep.new.self.disk (call_of c.args.call) c.in-Ok-Some.row.items c.keep.result c.in-Ok.ensures.row
+returns-in-Ok-Some-clause-looked g c = kept_looked c.args.self.now.disk c.keep.new.self.disk (call_of c.args.call) c.in-Ok-Some.row.items c.keep.result (rw c.in-Ok-Some.field-0-is at c.in-Ok-Some.ensures.row)
