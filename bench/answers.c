@@ -105,7 +105,61 @@ static void groups_of_eight(void) {
     want(out[16 * WORDS - 1], 0, "the last word of eight");
 }
 
+/* What is refused in room that is lent, and what is done, whatever the room holds. */
+static void in_lent_room(void) {
+    static const uint32_t positions[] = {0, 1};
+    static const struct { uint32_t layout, positions[2]; size_t count, bins, words, blocks, room, answer; } rows[] = {
+        {12, {0, 1}, 2, 1030, 2 * WORDS, 2, 0, MJ_C_BAD_LAYOUT},   {0, {4, 0}, 2, 1030, 2 * WORDS, 2, 0, MJ_C_BAD_POSITION},
+        {0, {1, 0}, 2, 1030, 2 * WORDS, 2, 0, MJ_C_NOT_ASCENDING}, {0, {0, 1}, 1, 1030, 2 * WORDS, 2, 0, MJ_C_BAD_LENGTH},
+        {0, {0, 1}, 2, 1029, 2 * WORDS, 2, 0, MJ_C_BAD_LENGTH},    {0, {0, 1}, 2, 1030, 2 * WORDS, 3, 0, MJ_C_BAD_LENGTH},
+        {0, {0, 1}, 2, 1030, 2 * WORDS, 2, 1, MJ_C_BAD_LENGTH},    {0, {0, 1}, 2, 1030, 2 * WORDS, 2, 0, MJ_C_DONE},
+        {0, {0, 1}, 2, 0, 0, 0, 0, MJ_C_DONE},
+    };
+    size_t lent = mj_c_room(0);
+    uint64_t *room = malloc(lent * 8);
+    want(mj_c_room(12), 0, "room of no layout");
+    want(room != NULL && lent > 0, 1, "room");
+    fill(room, lent, 0x5555);
+    fill(bins, ALL + 2, 0);
+    bins[3] = 1;
+    for (size_t i = 0; i < sizeof rows / sizeof *rows; i++) {
+        uint8_t lost[3] = {9, 9, 9};
+        fill(out, 2 * WORDS, 7);
+        want(mj_c_solve_many_in(rows[i].layout, rows[i].positions, rows[i].count, bins, rows[i].bins, out, rows[i].words, lost,
+                                rows[i].blocks, room, lent - rows[i].room), rows[i].answer, "solve_many_in");
+        int found = rows[i].answer == MJ_C_DONE && rows[i].blocks == 2;
+        want(out[0], 7, "a block that has no words, or none that was looked for");
+        want(out[2 * WORDS - 1], found ? 0 : 7, "a block beside it");
+        want(lost[0], found ? 1 : 9, "the byte of a block that has no words");
+        want(lost[1], found ? 0 : 9, "the byte of a block beside it");
+    }
+    uint8_t answers[2] = {9, 9};
+    fill(bins, 2 * GROUP, 0);
+    bins[GROUP + 3] = 1;
+    fill(out, 16 * WORDS, 9);
+    want(mj_c_solve_eight_in(0, positions, 2, bins, 2 * GROUP, out, 16 * WORDS, answers, 2, room, lent - 1), MJ_C_BAD_LENGTH,
+         "too little room for two groups");
+    want(answers[0] == 9 && out[0] == 9, 1, "two groups after a refusal");
+    want(mj_c_solve_eight_in(0, positions, 2, bins, 2 * GROUP, out, 16 * WORDS, answers, 2, room, lent), MJ_C_DONE, "two groups in room");
+    want(answers[0], 0, "the first group in room");
+    want(answers[1], 8, "the second group in room");
+    want(out[0], 0, "the first word of eight in room");
+    want(out[16 * WORDS - 1], 0, "the last word of eight in room");
+    free(room);
+}
+
+/* out[lead] begins a line of 64 bytes. */
+static void leads(void) {
+    for (size_t i = 0; i < 16; i++) {
+        size_t lead = mj_c_lead(block + i);
+        want(lead < 8, 1, "a lead below eight");
+        want((uintptr_t)(block + i + lead) % 64, (uintptr_t)block % 8, "the word at the lead");
+    }
+}
+
 int main(void) {
+    leads();
+    in_lent_room();
     numbers();
     projections();
     all_projections();

@@ -3,7 +3,6 @@
 # KIT is the folder of the Rattle kit. ISA-L is measured where its headers are (Debian: libisal-dev).
 set -e
 here="$(cd "$(dirname "$0")" && pwd)"
-kit="${KIT:-/opt/rattle}"
 out="$(mktemp -d)"
 trap 'rm -rf "$out"' EXIT
 isal=()
@@ -15,10 +14,9 @@ for cpu in x86-64-v2 x86-64-v3; do
         echo "this processor has no AVX2, so $cpu is passed over"
         continue
     fi
-    (cd "$here/../crates/mj_c" && rt lib mj_c --cpu "$cpu" >/dev/null)
-    archives=("$here/../crates/mj_c/out/libmj_c.a" "$kit/c/liblibc_c.a")
-    cc -O2 -Wall -Wextra "$here/sets.c" "${archives[@]}" -o "$out/sets"
-    cc -O2 -Wall -Wextra "$here/transform.c" "${archives[@]}" "${isal[@]}" -o "$out/transform"
+    "$here/../include/archive.sh" "$out" "$cpu"
+    cc -O2 -Wall -Wextra "$here/sets.c" "$out/libmj_c.a" -o "$out/sets"
+    cc -O2 -Wall -Wextra "$here/transform.c" "$out/libmj_c.a" "${isal[@]}" -o "$out/transform"
     echo "== $cpu"
     "$out/sets"
     "$out/transform" "$@"

@@ -1,10 +1,12 @@
 /* Times the transform of libmj_c.a beside memcpy, and beside ISA-L doing the same job where it is there
- * (compile with -DHAVE_ISAL and link -lisal). One thread, processor time, best of some rounds.
+ * (compile with -DHAVE_ISAL and link -lisal): once with AVX2 alone, and once with all that the processor has. One
+ * thread, processor time; in each round every line is taken in turn, and its best round counts.
  *
  * Encoding writes all projections of a block that a layout asks for. ISA-L writes as many pieces: the
  * data as it is, and the others by ec_encode_data. Decoding finds blocks from the worst set of
  * positions: of ours the widest angles of both signs, of ISA-L's as many pieces as positions those that
- * are no data. Every block that comes back is compared. */
+ * are no data. The fragments stand apart, a buffer for each position, as stores have them, and a call has eight
+ * blocks. Every block that comes back is compared. */
 #include "../include/mj_c.h"
 #include <stdio.h>
 #include <stdlib.h>
@@ -14,19 +16,19 @@
 #include <isa-l.h>
 #endif
 
-enum { MOST = 16, LINE = 8 };
+enum { MOST = 16, LINE = 8, GROUP = 8, LINES = 12 };
 
 static const char *const NAMES[12] = {"L0",   "L1",   "L2",   "L0B1", "L0B2", "L0B3",
                                       "L1B1", "L1B2", "L1B3", "L2B1", "L2B2", "L2B3"};
 
-/* One size of test: so many blocks of a layout, with all that is needed to time them. */
+/* So many blocks of a layout, with all that is needed to time them. */
 struct job {
     uint32_t layout;
     struct mj_c_numbers n;
-    size_t words, blocks, all, stride, some;
+    size_t words, blocks, all, stride, some, room_words;
     uint32_t positions[MOST];
-    uint64_t *from, *pieces, *bins, *to, *lanes, *blocks_in_lanes;
-    uint8_t *answers;
+    uint64_t *from, *pieces, *bins, *to, *parts[MOST], *room;
+    size_t part[MOST];
 #ifdef HAVE_ISAL
     unsigned char encode[32 * MOST * MOST], decode[32 * MOST * MOST];
     uint64_t *others;
@@ -64,47 +66,57 @@ static void encode(struct job *j) {
                               j->pieces + b * j->stride, j->all), "mj_c_project_all");
 }
 
-static void solve(struct job *j) {
-    for (size_t b = 0; b < j->blocks; b++)
-        want(mj_c_solve(j->layout, j->positions, j->n.inverse, j->bins + b * j->some, j->some,
-                        j->to + b * j->words, j->words), "mj_c_solve");
-}
-
-static void solve_many(struct job *j) {
-    want(mj_c_solve_many(j->layout, j->positions, j->n.inverse, j->bins, j->blocks * j->some, j->to,
-                         j->blocks * j->words), "mj_c_solve_many");
-}
-
-/* Eight blocks side by side. Moving them there and back is not timed. */
-static void solve_eight(struct job *j) {
-    want(mj_c_solve_eight(j->layout, j->positions, j->n.inverse, j->lanes, j->blocks * j->some,
-                          j->blocks_in_lanes, j->blocks * j->words, j->answers, j->blocks / 8), "mj_c_solve_eight");
-}
-
-/* Moves so many words of each block, `each` words apart, side by side in groups of eight, or back. */
-static void interleave(uint64_t *apart, uint64_t *beside, size_t blocks, size_t each, int back) {
-    for (size_t b = 0; b < blocks; b++)
-        for (size_t i = 0; i < each; i++) {
-            uint64_t *x = apart + b * each + i, *y = beside + (b / 8) * 8 * each + 8 * i + b % 8;
-            if (back) *x = *y;
-            else *y = *x;
+/* The bins of `count` blocks, block after block. */
+static void gather(struct job *j, size_t first, size_t count) {
+    uint64_t *to = j->bins;
+    for (size_t b = first; b < first + count; b++)
+        for (size_t i = 0; i < j->n.inverse; i++) {
+            memcpy(to, j->parts[i] + b * j->part[i], j->part[i] * 8);
+            to += j->part[i];
         }
 }
 
+static void solve(struct job *j) {
+    for (size_t b = 0; b < j->blocks; b++) {
+        gather(j, b, 1);
+        want(mj_c_solve(j->layout, j->positions, j->n.inverse, j->bins, j->some, j->to + b * j->words, j->words), "mj_c_solve");
+    }
+}
+
+static void solve_many(struct job *j) {
+    for (size_t b = 0; b < j->blocks; b += GROUP) {
+        gather(j, b, GROUP);
+        want(mj_c_solve_many(j->layout, j->positions, j->n.inverse, j->bins, GROUP * j->some, j->to + b * j->words,
+                             GROUP * j->words), "mj_c_solve_many");
+    }
+}
+
+static void solve_lent(struct job *j) {
+    uint8_t lost[GROUP];
+    for (size_t b = 0; b < j->blocks; b += GROUP) {
+        gather(j, b, GROUP);
+        want(mj_c_solve_many_in(j->layout, j->positions, j->n.inverse, j->bins, GROUP * j->some, j->to + b * j->words,
+                                GROUP * j->words, lost, GROUP, j->room, j->room_words), "mj_c_solve_many_in");
+        for (size_t i = 0; i < GROUP; i++) want(lost[i], "a block of mj_c_solve_many_in");
+    }
+}
+
 #ifdef HAVE_ISAL
-static void isal_encode(struct job *j) {
+typedef void coder(int, int, int, unsigned char *, unsigned char **, unsigned char **);
+
+static void isal_pieces(struct job *j, coder *make) {
     size_t k = j->n.inverse, m = j->n.forward - k, each = j->n.cols * 8;
     for (size_t b = 0; b < j->blocks; b++) {
         unsigned char *data[MOST], *made[MOST], *out = (unsigned char *)(j->pieces + b * j->stride);
         for (size_t i = 0; i < k; i++) data[i] = (unsigned char *)(j->from + b * j->words) + i * each;
         for (size_t i = 0; i < m; i++) made[i] = out + (k + i) * each;
-        ec_encode_data((int)each, (int)k, (int)m, j->encode, data, made);
+        make((int)each, (int)k, (int)m, j->encode, data, made);
         memcpy(out, j->from + b * j->words, k * each);
     }
 }
 
 /* All data are lost, and made again from as many other pieces. */
-static void isal_decode(struct job *j) {
+static void isal_back(struct job *j, coder *make) {
     size_t k = j->n.inverse, each = j->n.cols * 8;
     for (size_t b = 0; b < j->blocks; b++) {
         unsigned char *have[MOST], *made[MOST];
@@ -112,9 +124,14 @@ static void isal_decode(struct job *j) {
             have[i] = (unsigned char *)(j->others + b * j->words) + i * each;
             made[i] = (unsigned char *)(j->to + b * j->words) + i * each;
         }
-        ec_encode_data((int)each, (int)k, (int)k, j->decode, have, made);
+        make((int)each, (int)k, (int)k, j->decode, have, made);
     }
 }
+
+static void isal_encode(struct job *j) { isal_pieces(j, ec_encode_data); }
+static void isal_decode(struct job *j) { isal_back(j, ec_encode_data); }
+static void avx2_encode(struct job *j) { isal_pieces(j, ec_encode_data_avx2); }
+static void avx2_decode(struct job *j) { isal_back(j, ec_encode_data_avx2); }
 
 static void isal_prepare(struct job *j) {
     size_t k = j->n.inverse, each = j->n.cols * 8;
@@ -136,25 +153,40 @@ static void isal_prepare(struct job *j) {
 }
 #endif
 
-static void compare(struct job *j, const char *call) {
-    if (memcmp(j->from, j->to, j->blocks * j->words * 8)) {
-        fprintf(stderr, "%s gives other blocks in %s\n", call, NAMES[j->layout]);
-        exit(1);
-    }
-    memset(j->to, 1, j->blocks * j->words * 8);
-}
+/* What is timed, whether it gives the blocks back, and its best time for all blocks. */
+struct line {
+    const char *name;
+    void (*pass)(struct job *);
+    int gives_back;
+    double best;
+};
 
-/* Bytes of blocks in a nanosecond: the best of some rounds. */
-static double speed(struct job *j, void (*pass)(struct job *), int rounds, int passes) {
-    double best = 1e9;
-    pass(j);
-    for (int r = 0; r < rounds; r++) {
-        double begin = now();
-        for (int i = 0; i < passes; i++) pass(j);
-        double took = (now() - begin) / passes;
-        if (took < best) best = took;
+static struct line lines[LINES] = {
+    {"memcpy", copy, 1, 0},       {"encode", encode, 0, 0},          {"solve", solve, 1, 0},
+    {"many", solve_many, 1, 0},   {"lent", solve_lent, 1, 0},
+#ifdef HAVE_ISAL
+    {"avx2 enc", avx2_encode, 0, 0}, {"avx2 dec", avx2_decode, 1, 0},
+    {"isal enc", isal_encode, 0, 0}, {"isal dec", isal_decode, 1, 0},
+#endif
+};
+
+static void time_lines(struct job *j, int rounds, int passes) {
+    for (struct line *l = lines; l->name; l++) {
+        memset(j->to, 1, j->blocks * j->words * 8);
+        l->pass(j);
+        if (l->gives_back && memcmp(j->from, j->to, j->blocks * j->words * 8)) {
+            fprintf(stderr, "%s gives other blocks in %s\n", l->name, NAMES[j->layout]);
+            exit(1);
+        }
+        l->best = 1e9;
     }
-    return (double)(j->blocks * j->words * 8) / best / 1e9;
+    for (int r = 0; r < rounds; r++)
+        for (struct line *l = lines; l->name; l++) {
+            double begin = now();
+            for (int i = 0; i < passes; i++) l->pass(j);
+            double took = (now() - begin) / passes;
+            if (took < l->best) l->best = took;
+        }
 }
 
 static void prepare(struct job *j, uint32_t layout, size_t bytes) {
@@ -162,36 +194,30 @@ static void prepare(struct job *j, uint32_t layout, size_t bytes) {
     want(mj_c_numbers(layout, &j->n), "mj_c_numbers");
     size_t rows = j->n.inverse;
     j->words = rows * j->n.cols;
-    j->blocks = (bytes / 8 / j->words + 7) / 8 * 8;
+    j->blocks = (bytes / 8 / j->words + GROUP - 1) / GROUP * GROUP;
     j->all = j->some = 0;
     for (uint32_t i = 0; i < j->n.forward; i++) j->all += mj_c_bins(layout, i);
     j->stride = (j->all + LINE - 1) / LINE * LINE;
-    for (uint32_t i = 0; i < rows; i++) {
-        j->positions[i] = i < rows / 2 ? i : (uint32_t)rows + i;
-        j->some += mj_c_bins(layout, j->positions[i]);
-    }
     j->from = room(j->blocks * j->words);
     j->to = room(j->blocks * j->words);
     j->pieces = room(j->blocks * j->stride);
-    j->bins = room(j->blocks * j->some);
     uint64_t state = layout + 1;
     for (size_t i = 0; i < j->blocks * j->words; i++) {
         state = state * 6364136223846793005u + 1442695040888963407u;
         j->from[i] = state ^ (state >> 29);
     }
-    for (size_t b = 0; b < j->blocks; b++) {
-        uint64_t *at = j->bins + b * j->some;
-        for (size_t i = 0; i < rows; i++) {
-            size_t bins = mj_c_bins(layout, j->positions[i]);
-            want(mj_c_project(layout, j->positions[i], j->from + b * j->words, j->words, at, bins),
+    for (uint32_t i = 0; i < rows; i++) {
+        j->positions[i] = i < rows / 2 ? i : (uint32_t)rows + i;
+        j->part[i] = mj_c_bins(layout, j->positions[i]);
+        j->some += j->part[i];
+        j->parts[i] = room(j->blocks * j->part[i]);
+        for (size_t b = 0; b < j->blocks; b++)
+            want(mj_c_project(layout, j->positions[i], j->from + b * j->words, j->words, j->parts[i] + b * j->part[i], j->part[i]),
                  "mj_c_project");
-            at += bins;
-        }
     }
-    j->lanes = room(j->blocks * j->some);
-    j->blocks_in_lanes = room(j->blocks * j->words);
-    j->answers = (uint8_t *)room(j->blocks / 64 + 1);
-    interleave(j->bins, j->lanes, j->blocks, j->some, 0);
+    j->bins = room(GROUP * j->some);
+    j->room_words = mj_c_room(layout);
+    j->room = room(j->room_words);
 #ifdef HAVE_ISAL
     isal_prepare(j);
 #endif
@@ -200,51 +226,32 @@ static void prepare(struct job *j, uint32_t layout, size_t bytes) {
 static void time_layout(uint32_t layout, size_t bytes, int rounds, int passes) {
     static struct job j;
     prepare(&j, layout, bytes);
-    double memory = speed(&j, copy, rounds, passes);
-    double encoded = speed(&j, encode, rounds, passes);
-    memset(j.to, 1, j.blocks * j.words * 8);
-    double one = speed(&j, solve, rounds, passes);
-    compare(&j, "mj_c_solve");
-    double many = speed(&j, solve_many, rounds, passes);
-    compare(&j, "mj_c_solve_many");
-    double eight = speed(&j, solve_eight, rounds, passes);
-    interleave(j.to, j.blocks_in_lanes, j.blocks, j.words, 1);
-    compare(&j, "mj_c_solve_eight");
-    for (size_t i = 0; i < j.blocks / 8; i++) want(j.answers[i], "a group of mj_c_solve_eight");
-    double best = eight > many ? eight : many;
-    printf("%-5s %7.1f %8.2f %8.2f %8.2f %8.2f", NAMES[layout], memory, encoded, one, many, eight);
-    (void)best;
+    time_lines(&j, rounds, passes);
+    printf("%-5s", NAMES[layout]);
+    for (struct line *l = lines; l->name; l++) printf(" %8.2f", (double)(j.blocks * j.words * 8) / l->best / 1e9);
+    printf("\n");
+    fflush(stdout);
 #ifdef HAVE_ISAL
-    double other = speed(&j, isal_encode, rounds, passes);
-    double back = speed(&j, isal_decode, rounds, passes);
-    compare(&j, "ISA-L");
-    printf(" %8.2f %8.2f %8.2f %8.2f", other, back, encoded / other, best / back);
     free(j.others);
 #endif
-    printf("\n");
+    for (uint32_t i = 0; i < j.n.inverse; i++) free(j.parts[i]);
     free(j.from);
     free(j.to);
     free(j.pieces);
     free(j.bins);
-    free(j.lanes);
-    free(j.blocks_in_lanes);
-    free(j.answers);
+    free(j.room);
 }
 
 static void time_all(const char *title, size_t bytes, int rounds, int passes) {
-    printf("%s, GB/s of blocks\n", title);
-    printf("layout memcpy   encode    solve     many    eight");
-#ifdef HAVE_ISAL
-    printf("  ISA-L:  ISA-L:    ratio    ratio\n%61s   decode   encode   decode\n", "encode");
-#else
-    printf("   (no ISA-L here)\n");
-#endif
+    printf("%s, GB/s of blocks\nlayout", title);
+    for (struct line *l = lines; l->name; l++) printf(" %8s", l->name);
+    printf("\n");
     for (uint32_t layout = 0; layout < 12; layout++) time_layout(layout, bytes, rounds, passes);
 }
 
 int main(int argc, char **argv) {
     int rounds = argc > 1 ? atoi(argv[1]) : 20;
-    time_all("128 KiB of blocks, in cache", 128 * 1024, rounds, 8);
-    time_all("64 MiB of blocks, in memory", 64 * 1024 * 1024, rounds / 5 + 1, 1);
+    time_all("128 KiB of blocks, in cache", 128 * 1024, rounds, 4);
+    time_all("64 MiB of blocks, in memory", 64 * 1024 * 1024, rounds / 10 + 1, 1);
     return 0;
 }

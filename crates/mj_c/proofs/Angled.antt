@@ -1,5 +1,5 @@
 -- Projections at the angles of positions.
-use Rattle.std.proofs.Common.{◌≡◌, ◌≢◌, ℕ, zero, suc, ◌+◌, ◌*◌, ◌<◌, ◌≤◌, arith, refl, sym, ap, ◌∙◌, List, [], ◌∷◌, length, map, take, drop, ℤ}
+use Rattle.std.proofs.Common.{◌≡◌, ◌≢◌, ℕ, zero, suc, ◌+◌, ◌-◌, ◌*◌, ◌<◌, ◌≤◌, arith, refl, sym, ap, ◌∙◌, List, [], ◌∷◌, length, map, take, drop, ℤ}
 use Rattle.std.specs.Prelude.{true, All, unsigned_abs, nat_lt}
 use Rattle.std.specs.List.{list_all, sum_by}
 use Rattle.mj_angles.specs.declared.layout.Layout.{Layout}
@@ -11,6 +11,7 @@ use Rattle.mj_c.specs.Layouts.{pairs_with, eight_search}
 use Rattle.mj_c.specs.Answers.{is_ascending_from}
 use Rattle.std.proofs.lemmas.List.Sums.{sum_by-cons}
 use Rattle.std.proofs.lemmas.Bool.{ltb-true}
+use Rattle.std.proofs.Math.Nat.{mul-le-mul_right}
 use Rattle.mj_c.proofs.Ascending.{both, all_above, others_above}
 
 pub pairs_angled : (y : Layout) (positions bins : List ℕ) → pairs_from (inverse_of y) (cols_of y) (map (angle_of y) positions) bins ≡ pairs_with (λ i. 8 * bins_at_of y i) y positions bins
@@ -36,6 +37,18 @@ angles_small y [] known k d h = absurd (omega arith)
 angles_small y (i ∷ others) known zero d h = small_angle y i (ltb-true i (safe_of y) (both (nat_lt i (safe_of y)) (list_all (λ i. nat_lt i (safe_of y)) others) known).0)
 angles_small y (i ∷ others) known (suc k) d h =
     angles_small y others (both (nat_lt i (safe_of y)) (list_all (λ i. nat_lt i (safe_of y)) others) known).1 k d (let z : suc k < suc (length (map (angle_of y) others)) = h in omega arith)
+
+pub angles_near : (y : Layout) (positions : List ℕ) → list_all (λ i. nat_lt i (safe_of y)) positions ≡ true → All (λ p. unsigned_abs p ≤ 8) (map (angle_of y) positions)
+angles_near y [] known k d h = absurd (omega arith)
+angles_near y (i ∷ others) known zero d h = angle_of-small y i (ltb-true i (safe_of y) (both (nat_lt i (safe_of y)) (list_all (λ i. nat_lt i (safe_of y)) others) known).0)
+angles_near y (i ∷ others) known (suc k) d h =
+    angles_near y others (both (nat_lt i (safe_of y)) (list_all (λ i. nat_lt i (safe_of y)) others) known).1 k d (let z : suc k < suc (length (map (angle_of y) others)) = h in omega arith)
+
+pub near_all : (xs : List ℤ) (reach : ℕ) → 8 ≤ reach → All (λ p. unsigned_abs p ≤ 8) xs → All (λ p. unsigned_abs p ≤ reach) xs
+near_all xs reach h near k d m = let n = near k d m in omega arith
+
+pub reaches_all : (rows : ℕ) (xs : List ℤ) (reach : ℕ) → reach ≡ 8 * (rows - 1) → All (λ p. unsigned_abs p ≤ 8) xs → All (λ p. unsigned_abs p * (rows - 1) ≤ reach) xs
+reaches_all rows xs reach is near k d m = let n = mul-le-mul_right (rows - 1) (near k d m) in omega arith
 
 other_angles : (y : Layout) (n i : ℕ) (others : List ℕ) → i < n → is_ascending_from n others ≡ true → All (λ q. q ≢ angle_of y i) (map (angle_of y) others)
 other_angles y n i [] less rises k d h same = absurd (omega arith)

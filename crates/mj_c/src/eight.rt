@@ -60,7 +60,7 @@ pub fn solve_eight_at(
 }
 
 /// How many bins the projections of eight blocks at these positions have.
-fn eight_bins(layout: Layout, positions: &[u32]) -> usize
+pub fn eight_bins(layout: Layout, positions: &[u32]) -> usize
     requires positions { list_all (λ i. nat_lt i (safe_of layout)) positions.now ≡ true }
     requires few { length positions.now ≤ 8 }
     ensures { result ≡ sum_by (λ i. 8 * bins_at_of layout i) positions.now }
@@ -126,7 +126,7 @@ fn find_eight(
 }
 
 /// Writes the angles of the projections at these positions.
-fn write_angles(layout: Layout, positions: &[u32], out: &mut [i32])
+pub fn write_angles(layout: Layout, positions: &[u32], out: &mut [i32])
     requires positions { list_all (λ i. nat_lt i (safe_of layout)) positions.now ≡ true }
     requires room { length out.old ≡ length positions.now }
     ensures { out.new ≡ map (angle_of layout) positions.now }

@@ -16,15 +16,25 @@ ghost use Rattle.mj_angles.specs.Layout.{inverse_of, cols_of, angle_of, bins_at_
 ghost use Rattle.mj_forward.specs.Forward.{lane_word, start_of};
 ghost use Rattle.rz_words.specs.Grid.{Grid, grid_of};
 ghost use Rattle.mj_inverse.specs.Fits.{IsFound};
-ghost use Rattle.mj_c.specs.Layouts.{layout_at, search_of, search_at, words_of, IsAnswered, bins_or_zero, group_search, group_at, IsSolved};
+ghost use Rattle.mj_c.specs.Layouts.{layout_at, search_of, search_at, words_of, IsAnswered, IsKnown, bins_or_zero, part_of, room_or_zero, group_search, group_at, IsSolved};
 ghost use Rattle.mj_c.specs.Numbers.{numbers_answer, numbers_of};
-ghost use Rattle.mj_c.specs.Answers.{code_of, project_answer, eight_answer, all_answer, solve_refusal, many_refusal, eight_refusal};
+ghost use Rattle.mj_c.specs.Answers.{code_of, project_answer, eight_answer, all_answer, solve_refusal, many_refusal, eight_refusal, lent_refusal, lent_eight_refusal};
 
+mod apart;
 mod eight;
 mod forward;
+mod group;
 mod inverse;
 mod layouts;
+mod lent;
+mod lent_eight;
 mod many;
+mod room;
+mod square;
+mod starts;
+mod taking;
+#[cfg(test)]
+mod tests;
 
 use std::alloc::Global;
 
@@ -189,6 +199,63 @@ pub extern "C" fn mj_c_solve_eight(
     ensures unanswered { result ≢ 0 → answers.new ≡ answers.old }
 {
     eight::solve_eight_at(alloc, layout, positions, bins, out, answers).code()
+}
+
+/// How many words of room the calls that end in `_in` want, for any number of blocks, and 0 where there is no
+/// such layout.
+#[unsafe(no_mangle)]
+pub extern "C" fn mj_c_room(layout: u32) -> usize
+    ensures { result ≡ room_or_zero (layout_at layout) }
+{
+    match layouts::layout_of(layout) {
+        Some(layout) => room::room_words(layout),
+        None => 0,
+    }
+}
+
+/// Writes into `out` as many blocks as `lost` has bytes, one after the other, in room that is lent. `bins` has the
+/// projections of the first block at the positions one after the other, then those of the second, and so on.
+/// The byte of a block that has no words becomes 1, and its place in `out` stays as it was; the others become 0.
+/// After any answer but 0 `out` and `lost` are as they were. What `room` holds does not matter, before or after.
+#[unsafe(no_mangle)]
+pub extern "C" fn mj_c_solve_many_in(
+    layout: u32,
+    positions: &[u32],
+    bins: &[u64],
+    out: &mut [u64],
+    lost: &mut [u8],
+    room: &mut [u64],
+) -> u32
+    ensures refused { let refusal = lent_refusal (layout_at layout) positions.now (length bins.now) (length out.old) (length lost.old) (length room.old) in
+        refusal ≢ Answer.Done → result ≡ code_of refusal }
+    ensures done { lent_refusal (layout_at layout) positions.now (length bins.now) (length out.old) (length lost.old) (length room.old) ≡ Answer.Done → result ≡ 0 }
+    ensures known { result ≡ 0 → IfSome (layout_at layout)
+        (λ y. (i : ℕ) → i < length lost.old → IsKnown y (search_at y positions.now bins.now i) (part_of y out.old i) (part_of y out.new i) (slice_index lost.new i)) }
+    ensures unchanged { result ≢ 0 → out.new ≡ out.old }
+    ensures unnamed { result ≢ 0 → lost.new ≡ lost.old }
+{
+    lent::solve_many_in_at(layout, positions, bins, out, lost, room).code()
+}
+
+/// `mj_c_solve_eight` in room that is lent. What `room` holds does not matter, before or after.
+#[unsafe(no_mangle)]
+pub extern "C" fn mj_c_solve_eight_in(
+    layout: u32,
+    positions: &[u32],
+    bins: &[u64],
+    out: &mut [u64],
+    answers: &mut [u8],
+    room: &mut [u64],
+) -> u32
+    ensures refused { let refusal = lent_eight_refusal (layout_at layout) positions.now (length bins.now) (length out.old) (length answers.old) (length room.old) in
+        refusal ≢ Answer.Done → result ≡ code_of refusal }
+    ensures done { lent_eight_refusal (layout_at layout) positions.now (length bins.now) (length out.old) (length answers.old) (length room.old) ≡ Answer.Done → result ≡ 0 }
+    ensures solved { result ≡ 0 → IfSome (layout_at layout)
+        (λ y. (i j : ℕ) → i < length answers.old → j < 8 → IsSolved y (group_search y positions.now bins.now i) (group_at y out.new i) (slice_index answers.new i) j) }
+    ensures unchanged { result ≢ 0 → out.new ≡ out.old }
+    ensures unanswered { result ≢ 0 → answers.new ≡ answers.old }
+{
+    lent_eight::solve_eight_in_at(layout, positions, bins, out, answers, room).code()
 }
 
 /// The numbers of a layout.
