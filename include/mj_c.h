@@ -65,10 +65,12 @@ size_t mj_c_bins(uint32_t layout, uint32_t position);
  * such layout. */
 size_t mj_c_room(uint32_t layout);
 
+#if defined(__cplusplus) || (defined(__STDC_VERSION__) && __STDC_VERSION__ >= 199901L)
 /* The `lead` of room for bins: how many words before the first one in it that begins a line of 64 bytes. */
 static inline size_t mj_c_lead(const uint64_t *out) {
     return (size_t)((8 - ((uintptr_t)out >> 3)) & 7);
 }
+#endif
 
 /* Writes the projection of a block at `position`. `out` may stand anywhere, as behind a header of the caller's. */
 uint32_t mj_c_project(uint32_t layout, uint32_t position, const uint64_t *block, size_t words,

@@ -1,4 +1,4 @@
-use Rattle.std.proofs.Common.{arith, ◌≡◌, ◌<◌, ◌≤◌, ◌+◌, ◌-◌, ◌*◌, ◌∙◌, ℕ, List, get_or, ap, subst, ◌⊎◌, inl, inr}
+use Rattle.std.proofs.Common.{arith, ◌≡◌, ◌<◌, ◌≤◌, ◌+◌, ◌-◌, ◌*◌, ◌∙◌, ℕ, List, get_or, ap, ◌⊎◌, inl, inr}
 use Rattle.std.proofs.lemmas.Bool.{cases_lt}
 use Rattle.mj_c.proofs.apart.put_fours.Goals as goal
 
@@ -13,9 +13,6 @@ beside to r i n small = by (cases_lt n r)
 pub returns-clause-here : goal.returns-clause-here
 returns-clause-here c = λ r i few small. by r i few small (cases_lt i 4)
   where
-    words : List ℕ
-    words = c.args.words.now
-
     by : (r i : ℕ) → r < 4 → i < 8 → (i < 4) ⊎ (4 ≤ i) → get_or c.put_square-2.new.out (c.args.to + 8 * r + i) 0 ≡ get_or c.args.words.now (get_or c.args.starts.now i 0 + (c.args.k + r)) 0
     by r i few small (inl l) =
         c.put_square-2.ensures.other (c.args.to + 8 * r + i) (λ n _. beside c.args.to r i n l) ∙ c.put_square.ensures.here r i few l

@@ -1,5 +1,5 @@
-use Rattle.std.proofs.Common.{arith, ◌≡◌, ◌<◌, ◌≤◌, ◌+◌, ◌*◌, ◌∙◌, ℕ, List, get_or, ap}
-use Rattle.mj_c.proofs.Squares.{IsPut, of_four, squared, elsewhere}
+use Rattle.std.proofs.Common.{arith, ◌≡◌, ◌<◌, ◌+◌, ◌∙◌, ℕ, List, get_or, ap}
+use Rattle.mj_c.proofs.Squares.{of_four, squared, elsewhere}
 use Rattle.mj_c.proofs.square.put_square.Goals as goal
 
 -- word n of the list that begins at starts (h + i)

@@ -1,5 +1,5 @@
-use Rattle.std.proofs.Common.{arith, ◌≡◌, ◌<◌, ◌≤◌, ◌+◌, ◌*◌, ◌∙◌, ℕ, List, get_or, ap}
-use Rattle.mj_c.proofs.Squares.{IsPut, of_four}
+use Rattle.std.proofs.Common.{arith, ◌≡◌, ◌<◌, ◌+◌, ◌*◌, ◌∙◌, ℕ, List, get_or, ap}
+use Rattle.mj_c.proofs.Squares.{of_four}
 use Rattle.mj_c.proofs.Spaced.{spaced, elsewhere_spaced}
 use Rattle.mj_c.proofs.taking.take_square.Goals as goal
 
