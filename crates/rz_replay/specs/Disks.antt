@@ -30,7 +30,7 @@ use Rattle.rz_play_laws.specs.Runs.{IsRunAfter}
 use Rattle.rz_play_locks.specs.Kept.{IsKeptAfter}
 use Rattle.rz_play_locks.specs.Operations.{given}
 use Rattle.rz_player.specs.Ends.{IsEnded}
-use Rattle.rz_player.specs.declared.lines.PlayEnd.TheVariants.{Ended, TooManyTurns, Halted, Journal, JournalFull}
+use Rattle.rz_player.specs.declared.lines.PlayEnd.TheVariants.{Ended, TooManyTurns, NoMemory, Journal, JournalFull}
 use Rattle.rz_player.specs.declared.lines.PlayEnd.{PlayEnd}
 use Rattle.rz_request.specs.declared.refusal.Stop.{Stop}
 use Rattle.rz_request.specs.declared.wishes.Request.{Request}
@@ -68,7 +68,7 @@ asked_in (Performed end later) = later
 abbrev pub refused_by : PlayEnd → Option JournalRefusal
 refused_by Journal = Some Failed
 refused_by JournalFull = Some Full
-refused_by Halted = None
+refused_by NoMemory = None
 refused_by Ended = None
 refused_by TooManyTurns = None
 
@@ -76,7 +76,7 @@ refused_by TooManyTurns = None
 abbrev pub IsJournalLeft : {D : Type 0} → Bool → (D → Meter) → (D → List ℕ → Type 0) → PlayEnd → Volume → (old new : D) → List Event → Type 0
 IsJournalLeft tells meter image Ended v old new h = IsTrue tells → StandsForLog (image new) v h
 IsJournalLeft tells meter image TooManyTurns v old new h = IsTrue tells → StandsForLog (image new) v h
-IsJournalLeft tells meter image Halted v old new h = EndsAsRefused (refused_by Halted) tells (image new) (faults (meter old)) (faults (meter new)) v h
+IsJournalLeft tells meter image NoMemory v old new h = EndsAsRefused (refused_by NoMemory) tells (image new) (faults (meter old)) (faults (meter new)) v h
 IsJournalLeft tells meter image Journal v old new h = EndsAsRefused (refused_by Journal) tells (image new) (faults (meter old)) (faults (meter new)) v h
 IsJournalLeft tells meter image JournalFull v old new h = EndsAsRefused (refused_by JournalFull) tells (image new) (faults (meter old)) (faults (meter new)) v h
 
@@ -97,7 +97,7 @@ abbrev pub LeavesNext : PlayEnd → Type 0 → Type 0
 LeavesNext Ended next = next
 LeavesNext TooManyTurns next = next
 LeavesNext JournalFull next = next
-LeavesNext Halted next = Unit {0}
+LeavesNext NoMemory next = Unit {0}
 LeavesNext Journal next = Unit {0}
 
 abbrev pub IsNextTold : {D : Type 0} → Bool → (D → List ℕ → Type 0) → Course → Volume → List D → List Event → Type 0

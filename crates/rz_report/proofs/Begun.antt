@@ -18,7 +18,7 @@ use Rattle.rz_player.specs.Free.{ComesTo, IsEndedOver}
 use Rattle.rz_report.specs.Telling.{IsPlayOf}
 use Rattle.rz_report.specs.Told.{AreLossesTold}
 use Rattle.rz_player.specs.declared.lines.PlayEnd.{PlayEnd}
-use Rattle.rz_player.specs.declared.lines.PlayEnd.TheVariants.{Ended, TooManyTurns, Halted, Journal, JournalFull}
+use Rattle.rz_player.specs.declared.lines.PlayEnd.TheVariants.{Ended, TooManyTurns, NoMemory, Journal, JournalFull}
 
 pub has_begun : ((v : Volume) (first : World) (lines : List Line) (log : List Event) → (p : IsPlayedFrom v first lines log) → (begun : IsBegunFrom v first lines log) × (begun.last ≡ p.last))
     → ((v : Volume) (cause : StopCause) (first : World) (lines : List Line) (log : List Event) → (p : IsStoppedFrom v cause first lines log) → (begun : IsBegunFrom v first lines log) × (begun.last ≡ p.last))
@@ -27,7 +27,7 @@ has_begun ended stopped v first Ended lines lost log h =
     let b = ended v first lines log h.0 in (b.0, subst (λ (w : World). w.lost ≤ lost) (sym b.1) h.1)
 has_begun ended stopped v first TooManyTurns lines lost log h =
     let b = stopped v TurnsSpent first lines log h.0 in (b.0, subst (λ (w : World). w.lost ≤ lost) (sym b.1) h.1)
-has_begun ended stopped v first Halted lines lost log h = h
+has_begun ended stopped v first NoMemory lines lost log h = h
 has_begun ended stopped v first Journal lines lost log h = h
 has_begun ended stopped v first JournalFull lines lost log h = h
 
@@ -63,7 +63,7 @@ anew_play v first lines end lost log old none new played =
 reached : (tells : Bool) (v : Volume) (lines : List Line) (end : PlayEnd) (first last : World) → ComesTo v lines tells end first last → IsReached v lines tells first last
 reached tells v lines Ended first last is = inl is.0
 reached tells v lines TooManyTurns first last is = inr (inl is)
-reached tells v lines Halted first last is = inr (inr is.0)
+reached tells v lines NoMemory first last is = inr (inr is.0)
 reached tells v lines Journal first last is = inr (inr is.0)
 reached tells v lines JournalFull first last is = inr (inr is.0)
 

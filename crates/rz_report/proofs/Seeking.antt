@@ -11,7 +11,7 @@ use Rattle.rz_play.specs.Free.{PlaysLinesOver}
 use Rattle.rz_player.specs.Behind.{Before, behind}
 use Rattle.rz_player.specs.Ends.{Carries, EndsBy}
 use Rattle.rz_player.specs.declared.lines.PlayEnd.{PlayEnd}
-use Rattle.rz_player.specs.declared.lines.PlayEnd.TheVariants.{Ended, TooManyTurns, Halted, Journal, JournalFull}
+use Rattle.rz_player.specs.declared.lines.PlayEnd.TheVariants.{Ended, TooManyTurns, NoMemory, Journal, JournalFull}
 use Rattle.rz_request.specs.declared.wishes.Wish.{Wish}
 use Rattle.rz_request.specs.declared.wishes.Wish.TheVariants.{Replay, Load, Scrub, First, Again}
 use Rattle.rz_events.specs.declared.files.Listed.{Listed}
@@ -133,7 +133,7 @@ module _ (holds held_now : Before → Type 0) (exact tells : Bool) (v : Volume) 
   after Ended First last later found whole held sought b holding is = sought
   after Ended Again last later found whole held sought b holding is = sought
   after TooManyTurns wish last later found whole held sought b holding is = sought
-  after Halted wish last later found whole held sought b holding is = sought
+  after NoMemory wish last later found whole held sought b holding is = sought
   after Journal wish last later found whole held sought b holding is = sought
   after JournalFull wish last later found whole held sought b holding is = sought
 
@@ -149,7 +149,7 @@ whole_play tells v own first lines given last volume_is lines_are whole =
 between : (end : PlayEnd) (so : Type 0) → (end ≡ Ended → so) → (end ≡ TooManyTurns → so) → BetweenTurns end so
 between Ended so ended stopped = ended refl
 between TooManyTurns so ended stopped = stopped refl
-between Halted so ended stopped = tt
+between NoMemory so ended stopped = tt
 between Journal so ended stopped = tt
 between JournalFull so ended stopped = tt
 
@@ -157,7 +157,7 @@ between JournalFull so ended stopped = tt
 any-end : (journaled : Bool) (why : PlayEnd) (end : PlayEnd) → end ≡ Ended → EndsBy journaled why end
 any-end journaled why Ended is = tt
 any-end journaled why TooManyTurns is = tt
-any-end journaled why Halted is = cc
+any-end journaled why NoMemory is = cc
 any-end journaled why Journal is = cc
 any-end journaled why JournalFull is = cc
 

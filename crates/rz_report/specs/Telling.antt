@@ -11,7 +11,7 @@ use Rattle.rz_player.specs.Behind.{Before, behind}
 use Rattle.rz_player.specs.Ends.{IsEnded}
 use Rattle.rz_player.specs.Free.{IsEndedOver}
 use Rattle.rz_player.specs.declared.lines.PlayEnd.{PlayEnd}
-use Rattle.rz_player.specs.declared.lines.PlayEnd.TheVariants.{Ended, TooManyTurns, Halted, Journal, JournalFull}
+use Rattle.rz_player.specs.declared.lines.PlayEnd.TheVariants.{Ended, TooManyTurns, NoMemory, Journal, JournalFull}
 use Rattle.rz_show.specs.Text.{text_of}
 use Rattle.rz_report.specs.Summary.{summary_of}
 use Rattle.rz_request.specs.Refusals.{line_of, status_of}
@@ -46,7 +46,7 @@ Says Ended wish found log sink status = Ends sink 0 (text_told wish found log) s
 Says TooManyTurns wish found log sink status = SaysSoFar refusals.Turns log sink status
 Says Journal wish found log sink status = SaysSoFar refusals.Journal log sink status
 Says JournalFull wish found log sink status = SaysSoFar refusals.Full log sink status
-Says Halted wish found log sink status = ⊥
+Says NoMemory wish found log sink status = ⊥
 
 -- Some lines were found, and the text with them was to be written; or memory was wanting. There are lines of a scrub alone, after a
 -- whole play, and it alone has asked for records.

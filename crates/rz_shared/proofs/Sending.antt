@@ -65,8 +65,8 @@ blocks-send = search (marks-send, Key.the_send, Block.the_send, maps.crosses, cr
 export-send : IsSend Export.the_row
 export-send = search (tree-send, blocks-send, marks-send, Volume.the_send, KeptNode.the_send, crosses, sendable) depth 60 fits 20000
 
-locked_export-send : (J : RattleType) (n : Naming.Ghosts J.Denot) → IsSend (Office.the_row J n)
-locked_export-send J n = view_send (OfficeIn.the_row J n) _ _ _ _ (recorded_send (OfficeIn.the_field J n).row _ _ (OfficeIn.the_type J n).to_one (struct_send (shape (OfficeIn.the_type J n)) (export-send, (Post.the_send J n, tt))))
+locked_export-send : (J : RattleType) (c : Counting.Ghosts J.Denot) (n : Naming.Ghosts J.Denot) → IsSend (Office.the_row J c n)
+locked_export-send J c n = view_send (OfficeIn.the_row J c n) _ _ _ _ (recorded_send (OfficeIn.the_field J c n).row _ _ (OfficeIn.the_type J c n).to_one (struct_send (shape (OfficeIn.the_type J c n)) (Heap.the_field_send, (export-send, (Post.the_send J n, tt)))))
 
 module _ (D J : RattleType) (g : Disk.Ghosts D.Denot) (c : Counting.Ghosts J.Denot) (n : Naming.Ghosts J.Denot) (s : IsSend D) where
   locked_node-send : IsSend (Seat.the_row D J g c n)
@@ -79,5 +79,5 @@ module _ (D J : RattleType) (g : Disk.Ghosts D.Denot) (c : Counting.Ghosts J.Den
   pub cluster_sync : IsSync (Cluster.the_row D J g c n)
   cluster_sync = view_sync (ClusterIn.the_row D J g c n) _ _ _ _ (recorded_sync (ClusterIn.the_field D J g c n).row _ _ (ClusterIn.the_type D J g c n).to_one (struct_sync (shape (ClusterIn.the_type D J g c n)) (
     Vec-sync _ NodeSpec.the_sync,
-    (Vec-sync _ (Mutex.the_sync _ (locked_node-send _ J _ c n (Fused.the_send D g s))), (Mutex.the_sync _ (locked_export-send J n), (Mutex.the_sync _ room-send, tt))),
+    (Vec-sync _ (Mutex.the_sync _ (locked_node-send _ J _ c n (Fused.the_send D g s))), (Mutex.the_sync _ (locked_export-send J c n), (Mutex.the_sync _ room-send, tt))),
   )))

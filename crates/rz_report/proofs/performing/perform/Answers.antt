@@ -29,7 +29,7 @@ returns-in-Ok-clause-performed g c =
     } in
     let P : List ℕ → Type 0 = λ found. Says c.play-end.result c.args.wish found c.log.result.now sink c.tell.result in
     let Q : List Event → Type 0 = λ events. Says c.play-end.result c.args.wish c.in-Ok.found.items events sink c.tell.result in
-    performed_so g.S.Stage.tells g.S.Stage.volume world g.S.Stage.journaled g.S.Stage.exact (g.S.Stage.journaled first) g.S.Stage.cut_off g.S.Stage.holds g.S.Stage.leaves g.S.Store.counts g.S.Store.only_asked v lines c.args.wish
+    performed_so g.S.Stage.tells g.S.Stage.volume world g.S.Stage.journaled g.S.Stage.exact (g.S.Stage.journaled first) g.S.Stage.cut_off g.S.Stage.holds g.S.Stage.leaves g.S.ScrubbedStore.counts g.S.ScrubbedStore.only_asked v lines c.args.wish
     lost c.play-end.result first c.play-end.new.stage c.find.new.stage
     (plays_so (g.S.Stage.holds first) (g.S.Stage.exact first) g.S.Stage.tells v (g.S.Stage.volume first) (world first) (world c.play-end.new.stage) lines c.lines.result.now c.play-end.result lost
     c.requires.volume c.lines.ensures.value c.requires.new c.told_losses.ensures e.played e.over)
@@ -52,7 +52,7 @@ returns-in-Err-clause-performed g c =
       old = g.O.Sink.faults c.args.output.now;
       new = g.O.Sink.faults c.args.output.now;
     } in
-    performed_so g.S.Stage.tells g.S.Stage.volume world g.S.Stage.journaled g.S.Stage.exact (g.S.Stage.journaled first) g.S.Stage.cut_off g.S.Stage.holds g.S.Stage.leaves g.S.Store.counts g.S.Store.only_asked v lines c.args.wish
+    performed_so g.S.Stage.tells g.S.Stage.volume world g.S.Stage.journaled g.S.Stage.exact (g.S.Stage.journaled first) g.S.Stage.cut_off g.S.Stage.holds g.S.Stage.leaves g.S.ScrubbedStore.counts g.S.ScrubbedStore.only_asked v lines c.args.wish
     lost c.play-end.result first c.play-end.new.stage c.find.new.stage
     (plays_so (g.S.Stage.holds first) (g.S.Stage.exact first) g.S.Stage.tells v (g.S.Stage.volume first) (world first) (world c.play-end.new.stage) lines c.lines.result.now c.play-end.result lost
     c.requires.volume c.lines.ensures.value c.requires.new c.told_losses.ensures e.played e.over)
