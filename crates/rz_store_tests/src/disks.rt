@@ -128,28 +128,6 @@ fn is_link(rt: &(impl Files + Abort + AllocGlobal), path: &str) -> bool {
 }
 
 #[test]
-fn a_link_stays_a_link(rt: HostRuntime) -> Result<(), Fail> {
-    const LINK: &str = "rz_disk_test/link";
-    const BEHIND: &str = "rz_disk_test/behind";
-    const BESIDE: &str = "rz_disk_test/beside";
-    clear(&rt, &[LINK, BEHIND, BESIDE, "rz_disk_test/behind.new"]);
-    fs::write(&rt, BESIDE, b"kept".as_slice()).expect(&rt, "a file");
-    symlink(&rt, "beside", "rz_disk_test/behind.new").expect(&rt, "a link");
-    symlink(&rt, "behind", LINK).expect(&rt, "a link");
-    let mut disk = FileDisk::new(&rt, rt.alloc(), LINK).expect(&rt, "a disk");
-    let made = disk.reset(rt.alloc(), 3);
-    let is_made = is_link(&rt, LINK) && has_bytes(&rt, BEHIND, b"\0\0\0");
-    let written = store(&mut disk, 1, b"a");
-    let made_anew = disk.reset(rt.alloc(), 2);
-    drop(disk);
-    assert!(rt; made.is_ok() && is_made && written.is_ok() && made_anew.is_ok());
-    assert!(rt; is_link(&rt, LINK) && has_bytes(&rt, BEHIND, b"\0\0"));
-    assert!(rt; has_bytes(&rt, BESIDE, b"kept"));
-    clear(&rt, &[LINK, BEHIND, BESIDE]);
-    Ok(())
-}
-
-#[test]
 fn what_is_no_file_is_not_replaced(rt: HostRuntime) -> Result<(), Fail> {
     const LOOP: &str = "rz_disk_test/loop";
     clear(&rt, &[LOOP]);
@@ -163,28 +141,5 @@ fn what_is_no_file_is_not_replaced(rt: HostRuntime) -> Result<(), Fail> {
     assert!(rt; over_link == Err(DiskError::Failed) && over_folder == Err(DiskError::Failed));
     assert!(rt; is_link(&rt, LOOP));
     clear(&rt, &[LOOP]);
-    Ok(())
-}
-
-#[test]
-fn a_disk_for_reading_is_not_written(rt: HostRuntime) -> Result<(), Fail> {
-    const READ: &str = "rz_disk_test/read";
-    clear(&rt, &[READ]);
-    let missing = FileDisk::reading(&rt, rt.alloc(), READ).err();
-    assert!(rt; missing == Some(DiskError::Failed));
-    fs::write(&rt, READ, b"there".as_slice()).expect(&rt, "a file");
-    let mut disk = FileDisk::reading(&rt, rt.alloc(), READ).expect(&rt, "a disk");
-    let mut back = [9; 5];
-    let synced = disk.sync();
-    let read = disk.read(0, &mut back);
-    assert!(rt; disk.size() == 5 && synced.is_ok() && read.is_ok() && back == *b"there");
-    let written = disk.write_at(0, b"x");
-    let error = disk.last_error().expect(&rt, "an error");
-    assert!(rt; written.is_err() && error.kind() == ErrorKind::ReadOnlyFilesystem);
-    let reset = disk.reset(rt.alloc(), 5);
-    let named = disk.path() == READ;
-    drop(disk);
-    assert!(rt; reset.is_err() && named && has_bytes(&rt, READ, b"there"));
-    clear(&rt, &[READ]);
     Ok(())
 }

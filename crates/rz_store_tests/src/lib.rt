@@ -6,8 +6,6 @@
 #[cfg(test)]
 mod disks;
 #[cfg(test)]
-mod failing;
-#[cfg(test)]
 mod index;
 #[cfg(test)]
 mod nodes;
