@@ -11,8 +11,8 @@ use Rattle.rz_driver_nodes.proofs.MessagePictures.{eventless, keeps-lost, node-q
 use Rattle.rz_driver_nodes.proofs.PictureLemmas.{on-err}
 use Rattle.rz_driver_nodes.proofs.messages.without_reply.Goals as goal
 
-pub tell_missed-requires-clause-asked : goal.tell_missed-requires-clause-asked
-tell_missed-requires-clause-asked g c = may-miss (ask_of c.args.machine.now.layout c.args.machine.now.work) c.args.number c.args.ask c.requires.asked c.requires.lossy
+pub tell_missed-requires : goal.tell_missed-requires
+tell_missed-requires g c = may-miss (ask_of c.args.machine.now.layout c.args.machine.now.work) c.args.number c.args.ask c.requires.asked c.requires.lossy
 
 pub returns-clause-metered : goal.returns-clause-metered
 returns-clause-metered g c =

@@ -2,5 +2,5 @@ use Rattle.rz_operation_model.specs.Ask.{ask_of}
 use Rattle.rz_driver_nodes.proofs.Asks.{may-miss}
 use Rattle.rz_driver_nodes.proofs.messages.without_request.Goals as goal
 
-pub tell_missed-requires-clause-asked : goal.tell_missed-requires-clause-asked
-tell_missed-requires-clause-asked c = may-miss (ask_of c.args.machine.now.layout c.args.machine.now.work) c.args.number c.args.ask c.requires.asked c.requires.lossy
+pub tell_missed-requires : goal.tell_missed-requires
+tell_missed-requires c = may-miss (ask_of c.args.machine.now.layout c.args.machine.now.work) c.args.number c.args.ask c.requires.asked c.requires.lossy
