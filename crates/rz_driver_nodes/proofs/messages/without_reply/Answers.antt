@@ -12,7 +12,7 @@ use Rattle.rz_driver_nodes.proofs.PictureLemmas.{on-err}
 use Rattle.rz_driver_nodes.proofs.messages.without_reply.Goals as goal
 
 pub tell_missed-requires : goal.tell_missed-requires
-tell_missed-requires g c = may-miss (ask_of c.args.machine.now.layout c.args.machine.now.work) c.args.number c.args.ask c.requires.asked c.requires.lossy
+tell_missed-requires g c = record { asked = may-miss (ask_of c.args.machine.now.layout c.args.machine.now.work) c.args.number c.args.ask c.requires.asked c.requires.lossy }
 
 pub returns-clause-metered : goal.returns-clause-metered
 returns-clause-metered g c =

@@ -3,4 +3,4 @@ use Rattle.rz_driver_nodes.proofs.Asks.{may-miss}
 use Rattle.rz_driver_nodes.proofs.messages.without_request.Goals as goal
 
 pub tell_missed-requires : goal.tell_missed-requires
-tell_missed-requires c = may-miss (ask_of c.args.machine.now.layout c.args.machine.now.work) c.args.number c.args.ask c.requires.asked c.requires.lossy
+tell_missed-requires c = record { asked = may-miss (ask_of c.args.machine.now.layout c.args.machine.now.work) c.args.number c.args.ask c.requires.asked c.requires.lossy }

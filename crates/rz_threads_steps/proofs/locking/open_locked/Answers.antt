@@ -7,6 +7,7 @@ use Rattle.rz_core.specs.History.{facts, of_actor}
 use Rattle.rz_core.specs.Tied.{IsProperCall}
 use Rattle.rz_chronicle.specs.Kinds.{is_honest, volume_in}
 use Rattle.rz_show.specs.Shown.{shown_in}
+use Rattle.rz_threads_steps.specs.Adding.{AddsOwn}
 use Rattle.rz_threads_steps.proofs.Acts.{still-lasts, still-cut, on-err, shows-on, cut-by, lock-step, opened}
 use Rattle.rz_threads_steps.proofs.locking.open_locked.Goals as goal
 
@@ -37,7 +38,7 @@ returns-in_err-reserve-clause-cut g c = on-err c.from_residual.result (still-cut
 pub call_export-reply-requires-clause-may : goal.call_export-reply-requires-clause-may
 call_export-reply-requires-clause-may g c =
     let p = c.args.pass.now in
-    λ honest. subst (λ (k : Call). IsProperCall (volume_in g.J.Naming.kind) (facts p.log) (of_actor p.actor p.log) p.actor k) (sym c.in_ok-opening.ensures.1) tt
+    λ honest. subst (λ (k : Call). IsProperCall (volume_in g.J.Naming.kind) (facts p.log) (of_actor p.actor p.log) p.actor k) (sym c.in_ok-opening.ensures.1 ∙ sym c.borrowed.ensures) tt
 
 pub returns-then-not-takes-clause-lasts : goal.returns-then-not-takes-clause-lasts
 returns-then-not-takes-clause-lasts g c = record { actor = c.call_export-reply.ensures.same.0; keys = c.call_export-reply.ensures.same.1; later = c.call_export-reply.ensures.adds.later; fit = c.call_export-reply.ensures.fit }
@@ -47,14 +48,16 @@ returns-then-not-takes-clause-quiet g c = c.call_export-reply.ensures.quiet
 
 pub returns-then-not-takes-clause-shows : goal.returns-then-not-takes-clause-shows
 returns-then-not-takes-clause-shows g c =
+    let adds = subst (λ (k : Call). AddsOwn (volume_in g.J.Naming.kind) (is_honest g.J.Naming.kind) c.args.pass.now.actor c.args.pass.now.log (export_event c.args.pass.now.actor k c.call_export-reply.result) c.call_export-reply.new.pass.log) c.borrowed.ensures c.call_export-reply.ensures.adds in
     let p = c.args.pass.now in
     shows-on p.actor p.log c.call_export-reply.new.pass.log (export_event p.actor c.in_ok-opening.opening.0 c.call_export-reply.result) c.reserve.new.self.items c.show_open.new.shown.items (c.reserve.ensures.items ∙ c.requires.shows)
-    (subst (λ (a : Actor). c.show_open.new.shown.items ≡ c.reserve.new.self.items ++ shown_in (export_event a c.in_ok-opening.opening.0 c.call_export-reply.result)) c.actor-by.ensures.value c.show_open.ensures) c.call_export-reply.ensures.adds.own
+    (subst (λ (a : Actor). c.show_open.new.shown.items ≡ c.reserve.new.self.items ++ shown_in (export_event a c.in_ok-opening.opening.0 c.call_export-reply.result)) c.actor-by.ensures.value c.show_open.ensures) adds.own
 
 pub returns-then-not-takes-clause-cut : goal.returns-then-not-takes-clause-cut
 returns-then-not-takes-clause-cut g c =
+    let adds = subst (λ (k : Call). AddsOwn (volume_in g.J.Naming.kind) (is_honest g.J.Naming.kind) c.args.pass.now.actor c.args.pass.now.log (export_event c.args.pass.now.actor k c.call_export-reply.result) c.call_export-reply.new.pass.log) c.borrowed.ensures c.call_export-reply.ensures.adds in
     let p = c.args.pass.now in
-    λ number. cut-by (volume_in g.J.Naming.kind) (is_honest g.J.Naming.kind) p.actor number p.log c.call_export-reply.new.pass.log c.args.machine.now (export_event p.actor c.in_ok-opening.opening.0 c.call_export-reply.result) c.call_export-reply.ensures.adds
+    λ number. cut-by (volume_in g.J.Naming.kind) (is_honest g.J.Naming.kind) p.actor number p.log c.call_export-reply.new.pass.log c.args.machine.now (export_event p.actor c.in_ok-opening.opening.0 c.call_export-reply.result) adds
     (λ x is. (Locked true c.call_export-reply.result, lock-step p.actor number c.args.machine.now c.in_ok-opening.ensures.0 c.in_ok-opening.opening.1.exclusive c.in_ok-opening.opening.1.from c.in_ok-opening.opening.1.count true c.in_ok-opening.opening.0 c.call_export-reply.result x c.in_ok-opening.ensures.1 c.in_ok-opening.ensures.2 is))
 
 pub returns-clause-lasts : goal.returns-clause-lasts
@@ -65,12 +68,14 @@ returns-clause-quiet g c = c.call_export-reply.ensures.quiet
 
 pub returns-clause-shows : goal.returns-clause-shows
 returns-clause-shows g c =
+    let adds = subst (λ (k : Call). AddsOwn (volume_in g.J.Naming.kind) (is_honest g.J.Naming.kind) c.args.pass.now.actor c.args.pass.now.log (export_event c.args.pass.now.actor k c.call_export-reply.result) c.call_export-reply.new.pass.log) c.borrowed.ensures c.call_export-reply.ensures.adds in
     let p = c.args.pass.now in
     shows-on p.actor p.log c.call_export-reply.new.pass.log (export_event p.actor c.in_ok-opening.opening.0 c.call_export-reply.result) c.reserve.new.self.items c.show_open.new.shown.items (c.reserve.ensures.items ∙ c.requires.shows)
-    (subst (λ (a : Actor). c.show_open.new.shown.items ≡ c.reserve.new.self.items ++ shown_in (export_event a c.in_ok-opening.opening.0 c.call_export-reply.result)) c.actor-by.ensures.value c.show_open.ensures) c.call_export-reply.ensures.adds.own
+    (subst (λ (a : Actor). c.show_open.new.shown.items ≡ c.reserve.new.self.items ++ shown_in (export_event a c.in_ok-opening.opening.0 c.call_export-reply.result)) c.actor-by.ensures.value c.show_open.ensures) adds.own
 
 pub returns-clause-acted : goal.returns-clause-acted
 returns-clause-acted g c =
+    let adds = subst (λ (k : Call). AddsOwn (volume_in g.J.Naming.kind) (is_honest g.J.Naming.kind) c.args.pass.now.actor c.args.pass.now.log (export_event c.args.pass.now.actor k c.call_export-reply.result) c.call_export-reply.new.pass.log) c.borrowed.ensures c.call_export-reply.ensures.adds in
     λ number right.
     opened g.J.Naming.kind number c.args.pass.now c.call_export-reply.new.pass c.args.machine.now c.tell_locked.new.self (record { actor = c.call_export-reply.ensures.same.0; keys = c.call_export-reply.ensures.same.1; later = c.call_export-reply.ensures.adds.later; fit = c.call_export-reply.ensures.fit })
-    (c.goes.ensures (volume_in g.J.Naming.kind)) c.in_ok-opening.ensures.0 c.in_ok-opening.opening.1.exclusive c.in_ok-opening.opening.1.from c.in_ok-opening.opening.1.count c.take-granted.result c.in_ok-opening.opening.0 c.call_export-reply.result c.in_ok-opening.ensures.1 c.in_ok-opening.ensures.2 (c.takes_locked-takes.ensures.0 c.if-not-takes.false) c.call_export-reply.ensures.adds c.tell_locked.ensures right
+    (c.goes.ensures (volume_in g.J.Naming.kind)) c.in_ok-opening.ensures.0 c.in_ok-opening.opening.1.exclusive c.in_ok-opening.opening.1.from c.in_ok-opening.opening.1.count c.take-granted.result c.in_ok-opening.opening.0 c.call_export-reply.result c.in_ok-opening.ensures.1 c.in_ok-opening.ensures.2 (c.takes_locked-takes.ensures.0 c.if-not-takes.false) adds c.tell_locked.ensures right

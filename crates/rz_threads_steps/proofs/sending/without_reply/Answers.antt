@@ -53,8 +53,8 @@ add_missed-requires-clause-actor g c = λ is. c.requires.actor (sym c.in_ok-answ
 pub add_missed-requires-clause-going : goal.add_missed-requires-clause-going
 add_missed-requires-clause-going g c = λ honest. open-after (volume_in g.J.Naming.kind) (is_honest g.J.Naming.kind) c.args.pass.now.actor c.serve.new.pass.actor c.args.node c.args.ask.now c.in_ok-answer.answer c.args.pass.now.log c.serve.new.pass.log c.in_ok-answer.ensures.served.lasts.actor c.in_ok-answer.ensures.served.for_actor (event-of c.args.machine.now c.args.pass.now.actor c.args.node c.args.ask.now c.in_ok-answer.answer c.requires.asked (c.takes_answer.ensures.0 c.if-not-takes_answer.false) (c.wants_memory.ensures c.if-wants_memory.false)) c.in_ok-answer.ensures.served.adds
 
-pub tell_missed-requires-clause-asked : goal.tell_missed-requires-clause-asked
-tell_missed-requires-clause-asked g c = may-miss (ask_of c.args.machine.now.layout c.args.machine.now.work) c.args.node c.args.ask.now c.requires.asked c.requires.lossy
+pub tell_missed-requires : goal.tell_missed-requires
+tell_missed-requires g c = record { asked = may-miss (ask_of c.args.machine.now.layout c.args.machine.now.work) c.args.node c.args.ask.now c.requires.asked c.requires.lossy }
 
 pub returns-clause-one : goal.returns-clause-one
 returns-clause-one g c =

@@ -26,8 +26,8 @@ returns-then-not-room-clause-cut g c = still-cut c.args.pass.now.actor c.args.pa
 pub add_missed-requires-clause-going : goal.add_missed-requires-clause-going
 add_missed-requires-clause-going g c = λ honest. is-open (volume_in g.J.Naming.kind) (c.asks.ensures (volume_in g.J.Naming.kind)) c.args.pass.now.log c.args.pass.now.actor c.requires.right.0 c.args.machine.now c.args.node c.args.ask.now (c.requires.right.1 honest) c.requires.asked c.requires.lossy
 
-pub tell_missed-requires-clause-asked : goal.tell_missed-requires-clause-asked
-tell_missed-requires-clause-asked g c = may-miss (ask_of c.args.machine.now.layout c.args.machine.now.work) c.args.node c.args.ask.now c.requires.asked c.requires.lossy
+pub tell_missed-requires : goal.tell_missed-requires
+tell_missed-requires g c = record { asked = may-miss (ask_of c.args.machine.now.layout c.args.machine.now.work) c.args.node c.args.ask.now c.requires.asked c.requires.lossy }
 
 pub returns-clause-lasts : goal.returns-clause-lasts
 returns-clause-lasts g c = c.add_missed.ensures.lasts
