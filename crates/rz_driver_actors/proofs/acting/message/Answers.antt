@@ -31,6 +31,14 @@ without_reply-requires-clause-layout g c =
     let there = read-at xs c.as_slice.result.now c.args.number c.in-Some.place c.index_mut.result.now c.as_slice.ensures.value c.in-Some.ensures c.index_mut.ensures.value in
     layout-at c.args.layout xs c.in-Some.place c.index_mut.result.now c.requires.servers there.1
 
+pub without_reply-requires-clause-lossy : goal.without_reply-requires-clause-lossy
+without_reply-requires-clause-lossy g c =
+    lost-by-link c.args.miss.now c.args.ask _ (loses-reply c.goes_by_link.result c.args.ask c.goes_by_link.ensures c.args.miss.now c.in-ReplyLost.ensures.fared.said c.in-ReplyLost.ensures.fared.fate)
+
+pub without_request-requires-clause-lossy : goal.without_request-requires-clause-lossy
+without_request-requires-clause-lossy g c =
+    lost-by-link c.args.miss.now c.args.ask _ (loses-request c.goes_by_link.result c.args.ask c.goes_by_link.ensures c.args.miss.now c.in-RequestLost.ensures.fared.said c.in-RequestLost.ensures.fared.fate)
+
 pub returns-in-Through-clause-ok : goal.returns-in-Through-clause-ok
 returns-in-Through-clause-ok g c =
     let s = c.index_mut.result.now in
