@@ -12,10 +12,12 @@
 //!
 //! Nothing here says that a thread runs, whose turn comes first, or that there is memory.
 //!
-//! In reading order: `outcome`, `setting_up`, `telling`, `laws`, `playing`, `running`.
+//! In reading order: `outcome`, `naming`, `setting_up`, `telling`, `laws`, `playing`,
+//! `running`.
 #![tactic(auto)]
 
 mod laws;
+mod naming;
 mod outcome;
 mod playing;
 mod running;

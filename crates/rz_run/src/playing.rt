@@ -1,5 +1,5 @@
 //! A script played over a book.
-ghost use Rattle.std.specs.Prelude.{◌≡◌, IsTrue, length, map};
+ghost use Rattle.std.specs.Prelude.{◌≡◌, [], IsTrue, length, map};
 ghost use Rattle.std.specs.List.{AllZip};
 ghost use Rattle.rz_disk.specs.Meter.{faults};
 ghost use Rattle.rz_events.specs.declared.keys.Actor.TheVariants as a;
@@ -13,6 +13,7 @@ ghost use Rattle.rz_request.specs.Requests.{nodes_in};
 ghost use Rattle.rz_run.specs.Runs.{Plays};
 
 use crate::laws::true_logs;
+use crate::naming::{Named, NewName};
 use crate::outcome::Ran;
 use crate::setting_up::{Setup, links_of, set_up};
 use crate::telling::tell;
@@ -138,4 +139,32 @@ pub(crate) fn play_book<
             links,
         },
     }
+}
+
+/// Plays a script over a new book whose name is picked where this is called.
+pub(crate) fn play_named<
+    K: Named + Send + Sync,
+    R: Threads + Wait + Sync,
+    O: Sink,
+    D: Disk + Send,
+    L: Link + Send,
+>(
+    rt: &R,
+    alloc: Global,
+    opened: NewBook,
+    script: &Script,
+    disks: Vec<D>,
+    links: Vec<L>,
+    output: &mut O,
+) -> Ran<D, L>
+    requires named { (opened.seen.book ≡ K.book) × (opened.tokens.tallies ≡ K.tallies) × (opened.tokens.copy ≡ K.copy) × (opened.tokens.kind ≡ K.kind) }
+    requires earlier { HasEarlierLog K.kind [] }
+    requires kind { K.kind ≡ kind_of (is_honest K.kind) script.now.volume }
+    requires count { length disks.items ≡ nodes_in script.now }
+    requires links { length links.items ≡ 80 }
+    requires tells { IsTrue (is_honest K.kind) → IsTrue D.tells }
+    requires counts { map K.first (sids_of script.now.volume) ≡ map (λ d. faults (D.meter d)) disks.items }
+    ensures { Plays D.tells (is_honest K.kind) D.meter D.image L.lost script.now (record { old = disks.items; new = result.disks.items }) (record { old = links.items; new = result.links.items }) (record { before = O.taken output.old; after = O.taken output.new; old = O.faults output.old; new = O.faults output.new }) result.status }
+{
+    play_book::<NewName<K>, R, O, D, L>(rt, alloc, opened, script, disks, links, output)
 }

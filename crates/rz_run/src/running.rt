@@ -5,7 +5,7 @@ ghost use Rattle.rz_request.specs.Requests.{nodes_in};
 ghost use Rattle.rz_run.specs.Runs.{Plays, Runs};
 
 use crate::outcome::Ran;
-use crate::playing::play_book;
+use crate::playing::play_named;
 use rz_chronicle::{NewBook, read_back, read_back_after};
 use rz_disk::Disk;
 use rz_link::Link;
@@ -39,7 +39,7 @@ fn play_script<R: Threads + Wait + Sync, O: Sink, D: Disk + Send, L: Link + Send
     let _rules = volume.node_count();
     match NewBook::start(alloc, volume, honest) {
         Ok(opened) => {
-            play_book::<Brand, R, O, D, L>(rt, alloc, opened, script, disks, links, output)
+            play_named::<Brand, R, O, D, L>(rt, alloc, opened, script, disks, links, output)
         }
         Err(_) => Ran {
             status: Status::NO_MEMORY,

@@ -13,22 +13,22 @@ use Rattle.rz_run.proofs.Firsts.{beside-all}
 use Rattle.rz_run.proofs.Told.{honest-is, kind-is, lacking}
 use Rattle.rz_run.proofs.running.play_script.Goals as goal
 
-pub play_book-requires-clause-kind : goal.play_book-requires-clause-kind
-play_book-requires-clause-kind g c κs within =
+pub play_named-requires-clause-kind : goal.play_named-requires-clause-kind
+play_named-requires-clause-kind g c κs within =
     kind-is c.read_back.ensures c.args.honest c.args.script.now.volume c.in-Ok.opened.tokens.kind (c.in-Ok.ensures ∙ ap (kind_of c.args.honest) c.volume-volume.ensures)
 
-pub play_book-requires-clause-earlier : goal.play_book-requires-clause-earlier
-play_book-requires-clause-earlier g c κs within =
+pub play_named-requires-clause-earlier : goal.play_named-requires-clause-earlier
+play_named-requires-clause-earlier g c κs within =
     subst (λ (k : List ℕ). HasEarlierLog k []) (sym (c.in-Ok.ensures ∙ ap (kind_of c.args.honest) c.volume-volume.ensures))
     ((c.read_back_after.ensures c.args.honest c.args.script.now.volume []).2 (omega arith))
 
-pub play_book-requires-clause-tells : goal.play_book-requires-clause-tells
-play_book-requires-clause-tells g c κs within =
+pub play_named-requires-clause-tells : goal.play_named-requires-clause-tells
+play_named-requires-clause-tells g c κs within =
     let same = honest-is c.read_back.ensures c.args.honest c.args.script.now.volume c.in-Ok.opened.tokens.kind (c.in-Ok.ensures ∙ ap (kind_of c.args.honest) c.volume-volume.ensures) in
     subst (λ (b : Bool). IsTrue b → IsTrue g.D.Disk.tells) (sym same) c.requires.tells
 
-pub play_book-requires-clause-counts : goal.play_book-requires-clause-counts
-play_book-requires-clause-counts g c κs within =
+pub play_named-requires-clause-counts : goal.play_named-requires-clause-counts
+play_named-requires-clause-counts g c κs within =
     let v : Volume = c.args.script.now.volume in
     let distinct = subst (λ (u : Volume). IsDistinct nat_eq (sids_of u)) c.volume-volume.ensures c.node_count-rules.ensures.rules.distinct_sids in
     let same : length (sids_of v) ≡ length (map (λ d. faults (g.D.Disk.meter d)) c.args.disks.items) =
@@ -39,13 +39,13 @@ pub returns-in-Ok : goal.returns-in-Ok
 returns-in-Ok g c =
     let sink : Sunk = record {
       before = g.O.Sink.taken c.args.output.now;
-      after = g.O.Sink.taken c.play_book.new.output;
+      after = g.O.Sink.taken c.play_named.new.output;
       old = g.O.Sink.faults c.args.output.now;
-      new = g.O.Sink.faults c.play_book.new.output;
+      new = g.O.Sink.faults c.play_named.new.output;
     } in
     let same = honest-is c.read_back.ensures c.args.honest c.args.script.now.volume c.in-Ok.opened.tokens.kind (c.in-Ok.ensures ∙ ap (kind_of c.args.honest) c.volume-volume.ensures) in
-    subst (λ (b : Bool). Plays g.D.Disk.tells b g.D.Disk.meter g.D.Disk.image g.L.Link.lost c.args.script.now (record { old = c.args.disks.items; new = c.play_book.result.disks.items })
-    (record { old = c.args.links.items; new = c.play_book.result.links.items }) sink c.play_book.result.status) same c.play_book.ensures
+    subst (λ (b : Bool). Plays g.D.Disk.tells b g.D.Disk.meter g.D.Disk.image g.L.Link.lost c.args.script.now (record { old = c.args.disks.items; new = c.play_named.result.disks.items })
+    (record { old = c.args.links.items; new = c.play_named.result.links.items }) sink c.play_named.result.status) same c.play_named.ensures
 
 pub returns-in-Err : goal.returns-in-Err
 returns-in-Err g c =
