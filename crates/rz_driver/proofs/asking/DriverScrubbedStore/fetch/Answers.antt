@@ -1,5 +1,5 @@
 use Rattle.rz_driver.proofs.FetchLemmas.{fetched-of, goes-on}
-use Rattle.rz_driver.proofs.asking.DriverStore.fetch.Goals as goal
+use Rattle.rz_driver.proofs.asking.DriverScrubbedStore.fetch.Goals as goal
 
 pub returns-clause-fetched : goal.returns-clause-fetched
 returns-clause-fetched g c =
